@@ -1,0 +1,168 @@
+//! Requests: values within the ranges of the message grammar, read from a message and printed as one.
+
+ghost use Rattle.std.specs.Prelude.{◌≡◌, ◌≤◌, IfSome, IfNone, option_map};
+ghost use Rattle.request_cards.specs.Requests.{Ask};
+ghost use Rattle.request_cards.specs.Texts.{IsMessage, message_text, kind_text};
+ghost use Rattle.request_cards.specs.Reading.{cut_at, kind_of, request_of};
+
+use crate::digits::number;
+use crate::kind::Kind;
+use crate::text::{put, put_number};
+use arrayvec::ArrayVec;
+use std::marker::Model;
+
+/// A request of a till: its number there, and what is wanted of which item. Every value is within the ranges of the message
+/// grammar: till 1 to 64, number 1 to 999999999, item 1 to 65535, quantity 0 to 999999999.
+#[derive(Clone, Copy, Debug, PartialEq, Eq)]
+pub struct Request {
+    pub(crate) till: u8,
+    pub(crate) number: u32,
+    pub(crate) kind: Kind,
+    pub(crate) item: u16,
+    pub(crate) quantity: u32,
+}
+
+impl Model for Request {
+    ghost use Rattle.request_cards.specs.Requests.{Ask, Body, IsAsk};
+
+    ghost Value = { Ask };
+
+    ghost view = { λ r. record { till = r.till; number = r.number; body = record { kind = r.kind; item = r.item; quantity = r.quantity } } };
+
+    ghost invariant = { λ r. IsAsk (record { till = r.till; number = r.number; body = record { kind = r.kind; item = r.item; quantity = r.quantity } }) };
+
+    ghost inverse = { λ a. record { till = a.till; number = a.number; kind = a.body.kind; item = a.body.item; quantity = a.body.quantity } };
+}
+
+/// What stands before the first `separator`, and what stands after it.
+fn cut(bytes: &[u8], separator: u8) -> Option<(&[u8], &[u8])>
+    ensures { option_map (λ p. (p.0.now, p.1.now)) result ≡ cut_at separator bytes.now }
+{
+    for (i, b) in bytes.iter().enumerate() {
+        if *b == separator {
+            return Some((&bytes[..i], &bytes[i + 1..]));
+        }
+    }
+    None
+}
+
+#[tactic(auto, unfolding(crate::specs::Reading::kind_of))]
+fn kind_in(field: &[u8]) -> Option<Kind>
+    ensures { result ≡ kind_of field.now }
+{
+    if field == b"R".as_slice() {
+        Some(Kind::Receive)
+    } else if field == b"I".as_slice() {
+        Some(Kind::Issue)
+    } else if field == b"S".as_slice() {
+        Some(Kind::Set)
+    } else {
+        None
+    }
+}
+
+/// The letter of the kind.
+fn kind_letter(kind: Kind) -> &'static [u8]
+    ensures { result.now ≡ kind_text kind }
+{
+    match kind {
+        Kind::Receive => b"R",
+        Kind::Issue => b"I",
+        Kind::Set => b"S",
+    }
+}
+
+#[tactic(auto, unfolding(crate::specs::Reading::request_of))]
+fn read(message: &[u8]) -> Option<Request>
+    ensures { result ≡ request_of message.now }
+{
+    let (till, rest) = cut(message, b',')?;
+    let till = number(till, 1, 64)?;
+    let (count, rest) = cut(rest, b',')?;
+    let count = number(count, 1, 999_999_999)?;
+    let (kind_field, rest) = cut(rest, b',')?;
+    let kind = kind_in(kind_field)?;
+    let (item, quantity) = cut(rest, b',')?;
+    let item = number(item, 1, 65535)?;
+    let quantity = number(quantity, 0, 999_999_999)?;
+    Some(Request {
+        till: till as u8,
+        number: count,
+        kind,
+        item: item as u16,
+        quantity,
+    })
+}
+
+impl Request {
+    /// The till, 1 to 64.
+    pub fn till(&self) -> u8
+        ensures value { result ≡ self.now.till }
+        ensures low { 1 ≤ result }
+        ensures high { result ≤ 64 }
+    {
+        self.till
+    }
+
+    /// The number of the request at its till, 1 to 999999999.
+    pub fn number(&self) -> u32
+        ensures value { result ≡ self.now.number }
+        ensures low { 1 ≤ result }
+        ensures high { result ≤ 999999999 }
+    {
+        self.number
+    }
+
+    /// What is to be done with the quantity on hand.
+    pub fn kind(&self) -> Kind
+        ensures { result ≡ self.now.body.kind }
+    {
+        self.kind
+    }
+
+    /// The item, 1 to 65535.
+    pub fn item(&self) -> u16
+        ensures value { result ≡ self.now.body.item }
+        ensures low { 1 ≤ result }
+    {
+        self.item
+    }
+
+    /// The quantity, 0 to 999999999.
+    pub fn quantity(&self) -> u32
+        ensures value { result ≡ self.now.body.quantity }
+        ensures high { result ≤ 999999999 }
+    {
+        self.quantity
+    }
+
+    /// The request that the message is, where it is in the grammar `till,number,kind,item,quantity`: decimal numbers without
+    /// leading zeros, one of the letters `R`, `I`, `S`, and nothing before, between or after.
+    pub fn parse(message: &[u8]) -> Option<Request>
+        // What is read is in the grammar.
+        ensures found { IfSome result (λ r. IsMessage message.now r) }
+        // Nothing in the grammar is refused.
+        ensures none { IfNone result ((r : Ask) → ¬ IsMessage message.now r) }
+        // The same as a function.
+        ensures exact { result ≡ request_of message.now }
+    {
+        read(message)
+    }
+
+    /// The request as a message, which `parse` reads back.
+    pub fn print(&self) -> ArrayVec<u8, 30>
+        ensures { result.items ≡ message_text self.now }
+    {
+        let mut out = ArrayVec::new();
+        put_number(&mut out, u32::from(self.till));
+        put(&mut out, b",");
+        put_number(&mut out, self.number);
+        put(&mut out, b",");
+        put(&mut out, kind_letter(self.kind));
+        put(&mut out, b",");
+        put_number(&mut out, u32::from(self.item));
+        put(&mut out, b",");
+        put_number(&mut out, self.quantity);
+        out
+    }
+}
