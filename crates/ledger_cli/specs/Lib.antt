@@ -1,3 +1,5 @@
 pub mod Faults
 pub mod Grammar
 pub mod Jobs
+pub mod Scripts
+pub mod Tables

@@ -1,6 +1,6 @@
 //! Reading the words of the command line.
 ghost use Rattle.std.specs.Prelude.{◌≡◌, IfErr, IfOk, List, MatchResult, [], map, option_map};
-ghost use Rattle.clap.specs.Words.{Text, fault_of, found_of, rows_of, subcommand_of, subcommand_rows_of};
+ghost use Rattle.clap.specs.Words.{fault_of, found_of, rows_of, subcommand_of, subcommand_rows_of};
 ghost use Rattle.ledger_cli.specs.Grammar.{ledger, value};
 ghost use Rattle.ledger_cli.specs.Jobs.{IsJob, IsNoJob};
 
