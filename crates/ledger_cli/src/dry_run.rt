@@ -3,7 +3,7 @@ ghost use Rattle.std.specs.Prelude.{◌≡◌, ◌↔◌, ◌++◌, ℕ, [], Non
 ghost use Rattle.std.specs.Io.KnownBytes.{Appends};
 ghost use Rattle.request_cards.specs.Ledgers.{replies, replies_from, report};
 ghost use Rattle.request_cards.specs.Texts.{reply_text};
-ghost use Rattle.ledger_cli.specs.Faults.{dry_number};
+ghost use Rattle.ledger_cli.specs.Faults.{IsDryFault, dry_number};
 ghost use Rattle.ledger_cli.specs.Scripts.{first_bad, lines};
 ghost use Rattle.ledger_cli.specs.Tables.{dry_start, state_of};
 
@@ -71,10 +71,11 @@ pub fn dry<W: Write>(script: &[u8], out: &mut W) -> Result<(), DryFault>
     ensures bad_line { (n : ℕ) → (result ≡ Err (DryFault.BadLine n)) ↔ (first_bad (lines script.now) ≡ Some n) }
     // Then nothing was written.
     ensures untouched { IsSome (first_bad (lines script.now)) → out.new ≡ out.old }
-    // Each line has its reply over the lines before it.
+    // Where no line is bad, each has its reply over the lines before it.
+    ensures good { OnOk result (first_bad (lines script.now) ≡ None) }
     ensures ok { OnOk result (Appends (W.contents out.old) (W.contents out.new) (report (replies dry_start [] (lines script.now)))) }
     // The output is at fault only where no line is.
-    ensures output { result ≡ Err DryFault.Output → first_bad (lines script.now) ≡ None }
+    ensures err { IfErr result (IsDryFault (first_bad (lines script.now))) }
 {
     if let Some(line) = first_bad_line(script) {
         return Err(DryFault::BadLine(line));

@@ -1,4 +1,4 @@
-//! A retry-safe stock ledger: the program.
+//! A retry-safe stock ledger: the program. It opens, reads and prints; what it does is in the modules.
 #![tactic(auto)]
 
 mod dry_run;
@@ -9,28 +9,48 @@ mod script;
 mod table;
 mod words;
 
-use std::alloc::{AllocError, Global};
+use clap::error::ErrorKind;
 use jobs::{Job, JobFault};
 use running::run;
+use std::alloc::{AllocError, Global};
 use std::env;
 use std::fs::{self, File};
 use std::io::{self, BufWriter, Read};
 use std::process::ExitCode;
 use words::job;
 
+/// The exit status of words that are refused.
+const WORDS: u8 = 2;
+/// The exit status where a file, the output or memory failed.
+const SYSTEM: u8 = 3;
 
+/// Tells that a file or the output failed, or that there was no memory for it.
+fn refuse_io(rt: &HostRuntime, error: &io::Error) -> u8 {
+    let text = match error.kind() {
+        io::ErrorKind::OutOfMemory => "NO MEMORY",
+        _ => "FILE",
+    };
+    let _ = rt.eprintln(text);
+    SYSTEM
+}
 
-/// The words as texts.
-fn texts_of<'a>(alloc: Global, words: &'a [String]) -> Result<Vec<&'a str>, AllocError> {
-    let mut texts = Vec::new(alloc);
-    for word in words {
-        texts.push(word.as_str())?;
+/// Tells why the words ask for nothing, or gives the help that they ask for.
+fn refuse_words(rt: &HostRuntime, fault: &JobFault) -> u8 {
+    match fault {
+        JobFault::Words(error) if error.kind() == ErrorKind::OutOfMemory => {
+            let _ = rt.eprintln("NO MEMORY");
+            SYSTEM
+        }
+        JobFault::Words(error) => match error.print(rt) {
+            Err(failed) if !error.use_stderr() => refuse_io(rt, &failed),
+            _ if error.use_stderr() => WORDS,
+            _ => 0,
+        },
     }
-    Ok(texts)
 }
 
 /// The bytes of a file, or of standard input under its usual name, which the program may not be allowed to open again.
-fn read_script(rt: &HostRuntime, path: &str) -> io::Result<Vec<u8>> {
+fn read_file(rt: &HostRuntime, path: &str) -> io::Result<Vec<u8>> {
     if path == "/dev/stdin" {
         let mut bytes = Vec::new(rt.alloc());
         rt.reader().read_to_end(&mut bytes)?;
@@ -39,29 +59,56 @@ fn read_script(rt: &HostRuntime, path: &str) -> io::Result<Vec<u8>> {
     fs::read(rt, path)
 }
 
+/// Reads the job's files and does it.
 fn do_job(rt: &HostRuntime, job: &Job<'_>) -> io::Result<u8> {
     match job {
         Job::Dry { script } => {
-            let bytes = read_script(rt, script)?;
+            let script = read_file(rt, script)?;
             let mut out = BufWriter::new(rt.alloc(), io::writer(rt))?;
-            let mut err = rt.stderr();
             let file: Option<File> = None;
-            Ok(run(job, &[], bytes.as_slice(), file, &mut out, &mut err))
+            Ok(run(job, &[], script.as_slice(), file, &mut out, &mut rt.stderr()))
         }
     }
 }
 
-fn status(rt: &HostRuntime, words: &[String]) -> u8 {
-    let Ok(texts) = texts_of(rt.alloc(), words) else {
-        return 3;
-    };
+/// The words as texts, all at one lifetime.
+fn texts_of<'a>(alloc: Global, words: &'a [String]) -> Result<Vec<&'a str>, AllocError> {
+    let mut texts = Vec::new(alloc);
+    for word in words {
+        texts.push(word.as_str())?;
+    }
+    Ok(texts)
+}
+
+/// Does what the words ask for.
+fn obey(rt: &HostRuntime, words: &[String]) -> io::Result<u8> {
+    let texts = texts_of(rt.alloc(), words)?;
     match job(rt.alloc(), texts.as_slice()) {
-        Ok(job) => match do_job(rt, &job) { Ok(s) => s, Err(_) => 3 },
-        Err(JobFault::Words(error)) => { let _ = error.print(rt); 2 }
+        Ok(job) => do_job(rt, &job),
+        Err(fault) => Ok(refuse_words(rt, &fault)),
     }
 }
 
-fn main(rt: HostRuntime) -> io::Result<ExitCode> {
-    let words: Vec<String> = env::args(&rt)?.collect(rt.alloc())?;
-    Ok(ExitCode::from(status(&rt, words.as_slice())))
+/// The words of the command line, or the exit status where they can't be had.
+fn words_of(rt: &HostRuntime) -> Result<Vec<String>, u8> {
+    let collected = match env::args(rt) {
+        Ok(words) => words.collect(rt.alloc()),
+        Err(error) if error.kind() == io::ErrorKind::InvalidData => {
+            let _ = rt.eprintln("error: invalid UTF-8 was detected in one or more arguments");
+            return Err(WORDS);
+        }
+        Err(error) => return Err(refuse_io(rt, &error)),
+    };
+    collected.map_err(|error| refuse_io(rt, &io::Error::from(error)))
+}
+
+fn main(rt: HostRuntime) -> ExitCode {
+    let status = match words_of(&rt) {
+        Ok(words) => match obey(&rt, words.as_slice()) {
+            Ok(status) => status,
+            Err(error) => refuse_io(&rt, &error),
+        },
+        Err(status) => status,
+    };
+    ExitCode::from(status)
 }
