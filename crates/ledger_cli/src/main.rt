@@ -7,6 +7,8 @@ mod jobs;
 mod running;
 mod script;
 mod table;
+#[cfg(test)]
+mod tests;
 mod words;
 
 use clap::error::ErrorKind;
