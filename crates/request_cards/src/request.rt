@@ -1,11 +1,11 @@
 //! Requests: values within the ranges of the message grammar, read from a message and printed as one.
 
-ghost use Rattle.std.specs.Prelude.{◌≡◌, ◌≤◌, IfSome, IfNone, option_map};
+ghost use Rattle.std.specs.Prelude.{◌≡◌, ◌≤◌, [], ◌∷◌, IfSome, IfNone, option_map};
 ghost use Rattle.request_cards.specs.Requests.{Ask};
 ghost use Rattle.request_cards.specs.Texts.{IsMessage, message_text, kind_text};
-ghost use Rattle.request_cards.specs.Reading.{cut_at, kind_of, request_of};
+ghost use Rattle.request_cards.specs.Reading.{kind_of, kind_before, request_of};
 
-use crate::digits::number;
+use crate::digits::{number, number_before_comma};
 use crate::kind::Kind;
 use crate::text::{put, put_number};
 use arrayvec::ArrayVec;
@@ -34,30 +34,31 @@ impl Model for Request {
     ghost inverse = { λ a. record { till = a.till; number = a.number; kind = a.body.kind; item = a.body.item; quantity = a.body.quantity } };
 }
 
-/// What stands before the first `separator`, and what stands after it.
-fn cut(bytes: &[u8], separator: u8) -> Option<(&[u8], &[u8])>
-    ensures { option_map (λ p. (p.0.now, p.1.now)) result ≡ cut_at separator bytes.now }
+/// The kind that has this letter.
+#[inline]
+#[tactic(auto, unfolding(crate::specs::Reading::kind_of))]
+fn kind_named(letter: u8) -> Option<Kind>
+    ensures { result ≡ kind_of (letter ∷ []) }
 {
-    for (i, b) in bytes.iter().enumerate() {
-        if *b == separator {
-            return Some((&bytes[..i], &bytes[i + 1..]));
-        }
+    match letter {
+        b'R' => Some(Kind::Receive),
+        b'I' => Some(Kind::Issue),
+        b'S' => Some(Kind::Set),
+        _ => None,
     }
-    None
 }
 
-#[tactic(auto, unfolding(crate::specs::Reading::kind_of))]
-fn kind_in(field: &[u8]) -> Option<Kind>
-    ensures { result ≡ kind_of field.now }
+/// The kind that stands before the first comma, and what stands after that comma.
+#[inline]
+fn kind_before_comma(bytes: &[u8]) -> Option<(Kind, &[u8])>
+    ensures { option_map (λ p. (p.0, p.1.now)) result ≡ kind_before bytes.now }
 {
-    if field == b"R".as_slice() {
-        Some(Kind::Receive)
-    } else if field == b"I".as_slice() {
-        Some(Kind::Issue)
-    } else if field == b"S".as_slice() {
-        Some(Kind::Set)
-    } else {
-        None
+    match bytes {
+        [letter, b',', rest @ ..] => {
+            let kind = kind_named(*letter)?;
+            Some((kind, rest))
+        }
+        _ => None,
     }
 }
 
@@ -76,15 +77,11 @@ fn kind_letter(kind: Kind) -> &'static [u8]
 fn read(message: &[u8]) -> Option<Request>
     ensures { result ≡ request_of message.now }
 {
-    let (till, rest) = cut(message, b',')?;
-    let till = number(till, 1, 64)?;
-    let (count, rest) = cut(rest, b',')?;
-    let count = number(count, 1, 999_999_999)?;
-    let (kind_field, rest) = cut(rest, b',')?;
-    let kind = kind_in(kind_field)?;
-    let (item, quantity) = cut(rest, b',')?;
-    let item = number(item, 1, 65535)?;
-    let quantity = number(quantity, 0, 999_999_999)?;
+    let (till, rest) = number_before_comma(message, 1, 64)?;
+    let (count, rest) = number_before_comma(rest, 1, 999_999_999)?;
+    let (kind, rest) = kind_before_comma(rest)?;
+    let (item, rest) = number_before_comma(rest, 1, 65535)?;
+    let quantity = number(rest, 0, 999_999_999)?;
     Some(Request {
         till: till as u8,
         number: count,
