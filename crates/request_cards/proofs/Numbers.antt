@@ -4,9 +4,10 @@ use Rattle.std.specs.Prelude.{decimal, slice_index}
 use Rattle.std.specs.Int.{IsInRange, IsOutOfRange}
 use Rattle.std.specs.Str.Parse.{AllDigits, digits_value}
 use Rattle.std.proofs.lemmas.Bool.Decides.{leb_tells}
-use Rattle.std.proofs.lemmas.Fmt.{decimal_is_IsNumeral, decimal_digit, decimal_step, length-decimal-le, decimal_nonempty, first_decimal}
+use Rattle.std.proofs.lemmas.Fmt.{decimal_is_IsNumeral, decimal_digit, decimal_step, length-decimal-le, decimal_nonempty, first_decimal, decimal_injective}
 use Rattle.std.proofs.lemmas.List.{get_or-append-add, get_or-take, length-take-le, take-append-drop, get_or-drop, get_or_append_left, get_or_past, take_more}
 use Rattle.std.proofs.lemmas.Str.Parse.{IsNumeralModel, digit_at, digits_value_short, numerals_by_value, tells_digits}
+use Rattle.std.proofs.Math.Seq.{take-append_seam, drop-append_seam}
 use Rattle.request_cards.specs.Reading.{Leads}
 
 -- std's own words for digits and their value
@@ -36,6 +37,11 @@ leads_first bytes n rest l =
     let h : n < 2 ^ 64 = omega (arith, l.short) in
     let some = decimal_nonempty n h in
     rw (l.text, get_or_append_left (decimal n) rest 0 0 some) (decimal_digits n 0 h some)
+
+-- a number at the front is digits
+leads_digits : (bytes : List ℕ) (n : ℕ) (rest : List ℕ) → Leads bytes n rest → (k : ℕ) → k < length (decimal n) → IsInRange 48 57 (get_or bytes k 0)
+leads_digits bytes n rest l k h =
+    rw (l.text, get_or_append_left (decimal n) rest 0 k h) (decimal_digits n k (omega (arith, l.short)) h)
 
 -- the digits at the front are all of the number's
 leads_all : (bytes : List ℕ) (n : ℕ) (rest : List ℕ) (i : ℕ) → Leads bytes n rest → ((k : ℕ) → k < i → IsInRange 48 57 (get_or bytes k 0)) → i ≤ length (decimal n)
@@ -140,3 +146,16 @@ leads_some bytes n rest l = elim (leb_tells 1 (length bytes)) [
   | inl h ↦ h.1
   | inr h ↦ let past : get_or bytes 0 0 ≡ 0 = get_or_past bytes 0 0 (omega arith) in omega (arith, (leads_first bytes n rest l).0)
 ]
+
+-- one number at most stands at the front
+pub leads_one : (bytes : List ℕ) (n : ℕ) (rest : List ℕ) (m : ℕ) (tail : List ℕ) → Leads bytes n rest → Leads bytes m tail → (n ≡ m) × (rest ≡ tail)
+leads_one bytes n rest m tail l k =
+    let hn : n < 2 ^ 64 = omega (arith, l.short) in
+    let hm : m < 2 ^ 64 = omega (arith, k.short) in
+    let one : length (decimal n) ≤ length (decimal m) = leads_all bytes m tail (length (decimal n)) k (leads_digits bytes n rest l) in
+    let other : length (decimal m) ≤ length (decimal n) = leads_all bytes n rest (length (decimal m)) l (leads_digits bytes m tail k) in
+    let same : length (decimal n) ≡ length (decimal m) = omega arith in
+    let both : decimal n ++ rest ≡ decimal m ++ tail = sym l.text ∙ k.text in
+    let fronts : decimal n ≡ decimal m = sym (take-append_seam (decimal n) rest) ∙ ap₂ (λ k (xs : List ℕ). take k xs) same both ∙ take-append_seam (decimal m) tail in
+    let backs : rest ≡ tail = sym (drop-append_seam (decimal n) rest) ∙ ap₂ (λ k (xs : List ℕ). drop k xs) same both ∙ drop-append_seam (decimal m) tail in
+    (decimal_injective n m hn hm fronts, backs)

@@ -1,6 +1,6 @@
 //! Numbers in messages: decimal, without leading zeros. A number is read in one pass over its digits.
 
-ghost use Rattle.std.specs.Prelude.{◌≡◌, ◌≤◌, ℕ, List, IfSome, MatchOption, option_map};
+ghost use Rattle.std.specs.Prelude.{◌≡◌, ◌≤◌, ℕ, List, ◌∷◌, IfSome, MatchOption, option_map};
 ghost use Rattle.request_cards.specs.Reading.{Leads, number_in, number_before};
 
 /// The number at the front, of at most ten digits, and what stands after its last digit. None where no digit stands there,
@@ -29,17 +29,38 @@ fn leading_number(bytes: &[u8]) -> Option<(u64, &[u8])>
     }
 }
 
+/// The same for a number of this range, whose ends are in it.
+#[inline]
+fn number_at_front(bytes: &[u8], low: u32, high: u32) -> Option<(u32, &[u8])>
+    ensures { MatchOption result ((n : ℕ) (rest : List ℕ) → low ≤ n → n ≤ high → ¬ Leads bytes.now n rest)
+        (λ p. (low ≤ p.0) × (p.0 ≤ high) × Leads bytes.now p.0 p.1.now) }
+{
+    let (n, rest) = leading_number(bytes)?;
+    if u64::from(low) <= n && n <= u64::from(high) {
+        Some((n as u32, rest))
+    } else {
+        None
+    }
+}
+
+/// What stands after the comma at the front, where there is one.
+#[inline]
+pub(crate) fn after_comma(bytes: &[u8]) -> Option<&[u8]>
+    ensures { MatchOption result ((rest : List ℕ) → ¬ (bytes.now ≡ 44 ∷ rest)) (λ rest. bytes.now ≡ 44 ∷ rest.now) }
+{
+    let (first, rest) = bytes.split_first()?;
+    if *first == b',' { Some(rest) } else { None }
+}
+
 /// The number of this range that stands before the first comma, and what stands after that comma.
 #[inline]
 pub(crate) fn number_before_comma(bytes: &[u8], low: u32, high: u32) -> Option<(u32, &[u8])>
     ensures exact { option_map (λ p. (p.0, p.1.now)) result ≡ number_before low high bytes.now }
     ensures range { IfSome result (λ p. (low ≤ p.0) × (p.0 ≤ high)) }
 {
-    let (n, rest) = leading_number(bytes)?;
-    match rest {
-        [b',', rest @ ..] if u64::from(low) <= n && n <= u64::from(high) => Some((n as u32, rest)),
-        _ => None,
-    }
+    let (n, rest) = number_at_front(bytes, low, high)?;
+    let rest = after_comma(rest)?;
+    Some((n, rest))
 }
 
 /// The number of this range that the field spells: decimal digits alone, without leading zeros (`0` itself has one digit).
@@ -49,10 +70,6 @@ pub fn number(field: &[u8], low: u32, high: u32) -> Option<u32>
     ensures exact { result ≡ number_in low high field.now }
     ensures range { IfSome result (λ n. (low ≤ n) × (n ≤ high)) }
 {
-    let (n, rest) = leading_number(field)?;
-    if rest.is_empty() && u64::from(low) <= n && n <= u64::from(high) {
-        Some(n as u32)
-    } else {
-        None
-    }
+    let (n, rest) = number_at_front(field, low, high)?;
+    if rest.is_empty() { Some(n) } else { None }
 }

@@ -5,7 +5,7 @@ ghost use Rattle.request_cards.specs.Requests.{Ask};
 ghost use Rattle.request_cards.specs.Texts.{IsMessage, message_text, kind_text};
 ghost use Rattle.request_cards.specs.Reading.{kind_of, kind_before, request_of};
 
-use crate::digits::{number, number_before_comma};
+use crate::digits::{after_comma, number, number_before_comma};
 use crate::kind::Kind;
 use crate::text::{put, put_number};
 use arrayvec::ArrayVec;
@@ -53,13 +53,10 @@ fn kind_named(letter: u8) -> Option<Kind>
 fn kind_before_comma(bytes: &[u8]) -> Option<(Kind, &[u8])>
     ensures { option_map (λ p. (p.0, p.1.now)) result ≡ kind_before bytes.now }
 {
-    match bytes {
-        [letter, b',', rest @ ..] => {
-            let kind = kind_named(*letter)?;
-            Some((kind, rest))
-        }
-        _ => None,
-    }
+    let (letter, rest) = bytes.split_first()?;
+    let kind = kind_named(*letter)?;
+    let rest = after_comma(rest)?;
+    Some((kind, rest))
 }
 
 /// The letter of the kind.
