@@ -48,13 +48,13 @@ pub cut_at_joins : (c : ℕ) (bs : List ℕ) (p : List ℕ × List ℕ) → cut_
 cut_at_joins c [] p e = cc
 cut_at_joins c (b ∷ bs) p e = elim (eqb_tells b c) [
   | inl h ↦
-    let here : Some ([], bs) ≡ Some p = rw h.0 at e in
-    let same : ([], bs) ≡ p = cc in
-    ap (λ x. x ∷ bs) h.1 ∙ ap (λ (q : List ℕ × List ℕ). q.0 ++ c ∷ q.1) same
+      let here : Some ([], bs) ≡ Some p = rw h.0 at e in
+      let same : ([], bs) ≡ p = cc in
+      ap (λ x. x ∷ bs) h.1 ∙ ap (λ (q : List ℕ × List ℕ). q.0 ++ c ∷ q.1) same
   | inr h ↦
-    let there : option_map (λ (p : List ℕ × List ℕ). (b ∷ p.0, p.1)) (cut_at c bs) ≡ Some p = rw h.0 at e in
-    let m = map_ok (λ (p : List ℕ × List ℕ). (b ∷ p.0, p.1)) (cut_at c bs) p there in
-    ap (λ xs. b ∷ xs) (cut_at_joins c bs m.0 m.1) ∙ ap (λ (q : List ℕ × List ℕ). q.0 ++ c ∷ q.1) m.2
+      let there : option_map (λ (p : List ℕ × List ℕ). (b ∷ p.0, p.1)) (cut_at c bs) ≡ Some p = rw h.0 at e in
+      let m = map_ok (λ (p : List ℕ × List ℕ). (b ∷ p.0, p.1)) (cut_at c bs) p there in
+      ap (λ xs. b ∷ xs) (cut_at_joins c bs m.0 m.1) ∙ ap (λ (q : List ℕ × List ℕ). q.0 ++ c ∷ q.1) m.2
 ]
 
 -- the number of this range has this text

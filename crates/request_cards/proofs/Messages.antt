@@ -36,12 +36,12 @@ kind_of_spells field k e =
     let third : Option Kind = if bytes_eq field (kind_text Set) then Some Set else None in
     let second : Option Kind = if bytes_eq field (kind_text Issue) then Some Issue else third in
     elim (chosen (bytes_eq field (kind_text Receive)) Receive second k e) [
-    | inl p ↦ receive.0 p.0 ∙ ap kind_text p.1
-    | inr e2 ↦ elim (chosen (bytes_eq field (kind_text Issue)) Issue third k e2) [
-      | inl p ↦ issue.0 p.0 ∙ ap kind_text p.1
-      | inr e3 ↦ elim (chosen (bytes_eq field (kind_text Set)) Set None k e3) [
-        | inl p ↦ set.0 p.0 ∙ ap kind_text p.1
-        | inr none ↦ cc
+      | inl p ↦ receive.0 p.0 ∙ ap kind_text p.1
+      | inr e2 ↦ elim (chosen (bytes_eq field (kind_text Issue)) Issue third k e2) [
+        | inl p ↦ issue.0 p.0 ∙ ap kind_text p.1
+        | inr e3 ↦ elim (chosen (bytes_eq field (kind_text Set)) Set None k e3) [
+          | inl p ↦ set.0 p.0 ∙ ap kind_text p.1
+          | inr none ↦ cc
         ]
       ]
     ]
@@ -89,12 +89,14 @@ unfolding request_of
 request_reads bytes a m =
     let r = m.0 in
     let last = decimal a.body.quantity in
-    rw (m.1,
+    rw (
+      m.1,
       number_text 1 64 a.till _ (omega arith) r.till_low r.till_high,
       number_text 1 999999999 a.number _ (omega arith) r.number_low r.number_high,
       kind_before_text a.body.kind _,
       number_text 1 65535 a.body.item _ (omega arith) r.item_low r.item_high,
-      number_in_found 0 999999999 a.body.quantity last (omega arith) (omega arith, (r.quantity_high, refl))) refl
+      number_in_found 0 999999999 a.body.quantity last (omega arith) (omega arith, (r.quantity_high, refl)),
+    ) refl
 
 -- what is read is a message
 pub request_is : (bytes : List ℕ) (a : Ask) → request_of bytes ≡ Some a → IsMessage bytes a
@@ -114,11 +116,14 @@ request_is bytes a e =
     let same : made ≡ a = cc (quantity.2) in
     let after : List ℕ → List ℕ → List ℕ = λ field rest. field ++ 44 ∷ rest in
     let text : bytes ≡ message_text made =
-        t.1.1 ∙ ap (after (decimal till.0.0)) (n.1.1 ∙ ap (after (decimal number.0.0)) (k ∙ ap (after (kind_text kind.0.0)) (i.1.1 ∙ ap (after (decimal item.0.0)) q.1.1))) in
+    t.1.1 ∙ ap (after (decimal till.0.0)) (n.1.1 ∙ ap (after (decimal number.0.0)) (k ∙ ap (after (kind_text kind.0.0)) (i.1.1 ∙ ap (after (decimal item.0.0)) q.1.1))) in
     let ranges : IsAsk made = record {
-      till_low = t.0; till_high = t.1.0;
-      number_low = n.0; number_high = n.1.0;
-      item_low = i.0; item_high = i.1.0;
+      till_low = t.0;
+      till_high = t.1.0;
+      number_low = n.0;
+      number_high = n.1.0;
+      item_low = i.0;
+      item_high = i.1.0;
       quantity_high = q.1.0;
     } in
     subst (IsMessage bytes) same (ranges, text)

@@ -48,9 +48,9 @@ leads_all : (bytes : List ℕ) (n : ℕ) (rest : List ℕ) (i : ℕ) → Leads b
 leads_all bytes n rest i l each = elim (leb_tells i (length (decimal n))) [
   | inl h ↦ h.1
   | inr h ↦
-    let here : get_or bytes (length (decimal n)) 0 ≡ get_or rest 0 0 =
-        ap (λ (bs : List ℕ). get_or bs (length (decimal n)) 0) l.text ∙ ap (λ k. get_or (decimal n ++ rest) k 0) (omega arith) ∙ get_or-append-add (decimal n) rest 0 0 in
-    absurd (l.ends (subst (IsInRange 48 57) here (each (length (decimal n)) h.1)))
+      let here : get_or bytes (length (decimal n)) 0 ≡ get_or rest 0 0 =
+      ap (λ (bs : List ℕ). get_or bs (length (decimal n)) 0) l.text ∙ ap (λ k. get_or (decimal n ++ rest) k 0) (omega arith) ∙ get_or-append-add (decimal n) rest 0 0 in
+      absurd (l.ends (subst (IsInRange 48 57) here (each (length (decimal n)) h.1)))
 ]
 
 -- the first i bytes were read as n: none yet, or they are its text
@@ -90,25 +90,25 @@ read_more bytes i n r fits digit few positive =
     let glyph : 48 + (get_or bytes i 0 - 48) ≡ get_or bytes i 0 = omega (arith, digit.0) in
     let longer : take (i + 1) bytes ≡ take i bytes ++ get_or bytes i 0 ∷ [] = take_more bytes i 0 fits in
     elim (leb_tells 1 i) [
-    | inl p ↦
-      let long = read_length bytes i n r (omega arith) p.1 in
-      let small : n < 10 ^ 9 = decimal_small n 9 (omega (arith, r.bound)) (omega arith) in
-      record {
-        none = λ e. absurd (omega (arith, e));
-        text = λ _. longer ∙ ap₂ (λ (xs : List ℕ) c. xs ++ c ∷ []) (r.text p.1) (sym glyph) ∙ sym (decimal_more n _ (positive p.1) (omega arith) d);
-        short = omega arith;
-        bound = omega arith;
-      }
-    | inr p ↦
-      let e : i ≡ 0 = omega arith in
-      let zero_yet : n ≡ 0 = r.none e in
-      let alone : n * 10 + (get_or bytes i 0 - 48) ≡ get_or bytes i 0 - 48 = omega arith in
-      record {
-        none = λ e. absurd (omega (arith, e));
-        text = λ _. longer ∙ ap₂ (λ (xs : List ℕ) c. xs ++ c ∷ []) (ap (λ k. take k bytes) e) (sym glyph) ∙ sym (ap decimal alone ∙ decimal_digit _ d);
-        short = omega arith;
-        bound = omega arith;
-      }
+      | inl p ↦
+          let long = read_length bytes i n r (omega arith) p.1 in
+          let small : n < 10 ^ 9 = decimal_small n 9 (omega (arith, r.bound)) (omega arith) in
+          record {
+            none = λ e. absurd (omega (arith, e));
+            text = λ _. longer ∙ ap₂ (λ (xs : List ℕ) c. xs ++ c ∷ []) (r.text p.1) (sym glyph) ∙ sym (decimal_more n _ (positive p.1) (omega arith) d);
+            short = omega arith;
+            bound = omega arith;
+          }
+      | inr p ↦
+          let e : i ≡ 0 = omega arith in
+          let zero_yet : n ≡ 0 = r.none e in
+          let alone : n * 10 + (get_or bytes i 0 - 48) ≡ get_or bytes i 0 - 48 = omega arith in
+          record {
+            none = λ e. absurd (omega (arith, e));
+            text = λ _. longer ∙ ap₂ (λ (xs : List ℕ) c. xs ++ c ∷ []) (ap (λ k. take k bytes) e) (sym glyph) ∙ sym (ap decimal alone ∙ decimal_digit _ d);
+            short = omega arith;
+            bound = omega arith;
+          }
     ]
 
 -- the digits end here
@@ -125,15 +125,15 @@ read_stops bytes i n m rest r fits digit why l =
     let h : m < 2 ^ 64 = omega (arith, l.short) in
     let long : i + 1 ≤ length (decimal m) = leads_all bytes m rest (i + 1) l (digits_more bytes i (read_digits bytes i n r (omega arith)) digit) in
     elim why [
-    | inl e ↦ let few : length (decimal m) ≤ 10 = length-decimal-le 10 m (omega arith) (omega (arith, l.short)) h in omega arith
-    | inr p ↦
-      let front : get_or bytes 0 0 ≡ get_or (decimal m) 0 0 = ap (λ (bs : List ℕ). get_or bs 0 0) l.text ∙ get_or_append_left (decimal m) rest 0 0 (decimal_nonempty m h) in
-      let zero : get_or bytes 0 0 ≡ 48 =
+      | inl e ↦ let few : length (decimal m) ≤ 10 = length-decimal-le 10 m (omega arith) (omega (arith, l.short)) h in omega arith
+      | inr p ↦
+          let front : get_or bytes 0 0 ≡ get_or (decimal m) 0 0 = ap (λ (bs : List ℕ). get_or bs 0 0) l.text ∙ get_or_append_left (decimal m) rest 0 0 (decimal_nonempty m h) in
+          let zero : get_or bytes 0 0 ≡ 48 =
           sym (get_or-take i bytes 0 0 p.0) ∙ ap (λ (bs : List ℕ). get_or bs 0 0) (r.text p.0 ∙ ap decimal p.1 ∙ decimal_digit 0 (omega arith)) in
-      elim (leb_tells 1 m) [
-      | inl q ↦ let above : 48 < get_or (decimal m) 0 0 = first_decimal m q.1 h in omega arith
-      | inr q ↦ let few : length (decimal m) ≤ 1 = length-decimal-le 1 m (omega arith) (omega arith) h in omega arith
-      ]
+          elim (leb_tells 1 m) [
+            | inl q ↦ let above : 48 < get_or (decimal m) 0 0 = first_decimal m q.1 h in omega arith
+            | inr q ↦ let few : length (decimal m) ≤ 1 = length-decimal-le 1 m (omega arith) (omega arith) h in omega arith
+          ]
     ]
 
 -- a byte that is no digit

@@ -12,7 +12,11 @@ fn leading_number(bytes: &[u8]) -> Option<(u64, &[u8])>
     let mut number: u64 = 0;
     for (i, b) in bytes.iter().enumerate() {
         if !b.is_ascii_digit() {
-            return if i == 0 { None } else { Some((number, &bytes[i..])) };
+            return if i == 0 {
+                None
+            } else {
+                Some((number, &bytes[i..]))
+            };
         }
         if i == 10 {
             return None;

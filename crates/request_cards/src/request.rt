@@ -7,7 +7,7 @@ ghost use Rattle.request_cards.specs.Reading.{kind_of, kind_before, request_of};
 
 use crate::digits::{after_comma, number, number_before_comma};
 use crate::kind::Kind;
-use crate::text::{put, put_number};
+use crate::text::{gathered, write_before, write_field, write_number};
 use arrayvec::ArrayVec;
 use std::marker::Model;
 
@@ -60,13 +60,13 @@ fn kind_before_comma(bytes: &[u8]) -> Option<(Kind, &[u8])>
 }
 
 /// The letter of the kind.
-fn kind_letter(kind: Kind) -> &'static [u8]
-    ensures { result.now ≡ kind_text kind }
+fn kind_letter(kind: Kind) -> u8
+    ensures { kind_text kind ≡ result ∷ [] }
 {
     match kind {
-        Kind::Receive => b"R",
-        Kind::Issue => b"I",
-        Kind::Set => b"S",
+        Kind::Receive => b'R',
+        Kind::Issue => b'I',
+        Kind::Set => b'S',
     }
 }
 
@@ -147,16 +147,12 @@ impl Request {
     pub fn print(&self) -> ArrayVec<u8, 30>
         ensures { result.items ≡ message_text self.now }
     {
-        let mut out = ArrayVec::new();
-        put_number(&mut out, u32::from(self.till));
-        put(&mut out, b",");
-        put_number(&mut out, self.number);
-        put(&mut out, b",");
-        put(&mut out, kind_letter(self.kind));
-        put(&mut out, b",");
-        put_number(&mut out, u32::from(self.item));
-        put(&mut out, b",");
-        put_number(&mut out, self.quantity);
-        out
+        let mut room = [0; 30];
+        let start = write_number(self.quantity, &mut room, 30);
+        let start = write_field(u32::from(self.item), &mut room, start);
+        let start = write_before(&[kind_letter(self.kind), b','], &mut room, start);
+        let start = write_field(self.number, &mut room, start);
+        let start = write_field(u32::from(self.till), &mut room, start);
+        gathered(&room[start..])
     }
 }

@@ -19,6 +19,6 @@ returns-then-is_empty-clause-exact c =
 pub returns-else-is_empty-clause-exact : goal.returns-else-is_empty-clause-exact
 returns-else-is_empty-clause-exact c =
     sym (number_refused c.args.low c.args.high c.args.field.now (omega arith) (λ n h g l.
-      let one = leads_one _ _ _ n [] c.in_ok-n.ensures.2 l in
-      let none : length c.in_ok-n.rest.now ≡ 0 = ap length one.1 in
-      grind (arith, c.if-is_empty.ensures)))
+    let one = leads_one _ _ _ n [] c.in_ok-n.ensures.2 l in
+    let none : length c.in_ok-n.rest.now ≡ 0 = ap length one.1 in
+    grind (arith, c.if-is_empty.ensures)))

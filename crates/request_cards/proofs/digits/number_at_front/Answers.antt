@@ -8,6 +8,6 @@ pub returns-else-from-n : goal.returns-else-from-n
 returns-else-from-n c = λ n rest h g l.
     let one = leads_one _ _ _ n rest c.in_ok-n.ensures l in
     elim c.else-from-n.branch [
-    | else-from-n-via-then-from-n+else-n-from w ↦ omega (arith, one.0)
-    | else-from-n-via-else-from-n w ↦ omega (arith, one.0)
+      | else-from-n-via-then-from-n+else-n-from w ↦ omega (arith, one.0)
+      | else-from-n-via-else-from-n w ↦ omega (arith, one.0)
     ]

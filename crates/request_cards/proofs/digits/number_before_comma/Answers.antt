@@ -13,7 +13,7 @@ returns-in_err-n-clause-exact c =
 pub returns-in_err-rest-clause-exact : goal.returns-in_err-rest-clause-exact
 returns-in_err-rest-clause-exact c =
     rw c.from_residual-in_err-rest.ensures (sym (before_refused c.args.low c.args.high c.args.bytes.now (omega arith) (λ n rest h g l.
-      c.in_err-rest.ensures rest (leads_one _ _ _ n (44 ∷ rest) c.in_ok-n.ensures.2 l).1)))
+    c.in_err-rest.ensures rest (leads_one _ _ _ n (44 ∷ rest) c.in_ok-n.ensures.2 l).1)))
 
 -- a comma follows the number
 pub returns-clause-exact : goal.returns-clause-exact

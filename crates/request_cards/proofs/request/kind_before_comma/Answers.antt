@@ -12,18 +12,18 @@ returns-in_err-letter c =
 pub returns-in_err-kind : goal.returns-in_err-kind
 returns-in_err-kind c =
     rw c.from_residual-in_err-kind.ensures (sym (kind_refused c.args.bytes.now (λ letter k rest e text.
-      let both : c.in_ok-letter.letter.now ∷ c.in_ok-letter.rest.now ≡ letter ∷ 44 ∷ rest = sym c.in_ok-letter.ensures.cases.0 ∙ text in
-      let same : c.in_ok-letter.letter.now ≡ letter = cc in
-      let read : None ≡ Some k = c.in_err-kind.ensures ∙ ap (λ x. kind_of (x ∷ [])) same ∙ e in
-      cc)))
+    let both : c.in_ok-letter.letter.now ∷ c.in_ok-letter.rest.now ≡ letter ∷ 44 ∷ rest = sym c.in_ok-letter.ensures.cases.0 ∙ text in
+    let same : c.in_ok-letter.letter.now ≡ letter = cc in
+    let read : None ≡ Some k = c.in_err-kind.ensures ∙ ap (λ x. kind_of (x ∷ [])) same ∙ e in
+    cc)))
 
 -- no comma follows the letter
 pub returns-in_err-rest : goal.returns-in_err-rest
 returns-in_err-rest c =
     rw c.from_residual-in_err-rest.ensures (sym (kind_refused c.args.bytes.now (λ letter k rest e text.
-      let both : c.in_ok-letter.letter.now ∷ c.in_ok-letter.rest.now ≡ letter ∷ 44 ∷ rest = sym c.in_ok-letter.ensures.cases.0 ∙ text in
-      let same : c.in_ok-letter.rest.now ≡ 44 ∷ rest = cc in
-      c.in_err-rest.ensures rest same)))
+    let both : c.in_ok-letter.letter.now ∷ c.in_ok-letter.rest.now ≡ letter ∷ 44 ∷ rest = sym c.in_ok-letter.ensures.cases.0 ∙ text in
+    let same : c.in_ok-letter.rest.now ≡ 44 ∷ rest = cc in
+    c.in_err-rest.ensures rest same)))
 
 -- a comma follows the letter
 pub returns : goal.returns
