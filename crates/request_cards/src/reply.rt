@@ -44,6 +44,7 @@ pub enum Reply {
 
 /// Writes the text of the answer so that it ends at `end`, and returns where it starts. It has at most 17 bytes.
 #[inline]
+#[tactic(auto, using(crate::proofs::Texts::number_length))]
 fn write_answer(answer: Answer, room: &mut [u8], end: usize) -> usize
     requires { (17 ≤ end) × (end ≤ length room.old) }
     ensures start { (result ≤ end) × (end ≤ result + 17) }
@@ -87,6 +88,7 @@ fn write_word(word: Word, room: &mut [u8], end: usize) -> usize
 
 /// Writes the text of the reply so that it ends with the room, and returns where it starts.
 #[inline]
+#[tactic(auto, using(crate::proofs::Texts::number_length))]
 fn write_reply(reply: Reply, room: &mut [u8; 48]) -> usize
     ensures start { result ≤ 48 }
     ensures written { drop result room.new ≡ reply_text reply }

@@ -144,6 +144,8 @@ impl Request {
     }
 
     /// The request as a message, which `parse` reads back.
+    #[inline]
+    #[tactic(auto, using(crate::proofs::Texts::number_length))]
     pub fn print(&self) -> ArrayVec<u8, 30>
         ensures { result.items ≡ message_text self.now }
     {
