@@ -1,1 +1,5 @@
+pub mod Numbers
+pub mod Fields
+pub mod Messages
+pub mod Texts
 pub mod Plain

@@ -1,5 +1,6 @@
 -- The message grammar as a function, cut at commas; the grammar itself is `IsMessage` in Texts. All of it is our own.
-use Rattle.std.specs.Prelude.{◌≡◌, ℕ, Bool, List, [], ◌∷◌, ◌==◌, ◌&&◌, Option, Some, None, if◌then◌else◌, nat_le, decimal, option_map, bytes_eq}
+use Rattle.std.specs.Prelude.{◌≡◌, ℕ, ◌≤◌, Bool, List, [], ◌∷◌, ◌++◌, ◌==◌, ◌&&◌, slice_index, Option, Some, None, if◌then◌else◌, nat_le, decimal, option_map, bytes_eq}
+use Rattle.std.specs.Int.{IsInRange}
 use Rattle.std.specs.Str.Parse.{digits_value}
 use Rattle.request_cards.specs.declared.kind.Kind.{Kind}
 use Rattle.request_cards.specs.declared.kind.Kind.TheVariants.{Receive, Issue, Set}
@@ -31,16 +32,32 @@ kind_of field = if bytes_eq field (kind_text Receive) then Some Receive
     else (if bytes_eq field (kind_text Issue) then Some Issue
     else (if bytes_eq field (kind_text Set) then Some Set else None))
 
+-- the number of this range before the first comma, and what stands after that comma [own]
+unfoldable pub number_before : ℕ → ℕ → List ℕ → Option (ℕ × List ℕ)
+number_before low high bytes = do
+  cut ← cut_at 44 bytes
+  n ← number_in low high cut.0
+  Some (n, cut.1)
+
+-- the kind before the first comma, and what stands after that comma [own]
+unfoldable pub kind_before : List ℕ → Option (Kind × List ℕ)
+kind_before bytes = do
+  cut ← cut_at 44 bytes
+  kind ← kind_of cut.0
+  Some (kind, cut.1)
+
 -- the request that has this text [own]
 unfoldable pub request_of : List ℕ → Option Ask
 request_of bytes = do
-  t ← cut_at 44 bytes
-  till ← number_in 1 64 t.0
-  n ← cut_at 44 t.1
-  number ← number_in 1 999999999 n.0
-  k ← cut_at 44 n.1
-  kind ← kind_of k.0
-  i ← cut_at 44 k.1
-  item ← number_in 1 65535 i.0
-  quantity ← number_in 0 999999999 i.1
-  Some (record { till = till; number = number; body = record { kind = kind; item = item; quantity = quantity } })
+  till ← number_before 1 64 bytes
+  number ← number_before 1 999999999 till.1
+  kind ← kind_before number.1
+  item ← number_before 1 65535 kind.1
+  quantity ← number_in 0 999999999 item.1
+  Some (record { till = till.0; number = number.0; body = record { kind = kind.0; item = item.0; quantity = quantity } })
+
+-- a number of at most ten digits stands at the front, and no further digit follows it [own]
+pub record Leads (bytes : List ℕ) (n : ℕ) (rest : List ℕ) : Type 0 where
+  pub short : n ≤ 9999999999
+  pub text : bytes ≡ decimal n ++ rest
+  pub ends : ¬ (IsInRange 48 57 (slice_index rest 0))

@@ -1,11 +1,10 @@
 //! Replies to messages, and their texts.
 
-ghost use Rattle.std.specs.Prelude.{◌≡◌, ◌≤◌, ◌+◌, ◌++◌, length};
-ghost use Rattle.arrayvec.specs.ArrayVec.{array_vec_len};
+ghost use Rattle.std.specs.Prelude.{◌≡◌, ◌≤◌, ◌+◌, ◌++◌, length, drop};
 ghost use Rattle.request_cards.specs.Texts.{answer_text, word_text, reply_text};
 
 use crate::answer::Answer;
-use crate::text::{put, put_number};
+use crate::text::{gathered, write_before, write_field, write_number};
 use arrayvec::ArrayVec;
 
 /// What a till is told of its request.
@@ -43,63 +42,77 @@ pub enum Reply {
     },
 }
 
-/// Puts the text of an answer at the end: at most 21 bytes.
-fn put_answer(out: &mut ArrayVec<u8, 48>, answer: Answer)
-    requires { array_vec_len out.old + 21 ≤ 48 }
-    ensures items { out.new.items ≡ out.old.items ++ answer_text answer }
+/// Writes the text of the answer so that it ends at `end`, and returns where it starts. It has at most 17 bytes.
+#[inline]
+#[tactic(auto, using(crate::proofs::Texts::number_length))]
+fn write_answer(answer: Answer, room: &mut [u8], end: usize) -> usize
+    requires { (17 ≤ end) × (end ≤ length room.old) }
+    ensures start { (result ≤ end) × (end ≤ result + 17) }
+    ensures written { drop result room.new ≡ answer_text answer ++ drop end room.old }
 {
     match answer {
         Answer::Done(quantity) => {
-            put(out, b"DONE,");
-            put_number(out, quantity);
+            let number = write_number(quantity, room, end);
+            write_before(b"DONE,", room, number)
         }
         Answer::Short(quantity) => {
-            put(out, b"SHORT,");
-            put_number(out, quantity);
+            let number = write_number(quantity, room, end);
+            write_before(b"SHORT,", room, number)
         }
         Answer::Over(quantity) => {
-            put(out, b"OVER,");
-            put_number(out, quantity);
+            let number = write_number(quantity, room, end);
+            write_before(b"OVER,", room, number)
         }
-        Answer::NoCard => put(out, b"NO CARD"),
-        Answer::DiskFull => put(out, b"72,DISK FULL"),
-        Answer::TooLarge => put(out, b"52,FILE TOO LARGE"),
+        Answer::NoCard => write_before(b"NO CARD", room, end),
+        Answer::DiskFull => write_before(b"72,DISK FULL", room, end),
+        Answer::TooLarge => write_before(b"52,FILE TOO LARGE", room, end),
     }
 }
 
-/// Puts the text of a word at the end: at most 21 bytes.
-fn put_word(out: &mut ArrayVec<u8, 48>, word: Word)
-    requires { array_vec_len out.old + 21 ≤ 48 }
-    ensures items { out.new.items ≡ out.old.items ++ word_text word }
+/// Writes the text of the word so that it ends at `end`, and returns where it starts. It has at most 17 bytes.
+#[inline]
+fn write_word(word: Word, room: &mut [u8], end: usize) -> usize
+    requires { (17 ≤ end) × (end ≤ length room.old) }
+    ensures start { (result ≤ end) × (end ≤ result + 17) }
+    ensures written { drop result room.new ≡ word_text word ++ drop end room.old }
 {
     match word {
-        Word::Media => put(out, b"MEDIA"),
-        Word::NoTill => put(out, b"NO TILL"),
-        Word::Stale => put(out, b"STALE"),
-        Word::Clash => put(out, b"CLASH"),
-        Word::Ahead => put(out, b"AHEAD"),
-        Word::Kept(answer) => put_answer(out, answer),
+        Word::Media => write_before(b"MEDIA", room, end),
+        Word::NoTill => write_before(b"NO TILL", room, end),
+        Word::Stale => write_before(b"STALE", room, end),
+        Word::Clash => write_before(b"CLASH", room, end),
+        Word::Ahead => write_before(b"AHEAD", room, end),
+        Word::Kept(answer) => write_answer(answer, room, end),
+    }
+}
+
+/// Writes the text of the reply so that it ends with the room, and returns where it starts.
+#[inline]
+#[tactic(auto, using(crate::proofs::Texts::number_length))]
+fn write_reply(reply: Reply, room: &mut [u8; 48]) -> usize
+    ensures start { result ≤ 48 }
+    ensures written { drop result room.new ≡ reply_text reply }
+{
+    match reply {
+        Reply::Syntax => write_before(b"30,SYNTAX ERROR,00,00", room, 48),
+        Reply::Cut => write_before(b"CUT", room, 48),
+        Reply::Told { till, number, word } => {
+            let start = write_word(word, room, 48);
+            let start = write_field(number, room, start);
+            write_field(u32::from(till), room, start)
+        }
     }
 }
 
 impl Reply {
     /// The text of the reply, without an end of line: `30,SYNTAX ERROR,00,00`, `CUT`, or till, number and word with a comma
-    /// between two. At most 36 bytes.
+    /// between two. At most 32 bytes.
+    #[inline]
     pub fn print(&self) -> ArrayVec<u8, 48>
         ensures { result.items ≡ reply_text self.now }
     {
-        let mut out = ArrayVec::new();
-        match *self {
-            Reply::Syntax => put(&mut out, b"30,SYNTAX ERROR,00,00"),
-            Reply::Cut => put(&mut out, b"CUT"),
-            Reply::Told { till, number, word } => {
-                put_number(&mut out, u32::from(till));
-                put(&mut out, b",");
-                put_number(&mut out, number);
-                put(&mut out, b",");
-                put_word(&mut out, word);
-            }
-        }
-        out
+        let mut room = [0; 48];
+        let start = write_reply(*self, &mut room);
+        gathered(&room[start..])
     }
 }

@@ -1,13 +1,13 @@
 //! Requests: values within the ranges of the message grammar, read from a message and printed as one.
 
-ghost use Rattle.std.specs.Prelude.{◌≡◌, ◌≤◌, IfSome, IfNone, option_map};
+ghost use Rattle.std.specs.Prelude.{◌≡◌, ◌≤◌, [], ◌∷◌, IfSome, IfNone, option_map};
 ghost use Rattle.request_cards.specs.Requests.{Ask};
 ghost use Rattle.request_cards.specs.Texts.{IsMessage, message_text, kind_text};
-ghost use Rattle.request_cards.specs.Reading.{cut_at, kind_of, request_of};
+ghost use Rattle.request_cards.specs.Reading.{kind_of, kind_before, request_of};
 
-use crate::digits::number;
+use crate::digits::{after_comma, number, number_before_comma};
 use crate::kind::Kind;
-use crate::text::{put, put_number};
+use crate::text::{gathered, write_before, write_field, write_number};
 use arrayvec::ArrayVec;
 use std::marker::Model;
 
@@ -34,41 +34,39 @@ impl Model for Request {
     ghost inverse = { λ a. record { till = a.till; number = a.number; kind = a.body.kind; item = a.body.item; quantity = a.body.quantity } };
 }
 
-/// What stands before the first `separator`, and what stands after it.
-fn cut(bytes: &[u8], separator: u8) -> Option<(&[u8], &[u8])>
-    ensures { option_map (λ p. (p.0.now, p.1.now)) result ≡ cut_at separator bytes.now }
+/// The kind that has this letter.
+#[inline]
+#[tactic(auto, unfolding(crate::specs::Reading::kind_of))]
+fn kind_named(letter: u8) -> Option<Kind>
+    ensures { result ≡ kind_of (letter ∷ []) }
 {
-    for (i, b) in bytes.iter().enumerate() {
-        if *b == separator {
-            return Some((&bytes[..i], &bytes[i + 1..]));
-        }
+    match letter {
+        b'R' => Some(Kind::Receive),
+        b'I' => Some(Kind::Issue),
+        b'S' => Some(Kind::Set),
+        _ => None,
     }
-    None
 }
 
-#[tactic(auto, unfolding(crate::specs::Reading::kind_of))]
-fn kind_in(field: &[u8]) -> Option<Kind>
-    ensures { result ≡ kind_of field.now }
+/// The kind that stands before the first comma, and what stands after that comma.
+#[inline]
+fn kind_before_comma(bytes: &[u8]) -> Option<(Kind, &[u8])>
+    ensures { option_map (λ p. (p.0, p.1.now)) result ≡ kind_before bytes.now }
 {
-    if field == b"R".as_slice() {
-        Some(Kind::Receive)
-    } else if field == b"I".as_slice() {
-        Some(Kind::Issue)
-    } else if field == b"S".as_slice() {
-        Some(Kind::Set)
-    } else {
-        None
-    }
+    let (letter, rest) = bytes.split_first()?;
+    let kind = kind_named(*letter)?;
+    let rest = after_comma(rest)?;
+    Some((kind, rest))
 }
 
 /// The letter of the kind.
-fn kind_letter(kind: Kind) -> &'static [u8]
-    ensures { result.now ≡ kind_text kind }
+fn kind_letter(kind: Kind) -> u8
+    ensures { kind_text kind ≡ result ∷ [] }
 {
     match kind {
-        Kind::Receive => b"R",
-        Kind::Issue => b"I",
-        Kind::Set => b"S",
+        Kind::Receive => b'R',
+        Kind::Issue => b'I',
+        Kind::Set => b'S',
     }
 }
 
@@ -76,15 +74,11 @@ fn kind_letter(kind: Kind) -> &'static [u8]
 fn read(message: &[u8]) -> Option<Request>
     ensures { result ≡ request_of message.now }
 {
-    let (till, rest) = cut(message, b',')?;
-    let till = number(till, 1, 64)?;
-    let (count, rest) = cut(rest, b',')?;
-    let count = number(count, 1, 999_999_999)?;
-    let (kind_field, rest) = cut(rest, b',')?;
-    let kind = kind_in(kind_field)?;
-    let (item, quantity) = cut(rest, b',')?;
-    let item = number(item, 1, 65535)?;
-    let quantity = number(quantity, 0, 999_999_999)?;
+    let (till, rest) = number_before_comma(message, 1, 64)?;
+    let (count, rest) = number_before_comma(rest, 1, 999_999_999)?;
+    let (kind, rest) = kind_before_comma(rest)?;
+    let (item, rest) = number_before_comma(rest, 1, 65535)?;
+    let quantity = number(rest, 0, 999_999_999)?;
     Some(Request {
         till: till as u8,
         number: count,
@@ -150,19 +144,17 @@ impl Request {
     }
 
     /// The request as a message, which `parse` reads back.
+    #[inline]
+    #[tactic(auto, using(crate::proofs::Texts::number_length))]
     pub fn print(&self) -> ArrayVec<u8, 30>
         ensures { result.items ≡ message_text self.now }
     {
-        let mut out = ArrayVec::new();
-        put_number(&mut out, u32::from(self.till));
-        put(&mut out, b",");
-        put_number(&mut out, self.number);
-        put(&mut out, b",");
-        put(&mut out, kind_letter(self.kind));
-        put(&mut out, b",");
-        put_number(&mut out, u32::from(self.item));
-        put(&mut out, b",");
-        put_number(&mut out, self.quantity);
-        out
+        let mut room = [0; 30];
+        let start = write_number(self.quantity, &mut room, 30);
+        let start = write_field(u32::from(self.item), &mut room, start);
+        let start = write_before(&[kind_letter(self.kind), b','], &mut room, start);
+        let start = write_field(self.number, &mut room, start);
+        let start = write_field(u32::from(self.till), &mut room, start);
+        gathered(&room[start..])
     }
 }
