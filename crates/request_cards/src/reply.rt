@@ -1,6 +1,7 @@
 //! Replies to messages, and their texts.
 
 ghost use Rattle.std.specs.Prelude.{◌≡◌, ◌≤◌, ◌+◌, ◌++◌, length, drop};
+ghost use Rattle.arrayvec.specs.ArrayVec.{array_vec_len};
 ghost use Rattle.request_cards.specs.Texts.{answer_text, word_text, reply_text};
 
 use crate::answer::Answer;
@@ -90,7 +91,7 @@ fn write_word(word: Word, room: &mut [u8], end: usize) -> usize
 #[inline]
 #[tactic(auto, using(crate::proofs::Texts::number_length))]
 fn write_reply(reply: Reply, room: &mut [u8; 48]) -> usize
-    ensures start { result ≤ 48 }
+    ensures start { (14 ≤ result) × (result ≤ 48) }
     ensures written { drop result room.new ≡ reply_text reply }
 {
     match reply {
@@ -106,10 +107,12 @@ fn write_reply(reply: Reply, room: &mut [u8; 48]) -> usize
 
 impl Reply {
     /// The text of the reply, without an end of line: `30,SYNTAX ERROR,00,00`, `CUT`, or till, number and word with a comma
-    /// between two. At most 32 bytes.
+    /// between two.
     #[inline]
     pub fn print(&self) -> ArrayVec<u8, 48>
-        ensures { result.items ≡ reply_text self.now }
+        ensures text { result.items ≡ reply_text self.now }
+        // An end of line still fits.
+        ensures room { array_vec_len result ≤ 34 }
     {
         let mut room = [0; 48];
         let start = write_reply(*self, &mut room);
