@@ -37,8 +37,8 @@ impl DryFault {
 }
 
 /// Writes the reply on a line of its own.
-fn put_line<W: Write>(out: &mut W, reply: &Reply) -> Result<(), DryFault>
-    ensures ok { OnOk result (Appends (W.contents out.old) (W.contents out.new) (reply_text reply.now ++ codes "\n")) }
+fn put_line<W: Write>(out: &mut W, reply: Reply) -> Result<(), DryFault>
+    ensures ok { OnOk result (Appends (W.contents out.old) (W.contents out.new) (reply_text reply ++ codes "\n")) }
     ensures err { IfErr result (λ e. e ≡ DryFault.Output) }
 {
     let mut text = reply.print();
@@ -57,7 +57,7 @@ fn play<W: Write>(script: &[u8], table: &mut Table, out: &mut W) -> Result<(), D
     let mut rest = script;
     while let Some((line, more)) = next_line(rest) {
         let reply = table.reply(line);
-        put_line(out, &reply)?;
+        put_line(out, reply)?;
         rest = more;
     }
     Ok(())
