@@ -1,10 +1,11 @@
 -- The lines of a script, cut at its first LF.
-use Rattle.std.proofs.Common.{◌≡◌, ◌≢◌, ◌<◌, ◌≤◌, ℕ, suc, Bool, true, false, List, [], ◌∷◌, ◌++◌, ◌+◌, length, get_or, take, drop, refl, sym, ◌∙◌, ap, eq-eqb, ne_eqb, add-one, arith, ◌-◌}
-use Rattle.std.specs.Prelude.{◌==◌, if◌then◌else◌, Option, Some, None, option_map}
+use Rattle.std.proofs.Common.{◌≡◌, ◌≢◌, ◌<◌, ◌≤◌, ℕ, suc, Bool, true, false, List, [], ◌∷◌, ◌++◌, ◌+◌, length, get_or, take, drop, refl, sym, ◌∙◌, ap, inl, inr, eq-eqb, ne_eqb, add-one, arith, ◌-◌}
+use Rattle.std.specs.Prelude.{◌==◌, ◌||◌, fold, zero, if◌then◌else◌, Option, Some, None, option_map}
 use Rattle.std.specs.List.{All, AllByRecursion}
 use Rattle.std.proofs.Math.Seq.{split_at}
 use Rattle.std.proofs.lemmas.List.{length-take-le, get_or-take, length-drop, take_rest}
 use Rattle.std.proofs.lemmas.List.Elements.{recursion_from_All, All-from_get_or}
+use Rattle.std.proofs.lemmas.Bool.Decides.{eqb_tells}
 use Rattle.ledger_cli.specs.Scripts.{onto_first, split, without_cr, ended, lines, first_bad, is_bad}
 
 -- no byte of the list is c
@@ -72,3 +73,56 @@ lines_last script some before =
 pub some_length : (script : List ℕ) → (length script == 0) ≡ false → 0 < length script
 some_length [] some = cc
 some_length (b ∷ bs) some = omega arith
+
+-- a script without a byte c is cut into pieces without one
+pieces_lack : (c d : ℕ) (script : List ℕ) → Lacks c script → AllByRecursion (Lacks c) (split d script)
+pieces_lack c d [] lacks = (tt, tt)
+pieces_lack c d (b ∷ bs) lacks = more (b == d) (split d bs) (pieces_lack c d bs lacks.1)
+  where
+    more : (t : Bool) (ps : List (List ℕ)) → AllByRecursion (Lacks c) ps → AllByRecursion (Lacks c) (if t then [] ∷ ps else onto_first b ps)
+    more true ps all = (tt, all)
+    more false [] all = tt
+    more false (p ∷ ps) all = ((lacks.0, all.0), all.1)
+
+-- a line without @ is not bad
+good_line : (line : List ℕ) → Lacks 64 line → is_bad line ≡ false
+good_line [] lacks = refl
+good_line (b ∷ bs) lacks = ne_eqb b 64 lacks.0
+
+good_part : (n : ℕ) (line : List ℕ) → Lacks 64 line → is_bad (take n line) ≡ false
+good_part zero line lacks = refl
+good_part (suc n) [] lacks = refl
+good_part (suc n) (b ∷ bs) lacks = ne_eqb b 64 lacks.0
+
+good_without_cr : (line : List ℕ) → Lacks 64 line → is_bad (without_cr line) ≡ false
+good_without_cr line lacks = pick (get_or line (length line - 1) 0 == 13)
+  where
+    pick : (t : Bool) → is_bad (if t then take (length line - 1) line else line) ≡ false
+    pick true = good_part (length line - 1) line lacks
+    pick false = good_line line lacks
+
+none_bad : (ps : List (List ℕ)) → AllByRecursion (Lacks 64) ps → first_bad (ended ps) ≡ None
+none_bad [] all = refl
+none_bad (x ∷ []) all = pick (length x == 0)
+  where
+    pick : (t : Bool) → first_bad (if t then [] else x ∷ []) ≡ None
+    pick true = refl
+    pick false = rw (good_line x all.0) refl
+none_bad (x ∷ y ∷ ys) all = rw (good_without_cr x all.0, none_bad (y ∷ ys) all.1) refl
+
+-- once found, a byte stays found
+found_stays : (c : ℕ) (xs : List ℕ) → fold (λ found b. found || b == c) true xs ≡ true
+found_stays c [] = refl
+found_stays c (x ∷ xs) = found_stays c xs
+
+-- where a byte is not found, the list lacks it
+not_found : (c : ℕ) (xs : List ℕ) → fold (λ found b. found || b == c) false xs ≡ false → Lacks c xs
+not_found c [] none = tt
+not_found c (x ∷ xs) none = elim (eqb_tells x c) [
+  | inl h ↦ let bad : true ≡ false = sym (found_stays c xs) ∙ (rw (h.0) at none) in cc
+  | inr h ↦ (h.1, not_found c xs (rw (h.0) at none))
+]
+
+-- a script without @ has no bad line
+pub no_at : (script : List ℕ) → fold (λ found b. found || b == 64) false script ≡ false → first_bad (lines script) ≡ None
+no_at script none = none_bad (split 10 script) (pieces_lack 64 10 script (not_found 64 script none))

@@ -41,9 +41,9 @@ fn put_line<W: Write>(out: &mut W, reply: Reply) -> Result<(), DryFault>
     ensures ok { OnOk result (Appends (W.contents out.old) (W.contents out.new) (reply_text reply ++ codes "\n")) }
     ensures err { IfErr result (λ e. e ≡ DryFault.Output) }
 {
-    let mut text = reply.print();
-    text.push(b'\n');
-    if out.write_all(text.as_slice()).is_err() {
+    let mut room = [b'\n'; 48];
+    let start = reply.write(&mut room, 47);
+    if out.write_all(&room[start..]).is_err() {
         return Err(DryFault::Output);
     }
     Ok(())

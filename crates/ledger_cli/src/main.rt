@@ -26,6 +26,9 @@ const WORDS: u8 = 2;
 /// The exit status where a file, the output or memory failed.
 const SYSTEM: u8 = 3;
 
+/// How many bytes of output are gathered before they are written.
+const OUTPUT_ROOM: usize = 65536;
+
 /// Tells that a file or the output failed, or that there was no memory for it.
 fn refuse_io(rt: &HostRuntime, error: &io::Error) -> u8 {
     let text = match error.kind() {
@@ -66,7 +69,7 @@ fn do_job(rt: &HostRuntime, job: &Job<'_>) -> io::Result<u8> {
     match job {
         Job::Dry { script } => {
             let script = read_file(rt, script)?;
-            let mut out = BufWriter::new(rt.alloc(), io::writer(rt))?;
+            let mut out = BufWriter::with_capacity(rt.alloc(), OUTPUT_ROOM, io::writer(rt))?;
             let file: Option<File> = None;
             Ok(run(job, &[], script.as_slice(), file, &mut out, &mut rt.stderr()))
         }

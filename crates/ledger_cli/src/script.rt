@@ -1,5 +1,5 @@
 //! Scripts: a message a line. A line ends in LF, and one CR before the LF is dropped; a last line without LF counts.
-ghost use Rattle.std.specs.Prelude.{◌≡◌, ◌<◌, ◌∷◌, [], MatchOption, length};
+ghost use Rattle.std.specs.Prelude.{◌≡◌, ◌==◌, ◌||◌, ◌<◌, ◌∷◌, [], MatchOption, false, fold, length};
 ghost use Rattle.ledger_cli.specs.Scripts.{first_bad, is_bad, lines, without_cr};
 
 /// The line without one CR at its end.
@@ -37,10 +37,21 @@ fn is_reset(line: &[u8]) -> bool
     line.first() == Some(&b'@')
 }
 
+/// Whether the byte stands anywhere in the script. It looks at all of them without a branch, which takes a compiler few steps.
+fn has_byte(script: &[u8], byte: u8) -> bool
+    ensures { result ≡ fold (λ found b. found || b == byte) false script.now }
+{
+    script.iter().fold(false, |found, b| found | (*b == byte))
+}
+
 /// The number of the first bad line, counted from 1.
 pub(crate) fn first_bad_line(script: &[u8]) -> Option<usize>
     ensures { result ≡ first_bad (lines script.now) }
 {
+    // Few scripts have an @ at all.
+    if !has_byte(script, b'@') {
+        return None;
+    }
     let mut number = 0;
     let mut rest = script;
     while let Some((line, more)) = next_line(rest) {
