@@ -76,6 +76,7 @@ impl<W: Write> Out<W> {
 }
 
 // The number at `at` and the place after it; up to nine digits, none of them a leading zero.
+#[inline(always)]
 fn number(script: &[u8], at: usize) -> Option<(u32, usize)> {
     let first = script.get(at)?.wrapping_sub(b'0');
     if first > 9 {
@@ -140,6 +141,7 @@ fn trade(cards: &mut [Option<u32>; TOP], body: Body) -> Answer {
     answer
 }
 
+#[inline(always)]
 fn tell<W: Write>(out: &mut Out<W>, answer: Answer) {
     match answer {
         Answer::Done(n) => {

@@ -20,9 +20,15 @@ fn dry_command<'a>(alloc: Global) -> Result<Command<'a>, AllocError>
     ensures app { IfOk result (λ c. app_of c ≡ grammar.dry) }
     ensures local { IfOk result (λ c. (out-Command c).has_globals ≡ false) }
 {
-    let script = required(alloc, "SCRIPT", "The script, a message a line; /dev/stdin is standard input");
+    let script = required(
+        alloc,
+        "SCRIPT",
+        "The script, a message a line; /dev/stdin is standard input",
+    );
     Command::new(alloc, "dry")
-        .about("Prints the reply to each message of a script, from an empty shop on, without a disk")
+        .about(
+            "Prints the reply to each message of a script, from an empty shop on, without a disk",
+        )
         .arg(script)
 }
 

@@ -71,7 +71,14 @@ fn do_job(rt: &HostRuntime, job: &Job<'_>) -> io::Result<u8> {
             let script = read_file(rt, script)?;
             let mut out = BufWriter::with_capacity(rt.alloc(), OUTPUT_ROOM, io::writer(rt))?;
             let file: Option<File> = None;
-            Ok(run(job, &[], script.as_slice(), file, &mut out, &mut rt.stderr()))
+            Ok(run(
+                job,
+                &[],
+                script.as_slice(),
+                file,
+                &mut out,
+                &mut rt.stderr(),
+            ))
         }
     }
 }

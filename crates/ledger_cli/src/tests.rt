@@ -54,7 +54,11 @@ const SCRIPTS: [(&str, &[u8], &[u8]); 11] = [
         b"1,1,S,1,0\r\r\n1,1,S,1,\x000\n1,1,S,1,\xff\n1,1,S,1,0\r",
         b"30,SYNTAX ERROR,00,00\n30,SYNTAX ERROR,00,00\n30,SYNTAX ERROR,00,00\n30,SYNTAX ERROR,00,00\n",
     ),
-    ("one LF is one empty line", b"\n", b"30,SYNTAX ERROR,00,00\n"),
+    (
+        "one LF is one empty line",
+        b"\n",
+        b"30,SYNTAX ERROR,00,00\n",
+    ),
     ("an empty script has no line", b"", b""),
 ];
 
@@ -110,18 +114,38 @@ fn faults_end_a_run(rt: HostRuntime) -> Result<(), Fail> {
         let mut out = Full { room, flushes };
         let mut err = Vec::new(rt.alloc());
         let file: Option<File> = None;
-        let ended = run(&Job::Dry { script: "s" }, &[], script, file, &mut out, &mut err);
+        let ended = run(
+            &Job::Dry { script: "s" },
+            &[],
+            script,
+            file,
+            &mut out,
+            &mut err,
+        );
         assert_eq!(rt; ended, status);
         assert_eq!(rt; err.as_slice(), told);
     }
-    assert_eq!(rt; dry(bad, &mut Full { room: 0, flushes: true }).map_err(|fault| fault.number()), Err(2));
+    assert_eq!(rt;
+        dry(
+            bad,
+            &mut Full {
+                room: 0,
+                flushes: true
+            }
+        )
+        .map_err(|fault| fault.number()),
+        Err(2)
+    );
     assert_eq!(rt; DryFault::Output.number(), 3);
     Ok(())
 }
 
 #[test]
 fn words_ask_for_a_job(rt: HostRuntime) -> Result<(), Fail> {
-    assert_eq!(rt; job(rt.alloc(), &["ledger", "dry", "a.txt"])?, Job::Dry { script: "a.txt" });
+    assert_eq!(rt;
+        job(rt.alloc(), &["ledger", "dry", "a.txt"])?,
+        Job::Dry { script: "a.txt" }
+    );
     // Words, and the status that they end with.
     let refused: [(&[&str], i32); 6] = [
         (&["ledger"], 2),

@@ -28,7 +28,9 @@ fn chosen<'a>(matches: &ArgMatches<'a>) -> Result<Job<'a>, JobFault>
     ensures { MatchResult result (IsJob (subcommand_rows_of matches.now)) (IsNoJob []) }
 {
     match met(matches) {
-        Some(("dry", found)) => Ok(Job::Dry { script: value_of(found, "SCRIPT") }),
+        Some(("dry", found)) => Ok(Job::Dry {
+            script: value_of(found, "SCRIPT"),
+        }),
         // No other subcommand can be met: a parse without one is refused.
         _ => Err(JobFault::Words(Error::from(AllocError))),
     }
