@@ -14,16 +14,16 @@ fn strip(line: &[u8]) -> &[u8]
 }
 
 /// How many bytes are looked at together: most lines end within them.
-const WINDOW: usize = 32;
+const WINDOW: usize = 64;
 
-/// The place of the first LF among these bytes, or 32. It looks at all of them without a branch: a search that stops at the LF
+/// The place of the first LF among these bytes, or 64. It looks at all of them without a branch: a search that stops at the LF
 /// leaves the processor to guess where, and most guesses are wrong.
 fn lf_among(bytes: &[u8; WINDOW]) -> u8
-    ensures { result < 32 → IsFirst 10 bytes.now result }
+    ensures { result < 64 → IsFirst 10 bytes.now result }
 {
-    let mut at: u8 = 32;
-    for i in 0..32u8 {
-        let here = if bytes[usize::from(i)] == b'\n' { i } else { 32 };
+    let mut at: u8 = 64;
+    for i in 0..64u8 {
+        let here = if bytes[usize::from(i)] == b'\n' { i } else { 64 };
         at = at.min(here);
     }
     at
@@ -35,7 +35,7 @@ fn end_of_line(script: &[u8]) -> Option<usize>
 {
     if let Some(window) = script.first_chunk::<WINDOW>() {
         let at = lf_among(window);
-        if at < 32 {
+        if at < 64 {
             return Some(usize::from(at));
         }
     }

@@ -5,6 +5,6 @@ use Rattle.ledger_cli.proofs.script.lf_among.Given as goal
 abbrev pub invariant-loop-i : goal.invariant-loop-i
 invariant-loop-i l = record {
   before : (k : ℕ) → k < l.i → k < l.at → get_or l.bytes k 0 ≢ 10;
-  here : l.at < 32 → (l.at < l.i) × (get_or l.bytes l.at 0 ≡ 10);
-  most : l.at ≤ 32;
+  here : l.at < 64 → (l.at < l.i) × (get_or l.bytes l.at 0 ≡ 10);
+  most : l.at ≤ 64;
 }
