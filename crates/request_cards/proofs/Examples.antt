@@ -82,14 +82,14 @@ text_outside_the_grammar_changes_nothing = refl
 
 -- no bytes, a leading zero, a till past 64, number 0, a small letter, item 0, item 65536, a quantity of ten digits, a comma too many
 pub malformed_texts_are_no_requests : map request_of (codes "" ∷ codes "01,1,S,1,0" ∷ codes "65,1,S,1,0" ∷ codes "1,0,S,1,0" ∷ codes "1,1,s,1,0"
-        ∷ codes "1,1,S,0,5" ∷ codes "1,1,S,65536,0" ∷ codes "1,1,S,1,1000000000" ∷ codes "1,1,S,1,0," ∷ [])
+    ∷ codes "1,1,S,0,5" ∷ codes "1,1,S,65536,0" ∷ codes "1,1,S,1,1000000000" ∷ codes "1,1,S,1,0," ∷ [])
     ≡ None ∷ None ∷ None ∷ None ∷ None ∷ None ∷ None ∷ None ∷ None ∷ []
 unfolding request_of number_before kind_before number_in kind_of plain digits
 malformed_texts_are_no_requests = refl
 
 -- a missing field, a field too many, a space, a sign, a zero before another, a byte above 127, a zero byte
 pub other_texts_are_no_requests : map request_of (codes "1,1,S,1" ∷ codes "1,1,S,1,0,0" ∷ codes "1,1,S,1, 0" ∷ codes "1,1,S,1,+1" ∷ codes "1,1,S,1,00"
-        ∷ (49 ∷ 44 ∷ 49 ∷ 44 ∷ 211 ∷ 44 ∷ 49 ∷ 44 ∷ 48 ∷ []) ∷ (codes "1,1,S,1,0" ++ 0 ∷ []) ∷ [])
+    ∷ (49 ∷ 44 ∷ 49 ∷ 44 ∷ 211 ∷ 44 ∷ 49 ∷ 44 ∷ 48 ∷ []) ∷ (codes "1,1,S,1,0" ++ 0 ∷ []) ∷ [])
     ≡ None ∷ None ∷ None ∷ None ∷ None ∷ None ∷ None ∷ []
 unfolding request_of number_before kind_before number_in kind_of plain digits
 other_texts_are_no_requests = refl
@@ -100,13 +100,13 @@ unfolding number_in digits
 number_past_32_bits_is_none = refl
 
 pub cards_past_the_last_item_are_refused : answers two_tills
-        (codes "1,1,S,9256,1" ∷ codes "1,2,S,9257,1" ∷ codes "1,3,S,10160,1" ∷ codes "1,4,S,10161,1" ∷ codes "1,5,S,65535,1" ∷ codes "1,6,S,9255,1" ∷ [])
+    (codes "1,1,S,9256,1" ∷ codes "1,2,S,9257,1" ∷ codes "1,3,S,10160,1" ∷ codes "1,4,S,10161,1" ∷ codes "1,5,S,65535,1" ∷ codes "1,6,S,9255,1" ∷ [])
     ≡ codes "1,1,DONE,1\n1,2,72,DISK FULL\n1,3,72,DISK FULL\n1,4,52,FILE TOO LARGE\n1,5,52,FILE TOO LARGE\n1,6,DONE,1\n"
 unfolding request_of number_before kind_before number_in kind_of plain digits
 cards_past_the_last_item_are_refused = refl
 
 pub last_till_and_last_item_are_served : answers all_tills
-        (codes "64,1,S,8819,1" ∷ codes "64,2,S,8820,1" ∷ codes "64,3,S,10160,1" ∷ codes "64,4,S,10161,1" ∷ codes "64,5,R,65535,1" ∷ [])
+    (codes "64,1,S,8819,1" ∷ codes "64,2,S,8820,1" ∷ codes "64,3,S,10160,1" ∷ codes "64,4,S,10161,1" ∷ codes "64,5,R,65535,1" ∷ [])
     ≡ codes "64,1,DONE,1\n64,2,72,DISK FULL\n64,3,72,DISK FULL\n64,4,52,FILE TOO LARGE\n64,5,NO CARD\n"
 unfolding request_of number_before kind_before number_in kind_of plain digits
 last_till_and_last_item_are_served = refl
