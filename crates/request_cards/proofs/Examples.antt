@@ -1,8 +1,8 @@
 -- Worked examples, computed by the checker. Each is named by what it shows. Numbers and texts are our own rules worked by hand.
-use Rattle.std.proofs.Common.{◌≡◌, ℕ, List, [], ◌∷◌, ◌++◌, length, refl, Option, Some, None}
+use Rattle.std.proofs.Common.{◌≡◌, ℕ, List, [], ◌∷◌, ◌++◌, length, refl, Some, None}
 use Rattle.std.specs.Prelude.{codes, map}
 use Rattle.std.specs.Fmt.{digits}
-use Rattle.request_cards.specs.declared.kind.Kind.TheVariants.{Receive, Issue, Set}
+use Rattle.request_cards.specs.declared.kind.Kind.TheVariants.{Issue}
 use Rattle.request_cards.specs.declared.reply.Reply.TheVariants.{Told}
 use Rattle.request_cards.specs.declared.reply.Word.TheVariants.{Media}
 use Rattle.request_cards.specs.Requests.{Ask}

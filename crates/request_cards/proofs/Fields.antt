@@ -1,14 +1,13 @@
 -- Fields: what is cut at commas, and the numbers and kinds in it.
-use Rattle.std.proofs.Common.{◌≡◌, ◌≢◌, ℕ, ◌+◌, ◌^◌, ◌<◌, ◌≤◌, Bool, true, false, List, [], ◌∷◌, ◌++◌, length, refl, sym, ◌∙◌, ap, ap₂, subst, inl, inr, arith, Option, Some, None, append-nil, eq-eqb, ne_eqb}
-use Rattle.std.specs.Prelude.{◌==◌, ◌&&◌, if◌then◌else◌, nat_le, decimal, option_map, bytes_eq, slice_index}
+use Rattle.std.proofs.Common.{◌≡◌, ◌≢◌, ℕ, ◌^◌, ◌<◌, ◌≤◌, Bool, true, false, List, [], ◌∷◌, ◌++◌, length, refl, sym, ◌∙◌, ap, subst, inl, inr, arith, Option, Some, None, append-nil, eq-eqb, ne_eqb}
+use Rattle.std.specs.Prelude.{◌&&◌, if◌then◌else◌, nat_le, decimal, option_map, bytes_eq}
 use Rattle.std.specs.Bool.{Decides}
-use Rattle.std.specs.Int.{IsInRange}
 use Rattle.std.specs.Str.Parse.{AllDigits, digits_value}
 use Rattle.std.proofs.lemmas.Bool.Decides.{leb_tells, eqb_tells, Decides-and}
 use Rattle.std.proofs.lemmas.Fmt.{decimal_is_IsNumeral}
 use Rattle.std.proofs.lemmas.Slice.Eq.{bytes_eq-Decides}
 use Rattle.std.proofs.lemmas.Str.Parse.{digit_from_value}
-use Rattle.request_cards.specs.Reading.{◌>>=◌, cut_at, spelled, number_in, number_before, Leads}
+use Rattle.request_cards.specs.Reading.{◌>>=◌, cut_at, number_in, number_before, Leads}
 
 -- what a step found led to what the next one found
 pub bind_ok : {A B : Type 0} (o : Option A) (f : A → Option B) (y : B) → (o >>= f) ≡ Some y → (x : A) × (o ≡ Some x) × (f x ≡ Some y)

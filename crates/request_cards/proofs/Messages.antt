@@ -1,12 +1,12 @@
 -- Messages: each request of the grammar is read, and what is read is in the grammar.
-use Rattle.std.proofs.Common.{◌≡◌, ◌≢◌, ℕ, ◌^◌, ◌<◌, ◌≤◌, Bool, true, false, List, [], ◌∷◌, ◌++◌, refl, sym, ◌∙◌, ap, ap₂, subst, inl, inr, ◌⊎◌, arith, Option, Some, None}
+use Rattle.std.proofs.Common.{◌≡◌, ℕ, ◌^◌, ◌<◌, ◌≤◌, Bool, true, false, List, [], ◌∷◌, ◌++◌, refl, sym, ◌∙◌, ap, subst, inl, inr, ◌⊎◌, arith, Option, Some, None}
 use Rattle.std.specs.Prelude.{IfSome, IfNone, if◌then◌else◌, decimal, bytes_eq}
 use Rattle.std.proofs.lemmas.Slice.Eq.{bytes_eq-Decides}
 use Rattle.request_cards.specs.declared.kind.Kind.{Kind}
 use Rattle.request_cards.specs.declared.kind.Kind.TheVariants.{Receive, Issue, Set}
-use Rattle.request_cards.specs.Requests.{Ask, Body, IsAsk}
+use Rattle.request_cards.specs.Requests.{Ask, IsAsk}
 use Rattle.request_cards.specs.Texts.{kind_text, message_text, IsMessage}
-use Rattle.request_cards.specs.Reading.{◌>>=◌, cut_at, number_in, kind_of, number_before, kind_before, request_of}
+use Rattle.request_cards.specs.Reading.{cut_at, number_in, kind_of, number_before, kind_before, request_of}
 use Rattle.request_cards.proofs.Fields.{bind_ok, none_of, Lacks, decimal_lacks, cut_at_field, cut_at_joins, number_in_found, number_in_spells, before_spells}
 
 -- a kind is read from its letter

@@ -6,7 +6,7 @@ use Rattle.std.proofs.lemmas.List.Sums.{fold-append}
 use Rattle.std.proofs.lemmas.Bool.Decides.{eqb_tells}
 use Rattle.request_cards.specs.Requests.{Ask}
 use Rattle.request_cards.specs.Reading.{request_of}
-use Rattle.request_cards.specs.Ledgers.{Entry, State, Start, number_of, last_number, is_next, fresh, applied, plain, reply_in, replies, next_in, after, after_message, replies_from}
+use Rattle.request_cards.specs.Ledgers.{State, Start, number_of, last_number, is_next, fresh, applied, plain, reply_in, replies, next_in, after, after_message, replies_from}
 
 -- after a new request the till's last number is the request's, and no other till's is
 number_kept : (top : ℕ) (state : State) (a : Ask) (till : ℕ) → number_of ((applied top state a).ledger.kept till) ≡ (if a.till == till then a.number else number_of (state.ledger.kept till))

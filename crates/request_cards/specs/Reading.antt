@@ -1,10 +1,10 @@
 -- The message grammar as a function, cut at commas; the grammar itself is `IsMessage` in Texts. All of it is our own.
-use Rattle.std.specs.Prelude.{◌≡◌, ℕ, ◌≤◌, Bool, List, [], ◌∷◌, ◌++◌, ◌==◌, ◌&&◌, slice_index, Option, Some, None, if◌then◌else◌, nat_le, decimal, option_map, bytes_eq}
+use Rattle.std.specs.Prelude.{◌≡◌, ℕ, ◌≤◌, List, [], ◌∷◌, ◌++◌, ◌==◌, ◌&&◌, slice_index, Option, Some, None, if◌then◌else◌, nat_le, decimal, option_map, bytes_eq}
 use Rattle.std.specs.Int.{IsInRange}
 use Rattle.std.specs.Str.Parse.{digits_value}
 use Rattle.request_cards.specs.declared.kind.Kind.{Kind}
 use Rattle.request_cards.specs.declared.kind.Kind.TheVariants.{Receive, Issue, Set}
-use Rattle.request_cards.specs.Requests.{Ask, Body}
+use Rattle.request_cards.specs.Requests.{Ask}
 use Rattle.request_cards.specs.Texts.{kind_text}
 
 infixl 10 ◌>>=◌

@@ -5,7 +5,7 @@ ghost use Rattle.request_cards.specs.Reading.{Leads, number_in, number_before};
 
 /// The number at the front, of at most ten digits, and what stands after its last digit. None where no digit stands there,
 /// where a zero leads further digits, and where there are more than ten.
-#[inline]
+#[inline(always)]
 fn leading_number(bytes: &[u8]) -> Option<(u64, &[u8])>
     ensures { MatchOption result ((n : ℕ) (rest : List ℕ) → ¬ Leads bytes.now n rest) (λ p. Leads bytes.now p.0 p.1.now) }
 {
@@ -34,7 +34,7 @@ fn leading_number(bytes: &[u8]) -> Option<(u64, &[u8])>
 }
 
 /// The same for a number of this range, whose ends are in it.
-#[inline]
+#[inline(always)]
 fn number_at_front(bytes: &[u8], low: u32, high: u32) -> Option<(u32, &[u8])>
     ensures { MatchOption result ((n : ℕ) (rest : List ℕ) → low ≤ n → n ≤ high → ¬ Leads bytes.now n rest)
         (λ p. (low ≤ p.0) × (p.0 ≤ high) × Leads bytes.now p.0 p.1.now) }
@@ -48,7 +48,7 @@ fn number_at_front(bytes: &[u8], low: u32, high: u32) -> Option<(u32, &[u8])>
 }
 
 /// What stands after the comma at the front, where there is one.
-#[inline]
+#[inline(always)]
 pub(crate) fn after_comma(bytes: &[u8]) -> Option<&[u8]>
     ensures { MatchOption result ((rest : List ℕ) → ¬ (bytes.now ≡ 44 ∷ rest)) (λ rest. bytes.now ≡ 44 ∷ rest.now) }
 {
@@ -57,7 +57,7 @@ pub(crate) fn after_comma(bytes: &[u8]) -> Option<&[u8]>
 }
 
 /// The number of this range that stands before the first comma, and what stands after that comma.
-#[inline]
+#[inline(always)]
 pub(crate) fn number_before_comma(bytes: &[u8], low: u32, high: u32) -> Option<(u32, &[u8])>
     ensures exact { option_map (λ p. (p.0, p.1.now)) result ≡ number_before low high bytes.now }
     ensures range { IfSome result (λ p. (low ≤ p.0) × (p.0 ≤ high)) }
@@ -69,7 +69,7 @@ pub(crate) fn number_before_comma(bytes: &[u8], low: u32, high: u32) -> Option<(
 
 /// The number of this range that the field spells: decimal digits alone, without leading zeros (`0` itself has one digit).
 /// None for an empty field, any other byte, and a number outside the range, whose ends are in it.
-#[inline]
+#[inline(always)]
 pub fn number(field: &[u8], low: u32, high: u32) -> Option<u32>
     ensures exact { result ≡ number_in low high field.now }
     ensures range { IfSome result (λ n. (low ≤ n) × (n ≤ high)) }

@@ -15,11 +15,11 @@ use std::marker::Model;
 /// grammar: till 1 to 64, number 1 to 999999999, item 1 to 65535, quantity 0 to 999999999.
 #[derive(Clone, Copy, Debug, PartialEq, Eq)]
 pub struct Request {
-    pub(crate) till: u8,
-    pub(crate) number: u32,
-    pub(crate) kind: Kind,
-    pub(crate) item: u16,
-    pub(crate) quantity: u32,
+    till: u8,
+    number: u32,
+    kind: Kind,
+    item: u16,
+    quantity: u32,
 }
 
 impl Model for Request {
