@@ -42,7 +42,8 @@ pub enum Reply {
     },
 }
 
-/// Writes the text of the answer so that it ends at `end`, and returns where it starts. It has at most 17 bytes.
+/// Writes the text of the answer, of at most 17 bytes, so that it ends at `end`, and returns where it
+/// starts.
 #[inline]
 #[tactic(auto, using(crate::proofs::Texts::number_length))]
 fn write_answer(answer: Answer, room: &mut [u8], end: usize) -> usize
@@ -69,7 +70,8 @@ fn write_answer(answer: Answer, room: &mut [u8], end: usize) -> usize
     }
 }
 
-/// Writes the text of the word so that it ends at `end`, and returns where it starts. It has at most 17 bytes.
+/// Writes the text of the word, of at most 17 bytes, so that it ends at `end`, and returns where it
+/// starts.
 #[inline]
 fn write_word(word: Word, room: &mut [u8], end: usize) -> usize
     requires { (17 ≤ end) × (end ≤ length room.old) }
@@ -105,8 +107,8 @@ fn write_reply(reply: Reply, room: &mut [u8; 48]) -> usize
 }
 
 impl Reply {
-    /// The text of the reply, without an end of line: `30,SYNTAX ERROR,00,00`, `CUT`, or till, number and word with a comma
-    /// between two. At most 32 bytes.
+    /// The text of the reply, without an end of line: `30,SYNTAX ERROR,00,00`, `CUT`, or till, number
+    /// and word with a comma between two. At most 32 bytes.
     #[inline]
     pub fn print(&self) -> ArrayVec<u8, 48>
         ensures { result.items ≡ reply_text self.now }
