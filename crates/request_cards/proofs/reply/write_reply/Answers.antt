@@ -16,4 +16,12 @@ returns-in-Cut-clause-written c =
 pub returns-in-Told-clause-written : goal.returns-in-Told-clause-written
 returns-in-Told-clause-written c =
     let end : drop 48 c.args.room.now ≡ [] = drop_all 48 c.args.room.now (omega arith) in
-    rw (c.write_field.ensures.written, c.write_field-start.ensures.written, c.write_word-start.ensures.written, end, append-nil, c.from.ensures, c.in-Told.is) refl
+    rw (
+      c.write_field.ensures.written,
+      c.write_field-start.ensures.written,
+      c.write_word-start.ensures.written,
+      end,
+      append-nil,
+      c.from.ensures,
+      c.in-Told.is,
+    ) refl
