@@ -3,3 +3,4 @@ pub mod Fields
 pub mod Messages
 pub mod Texts
 pub mod Plain
+pub mod Examples

@@ -1,13 +1,13 @@
 -- Messages: each request of the grammar is read, and what is read is in the grammar.
-use Rattle.std.proofs.Common.{◌≡◌, ◌≢◌, ℕ, ◌^◌, ◌<◌, ◌≤◌, Bool, true, false, List, [], ◌∷◌, ◌++◌, refl, sym, ◌∙◌, ap, ap₂, subst, inl, inr, ◌⊎◌, arith, Option, Some, None}
+use Rattle.std.proofs.Common.{◌≡◌, ℕ, Bool, true, false, List, [], ◌∷◌, ◌++◌, refl, sym, ◌∙◌, ap, subst, inl, inr, ◌⊎◌, arith, Option, Some, None}
 use Rattle.std.specs.Prelude.{IfSome, IfNone, if◌then◌else◌, decimal, bytes_eq}
 use Rattle.std.proofs.lemmas.Slice.Eq.{bytes_eq-Decides}
 use Rattle.request_cards.specs.declared.kind.Kind.{Kind}
 use Rattle.request_cards.specs.declared.kind.Kind.TheVariants.{Receive, Issue, Set}
 use Rattle.request_cards.specs.Requests.{Ask, Body, IsAsk}
 use Rattle.request_cards.specs.Texts.{kind_text, message_text, IsMessage}
-use Rattle.request_cards.specs.Reading.{◌>>=◌, cut_at, number_in, kind_of, number_before, kind_before, request_of}
-use Rattle.request_cards.proofs.Fields.{bind_ok, none_of, Lacks, decimal_lacks, cut_at_field, cut_at_joins, number_in_found, number_in_spells, before_spells}
+use Rattle.request_cards.specs.Reading.{cut_at, number_in, kind_of, number_before, kind_before, request_of}
+use Rattle.request_cards.proofs.Fields.{bind_ok, none_of, Lacks, cut_at_field, cut_at_joins, number_in_found, number_in_spells, number_text, before_spells}
 
 -- a kind is read from its letter
 kind_of_text : (k : Kind) → kind_of (kind_text k) ≡ Some k
@@ -22,7 +22,8 @@ kind_lacks Issue = ((λ e. omega (arith, e)), tt)
 kind_lacks Set = ((λ e. omega (arith, e)), tt)
 
 -- a choice that gave y: here, or further on
-chosen : {A : Type 0} (b : Bool) (x : A) (more : Option A) (y : A) → (if b then Some x else more) ≡ Some y → ((b ≡ true) × (x ≡ y)) ⊎ (more ≡ Some y)
+chosen : {A : Type 0} (b : Bool) (x : A) (more : Option A) (y : A)
+    → (if b then Some x else more) ≡ Some y → ((b ≡ true) × (x ≡ y)) ⊎ (more ≡ Some y)
 chosen true x more y e = inl (refl, cc)
 chosen false x more y e = inr e
 
@@ -47,23 +48,29 @@ kind_of_spells field k e =
     ]
 
 -- a kind before a comma is read
-kind_before_text : (k : Kind) (rest : List ℕ) → kind_before (kind_text k ++ 44 ∷ rest) ≡ Some (k, rest)
+kind_before_text : (k : Kind) (rest : List ℕ)
+    → kind_before (kind_text k ++ 44 ∷ rest) ≡ Some (k, rest)
 unfolding kind_before
 kind_before_text k rest = rw (cut_at_field 44 (kind_text k) rest (kind_lacks k), kind_of_text k) refl
 
 -- what was read as a kind stands before a comma
-kind_before_spells : (bytes : List ℕ) (p : Kind × List ℕ) → kind_before bytes ≡ Some p → bytes ≡ kind_text p.0 ++ 44 ∷ p.1
+kind_before_spells : (bytes : List ℕ) (p : Kind × List ℕ) → kind_before bytes ≡ Some p
+    → bytes ≡ kind_text p.0 ++ 44 ∷ p.1
 unfolding kind_before
 kind_before_spells bytes p e =
     let a = bind_ok (cut_at 44 bytes) _ p e in
     let b = bind_ok (kind_of a.0.0) _ p a.2 in
     let same : (b.0, a.0.1) ≡ p = cc (b.2) in
-    cut_at_joins 44 bytes a.0 a.1 ∙ ap (λ (xs : List ℕ). xs ++ 44 ∷ a.0.1) (kind_of_spells a.0.0 b.0 b.1) ∙ ap (λ (q : Kind × List ℕ). kind_text q.0 ++ 44 ∷ q.1) same
+    cut_at_joins 44 bytes a.0 a.1
+    ∙ ap (λ (xs : List ℕ). xs ++ 44 ∷ a.0.1) (kind_of_spells a.0.0 b.0 b.1)
+    ∙ ap (λ (q : Kind × List ℕ). kind_text q.0 ++ 44 ∷ q.1) same
 
 -- a letter and a comma are read as the letter's kind
-pub kind_read : (letter : ℕ) (k : Kind) (bytes rest : List ℕ) → kind_of (letter ∷ []) ≡ Some k → bytes ≡ letter ∷ 44 ∷ rest → kind_before bytes ≡ Some (k, rest)
+pub kind_read : (letter : ℕ) (k : Kind) (bytes rest : List ℕ) → kind_of (letter ∷ []) ≡ Some k
+    → bytes ≡ letter ∷ 44 ∷ rest → kind_before bytes ≡ Some (k, rest)
 kind_read letter k bytes rest e text =
-    ap kind_before (text ∙ ap (λ (xs : List ℕ). xs ++ 44 ∷ rest) (kind_of_spells (letter ∷ []) k e)) ∙ kind_before_text k rest
+    ap kind_before (text ∙ ap (λ (xs : List ℕ). xs ++ 44 ∷ rest) (kind_of_spells (letter ∷ []) k e))
+    ∙ kind_before_text k rest
 
 -- each kind has one letter
 one_letter : (k : Kind) → (letter : ℕ) × (kind_text k ≡ letter ∷ [])
@@ -72,16 +79,13 @@ one_letter Issue = (73, refl)
 one_letter Set = (83, refl)
 
 -- where no letter of a kind stands before a comma, no kind is read
-pub kind_refused : (bytes : List ℕ) → ((letter : ℕ) (k : Kind) (rest : List ℕ) → kind_of (letter ∷ []) ≡ Some k → ¬ (bytes ≡ letter ∷ 44 ∷ rest)) → kind_before bytes ≡ None
+pub kind_refused : (bytes : List ℕ)
+    → ((letter : ℕ) (k : Kind) (rest : List ℕ) → kind_of (letter ∷ []) ≡ Some k → ¬ (bytes ≡ letter ∷ 44 ∷ rest))
+    → kind_before bytes ≡ None
 kind_refused bytes none = none_of _ (λ p e.
     let one = one_letter p.0 in
-    none one.0 p.0 p.1 (ap kind_of (sym one.1) ∙ kind_of_text p.0) (kind_before_spells bytes p e ∙ ap (λ (xs : List ℕ). xs ++ 44 ∷ p.1) one.1))
-
--- the text of a number of the range, before a comma, is read
-number_text : (low high n : ℕ) (rest : List ℕ) → n < 2 ^ 64 → low ≤ n → n ≤ high → number_before low high (decimal n ++ 44 ∷ rest) ≡ Some (n, rest)
-unfolding number_before
-number_text low high n rest h low_ok high_ok =
-    rw (cut_at_field 44 (decimal n) rest (decimal_lacks n h), number_in_found low high n (decimal n) h (low_ok, (high_ok, refl))) refl
+    none one.0 p.0 p.1 (ap kind_of (sym one.1) ∙ kind_of_text p.0)
+    (kind_before_spells bytes p e ∙ ap (λ (xs : List ℕ). xs ++ 44 ∷ p.1) one.1))
 
 -- a message is read
 pub request_reads : (bytes : List ℕ) (a : Ask) → IsMessage bytes a → request_of bytes ≡ Some a
@@ -112,11 +116,13 @@ request_is bytes a e =
     let k = kind_before_spells number.0.1 kind.0 kind.1 in
     let i = before_spells 1 65535 kind.0.1 item.0 item.1 in
     let q = number_in_spells 0 999999999 quantity.0 item.0.1 quantity.1 in
-    let made : Ask = record { till = till.0.0; number = number.0.0; body = record { kind = kind.0.0; item = item.0.0; quantity = quantity.0 } } in
+    let body : Body = record { kind = kind.0.0; item = item.0.0; quantity = quantity.0 } in
+    let made : Ask = record { till = till.0.0; number = number.0.0; body = body } in
     let same : made ≡ a = cc (quantity.2) in
     let after : List ℕ → List ℕ → List ℕ = λ field rest. field ++ 44 ∷ rest in
     let text : bytes ≡ message_text made =
-    t.1.1 ∙ ap (after (decimal till.0.0)) (n.1.1 ∙ ap (after (decimal number.0.0)) (k ∙ ap (after (kind_text kind.0.0)) (i.1.1 ∙ ap (after (decimal item.0.0)) q.1.1))) in
+    t.1.1 ∙ ap (after (decimal till.0.0)) (n.1.1 ∙ ap (after (decimal number.0.0))
+    (k ∙ ap (after (kind_text kind.0.0)) (i.1.1 ∙ ap (after (decimal item.0.0)) q.1.1))) in
     let ranges : IsAsk made = record {
       till_low = t.0;
       till_high = t.1.0;
@@ -135,11 +141,13 @@ request_one bytes a b m n =
     cc
 
 -- of a request that is read: it is in the grammar
-pub found_is : (bytes : List ℕ) (o : Option Ask) → o ≡ request_of bytes → IfSome o (λ a. IsMessage bytes a)
+pub found_is : (bytes : List ℕ) (o : Option Ask) → o ≡ request_of bytes
+    → IfSome o (λ a. IsMessage bytes a)
 found_is bytes (Some a) e = request_is bytes a (sym e)
 found_is bytes None e = tt
 
 -- where none is read: no request has this text
-pub none_is : (bytes : List ℕ) (o : Option Ask) → o ≡ request_of bytes → IfNone o ((a : Ask) → ¬ (IsMessage bytes a))
+pub none_is : (bytes : List ℕ) (o : Option Ask) → o ≡ request_of bytes
+    → IfNone o ((a : Ask) → ¬ (IsMessage bytes a))
 none_is bytes (Some a) e = tt
 none_is bytes None e = λ a m. let both : None ≡ Some a = e ∙ request_reads bytes a m in cc

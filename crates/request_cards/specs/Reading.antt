@@ -1,10 +1,11 @@
--- The message grammar as a function, cut at commas; the grammar itself is `IsMessage` in Texts. All of it is our own.
-use Rattle.std.specs.Prelude.{◌≡◌, ℕ, ◌≤◌, Bool, List, [], ◌∷◌, ◌++◌, ◌==◌, ◌&&◌, slice_index, Option, Some, None, if◌then◌else◌, nat_le, decimal, option_map, bytes_eq}
+-- The message grammar as a function, cut at commas; the grammar itself is `IsMessage` in Texts.
+-- All of it is our own.
+use Rattle.std.specs.Prelude.{◌≡◌, ℕ, ◌≤◌, List, [], ◌∷◌, ◌++◌, ◌==◌, ◌&&◌, slice_index, Option, Some, None, if◌then◌else◌, nat_le, decimal, option_map, bytes_eq}
 use Rattle.std.specs.Int.{IsInRange}
 use Rattle.std.specs.Str.Parse.{digits_value}
 use Rattle.request_cards.specs.declared.kind.Kind.{Kind}
 use Rattle.request_cards.specs.declared.kind.Kind.TheVariants.{Receive, Issue, Set}
-use Rattle.request_cards.specs.Requests.{Ask, Body}
+use Rattle.request_cards.specs.Requests.{Ask}
 use Rattle.request_cards.specs.Texts.{kind_text}
 
 infixl 10 ◌>>=◌
@@ -20,7 +21,8 @@ cut_at c (b ∷ bs) = if b == c then Some ([], bs) else option_map (λ p. (b ∷
 
 -- the number, where it is in the range and the field is its text [own]
 abbrev pub spelled : ℕ → ℕ → List ℕ → ℕ → Option ℕ
-spelled low high field n = if nat_le low n && (nat_le n high && bytes_eq field (decimal n)) then Some n else None
+spelled low high field n =
+    if nat_le low n && (nat_le n high && bytes_eq field (decimal n)) then Some n else None
 
 -- the number of this range that has this text [own]
 unfoldable pub number_in : ℕ → ℕ → List ℕ → Option ℕ
@@ -54,7 +56,11 @@ request_of bytes = do
   kind ← kind_before number.1
   item ← number_before 1 65535 kind.1
   quantity ← number_in 0 999999999 item.1
-  Some (record { till = till.0; number = number.0; body = record { kind = kind.0; item = item.0; quantity = quantity } })
+  Some (record {
+    till = till.0;
+    number = number.0;
+    body = record { kind = kind.0; item = item.0; quantity = quantity };
+  })
 
 -- a number of at most ten digits stands at the front, and no further digit follows it [own]
 pub record Leads (bytes : List ℕ) (n : ℕ) (rest : List ℕ) : Type 0 where

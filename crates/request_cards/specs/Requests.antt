@@ -1,4 +1,5 @@
--- Requests as contracts see them: records of numbers, whatever holds them in the program. All of it is our own.
+-- Requests as contracts see them: records of numbers, whatever holds them in the program.
+-- All of it is our own.
 use Rattle.std.specs.Prelude.{ℕ, Bool, true, false, ◌≤◌, ◌==◌, ◌&&◌}
 use Rattle.request_cards.specs.declared.kind.Kind.{Kind}
 use Rattle.request_cards.specs.declared.kind.Kind.TheVariants.{Receive, Issue, Set}

@@ -1,5 +1,5 @@
--- The texts of messages and replies. All of it is our own, but for the words of the drive's messages
--- (1541 User's Guide, error messages 30, 52 and 72).
+-- The texts of messages and replies. All of it is our own, but for the words of the drive's error
+-- messages 30, 52 and 72 (1541 User's Guide).
 use Rattle.std.specs.Prelude.{◌≡◌, ℕ, List, [], ◌∷◌, ◌++◌, codes, decimal}
 use Rattle.request_cards.specs.declared.answer.Answer.{Answer}
 use Rattle.request_cards.specs.declared.answer.Answer.TheVariants as answers

@@ -50,9 +50,10 @@ fn refused(answer: Answer) -> Outcome
     }
 }
 
-/// The trade rule's outcome for an item with this quantity on hand (None: the item has no card) and this room for a new card.
-/// A receive adds and refuses a sum above 999999999 (`Over`); an issue takes away and refuses more than there is (`Short`);
-/// both need a card (`NoCard`). A set needs a card, or room for a new one (`DiskFull`, `TooLarge`).
+/// The trade rule's outcome for an item with this quantity on hand (None: the item has no card) and
+/// this room for a new card. A receive adds and refuses a sum above 999999999 (`Over`); an issue takes
+/// away and refuses more than there is (`Short`); both need a card (`NoCard`). A set needs a card, or
+/// room for a new one (`DiskFull`, `TooLarge`).
 pub fn decide(on_hand: Option<u32>, room: Room, request: &Request) -> Outcome
     ensures { result ≡ trade on_hand room request.now.body }
 {

@@ -5,9 +5,11 @@ ghost use Rattle.request_cards.specs.Requests.{Ask};
 ghost use Rattle.request_cards.specs.Texts.{IsMessage};
 ghost use Rattle.request_cards.specs.Ledgers.{Start, plain, after};
 
-/// A till's next request changes the state, and no other does: what a list of requests leaves is had request by request.
+/// A till's next request changes the state, and no other does: what a list of requests leaves is had
+/// request by request.
 pub fn one_by_one()
-    ensures { (start : Start) (before : List Ask) (a : Ask) → plain start (before ++ a ∷ []) ≡ after start (plain start before) a }
+    ensures { (start : Start) (before : List Ask) (a : Ask)
+        → plain start (before ++ a ∷ []) ≡ after start (plain start before) a }
 {}
 
 /// Each text is the message of one request at most.

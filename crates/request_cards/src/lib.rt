@@ -1,4 +1,4 @@
-//! Requests of the tills, the trade rule that answers them, and the replies: values and texts, without memory.
+//! Requests of the tills, the trade rule that answers them, and the replies: values and texts.
 #![tactic(auto)]
 
 mod answer;

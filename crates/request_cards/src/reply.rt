@@ -42,7 +42,8 @@ pub enum Reply {
     },
 }
 
-/// Writes the text of the answer so that it ends at `end`, and returns where it starts. It has at most 17 bytes.
+/// Writes the text of the answer, of at most 17 bytes, so that it ends at `end`, and returns where it
+/// starts.
 #[inline]
 #[tactic(auto, using(crate::proofs::Texts::number_length))]
 fn write_answer(answer: Answer, room: &mut [u8], end: usize) -> usize
@@ -69,7 +70,8 @@ fn write_answer(answer: Answer, room: &mut [u8], end: usize) -> usize
     }
 }
 
-/// Writes the text of the word so that it ends at `end`, and returns where it starts. It has at most 17 bytes.
+/// Writes the text of the word, of at most 17 bytes, so that it ends at `end`, and returns where it
+/// starts.
 #[inline]
 fn write_word(word: Word, room: &mut [u8], end: usize) -> usize
     requires { (17 ≤ end) × (end ≤ length room.old) }
@@ -87,9 +89,9 @@ fn write_word(word: Word, room: &mut [u8], end: usize) -> usize
 }
 
 impl Reply {
-    /// Writes the text of the reply, without an end of line, so that it ends at `end`, and returns where it starts:
-    /// `30,SYNTAX ERROR,00,00`, `CUT`, or till, number and word with a comma between two. It has at most 34 bytes, for which the
-    /// caller sees to the room. What stands from `end` on stays.
+    /// Writes the text of the reply, without an end of line, so that it ends at `end`, and returns where
+    /// it starts: `30,SYNTAX ERROR,00,00`, `CUT`, or till, number and word with a comma between two. The
+    /// caller sees to room for 34 bytes; no reply has more. What stands from `end` on stays.
     #[inline]
     #[tactic(auto, using(crate::proofs::Texts::number_length))]
     pub fn write(&self, room: &mut [u8], end: usize) -> usize

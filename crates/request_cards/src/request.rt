@@ -1,4 +1,4 @@
-//! Requests: values within the ranges of the message grammar, read from a message and printed as one.
+//! Requests: values within the ranges of the message grammar, read from messages and printed.
 
 ghost use Rattle.std.specs.Prelude.{◌≡◌, ◌≤◌, [], ◌∷◌, IfSome, IfNone, option_map};
 ghost use Rattle.request_cards.specs.Requests.{Ask};
@@ -11,15 +11,16 @@ use crate::text::{gathered, write_before, write_field, write_number};
 use arrayvec::ArrayVec;
 use std::marker::Model;
 
-/// A request of a till: its number there, and what is wanted of which item. Every value is within the ranges of the message
-/// grammar: till 1 to 64, number 1 to 999999999, item 1 to 65535, quantity 0 to 999999999.
+/// A request of a till: its number there, and what is wanted of which item. Every value is within the
+/// ranges of the message grammar: till 1 to 64, number 1 to 999999999, item 1 to 65535, quantity 0 to
+/// 999999999.
 #[derive(Clone, Copy, Debug, PartialEq, Eq)]
 pub struct Request {
-    pub(crate) till: u8,
-    pub(crate) number: u32,
-    pub(crate) kind: Kind,
-    pub(crate) item: u16,
-    pub(crate) quantity: u32,
+    till: u8,
+    number: u32,
+    kind: Kind,
+    item: u16,
+    quantity: u32,
 }
 
 impl Model for Request {
@@ -27,11 +28,25 @@ impl Model for Request {
 
     ghost Value = { Ask };
 
-    ghost view = { λ r. record { till = r.till; number = r.number; body = record { kind = r.kind; item = r.item; quantity = r.quantity } } };
+    ghost view = { λ r. record {
+      till = r.till;
+      number = r.number;
+      body = record { kind = r.kind; item = r.item; quantity = r.quantity };
+    } };
 
-    ghost invariant = { λ r. IsAsk (record { till = r.till; number = r.number; body = record { kind = r.kind; item = r.item; quantity = r.quantity } }) };
+    ghost invariant = { λ r. IsAsk (record {
+      till = r.till;
+      number = r.number;
+      body = record { kind = r.kind; item = r.item; quantity = r.quantity };
+    }) };
 
-    ghost inverse = { λ a. record { till = a.till; number = a.number; kind = a.body.kind; item = a.body.item; quantity = a.body.quantity } };
+    ghost inverse = { λ a. record {
+      till = a.till;
+      number = a.number;
+      kind = a.body.kind;
+      item = a.body.item;
+      quantity = a.body.quantity;
+    } };
 }
 
 /// The kind that has this letter.
@@ -130,8 +145,9 @@ impl Request {
         self.quantity
     }
 
-    /// The request that the message is, where it is in the grammar `till,number,kind,item,quantity`: decimal numbers without
-    /// leading zeros, one of the letters `R`, `I`, `S`, and nothing before, between or after.
+    /// The request that the message is, where it is in the grammar `till,number,kind,item,quantity`:
+    /// decimal numbers without leading zeros, one of the letters `R`, `I`, `S`, and nothing before,
+    /// between or after.
     pub fn parse(message: &[u8]) -> Option<Request>
         // What is read is in the grammar.
         ensures found { IfSome result (λ r. IsMessage message.now r) }
