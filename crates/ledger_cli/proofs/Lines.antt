@@ -1,7 +1,7 @@
 -- The lines of a script, cut at its first LF.
 use Rattle.std.proofs.Common.{◌≡◌, ◌≢◌, ◌<◌, ◌≤◌, ℕ, suc, Bool, true, false, List, [], ◌∷◌, ◌++◌, ◌+◌, length, get_or, take, drop, refl, sym, ◌∙◌, ap, inl, inr, eq-eqb, ne_eqb, add-one, arith, ◌-◌}
-use Rattle.std.specs.Prelude.{◌==◌, ◌||◌, fold, zero, if◌then◌else◌, Option, Some, None, option_map}
-use Rattle.std.specs.List.{All, AllByRecursion}
+use Rattle.std.specs.Prelude.{◌==◌, ◌||◌, fold, zero, if◌then◌else◌, None}
+use Rattle.std.specs.List.{AllByRecursion}
 use Rattle.std.proofs.Math.Seq.{split_at}
 use Rattle.std.proofs.lemmas.List.{length-take-le, get_or-take, length-drop, take_rest}
 use Rattle.std.proofs.lemmas.List.Elements.{recursion_from_All, All-from_get_or}

@@ -1,5 +1,5 @@
 -- The words that the program takes (our own), as `clap` reads a command line.
-use Rattle.std.specs.Prelude.{ℕ, List, true, Some, [], map, codes}
+use Rattle.std.specs.Prelude.{List, true, [], codes}
 use Rattle.std.specs.Prelude.{unwrap_or}
 use Rattle.clap.specs.Words.{App, Row, Rule, Text, first_of, new_app, new_rule, with_rule, with_subcommand}
 

@@ -1,5 +1,5 @@
 -- The first LF of the front is the script's first.
-use Rattle.std.proofs.Common.{◌≡◌, ℕ, subst, sym}
+use Rattle.std.proofs.Common.{ℕ, subst, sym}
 use Rattle.ledger_cli.specs.Scripts.{IsFirst}
 use Rattle.ledger_cli.proofs.Lines.{first_of_front}
 use Rattle.ledger_cli.proofs.script.end_of_line.Goals as goal
