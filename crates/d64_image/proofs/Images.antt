@@ -12,9 +12,10 @@ pub sector-put_same : (img : Image) (p : Place) (bytes : Sector) → length img 
 unfolding sector put
 sector-put_same img p bytes size = get_or-set_same img (index_of p) bytes [] (omega (arith, index_below p, size))
 
-pub sector-put_other : (img : Image) (p q : Place) (bytes : Sector) → q ≢ p → sector (put img p bytes) q ≡ sector img q
+-- p is the place that was written
+pub sector-put_other : (img : Image) (p q : Place) (bytes : Sector) → p ≢ q → sector (put img p bytes) q ≡ sector img q
 unfolding sector put
-sector-put_other img p q bytes other = get_or-set_other img (index_of p) (index_of q) bytes [] (other_index q p other)
+sector-put_other img p q bytes other = get_or-set_other img (index_of p) (index_of q) bytes [] (λ e. other_index p q other (sym e))
 
 pub length-put : (img : Image) (p : Place) (bytes : Sector) → length (put img p bytes) ≡ length img
 unfolding put

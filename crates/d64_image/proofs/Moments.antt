@@ -1,7 +1,7 @@
 -- How the words on moments, counts and failures go on from one call to the next.
-use Rattle.std.proofs.Common.{ℕ, ◌≡◌, ◌≤◌, ◌+◌, ⊎_elim, inl, inr, sym, ◌∙◌, subst, refl, arith}
+use Rattle.std.proofs.Common.{ℕ, ◌≡◌, ◌≤◌, ◌+◌, ⊎_elim, inl, inr, sym, ◌∙◌, subst, refl, Result, Ok, Err, IsOk, arith}
 use Rattle.d64_image.specs.Images.{Image}
-use Rattle.d64_image.specs.History.{History, HeldOnly, Failed, NeverFailed, OnlyReads, OldOr, Changes}
+use Rattle.d64_image.specs.History.{History, HeldOnly, Failed, NeverFailed, OnlyReads, OldOr, Changes, TellsFailure}
 
 module _ {D : Type 0} (S : History D) where
   pub start : (d : D) (P : Image → Type 0) → P (S.image d) → HeldOnly S d d P
@@ -52,6 +52,9 @@ module _ {D : Type 0} (S : History D) where
   pub reads_change : (a b : D) (n : ℕ) (P : Image → Type 0) → OnlyReads S a b n → P (S.image a) → Changes S a b 0 P
   reads_change a b n P r p = record { held = reading a b n P r p; writes = omega (arith, r.writes) }
 
+  pub write_change : (a b : D) (i j : Image) (P : Image → Type 0) → HeldOnly S a b (OldOr i j) → S.writes b ≤ S.writes a + 1 → P i → P j → Changes S a b 1 P
+  write_change a b i j P h counted p q = record { held = writing a b i j P h p q; writes = counted }
+
   -- reads alone
   pub no_reads : (d : D) → OnlyReads S d d 0
   no_reads d = record { image = refl; held = start d (λ c. c ≡ S.image d) refl; reads = omega arith; writes = refl }
@@ -76,3 +79,20 @@ module _ {D : Type 0} (S : History D) where
 
   pub never_failed : (a b : D) → NeverFailed S a b → Failed S a b → ⊥
   never_failed a b n f = omega (arith, n.same, f.rose n.not_spent)
+
+  -- a premise on a whole run holds of its parts
+  pub never_failed_first : (a b c : D) → S.failures a ≤ S.failures b → S.failures b ≤ S.failures c → NeverFailed S a c → NeverFailed S a b
+  never_failed_first a b c ab bc n = record { same = omega (arith, ab, bc, n.same); not_spent = omega (arith, bc, n.not_spent) }
+
+  pub never_failed_rest : (a b c : D) → S.failures a ≤ S.failures b → S.failures b ≤ S.failures c → NeverFailed S a c → NeverFailed S b c
+  never_failed_rest a b c ab bc n = record { same = omega (arith, ab, bc, n.same); not_spent = n.not_spent }
+
+  -- the count of failures doesn't fall
+  pub told_later : {T E : Type 0} (a b : D) (result : Result T E) → TellsFailure S a b result → S.failures a ≤ S.failures b
+  told_later a b (Ok _) tells = omega (arith, tells)
+  told_later a b (Err _) tells = tells.later
+
+  -- where the device doesn't fail, the answer is Ok
+  pub told_ok : {T E : Type 0} (a b : D) (result : Result T E) → TellsFailure S a b result → NeverFailed S a b → IsOk result
+  told_ok a b (Ok _) tells n = refl
+  told_ok a b (Err _) tells n = absurd (never_failed a b n tells)

@@ -16,14 +16,19 @@ at_most_21 t = grind (arith, nat_tests)
 -- the zones, one after another
 on_none : (t : ℕ) → t < 1 → sectors_on t ≡ 0
 on_none t below = grind (arith, nat_tests)
+
 on_low : (t : ℕ) → 1 ≤ t → t < 18 → sectors_on t ≡ 21
 on_low t above below = grind (arith, nat_tests)
+
 on_middle : (t : ℕ) → 18 ≤ t → t < 25 → sectors_on t ≡ 19
 on_middle t above below = grind (arith, nat_tests)
+
 on_high : (t : ℕ) → 25 ≤ t → t < 31 → sectors_on t ≡ 18
 on_high t above below = grind (arith, nat_tests)
+
 on_last : (t : ℕ) → 31 ≤ t → t < 36 → sectors_on t ≡ 17
 on_last t above below = grind (arith, nat_tests)
+
 on_no_more : (t : ℕ) → 36 ≤ t → sectors_on t ≡ 0
 on_no_more t above = grind (arith, nat_tests)
 
@@ -64,14 +69,17 @@ pub at_low : (t : ℕ) → 1 ≤ t → t ≤ 18 → sectors_below t ≡ 21 * (t 
 at_low t above below =
     let at : 1 + (t - 1) ≡ t = omega arith in
     subst (λ (u : ℕ). sectors_below u ≡ 21 * (t - 1)) at (below_low (t - 1) (omega arith))
+
 pub at_middle : (t : ℕ) → 18 ≤ t → t ≤ 25 → sectors_below t ≡ 357 + 19 * (t - 18)
 at_middle t above below =
     let at : 18 + (t - 18) ≡ t = omega arith in
     subst (λ (u : ℕ). sectors_below u ≡ 357 + 19 * (t - 18)) at (below_middle (t - 18) (omega arith))
+
 pub at_high : (t : ℕ) → 25 ≤ t → t ≤ 31 → sectors_below t ≡ 490 + 18 * (t - 25)
 at_high t above below =
     let at : 25 + (t - 25) ≡ t = omega arith in
     subst (λ (u : ℕ). sectors_below u ≡ 490 + 18 * (t - 25)) at (below_high (t - 25) (omega arith))
+
 pub at_last : (t : ℕ) → 31 ≤ t → t ≤ 36 → sectors_below t ≡ 598 + 17 * (t - 31)
 at_last t above below =
     let at : 31 + (t - 31) ≡ t = omega arith in
@@ -112,12 +120,15 @@ index_below p = omega (arith, p.on_disk, below_grows p.track 36 (track_fits p), 
 pub index_low : (p : Place) → p.track < 18 → index_of p ≡ 21 * p.track - 21 + p.sector
 unfolding index_of
 index_low p below = let from = track_from_1 p in omega (arith, from, at_low p.track from (omega (arith, below)))
+
 pub index_middle : (p : Place) → 18 ≤ p.track → p.track < 25 → index_of p ≡ 19 * p.track + 15 + p.sector
 unfolding index_of
 index_middle p above below = omega (arith, above, at_middle p.track above (omega (arith, below)))
+
 pub index_high : (p : Place) → 25 ≤ p.track → p.track < 31 → index_of p ≡ 18 * p.track + 40 + p.sector
 unfolding index_of
 index_high p above below = omega (arith, above, at_high p.track above (omega (arith, below)))
+
 pub index_last : (p : Place) → 31 ≤ p.track → index_of p ≡ 17 * p.track + 71 + p.sector
 unfolding index_of
 index_last p above = omega (arith, above, at_last p.track above (omega (arith, track_fits p)))
@@ -126,14 +137,14 @@ index_last p above = omega (arith, above, at_last p.track above (omega (arith, t
 pub place_at-self : (p : Place) → place_at p.track p.sector ≡ Some p
 unfolding place_at
 place_at-self p = elim (dec_lt p.sector (sectors_on p.track)) as (λ d. place_if p.track p.sector d ≡ Some p) [
-    yes h ↦ ap (λ (on : p.sector < sectors_on p.track). place_if p.track p.sector (yes on)) (le_prop h p.on_disk)
+  | yes h ↦ ap (λ (on : p.sector < sectors_on p.track). place_if p.track p.sector (yes on)) (le_prop h p.on_disk)
   | no not_on ↦ absurd (not_on p.on_disk)
 ]
 
 pub place_at-none : (t s : ℕ) → sectors_on t ≤ s → place_at t s ≡ None
 unfolding place_at
 place_at-none t s past = elim (dec_lt s (sectors_on t)) as (λ d. place_if t s d ≡ None) [
-    yes h ↦ absurd (omega (arith, h, past))
+  | yes h ↦ absurd (omega (arith, h, past))
   | no _ ↦ refl
 ]
 
@@ -145,13 +156,13 @@ place_at-found t s on =
 pub place_at-some : (t s : ℕ) (p : Place) → place_at t s ≡ Some p → (p.track ≡ t) × (p.sector ≡ s)
 place_at-some t s p found = ⊎_elim
     (λ (on : s < sectors_on t).
-        let q : Place = record { track = t; sector = s; on_disk = on } in
-        let at : place_at t s ≡ Some q = place_at-self q in
-        let same : q ≡ p = cc in
-        (sym (ap track_of same), sym (ap sector_of same)))
+    let q : Place = record { track = t; sector = s; on_disk = on } in
+    let at : place_at t s ≡ Some q = place_at-self q in
+    let same : q ≡ p = cc in
+    (sym (ap track_of same), sym (ap sector_of same)))
     (λ (past : sectors_on t ≤ s).
-        let none : place_at t s ≡ None = place_at-none t s past in
-        absurd (cc))
+    let none : place_at t s ≡ None = place_at-none t s past in
+    absurd (cc))
     (cases_lt s (sectors_on t))
 
 -- two places are one where their tracks and their sectors are
@@ -168,8 +179,8 @@ unfolding index_of
 same_index p q e = ⊎_elim
     (λ (same : p.track ≡ q.track). same_place p q same (omega (arith, e, ap sectors_below same)))
     (⊎_elim
-        (λ (less : p.track < q.track). absurd (omega (arith, e, p.on_disk, below_grows p.track q.track less)))
-        (λ (more : q.track < p.track). absurd (omega (arith, e, q.on_disk, below_grows q.track p.track more))))
+    (λ (less : p.track < q.track). absurd (omega (arith, e, p.on_disk, below_grows p.track q.track less)))
+    (λ (more : q.track < p.track). absurd (omega (arith, e, q.on_disk, below_grows q.track p.track more))))
     (cases_order p.track q.track)
 
 pub other_index : (p q : Place) → p ≢ q → index_of p ≢ index_of q
@@ -188,7 +199,7 @@ place_below zero n lt = absurd (omega (arith, lt))
 place_below (suc t) n lt = ⊎_elim
     (λ (below : n < sectors_below t). place_below t n below)
     (λ (here : sectors_below t ≤ n).
-        (record { track = t; sector = n - sectors_below t; on_disk = omega (arith, here, lt) }, omega (arith, here)))
+    (record { track = t; sector = n - sectors_below t; on_disk = omega (arith, here, lt) }, omega (arith, here)))
     (cases_lt n (sectors_below t))
 
 pub place_of : (n : ℕ) → n < 683 → (p : Place) × (index_of p ≡ n)

@@ -29,10 +29,22 @@ pub record History (D : Type 0) : Type 1 where
 
 -- the history of a device that passes each call on to another
 abbrev pub through : {E D : Type 0} → (E → D) → History D → History E
-through f h = record { image = λ e. h.image (f e); moment = λ e. h.moment (f e); held = λ e. h.held (f e);
-  reads = λ e. h.reads (f e); writes = λ e. h.writes (f e); failures = λ e. h.failures (f e); last = h.last;
-  whole = λ e. h.whole (f e); now = λ e. h.now (f e); only_now = λ e. h.only_now (f e); up_to_last = λ e. h.up_to_last (f e);
-  reached = λ a b. h.reached (f a) (f b); reached_same = λ e. h.reached_same (f e); reached_then = λ a b c. h.reached_then (f a) (f b) (f c) }
+through f h = record {
+  image = λ e. h.image (f e);
+  moment = λ e. h.moment (f e);
+  held = λ e. h.held (f e);
+  reads = λ e. h.reads (f e);
+  writes = λ e. h.writes (f e);
+  failures = λ e. h.failures (f e);
+  last = h.last;
+  whole = λ e. h.whole (f e);
+  now = λ e. h.now (f e);
+  only_now = λ e. h.only_now (f e);
+  up_to_last = λ e. h.up_to_last (f e);
+  reached = λ a b. h.reached (f a) (f b);
+  reached_same = λ e. h.reached_same (f e);
+  reached_then = λ a b c. h.reached_then (f a) (f b) (f c);
+}
 
 -- From old to new the device held only images that have P.
 pub record HeldOnly {D : Type 0} (S : History D) (old new : D) (P : Image → Type 0) : Type 0 where

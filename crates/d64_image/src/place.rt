@@ -31,7 +31,11 @@ impl Place {
         ensures value { result ≡ place_at track sector }
         ensures on_disk { IsSome result ↔ (sector < sectors_on track) }
     {
-        if sector < sectors_of(track) { Some(Place { track, sector }) } else { None }
+        if sector < sectors_of(track) {
+            Some(Place { track, sector })
+        } else {
+            None
+        }
     }
 
     /// The track, from 1 to 35.
@@ -71,6 +75,9 @@ impl Default for Place {
     ghost is_default = { λ p. p ≡ first_place };
 
     fn default() -> Self {
-        Place { track: 1, sector: 0 }
+        Place {
+            track: 1,
+            sector: 0,
+        }
     }
 }

@@ -6,7 +6,7 @@ use Rattle.std.proofs.Common.{arith}
 
 pub returns-clause-value : goal.returns-clause-value
 returns-clause-value c = elim c.if-self-lt18.branch [
-    in-0-to-17 w ↦ omega (arith, index_low c.args.self)
+  | in-0-to-17 w ↦ omega (arith, index_low c.args.self)
   | in-18-to-24 w ↦ omega (arith, index_middle c.args.self)
   | in-25-to-30 w ↦ omega (arith, index_high c.args.self)
   | in_default w ↦ omega (arith, index_last c.args.self)
