@@ -1,3 +1,7 @@
+pub mod Bits
 pub mod Count
+pub mod Maps
 pub mod Once
+pub mod Picking
 pub mod Slots
+pub mod Sums

@@ -1,8 +1,12 @@
 //! What lies on a 1541 disk and where: the map of free sectors, the directory, chains and side sectors.
 #![tactic(auto)]
 
+mod bam;
 mod faults;
 mod slot;
+mod views;
 
+pub use bam::Bam;
 pub use faults::Fault;
 pub use slot::Slot;
+pub use views::{BamView, DirView, EntryView};
