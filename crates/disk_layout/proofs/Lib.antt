@@ -1,5 +1,6 @@
 pub mod Bits
 pub mod Count
+pub mod Directories
 pub mod Maps
 pub mod Once
 pub mod Picking

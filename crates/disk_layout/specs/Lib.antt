@@ -4,6 +4,7 @@ pub mod Directory
 pub mod Entries
 pub mod Fault
 pub mod Layout
+pub mod Listing
 pub mod Map
 pub mod Number
 pub mod Records

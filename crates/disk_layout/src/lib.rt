@@ -2,11 +2,13 @@
 #![tactic(auto)]
 
 mod bam;
+mod directory;
 mod faults;
 mod slot;
 mod views;
 
 pub use bam::Bam;
+pub use directory::{directory_start, map_place, read_directory};
 pub use faults::Fault;
 pub use slot::Slot;
 pub use views::{BamView, DirView, EntryView};
