@@ -9,7 +9,9 @@ pub mod Fillers
 pub mod GrowthRecords
 pub mod Joined
 pub mod Layouts
+pub mod Listed
 pub mod Marks
+pub mod Names
 pub mod NewSide
 pub mod Once
 pub mod Pieces

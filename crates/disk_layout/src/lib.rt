@@ -3,9 +3,11 @@
 
 mod chain;
 mod faults;
+mod side;
 mod slot;
 mod visited;
 
 pub use chain::walk_chain;
 pub use faults::Fault;
+pub use side::{SideView, side_bytes};
 pub use slot::Slot;
