@@ -1,3 +1,4 @@
+pub mod Agree
 pub mod Chains
 pub mod Commit
 pub mod Count
