@@ -13,3 +13,4 @@ pub mod Room
 pub mod Same
 pub mod Side
 pub mod View
+pub mod Visited

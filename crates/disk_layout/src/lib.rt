@@ -2,13 +2,18 @@
 #![tactic(auto)]
 
 mod bam;
+mod chain;
 mod directory;
 mod faults;
+mod side;
 mod slot;
 mod views;
+mod visited;
 
 pub use bam::Bam;
+pub use chain::walk_chain;
 pub use directory::{directory_start, map_place, read_directory};
 pub use faults::Fault;
+pub use side::{SideView, side_bytes};
 pub use slot::Slot;
 pub use views::{BamView, DirView, EntryView};
