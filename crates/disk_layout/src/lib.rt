@@ -4,6 +4,7 @@
 mod bam;
 mod chain;
 mod directory;
+mod entries;
 mod faults;
 mod side;
 mod slot;
@@ -13,6 +14,7 @@ mod visited;
 pub use bam::Bam;
 pub use chain::walk_chain;
 pub use directory::{directory_start, map_place, read_directory};
+pub use entries::{padded_name, relative_entry};
 pub use faults::Fault;
 pub use side::{SideView, side_bytes};
 pub use slot::Slot;
