@@ -1,5 +1,6 @@
 pub mod Agree
 pub mod Bits
+pub mod Blanks
 pub mod Chains
 pub mod Commit
 pub mod Count
@@ -9,6 +10,7 @@ pub mod Exact
 pub mod Examples
 pub mod Faces
 pub mod Fillers
+pub mod Freeing
 pub mod GrowthRecords
 pub mod Joined
 pub mod Layouts
