@@ -1,3 +1,4 @@
+pub mod Chunks
 pub mod Images
 pub mod Moments
 pub mod Places

@@ -2,9 +2,11 @@
 #![tactic(auto)]
 
 mod faults;
+mod mem_disk;
 mod place;
 mod sectors;
 
-pub use faults::DeviceFault;
+pub use faults::{DeviceFault, ImageFault};
+pub use mem_disk::MemDisk;
 pub use place::Place;
 pub use sectors::Sectors;
