@@ -1,4 +1,5 @@
 pub mod Faults
+pub mod Fuses
 pub mod Geometry
 pub mod History
 pub mod Images

@@ -1,12 +1,15 @@
 //! The sectors of a 1541 disk of 35 tracks: places, images, and the devices through which they are read and written.
 #![tactic(auto)]
 
+mod count;
 mod faults;
+mod fuse;
 mod mem_disk;
 mod place;
 mod sectors;
 
 pub use faults::{DeviceFault, ImageFault};
+pub use fuse::Fuse;
 pub use mem_disk::MemDisk;
 pub use place::Place;
 pub use sectors::Sectors;
