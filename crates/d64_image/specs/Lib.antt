@@ -4,4 +4,5 @@ pub mod Geometry
 pub mod History
 pub mod Images
 pub mod Memory
+pub mod Meters
 pub mod Places

@@ -39,7 +39,12 @@ impl<D: Sectors> Fuse<D> {
     pub fn into_inner(self) -> D
         ensures { result ≡ fuse_disk self }
     {
-        let Fuse { disk, limit: _, passed: _, failed: _ } = self;
+        let Fuse {
+            disk,
+            limit: _,
+            passed: _,
+            failed: _,
+        } = self;
         disk
     }
 }

@@ -5,11 +5,13 @@ mod count;
 mod faults;
 mod fuse;
 mod mem_disk;
+mod meter;
 mod place;
 mod sectors;
 
 pub use faults::{DeviceFault, ImageFault};
 pub use fuse::Fuse;
 pub use mem_disk::MemDisk;
+pub use meter::Meter;
 pub use place::Place;
 pub use sectors::Sectors;
