@@ -16,10 +16,13 @@ pub mod Names
 pub mod NewSide
 pub mod Once
 pub mod Pieces
+pub mod RecordWrites
 pub mod Recount
+pub mod Refills
 pub mod SideWrites
 pub mod Slots
 pub mod Twice
+pub mod Unclean
 pub mod Unsound
 pub mod Walks
 pub mod Writes
