@@ -1,7 +1,7 @@
 -- A sound image: all bytes 0, so that the directory is 18/1 alone and has no entry.
-use Rattle.std.proofs.Common.{◌≡◌, ◌≢◌, ℕ, zero, suc, inl, inr, List, [], ◌∷◌, ◌++◌, replicate, refl, sym, ap}
+use Rattle.std.proofs.Common.{length, ◌≡◌, ◌≢◌, ℕ, zero, suc, inl, inr, List, [], ◌∷◌, ◌++◌, replicate, refl, sym, ap}
 use Rattle.std.specs.Prelude.{Contains, filter}
-use Rattle.std.proofs.lemmas.List.{get_or-replicate}
+use Rattle.std.proofs.lemmas.List.{get_or-replicate, length-replicate}
 use Rattle.d64_image.proofs.Places.{index_below}
 use Rattle.d64_image.specs.Images.{Image, sector}
 use Rattle.d64_image.specs.Places.{index_of}
@@ -17,6 +17,10 @@ zero_sector = replicate 256 0
 -- kept shut, so that nothing computes over its 683 sectors
 pub zero_image : Image
 zero_image = replicate 683 zero_sector
+
+pub zero-long : length zero_image ≡ 683
+unfolding zero_image
+zero-long = length-replicate 683 zero_sector
 
 zeros : (p : Place) → sector zero_image p ≡ zero_sector
 unfolding zero_image sector

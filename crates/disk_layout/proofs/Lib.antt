@@ -23,6 +23,8 @@ pub mod SideWrites
 pub mod Slots
 pub mod Twice
 pub mod Unclean
+pub mod Uniques
 pub mod Unsound
 pub mod Walks
+pub mod Worked
 pub mod Writes
