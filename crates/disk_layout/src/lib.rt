@@ -2,6 +2,8 @@
 #![tactic(auto)]
 
 mod chain;
+#[cfg(test)]
+mod chain_tests;
 mod faults;
 mod side;
 mod slot;
