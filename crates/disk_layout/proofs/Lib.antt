@@ -19,6 +19,7 @@ pub mod Pieces
 pub mod RecordWrites
 pub mod Recount
 pub mod Refills
+pub mod Runs
 pub mod SideWrites
 pub mod Slots
 pub mod Twice

@@ -3,6 +3,7 @@ pub mod Clean
 pub mod Directory
 pub mod Entries
 pub mod Fault
+pub mod Growth
 pub mod Layout
 pub mod Map
 pub mod Number
