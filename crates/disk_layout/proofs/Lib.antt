@@ -27,5 +27,4 @@ pub mod Unclean
 pub mod Uniques
 pub mod Unsound
 pub mod Walks
-pub mod Worked
 pub mod Writes
