@@ -22,11 +22,16 @@ pub mod NewSide
 pub mod Once
 pub mod Picking
 pub mod Pieces
+pub mod RecordWrites
 pub mod Recount
+pub mod Refills
+pub mod Runs
 pub mod SideWrites
 pub mod Slots
 pub mod Sums
 pub mod Twice
+pub mod Unclean
+pub mod Uniques
 pub mod Unsound
 pub mod Walks
 pub mod Writes

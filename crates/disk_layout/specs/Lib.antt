@@ -5,6 +5,7 @@ pub mod Directory
 pub mod Entries
 pub mod Fault
 pub mod Free
+pub mod Growth
 pub mod Layout
 pub mod Listing
 pub mod Map

@@ -5,6 +5,8 @@ mod bam;
 mod blank;
 mod blank_map;
 mod chain;
+#[cfg(test)]
+mod chain_tests;
 mod directory;
 mod entries;
 mod faults;
