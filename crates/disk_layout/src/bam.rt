@@ -1,9 +1,8 @@
 //! The map of free sectors: which are free, which one is next, taking and giving back.
 ghost use Rattle.std.specs.Prelude.{◌≡◌, ◌≢◌, ◌↔◌, IsTrue, MatchOption, length};
 
-use d64_image::Place;
-
 use crate::views::BamView;
+use d64_image::Place;
 
 /// The track of the map and the directory, on which no data block is placed.
 const DIRECTORY_TRACK: u8 = 18;

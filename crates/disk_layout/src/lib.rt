@@ -4,13 +4,19 @@
 mod bam;
 mod blank;
 mod blank_map;
+#[cfg(test)]
+mod blank_tests;
 mod chain;
 #[cfg(test)]
 mod chain_tests;
 mod directory;
+#[cfg(test)]
+mod directory_tests;
 mod entries;
 mod faults;
 mod filling;
+#[cfg(test)]
+mod map_tests;
 mod side;
 mod slot;
 mod views;
