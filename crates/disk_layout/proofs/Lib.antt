@@ -10,11 +10,13 @@ pub mod Exact
 pub mod Examples
 pub mod Faces
 pub mod Fillers
+pub mod FreeBlocks
 pub mod Freeing
 pub mod GrowthRecords
 pub mod Joined
 pub mod Layouts
 pub mod Listed
+pub mod MapExamples
 pub mod Maps
 pub mod Marks
 pub mod Names
