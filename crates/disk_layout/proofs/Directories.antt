@@ -1,5 +1,5 @@
 -- The directory's sectors, read one after another.
-use Rattle.std.proofs.Common.{Bool, IsTrue, List, [], append-nil, ap, arith, eqb, false, get_or, inl, inr, length, length-append, map, refl, subst, suc, sym, true, zero, ℕ, ◌++◌, ◌-◌, ◌<◌, ◌∙◌, ◌∷◌, ◌≡◌, ◌≢◌, ◌≤◌, ◌⊎◌, ◌||◌}
+use Rattle.std.proofs.Common.{Bool, List, [], append-nil, ap, arith, eqb, false, inl, inr, length, length-append, map, refl, subst, suc, sym, true, zero, ℕ, ◌++◌, ◌-◌, ◌<◌, ◌∙◌, ◌∷◌, ◌≡◌, ◌≢◌, ◌≤◌, ◌⊎◌, ◌||◌}
 use Rattle.std.proofs.lemmas.Bool.{false≢true}
 use Rattle.std.proofs.lemmas.Bool.Decides.{Decides-eqb}
 use Rattle.std.proofs.lemmas.Grind.{flat_map-append}
@@ -7,16 +7,16 @@ use Rattle.std.proofs.lemmas.List.Elements.{filter-append}
 use Rattle.std.proofs.lemmas.Map.Steps.{length-le_from_distinct_below}
 use Rattle.std.specs.List.{AllByRecursion, IsDistinct, list_any}
 use Rattle.std.specs.Prelude.{Contains, Option, Some, filter, flat_map, slice_index}
-use Rattle.d64_image.proofs.Places.{place_at-self, place_at-some, same_place}
+use Rattle.d64_image.proofs.Places.{place_at-some, same_place}
 use Rattle.d64_image.specs.Geometry.{sectors_on}
 use Rattle.d64_image.specs.Images.{Image, sector}
 use Rattle.d64_image.specs.Places.{place_at}
 use Rattle.d64_image.specs.declared.place.Place.{Place}
 use Rattle.disk_layout.proofs.Chains.{Leads-push}
-use Rattle.disk_layout.proofs.Once.{Contains-cases, Contains-here, Contains-there, EachOnce-push, all-in}
-use Rattle.disk_layout.specs.Chain.{EachOnce, Leads, LinksTo, Names, NamesNone}
+use Rattle.disk_layout.proofs.Once.{Contains-here, Contains-there, EachOnce-push, all-in}
+use Rattle.disk_layout.specs.Chain.{EachOnce, Leads, Names, NamesNone}
 use Rattle.disk_layout.specs.Directory.{IsDirectory, IsDirectoryPlace, directory_start, is_used, map_place, slots_in, used_slots}
-use Rattle.disk_layout.specs.Fault.{HoldsOfDirectory, IsDirectorySector}
+use Rattle.disk_layout.specs.Fault.{HoldsOfDirectory}
 use Rattle.disk_layout.specs.Listing.{LinksOut}
 use Rattle.disk_layout.specs.declared.faults.Fault.TheVariants.{BadLink, Loop}
 use Rattle.disk_layout.specs.declared.slot.Slot.{Slot}

@@ -1,5 +1,5 @@
 -- The count of free blocks, and what it says of the map.
-use Rattle.std.proofs.Common.{List, add-one, ap, arith, inl, inr, refl, subst, suc, sym, zero, ℕ, ◌+◌, ◌-◌, ◌<◌, ◌∙◌, ◌≡◌, ◌≢◌, ◌≤◌, ◌⊎◌}
+use Rattle.std.proofs.Common.{List, ap, arith, inl, inr, refl, subst, suc, sym, zero, ℕ, ◌+◌, ◌-◌, ◌<◌, ◌∙◌, ◌≡◌, ◌≢◌, ◌≤◌}
 use Rattle.std.proofs.lemmas.Bool.{cases_eq}
 use Rattle.std.proofs.lemmas.Bool.Decides.{nat_tests}
 use Rattle.std.proofs.lemmas.List.Sums.{sum_by-cons}
@@ -10,7 +10,7 @@ use Rattle.d64_image.specs.Geometry.{sectors_on}
 use Rattle.d64_image.specs.Images.{Sector}
 use Rattle.d64_image.specs.declared.place.Place.{Place}
 use Rattle.disk_layout.proofs.Maps.{in-bits}
-use Rattle.disk_layout.proofs.Sums.{sum-less, sum-same}
+use Rattle.disk_layout.proofs.Sums.{sum-less}
 use Rattle.disk_layout.specs.Map.{IsFree, IsFullDisk, IsMapOf, IsTaken, map_bit, map_count, numbers_below}
 use Rattle.disk_layout.specs.View.{blocks_free, data_count}
 

@@ -1,9 +1,8 @@
 -- Examples of the definitions on the map and on the blank image, each computed.
-use Rattle.std.proofs.Common.{List, [], inl, inr, lit<, refl, replicate, ℕ, ◌++◌, ◌∷◌, ◌≡◌}
+use Rattle.std.proofs.Common.{List, [], inl, inr, lit<, refl, ℕ, ◌∷◌, ◌≡◌}
 use Rattle.d64_image.specs.declared.place.Place.{Place}
 use Rattle.disk_layout.specs.Blank.{request_blocks, request_sector, request_track, taken_on}
 use Rattle.disk_layout.specs.Map.{IsBefore, distance, map_bit, map_count, numbers_below}
-use Rattle.disk_layout.specs.View.{IsUnpadded}
 
 -- track 1 of a fresh map, 15 FF FF 1F: 21 free sectors, the last of them sector 20; bit 21 is a spare one
 fresh : List ℕ
