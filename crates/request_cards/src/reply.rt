@@ -88,33 +88,36 @@ fn write_word(word: Word, room: &mut [u8], end: usize) -> usize
     }
 }
 
-/// Writes the text of the reply so that it ends with the room, and returns where it starts.
-#[inline]
-#[tactic(auto, using(crate::proofs::Texts::number_length))]
-fn write_reply(reply: Reply, room: &mut [u8; 48]) -> usize
-    ensures start { result ≤ 48 }
-    ensures written { drop result room.new ≡ reply_text reply }
-{
-    match reply {
-        Reply::Syntax => write_before(b"30,SYNTAX ERROR,00,00", room, 48),
-        Reply::Cut => write_before(b"CUT", room, 48),
-        Reply::Told { till, number, word } => {
-            let start = write_word(word, room, 48);
-            let start = write_field(number, room, start);
-            write_field(u32::from(till), room, start)
+impl Reply {
+    /// Writes the text of the reply, without an end of line, so that it ends at `end`, and returns where
+    /// it starts: `30,SYNTAX ERROR,00,00`, `CUT`, or till, number and word with a comma between two. The
+    /// caller sees to room for 34 bytes; no reply has more. What stands from `end` on stays.
+    #[inline]
+    #[tactic(auto, using(crate::proofs::Texts::number_length))]
+    pub fn write(&self, room: &mut [u8], end: usize) -> usize
+        requires low { 34 ≤ end }
+        requires high { end ≤ length room.old }
+        ensures start { (result ≤ end) × (end ≤ result + 34) }
+        ensures written { drop result room.new ≡ reply_text self.now ++ drop end room.old }
+    {
+        match *self {
+            Reply::Syntax => write_before(b"30,SYNTAX ERROR,00,00", room, end),
+            Reply::Cut => write_before(b"CUT", room, end),
+            Reply::Told { till, number, word } => {
+                let start = write_word(word, room, end);
+                let start = write_field(number, room, start);
+                write_field(u32::from(till), room, start)
+            }
         }
     }
-}
 
-impl Reply {
-    /// The text of the reply, without an end of line: `30,SYNTAX ERROR,00,00`, `CUT`, or till, number
-    /// and word with a comma between two. At most 32 bytes.
+    /// The text of the reply, without an end of line, as a value.
     #[inline]
     pub fn print(&self) -> ArrayVec<u8, 48>
         ensures { result.items ≡ reply_text self.now }
     {
         let mut room = [0; 48];
-        let start = write_reply(*self, &mut room);
+        let start = self.write(&mut room, 48);
         gathered(&room[start..])
     }
 }

@@ -1,0 +1,16 @@
+-- The card and the answer that were written are those of the trade rule.
+use Rattle.std.proofs.Common.{◌∙◌, ap, ap₂}
+use Rattle.request_cards.specs.Trade.{cards_after, put, trade, room_for}
+use Rattle.std.specs.Prelude.{Option, Some, ℕ, List}
+use Rattle.ledger_cli.specs.Tables.{nth}
+use Rattle.ledger_cli.specs.declared.table.Kept.{Kept}
+use Rattle.ledger_cli.proofs.Tables.{applied_is}
+use Rattle.ledger_cli.proofs.table.Table.serve.Goals as goal
+
+pub returns-clause-applied : goal.returns-clause-applied
+returns-clause-applied c =
+    let item = c.item-item.ensures.value in
+    applied_is c.args.self.now c.keep.new.self c.args.request.now c.decide-outcome.result
+    (ap (λ (xs : List (Option ℕ)). nth xs) c.keep.ensures.cards ∙ c.store.ensures.cards ∙ ap (λ i. cards_after (nth c.args.self.now.cards) i c.decide-outcome.result.quantity) item)
+    (c.keep.ensures.kept ∙ ap (λ (xs : List (Option Kept)). put (nth xs) c.args.request.now.till (Some (record { request = c.args.request.now; answer = c.decide-outcome.result.answer }))) c.store.ensures.kept)
+    (c.decide-outcome.ensures ∙ ap₂ (λ h r. trade h r c.args.request.now.body) (c.on_hand.ensures.value ∙ ap (nth c.args.self.now.cards) item) (c.room.ensures ∙ ap (room_for 8819) item))
