@@ -1,0 +1,8 @@
+//! Sample callers of the sector device: what they prove shows that the device's clauses compose.
+#![tactic(auto)]
+
+mod filling;
+mod stamping;
+
+pub use filling::fill;
+pub use stamping::{stamp_four, stamp_two};
