@@ -2,7 +2,9 @@
 #![tactic(auto)]
 
 mod filling;
+mod recorder;
 mod stamping;
 
 pub use filling::fill;
+pub use recorder::{Change, Recorder};
 pub use stamping::{stamp_four, stamp_two};
