@@ -1,0 +1,5 @@
+use Rattle.std.proofs.Common.{◌≡◌}
+use Rattle.sector_bench.proofs.rounds.run.Given as goal
+
+abbrev pub invariant-loop-round : goal.invariant-loop-round
+invariant-loop-round g l = let S = g.D.Sectors.history in S.failures l.disk ≡ S.failures l.fn.disk
