@@ -98,7 +98,8 @@ impl<D: Sectors> Sectors for Fuse<D> {
         ensures kept { OnErr result (fuse_left self.new ≡ fuse_left self.old) }
         ensures limit { fuse_limit self.new ≡ fuse_limit self.old }
     {
-        if self.passed == self.limit {
+        let left = self.limit - self.passed;
+        if left == 0 {
             self.failed.add_one();
             return Err(DeviceFault);
         }

@@ -8,6 +8,8 @@ mod mem_disk;
 mod meter;
 mod place;
 mod sectors;
+#[cfg(test)]
+mod tests;
 
 pub use faults::{DeviceFault, ImageFault};
 pub use fuse::Fuse;
