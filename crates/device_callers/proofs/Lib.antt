@@ -1,3 +1,5 @@
+pub mod Copies
+pub mod Counts
 pub mod Fills
 pub mod Recorded
 pub mod Stamps

@@ -1,5 +1,5 @@
 -- How the moments of stamped sectors go on, and what two runs of stamps make together.
-use Rattle.std.proofs.Common.{ℕ, ◌≡◌, ◌≤◌, ◌+◌, ◌⊎◌, ⊎_elim, inl, inr, sym, ◌∙◌, ap, subst, refl, arith, length, slice_set, Result, Ok, Err, OnOk, OnErr}
+use Rattle.std.proofs.Common.{ℕ, ◌≡◌, ◌≤◌, ◌+◌, ◌⊎◌, ⊎_elim, inl, inr, sym, ◌∙◌, ap, subst, refl, arith, length, slice_set}
 use Rattle.std.proofs.lemmas.List.{set-set}
 use Rattle.d64_image.specs.declared.place.Place.{Place}
 use Rattle.d64_image.specs.Images.{Image, Sector, IsImage, put, sector}
@@ -8,13 +8,6 @@ use Rattle.d64_image.proofs.Images.{sector-put_same, sector-put_other, length-pu
 use Rattle.d64_image.proofs.Moments.{reads_change, changes_then, changes_weaker, write_change}
 use Rattle.d64_image.proofs.Places.{same_or_other}
 use Rattle.device_callers.specs.Stamps.{stamp, one, both, IsOnTheWay, IsPartlyStamped}
-
-module _ {D : Type 0} (S : History D) where
-  -- a write is counted at most once, however it ends
-  pub counted_once : {T E : Type 0} (a b : D) (result : Result T E) → OnOk result (S.writes b ≤ S.writes a + 1)
-      → OnErr result (S.writes b ≡ S.writes a) → S.writes b ≤ S.writes a + 1
-  counted_once a b (Ok _) counted uncounted = counted
-  counted_once a b (Err _) counted uncounted = omega (arith, uncounted)
 
 module _ {D : Type 0} (S : History D) (p q : Place) where
   -- after reads no sector is stamped

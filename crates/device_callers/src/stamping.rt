@@ -20,8 +20,11 @@ pub fn stamp_two<D: Sectors>(disk: &mut D, first: Place, second: Place) -> Resul
     disk.read(second, &mut b)?;
     a[0] = 1;
     b[0] = 1;
-    disk.write(first, &a)?;
-    disk.write(second, &b)
+    match disk.write(first, &a) {
+        Ok(()) => disk.write(second, &b),
+        // after a fault nothing is written
+        Err(fault) => Err(fault),
+    }
 }
 
 /// Stamps four sectors, two by two. Ends at the first fault.
