@@ -1,9 +1,9 @@
 -- One more place is filled.
-use Rattle.std.proofs.Common.{ℕ, ◌≡◌, ◌≤◌, ◌<◌, ◌+◌, ◌∙◌, ap, refl, sym, List, [], ◌∷◌, ◌++◌, length, take, get_or, arith}
+use Rattle.std.proofs.Common.{ℕ, ◌≡◌, ◌<◌, ◌+◌, ◌∙◌, ap, refl, sym, List, [], ◌∷◌, ◌++◌, length, take, get_or}
 use Rattle.std.proofs.lemmas.List.{take_more}
 use Rattle.d64_image.specs.declared.place.Place.{Place}
 use Rattle.d64_image.specs.Images.{Image, Sector, put}
-use Rattle.device_callers.specs.Fills.{filled, IsFilledSoFar}
+use Rattle.device_callers.specs.Fills.{filled}
 
 filled-append : (ps qs : List Place) (bytes : Sector) (img : Image) → filled (ps ++ qs) bytes img ≡ filled qs bytes (filled ps bytes img)
 filled-append [] qs bytes img = refl

@@ -3,3 +3,4 @@ pub mod Counts
 pub mod Fills
 pub mod Recorded
 pub mod Stamps
+pub mod Writes

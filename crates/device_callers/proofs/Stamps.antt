@@ -1,11 +1,11 @@
 -- How the moments of stamped sectors go on, and what two runs of stamps make together.
-use Rattle.std.proofs.Common.{ℕ, ◌≡◌, ◌≤◌, ◌+◌, ◌⊎◌, ⊎_elim, inl, inr, sym, ◌∙◌, ap, subst, refl, arith, length, slice_set}
+use Rattle.std.proofs.Common.{ℕ, ◌≡◌, ◌≤◌, ◌+◌, ◌⊎◌, ⊎_elim, inl, inr, sym, ◌∙◌, ap, subst, refl, arith, length}
 use Rattle.std.proofs.lemmas.List.{set-set}
 use Rattle.d64_image.specs.declared.place.Place.{Place}
 use Rattle.d64_image.specs.Images.{Image, Sector, IsImage, put, sector}
 use Rattle.d64_image.specs.History.{History, HeldOnly, OnlyReads, OldOr, Changes}
 use Rattle.d64_image.proofs.Images.{sector-put_same, sector-put_other, length-put}
-use Rattle.d64_image.proofs.Moments.{reads_change, changes_then, changes_weaker, write_change}
+use Rattle.d64_image.proofs.Moments.{reads_change, changes_then, write_change}
 use Rattle.d64_image.proofs.Places.{same_or_other}
 use Rattle.device_callers.specs.Stamps.{stamp, one, both, IsOnTheWay, IsPartlyStamped}
 
@@ -57,7 +57,7 @@ partly_both img c p q is way =
     let first : Q (one img p) = partly_one img p is in
     let size : length (one img p) ≡ 683 = length-put img p _ ∙ is.size in
     let second : Q (both img p q) = λ r. ⊎_elim (λ h. inr (h.1 ∙ ap (λ (x : Place). stamp (sector img x)) h.0))
-        (λ e. ⊎_elim (λ x. inl (e ∙ x)) (λ x. inr (e ∙ x)) (first r)) (sector-put (one img p) q r (stamp (sector img q)) size) in
+    (λ e. ⊎_elim (λ x. inl (e ∙ x)) (λ x. inr (e ∙ x)) (first r)) (sector-put (one img p) q r (stamp (sector img q)) size) in
     ⊎_elim (λ e. subst Q (sym e) here) (λ w. ⊎_elim (λ e. subst Q (sym e) first) (λ e. subst Q (sym e) second) w) way
 
 stamp-stamp : (bytes : Sector) → stamp (stamp bytes) ≡ stamp bytes

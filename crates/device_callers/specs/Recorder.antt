@@ -1,7 +1,7 @@
 -- A device that keeps each image that it held. Our own.
-use Rattle.std.specs.Prelude.{ℕ, ◌≡◌, ◌≤◌, ◌⊎◌, List, [], ◌∷◌, ◌++◌, length, drop, refl}
-use mathlib.Core.Logic.{inl, inr}
-use Rattle.d64_image.specs.Images.{Image, IsImage, put}
+use Rattle.std.specs.Prelude.{ℕ, ◌≡◌, ◌⊎◌, List, [], ◌∷◌, length, drop, refl}
+use mathlib.Core.Logic.{inr}
+use Rattle.d64_image.specs.Images.{Image, put}
 use Rattle.d64_image.specs.History.{History}
 use Rattle.device_callers.specs.declared.recorder.Change.{Change}
 use Rattle.device_callers.specs.declared.recorder.Recorder.{Recorder}

@@ -7,8 +7,10 @@ mod recorder;
 mod stamping;
 #[cfg(test)]
 mod tests;
+mod writing;
 
 pub use cutting::{copy_sector, cut_copy};
 pub use filling::fill;
-pub use recorder::{Change, Recorder};
+pub use recorder::Recorder;
 pub use stamping::{stamp_four, stamp_two};
+pub use writing::write_twice;

@@ -4,9 +4,9 @@ ghost use Rattle.std.specs.Prelude.{◌≡◌, ◌≤◌, ◌+◌, ℕ, IfNone, 
 use d64_image::{DeviceFault, Place, Sectors};
 use std::alloc::Global;
 
-/// A sector that was written, and what stood there before.
+// A sector that was written, and what stood there before.
 #[derive(Clone, Copy)]
-pub struct Change {
+struct Change {
     place: Place,
     bytes: [u8; 256],
 }
@@ -60,12 +60,13 @@ impl<D: Sectors> Recorder<D> {
     pub fn into_inner(self) -> D
         ensures { result ≡ recorder_disk self }
     {
-        let Recorder { disk, changes, failed: _ } = self;
+        let Recorder { disk, changes, .. } = self;
         drop(changes);
         disk
     }
 
-    /// How many changes it has recorded. Each is a write that it was asked for, or one that memory or the disk refused.
+    /// How many changes it has recorded: the writes that passed, and those that the disk refused once it had read what
+    /// stood there.
     pub fn moments(&self) -> usize
         ensures { result ≡ moments_of self.now }
     {
@@ -73,7 +74,12 @@ impl<D: Sectors> Recorder<D> {
     }
 
     /// Reads a sector as it was when so many changes were recorded. A later moment is now.
-    pub fn read_at(&mut self, moment: usize, place: Place, to: &mut [u8; 256]) -> Result<(), DeviceFault>
+    pub fn read_at(
+        &mut self,
+        moment: usize,
+        place: Place,
+        to: &mut [u8; 256],
+    ) -> Result<(), DeviceFault>
         ensures sector { OnOk result (to.new ≡ sector (image_at D.history self.old moment) place) }
         ensures reads { OnlyReads (recorded D.history) self.old self.new 1 }
         ensures failures { TellsFailure (recorded D.history) self.old self.new result }

@@ -28,7 +28,13 @@ pub fn stamp_two<D: Sectors>(disk: &mut D, first: Place, second: Place) -> Resul
 }
 
 /// Stamps four sectors, two by two. Ends at the first fault.
-pub fn stamp_four<D: Sectors>(disk: &mut D, a: Place, b: Place, c: Place, d: Place) -> Result<(), DeviceFault>
+pub fn stamp_four<D: Sectors>(
+    disk: &mut D,
+    a: Place,
+    b: Place,
+    c: Place,
+    d: Place,
+) -> Result<(), DeviceFault>
     ensures ok { OnOk result (D.history.image disk.new ≡ four (D.history.image disk.old) a b c d) }
     ensures moments { Changes D.history disk.old disk.new 4 (IsPartlyStamped (D.history.image disk.old)) }
     ensures err { OnErr result (D.history.writes disk.new ≤ D.history.writes disk.old + 3) }

@@ -1,9 +1,8 @@
 //! The generic callers at concrete devices, and the images that a recorder saw in between.
+use crate::{Recorder, copy_sector, cut_copy, fill, stamp_four, stamp_two, write_twice};
+use d64_image::{DeviceFault, Fuse, MemDisk, Meter, Place, Sectors};
 use std::alloc::Global;
 use std::test::Fail;
-
-use crate::{Recorder, copy_sector, cut_copy, fill, stamp_four, stamp_two};
-use d64_image::{DeviceFault, Fuse, MemDisk, Meter, Place, Sectors};
 
 /// Some places: the first and the last of the disk, and two of the directory's track.
 fn places() -> Result<[Place; 4], Fail> {
@@ -35,6 +34,8 @@ fn in_memory(rt: HostRuntime) -> Result<(), Fail> {
     assert_eq!(rt; firsts(&mut disk, [a, b, c, d])?, [7, 7, 0, 0]);
     copy_sector(&mut disk, b, c)?;
     assert_eq!(rt; firsts(&mut disk, [a, b, c, d])?, [7, 7, 7, 0]);
+    write_twice(&mut disk, d, &[5; 256])?;
+    assert_eq!(rt; firsts(&mut disk, [a, b, c, d])?, [7, 7, 7, 5]);
     stamp_four(&mut disk, a, b, c, d)?;
     assert_eq!(rt; firsts(&mut disk, [a, b, c, d])?, [1, 1, 1, 1]);
     Ok(())
@@ -60,13 +61,22 @@ fn a_copy_that_is_cut(rt: HostRuntime) -> Result<(), Fail> {
         fill(&mut disk, &[a], &[7; 256])?;
         let (told, mut disk) = cut_copy(disk, limit, a, d);
         assert_eq!(rt; told, done, "{limit} writes");
-        assert_eq!(rt; firsts(&mut disk, [a, b, c, d])?, [7, 0, 0, copy], "{limit} writes");
+        assert_eq!(rt;
+            firsts(&mut disk, [a, b, c, d])?,
+            [7, 0, 0, copy],
+            "{limit} writes"
+        );
     }
     Ok(())
 }
 
 /// The first bytes of two sectors at each moment that a recorder has seen.
-fn seen<D: Sectors>(alloc: Global, disk: &mut Recorder<D>, a: Place, b: Place) -> Result<Vec<(u8, u8)>, Fail> {
+fn seen<D: Sectors>(
+    alloc: Global,
+    disk: &mut Recorder<D>,
+    a: Place,
+    b: Place,
+) -> Result<Vec<(u8, u8)>, Fail> {
     let mut seen = Vec::new(alloc);
     for moment in 0..=disk.moments() {
         let mut first = [0; 256];
@@ -84,11 +94,17 @@ fn images_in_between(rt: HostRuntime) -> Result<(), Fail> {
     // none, the first, both
     let mut disk = Recorder::new(rt.alloc(), MemDisk::zeroed(rt.alloc())?);
     stamp_two(&mut disk, a, b)?;
-    assert_eq!(rt; seen(rt.alloc(), &mut disk, a, b)?.as_slice(), [(0, 0), (1, 0), (1, 1)].as_slice());
+    assert_eq!(rt;
+        seen(rt.alloc(), &mut disk, a, b)?.as_slice(),
+        [(0, 0), (1, 0), (1, 1)].as_slice()
+    );
     // and twice the same place
     fill(&mut disk, &[c, a, a], &[9; 256])?;
     let want = [(0, 0), (1, 0), (1, 1), (1, 1), (9, 1), (9, 1)];
-    assert_eq!(rt; seen(rt.alloc(), &mut disk, a, b)?.as_slice(), want.as_slice());
+    assert_eq!(rt;
+        seen(rt.alloc(), &mut disk, a, b)?.as_slice(),
+        want.as_slice()
+    );
     assert_eq!(rt; firsts(&mut disk.into_inner(), [a, b, c, c])?, [9, 1, 9, 9]);
     Ok(())
 }
