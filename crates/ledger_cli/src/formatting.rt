@@ -5,6 +5,7 @@ ghost use Rattle.d64_image.specs.Memory.{disk_image};
 ghost use Rattle.ledger_cli.specs.Images.{AreFreshBytes, IsFormatFault, IsFreshDisk};
 ghost use Rattle.ledger_cli.specs.declared.faults.RunFault.TheVariants as faults;
 
+use crate::bytes::write_whole;
 use crate::faults::RunFault;
 use d64_image::MemDisk;
 use disk_layout::blank_image;
@@ -31,17 +32,6 @@ fn fresh_disk(alloc: Global, tills: u8) -> Result<MemDisk, RunFault>
         Ok(()) => Ok(disk),
         Err(_) => Err(RunFault::Device),
     }
-}
-
-/// Hands all of these bytes to the file, and those that it still holds back to where it keeps them.
-fn write_whole<F: Write>(file: &mut F, bytes: &[u8]) -> Result<(), RunFault>
-    ensures ok { OnOk result (Appends (F.contents file.old) (F.contents file.new) bytes.now) }
-    ensures err { IfErr result (λ fault. fault ≡ faults.File) }
-{
-    if file.write_all(bytes).is_err() || file.flush().is_err() {
-        return Err(RunFault::File);
-    }
-    Ok(())
 }
 
 /// Makes the disk of an empty shop with 1 to 64 tills (`NoMemory` before anything is written), and
@@ -75,6 +65,7 @@ pub fn format_image<F: Write + Drop, W: Write>(
     ensures err { IfErr result IsFormatFault }
     // Nothing is said where no file is given, or there was no memory.
     ensures untouched { file ≡ None → out.new ≡ out.old }
+    ensures no_memory { result ≡ Err faults.NoMemory → out.new ≡ out.old }
 {
     let Some(mut file) = file else {
         return Err(RunFault::File);

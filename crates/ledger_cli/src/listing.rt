@@ -4,9 +4,10 @@ ghost use Rattle.d64_image.specs.Memory.{disk_image, sectors_in};
 ghost use Rattle.ledger_cli.specs.Images.{HasDirectory, IsListFault, IsLoadFault};
 ghost use Rattle.ledger_cli.specs.declared.faults.RunFault.TheVariants as faults;
 
+use crate::bytes::load;
 use crate::faults::RunFault;
 use arrayvec::ArrayVec;
-use d64_image::{ImageFault, MemDisk, Sectors};
+use d64_image::Sectors;
 use disk_layout::{BamView, EntryView, Slot, map_place, read_directory};
 use std::alloc::Global;
 use std::fmt::{self, Display, Formatter};
@@ -75,19 +76,6 @@ fn put_directory<W: Write>(out: &mut W, map: &BamView<'_>, slots: &[Slot]) -> Re
         return Err(RunFault::File);
     }
     Ok(())
-}
-
-/// The disk in memory that holds the image.
-pub fn load(alloc: Global, image: &[u8]) -> Result<MemDisk, RunFault>
-    ensures ok { IfOk result (λ disk. (length image.now ≡ 174848)
-        × (disk_image disk ≡ sectors_in image.now)) }
-    ensures err { IfErr result (IsLoadFault image.now) }
-{
-    match MemDisk::load(alloc, image) {
-        Ok(disk) => Ok(disk),
-        Err(ImageFault::Size) => Err(RunFault::ImageSize),
-        Err(ImageFault::NoMemory) => Err(RunFault::NoMemory),
-    }
 }
 
 /// Prints the directory of the image. It is read and judged whole before anything is printed:

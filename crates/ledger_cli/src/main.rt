@@ -1,6 +1,7 @@
 //! A retry-safe stock ledger: the program. It opens, reads and prints; the modules do the rest.
 #![tactic(auto)]
 
+mod bytes;
 mod dry_run;
 mod faults;
 mod formatting;
