@@ -1,0 +1,98 @@
+-- How the words on moments, counts and failures go on from one call to the next.
+use Rattle.std.proofs.Common.{ℕ, ◌≡◌, ◌≤◌, ◌+◌, ⊎_elim, inl, inr, sym, ◌∙◌, subst, refl, Result, Ok, Err, IsOk, arith}
+use Rattle.d64_image.specs.Images.{Image}
+use Rattle.d64_image.specs.History.{History, HeldOnly, Failed, NeverFailed, OnlyReads, OldOr, Changes, TellsFailure}
+
+module _ {D : Type 0} (S : History D) where
+  pub start : (d : D) (P : Image → Type 0) → P (S.image d) → HeldOnly S d d P
+  start d P p = record { reached = S.reached_same d; later = omega arith; each = λ c h. subst P (sym (S.only_now d c h)) p; before = λ t c le h. inl h }
+
+  -- one call after another
+  pub then : (a b c : D) (P : Image → Type 0) → HeldOnly S a b P → HeldOnly S b c P → HeldOnly S a c P
+  then a b c P first second = record {
+    reached = S.reached_then a b c first.reached second.reached;
+    later = omega (arith, first.later, second.later);
+    each = λ x h. ⊎_elim (first.each x) (λ p. p) (second.before (S.moment a) x first.later h);
+    before = λ t x le h. ⊎_elim (first.before t x le) (λ p. inr p) (second.before t x (omega (arith, le, first.later)) h);
+  }
+
+  pub weaker : (a b : D) (P Q : Image → Type 0) → ((c : Image) → P c → Q c) → HeldOnly S a b P → HeldOnly S a b Q
+  weaker a b P Q f h = record {
+    reached = h.reached;
+    later = h.later;
+    each = λ c x. f c (h.each c x);
+    before = λ t c le x. ⊎_elim (λ l. inl l) (λ p. inr (f c p)) (h.before t c le x);
+  }
+
+  -- what it holds at the end is one of those
+  pub at_end : (a b : D) (P : Image → Type 0) → HeldOnly S a b P → P (S.image b)
+  at_end a b P h = h.each (S.image b) (S.now b (S.moment a) h.later)
+
+  -- a read
+  pub reading : (a b : D) (n : ℕ) (P : Image → Type 0) → OnlyReads S a b n → P (S.image a) → HeldOnly S a b P
+  reading a b n P r p = weaker a b (λ c. c ≡ S.image a) P (λ c e. subst P (sym e) p) r.held
+
+  -- a write
+  pub writing : (a b : D) (i j : Image) (P : Image → Type 0) → HeldOnly S a b (OldOr i j) → P i → P j → HeldOnly S a b P
+  writing a b i j P h p q = weaker a b (OldOr i j) P (λ c. ⊎_elim (λ e. subst P (sym e) p) (λ e. subst P (sym e) q)) h
+
+  -- with the count of writes
+  pub changes_weaker : (a b : D) (m n : ℕ) (P Q : Image → Type 0) → m ≤ n → ((c : Image) → P c → Q c) → Changes S a b m P → Changes S a b n Q
+  changes_weaker a b m n P Q le f h = record { held = weaker a b P Q f h.held; writes = omega (arith, le, h.writes) }
+
+  pub changes_then : (a b c : D) (k m n : ℕ) (P : Image → Type 0) → k + m ≤ n → Changes S a b k P → Changes S b c m P → Changes S a c n P
+  changes_then a b c k m n P le first second = record {
+    held = then a b c P first.held second.held;
+    writes = omega (arith, le, first.writes, second.writes);
+  }
+
+  pub no_change : (d : D) (P : Image → Type 0) → P (S.image d) → Changes S d d 0 P
+  no_change d P p = record { held = start d P p; writes = omega arith }
+
+  pub reads_change : (a b : D) (n : ℕ) (P : Image → Type 0) → OnlyReads S a b n → P (S.image a) → Changes S a b 0 P
+  reads_change a b n P r p = record { held = reading a b n P r p; writes = omega (arith, r.writes) }
+
+  pub write_change : (a b : D) (i j : Image) (P : Image → Type 0) → HeldOnly S a b (OldOr i j) → S.writes b ≤ S.writes a + 1 → P i → P j → Changes S a b 1 P
+  write_change a b i j P h counted p q = record { held = writing a b i j P h p q; writes = counted }
+
+  -- reads alone
+  pub no_reads : (d : D) → OnlyReads S d d 0
+  no_reads d = record { image = refl; held = start d (λ c. c ≡ S.image d) refl; reads = omega arith; writes = refl }
+
+  pub reads_then : (a b c : D) (k m n : ℕ) → k + m ≤ n → OnlyReads S a b k → OnlyReads S b c m → OnlyReads S a c n
+  reads_then a b c k m n le first second = record {
+    image = second.image ∙ first.image;
+    held = then a b c (λ i. i ≡ S.image a) first.held (weaker b c (λ i. i ≡ S.image b) (λ i. i ≡ S.image a) (λ i e. e ∙ first.image) second.held);
+    reads = omega (arith, le, first.reads, second.reads);
+    writes = second.writes ∙ first.writes;
+  }
+
+  pub reads_weaker : (a b : D) (m n : ℕ) → m ≤ n → OnlyReads S a b m → OnlyReads S a b n
+  reads_weaker a b m n le r = record { image = r.image; held = r.held; reads = omega (arith, le, r.reads); writes = r.writes }
+
+  -- failures
+  pub failed_later : (a b c : D) → S.failures b ≡ S.failures a → Failed S b c → Failed S a c
+  failed_later a b c same f = record { later = omega (arith, same, f.later); rose = λ lt. omega (arith, same, f.rose lt) }
+
+  pub failed_before : (a b c : D) → Failed S a b → S.failures b ≤ S.failures c → Failed S a c
+  failed_before a b c f le = record { later = omega (arith, f.later, le); rose = λ lt. omega (arith, f.rose (omega (arith, lt, le)), le) }
+
+  pub never_failed : (a b : D) → NeverFailed S a b → Failed S a b → ⊥
+  never_failed a b n f = omega (arith, n.same, f.rose n.not_spent)
+
+  -- a premise on a whole run holds of its parts
+  pub never_failed_first : (a b c : D) → S.failures a ≤ S.failures b → S.failures b ≤ S.failures c → NeverFailed S a c → NeverFailed S a b
+  never_failed_first a b c ab bc n = record { same = omega (arith, ab, bc, n.same); not_spent = omega (arith, bc, n.not_spent) }
+
+  pub never_failed_rest : (a b c : D) → S.failures a ≤ S.failures b → S.failures b ≤ S.failures c → NeverFailed S a c → NeverFailed S b c
+  never_failed_rest a b c ab bc n = record { same = omega (arith, ab, bc, n.same); not_spent = n.not_spent }
+
+  -- the count of failures doesn't fall
+  pub told_later : {T E : Type 0} (a b : D) (result : Result T E) → TellsFailure S a b result → S.failures a ≤ S.failures b
+  told_later a b (Ok _) tells = omega (arith, tells)
+  told_later a b (Err _) tells = tells.later
+
+  -- where the device doesn't fail, the answer is Ok
+  pub told_ok : {T E : Type 0} (a b : D) (result : Result T E) → TellsFailure S a b result → NeverFailed S a b → IsOk result
+  told_ok a b (Ok _) tells n = refl
+  told_ok a b (Err _) tells n = absurd (never_failed a b n tells)

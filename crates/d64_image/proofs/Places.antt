@@ -1,0 +1,206 @@
+-- The places of the disk, in their order.
+use Rattle.std.proofs.Common.{ℕ, zero, suc, ◌+◌, ◌-◌, ◌*◌, ◌<◌, ◌≤◌, ◌≡◌, ◌≢◌, ◌⊎◌, Some, None, ap, ap₂, sym, subst, refl, inl, inr, ⊎_elim, add-suc, le_refl, le_of_suc-le-suc, lit≤, arith}
+use Rattle.std.proofs.lemmas.Bool.{cases_eq, cases_lt, cases_order}
+use Rattle.std.proofs.lemmas.Bool.Decides.{nat_tests}
+use Rattle.std.proofs.Math.Decide.{dec_lt}
+use Rattle.std.proofs.Math.Nat.{eq-or-lt_of_le}
+use Rattle.std.specs.Coded.{le_prop}
+use Rattle.d64_image.specs.declared.place.Place.{Place}
+use Rattle.d64_image.specs.Geometry.{sectors_on, sectors_below}
+use Rattle.d64_image.specs.Places.{track_of, sector_of, index_of, place_if, place_at}
+
+-- no track has more sectors than the outermost
+at_most_21 : (t : ℕ) → sectors_on t ≤ 21
+at_most_21 t = grind (arith, nat_tests)
+
+-- the zones, one after another
+on_none : (t : ℕ) → t < 1 → sectors_on t ≡ 0
+on_none t below = grind (arith, nat_tests)
+
+on_low : (t : ℕ) → 1 ≤ t → t < 18 → sectors_on t ≡ 21
+on_low t above below = grind (arith, nat_tests)
+
+on_middle : (t : ℕ) → 18 ≤ t → t < 25 → sectors_on t ≡ 19
+on_middle t above below = grind (arith, nat_tests)
+
+on_high : (t : ℕ) → 25 ≤ t → t < 31 → sectors_on t ≡ 18
+on_high t above below = grind (arith, nat_tests)
+
+on_last : (t : ℕ) → 31 ≤ t → t < 36 → sectors_on t ≡ 17
+on_last t above below = grind (arith, nat_tests)
+
+on_no_more : (t : ℕ) → 36 ≤ t → sectors_on t ≡ 0
+on_no_more t above = grind (arith, nat_tests)
+
+below_low : (n : ℕ) → n ≤ 17 → sectors_below (1 + n) ≡ 21 * n
+unfolding sectors_below
+below_low zero le = refl
+below_low (suc n) le =
+    let so_far = below_low n (omega (arith, le)) in
+    let this = on_low (1 + n) (omega arith) (omega (arith, le)) in
+    rw add-suc (omega (arith, so_far, this))
+
+below_middle : (n : ℕ) → n ≤ 7 → sectors_below (18 + n) ≡ 357 + 19 * n
+unfolding sectors_below
+below_middle zero le = refl
+below_middle (suc n) le =
+    let so_far = below_middle n (omega (arith, le)) in
+    let this = on_middle (18 + n) (omega arith) (omega (arith, le)) in
+    rw add-suc (omega (arith, so_far, this))
+
+below_high : (n : ℕ) → n ≤ 6 → sectors_below (25 + n) ≡ 490 + 18 * n
+unfolding sectors_below
+below_high zero le = refl
+below_high (suc n) le =
+    let so_far = below_high n (omega (arith, le)) in
+    let this = on_high (25 + n) (omega arith) (omega (arith, le)) in
+    rw add-suc (omega (arith, so_far, this))
+
+below_last : (n : ℕ) → n ≤ 5 → sectors_below (31 + n) ≡ 598 + 17 * n
+unfolding sectors_below
+below_last zero le = refl
+below_last (suc n) le =
+    let so_far = below_last n (omega (arith, le)) in
+    let this = on_last (31 + n) (omega arith) (omega (arith, le)) in
+    rw add-suc (omega (arith, so_far, this))
+
+-- the sectors below a track, zone by zone
+pub at_low : (t : ℕ) → 1 ≤ t → t ≤ 18 → sectors_below t ≡ 21 * (t - 1)
+at_low t above below =
+    let at : 1 + (t - 1) ≡ t = omega arith in
+    subst (λ (u : ℕ). sectors_below u ≡ 21 * (t - 1)) at (below_low (t - 1) (omega arith))
+
+pub at_middle : (t : ℕ) → 18 ≤ t → t ≤ 25 → sectors_below t ≡ 357 + 19 * (t - 18)
+at_middle t above below =
+    let at : 18 + (t - 18) ≡ t = omega arith in
+    subst (λ (u : ℕ). sectors_below u ≡ 357 + 19 * (t - 18)) at (below_middle (t - 18) (omega arith))
+
+pub at_high : (t : ℕ) → 25 ≤ t → t ≤ 31 → sectors_below t ≡ 490 + 18 * (t - 25)
+at_high t above below =
+    let at : 25 + (t - 25) ≡ t = omega arith in
+    subst (λ (u : ℕ). sectors_below u ≡ 490 + 18 * (t - 25)) at (below_high (t - 25) (omega arith))
+
+pub at_last : (t : ℕ) → 31 ≤ t → t ≤ 36 → sectors_below t ≡ 598 + 17 * (t - 31)
+at_last t above below =
+    let at : 31 + (t - 31) ≡ t = omega arith in
+    subst (λ (u : ℕ). sectors_below u ≡ 598 + 17 * (t - 31)) at (below_last (t - 31) (omega arith))
+
+-- a track has its sectors before those of each later track
+pub below_grows : (t u : ℕ) → t < u → sectors_below t + sectors_on t ≤ sectors_below u
+unfolding sectors_below
+below_grows t zero lt = absurd (omega (arith, lt))
+below_grows t (suc u) lt = ⊎_elim
+    (λ (e : t ≡ u). subst (λ (v : ℕ). sectors_below t + sectors_on t ≤ sectors_below v + sectors_on v) e (le_refl (sectors_below t + sectors_on t)))
+    (λ (less : t < u). omega (arith, below_grows t u less))
+    (eq-or-lt_of_le (le_of_suc-le-suc lt))
+
+pub sectors_below-36 : sectors_below 36 ≡ 683
+sectors_below-36 = at_last 36 (lit≤ tt) (lit≤ tt)
+
+pub track_fits : (p : Place) → p.track < 36
+track_fits p = ⊎_elim
+    (λ (fits : p.track < 36). fits)
+    (λ (past : 36 ≤ p.track). absurd (omega (arith, p.on_disk, on_no_more p.track past)))
+    (cases_lt p.track 36)
+
+pub track_from_1 : (p : Place) → 0 < p.track
+track_from_1 p = ⊎_elim
+    (λ (below : p.track < 1). absurd (omega (arith, p.on_disk, on_none p.track below)))
+    (λ (from : 1 ≤ p.track). from)
+    (cases_lt p.track 1)
+
+pub sector_small : (p : Place) → p.sector < 21
+sector_small p = omega (arith, p.on_disk, at_most_21 p.track)
+
+pub index_below : (p : Place) → index_of p < 683
+unfolding index_of
+index_below p = omega (arith, p.on_disk, below_grows p.track 36 (track_fits p), sectors_below-36)
+
+-- the index in closed form, zone by zone
+pub index_low : (p : Place) → p.track < 18 → index_of p ≡ 21 * p.track - 21 + p.sector
+unfolding index_of
+index_low p below = let from = track_from_1 p in omega (arith, from, at_low p.track from (omega (arith, below)))
+
+pub index_middle : (p : Place) → 18 ≤ p.track → p.track < 25 → index_of p ≡ 19 * p.track + 15 + p.sector
+unfolding index_of
+index_middle p above below = omega (arith, above, at_middle p.track above (omega (arith, below)))
+
+pub index_high : (p : Place) → 25 ≤ p.track → p.track < 31 → index_of p ≡ 18 * p.track + 40 + p.sector
+unfolding index_of
+index_high p above below = omega (arith, above, at_high p.track above (omega (arith, below)))
+
+pub index_last : (p : Place) → 31 ≤ p.track → index_of p ≡ 17 * p.track + 71 + p.sector
+unfolding index_of
+index_last p above = omega (arith, above, at_last p.track above (omega (arith, track_fits p)))
+
+-- `place_at` finds each place, and nothing else
+pub place_at-self : (p : Place) → place_at p.track p.sector ≡ Some p
+unfolding place_at
+place_at-self p = elim (dec_lt p.sector (sectors_on p.track)) as (λ d. place_if p.track p.sector d ≡ Some p) [
+  | yes h ↦ ap (λ (on : p.sector < sectors_on p.track). place_if p.track p.sector (yes on)) (le_prop h p.on_disk)
+  | no not_on ↦ absurd (not_on p.on_disk)
+]
+
+pub place_at-none : (t s : ℕ) → sectors_on t ≤ s → place_at t s ≡ None
+unfolding place_at
+place_at-none t s past = elim (dec_lt s (sectors_on t)) as (λ d. place_if t s d ≡ None) [
+  | yes h ↦ absurd (omega (arith, h, past))
+  | no _ ↦ refl
+]
+
+pub place_at-found : (t s : ℕ) → s < sectors_on t → (p : Place) × (place_at t s ≡ Some p)
+place_at-found t s on =
+    let p : Place = record { track = t; sector = s; on_disk = on } in
+    (p, place_at-self p)
+
+pub place_at-some : (t s : ℕ) (p : Place) → place_at t s ≡ Some p → (p.track ≡ t) × (p.sector ≡ s)
+place_at-some t s p found = ⊎_elim
+    (λ (on : s < sectors_on t).
+    let q : Place = record { track = t; sector = s; on_disk = on } in
+    let at : place_at t s ≡ Some q = place_at-self q in
+    let same : q ≡ p = cc in
+    (sym (ap track_of same), sym (ap sector_of same)))
+    (λ (past : sectors_on t ≤ s).
+    let none : place_at t s ≡ None = place_at-none t s past in
+    absurd (cc))
+    (cases_lt s (sectors_on t))
+
+-- two places are one where their tracks and their sectors are
+pub same_place : (p q : Place) → p.track ≡ q.track → p.sector ≡ q.sector → p ≡ q
+same_place p q track sector =
+    let at_p = place_at-self p in
+    let at_q = place_at-self q in
+    let at : place_at p.track p.sector ≡ place_at q.track q.sector = ap₂ place_at track sector in
+    cc
+
+-- and where their indices are
+pub same_index : (p q : Place) → index_of p ≡ index_of q → p ≡ q
+unfolding index_of
+same_index p q e = ⊎_elim
+    (λ (same : p.track ≡ q.track). same_place p q same (omega (arith, e, ap sectors_below same)))
+    (⊎_elim
+    (λ (less : p.track < q.track). absurd (omega (arith, e, p.on_disk, below_grows p.track q.track less)))
+    (λ (more : q.track < p.track). absurd (omega (arith, e, q.on_disk, below_grows q.track p.track more))))
+    (cases_order p.track q.track)
+
+pub other_index : (p q : Place) → p ≢ q → index_of p ≢ index_of q
+other_index p q other = λ e. other (same_index p q e)
+
+pub same_or_other : (p q : Place) → (p ≡ q) ⊎ (p ≢ q)
+same_or_other p q = ⊎_elim
+    (λ (e : index_of p ≡ index_of q). inl (same_index p q e))
+    (λ (ne : index_of p ≢ index_of q). inr (λ e. ne (ap index_of e)))
+    (cases_eq (index_of p) (index_of q))
+
+-- each number below the count of sectors up to a track is the index of a place
+place_below : (t n : ℕ) → n < sectors_below t → (p : Place) × (index_of p ≡ n)
+unfolding sectors_below index_of
+place_below zero n lt = absurd (omega (arith, lt))
+place_below (suc t) n lt = ⊎_elim
+    (λ (below : n < sectors_below t). place_below t n below)
+    (λ (here : sectors_below t ≤ n).
+    (record { track = t; sector = n - sectors_below t; on_disk = omega (arith, here, lt) }, omega (arith, here)))
+    (cases_lt n (sectors_below t))
+
+pub place_of : (n : ℕ) → n < 683 → (p : Place) × (index_of p ≡ n)
+place_of n below = place_below 36 n (omega (arith, below, sectors_below-36))

@@ -1,0 +1,4 @@
+pub mod Geometry
+pub mod History
+pub mod Images
+pub mod Places

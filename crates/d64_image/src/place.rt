@@ -1,0 +1,83 @@
+//! Where a sector lies: its track and its sector, which together are on the disk.
+ghost use Rattle.std.specs.Prelude.{◌<◌, ◌≡◌, ◌↔◌, IsSome};
+ghost use Rattle.d64_image.specs.Geometry.{sectors_on};
+
+/// A place on the disk: a track from 1 to 35, and a sector from 0 on that the track has.
+#[derive(Clone, Copy, Debug, PartialEq, Eq, PartialOrd, Ord)]
+pub struct Place {
+    track: u8,
+    sector: u8,
+    ghost on_disk: { sector < sectors_on track },
+}
+
+/// How many sectors a track has, and 0 where there is no such track: the four speed zones of the 1541.
+fn sectors_of(track: u8) -> u8
+    ensures { result ≡ sectors_on track }
+{
+    match track {
+        1..=17 => 21,
+        18..=24 => 19,
+        25..=30 => 18,
+        31..=35 => 17,
+        _ => 0,
+    }
+}
+
+impl Place {
+    ghost use Rattle.d64_image.specs.Places.{index_of, place_at, sector_of, track_of};
+
+    /// The place with this track and this sector; None exactly where the disk has no such sector.
+    pub fn new(track: u8, sector: u8) -> Option<Place>
+        ensures value { result ≡ place_at track sector }
+        ensures on_disk { IsSome result ↔ (sector < sectors_on track) }
+    {
+        if sector < sectors_of(track) {
+            Some(Place { track, sector })
+        } else {
+            None
+        }
+    }
+
+    /// The track, from 1 to 35.
+    pub fn track(self) -> u8
+        ensures { result ≡ track_of self }
+    {
+        self.track
+    }
+
+    /// The sector on its track, from 0.
+    pub fn sector(self) -> u8
+        ensures { result ≡ sector_of self }
+    {
+        self.sector
+    }
+
+    /// Where the sector stands in an image, in sectors, from 0 to 682: track by track, and sector by sector.
+    pub fn index(self) -> usize
+        ensures value { result ≡ index_of self }
+        ensures bound { result < 683 }
+    {
+        let track = self.track as usize;
+        let below = match self.track {
+            0..=17 => 21 * track - 21,
+            18..=24 => 19 * track + 15,
+            25..=30 => 18 * track + 40,
+            _ => 17 * track + 71,
+        };
+        below + self.sector as usize
+    }
+}
+
+/// Track 1, sector 0: the first sector of the disk.
+impl Default for Place {
+    ghost use Rattle.d64_image.specs.Places.{first_place};
+
+    ghost is_default = { λ p. p ≡ first_place };
+
+    fn default() -> Self {
+        Place {
+            track: 1,
+            sector: 0,
+        }
+    }
+}

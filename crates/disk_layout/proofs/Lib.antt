@@ -1,0 +1,3 @@
+pub mod Count
+pub mod Once
+pub mod Slots

@@ -1,0 +1,13 @@
+pub mod Chain
+pub mod Clean
+pub mod Directory
+pub mod Entries
+pub mod Fault
+pub mod Layout
+pub mod Map
+pub mod Number
+pub mod Records
+pub mod Rest
+pub mod Room
+pub mod Same
+pub mod Side
