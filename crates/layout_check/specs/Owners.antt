@@ -1,0 +1,13 @@
+-- Who owns each sector, as far as a survey has come. Our own.
+use Rattle.std.specs.Prelude.{◌≡◌, ℕ, List, Contains, slice_index}
+use Rattle.d64_image.specs.Places.{index_of}
+use Rattle.d64_image.specs.declared.place.Place.{Place}
+use Rattle.layout_check.specs.declared.owners.Owners.{Owners}
+
+-- the number of the owner of p: 255 for nobody
+unfoldable pub owner_of : Owners → Place → ℕ
+owner_of t p = slice_index t.numbers (index_of p)
+
+-- these places now carry the number n; none of them was owned before, and no other place has changed
+abbrev pub IsClaimed : Owners → Owners → ℕ → List Place → Type 0
+IsClaimed old new n ps = (p : Place) → (Contains ps p → (owner_of old p ≡ 255) × (owner_of new p ≡ n)) × (¬ (Contains ps p) → owner_of new p ≡ owner_of old p)

@@ -1,0 +1,4 @@
+//! Judges the layout of a 1541 disk.
+#![tactic(auto)]
+
+mod owners;

@@ -1,0 +1,58 @@
+//! Who owns each sector of a disk, as far as a survey has come: a table with one number a place.
+ghost use Rattle.std.specs.Prelude.{◌≡◌, length};
+
+use d64_image::Place;
+
+/// The number of a sector that nobody owns.
+const NOBODY: u8 = 255;
+
+/// The owner of each sector, as a number: 255 for nobody, 254 for the map and the directory, and for an entry its
+/// place among the used entries, from 0. Asking takes the same time for each sector, however much is owned.
+#[derive(Drop)]
+pub struct Owners {
+    numbers: [u8; 683],
+    pub ghost full: { length numbers ≡ 683 },
+}
+
+impl Owners {
+    ghost use Rattle.std.specs.Prelude.{◌≢◌, ◌<◌, Contains, MatchOption};
+    ghost use Rattle.disk_layout.specs.Chain.{EachOnce};
+    ghost use Rattle.layout_check.specs.Owners.{IsClaimed, owner_of};
+
+    /// Nobody owns a sector.
+    pub fn new() -> Owners
+        ensures { (p : Place) → owner_of result p ≡ 255 }
+    {
+        Owners { numbers: [NOBODY; 683] }
+    }
+
+    /// The number of the sector's owner.
+    pub fn owner(&self, place: Place) -> u8
+        ensures { result ≡ owner_of self.now place }
+    {
+        self.numbers[place.index()]
+    }
+
+    /// Gives the sector to this owner.
+    fn set(&mut self, place: Place, number: u8)
+        ensures here { owner_of self.new place ≡ number }
+        ensures there { (q : Place) → place ≢ q → owner_of self.new q ≡ owner_of self.old q }
+    {
+        self.numbers[place.index()] = number;
+    }
+
+    /// Gives all these sectors, which differ from each other, to one owner; or tells one of them that is owned already.
+    pub fn claim(&mut self, number: u8, places: &[Place]) -> Option<Place>
+        requires some { number < 255 }
+        requires once { EachOnce places.now }
+        ensures claimed { MatchOption result (IsClaimed self.old self.new number places.now) (λ p. Contains places.now p × (owner_of self.old p ≢ 255)) }
+    {
+        for &place in places {
+            if self.owner(place) != NOBODY {
+                return Some(place);
+            }
+            self.set(place, number);
+        }
+        None
+    }
+}
