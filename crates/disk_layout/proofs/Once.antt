@@ -86,3 +86,16 @@ EachOnce-insert (z ∷ xs) ys x once new = (λ c. fresh (Contains-append_cases x
       | inl e ↦ new (rw e (Contains-here z (xs ++ ys)))
       | inr f ↦ once.0 (Contains-append_right xs ys z f)
     ]
+
+-- a place in a list with one more element
+pub insert-out : {X : Type 0} (xs ys : List X) (z x : X) → Contains (xs ++ z ∷ ys) x → (z ≡ x) ⊎ Contains (xs ++ ys) x
+insert-out xs ys z x c = elim (Contains-append_cases xs (z ∷ ys) x c) [
+  | inl d ↦ inr (Contains-append_left xs ys x d)
+  | inr d ↦ elim (Contains-cases x z ys d) [ inl e ↦ inl e | inr e ↦ inr (Contains-append_right xs ys x e) ]
+]
+
+pub insert-in : {X : Type 0} (xs ys : List X) (z x : X) → Contains (xs ++ ys) x → Contains (xs ++ z ∷ ys) x
+insert-in xs ys z x c = elim (Contains-append_cases xs ys x c) [
+  | inl d ↦ Contains-append_left xs (z ∷ ys) x d
+  | inr d ↦ Contains-append_right xs (z ∷ ys) x (Contains-there x z ys d)
+]

@@ -1,6 +1,6 @@
 -- Entries with their block counts left out. Our own words for what growth leaves.
 use Rattle.std.specs.Prelude.{ℕ, ◌⊎◌, ◌<◌, ◌≤◌, ◌+◌, ◌*◌, length, slice_index, ◌≡◌, List, take, map}
-use Rattle.d64_image.specs.Images.{Sector, sector}
+use Rattle.d64_image.specs.Images.{Sector}
 use Rattle.disk_layout.specs.declared.slot.Slot.{Slot}
 
 -- the slot without its block count, bytes 30-31

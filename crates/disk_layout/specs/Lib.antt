@@ -11,3 +11,4 @@ pub mod Rest
 pub mod Room
 pub mod Same
 pub mod Side
+pub mod Visited

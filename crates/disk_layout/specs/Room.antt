@@ -1,5 +1,5 @@
 -- How far the ledger's file can grow, said of the image.
-use Rattle.std.specs.Prelude.{◌≡◌, ℕ, ◌+◌, ◌*◌, ◌≤◌, ◌<◌, List, ◌↔◌, ◌≢◌}
+use Rattle.std.specs.Prelude.{ℕ, List}
 use Rattle.d64_image.specs.Images.{Image}
 use Rattle.disk_layout.specs.Layout.{File, IsLayout, Layout}
 use Rattle.disk_layout.specs.Rest.{IsFirst, IsTop}
