@@ -1,1 +1,3 @@
+pub mod Calls
+pub mod Entry
 pub mod Owners

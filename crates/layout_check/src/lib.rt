@@ -1,4 +1,6 @@
 //! Judges the layout of a 1541 disk.
 #![tactic(auto)]
 
+mod blocks;
+mod entry;
 mod owners;
