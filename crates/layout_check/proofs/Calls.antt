@@ -3,6 +3,7 @@ use Rattle.std.proofs.Common.{ℕ, ◌≡◌, ◌≤◌, ◌+◌, Err, sym, ◌�
 use Rattle.d64_image.proofs.Moments.{reads_then, reads_weaker, no_reads, failed_later, never_failed}
 use Rattle.d64_image.specs.History.{Failed, History, NeverFailed, OnlyReads}
 use Rattle.d64_image.specs.Images.{Image}
+use Rattle.d64_image.specs.declared.place.Place.{Place}
 use Rattle.disk_layout.specs.Fault.{Holds, TellsFault}
 use Rattle.disk_layout.specs.declared.faults.Fault.{Fault}
 use Rattle.disk_layout.specs.declared.faults.Fault.TheVariants.{BadLength, BadLink, BadSide, BadType, CountWrong, Device, Loop, MapWrong, OwnedTwice, Unclosed}
@@ -70,6 +71,18 @@ module _ {D : Type 0} (S : History D) where
 
   pub tells_weaker : (a b : D) (m n : ℕ) (f : Fault) → m ≤ n → Tells S a b m f → Tells S a b n f
   tells_weaker a b m n f le h = record { reads = reads_weaker S a b m n le h.reads; failures = h.failures; holds = h.holds }
+
+  pub passes_read : (a b : D) → OnlyReads S a b 1 → S.failures b ≡ S.failures a → Passes S a b 1
+  passes_read a b reads same = record { reads = reads; failures = same }
+
+  pub device_tells : (a b : D) (p : Place) → OnlyReads S a b 1 → Failed S a b → Tells S a b 1 (Device p)
+  device_tells a b p reads failed = record { reads = reads; failures = failed; holds = failed }
+
+  pub side_tells : (a b : D) (n : ℕ) (p : Place) → Passes S a b n → Holds (Failed S a b) (S.image a) (BadSide p) → Tells S a b n (BadSide p)
+  side_tells a b n p passes h = record { reads = passes.reads; failures = passes.failures; holds = h }
+
+  pub twice_tells : (a b : D) (n : ℕ) (p : Place) → Passes S a b n → Holds (Failed S a b) (S.image a) (OwnedTwice p) → Tells S a b n (OwnedTwice p)
+  twice_tells a b n p passes h = record { reads = passes.reads; failures = passes.failures; holds = h }
 
   -- where the device doesn't fail, the fault holds of the image itself
   pub holds_alone : (a b : D) (f : Fault) → NeverFailed S a b → Holds (Failed S a b) (S.image a) f → Holds ⊥ (S.image a) f

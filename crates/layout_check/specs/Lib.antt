@@ -1,3 +1,4 @@
 pub mod Calls
 pub mod Entry
 pub mod Owners
+pub mod Sides

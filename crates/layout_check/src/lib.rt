@@ -4,3 +4,4 @@
 mod blocks;
 mod entry;
 mod owners;
+mod sides;
