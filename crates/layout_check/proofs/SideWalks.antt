@@ -1,5 +1,5 @@
 -- The side sectors to which links lead, one after another.
-use Rattle.std.proofs.Common.{ℕ, zero, suc, ◌≡◌, ◌<◌, ◌≤◌, ◌+◌, ◌*◌, ◌/◌, ◌%◌, ◌⊎◌, min, List, [], ◌∷◌, ◌++◌, length, length-append, sym, ◌∙◌, ap, refl, arith, subst, inl, inr, add-zero}
+use Rattle.std.proofs.Common.{ℕ, zero, suc, ◌≡◌, ◌<◌, ◌≤◌, ◌+◌, ◌*◌, ◌/◌, ◌%◌, ◌⊎◌, min, List, [], ◌∷◌, ◌++◌, length, length-append, sym, ◌∙◌, ap, refl, arith, subst, inl, inr, get_or}
 use Rattle.std.specs.Prelude.{Some, slice_get}
 use Rattle.std.proofs.lemmas.Option.{slice_get_within}
 use Rattle.d64_image.specs.Images.{Image, sector}
@@ -9,7 +9,8 @@ use Rattle.disk_layout.specs.Fault.{Holds, IsBadSide, IsSideSector, length_byte,
 use Rattle.disk_layout.specs.Layout.{sides_for}
 use Rattle.disk_layout.specs.declared.faults.Fault.TheVariants.{BadSide}
 use Rattle.disk_layout.specs.declared.slot.Slot.{Slot}
-use Rattle.layout_check.specs.Sides.{IsJudged, IsMisjudged, IsRelEntry, IsWalkOfSides}
+use Rattle.layout_check.proofs.Pointers.{read-there}
+use Rattle.layout_check.specs.Sides.{IsJudged, IsMisjudged, IsMisnamed, IsRelEntry, IsWalkOfSides, NamesEach}
 
 pub needed-sides : (n : ℕ) → n / 120 + min 1 (n % 120) ≡ sides_for n
 needed-sides n = omega arith
@@ -89,3 +90,41 @@ walk-done img s blocks sides first at n named leads count full judged last = rec
   count = omega (arith, length-append sides (at ∷ []), count, full);
   judged = each-push (λ j q. IsJudged (sector img q) s blocks j) sides at n count judged last;
 }
+
+-- each sector of a walk is reached by as many links as its place in the list says
+leads-at : (img : Image) (first : Place) (front : List Place) (last : Place) (j : ℕ) (p : Place) → Leads img first front last → slice_get (front ++ last ∷ []) j ≡ Some p → (vs : List Place) × (length vs ≡ j) × Leads img first vs p
+leads-at img first [] last zero p leads h = ([], refl, leads ∙ cc)
+leads-at img first [] last (suc j) p leads h = cc
+leads-at img first (v ∷ front) last zero p (n, same, linked, more) h = ([], refl, sym same ∙ cc)
+leads-at img first (v ∷ front) last (suc j) p (n, same, linked, more) h =
+    let (vs, long, leads) = leads-at img n front last j p more h in
+    (v ∷ vs, ap suc long, (n, same, linked, leads))
+
+pub walk-side : (img : Image) (s : Slot) (blocks sides : List Place) (j : ℕ) (p : Place) → IsRelEntry img s blocks → IsWalkOfSides img s blocks sides → slice_get sides j ≡ Some p → IsSideSector img s blocks j p
+walk-side img s blocks sides j p e w h =
+    let at : slice_get (w.front ++ w.last ∷ []) j ≡ Some p = ap (λ (xs : List Place). slice_get xs j) (sym w.places) ∙ h in
+    let (vs, long, leads) = leads-at img w.first w.front w.last j p w.leads at in
+    side-reached img s blocks vs w.first p j e w.named leads long (omega (arith, slice_get_within sides j p h, w.count))
+
+-- a side sector that doesn't list one of them
+pub unlisted-holds : (failed : Type 0) (img : Image) (s : Slot) (blocks sides : List Place) (j : ℕ) (p : Place) (bytes : List ℕ) → IsRelEntry img s blocks → IsWalkOfSides img s blocks sides → slice_get sides j ≡ Some p → bytes ≡ sector img p → IsMisnamed bytes 4 sides → Holds failed img (BadSide p)
+unlisted-holds failed img s blocks sides j p bytes e w there same wrong =
+    bad-holds failed img s blocks j p e (walk-side img s blocks sides j p e w there)
+    (listed wrong.k wrong.q (walk-side img s blocks sides wrong.k wrong.q e w wrong.there) (λ h. wrong.other (let P : List ℕ → Type 0 = λ b. Names b (4 + 2 * wrong.k) wrong.q in subst P (sym same) h)))
+
+pub listed-at : (img : Image) (p : Place) (sides : List Place) (bytes : List ℕ) → bytes ≡ sector img p → NamesEach bytes 4 sides → NamesEach (sector img p) 4 sides
+listed-at img p sides bytes e h = let P : List ℕ → Type 0 = λ b. NamesEach b 4 sides in subst P e h
+
+-- there are six side sectors at most, so they are read twelve times at most
+pub few-sides : (img : Image) (s : Slot) (blocks sides items : List Place) (i : ℕ) → IsWalkOfSides img s blocks sides → length blocks ≤ 720 → items ≡ sides → i < length items → (length items + i) + 1 ≤ 12
+few-sides img s blocks sides items i w few same below = omega (arith, w.count, ap length same)
+
+pub unlisted-part : (sides items : List Place) (i : ℕ) (p : Place) → items ≡ sides → i < length items → p ≡ get_or items i p → slice_get sides i ≡ Some p
+unlisted-part sides items i p same below read = ap (λ (xs : List Place). slice_get xs i) (sym same) ∙ read-there items i p below read
+
+pub listed-here : (img : Image) (sides items others : List Place) (i : ℕ) (p : Place) (bytes : List ℕ) → items ≡ sides → others ≡ sides → i < length items → p ≡ get_or items i p → bytes ≡ sector img p → NamesEach bytes 4 others → (q : Place) → slice_get items i ≡ Some q → NamesEach (sector img q) 4 items
+listed-here img sides items others i p bytes same also below read e h q there =
+    let one : p ≡ q = cc (read-there items i p below read) in
+    let P : List Place → Type 0 = λ xs. NamesEach (sector img p) 4 xs in
+    let Q : Place → Type 0 = λ x. NamesEach (sector img x) 4 items in
+    subst Q one (subst P (also ∙ sym same) (listed-at img p others bytes e h))

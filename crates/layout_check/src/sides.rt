@@ -3,7 +3,7 @@ ghost use Rattle.std.specs.Prelude.{◌≡◌, ◌+◌, ◌*◌, ◌<◌, ◌≤
 ghost use Rattle.disk_layout.specs.Chain.{Names, NamesNone};
 ghost use Rattle.disk_layout.specs.Layout.{sides_for};
 ghost use Rattle.layout_check.specs.Calls.{Passes, Tells};
-ghost use Rattle.layout_check.specs.Sides.{IsJudged, IsMisjudged, IsMisnamed, IsRelEntry, IsWalkOfSides, NamesEach};
+ghost use Rattle.layout_check.specs.Sides.{IsJudged, IsMisjudged, IsMisnamed, IsRelEntry, IsWalkOfSides, ListsEach, NamesEach};
 
 use arrayvec::ArrayVec;
 use d64_image::{Place, Sectors};
@@ -56,7 +56,7 @@ fn link_of(sector: &[u8; 256]) -> Option<Place>
 ///
 /// Told are `BadSide` at the entry's directory sector, where the entry names no first side sector, or at a side sector
 /// that isn't right or links to no place, and `Device`.
-pub fn walk_sides<D: Sectors>(disk: &mut D, slot: &Slot, blocks: &[Place], sides: &mut ArrayVec<Place, 6>) -> Result<(), Fault>
+fn walk_sides<D: Sectors>(disk: &mut D, slot: &Slot, blocks: &[Place], sides: &mut ArrayVec<Place, 6>) -> Result<(), Fault>
     requires entry { IsRelEntry (D.history.image disk.old) slot.now blocks.now }
     requires few { length blocks.now ≤ 720 }
     ensures sides { OnOk result (IsWalkOfSides (D.history.image disk.old) slot.now blocks.now sides.new.items) }
@@ -85,6 +85,30 @@ pub fn walk_sides<D: Sectors>(disk: &mut D, slot: &Slot, blocks: &[Place], sides
         match link_of(&sector) {
             Some(next) => at = next,
             None => return Err(Fault::BadSide(at)),
+        }
+    }
+    Ok(())
+}
+
+/// Finds the side sectors of a closed relative entry with these blocks, as `walk_sides` does, and judges beside that each
+/// of them lists the places of all. Each is read twice at most.
+pub fn survey_sides<D: Sectors>(disk: &mut D, slot: &Slot, blocks: &[Place], sides: &mut ArrayVec<Place, 6>) -> Result<(), Fault>
+    requires entry { IsRelEntry (D.history.image disk.old) slot.now blocks.now }
+    requires few { length blocks.now ≤ 720 }
+    ensures sides { OnOk result (IsWalkOfSides (D.history.image disk.old) slot.now blocks.now sides.new.items) }
+    ensures lists { OnOk result (ListsEach (D.history.image disk.old) sides.new.items) }
+    ensures ok { OnOk result (Passes D.history disk.old disk.new (2 * length sides.new.items)) }
+    ensures err { IfErr result (Tells D.history disk.old disk.new 12) }
+{
+    walk_sides(disk, slot, blocks, sides)?;
+    let mut sector = [0u8; 256];
+    for &side in sides.as_slice() {
+        match disk.read(side, &mut sector) {
+            Ok(()) => {}
+            Err(_) => return Err(Fault::Device(side)),
+        }
+        if !names_each(&sector, 4, sides.as_slice()) {
+            return Err(Fault::BadSide(side));
         }
     }
     Ok(())
