@@ -1,6 +1,7 @@
 -- Chains of sectors: bytes 0-1 of each sector name the next (1541 User's Guide, how files are stored).
-use Rattle.std.specs.Prelude.{◌≡◌, ℕ, ◌+◌, List, [], ◌∷◌, ◌++◌, slice_index, Contains}
+use Rattle.std.specs.Prelude.{◌≡◌, ℕ, ◌+◌, List, [], ◌∷◌, ◌++◌, slice_index, Contains, Option}
 use Rattle.d64_image.specs.Images.{Image, Sector, sector}
+use Rattle.d64_image.specs.Places.{place_at}
 use Rattle.d64_image.specs.declared.place.Place.{Place}
 
 -- byte i of the sector at p
@@ -10,6 +11,10 @@ byte img p i = slice_index (sector img p) i
 -- the bytes at i and i + 1 are the track and the sector of p
 abbrev pub Names : Sector → ℕ → Place → Type 0
 Names bytes i p = (slice_index bytes i ≡ p.track) × (slice_index bytes (i + 1) ≡ p.sector)
+
+-- the place that the two bytes at i name, where there is one
+abbrev pub named_at : Sector → ℕ → Option Place
+named_at bytes i = place_at (slice_index bytes i) (slice_index bytes (i + 1))
 
 -- the two bytes at i name no place of the disk
 abbrev pub NamesNone : Sector → ℕ → Type 0

@@ -1,9 +1,11 @@
+pub mod Blank
 pub mod Chain
 pub mod Clean
 pub mod Directory
 pub mod Entries
 pub mod Fault
 pub mod Layout
+pub mod Listing
 pub mod Map
 pub mod Number
 pub mod Records
@@ -11,4 +13,5 @@ pub mod Rest
 pub mod Room
 pub mod Same
 pub mod Side
+pub mod View
 pub mod Visited
