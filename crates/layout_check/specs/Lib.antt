@@ -1,4 +1,5 @@
 pub mod Calls
 pub mod Entry
+pub mod Found
 pub mod Owners
 pub mod Sides

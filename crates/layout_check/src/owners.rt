@@ -2,6 +2,7 @@
 ghost use Rattle.std.specs.Prelude.{◌≡◌, length};
 
 use d64_image::Place;
+use disk_layout::Fault;
 
 /// The number of a sector that nobody owns.
 const NOBODY: u8 = 255;
@@ -15,9 +16,9 @@ pub struct Owners {
 }
 
 impl Owners {
-    ghost use Rattle.std.specs.Prelude.{◌≢◌, ◌<◌, Contains, MatchOption};
+    ghost use Rattle.std.specs.Prelude.{◌≢◌, ◌<◌, Contains, IfErr, OnOk};
     ghost use Rattle.disk_layout.specs.Chain.{EachOnce};
-    ghost use Rattle.layout_check.specs.Owners.{IsClaimed, owner_of};
+    ghost use Rattle.layout_check.specs.Owners.{IsClaimed, IsOwned, owner_of};
 
     /// Nobody owns a sector.
     pub fn new() -> Owners
@@ -41,18 +42,20 @@ impl Owners {
         self.numbers[place.index()] = number;
     }
 
-    /// Gives all these sectors, which differ from each other, to one owner; or tells one of them that is owned already.
-    pub fn claim(&mut self, number: u8, places: &[Place]) -> Option<Place>
+    /// Gives all these sectors, which differ from each other, to one owner; or tells `OwnedTwice` at one of them that is
+    /// owned already. What the table has then is open.
+    pub fn claim(&mut self, number: u8, places: &[Place]) -> Result<(), Fault>
         requires some { number < 255 }
         requires once { EachOnce places.now }
-        ensures claimed { MatchOption result (IsClaimed self.old self.new number places.now) (λ p. Contains places.now p × (owner_of self.old p ≢ 255)) }
+        ensures ok { OnOk result (IsClaimed self.old self.new number places.now) }
+        ensures err { IfErr result (IsOwned self.old places.now) }
     {
         for &place in places {
             if self.owner(place) != NOBODY {
-                return Some(place);
+                return Err(Fault::OwnedTwice(place));
             }
             self.set(place, number);
         }
-        None
+        Ok(())
     }
 }
