@@ -3,5 +3,6 @@
 
 mod blocks;
 mod entry;
+mod files;
 mod owners;
 mod sides;
