@@ -92,3 +92,24 @@ module _ {D : Type 0} (S : History D) where
         owned = λ z. owned ((claimed p).1 d ∙ z);
         has = inr (owns-side (S.image a) s blocks sides p e walk c);
       })
+
+  -- the entry, as the survey of its side sectors wants it
+  pub rel-entry : (a b : D) (s : Slot) (blocks items : List Place) (k last : ℕ) → IsClosed (S.image a) s.sector s → IsTrue (is_rel s) → HasBlocks (S.image a) s blocks last → Passes S a b k → items ≡ blocks → IsRelEntry (S.image b) s items
+  rel-entry a b s blocks items k last closed rel chain passes same =
+      let P : Image → Type 0 = λ img. IsRelEntry img s items in
+      let Q : List Place → Type 0 = λ xs. IsRelEntry (S.image a) s xs in
+      subst P (sym passes.reads.image) (subst Q (sym same) (record { closed = closed; rel = rel; last = last; chain = chain }))
+
+  -- what was found of a relative entry by two calls, one after the other
+  pub rel-walked : (a b : D) (s : Slot) (blocks items sides : List Place) (k : ℕ) → Passes S a b k → items ≡ blocks → IsWalkOfSides (S.image b) s items sides → IsWalkOfSides (S.image a) s blocks sides
+  rel-walked a b s blocks items sides k passes same walk =
+      let P : Image → Type 0 = λ img. IsWalkOfSides img s blocks sides in
+      let Q : List Place → Type 0 = λ xs. IsWalkOfSides (S.image b) s xs sides in
+      subst P passes.reads.image (subst Q same walk)
+
+  pub rel-listed : (a b : D) (sides : List Place) (k : ℕ) → Passes S a b k → ListsEach (S.image b) sides → ListsEach (S.image a) sides
+  rel-listed a b sides k passes lists = let P : Image → Type 0 = λ img. ListsEach img sides in subst P passes.reads.image lists
+
+  -- 720 blocks and six side sectors
+  pub rel-few : (img : Image) (s : Slot) (blocks items sides : List Place) → IsWalkOfSides img s items sides → items ≡ blocks → length items ≤ 720 → length blocks + 2 * length sides ≤ 732
+  rel-few img s blocks items sides walk same few = omega (arith, walk.count, ap length same)
