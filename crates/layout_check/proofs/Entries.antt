@@ -1,18 +1,21 @@
 -- What the bytes of an entry name, and what they show.
-use Rattle.std.proofs.Common.{ℕ, ◌<◌, ◌≤◌, ◌≡◌, ◌≢◌, List, slice_index, sym, ◌∙◌, arith, inl, inr, refl}
+use Rattle.std.proofs.Common.{ℕ, ◌<◌, ◌≤◌, ◌≡◌, ◌≢◌, List, slice_index, sym, ◌∙◌, arith, Err, refl}
 use Rattle.std.specs.Prelude.{MatchOption}
 use Rattle.std.proofs.Math.Decide.{dec_lt}
 use Rattle.d64_image.proofs.Places.{place_at-found, place_at-none, place_at-some}
+use Rattle.d64_image.proofs.Moments.{no_reads, reads_weaker}
+use Rattle.d64_image.specs.History.{Failed, History}
 use Rattle.d64_image.specs.Geometry.{sectors_on}
 use Rattle.d64_image.specs.Images.{Image}
 use Rattle.d64_image.specs.Places.{place_at}
 use Rattle.d64_image.specs.declared.place.Place.{Place}
 use Rattle.disk_layout.specs.Chain.{Names, NamesNone}
 use Rattle.disk_layout.specs.Directory.{type_byte}
-use Rattle.disk_layout.specs.Fault.{Holds, IsClosed}
+use Rattle.disk_layout.specs.Fault.{Holds, IsClosed, TellsFault}
 use Rattle.disk_layout.specs.declared.faults.Fault.{Fault}
 use Rattle.disk_layout.specs.declared.faults.Fault.TheVariants.{BadLength, BadLink, BadSide, BadType, CountWrong, Device, Loop, MapWrong, OwnedTwice, Unclosed}
 use Rattle.disk_layout.specs.declared.slot.Slot.{Slot}
+use Rattle.layout_check.specs.Calls.{Tells}
 use Rattle.layout_check.specs.Entry.{IsEntry, IsShown}
 
 -- the place that two bytes name, or that they name none
@@ -37,3 +40,23 @@ shown-holds failed img s (BadSide p) e h = absurd h
 shown-holds failed img s (CountWrong p) e h = absurd h
 shown-holds failed img s (MapWrong p) e h = absurd h
 shown-holds failed img s (Device p) e h = absurd h
+
+module _ {D : Type 0} (S : History D) where
+  shown-tells_alone : (d : D) (s : Slot) (f : Fault) → IsShown s f → TellsFault {T = ℕ} S d d (Err f)
+  shown-tells_alone d s (BadType p) h = refl
+  shown-tells_alone d s (Unclosed p) h = refl
+  shown-tells_alone d s (BadLength p) h = refl
+  shown-tells_alone d s (BadLink p) h = refl
+  shown-tells_alone d s (Loop p) h = refl
+  shown-tells_alone d s (OwnedTwice p) h = refl
+  shown-tells_alone d s (BadSide p) h = refl
+  shown-tells_alone d s (CountWrong p) h = refl
+  shown-tells_alone d s (MapWrong p) h = refl
+  shown-tells_alone d s (Device p) h = absurd h
+
+  pub shown-tells : (d : D) (n : ℕ) (s : Slot) (f : Fault) → IsEntry (S.image d) s → IsShown s f → Tells S d d n f
+  shown-tells d n s f e h = record {
+    reads = reads_weaker S d d 0 n (omega arith) (no_reads S d);
+    failures = shown-tells_alone d s f h;
+    holds = shown-holds (Failed S d d) (S.image d) s f e h;
+  }
