@@ -3,3 +3,4 @@ pub mod Entry
 pub mod Found
 pub mod Owners
 pub mod Sides
+pub mod Survey

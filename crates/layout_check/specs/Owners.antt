@@ -1,7 +1,8 @@
 -- Who owns each sector, as far as a survey has come. Our own.
-use Rattle.std.specs.Prelude.{◌≡◌, ◌≢◌, ℕ, List, Contains, slice_index}
+use Rattle.std.specs.Prelude.{◌≡◌, ◌≢◌, ℕ, List, ◌∷◌, Contains, slice_index}
 use Rattle.d64_image.specs.Places.{index_of}
 use Rattle.d64_image.specs.declared.place.Place.{Place}
+use Rattle.disk_layout.specs.Directory.{map_place}
 use Rattle.disk_layout.specs.declared.faults.Fault.{Fault}
 use Rattle.disk_layout.specs.declared.faults.Fault.TheVariants.{OwnedTwice}
 use Rattle.layout_check.specs.declared.owners.Owners.{Owners}
@@ -17,3 +18,7 @@ IsClaimed old new n ps = (p : Place) → (Contains ps p → (owner_of old p ≡ 
 -- the fault is told at one of these places, which has an owner in the table
 abbrev pub IsOwned : Owners → List Place → Fault → Type 0
 IsOwned t ps fault = (p : Place) × (fault ≡ OwnedTwice p) × Contains ps p × (owner_of t p ≢ 255)
+
+-- the map and these sectors have the number 254, and no other sector has an owner
+abbrev pub IsSystem : Owners → List Place → Type 0
+IsSystem t dir = (p : Place) → (Contains (map_place ∷ dir) p → owner_of t p ≡ 254) × (¬ (Contains (map_place ∷ dir) p) → owner_of t p ≡ 255)

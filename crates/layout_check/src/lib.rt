@@ -4,5 +4,8 @@
 mod blocks;
 mod entry;
 mod files;
+mod outcome;
 mod owners;
 mod sides;
+
+pub use outcome::Survey;

@@ -2,10 +2,13 @@
 ghost use Rattle.std.specs.Prelude.{◌≡◌, length};
 
 use d64_image::Place;
-use disk_layout::Fault;
+use disk_layout::{Fault, map_place};
 
 /// The number of a sector that nobody owns.
-const NOBODY: u8 = 255;
+pub const NOBODY: u8 = 255;
+
+/// The number of the map and the directory.
+const SYSTEM: u8 = 254;
 
 /// The owner of each sector, as a number: 255 for nobody, 254 for the map and the directory, and for an entry its
 /// place among the used entries, from 0. Asking takes the same time for each sector, however much is owned.
@@ -18,13 +21,25 @@ pub struct Owners {
 impl Owners {
     ghost use Rattle.std.specs.Prelude.{◌≢◌, ◌<◌, Contains, IfErr, OnOk};
     ghost use Rattle.disk_layout.specs.Chain.{EachOnce};
-    ghost use Rattle.layout_check.specs.Owners.{IsClaimed, IsOwned, owner_of};
+    ghost use Rattle.layout_check.specs.Owners.{IsClaimed, IsOwned, IsSystem, owner_of};
 
     /// Nobody owns a sector.
-    pub fn new() -> Owners
+    fn new() -> Owners
         ensures { (p : Place) → owner_of result p ≡ 255 }
     {
         Owners { numbers: [NOBODY; 683] }
+    }
+
+    /// The map and the directory, which has these sectors, own theirs; nobody owns another.
+    pub fn of_directory(directory: &[Place]) -> Owners
+        ensures { IsSystem result directory.now }
+    {
+        let mut owners = Owners::new();
+        owners.set(map_place(), SYSTEM);
+        for &place in directory {
+            owners.set(place, SYSTEM);
+        }
+        owners
     }
 
     /// The number of the sector's owner.
