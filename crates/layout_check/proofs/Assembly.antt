@@ -45,7 +45,7 @@ pub contains-get : {X : Type 0} (xs : List X) (x : X) → Contains xs x → (k :
 contains-get xs x (k, lt, e) = (k, slice_get-get_or xs k x lt ∙ ap Some e)
 
 -- where each element has its number, no two are equal
-numbered-once : {X : Type 0} (f : X → ℕ) (n : ℕ) (xs : List X) → ((k : ℕ) (x : X) → slice_get xs k ≡ Some x → f x ≡ n + k) → EachOnce xs
+pub numbered-once : {X : Type 0} (f : X → ℕ) (n : ℕ) (xs : List X) → ((k : ℕ) (x : X) → slice_get xs k ≡ Some x → f x ≡ n + k) → EachOnce xs
 numbered-once f n [] h = tt
 numbered-once f n (x ∷ xs) h = (
   λ c. let (k, e) = contains-get xs x c in omega (arith, h 0 x refl, h (suc k) x e),

@@ -1,8 +1,11 @@
 pub mod Assembly
 pub mod Calls
 pub mod Claims
+pub mod Clashes
 pub mod Entries
 pub mod Finding
+pub mod Listed
 pub mod Pointers
+pub mod Roots
 pub mod SideWalks
 pub mod Walked

@@ -7,5 +7,6 @@ mod files;
 mod outcome;
 mod owners;
 mod sides;
+mod surveying;
 
 pub use outcome::Survey;
