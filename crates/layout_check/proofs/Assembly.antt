@@ -1,17 +1,15 @@
 -- The file of an entry, from what was found of its blocks and side sectors.
-use Rattle.std.proofs.Common.{ℕ, zero, suc, ◌≡◌, ◌≢◌, ◌<◌, ◌≤◌, ◌+◌, ◌*◌, ◌⊎◌, Bool, true, false, IsTrue, List, [], ◌∷◌, ◌++◌, length, slice_index, sym, ◌∙◌, ap, refl, arith, subst, inl, inr, append_assoc}
+use Rattle.std.proofs.Common.{ℕ, zero, suc, ◌≡◌, ◌≢◌, ◌+◌, IsTrue, List, [], ◌∷◌, ◌++◌, slice_index, sym, ◌∙◌, ap, refl, arith, subst, inl, inr, append_assoc}
 use Rattle.std.specs.Prelude.{Contains, IsFalse, Some, slice_get}
 use Rattle.std.proofs.lemmas.Bool.{false≢true}
-use Rattle.std.proofs.lemmas.Option.{slice_get-get_or, slice_get_within}
-use Rattle.d64_image.specs.Images.{Image, sector}
+use Rattle.std.proofs.lemmas.Option.{slice_get-get_or}
+use Rattle.d64_image.specs.Images.{Image}
 use Rattle.d64_image.specs.declared.place.Place.{Place}
-use Rattle.disk_layout.proofs.Chains.{Names-one, cons_both}
-use Rattle.disk_layout.proofs.Layouts.{get-contains}
+use Rattle.disk_layout.proofs.Chains.{cons_both}
 use Rattle.disk_layout.proofs.Once.{Contains-cases, Contains-nil, EachOnce-left}
 use Rattle.disk_layout.specs.Chain.{EachOnce, IsChain, Leads, LinksTo, Names, Visits, byte}
-use Rattle.disk_layout.specs.Directory.{type_byte}
-use Rattle.disk_layout.specs.Fault.{IsBlock, IsClosed, Owns, blocks_of, sides_of}
-use Rattle.disk_layout.specs.Layout.{File, IsClosedType, IsFile, IsRelFile, is_rel}
+use Rattle.disk_layout.specs.Fault.{IsClosed, Owns, blocks_of, sides_of}
+use Rattle.disk_layout.specs.Layout.{IsFile, is_rel}
 use Rattle.disk_layout.specs.declared.slot.Slot.{Slot}
 use Rattle.layout_check.proofs.SideWalks.{walk-side}
 use Rattle.layout_check.specs.Entry.{HasBlocks, IsProper}

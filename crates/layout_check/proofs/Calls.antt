@@ -1,5 +1,5 @@
 -- How calls that read and judge go on from one to the next.
-use Rattle.std.proofs.Common.{ℕ, ◌≡◌, ◌≤◌, ◌+◌, Err, sym, ◌∙◌, subst, arith, IsOk, ◌↔◌}
+use Rattle.std.proofs.Common.{ℕ, ◌≡◌, ◌≤◌, ◌+◌, Err, ◌∙◌, subst, arith}
 use Rattle.d64_image.proofs.Moments.{reads_then, reads_weaker, no_reads, failed_later, never_failed}
 use Rattle.d64_image.specs.History.{Failed, History, NeverFailed, OnlyReads}
 use Rattle.d64_image.specs.Images.{Image}

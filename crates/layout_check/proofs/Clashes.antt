@@ -1,11 +1,10 @@
 -- A sector with two owners.
-use Rattle.std.proofs.Common.{ℕ, zero, suc, ◌≡◌, ◌≢◌, ◌<◌, ◌≤◌, ◌+◌, ◌⊎◌, Bool, true, false, IsTrue, List, [], ◌∷◌, ◌++◌, length, length-append, slice_index, sym, ◌∙◌, ap, refl, arith, subst, inl, inr}
+use Rattle.std.proofs.Common.{ℕ, zero, suc, ◌≡◌, ◌≢◌, ◌≤◌, ◌+◌, ◌⊎◌, Bool, true, false, IsTrue, List, [], ◌∷◌, ◌++◌, length, length-append, slice_index, sym, ◌∙◌, ap, refl, arith, inl, inr}
 use Rattle.std.specs.Prelude.{Contains, IsFalse, Some, flat_map, slice_get}
 use Rattle.std.specs.List.{AllByRecursion}
 use Rattle.std.proofs.lemmas.Bool.{cases_eq}
 use Rattle.std.proofs.lemmas.List.Elements.{Contains-append_cases}
 use Rattle.std.proofs.lemmas.Option.{slice_get_within}
-use Rattle.d64_image.specs.History.{History}
 use Rattle.d64_image.specs.Images.{Image}
 use Rattle.d64_image.specs.declared.place.Place.{Place}
 use Rattle.disk_layout.proofs.Chains.{Leads-push}
@@ -16,7 +15,6 @@ use Rattle.disk_layout.specs.Chain.{Leads}
 use Rattle.disk_layout.specs.Directory.{IsDirectory, map_place, type_byte}
 use Rattle.disk_layout.specs.Fault.{Holds, IsClosed, IsSideSector, Owner, Owns, blocks_of, map_itself, sides_of, the_directory}
 use Rattle.disk_layout.specs.Layout.{File, HasChain, IsClosedType, IsFile, IsRelFile, file_owns, is_rel}
-use Rattle.disk_layout.specs.declared.faults.Fault.{Fault}
 use Rattle.disk_layout.specs.declared.faults.Fault.TheVariants.{OwnedTwice}
 use Rattle.disk_layout.specs.declared.slot.Slot.{Slot}
 use Rattle.layout_check.proofs.Assembly.{contains-get, owns-block}
@@ -101,7 +99,7 @@ other-owner img dir es fs s p d all slots c = elim (Contains-cases p map_place (
         let (f, there, own) = flat_map-out file_owns fs p of in
         let file = all-in (IsFile img) fs f all there in
         let (listed, ne) = slots f there in
-        let closed = record { slot = (entry-listed img dir es f.slot d listed).slot; closed = closed-high (type_byte f.slot) file.closed } in
+        let closed : IsClosed img f.slot.sector f.slot = record { slot = (entry-listed img dir es f.slot d listed).slot; closed = closed-high (type_byte f.slot) file.closed } in
         let others = other-entry s f.slot ne in
         elim (file-owner img f p closed file own) [ inl o ↦ (blocks_of f.slot, o, others.0) | inr o ↦ (sides_of f.slot, o, others.1) ]
   ]

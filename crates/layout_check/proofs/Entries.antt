@@ -1,5 +1,5 @@
 -- What the bytes of an entry name, and what they show.
-use Rattle.std.proofs.Common.{ℕ, ◌<◌, ◌≤◌, ◌≡◌, ◌≢◌, List, slice_index, sym, ◌∙◌, arith, Err, refl}
+use Rattle.std.proofs.Common.{ℕ, ◌≤◌, ◌≡◌, sym, arith, Err, refl}
 use Rattle.std.specs.Prelude.{MatchOption}
 use Rattle.std.proofs.Math.Decide.{dec_lt}
 use Rattle.d64_image.proofs.Places.{place_at-found, place_at-none, place_at-some}
@@ -9,7 +9,6 @@ use Rattle.d64_image.specs.Geometry.{sectors_on}
 use Rattle.d64_image.specs.Images.{Image}
 use Rattle.d64_image.specs.Places.{place_at}
 use Rattle.d64_image.specs.declared.place.Place.{Place}
-use Rattle.disk_layout.specs.Chain.{Names, NamesNone}
 use Rattle.disk_layout.specs.Directory.{type_byte}
 use Rattle.disk_layout.specs.Fault.{Holds, IsClosed, TellsFault}
 use Rattle.disk_layout.specs.declared.faults.Fault.{Fault}

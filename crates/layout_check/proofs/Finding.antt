@@ -1,22 +1,22 @@
 -- The survey of one entry: its file, or the fault.
-use Rattle.std.proofs.Common.{ℕ, ◌≡◌, ◌≢◌, ◌<◌, ◌≤◌, ◌+◌, ◌*◌, ◌⊎◌, IsTrue, List, [], ◌∷◌, ◌++◌, length, length-append, slice_index, sym, ◌∙◌, ap, refl, arith, subst, inl, inr, Result, Ok, Err}
+use Rattle.std.proofs.Common.{ℕ, ◌≡◌, ◌≢◌, ◌≤◌, ◌+◌, ◌*◌, ◌⊎◌, IsTrue, List, [], ◌∷◌, ◌++◌, length, length-append, slice_index, sym, ◌∙◌, ap, refl, arith, subst, inl, inr, Result, Ok, Err}
 use Rattle.std.specs.Prelude.{Contains, IfErr, IsFalse, OnOk}
 use Rattle.d64_image.proofs.Places.{same_or_other}
-use Rattle.d64_image.specs.History.{Failed, History}
+use Rattle.d64_image.specs.History.{History}
 use Rattle.d64_image.specs.Images.{Image}
 use Rattle.d64_image.specs.declared.place.Place.{Place}
 use Rattle.disk_layout.proofs.Once.{Contains-cases, Contains-here, Contains-nil, Contains-there}
-use Rattle.disk_layout.specs.Fault.{Holds, IsClosed, Owner, blocks_of, sides_of}
+use Rattle.disk_layout.specs.Fault.{IsClosed, blocks_of, sides_of}
 use Rattle.disk_layout.specs.Layout.{is_rel}
 use Rattle.disk_layout.specs.declared.faults.Fault.{Fault}
 use Rattle.disk_layout.specs.declared.faults.Fault.TheVariants.{OwnedTwice}
 use Rattle.disk_layout.specs.declared.slot.Slot.{Slot}
 use Rattle.layout_check.proofs.Assembly.{empty-file, owns-block, owns-side, plain-file, rel-file, sides-once}
-use Rattle.layout_check.proofs.Calls.{passes_then, passes_weaker, tells_weaker, twice_tells}
+use Rattle.layout_check.proofs.Calls.{passes_weaker, twice_tells}
 use Rattle.layout_check.specs.Calls.{Passes, Tells}
 use Rattle.layout_check.specs.Entry.{HasBlocks, IsProper}
-use Rattle.layout_check.specs.Found.{Finds, IsClash, IsFound, TellsOrClashes}
-use Rattle.layout_check.specs.Owners.{IsClaimed, IsOwned, owner_of}
+use Rattle.layout_check.specs.Found.{Finds, TellsOrClashes}
+use Rattle.layout_check.specs.Owners.{IsClaimed, IsOwned}
 use Rattle.layout_check.specs.Sides.{IsRelEntry, IsWalkOfSides, ListsEach}
 use Rattle.layout_check.specs.declared.owners.Owners.{Owners}
 

@@ -6,6 +6,7 @@ pub mod Entries
 pub mod Finding
 pub mod Listed
 pub mod Pointers
+pub mod Progress
 pub mod Roots
 pub mod SideWalks
 pub mod Walked

@@ -1,13 +1,11 @@
 -- Lists of places in the bytes of side sectors.
-use Rattle.std.proofs.Common.{ℕ, zero, suc, ◌≡◌, ◌<◌, ◌≤◌, ◌+◌, ◌-◌, ◌*◌, List, [], ◌∷◌, length, get_or, take, drop, min, sym, ◌∙◌, ap, refl, arith, subst, slice_index, inl, inr, ◌≢◌, ◌⊎◌}
-use Rattle.std.specs.Prelude.{Some, slice_get, slice_range, IsTrue, IsFalse}
+use Rattle.std.proofs.Common.{ℕ, zero, suc, ◌≡◌, ◌<◌, ◌≤◌, ◌+◌, ◌-◌, ◌*◌, List, [], ◌∷◌, length, get_or, take, drop, min, sym, ◌∙◌, ap, refl, arith, inl, inr, ◌⊎◌}
+use Rattle.std.specs.Prelude.{Some, slice_get, slice_range}
 use Rattle.std.proofs.lemmas.Option.{slice_get_read, slice_get_within}
 use Rattle.std.proofs.Math.Decide.{dec_lt}
 use Rattle.d64_image.specs.declared.place.Place.{Place}
 use Rattle.disk_layout.specs.Chain.{Names}
-use Rattle.disk_layout.specs.Layout.{record_length}
-use Rattle.disk_layout.specs.declared.slot.Slot.{Slot}
-use Rattle.layout_check.specs.Sides.{IsJudged, IsMisjudged, IsMisnamed, IsMispointed, NamesEach}
+use Rattle.layout_check.specs.Sides.{IsMisnamed, IsMispointed, NamesEach}
 
 -- the element that is read is the one there
 pub read-there : {X : Type 0} (xs : List X) (n : ℕ) (x : X) → n < length xs → x ≡ get_or xs n x → slice_get xs n ≡ Some x

@@ -1,5 +1,5 @@
 -- What a walk along an entry's chain found.
-use Rattle.std.proofs.Common.{ℕ, ◌≡◌, ◌≢◌, ◌≤◌, ◌⊎◌, Err, IsTrue, List, Ok, Result, arith, inl, inr, refl, slice_index, length}
+use Rattle.std.proofs.Common.{ℕ, ◌≢◌, ◌≤◌, ◌⊎◌, Err, IsTrue, List, Ok, Result, arith, inl, inr, refl, slice_index}
 use Rattle.std.specs.Prelude.{IfErr, IfOk}
 use Rattle.d64_image.proofs.Moments.{no_reads, reads_weaker}
 use Rattle.d64_image.specs.History.{Failed, History, OnlyReads}
@@ -12,7 +12,7 @@ use Rattle.disk_layout.specs.declared.faults.Fault.{Fault}
 use Rattle.disk_layout.specs.declared.faults.Fault.TheVariants.{BadLength, BadLink, BadSide, BadType, CountWrong, Device, Loop, MapWrong, OwnedTwice, Unclosed}
 use Rattle.disk_layout.specs.declared.slot.Slot.{Slot}
 use Rattle.layout_check.proofs.Calls.{any_answer}
-use Rattle.layout_check.specs.Calls.{Passes, Tells}
+use Rattle.layout_check.specs.Calls.{Tells}
 use Rattle.layout_check.specs.Entry.{HasBlocks}
 
 -- what holds of the chain that a closed entry names, holds of the image

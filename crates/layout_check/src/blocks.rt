@@ -5,15 +5,18 @@ ghost use Rattle.disk_layout.specs.Layout.{is_rel};
 ghost use Rattle.layout_check.specs.Calls.{Passes, Tells};
 ghost use Rattle.layout_check.specs.Entry.{HasBlocks};
 
+use crate::entry::place_in;
 use arrayvec::ArrayVec;
 use d64_image::{Place, Sectors};
 use disk_layout::{Fault, Slot, walk_chain};
 
-use crate::entry::place_in;
-
 /// Follows the chain of a closed entry that names a first block, and fills `blocks` with its sectors in order. The answer
 /// is the index of the last used byte in the last one.
-pub fn survey_blocks<D: Sectors>(disk: &mut D, slot: &Slot, blocks: &mut ArrayVec<Place, 720>) -> Result<u8, Fault>
+pub fn survey_blocks<D: Sectors>(
+    disk: &mut D,
+    slot: &Slot,
+    blocks: &mut ArrayVec<Place, 720>,
+) -> Result<u8, Fault>
     requires closed { IsClosed (D.history.image disk.old) slot.now.sector slot.now }
     requires names { IsTrue (is_rel slot.now) ⊎ (slice_index slot.now.bytes 3 ≢ 0) }
     ensures blocks { IfOk result (HasBlocks (D.history.image disk.old) slot.now blocks.new.items) }

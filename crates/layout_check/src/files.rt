@@ -5,17 +5,22 @@ ghost use Rattle.disk_layout.specs.Layout.{is_rel};
 ghost use Rattle.layout_check.specs.Entry.{IsEntry, IsProper};
 ghost use Rattle.layout_check.specs.Found.{Finds, TellsOrClashes};
 
-use arrayvec::ArrayVec;
-use d64_image::{Place, Sectors};
-use disk_layout::{Fault, Slot};
-
 use crate::blocks::survey_blocks;
 use crate::entry::{is_relative, judge_entry};
 use crate::owners::Owners;
 use crate::sides::survey_sides;
+use arrayvec::ArrayVec;
+use d64_image::{Place, Sectors};
+use disk_layout::{Fault, Slot};
 
 /// The file of an entry that isn't relative and names a first block: its chain.
-fn survey_plain<D: Sectors>(disk: &mut D, slot: &Slot, number: u8, owners: &mut Owners, blocks: &mut ArrayVec<Place, 720>) -> Result<(), Fault>
+fn survey_plain<D: Sectors>(
+    disk: &mut D,
+    slot: &Slot,
+    number: u8,
+    owners: &mut Owners,
+    blocks: &mut ArrayVec<Place, 720>,
+) -> Result<(), Fault>
     requires closed { IsClosed (D.history.image disk.old) slot.now.sector slot.now }
     requires proper { IsProper slot.now }
     requires plain { IsFalse (is_rel slot.now) }
@@ -29,7 +34,13 @@ fn survey_plain<D: Sectors>(disk: &mut D, slot: &Slot, number: u8, owners: &mut 
 }
 
 /// The file of a relative entry: its chain, and its side sectors.
-fn survey_relative<D: Sectors>(disk: &mut D, slot: &Slot, number: u8, owners: &mut Owners, blocks: &mut ArrayVec<Place, 720>) -> Result<(), Fault>
+fn survey_relative<D: Sectors>(
+    disk: &mut D,
+    slot: &Slot,
+    number: u8,
+    owners: &mut Owners,
+    blocks: &mut ArrayVec<Place, 720>,
+) -> Result<(), Fault>
     requires closed { IsClosed (D.history.image disk.old) slot.now.sector slot.now }
     requires proper { IsProper slot.now }
     requires rel { IsTrue (is_rel slot.now) }
@@ -49,7 +60,13 @@ fn survey_relative<D: Sectors>(disk: &mut D, slot: &Slot, number: u8, owners: &m
 ///
 /// Told is what is wrong with the slot, its chain or its side sectors; or `OwnedTwice` at a sector that is claimed
 /// already.
-pub fn survey_entry<D: Sectors>(disk: &mut D, slot: &Slot, number: u8, owners: &mut Owners, blocks: &mut ArrayVec<Place, 720>) -> Result<(), Fault>
+pub fn survey_entry<D: Sectors>(
+    disk: &mut D,
+    slot: &Slot,
+    number: u8,
+    owners: &mut Owners,
+    blocks: &mut ArrayVec<Place, 720>,
+) -> Result<(), Fault>
     requires entry { IsEntry (D.history.image disk.old) slot.now }
     requires some { number < 255 }
     ensures ok { OnOk result (Finds D.history disk.old disk.new slot.now number owners.old owners.new) }

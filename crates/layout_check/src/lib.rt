@@ -10,3 +10,4 @@ mod sides;
 mod surveying;
 
 pub use outcome::Survey;
+pub use surveying::survey;

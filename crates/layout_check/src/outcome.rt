@@ -1,7 +1,6 @@
 //! What a survey of a disk found: who owns which sector, and how many entries there are.
-use d64_image::Place;
-
 use crate::owners::{NOBODY, Owners};
+use d64_image::Place;
 
 /// What a sound disk has: the owner of each sector, and the number of entries. It is of the disk as it was surveyed.
 #[derive(Drop)]

@@ -27,7 +27,9 @@ impl Owners {
     fn new() -> Owners
         ensures { (p : Place) → owner_of result p ≡ 255 }
     {
-        Owners { numbers: [NOBODY; 683] }
+        Owners {
+            numbers: [NOBODY; 683],
+        }
     }
 
     /// The map and the directory, which has these sectors, own theirs; nobody owns another.

@@ -5,11 +5,10 @@ ghost use Rattle.disk_layout.specs.Layout.{sides_for};
 ghost use Rattle.layout_check.specs.Calls.{Passes, Tells};
 ghost use Rattle.layout_check.specs.Sides.{IsJudged, IsMisjudged, IsMisnamed, IsRelEntry, IsWalkOfSides, ListsEach, NamesEach};
 
+use crate::entry::place_in;
 use arrayvec::ArrayVec;
 use d64_image::{Place, Sectors};
 use disk_layout::{Fault, Slot};
-
-use crate::entry::place_in;
 
 /// How many data blocks a side sector points to.
 const POINTERS: usize = 120;
@@ -56,7 +55,12 @@ fn link_of(sector: &[u8; 256]) -> Option<Place>
 ///
 /// Told are `BadSide` at the entry's directory sector, where the entry names no first side sector, or at a side sector
 /// that isn't right or links to no place, and `Device`.
-fn walk_sides<D: Sectors>(disk: &mut D, slot: &Slot, blocks: &[Place], sides: &mut ArrayVec<Place, 6>) -> Result<(), Fault>
+fn walk_sides<D: Sectors>(
+    disk: &mut D,
+    slot: &Slot,
+    blocks: &[Place],
+    sides: &mut ArrayVec<Place, 6>,
+) -> Result<(), Fault>
     requires entry { IsRelEntry (D.history.image disk.old) slot.now blocks.now }
     requires few { length blocks.now ≤ 720 }
     ensures sides { OnOk result (IsWalkOfSides (D.history.image disk.old) slot.now blocks.now sides.new.items) }
@@ -92,7 +96,12 @@ fn walk_sides<D: Sectors>(disk: &mut D, slot: &Slot, blocks: &[Place], sides: &m
 
 /// Finds the side sectors of a closed relative entry with these blocks, as `walk_sides` does, and judges beside that each
 /// of them lists the places of all. Each is read twice at most.
-pub fn survey_sides<D: Sectors>(disk: &mut D, slot: &Slot, blocks: &[Place], sides: &mut ArrayVec<Place, 6>) -> Result<(), Fault>
+pub fn survey_sides<D: Sectors>(
+    disk: &mut D,
+    slot: &Slot,
+    blocks: &[Place],
+    sides: &mut ArrayVec<Place, 6>,
+) -> Result<(), Fault>
     requires entry { IsRelEntry (D.history.image disk.old) slot.now blocks.now }
     requires few { length blocks.now ≤ 720 }
     ensures sides { OnOk result (IsWalkOfSides (D.history.image disk.old) slot.now blocks.now sides.new.items) }

@@ -1,5 +1,5 @@
 -- The chain, and the claim of its blocks.
-use Rattle.std.proofs.Common.{ap, arith, inl, sym, ◌∙◌, length}
+use Rattle.std.proofs.Common.{ap, arith, inl, length}
 use Rattle.std.proofs.lemmas.Result.{err_from_is_err_and}
 use Rattle.layout_check.proofs.Calls.{tells_weaker}
 use Rattle.layout_check.proofs.Finding.{block-clash, if_err, on_ok, plain-finds}

@@ -1,5 +1,5 @@
 -- The chain, the side sectors, and the claims of both.
-use Rattle.std.proofs.Common.{ap, arith, inl, ◌∙◌, length, ◌+◌, ◌*◌, ◌≤◌, ◌≡◌}
+use Rattle.std.proofs.Common.{ap, arith, inl, length, ◌+◌, ◌*◌}
 use Rattle.std.proofs.lemmas.Result.{err_from_is_err_and}
 use Rattle.layout_check.proofs.Assembly.{sides-once}
 use Rattle.layout_check.proofs.Calls.{passes_then, tells_then, tells_weaker}

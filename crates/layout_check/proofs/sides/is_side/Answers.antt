@@ -1,5 +1,5 @@
 -- The pointers are a part of the blocks.
-use Rattle.std.proofs.Common.{arith, inl, inr}
+use Rattle.std.proofs.Common.{arith, inr}
 use Rattle.layout_check.proofs.Pointers.{end-far, pointers-right, pointers-wrong}
 use Rattle.layout_check.proofs.sides.is_side.Goals as goal
 

@@ -1,5 +1,5 @@
 -- The walk along the links, and then each list.
-use Rattle.std.proofs.Common.{ap, arith, sym, ◌∙◌, ◌≡◌, ◌<◌, ◌≤◌, ◌+◌, ◌*◌, List, length, subst}
+use Rattle.std.proofs.Common.{ap, arith, ◌∙◌, ◌≡◌, List, length, subst}
 use Rattle.std.specs.Prelude.{Some, slice_get}
 use borrow.Author.Count.{below_more}
 use Rattle.std.proofs.lemmas.Option.{slice_get_within}
@@ -7,7 +7,6 @@ use Rattle.std.proofs.lemmas.Result.{err_from_is_err_and}
 use Rattle.d64_image.specs.Images.{Image, sector}
 use Rattle.d64_image.specs.declared.place.Place.{Place}
 use Rattle.layout_check.proofs.Calls.{device_tells, passes_read, passes_then, passes_weaker, side_tells, tells_then, tells_weaker}
-use Rattle.layout_check.proofs.Pointers.{read-there}
 use Rattle.layout_check.proofs.SideWalks.{few-sides, listed-here, unlisted-holds, unlisted-part}
 use Rattle.layout_check.specs.Sides.{NamesEach}
 use Rattle.layout_check.proofs.sides.survey_sides.Goals as goal

@@ -1,11 +1,10 @@
 -- Along the links from the first side sector on.
-use Rattle.std.proofs.Common.{ap, arith, lit<, sym, ◌∙◌, ◌≡◌, ◌<◌, ◌≤◌, length, refl, ◌+◌}
+use Rattle.std.proofs.Common.{ap, arith, lit<, ◌∙◌, ◌<◌, length, refl, ◌+◌}
 use Rattle.d64_image.specs.Images.{Image, sector}
 use Rattle.disk_layout.proofs.Chains.{Leads-push}
 use Rattle.disk_layout.specs.Layout.{sides_for}
-use Rattle.layout_check.proofs.Calls.{device_tells, passes_none, passes_read, passes_then, passes_weaker, side_tells, tells_then, tells_weaker}
-use Rattle.layout_check.proofs.SideWalks.{bad-holds, each-push, judged-at, linked-at, misjudged-bad, needed-sides, no_first_side, none-there, side-reached, some-blocks, unlinked-bad, walk-done}
-use Rattle.layout_check.specs.Calls.{Passes}
+use Rattle.layout_check.proofs.Calls.{device_tells, passes_none, passes_read, passes_then, passes_weaker, side_tells, tells_then}
+use Rattle.layout_check.proofs.SideWalks.{bad-holds, each-push, judged-at, linked-at, misjudged-bad, no_first_side, none-there, side-reached, some-blocks, unlinked-bad, walk-done}
 use Rattle.layout_check.proofs.sides.walk_sides.Goals as goal
 
 pub returns-in_default-clause-err : goal.returns-in_default-clause-err

@@ -13,5 +13,5 @@ invariant-loop-number g l = record {
   below : l.number < l.needed;
   leads : Leads (g.D.Sectors.history.image l.fn.disk) l.initial.at l.sides.items l.at;
   count : length l.sides.items ≡ l.number;
-  judged : (j : ℕ) (q : Place) → slice_get l.sides.items j ≡ Some q → IsJudged (sector (g.D.Sectors.history.image l.fn.disk) q) l.slot l.blocks j
+  judged : (j : ℕ) (q : Place) → slice_get l.sides.items j ≡ Some q → IsJudged (sector (g.D.Sectors.history.image l.fn.disk) q) l.slot l.blocks j;
 }

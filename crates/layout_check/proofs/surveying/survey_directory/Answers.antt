@@ -1,7 +1,6 @@
 -- The entries, and then the sectors along the same chain.
 use Rattle.std.proofs.Common.{ℕ, arith}
 use Rattle.std.proofs.lemmas.Result.{err_from_is_err_and}
-use Rattle.layout_check.proofs.Calls.{passes_then}
 use Rattle.layout_check.proofs.Roots.{again-tells, directory-passes, directory-tells, directory-walked}
 use Rattle.layout_check.proofs.surveying.survey_directory.Goals as goal
 

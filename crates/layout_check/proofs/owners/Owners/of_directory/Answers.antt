@@ -1,6 +1,5 @@
 -- The map's sector, and then the directory's one by one.
-use Rattle.std.proofs.Common.{ap, sym, ◌∙◌}
-use Rattle.layout_check.proofs.Claims.{system-all, system-map, system-step}
+use Rattle.layout_check.proofs.Claims.{system-all, system-step}
 use Rattle.layout_check.proofs.owners.Owners.of_directory.Goals as goal
 
 pub loop-place-preserved : goal.loop-place-preserved
