@@ -1,3 +1,5 @@
+pub mod Chunks
+pub mod Fused
 pub mod Images
 pub mod Moments
 pub mod Places

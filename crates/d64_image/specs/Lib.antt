@@ -1,4 +1,8 @@
+pub mod Faults
+pub mod Fuses
 pub mod Geometry
 pub mod History
 pub mod Images
+pub mod Memory
+pub mod Meters
 pub mod Places

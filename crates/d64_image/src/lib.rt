@@ -1,10 +1,19 @@
 //! The sectors of a 1541 disk of 35 tracks: places, images, and the devices through which they are read and written.
 #![tactic(auto)]
 
+mod count;
 mod faults;
+mod fuse;
+mod mem_disk;
+mod meter;
 mod place;
 mod sectors;
+#[cfg(test)]
+mod tests;
 
-pub use faults::DeviceFault;
+pub use faults::{DeviceFault, ImageFault};
+pub use fuse::Fuse;
+pub use mem_disk::MemDisk;
+pub use meter::Meter;
 pub use place::Place;
 pub use sectors::Sectors;

@@ -1,5 +1,6 @@
 pub mod Agree
 pub mod Bits
+pub mod Blanks
 pub mod Chains
 pub mod Commit
 pub mod Count
@@ -9,6 +10,7 @@ pub mod Exact
 pub mod Examples
 pub mod Faces
 pub mod Fillers
+pub mod Freeing
 pub mod GrowthRecords
 pub mod Joined
 pub mod Layouts
@@ -20,11 +22,16 @@ pub mod NewSide
 pub mod Once
 pub mod Picking
 pub mod Pieces
+pub mod RecordWrites
 pub mod Recount
+pub mod Refills
+pub mod Runs
 pub mod SideWrites
 pub mod Slots
 pub mod Sums
 pub mod Twice
+pub mod Unclean
+pub mod Uniques
 pub mod Unsound
 pub mod Walks
 pub mod Writes

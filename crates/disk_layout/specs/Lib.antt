@@ -4,6 +4,8 @@ pub mod Clean
 pub mod Directory
 pub mod Entries
 pub mod Fault
+pub mod Free
+pub mod Growth
 pub mod Layout
 pub mod Listing
 pub mod Map
@@ -15,3 +17,4 @@ pub mod Same
 pub mod Side
 pub mod View
 pub mod Visited
+pub mod Written

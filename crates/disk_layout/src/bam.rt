@@ -1,6 +1,7 @@
 //! The map of free sectors: which are free, which one is next, taking and giving back.
 ghost use Rattle.std.specs.Prelude.{◌≡◌, ◌≢◌, ◌↔◌, IsTrue, MatchOption, length};
 
+use crate::views::BamView;
 use d64_image::Place;
 
 /// The track of the map and the directory, on which no data block is placed.
@@ -8,7 +9,7 @@ const DIRECTORY_TRACK: u8 = 18;
 
 /// The 256 bytes of 18/0. Bytes 4 to 143 are the map: four for each track, its count of free sectors and a bit for
 /// each sector, 1 for free. The other bytes, the disk's name among them, no call changes.
-#[derive(Clone, Copy, Debug)]
+#[derive(Clone, Copy, Debug, PartialEq, Eq)]
 pub struct Bam {
     /// The bytes as the disk has them or is to have them.
     pub bytes: [u8; 256],
@@ -25,13 +26,18 @@ impl Bam {
         Bam { bytes }
     }
 
+    /// The same bytes as they are read: name, id and counts.
+    pub fn view(&self) -> BamView<'_>
+        ensures { result.bytes.now ≡ self.now.bytes }
+    {
+        BamView::new(&self.bytes)
+    }
+
     /// Whether the map calls the sector free.
     pub fn is_free(&self, place: Place) -> bool
         ensures { IsTrue result ↔ IsFree self.now.bytes place }
     {
-        let sector = place.sector();
-        let byte = self.bytes[4 * place.track() as usize + 1 + sector as usize / 8];
-        (byte >> (sector % 8)) & 1 == 1
+        self.view().is_free(place)
     }
 
     /// Takes a free sector: its bit becomes 0, and its track's count one less. Where it isn't free nothing changes.

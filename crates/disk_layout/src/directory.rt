@@ -9,11 +9,10 @@ ghost use Rattle.disk_layout.specs.Fault.{HoldsOfDirectory, TellsFault};
 ghost use Rattle.disk_layout.specs.Listing.{LinksOut};
 ghost use Rattle.d64_image.specs.declared.place.Place.{Place};
 
-use arrayvec::ArrayVec;
-use d64_image::{Place, Sectors};
-
 use crate::faults::Fault;
 use crate::slot::Slot;
+use arrayvec::ArrayVec;
+use d64_image::{Place, Sectors};
 
 /// The track of the map and of the directory.
 const DIRECTORY_TRACK: u8 = 18;
@@ -48,7 +47,11 @@ fn next_sector(bytes: &[u8; 256]) -> Option<Place>
     ensures { MatchOption result (LinksOut bytes.now) (λ next. Names bytes.now 0 next × IsDirectoryPlace next) }
 {
     let next = Place::new(bytes[0], bytes[1])?;
-    if is_directory_place(next) { Some(next) } else { None }
+    if is_directory_place(next) {
+        Some(next)
+    } else {
+        None
+    }
 }
 
 /// Whether the place is among these.
@@ -69,7 +72,11 @@ fn add_used(bytes: &[u8; 256], place: Place, slots: &mut ArrayVec<Slot, 144>)
         let mut slot = [0u8; 32];
         slot.copy_from_slice(&bytes[start..start + 32]);
         if slot[2] != 0 {
-            slots.push(Slot { sector: place, number, bytes: slot });
+            slots.push(Slot {
+                sector: place,
+                number,
+                bytes: slot,
+            });
         }
     }
 }
@@ -82,7 +89,10 @@ fn add_used(bytes: &[u8; 256], place: Place, slots: &mut ArrayVec<Slot, 144>)
 /// that the links come to a second time, and `Device` at a sector that the device failed to read.
 ///
 /// Track 18 has eighteen sectors for the directory, each is read once at most, and each has eight slots: so 144 suffice.
-pub fn read_directory<D: Sectors>(disk: &mut D, slots: &mut ArrayVec<Slot, 144>) -> Result<(), Fault>
+pub fn read_directory<D: Sectors>(
+    disk: &mut D,
+    slots: &mut ArrayVec<Slot, 144>,
+) -> Result<(), Fault>
     ensures ok { OnOk result ((ps : List Place) × IsDirectory (D.history.image disk.old) ps slots.new.items) }
     ensures err { IfErr result (HoldsOfDirectory (Failed D.history disk.old disk.new) (D.history.image disk.old)) }
     ensures failures { TellsFault D.history disk.old disk.new result }

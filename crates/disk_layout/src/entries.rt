@@ -21,7 +21,13 @@ pub fn padded_name(name: &[u8]) -> [u8; 16]
 
 /// Bytes 2 to 31 of the slot of a relative file that is closed: its name, its first data block, its first side sector,
 /// the length of its records, and how many data blocks and side sectors it has together.
-pub fn relative_entry(name: &[u8], first: Place, side: Place, record_length: u8, blocks: u16) -> [u8; 30]
+pub fn relative_entry(
+    name: &[u8],
+    first: Place,
+    side: Place,
+    record_length: u8,
+    blocks: u16,
+) -> [u8; 30]
     requires { length name.now ≤ 16 }
     ensures { result ≡ rel_entry name.now first side record_length blocks }
 {

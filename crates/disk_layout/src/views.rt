@@ -128,7 +128,9 @@ impl<'a> DirView<'a> {
     {
         let start = 32 * number as usize;
         let bytes = self.bytes;
-        EntryView { bytes: &bytes[start..start + 32] }
+        EntryView {
+            bytes: &bytes[start..start + 32],
+        }
     }
 }
 

@@ -1,0 +1,9 @@
+-- The numbers of faults. Our own.
+use Rattle.std.specs.Prelude.{ℕ}
+use Rattle.d64_image.specs.declared.faults.ImageFault.{ImageFault}
+use Rattle.d64_image.specs.declared.faults.ImageFault.TheVariants.{Size, NoMemory}
+
+-- the number under which a fault of an image is told
+abbrev pub number_of : ImageFault → ℕ
+number_of Size = 1
+number_of NoMemory = 2

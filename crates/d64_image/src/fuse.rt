@@ -1,0 +1,117 @@
+//! A disk whose power fails after a number of writes.
+ghost use Rattle.std.specs.Prelude.{◌≤◌};
+
+use crate::count::Count;
+use crate::faults::DeviceFault;
+use crate::place::Place;
+use crate::sectors::Sectors;
+
+/// Lets a number of writes pass to the disk beneath it, and fails each read and write from then on.
+#[derive(Drop)]
+pub struct Fuse<D> {
+    disk: D,
+    limit: u32,
+    passed: u32,
+    failed: Count,
+    ghost within: { passed ≤ limit },
+}
+
+impl<D: Sectors> Fuse<D> {
+    ghost use Rattle.std.specs.Prelude.{◌≡◌};
+    ghost use Rattle.d64_image.specs.Fuses.{fuse, fuse_disk, fuse_left, fuse_limit};
+
+    /// A fuse round a disk, which lets this many writes pass and then blows.
+    pub fn new(disk: D, limit: u32) -> Fuse<D>
+        ensures disk { fuse_disk result ≡ disk }
+        ensures limit { fuse_limit result ≡ limit }
+        ensures left { fuse_left result ≡ limit }
+        ensures failures { (fuse D.history).failures result ≡ 0 }
+    {
+        Fuse {
+            disk,
+            limit,
+            passed: 0,
+            failed: Count::zero(),
+        }
+    }
+
+    /// The disk beneath.
+    pub fn into_inner(self) -> D
+        ensures { result ≡ fuse_disk self }
+    {
+        let Fuse {
+            disk,
+            limit: _,
+            passed: _,
+            failed: _,
+        } = self;
+        disk
+    }
+}
+
+impl<D: Sectors> Sectors for Fuse<D> {
+    ghost use Rattle.std.specs.Prelude.{◌≡◌, ◌+◌, ◌<◌, OnOk, OnErr, IsErr};
+    ghost use Rattle.d64_image.specs.Images.{put, sector};
+    ghost use Rattle.d64_image.specs.History.{Failed, HeldOnly, OldOr, OnlyReads, TellsFailure};
+    ghost use Rattle.d64_image.specs.Fuses.{fuse, fuse_disk, fuse_left, fuse_limit};
+
+    ghost history = { fuse D.history };
+
+    /// Passes a read on where the fuse has not blown.
+    fn read(&mut self, place: Place, to: &mut [u8; 256]) -> Result<(), DeviceFault>
+        ensures sector { OnOk result (to.new ≡ sector ((fuse D.history).image self.old) place) }
+        ensures reads { OnlyReads (fuse D.history) self.old self.new 1 }
+        ensures failures { TellsFailure (fuse D.history) self.old self.new result }
+        // a blown fuse reads nothing
+        ensures spent { fuse_left self.old ≡ 0 → IsErr result × (fuse_disk self.new ≡ fuse_disk self.old) }
+        // else the disk beneath answers
+        ensures passes { 0 < fuse_left self.old → TellsFailure D.history (fuse_disk self.old) (fuse_disk self.new) result }
+        ensures kept { (fuse_left self.new ≡ fuse_left self.old) × (fuse_limit self.new ≡ fuse_limit self.old) }
+    {
+        if self.passed == self.limit {
+            self.failed.add_one();
+            return Err(DeviceFault);
+        }
+        match self.disk.read(place, to) {
+            Ok(()) => Ok(()),
+            Err(fault) => {
+                self.failed.add_one();
+                Err(fault)
+            }
+        }
+    }
+
+    /// Passes a write on where the fuse has not blown; a write that passed uses it up by one.
+    fn write(&mut self, place: Place, from: &[u8; 256]) -> Result<(), DeviceFault>
+        ensures ok { OnOk result ((fuse D.history).image self.new ≡ put ((fuse D.history).image self.old) place from.now) }
+        ensures err { OnErr result (OldOr ((fuse D.history).image self.old) (put ((fuse D.history).image self.old) place from.now) ((fuse D.history).image self.new)) }
+        ensures held { HeldOnly (fuse D.history) self.old self.new (OldOr ((fuse D.history).image self.old) (put ((fuse D.history).image self.old) place from.now)) }
+        ensures counted { OnOk result ((fuse D.history).writes self.new ≤ (fuse D.history).writes self.old + 1) }
+        ensures uncounted { OnErr result ((fuse D.history).writes self.new ≡ (fuse D.history).writes self.old) }
+        ensures reads { (fuse D.history).reads self.new ≡ (fuse D.history).reads self.old }
+        ensures failures { TellsFailure (fuse D.history) self.old self.new result }
+        // a blown fuse writes nothing
+        ensures spent { fuse_left self.old ≡ 0 → IsErr result × (fuse_disk self.new ≡ fuse_disk self.old) }
+        // else the disk beneath answers
+        ensures passes { 0 < fuse_left self.old → TellsFailure D.history (fuse_disk self.old) (fuse_disk self.new) result }
+        ensures burns { OnOk result (fuse_left self.old ≡ fuse_left self.new + 1) }
+        ensures kept { OnErr result (fuse_left self.new ≡ fuse_left self.old) }
+        ensures limit { fuse_limit self.new ≡ fuse_limit self.old }
+    {
+        let left = self.limit - self.passed;
+        if left == 0 {
+            self.failed.add_one();
+            return Err(DeviceFault);
+        }
+        match self.disk.write(place, from) {
+            Ok(()) => {
+                self.passed += 1;
+                Ok(())
+            }
+            Err(fault) => {
+                self.failed.add_one();
+                Err(fault)
+            }
+        }
+    }
+}

@@ -1,0 +1,105 @@
+//! A disk in memory.
+ghost use Rattle.std.specs.Prelude.{◌≡◌};
+ghost use Rattle.d64_image.specs.Images.{IsImage};
+ghost use Rattle.std.proofs.Props.{props};
+
+use crate::faults::{DeviceFault, ImageFault};
+use crate::place::Place;
+use crate::sectors::Sectors;
+use std::alloc::Global;
+
+/// How many sectors a disk of 35 tracks has.
+const SECTORS: usize = 683;
+
+/// How many bytes its image has: 683 sectors of 256 bytes.
+const IMAGE_SIZE: usize = 174_848;
+
+/// A disk in memory, as the bytes of a D64 image: sector after sector in the order of their indices.
+#[derive(Drop)]
+pub struct MemDisk {
+    sectors: Vec<[u8; 256]>,
+    ghost whole: { IsImage sectors.items } by { Prim.hlevel props },
+}
+
+impl MemDisk {
+    ghost use Rattle.std.specs.Prelude.{◌≢◌, ◌↔◌, ℕ, ◌<◌, length, slice_index, IfOk, IsErrOf};
+    ghost use Rattle.d64_image.specs.declared.place.Place.{Place};
+    ghost use Rattle.d64_image.specs.Images.{sector};
+    ghost use Rattle.d64_image.specs.Memory.{disk_bytes, disk_image, sectors_in};
+
+    /// The disk whose image has these bytes. Size exactly where they aren't 174,848; NoMemory where the memory for
+    /// another 174,848 bytes was refused.
+    pub fn load(alloc: Global, bytes: &[u8]) -> Result<MemDisk, ImageFault>
+        ensures size { IsErrOf result ImageFault.Size ↔ (length bytes.now ≢ 174848) }
+        ensures ok { IfOk result (λ disk. disk_bytes disk ≡ bytes.now) }
+        ensures image { IfOk result (λ disk. disk_image disk ≡ sectors_in bytes.now) }
+    {
+        if bytes.len() != IMAGE_SIZE {
+            return Err(ImageFault::Size);
+        }
+        let (sectors, _) = bytes.as_chunks::<256>();
+        match Vec::from_slice(alloc, sectors) {
+            Ok(sectors) => Ok(MemDisk { sectors }),
+            Err(_) => Err(ImageFault::NoMemory),
+        }
+    }
+
+    /// A disk with a 0 in every byte. NoMemory where the memory for its 174,848 bytes was refused.
+    pub fn zeroed(alloc: Global) -> Result<MemDisk, ImageFault>
+        ensures size { IsErrOf result ImageFault.Size → ⊥ }
+        ensures ok { IfOk result (λ disk. (i : ℕ) → slice_index (disk_bytes disk) i ≡ 0) }
+        ensures sectors { IfOk result (λ disk. (p : Place) (i : ℕ) → slice_index (sector (disk_image disk) p) i ≡ 0) }
+    {
+        let mut sectors = Vec::new(alloc);
+        match sectors.resize(SECTORS, [0; 256]) {
+            Ok(()) => Ok(MemDisk { sectors }),
+            Err(_) => Err(ImageFault::NoMemory),
+        }
+    }
+
+    /// The bytes of the image, 174,848 of them.
+    pub fn bytes(&self) -> &[u8]
+        ensures value { result.now ≡ disk_bytes self.now }
+        ensures size { length result.now ≡ 174848 }
+        ensures image { sectors_in result.now ≡ disk_image self.now }
+    {
+        self.sectors.as_slice().as_flattened()
+    }
+}
+
+impl Sectors for MemDisk {
+    ghost use Rattle.std.specs.Prelude.{◌+◌, ◌≤◌, OnOk, OnErr, IsOk};
+    ghost use Rattle.d64_image.specs.Images.{put, sector};
+    ghost use Rattle.d64_image.specs.History.{HeldOnly, OldOr, OnlyReads, TellsFailure};
+    ghost use Rattle.d64_image.specs.Memory.{memory};
+
+    ghost history = { memory };
+
+    /// Never fails, and takes no memory.
+    #[tactic(auto, using(std::proofs::lemmas::List::get_or_read), unfolding(crate::specs::Images::sector))]
+    fn read(&mut self, place: Place, to: &mut [u8; 256]) -> Result<(), DeviceFault>
+        ensures never_fails { IsOk result }
+        ensures sector { OnOk result (to.new ≡ sector (memory.image self.old) place) }
+        ensures reads { OnlyReads memory self.old self.new 1 }
+        ensures failures { TellsFailure memory self.old self.new result }
+    {
+        *to = self.sectors[place.index()];
+        Ok(())
+    }
+
+    /// Never fails, and takes no memory.
+    #[tactic(auto, unfolding(crate::specs::Images::put))]
+    fn write(&mut self, place: Place, from: &[u8; 256]) -> Result<(), DeviceFault>
+        ensures never_fails { IsOk result }
+        ensures ok { OnOk result (memory.image self.new ≡ put (memory.image self.old) place from.now) }
+        ensures err { OnErr result (OldOr (memory.image self.old) (put (memory.image self.old) place from.now) (memory.image self.new)) }
+        ensures held { HeldOnly memory self.old self.new (OldOr (memory.image self.old) (put (memory.image self.old) place from.now)) }
+        ensures counted { OnOk result (memory.writes self.new ≤ memory.writes self.old + 1) }
+        ensures uncounted { OnErr result (memory.writes self.new ≡ memory.writes self.old) }
+        ensures reads { memory.reads self.new ≡ memory.reads self.old }
+        ensures failures { TellsFailure memory self.old self.new result }
+    {
+        self.sectors[place.index()] = *from;
+        Ok(())
+    }
+}

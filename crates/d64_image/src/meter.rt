@@ -1,0 +1,95 @@
+//! A disk whose reads and writes are counted.
+use crate::count::Count;
+use crate::faults::DeviceFault;
+use crate::place::Place;
+use crate::sectors::Sectors;
+
+/// Counts the reads and the writes that pass to the disk beneath it. Each count stays at 2^64 - 1 once there.
+#[derive(Drop)]
+pub struct Meter<D> {
+    disk: D,
+    reads: Count,
+    writes: Count,
+}
+
+impl<D: Sectors> Meter<D> {
+    ghost use Rattle.std.specs.Prelude.{◌≡◌};
+    ghost use Rattle.d64_image.specs.Meters.{meter_disk, meter_reads, meter_writes};
+
+    /// A meter on a disk, with both counts at 0.
+    pub fn new(disk: D) -> Meter<D>
+        ensures disk { meter_disk result ≡ disk }
+        ensures reads { meter_reads result ≡ 0 }
+        ensures writes { meter_writes result ≡ 0 }
+    {
+        Meter {
+            disk,
+            reads: Count::zero(),
+            writes: Count::zero(),
+        }
+    }
+
+    /// How many reads passed.
+    pub fn reads(&self) -> u64
+        ensures { result ≡ meter_reads self.now }
+    {
+        self.reads.get()
+    }
+
+    /// How many writes passed.
+    pub fn writes(&self) -> u64
+        ensures { result ≡ meter_writes self.now }
+    {
+        self.writes.get()
+    }
+
+    /// The disk beneath.
+    pub fn into_inner(self) -> D
+        ensures { result ≡ meter_disk self }
+    {
+        let Meter {
+            disk,
+            reads: _,
+            writes: _,
+        } = self;
+        disk
+    }
+}
+
+impl<D: Sectors> Sectors for Meter<D> {
+    ghost use Rattle.std.specs.Prelude.{◌≡◌, ◌+◌, ◌≤◌, min, OnOk, OnErr};
+    ghost use Rattle.d64_image.specs.Images.{put, sector};
+    ghost use Rattle.d64_image.specs.History.{HeldOnly, OldOr, OnlyReads, TellsFailure};
+    ghost use Rattle.d64_image.specs.Meters.{meter, meter_disk, meter_reads, meter_writes};
+
+    ghost history = { meter D.history };
+
+    /// Passes a read on, and counts it where it passed.
+    fn read(&mut self, place: Place, to: &mut [u8; 256]) -> Result<(), DeviceFault>
+        ensures sector { OnOk result (to.new ≡ sector ((meter D.history).image self.old) place) }
+        ensures reads { OnlyReads (meter D.history) self.old self.new 1 }
+        ensures failures { TellsFailure (meter D.history) self.old self.new result }
+        ensures exact { OnOk result (meter_reads self.new ≡ min (meter_reads self.old + 1) 18446744073709551615) }
+        ensures kept { OnErr result (meter_reads self.new ≡ meter_reads self.old) }
+    {
+        self.disk.read(place, to)?;
+        self.reads.add_one();
+        Ok(())
+    }
+
+    /// Passes a write on, and counts it where it passed.
+    fn write(&mut self, place: Place, from: &[u8; 256]) -> Result<(), DeviceFault>
+        ensures ok { OnOk result ((meter D.history).image self.new ≡ put ((meter D.history).image self.old) place from.now) }
+        ensures err { OnErr result (OldOr ((meter D.history).image self.old) (put ((meter D.history).image self.old) place from.now) ((meter D.history).image self.new)) }
+        ensures held { HeldOnly (meter D.history) self.old self.new (OldOr ((meter D.history).image self.old) (put ((meter D.history).image self.old) place from.now)) }
+        ensures counted { OnOk result ((meter D.history).writes self.new ≤ (meter D.history).writes self.old + 1) }
+        ensures uncounted { OnErr result ((meter D.history).writes self.new ≡ (meter D.history).writes self.old) }
+        ensures reads { (meter D.history).reads self.new ≡ (meter D.history).reads self.old }
+        ensures failures { TellsFailure (meter D.history) self.old self.new result }
+        ensures exact { OnOk result (meter_writes self.new ≡ min (meter_writes self.old + 1) 18446744073709551615) }
+    {
+        self.disk.write(place, from)?;
+        self.writes.add_one();
+        Ok(())
+    }
+}
