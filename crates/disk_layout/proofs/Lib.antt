@@ -18,6 +18,7 @@ pub mod Once
 pub mod Pieces
 pub mod RecordWrites
 pub mod Recount
+pub mod Recounts
 pub mod Refills
 pub mod Runs
 pub mod SideWrites
