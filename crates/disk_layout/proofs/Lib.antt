@@ -23,6 +23,7 @@ pub mod Refills
 pub mod Runs
 pub mod SideWrites
 pub mod Slots
+pub mod Tops
 pub mod Twice
 pub mod Unclean
 pub mod Uniques
