@@ -2,6 +2,7 @@ pub mod Assembly
 pub mod Calls
 pub mod Claims
 pub mod Clashes
+pub mod Counting
 pub mod Entries
 pub mod Finding
 pub mod Listed

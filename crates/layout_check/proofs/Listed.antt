@@ -18,7 +18,7 @@ use Rattle.layout_check.proofs.Assembly.{chain-visits, contains-get, numbered-on
 use Rattle.layout_check.specs.Entry.{IsEntry}
 
 -- the part of a list without repeats that passes a test has none
-filter-once : {X : Type 0} (t : X → Bool) (xs : List X) → EachOnce xs → EachOnce (filter t xs)
+pub filter-once : {X : Type 0} (t : X → Bool) (xs : List X) → EachOnce xs → EachOnce (filter t xs)
 filter-once t [] once = tt
 filter-once {X} t (x ∷ xs) once = step (t x) (filter-once t xs once.1)
   where

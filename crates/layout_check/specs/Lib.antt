@@ -1,6 +1,7 @@
 pub mod Calls
 pub mod Entry
 pub mod Found
+pub mod Open
 pub mod Owners
 pub mod Sides
 pub mod Survey

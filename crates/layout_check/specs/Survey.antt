@@ -34,3 +34,7 @@ pub record IsSurveyOf (l : Layout) (s : Survey) : Type 0 where
   pub few : s.entries ≤ 144
   -- the directory is on track 18
   pub on_track : AllByRecursion (λ p. p.track ≡ 18) l.directory
+
+-- how many entries it counts
+abbrev pub entries_of : Survey → ℕ
+entries_of s = s.entries

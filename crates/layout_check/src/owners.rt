@@ -19,7 +19,8 @@ pub struct Owners {
 }
 
 impl Owners {
-    ghost use Rattle.std.specs.Prelude.{◌≢◌, ◌<◌, Contains, IfErr, OnOk};
+    ghost use Rattle.std.specs.Prelude.{◌≢◌, ◌<◌, Contains, IfErr, OnOk, slice_index};
+    ghost use Rattle.d64_image.specs.Places.{index_of};
     ghost use Rattle.disk_layout.specs.Chain.{EachOnce};
     ghost use Rattle.layout_check.specs.Owners.{IsClaimed, IsOwned, IsSystem, owner_of};
 
@@ -49,6 +50,13 @@ impl Owners {
         ensures { result ≡ owner_of self.now place }
     {
         self.numbers[place.index()]
+    }
+
+    /// The numbers of the owners of all sectors, in the order of their indices.
+    pub fn numbers(&self) -> &[u8; 683]
+        ensures { (p : Place) → slice_index result.now (index_of p) ≡ owner_of self.now p }
+    {
+        &self.numbers
     }
 
     /// Gives the sector to this owner.
