@@ -17,12 +17,16 @@ use Rattle.layout_check.specs.Calls.{Passes, Tells}
 use Rattle.layout_check.specs.Entry.{HasBlocks, IsProper}
 use Rattle.layout_check.specs.Found.{Finds, TellsOrClashes}
 use Rattle.layout_check.specs.Owners.{IsClaimed, IsOwned}
-use Rattle.layout_check.specs.Sides.{IsRelEntry, IsWalkOfSides, ListsEach}
+use Rattle.layout_check.specs.Sides.{HasParts, IsRelEntry, IsWalkOfSides, ListsEach}
 use Rattle.layout_check.specs.declared.owners.Owners.{Owners}
 
 pub on_ok : {T E : Type 0} (r : Result T E) (P Q : Type 0) → (P → Q) → OnOk r P → OnOk r Q
 on_ok (Ok x) P Q f h = f h
 on_ok (Err e) P Q f h = tt
+
+pub on_ok_both : {T E : Type 0} (r : Result T E) (P Q R : Type 0) → (P → Q → R) → OnOk r P → OnOk r Q → OnOk r R
+on_ok_both (Ok x) P Q R f h k = f h k
+on_ok_both (Err e) P Q R f h k = tt
 
 pub if_err : {T E : Type 0} (r : Result T E) (P Q : E → Type 0) → ((e : E) → P e → Q e) → IfErr r P → IfErr r Q
 if_err (Ok x) P Q f h = tt
@@ -113,3 +117,11 @@ module _ {D : Type 0} (S : History D) where
   -- 720 blocks and six side sectors
   pub rel-few : (img : Image) (s : Slot) (blocks items sides : List Place) → IsWalkOfSides img s items sides → items ≡ blocks → length items ≤ 720 → length blocks + 2 * length sides ≤ 732
   rel-few img s blocks items sides walk same few = omega (arith, walk.count, ap length same)
+
+  pub parts-found : (a b : D) (s : Slot) (blocks items sides : List Place) (k last : ℕ) → HasBlocks (S.image a) s blocks last → Passes S a b k → items ≡ blocks → IsWalkOfSides (S.image b) s items sides → ListsEach (S.image b) sides → HasParts (S.image a) s blocks sides
+  parts-found a b s blocks items sides k last chain passes same walk lists = record {
+    last = last;
+    chain = chain;
+    walk = rel-walked a b s blocks items sides k passes same walk;
+    lists = rel-listed a b sides k passes lists;
+  }

@@ -1,5 +1,6 @@
 pub mod Calls
 pub mod Entry
+pub mod Exact
 pub mod Found
 pub mod Open
 pub mod Owners

@@ -59,3 +59,10 @@ pub record IsRelEntry (img : Image) (s : Slot) (blocks : List Place) : Type 0 wh
   pub rel : IsTrue (is_rel s)
   pub last : ℕ
   pub chain : HasBlocks img s blocks last
+
+-- the data blocks and the side sectors of a relative entry
+pub record HasParts (img : Image) (s : Slot) (blocks sides : List Place) : Type 0 where
+  pub last : ℕ
+  pub chain : HasBlocks img s blocks last
+  pub walk : IsWalkOfSides img s blocks sides
+  pub lists : ListsEach img sides

@@ -8,7 +8,7 @@ ghost use Rattle.layout_check.specs.Found.{Finds, TellsOrClashes};
 use crate::blocks::survey_blocks;
 use crate::entry::{is_relative, judge_entry};
 use crate::owners::Owners;
-use crate::sides::survey_sides;
+use crate::sides::find_parts;
 use arrayvec::ArrayVec;
 use d64_image::{Place, Sectors};
 use disk_layout::{Fault, Slot};
@@ -48,9 +48,8 @@ fn survey_relative<D: Sectors>(
     ensures ok { OnOk result (Finds D.history disk.old disk.new slot.now number owners.old owners.new) }
     ensures err { IfErr result (TellsOrClashes D.history disk.old disk.new slot.now owners.old) }
 {
-    survey_blocks(disk, slot, blocks)?;
     let mut sides = ArrayVec::new();
-    survey_sides(disk, slot, blocks.as_slice(), &mut sides)?;
+    find_parts(disk, slot, blocks, &mut sides)?;
     owners.claim(number, blocks.as_slice())?;
     owners.claim(number, sides.as_slice())
 }

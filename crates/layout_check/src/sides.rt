@@ -1,10 +1,12 @@
 //! The side sectors of a relative entry, judged as far as a sound disk asks.
 ghost use Rattle.std.specs.Prelude.{◌≡◌, ◌+◌, ◌*◌, ◌<◌, ◌≤◌, IfErr, IsFalse, IsTrue, MatchOption, OnOk, length};
 ghost use Rattle.disk_layout.specs.Chain.{Names, NamesNone};
-ghost use Rattle.disk_layout.specs.Layout.{sides_for};
+ghost use Rattle.disk_layout.specs.Fault.{IsClosed};
+ghost use Rattle.disk_layout.specs.Layout.{is_rel, sides_for};
 ghost use Rattle.layout_check.specs.Calls.{Passes, Tells};
-ghost use Rattle.layout_check.specs.Sides.{IsJudged, IsMisjudged, IsMisnamed, IsRelEntry, IsWalkOfSides, ListsEach, NamesEach};
+ghost use Rattle.layout_check.specs.Sides.{HasParts, IsJudged, IsMisjudged, IsMisnamed, IsRelEntry, IsWalkOfSides, ListsEach, NamesEach};
 
+use crate::blocks::survey_blocks;
 use crate::entry::place_in;
 use arrayvec::ArrayVec;
 use d64_image::{Place, Sectors};
@@ -96,7 +98,7 @@ fn walk_sides<D: Sectors>(
 
 /// Finds the side sectors of a closed relative entry with these blocks, as `walk_sides` does, and judges beside that each
 /// of them lists the places of all. Each is read twice at most.
-pub fn survey_sides<D: Sectors>(
+fn survey_sides<D: Sectors>(
     disk: &mut D,
     slot: &Slot,
     blocks: &[Place],
@@ -121,4 +123,17 @@ pub fn survey_sides<D: Sectors>(
         }
     }
     Ok(())
+}
+
+/// Finds the data blocks and the side sectors of a closed relative entry, and fills the two lists with them in order.
+pub fn find_parts<D: Sectors>(disk: &mut D, slot: &Slot, blocks: &mut ArrayVec<Place, 720>, sides: &mut ArrayVec<Place, 6>) -> Result<(), Fault>
+    requires closed { IsClosed (D.history.image disk.old) slot.now.sector slot.now }
+    requires rel { IsTrue (is_rel slot.now) }
+    ensures parts { OnOk result (HasParts (D.history.image disk.old) slot.now blocks.new.items sides.new.items) }
+    ensures ok { OnOk result (Passes D.history disk.old disk.new (length blocks.new.items + 2 * length sides.new.items)) }
+    ensures few { OnOk result (length blocks.new.items + 2 * length sides.new.items ≤ 732) }
+    ensures err { IfErr result (Tells D.history disk.old disk.new 732) }
+{
+    survey_blocks(disk, slot, blocks)?;
+    survey_sides(disk, slot, blocks.as_slice(), sides)
 }
