@@ -36,7 +36,7 @@ module _ {D : Type 0} (S : History D) where
   any_answer T U a b (MapWrong p) h = h
   any_answer T U a b (Device p) h = h
 
-  tells_later : (T : Type 0) (a b c : D) (f : Fault) → S.failures b ≡ S.failures a → TellsFault {T = T} S b c (Err f) → TellsFault {T = T} S a c (Err f)
+  pub tells_later : (T : Type 0) (a b c : D) (f : Fault) → S.failures b ≡ S.failures a → TellsFault {T = T} S b c (Err f) → TellsFault {T = T} S a c (Err f)
   tells_later T a b c (BadLink p) e h = h ∙ e
   tells_later T a b c (Loop p) e h = h ∙ e
   tells_later T a b c (OwnedTwice p) e h = h ∙ e

@@ -1,6 +1,7 @@
 -- What the bytes of an entry name, and what they show.
 use Rattle.std.proofs.Common.{ℕ, ◌≤◌, ◌≡◌, sym, arith, Err, refl}
-use Rattle.std.specs.Prelude.{MatchOption}
+use Rattle.std.specs.Prelude.{◌||◌, IsTrue, MatchOption, nat_eq}
+use Rattle.std.proofs.lemmas.Bool.Decides.{nat_tests}
 use Rattle.std.proofs.Math.Decide.{dec_lt}
 use Rattle.d64_image.proofs.Places.{place_at-found, place_at-none, place_at-some}
 use Rattle.d64_image.proofs.Moments.{no_reads, reads_weaker}
@@ -11,6 +12,7 @@ use Rattle.d64_image.specs.Places.{place_at}
 use Rattle.d64_image.specs.declared.place.Place.{Place}
 use Rattle.disk_layout.specs.Directory.{type_byte}
 use Rattle.disk_layout.specs.Fault.{Holds, IsClosed, TellsFault}
+use Rattle.disk_layout.specs.Layout.{is_rel}
 use Rattle.disk_layout.specs.declared.faults.Fault.{Fault}
 use Rattle.disk_layout.specs.declared.faults.Fault.TheVariants.{BadLength, BadLink, BadSide, BadType, CountWrong, Device, Loop, MapWrong, OwnedTwice, Unclosed}
 use Rattle.disk_layout.specs.declared.slot.Slot.{Slot}
@@ -39,6 +41,13 @@ shown-holds failed img s (BadSide p) e h = absurd h
 shown-holds failed img s (CountWrong p) e h = absurd h
 shown-holds failed img s (MapWrong p) e h = absurd h
 shown-holds failed img s (Device p) e h = absurd h
+
+-- a relative entry is closed
+rel-high : (t : ℕ) → IsTrue (nat_eq t 132 || nat_eq t 196) → 128 ≤ t
+rel-high t h = grind (arith, nat_tests)
+
+pub rel-closed : (img : Image) (s : Slot) → IsEntry img s → IsTrue (is_rel s) → IsClosed img s.sector s
+rel-closed img s e rel = closed-entry img s e (rel-high (type_byte s) rel)
 
 module _ {D : Type 0} (S : History D) where
   shown-tells_alone : (d : D) (s : Slot) (f : Fault) → IsShown s f → TellsFault {T = ℕ} S d d (Err f)

@@ -5,6 +5,7 @@ pub mod Clashes
 pub mod Counting
 pub mod Entries
 pub mod Finding
+pub mod Inexact
 pub mod Listed
 pub mod Pointers
 pub mod Progress

@@ -3,6 +3,7 @@
 
 mod blocks;
 mod entry;
+mod exact;
 mod files;
 mod outcome;
 mod owners;
