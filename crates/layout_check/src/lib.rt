@@ -5,6 +5,7 @@ mod blocks;
 mod entry;
 mod exact;
 mod files;
+mod maps;
 mod outcome;
 mod owners;
 mod sides;

@@ -43,7 +43,7 @@ impl Survey {
     pub fn is_owned(&self, place: Place) -> bool
         ensures { (l : Layout) → IsSurveyOf l self.now → (IsTrue result ↔ Contains (map_place ∷ owners l) place) }
     {
-        self.owners.owner(place) != NOBODY
+        self.owners.is_owned(place)
     }
 
     /// How many entries the directory has: its used slots.

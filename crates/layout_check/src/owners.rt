@@ -19,7 +19,7 @@ pub struct Owners {
 }
 
 impl Owners {
-    ghost use Rattle.std.specs.Prelude.{◌≢◌, ◌<◌, Contains, IfErr, OnOk, slice_index};
+    ghost use Rattle.std.specs.Prelude.{◌≢◌, ◌<◌, ◌↔◌, Contains, IfErr, IsTrue, OnOk, slice_index};
     ghost use Rattle.d64_image.specs.Places.{index_of};
     ghost use Rattle.disk_layout.specs.Chain.{EachOnce};
     ghost use Rattle.layout_check.specs.Owners.{IsClaimed, IsOwned, IsSystem, owner_of};
@@ -46,10 +46,17 @@ impl Owners {
     }
 
     /// The number of the sector's owner.
-    pub fn owner(&self, place: Place) -> u8
+    fn owner(&self, place: Place) -> u8
         ensures { result ≡ owner_of self.now place }
     {
         self.numbers[place.index()]
+    }
+
+    /// Whether the sector has an owner.
+    pub fn is_owned(&self, place: Place) -> bool
+        ensures { IsTrue result ↔ (owner_of self.now place ≢ 255) }
+    {
+        self.owner(place) != NOBODY
     }
 
     /// The numbers of the owners of all sectors, in the order of their indices.
