@@ -1,18 +1,17 @@
 -- Side sectors and block counts, beside what they are to be.
-use Rattle.std.proofs.Common.{ℕ, ◌≡◌, ◌≢◌, ◌<◌, ◌≤◌, ◌+◌, Bool, true, false, Err, IsTrue, List, length, get_or, slice_index, sym, ◌∙◌, ap, refl, arith, subst, inl, inr}
+use Rattle.std.proofs.Common.{ℕ, ◌≡◌, ◌≢◌, ◌<◌, ◌≤◌, ◌+◌, Bool, true, false, IsTrue, List, length, get_or, sym, ◌∙◌, ap, refl, arith, subst, inl, inr}
 use Rattle.std.specs.Prelude.{Contains, Some, not, slice_get}
 use Rattle.std.specs.Str.{bytes_eq}
 use Rattle.std.proofs.lemmas.Bool.{false≢true}
-use Rattle.std.proofs.lemmas.Option.{slice_get_within}
 use Rattle.std.proofs.lemmas.Slice.Eq.{bytes_eq-Decides}
 use Rattle.d64_image.proofs.Moments.{failed_later, never_failed, reads_then, reads_weaker}
-use Rattle.d64_image.specs.History.{Failed, History, NeverFailed, OnlyReads}
+use Rattle.d64_image.specs.History.{Failed, History, NeverFailed}
 use Rattle.d64_image.specs.Images.{Image, sector}
 use Rattle.d64_image.specs.declared.place.Place.{Place}
-use Rattle.disk_layout.proofs.Layouts.{IsFile-one, IsLayout-one}
+use Rattle.disk_layout.proofs.Layouts.{IsFile-one}
 use Rattle.disk_layout.proofs.Once.{all-in}
 use Rattle.disk_layout.specs.Clean.{IsExactFile}
-use Rattle.disk_layout.specs.Fault.{Holds, HoldsOfClean, TellsFault}
+use Rattle.disk_layout.specs.Fault.{Holds, HoldsOfClean}
 use Rattle.disk_layout.specs.Layout.{File, IsFile, IsLayout, Layout, count_field, is_rel, record_length, sides_for}
 use Rattle.disk_layout.specs.Side.{side_sector}
 use Rattle.disk_layout.specs.declared.faults.Fault.{Fault}
@@ -23,7 +22,7 @@ use Rattle.layout_check.proofs.Calls.{passes_then, tells_later, tells_then}
 use Rattle.layout_check.proofs.Pointers.{read-there}
 use Rattle.layout_check.specs.Calls.{Passes, Tells}
 use Rattle.layout_check.specs.Entry.{IsProper}
-use Rattle.layout_check.specs.Exact.{AreExactSides, IsExactAt, IsExactSide, IsFiled, IsInexact, TellsInexact, TellsOfClean}
+use Rattle.layout_check.specs.Exact.{AreExactSides, IsExactAt, IsExactSide, IsFiled, TellsInexact, TellsOfClean}
 use Rattle.layout_check.specs.Sides.{HasParts}
 
 -- two lists of bytes, compared
@@ -89,14 +88,26 @@ exact-file img s blocks sides rel h exact count l f is own same =
 pub inexact-holds : (failed : Type 0) (img : Image) (s : Slot) (blocks sides : List Place) (j : ℕ) (p : Place) → IsFiled img s → IsTrue (is_rel s) → HasParts img s blocks sides → slice_get sides j ≡ Some p → ¬ (IsExactSide img s blocks sides j p) → HoldsOfClean failed img (BadSide p)
 inexact-holds failed img s blocks sides j p filed rel h there other =
     let one = parts-of img filed.layout filed.file s blocks sides filed.sound filed.own filed.slot rel h in
-    inr (filed.layout, filed.sound, filed.file, filed.own, rw filed.slot rel, j, ap (λ (f : File). slice_get f.sides j) one ∙ there,
-    λ e. other (let P : File → Type 0 = λ f. sector img p ≡ side_sector j f.blocks f.sides (record_length f.slot) in subst P one e))
+    inr (
+      filed.layout,
+      filed.sound,
+      filed.file,
+      filed.own,
+      rw filed.slot rel,
+      j,
+      ap (λ (f : File). slice_get f.sides j) one ∙ there,
+      λ e. other (let P : File → Type 0 = λ f. sector img p ≡ side_sector j f.blocks f.sides (record_length f.slot) in subst P one e),
+    )
 
 pub count-holds : (failed : Type 0) (img : Image) (s : Slot) (blocks sides : List Place) → IsFiled img s → IsTrue (is_rel s) → HasParts img s blocks sides → count_field s ≢ length blocks + length sides → HoldsOfClean failed img (CountWrong s.sector)
 count-holds failed img s blocks sides filed rel h other =
-    let one = parts-of img filed.layout filed.file s blocks sides filed.sound filed.own filed.slot rel h in
-    (filed.layout, filed.sound, filed.file, record { file = filed.own; rel = rw filed.slot rel; slot = ap (λ (x : Slot). x.sector) filed.slot },
-    λ e. other (let P : File → Type 0 = λ f. count_field f.slot ≡ length f.blocks + sides_for (length f.blocks) in let k = subst P one e in k ∙ omega (arith, h.walk.count)))
+    let one = parts-of img filed.layout filed.file s blocks sides filed.sound filed.own filed.slot rel h in (
+      filed.layout,
+      filed.sound,
+      filed.file,
+      record { file = filed.own; rel = rw filed.slot rel; slot = ap (λ (x : Slot). x.sector) filed.slot },
+      λ e. other (let P : File → Type 0 = λ f. count_field f.slot ≡ length f.blocks + sides_for (length f.blocks) in let k = subst P one e in k ∙ omega (arith, h.walk.count)),
+    )
 
 module _ {D : Type 0} (S : History D) where
   pub inexact_there : (a b : D) (s : Slot) (blocks sides : List Place) (j : ℕ) (p : Place) → Passes S a b 6 → slice_get sides j ≡ Some p → ¬ (IsExactSide (S.image a) s blocks sides j p) → TellsInexact S a b 6 s blocks sides (BadSide p)

@@ -1,5 +1,5 @@
 -- The bits of a track: how many are ones, and which are right.
-use Rattle.std.proofs.Common.{ℕ, zero, suc, ◌≡◌, ◌≢◌, ◌<◌, ◌≤◌, ◌+◌, ◌⊎◌, Bool, true, false, min, Option, Some, None, List, sym, ◌∙◌, ap, refl, arith, subst, inl, inr, ◌*◌, ◌/◌, ◌%◌, slice_index}
+use Rattle.std.proofs.Common.{ℕ, ◌≡◌, ◌<◌, ◌≤◌, ◌+◌, min, Some, None, List, sym, ◌∙◌, ap, refl, arith, subst, ◌*◌, ◌/◌, ◌%◌, slice_index}
 use Rattle.std.specs.Prelude.{sum_by}
 use Rattle.std.proofs.Math.Decide.{dec_lt}
 use Rattle.std.proofs.lemmas.Nat.Bits.{bit_at-lt}

@@ -1,5 +1,5 @@
 -- A sound disk beside a clean one: its entries, its map, and what is told.
-use Rattle.std.proofs.Common.{ℕ, ◌≡◌, ◌≢◌, ◌<◌, ◌≤◌, ◌+◌, ◌⊎◌, ◌↔◌, Err, IsOk, IsTrue, List, [], ◌∷◌, length, get_or, map, Result, sym, ◌∙◌, ap, refl, arith, subst, inl, inr}
+use Rattle.std.proofs.Common.{ℕ, ◌≡◌, ◌≢◌, ◌<◌, ◌≤◌, ◌⊎◌, ◌↔◌, Err, IsOk, IsTrue, List, [], ◌∷◌, length, get_or, map, Result, sym, refl, arith, subst, inl, inr}
 use Rattle.std.specs.Prelude.{Contains, Some, slice_get}
 use Rattle.std.specs.List.{AllByRecursion}
 use Rattle.std.proofs.lemmas.Bool.{cases_eq, false≢true}
@@ -14,7 +14,7 @@ use Rattle.disk_layout.proofs.Unclean.{told-unclean}
 use Rattle.disk_layout.specs.Clean.{IsClean, IsCleanLayout, IsExactFile}
 use Rattle.disk_layout.specs.Directory.{IsDirectory, map_place}
 use Rattle.disk_layout.specs.Fault.{HoldsOfClean, TellsFault}
-use Rattle.disk_layout.specs.Layout.{File, IsLayout, IsSound, Layout, is_rel, owners}
+use Rattle.disk_layout.specs.Layout.{File, IsSound, Layout, is_rel, owners}
 use Rattle.disk_layout.specs.Map.{IsFree, IsMapOf, map_count}
 use Rattle.disk_layout.specs.declared.faults.Fault.{Fault}
 use Rattle.disk_layout.specs.declared.faults.Fault.TheVariants.{MapWrong}

@@ -1,5 +1,5 @@
 -- What a check asks of a relative entry beyond what a survey asks. Our own.
-use Rattle.std.specs.Prelude.{ℕ, ◌≡◌, ◌≢◌, ◌⊎◌, ◌∷◌, Contains, Err, IsTrue, List, Some, length, slice_get}
+use Rattle.std.specs.Prelude.{ℕ, ◌≡◌, ◌⊎◌, ◌∷◌, Contains, Err, IsTrue, List, Some, slice_get}
 use Rattle.std.specs.List.{AllByRecursion}
 use Rattle.d64_image.specs.History.{Failed, History, OnlyReads}
 use Rattle.d64_image.specs.Images.{Image, sector}

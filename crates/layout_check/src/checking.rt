@@ -8,15 +8,14 @@ ghost use Rattle.layout_check.specs.Calls.{Passes};
 ghost use Rattle.layout_check.specs.Exact.{AreExactFiles, HasMap, TellsOfClean};
 ghost use Rattle.layout_check.specs.Survey.{IsSurveyOf, IsToldBy};
 
-use arrayvec::ArrayVec;
-use d64_image::Sectors;
-use disk_layout::{Fault, map_place, read_directory};
-
 use crate::entry::is_relative;
 use crate::exact::check_relative;
 use crate::maps::check_bits;
 use crate::outcome::Survey;
 use crate::surveying::survey;
+use arrayvec::ArrayVec;
+use d64_image::Sectors;
+use disk_layout::{Fault, map_place, read_directory};
 
 /// Judges the relative entries of a sound disk: their side sectors' bytes, and their block counts.
 fn check_entries<D: Sectors>(disk: &mut D) -> Result<(), Fault>

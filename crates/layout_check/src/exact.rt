@@ -5,14 +5,18 @@ ghost use Rattle.layout_check.specs.Calls.{Passes, Tells};
 ghost use Rattle.layout_check.specs.Entry.{IsEntry};
 ghost use Rattle.layout_check.specs.Exact.{AreExactSides, IsExactAt, IsFiled, TellsInexact, TellsOfClean};
 
+use crate::sides::find_parts;
 use arrayvec::ArrayVec;
 use d64_image::{Place, Sectors};
 use disk_layout::{EntryView, Fault, Slot, side_bytes};
 
-use crate::sides::find_parts;
-
 /// Judges whether the side sectors of an entry with these data blocks have exactly the bytes that they are to have.
-fn check_sides<D: Sectors>(disk: &mut D, slot: &Slot, blocks: &[Place], sides: &[Place]) -> Result<(), Fault>
+fn check_sides<D: Sectors>(
+    disk: &mut D,
+    slot: &Slot,
+    blocks: &[Place],
+    sides: &[Place],
+) -> Result<(), Fault>
     requires few { length sides.now ≤ 6 }
     ensures exact { OnOk result (AreExactSides (D.history.image disk.old) slot.now blocks.now sides.now) }
     ensures ok { OnOk result (Passes D.history disk.old disk.new 6) }
@@ -33,7 +37,12 @@ fn check_sides<D: Sectors>(disk: &mut D, slot: &Slot, blocks: &[Place], sides: &
 
 /// Judges the side sectors and the block count of a relative entry of a sound disk. `blocks` and `sides` are emptied, and
 /// filled with what the entry owns.
-pub fn check_relative<D: Sectors>(disk: &mut D, slot: &Slot, blocks: &mut ArrayVec<Place, 720>, sides: &mut ArrayVec<Place, 6>) -> Result<(), Fault>
+pub fn check_relative<D: Sectors>(
+    disk: &mut D,
+    slot: &Slot,
+    blocks: &mut ArrayVec<Place, 720>,
+    sides: &mut ArrayVec<Place, 6>,
+) -> Result<(), Fault>
     requires entry { IsEntry (D.history.image disk.old) slot.now }
     requires filed { IsFiled (D.history.image disk.old) slot.now }
     requires rel { IsTrue (is_rel slot.now) }

@@ -11,6 +11,8 @@ mod outcome;
 mod owners;
 mod sides;
 mod surveying;
+#[cfg(test)]
+mod tests;
 
 pub use checking::check;
 pub use outcome::Survey;

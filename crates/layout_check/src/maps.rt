@@ -2,10 +2,9 @@
 ghost use Rattle.std.specs.Prelude.{◌≡◌, ◌≤◌, ◌↔◌, IfErr, IsTrue, OnOk};
 ghost use Rattle.layout_check.specs.Marked.{IsMarked, IsRightMap, IsRightTrack, IsWrongMap, ones_on};
 
+use crate::owners::Owners;
 use d64_image::Place;
 use disk_layout::{BamView, Fault, map_place};
-
-use crate::owners::Owners;
 
 /// Whether the map calls the sector free where nobody owns it, and taken where somebody does.
 fn is_marked(map: &[u8; 256], owners: &Owners, place: Place) -> bool

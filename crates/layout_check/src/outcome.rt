@@ -1,8 +1,8 @@
 //! What a survey of a disk found: who owns which sector, and how many entries there are.
-use crate::owners::{NOBODY, Owners};
 ghost use Rattle.std.specs.Prelude.{IsFalse, IsTrue};
 ghost use Rattle.layout_check.specs.Open.{IsOpen, IsShut};
 
+use crate::owners::{NOBODY, Owners};
 use d64_image::Place;
 
 /// What a sound disk has: the owner of each sector, and the number of entries. It is of the disk as it was surveyed.
@@ -55,7 +55,8 @@ impl Survey {
 
     /// How many entries the directory has: its used slots.
     pub fn entries(&self) -> usize
-        ensures { (l : Layout) → IsSurveyOf l self.now → result ≡ length l.files }
+        ensures files { (l : Layout) → IsSurveyOf l self.now → result ≡ length l.files }
+        ensures count { result ≡ entries_of self.now }
     {
         self.entries
     }

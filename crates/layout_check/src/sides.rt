@@ -126,7 +126,12 @@ fn survey_sides<D: Sectors>(
 }
 
 /// Finds the data blocks and the side sectors of a closed relative entry, and fills the two lists with them in order.
-pub fn find_parts<D: Sectors>(disk: &mut D, slot: &Slot, blocks: &mut ArrayVec<Place, 720>, sides: &mut ArrayVec<Place, 6>) -> Result<(), Fault>
+pub fn find_parts<D: Sectors>(
+    disk: &mut D,
+    slot: &Slot,
+    blocks: &mut ArrayVec<Place, 720>,
+    sides: &mut ArrayVec<Place, 6>,
+) -> Result<(), Fault>
     requires closed { IsClosed (D.history.image disk.old) slot.now.sector slot.now }
     requires rel { IsTrue (is_rel slot.now) }
     ensures parts { OnOk result (HasParts (D.history.image disk.old) slot.now blocks.new.items sides.new.items) }

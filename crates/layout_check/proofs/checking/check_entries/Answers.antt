@@ -1,11 +1,10 @@
 -- Entry by entry of the directory.
-use Rattle.std.proofs.Common.{ℕ, ◌<◌, ◌+◌, ◌*◌, ap, arith, sym, subst, ◌∙◌, length}
+use Rattle.std.proofs.Common.{arith, sym, ◌∙◌}
 use Rattle.std.proofs.lemmas.Bool.{false≢true}
 use borrow.Author.Count.{below_more}
 use Rattle.std.proofs.lemmas.Result.{err_from_is_err_and}
 use Rattle.layout_check.proofs.Calls.{passes_then, passes_weaker}
 use Rattle.layout_check.proofs.Inexact.{clean_tells, clean_then, clean_weaker}
-use Rattle.layout_check.proofs.Pointers.{read-there}
 use Rattle.layout_check.proofs.Progress.{listed-as}
 use Rattle.layout_check.proofs.Roots.{directory-tells}
 use Rattle.layout_check.proofs.Verdict.{entry-at, exact-all, exact-at, filed-at, same-entry}

@@ -1,6 +1,6 @@
 -- The map that was read, beside the owners.
-use Rattle.std.proofs.Common.{ap, ◌∙◌, sym, subst}
-use Rattle.d64_image.specs.Images.{Image, sector}
+use Rattle.std.proofs.Common.{ap, ◌∙◌}
+use Rattle.d64_image.specs.Images.{sector}
 use Rattle.d64_image.specs.declared.place.Place.{Place}
 use Rattle.layout_check.proofs.Calls.{passes_read}
 use Rattle.layout_check.proofs.Finding.{if_err, on_ok}

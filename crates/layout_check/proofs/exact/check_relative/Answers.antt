@@ -1,10 +1,10 @@
 -- The parts, the side sectors' bytes, and the count.
-use Rattle.std.proofs.Common.{ap, arith, ◌∙◌, ◌+◌, ◌≡◌, ◌≢◌, length, ℕ, List}
+use Rattle.std.proofs.Common.{ap, arith, ◌+◌, ◌≡◌, ◌≢◌, length, ℕ, List}
 use Rattle.std.specs.Prelude.{slice_range}
 use Rattle.std.proofs.lemmas.Result.{err_from_is_err_and}
 use Rattle.byteorder.specs.Endian.{little_number}
 use Rattle.disk_layout.specs.Layout.{count_field}
-use Rattle.layout_check.proofs.Calls.{passes_then, passes_weaker}
+use Rattle.layout_check.proofs.Calls.{passes_then}
 use Rattle.layout_check.proofs.Entries.{rel-closed}
 use Rattle.layout_check.proofs.Inexact.{clean_tells, clean_weaker, count-holds, count_tells, exact-file, exact_then, inexact_then}
 use Rattle.layout_check.proofs.exact.check_relative.Goals as goal
@@ -37,14 +37,14 @@ returns-then-block_count-owned-clause-err g c =
     let found = c.in_ok-find_parts.ensures in
     let passes = passes_then S c.args.disk.now c.find_parts.new.disk c.check_sides.new.disk _ 6 738 (omega (arith, found.few)) found.ok c.in_ok-check_sides.ensures.ok in
     let count : count_field c.args.slot.now ≢ length c.find_parts.new.blocks.items + length c.find_parts.new.sides.items =
-        (λ e. c.if-block_count-owned.true (omega (arith, e, c.block_count.ensures, ap (λ (xs : List ℕ). little_number 2 (slice_range xs 30 32)) c.new.ensures, c.len.ensures.value, c.len-2.ensures.value))) in
+    (λ e. c.if-block_count-owned.true (omega (arith, e, c.block_count.ensures, ap (λ (xs : List ℕ). little_number 2 (slice_range xs 30 32)) c.new.ensures, c.len.ensures.value, c.len-2.ensures.value))) in
     count_tells S c.args.disk.now c.check_sides.new.disk 738 c.args.slot.now.sector passes (count-holds ⊥ _ c.args.slot.now c.find_parts.new.blocks.items c.find_parts.new.sides.items c.requires.filed c.requires.rel found.parts count)
 
 pub returns-clause-exact : goal.returns-clause-exact
 returns-clause-exact g c =
     let found = c.in_ok-find_parts.ensures in
     let count : count_field c.args.slot.now ≡ length c.find_parts.new.blocks.items + length c.find_parts.new.sides.items =
-        omega (arith, c.if-block_count-owned.false, c.block_count.ensures, ap (λ (xs : List ℕ). little_number 2 (slice_range xs 30 32)) c.new.ensures, c.len.ensures.value, c.len-2.ensures.value) in
+    omega (arith, c.if-block_count-owned.false, c.block_count.ensures, ap (λ (xs : List ℕ). little_number 2 (slice_range xs 30 32)) c.new.ensures, c.len.ensures.value, c.len-2.ensures.value) in
     exact-file _ c.args.slot.now c.find_parts.new.blocks.items c.find_parts.new.sides.items c.requires.rel found.parts
     (exact_then g.D.Sectors.history c.args.disk.now c.find_parts.new.disk c.args.slot.now c.find_parts.new.blocks.items c.as_slice.result.now c.find_parts.new.sides.items c.as_slice-2.result.now _ found.ok c.as_slice.ensures.value c.as_slice-2.ensures.value c.in_ok-check_sides.ensures.exact)
     count

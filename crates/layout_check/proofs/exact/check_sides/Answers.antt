@@ -3,7 +3,7 @@ use Rattle.std.proofs.Common.{ap, arith, inl, sym, ◌∙◌, ◌+◌}
 use borrow.Author.Count.{below_more}
 use Rattle.std.proofs.lemmas.Option.{slice_get_within}
 use Rattle.d64_image.specs.Images.{Image, sector}
-use Rattle.layout_check.proofs.Calls.{device_tells, passes_read, passes_then, passes_weaker, tells_then}
+use Rattle.layout_check.proofs.Calls.{device_tells, passes_read, passes_then, tells_then}
 use Rattle.layout_check.proofs.Inexact.{exact-here, inexact_there, other-bytes, same-bytes}
 use Rattle.layout_check.proofs.Pointers.{read-there}
 use Rattle.layout_check.proofs.exact.check_sides.Goals as goal

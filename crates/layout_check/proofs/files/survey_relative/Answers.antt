@@ -1,8 +1,7 @@
 -- The blocks and side sectors, and the claims of both.
-use Rattle.std.proofs.Common.{arith, inl, length, ◌+◌, ◌*◌}
+use Rattle.std.proofs.Common.{arith, inl}
 use Rattle.std.proofs.lemmas.Result.{err_from_is_err_and}
 use Rattle.layout_check.proofs.Assembly.{sides-once}
-use Rattle.layout_check.proofs.Calls.{passes_weaker}
 use Rattle.layout_check.proofs.Finding.{block-clash, if_err, on_ok, rel-finds, side-clash}
 use Rattle.layout_check.proofs.files.survey_relative.Goals as goal
 

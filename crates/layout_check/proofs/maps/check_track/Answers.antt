@@ -1,5 +1,5 @@
 -- Sector by sector of the track, and then its count.
-use Rattle.std.proofs.Common.{ap, arith, inl, inr, refl, sym, ◌∙◌, ℕ, List}
+use Rattle.std.proofs.Common.{ap, inl, inr, refl, sym, ◌∙◌, ℕ, List}
 use Rattle.std.proofs.lemmas.Bool.{false≢true}
 use Rattle.disk_layout.specs.Map.{map_count}
 use Rattle.layout_check.proofs.Ones.{marked-all, marked-next, marked-past}

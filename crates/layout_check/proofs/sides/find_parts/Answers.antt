@@ -1,5 +1,5 @@
 -- The chain, and then the side sectors.
-use Rattle.std.proofs.Common.{ap, arith, ◌∙◌, length}
+use Rattle.std.proofs.Common.{ap, arith, length}
 use Rattle.std.proofs.lemmas.Result.{err_from_is_err_and}
 use Rattle.layout_check.proofs.Calls.{passes_then, tells_then, tells_weaker}
 use Rattle.layout_check.proofs.Finding.{if_err, on_ok, on_ok_both, parts-found, rel-entry, rel-few}
