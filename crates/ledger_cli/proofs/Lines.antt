@@ -1,19 +1,22 @@
 -- The lines of a script, cut at its first LF.
 use Rattle.std.proofs.Common.{◌≡◌, ◌≢◌, ◌<◌, ◌≤◌, ℕ, suc, Bool, true, false, List, [], ◌∷◌, ◌++◌, ◌+◌, length, get_or, take, drop, refl, sym, ◌∙◌, ap, inl, inr, eq-eqb, ne_eqb, add-one, arith, ◌-◌}
-use Rattle.std.specs.Prelude.{◌==◌, ◌||◌, fold, zero, if◌then◌else◌, Option, Some, None, option_map}
-use Rattle.std.specs.List.{All, AllByRecursion}
+use Rattle.std.specs.Prelude.{◌==◌, ◌||◌, fold, zero, if◌then◌else◌, None}
+use Rattle.std.specs.List.{AllByRecursion}
 use Rattle.std.proofs.Math.Seq.{split_at}
 use Rattle.std.proofs.lemmas.List.{length-take-le, get_or-take, length-drop, take_rest}
 use Rattle.std.proofs.lemmas.List.Elements.{recursion_from_All, All-from_get_or}
 use Rattle.std.proofs.lemmas.Bool.Decides.{eqb_tells}
-use Rattle.ledger_cli.specs.Scripts.{onto_first, split, without_cr, ended, lines, first_bad, is_bad}
+use Rattle.std.specs.Array.{IsFirstChunk}
+use Rattle.ledger_cli.specs.Scripts.{IsFirst, onto_first, split, without_cr, ended, lines, first_bad, is_bad}
 
 -- no byte of the list is c
 abbrev pub Lacks : ℕ → List ℕ → Type 0
 Lacks c xs = AllByRecursion (λ x. x ≢ c) xs
 
 -- the bytes before a place, where none of them is c
-pub lacks_before : (c : ℕ) (xs : List ℕ) (n : ℕ) → n ≤ length xs → ((k : ℕ) → k < n → get_or xs k 0 ≢ c) → Lacks c (take n xs)
+pub lacks_before : (c : ℕ) (xs : List ℕ) (n : ℕ) → n ≤ length xs
+    → ((k : ℕ) → k < n → get_or xs k 0 ≢ c)
+    → Lacks c (take n xs)
 lacks_before c xs n fits before =
     let len : length (take n xs) ≡ n = length-take-le n xs fits in
     recursion_from_All (λ x. x ≢ c) (take n xs) (All-from_get_or (λ x. x ≢ c) (take n xs) 0
@@ -49,7 +52,9 @@ unfolding IsSome_piece
 ended_more x ps some = rw (some.2) refl
 
 -- the first line ends at the first LF
-pub lines_cut : (script : List ℕ) (i : ℕ) → i < length script → ((k : ℕ) → k < i → get_or script k 0 ≢ 10) → get_or script i 0 ≡ 10
+pub lines_cut : (script : List ℕ) (i : ℕ) → i < length script
+    → ((k : ℕ) → k < i → get_or script k 0 ≢ 10)
+    → get_or script i 0 ≡ 10
     → lines script ≡ without_cr (take i script) ∷ lines (drop (i + 1) script)
 lines_cut script i inside before here =
     let lacks = lacks_before 10 script i (omega arith) before in
@@ -59,15 +64,32 @@ lines_cut script i inside before here =
     ∙ ended_more (take i script) (split 10 (drop (i + 1) script)) (split_some 10 (drop (i + 1) script))
 
 -- the same of the parts that a program lends
-pub line_here : (script line : List ℕ) (i : ℕ) → i < length script → ((k : ℕ) → k < i → get_or script k 0 ≢ 10) → get_or script i 0 ≡ 10 → line ≡ without_cr (take i script)
-    → (lines script ≡ line ∷ lines (take (length script - (i + 1)) (drop (i + 1) script))) × (length (take (length script - (i + 1)) (drop (i + 1) script)) < length script)
-line_here script line i inside before here stripped =
-    rw (take_rest script (i + 1), stripped) (lines_cut script i inside before here, omega (arith, length-drop (i + 1) script))
+pub line_here : (script line : List ℕ) (i : ℕ) → IsFirst 10 script i → line ≡ without_cr (take i script)
+    → (lines script ≡ line ∷ lines (take (length script - (i + 1)) (drop (i + 1) script)))
+    × (length (take (length script - (i + 1)) (drop (i + 1) script)) < length script)
+line_here script line i first stripped =
+    rw (take_rest script (i + 1), stripped) (lines_cut script i first.inside first.before first.here, omega (arith, first.inside, length-drop (i + 1) script))
+
+-- the first byte c of a script's front is its first
+pub first_of_front : (c n : ℕ) (front script : List ℕ) (i : ℕ) → IsFirstChunk script front n → IsFirst c front i → IsFirst c script i
+first_of_front c n front script i chunk first =
+    let len : length front ≡ n = ap length chunk.same ∙ length-take-le n script chunk.enough in
+    let inside : i < n = omega (arith, first.inside) in
+    let same : (k : ℕ) → k < n → get_or front k 0 ≡ get_or script k 0 =
+    λ k h. ap (λ (xs : List ℕ). get_or xs k 0) chunk.same ∙ get_or-take n script k 0 h in
+    record {
+      inside = omega (arith, chunk.enough);
+      here = sym (same i inside) ∙ first.here;
+      before = λ k h e. first.before k h (same k (omega arith) ∙ e);
+    }
 
 -- without an LF, and not empty, a script is one line
-pub lines_last : (script : List ℕ) → (length script == 0) ≡ false → ((k : ℕ) → k < length script → get_or script k 0 ≢ 10) → lines script ≡ script ∷ []
+pub lines_last : (script : List ℕ) → (length script == 0) ≡ false
+    → ((k : ℕ) → k < length script → get_or script k 0 ≢ 10)
+    → lines script ≡ script ∷ []
 lines_last script some before =
-    ap ended (split_whole 10 script (recursion_from_All (λ x. x ≢ 10) script (All-from_get_or (λ x. x ≢ 10) script 0 before)))
+    let lacks = recursion_from_All (λ x. x ≢ 10) script (All-from_get_or (λ x. x ≢ 10) script 0 before) in
+    ap ended (split_whole 10 script lacks)
     ∙ ap (λ b. if b then [] else script ∷ []) some
 
 pub some_length : (script : List ℕ) → (length script == 0) ≡ false → 0 < length script

@@ -1,5 +1,5 @@
 -- What the words of a command line ask for (our own).
-use Rattle.std.specs.Prelude.{◌≡◌, List, Option, Some, [], codes}
+use Rattle.std.specs.Prelude.{◌≡◌, List, Option, Some, codes}
 use Rattle.clap.specs.Words.{HasKind, Kinds, Row, Text}
 use Rattle.ledger_cli.specs.Grammar.{value}
 use Rattle.ledger_cli.specs.declared.jobs.Job.{Job}

@@ -1,5 +1,11 @@
 -- Scripts: the bytes of a file, as lines. All of it is our own.
-use Rattle.std.specs.Prelude.{ℕ, Bool, false, List, [], ◌∷◌, ◌+◌, ◌-◌, ◌==◌, Option, Some, None, if◌then◌else◌, length, take, slice_index, option_map}
+use Rattle.std.specs.Prelude.{◌≡◌, ◌≢◌, ◌<◌, ℕ, Bool, false, List, [], ◌∷◌, ◌+◌, ◌-◌, ◌==◌, Option, Some, None, if◌then◌else◌, length, take, slice_index, option_map}
+
+-- the first byte c stands at this place
+pub record IsFirst (c : ℕ) (bytes : List ℕ) (place : ℕ) : Type 0 where
+  pub inside : place < length bytes
+  pub here : slice_index bytes place ≡ c
+  pub before : (k : ℕ) → k < place → slice_index bytes k ≢ c
 
 -- this byte, in front of the first piece
 abbrev pub onto_first : ℕ → List (List ℕ) → List (List ℕ)

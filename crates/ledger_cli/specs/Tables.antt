@@ -1,6 +1,7 @@
 -- A ledger in two arrays, as `request_cards` sees it. All of it is our own.
-use Rattle.std.specs.Prelude.{ℕ, List, ◌-◌, ◌==◌, Option, None, if◌then◌else◌, slice_index_or, option_map}
-use Rattle.request_cards.specs.Ledgers.{Entry, Start, State, nothing}
+use Rattle.std.specs.Prelude.{ℕ, List, [], ◌-◌, ◌==◌, Option, None, if◌then◌else◌, slice_index_or, option_map}
+use Rattle.request_cards.specs.Ledgers.{Entry, Start, State, nothing, replies, report}
+use Rattle.ledger_cli.specs.Scripts.{lines}
 use Rattle.ledger_cli.specs.declared.table.Kept.{Kept}
 use Rattle.ledger_cli.specs.declared.table.Table.{Table}
 
@@ -19,3 +20,7 @@ state_of t = record { ledger = record { cards = nth t.cards; kept = λ till. opt
 -- a fresh disk with 64 tills, whose last item with room is 8819
 abbrev pub dry_start : Start
 dry_start = record { state = nothing; tills = 64; top = 8819 }
+
+-- the replies to a script on that disk, each over the lines before it and on a line of its own
+abbrev pub dry_report : List ℕ → List ℕ
+dry_report script = report (replies dry_start [] (lines script))

@@ -1,11 +1,12 @@
 //! The run of a script without a disk.
-ghost use Rattle.std.specs.Prelude.{◌≡◌, ◌↔◌, ◌++◌, ℕ, [], None, IfErr, IsSome, OnOk, Ok, Err, Some, codes};
+ghost use Rattle.std.specs.Prelude.{◌≡◌, ◌↔◌, ◌++◌, ℕ, None, IfErr, IsSome, OnOk, Ok, Err, Some};
+ghost use Rattle.std.specs.Prelude.{codes};
 ghost use Rattle.std.specs.Io.KnownBytes.{Appends};
-ghost use Rattle.request_cards.specs.Ledgers.{replies, replies_from, report};
+ghost use Rattle.request_cards.specs.Ledgers.{replies_from, report};
 ghost use Rattle.request_cards.specs.Texts.{reply_text};
 ghost use Rattle.ledger_cli.specs.Faults.{IsDryFault, dry_number};
 ghost use Rattle.ledger_cli.specs.Scripts.{first_bad, lines};
-ghost use Rattle.ledger_cli.specs.Tables.{dry_start, state_of};
+ghost use Rattle.ledger_cli.specs.Tables.{dry_report, dry_start, state_of};
 
 use crate::script::{first_bad_line, next_line};
 use crate::table::Table;
@@ -38,7 +39,8 @@ impl DryFault {
 
 /// Writes the reply on a line of its own.
 fn put_line<W: Write>(out: &mut W, reply: Reply) -> Result<(), DryFault>
-    ensures ok { OnOk result (Appends (W.contents out.old) (W.contents out.new) (reply_text reply ++ codes "\n")) }
+    ensures ok { OnOk result
+        (Appends (W.contents out.old) (W.contents out.new) (reply_text reply ++ codes "\n")) }
     ensures err { IfErr result (λ e. e ≡ DryFault.Output) }
 {
     let mut room = [b'\n'; 48];
@@ -51,7 +53,8 @@ fn put_line<W: Write>(out: &mut W, reply: Reply) -> Result<(), DryFault>
 
 /// Writes the reply to each line of the script, from the table on.
 fn play<W: Write>(script: &[u8], table: &mut Table, out: &mut W) -> Result<(), DryFault>
-    ensures ok { OnOk result (Appends (W.contents out.old) (W.contents out.new) (report (replies_from dry_start (state_of table.old) (lines script.now)))) }
+    ensures ok { OnOk result (Appends (W.contents out.old) (W.contents out.new)
+        (report (replies_from dry_start (state_of table.old) (lines script.now)))) }
     ensures err { IfErr result (λ e. e ≡ DryFault.Output) }
 {
     let mut rest = script;
@@ -63,17 +66,20 @@ fn play<W: Write>(script: &[u8], table: &mut Table, out: &mut W) -> Result<(), D
     Ok(())
 }
 
-/// Writes the reply to each line of a script on a line of its own, as a fresh disk with 64 tills would give it, without a disk.
-/// A line that begins with `@` is bad: the first such line is told before anything is written (`BadLine`). Where the writer
-/// fails, what it took of the replies is open (`Output`). It takes no memory.
+/// Writes the reply to each line of a script on a line of its own, as a fresh disk with 64 tills
+/// would give it, without a disk. A line that begins with `@` is bad: the first such line is told
+/// before anything is written (`BadLine`). Where the writer fails, what it took of the replies is
+/// open (`Output`). It takes no memory.
 pub fn dry<W: Write>(script: &[u8], out: &mut W) -> Result<(), DryFault>
     // A bad line is told exactly where there is one, and it is the first.
-    ensures bad_line { (n : ℕ) → (result ≡ Err (DryFault.BadLine n)) ↔ (first_bad (lines script.now) ≡ Some n) }
+    ensures bad_line { (n : ℕ) →
+        (result ≡ Err (DryFault.BadLine n)) ↔ (first_bad (lines script.now) ≡ Some n) }
     // Then nothing was written.
     ensures untouched { IsSome (first_bad (lines script.now)) → out.new ≡ out.old }
     // Where no line is bad, each has its reply over the lines before it.
     ensures good { OnOk result (first_bad (lines script.now) ≡ None) }
-    ensures ok { OnOk result (Appends (W.contents out.old) (W.contents out.new) (report (replies dry_start [] (lines script.now)))) }
+    ensures ok { OnOk result
+        (Appends (W.contents out.old) (W.contents out.new) (dry_report script.now)) }
     // The output is at fault only where no line is.
     ensures err { IfErr result (IsDryFault (first_bad (lines script.now))) }
 {

@@ -1,4 +1,4 @@
-//! A retry-safe stock ledger: the program. It opens, reads and prints; what it does is in the modules.
+//! A retry-safe stock ledger: the program. It opens, reads and prints; the modules do the rest.
 #![tactic(auto)]
 
 mod dry_run;
@@ -54,7 +54,8 @@ fn refuse_words(rt: &HostRuntime, fault: &JobFault) -> u8 {
     }
 }
 
-/// The bytes of a file, or of standard input under its usual name, which the program may not be allowed to open again.
+/// The bytes of a file, or of standard input under its usual name, which the program may not be
+/// allowed to open again.
 fn read_file(rt: &HostRuntime, path: &str) -> io::Result<Vec<u8>> {
     if path == "/dev/stdin" {
         let mut bytes = Vec::new(rt.alloc());

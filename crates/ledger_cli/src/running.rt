@@ -1,11 +1,10 @@
 //! Doing a job over the bytes of its files.
-ghost use Rattle.std.specs.Prelude.{◌≡◌, [], None, IfErr, IsSome, OnOk};
+ghost use Rattle.std.specs.Prelude.{◌≡◌, None, IfErr, IsSome, OnOk};
 ghost use Rattle.std.specs.Io.KnownBytes.{Appends};
-ghost use Rattle.request_cards.specs.Ledgers.{replies, report};
 ghost use Rattle.ledger_cli.specs.Faults.{IsDryFault, dry_status};
 ghost use Rattle.ledger_cli.specs.Runs.{IsRun};
 ghost use Rattle.ledger_cli.specs.Scripts.{first_bad, lines};
-ghost use Rattle.ledger_cli.specs.Tables.{dry_start};
+ghost use Rattle.ledger_cli.specs.Tables.{dry_report};
 
 use crate::dry_run::{DryFault, dry};
 use crate::jobs::Job;
@@ -19,7 +18,8 @@ fn tell<E: Write, D: Display + Drop>(err: &mut E, fault: D) {
 
 /// Plays the script and hands over all that the output still holds back.
 fn play_whole<W: Write>(script: &[u8], out: &mut W) -> Result<(), DryFault>
-    ensures ok { OnOk result (Appends (W.contents out.old) (W.contents out.new) (report (replies dry_start [] (lines script.now)))) }
+    ensures ok { OnOk result
+        (Appends (W.contents out.old) (W.contents out.new) (dry_report script.now)) }
     ensures good { OnOk result (first_bad (lines script.now) ≡ None) }
     ensures err { IfErr result (IsDryFault (first_bad (lines script.now))) }
     ensures untouched { IsSome (first_bad (lines script.now)) → out.new ≡ out.old }
@@ -41,9 +41,10 @@ fn status_of(fault: DryFault) -> u8
     }
 }
 
-/// Does the job and answers the program's exit status. `image` and `script` are the bytes of the files that the job names
-/// (empty where it names none), `file` is the image's file for writing. What is printed goes to `out`, which is flushed at the
-/// end; a fault is told on `err` in one line: `SCRIPT LINE n` with status 1, `FILE` with status 3 where `out` failed.
+/// Does the job and answers the program's exit status. `image` and `script` are the bytes of the
+/// files that the job names (empty where it names none), `file` is the image's file for writing.
+/// What is printed goes to `out`, which is flushed at the end; a fault is told on `err` in one line:
+/// `SCRIPT LINE n` with status 1, `FILE` with status 3 where `out` failed.
 pub fn run<F: Write + Seek + Drop, W: Write, E: Write>(
     job: &Job<'_>,
     _image: &[u8],

@@ -1,6 +1,7 @@
 //! A ledger in two arrays: the quantity on hand of each item, and the last request of each till.
 ghost use Rattle.std.specs.Prelude.{◌≡◌, ◌≤◌, ◌<◌, IfSome, None, Some};
-ghost use Rattle.request_cards.specs.Ledgers.{after, after_message, applied, nothing, reply_in, word_in};
+ghost use Rattle.request_cards.specs.Ledgers.{after, after_message, applied, nothing};
+ghost use Rattle.request_cards.specs.Ledgers.{reply_in, word_in};
 ghost use Rattle.request_cards.specs.Reading.{request_of};
 ghost use Rattle.request_cards.specs.Requests.{same_body as is_same_body};
 ghost use Rattle.request_cards.specs.Trade.{cards_after, outcome, put, room_for};
@@ -96,7 +97,8 @@ impl Table {
     /// Keeps the request with its answer, in place of its till's last one.
     fn keep(&mut self, request: &Request, answer: Answer)
         ensures cards { self.new.cards ≡ self.old.cards }
-        ensures kept { nth self.new.kept ≡ put (nth self.old.kept) request.now.till (Some (record { request = request.now; answer = answer })) }
+        ensures kept { nth self.new.kept ≡ put (nth self.old.kept) request.now.till
+            (Some (record { request = request.now; answer = answer })) }
     {
         let request = *request;
         self.kept[usize::from(request.till()) - 1] = Some(Kept { request, answer });
@@ -104,7 +106,8 @@ impl Table {
 
     /// Serves the next request of its till.
     fn serve(&mut self, request: &Request) -> Answer
-        ensures answer { result ≡ (outcome (state_of self.old).ledger.cards 8819 request.now.body).0 }
+        ensures answer { result
+            ≡ (outcome (state_of self.old).ledger.cards 8819 request.now.body).0 }
         ensures applied { state_of self.new ≡ applied 8819 (state_of self.old) request.now }
     {
         let item = request.item();
@@ -150,7 +153,8 @@ impl Table {
     /// The reply to a message, after which the table has what the message changed.
     pub(crate) fn reply(&mut self, message: &[u8]) -> Reply
         ensures reply { result ≡ reply_in dry_start (state_of self.old) (request_of message.now) }
-        ensures after { state_of self.new ≡ after_message dry_start (state_of self.old) (request_of message.now) }
+        ensures after { state_of self.new
+            ≡ after_message dry_start (state_of self.old) (request_of message.now) }
     {
         match Request::parse(message) {
             None => Reply::Syntax,

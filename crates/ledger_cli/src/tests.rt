@@ -146,6 +146,8 @@ fn words_ask_for_a_job(rt: HostRuntime) -> Result<(), Fail> {
         job(rt.alloc(), &["ledger", "dry", "a.txt"])?,
         Job::Dry { script: "a.txt" }
     );
+    let none = job(rt.alloc(), &["ledger"]);
+    assert_eq!(rt; none.map_err(|fault| fault.number()), Err(1));
     // Words, and the status that they end with.
     let refused: [(&[&str], i32); 6] = [
         (&["ledger"], 2),

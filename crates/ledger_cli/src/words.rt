@@ -11,7 +11,8 @@ use std::alloc::{AllocError, Global};
 
 /// The subcommand that was met, with its values.
 fn met<'m, 'a>(matches: &'m ArgMatches<'a>) -> Option<(&'a str, &'m ArgMatches<'a>)>
-    ensures { option_map (λ p. (p.0.now, rows_of (found_of p.1.now))) result ≡ subcommand_rows_of matches.now }
+    ensures { option_map (λ p. (p.0.now, rows_of (found_of p.1.now))) result
+        ≡ subcommand_rows_of matches.now }
 {
     matches.subcommand()
 }
@@ -42,7 +43,8 @@ pub fn job<'a>(alloc: Global, words: &'a [&'a str]) -> Result<Job<'a>, JobFault>
     ensures ok { let texts = map (λ word. word.now) words.entry.now in
         IfOk result (λ j. (fault_of ledger texts ≡ []) × IsJob (subcommand_of ledger texts) j) }
     // Words are refused for one of the reasons that the command line gives, or for want of memory.
-    ensures err { IfErr result (IsNoJob (fault_of ledger (map (λ word. word.now) words.entry.now))) }
+    ensures err { let texts = map (λ word. word.now) words.entry.now in
+        IfErr result (IsNoJob (fault_of ledger texts)) }
 {
     let command = match ledger_command(alloc) {
         Ok(command) => command,

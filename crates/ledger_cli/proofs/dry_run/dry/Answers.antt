@@ -1,5 +1,5 @@
 -- The replies from an empty state on are the replies over the requests before each line.
-use Rattle.std.proofs.Common.{[], sym, ap}
+use Rattle.std.proofs.Common.{[]}
 use Rattle.request_cards.proofs.Plain.{replies_by_ledger, plain_nil}
 use Rattle.ledger_cli.specs.Scripts.{lines}
 use Rattle.ledger_cli.specs.Tables.{dry_start}

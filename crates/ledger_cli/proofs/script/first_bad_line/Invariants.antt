@@ -1,5 +1,5 @@
 -- No line so far is bad, and each took a byte of the script.
-use Rattle.std.proofs.Common.{◌≡◌, ◌≤◌, ℕ, ◌+◌, length}
+use Rattle.std.proofs.Common.{◌≡◌, ◌≤◌, ◌+◌, length}
 use Rattle.std.specs.Prelude.{option_map}
 use Rattle.ledger_cli.specs.Scripts.{first_bad, lines}
 use Rattle.ledger_cli.proofs.script.first_bad_line.Given as goal

@@ -1,5 +1,5 @@
 -- The value that the matches give is the first of the argument's rows, and an empty text where there is none.
-use Rattle.std.proofs.Common.{◌≡◌, List, ℕ, Option, Some, None, [], Bor, refl, sym, ap, ◌∙◌}
+use Rattle.std.proofs.Common.{◌≡◌, List, ℕ, Option, Some, None, [], Bor, refl, ap, ◌∙◌}
 use Rattle.std.specs.Prelude.{option_map, unwrap_or}
 use Rattle.clap.specs.Words.{found_of}
 use Rattle.clap.proofs.WalkLemmas.{first_value-rows}

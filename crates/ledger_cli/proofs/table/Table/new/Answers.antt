@@ -1,6 +1,5 @@
 -- Blank arrays hold nothing.
-use Rattle.std.proofs.Common.{refl}
-use Rattle.ledger_cli.proofs.Tables.{nth_blank, blank_state}
+use Rattle.ledger_cli.proofs.Tables.{blank_state}
 use Rattle.ledger_cli.proofs.table.Table.new.Goals as goal
 
 pub returns : goal.returns

@@ -10,7 +10,16 @@ use Rattle.ledger_cli.proofs.table.Table.serve.Goals as goal
 pub returns-clause-applied : goal.returns-clause-applied
 returns-clause-applied c =
     let item = c.item-item.ensures.value in
-    applied_is c.args.self.now c.keep.new.self c.args.request.now c.decide-outcome.result
-    (ap (λ (xs : List (Option ℕ)). nth xs) c.keep.ensures.cards ∙ c.store.ensures.cards ∙ ap (λ i. cards_after (nth c.args.self.now.cards) i c.decide-outcome.result.quantity) item)
-    (c.keep.ensures.kept ∙ ap (λ (xs : List (Option Kept)). put (nth xs) c.args.request.now.till (Some (record { request = c.args.request.now; answer = c.decide-outcome.result.answer }))) c.store.ensures.kept)
-    (c.decide-outcome.ensures ∙ ap₂ (λ h r. trade h r c.args.request.now.body) (c.on_hand.ensures.value ∙ ap (nth c.args.self.now.cards) item) (c.room.ensures ∙ ap (room_for 8819) item))
+    let old = c.args.self.now in
+    let asked = c.args.request.now in
+    let outcome = c.decide-outcome.result in
+    applied_is old c.keep.new.self asked outcome
+    (ap (λ (xs : List (Option ℕ)). nth xs) c.keep.ensures.cards
+    ∙ c.store.ensures.cards
+    ∙ ap (λ i. cards_after (nth old.cards) i outcome.quantity) item)
+    (c.keep.ensures.kept
+    ∙ ap (λ (xs : List (Option Kept)). put (nth xs) asked.till (Some (record { request = asked; answer = outcome.answer }))) c.store.ensures.kept)
+    (c.decide-outcome.ensures
+    ∙ ap₂ (λ h r. trade h r asked.body)
+    (c.on_hand.ensures.value ∙ ap (nth old.cards) item)
+    (c.room.ensures ∙ ap (room_for 8819) item))
