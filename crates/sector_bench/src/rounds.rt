@@ -1,5 +1,5 @@
 //! The rounds that are timed, through a caller that knows only the trait.
-ghost use Rattle.std.specs.Prelude.{◌≡◌, ◌≤◌, ◌+◌, IfOk, OnOk, slice_index};
+ghost use Rattle.std.specs.Prelude.{◌≡◌, ◌≤◌, ◌+◌, IfOk, OnErr, OnOk, slice_index};
 ghost use Rattle.d64_image.specs.History.{TellsFailure};
 ghost use Rattle.d64_image.specs.Images.{put, sector};
 ghost use Rattle.sector_bench.specs.Rounds.{raised};
@@ -20,6 +20,7 @@ fn raise<D: Sectors>(disk: &mut D, place: Place, at: u8) -> Result<u8, DeviceFau
     ensures byte { IfOk result (λ byte. byte ≡ slice_index (raised at (sector (D.history.image disk.old) place)) at) }
     ensures reads { D.history.reads disk.new ≤ D.history.reads disk.old + 1 }
     ensures writes { D.history.writes disk.new ≤ D.history.writes disk.old + 1 }
+    ensures err { OnErr result (D.history.writes disk.new ≡ D.history.writes disk.old) }
     ensures failures { TellsFailure D.history disk.old disk.new result }
 {
     let mut bytes = [0; 256];
