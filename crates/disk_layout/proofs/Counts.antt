@@ -64,7 +64,7 @@ kept-slot img f s e = λ i. record {
   sides = f.sides;
 }
 
-range-piece : (x : List ℕ) (k : ℕ) → slice_range x (32 * k) (32 * k + 32) ≡ piece 32 k x
+pub range-piece : (x : List ℕ) (k : ℕ) → slice_range x (32 * k) (32 * k + 32) ≡ piece 32 k x
 range-piece x k = let m : 32 * k + 32 - 32 * k ≡ 32 = omega arith in let c : 32 * k ≡ k * 32 = omega arith in rw (m, c) refl
 
 other-slot : (p : Place) (x y : List ℕ) (n k : ℕ) → IsRecounted x y n → k < 8 → k ≢ n → slot_in p x k ≡ slot_in p y k

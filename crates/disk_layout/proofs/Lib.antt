@@ -26,11 +26,13 @@ pub mod Picking
 pub mod Pieces
 pub mod RecordWrites
 pub mod Recount
+pub mod Recounts
 pub mod Refills
 pub mod Runs
 pub mod SideWrites
 pub mod Slots
 pub mod Sums
+pub mod Tops
 pub mod Twice
 pub mod Unclean
 pub mod Uniques

@@ -75,7 +75,7 @@ unfolding slots_in
 slots-eight p bytes = refl
 
 -- a slot among them is the one of its number
-slot-number : (p : Place) (bytes : List ℕ) (s : Slot) → Contains (slots_in p bytes) s → (s.number < 8) × (s ≡ slot_in p bytes s.number)
+pub slot-number : (p : Place) (bytes : List ℕ) (s : Slot) → Contains (slots_in p bytes) s → (s.number < 8) × (s ≡ slot_in p bytes s.number)
 slot-number p bytes s (k, lt, e) =
     let below : k < 8 = omega (arith, lt, slots-eight p bytes) in
     let same : s ≡ slot_in p bytes k = sym e ∙ slots_at p bytes k _ below in

@@ -16,3 +16,9 @@ pub record IsRecounted (old new : Sector) (n : ℕ) : Type 0 where
   pub old_long : length old ≡ 256
   pub long : length new ≡ 256
   pub same : (i : ℕ) → (i < 32 * n + 30) ⊎ (32 * n + 32 ≤ i) → slice_index new i ≡ slice_index old i
+
+-- the bytes of a directory sector change in the block counts of its slots alone
+pub record IsRecountedAll (old new : Sector) : Type 0 where
+  pub old_long : length old ≡ 256
+  pub long : length new ≡ 256
+  pub same : (n i : ℕ) → n < 8 → i < 30 → slice_index new (32 * n + i) ≡ slice_index old (32 * n + i)
