@@ -4,6 +4,8 @@ pub mod Commit
 pub mod Count
 pub mod Counts
 pub mod Exact
+pub mod ExampleDisk
+pub mod ExampleMap
 pub mod Examples
 pub mod Faces
 pub mod Fillers
