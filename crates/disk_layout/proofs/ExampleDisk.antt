@@ -1,6 +1,6 @@
 -- A disk with one small relative file, STOCK: its entry in 18/1, its block in 17/0, its side sector in 17/1, the map in 18/0.
 -- The four sectors are arguments, so that each example changes what it is about.
-use Rattle.std.proofs.Common.{List, [], ap, arith, inl, inr, length, lit<, lit≤, refl, replicate, subst, true, ℕ, zero, suc, ◌*◌, ◌+◌, ◌++◌, ◌<◌, ◌≤◌, ◌∙◌, ◌∷◌, ◌≡◌, ◌≢◌}
+use Rattle.std.proofs.Common.{List, [], ap, arith, inl, inr, length, lit<, lit≤, refl, replicate, subst, sym, true, ℕ, zero, suc, ◌*◌, ◌+◌, ◌++◌, ◌<◌, ◌≤◌, ◌∙◌, ◌∷◌, ◌≡◌, ◌≢◌}
 use Rattle.std.proofs.lemmas.Bool.{true≢false}
 use Rattle.std.specs.Prelude.{Contains, Some, None, slice_get, slice_index}
 use Rattle.d64_image.proofs.Images.{length-put, sector-put_other, sector-put_same}
@@ -76,6 +76,15 @@ module _ (e b s m : Sector) where
       ∙ (sector-put_other _ block_1 map_place s (lower_track block_1 map_place (lit< tt)).0
       ∙ sector-put_same _ map_place m zero-long))
 
+  -- all else is the image of zeros
+  pub at_other : (p : Place) → p ≢ directory_start → p ≢ block_0 → p ≢ block_1 → p ≢ map_place → sector (disk e b s m) p ≡ sector zero_image p
+  unfolding disk
+  at_other p d x y z =
+      sector-put_other _ directory_start p e (λ h. d (sym h))
+      ∙ (sector-put_other _ block_0 p b (λ h. x (sym h))
+      ∙ (sector-put_other _ block_1 p s (λ h. y (sym h))
+      ∙ sector-put_other _ map_place p m (λ h. z (sym h))))
+
 -- a list of one place
 pub only : (P : ℕ → Place → Type 0) (p : Place) → P 0 p → (k : ℕ) (q : Place) → slice_get (p ∷ []) k ≡ Some q → P k q
 only P p h zero q e = let s : p ≡ q = cc in subst (P 0) s h
@@ -99,12 +108,23 @@ pub record IsStockSide (s : Sector) : Type 0 where
   pub pointer : Names s 16 block_0
 
 -- its exact bytes are such
-pub exact_side : Sector
+unfoldable pub exact_side : Sector
 exact_side = side_sector 0 (block_0 ∷ []) (block_1 ∷ []) 18
 
 pub exact-side_is : IsStockSide exact_side
 unfolding exact_side side_sector padded
 exact-side_is = record { number = refl; length_byte = refl; listed = (refl, refl); pointer = (refl, refl) }
+
+-- its block ends with the index in its second byte
+pub one-chain : (e : Sector) (u : ℕ) (rest s m : Sector) → IsChain (disk e (0 ∷ u ∷ rest) s m) block_0 (block_0 ∷ []) u
+one-chain e u rest s m = record {
+  front = [];
+  last = block_0;
+  places = refl;
+  leads = refl;
+  ends = rw (at_block e (0 ∷ u ∷ rest) s m) (refl, refl);
+  once = (Contains-nil block_0, tt);
+}
 
 -- no place has two owners
 once-each : EachOnce (map_place ∷ directory_start ∷ block_0 ∷ block_1 ∷ [])
@@ -142,14 +162,7 @@ module _ (u n : ℕ) (rest s m : Sector) (side : IsStockSide s) where
   pub stock-is_rel_file : IsRelFile (stock_disk u n rest s m) (stock_file u n)
   unfolding entry_bytes
   stock-is_rel_file = record {
-    chain = (block_0, (refl, refl), record {
-      front = [];
-      last = block_0;
-      places = refl;
-      leads = refl;
-      ends = rw (at_block (entry_bytes 132 1 18 n) (0 ∷ u ∷ rest) s m) (refl, refl);
-      once = (Contains-nil block_0, tt);
-    });
+    chain = (block_0, (refl, refl), one-chain (entry_bytes 132 1 18 n) u rest s m);
     length_low = lit≤ tt;
     length_high = lit≤ tt;
     count = refl;
@@ -192,7 +205,7 @@ pub stock-is_sound : (u n : ℕ) (rest s m : Sector) → IsStockSide s → IsSou
 stock-is_sound u n rest s m side = (stock_layout u n, stock-is_layout u n rest s m side)
 
 -- record 1 begins with a letter, and record 2 is empty
-pub two_records : List ℕ
+unfoldable pub two_records : List ℕ
 two_records = (65 ∷ replicate 17 0) ++ (255 ∷ replicate 17 0)
 
 -- with last index 37 the block has both, and with 19 the first alone

@@ -4,7 +4,9 @@ pub mod Commit
 pub mod Count
 pub mod Counts
 pub mod Exact
+pub mod ExampleChanges
 pub mod ExampleDisk
+pub mod ExampleFaults
 pub mod ExampleMap
 pub mod Examples
 pub mod Faces
