@@ -1,0 +1,55 @@
+//! Chains of sectors: each sector's first two bytes name the next.
+ghost use Rattle.std.specs.Prelude.{◌≤◌, IfOk, IfErr, length};
+ghost use Rattle.d64_image.specs.History.{Failed, OnlyReads};
+ghost use Rattle.disk_layout.specs.Chain.{IsChain};
+ghost use Rattle.disk_layout.specs.Fault.{HoldsOfChain, TellsFault};
+
+use crate::faults::Fault;
+use crate::visited::Visited;
+use arrayvec::ArrayVec;
+use d64_image::{Place, Sectors};
+
+/// Follows the chain of sectors that begins at `first` to its end, and fills `places` with its sectors in order. The
+/// answer is the last sector's byte 1: the index of the last used byte there, below 2 where none is used.
+///
+/// A sector whose byte 0 isn't 0 links to the place in bytes 0-1, and a sector whose byte 0 is 0 ends the chain. Told
+/// are `BadLink` at a sector whose link is no place of the disk, `Loop` at a sector that the links come to a second
+/// time, and `Device` at a sector that the device failed to read. After a fault `places` has the sectors visited.
+///
+/// Each sector is read once at most. The disk has 683 sectors and none is visited twice, so 720 places suffice for
+/// every chain.
+pub fn walk_chain<D: Sectors>(
+    disk: &mut D,
+    first: Place,
+    places: &mut ArrayVec<Place, 720>,
+) -> Result<u8, Fault>
+    ensures chain { IfOk result (λ u. IsChain (D.history.image disk.old) first places.new.items u) }
+    ensures fault { IfErr result (HoldsOfChain (Failed D.history disk.old disk.new) (D.history.image disk.old) first) }
+    ensures failures { TellsFault D.history disk.old disk.new result }
+    // no sector is read twice, and the disk has no more
+    ensures reads { OnlyReads D.history disk.old disk.new (length places.new.items) }
+    ensures few { length places.new.items ≤ 683 }
+{
+    places.clear();
+    let mut visited = Visited::new();
+    let mut at = first;
+    let mut sector = [0u8; 256];
+    'chain: loop {
+        if visited.contains(at) {
+            return Err(Fault::Loop(at));
+        }
+        visited.insert(at);
+        places.push(at);
+        match disk.read(at, &mut sector) {
+            Ok(()) => {}
+            Err(_) => return Err(Fault::Device(at)),
+        }
+        if sector[0] == 0 {
+            return Ok(sector[1]);
+        }
+        match Place::new(sector[0], sector[1]) {
+            None => return Err(Fault::BadLink(at)),
+            Some(next) => at = next,
+        }
+    }
+}

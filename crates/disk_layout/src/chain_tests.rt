@@ -1,0 +1,142 @@
+//! Chains and side sectors with values from the 1541's format, and the faults of damaged chains.
+use crate::{Fault, SideView, side_bytes, walk_chain};
+use arrayvec::ArrayVec;
+use d64_image::{DeviceFault, Fuse, MemDisk, Place, Sectors};
+use std::test::Fail;
+
+/// The place, where the disk has it.
+fn place(track: u8, sector: u8) -> Result<Place, Fail> {
+    Ok(Place::new(track, sector).ok_or(DeviceFault)?)
+}
+
+/// Writes a sector that begins with these two bytes.
+fn link(disk: &mut MemDisk, from: Place, track: u8, sector: u8) -> Result<(), DeviceFault> {
+    let mut bytes = [0; 256];
+    bytes[0] = track;
+    bytes[1] = sector;
+    disk.write(from, &bytes)
+}
+
+/// The answer of a walk from this place, with the number of sectors visited.
+fn walk<D: Sectors>(disk: &mut D, first: Place) -> (Result<u8, Fault>, usize) {
+    let mut places = ArrayVec::new();
+    let end = walk_chain(disk, first, &mut places);
+    (end, places.len())
+}
+
+// 17/0 has the link of the row, 17/1 links back to 17/0, and 17/2, a block of another file, ends with index 9.
+#[test]
+fn damaged_chains(rt: HostRuntime) -> Result<(), Fail> {
+    let first = place(17, 0)?;
+    let rows = [
+        ("one sector, index 0", 0, 0, Ok(0), 1),
+        ("one sector, index 1", 0, 1, Ok(1), 1),
+        ("one sector, index 255", 0, 255, Ok(255), 1),
+        ("onto itself", 17, 0, Err(Fault::Loop(first)), 1),
+        ("back to the first block", 17, 1, Err(Fault::Loop(first)), 2),
+        ("into another file", 17, 2, Ok(9), 2),
+        ("track 36", 36, 0, Err(Fault::BadLink(first)), 1),
+        (
+            "sector 21 of track 17",
+            17,
+            21,
+            Err(Fault::BadLink(first)),
+            1,
+        ),
+    ];
+    for (name, track, sector, end, visited) in rows {
+        let mut disk = MemDisk::zeroed(rt.alloc())?;
+        link(&mut disk, first, track, sector)?;
+        link(&mut disk, place(17, 1)?, 17, 0)?;
+        link(&mut disk, place(17, 2)?, 0, 9)?;
+        assert_eq!(rt; walk(&mut disk, first), (end, visited), "{name}");
+    }
+    Ok(())
+}
+
+#[test]
+fn a_chain_of_all_sectors(rt: HostRuntime) -> Result<(), Fail> {
+    let mut disk = MemDisk::zeroed(rt.alloc())?;
+    let mut before = place(1, 0)?;
+    for track in 1..36u8 {
+        for sector in 0..21u8 {
+            if let Some(next) = Place::new(track, sector) {
+                link(&mut disk, before, track, sector)?;
+                before = next;
+            }
+        }
+    }
+    link(&mut disk, before, 0, 42)?;
+    assert_eq!(rt; walk(&mut disk, place(1, 0)?), (Ok(42), 683));
+    Ok(())
+}
+
+#[test]
+fn a_device_that_fails(rt: HostRuntime) -> Result<(), Fail> {
+    let mut disk = Fuse::new(MemDisk::zeroed(rt.alloc())?, 0);
+    let first = place(17, 0)?;
+    assert_eq!(rt; walk(&mut disk, first), (Err(Fault::Device(first)), 1));
+    Ok(())
+}
+
+// The side sector of a file whose one block is 17/0 and whose one side sector is 17/1, with records of 18 bytes, and
+// those of a file of 121 blocks.
+#[test]
+fn side_sectors(rt: HostRuntime) -> Result<(), Fail> {
+    let (a, b, c) = (place(17, 0)?, place(17, 1)?, place(17, 2)?);
+    let one = side_bytes(0, &[a], &[b], 18);
+    let mut want = [0; 256];
+    want[1] = 17;
+    want[3] = 18;
+    want[4] = 17;
+    want[5] = 1;
+    want[16] = 17;
+    assert_eq!(rt; one, want, "one block");
+    let sides = [b, c];
+    let first = side_bytes(0, &[a; 121], &sides, 18);
+    assert_eq!(rt;
+        &first[..8],
+        [17, 2, 0, 18, 17, 1, 17, 2].as_slice(),
+        "the first of two"
+    );
+    let second = side_bytes(1, &[a; 121], &sides, 18);
+    assert_eq!(rt;
+        &second[..8],
+        [0, 17, 1, 18, 17, 1, 17, 2].as_slice(),
+        "the second of two"
+    );
+    let view = SideView::new(&second);
+    assert_eq!(rt;
+        (view.number(), view.record_length(), view.next()),
+        (1, 18, None)
+    );
+    assert_eq!(rt;
+        (view.side(1), view.block(0), view.block(1)),
+        (Some(c), Some(a), None)
+    );
+    Ok(())
+}
+
+#[test]
+fn texts_and_numbers(rt: HostRuntime) -> Result<(), Fail> {
+    let at = place(18, 1)?;
+    let rows = [
+        (Fault::BadLink(at), "BADLINK 18/1", 1),
+        (Fault::Loop(at), "LOOP 18/1", 2),
+        (Fault::OwnedTwice(at), "OWNEDTWICE 18/1", 3),
+        (Fault::BadType(at), "BADTYPE 18/1", 4),
+        (Fault::Unclosed(at), "UNCLOSED 18/1", 5),
+        (Fault::BadSide(at), "BADSIDE 18/1", 6),
+        (Fault::BadLength(at), "BADLENGTH 18/1", 7),
+        (Fault::CountWrong(at), "COUNTWRONG 18/1", 8),
+        (Fault::MapWrong(at), "MAPWRONG 18/1", 9),
+        (Fault::Device(at), "DEVICE 18/1", 10),
+    ];
+    for (fault, text, number) in rows {
+        assert_eq!(rt;
+            (format!(in rt.alloc(); "{fault}")?.as_str(), fault.number()),
+            (text, number)
+        );
+    }
+    Ok(())
+}

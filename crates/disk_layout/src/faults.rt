@@ -1,0 +1,64 @@
+//! What can be wrong with the layout of a disk, and where.
+ghost use Rattle.std.specs.Prelude.{◌≡◌};
+
+use d64_image::Place;
+use thiserror::Error;
+
+/// A fault of the layout, with the sector at which it was found. What each one says of the image at its place is
+/// defined beside it; which of several is told is open.
+#[derive(Clone, Copy, Debug, PartialEq, Eq, Error)]
+pub enum Fault {
+    /// A link, or an entry's first block, is no place of the disk, or leads the directory where it may not be.
+    #[error("BADLINK {}/{}", .0.track(), .0.sector())]
+    BadLink(Place),
+    /// A chain comes to this sector a second time.
+    #[error("LOOP {}/{}", .0.track(), .0.sector())]
+    Loop(Place),
+    /// The sector has two owners among the map, the directory, chains and side sectors.
+    #[error("OWNEDTWICE {}/{}", .0.track(), .0.sector())]
+    OwnedTwice(Place),
+    /// A closed slot of this directory sector has a type that there isn't.
+    #[error("BADTYPE {}/{}", .0.track(), .0.sector())]
+    BadType(Place),
+    /// A used slot of this directory sector isn't closed.
+    #[error("UNCLOSED {}/{}", .0.track(), .0.sector())]
+    Unclosed(Place),
+    /// A side sector disagrees with its file, or an entry of this directory sector names none.
+    #[error("BADSIDE {}/{}", .0.track(), .0.sector())]
+    BadSide(Place),
+    /// A relative entry of this directory sector has record length 0 or 255.
+    #[error("BADLENGTH {}/{}", .0.track(), .0.sector())]
+    BadLength(Place),
+    /// A relative entry of this directory sector has a wrong block count.
+    #[error("COUNTWRONG {}/{}", .0.track(), .0.sector())]
+    CountWrong(Place),
+    /// The map is wrong about this sector, or, at 18/0, about some track's number of free sectors.
+    #[error("MAPWRONG {}/{}", .0.track(), .0.sector())]
+    MapWrong(Place),
+    /// The device failed at this sector.
+    #[error("DEVICE {}/{}", .0.track(), .0.sector())]
+    Device(Place),
+}
+
+impl Fault {
+    ghost use Rattle.disk_layout.specs.Number.{number_of};
+
+    /// The fault's number: 1 BadLink, 2 Loop, 3 OwnedTwice, 4 BadType, 5 Unclosed, 6 BadSide, 7 BadLength,
+    /// 8 CountWrong, 9 MapWrong, 10 Device.
+    pub fn number(self) -> u8
+        ensures { result ≡ number_of self }
+    {
+        match self {
+            Fault::BadLink(_) => 1,
+            Fault::Loop(_) => 2,
+            Fault::OwnedTwice(_) => 3,
+            Fault::BadType(_) => 4,
+            Fault::Unclosed(_) => 5,
+            Fault::BadSide(_) => 6,
+            Fault::BadLength(_) => 7,
+            Fault::CountWrong(_) => 8,
+            Fault::MapWrong(_) => 9,
+            Fault::Device(_) => 10,
+        }
+    }
+}

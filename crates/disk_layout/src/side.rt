@@ -1,0 +1,120 @@
+//! Side sectors of relative files: where a file's data blocks lie, 120 to a side sector.
+ghost use Rattle.std.specs.Prelude.{◌≡◌, ◌+◌, ◌*◌, ◌++◌, ◌<◌, ◌≤◌, ◌∷◌, [], length, slice_get, slice_index, take, drop, flat_map};
+ghost use Rattle.disk_layout.specs.Chain.{named_at};
+ghost use Rattle.disk_layout.specs.Side.{link_bytes, place_bytes, pointers_of, side_sector};
+
+use d64_image::Place;
+
+/// How many data blocks a side sector points to at most.
+const POINTERS: usize = 120;
+
+/// How many side sectors a side sector lists at most: a file has six or fewer.
+const LISTED: usize = 6;
+
+/// The exact bytes of side sector `number`, counted from 0, of a relative file with these data blocks, these side
+/// sectors and this record length.
+///
+/// Bytes 0-1 name the next side sector; in the last they are 0 and the index of the last used byte. Byte 2 is the
+/// number and byte 3 the record length. From byte 4 on stand the places of all side sectors, in every side sector
+/// alike, and from byte 16 on those of data blocks 120 * number and on; what is left over of both lists is 0.
+pub fn side_bytes(number: u8, blocks: &[Place], sides: &[Place], length: u8) -> [u8; 256]
+    ensures { result ≡ side_sector number blocks.now sides.now length }
+{
+    let pointers = pointers(number, blocks);
+    let (track, sector) = link(number, sides, pointers.len());
+    let mut bytes = [0; 256];
+    bytes[0] = track;
+    bytes[1] = sector;
+    bytes[2] = number;
+    bytes[3] = length;
+    put_places(&mut bytes, 4, &sides[..sides.len().min(LISTED)]);
+    put_places(&mut bytes, 16, pointers);
+    bytes
+}
+
+/// The data blocks that side sector `number` points to: 120 from block 120 * number on, as far as there are so many.
+fn pointers(number: u8, blocks: &[Place]) -> &[Place]
+    ensures places { result.now ≡ pointers_of number blocks.now }
+    ensures few { length result.now ≤ 120 }
+{
+    let start = (POINTERS * number as usize).min(blocks.len());
+    let end = (start + POINTERS).min(blocks.len());
+    &blocks[start..end]
+}
+
+/// Bytes 0-1 of side sector `number`, which has `used` pointers.
+fn link(number: u8, sides: &[Place], used: usize) -> (u8, u8)
+    requires few { used ≤ 120 }
+    ensures { result.0 ∷ result.1 ∷ [] ≡ link_bytes (slice_get sides.now (number + 1)) (15 + 2 * used) }
+{
+    match sides.get(number as usize + 1) {
+        Some(next) => (next.track(), next.sector()),
+        None => (0, 15 + 2 * used as u8),
+    }
+}
+
+/// Writes the places into the bytes from `at` on: track and sector of each.
+fn put_places(bytes: &mut [u8; 256], at: usize, places: &[Place])
+    requires room { at + 2 * length places.now ≤ 256 }
+    ensures { bytes.new ≡ take at bytes.old ++ (flat_map place_bytes places.now ++ drop (at + 2 * length places.now) bytes.old) }
+{
+    for (i, place) in places.iter().enumerate() {
+        bytes[at + 2 * i] = place.track();
+        bytes[at + 2 * i + 1] = place.sector();
+    }
+}
+
+/// A side sector as it is read: its fields, and the places that it names, taken from its bytes where they lie.
+#[derive(Clone, Copy)]
+pub struct SideView<'a> {
+    /// The sector's bytes.
+    pub bytes: &'a [u8; 256],
+}
+
+impl<'a> SideView<'a> {
+    /// The view of these bytes of a side sector.
+    pub fn new(bytes: &'a [u8; 256]) -> SideView<'a>
+        ensures { result.bytes.now ≡ bytes.now }
+    {
+        SideView { bytes }
+    }
+
+    /// The next side sector; None where bytes 0-1 name no place, as in the last one.
+    pub fn next(&self) -> Option<Place>
+        ensures { result ≡ named_at self.now.bytes.now 0 }
+    {
+        Place::new(self.bytes[0], self.bytes[1])
+    }
+
+    /// Its number among the file's side sectors, from 0 to 5.
+    pub fn number(&self) -> u8
+        ensures { result ≡ slice_index self.now.bytes.now 2 }
+    {
+        self.bytes[2]
+    }
+
+    /// The file's record length in bytes.
+    pub fn record_length(&self) -> u8
+        ensures { result ≡ slice_index self.now.bytes.now 3 }
+    {
+        self.bytes[3]
+    }
+
+    /// The file's side sector of that number, from 0 to 5, as this one lists it; None where the two bytes name no
+    /// place.
+    pub fn side(&self, number: usize) -> Option<Place>
+        requires listed { number < 6 }
+        ensures { result ≡ named_at self.now.bytes.now (4 + 2 * number) }
+    {
+        Place::new(self.bytes[4 + 2 * number], self.bytes[5 + 2 * number])
+    }
+
+    /// The data block of that number, from 0 to 119, among those that it points to; None where the two bytes name no
+    /// place.
+    pub fn block(&self, number: usize) -> Option<Place>
+        requires listed { number < 120 }
+        ensures { result ≡ named_at self.now.bytes.now (16 + 2 * number) }
+    {
+        Place::new(self.bytes[16 + 2 * number], self.bytes[17 + 2 * number])
+    }
+}
