@@ -1,24 +1,19 @@
 -- What repair, creation, growth and a request leave, on a disk with one small relative file.
-use Rattle.std.proofs.Common.{List, [], ap, arith, inl, inr, lit<, lit≤, refl, replicate, set, sym, take, true, ℕ, zero, suc, ◌+◌, ◌++◌, ◌<◌, ◌≤◌, ◌∙◌, ◌∷◌, ◌≡◌, ◌≢◌, ◌⊎◌, Bool}
-use Rattle.std.proofs.lemmas.Bool.{agree_below, agree_below_at, cases_eq, eqb-true}
-use Rattle.std.proofs.lemmas.Bool.Decides.{nat_tests}
+use Rattle.std.proofs.Common.{List, [], ap, arith, inl, inr, lit<, lit≤, refl, replicate, sym, ℕ, ◌++◌, ◌<◌, ◌∙◌, ◌∷◌, ◌≡◌, ◌≢◌, ◌⊎◌}
+use Rattle.std.proofs.lemmas.Bool.{cases_eq}
 use Rattle.std.proofs.lemmas.List.{get_or-set_other}
-use Rattle.std.specs.Prelude.{Contains, nat_eq, nat_lt, slice_index}
+use Rattle.std.specs.Prelude.{slice_index}
 use Rattle.d64_image.proofs.Places.{same_or_other}
 use Rattle.d64_image.specs.Images.{Image, Sector, sector}
-use Rattle.d64_image.specs.declared.place.Place.{Place}
 use Rattle.disk_layout.proofs.ExampleDisk.{IsStockSide, at_block, at_entry, at_map, at_other, disk, entry_bytes, entry_slot, exact_side, lower_sector, lower_track, not-in, stock-is_layout, stock-records-1, stock-records-2, stock_disk, stock_file, stock_layout, two_records}
 use Rattle.disk_layout.proofs.ExampleFaults.{changed_side}
 use Rattle.disk_layout.proofs.ExampleMap.{map_bytes}
 use Rattle.disk_layout.proofs.Examples.{block_0, block_1, zero_sector}
 use Rattle.disk_layout.proofs.Once.{Contains-cases, Contains-here, Contains-nil}
-use Rattle.disk_layout.specs.Chain.{byte}
 use Rattle.disk_layout.specs.Directory.{directory_start, map_place}
 use Rattle.disk_layout.specs.Entries.{IsRecounted, SameEntries}
 use Rattle.disk_layout.specs.Growth.{HasGrown, IsGrowing}
-use Rattle.disk_layout.specs.Layout.{Layout}
-use Rattle.disk_layout.specs.Records.{IsFilled, empty_record, filler, joined, record_count, records}
-use Rattle.disk_layout.specs.Rest.{IsFirst, KeepsRest, header_of, rest_of}
+use Rattle.disk_layout.specs.Rest.{header_of}
 use Rattle.disk_layout.specs.Same.{AddsFile, IsCountByte, SameButCounts, SameFiles}
 
 -- block counts: another count leaves the entry, and changes byte 30 of its sector alone
@@ -72,9 +67,9 @@ repaired = record {
   elsewhere = λ p z d s. elim (same_or_other p block_0) [
     | inl e ↦ rw e block-same
     | inr x ↦
-      let out : p ≢ directory_start = λ e. d (0, lit< tt, sym e) in
-      let side : p ≢ block_1 = λ e. s (0, lit< tt, sym e) in
-      at_other (entry_bytes 132 1 18 2) (0 ∷ 37 ∷ two_records) exact_side (map_bytes 19 252) p out x side z ∙ sym (at_other (entry_bytes 132 1 18 3) (0 ∷ 37 ∷ two_records) changed_side (map_bytes 18 253) p out x side z)
+        let out : p ≢ directory_start = λ e. d (0, lit< tt, sym e) in
+        let side : p ≢ block_1 = λ e. s (0, lit< tt, sym e) in
+        at_other (entry_bytes 132 1 18 2) (0 ∷ 37 ∷ two_records) exact_side (map_bytes 19 252) p out x side z ∙ sym (at_other (entry_bytes 132 1 18 3) (0 ∷ 37 ∷ two_records) changed_side (map_bytes 18 253) p out x side z)
   ];
 }
 
@@ -90,8 +85,8 @@ other-letters e = let b : ◌≡◌ {A = ℕ} 66 255 = ap (λ (x : Sector). slic
 pub changed_block : (n : ℕ) (s m : Sector) → ¬ (SameFiles (stock_disk 37 n two_records s m) (stock_disk 37 n two_letters s m) (stock_layout 37 n) (stock_layout 37 n))
 changed_block n s m h =
     let same = h.elsewhere block_0 (lower_track block_0 map_place (lit< tt)).0
-      (not-in block_0 directory_start [] (lower_track block_0 directory_start (lit< tt)).1 (Contains-nil block_0))
-      (not-in block_0 block_1 [] (lower_sector block_0 block_1 (lit< tt)).1 (Contains-nil block_0)) in
+    (not-in block_0 directory_start [] (lower_track block_0 directory_start (lit< tt)).1 (Contains-nil block_0))
+    (not-in block_0 block_1 [] (lower_sector block_0 block_1 (lit< tt)).1 (Contains-nil block_0)) in
     other-letters (sym (at_block (entry_bytes 132 1 18 n) (0 ∷ 37 ∷ two_letters) s m) ∙ (same ∙ at_block (entry_bytes 132 1 18 n) (0 ∷ 37 ∷ two_records) s m))
 
 -- a creation: no entry before, this file after
