@@ -1,24 +1,21 @@
 -- What repair, creation, growth and a request leave, on a disk with one small relative file.
-use Rattle.std.proofs.Common.{List, [], ap, arith, drop, inl, inr, lit<, lit≤, refl, replicate, set, sym, take, true, ℕ, zero, suc, ◌+◌, ◌++◌, ◌<◌, ◌≤◌, ◌∙◌, ◌∷◌, ◌≡◌, ◌≢◌, ◌⊎◌, Bool}
+use Rattle.std.proofs.Common.{List, [], ap, arith, drop, inl, inr, lit<, lit≤, refl, replicate, set, sym, take, true, ℕ, zero, suc, ◌*◌, ◌+◌, ◌++◌, ◌<◌, ◌≤◌, ◌∙◌, ◌∷◌, ◌≡◌, ◌≢◌, ◌⊎◌, Bool}
 use Rattle.std.proofs.lemmas.Bool.{agree_below, agree_below_at, cases_eq, eqb-true, lt-ltb}
-use Rattle.std.proofs.lemmas.Bool.Decides.{nat_tests}
 use Rattle.std.proofs.lemmas.List.{get_or-set_other}
-use Rattle.std.specs.Prelude.{Contains, nat_eq, nat_lt, slice_index}
+use Rattle.std.specs.Prelude.{nat_eq, nat_lt, slice_index}
 use Rattle.d64_image.proofs.Places.{same_or_other}
 use Rattle.d64_image.specs.Images.{Image, Sector, sector}
-use Rattle.d64_image.specs.declared.place.Place.{Place}
 use Rattle.disk_layout.proofs.ExampleDisk.{IsStockSide, at_block, at_entry, at_map, at_other, disk, entry_bytes, entry_slot, exact_side, lower_sector, lower_track, not-in, stock-is_layout, stock-records-1, stock-records-2, stock_disk, stock_file, stock_layout, two_records}
 use Rattle.disk_layout.proofs.ExampleFaults.{changed_side}
 use Rattle.disk_layout.proofs.ExampleMap.{map_bytes}
-use Rattle.disk_layout.proofs.Examples.{block_0, block_1, zero_sector}
+use Rattle.disk_layout.proofs.Examples.{block_0, block_1, top-alone, zero_sector}
 use Rattle.disk_layout.proofs.Once.{Contains-cases, Contains-here, Contains-nil}
-use Rattle.disk_layout.specs.Chain.{byte}
 use Rattle.disk_layout.specs.Directory.{directory_start, map_place}
-use Rattle.disk_layout.specs.Entries.{IsRecounted, SameEntries}
+use Rattle.disk_layout.specs.Entries.{IsRecounted, IsRecountedAll, SameEntries}
 use Rattle.disk_layout.specs.Growth.{HasGrown, IsGrowing}
-use Rattle.disk_layout.specs.Layout.{Layout}
 use Rattle.disk_layout.specs.Records.{IsFilled, empty_record, filler, joined, record_count, records}
 use Rattle.disk_layout.specs.Rest.{IsFirst, KeepsRest, Rest, header_of, rest_of}
+use Rattle.disk_layout.specs.Room.{IsTopOf}
 use Rattle.disk_layout.specs.Same.{AddsFile, IsCountByte, SameButCounts, SameFiles}
 
 -- block counts: another count leaves the entry, and changes byte 30 of its sector alone
@@ -36,6 +33,14 @@ recounted n k = record {
   old_long = refl;
   long = refl;
   same = λ i out. other-byte n k i (λ e. elim out [ inl h ↦ omega (arith, e, h) | inr h ↦ omega (arith, e, h) ]);
+}
+
+pub recounted_all : (n k : ℕ) → IsRecountedAll (entry_bytes 132 1 18 n) (entry_bytes 132 1 18 k)
+unfolding entry_bytes
+recounted_all n k = record {
+  old_long = refl;
+  long = refl;
+  same = λ s i slot low. other-byte n k (32 * s + i) (λ e. omega (arith, e, low));
 }
 
 -- a repair: count, side sector and map are other bytes, and the file stays
@@ -72,9 +77,9 @@ repaired = record {
   elsewhere = λ p z d s. elim (same_or_other p block_0) [
     | inl e ↦ rw e block-same
     | inr x ↦
-      let out : p ≢ directory_start = λ e. d (0, lit< tt, sym e) in
-      let side : p ≢ block_1 = λ e. s (0, lit< tt, sym e) in
-      at_other (entry_bytes 132 1 18 2) (0 ∷ 37 ∷ two_records) exact_side (map_bytes 19 252) p out x side z ∙ sym (at_other (entry_bytes 132 1 18 3) (0 ∷ 37 ∷ two_records) changed_side (map_bytes 18 253) p out x side z)
+        let out : p ≢ directory_start = λ e. d (0, lit< tt, sym e) in
+        let side : p ≢ block_1 = λ e. s (0, lit< tt, sym e) in
+        at_other (entry_bytes 132 1 18 2) (0 ∷ 37 ∷ two_records) exact_side (map_bytes 19 252) p out x side z ∙ sym (at_other (entry_bytes 132 1 18 3) (0 ∷ 37 ∷ two_records) changed_side (map_bytes 18 253) p out x side z)
   ];
 }
 
@@ -90,8 +95,8 @@ other-letters e = let b : ◌≡◌ {A = ℕ} 66 255 = ap (λ (x : Sector). slic
 pub changed_block : (n : ℕ) (s m : Sector) → ¬ (SameFiles (stock_disk 37 n two_records s m) (stock_disk 37 n two_letters s m) (stock_layout 37 n) (stock_layout 37 n))
 changed_block n s m h =
     let same = h.elsewhere block_0 (lower_track block_0 map_place (lit< tt)).0
-      (not-in block_0 directory_start [] (lower_track block_0 directory_start (lit< tt)).1 (Contains-nil block_0))
-      (not-in block_0 block_1 [] (lower_sector block_0 block_1 (lit< tt)).1 (Contains-nil block_0)) in
+    (not-in block_0 directory_start [] (lower_track block_0 directory_start (lit< tt)).1 (Contains-nil block_0))
+    (not-in block_0 block_1 [] (lower_sector block_0 block_1 (lit< tt)).1 (Contains-nil block_0)) in
     other-letters (sym (at_block (entry_bytes 132 1 18 n) (0 ∷ 37 ∷ two_letters) s m) ∙ (same ∙ at_block (entry_bytes 132 1 18 n) (0 ∷ 37 ∷ two_records) s m))
 
 -- a creation: no entry before, this file after
@@ -163,6 +168,17 @@ rest-kept n s m side = record {
   same = rest-same n s m;
 }
 
+-- alone on its disk STOCK can grow to 9285 records
+pub stock-top : (n : ℕ) (s m : Sector) → IsStockSide s → IsTopOf (stock_disk 37 n two_records s m) stock_name 9285
+stock-top n s m side = record {
+  layout = stock_layout 37 n;
+  is_layout = stock-is_layout 37 n two_records s m side;
+  place = 0;
+  file = stock_file 37 n;
+  first = first-stock n;
+  top = top-alone (directory_start ∷ []) (stock_file 37 n);
+}
+
 -- but the disk's name, byte 144 of 18/0 and on, is of the rest
 rest-header : (old new : Image) (x y : List ℕ) → KeepsRest old new x y → header_of old ≡ header_of new
 unfolding rest_of
@@ -172,7 +188,7 @@ other-name : header_of (disk zero_sector [] [] (map_bytes 19 252)) ≢ header_of
 unfolding map_bytes
 other-name e =
     let h : ◌≡◌ {A = List ℕ} (take 4 (map_bytes 19 252) ++ drop 144 (map_bytes 19 252)) (take 4 (map_bytes 19 252) ++ drop 144 (set (map_bytes 19 252) 144 65))
-      = rw (at_map zero_sector [] [] (map_bytes 19 252), at_map zero_sector [] [] (set (map_bytes 19 252) 144 65)) at e in
+    = rw (at_map zero_sector [] [] (map_bytes 19 252), at_map zero_sector [] [] (set (map_bytes 19 252) 144 65)) at e in
     let b : ◌≡◌ {A = ℕ} 0 65 = ap (λ (x : List ℕ). slice_index x 4) h in
     omega (arith, b)
 

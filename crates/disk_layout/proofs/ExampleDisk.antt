@@ -1,17 +1,17 @@
 -- A disk with one small relative file, STOCK: its entry in 18/1, its block in 17/0, its side sector in 17/1, the map in 18/0.
 -- The four sectors are arguments, so that each example changes what it is about.
-use Rattle.std.proofs.Common.{List, [], ap, arith, inl, inr, length, lit<, lit≤, refl, replicate, subst, sym, true, ℕ, zero, suc, ◌*◌, ◌+◌, ◌++◌, ◌<◌, ◌≤◌, ◌∙◌, ◌∷◌, ◌≡◌, ◌≢◌}
-use Rattle.std.proofs.lemmas.Bool.{true≢false}
-use Rattle.std.specs.Prelude.{Contains, Some, None, slice_get, slice_index}
+use Rattle.std.proofs.Common.{List, [], ap, arith, inl, inr, length, lit<, lit≤, refl, replicate, subst, sym, ℕ, zero, suc, ◌*◌, ◌+◌, ◌++◌, ◌<◌, ◌∙◌, ◌∷◌, ◌≡◌, ◌≢◌}
+use Rattle.std.proofs.lemmas.Bool.{false≢true, true≢false}
+use Rattle.std.specs.Prelude.{Contains, Some, slice_get, slice_index}
 use Rattle.d64_image.proofs.Images.{length-put, sector-put_other, sector-put_same}
 use Rattle.d64_image.specs.Images.{Image, Sector, put, sector}
 use Rattle.d64_image.specs.declared.place.Place.{Place}
 use Rattle.disk_layout.proofs.Examples.{block_0, block_1, zero-long, zero_image}
 use Rattle.disk_layout.proofs.Once.{Contains-cases, Contains-nil}
-use Rattle.disk_layout.specs.Chain.{EachOnce, IsChain, Names, byte}
-use Rattle.disk_layout.specs.Directory.{IsDirectory, directory_start, map_place, slot_in, slots_in, used_slots}
-use Rattle.disk_layout.specs.Layout.{File, IsFile, IsLayout, IsRelFile, IsSide, IsSound, Layout, owners, record_length, sides_for}
-use Rattle.disk_layout.specs.Records.{empty_record, joined, pieces, record_count, records}
+use Rattle.disk_layout.specs.Chain.{EachOnce, IsChain, Names}
+use Rattle.disk_layout.specs.Directory.{directory_start, map_place, slot_in, slots_in, used_slots}
+use Rattle.disk_layout.specs.Layout.{File, IsFile, IsLayout, IsPlainFile, IsRelFile, IsSide, IsSound, Layout, owners}
+use Rattle.disk_layout.specs.Records.{empty_record, joined, record_count, records}
 use Rattle.disk_layout.specs.Side.{padded, side_sector}
 use Rattle.disk_layout.specs.declared.slot.Slot.{Slot}
 
@@ -130,12 +130,12 @@ one-chain e u rest s m = record {
 once-each : EachOnce (map_place ∷ directory_start ∷ block_0 ∷ block_1 ∷ [])
 once-each =
     let map-apart : ¬ (Contains (directory_start ∷ block_0 ∷ block_1 ∷ []) map_place) =
-      not-in map_place directory_start (block_0 ∷ block_1 ∷ []) (lower_sector map_place directory_start (lit< tt)).1
-        (not-in map_place block_0 (block_1 ∷ []) (lower_track block_0 map_place (lit< tt)).0
-        (not-in map_place block_1 [] (lower_track block_1 map_place (lit< tt)).0 (Contains-nil map_place))) in
+    not-in map_place directory_start (block_0 ∷ block_1 ∷ []) (lower_sector map_place directory_start (lit< tt)).1
+    (not-in map_place block_0 (block_1 ∷ []) (lower_track block_0 map_place (lit< tt)).0
+    (not-in map_place block_1 [] (lower_track block_1 map_place (lit< tt)).0 (Contains-nil map_place))) in
     let directory-apart : ¬ (Contains (block_0 ∷ block_1 ∷ []) directory_start) =
-      not-in directory_start block_0 (block_1 ∷ []) (lower_track block_0 directory_start (lit< tt)).0
-        (not-in directory_start block_1 [] (lower_track block_1 directory_start (lit< tt)).0 (Contains-nil directory_start)) in
+    not-in directory_start block_0 (block_1 ∷ []) (lower_track block_0 directory_start (lit< tt)).0
+    (not-in directory_start block_1 [] (lower_track block_1 directory_start (lit< tt)).0 (Contains-nil directory_start)) in
     let block-apart : ¬ (Contains (block_1 ∷ []) block_0) = not-in block_0 block_1 [] (lower_sector block_0 block_1 (lit< tt)).1 (Contains-nil block_0) in
     (map-apart, (directory-apart, (block-apart, (Contains-nil block_1, tt))))
 
@@ -155,8 +155,8 @@ module _ (u n : ℕ) (rest s m : Sector) (side : IsStockSide s) where
     sides = rw sides_at (only (λ k q. Names s (4 + 2 * k) q) block_1 side.listed);
     link = λ q e. absurd (cc);
     pointers = λ k q h e.
-      let z : 120 * 0 + k ≡ k = omega arith in
-      rw sides_at (only (λ k q. Names s (16 + 2 * k) q) block_0 side.pointer k q (subst (λ j. slice_get (block_0 ∷ []) j ≡ Some q) z e));
+        let z : 120 * 0 + k ≡ k = omega arith in
+        rw sides_at (only (λ k q. Names s (16 + 2 * k) q) block_0 side.pointer k q (subst (λ j. slice_get (block_0 ∷ []) j ≡ Some q) z e));
   }
 
   pub stock-is_rel_file : IsRelFile (stock_disk u n rest s m) (stock_file u n)
@@ -192,12 +192,15 @@ module _ (u n : ℕ) (rest s m : Sector) (side : IsStockSide s) where
       not_map = not-in map_place directory_start [] (lower_sector map_place directory_start (lit< tt)).1 (Contains-nil map_place);
       slots = slots;
     };
-    files = (record {
-      closed = inl (lit≤ tt, lit≤ tt);
-      rel = λ _. stock-is_rel_file;
-      empty = λ plain. absurd (true≢false plain);
-      plain = λ plain. absurd (true≢false plain);
-    }, tt);
+    files = (
+      record {
+        closed = inl (lit≤ tt, lit≤ tt);
+        rel = λ _. stock-is_rel_file;
+        empty = λ plain. absurd (true≢false plain);
+        plain = λ plain. absurd (true≢false plain);
+      },
+      tt,
+    );
     once = once-each;
   }
 
@@ -216,3 +219,16 @@ stock-records-2 n s m = rw (at_block (entry_bytes 132 1 18 n) (0 ∷ 37 ∷ two_
 pub stock-records-1 : (n : ℕ) (s m : Sector) → records (stock_disk 19 n two_records s m) (stock_file 19 n) ≡ (65 ∷ replicate 17 0) ∷ []
 unfolding entry_bytes records joined record_count two_records
 stock-records-1 n s m = rw (at_block (entry_bytes 132 1 18 n) (0 ∷ 19 ∷ two_records) s m) refl
+
+-- the same entry as a program has a chain and no side sectors, and a deleted entry that names no block owns nothing
+pub program : (len n : ℕ) (rest s m : Sector) → IsPlainFile (disk (entry_bytes 130 0 len n) (0 ∷ 37 ∷ rest) s m) (record { slot = entry_slot 130 0 len n; blocks = block_0 ∷ []; last = 37; sides = [] })
+unfolding entry_bytes
+program len n rest s m = ((block_0, (refl, refl), one-chain (entry_bytes 130 0 len n) 37 rest s m), refl)
+
+pub deleted : (img : Image) → IsFile img (record { slot = slot_in directory_start (0 ∷ 0 ∷ 128 ∷ 0 ∷ []) 0; blocks = []; last = 0; sides = [] })
+deleted img = record {
+  closed = inl (lit≤ tt, lit≤ tt);
+  rel = λ rel. absurd (false≢true rel);
+  empty = λ _ _. (refl, refl, refl);
+  plain = λ _ some. absurd (some refl);
+}

@@ -1,32 +1,35 @@
 -- One disk is clean; with one byte changed it has each fault of entries, owners, side sectors, counts and map.
-use Rattle.std.proofs.Common.{List, [], ap, arith, inl, inr, lit<, lit≤, refl, take, true, ℕ, ◌++◌, ◌<◌, ◌≤◌, ◌∷◌, ◌≡◌, ◌≢◌}
+use Rattle.std.proofs.Common.{[], ap, arith, inl, inr, lit<, lit≤, refl, take, ℕ, ◌++◌, ◌≤◌, ◌∷◌, ◌≡◌, ◌≢◌}
 use Rattle.std.specs.Prelude.{Contains, slice_index}
 use Rattle.d64_image.proofs.Places.{place_at-none}
-use Rattle.d64_image.specs.Images.{Image, Sector, sector}
+use Rattle.d64_image.specs.Images.{Sector}
 use Rattle.d64_image.specs.declared.place.Place.{Place}
 use Rattle.disk_layout.proofs.ExampleDisk.{IsStockSide, at_entry, at_map, at_side, disk, entry_bytes, entry_slot, exact-side_is, exact_side, lower_sector, one-chain, only, stock-is_layout, stock_disk, stock_file, stock_layout}
-use Rattle.disk_layout.proofs.ExampleMap.{block_0-free, count-18, map-is, map_bytes, owned}
+use Rattle.disk_layout.proofs.ExampleMap.{block_0-free, count-18, map-is, map_bytes}
 use Rattle.disk_layout.proofs.Examples.{block_0, block_1, type_133}
 use Rattle.disk_layout.proofs.Names.{named-none}
 use Rattle.disk_layout.proofs.Once.{Contains-here, Contains-nil}
 use Rattle.disk_layout.proofs.Twice.{told-unsound}
 use Rattle.disk_layout.proofs.Unclean.{told-unclean}
-use Rattle.disk_layout.specs.Clean.{IsClean, IsCleanLayout, IsExactFile}
-use Rattle.disk_layout.specs.Directory.{directory_start, map_place, slot_in, slots_in, type_byte}
-use Rattle.disk_layout.specs.Fault.{Holds, HoldsOfClean, IsBlock, IsClosed, IsDirectorySector, IsSideSector, IsSlot, Owner, length_byte}
+use Rattle.disk_layout.specs.Clean.{IsClean}
+use Rattle.disk_layout.specs.Directory.{directory_start, map_place, slot_in, slots_in}
+use Rattle.disk_layout.specs.Fault.{Holds, HoldsOfClean, IsClosed, IsSlot, length_byte}
 use Rattle.disk_layout.specs.Fault.Owner.{blocks_of, sides_of}
-use Rattle.disk_layout.specs.Layout.{IsSound, Layout, owners}
+use Rattle.disk_layout.specs.Layout.{IsSound, owners}
 use Rattle.disk_layout.specs.Side.{padded, side_sector}
 use Rattle.disk_layout.specs.declared.faults.Fault.TheVariants.{BadLength, BadSide, BadType, CountWrong, MapWrong, OwnedTwice, Unclosed}
 
 -- with exact side sector, count and map the disk is clean
 pub stock-is_clean : (rest : Sector) → IsClean (stock_disk 37 2 rest exact_side (map_bytes 19 252))
 unfolding entry_bytes exact_side owners
-stock-is_clean rest = (stock_layout 37 2, record {
-  layout = stock-is_layout 37 2 rest exact_side (map_bytes 19 252) exact-side_is;
-  files = (λ _. record { sides = only _ block_1 (at_side (entry_bytes 132 1 18 2) (0 ∷ 37 ∷ rest) exact_side (map_bytes 19 252)); count = refl }, tt);
-  map = rw (at_map (entry_bytes 132 1 18 2) (0 ∷ 37 ∷ rest) exact_side (map_bytes 19 252)) map-is;
-})
+stock-is_clean rest = (
+  stock_layout 37 2,
+  record {
+    layout = stock-is_layout 37 2 rest exact_side (map_bytes 19 252) exact-side_is;
+    files = (λ _. record { sides = only _ block_1 (at_side (entry_bytes 132 1 18 2) (0 ∷ 37 ∷ rest) exact_side (map_bytes 19 252)); count = refl }, tt);
+    map = rw (at_map (entry_bytes 132 1 18 2) (0 ∷ 37 ∷ rest) exact_side (map_bytes 19 252)) map-is;
+  },
+)
 
 first_slot : (p : Place) (bytes : Sector) → Contains (slots_in p bytes) (slot_in p bytes 0)
 unfolding slots_in
@@ -76,18 +79,25 @@ owned_twice rest s m = inl (
   sides_of (entry_slot 132 0 18 2),
   λ e. cc,
   (directory_start, closed-there 132 0 18 2 (0 ∷ 37 ∷ rest) s m (lit≤ tt), record { first = block_0; named = (refl, refl); before = []; visits = (refl, (Contains-nil block_0, tt)) }),
-  (directory_start, closed-there 132 0 18 2 (0 ∷ 37 ∷ rest) s m (lit≤ tt), refl, block_0 ∷ [], 0, record {
-    first_block = block_0;
-    named_block = (refl, refl);
-    last = 37;
-    chain = one-chain (entry_bytes 132 0 18 2) 37 rest s m;
-    wanted = lit< tt;
-    first = block_0;
-    named = (refl, refl);
-    before = [];
-    number = refl;
-    leads = refl;
-  }),
+  (
+    directory_start,
+    closed-there 132 0 18 2 (0 ∷ 37 ∷ rest) s m (lit≤ tt),
+    refl,
+    block_0 ∷ [],
+    0,
+    record {
+      first_block = block_0;
+      named_block = (refl, refl);
+      last = 37;
+      chain = one-chain (entry_bytes 132 0 18 2) 37 rest s m;
+      wanted = lit< tt;
+      first = block_0;
+      named = (refl, refl);
+      before = [];
+      number = refl;
+      leads = refl;
+    },
+  ),
 )
 
 -- a side sector whose record length isn't the entry's
@@ -95,18 +105,27 @@ pub bad_side : (rest m : Sector) → Holds ⊥ (stock_disk 37 2 rest (side_secto
 unfolding entry_bytes side_sector padded
 bad_side rest m =
     let s : Sector = side_sector 0 (block_0 ∷ []) (block_1 ∷ []) 19 in
-    inr (directory_start, entry_slot 132 1 18 2, closed-there 132 1 18 2 (0 ∷ 37 ∷ rest) s m (lit≤ tt), refl, block_0 ∷ [], 0, record {
-      first_block = block_0;
-      named_block = (refl, refl);
-      last = 37;
-      chain = one-chain (entry_bytes 132 1 18 2) 37 rest s m;
-      wanted = lit< tt;
-      first = block_1;
-      named = (refl, refl);
-      before = [];
-      number = refl;
-      leads = refl;
-    }, length_byte (rw (at_side (entry_bytes 132 1 18 2) (0 ∷ 37 ∷ rest) s m) (λ e. omega (arith, e))))
+    inr (
+      directory_start,
+      entry_slot 132 1 18 2,
+      closed-there 132 1 18 2 (0 ∷ 37 ∷ rest) s m (lit≤ tt),
+      refl,
+      block_0 ∷ [],
+      0,
+      record {
+        first_block = block_0;
+        named_block = (refl, refl);
+        last = 37;
+        chain = one-chain (entry_bytes 132 1 18 2) 37 rest s m;
+        wanted = lit< tt;
+        first = block_1;
+        named = (refl, refl);
+        before = [];
+        number = refl;
+        leads = refl;
+      },
+      length_byte (rw (at_side (entry_bytes 132 1 18 2) (0 ∷ 37 ∷ rest) s m) (λ e. omega (arith, e))),
+    )
 
 -- what a check tells as well: one byte behind the pointers of the side sector isn't 0
 unfoldable pub changed_side : Sector

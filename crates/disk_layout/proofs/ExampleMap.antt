@@ -1,14 +1,14 @@
 -- A map of free sectors at work: tables over all tracks and sectors, which the checker computes.
-use Rattle.std.proofs.Common.{List, [], Bool, true, false, ap, arith, inl, inr, lit<, refl, sym, replicate, ℕ, zero, suc, ◌*◌, ◌+◌, ◌/◌, ◌++◌, ◌<◌, ◌≤◌, ◌⊎◌, ◌∙◌, ◌∷◌, ◌≡◌, ◌≢◌, ⊎_elim}
+use Rattle.std.proofs.Common.{List, [], Bool, true, false, arith, inl, inr, lit<, refl, sym, replicate, ℕ, zero, suc, ◌++◌, ◌<◌, ◌⊎◌, ◌∙◌, ◌∷◌, ◌≡◌, ◌≢◌}
 use Rattle.std.proofs.lemmas.Bool.{agree_below, agree_below_at, cases_Bool, eq-eqb, eqb-true, false≢true}
 use Rattle.std.proofs.lemmas.Bool.Decides.{nat_tests}
-use Rattle.std.specs.Prelude.{Contains, ◌↔◌, ◌&&◌, ◌||◌, drop, nat_eq, nat_lt, not, sum_by, take}
+use Rattle.std.specs.Prelude.{Contains, ◌&&◌, ◌||◌, nat_eq, nat_lt, not, sum_by}
 use Rattle.d64_image.proofs.Places.{same_place, track_fits}
 use Rattle.d64_image.specs.Geometry.{sectors_on}
 use Rattle.d64_image.specs.Images.{Sector}
 use Rattle.d64_image.specs.declared.place.Place.{Place}
 use Rattle.disk_layout.proofs.Examples.{block_0, block_1}
-use Rattle.disk_layout.proofs.Once.{Contains-cases, Contains-here, Contains-nil, Contains-there}
+use Rattle.disk_layout.proofs.Once.{Contains-cases, Contains-nil}
 use Rattle.disk_layout.specs.Directory.{directory_start, map_place}
 use Rattle.disk_layout.specs.Map.{IsMapOf, IsTaken, map_bit, map_count, numbers_below}
 
@@ -52,7 +52,7 @@ marked-free : (t s : ℕ) → s < sectors_on t → nat_eq (map_bit (map_bytes 19
 marked-free t s on =
     let p : Place = record { track = t; sector = s; on_disk = on } in
     agree_below_at (λ s. nat_eq (map_bit (map_bytes 19 252) t s) 1) (is_free t) (sectors_on t) s
-      (agree_below_at (marks_of (map_bytes 19 252)) (λ _. true) 36 t marks-hold (track_fits p)) on
+    (agree_below_at (marks_of (map_bytes 19 252)) (λ _. true) 36 t marks-hold (track_fits p)) on
 
 -- the four places that are taken
 abbrev pub owned : List Place
@@ -131,11 +131,11 @@ unfolding old_map new_map map_bytes bits_alike
 taken-17_1 = record {
   bit = refl;
   bits = λ t s on other.
-    let p : Place = record { track = t; sector = s; on_disk = on } in
-    let row : nat_eq (map_bit new_map t s) (map_bit old_map t s) ≡ not (nat_eq t 17 && nat_eq s 1) =
+      let p : Place = record { track = t; sector = s; on_disk = on } in
+      let row : nat_eq (map_bit new_map t s) (map_bit old_map t s) ≡ not (nat_eq t 17 && nat_eq s 1) =
       agree_below_at (λ s. nat_eq (map_bit new_map t s) (map_bit old_map t s)) (λ s. not (nat_eq t 17 && nat_eq s 1)) (sectors_on t) s
-        (agree_below_at bits_alike (λ _. true) 36 t bits-hold (track_fits p)) on in
-    eqb-true _ _ (row ∙ elsewhere t s other);
+      (agree_below_at bits_alike (λ _. true) 36 t bits-hold (track_fits p)) on in
+      eqb-true _ _ (row ∙ elsewhere t s other);
   count = refl;
   counts = λ t low high other. eqb-true _ _ (agree_below_at (λ t. nat_eq (map_count new_map t) (map_count old_map t)) (λ t. not (nat_eq t 17)) 36 t count_hold (omega arith) ∙ elsewhere_track t other);
   header = (refl, refl);
