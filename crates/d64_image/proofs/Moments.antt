@@ -1,5 +1,5 @@
 -- How the words on moments, counts and failures go on from one call to the next.
-use Rattle.std.proofs.Common.{ℕ, ◌≡◌, ◌≤◌, ◌+◌, ⊎_elim, inl, inr, sym, ◌∙◌, subst, refl, Result, Ok, Err, IsOk, arith}
+use Rattle.std.proofs.Common.{ℕ, ◌≡◌, ◌≤◌, ◌+◌, ◌⊎◌, ⊎_elim, inl, inr, sym, ◌∙◌, subst, refl, Result, Ok, Err, IsOk, arith}
 use Rattle.d64_image.specs.Images.{Image}
 use Rattle.d64_image.specs.History.{History, HeldOnly, Failed, NeverFailed, OnlyReads, OldOr, Changes, TellsFailure}
 
@@ -23,6 +23,12 @@ module _ {D : Type 0} (S : History D) where
     each = λ c x. f c (h.each c x);
     before = λ t c le x. ⊎_elim (λ l. inl l) (λ p. inr (f c p)) (h.before t c le x);
   }
+
+  -- a run that began earlier, and what came after it
+  pub then_or : (a b c : D) (P Q : Image → Type 0) → HeldOnly S a b P → HeldOnly S b c Q → HeldOnly S a c (λ i. P i ⊎ Q i)
+  then_or a b c P Q first second = then a b c (λ i. P i ⊎ Q i)
+      (weaker a b P (λ i. P i ⊎ Q i) (λ i p. inl p) first)
+      (weaker b c Q (λ i. P i ⊎ Q i) (λ i q. inr q) second)
 
   -- what it holds at the end is one of those
   pub at_end : (a b : D) (P : Image → Type 0) → HeldOnly S a b P → P (S.image b)
@@ -54,6 +60,11 @@ module _ {D : Type 0} (S : History D) where
 
   pub write_change : (a b : D) (i j : Image) (P : Image → Type 0) → HeldOnly S a b (OldOr i j) → S.writes b ≤ S.writes a + 1 → P i → P j → Changes S a b 1 P
   write_change a b i j P h counted p q = record { held = writing a b i j P h p q; writes = counted }
+
+  -- one turn more of a loop of writes
+  pub one_write_more : (a b c : D) (n : ℕ) (i j : Image) (P : Image → Type 0) → Changes S a b n P → HeldOnly S b c (OldOr i j) → S.writes c ≤ S.writes b + 1
+      → P i → P j → Changes S a c (n + 1) P
+  one_write_more a b c n i j P so_far h counted p q = changes_then a b c n 1 (n + 1) P (omega arith) so_far (write_change b c i j P h counted p q)
 
   -- reads alone
   pub no_reads : (d : D) → OnlyReads S d d 0

@@ -133,6 +133,8 @@ pub index_last : (p : Place) → 31 ≤ p.track → index_of p ≡ 17 * p.track 
 unfolding index_of
 index_last p above = omega (arith, above, at_last p.track above (omega (arith, track_fits p)))
 
+pub ruleset zones = (index_low, index_middle, index_high, index_last)
+
 -- `place_at` finds each place, and nothing else
 pub place_at-self : (p : Place) → place_at p.track p.sector ≡ Some p
 unfolding place_at

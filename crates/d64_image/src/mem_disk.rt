@@ -76,6 +76,7 @@ impl Sectors for MemDisk {
     ghost history = { memory };
 
     /// Never fails, and takes no memory.
+    #[tactic(auto, using(std::proofs::lemmas::List::get_or_read), unfolding(crate::specs::Images::sector))]
     fn read(&mut self, place: Place, to: &mut [u8; 256]) -> Result<(), DeviceFault>
         ensures never_fails { IsOk result }
         ensures sector { OnOk result (to.new ≡ sector (memory.image self.old) place) }
@@ -87,6 +88,7 @@ impl Sectors for MemDisk {
     }
 
     /// Never fails, and takes no memory.
+    #[tactic(auto, unfolding(crate::specs::Images::put))]
     fn write(&mut self, place: Place, from: &[u8; 256]) -> Result<(), DeviceFault>
         ensures never_fails { IsOk result }
         ensures ok { OnOk result (memory.image self.new ≡ put (memory.image self.old) place from.now) }

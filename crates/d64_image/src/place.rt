@@ -53,6 +53,7 @@ impl Place {
     }
 
     /// Where the sector stands in an image, in sectors, from 0 to 682: track by track, and sector by sector.
+    #[tactic(auto, using(crate::proofs::Places::zones))]
     pub fn index(self) -> usize
         ensures value { result ≡ index_of self }
         ensures bound { result < 683 }

@@ -7,6 +7,7 @@ use Rattle.d64_image.proofs.Places.{same_place, track_fits}
 use Rattle.d64_image.specs.Geometry.{sectors_on}
 use Rattle.d64_image.specs.Images.{Sector}
 use Rattle.d64_image.specs.declared.place.Place.{Place}
+use Rattle.disk_layout.proofs.Bits.{turned-taken}
 use Rattle.disk_layout.proofs.Examples.{block_0, block_1}
 use Rattle.disk_layout.proofs.Once.{Contains-cases, Contains-nil}
 use Rattle.disk_layout.specs.Directory.{directory_start, map_place}
@@ -109,40 +110,6 @@ unfolding map_bytes
 count-18 e = omega (arith, e)
 
 -- 17/1 becomes taken: its bit, and the count of its track
-old_map : Sector
-old_map = map_bytes 20 254
-
-new_map : Sector
-new_map = map_bytes 19 252
-
-bits_alike : ℕ → Bool
-bits_alike t = agree_below (λ s. nat_eq (map_bit new_map t s) (map_bit old_map t s)) (λ s. not (nat_eq t 17 && nat_eq s 1)) (sectors_on t)
-
-bits-hold : agree_below bits_alike (λ _. true) 36 ≡ true
-unfolding bits_alike old_map new_map map_bytes
-bits-hold = refl
-
-count_hold : agree_below (λ t. nat_eq (map_count new_map t) (map_count old_map t)) (λ t. not (nat_eq t 17)) 36 ≡ true
-unfolding old_map new_map map_bytes
-count_hold = refl
-
 pub taken-17_1 : IsTaken (map_bytes 20 254) (map_bytes 19 252) block_1
-unfolding old_map new_map map_bytes bits_alike
-taken-17_1 = record {
-  bit = refl;
-  bits = λ t s on other.
-      let p : Place = record { track = t; sector = s; on_disk = on } in
-      let row : nat_eq (map_bit new_map t s) (map_bit old_map t s) ≡ not (nat_eq t 17 && nat_eq s 1) =
-      agree_below_at (λ s. nat_eq (map_bit new_map t s) (map_bit old_map t s)) (λ s. not (nat_eq t 17 && nat_eq s 1)) (sectors_on t) s
-      (agree_below_at bits_alike (λ _. true) 36 t bits-hold (track_fits p)) on in
-      eqb-true _ _ (row ∙ elsewhere t s other);
-  count = refl;
-  counts = λ t low high other. eqb-true _ _ (agree_below_at (λ t. nat_eq (map_count new_map t) (map_count old_map t)) (λ t. not (nat_eq t 17)) 36 t count_hold (omega arith) ∙ elsewhere_track t other);
-  header = (refl, refl);
-}
-  where
-    elsewhere : (t s : ℕ) → (t ≢ 17) ⊎ (s ≢ 1) → not (nat_eq t 17 && nat_eq s 1) ≡ true
-    elsewhere t s other = grind (arith, nat_tests)
-
-    elsewhere_track : (t : ℕ) → t ≢ 17 → not (nat_eq t 17) ≡ true
-    elsewhere_track t other = grind (arith, nat_tests)
+unfolding map_bytes
+taken-17_1 = turned-taken (map_bytes 20 254) block_1 19 refl refl refl

@@ -1,10 +1,13 @@
+pub mod Blank
 pub mod Chain
 pub mod Clean
 pub mod Directory
 pub mod Entries
 pub mod Fault
+pub mod Free
 pub mod Growth
 pub mod Layout
+pub mod Listing
 pub mod Map
 pub mod Number
 pub mod Records
@@ -12,4 +15,6 @@ pub mod Rest
 pub mod Room
 pub mod Same
 pub mod Side
+pub mod View
 pub mod Visited
+pub mod Written

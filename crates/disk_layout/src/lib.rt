@@ -1,15 +1,34 @@
 //! What lies on a 1541 disk and where: the map of free sectors, the directory, chains and side sectors.
 #![tactic(auto)]
 
+mod bam;
+mod blank;
+mod blank_map;
+#[cfg(test)]
+mod blank_tests;
 mod chain;
 #[cfg(test)]
 mod chain_tests;
+mod directory;
+#[cfg(test)]
+mod directory_tests;
+mod entries;
 mod faults;
+mod filling;
+#[cfg(test)]
+mod map_tests;
 mod side;
 mod slot;
+mod views;
 mod visited;
 
+pub use bam::Bam;
+pub use blank::blank_image;
 pub use chain::walk_chain;
+pub use directory::{directory_start, map_place, read_directory};
+pub use entries::{padded_name, relative_entry};
 pub use faults::Fault;
+pub use filling::fill;
 pub use side::{SideView, side_bytes};
 pub use slot::Slot;
+pub use views::{BamView, DirView, EntryView};

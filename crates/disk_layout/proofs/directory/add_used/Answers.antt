@@ -1,0 +1,27 @@
+-- A used slot is added, and a free one is not.
+use Rattle.arrayvec.specs.ArrayVec.{array_vec_len}
+use Rattle.disk_layout.proofs.Slots.{all-slots, push-used, skip-free}
+use Rattle.disk_layout.proofs.directory.add_used.Goals as goal
+use Rattle.disk_layout.proofs.directory.add_used.Goals.{else-slot-ne0, then-slot-ne0}
+use Rattle.disk_layout.specs.Directory.{is_used, slot_in, slots_in}
+use Rattle.std.proofs.Common.{ap, arith, take, ◌++◌, ◌∙◌, ◌≡◌}
+use Rattle.std.specs.Prelude.{filter}
+
+pub loop-number-preserved : goal.loop-number-preserved
+loop-number-preserved c =
+    let same : c.copy_from_slice.new.self ≡ (slot_in c.args.place c.args.bytes.now c.loop-number.number).bytes = c.copy_from_slice.ensures.after in
+    elim c.if-slot-ne0.branch [
+      | then-slot-ne0 w ↦ record {
+        items = ap (λ v. v.items) w.slots-is ∙ push-used c.args.slots.now.items c.loop-number.slots.items w.push.new.self.items c.args.place c.args.bytes.now c.loop-number.number c.loop-number-test.true c.loop-number.invariant.items (rw (← same) w.if-slot-ne0.true) (rw (← same) w.push.ensures.items);
+        room = omega (arith, ap array_vec_len w.slots-is);
+      }
+      | else-slot-ne0 w ↦ record {
+        items = ap (λ v. v.items) w.slots-is ∙ skip-free c.args.slots.now.items c.loop-number.slots.items c.args.place c.args.bytes.now c.loop-number.number c.loop-number-test.true c.loop-number.invariant.items (rw (← same) w.if-slot-ne0.false);
+        room = omega (arith, ap array_vec_len w.slots-is);
+      }
+    ]
+
+pub returns-clause-items : goal.returns-clause-items
+returns-clause-items c =
+    let n : c.loop-number.number ≡ 8 = omega arith in
+    c.loop-number.invariant.items ∙ ap (λ k. c.args.slots.now.items ++ filter is_used (take k (slots_in c.args.place c.args.bytes.now))) n ∙ ap (λ xs. c.args.slots.now.items ++ filter is_used xs) (all-slots c.args.place c.args.bytes.now)

@@ -1,0 +1,62 @@
+-- What is known of the sector that was read, at each way out and for the next turn.
+use Rattle.std.proofs.Common.{ap, arith, length, refl, sym, ◌∙◌}
+use Rattle.std.proofs.lemmas.Bool.{false≢true}
+use Rattle.d64_image.proofs.Moments.{no_reads, reads_then, reads_weaker}
+use Rattle.disk_layout.proofs.Directories.{bad-link, comes-back, directory-whole, few-before, reached-next, reached-start, read-now, used-more, used-none}
+use Rattle.disk_layout.proofs.directory.read_directory.Goals as goal
+
+pub sectors-init : goal.sectors-init
+sectors-init g c = record {
+  reads = reads_weaker g.D.Sectors.history _ _ 0 _ (omega arith) (no_reads g.D.Sectors.history _);
+  failures = refl;
+  reached = reached-start _ _ _ c.new-visited.ensures c.directory_start-at.ensures;
+  slots = used-none _ _ _ c.new-visited.ensures c.clear.ensures;
+  room = omega (arith, ap length c.clear.ensures);
+  few = omega (arith, ap length c.new-visited.ensures);
+}
+
+pub returns-in-Err-clause-reads : goal.returns-in-Err-clause-reads
+returns-in-Err-clause-reads g c =
+    reads_then g.D.Sectors.history _ _ _ _ 1 18 (omega (arith, c.sectors.invariant.few)) c.sectors.invariant.reads c.read.ensures.reads
+
+pub returns-then-sector-eq0-clause-ok : goal.returns-then-sector-eq0-clause-ok
+returns-then-sector-eq0-clause-ok g c =
+    let old = c.sectors.invariant in
+    let read = read-now _ _ c.sectors.at c.read.new.to old.reads.image c.in-Ok.ensures.sector in
+    directory-whole _ c.sectors.visited.items c.sectors.at c.read.new.to _ old.reached read c.if-sector-eq0.true
+    (used-more _ c.sectors.visited.items c.sectors.at c.read.new.to _ _ old.slots read c.add_used.ensures.items)
+
+pub returns-then-sector-eq0-clause-reads : goal.returns-then-sector-eq0-clause-reads
+returns-then-sector-eq0-clause-reads g c =
+    reads_then g.D.Sectors.history _ _ _ _ 1 18 (omega (arith, c.sectors.invariant.few)) c.sectors.invariant.reads c.read.ensures.reads
+
+pub returns-in_default-clause-err : goal.returns-in_default-clause-err
+returns-in_default-clause-err g c =
+    let old = c.sectors.invariant in
+    let read = read-now _ _ c.sectors.at c.read.new.to old.reads.image c.in-Ok.ensures.sector in
+    bad-link _ c.sectors.visited.items c.sectors.at c.read.new.to old.reached read c.if-sector-eq0.false c.in_default.ensures
+
+pub returns-in_default-clause-reads : goal.returns-in_default-clause-reads
+returns-in_default-clause-reads g c =
+    reads_then g.D.Sectors.history _ _ _ _ 1 18 (omega (arith, c.sectors.invariant.few)) c.sectors.invariant.reads c.read.ensures.reads
+
+pub returns-then-contains-clause-err : goal.returns-then-contains-clause-err
+returns-then-contains-clause-err g c =
+    let old = c.sectors.invariant in
+    let read = read-now _ _ c.sectors.at c.read.new.to old.reads.image c.in-Ok.ensures.sector in
+    comes-back _ c.sectors.visited.items c.sectors.at c.in-Some.next c.read.new.to old.reached read c.in-Some.ensures.0 (rw c.push.ensures.items at (c.contains.ensures.0 c.if-contains.true))
+
+pub sectors-preserved : goal.sectors-preserved
+sectors-preserved g c =
+    let old = c.sectors.invariant in
+    let read = read-now _ _ c.sectors.at c.read.new.to old.reads.image c.in-Ok.ensures.sector in
+    let next = reached-next _ c.sectors.visited.items c.sectors.at c.in-Some.next c.read.new.to old.reached read c.in-Some.ensures.0 c.in-Some.ensures.1
+    (λ there. false≢true (sym c.if-contains.false ∙ c.contains.ensures.1 (rw c.push.ensures.items there))) in
+    record {
+      reads = reads_then g.D.Sectors.history _ _ _ _ 1 _ (omega (arith, c.push.ensures.len)) old.reads c.read.ensures.reads;
+      failures = c.in-Ok.ensures.failures ∙ old.failures;
+      reached = rw c.push.ensures.items next;
+      slots = rw c.push.ensures.items (used-more _ c.sectors.visited.items c.sectors.at c.read.new.to _ _ old.slots read c.add_used.ensures.items);
+      room = omega (arith, old.room, c.add_used.ensures.room, c.push.ensures.len);
+      few = omega (arith, few-before _ _ _ next, ap length c.push.ensures.items);
+    }

@@ -1,0 +1,122 @@
+//! The map of free sectors: which are free, which one is next, taking and giving back.
+ghost use Rattle.std.specs.Prelude.{◌≡◌, ◌≢◌, ◌↔◌, IfOk, IsTrue, MatchOption, length};
+
+use crate::directory::map_place;
+use crate::views::BamView;
+use d64_image::{DeviceFault, Place, Sectors};
+
+/// The track of the map and the directory, on which no data block is placed.
+const DIRECTORY_TRACK: u8 = 18;
+
+/// The 256 bytes of 18/0, in memory: read, changed, and then written back by the caller. Bytes 4 to 143 are the map:
+/// four for each track, its count of free sectors and a bit for each sector, 1 for free. The other bytes, the disk's
+/// name among them, no call changes.
+#[derive(Clone, Copy, Debug, PartialEq, Eq)]
+pub struct Bam {
+    /// The bytes as the disk has them or is to have them.
+    pub bytes: [u8; 256],
+    pub ghost whole: { length bytes ≡ 256 },
+}
+
+impl Bam {
+    ghost use Rattle.d64_image.specs.History.{OnlyReads, TellsFailure};
+    ghost use Rattle.d64_image.specs.Images.{sector};
+    ghost use Rattle.disk_layout.specs.Directory.{map_place};
+    ghost use Rattle.disk_layout.specs.Map.{IsFree, IsTaken, IsGiven, IsFirstFree, IsFirstOn, IsFullDisk, IsFullTrack};
+
+    /// The map in these bytes of 18/0.
+    pub fn new(bytes: [u8; 256]) -> Bam
+        ensures { result.bytes ≡ bytes }
+    {
+        Bam { bytes }
+    }
+
+    /// Reads 18/0.
+    pub fn read<D: Sectors>(disk: &mut D) -> Result<Bam, DeviceFault>
+        ensures ok { IfOk result (λ map. map.bytes ≡ sector (D.history.image disk.old) map_place) }
+        ensures failures { TellsFailure D.history disk.old disk.new result }
+        ensures reads { OnlyReads D.history disk.old disk.new 1 }
+    {
+        let mut bytes = [0; 256];
+        disk.read(map_place(), &mut bytes)?;
+        Ok(Bam { bytes })
+    }
+
+    /// The same bytes as they are read: name, id and counts.
+    pub fn view(&self) -> BamView<'_>
+        ensures { result.bytes.now ≡ self.now.bytes }
+    {
+        BamView::new(&self.bytes)
+    }
+
+    /// Whether the map calls the sector free.
+    pub fn is_free(&self, place: Place) -> bool
+        ensures { IsTrue result ↔ IsFree self.now.bytes place }
+    {
+        self.view().is_free(place)
+    }
+
+    /// Takes a free sector: its bit becomes 0, and its track's count one less. Where it isn't free nothing changes.
+    pub fn take(&mut self, place: Place)
+        ensures taken { IsFree self.old.bytes place → IsTaken self.old.bytes self.new.bytes place }
+        ensures not_free { ¬ (IsFree self.old.bytes place) → self.new.bytes ≡ self.old.bytes }
+    {
+        if self.is_free(place) {
+            let sector = place.sector();
+            let at = 4 * place.track() as usize;
+            self.bytes[at] = self.bytes[at].saturating_sub(1);
+            self.bytes[at + 1 + sector as usize / 8] ^= 1 << (sector % 8);
+        }
+    }
+
+    /// Gives a sector back: its bit becomes 1, and its track's count one more. Where it is free nothing changes.
+    pub fn give(&mut self, place: Place)
+        ensures given { ¬ (IsFree self.old.bytes place) → IsGiven self.old.bytes self.new.bytes place }
+        ensures free { IsFree self.old.bytes place → self.new.bytes ≡ self.old.bytes }
+    {
+        if !self.is_free(place) {
+            let sector = place.sector();
+            let at = 4 * place.track() as usize;
+            self.bytes[at] = self.bytes[at].saturating_add(1);
+            self.bytes[at + 1 + sector as usize / 8] ^= 1 << (sector % 8);
+        }
+    }
+
+    /// The next sector for data: the first free one, on the tracks 17, 19, 16, 20 and so on to 1 and 35, the lowest
+    /// sector first; None where all are taken. Track 18 is left out.
+    pub fn pick(&self) -> Option<Place>
+        ensures { MatchOption result (IsFullDisk self.now.bytes) (IsFirstFree self.now.bytes) }
+    {
+        for distance in 1..18u8 {
+            if let Some(place) = self.first_on(DIRECTORY_TRACK - distance) {
+                return Some(place);
+            }
+            if let Some(place) = self.first_on(DIRECTORY_TRACK + distance) {
+                return Some(place);
+            }
+        }
+        None
+    }
+
+    /// The next sector for the directory: the lowest free one of track 18, None where all are taken.
+    pub fn pick_directory(&self) -> Option<Place>
+        ensures { MatchOption result (IsFullTrack self.now.bytes 18) (IsFirstOn self.now.bytes 18) }
+    {
+        self.first_on(DIRECTORY_TRACK)
+    }
+
+    /// The lowest free sector of a track.
+    fn first_on(&self, track: u8) -> Option<Place>
+        ensures { MatchOption result (IsFullTrack self.now.bytes track) (IsFirstOn self.now.bytes track) }
+    {
+        for sector in 0..24u8 {
+            let Some(place) = Place::new(track, sector) else {
+                return None;
+            };
+            if self.is_free(place) {
+                return Some(place);
+            }
+        }
+        None
+    }
+}

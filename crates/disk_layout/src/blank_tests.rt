@@ -1,0 +1,232 @@
+//! The blank image byte by byte, with values worked out by hand from the disk's format.
+use crate::{Bam, BamView, DirView, EntryView, blank_image, read_directory, walk_chain};
+use arrayvec::ArrayVec;
+use d64_image::{DeviceFault, MemDisk, Meter, Place, Sectors};
+use std::test::Fail;
+
+/// The bytes of a sector of the disk.
+fn sector<D: Sectors>(disk: &mut D, track: u8, sector: u8) -> Result<[u8; 256], DeviceFault> {
+    let mut bytes = [0; 256];
+    let place = Place::new(track, sector).ok_or(DeviceFault)?;
+    disk.read(place, &mut bytes)?;
+    Ok(bytes)
+}
+
+/// What 18/0 holds for one block of requests.
+fn map_for_two_tills() -> [u8; 256] {
+    let mut bytes = [0; 256];
+    bytes[..4].copy_from_slice(&[0x12, 0x01, 0x41, 0x00]);
+    for track in 1..36usize {
+        let four = match track {
+            17 => [0x11, 0xF0, 0xFF, 0x1F],
+            18 => [0x11, 0xFC, 0xFF, 0x07],
+            0..=16 => [0x15, 0xFF, 0xFF, 0x1F],
+            19..=24 => [0x13, 0xFF, 0xFF, 0x07],
+            25..=30 => [0x12, 0xFF, 0xFF, 0x03],
+            _ => [0x11, 0xFF, 0xFF, 0x01],
+        };
+        bytes[4 * track..4 * track + 4].copy_from_slice(&four);
+    }
+    bytes[0x90..0xAB].copy_from_slice(
+        b"STOCK LEDGER\xA0\xA0\xA0\xA0\xA0\xA001\xA02A\xA0\xA0\xA0\xA0",
+    );
+    bytes
+}
+
+/// What 18/1 holds for one block of requests.
+fn directory_for_two_tills() -> [u8; 256] {
+    let mut bytes = [0; 256];
+    bytes[..32].copy_from_slice(
+        b"\x00\xFF\x84\x11\x00STOCK\xA0\xA0\xA0\xA0\xA0\xA0\xA0\xA0\xA0\xA0\xA0\x11\x01\x12\0\0\0\0\0\0\x02\x00",
+    );
+    bytes[32..64].copy_from_slice(
+        b"\x00\x00\x84\x11\x02REQUESTS\xA0\xA0\xA0\xA0\xA0\xA0\xA0\xA0\x11\x03\x7F\0\0\0\0\0\0\x02\x00",
+    );
+    bytes
+}
+
+/// A data block or a side sector that begins with these bytes, with FF at each of the places.
+fn sector_of(head: &[u8], ones: &[usize]) -> [u8; 256] {
+    let mut bytes = [0; 256];
+    for (to, from) in bytes.iter_mut().zip(head) {
+        *to = *from;
+    }
+    for &at in ones {
+        if at < 256 {
+            bytes[at] = 0xFF;
+        }
+    }
+    bytes
+}
+
+#[test]
+fn the_image_for_two_tills(rt: HostRuntime) -> Result<(), Fail> {
+    let mut disk = MemDisk::zeroed(rt.alloc())?;
+    blank_image(&mut disk, b"STOCK LEDGER", *b"01", 2)?;
+    let stock = [
+        2, 20, 38, 56, 74, 92, 110, 128, 146, 164, 182, 200, 218, 236,
+    ];
+    let rows = [
+        (18, 0, map_for_two_tills()),
+        (18, 1, directory_for_two_tills()),
+        (17, 0, sector_of(b"\x00\xFD", &stock)),
+        (
+            17,
+            1,
+            sector_of(b"\x00\x11\x00\x12\x11\x01\0\0\0\0\0\0\0\0\0\0\x11\x00", &[]),
+        ),
+        (17, 2, sector_of(b"\x00\xFF", &[2, 129])),
+        (
+            17,
+            3,
+            sector_of(b"\x00\x11\x00\x7F\x11\x03\0\0\0\0\0\0\0\0\0\0\x11\x02", &[]),
+        ),
+    ];
+    for track in 1..36u8 {
+        for number in 0..21u8 {
+            if Place::new(track, number).is_some() {
+                let mut want = [0; 256];
+                for (at, sector, bytes) in rows {
+                    if (track, number) == (at, sector) {
+                        want = bytes;
+                    }
+                }
+                assert_eq!(rt; sector(&mut disk, track, number)?, want, "{track}/{number}");
+            }
+        }
+    }
+    Ok(())
+}
+
+// An odd number of tills gives one till more; 64 fill track 17 and fourteen sectors of track 19.
+#[test]
+fn other_numbers_of_tills(rt: HostRuntime) -> Result<(), Fail> {
+    let rows = [
+        (
+            1,
+            6,
+            2,
+            660,
+            [0x11, 0xF0, 0xFF, 0x1F],
+            [0x13, 0xFF, 0xFF, 0x07],
+            [0x00, 0xFF, 0x11],
+        ),
+        (
+            2,
+            6,
+            2,
+            660,
+            [0x11, 0xF0, 0xFF, 0x1F],
+            [0x13, 0xFF, 0xFF, 0x07],
+            [0x00, 0xFF, 0x11],
+        ),
+        (
+            3,
+            7,
+            3,
+            659,
+            [0x10, 0xE0, 0xFF, 0x1F],
+            [0x13, 0xFF, 0xFF, 0x07],
+            [0x11, 0x04, 0x13],
+        ),
+        (
+            64,
+            37,
+            33,
+            629,
+            [0x00, 0x00, 0x00, 0x00],
+            [0x05, 0x00, 0xC0, 0x07],
+            [0x11, 0x04, 0x4F],
+        ),
+    ];
+    for (tills, writes, count, free, track_17, track_19, block) in rows {
+        let mut disk = Meter::new(MemDisk::zeroed(rt.alloc())?);
+        blank_image(&mut disk, b"STOCK LEDGER", *b"01", tills)?;
+        let map = sector(&mut disk, 18, 0)?;
+        let directory = sector(&mut disk, 18, 1)?;
+        let first = sector(&mut disk, 17, 2)?;
+        let side = sector(&mut disk, 17, 3)?;
+        assert_eq!(rt; disk.writes(), writes, "{tills} tills");
+        assert_eq!(rt; BamView::new(&map).blocks_free(), free, "{tills} tills");
+        assert_eq!(rt;
+            DirView::new(&directory).entry(1).block_count(),
+            count,
+            "{tills} tills"
+        );
+        assert_eq!(rt; &map[68..72], track_17.as_slice(), "{tills} tills");
+        assert_eq!(rt; &map[76..80], track_19.as_slice(), "{tills} tills");
+        assert_eq!(rt; [first[0], first[1], side[1]], block, "{tills} tills");
+    }
+    Ok(())
+}
+
+#[test]
+fn the_requests_of_64_tills(rt: HostRuntime) -> Result<(), Fail> {
+    let mut disk = MemDisk::zeroed(rt.alloc())?;
+    blank_image(&mut disk, b"STOCK LEDGER", *b"01", 64)?;
+    let mut places = ArrayVec::new();
+    let first = Place::new(17, 2).ok_or(DeviceFault)?;
+    assert_eq!(rt; walk_chain(&mut disk, first, &mut places), Ok(255));
+    let mut number = 0;
+    for place in places.as_slice() {
+        let at = (place.track(), place.sector());
+        let want = match number {
+            0 => (17, 2),
+            1..=17 => (17, number + 3),
+            18..=31 => (19, number - 18),
+            _ => (0, 0),
+        };
+        assert_eq!(rt; at, want);
+        number = number.wrapping_add(1);
+    }
+    assert_eq!(rt; number, 32);
+    Ok(())
+}
+
+#[test]
+fn names_and_entries(rt: HostRuntime) -> Result<(), Fail> {
+    let mut disk = MemDisk::zeroed(rt.alloc())?;
+    blank_image(&mut disk, b"STOCK LEDGER", *b"01", 2)?;
+    let map = Bam::read(&mut disk)?;
+    let view = map.view();
+    assert_eq!(rt;
+        (view.name(), view.id(), view.version()),
+        (
+            b"STOCK LEDGER".as_slice(),
+            b"01".as_slice(),
+            b"2A".as_slice()
+        )
+    );
+    assert_eq!(rt;
+        (view.free_on(17), view.free_on(18), view.free_on(35)),
+        (17, 17, 17)
+    );
+    let directory = sector(&mut disk, 18, 1)?;
+    assert_eq!(rt; DirView::new(&directory).link(), (0, 255));
+    let mut slots = ArrayVec::new();
+    assert_eq!(rt; read_directory(&mut disk, &mut slots), Ok(()));
+    let mut names = ArrayVec::<u8, 300>::new();
+    for slot in slots.as_slice() {
+        let entry = EntryView::new(&slot.bytes);
+        assert_eq!(rt;
+            (entry.type_byte(), entry.block_count(), slot.sector.sector()),
+            (0x84, 2, 1)
+        );
+        let _ = names.try_extend_from_slice(entry.name());
+        let first = entry.first_block();
+        let side = entry.first_side();
+        let _ = names.try_extend_from_slice(&[
+            slot.number,
+            first.0,
+            first.1,
+            side.0,
+            side.1,
+            entry.record_length(),
+        ]);
+    }
+    assert_eq!(rt;
+        names.as_slice(),
+        b"STOCK\x00\x11\x00\x11\x01\x12REQUESTS\x01\x11\x02\x11\x03\x7F".as_slice()
+    );
+    Ok(())
+}

@@ -1,0 +1,118 @@
+//! The directory read along its links, on damaged disks too.
+use crate::{Fault, Slot, blank_image, read_directory};
+use arrayvec::ArrayVec;
+use d64_image::{DeviceFault, Fuse, MemDisk, Place, Sectors};
+use std::test::Fail;
+
+/// The place, where the disk has it.
+fn place(track: u8, sector: u8) -> Result<Place, DeviceFault> {
+    Place::new(track, sector).ok_or(DeviceFault)
+}
+
+/// Writes a directory sector with this link, whose slots have the type byte of the row each.
+fn directory_sector(
+    disk: &mut MemDisk,
+    sector: u8,
+    link: [u8; 2],
+    types: [u8; 8],
+) -> Result<(), DeviceFault> {
+    let mut bytes = [0; 256];
+    bytes[0] = link[0];
+    bytes[1] = link[1];
+    for n in 0..8usize {
+        bytes[32 * n + 2] = types[n];
+    }
+    disk.write(place(18, sector)?, &bytes)
+}
+
+/// What `read_directory` answers, and how many entries it lists.
+fn listed<D: Sectors>(disk: &mut D) -> (Result<(), Fault>, usize) {
+    let mut slots = ArrayVec::new();
+    let answer = read_directory(disk, &mut slots);
+    (answer, slots.len())
+}
+
+// The first directory sector has the link of the row, the second links back to the first.
+#[test]
+fn damaged_links(rt: HostRuntime) -> Result<(), Fail> {
+    let first = place(18, 1)?;
+    let rows = [
+        ("no more", [0, 255], Ok(())),
+        ("no more, another byte 1", [0, 7], Ok(())),
+        ("track 17", [17, 0], Err(Fault::BadLink(first))),
+        ("the map", [18, 0], Err(Fault::BadLink(first))),
+        ("no such sector", [18, 19], Err(Fault::BadLink(first))),
+        ("no such track", [36, 0], Err(Fault::BadLink(first))),
+        ("itself", [18, 1], Err(Fault::Loop(first))),
+        ("one that links back", [18, 2], Err(Fault::Loop(first))),
+    ];
+    for (name, link, answer) in rows {
+        let mut disk = MemDisk::zeroed(rt.alloc())?;
+        directory_sector(&mut disk, 1, link, [0x82; 8])?;
+        directory_sector(&mut disk, 2, [18, 1], [0; 8])?;
+        assert_eq!(rt; listed(&mut disk).0, answer, "{name}");
+    }
+    Ok(())
+}
+
+#[test]
+fn a_full_directory(rt: HostRuntime) -> Result<(), Fail> {
+    let mut disk = MemDisk::zeroed(rt.alloc())?;
+    for sector in 1..18u8 {
+        directory_sector(&mut disk, sector, [18, sector + 1], [0x82; 8])?;
+    }
+    directory_sector(&mut disk, 18, [0, 255], [0x82; 8])?;
+    assert_eq!(rt; listed(&mut disk), (Ok(()), 144));
+    Ok(())
+}
+
+// Free slots are left out, unclosed and unknown types are listed, in the order of the links.
+#[test]
+fn entries_in_order(rt: HostRuntime) -> Result<(), Fail> {
+    let mut disk = MemDisk::zeroed(rt.alloc())?;
+    directory_sector(
+        &mut disk,
+        1,
+        [18, 9],
+        [0x00, 0x82, 0x00, 0x02, 0x85, 0x00, 0x00, 0x00],
+    )?;
+    directory_sector(&mut disk, 9, [18, 4], [0x00; 8])?;
+    directory_sector(
+        &mut disk,
+        4,
+        [0, 255],
+        [0xC4, 0x00, 0x00, 0x00, 0x00, 0x00, 0x00, 0x81],
+    )?;
+    let rows = [
+        (1, 1, 0x82),
+        (1, 3, 0x02),
+        (1, 4, 0x85),
+        (4, 0, 0xC4),
+        (4, 7, 0x81),
+    ];
+    let mut slots: ArrayVec<Slot, 144> = ArrayVec::new();
+    slots.push(Slot::default());
+    assert_eq!(rt; read_directory(&mut disk, &mut slots), Ok(()));
+    assert_eq!(rt; slots.len(), 5);
+    for (slot, row) in slots.as_slice().iter().zip(rows) {
+        assert_eq!(rt; (slot.sector.sector(), slot.number, slot.bytes[2]), row);
+    }
+    Ok(())
+}
+
+#[test]
+fn a_device_that_fails(rt: HostRuntime) -> Result<(), Fail> {
+    let mut disk = MemDisk::zeroed(rt.alloc())?;
+    blank_image(&mut disk, b"STOCK LEDGER", *b"01", 2)?;
+    let mut dead = Fuse::new(disk, 0);
+    assert_eq!(rt; listed(&mut dead), (Err(Fault::Device(place(18, 1)?)), 0));
+    for writes in 0..6u32 {
+        let mut fuse = Fuse::new(MemDisk::zeroed(rt.alloc())?, writes);
+        assert_eq!(rt;
+            blank_image(&mut fuse, b"N", *b"01", 2),
+            Err(DeviceFault),
+            "{writes} writes"
+        );
+    }
+    Ok(())
+}
