@@ -1,6 +1,7 @@
 -- One disk is clean; with one byte changed it has each fault of entries, owners, side sectors, counts and map.
 use Rattle.std.proofs.Common.{[], ap, arith, inl, inr, lit<, lit≤, refl, take, ℕ, ◌++◌, ◌≤◌, ◌∷◌, ◌≡◌, ◌≢◌}
-use Rattle.std.specs.Prelude.{Contains, slice_index}
+use Rattle.std.specs.Prelude.{Contains, Err, Ok, slice_index}
+use Rattle.d64_image.specs.History.{Failed, History}
 use Rattle.d64_image.proofs.Places.{place_at-none}
 use Rattle.d64_image.specs.Images.{Sector}
 use Rattle.d64_image.specs.declared.place.Place.{Place}
@@ -13,11 +14,12 @@ use Rattle.disk_layout.proofs.Twice.{told-unsound}
 use Rattle.disk_layout.proofs.Unclean.{told-unclean}
 use Rattle.disk_layout.specs.Clean.{IsClean}
 use Rattle.disk_layout.specs.Directory.{directory_start, map_place, slot_in, slots_in}
-use Rattle.disk_layout.specs.Fault.{Holds, HoldsOfClean, IsClosed, IsSlot, length_byte}
+use Rattle.disk_layout.specs.Fault.{Holds, HoldsOfClean, IsClosed, IsSlot, TellsFault, length_byte}
 use Rattle.disk_layout.specs.Fault.Owner.{blocks_of, sides_of}
 use Rattle.disk_layout.specs.Layout.{IsSound, owners}
+use Rattle.disk_layout.specs.Number.{number_of}
 use Rattle.disk_layout.specs.Side.{padded, side_sector}
-use Rattle.disk_layout.specs.declared.faults.Fault.TheVariants.{BadLength, BadSide, BadType, CountWrong, MapWrong, OwnedTwice, Unclosed}
+use Rattle.disk_layout.specs.declared.faults.Fault.TheVariants.{BadLength, BadLink, BadSide, BadType, CountWrong, Device, Loop, MapWrong, OwnedTwice, Unclosed}
 
 -- with exact side sector, count and map the disk is clean
 pub stock-is_clean : (rest : Sector) → IsClean (stock_disk 37 2 rest exact_side (map_bytes 19 252))
@@ -163,3 +165,16 @@ bad_type-unsound b s m = told-unsound (disk (entry_bytes 133 1 18 2) b s m) (Bad
 
 pub count_wrong-unclean : (rest m : Sector) → ¬ (IsClean (stock_disk 37 3 rest exact_side m))
 count_wrong-unclean rest m = told-unclean (stock_disk 37 3 rest exact_side m) (CountWrong directory_start) (count_wrong rest m)
+
+-- where the device counts no failure an answer is anything but Device
+pub tells-chain : {D T : Type 0} (S : History D) (d : D) (answer : T) → TellsFault S d d (Ok answer)
+tells-chain S d answer = refl
+
+pub tells-loop : {D : Type 0} (S : History D) (d : D) → TellsFault {T = ℕ} S d d (Err (Loop block_0))
+tells-loop S d = refl
+
+pub tells-device : {D : Type 0} (S : History D) (d : D) → ¬ (Failed S d d) → ¬ (TellsFault {T = ℕ} S d d (Err (Device block_0)))
+tells-device S d none h = none h
+
+pub numbers : (p : Place) → (number_of (BadLink p) ≡ 1) × (number_of (MapWrong p) ≡ 9) × (number_of (Device p) ≡ 10)
+numbers p = (refl, refl, refl)
