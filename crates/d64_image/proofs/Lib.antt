@@ -1,4 +1,5 @@
 pub mod Chunks
+pub mod Examples
 pub mod Fused
 pub mod Images
 pub mod Moments

@@ -7,6 +7,10 @@ pub mod Count
 pub mod Counts
 pub mod Directories
 pub mod Exact
+pub mod ExampleChanges
+pub mod ExampleDisk
+pub mod ExampleFaults
+pub mod ExampleMap
 pub mod Examples
 pub mod Faces
 pub mod Fillers

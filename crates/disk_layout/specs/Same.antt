@@ -7,7 +7,7 @@ use Rattle.disk_layout.specs.Directory.{map_place}
 use Rattle.disk_layout.specs.Layout.{File, Layout}
 use Rattle.disk_layout.specs.Rest.{header_of}
 
--- a file as repair, growth of another and creation leave it: its slot without link and block count, its blocks with their bytes, its last index_of, its side places
+-- a file as repair, growth of another and creation leave it: its slot without link and block count, its blocks with their bytes, its last index, its side places
 pub record Stays : Type 0 where
   pub sector : Place
   pub number : ℕ

@@ -1,17 +1,25 @@
 //! The rounds that are timed, through a caller that knows only the trait.
-ghost use Rattle.std.specs.Prelude.{◌≡◌, ◌≤◌, ◌+◌, IfOk, OnOk, slice_index};
+ghost use Rattle.std.specs.Prelude.{◌≡◌, ◌≤◌, ◌+◌, IfOk, OnErr, OnOk, slice_index};
 ghost use Rattle.d64_image.specs.History.{TellsFailure};
 ghost use Rattle.d64_image.specs.Images.{put, sector};
+ghost use Rattle.d64_image.specs.Places.{index_of};
 ghost use Rattle.sector_bench.specs.Rounds.{raised};
+ghost use Rattle.sector_bench.specs.Walks.{next_index};
 
 use d64_image::{DeviceFault, Place, Sectors};
 
 /// The next place on the disk: the next sector of the track, or the first of the next track; after the last place the
 /// first.
-fn next_place(place: Place) -> Place {
-    Place::new(place.track(), place.sector() + 1)
-        .or(Place::new(place.track() + 1, 0))
-        .unwrap_or_default()
+fn next_place(place: Place) -> Place
+    ensures { index_of result ≡ next_index (index_of place) }
+{
+    match Place::new(place.track(), place.sector() + 1) {
+        Some(next) => next,
+        None => match Place::new(place.track() + 1, 0) {
+            Some(next) => next,
+            None => Place::default(),
+        },
+    }
 }
 
 /// Reads a sector, adds 1 to one of its bytes (255 becomes 0) and writes it back. The answer is that byte.
@@ -20,6 +28,7 @@ fn raise<D: Sectors>(disk: &mut D, place: Place, at: u8) -> Result<u8, DeviceFau
     ensures byte { IfOk result (λ byte. byte ≡ slice_index (raised at (sector (D.history.image disk.old) place)) at) }
     ensures reads { D.history.reads disk.new ≤ D.history.reads disk.old + 1 }
     ensures writes { D.history.writes disk.new ≤ D.history.writes disk.old + 1 }
+    ensures err { OnErr result (D.history.writes disk.new ≡ D.history.writes disk.old) }
     ensures failures { TellsFailure D.history disk.old disk.new result }
 {
     let mut bytes = [0; 256];

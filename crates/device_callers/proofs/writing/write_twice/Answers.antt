@@ -3,7 +3,7 @@ use Rattle.device_callers.proofs.Writes.{ok_again, written_again}
 use Rattle.device_callers.proofs.writing.write_twice.Goals as goal
 
 pub returns-clause-ok : goal.returns-clause-ok
-returns-clause-ok g c = ok_again c.write-2.result _ _ _ c.args.place _ c.in_ok-write.ensures.ok c.write-2.ensures.ok
+returns-clause-ok g c = ok_again c.write-2.result _ _ _ c.args.place _ _ c.in_ok-write.ensures.ok c.write-2.ensures.ok
 
 pub returns-clause-moments : goal.returns-clause-moments
 returns-clause-moments g c =

@@ -1,0 +1,80 @@
+-- Worked examples of this crate's definitions, each named by what it shows. The numbers are those of the D64 layout.
+use Rattle.std.proofs.Common.{◌+◌, ◌≡◌, ◌<◌, ◌≤◌, ◌≢◌, [], ◌∷◌, Some, None, refl, lit<, lit≤, ⊎_elim, arith}
+use Rattle.d64_image.specs.declared.place.Place.{Place}
+use Rattle.d64_image.specs.Geometry.{sectors_on, sectors_below}
+use Rattle.d64_image.specs.Places.{index_of, place_at, first_place}
+use Rattle.d64_image.specs.Images.{Image, sector, put}
+use Rattle.d64_image.specs.History.{History, HeldOnly, Failed, OnlyReads, OldOr}
+use Rattle.d64_image.proofs.Places.{place_at-none, place_at-self}
+
+-- the map's sector, and the last sector of the disk
+abbrev pub map_sector : Place
+map_sector = record { track = 18; sector = 0; on_disk = lit< tt }
+
+abbrev pub last_sector : Place
+last_sector = record { track = 35; sector = 16; on_disk = lit< tt }
+
+pub four_zones : (sectors_on 1 ≡ 21) × (sectors_on 17 ≡ 21) × (sectors_on 18 ≡ 19) × (sectors_on 25 ≡ 18) × (sectors_on 31 ≡ 17) × (sectors_on 35 ≡ 17)
+four_zones = (refl, refl, refl, refl, refl, refl)
+
+pub no_track_36_and_no_track_0 : (sectors_on 36 ≡ 0) × (sectors_on 0 ≡ 0)
+no_track_36_and_no_track_0 = (refl, refl)
+
+pub sectors_of_the_disk : sectors_below 36 ≡ 683
+unfolding sectors_below
+sectors_of_the_disk = refl
+
+pub first_place_is_at_0 : index_of first_place ≡ 0
+unfolding index_of sectors_below
+first_place_is_at_0 = refl
+
+pub map_is_at_357 : index_of map_sector ≡ 357
+unfolding index_of sectors_below
+map_is_at_357 = refl
+
+pub last_place_is_at_682 : index_of last_sector ≡ 682
+unfolding index_of sectors_below
+last_place_is_at_682 = refl
+
+pub no_sector_21_on_track_17 : place_at 17 21 ≡ None
+no_sector_21_on_track_17 = place_at-none 17 21 (lit≤ tt)
+
+pub no_place_on_track_36 : place_at 36 0 ≡ None
+no_place_on_track_36 = place_at-none 36 0 (lit≤ tt)
+
+pub place_18_0_is_the_map : place_at 18 0 ≡ Some map_sector
+place_18_0_is_the_map = place_at-self map_sector
+
+-- a disk of two short sectors
+abbrev pub short : Image
+short = (1 ∷ 2 ∷ []) ∷ (3 ∷ 4 ∷ []) ∷ []
+
+abbrev pub second_place : Place
+second_place = record { track = 1; sector = 1; on_disk = lit< tt }
+
+pub sector_is_read_by_its_index : sector short second_place ≡ 3 ∷ 4 ∷ []
+unfolding sector index_of sectors_below
+sector_is_read_by_its_index = refl
+
+pub put_changes_one_sector : put short second_place (5 ∷ 6 ∷ []) ≡ (1 ∷ 2 ∷ []) ∷ (5 ∷ 6 ∷ []) ∷ []
+unfolding put index_of sectors_below
+put_changes_one_sector = refl
+
+-- a rise of the count is a failure; a count that stays isn't, unless it is spent
+module _ {D : Type 0} (S : History D) (old new : D) where
+  pub rise_is_a_failure : S.failures new ≡ S.failures old + 1 → Failed S old new
+  rise_is_a_failure e = record { later = omega (arith, e); rose = λ _. omega (arith, e) }
+
+  pub spent_count_is_a_failure : S.failures new ≡ S.failures old → S.failures new ≡ S.last → Failed S old new
+  spent_count_is_a_failure e spent = record { later = omega (arith, e); rose = λ lt. absurd (omega (arith, lt, spent)) }
+
+  pub count_below_its_last_that_stays_is_none : S.failures new ≡ S.failures old → S.failures new < S.last → Failed S old new → ⊥
+  count_below_its_last_that_stays_is_none e lt f = let rose : S.failures old < S.failures new = f.rose lt in omega (arith, e, rose)
+
+  -- what was held since the call began is the old image or the new one: a third one was not
+  pub third_image_was_not_held : (a b c : Image) → c ≢ a → c ≢ b → HeldOnly S old new (OldOr a b) → S.held new (S.moment old) c → ⊥
+  third_image_was_not_held a b c na nb h held = ⊎_elim na nb (h.each c held)
+
+  -- a call that only reads at most two sectors is one that makes no write
+  pub reads_make_no_write : OnlyReads S old new 2 → S.writes new ≤ S.writes old
+  reads_make_no_write r = omega (arith, r.writes)
