@@ -1,9 +1,13 @@
 -- The run of a command over an image, from how the command ended.
 use Rattle.std.proofs.Common.{◌≡◌, ◌≢◌, ℕ, List, Result, Ok, Err, refl, ap, arith, inl, inr}
-use Rattle.std.specs.Prelude.{IfErr, OnOk}
-use Rattle.ledger_cli.specs.Faults.{end_status}
-use Rattle.ledger_cli.specs.Images.{HasDirectory, IsListFault}
-use Rattle.ledger_cli.specs.Runs.{IsListRun}
+use Rattle.std.specs.Prelude.{IfErr, IfOk, None, OnOk, Option, Some, codes, length}
+use Rattle.std.specs.Io.KnownBytes.{Appends}
+use Rattle.d64_image.specs.Memory.{sectors_in}
+use Rattle.disk_layout.proofs.Unclean.{told-unclean}
+use Rattle.disk_layout.specs.declared.faults.Fault.{Fault}
+use Rattle.ledger_cli.specs.Faults.{check_status, end_status}
+use Rattle.ledger_cli.specs.Images.{HasDirectory, IsCheckFault, IsListFault, IsVerdict}
+use Rattle.ledger_cli.specs.Runs.{IsCheckRun, IsListRun}
 use Rattle.ledger_cli.specs.declared.faults.RunFault.{RunFault}
 use Rattle.ledger_cli.specs.declared.faults.RunFault.TheVariants as run
 
@@ -60,3 +64,47 @@ list-run image old new (Err run.NoMemory) ok err untouched = record {
   statuses = inr (inr refl);
 }
 list-run image old new (Err run.Device) ok err untouched = absurd err
+
+-- a check
+pub check-run : {W : Type 0} (contents : W → Option (List ℕ)) (image : List ℕ) (old new : W) (ended : Result (Option Fault) RunFault)
+    → IfOk ended (λ _. length image ≡ 174848) → IfOk ended (IsVerdict (sectors_in image))
+    → (ended ≡ Ok None → Appends (contents old) (contents new) (codes "OK\n"))
+    → IfErr ended (IsCheckFault image) → IfErr ended (λ fault. fault ≢ run.File → new ≡ old)
+    → IsCheckRun contents image old new (check_status ended)
+check-run contents image old new (Ok None) size verdict said err untouched = record {
+  done = λ _. (size, verdict, said refl);
+  size = λ other. absurd (other size);
+  refused = λ one. absurd (omega (arith, one));
+  clean = λ one. absurd (omega (arith, one));
+  statuses = inl refl;
+}
+check-run contents image old new (Ok (Some fault)) size verdict said err untouched = record {
+  done = λ zero'. absurd (omega (arith, zero'));
+  size = λ other. absurd (other size);
+  refused = λ _. inr (fault, verdict);
+  clean = λ _ _. told-unclean (sectors_in image) fault verdict;
+  statuses = inr (inl refl);
+}
+check-run contents image old new (Err run.ImageSize) size verdict said err untouched = record {
+  done = λ zero'. absurd (omega (arith, zero'));
+  size = λ _. (refl, untouched (not-file run.ImageSize refl));
+  refused = λ _. inl err;
+  clean = λ _ same. absurd (err same);
+  statuses = inr (inl refl);
+}
+check-run contents image old new (Err (run.Layout fault)) size verdict said err untouched = absurd err
+check-run contents image old new (Err run.File) size verdict said err untouched = record {
+  done = λ zero'. absurd (omega (arith, zero'));
+  size = λ other. absurd (other err);
+  refused = λ one. absurd (omega (arith, one));
+  clean = λ one. absurd (omega (arith, one));
+  statuses = inr (inr refl);
+}
+check-run contents image old new (Err run.NoMemory) size verdict said err untouched = record {
+  done = λ zero'. absurd (omega (arith, zero'));
+  size = λ other. absurd (other err);
+  refused = λ one. absurd (omega (arith, one));
+  clean = λ one. absurd (omega (arith, one));
+  statuses = inr (inr refl);
+}
+check-run contents image old new (Err run.Device) size verdict said err untouched = absurd err

@@ -1,5 +1,6 @@
 -- The numbers of what the program refuses (our own).
 use Rattle.std.specs.Prelude.{◌≡◌, ℕ, Option, Some, None, Result, Ok, Err}
+use Rattle.disk_layout.specs.declared.faults.Fault.{Fault}
 use Rattle.ledger_cli.specs.declared.dry_run.DryFault.{DryFault}
 use Rattle.ledger_cli.specs.declared.dry_run.DryFault.TheVariants as dry
 use Rattle.ledger_cli.specs.declared.faults.RunFault.{RunFault}
@@ -39,3 +40,9 @@ run_status run.Device = 3
 abbrev pub end_status : Result Unit RunFault → ℕ
 end_status (Ok _) = 0
 end_status (Err fault) = run_status fault
+
+-- the exit status of a check that ended so: 1 also where a fault was told
+abbrev pub check_status : Result (Option Fault) RunFault → ℕ
+check_status (Ok None) = 0
+check_status (Ok (Some fault)) = 1
+check_status (Err fault) = run_status fault

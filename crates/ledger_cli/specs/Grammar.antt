@@ -23,6 +23,10 @@ format = with_rule (over_image (codes "format")) (required_behind (codes "tills"
 abbrev pub list : App
 list = over_image (codes "list")
 
+-- check IMAGE
+abbrev pub check : App
+check = over_image (codes "check")
+
 -- dry SCRIPT
 abbrev pub dry : App
 dry = with_rule (new_app (codes "dry")) (required (codes "SCRIPT"))
@@ -33,8 +37,8 @@ with_required_subcommand a = record { top = record a.top { subcommand_required =
 
 -- the program with its subcommands
 abbrev pub ledger : App
-ledger = with_subcommand (with_subcommand (with_subcommand
-    (with_required_subcommand (new_app (codes "ledger"))) format.top) list.top) dry.top
+ledger = with_subcommand (with_subcommand (with_subcommand (with_subcommand
+    (with_required_subcommand (new_app (codes "ledger"))) format.top) list.top) check.top) dry.top
 
 -- the value of an argument, or an empty text where it has none
 abbrev pub value : Text → List Row → Text

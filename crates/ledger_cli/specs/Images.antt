@@ -1,11 +1,12 @@
 -- What the commands over an image make and find. The names of a fresh disk are our own.
-use Rattle.std.specs.Prelude.{◌≡◌, ◌≢◌, ◌⊎◌, ℕ, List, codes, length, slice_index}
+use Rattle.std.specs.Prelude.{◌≡◌, ◌≢◌, ◌⊎◌, ℕ, List, None, Option, Some, codes, length, slice_index}
 use Rattle.d64_image.specs.Images.{Image, sector}
 use Rattle.d64_image.specs.Memory.{bytes_of, sectors_in}
 use Rattle.d64_image.specs.declared.place.Place.{Place}
 use Rattle.disk_layout.specs.Blank.{IsBlank}
 use Rattle.disk_layout.specs.Directory.{IsDirectory}
-use Rattle.disk_layout.specs.Fault.{HoldsOfDirectory}
+use Rattle.disk_layout.specs.Clean.{IsClean}
+use Rattle.disk_layout.specs.Fault.{HoldsOfClean, HoldsOfDirectory}
 use Rattle.disk_layout.specs.declared.faults.Fault.{Fault}
 use Rattle.disk_layout.specs.declared.slot.Slot.{Slot}
 use Rattle.ledger_cli.specs.declared.faults.RunFault.{RunFault}
@@ -47,6 +48,16 @@ IsListFault image (run.Layout fault) = (length image ≡ 174848) × HoldsOfDirec
 IsListFault image run.File = HasDirectory image
 IsListFault image run.NoMemory = length image ≡ 174848
 IsListFault image run.Device = ⊥
+
+-- what is said of an image: that it is clean, or a fault that holds of it
+abbrev pub IsVerdict : Image → Option Fault → Type 0
+IsVerdict img None = IsClean img
+IsVerdict img (Some fault) = HoldsOfClean ⊥ img fault
+
+-- why an image isn't judged: its size, the output, or memory
+abbrev pub IsCheckFault : List ℕ → RunFault → Type 0
+IsCheckFault image run.File = length image ≡ 174848
+IsCheckFault image fault = IsLoadFault image fault
 
 -- why no disk is made: the file or the output, or memory
 abbrev pub IsFormatFault : RunFault → Type 0

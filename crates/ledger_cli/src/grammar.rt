@@ -51,6 +51,18 @@ fn list_command<'a>(alloc: Global) -> Result<Command<'a>, AllocError>
     over_image(alloc, "list", "Prints the directory of the image")
 }
 
+/// `check IMAGE`
+fn check_command<'a>(alloc: Global) -> Result<Command<'a>, AllocError>
+    ensures app { IfOk result (λ c. app_of c ≡ grammar.check) }
+    ensures local { IfOk result (λ c. (out-Command c).has_globals ≡ false) }
+{
+    over_image(
+        alloc,
+        "check",
+        "Judges the layout of the image: prints OK, or what is wrong and where",
+    )
+}
+
 /// `dry SCRIPT`
 fn dry_command<'a>(alloc: Global) -> Result<Command<'a>, AllocError>
     ensures app { IfOk result (λ c. app_of c ≡ grammar.dry) }
@@ -74,11 +86,13 @@ pub fn ledger_command<'a>(alloc: Global) -> Result<Command<'a>, AllocError>
 {
     let format = format_command(alloc)?;
     let list = list_command(alloc)?;
+    let check = check_command(alloc)?;
     let dry = dry_command(alloc)?;
     Command::new(alloc, "ledger")
         .about("A retry-safe stock ledger: a request that comes again gets its first answer")
         .subcommand_required(true)
         .subcommand(format)?
         .subcommand(list)?
+        .subcommand(check)?
         .subcommand(dry)
 }

@@ -2,15 +2,16 @@
 use crate::jobs::Job;
 use crate::running::run;
 use crate::tests::Full;
+use crate::words::job;
 use std::fs::File;
 use std::io::Cursor;
 use std::process::Abort;
 use std::test::Fail;
 
 /// Where some sectors begin in an image.
-const S17_0: usize = 86016;
+pub(crate) const S17_0: usize = 86016;
 
-const S17_1: usize = S17_0 + 256;
+pub(crate) const S17_1: usize = S17_0 + 256;
 
 const S17_2: usize = S17_0 + 2 * 256;
 
@@ -18,9 +19,9 @@ const S17_3: usize = S17_0 + 3 * 256;
 
 const S17_4: usize = S17_0 + 4 * 256;
 
-const S18_0: usize = 91392;
+pub(crate) const S18_0: usize = 91392;
 
-const S18_1: usize = S18_0 + 256;
+pub(crate) const S18_1: usize = S18_0 + 256;
 
 const S19_13: usize = 96256 + 13 * 256;
 
@@ -28,7 +29,7 @@ const S19_13: usize = 96256 + 13 * 256;
 const SLOT_3: usize = S18_1 + 64;
 
 /// Bytes, and where in an image they stand.
-type Bytes = (usize, &'static [u8]);
+pub(crate) type Bytes = (usize, &'static [u8]);
 
 /// What an image has for two tills beside the records and zeros.
 const TWO_TILLS: [Bytes; 20] = [
@@ -64,30 +65,28 @@ const FREE_TRACKS: [(usize, usize, &[u8]); 4] = [
 ];
 
 /// For so many tills, what stands somewhere.
-const OTHER_TILLS: [(u8, Bytes); 12] = [
-    (3, (S17_2, b"\x11\x04\xFF\x00")),
-    (3, (S17_3, b"\x00\x13\x00\x7F\x11\x03\x00\x00")),
-    (3, (S17_3 + 16, b"\x11\x02\x11\x04\x00")),
-    (3, (S17_4, b"\x00\xFF\xFF\x00")),
-    (3, (S18_1 + 62, b"\x03\x00")),
-    (64, (S18_0 + 0x44, b"\x00\x00\x00\x00")),
-    (64, (S18_0 + 0x4C, b"\x05\x00\xC0\x07")),
-    (64, (S18_1 + 62, b"\x21\x00")),
-    (64, (S17_2, b"\x11\x04\xFF\x00")),
-    (64, (S17_3, b"\x00\x4F\x00\x7F\x11\x03\x00\x00")),
-    (64, (S17_3 + 78, b"\x13\x0D\x00")),
-    (64, (S19_13, b"\x00\xFF\xFF\x00")),
+const OTHER_TILLS: [(&str, Bytes); 12] = [
+    ("3", (S17_2, b"\x11\x04\xFF\x00")),
+    ("3", (S17_3, b"\x00\x13\x00\x7F\x11\x03\x00\x00")),
+    ("3", (S17_3 + 16, b"\x11\x02\x11\x04\x00")),
+    ("3", (S17_4, b"\x00\xFF\xFF\x00")),
+    ("3", (S18_1 + 62, b"\x03\x00")),
+    ("64", (S18_0 + 0x44, b"\x00\x00\x00\x00")),
+    ("64", (S18_0 + 0x4C, b"\x05\x00\xC0\x07")),
+    ("64", (S18_1 + 62, b"\x21\x00")),
+    ("64", (S17_2, b"\x11\x04\xFF\x00")),
+    ("64", (S17_3, b"\x00\x4F\x00\x7F\x11\x03\x00\x00")),
+    ("64", (S17_3 + 78, b"\x13\x0D\x00")),
+    ("64", (S19_13, b"\x00\xFF\xFF\x00")),
 ];
 
-/// The image that `format` makes for so many tills.
-fn formatted(rt: &(impl AllocGlobal + Abort), tills: u8) -> Result<Vec<u8>, Fail> {
+/// The image that `format` makes for so many tills, which are given as a word.
+pub(crate) fn formatted(rt: &(impl AllocGlobal + Abort), tills: &str) -> Result<Vec<u8>, Fail> {
+    let words = ["ledger", "format", "a.d64", "--tills", tills];
+    let job = job(rt.alloc(), &words)?;
     let mut file = Cursor::new(Vec::new(rt.alloc()));
     let mut out = Vec::new(rt.alloc());
     let mut err = Vec::new(rt.alloc());
-    let job = Job::Format {
-        image: "a.d64",
-        tills,
-    };
     let status = run(
         rt.alloc(),
         &job,
@@ -105,12 +104,17 @@ fn formatted(rt: &(impl AllocGlobal + Abort), tills: u8) -> Result<Vec<u8>, Fail
 }
 
 /// Writes the bytes over the image.
-fn patch(image: &mut Vec<u8>, bytes: &[Bytes]) {
+pub(crate) fn patch(image: &mut Vec<u8>, bytes: &[Bytes]) {
     for (at, bytes) in bytes {
-        for (k, byte) in bytes.iter().enumerate() {
-            image[*at + k] = *byte;
+        for (place, byte) in image.as_mut_slice().iter_mut().skip(*at).zip(bytes.iter()) {
+            *place = *byte;
         }
     }
+}
+
+/// The bytes of the image from there on.
+fn from(image: &[u8], at: usize) -> &[u8] {
+    image.get(at..).unwrap_or(&[])
 }
 
 #[test]
@@ -118,7 +122,7 @@ fn a_disk_for_two_tills_has_these_bytes_and_zeros(rt: HostRuntime) -> Result<(),
     let mut wanted = Vec::new(rt.alloc());
     wanted.resize(174848, 0u8)?;
     for record in 0..14usize {
-        wanted[S17_0 + 2 + 18 * record] = 0xFF;
+        patch(&mut wanted, &[(S17_0 + 2 + 18 * record, b"\xFF")]);
     }
     for (first, end, bytes) in FREE_TRACKS {
         for track in first..end {
@@ -126,10 +130,10 @@ fn a_disk_for_two_tills_has_these_bytes_and_zeros(rt: HostRuntime) -> Result<(),
         }
     }
     patch(&mut wanted, &TWO_TILLS);
-    let image = formatted(&rt, 2)?;
+    let image = formatted(&rt, "2")?;
     assert!(rt; image == wanted);
     // An odd number gives one till more.
-    assert!(rt; formatted(&rt, 1)? == wanted);
+    assert!(rt; formatted(&rt, "1")? == wanted);
     Ok(())
 }
 
@@ -147,25 +151,25 @@ fn disks_for_other_tills_have_these_bytes(rt: HostRuntime) -> Result<(), Fail> {
 }
 
 /// What is printed of a disk for so many tills after these changes.
-const LISTINGS: [(u8, &[Bytes], &[u8]); 12] = [
+const LISTINGS: [(&str, &[Bytes], &[u8]); 12] = [
     (
-        2,
+        "2",
         &[],
         b"0 \"STOCK LEDGER\" 01 2A\n2 \"STOCK\" REL\n2 \"REQUESTS\" REL\n660 BLOCKS FREE\n",
     ),
     (
-        3,
+        "3",
         &[],
         b"0 \"STOCK LEDGER\" 01 2A\n2 \"STOCK\" REL\n3 \"REQUESTS\" REL\n659 BLOCKS FREE\n",
     ),
     (
-        64,
+        "64",
         &[],
         b"0 \"STOCK LEDGER\" 01 2A\n2 \"STOCK\" REL\n33 \"REQUESTS\" REL\n629 BLOCKS FREE\n",
     ),
     // An entry that isn't closed, a locked one, one that is both, and a type that there isn't.
     (
-        2,
+        "2",
         &[
             (SLOT_3, b"\x00\x00\x02\x11\x02X\xA0"),
             (SLOT_3 + 30, b"\x01"),
@@ -173,7 +177,7 @@ const LISTINGS: [(u8, &[Bytes], &[u8]); 12] = [
         b"0 \"STOCK LEDGER\" 01 2A\n2 \"STOCK\" REL\n2 \"REQUESTS\" REL\n1 \"X\" *PRG\n660 BLOCKS FREE\n",
     ),
     (
-        2,
+        "2",
         &[
             (SLOT_3, b"\x00\x00\xC2\x11\x02X\xA0"),
             (SLOT_3 + 30, b"\x01"),
@@ -181,7 +185,7 @@ const LISTINGS: [(u8, &[Bytes], &[u8]); 12] = [
         b"0 \"STOCK LEDGER\" 01 2A\n2 \"STOCK\" REL\n2 \"REQUESTS\" REL\n1 \"X\" PRG<\n660 BLOCKS FREE\n",
     ),
     (
-        2,
+        "2",
         &[
             (SLOT_3, b"\x00\x00\x41\x11\x02X\xA0"),
             (SLOT_3 + 30, b"\xFF\xFF"),
@@ -189,7 +193,7 @@ const LISTINGS: [(u8, &[Bytes], &[u8]); 12] = [
         b"0 \"STOCK LEDGER\" 01 2A\n2 \"STOCK\" REL\n2 \"REQUESTS\" REL\n65535 \"X\" *SEQ<\n660 BLOCKS FREE\n",
     ),
     (
-        2,
+        "2",
         &[
             (SLOT_3, b"\x00\x00\x85\x11\x02X\xA0"),
             (SLOT_3 + 30, b"\x01"),
@@ -198,7 +202,7 @@ const LISTINGS: [(u8, &[Bytes], &[u8]); 12] = [
     ),
     // The other types, the name of the second entry empty, and a free slot passed over.
     (
-        2,
+        "2",
         &[
             (S18_1 + 2, b"\x80"),
             (S18_1 + 34, b"\xA3\x00\x00\xA0"),
@@ -208,7 +212,7 @@ const LISTINGS: [(u8, &[Bytes], &[u8]); 12] = [
     ),
     // Bytes that aren't printed as they are, and a quote mark; a name ends at its first A0.
     (
-        2,
+        "2",
         &[
             (S18_1 + 5, b"S\x1F \x7E\x7F\xC1"),
             (S18_0 + 0x90, b"\"A\xA0B"),
@@ -218,13 +222,13 @@ const LISTINGS: [(u8, &[Bytes], &[u8]); 12] = [
     ),
     // A name without padding.
     (
-        2,
+        "2",
         &[(S18_1 + 5, b"ABCDEFGHIJKLMNOP"), (S18_0 + 0xA5, b"\x7F@")],
         b"0 \"STOCK LEDGER\" 01 ?@\n2 \"ABCDEFGHIJKLMNOP\" REL\n2 \"REQUESTS\" REL\n660 BLOCKS FREE\n",
     ),
     // The map's counts as they are stored, but that of track 18.
     (
-        2,
+        "2",
         &[
             (S18_0 + 0x44, b"\x10"),
             (S18_0 + 0x48, b"\xFF"),
@@ -234,7 +238,7 @@ const LISTINGS: [(u8, &[Bytes], &[u8]); 12] = [
     ),
     // An entry of a second directory sector.
     (
-        2,
+        "2",
         &[
             (S18_1, b"\x12\x04"),
             (S18_0 + 4 * 256, b"\x00\xFF\x82\x11\x02N\xA0"),
@@ -244,12 +248,13 @@ const LISTINGS: [(u8, &[Bytes], &[u8]); 12] = [
     ),
 ];
 
-/// Does the job over an image: its status, what it prints and what it tells.
-fn over(rt: &HostRuntime, job: &Job<'_>, image: &[u8]) -> (u8, Vec<u8>, Vec<u8>) {
+/// Does `list` over an image: its status, what it prints and what it tells.
+fn list(rt: &impl AllocGlobal, image: &[u8]) -> (u8, Vec<u8>, Vec<u8>) {
     let mut out = Vec::new(rt.alloc());
     let mut err = Vec::new(rt.alloc());
     let file: Option<File> = None;
-    let status = run(rt.alloc(), job, image, &[], file, &mut out, &mut err);
+    let job = Job::List { image: "a.d64" };
+    let status = run(rt.alloc(), &job, image, &[], file, &mut out, &mut err);
     (status, out, err)
 }
 
@@ -258,7 +263,7 @@ fn images_are_listed(rt: HostRuntime) -> Result<(), Fail> {
     for (tills, changes, listing) in LISTINGS {
         let mut image = formatted(&rt, tills)?;
         patch(&mut image, changes);
-        let (status, out, err) = over(&rt, &Job::List { image: "a.d64" }, image.as_slice());
+        let (status, out, err) = list(&rt, image.as_slice());
         assert_eq!(rt; out.as_slice(), listing, "{changes:?}");
         assert_eq!(rt; (status, err.as_slice()), (0, b"" as &[u8]), "{changes:?}");
     }
@@ -277,9 +282,9 @@ const BAD_LINKS: [(&[u8], &[u8]); 5] = [
 #[test]
 fn a_bad_directory_is_told_and_nothing_is_printed(rt: HostRuntime) -> Result<(), Fail> {
     for (link, told) in BAD_LINKS {
-        let mut image = formatted(&rt, 2)?;
+        let mut image = formatted(&rt, "2")?;
         patch(&mut image, &[(S18_1, link)]);
-        let (status, out, err) = over(&rt, &Job::List { image: "a.d64" }, image.as_slice());
+        let (status, out, err) = list(&rt, image.as_slice());
         assert_eq!(rt; err.as_slice(), told);
         assert_eq!(rt; (status, out.as_slice()), (1, b"" as &[u8]), "{told:?}");
     }
@@ -291,7 +296,7 @@ fn other_sizes_are_told(rt: HostRuntime) -> Result<(), Fail> {
     for size in [0usize, 174847, 174849, 175531] {
         let mut image = Vec::new(rt.alloc());
         image.resize(size, 0u8)?;
-        let (status, out, err) = over(&rt, &Job::List { image: "a.d64" }, image.as_slice());
+        let (status, out, err) = list(&rt, image.as_slice());
         assert_eq!(rt; err.as_slice(), b"IMAGE SIZE\n".as_slice());
         assert_eq!(rt; (status, out.as_slice()), (1, b"" as &[u8]), "{size}");
     }
@@ -304,19 +309,23 @@ fn a_file_or_an_output_that_fails_is_told(rt: HostRuntime) -> Result<(), Fail> {
         image: "a.d64",
         tills: 2,
     };
-    let (status, out, err) = over(&rt, &job, &[]);
+    let mut out = Vec::new(rt.alloc());
+    let mut err = Vec::new(rt.alloc());
+    let none: Option<File> = None;
+    let status = run(rt.alloc(), &job, &[], &[], none, &mut out, &mut err);
     assert_eq!(rt;
         (status, out.as_slice(), err.as_slice()),
         (3, b"" as &[u8], b"FILE\n" as &[u8])
     );
-    // What the file takes, and whether it flushes; what the output takes, and whether it flushes.
+    // What the file takes, and whether it flushes; the same of the output, and how much more it then
+    // would take: nothing is printed before the file has all.
     let runs = [
-        (174847, true, 100, true),
-        (174848, false, 100, true),
-        (174848, true, 9, true),
-        (174848, true, 10, false),
+        (174847, true, 100, true, 100),
+        (174848, false, 100, true, 100),
+        (174848, true, 9, true, 0),
+        (174848, true, 10, false, 0),
     ];
-    for (room, flushes, out_room, out_flushes) in runs {
+    for (room, flushes, out_room, out_flushes, left) in runs {
         let file = Full { room, flushes };
         let mut out = Full {
             room: out_room,
@@ -324,11 +333,9 @@ fn a_file_or_an_output_that_fails_is_told(rt: HostRuntime) -> Result<(), Fail> {
         };
         let mut err = Vec::new(rt.alloc());
         let status = run(rt.alloc(), &job, &[], &[], Some(file), &mut out, &mut err);
-        assert_eq!(rt; (status, err.as_slice()), (3, b"FILE\n" as &[u8]));
-        // Nothing is printed before the file has all.
-        assert!(rt; out_room == 100 && out.room == 100 || out_room < 100 && out.room == 0);
+        assert_eq!(rt; (status, err.as_slice(), out.room), (3, b"FILE\n" as &[u8], left));
     }
-    let image = formatted(&rt, 2)?;
+    let image = formatted(&rt, "2")?;
     for (room, flushes) in [(69, true), (70, false)] {
         let mut out = Full { room, flushes };
         let mut err = Vec::new(rt.alloc());

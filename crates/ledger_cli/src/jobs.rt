@@ -19,6 +19,11 @@ pub enum Job<'a> {
         /// The image's path.
         image: &'a str,
     },
+    /// Whether the layout of an image is clean, and else what is wrong with it.
+    Check {
+        /// The image's path.
+        image: &'a str,
+    },
     /// The replies to the messages of a script, from no cards on and without a disk.
     Dry {
         /// The script's path.

@@ -2,6 +2,8 @@
 #![tactic(auto)]
 
 mod bytes;
+#[cfg(test)]
+mod check_tests;
 mod dry_run;
 mod faults;
 mod formatting;
@@ -9,6 +11,7 @@ mod grammar;
 #[cfg(test)]
 mod image_tests;
 mod jobs;
+mod judging;
 mod listing;
 mod replaced;
 mod running;
@@ -117,7 +120,7 @@ fn do_job(rt: &HostRuntime, job: &Job<'_>) -> io::Result<u8>
             image: path,
             tills: _,
         } => file = Some(open_image(rt, path)?),
-        Job::List { image: path } => image = read_image(rt, path)?,
+        Job::List { image: path } | Job::Check { image: path } => image = read_image(rt, path)?,
         Job::Dry { script: path } => script = read_file(rt, path)?,
     }
     let mut out = BufWriter::with_capacity(rt.alloc(), OUTPUT_ROOM, io::writer(rt))?;

@@ -1,9 +1,9 @@
 //! Doing a job over the bytes of its files.
-ghost use Rattle.std.specs.Prelude.{◌≡◌, None, IfErr, IsSome, OnOk};
+ghost use Rattle.std.specs.Prelude.{◌≡◌, None, IfErr, IsOk, IsSome, OnOk};
 ghost use Rattle.std.specs.Io.KnownBytes.{Appends};
-ghost use Rattle.ledger_cli.specs.Faults.{IsDryFault, dry_status, end_status};
+ghost use Rattle.ledger_cli.specs.Faults.{IsDryFault, check_status, dry_status, end_status};
 ghost use Rattle.ledger_cli.specs.Jobs.{HasTills};
-ghost use Rattle.ledger_cli.specs.Runs.{IsRun};
+ghost use Rattle.ledger_cli.specs.Runs.{IsQuiet, IsRun};
 ghost use Rattle.ledger_cli.specs.Scripts.{first_bad, lines};
 ghost use Rattle.ledger_cli.specs.Tables.{dry_report};
 
@@ -11,7 +11,9 @@ use crate::dry_run::{DryFault, dry};
 use crate::faults::RunFault;
 use crate::formatting::format_image;
 use crate::jobs::Job;
+use crate::judging::check_image;
 use crate::listing::list_image;
+use disk_layout::Fault;
 use std::alloc::Global;
 use std::fmt::Display;
 use std::io::{Seek, Write};
@@ -60,6 +62,19 @@ fn status_after<E: Write>(ended: Result<(), RunFault>, err: &mut E) -> u8
     }
 }
 
+/// The exit status of a check: 1 also where a fault was told, on the output. Tells why the image
+/// wasn't judged, where it wasn't.
+fn judged<E: Write>(ended: Result<Option<Fault>, RunFault>, err: &mut E) -> u8
+    ensures status { result ≡ check_status ended }
+    ensures quiet { IsOk ended → err.new ≡ err.old }
+{
+    match ended {
+        Ok(None) => 0,
+        Ok(Some(_)) => 1,
+        Err(fault) => status_after(Err(fault), err),
+    }
+}
+
 /// Does the job and answers the program's exit status. `image` and `script` are the bytes of the
 /// files that the job names (empty where it names none or doesn't read it), `file` is the image's
 /// file for writing, at its start. What is printed goes to `out`, which is flushed at the end; a
@@ -77,8 +92,7 @@ pub fn run<F: Write + Seek + Drop, W: Write, E: Write>(
 ) -> u8
     requires tills { HasTills job.now }
     ensures run { IsRun W.contents job.now image.now script.now file out.old out.new result }
-    // At status 0 nothing is told.
-    ensures quiet { result ≡ 0 → err.new ≡ err.old }
+    ensures quiet { IsQuiet job.now image.now err.old err.new result }
 {
     match job {
         Job::Format { image: _, tills } => status_after(
@@ -86,6 +100,7 @@ pub fn run<F: Write + Seek + Drop, W: Write, E: Write>(
             err,
         ),
         Job::List { image: _ } => status_after(list_image(alloc, image, out), err),
+        Job::Check { image: _ } => judged(check_image(alloc, image, out), err),
         Job::Dry { script: _ } => match play_whole(script, out) {
             Ok(()) => 0,
             Err(fault) => {

@@ -54,6 +54,9 @@ fn chosen<'a>(matches: &ArgMatches<'a>) -> Result<Job<'a>, JobFault>
         Some(("list", found)) => Ok(Job::List {
             image: value_of(found, "IMAGE"),
         }),
+        Some(("check", found)) => Ok(Job::Check {
+            image: value_of(found, "IMAGE"),
+        }),
         Some(("dry", found)) => Ok(Job::Dry {
             script: value_of(found, "SCRIPT"),
         }),

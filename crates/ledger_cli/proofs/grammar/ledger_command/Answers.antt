@@ -13,6 +13,8 @@ returns c =
     ∙ ap₂ with_subcommand bare (ap (λ (a : App). a.top) c.in_ok-format.ensures.app) in
     let with_list = c.in_ok-subcommand-2.ensures.shape c.in_ok-list.ensures.local
     ∙ ap₂ with_subcommand with_format (ap (λ (a : App). a.top) c.in_ok-list.ensures.app) in
-    IfOk-weaker c.subcommand-3.result _ _
-    (λ command adds. adds.shape c.in_ok-dry.ensures.local ∙ ap₂ with_subcommand with_list (ap (λ (a : App). a.top) c.in_ok-dry.ensures.app))
-    c.subcommand-3.ensures
+    let with_check = c.in_ok-subcommand-3.ensures.shape c.in_ok-check.ensures.local
+    ∙ ap₂ with_subcommand with_list (ap (λ (a : App). a.top) c.in_ok-check.ensures.app) in
+    IfOk-weaker c.subcommand-4.result _ _
+    (λ command adds. adds.shape c.in_ok-dry.ensures.local ∙ ap₂ with_subcommand with_check (ap (λ (a : App). a.top) c.in_ok-dry.ensures.app))
+    c.subcommand-4.ensures
