@@ -141,9 +141,8 @@ fn a_disk_for_two_tills_has_these_bytes_and_zeros(rt: HostRuntime) -> Result<(),
 fn disks_for_other_tills_have_these_bytes(rt: HostRuntime) -> Result<(), Fail> {
     for (tills, (at, bytes)) in OTHER_TILLS {
         let image = formatted(&rt, tills)?;
-        assert_eq!(rt;
-            &image.as_slice()[at..at + bytes.len()],
-            bytes,
+        assert!(rt;
+            from(image.as_slice(), at).starts_with(bytes),
             "{tills} tills at {at}"
         );
     }
@@ -333,7 +332,10 @@ fn a_file_or_an_output_that_fails_is_told(rt: HostRuntime) -> Result<(), Fail> {
         };
         let mut err = Vec::new(rt.alloc());
         let status = run(rt.alloc(), &job, &[], &[], Some(file), &mut out, &mut err);
-        assert_eq!(rt; (status, err.as_slice(), out.room), (3, b"FILE\n" as &[u8], left));
+        assert_eq!(rt;
+            (status, err.as_slice(), out.room),
+            (3, b"FILE\n" as &[u8], left)
+        );
     }
     let image = formatted(&rt, "2")?;
     for (room, flushes) in [(69, true), (70, false)] {

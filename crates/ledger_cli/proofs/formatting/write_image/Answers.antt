@@ -1,9 +1,6 @@
 -- What was handed over are the bytes of the fresh disk.
-use Rattle.std.proofs.Common.{◌≡◌}
-use Rattle.std.specs.Io.KnownBytes.{Appends}
 use Rattle.std.proofs.lemmas.Result.{on_ok_weaker}
 use Rattle.d64_image.specs.Memory.{disk_image}
-use Rattle.ledger_cli.specs.Images.{AreFreshBytes}
 use Rattle.ledger_cli.proofs.formatting.write_image.Goals as goal
 
 pub returns-clause-ok : goal.returns-clause-ok

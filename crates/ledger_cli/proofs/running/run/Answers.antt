@@ -1,5 +1,4 @@
 -- A run over an image is told by how it ended.
-use Rattle.std.proofs.Common.{◌≡◌}
 use Rattle.ledger_cli.proofs.Runs.{check-run, list-run}
 use Rattle.ledger_cli.proofs.running.run.Goals as goal
 

@@ -1,5 +1,5 @@
 -- The command line is a simple one, so words are refused for one of its reasons.
-use Rattle.std.proofs.Common.{◌≡◌, Bool, true, refl, ap, ◌∙◌, subst}
+use Rattle.std.proofs.Common.{◌≡◌, true, refl, ap, ◌∙◌, subst}
 use Rattle.std.specs.Prelude.{map}
 use Rattle.clap.specs.Words.{App, HasKind, fault_of, is_simple_and_free}
 use Rattle.clap.proofs.OnLiterals.{clap_on_literals}
