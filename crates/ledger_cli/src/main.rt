@@ -29,7 +29,7 @@ use replaced::Replaced;
 use running::run;
 use std::alloc::{AllocError, Global};
 use std::env;
-use std::fs::{self, File, OpenOptions};
+use std::fs::{self, File};
 use std::io::{self, BufWriter, Read};
 use std::process::ExitCode;
 use words::job;
@@ -98,16 +98,6 @@ fn read_image(rt: &HostRuntime, path: &str) -> io::Result<Vec<u8>> {
     Ok(bytes)
 }
 
-/// The image's file, as it is: what it holds is lost only where it is written over.
-fn open_image(rt: &HostRuntime, path: &str) -> io::Result<Replaced<File>> {
-    let file = OpenOptions::new()
-        .write(true)
-        .create(true)
-        .truncate(false)
-        .open(rt, path)?;
-    Ok(Replaced { file })
-}
-
 /// Reads or opens the job's files and does it.
 fn do_job(rt: &HostRuntime, job: &Job<'_>) -> io::Result<u8>
     requires { HasTills job.now }
@@ -119,7 +109,7 @@ fn do_job(rt: &HostRuntime, job: &Job<'_>) -> io::Result<u8>
         Job::Format {
             image: path,
             tills: _,
-        } => file = Some(open_image(rt, path)?),
+        } => file = Some(Replaced::new(rt, path)),
         Job::List { image: path } | Job::Check { image: path } => image = read_image(rt, path)?,
         Job::Dry { script: path } => script = read_file(rt, path)?,
     }
