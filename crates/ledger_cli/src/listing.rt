@@ -1,7 +1,6 @@
 //! The directory of an image, as it is printed.
-ghost use Rattle.std.specs.Prelude.{◌≡◌, ◌≢◌, IfErr, IfOk, IsOk, OnOk, length};
-ghost use Rattle.d64_image.specs.Memory.{disk_image, sectors_in};
-ghost use Rattle.ledger_cli.specs.Images.{HasDirectory, IsListFault, IsLoadFault};
+ghost use Rattle.std.specs.Prelude.{◌≡◌, ◌≢◌, IfErr, OnOk};
+ghost use Rattle.ledger_cli.specs.Images.{HasDirectory, IsListFault};
 ghost use Rattle.ledger_cli.specs.declared.faults.RunFault.TheVariants as faults;
 
 use crate::bytes::load;
