@@ -1,11 +1,10 @@
 -- The blank image is clean.
-use Rattle.std.proofs.Common.{List, [], add-one, ap, append-nil, arith, inl, inr, length, lit<, lit≤, refl, subst, sum_by, sym, take, zero, suc, ℕ, ◌*◌, ◌+◌, ◌-◌, ◌<◌, ◌∙◌, ◌∷◌, ◌++◌, ◌≡◌, ◌≢◌, ◌≤◌, ◌⊎◌}
+use Rattle.std.proofs.Common.{List, [], add-one, ap, append-nil, arith, inl, inr, length, lit<, lit≤, refl, subst, sum_by, sym, take, zero, suc, ℕ, ◌*◌, ◌+◌, ◌-◌, ◌<◌, ◌∙◌, ◌∷◌, ◌++◌, ◌≡◌, ◌≤◌, ◌⊎◌}
 use Rattle.std.proofs.lemmas.Bool.{cases_lt, true≢false}
 use Rattle.std.proofs.lemmas.Bool.Decides.{nat_tests}
 use Rattle.std.proofs.lemmas.List.{get_or-take}
 use Rattle.std.proofs.lemmas.List.Sums.{sum_by-cons}
-use Rattle.std.proofs.lemmas.Nat.{mod-mul-add}
-use Rattle.std.specs.Prelude.{Contains, None, Option, Some, codes, if◌then◌else◌, nat_le, nat_lt, replicate, slice_get, slice_index, ◌&&◌, ◌%◌, ◌/◌}
+use Rattle.std.specs.Prelude.{Contains, None, Some, codes, if◌then◌else◌, nat_le, nat_lt, replicate, slice_get, slice_index, ◌&&◌, ◌%◌, ◌/◌}
 use Rattle.d64_image.proofs.Places.{track_fits, track_from_1}
 use Rattle.d64_image.specs.Geometry.{sectors_on}
 use Rattle.d64_image.specs.Images.{Image, IsImage, Sector, sector}
@@ -16,16 +15,16 @@ use Rattle.disk_layout.proofs.Exact.{exact-side, get-lt}
 use Rattle.disk_layout.proofs.ExampleDisk.{only}
 use Rattle.disk_layout.proofs.Fillers.{pieces-fill}
 use Rattle.disk_layout.proofs.Joined.{joined-at, length-joined}
-use Rattle.disk_layout.proofs.Once.{Contains-cases, Contains-here, Contains-nil, EachOnce-left}
+use Rattle.disk_layout.proofs.Once.{Contains-cases, Contains-nil, EachOnce-left}
 use Rattle.disk_layout.specs.Blank.{AreRequestPlaces, IsBlank, IsBlankMap, IsEmptyBlock, blank_directory, rel_entry, request_blocks, requests_block, requests_side, stock_block, stock_side, taken_on}
 use Rattle.disk_layout.specs.BlankLayout.{BlankIsClean, IsCleanBlank, blank_layout, requests_file, stock_file}
 use Rattle.disk_layout.specs.Chain.{EachOnce, EndsAt, IsChain, Leads, Names, byte}
-use Rattle.disk_layout.specs.Clean.{IsCleanLayout, IsExactFile}
-use Rattle.disk_layout.specs.Directory.{directory_start, map_place, slot_in, slots_in, used_slots}
-use Rattle.disk_layout.specs.Layout.{File, IsFile, IsLayout, IsRelFile, IsSide, owners, record_length, sides_for}
-use Rattle.disk_layout.specs.Map.{IsFree, IsMapOf, map_bit, map_count, numbers_below}
+use Rattle.disk_layout.specs.Clean.{IsClean, IsCleanLayout, IsExactFile}
+use Rattle.disk_layout.specs.Directory.{directory_start, map_place, slots_in, used_slots}
+use Rattle.disk_layout.specs.Layout.{File, IsFile, IsLayout, IsRelFile, IsSide, owners, sides_for}
+use Rattle.disk_layout.specs.Map.{IsFree, IsMapOf, map_bit, numbers_below}
 use Rattle.disk_layout.specs.Records.{empty_record, filler, joined, pieces, record_count, records}
-use Rattle.disk_layout.specs.Rest.{IsFirst, IsNamed, slot_name}
+use Rattle.disk_layout.specs.Rest.{IsFirst, IsNamed}
 use Rattle.disk_layout.specs.Side.{link_bytes, side_sector}
 
 -- the bit of sector s where a track has b sectors, and the first a of them are taken
@@ -112,7 +111,6 @@ empty-pieces L m img ps w pos fit filled =
   where
     each : (i : ℕ) → i < m * L → slice_index (joined img ps) i ≡ filler L m i
     each i lt =
-        let k : ℕ = i / 254 in
         let (p, g) = get-some ps (i / 254) (omega (arith, lt, fit)) in
         let e : 254 * (i / 254) + i % 254 ≡ i = omega arith in
         ap (λ x. slice_index (joined img ps) x) (sym e)
@@ -308,3 +306,6 @@ blank-clean old new name id tills some few image blank = blank-whole new name id
   requests = blank.requests;
   requests_side = blank.requests_side;
 })
+
+pub blank-is_clean : (old new : Image) (name id : List ℕ) (tills : ℕ) → 1 ≤ tills → tills ≤ 64 → IsImage new → IsBlank old new name id tills → IsClean new
+blank-is_clean old new name id tills some few image blank = (blank_layout (request_blocks tills) blank.blocks, (blank-clean old new name id tills some few image blank).clean)

@@ -1,11 +1,10 @@
 -- The places that the blank image's files own: each once, and exactly those that its map calls taken.
-use Rattle.std.proofs.Common.{List, [], ap, arith, inl, inr, length, lit<, min, refl, subst, sym, zero, suc, ℕ, ◌++◌, ◌+◌, ◌-◌, ◌<◌, ◌∙◌, ◌∷◌, ◌≡◌, ◌≢◌, ◌≤◌, ◌⊎◌}
-use Rattle.std.proofs.lemmas.Bool.{cases_eq, cases_lt}
+use Rattle.std.proofs.Common.{List, [], ap, arith, inl, inr, length, lit<, min, refl, sym, zero, suc, ℕ, ◌++◌, ◌+◌, ◌-◌, ◌<◌, ◌∙◌, ◌∷◌, ◌≡◌, ◌≢◌, ◌≤◌, ◌⊎◌}
+use Rattle.std.proofs.lemmas.Bool.{cases_eq}
 use Rattle.std.proofs.lemmas.Bool.Decides.{nat_tests}
 use Rattle.std.proofs.lemmas.List.Elements.{Contains-append_cases, Contains-append_left, Contains-append_right}
 use Rattle.std.specs.Prelude.{Contains, Some, slice_get}
 use Rattle.d64_image.proofs.Places.{same_place}
-use Rattle.d64_image.specs.Geometry.{sectors_on}
 use Rattle.d64_image.specs.declared.place.Place.{Place}
 use Rattle.disk_layout.proofs.Blanks.{number_at, request-number}
 use Rattle.disk_layout.proofs.Exact.{get-lt}
@@ -49,7 +48,7 @@ side_owners blocks = stock_side ∷ (blocks ++ requests_side ∷ [])
 abbrev last_owners : List Place → List Place
 last_owners blocks = blocks ++ requests_side ∷ []
 
--- a place of another number is not at the front
+-- a place of a lower number is not at the front
 past : (x y : Place) (ys : List Place) → number_at x.track x.sector < number_at y.track y.sector → ¬ (Contains ys x) → ¬ (Contains (y ∷ ys) x)
 past x y ys lt out c = elim (Contains-cases x y ys c) [
   | inl e ↦ omega (arith, lt, ap (λ (p : Place). number_at p.track p.sector) e)
@@ -97,7 +96,6 @@ module _ (blocks : List Place) (n : ℕ) (are : AreRequestPlaces blocks n) where
   block-number : (k : ℕ) (p : Place) → slice_get blocks k ≡ Some p → number_at p.track p.sector ≡ k + 5
   block-number k p at =
       let here = are.each k p at in
-      let P : ℕ → ℕ → Type 0 = λ t s. number_at t s ≡ k + 5 in
       rw (here.0, here.1) (request-number k)
 
   in-block : (p : Place) → Contains blocks p → 5 ≤ number_at p.track p.sector
@@ -112,11 +110,16 @@ module _ (blocks : List Place) (n : ℕ) (are : AreRequestPlaces blocks n) where
 
   pub blank-once : EachOnce (map_place ∷ blank_owners blocks)
   blank-once =
-      let ends : EachOnce (blocks ++ requests_side ∷ []) = EachOnce-push blocks requests_side (once-numbered (λ (p : Place). number_at p.track p.sector) blocks 5 block-number) (λ c. let h : 5 ≤ 4 = in-block requests_side c in omega (arith, h)) in
-      (past map_place directory_start (file_owners blocks) (lit< tt) (past map_place stock_block (side_owners blocks) (lit< tt) (past map_place stock_side (last_owners blocks) (lit< tt) (low map_place (lit< tt)))),
-      (past directory_start stock_block (side_owners blocks) (lit< tt) (past directory_start stock_side (last_owners blocks) (lit< tt) (low directory_start (lit< tt))),
-      (past stock_block stock_side (last_owners blocks) (lit< tt) (low stock_block (lit< tt)),
-      (low stock_side (lit< tt), ends))))
+      let ends : EachOnce (blocks ++ requests_side ∷ []) = EachOnce-push blocks requests_side (once-numbered (λ (p : Place). number_at p.track p.sector) blocks 5 block-number) (λ c. let h : 5 ≤ 4 = in-block requests_side c in omega (arith, h)) in (
+        past map_place directory_start (file_owners blocks) (lit< tt) (past map_place stock_block (side_owners blocks) (lit< tt) (past map_place stock_side (last_owners blocks) (lit< tt) (low map_place (lit< tt)))),
+        (
+          past directory_start stock_block (side_owners blocks) (lit< tt) (past directory_start stock_side (last_owners blocks) (lit< tt) (low directory_start (lit< tt))),
+          (
+            past stock_block stock_side (last_owners blocks) (lit< tt) (low stock_block (lit< tt)),
+            (low stock_side (lit< tt), ends),
+          ),
+        ),
+      )
 
   pub blank-first : 1 ≤ n → (rest : List Place) × (blocks ≡ requests_block ∷ rest)
   blank-first h = first blocks are.count are.each
