@@ -1,0 +1,89 @@
+-- How calls that read and judge go on from one to the next.
+use Rattle.std.proofs.Common.{ℕ, ◌≡◌, ◌≤◌, ◌+◌, Err, ◌∙◌, subst, arith}
+use Rattle.d64_image.proofs.Moments.{reads_then, reads_weaker, no_reads, failed_later, never_failed}
+use Rattle.d64_image.specs.History.{Failed, History, NeverFailed, OnlyReads}
+use Rattle.d64_image.specs.Images.{Image}
+use Rattle.d64_image.specs.declared.place.Place.{Place}
+use Rattle.disk_layout.specs.Fault.{Holds, TellsFault}
+use Rattle.disk_layout.specs.declared.faults.Fault.{Fault}
+use Rattle.disk_layout.specs.declared.faults.Fault.TheVariants.{BadLength, BadLink, BadSide, BadType, CountWrong, Device, Loop, MapWrong, OwnedTwice, Unclosed}
+use Rattle.layout_check.specs.Calls.{Passes, Tells}
+
+-- what a failed device means, where another meaning follows from it
+pub Holds-of : (failed also : Type 0) (img : Image) (f : Fault) → (failed → also) → Holds failed img f → Holds also img f
+Holds-of failed also img (BadLink p) to h = h
+Holds-of failed also img (Loop p) to h = h
+Holds-of failed also img (OwnedTwice p) to h = h
+Holds-of failed also img (BadType p) to h = h
+Holds-of failed also img (Unclosed p) to h = h
+Holds-of failed also img (BadSide p) to h = h
+Holds-of failed also img (BadLength p) to h = h
+Holds-of failed also img (CountWrong p) to h = h
+Holds-of failed also img (MapWrong p) to h = h
+Holds-of failed also img (Device p) to h = to h
+
+module _ {D : Type 0} (S : History D) where
+  -- the type of what would have been answered doesn't matter
+  pub any_answer : (T U : Type 0) (a b : D) (f : Fault) → TellsFault {T = T} S a b (Err f) → TellsFault {T = U} S a b (Err f)
+  any_answer T U a b (BadLink p) h = h
+  any_answer T U a b (Loop p) h = h
+  any_answer T U a b (OwnedTwice p) h = h
+  any_answer T U a b (BadType p) h = h
+  any_answer T U a b (Unclosed p) h = h
+  any_answer T U a b (BadSide p) h = h
+  any_answer T U a b (BadLength p) h = h
+  any_answer T U a b (CountWrong p) h = h
+  any_answer T U a b (MapWrong p) h = h
+  any_answer T U a b (Device p) h = h
+
+  pub tells_later : (T : Type 0) (a b c : D) (f : Fault) → S.failures b ≡ S.failures a → TellsFault {T = T} S b c (Err f) → TellsFault {T = T} S a c (Err f)
+  tells_later T a b c (BadLink p) e h = h ∙ e
+  tells_later T a b c (Loop p) e h = h ∙ e
+  tells_later T a b c (OwnedTwice p) e h = h ∙ e
+  tells_later T a b c (BadType p) e h = h ∙ e
+  tells_later T a b c (Unclosed p) e h = h ∙ e
+  tells_later T a b c (BadSide p) e h = h ∙ e
+  tells_later T a b c (BadLength p) e h = h ∙ e
+  tells_later T a b c (CountWrong p) e h = h ∙ e
+  tells_later T a b c (MapWrong p) e h = h ∙ e
+  tells_later T a b c (Device p) e h = failed_later S a b c e h
+
+  pub passes_none : (d : D) → Passes S d d 0
+  passes_none d = record { reads = no_reads S d; failures = omega arith }
+
+  pub passes_then : (a b c : D) (k m n : ℕ) → k + m ≤ n → Passes S a b k → Passes S b c m → Passes S a c n
+  passes_then a b c k m n le first second = record {
+    reads = reads_then S a b c k m n le first.reads second.reads;
+    failures = second.failures ∙ first.failures;
+  }
+
+  pub passes_weaker : (a b : D) (m n : ℕ) → m ≤ n → Passes S a b m → Passes S a b n
+  passes_weaker a b m n le h = record { reads = reads_weaker S a b m n le h.reads; failures = h.failures }
+
+  pub tells_then : (a b c : D) (k m n : ℕ) (f : Fault) → k + m ≤ n → Passes S a b k → Tells S b c m f → Tells S a c n f
+  tells_then a b c k m n f le first second = record {
+    reads = reads_then S a b c k m n le first.reads second.reads;
+    failures = tells_later ℕ a b c f first.failures second.failures;
+    holds =
+        let P : Image → Type 0 = λ img. Holds (Failed S a c) img f in
+        subst P first.reads.image (Holds-of (Failed S b c) (Failed S a c) (S.image b) f (failed_later S a b c first.failures) second.holds);
+  }
+
+  pub tells_weaker : (a b : D) (m n : ℕ) (f : Fault) → m ≤ n → Tells S a b m f → Tells S a b n f
+  tells_weaker a b m n f le h = record { reads = reads_weaker S a b m n le h.reads; failures = h.failures; holds = h.holds }
+
+  pub passes_read : (a b : D) → OnlyReads S a b 1 → S.failures b ≡ S.failures a → Passes S a b 1
+  passes_read a b reads same = record { reads = reads; failures = same }
+
+  pub device_tells : (a b : D) (p : Place) → OnlyReads S a b 1 → Failed S a b → Tells S a b 1 (Device p)
+  device_tells a b p reads failed = record { reads = reads; failures = failed; holds = failed }
+
+  pub side_tells : (a b : D) (n : ℕ) (p : Place) → Passes S a b n → Holds (Failed S a b) (S.image a) (BadSide p) → Tells S a b n (BadSide p)
+  side_tells a b n p passes h = record { reads = passes.reads; failures = passes.failures; holds = h }
+
+  pub twice_tells : (a b : D) (n : ℕ) (p : Place) → Passes S a b n → Holds (Failed S a b) (S.image a) (OwnedTwice p) → Tells S a b n (OwnedTwice p)
+  twice_tells a b n p passes h = record { reads = passes.reads; failures = passes.failures; holds = h }
+
+  -- where the device doesn't fail, the fault holds of the image itself
+  pub holds_alone : (a b : D) (f : Fault) → NeverFailed S a b → Holds (Failed S a b) (S.image a) f → Holds ⊥ (S.image a) f
+  holds_alone a b f never h = Holds-of (Failed S a b) ⊥ (S.image a) f (never_failed S a b never) h

@@ -1,0 +1,16 @@
+pub mod Assembly
+pub mod Calls
+pub mod Claims
+pub mod Clashes
+pub mod Counting
+pub mod Entries
+pub mod Finding
+pub mod Inexact
+pub mod Listed
+pub mod Ones
+pub mod Pointers
+pub mod Progress
+pub mod Roots
+pub mod SideWalks
+pub mod Verdict
+pub mod Walked

@@ -1,0 +1,231 @@
+-- The steps of a survey: files found one by one, with a table of the owners.
+use Rattle.std.proofs.Common.{ℕ, ◌≡◌, ◌≢◌, ◌<◌, ◌≤◌, ◌+◌, ◌*◌, ◌⊎◌, List, [], ◌∷◌, ◌++◌, length, length-append, get_or, map, take, refl, sym, ◌∙◌, ap, subst, arith, inl, inr, append_assoc, append-nil, drop, ◌↔◌, Err, IsOk, Result}
+use Rattle.std.specs.Prelude.{Contains, flat_map}
+use Rattle.std.specs.List.{AllByRecursion}
+use Rattle.std.proofs.lemmas.Bool.{false≢true}
+use Rattle.std.proofs.lemmas.Grind.{flat_map-append}
+use Rattle.std.proofs.lemmas.List.{length-take, take-append-drop, take_all, take_more}
+use Rattle.std.proofs.lemmas.List.Elements.{Contains-append_cases, Contains-append_left, Contains-append_right}
+use Rattle.d64_image.proofs.Moments.{reads_weaker}
+use Rattle.d64_image.specs.History.{Failed, History, NeverFailed, OnlyReads}
+use Rattle.d64_image.specs.Images.{Image}
+use Rattle.d64_image.specs.declared.place.Place.{Place}
+use Rattle.disk_layout.proofs.Count.{places-few}
+use Rattle.disk_layout.proofs.Layouts.{get-contains}
+use Rattle.disk_layout.proofs.Once.{Contains-cases, Contains-nil, EachOnce-join, flat_map-in}
+use Rattle.disk_layout.proofs.Twice.{told-unsound}
+use Rattle.disk_layout.specs.Chain.{EachOnce}
+use Rattle.disk_layout.specs.Directory.{IsDirectory, map_place}
+use Rattle.disk_layout.specs.Fault.{Owns, blocks_of, sides_of}
+use Rattle.disk_layout.specs.Layout.{File, IsFile, IsLayout, IsSound, Layout, file_owns, owners}
+use Rattle.disk_layout.specs.declared.faults.Fault.{Fault}
+use Rattle.disk_layout.specs.declared.slot.Slot.{Slot}
+use Rattle.layout_check.proofs.Calls.{holds_alone, passes_then, passes_weaker, tells_then, twice_tells}
+use Rattle.layout_check.proofs.Claims.{not_before}
+use Rattle.layout_check.proofs.Clashes.{clash-holds}
+use Rattle.layout_check.proofs.Finding.{contains_or_not}
+use Rattle.layout_check.proofs.Listed.{entries-once, entry-listed}
+use Rattle.layout_check.proofs.SideWalks.{get-push}
+use Rattle.layout_check.specs.Calls.{Passes, Tells}
+use Rattle.layout_check.specs.Entry.{IsEntry}
+use Rattle.layout_check.specs.Found.{Finds, TellsOrClashes}
+use Rattle.layout_check.specs.Owners.{IsClaimed, IsSystem, owner_of}
+use Rattle.layout_check.specs.Survey.{IsSurveyOf, IsSurveyed, IsTable, taken}
+use Rattle.layout_check.specs.declared.outcome.Survey.{Survey}
+use Rattle.layout_check.specs.declared.owners.Owners.{Owners}
+
+abbrev EachOnce-of : List Place → Type 0
+EachOnce-of ps = EachOnce ps
+
+-- the table of the directory
+pub survey-start : (img : Image) (dir : List Place) (es : List Slot) (t : Owners) → IsDirectory img dir es → IsSystem t dir → IsSurveyed img dir [] t
+survey-start img dir es t d s = record {
+  files = tt;
+  once = subst EachOnce-of (sym none) (d.not_map, d.chain.once);
+  table = record {
+    owned = λ p. (
+      λ h. let P : List Place → Type 0 = λ ps. Contains ps p in subst P (sym none) (found p h (contains_or_not (map_place ∷ dir) p)),
+      λ c e. let P : List Place → Type 0 = λ ps. Contains ps p in absurd (omega (arith, e, (s p).0 (subst P none c))),
+    );
+    system = λ p c. (s p).0 c;
+    own = λ k f p at c. cc;
+  };
+}
+  where
+    none : taken dir [] ≡ map_place ∷ dir
+    none = ap (λ ps. map_place ∷ ps) (append-nil dir)
+
+    found : (p : Place) → owner_of t p ≢ 255 → Contains (map_place ∷ dir) p ⊎ ¬ (Contains (map_place ∷ dir) p) → Contains (map_place ∷ dir) p
+    found p h (inl c) = c
+    found p h (inr n) = absurd (h ((s p).1 n))
+
+all-push : {X : Type 0} (P : X → Type 0) (xs : List X) (x : X) → AllByRecursion P xs → P x → AllByRecursion P (xs ++ x ∷ [])
+all-push P [] x h p = (p, tt)
+all-push P (y ∷ xs) x h p = (h.0, all-push P xs x h.1 p)
+
+taken-push : (dir : List Place) (fs : List File) (g : File) → taken dir (fs ++ g ∷ []) ≡ taken dir fs ++ (g.blocks ++ g.sides)
+taken-push dir fs g =
+    ap (λ ps. map_place ∷ ps) (ap (λ ps. dir ++ ps) (flat_map-append file_owns fs (g ∷ []) ∙ ap (λ ps. flat_map file_owns fs ++ ps) (append-nil (g.blocks ++ g.sides)))
+    ∙ sym (append_assoc dir (flat_map file_owns fs) (g.blocks ++ g.sides)))
+
+-- one more file
+survey-step : (img : Image) (dir : List Place) (fs : List File) (t t1 t2 : Owners) (g : File) (n : ℕ) → IsSurveyed img dir fs t → IsFile img g → n ≡ length fs → n < 254 → IsClaimed t t1 n g.blocks → IsClaimed t1 t2 n g.sides → EachOnce g.blocks → EachOnce g.sides → IsSurveyed img dir (fs ++ g ∷ []) t2
+survey-step img dir fs t t1 t2 g n s file isn small a b ob os = record {
+  files = all-push (IsFile img) fs g s.files file;
+  once = subst EachOnce-of (sym (taken-push dir fs g)) (EachOnce-join O (g.blocks ++ g.sides) s.once (EachOnce-join g.blocks g.sides ob os block_side) old_new);
+  table = record {
+    owned = λ p. (λ h. let P : List Place → Type 0 = λ ps. Contains ps p in subst P (sym (taken-push dir fs g)) (found p h (contains_or_not g.sides p) (contains_or_not g.blocks p)), λ c. owned p (let P : List Place → Type 0 = λ ps. Contains ps p in subst P (taken-push dir fs g) c));
+    system = λ p c. stays p (Contains-append_left (map_place ∷ dir) (flat_map file_owns fs) p c) ∙ s.table.system p c;
+    own = λ k f p at c. elim (get-push fs g k f at) [
+      | inl h ↦ stays p (Contains-append_right (map_place ∷ dir) (flat_map file_owns fs) p (flat_map-in file_owns fs f p (get-contains fs k f h) c)) ∙ s.table.own k f p h c
+      | inr h ↦ mine p (rw h.1 c) ∙ isn ∙ sym h.0
+    ];
+  };
+}
+  where
+    O : List Place
+    O = taken dir fs
+
+    some : n ≢ 255
+    some e = omega arith
+
+    block_side : (x : Place) → Contains g.blocks x → ¬ (Contains g.sides x)
+    block_side x c d = some (sym ((a x).0 c).1 ∙ ((b x).0 d).0)
+
+    no_block : (x : Place) → owner_of t x ≢ 255 → ¬ (Contains g.blocks x)
+    no_block x h c = h ((a x).0 c).0
+
+    no_side : (x : Place) → owner_of t x ≢ 255 → ¬ (Contains g.sides x)
+    no_side x h d = h (sym ((a x).1 (no_block x h)) ∙ ((b x).0 d).0)
+
+    old_new : (x : Place) → Contains O x → ¬ (Contains (g.blocks ++ g.sides) x)
+    old_new x c d = elim (Contains-append_cases g.blocks g.sides x d) [
+      | inl e ↦ no_block x ((s.table.owned x).1 c) e
+      | inr e ↦ no_side x ((s.table.owned x).1 c) e
+    ]
+
+    stays : (p : Place) → Contains O p → owner_of t2 p ≡ owner_of t p
+    stays p c = (b p).1 (no_side p ((s.table.owned p).1 c)) ∙ (a p).1 (no_block p ((s.table.owned p).1 c))
+
+    mine : (p : Place) → Contains (file_owns g) p → owner_of t2 p ≡ n
+    mine p c = elim (Contains-append_cases g.blocks g.sides p c) [
+      | inl d ↦ (b p).1 (block_side p d) ∙ ((a p).0 d).1
+      | inr d ↦ ((b p).0 d).1
+    ]
+
+    owned : (p : Place) → Contains (O ++ (g.blocks ++ g.sides)) p → owner_of t2 p ≢ 255
+    owned p c = elim (Contains-append_cases O (g.blocks ++ g.sides) p c) [
+      | inl d ↦ (λ e. (s.table.owned p).1 d (sym ((a p).1 (no_block p ((s.table.owned p).1 d))) ∙ sym ((b p).1 (no_side p ((s.table.owned p).1 d))) ∙ e))
+      | inr d ↦ elim (Contains-append_cases g.blocks g.sides p d) [
+        | inl f ↦ (λ e. some (sym ((a p).0 f).1 ∙ sym ((b p).1 (block_side p f)) ∙ e))
+        | inr f ↦ (λ e. some (sym ((b p).0 f).1 ∙ e))
+      ]
+    ]
+
+    found : (p : Place) → owner_of t2 p ≢ 255 → Contains g.sides p ⊎ ¬ (Contains g.sides p) → Contains g.blocks p ⊎ ¬ (Contains g.blocks p) → Contains (O ++ (g.blocks ++ g.sides)) p
+    found p h (inl d) o = Contains-append_right O (g.blocks ++ g.sides) p (Contains-append_right g.blocks g.sides p d)
+    found p h (inr d) (inl c) = Contains-append_right O (g.blocks ++ g.sides) p (Contains-append_left g.blocks g.sides p c)
+    found p h (inr d) (inr c) = Contains-append_left O (g.blocks ++ g.sides) p ((s.table.owned p).0 (λ e. h ((b p).1 d ∙ (a p).1 c ∙ e)))
+
+-- how many sectors these files have
+abbrev pub own_of : List File → ℕ
+own_of fs = length (flat_map file_owns fs)
+
+own-push : (fs : List File) (g : File) → own_of (fs ++ g ∷ []) ≡ own_of fs + length (file_owns g)
+own-push fs g = ap length (flat_map-append file_owns fs (g ∷ [])) ∙ length-append (flat_map file_owns fs) (file_owns g ++ []) ∙ omega (arith, length-append {A = Place} (file_owns g) [])
+
+map-push : (fs : List File) (g : File) → map (λ f. f.slot) (fs ++ g ∷ []) ≡ map (λ f. f.slot) fs ++ g.slot ∷ []
+map-push [] g = refl
+map-push (f ∷ fs) g = ap (λ xs. f.slot ∷ xs) (map-push fs g)
+
+length-slots : (fs : List File) → length (map (λ f. f.slot) fs) ≡ length fs
+length-slots [] = refl
+length-slots (f ∷ fs) = omega (arith, length-slots fs)
+
+pub slot-in : (fs : List File) (f : File) → Contains fs f → Contains (map (λ f. f.slot) fs) f.slot
+slot-in [] f c = absurd (Contains-nil f c)
+slot-in (x ∷ fs) f c = elim (Contains-cases f x fs c) [
+  | inl e ↦ let P : File → Type 0 = λ y. Contains (x.slot ∷ map (λ f. f.slot) fs) y.slot in subst P e (Contains-append_left (x.slot ∷ []) (map (λ f. f.slot) fs) x.slot (0, omega arith, refl))
+  | inr r ↦ Contains-append_right (x.slot ∷ []) (map (λ f. f.slot) fs) f.slot (slot-in fs f r)
+]
+
+-- the same list under another name
+pub listed-as : (img : Image) (dir : List Place) (es items : List Slot) → items ≡ es → IsDirectory img dir es → IsDirectory img dir items
+listed-as img dir es items same d = let P : List Slot → Type 0 = λ xs. IsDirectory img dir xs in subst P (sym same) d
+
+pub same-system : (t : Owners) (items dir : List Place) → items ≡ dir → IsSystem t items → IsSystem t dir
+same-system t items dir same s = let P : List Place → Type 0 = IsSystem t in subst P same s
+
+-- a fault, in place of an answer of this type
+abbrev pub told : (T : Type 0) → Fault → Result T Fault
+told T f = Err f
+
+module _ {D : Type 0} (S : History D) where
+  -- as far as the survey has come: the files of the first n entries
+  pub record IsFar (a b : D) (dir : List Place) (es : List Slot) (n : ℕ) (t : Owners) : Type 0 where
+    pub files : List File
+    pub slots : map (λ f. f.slot) files ≡ take n es
+    pub surveyed : IsSurveyed (S.image a) dir files t
+    pub passes : Passes S a b (18 + length dir + 2 * own_of files)
+
+  pub far-start : (a b : D) (dir : List Place) (es : List Slot) (t : Owners) → IsDirectory (S.image a) dir es → IsSystem t dir → Passes S a b (18 + length dir) → IsFar a b dir es 0 t
+  far-start a b dir es t d s passes = record { files = []; slots = refl; surveyed = survey-start (S.image a) dir es t d s; passes = passes_weaker S a b (18 + length dir) _ (omega arith) passes }
+
+  -- what is owned are 683 sectors at most
+  far-few : (a b : D) (dir : List Place) (es : List Slot) (n : ℕ) (t : Owners) → (h : IsFar a b dir es n t) → length dir + own_of h.files ≤ 682
+  far-few a b dir es n t h = omega (arith, places-few (taken dir h.files) h.surveyed.once, length-append dir (flat_map file_owns h.files))
+
+  pub far-entry : (a b : D) (dir : List Place) (es : List Slot) (n : ℕ) (t : Owners) (s : Slot) → IsDirectory (S.image a) dir es → IsFar a b dir es n t → n < length es → s ≡ get_or es n s → IsEntry (S.image b) s
+  far-entry a b dir es n t s d h below read =
+      let P : Image → Type 0 = λ i. IsEntry i s in
+      subst P (sym h.passes.reads.image) (entry-listed (S.image a) dir es s d (n, below, sym read))
+
+  pub far-step : (a b c : D) (dir : List Place) (es : List Slot) (n : ℕ) (t u : Owners) (s : Slot) → IsFar a b dir es n t → n < length es → n < 254 → s ≡ get_or es n s → Finds S b c s n t u → IsFar a c dir es (n + 1) u
+  far-step a b c dir es n t u s h below small read (g, found, passes) =
+      let file = (let P : Image → Type 0 = λ i. IsFile i g in subst P h.passes.reads.image found.file) in
+      let many : n ≡ length h.files = omega (arith, length-slots h.files, ap length h.slots, length-take n es) in
+      record {
+        files = h.files ++ g ∷ [];
+        slots = map-push h.files g ∙ ap (λ xs. xs ++ g.slot ∷ []) h.slots ∙ ap (λ x. take n es ++ x ∷ []) (found.slot ∙ read) ∙ sym (take_more es n s below);
+        surveyed = survey-step (S.image a) dir h.files t found.between u g n h.surveyed file many small found.blocks found.sides found.blocks_once found.sides_once;
+        passes = passes_then S a b c (18 + length dir + 2 * own_of h.files) (2 * length (file_owns g)) _ (omega (arith, own-push h.files g)) h.passes passes;
+      }
+
+  pub far-tells : (a b c : D) (dir : List Place) (es : List Slot) (n : ℕ) (t : Owners) (s : Slot) (f : Fault) → IsDirectory (S.image a) dir es → IsFar a b dir es n t → n < length es → s ≡ get_or es n s → TellsOrClashes S b c s t f → Tells S a c 2114 f
+  far-tells a b c dir es n t s f d h below read (inl tells) = tells_then S a b c _ 732 2114 f (omega (arith, far-few a b dir es n t h)) h.passes tells
+  far-tells a b c dir es n t s f d h below read (inr clash) =
+      let passes = passes_then S a b c _ 732 2114 (omega (arith, far-few a b dir es n t h)) h.passes clash.passes in
+      let once = entries-once (S.image a) dir es d in
+      let holds = clash-holds (Failed S a c) (S.image a) dir es h.files s clash.place d h.surveyed.files
+      (λ x there. let in_front : Contains (take n es) x.slot = rw (← h.slots) (slot-in h.files x there) in (before in_front, λ e. not_before es n s below read once (rw (← e) in_front)))
+      ((h.surveyed.table.owned clash.place).0 clash.owned)
+      (let P : Image → Type 0 = λ i. Owns i (blocks_of s) clash.place ⊎ Owns i (sides_of s) clash.place in subst P h.passes.reads.image clash.has) in
+      let P : Fault → Type 0 = λ x. Tells S a c 2114 x in
+      subst P (sym clash.told) (twice_tells S a c 2114 clash.place passes holds)
+    where
+      before : {x : Slot} → Contains (take n es) x → Contains es x
+      before {x} c = let P : List Slot → Type 0 = λ xs. Contains xs x in subst P (take-append-drop n es) (Contains-append_left (take n es) (drop n es) x c)
+
+  -- all entries found: the image is sound, and the survey tells its layout
+  pub far-end : (a b : D) (dir : List Place) (es : List Slot) (n : ℕ) (t : Owners) (s : Survey) → IsDirectory (S.image a) dir es → IsFar a b dir es n t → length es ≤ n → length es ≤ 144 → s.owners ≡ t → s.entries ≡ length es → (l : Layout) × IsLayout (S.image a) l × IsSurveyOf l s × OnlyReads S a b (18 + 2 * length (owners l))
+  unfolding owners
+  far-end a b dir es n t s d h all small table entries =
+      let same : map (λ f. f.slot) h.files ≡ es = h.slots ∙ take_all n es all in (
+        record { directory = dir; files = h.files },
+        record { directory = rw same d; files = h.surveyed.files; once = h.surveyed.once },
+        record {
+          table = let P : Owners → Type 0 = λ o. IsTable o dir h.files in subst P (sym table) h.surveyed.table;
+          once = h.surveyed.once;
+          entries = omega (arith, entries, ap length same, length-slots h.files);
+          few = omega (arith, entries);
+          on_track = d.on_track;
+        },
+        reads_weaker S a b _ _ (omega (arith, length-append dir (flat_map file_owns h.files))) h.passes.reads,
+      )
+
+  pub far-all : (a b : D) (dir : List Place) (es : List Slot) (n : ℕ) (t : Owners) → IsFar a b dir es n t → Passes S a b 2114
+  far-all a b dir es n t h = passes_weaker S a b _ 2114 (omega (arith, far-few a b dir es n t h)) h.passes
+
+  -- where the device doesn't fail, a fault is told exactly where the image isn't sound
+  pub told-sound : (T : Type 0) (a b : D) (n : ℕ) (f : Fault) → Tells S a b n f → NeverFailed S a b → IsOk (told T f) ↔ IsSound (S.image a)
+  told-sound T a b n f tells never = (λ h. absurd (false≢true h), λ s. absurd (told-unsound (S.image a) f (holds_alone S a b f never tells.holds) s))

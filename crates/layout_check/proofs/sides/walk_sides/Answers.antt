@@ -1,0 +1,92 @@
+-- Along the links from the first side sector on.
+use Rattle.std.proofs.Common.{ap, arith, lit<, ◌∙◌, ◌<◌, length, refl, ◌+◌}
+use Rattle.d64_image.specs.Images.{Image, sector}
+use Rattle.disk_layout.proofs.Chains.{Leads-push}
+use Rattle.disk_layout.specs.Layout.{sides_for}
+use Rattle.layout_check.proofs.Calls.{device_tells, passes_none, passes_read, passes_then, passes_weaker, side_tells, tells_then}
+use Rattle.layout_check.proofs.SideWalks.{bad-holds, each-push, judged-at, linked-at, misjudged-bad, no_first_side, none-there, side-reached, some-blocks, unlinked-bad, walk-done}
+use Rattle.layout_check.proofs.sides.walk_sides.Goals as goal
+
+pub returns-in_default-clause-err : goal.returns-in_default-clause-err
+returns-in_default-clause-err g c =
+    let S = g.D.Sectors.history in
+    let d = c.args.disk.now in
+    side_tells S d d 6 c.args.slot.now.sector (passes_weaker S d d 0 6 (omega arith) (passes_none S d)) (no_first_side ⊥ _ c.args.slot.now c.args.blocks.now c.requires.entry c.in_default.ensures)
+
+pub loop-number-init : goal.loop-number-init
+loop-number-init g c = record {
+  passes = passes_none g.D.Sectors.history c.args.disk.now;
+  below = omega (arith, c.div_ceil-needed.ensures, some-blocks _ c.args.slot.now c.args.blocks.now c.requires.entry);
+  leads = rw c.clear.ensures refl;
+  count = rw c.clear.ensures refl;
+  judged = λ j q h. absurd (none-there c.clear.new.self.items j q c.clear.ensures h);
+}
+
+pub returns-in-Err-clause-err : goal.returns-in-Err-clause-err
+returns-in-Err-clause-err g c =
+    let S = g.D.Sectors.history in
+    let old = c.loop-number.invariant in
+    tells_then S c.args.disk.now c.loop-number.disk c.read.new.self c.loop-number.number 1 6 _
+    (omega (arith, old.below, c.div_ceil-needed.ensures, c.requires.few)) old.passes (device_tells S c.loop-number.disk c.read.new.self c.loop-number.at c.in-Err.ensures.reads c.in-Err.ensures.failures)
+
+pub returns-then-not-is_side-clause-err : goal.returns-then-not-is_side-clause-err
+returns-then-not-is_side-clause-err g c =
+    let S = g.D.Sectors.history in
+    let old = c.loop-number.invariant in
+    let e = c.in-Ok.ensures.sector ∙ ap (λ (i : Image). sector i c.loop-number.at) old.passes.reads.image in
+    let passes = passes_then S c.args.disk.now c.loop-number.disk c.read.new.self c.loop-number.number 1 6 (omega (arith, old.below, c.div_ceil-needed.ensures, c.requires.few)) old.passes (passes_read S c.loop-number.disk c.read.new.self c.in-Ok.ensures.reads c.in-Ok.ensures.failures) in
+    let below : c.loop-number.number < sides_for (length c.args.blocks.now) = omega (arith, old.below, c.div_ceil-needed.ensures) in
+    side_tells S c.args.disk.now c.read.new.self 6 c.loop-number.at passes
+    (bad-holds ⊥ _ c.args.slot.now c.args.blocks.now c.loop-number.number c.loop-number.at c.requires.entry
+    (side-reached _ c.args.slot.now c.args.blocks.now c.loop-number.sides.items c.in-Some.first c.loop-number.at c.loop-number.number c.requires.entry c.in-Some.ensures old.leads old.count below)
+    (misjudged-bad _ c.args.slot.now c.args.blocks.now c.loop-number.number c.loop-number.at c.read.new.to e (c.is_side.ensures.wrong c.if-not-is_side.true)))
+
+pub push-requires : goal.push-requires
+push-requires g c =
+    let old = c.loop-number.invariant in
+    let h : length c.loop-number.sides.items < 6 = omega (arith, old.below, old.count, c.div_ceil-needed.ensures, c.requires.few) in
+    (lit< tt, h)
+
+pub returns-then-number-needed-clause-sides : goal.returns-then-number-needed-clause-sides
+returns-then-number-needed-clause-sides g c =
+    let old = c.loop-number.invariant in
+    let e = c.in-Ok.ensures.sector ∙ ap (λ (i : Image). sector i c.loop-number.at) old.passes.reads.image in
+    rw c.push.ensures.items (walk-done _ c.args.slot.now c.args.blocks.now c.loop-number.sides.items c.in-Some.first c.loop-number.at c.loop-number.number c.in-Some.ensures old.leads old.count
+    (omega (arith, c.if-number-needed.true, c.div_ceil-needed.ensures)) old.judged (judged-at _ c.args.slot.now c.args.blocks.now c.loop-number.number c.loop-number.at c.read.new.to e (c.is_side.ensures.right c.if-not-is_side.false)))
+
+pub returns-then-number-needed-clause-ok : goal.returns-then-number-needed-clause-ok
+returns-then-number-needed-clause-ok g c =
+    let S = g.D.Sectors.history in
+    let old = c.loop-number.invariant in
+    passes_then S c.args.disk.now c.loop-number.disk c.read.new.self c.loop-number.number 1 _ (omega (arith, c.push.ensures.len, old.count)) old.passes (passes_read S c.loop-number.disk c.read.new.self c.in-Ok.ensures.reads c.in-Ok.ensures.failures)
+
+pub returns-in-None-clause-err : goal.returns-in-None-clause-err
+returns-in-None-clause-err g c =
+    let S = g.D.Sectors.history in
+    let old = c.loop-number.invariant in
+    let e = c.in-Ok.ensures.sector ∙ ap (λ (i : Image). sector i c.loop-number.at) old.passes.reads.image in
+    let passes = passes_then S c.args.disk.now c.loop-number.disk c.read.new.self c.loop-number.number 1 6 (omega (arith, old.below, c.div_ceil-needed.ensures, c.requires.few)) old.passes (passes_read S c.loop-number.disk c.read.new.self c.in-Ok.ensures.reads c.in-Ok.ensures.failures) in
+    let below : c.loop-number.number < sides_for (length c.args.blocks.now) = omega (arith, old.below, c.div_ceil-needed.ensures) in
+    side_tells S c.args.disk.now c.read.new.self 6 c.loop-number.at passes
+    (bad-holds ⊥ _ c.args.slot.now c.args.blocks.now c.loop-number.number c.loop-number.at c.requires.entry
+    (side-reached _ c.args.slot.now c.args.blocks.now c.loop-number.sides.items c.in-Some.first c.loop-number.at c.loop-number.number c.requires.entry c.in-Some.ensures old.leads old.count below)
+    (unlinked-bad _ c.args.slot.now c.args.blocks.now c.loop-number.number c.loop-number.at c.read.new.to e (omega (arith, old.below, c.if-number-needed.false, c.div_ceil-needed.ensures)) c.in-None.ensures))
+
+pub loop-number-preserved : goal.loop-number-preserved
+loop-number-preserved g c =
+    let S = g.D.Sectors.history in
+    let old = c.loop-number.invariant in
+    let e = c.in-Ok.ensures.sector ∙ ap (λ (i : Image). sector i c.loop-number.at) old.passes.reads.image in
+    record {
+      passes = passes_then S c.args.disk.now c.loop-number.disk c.read.new.self c.loop-number.number 1 (c.loop-number.number + 1) (omega arith) old.passes (passes_read S c.loop-number.disk c.read.new.self c.in-Ok.ensures.reads c.in-Ok.ensures.failures);
+      below = omega (arith, old.below, c.if-number-needed.false);
+      leads = rw c.push.ensures.items (Leads-push _ c.in-Some.first c.loop-number.sides.items c.loop-number.at c.in-Some-link_of.next old.leads (linked-at _ c.loop-number.at c.in-Some-link_of.next c.read.new.to e c.in-Some-link_of.ensures));
+      count = omega (arith, c.push.ensures.len, old.count);
+      judged = rw c.push.ensures.items (each-push _ c.loop-number.sides.items c.loop-number.at c.loop-number.number old.count old.judged (judged-at _ c.args.slot.now c.args.blocks.now c.loop-number.number c.loop-number.at c.read.new.to e (c.is_side.ensures.right c.if-not-is_side.false)));
+    }
+
+pub returns-clause-sides : goal.returns-clause-sides
+returns-clause-sides g c = absurd (omega (arith, c.loop-number.invariant.below, c.loop-number-test.false))
+
+pub returns-clause-ok : goal.returns-clause-ok
+returns-clause-ok g c = absurd (omega (arith, c.loop-number.invariant.below, c.loop-number-test.false))

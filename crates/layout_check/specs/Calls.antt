@@ -1,0 +1,16 @@
+-- Calls that read a device and judge what they read. Our own.
+use Rattle.std.specs.Prelude.{ℕ, ◌≡◌, Err}
+use Rattle.d64_image.specs.History.{Failed, History, OnlyReads}
+use Rattle.disk_layout.specs.Fault.{Holds, TellsFault}
+use Rattle.disk_layout.specs.declared.faults.Fault.{Fault}
+
+-- a call that makes at most n reads, no write, and meets no failure
+pub record Passes {D : Type 0} (S : History D) (old new : D) (n : ℕ) : Type 0 where
+  pub reads : OnlyReads S old new n
+  pub failures : S.failures new ≡ S.failures old
+
+-- a call that makes at most n reads, no write, and tells a fault that holds; Device only where the device failed
+pub record Tells {D : Type 0} (S : History D) (old new : D) (n : ℕ) (fault : Fault) : Type 0 where
+  pub reads : OnlyReads S old new n
+  pub failures : TellsFault {T = ℕ} S old new (Err fault)
+  pub holds : Holds (Failed S old new) (S.image old) fault

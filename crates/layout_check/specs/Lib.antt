@@ -1,0 +1,9 @@
+pub mod Calls
+pub mod Entry
+pub mod Exact
+pub mod Found
+pub mod Marked
+pub mod Open
+pub mod Owners
+pub mod Sides
+pub mod Survey

@@ -1,0 +1,82 @@
+//! The file of one entry: what it owns is found, and claimed for it.
+ghost use Rattle.std.specs.Prelude.{◌≢◌, ◌<◌, IfErr, IsFalse, IsTrue, OnOk, slice_index};
+ghost use Rattle.disk_layout.specs.Fault.{IsClosed};
+ghost use Rattle.disk_layout.specs.Layout.{is_rel};
+ghost use Rattle.layout_check.specs.Entry.{IsEntry, IsProper};
+ghost use Rattle.layout_check.specs.Found.{Finds, TellsOrClashes};
+
+use crate::blocks::survey_blocks;
+use crate::entry::{is_relative, judge_entry};
+use crate::owners::Owners;
+use crate::sides::find_parts;
+use arrayvec::ArrayVec;
+use d64_image::{Place, Sectors};
+use disk_layout::{Fault, Slot};
+
+/// The file of an entry that isn't relative and names a first block: its chain.
+fn survey_plain<D: Sectors>(
+    disk: &mut D,
+    slot: &Slot,
+    number: u8,
+    owners: &mut Owners,
+    blocks: &mut ArrayVec<Place, 720>,
+) -> Result<(), Fault>
+    requires closed { IsClosed (D.history.image disk.old) slot.now.sector slot.now }
+    requires proper { IsProper slot.now }
+    requires plain { IsFalse (is_rel slot.now) }
+    requires names { slice_index slot.now.bytes 3 ≢ 0 }
+    requires some { number < 255 }
+    ensures ok { OnOk result (Finds D.history disk.old disk.new slot.now number owners.old owners.new) }
+    ensures err { IfErr result (TellsOrClashes D.history disk.old disk.new slot.now owners.old) }
+{
+    survey_blocks(disk, slot, blocks)?;
+    owners.claim(number, blocks.as_slice())
+}
+
+/// The file of a relative entry: its chain, and its side sectors.
+fn survey_relative<D: Sectors>(
+    disk: &mut D,
+    slot: &Slot,
+    number: u8,
+    owners: &mut Owners,
+    blocks: &mut ArrayVec<Place, 720>,
+) -> Result<(), Fault>
+    requires closed { IsClosed (D.history.image disk.old) slot.now.sector slot.now }
+    requires proper { IsProper slot.now }
+    requires rel { IsTrue (is_rel slot.now) }
+    requires some { number < 255 }
+    ensures ok { OnOk result (Finds D.history disk.old disk.new slot.now number owners.old owners.new) }
+    ensures err { IfErr result (TellsOrClashes D.history disk.old disk.new slot.now owners.old) }
+{
+    let mut sides = ArrayVec::new();
+    find_parts(disk, slot, blocks, &mut sides)?;
+    owners.claim(number, blocks.as_slice())?;
+    owners.claim(number, sides.as_slice())
+}
+
+/// Finds the file of a used slot, and claims what it owns for the owner with this number. `blocks` is emptied and filled
+/// with its data blocks. An entry that isn't relative and names no first block (track 0) owns nothing.
+///
+/// Told is what is wrong with the slot, its chain or its side sectors; or `OwnedTwice` at a sector that is claimed
+/// already.
+pub fn survey_entry<D: Sectors>(
+    disk: &mut D,
+    slot: &Slot,
+    number: u8,
+    owners: &mut Owners,
+    blocks: &mut ArrayVec<Place, 720>,
+) -> Result<(), Fault>
+    requires entry { IsEntry (D.history.image disk.old) slot.now }
+    requires some { number < 255 }
+    ensures ok { OnOk result (Finds D.history disk.old disk.new slot.now number owners.old owners.new) }
+    ensures err { IfErr result (TellsOrClashes D.history disk.old disk.new slot.now owners.old) }
+{
+    judge_entry(slot)?;
+    if is_relative(slot) {
+        return survey_relative(disk, slot, number, owners, blocks);
+    }
+    if slot.bytes[3] == 0 {
+        return Ok(());
+    }
+    survey_plain(disk, slot, number, owners, blocks)
+}

@@ -1,0 +1,19 @@
+//! Judges the layout of a 1541 disk.
+#![tactic(auto)]
+
+mod blocks;
+mod checking;
+mod entry;
+mod exact;
+mod files;
+mod maps;
+mod outcome;
+mod owners;
+mod sides;
+mod surveying;
+#[cfg(test)]
+mod tests;
+
+pub use checking::check;
+pub use outcome::Survey;
+pub use surveying::survey;

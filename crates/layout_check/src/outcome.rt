@@ -1,0 +1,78 @@
+//! What a survey of a disk found: who owns which sector, and how many entries there are.
+ghost use Rattle.std.specs.Prelude.{IsFalse, IsTrue};
+ghost use Rattle.layout_check.specs.Open.{IsOpen, IsShut};
+
+use crate::owners::{NOBODY, Owners};
+use d64_image::Place;
+
+/// What a sound disk has: the owner of each sector, and the number of entries. It is of the disk as it was surveyed.
+#[derive(Drop)]
+pub struct Survey {
+    owners: Owners,
+    entries: usize,
+}
+
+/// Whether no other entry than this one owns the sector with this index and this owner's number, outside track 18, whose
+/// sectors have the indices from 357 to 375.
+fn is_open(entry: usize, index: usize, number: u8) -> bool
+    ensures open { IsTrue result → IsOpen entry index number }
+    ensures shut { IsFalse result → IsShut entry index number }
+{
+    if index >= 357 && index < 376 {
+        return false;
+    }
+    number == NOBODY || number as usize == entry
+}
+
+impl Survey {
+    ghost use Rattle.std.specs.Prelude.{◌≡◌, ◌∷◌, ◌+◌, ◌<◌, ◌↔◌, Contains, length};
+    ghost use Rattle.disk_layout.specs.Directory.{map_place};
+    ghost use Rattle.disk_layout.specs.Layout.{Layout, owners};
+    ghost use Rattle.disk_layout.specs.Rest.{taken_by_others};
+    ghost use Rattle.layout_check.specs.Survey.{IsSurveyOf, entries_of};
+
+    /// What these owners and so many entries tell.
+    pub(crate) fn new(owners: Owners, entries: usize) -> Survey
+        ensures owners { result.owners ≡ owners }
+        ensures entries { result.entries ≡ entries }
+    {
+        Survey { owners, entries }
+    }
+
+    /// The table of owners.
+    pub(crate) fn owners(&self) -> &Owners
+        ensures { result.now ≡ self.now.owners }
+    {
+        &self.owners
+    }
+
+    /// Whether the map, the directory, or a file by its blocks or side sectors owns this sector.
+    pub fn is_owned(&self, place: Place) -> bool
+        ensures { (l : Layout) → IsSurveyOf l self.now → (IsTrue result ↔ Contains (map_place ∷ owners l) place) }
+    {
+        self.owners.is_owned(place)
+    }
+
+    /// How many entries the directory has: its used slots.
+    pub fn entries(&self) -> usize
+        ensures files { (l : Layout) → IsSurveyOf l self.now → result ≡ length l.files }
+        ensures count { result ≡ entries_of self.now }
+    {
+        self.entries
+    }
+
+    /// How many of the 664 sectors outside track 18 no other entry owns: those that are free, and those of the entry with
+    /// this number, which is its place among the used entries, from 0.
+    pub fn outside(&self, entry: usize) -> u16
+        requires { entry < entries_of self.now }
+        ensures { (l : Layout) → IsSurveyOf l self.now → result + taken_by_others l entry ≡ 664 }
+    {
+        let mut count = 0;
+        for (index, &number) in self.owners.numbers().iter().enumerate() {
+            if is_open(entry, index, number) {
+                count += 1;
+            }
+        }
+        count
+    }
+}

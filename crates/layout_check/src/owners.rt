@@ -1,0 +1,93 @@
+//! Who owns each sector of a disk, as far as a survey has come: a table with one number a place.
+ghost use Rattle.std.specs.Prelude.{◌≡◌, length};
+
+use d64_image::Place;
+use disk_layout::{Fault, map_place};
+
+/// The number of a sector that nobody owns.
+pub const NOBODY: u8 = 255;
+
+/// The number of the map and the directory.
+const SYSTEM: u8 = 254;
+
+/// The owner of each sector, as a number: 255 for nobody, 254 for the map and the directory, and for an entry its
+/// place among the used entries, from 0. Asking takes the same time for each sector, however much is owned.
+#[derive(Drop)]
+pub struct Owners {
+    numbers: [u8; 683],
+    pub ghost full: { length numbers ≡ 683 },
+}
+
+impl Owners {
+    ghost use Rattle.std.specs.Prelude.{◌≢◌, ◌<◌, ◌↔◌, Contains, IfErr, IsTrue, OnOk, slice_index};
+    ghost use Rattle.d64_image.specs.Places.{index_of};
+    ghost use Rattle.disk_layout.specs.Chain.{EachOnce};
+    ghost use Rattle.layout_check.specs.Owners.{IsClaimed, IsOwned, IsSystem, owner_of};
+
+    /// Nobody owns a sector.
+    fn new() -> Owners
+        ensures { (p : Place) → owner_of result p ≡ 255 }
+    {
+        Owners {
+            numbers: [NOBODY; 683],
+        }
+    }
+
+    /// The map and the directory, which has these sectors, own theirs; nobody owns another.
+    pub fn of_directory(directory: &[Place]) -> Owners
+        ensures { IsSystem result directory.now }
+    {
+        let mut owners = Owners::new();
+        owners.set(map_place(), SYSTEM);
+        for &place in directory {
+            owners.set(place, SYSTEM);
+        }
+        owners
+    }
+
+    /// The number of the sector's owner.
+    fn owner(&self, place: Place) -> u8
+        ensures { result ≡ owner_of self.now place }
+    {
+        self.numbers[place.index()]
+    }
+
+    /// Whether the sector has an owner.
+    pub fn is_owned(&self, place: Place) -> bool
+        ensures { IsTrue result ↔ (owner_of self.now place ≢ 255) }
+    {
+        self.owner(place) != NOBODY
+    }
+
+    /// The numbers of the owners of all sectors, in the order of their indices.
+    pub fn numbers(&self) -> &[u8; 683]
+        ensures { (p : Place) → slice_index result.now (index_of p) ≡ owner_of self.now p }
+    {
+        &self.numbers
+    }
+
+    /// Gives the sector to this owner.
+    fn set(&mut self, place: Place, number: u8)
+        ensures here { owner_of self.new place ≡ number }
+        ensures there { (q : Place) → place ≢ q → owner_of self.new q ≡ owner_of self.old q }
+    {
+        self.numbers[place.index()] = number;
+    }
+
+    /// Gives all these sectors, which differ from each other, to one owner; or tells `OwnedTwice` at one of them that is
+    /// owned already. What the table has then is open.
+    pub fn claim(&mut self, number: u8, places: &[Place]) -> Result<(), Fault>
+        requires some { number < 255 }
+        requires once { EachOnce places.now }
+        ensures ok { OnOk result (IsClaimed self.old self.new number places.now) }
+        ensures err { IfErr result (IsOwned self.old places.now) }
+    {
+        for &place in places {
+            if self.owner(place) != NOBODY {
+                return Err(Fault::OwnedTwice(place));
+            }
+            self.set(place, number);
+        }
+        Ok(())
+    }
+}

@@ -1,0 +1,144 @@
+//! The side sectors of a relative entry, judged as far as a sound disk asks.
+ghost use Rattle.std.specs.Prelude.{◌≡◌, ◌+◌, ◌*◌, ◌<◌, ◌≤◌, IfErr, IsFalse, IsTrue, MatchOption, OnOk, length};
+ghost use Rattle.disk_layout.specs.Chain.{Names, NamesNone};
+ghost use Rattle.disk_layout.specs.Fault.{IsClosed};
+ghost use Rattle.disk_layout.specs.Layout.{is_rel, sides_for};
+ghost use Rattle.layout_check.specs.Calls.{Passes, Tells};
+ghost use Rattle.layout_check.specs.Sides.{HasParts, IsJudged, IsMisjudged, IsMisnamed, IsRelEntry, IsWalkOfSides, ListsEach, NamesEach};
+
+use crate::blocks::survey_blocks;
+use crate::entry::place_in;
+use arrayvec::ArrayVec;
+use d64_image::{Place, Sectors};
+use disk_layout::{Fault, Slot};
+
+/// How many data blocks a side sector points to.
+const POINTERS: usize = 120;
+
+/// Whether the bytes from `at` on name these places in order, track and sector of each.
+fn names_each(sector: &[u8; 256], at: usize, places: &[Place]) -> bool
+    requires { at + 2 * length places.now ≤ 256 }
+    ensures right { IsTrue result → NamesEach sector.now at places.now }
+    ensures wrong { IsFalse result → IsMisnamed sector.now at places.now }
+{
+    for (number, place) in places.iter().enumerate() {
+        let byte = at + 2 * number;
+        if sector[byte] != place.track() || sector[byte + 1] != place.sector() {
+            return false;
+        }
+    }
+    true
+}
+
+/// Whether the bytes of a sector are those of side sector `number`, from 0, of an entry with these blocks: its number,
+/// its record length and its pointers. The list of side sectors and the link are judged beside.
+fn is_side(sector: &[u8; 256], number: usize, slot: &Slot, blocks: &[Place]) -> bool
+    requires { number < sides_for (length blocks.now) }
+    ensures right { IsTrue result → IsJudged sector.now slot.now blocks.now number }
+    ensures wrong { IsFalse result → IsMisjudged sector.now slot.now blocks.now number }
+{
+    if sector[2] as usize != number || sector[3] != slot.bytes[23] {
+        return false;
+    }
+    let start = POINTERS * number;
+    let end = blocks.len().min(start + POINTERS);
+    names_each(sector, 16, &blocks[start..end])
+}
+
+/// The place to which a sector links; None where its first two bytes name no place of the disk.
+fn link_of(sector: &[u8; 256]) -> Option<Place>
+    ensures { MatchOption result (NamesNone sector.now 0) (λ p. Names sector.now 0 p) }
+{
+    Place::new(sector[0], sector[1])
+}
+
+/// Follows the side sectors of a closed relative entry with these blocks from the first on by their links, as many as the
+/// blocks need, and fills `sides` with their places in order. Each one's number, record length and pointers are judged.
+///
+/// Told are `BadSide` at the entry's directory sector, where the entry names no first side sector, or at a side sector
+/// that isn't right or links to no place, and `Device`.
+fn walk_sides<D: Sectors>(
+    disk: &mut D,
+    slot: &Slot,
+    blocks: &[Place],
+    sides: &mut ArrayVec<Place, 6>,
+) -> Result<(), Fault>
+    requires entry { IsRelEntry (D.history.image disk.old) slot.now blocks.now }
+    requires few { length blocks.now ≤ 720 }
+    ensures sides { OnOk result (IsWalkOfSides (D.history.image disk.old) slot.now blocks.now sides.new.items) }
+    ensures ok { OnOk result (Passes D.history disk.old disk.new (length sides.new.items)) }
+    ensures err { IfErr result (Tells D.history disk.old disk.new 6) }
+{
+    sides.clear();
+    let Some(first) = place_in(&slot.bytes, 21) else {
+        return Err(Fault::BadSide(slot.sector));
+    };
+    let needed = blocks.len().div_ceil(POINTERS);
+    let mut at = first;
+    let mut sector = [0u8; 256];
+    for number in 0..needed {
+        match disk.read(at, &mut sector) {
+            Ok(()) => {}
+            Err(_) => return Err(Fault::Device(at)),
+        }
+        if !is_side(&sector, number, slot, blocks) {
+            return Err(Fault::BadSide(at));
+        }
+        sides.push(at);
+        if number + 1 == needed {
+            return Ok(());
+        }
+        match link_of(&sector) {
+            Some(next) => at = next,
+            None => return Err(Fault::BadSide(at)),
+        }
+    }
+    Ok(())
+}
+
+/// Finds the side sectors of a closed relative entry with these blocks, as `walk_sides` does, and judges beside that each
+/// of them lists the places of all. Each is read twice at most.
+fn survey_sides<D: Sectors>(
+    disk: &mut D,
+    slot: &Slot,
+    blocks: &[Place],
+    sides: &mut ArrayVec<Place, 6>,
+) -> Result<(), Fault>
+    requires entry { IsRelEntry (D.history.image disk.old) slot.now blocks.now }
+    requires few { length blocks.now ≤ 720 }
+    ensures sides { OnOk result (IsWalkOfSides (D.history.image disk.old) slot.now blocks.now sides.new.items) }
+    ensures lists { OnOk result (ListsEach (D.history.image disk.old) sides.new.items) }
+    ensures ok { OnOk result (Passes D.history disk.old disk.new (2 * length sides.new.items)) }
+    ensures err { IfErr result (Tells D.history disk.old disk.new 12) }
+{
+    walk_sides(disk, slot, blocks, sides)?;
+    let mut sector = [0u8; 256];
+    for &side in sides.as_slice() {
+        match disk.read(side, &mut sector) {
+            Ok(()) => {}
+            Err(_) => return Err(Fault::Device(side)),
+        }
+        if !names_each(&sector, 4, sides.as_slice()) {
+            return Err(Fault::BadSide(side));
+        }
+    }
+    Ok(())
+}
+
+/// Finds the data blocks and the side sectors of a closed relative entry, and fills the two lists with them in order.
+pub fn find_parts<D: Sectors>(
+    disk: &mut D,
+    slot: &Slot,
+    blocks: &mut ArrayVec<Place, 720>,
+    sides: &mut ArrayVec<Place, 6>,
+) -> Result<(), Fault>
+    requires closed { IsClosed (D.history.image disk.old) slot.now.sector slot.now }
+    requires rel { IsTrue (is_rel slot.now) }
+    ensures parts { OnOk result (HasParts (D.history.image disk.old) slot.now blocks.new.items sides.new.items) }
+    ensures ok { OnOk result (Passes D.history disk.old disk.new (length blocks.new.items + 2 * length sides.new.items)) }
+    ensures few { OnOk result (length blocks.new.items + 2 * length sides.new.items ≤ 732) }
+    ensures err { IfErr result (Tells D.history disk.old disk.new 732) }
+{
+    survey_blocks(disk, slot, blocks)?;
+    survey_sides(disk, slot, blocks.as_slice(), sides)
+}

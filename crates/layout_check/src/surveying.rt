@@ -1,0 +1,57 @@
+//! The survey of a disk: its directory, and entry by entry what each owns.
+ghost use Rattle.std.specs.Prelude.{◌+◌, ◌*◌, ◌↔◌, IfErr, IfOk, IsOk, OnOk, length};
+ghost use Rattle.d64_image.specs.History.{Failed, NeverFailed, OnlyReads};
+ghost use Rattle.disk_layout.specs.Directory.{IsDirectory};
+ghost use Rattle.disk_layout.specs.Fault.{Holds, TellsFault};
+ghost use Rattle.disk_layout.specs.Layout.{IsLayout, IsSound, Layout, owners};
+ghost use Rattle.layout_check.specs.Calls.{Passes, Tells};
+ghost use Rattle.layout_check.specs.Survey.{IsSurveyOf};
+
+use crate::files::survey_entry;
+use crate::outcome::Survey;
+use crate::owners::Owners;
+use arrayvec::ArrayVec;
+use d64_image::{Place, Sectors};
+use disk_layout::{Fault, Slot, directory_start, read_directory, walk_chain};
+
+/// Lists the entries of the directory, and its sectors.
+fn survey_directory<D: Sectors>(
+    disk: &mut D,
+    slots: &mut ArrayVec<Slot, 144>,
+    places: &mut ArrayVec<Place, 720>,
+) -> Result<(), Fault>
+    ensures directory { OnOk result (IsDirectory (D.history.image disk.old) places.new.items slots.new.items) }
+    ensures ok { OnOk result (Passes D.history disk.old disk.new (18 + length places.new.items)) }
+    ensures err { IfErr result (Tells D.history disk.old disk.new 738) }
+{
+    read_directory(disk, slots)?;
+    let walked = walk_chain(disk, directory_start(), places);
+    prove!(places.len() <= 720);
+    walked?;
+    Ok(())
+}
+
+/// Surveys the disk: where each link, each type, each record length and each side sector of the entries agrees and no
+/// sector has two owners, the answer tells the owners and the entries; else a fault that holds at its place, where of
+/// several it is open which. An image that has no such fault is sound. Counts of blocks, the map, and those bytes of side
+/// sectors that name nothing are not judged.
+///
+/// Nothing is written. Each owned sector is read twice at most, and no memory is taken.
+pub fn survey<D: Sectors>(disk: &mut D) -> Result<Survey, Fault>
+    ensures ok { IfOk result (λ s. (l : Layout) × IsLayout (D.history.image disk.old) l × IsSurveyOf l s × OnlyReads D.history disk.old disk.new (18 + 2 * length (owners l))) }
+    ensures err { IfErr result (Holds (Failed D.history disk.old disk.new) (D.history.image disk.old)) }
+    // neither a fault nor a layout is told always
+    ensures sound { NeverFailed D.history disk.old disk.new → (IsOk result ↔ IsSound (D.history.image disk.old)) }
+    ensures failures { TellsFault D.history disk.old disk.new result }
+    // the directory, all that may be owned twice, and the sectors of one entry once more
+    ensures reads { OnlyReads D.history disk.old disk.new 2114 }
+{
+    let mut slots = ArrayVec::new();
+    let mut places = ArrayVec::new();
+    survey_directory(disk, &mut slots, &mut places)?;
+    let mut owners = Owners::of_directory(places.as_slice());
+    for (number, slot) in slots.as_slice().iter().enumerate() {
+        survey_entry(disk, slot, number as u8, &mut owners, &mut places)?;
+    }
+    Ok(Survey::new(owners, slots.len()))
+}

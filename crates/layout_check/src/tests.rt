@@ -1,0 +1,285 @@
+//! Disks with one fault each, and a file of two side sectors.
+use crate::{check, survey};
+use d64_image::{DeviceFault, Fuse, MemDisk, Place, Sectors};
+use disk_layout::{Fault, blank_image};
+use std::alloc::Global;
+use std::test::Fail;
+
+/// The place, where the disk has it.
+fn place(track: u8, sector: u8) -> Result<Place, DeviceFault> {
+    Place::new(track, sector).ok_or(DeviceFault)
+}
+
+/// A fresh disk for two tills: STOCK has 17/0 and 17/1, REQUESTS has 17/2 and 17/3.
+fn fresh(alloc: Global) -> Result<MemDisk, Fail> {
+    let mut disk = MemDisk::zeroed(alloc)?;
+    blank_image(&mut disk, b"STOCK LEDGER", *b"01", 2)?;
+    Ok(disk)
+}
+
+/// Changes two bytes of a sector.
+fn change(
+    disk: &mut MemDisk,
+    at: Place,
+    first: (u8, u8),
+    second: (u8, u8),
+) -> Result<(), DeviceFault> {
+    let mut bytes = [0; 256];
+    disk.read(at, &mut bytes)?;
+    bytes[first.0 as usize] = first.1;
+    bytes[second.0 as usize] = second.1;
+    disk.write(at, &bytes)
+}
+
+// The bytes are those of a fresh disk but for two of one sector; what is told, and whether the disk is sound.
+#[test]
+fn single_faults(rt: HostRuntime) -> Result<(), Fail> {
+    let map = place(18, 0)?;
+    let directory = place(18, 1)?;
+    let block = place(17, 0)?;
+    let side = place(17, 1)?;
+    let rows = [
+        (
+            "a track's count",
+            map,
+            (0x44, 0x10),
+            (0x44, 0x10),
+            Fault::MapWrong(map),
+            true,
+        ),
+        (
+            "a free bit",
+            map,
+            (0x44, 0x12),
+            (0x45, 0xF8),
+            Fault::MapWrong(place(17, 3)?),
+            true,
+        ),
+        (
+            "a block count",
+            directory,
+            (30, 3),
+            (31, 0),
+            Fault::CountWrong(directory),
+            true,
+        ),
+        (
+            "the last index of a side sector",
+            side,
+            (1, 0x10),
+            (1, 0x10),
+            Fault::BadSide(side),
+            true,
+        ),
+        (
+            "a pointer",
+            side,
+            (16, 0x11),
+            (17, 0x02),
+            Fault::BadSide(side),
+            false,
+        ),
+        (
+            "a type that isn't closed",
+            directory,
+            (2, 0x04),
+            (2, 0x04),
+            Fault::Unclosed(directory),
+            false,
+        ),
+        (
+            "a type that there isn't",
+            directory,
+            (2, 0x85),
+            (2, 0x85),
+            Fault::BadType(directory),
+            false,
+        ),
+        (
+            "no first side sector",
+            directory,
+            (21, 0),
+            (22, 0),
+            Fault::BadSide(directory),
+            false,
+        ),
+        (
+            "a link off the disk",
+            block,
+            (0, 0x24),
+            (1, 0),
+            Fault::BadLink(block),
+            false,
+        ),
+        (
+            "a link off track 18",
+            directory,
+            (0, 0x11),
+            (1, 0),
+            Fault::BadLink(directory),
+            false,
+        ),
+        (
+            "a link back",
+            block,
+            (0, 0x11),
+            (1, 0),
+            Fault::Loop(block),
+            false,
+        ),
+        (
+            "the other file's block",
+            directory,
+            (4, 2),
+            (4, 2),
+            Fault::BadSide(side),
+            false,
+        ),
+    ];
+    for (name, at, first, second, fault, sound) in rows {
+        let mut disk = fresh(rt.alloc())?;
+        change(&mut disk, at, first, second)?;
+        assert_eq!(rt; check(&mut disk).err(), Some(fault), "{name}");
+        assert_eq!(rt; survey(&mut disk).is_ok(), sound, "{name}");
+    }
+    Ok(())
+}
+
+// Record length 255 in the slot and in the side sector.
+#[test]
+fn a_length_too_large(rt: HostRuntime) -> Result<(), Fail> {
+    let mut disk = fresh(rt.alloc())?;
+    change(&mut disk, place(18, 1)?, (23, 255), (23, 255))?;
+    change(&mut disk, place(17, 1)?, (3, 255), (3, 255))?;
+    assert_eq!(rt;
+        check(&mut disk).err(),
+        Some(Fault::BadLength(place(18, 1)?))
+    );
+    Ok(())
+}
+
+// REQUESTS names the first block and the side sector of STOCK, whose record length it has.
+#[test]
+fn one_sector_twice(rt: HostRuntime) -> Result<(), Fail> {
+    let mut disk = fresh(rt.alloc())?;
+    change(&mut disk, place(18, 1)?, (36, 0), (54, 1))?;
+    change(&mut disk, place(18, 1)?, (55, 18), (55, 18))?;
+    assert_eq!(rt;
+        survey(&mut disk).err(),
+        Some(Fault::OwnedTwice(place(17, 0)?))
+    );
+    Ok(())
+}
+
+#[test]
+fn what_a_survey_tells(rt: HostRuntime) -> Result<(), Fail> {
+    let mut disk = fresh(rt.alloc())?;
+    let Ok(found) = survey(&mut disk) else {
+        return Err(Fail::from(DeviceFault));
+    };
+    assert_eq!(rt; found.entries(), 2);
+    assert_eq!(rt; (found.outside(0), found.outside(1)), (662, 662));
+    let rows = [
+        (18, 0, true),
+        (18, 1, true),
+        (18, 2, false),
+        (17, 0, true),
+        (17, 3, true),
+        (17, 4, false),
+    ];
+    for (track, sector, owned) in rows {
+        assert_eq!(rt;
+            found.is_owned(place(track, sector)?),
+            owned,
+            "{track}/{sector}"
+        );
+    }
+    Ok(())
+}
+
+#[test]
+fn a_device_that_fails(rt: HostRuntime) -> Result<(), Fail> {
+    let mut dead = Fuse::new(fresh(rt.alloc())?, 0);
+    assert_eq!(rt; survey(&mut dead).err(), Some(Fault::Device(place(18, 1)?)));
+    assert_eq!(rt; check(&mut dead).err(), Some(Fault::Device(place(18, 1)?)));
+    Ok(())
+}
+
+/// The place of block n of the long file: 1/0 and on, the sectors of a track in order.
+fn block_at(n: u8) -> Result<Place, DeviceFault> {
+    place(1 + n / 21, n % 21)
+}
+
+/// A disk with one file, of 121 blocks of records of 254 bytes: its side sectors are 7/0 and 7/1.
+fn long_file(alloc: Global) -> Result<MemDisk, Fail> {
+    let mut disk = MemDisk::zeroed(alloc)?;
+    for n in 0..121u8 {
+        let mut block = [0; 256];
+        block[1] = 0xFF;
+        if n < 120 {
+            let next = block_at(n + 1)?;
+            block[0] = next.track();
+            block[1] = next.sector();
+        }
+        disk.write(block_at(n)?, &block)?;
+    }
+    let mut side = [0; 256];
+    side[0..8].copy_from_slice(&[7, 1, 0, 254, 7, 0, 7, 1]);
+    for n in 0..120u8 {
+        let at = block_at(n)?;
+        side[16 + 2 * n as usize] = at.track();
+        side[17 + 2 * n as usize] = at.sector();
+    }
+    disk.write(place(7, 0)?, &side)?;
+    let mut side = [0; 256];
+    side[0..8].copy_from_slice(&[0, 17, 1, 254, 7, 0, 7, 1]);
+    side[16..18].copy_from_slice(&[6, 15]);
+    disk.write(place(7, 1)?, &side)?;
+    let mut directory = [0; 256];
+    directory[0..5].copy_from_slice(&[0, 0xFF, 0x84, 1, 0]);
+    directory[21..24].copy_from_slice(&[7, 0, 254]);
+    directory[30] = 123;
+    disk.write(place(18, 1)?, &directory)?;
+    let mut map = [0; 256];
+    for track in 1..36usize {
+        let four = match track {
+            1..=5 => [0x00, 0x00, 0x00, 0x00],
+            6 => [0x05, 0x00, 0x00, 0x1F],
+            7 => [0x13, 0xFC, 0xFF, 0x1F],
+            8..=17 => [0x15, 0xFF, 0xFF, 0x1F],
+            18 => [0x11, 0xFC, 0xFF, 0x07],
+            19..=24 => [0x13, 0xFF, 0xFF, 0x07],
+            25..=30 => [0x12, 0xFF, 0xFF, 0x03],
+            _ => [0x11, 0xFF, 0xFF, 0x01],
+        };
+        map[4 * track..4 * track + 4].copy_from_slice(&four);
+    }
+    disk.write(place(18, 0)?, &map)?;
+    Ok(disk)
+}
+
+// Two side sectors: each is judged by its number, the list, its link and its pointers.
+#[test]
+fn a_long_file(rt: HostRuntime) -> Result<(), Fail> {
+    assert!(rt; check(&mut long_file(rt.alloc())?).is_ok());
+    let first = place(7, 0)?;
+    let second = place(7, 1)?;
+    let rows = [
+        ("number", second, 2, second),
+        ("list of the second", second, 7, second),
+        ("list of the first", first, 7, first),
+        ("link", first, 1, place(7, 3)?),
+        ("pointer to the last block", second, 17, second),
+        ("pointer to the block before", first, 255, first),
+    ];
+    for (name, at, byte, told) in rows {
+        let mut disk = long_file(rt.alloc())?;
+        change(&mut disk, at, (byte, 3), (byte, 3))?;
+        assert_eq!(rt;
+            survey(&mut disk).err(),
+            Some(Fault::BadSide(told)),
+            "{name}"
+        );
+    }
+    Ok(())
+}
