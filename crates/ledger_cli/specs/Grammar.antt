@@ -1,11 +1,31 @@
 -- The words that the program takes (our own), as `clap` reads a command line.
-use Rattle.std.specs.Prelude.{List, true, [], codes}
+use Rattle.std.specs.Prelude.{List, Some, true, [], codes}
 use Rattle.std.specs.Prelude.{unwrap_or}
 use Rattle.clap.specs.Words.{App, Row, Rule, Text, first_of, new_app, new_rule, with_rule, with_subcommand}
 
 -- a value that is required, shown by this name
 abbrev pub required : Text → Rule
 required id = record (new_rule id) { required = true }
+
+-- a value that is required behind two hyphens and this word: --tills T
+abbrev pub required_behind : Text → Text → Rule
+required_behind word id = record (required id) { long = Some word }
+
+-- a subcommand over an image: check IMAGE
+abbrev pub over_image : Text → App
+over_image name = with_rule (new_app name) (required (codes "IMAGE"))
+
+-- format IMAGE --tills T
+abbrev pub format : App
+format = with_rule (over_image (codes "format")) (required_behind (codes "tills") (codes "T"))
+
+-- list IMAGE
+abbrev pub list : App
+list = over_image (codes "list")
+
+-- check IMAGE
+abbrev pub check : App
+check = over_image (codes "check")
 
 -- dry SCRIPT
 abbrev pub dry : App
@@ -17,7 +37,8 @@ with_required_subcommand a = record { top = record a.top { subcommand_required =
 
 -- the program with its subcommands
 abbrev pub ledger : App
-ledger = with_subcommand (with_required_subcommand (new_app (codes "ledger"))) dry.top
+ledger = with_subcommand (with_subcommand (with_subcommand (with_subcommand
+    (with_required_subcommand (new_app (codes "ledger"))) format.top) list.top) check.top) dry.top
 
 -- the value of an argument, or an empty text where it has none
 abbrev pub value : Text → List Row → Text

@@ -1,6 +1,7 @@
 -- What the words of a command line ask for (our own).
-use Rattle.std.specs.Prelude.{◌≡◌, List, Option, Some, codes}
+use Rattle.std.specs.Prelude.{◌≡◌, ◌≤◌, ⊤, ℕ, List, Option, Some, None, [], codes}
 use Rattle.clap.specs.Words.{HasKind, Kinds, Row, Text}
+use Rattle.request_cards.specs.Reading.{number_in}
 use Rattle.ledger_cli.specs.Grammar.{value}
 use Rattle.ledger_cli.specs.declared.jobs.Job.{Job}
 use Rattle.ledger_cli.specs.declared.jobs.Job.TheVariants as jobs
@@ -13,10 +14,23 @@ pub record Has (found : Option (Text × List Row)) (name : Text) (P : List Row �
   pub is : found ≡ Some (name, rows)
   pub holds : P rows
 
+-- the number of tills that the words give: 1 to 64, without leading zeros
+abbrev pub tills_in : List Row → Option ℕ
+tills_in rows = number_in 1 64 (value (codes "T") rows)
+
 -- the job of a subcommand and its values
 abbrev pub IsJob : Option (Text × List Row) → Job → Type 0
+IsJob found (jobs.Format image tills) = Has found (codes "format") (λ rows. (image.now ≡ value (codes "IMAGE") rows) × (tills_in rows ≡ Some tills))
+IsJob found (jobs.List image) = Has found (codes "list") (λ rows. image.now ≡ value (codes "IMAGE") rows)
+IsJob found (jobs.Check image) = Has found (codes "check") (λ rows. image.now ≡ value (codes "IMAGE") rows)
 IsJob found (jobs.Dry script) = Has found (codes "dry") (λ rows. script.now ≡ value (codes "SCRIPT") rows)
 
--- why there is none: the words are refused for one of these kinds, or memory ran out
-abbrev pub IsNoJob : Kinds → JobFault → Type 0
-IsNoJob kinds (faults.Words e) = HasKind kinds e
+-- the tills of a job are 1 to 64
+abbrev pub HasTills : Job → Type 0
+HasTills (jobs.Format image tills) = (1 ≤ tills) × (tills ≤ 64)
+HasTills _ = ⊤
+
+-- why there is none: the words are refused for one of these kinds, or memory ran out; or the number of tills is none
+abbrev pub IsNoJob : Kinds → Option (Text × List Row) → JobFault → Type 0
+IsNoJob kinds found (faults.Words e) = HasKind kinds e
+IsNoJob kinds found faults.Tills = (kinds ≡ []) × Has found (codes "format") (λ rows. tills_in rows ≡ None)

@@ -1,5 +1,6 @@
 pub mod Faults
 pub mod Grammar
+pub mod Images
 pub mod Jobs
 pub mod Runs
 pub mod Scripts

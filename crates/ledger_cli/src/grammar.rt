@@ -15,6 +15,54 @@ fn required<'a>(alloc: Global, name: &'a str, help: &'a str) -> Arg<'a>
     Arg::new(alloc, name).required(true).help(help)
 }
 
+/// A value that has to stand behind two hyphens and this word.
+fn required_behind<'a>(alloc: Global, word: &'a str, name: &'a str, help: &'a str) -> Arg<'a>
+    ensures rule { rule_of result ≡ grammar.required_behind word.entry.now name.entry.now }
+    ensures local { result.global ≡ false }
+{
+    Arg::new(alloc, name).long(word).required(true).help(help)
+}
+
+/// A subcommand over an image.
+fn over_image<'a>(alloc: Global, name: &'a str, about: &'a str) -> Result<Command<'a>, AllocError>
+    ensures app { IfOk result (λ c. app_of c ≡ grammar.over_image name.entry.now) }
+    ensures local { IfOk result (λ c. (out-Command c).has_globals ≡ false) }
+{
+    let image = required(alloc, "IMAGE", "The disk's image, a D64 file of 35 tracks");
+    Command::new(alloc, name).about(about).arg(image)
+}
+
+/// `format IMAGE --tills T`
+fn format_command<'a>(alloc: Global) -> Result<Command<'a>, AllocError>
+    ensures app { IfOk result (λ c. app_of c ≡ grammar.format) }
+    ensures local { IfOk result (λ c. (out-Command c).has_globals ≡ false) }
+{
+    let about = "Makes the image of an empty shop, or replaces it";
+    let tills = required_behind(alloc, "tills", "T", "How many tills the shop has, 1 to 64");
+    let command = over_image(alloc, "format", about)?;
+    command.arg(tills)
+}
+
+/// `list IMAGE`
+fn list_command<'a>(alloc: Global) -> Result<Command<'a>, AllocError>
+    ensures app { IfOk result (λ c. app_of c ≡ grammar.list) }
+    ensures local { IfOk result (λ c. (out-Command c).has_globals ≡ false) }
+{
+    over_image(alloc, "list", "Prints the directory of the image")
+}
+
+/// `check IMAGE`
+fn check_command<'a>(alloc: Global) -> Result<Command<'a>, AllocError>
+    ensures app { IfOk result (λ c. app_of c ≡ grammar.check) }
+    ensures local { IfOk result (λ c. (out-Command c).has_globals ≡ false) }
+{
+    over_image(
+        alloc,
+        "check",
+        "Judges the layout of the image: prints OK, or what is wrong and where",
+    )
+}
+
 /// `dry SCRIPT`
 fn dry_command<'a>(alloc: Global) -> Result<Command<'a>, AllocError>
     ensures app { IfOk result (λ c. app_of c ≡ grammar.dry) }
@@ -36,9 +84,15 @@ fn dry_command<'a>(alloc: Global) -> Result<Command<'a>, AllocError>
 pub fn ledger_command<'a>(alloc: Global) -> Result<Command<'a>, AllocError>
     ensures { IfOk result (λ c. app_of c ≡ grammar.ledger) }
 {
+    let format = format_command(alloc)?;
+    let list = list_command(alloc)?;
+    let check = check_command(alloc)?;
     let dry = dry_command(alloc)?;
     Command::new(alloc, "ledger")
         .about("A retry-safe stock ledger: a request that comes again gets its first answer")
         .subcommand_required(true)
+        .subcommand(format)?
+        .subcommand(list)?
+        .subcommand(check)?
         .subcommand(dry)
 }

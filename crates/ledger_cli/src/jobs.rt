@@ -7,6 +7,23 @@ use thiserror::Error;
 /// What the words of a command line ask for.
 #[derive(Clone, Copy, Debug, PartialEq, Eq)]
 pub enum Job<'a> {
+    /// The image of an empty shop, in place of whatever the file held.
+    Format {
+        /// The image's path.
+        image: &'a str,
+        /// How many tills the shop has, 1 to 64. Who makes a job sees to it.
+        tills: u8,
+    },
+    /// The directory of an image.
+    List {
+        /// The image's path.
+        image: &'a str,
+    },
+    /// Whether the layout of an image is clean, and else what is wrong with it.
+    Check {
+        /// The image's path.
+        image: &'a str,
+    },
     /// The replies to the messages of a script, from no cards on and without a disk.
     Dry {
         /// The script's path.
@@ -20,6 +37,9 @@ pub enum JobFault {
     /// The words are none of the program's, or ask for help, or there was no memory to read them.
     #[error(transparent)]
     Words(clap::Error),
+    /// The number of tills isn't one of 1 to 64, in decimal digits without leading zeros.
+    #[error("TILLS")]
+    Tills,
 }
 
 impl JobFault {
@@ -29,6 +49,7 @@ impl JobFault {
     {
         match self {
             JobFault::Words(_) => 1,
+            JobFault::Tills => 2,
         }
     }
 }

@@ -1,9 +1,19 @@
 //! A retry-safe stock ledger: the program. It opens, reads and prints; the modules do the rest.
 #![tactic(auto)]
 
+mod bytes;
+#[cfg(test)]
+mod check_tests;
 mod dry_run;
+mod faults;
+mod formatting;
 mod grammar;
+#[cfg(test)]
+mod image_tests;
 mod jobs;
+mod judging;
+mod listing;
+mod replaced;
 mod running;
 mod script;
 mod table;
@@ -11,12 +21,15 @@ mod table;
 mod tests;
 mod words;
 
+ghost use Rattle.ledger_cli.specs.Jobs.{HasTills};
+
 use clap::error::ErrorKind;
 use jobs::{Job, JobFault};
+use replaced::Replaced;
 use running::run;
 use std::alloc::{AllocError, Global};
 use std::env;
-use std::fs::{self, File};
+use std::fs::{self, File, OpenOptions};
 use std::io::{self, BufWriter, Read};
 use std::process::ExitCode;
 use words::job;
@@ -25,6 +38,9 @@ use words::job;
 const WORDS: u8 = 2;
 /// The exit status where a file, the output or memory failed.
 const SYSTEM: u8 = 3;
+
+/// How many bytes the image of a disk has.
+const IMAGE_SIZE: u64 = 174_848;
 
 /// How many bytes of output are gathered before they are written.
 const OUTPUT_ROOM: usize = 65536;
@@ -46,6 +62,10 @@ fn refuse_words(rt: &HostRuntime, fault: &JobFault) -> u8 {
             let _ = rt.eprintln("NO MEMORY");
             SYSTEM
         }
+        JobFault::Tills => {
+            let _ = rt.eprintln("TILLS");
+            WORDS
+        }
         JobFault::Words(error) => match error.print(rt) {
             Err(failed) if !error.use_stderr() => refuse_io(rt, &failed),
             _ if error.use_stderr() => WORDS,
@@ -65,23 +85,54 @@ fn read_file(rt: &HostRuntime, path: &str) -> io::Result<Vec<u8>> {
     fs::read(rt, path)
 }
 
-/// Reads the job's files and does it.
-fn do_job(rt: &HostRuntime, job: &Job<'_>) -> io::Result<u8> {
-    match job {
-        Job::Dry { script } => {
-            let script = read_file(rt, script)?;
-            let mut out = BufWriter::with_capacity(rt.alloc(), OUTPUT_ROOM, io::writer(rt))?;
-            let file: Option<File> = None;
-            Ok(run(
-                job,
-                &[],
-                script.as_slice(),
-                file,
-                &mut out,
-                &mut rt.stderr(),
-            ))
-        }
+/// The image's bytes, one more than a disk has at most: enough to tell that there are too many.
+fn read_image(rt: &HostRuntime, path: &str) -> io::Result<Vec<u8>> {
+    let mut bytes = Vec::new(rt.alloc());
+    if path == "/dev/stdin" {
+        rt.reader().take(IMAGE_SIZE + 1).read_to_end(&mut bytes)?;
+    } else {
+        File::open(rt, path)?
+            .take(IMAGE_SIZE + 1)
+            .read_to_end(&mut bytes)?;
     }
+    Ok(bytes)
+}
+
+/// The image's file, as it is: what it holds is lost only where it is written over.
+fn open_image(rt: &HostRuntime, path: &str) -> io::Result<Replaced<File>> {
+    let file = OpenOptions::new()
+        .write(true)
+        .create(true)
+        .truncate(false)
+        .open(rt, path)?;
+    Ok(Replaced { file })
+}
+
+/// Reads or opens the job's files and does it.
+fn do_job(rt: &HostRuntime, job: &Job<'_>) -> io::Result<u8>
+    requires { HasTills job.now }
+{
+    let mut image = Vec::new(rt.alloc());
+    let mut script = Vec::new(rt.alloc());
+    let mut file = None;
+    match job {
+        Job::Format {
+            image: path,
+            tills: _,
+        } => file = Some(open_image(rt, path)?),
+        Job::List { image: path } | Job::Check { image: path } => image = read_image(rt, path)?,
+        Job::Dry { script: path } => script = read_file(rt, path)?,
+    }
+    let mut out = BufWriter::with_capacity(rt.alloc(), OUTPUT_ROOM, io::writer(rt))?;
+    Ok(run(
+        rt.alloc(),
+        job,
+        image.as_slice(),
+        script.as_slice(),
+        file,
+        &mut out,
+        &mut rt.stderr(),
+    ))
 }
 
 /// The words as texts, all at one lifetime.

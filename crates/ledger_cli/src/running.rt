@@ -1,13 +1,20 @@
 //! Doing a job over the bytes of its files.
-ghost use Rattle.std.specs.Prelude.{◌≡◌, None, IfErr, IsSome, OnOk};
+ghost use Rattle.std.specs.Prelude.{◌≡◌, None, IfErr, IsOk, IsSome, OnOk};
 ghost use Rattle.std.specs.Io.KnownBytes.{Appends};
-ghost use Rattle.ledger_cli.specs.Faults.{IsDryFault, dry_status};
-ghost use Rattle.ledger_cli.specs.Runs.{IsRun};
+ghost use Rattle.ledger_cli.specs.Faults.{IsDryFault, check_status, dry_status, end_status};
+ghost use Rattle.ledger_cli.specs.Jobs.{HasTills};
+ghost use Rattle.ledger_cli.specs.Runs.{IsQuiet, IsRun};
 ghost use Rattle.ledger_cli.specs.Scripts.{first_bad, lines};
 ghost use Rattle.ledger_cli.specs.Tables.{dry_report};
 
 use crate::dry_run::{DryFault, dry};
+use crate::faults::RunFault;
+use crate::formatting::format_image;
 use crate::jobs::Job;
+use crate::judging::check_image;
+use crate::listing::list_image;
+use disk_layout::Fault;
+use std::alloc::Global;
 use std::fmt::Display;
 use std::io::{Seek, Write};
 
@@ -41,23 +48,59 @@ fn status_of(fault: DryFault) -> u8
     }
 }
 
+/// Tells why a job over an image isn't done, where it isn't, and answers the exit status.
+fn status_after<E: Write>(ended: Result<(), RunFault>, err: &mut E) -> u8
+    ensures status { result ≡ end_status ended }
+    ensures quiet { result ≡ 0 → err.new ≡ err.old }
+{
+    match ended {
+        Ok(()) => 0,
+        Err(fault) => {
+            tell(err, fault);
+            fault.status()
+        }
+    }
+}
+
+/// The exit status of a check: 1 also where a fault was told, on the output. Tells why the image
+/// wasn't judged, where it wasn't.
+fn judged<E: Write>(ended: Result<Option<Fault>, RunFault>, err: &mut E) -> u8
+    ensures status { result ≡ check_status ended }
+    ensures quiet { IsOk ended → err.new ≡ err.old }
+{
+    match ended {
+        Ok(None) => 0,
+        Ok(Some(_)) => 1,
+        Err(fault) => status_after(Err(fault), err),
+    }
+}
+
 /// Does the job and answers the program's exit status. `image` and `script` are the bytes of the
-/// files that the job names (empty where it names none), `file` is the image's file for writing.
-/// What is printed goes to `out`, which is flushed at the end; a fault is told on `err` in one line:
-/// `SCRIPT LINE n` with status 1, `FILE` with status 3 where `out` failed.
+/// files that the job names (empty where it names none or doesn't read it), `file` is the image's
+/// file for writing, at its start. What is printed goes to `out`, which is flushed at the end; a
+/// fault is told on `err` in one line: with status 1 `SCRIPT LINE n`, `IMAGE SIZE`, or `LAYOUT` with
+/// the fault and its place; with status 3 `FILE` where `file` or `out` failed or there is no `file`,
+/// or `NO MEMORY`.
 pub fn run<F: Write + Seek + Drop, W: Write, E: Write>(
+    alloc: Global,
     job: &Job<'_>,
-    _image: &[u8],
+    image: &[u8],
     script: &[u8],
-    _file: Option<F>,
+    file: Option<F>,
     out: &mut W,
     err: &mut E,
 ) -> u8
-    ensures run { IsRun W.contents job.now script.now out.old out.new result }
-    // At status 0 nothing is told.
-    ensures quiet { result ≡ 0 → err.new ≡ err.old }
+    requires tills { HasTills job.now }
+    ensures run { IsRun W.contents job.now image.now script.now file out.old out.new result }
+    ensures quiet { IsQuiet job.now image.now err.old err.new result }
 {
     match job {
+        Job::Format { image: _, tills } => status_after(
+            format_image(alloc, *tills, file, out),
+            err,
+        ),
+        Job::List { image: _ } => status_after(list_image(alloc, image, out), err),
+        Job::Check { image: _ } => judged(check_image(alloc, image, out), err),
         Job::Dry { script: _ } => match play_whole(script, out) {
             Ok(()) => 0,
             Err(fault) => {

@@ -4,7 +4,7 @@ use crate::jobs::{Job, JobFault};
 use crate::running::run;
 use crate::words::job;
 use std::fs::File;
-use std::io::{self, Write};
+use std::io::{self, Seek, SeekFrom, Write};
 use std::test::Fail;
 
 /// What a script shows, the script, and its replies.
@@ -74,9 +74,9 @@ fn scripts_have_their_replies(rt: HostRuntime) -> Result<(), Fail> {
 
 /// A writer that takes this many bytes and then fails, or fails to hand them on.
 #[derive(Drop)]
-struct Full {
-    room: usize,
-    flushes: bool,
+pub(crate) struct Full {
+    pub room: usize,
+    pub flushes: bool,
 }
 
 impl Write for Full {
@@ -98,6 +98,13 @@ impl Write for Full {
     }
 }
 
+/// A file like it, for which no place is a fault.
+impl Seek for Full {
+    fn seek(&mut self, _: SeekFrom) -> io::Result<u64> {
+        Ok(0)
+    }
+}
+
 #[test]
 fn faults_end_a_run(rt: HostRuntime) -> Result<(), Fail> {
     let bad: &[u8] = b"1,1,S,1,0\n@x 1,1,S,1,0\n@y\n";
@@ -115,6 +122,7 @@ fn faults_end_a_run(rt: HostRuntime) -> Result<(), Fail> {
         let mut err = Vec::new(rt.alloc());
         let file: Option<File> = None;
         let ended = run(
+            rt.alloc(),
             &Job::Dry { script: "s" },
             &[],
             script,
@@ -142,26 +150,58 @@ fn faults_end_a_run(rt: HostRuntime) -> Result<(), Fail> {
 
 #[test]
 fn words_ask_for_a_job(rt: HostRuntime) -> Result<(), Fail> {
-    assert_eq!(rt;
-        job(rt.alloc(), &["ledger", "dry", "a.txt"])?,
-        Job::Dry { script: "a.txt" }
-    );
-    let none = job(rt.alloc(), &["ledger"]);
-    assert_eq!(rt; none.map_err(|fault| fault.number()), Err(1));
+    let image = "a.d64";
+    let asked: [(&[&str], Job<'_>); 5] = [
+        (&["ledger", "dry", "a.txt"], Job::Dry { script: "a.txt" }),
+        (&["ledger", "list", "a.d64"], Job::List { image }),
+        (
+            &["ledger", "format", "a.d64", "--tills", "1"],
+            Job::Format { image, tills: 1 },
+        ),
+        (
+            &["ledger", "format", "--tills", "64", "a.d64"],
+            Job::Format { image, tills: 64 },
+        ),
+        (
+            &["ledger", "format", "--tills=20", "a.d64"],
+            Job::Format { image, tills: 20 },
+        ),
+    ];
+    for (words, wanted) in asked {
+        assert_eq!(rt; job(rt.alloc(), words)?, wanted);
+    }
     // Words, and the status that they end with.
-    let refused: [(&[&str], i32); 6] = [
+    let refused: [(&[&str], i32); 10] = [
         (&["ledger"], 2),
         (&["ledger", "dry"], 2),
         (&["ledger", "wet", "a.txt"], 2),
         (&["ledger", "dry", "a.txt", "b.txt"], 2),
+        (&["ledger", "list"], 2),
+        (&["ledger", "format", "a.d64"], 2),
+        (&["ledger", "format", "--tills", "2"], 2),
+        (&["ledger", "list", "a.d64", "--tills", "2"], 2),
         (&["ledger", "--help"], 0),
-        (&["ledger", "dry", "--help"], 0),
+        (&["ledger", "format", "--help"], 0),
     ];
     for (words, status) in refused {
         match job(rt.alloc(), words) {
-            Ok(_) => assert!(rt; false, "{words:?}"),
             Err(JobFault::Words(error)) => assert_eq!(rt; error.exit_code(), status, "{words:?}"),
+            _ => assert!(rt; false, "{words:?}"),
         }
     }
+    Ok(())
+}
+
+#[test]
+fn tills_are_one_to_sixty_four(rt: HostRuntime) -> Result<(), Fail> {
+    for tills in ["0", "65", "01", "x", "", "1 ", "+1", "256", "4294967297"] {
+        let words = ["ledger", "format", "a.d64", "--tills", tills];
+        match job(rt.alloc(), &words) {
+            Err(fault) => assert_eq!(rt; fault.number(), 2, "{tills:?}"),
+            Ok(_) => assert!(rt; false, "{tills:?}"),
+        }
+    }
+    let none = job(rt.alloc(), &["ledger"]);
+    assert_eq!(rt; none.map_err(|fault| fault.number()), Err(1));
     Ok(())
 }

@@ -1,12 +1,14 @@
 //! Reading the words of the command line.
-ghost use Rattle.std.specs.Prelude.{◌≡◌, IfErr, IfOk, List, MatchResult, [], map, option_map};
+ghost use Rattle.std.specs.Prelude.{◌≡◌, ◌≤◌, IfErr, IfOk, IfSome, List, MatchResult, [], codes, map, option_map};
 ghost use Rattle.clap.specs.Words.{fault_of, found_of, rows_of, subcommand_of, subcommand_rows_of};
 ghost use Rattle.ledger_cli.specs.Grammar.{ledger, value};
-ghost use Rattle.ledger_cli.specs.Jobs.{IsJob, IsNoJob};
+ghost use Rattle.request_cards.specs.Reading.{number_in};
+ghost use Rattle.ledger_cli.specs.Jobs.{HasTills, IsJob, IsNoJob};
 
 use crate::grammar::ledger_command;
 use crate::jobs::{Job, JobFault};
 use clap::{ArgMatches, Error};
+use request_cards::number;
 use std::alloc::{AllocError, Global};
 
 /// The subcommand that was met, with its values.
@@ -24,11 +26,37 @@ fn value_of<'a>(matches: &ArgMatches<'a>, name: &str) -> &'a str
     matches.get_str(name).unwrap_or("")
 }
 
+/// The number of tills that a text spells: 1 to 64, in decimal digits without leading zeros.
+fn tills_of(text: &str) -> Option<u8>
+    ensures exact { result ≡ number_in 1 64 text.now }
+    ensures range { IfSome result (λ tills. (1 ≤ tills) × (tills ≤ 64)) }
+{
+    match number(text.as_bytes(), 1, 64) {
+        Some(tills) => Some(tills as u8),
+        None => None,
+    }
+}
+
 /// The job of the subcommand that was met.
 fn chosen<'a>(matches: &ArgMatches<'a>) -> Result<Job<'a>, JobFault>
-    ensures { MatchResult result (IsJob (subcommand_rows_of matches.now)) (IsNoJob []) }
+    ensures job { MatchResult result (IsJob (subcommand_rows_of matches.now))
+        (IsNoJob [] (subcommand_rows_of matches.now)) }
+    ensures tills { IfOk result HasTills }
 {
     match met(matches) {
+        Some(("format", found)) => match tills_of(value_of(found, "T")) {
+            Some(tills) => Ok(Job::Format {
+                image: value_of(found, "IMAGE"),
+                tills,
+            }),
+            None => Err(JobFault::Tills),
+        },
+        Some(("list", found)) => Ok(Job::List {
+            image: value_of(found, "IMAGE"),
+        }),
+        Some(("check", found)) => Ok(Job::Check {
+            image: value_of(found, "IMAGE"),
+        }),
         Some(("dry", found)) => Ok(Job::Dry {
             script: value_of(found, "SCRIPT"),
         }),
@@ -42,9 +70,11 @@ pub fn job<'a>(alloc: Global, words: &'a [&'a str]) -> Result<Job<'a>, JobFault>
     // A job comes only where no word is refused, and is that of the subcommand and its values.
     ensures ok { let texts = map (λ word. word.now) words.entry.now in
         IfOk result (λ j. (fault_of ledger texts ≡ []) × IsJob (subcommand_of ledger texts) j) }
-    // Words are refused for one of the reasons that the command line gives, or for want of memory.
+    ensures tills { IfOk result HasTills }
+    // Words are refused for one of the reasons that the command line gives, or for want of memory,
+    // or for a number of tills that is none of 1 to 64, where nothing else is wrong.
     ensures err { let texts = map (λ word. word.now) words.entry.now in
-        IfErr result (IsNoJob (fault_of ledger texts)) }
+        IfErr result (IsNoJob (fault_of ledger texts) (subcommand_of ledger texts)) }
 {
     let command = match ledger_command(alloc) {
         Ok(command) => command,
