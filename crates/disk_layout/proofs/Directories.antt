@@ -1,5 +1,5 @@
 -- The directory's sectors, read one after another.
-use Rattle.std.proofs.Common.{Bool, IsTrue, List, [], append-nil, ap, arith, eqb, false, get_or, inl, inr, length, length-append, map, refl, subst, suc, sym, true, zero, ℕ, ◌++◌, ◌-◌, ◌<◌, ◌∙◌, ◌∷◌, ◌≡◌, ◌≢◌, ◌≤◌, ◌⊎◌, ◌||◌}
+use Rattle.std.proofs.Common.{Bool, List, [], append-nil, ap, arith, eqb, false, inl, inr, length, length-append, map, refl, subst, suc, sym, true, zero, ℕ, ◌++◌, ◌-◌, ◌<◌, ◌∙◌, ◌∷◌, ◌≡◌, ◌≢◌, ◌≤◌, ◌⊎◌, ◌||◌}
 use Rattle.std.proofs.lemmas.Bool.{false≢true}
 use Rattle.std.proofs.lemmas.Bool.Decides.{Decides-eqb}
 use Rattle.std.proofs.lemmas.Grind.{flat_map-append}
@@ -7,15 +7,16 @@ use Rattle.std.proofs.lemmas.List.Elements.{filter-append}
 use Rattle.std.proofs.lemmas.Map.Steps.{length-le_from_distinct_below}
 use Rattle.std.specs.List.{AllByRecursion, IsDistinct, list_any}
 use Rattle.std.specs.Prelude.{Contains, Option, Some, filter, flat_map, slice_index}
-use Rattle.d64_image.proofs.Places.{place_at-self, place_at-some, same_place}
+use Rattle.d64_image.proofs.Places.{place_at-some, same_place}
 use Rattle.d64_image.specs.Geometry.{sectors_on}
 use Rattle.d64_image.specs.Images.{Image, sector}
 use Rattle.d64_image.specs.Places.{place_at}
 use Rattle.d64_image.specs.declared.place.Place.{Place}
-use Rattle.disk_layout.proofs.Once.{Contains-cases, Contains-here, Contains-there, EachOnce-push, all-in}
-use Rattle.disk_layout.specs.Chain.{EachOnce, Leads, LinksTo, Names, NamesNone}
+use Rattle.disk_layout.proofs.Chains.{Leads-push}
+use Rattle.disk_layout.proofs.Once.{Contains-here, Contains-there, EachOnce-push, all-in}
+use Rattle.disk_layout.specs.Chain.{EachOnce, Leads, Names, NamesNone}
 use Rattle.disk_layout.specs.Directory.{IsDirectory, IsDirectoryPlace, directory_start, is_used, map_place, slots_in, used_slots}
-use Rattle.disk_layout.specs.Fault.{HoldsOfDirectory, IsDirectorySector}
+use Rattle.disk_layout.specs.Fault.{HoldsOfDirectory}
 use Rattle.disk_layout.specs.Listing.{LinksOut}
 use Rattle.disk_layout.specs.declared.faults.Fault.TheVariants.{BadLink, Loop}
 use Rattle.disk_layout.specs.declared.slot.Slot.{Slot}
@@ -102,14 +103,9 @@ pub used-none : (img : Image) (before : List Place) (entries : List Slot) → be
 unfolding used_slots
 used-none img before entries none empty = rw none empty
 
--- one more link
-leads-push : (img : Image) (p : Place) (vs : List Place) (q n : Place) → Leads img p vs q → LinksTo img q n → Leads img p (vs ++ q ∷ []) n
-leads-push img p [] q n a h = (n, sym a, h, refl)
-leads-push img p (v ∷ vs) q n a h = (a.0, a.1, a.2, leads-push img a.0 vs q n a.3 h)
-
 pub reached-next : (img : Image) (before : List Place) (p next : Place) (to : List ℕ) → IsReached img before p → to ≡ sector img p → Names to 0 next → IsDirectoryPlace next → ¬ (Contains (before ++ p ∷ []) next) → IsReached img (before ++ p ∷ []) next
 reached-next img before p next to h read names on new = record {
-  leads = leads-push img directory_start before p next h.leads (rw (← read) names);
+  leads = Leads-push img directory_start before p next h.leads (rw (← read) names);
   once = EachOnce-push (before ++ p ∷ []) next h.once new;
   places = all-push IsDirectoryPlace (before ++ p ∷ []) next h.places on;
 }
@@ -150,7 +146,7 @@ bad-link img before p to h read ne out = (record { before = before; visits = (h.
 -- the sector links back to one of those before it, or to itself
 pub comes-back : (img : Image) (before : List Place) (p next : Place) (to : List ℕ) → IsReached img before p → to ≡ sector img p → Names to 0 next → Contains (before ++ p ∷ []) next → HoldsOfDirectory ⊥ img (Loop next)
 comes-back img before p next to h read names there =
-    (before ++ p ∷ [], (leads-push img directory_start before p next h.leads (rw (← read) names), h.once, there), h.places)
+    (before ++ p ∷ [], (Leads-push img directory_start before p next h.leads (rw (← read) names), h.once, there), h.places)
 
 -- what the first two bytes name
 pub names-here : (to : List ℕ) (q : Place) → place_at (slice_index to 0) (slice_index to 1) ≡ Some q → Names to 0 q

@@ -72,13 +72,13 @@ zero-sound = (
     other c = elim (Contains-cases map_place directory_start [] c) [ inl e ↦ apart e | inr d ↦ Contains-nil map_place d ]
 
 -- 17/0, 17/1 and 17/2
-abbrev block_0 : Place
+abbrev pub block_0 : Place
 block_0 = record { track = 17; sector = 0; on_disk = lit< tt }
 
-abbrev block_1 : Place
+abbrev pub block_1 : Place
 block_1 = record { track = 17; sector = 1; on_disk = lit< tt }
 
-abbrev block_2 : Place
+abbrev pub block_2 : Place
 block_2 = record { track = 17; sector = 2; on_disk = lit< tt }
 
 -- two bytes name a place where the disk has it: track 17 has sectors 0 to 20, and track 36 none

@@ -1,5 +1,5 @@
 -- The sectors of a track freed one by one.
-use Rattle.std.proofs.Common.{List, [], None, Some, ap, ap₂, arith, inl, inr, min, refl, sym, ℕ, ◌+◌, ◌-◌, ◌<◌, ◌∙◌, ◌≡◌, ◌≢◌, ◌≤◌, ◌⊎◌, drop, get_or, length, replicate, subst, take, ◌*◌, ◌++◌, ◌∷◌}
+use Rattle.std.proofs.Common.{List, [], None, Some, ap, ap₂, arith, inl, inr, min, refl, sym, ℕ, ◌+◌, ◌-◌, ◌<◌, ◌∙◌, ◌≡◌, ◌≢◌, ◌≤◌, drop, get_or, length, replicate, subst, take, ◌*◌, ◌++◌, ◌∷◌}
 use Rattle.std.proofs.lemmas.Bool.{cases_eq, cases_lt}
 use Rattle.std.proofs.lemmas.Bool.Decides.{nat_tests}
 use Rattle.std.proofs.Math.ListN.{get_or-append}
@@ -12,10 +12,9 @@ use Rattle.d64_image.specs.Geometry.{sectors_on}
 use Rattle.d64_image.specs.Places.{place_at}
 use Rattle.d64_image.specs.declared.place.Place.{Place}
 use Rattle.disk_layout.proofs.Bits.{few_sectors}
-use Rattle.disk_layout.specs.Blank.{taken_on}
+use Rattle.disk_layout.specs.Blank.{names_of, taken_on}
 use Rattle.disk_layout.specs.Free.{IsFreeFrom, IsWithoutFree}
 use Rattle.disk_layout.specs.Map.{IsFree, IsGiven, map_bit, map_count}
-use Rattle.disk_layout.specs.Rest.{slot_name}
 
 -- the bit of a sector that is free from one on and below an end
 abbrev bit : ℕ → ℕ → ℕ → ℕ
@@ -99,7 +98,7 @@ pub record IsMadeTo (bytes name id : List ℕ) (blocks n : ℕ) : Type 0 where
   pub counts : (t : ℕ) → 1 ≤ t → t ≤ n → map_count bytes t ≡ sectors_on t - taken_on blocks t
   pub bits : (t s : ℕ) → 1 ≤ t → t ≤ n → s < 24 → map_bit bytes t s ≡ bit (taken_on blocks t) (sectors_on t) s
   pub none : (t : ℕ) → n < t → t ≤ 35 → IsWithoutFree bytes t
-  pub names : drop 144 bytes ≡ slot_name name ++ (160 ∷ 160 ∷ (id ++ (160 ∷ 50 ∷ 65 ∷ 160 ∷ 160 ∷ 160 ∷ 160 ∷ replicate 85 0)))
+  pub names : drop 144 bytes ≡ names_of name id
 
 pub made-track : (old new name id : List ℕ) (blocks n : ℕ) → IsMadeTo old name id blocks n → IsFreeFrom old new (n + 1) (taken_on blocks (n + 1)) 24 → IsMadeTo new name id blocks (n + 1)
 made-track old new name id blocks n h f = record {
@@ -134,7 +133,7 @@ past-track t s none = elim (cases_lt s (sectors_on t)) [
 
 -- the bytes of 18/0 with no sector free
 abbrev pub header : List ℕ → List ℕ → List ℕ
-header name id = (18 ∷ 1 ∷ 65 ∷ 0 ∷ []) ++ (replicate 140 0 ++ (slot_name name ++ (160 ∷ 160 ∷ (id ++ (160 ∷ 50 ∷ 65 ∷ 160 ∷ 160 ∷ 160 ∷ 160 ∷ replicate 85 0)))))
+header name id = (18 ∷ 1 ∷ 65 ∷ 0 ∷ []) ++ (replicate 140 0 ++ names_of name id)
 
 middle : (front back : List ℕ) (n i : ℕ) → length front ≤ i → i < length front + n → get_or (front ++ (replicate n 0 ++ back)) i 0 ≡ 0
 middle front back n i lo hi =
@@ -155,4 +154,4 @@ made-none name id blocks = record {
 }
   where
     zeros : (i : ℕ) → 4 ≤ i → i < 144 → get_or (header name id) i 0 ≡ 0
-    zeros i lo hi = middle (18 ∷ 1 ∷ 65 ∷ 0 ∷ []) (slot_name name ++ (160 ∷ 160 ∷ (id ++ (160 ∷ 50 ∷ 65 ∷ 160 ∷ 160 ∷ 160 ∷ 160 ∷ replicate 85 0)))) 140 i lo hi
+    zeros i lo hi = middle (18 ∷ 1 ∷ 65 ∷ 0 ∷ []) (names_of name id) 140 i lo hi

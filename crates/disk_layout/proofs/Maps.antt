@@ -16,7 +16,7 @@ apart-place p q ne = elim (cases_eq q.track p.track) [
 ]
 
 -- a sector that exists has one of the 24 bits of its track
-in-bits : (t s : ℕ) → s < sectors_on t → s < 24
+pub in-bits : (t s : ℕ) → s < sectors_on t → s < 24
 in-bits t s h = omega (arith, h, few_sectors t)
 
 -- a place that nobody owned is taken: the map is that of its new owners, in whatever order they are listed

@@ -1,6 +1,6 @@
 -- The search for a free sector, on one track and from track to track.
-use Rattle.std.proofs.Common.{ℕ, List, Some, arith, inl, inr, sym, subst, ◌+◌, ◌-◌, ◌<◌, ◌≡◌, ◌≢◌, ◌≤◌, ◌⊎◌, ◌∙◌}
-use Rattle.std.proofs.lemmas.Bool.{cases_eq, cases_lt}
+use Rattle.std.proofs.Common.{ℕ, List, Some, arith, inl, inr, sym, subst, ◌+◌, ◌-◌, ◌<◌, ◌≡◌, ◌≢◌, ◌≤◌, ◌∙◌}
+use Rattle.std.proofs.lemmas.Bool.{cases_lt}
 use Rattle.d64_image.proofs.Places.{place_at-some, same_place, track_fits, track_from_1}
 use Rattle.d64_image.specs.Places.{place_at}
 use Rattle.d64_image.specs.declared.place.Place.{Place}

@@ -1,5 +1,5 @@
 -- The blank image: an empty disk with the two files of a ledger (1541 User's Guide for the formats; which files, own).
-use Rattle.std.specs.Prelude.{◌≡◌, ◌⊎◌, ℕ, suc, zero, ◌+◌, ◌-◌, ◌/◌, ◌<◌, ◌≤◌, ◌&&◌, codes, drop, if◌then◌else◌, length, List, [], ◌∷◌, ◌++◌, min, nat_eq, nat_le, nat_lt, None, Option, replicate, slice_get, slice_index, Some, take, Contains}
+use Rattle.std.specs.Prelude.{◌≡◌, ◌⊎◌, ℕ, ◌+◌, ◌-◌, ◌/◌, ◌<◌, ◌≤◌, ◌&&◌, codes, drop, if◌then◌else◌, length, List, [], ◌∷◌, ◌++◌, min, nat_eq, nat_le, nat_lt, None, Option, replicate, slice_get, slice_index, Some, take, Contains}
 use Rattle.std.proofs.Common.{lit<}
 use Rattle.byteorder.specs.Endian.{little_bytes}
 use Rattle.d64_image.specs.Geometry.{sectors_on}
@@ -54,13 +54,17 @@ pub record AreRequestPlaces (blocks : List Place) (n : ℕ) : Type 0 where
 abbrev pub taken_on : ℕ → ℕ → ℕ
 taken_on n t = if nat_eq t 17 then min (n + 3) 21 else (if nat_eq t 18 then 2 else (if nat_eq t 19 then n - 18 else 0))
 
--- 18/0: bytes 0-3, each track's count and bits, and behind the map the disk's name and id, `2A`, padding and zeros.
+-- what stands behind the map: the disk's name, two A0, its id, A0, `2A`, four A0, and zeros
+abbrev pub names_of : List ℕ → List ℕ → List ℕ
+names_of name id = slot_name name ++ (160 ∷ 160 ∷ (id ++ (160 ∷ 50 ∷ 65 ∷ 160 ∷ 160 ∷ 160 ∷ 160 ∷ replicate 85 0)))
+
+-- 18/0: bytes 0-3, each track's count and bits, and what stands behind the map.
 -- For 1 block track 17 reads 11 F0 FF 1F, for 32 blocks 00 00 00 00 and track 19 then 05 00 C0 07
 pub record IsBlankMap (bytes : Sector) (name id : List ℕ) (n : ℕ) : Type 0 where
   pub start : take 4 bytes ≡ 18 ∷ 1 ∷ 65 ∷ 0 ∷ []
   pub counts : (t : ℕ) → 1 ≤ t → t ≤ 35 → map_count bytes t ≡ sectors_on t - taken_on n t
   pub bits : (t s : ℕ) → 1 ≤ t → t ≤ 35 → s < 24 → map_bit bytes t s ≡ (if (nat_le (taken_on n t) s && nat_lt s (sectors_on t)) then 1 else 0)
-  pub names : drop 144 bytes ≡ slot_name name ++ (160 ∷ 160 ∷ (id ++ (160 ∷ 50 ∷ 65 ∷ 160 ∷ 160 ∷ 160 ∷ 160 ∷ replicate 85 0)))
+  pub names : drop 144 bytes ≡ names_of name id
 
 -- 18/1: no further sector, and the two entries
 unfoldable pub blank_directory : ℕ → List ℕ

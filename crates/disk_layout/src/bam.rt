@@ -1,14 +1,16 @@
 //! The map of free sectors: which are free, which one is next, taking and giving back.
-ghost use Rattle.std.specs.Prelude.{◌≡◌, ◌≢◌, ◌↔◌, IsTrue, MatchOption, length};
+ghost use Rattle.std.specs.Prelude.{◌≡◌, ◌≢◌, ◌↔◌, IfOk, IsTrue, MatchOption, length};
 
+use crate::directory::map_place;
 use crate::views::BamView;
-use d64_image::Place;
+use d64_image::{DeviceFault, Place, Sectors};
 
 /// The track of the map and the directory, on which no data block is placed.
 const DIRECTORY_TRACK: u8 = 18;
 
-/// The 256 bytes of 18/0. Bytes 4 to 143 are the map: four for each track, its count of free sectors and a bit for
-/// each sector, 1 for free. The other bytes, the disk's name among them, no call changes.
+/// The 256 bytes of 18/0, in memory: read, changed, and then written back by the caller. Bytes 4 to 143 are the map:
+/// four for each track, its count of free sectors and a bit for each sector, 1 for free. The other bytes, the disk's
+/// name among them, no call changes.
 #[derive(Clone, Copy, Debug, PartialEq, Eq)]
 pub struct Bam {
     /// The bytes as the disk has them or is to have them.
@@ -17,6 +19,9 @@ pub struct Bam {
 }
 
 impl Bam {
+    ghost use Rattle.d64_image.specs.History.{OnlyReads, TellsFailure};
+    ghost use Rattle.d64_image.specs.Images.{sector};
+    ghost use Rattle.disk_layout.specs.Directory.{map_place};
     ghost use Rattle.disk_layout.specs.Map.{IsFree, IsTaken, IsGiven, IsFirstFree, IsFirstOn, IsFullDisk, IsFullTrack};
 
     /// The map in these bytes of 18/0.
@@ -24,6 +29,17 @@ impl Bam {
         ensures { result.bytes ≡ bytes }
     {
         Bam { bytes }
+    }
+
+    /// Reads 18/0.
+    pub fn read<D: Sectors>(disk: &mut D) -> Result<Bam, DeviceFault>
+        ensures ok { IfOk result (λ map. map.bytes ≡ sector (D.history.image disk.old) map_place) }
+        ensures failures { TellsFailure D.history disk.old disk.new result }
+        ensures reads { OnlyReads D.history disk.old disk.new 1 }
+    {
+        let mut bytes = [0; 256];
+        disk.read(map_place(), &mut bytes)?;
+        Ok(Bam { bytes })
     }
 
     /// The same bytes as they are read: name, id and counts.

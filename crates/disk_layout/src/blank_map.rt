@@ -1,8 +1,7 @@
 //! 18/0 of the blank image: the map, and the disk's name and id.
 ghost use Rattle.std.specs.Prelude.{◌≡◌, ◌++◌, ◌∷◌, ◌≤◌, [], length, replicate};
-ghost use Rattle.disk_layout.specs.Blank.{IsBlankMap, taken_on};
+ghost use Rattle.disk_layout.specs.Blank.{IsBlankMap, names_of, taken_on};
 ghost use Rattle.disk_layout.specs.Free.{IsFreeFrom, IsWithoutFree};
-ghost use Rattle.disk_layout.specs.Rest.{slot_name};
 
 use crate::bam::Bam;
 use crate::entries::padded_name;
@@ -21,10 +20,10 @@ pub fn blank_map(name: &[u8], id: [u8; 2], blocks: u8) -> [u8; 256]
     map.bytes
 }
 
-/// 18/0 with no sector free: what stands before the map, 141 bytes 0, the name and the id.
+/// 18/0 with no sector free: what stands before the map, 140 bytes 0, the name and the id.
 fn blank_header(name: &[u8], id: [u8; 2]) -> [u8; 256]
     requires { length name.now ≤ 16 }
-    ensures { result ≡ (18 ∷ 1 ∷ 65 ∷ 0 ∷ []) ++ (replicate 140 0 ++ (slot_name name.now ++ (160 ∷ 160 ∷ (id ++ (160 ∷ 50 ∷ 65 ∷ 160 ∷ 160 ∷ 160 ∷ 160 ∷ replicate 85 0))))) }
+    ensures { result ≡ (18 ∷ 1 ∷ 65 ∷ 0 ∷ []) ++ (replicate 140 0 ++ names_of name.now id) }
 {
     let mut bytes = [0; 256];
     bytes[0] = 18;

@@ -1,5 +1,5 @@
 //! The blank image byte by byte, with values worked out by hand from the disk's format.
-use crate::{BamView, DirView, EntryView, blank_image, read_directory, walk_chain};
+use crate::{Bam, BamView, DirView, EntryView, blank_image, read_directory, walk_chain};
 use arrayvec::ArrayVec;
 use d64_image::{DeviceFault, MemDisk, Meter, Place, Sectors};
 use std::test::Fail;
@@ -187,8 +187,8 @@ fn the_requests_of_64_tills(rt: HostRuntime) -> Result<(), Fail> {
 fn names_and_entries(rt: HostRuntime) -> Result<(), Fail> {
     let mut disk = MemDisk::zeroed(rt.alloc())?;
     blank_image(&mut disk, b"STOCK LEDGER", *b"01", 2)?;
-    let map = sector(&mut disk, 18, 0)?;
-    let view = BamView::new(&map);
+    let map = Bam::read(&mut disk)?;
+    let view = map.view();
     assert_eq!(rt;
         (view.name(), view.id(), view.version()),
         (

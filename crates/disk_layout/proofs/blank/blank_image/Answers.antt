@@ -5,7 +5,7 @@ use Rattle.d64_image.proofs.Moments.{at_end, changes_weaker}
 use Rattle.d64_image.specs.declared.place.Place.{Place}
 use Rattle.disk_layout.proofs.Blanks.{AreWritten, blank-whole, moments-more, written-more, written-place}
 use Rattle.disk_layout.proofs.blank.blank_image.Goals as goal
-use Rattle.disk_layout.specs.Blank.{SameElsewhere, request_blocks}
+use Rattle.disk_layout.specs.Blank.{request_blocks}
 use Rattle.disk_layout.specs.Written.{IsWritten}
 
 pub returns-in_err-write-clause-moments : goal.returns-in_err-write-clause-moments

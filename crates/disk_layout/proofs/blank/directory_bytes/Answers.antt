@@ -1,6 +1,5 @@
 -- The two entries, one behind the other.
-use Rattle.std.proofs.Common.{List, ℕ, sym, ◌∙◌, ◌≡◌}
-use Rattle.d64_image.specs.declared.place.Place.{Place}
+use Rattle.std.proofs.Common.{◌∙◌}
 use Rattle.disk_layout.proofs.Blanks.{entry-is, found-is}
 use Rattle.disk_layout.specs.Blank.{blank_directory, requests_block, requests_side, stock_block, stock_side}
 use Rattle.disk_layout.proofs.blank.directory_bytes.Goals as goal

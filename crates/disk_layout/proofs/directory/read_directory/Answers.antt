@@ -1,8 +1,7 @@
 -- What is known of the sector that was read, at each way out and for the next turn.
-use Rattle.std.proofs.Common.{List, ap, arith, length, refl, sym, ◌≡◌, ◌∙◌}
+use Rattle.std.proofs.Common.{ap, arith, length, refl, sym, ◌∙◌}
 use Rattle.std.proofs.lemmas.Bool.{false≢true}
 use Rattle.d64_image.proofs.Moments.{no_reads, reads_then, reads_weaker}
-use Rattle.d64_image.specs.Images.{sector}
 use Rattle.disk_layout.proofs.Directories.{bad-link, comes-back, directory-whole, few-before, reached-next, reached-start, read-now, used-more, used-none}
 use Rattle.disk_layout.proofs.directory.read_directory.Goals as goal
 

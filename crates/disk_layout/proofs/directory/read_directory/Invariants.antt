@@ -1,6 +1,5 @@
 -- The links lead through the visited sectors, all of which a directory may have, to one more.
-use Rattle.std.proofs.Common.{[], ◌*◌, ◌++◌, ◌-◌, ◌<◌, ◌∷◌, ◌≡◌, ◌≤◌}
-use Rattle.std.specs.List.{AllByRecursion}
+use Rattle.std.proofs.Common.{◌*◌, ◌-◌, ◌<◌, ◌≡◌, ◌≤◌}
 use Rattle.arrayvec.specs.ArrayVec.{array_vec_len}
 use Rattle.d64_image.specs.History.{OnlyReads}
 use Rattle.disk_layout.proofs.Directories.{IsReached}

@@ -1,0 +1,4 @@
+pub mod Copies
+pub mod Stamps
+pub mod Fills
+pub mod Recorder

@@ -1,0 +1,128 @@
+-- What repair, creation, growth and a request leave, on a disk with one small relative file.
+use Rattle.std.proofs.Common.{List, [], ap, arith, inl, inr, lit<, lit≤, refl, replicate, sym, ℕ, ◌++◌, ◌<◌, ◌∙◌, ◌∷◌, ◌≡◌, ◌≢◌, ◌⊎◌}
+use Rattle.std.proofs.lemmas.Bool.{cases_eq}
+use Rattle.std.proofs.lemmas.List.{get_or-set_other}
+use Rattle.std.specs.Prelude.{slice_index}
+use Rattle.d64_image.proofs.Places.{same_or_other}
+use Rattle.d64_image.specs.Images.{Image, Sector, sector}
+use Rattle.disk_layout.proofs.ExampleDisk.{IsStockSide, at_block, at_entry, at_map, at_other, disk, entry_bytes, entry_slot, exact_side, lower_sector, lower_track, not-in, stock-is_layout, stock-records-1, stock-records-2, stock_disk, stock_file, stock_layout, two_records}
+use Rattle.disk_layout.proofs.ExampleFaults.{changed_side}
+use Rattle.disk_layout.proofs.ExampleMap.{map_bytes}
+use Rattle.disk_layout.proofs.Examples.{block_0, block_1, zero_sector}
+use Rattle.disk_layout.proofs.Once.{Contains-cases, Contains-here, Contains-nil}
+use Rattle.disk_layout.specs.Directory.{directory_start, map_place}
+use Rattle.disk_layout.specs.Entries.{IsRecounted, SameEntries}
+use Rattle.disk_layout.specs.Growth.{HasGrown, IsGrowing}
+use Rattle.disk_layout.specs.Rest.{header_of}
+use Rattle.disk_layout.specs.Same.{AddsFile, IsCountByte, SameButCounts, SameFiles}
+
+-- block counts: another count leaves the entry, and changes byte 30 of its sector alone
+pub same-entries : (n k : ℕ) → SameEntries (entry_slot 132 1 18 n ∷ []) (entry_slot 132 1 18 k ∷ [])
+unfolding entry_bytes
+same-entries n k = refl
+
+other-byte : (n k i : ℕ) → i ≢ 30 → slice_index (entry_bytes 132 1 18 k) i ≡ slice_index (entry_bytes 132 1 18 n) i
+unfolding entry_bytes
+other-byte n k i h = get_or-set_other (entry_bytes 132 1 18 n) 30 i k 0 h
+
+pub recounted : (n k : ℕ) → IsRecounted (entry_bytes 132 1 18 n) (entry_bytes 132 1 18 k) 0
+unfolding entry_bytes
+recounted n k = record {
+  old_long = refl;
+  long = refl;
+  same = λ i out. other-byte n k i (λ e. elim out [ inl h ↦ omega (arith, e, h) | inr h ↦ omega (arith, e, h) ]);
+}
+
+-- a repair: count, side sector and map are other bytes, and the file stays
+abbrev wrong_disk : Image
+wrong_disk = stock_disk 37 3 two_records changed_side (map_bytes 18 253)
+
+abbrev right_disk : Image
+right_disk = stock_disk 37 2 two_records exact_side (map_bytes 19 252)
+
+block-same : sector right_disk block_0 ≡ sector wrong_disk block_0
+block-same = at_block (entry_bytes 132 1 18 2) (0 ∷ 37 ∷ two_records) exact_side (map_bytes 19 252) ∙ sym (at_block (entry_bytes 132 1 18 3) (0 ∷ 37 ∷ two_records) changed_side (map_bytes 18 253))
+
+count-byte : (i : ℕ) → i ≡ 30 → IsCountByte (entry_bytes 132 1 18 3) i
+unfolding entry_bytes
+count-byte i e = rw e (lit≤ tt, inl refl)
+
+entry-bytes : (i : ℕ) → i < 256 → IsCountByte (entry_bytes 132 1 18 3) i ⊎ (slice_index (entry_bytes 132 1 18 2) i ≡ slice_index (entry_bytes 132 1 18 3) i)
+entry-bytes i low = elim (cases_eq i 30) [ inl e ↦ inl (count-byte i e) | inr ne ↦ inr (other-byte 3 2 i ne) ]
+
+entry-same : SameButCounts wrong_disk right_disk directory_start
+entry-same = rw (at_entry (entry_bytes 132 1 18 2) (0 ∷ 37 ∷ two_records) exact_side (map_bytes 19 252), at_entry (entry_bytes 132 1 18 3) (0 ∷ 37 ∷ two_records) changed_side (map_bytes 18 253)) entry-bytes
+
+header-same : header_of right_disk ≡ header_of wrong_disk
+unfolding map_bytes
+header-same = rw (at_map (entry_bytes 132 1 18 2) (0 ∷ 37 ∷ two_records) exact_side (map_bytes 19 252), at_map (entry_bytes 132 1 18 3) (0 ∷ 37 ∷ two_records) changed_side (map_bytes 18 253)) refl
+
+pub repaired : SameFiles wrong_disk right_disk (stock_layout 37 3) (stock_layout 37 2)
+unfolding entry_bytes
+repaired = record {
+  directory = refl;
+  files = rw block-same refl;
+  entries = λ p c. elim (Contains-cases p directory_start [] c) [ inl e ↦ rw (← e) entry-same | inr d ↦ absurd (Contains-nil p d) ];
+  header = header-same;
+  elsewhere = λ p z d s. elim (same_or_other p block_0) [
+    | inl e ↦ rw e block-same
+    | inr x ↦
+        let out : p ≢ directory_start = λ e. d (0, lit< tt, sym e) in
+        let side : p ≢ block_1 = λ e. s (0, lit< tt, sym e) in
+        at_other (entry_bytes 132 1 18 2) (0 ∷ 37 ∷ two_records) exact_side (map_bytes 19 252) p out x side z ∙ sym (at_other (entry_bytes 132 1 18 3) (0 ∷ 37 ∷ two_records) changed_side (map_bytes 18 253) p out x side z)
+  ];
+}
+
+-- record 2 with a letter
+unfoldable pub two_letters : List ℕ
+two_letters = (65 ∷ replicate 17 0) ++ (66 ∷ replicate 17 0)
+
+other-letters : ◌≡◌ {A = Sector} (0 ∷ 37 ∷ two_letters) (0 ∷ 37 ∷ two_records) → ⊥
+unfolding two_letters two_records
+other-letters e = let b : ◌≡◌ {A = ℕ} 66 255 = ap (λ (x : Sector). slice_index x 20) e in omega (arith, b)
+
+-- what repair may not do: change a data block
+pub changed_block : (n : ℕ) (s m : Sector) → ¬ (SameFiles (stock_disk 37 n two_records s m) (stock_disk 37 n two_letters s m) (stock_layout 37 n) (stock_layout 37 n))
+changed_block n s m h =
+    let same = h.elsewhere block_0 (lower_track block_0 map_place (lit< tt)).0
+    (not-in block_0 directory_start [] (lower_track block_0 directory_start (lit< tt)).1 (Contains-nil block_0))
+    (not-in block_0 block_1 [] (lower_sector block_0 block_1 (lit< tt)).1 (Contains-nil block_0)) in
+    other-letters (sym (at_block (entry_bytes 132 1 18 n) (0 ∷ 37 ∷ two_letters) s m) ∙ (same ∙ at_block (entry_bytes 132 1 18 n) (0 ∷ 37 ∷ two_records) s m))
+
+-- a creation: no entry before, this file after
+pub created : (s m : Sector) → AddsFile (disk zero_sector (0 ∷ 37 ∷ two_records) s m) (stock_disk 37 2 two_records s m) (record { directory = directory_start ∷ []; files = [] }) (stock_layout 37 2) (stock_file 37 2)
+created s m = record {
+  before = [];
+  after = [];
+  had = refl;
+  has = refl;
+  added = Contains-here (stock_file 37 2) [];
+  header = rw (at_map (entry_bytes 132 1 18 2) (0 ∷ 37 ∷ two_records) s m, at_map zero_sector (0 ∷ 37 ∷ two_records) s m) refl;
+}
+
+-- a growth: from one record to two, the second empty
+pub growing : (s m : Sector) → IsStockSide s → IsGrowing (stock_disk 19 2 two_records s m) (stock_disk 37 2 two_records s m) (stock_layout 19 2) [] [] (stock_file 19 2) 1
+unfolding entry_bytes
+growing s m side = record {
+  file = stock_file 37 2;
+  entry = refl;
+  layout = stock-is_layout 37 2 two_records s m side;
+  grows = inr (rw (stock-records-1 2 s m, stock-records-2 2 s m) refl);
+  before_kept = refl;
+  after_kept = refl;
+  header = rw (at_map (entry_bytes 132 1 18 2) (0 ∷ 37 ∷ two_records) s m, at_map (entry_bytes 132 1 18 2) (0 ∷ 19 ∷ two_records) s m) refl;
+}
+
+pub grown : (s m : Sector) → IsStockSide s → HasGrown (stock_disk 19 2 two_records s m) (stock_disk 37 2 two_records s m) (stock_layout 19 2) [] [] (stock_file 19 2) 3
+unfolding entry_bytes
+grown s m side = record {
+  file = stock_file 37 2;
+  entry = refl;
+  layout = stock-is_layout 37 2 two_records s m side;
+  more = 1;
+  few = lit≤ tt;
+  grows = rw (stock-records-1 2 s m, stock-records-2 2 s m) refl;
+  before_kept = refl;
+  after_kept = refl;
+  header = rw (at_map (entry_bytes 132 1 18 2) (0 ∷ 37 ∷ two_records) s m, at_map (entry_bytes 132 1 18 2) (0 ∷ 19 ∷ two_records) s m) refl;
+}

@@ -1,0 +1,57 @@
+//! Reading the words of the command line.
+ghost use Rattle.std.specs.Prelude.{◌≡◌, IfErr, IfOk, List, MatchResult, [], map, option_map};
+ghost use Rattle.clap.specs.Words.{fault_of, found_of, rows_of, subcommand_of, subcommand_rows_of};
+ghost use Rattle.ledger_cli.specs.Grammar.{ledger, value};
+ghost use Rattle.ledger_cli.specs.Jobs.{IsJob, IsNoJob};
+
+use crate::grammar::ledger_command;
+use crate::jobs::{Job, JobFault};
+use clap::{ArgMatches, Error};
+use std::alloc::{AllocError, Global};
+
+/// The subcommand that was met, with its values.
+fn met<'m, 'a>(matches: &'m ArgMatches<'a>) -> Option<(&'a str, &'m ArgMatches<'a>)>
+    ensures { option_map (λ p. (p.0.now, rows_of (found_of p.1.now))) result
+        ≡ subcommand_rows_of matches.now }
+{
+    matches.subcommand()
+}
+
+/// The value of a required argument.
+fn value_of<'a>(matches: &ArgMatches<'a>, name: &str) -> &'a str
+    ensures { result.now ≡ value name.now (rows_of (found_of matches.now)) }
+{
+    matches.get_str(name).unwrap_or("")
+}
+
+/// The job of the subcommand that was met.
+fn chosen<'a>(matches: &ArgMatches<'a>) -> Result<Job<'a>, JobFault>
+    ensures { MatchResult result (IsJob (subcommand_rows_of matches.now)) (IsNoJob []) }
+{
+    match met(matches) {
+        Some(("dry", found)) => Ok(Job::Dry {
+            script: value_of(found, "SCRIPT"),
+        }),
+        // No other subcommand can be met: a parse without one is refused.
+        _ => Err(JobFault::Words(Error::from(AllocError))),
+    }
+}
+
+/// The job that the words ask for. The first word is the program's name.
+pub fn job<'a>(alloc: Global, words: &'a [&'a str]) -> Result<Job<'a>, JobFault>
+    // A job comes only where no word is refused, and is that of the subcommand and its values.
+    ensures ok { let texts = map (λ word. word.now) words.entry.now in
+        IfOk result (λ j. (fault_of ledger texts ≡ []) × IsJob (subcommand_of ledger texts) j) }
+    // Words are refused for one of the reasons that the command line gives, or for want of memory.
+    ensures err { let texts = map (λ word. word.now) words.entry.now in
+        IfErr result (IsNoJob (fault_of ledger texts)) }
+{
+    let command = match ledger_command(alloc) {
+        Ok(command) => command,
+        Err(e) => return Err(JobFault::Words(Error::from(e))),
+    };
+    match command.try_get_matches_from(words) {
+        Ok(matches) => chosen(&matches),
+        Err(e) => Err(JobFault::Words(e)),
+    }
+}
