@@ -45,7 +45,7 @@ exact-here img s blocks sides j p below read h q there =
     subst P one h
 
 -- what holds of an image holds too where it is asked whether it is clean
-clean-holds : (failed : Type 0) (img : Image) (f : Fault) → Holds failed img f → HoldsOfClean failed img f
+pub clean-holds : (failed : Type 0) (img : Image) (f : Fault) → Holds failed img f → HoldsOfClean failed img f
 clean-holds failed img (BadLink p) h = h
 clean-holds failed img (Loop p) h = h
 clean-holds failed img (OwnedTwice p) h = h

@@ -12,4 +12,5 @@ pub mod Pointers
 pub mod Progress
 pub mod Roots
 pub mod SideWalks
+pub mod Verdict
 pub mod Walked

@@ -142,7 +142,7 @@ length-slots : (fs : List File) → length (map (λ f. f.slot) fs) ≡ length fs
 length-slots [] = refl
 length-slots (f ∷ fs) = omega (arith, length-slots fs)
 
-slot-in : (fs : List File) (f : File) → Contains fs f → Contains (map (λ f. f.slot) fs) f.slot
+pub slot-in : (fs : List File) (f : File) → Contains fs f → Contains (map (λ f. f.slot) fs) f.slot
 slot-in [] f c = absurd (Contains-nil f c)
 slot-in (x ∷ fs) f c = elim (Contains-cases f x fs c) [
   | inl e ↦ let P : File → Type 0 = λ y. Contains (x.slot ∷ map (λ f. f.slot) fs) y.slot in subst P e (Contains-append_left (x.slot ∷ []) (map (λ f. f.slot) fs) x.slot (0, omega arith, refl))

@@ -1,11 +1,14 @@
 -- What a check asks of a relative entry beyond what a survey asks. Our own.
-use Rattle.std.specs.Prelude.{ℕ, ◌≡◌, ◌≢◌, ◌⊎◌, Contains, Err, List, Some, length, slice_get}
+use Rattle.std.specs.Prelude.{ℕ, ◌≡◌, ◌≢◌, ◌⊎◌, ◌∷◌, Contains, Err, IsTrue, List, Some, length, slice_get}
+use Rattle.std.specs.List.{AllByRecursion}
 use Rattle.d64_image.specs.History.{Failed, History, OnlyReads}
 use Rattle.d64_image.specs.Images.{Image, sector}
 use Rattle.d64_image.specs.declared.place.Place.{Place}
 use Rattle.disk_layout.specs.Clean.{IsExactFile}
+use Rattle.disk_layout.specs.Directory.{map_place}
 use Rattle.disk_layout.specs.Fault.{HoldsOfClean, TellsFault}
-use Rattle.disk_layout.specs.Layout.{File, IsLayout, Layout, record_length}
+use Rattle.disk_layout.specs.Layout.{File, IsLayout, Layout, is_rel, owners, record_length}
+use Rattle.disk_layout.specs.Map.{IsMapOf}
 use Rattle.disk_layout.specs.Side.{side_sector}
 use Rattle.disk_layout.specs.declared.faults.Fault.{Fault}
 use Rattle.disk_layout.specs.declared.faults.Fault.TheVariants.{BadSide}
@@ -50,3 +53,11 @@ pub record IsInexact {D : Type 0} (S : History D) (old new : D) (n : ℕ) (s : S
 -- the device failed, or a side sector isn't exact
 abbrev pub TellsInexact : {D : Type 0} → History D → D → D → ℕ → Slot → List Place → List Place → Fault → Type 0
 TellsInexact S old new n s blocks sides fault = Tells S old new n fault ⊎ IsInexact S old new n s blocks sides fault
+
+-- the relative files of the image are exact
+abbrev pub AreExactFiles : Image → Type 0
+AreExactFiles img = (l : Layout) → IsLayout img l → AllByRecursion (λ f. IsTrue (is_rel f.slot) → IsExactFile img f) l.files
+
+-- the map is that of what is owned
+abbrev pub HasMap : Image → Type 0
+HasMap img = (l : Layout) → IsLayout img l → IsMapOf (sector img map_place) (map_place ∷ owners l)

@@ -5,7 +5,7 @@ use Rattle.d64_image.specs.Images.{Image}
 use Rattle.d64_image.specs.declared.place.Place.{Place}
 use Rattle.disk_layout.specs.Chain.{EachOnce}
 use Rattle.disk_layout.specs.Directory.{map_place}
-use Rattle.disk_layout.specs.Layout.{File, IsFile, Layout, file_owns, owners}
+use Rattle.disk_layout.specs.Layout.{File, IsFile, IsLayout, Layout, file_owns, owners}
 use Rattle.layout_check.specs.Owners.{owner_of}
 use Rattle.layout_check.specs.declared.outcome.Survey.{Survey}
 use Rattle.layout_check.specs.declared.owners.Owners.{Owners}
@@ -38,3 +38,7 @@ pub record IsSurveyOf (l : Layout) (s : Survey) : Type 0 where
 -- how many entries it counts
 abbrev pub entries_of : Survey → ℕ
 entries_of s = s.entries
+
+-- the image is sound, and the survey tells its layout
+abbrev pub IsToldBy : Image → Survey → Type 0
+IsToldBy img s = (l : Layout) × IsLayout img l × IsSurveyOf l s

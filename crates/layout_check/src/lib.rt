@@ -2,6 +2,7 @@
 #![tactic(auto)]
 
 mod blocks;
+mod checking;
 mod entry;
 mod exact;
 mod files;
@@ -11,5 +12,6 @@ mod owners;
 mod sides;
 mod surveying;
 
+pub use checking::check;
 pub use outcome::Survey;
 pub use surveying::survey;

@@ -39,6 +39,13 @@ impl Survey {
         Survey { owners, entries }
     }
 
+    /// The table of owners.
+    pub(crate) fn owners(&self) -> &Owners
+        ensures { result.now ≡ self.now.owners }
+    {
+        &self.owners
+    }
+
     /// Whether the map, the directory, or a file by its blocks or side sectors owns this sector.
     pub fn is_owned(&self, place: Place) -> bool
         ensures { (l : Layout) → IsSurveyOf l self.now → (IsTrue result ↔ Contains (map_place ∷ owners l) place) }

@@ -1,0 +1,140 @@
+-- A sound disk beside a clean one: its entries, its map, and what is told.
+use Rattle.std.proofs.Common.{ℕ, ◌≡◌, ◌≢◌, ◌<◌, ◌≤◌, ◌+◌, ◌⊎◌, ◌↔◌, Err, IsOk, IsTrue, List, [], ◌∷◌, length, get_or, map, Result, sym, ◌∙◌, ap, refl, arith, subst, inl, inr}
+use Rattle.std.specs.Prelude.{Contains, Some, slice_get}
+use Rattle.std.specs.List.{AllByRecursion}
+use Rattle.std.proofs.lemmas.Bool.{cases_eq, false≢true}
+use Rattle.std.proofs.lemmas.Option.{slice_get_within}
+use Rattle.d64_image.specs.History.{Failed, History, NeverFailed}
+use Rattle.d64_image.specs.Images.{Image, sector}
+use Rattle.d64_image.specs.declared.place.Place.{Place}
+use Rattle.d64_image.proofs.Places.{track_fits, track_from_1}
+use Rattle.disk_layout.proofs.Layouts.{IsDirectory-one, IsLayout-one}
+use Rattle.disk_layout.proofs.Once.{Contains-here, Contains-there, map-in}
+use Rattle.disk_layout.proofs.Unclean.{told-unclean}
+use Rattle.disk_layout.specs.Clean.{IsClean, IsCleanLayout, IsExactFile}
+use Rattle.disk_layout.specs.Directory.{IsDirectory, map_place}
+use Rattle.disk_layout.specs.Fault.{HoldsOfClean, TellsFault}
+use Rattle.disk_layout.specs.Layout.{File, IsLayout, IsSound, Layout, is_rel, owners}
+use Rattle.disk_layout.specs.Map.{IsFree, IsMapOf, map_count}
+use Rattle.disk_layout.specs.declared.faults.Fault.{Fault}
+use Rattle.disk_layout.specs.declared.faults.Fault.TheVariants.{MapWrong}
+use Rattle.disk_layout.specs.declared.slot.Slot.{Slot}
+use Rattle.layout_check.proofs.Assembly.{contains-get}
+use Rattle.layout_check.proofs.Inexact.{clean_alone}
+use Rattle.layout_check.proofs.Listed.{entry-listed}
+use Rattle.layout_check.proofs.Pointers.{read-there}
+use Rattle.layout_check.proofs.Progress.{slot-in, told}
+use Rattle.layout_check.specs.Calls.{Passes}
+use Rattle.layout_check.specs.Entry.{IsEntry}
+use Rattle.layout_check.specs.Exact.{AreExactFiles, HasMap, IsExactAt, IsFiled, TellsOfClean}
+use Rattle.layout_check.specs.Marked.{IsMarked, IsRightMap, IsWrongMap, ones_on}
+use Rattle.layout_check.specs.Owners.{owner_of}
+use Rattle.layout_check.specs.Survey.{IsSurveyOf, IsToldBy}
+use Rattle.layout_check.specs.declared.outcome.Survey.{Survey}
+
+all-of : {X : Type 0} (P : X → Type 0) (xs : List X) → ((x : X) → Contains xs x → P x) → AllByRecursion P xs
+all-of P [] h = tt
+all-of P (x ∷ xs) h = (h x (Contains-here x xs), all-of P xs (λ y c. h y (Contains-there y x xs c)))
+
+-- an entry that the directory lists is that of a file
+filed : (img : Image) (ps : List Place) (items : List Slot) (s : Slot) → IsSound img → IsDirectory img ps items → Contains items s → IsFiled img s
+filed img ps items s (l, is) d c =
+    let same = (IsDirectory-one img ps l.directory items (map (λ f. f.slot) l.files) d is.directory).1 in
+    let (f, own, slot) = map-in (λ (x : File). x.slot) l.files s (let P : List Slot → Type 0 = λ xs. Contains xs s in subst P same c) in
+    record { layout = l; sound = is; file = f; own = own; slot = slot }
+
+pub filed-at : (img now : Image) (ps : List Place) (items : List Slot) (k : ℕ) (s : Slot) → now ≡ img → IsSound img → IsDirectory img ps items → k < length items → s ≡ get_or items k s → IsFiled now s
+filed-at img now ps items k s same sound d below read =
+    let P : Image → Type 0 = λ i. IsFiled i s in
+    subst P (sym same) (filed img ps items s sound d (k, below, sym read))
+
+pub entry-at : (img now : Image) (ps : List Place) (items : List Slot) (k : ℕ) (s : Slot) → now ≡ img → IsDirectory img ps items → k < length items → s ≡ get_or items k s → IsEntry now s
+entry-at img now ps items k s same d below read =
+    let P : Image → Type 0 = λ i. IsEntry i s in
+    subst P (sym same) (entry-listed img ps items s d (k, below, sym read))
+
+pub exact-at : (img now : Image) (s : Slot) → now ≡ img → IsExactAt now s → IsExactAt img s
+exact-at img now s same h = let P : Image → Type 0 = λ i. IsExactAt i s in subst P same h
+
+-- the entry that was read is the one there
+pub same-entry : (img : Image) (items : List Slot) (k : ℕ) (s : Slot) → k < length items → s ≡ get_or items k s → (IsTrue (is_rel s) → IsExactAt img s) → (t : Slot) → slice_get items k ≡ Some t → IsTrue (is_rel t) → IsExactAt img t
+same-entry img items k s below read h t there =
+    let one : s ≡ t = cc (read-there items k s below read) in
+    let P : Slot → Type 0 = λ x. IsTrue (is_rel x) → IsExactAt img x in
+    subst P one h
+
+-- each entry's file is exact
+pub exact-all : (img : Image) (ps : List Place) (items : List Slot) (n : ℕ) → IsDirectory img ps items → length items ≤ n → ((k : ℕ) → k < n → (s : Slot) → slice_get items k ≡ Some s → IsTrue (is_rel s) → IsExactAt img s) → AreExactFiles img
+exact-all img ps items n d all exact l is = all-of (λ f. IsTrue (is_rel f.slot) → IsExactFile img f) l.files (λ f own rel.
+    let same = (IsDirectory-one img ps l.directory items (map (λ f. f.slot) l.files) d is.directory).1 in
+    let c = (let P : List Slot → Type 0 = λ xs. Contains xs f.slot in subst P (sym same) (slot-in l.files f own)) in
+    let (k, there) = contains-get items f.slot c in
+    exact k (omega (arith, slice_get_within items k f.slot there)) f.slot there rel l f is own refl)
+
+-- the bit of a sector, by its owner and by the list of what is owned
+marked-of : (bytes : List ℕ) (l : Layout) (s : Survey) (p : Place) → IsSurveyOf l s → IsMarked bytes s.owners p → IsFree bytes p ↔ ¬ (Contains (map_place ∷ owners l) p)
+unfolding owners
+marked-of bytes l s p h m = (
+  λ free c. (h.table.owned p).1 c (m.0 free),
+  λ none. m.1 (elim (cases_eq (owner_of s.owners p) 255) [ inl e ↦ e | inr ne ↦ absurd (none ((h.table.owned p).0 ne)) ]),
+)
+
+unmarked-of : (bytes : List ℕ) (l : Layout) (s : Survey) (p : Place) → IsSurveyOf l s → IsFree bytes p ↔ ¬ (Contains (map_place ∷ owners l) p) → IsMarked bytes s.owners p
+unfolding owners
+unmarked-of bytes l s p h m = (
+  λ free. elim (cases_eq (owner_of s.owners p) 255) [ inl e ↦ e | inr ne ↦ absurd (m.0 free ((h.table.owned p).0 ne)) ],
+  λ e. m.1 (λ c. (h.table.owned p).1 c e),
+)
+
+pub map-right : (img : Image) (s : Survey) (bytes : List ℕ) → IsToldBy img s → bytes ≡ sector img map_place → IsRightMap bytes s.owners → HasMap img
+map-right img s bytes (l, is, of) read right m also =
+    let one : l ≡ m = IsLayout-one img l m is also in
+    let P : Layout → Type 0 = λ x. IsMapOf (sector img map_place) (map_place ∷ owners x) in
+    let Q : List ℕ → Type 0 = λ b. IsMapOf b (map_place ∷ owners l) in
+    subst P one (subst Q read (record {
+      marked = λ p. marked-of bytes l s p of ((right p.track (track_from_1 p) (omega (arith, track_fits p))).marked p refl);
+      counts = λ t low high. (right t low high).count;
+    }))
+
+pub map-wrong : (failed : Type 0) (img : Image) (s : Survey) (bytes : List ℕ) (f : Fault) → IsToldBy img s → bytes ≡ sector img map_place → IsWrongMap bytes s.owners f → HoldsOfClean failed img f
+map-wrong failed img s bytes f (l, is, of) read (p, e, wrong) =
+    let P : Fault → Type 0 = HoldsOfClean failed img in
+    subst P (sym e) (step (let Q : List ℕ → Type 0 = λ b. ¬ (IsMarked b s.owners p) ⊎ ((p ≡ map_place) × ((track : ℕ) × (1 ≤ track) × (track ≤ 35) × (map_count b track ≢ ones_on b track))) in subst Q read wrong))
+  where
+    step : ¬ (IsMarked (sector img map_place) s.owners p) ⊎ ((p ≡ map_place) × ((track : ℕ) × (1 ≤ track) × (track ≤ 35) × (map_count (sector img map_place) track ≢ ones_on (sector img map_place) track))) → HoldsOfClean failed img (MapWrong p)
+    step (inl n) = (l, is, inl (λ m. n (unmarked-of (sector img map_place) l s p of m)))
+    step (inr (at, count)) = (l, is, inr (at, count))
+
+-- the layout of a clean image
+pub clean-layout : (img : Image) (s : Survey) → IsToldBy img s → AreExactFiles img → HasMap img → (l : Layout) × IsCleanLayout img l × IsSurveyOf l s
+clean-layout img s (l, is, of) exact has = (l, record { layout = is; files = exact l is; map = has l is }, of)
+
+pub told-at : (img now : Image) (s : Survey) → now ≡ img → IsToldBy img s → IsToldBy now s
+told-at img now s same h = let P : Image → Type 0 = λ i. IsToldBy i s in subst P (sym same) h
+
+pub sound-at : (img now : Image) → now ≡ img → IsSound img → IsSound now
+sound-at img now same h = let P : Image → Type 0 = IsSound in subst P (sym same) h
+
+pub exact-files_at : (img now : Image) → now ≡ img → AreExactFiles now → AreExactFiles img
+exact-files_at img now same h = let P : Image → Type 0 = AreExactFiles in subst P same h
+
+pub map-at : (img now : Image) → now ≡ img → HasMap now → HasMap img
+map-at img now same h = let P : Image → Type 0 = HasMap in subst P same h
+
+module _ {D : Type 0} (S : History D) where
+  pub told-clean : (T : Type 0) (a b : D) (n : ℕ) (f : Fault) → TellsOfClean S a b n f → NeverFailed S a b → IsOk (told T f) ↔ IsClean (S.image a)
+  told-clean T a b n f tells never = (λ h. absurd (false≢true h), λ s. absurd (told-unclean (S.image a) f (clean_alone S a b f never tells.holds) s))
+
+  pub map_tells : (a b : D) (s : Survey) (bytes : List ℕ) (f : Fault) → IsToldBy (S.image a) s → Passes S a b 1 → bytes ≡ sector (S.image a) map_place → IsWrongMap bytes s.owners f → TellsOfClean S a b 1 f
+  map_tells a b s bytes f is passes read wrong = record {
+    reads = passes.reads;
+    failures = (let P : Fault → Type 0 = λ x. TellsFault {T = ℕ} S a b (Err x) in subst P (sym wrong.1) passes.failures);
+    holds = map-wrong (Failed S a b) (S.image a) s bytes f is read wrong;
+  }
+
+-- what isn't sound isn't clean
+pub told-unsound_clean : (img : Image) (r : Result Survey Fault) (f : Fault) → r ≡ Err f → IsOk r ↔ IsSound img → IsOk (told Survey f) ↔ IsClean img
+told-unsound_clean img r f is sound = (
+  λ h. absurd (false≢true h),
+  λ c. let P : Result Survey Fault → Type 0 = λ x. IsOk x in subst P is (sound.1 (c.0, c.1.layout)),
+)

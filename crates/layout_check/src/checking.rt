@@ -1,0 +1,72 @@
+//! The check of a disk: its survey, and what a clean disk has beyond a sound one.
+ghost use Rattle.std.specs.Prelude.{◌↔◌, ◌∷◌, IfErr, IfOk, IsOk, OnOk};
+ghost use Rattle.d64_image.specs.History.{Failed, NeverFailed, OnlyReads};
+ghost use Rattle.disk_layout.specs.Clean.{IsClean, IsCleanLayout};
+ghost use Rattle.disk_layout.specs.Fault.{HoldsOfClean, TellsFault};
+ghost use Rattle.disk_layout.specs.Layout.{IsSound, Layout};
+ghost use Rattle.layout_check.specs.Calls.{Passes};
+ghost use Rattle.layout_check.specs.Exact.{AreExactFiles, HasMap, TellsOfClean};
+ghost use Rattle.layout_check.specs.Survey.{IsSurveyOf, IsToldBy};
+
+use arrayvec::ArrayVec;
+use d64_image::Sectors;
+use disk_layout::{Fault, map_place, read_directory};
+
+use crate::entry::is_relative;
+use crate::exact::check_relative;
+use crate::maps::check_bits;
+use crate::outcome::Survey;
+use crate::surveying::survey;
+
+/// Judges the relative entries of a sound disk: their side sectors' bytes, and their block counts.
+fn check_entries<D: Sectors>(disk: &mut D) -> Result<(), Fault>
+    requires { IsSound (D.history.image disk.old) }
+    ensures exact { OnOk result (AreExactFiles (D.history.image disk.old)) }
+    ensures ok { OnOk result (Passes D.history disk.old disk.new 106290) }
+    ensures err { IfErr result (TellsOfClean D.history disk.old disk.new 106290) }
+{
+    let mut slots = ArrayVec::new();
+    let mut blocks = ArrayVec::new();
+    let mut sides = ArrayVec::new();
+    read_directory(disk, &mut slots)?;
+    for slot in slots.as_slice() {
+        if is_relative(slot) {
+            check_relative(disk, slot, &mut blocks, &mut sides)?;
+        }
+    }
+    Ok(())
+}
+
+/// Judges the map of a sound disk that was surveyed.
+fn check_map<D: Sectors>(disk: &mut D, found: &Survey) -> Result<(), Fault>
+    requires { IsToldBy (D.history.image disk.old) found.now }
+    ensures map { OnOk result (HasMap (D.history.image disk.old)) }
+    ensures ok { OnOk result (Passes D.history disk.old disk.new 1) }
+    ensures err { IfErr result (TellsOfClean D.history disk.old disk.new 1) }
+{
+    let mut map = [0u8; 256];
+    match disk.read(map_place(), &mut map) {
+        Ok(()) => check_bits(&map, found.owners()),
+        Err(_) => Err(Fault::Device(map_place())),
+    }
+}
+
+/// Checks the disk: where it is sound, and its side sectors, the block counts of its relative entries and its map are
+/// exact, the answer tells the owners and the entries; else a fault that holds at its place. An image with no fault of
+/// any kind is clean.
+///
+/// Nothing is written, and no memory is taken.
+pub fn check<D: Sectors>(disk: &mut D) -> Result<Survey, Fault>
+    ensures ok { IfOk result (λ s. (l : Layout) × IsCleanLayout (D.history.image disk.old) l × IsSurveyOf l s) }
+    ensures err { IfErr result (HoldsOfClean (Failed D.history disk.old disk.new) (D.history.image disk.old)) }
+    // neither a fault nor a layout is told always
+    ensures clean { NeverFailed D.history disk.old disk.new → (IsOk result ↔ IsClean (D.history.image disk.old)) }
+    ensures failures { TellsFault D.history disk.old disk.new result }
+    // the survey, then the directory and 738 sectors for each of its entries, and the map
+    ensures reads { OnlyReads D.history disk.old disk.new 108405 }
+{
+    let found = survey(disk)?;
+    check_entries(disk)?;
+    check_map(disk, &found)?;
+    Ok(found)
+}
