@@ -33,7 +33,7 @@ same_of() {
     fi
 }
 
-# the full disk with one byte changed: at TRACK SECTOR BYTE to VALUE, an octal number
+# the full disk under another name with one byte changed: damaged NAME INDEX BYTE VALUE, the value in octal digits
 damaged() {
     cp "$work/full.d64" "$work/$1.d64"
     local at=$((256 * $2 + $3))
@@ -41,12 +41,18 @@ damaged() {
 }
 
 same_of "$work/full.d64" 3 OK
-# the index of a sector is that of the first one of its track and its number: 17/0 has 336, 18/0 357, 18/1 358
+# a sector's index: 17/0 has 336, 18/0 357
 damaged link 336 0 044 && same_of "$work/link.d64" 0 "BADLINK 17/0"
-damaged type 358 34 001 && same_of "$work/type.d64" 0 "UNCLOSED 18/1"
-damaged side 337 255 001 && same_of "$work/side.d64" 0 "BADSIDE 17/1"
+damaged loop 336 1 000 && same_of "$work/loop.d64" 0 "LOOP 17/0"
+damaged twice 358 36 000 && same_of "$work/twice.d64" 0 "OWNEDTWICE 17/0"
+damaged type 358 34 205 && same_of "$work/type.d64" 0 "BADTYPE 18/1"
+damaged open 358 34 004 && same_of "$work/open.d64" 0 "UNCLOSED 18/1"
+damaged length 358 23 000 && same_of "$work/length.d64" 0 "BADLENGTH 18/1"
+damaged pointer 337 255 001 && same_of "$work/pointer.d64" 0 "BADSIDE 17/1"
+damaged rest 339 100 001 && same_of "$work/rest.d64" 0 "BADSIDE 17/3"
 damaged count 358 30 001 && same_of "$work/count.d64" 0 "COUNTWRONG 18/1"
-damaged map 357 5 001 && same_of "$work/map.d64" 0 "MAPWRONG 1/0"
+damaged bit 357 5 001 && same_of "$work/bit.d64" 0 "MAPWRONG 1/0"
+damaged free 357 4 001 && same_of "$work/free.d64" 0 "MAPWRONG 18/0"
 
 # the processor seconds of one run
 seconds_of() {

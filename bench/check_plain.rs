@@ -57,15 +57,29 @@ impl fmt::Display for Fault {
     }
 }
 
+/// For each number of a track how many sectors it has, 0 where there is no such track, and how many those below have.
+const TRACKS: [(u8, u16); 256] = {
+    let mut tracks = [(0, 0); 256];
+    let mut below = 0;
+    let mut track = 0;
+    while track < 256 {
+        let sectors = match track {
+            1..=17 => 21,
+            18..=24 => 19,
+            25..=30 => 18,
+            31..=35 => 17,
+            _ => 0,
+        };
+        tracks[track] = (sectors, below);
+        below += sectors as u16;
+        track += 1;
+    }
+    tracks
+};
+
 /// How many sectors a track has, and 0 where there is no such track.
 fn sectors_of(track: u8) -> u8 {
-    match track {
-        1..=17 => 21,
-        18..=24 => 19,
-        25..=30 => 18,
-        31..=35 => 17,
-        _ => 0,
-    }
+    TRACKS[track as usize].0
 }
 
 impl Place {
@@ -75,14 +89,7 @@ impl Place {
 
     /// Where the sector stands in an image, in sectors.
     fn index(self) -> usize {
-        let track = self.track as usize;
-        let below = match self.track {
-            0..=17 => 21 * track - 21,
-            18..=24 => 19 * track + 15,
-            25..=30 => 18 * track + 40,
-            _ => 17 * track + 71,
-        };
-        below + self.sector as usize
+        TRACKS[self.track as usize].1 as usize + self.sector as usize
     }
 }
 

@@ -29,7 +29,9 @@ fn asked_disk(rt: &HostRuntime, word: Option<String>) -> Result<MemDisk, &'stati
         return Ok(disk);
     };
     let bytes = fs::read(rt, path.as_str()).map_err(|_| "the image is not readable")?;
-    MemDisk::load(rt.alloc(), bytes.as_slice()).map_err(|_| "the image has another size, or no memory")
+    MemDisk::load(rt.alloc(), bytes.as_slice()).map_err(
+        |_| "the image has another size, or no memory",
+    )
 }
 
 fn main(rt: HostRuntime) -> io::Result<ExitCode> {
