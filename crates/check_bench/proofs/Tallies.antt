@@ -1,5 +1,5 @@
 -- A tally goes on from one check to the next.
-use Rattle.std.proofs.Common.{ℕ, ◌≡◌, ◌≤◌, ◌+◌, ◌*◌, refl, sym, ap, subst, arith}
+use Rattle.std.proofs.Common.{ℕ, ◌≤◌, ◌+◌, ◌*◌, refl, sym, ap, subst, arith}
 use Rattle.d64_image.proofs.Moments.{never_failed_first, never_failed_rest, no_reads, reads_then, reads_weaker}
 use Rattle.d64_image.specs.History.{History, NeverFailed, OnlyReads}
 use Rattle.disk_layout.specs.Clean.{IsClean}

@@ -1,4 +1,4 @@
-use Rattle.std.proofs.Common.{◌≡◌, rules, arith}
+use Rattle.std.proofs.Common.{arith}
 use Rattle.check_bench.proofs.Tallies.{found, missed, none}
 use Rattle.check_bench.proofs.rounds.count_clean.Goals.{else-is_clean, then-is_clean}
 use Rattle.check_bench.proofs.rounds.count_clean.Goals as goal
