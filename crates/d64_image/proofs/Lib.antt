@@ -4,3 +4,4 @@ pub mod Fused
 pub mod Images
 pub mod Moments
 pub mod Places
+pub mod Rows

@@ -20,12 +20,6 @@ on_none t below = grind (arith, nat_tests)
 on_low : (t : ℕ) → 1 ≤ t → t < 18 → sectors_on t ≡ 21
 on_low t above below = grind (arith, nat_tests)
 
-on_middle : (t : ℕ) → 18 ≤ t → t < 25 → sectors_on t ≡ 19
-on_middle t above below = grind (arith, nat_tests)
-
-on_high : (t : ℕ) → 25 ≤ t → t < 31 → sectors_on t ≡ 18
-on_high t above below = grind (arith, nat_tests)
-
 on_last : (t : ℕ) → 31 ≤ t → t < 36 → sectors_on t ≡ 17
 on_last t above below = grind (arith, nat_tests)
 
@@ -38,22 +32,6 @@ below_low zero le = refl
 below_low (suc n) le =
     let so_far = below_low n (omega (arith, le)) in
     let this = on_low (1 + n) (omega arith) (omega (arith, le)) in
-    rw add-suc (omega (arith, so_far, this))
-
-below_middle : (n : ℕ) → n ≤ 7 → sectors_below (18 + n) ≡ 357 + 19 * n
-unfolding sectors_below
-below_middle zero le = refl
-below_middle (suc n) le =
-    let so_far = below_middle n (omega (arith, le)) in
-    let this = on_middle (18 + n) (omega arith) (omega (arith, le)) in
-    rw add-suc (omega (arith, so_far, this))
-
-below_high : (n : ℕ) → n ≤ 6 → sectors_below (25 + n) ≡ 490 + 18 * n
-unfolding sectors_below
-below_high zero le = refl
-below_high (suc n) le =
-    let so_far = below_high n (omega (arith, le)) in
-    let this = on_high (25 + n) (omega arith) (omega (arith, le)) in
     rw add-suc (omega (arith, so_far, this))
 
 below_last : (n : ℕ) → n ≤ 5 → sectors_below (31 + n) ≡ 598 + 17 * n
@@ -69,16 +47,6 @@ pub at_low : (t : ℕ) → 1 ≤ t → t ≤ 18 → sectors_below t ≡ 21 * (t 
 at_low t above below =
     let at : 1 + (t - 1) ≡ t = omega arith in
     subst (λ (u : ℕ). sectors_below u ≡ 21 * (t - 1)) at (below_low (t - 1) (omega arith))
-
-pub at_middle : (t : ℕ) → 18 ≤ t → t ≤ 25 → sectors_below t ≡ 357 + 19 * (t - 18)
-at_middle t above below =
-    let at : 18 + (t - 18) ≡ t = omega arith in
-    subst (λ (u : ℕ). sectors_below u ≡ 357 + 19 * (t - 18)) at (below_middle (t - 18) (omega arith))
-
-pub at_high : (t : ℕ) → 25 ≤ t → t ≤ 31 → sectors_below t ≡ 490 + 18 * (t - 25)
-at_high t above below =
-    let at : 25 + (t - 25) ≡ t = omega arith in
-    subst (λ (u : ℕ). sectors_below u ≡ 490 + 18 * (t - 25)) at (below_high (t - 25) (omega arith))
 
 pub at_last : (t : ℕ) → 31 ≤ t → t ≤ 36 → sectors_below t ≡ 598 + 17 * (t - 31)
 at_last t above below =
@@ -112,6 +80,10 @@ track_from_1 p = ⊎_elim
 pub sector_small : (p : Place) → p.sector < 21
 sector_small p = omega (arith, p.on_disk, at_most_21 p.track)
 
+pub index_parts : (p : Place) → index_of p ≡ sectors_below p.track + p.sector
+unfolding index_of
+index_parts p = refl
+
 pub index_below : (p : Place) → index_of p < 683
 unfolding index_of
 index_below p = omega (arith, p.on_disk, below_grows p.track 36 (track_fits p), sectors_below-36)
@@ -121,19 +93,9 @@ pub index_low : (p : Place) → p.track < 18 → index_of p ≡ 21 * p.track - 2
 unfolding index_of
 index_low p below = let from = track_from_1 p in omega (arith, from, at_low p.track from (omega (arith, below)))
 
-pub index_middle : (p : Place) → 18 ≤ p.track → p.track < 25 → index_of p ≡ 19 * p.track + 15 + p.sector
-unfolding index_of
-index_middle p above below = omega (arith, above, at_middle p.track above (omega (arith, below)))
-
-pub index_high : (p : Place) → 25 ≤ p.track → p.track < 31 → index_of p ≡ 18 * p.track + 40 + p.sector
-unfolding index_of
-index_high p above below = omega (arith, above, at_high p.track above (omega (arith, below)))
-
 pub index_last : (p : Place) → 31 ≤ p.track → index_of p ≡ 17 * p.track + 71 + p.sector
 unfolding index_of
 index_last p above = omega (arith, above, at_last p.track above (omega (arith, track_fits p)))
-
-pub ruleset zones = (index_low, index_middle, index_high, index_last)
 
 -- `place_at` finds each place, and nothing else
 pub place_at-self : (p : Place) → place_at p.track p.sector ≡ Some p

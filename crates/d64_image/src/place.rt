@@ -23,6 +23,12 @@ fn sectors_of(track: u8) -> u8
     }
 }
 
+/// For each track how many sectors the tracks below it have together.
+const BELOW: [u16; 36] = [
+    0, 0, 21, 42, 63, 84, 105, 126, 147, 168, 189, 210, 231, 252, 273, 294, 315, 336, 357, 376,
+    395, 414, 433, 452, 471, 490, 508, 526, 544, 562, 580, 598, 615, 632, 649, 666,
+];
+
 impl Place {
     ghost use Rattle.d64_image.specs.Places.{index_of, place_at, sector_of, track_of};
 
@@ -53,18 +59,11 @@ impl Place {
     }
 
     /// Where the sector stands in an image, in sectors, from 0 to 682: track by track, and sector by sector.
-    #[tactic(auto, using(crate::proofs::Places::zones))]
     pub fn index(self) -> usize
         ensures value { result ≡ index_of self }
         ensures bound { result < 683 }
     {
-        let track = self.track as usize;
-        let below = match self.track {
-            0..=17 => 21 * track - 21,
-            18..=24 => 19 * track + 15,
-            25..=30 => 18 * track + 40,
-            _ => 17 * track + 71,
-        };
+        let below = BELOW[self.track as usize] as usize;
         below + self.sector as usize
     }
 }

@@ -59,7 +59,7 @@ number_at t s =
     (if nat_eq s 2 then 5 else
     (if nat_eq s 3 then 4 else s + 2))))
 
-request-number : (k : ℕ) → number_at (request_track k) (request_sector k) ≡ k + 5
+pub request-number : (k : ℕ) → number_at (request_track k) (request_sector k) ≡ k + 5
 request-number k = grind (arith, nat_tests)
 
 pub written-number : (name id : List ℕ) (blocks : List Place) (n i : ℕ) (p : Place) (bytes : Sector) → AreRequestPlaces blocks n → IsWritten name id blocks i p bytes → number_at p.track p.sector ≡ i

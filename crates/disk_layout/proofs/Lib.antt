@@ -1,5 +1,7 @@
 pub mod Agree
 pub mod Bits
+pub mod BlankClean
+pub mod BlankPlaces
 pub mod Blanks
 pub mod Chains
 pub mod Commit

@@ -1,4 +1,5 @@
 pub mod Blank
+pub mod BlankLayout
 pub mod Chain
 pub mod Clean
 pub mod Directory

@@ -4,6 +4,7 @@ ghost use Rattle.d64_image.specs.Geometry.{sectors_on};
 ghost use Rattle.d64_image.specs.History.{Changes, TellsFailure};
 ghost use Rattle.d64_image.specs.Places.{place_at, sector_of, track_of};
 ghost use Rattle.disk_layout.specs.Blank.{AreRequestPlaces, IsBlank, IsEmptyBlock, IsRequestPlace, SameElsewhere, blank_directory, request_blocks};
+ghost use Rattle.disk_layout.specs.Clean.{IsClean};
 ghost use Rattle.disk_layout.specs.Written.{IsWritten};
 
 use crate::blank_map::blank_map;
@@ -35,6 +36,8 @@ pub fn blank_image<D: Sectors>(
     requires some { 1 ≤ tills }
     requires few { tills ≤ 64 }
     ensures ok { OnOk result (IsBlank (D.history.image disk.old) (D.history.image disk.new) name.now id tills) }
+    // whatever the disk held before: the law blank_is_clean says with which layout
+    ensures clean { OnOk result (IsClean (D.history.image disk.new)) }
     ensures moments { Changes D.history disk.old disk.new (5 + request_blocks tills) (SameElsewhere (request_blocks tills) (D.history.image disk.old)) }
     ensures failures { TellsFailure D.history disk.old disk.new result }
 {

@@ -15,6 +15,7 @@ mod directory_tests;
 mod entries;
 mod faults;
 mod filling;
+mod laws;
 #[cfg(test)]
 mod map_tests;
 mod side;
@@ -29,6 +30,7 @@ pub use directory::{directory_start, map_place, read_directory};
 pub use entries::{padded_name, relative_entry};
 pub use faults::Fault;
 pub use filling::fill;
+pub use laws::blank_is_clean;
 pub use side::{SideView, side_bytes};
 pub use slot::Slot;
 pub use views::{BamView, DirView, EntryView};

@@ -3,6 +3,7 @@ use Rattle.std.proofs.Common.{List, arith, length, subst, ◌+◌, ◌∙◌, �
 use Rattle.std.specs.Prelude.{ℕ}
 use Rattle.d64_image.proofs.Moments.{at_end, changes_weaker}
 use Rattle.d64_image.specs.declared.place.Place.{Place}
+use Rattle.disk_layout.proofs.BlankClean.{blank-is_clean}
 use Rattle.disk_layout.proofs.Blanks.{AreWritten, blank-whole, moments-more, written-more, written-place}
 use Rattle.disk_layout.proofs.blank.blank_image.Goals as goal
 use Rattle.disk_layout.specs.Blank.{request_blocks}
@@ -37,3 +38,8 @@ returns-clause-ok g c =
     let end : c.loop-number.number ≡ 5 + length c.request_places-requests.result.items = omega (arith, c.len-number-end.ensures.value) in
     let P : ℕ → Type 0 = AreWritten (S.image c.loop-number.disk) c.args.name.now c.args.id c.request_places-requests.result.items in
     blank-whole _ _ _ _ _ _ c.request_places-requests.ensures (subst P end c.loop-number.invariant.written) (at_end S _ _ _ c.loop-number.invariant.moments.held)
+
+pub returns-clause-clean : goal.returns-clause-clean
+returns-clause-clean g c =
+    let S = g.D.Sectors.history in
+    blank-is_clean _ _ _ _ _ c.requires.some c.requires.few (S.whole c.loop-number.disk) (returns-clause-ok g c)

@@ -1,0 +1,13 @@
+-- What a count of clean checks says. Our own.
+use Rattle.std.specs.Prelude.{ℕ, ◌≡◌, ◌≤◌, ◌*◌}
+use Rattle.d64_image.specs.History.{History, NeverFailed, OnlyReads}
+use Rattle.disk_layout.specs.Clean.{IsClean}
+
+-- so many of the checks found the disk clean: all of a clean one where the device didn't fail, and none of another
+pub record IsTally {D : Type 0} (S : History D) (old new : D) (checks count : ℕ) : Type 0 where
+  -- at most 108405 reads a check
+  pub reads : OnlyReads S old new (108405 * checks)
+  pub later : S.failures old ≤ S.failures new
+  pub few : count ≤ checks
+  pub clean : NeverFailed S old new → IsClean (S.image old) → count ≡ checks
+  pub unclean : ¬ (IsClean (S.image old)) → count ≡ 0
