@@ -7,6 +7,7 @@ pub mod Entries
 pub mod Finding
 pub mod Inexact
 pub mod Listed
+pub mod Makings
 pub mod Ones
 pub mod Pointers
 pub mod Progress

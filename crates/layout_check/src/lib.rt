@@ -7,6 +7,7 @@ mod entry;
 mod exact;
 mod files;
 mod maps;
+mod mending;
 mod outcome;
 mod owners;
 mod sides;
