@@ -8,6 +8,8 @@ pub mod Finding
 pub mod Inexact
 pub mod Listed
 pub mod Makings
+pub mod MapMends
+pub mod Mendings
 pub mod Ones
 pub mod Pointers
 pub mod Progress

@@ -4,6 +4,7 @@ pub mod Exact
 pub mod Found
 pub mod Made
 pub mod Marked
+pub mod Mended
 pub mod Open
 pub mod Owners
 pub mod Sides

@@ -1,11 +1,18 @@
 //! The map that a disk is to have, made from who owns which sector.
-ghost use Rattle.std.specs.Prelude.{◌≤◌};
+ghost use Rattle.std.specs.Prelude.{◌≡◌, IfErr, OnOk};
+ghost use Rattle.d64_image.specs.History.{Changes, OldOr, OnlyReads};
+ghost use Rattle.d64_image.specs.Images.{put, sector};
 ghost use Rattle.disk_layout.specs.Free.{IsWithoutFree};
 ghost use Rattle.layout_check.specs.Made.{IsMadeMap, IsMadeTrack};
+ghost use Rattle.layout_check.specs.Exact.{HasMap};
+ghost use Rattle.layout_check.specs.Mended.{KeepsLayouts, Mends, TellsDevice};
+ghost use Rattle.layout_check.specs.Survey.{IsToldBy};
 
-use d64_image::Place;
-use disk_layout::Bam;
+use d64_image::{Place, Sectors};
+use disk_layout::{Bam, Fault, map_place};
 
+use crate::maps::check_bits;
+use crate::outcome::Survey;
 use crate::owners::Owners;
 
 /// Frees the sectors of a track that nobody owns, where none was free.
@@ -34,4 +41,46 @@ pub fn map_of(old: &[u8; 256], owners: &Owners) -> [u8; 256]
         free_track(&mut map, owners, below + 1);
     }
     map.bytes
+}
+
+/// Writes a sector where its bytes are others than those that it has.
+fn write_other<D: Sectors>(disk: &mut D, place: Place, had: &[u8; 256], wanted: &[u8; 256]) -> Result<(), Fault>
+    requires { had.now ≡ sector (D.history.image disk.old) place }
+    ensures ok { OnOk result (D.history.image disk.new ≡ put (D.history.image disk.old) place wanted.now) }
+    ensures err { IfErr result (TellsDevice D.history disk.old disk.new) }
+    ensures failures { OnOk result (D.history.failures disk.new ≡ D.history.failures disk.old) }
+    ensures held { Changes D.history disk.old disk.new 1 (OldOr (D.history.image disk.old) (put (D.history.image disk.old) place wanted.now)) }
+    // a sector that is right is not written
+    ensures quiet { had.now ≡ wanted.now → OnlyReads D.history disk.old disk.new 0 }
+{
+    if had == wanted {
+        return Ok(());
+    }
+    match disk.write(place, wanted) {
+        Ok(()) => Ok(()),
+        Err(_) => Err(Fault::Device(place)),
+    }
+}
+
+/// Gives a sound disk that was surveyed the map that it is to have, where it has another.
+pub fn mend_map<D: Sectors>(disk: &mut D, found: &Survey) -> Result<(), Fault>
+    requires { IsToldBy (D.history.image disk.old) found.now }
+    ensures map { OnOk result (HasMap (D.history.image disk.new)) }
+    ensures layouts { OnOk result (KeepsLayouts (D.history.image disk.old) (D.history.image disk.new)) }
+    ensures err { IfErr result (TellsDevice D.history disk.old disk.new) }
+    ensures failures { OnOk result (D.history.failures disk.new ≡ D.history.failures disk.old) }
+    ensures mends { Mends D.history disk.old disk.new 1 }
+    // a map that is right is not written
+    ensures quiet { HasMap (D.history.image disk.old) → OnlyReads D.history disk.old disk.new 1 }
+{
+    let mut map = [0u8; 256];
+    match disk.read(map_place(), &mut map) {
+        Ok(()) => {}
+        Err(_) => return Err(Fault::Device(map_place())),
+    }
+    if check_bits(&map, found.owners()).is_ok() {
+        return Ok(());
+    }
+    let wanted = map_of(&map, found.owners());
+    write_other(disk, map_place(), &map, &wanted)
 }
