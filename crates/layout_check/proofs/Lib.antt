@@ -14,6 +14,7 @@ pub mod Ones
 pub mod Pointers
 pub mod Progress
 pub mod Roots
+pub mod SideMends
 pub mod SideWalks
 pub mod Verdict
 pub mod Walked

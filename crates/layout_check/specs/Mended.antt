@@ -1,14 +1,14 @@
 -- What a repair may change, and what it leaves. Our own.
-use Rattle.std.specs.Prelude.{ℕ, ◌≡◌, Contains, Some, slice_get}
+use Rattle.std.specs.Prelude.{ℕ, ◌≡◌, Contains, IsTrue, List}
 use Rattle.d64_image.specs.History.{Changes, Failed, History}
-use Rattle.d64_image.specs.Images.{Image, sector}
+use Rattle.d64_image.specs.Images.{Image}
 use Rattle.d64_image.specs.declared.place.Place.{Place}
-use Rattle.disk_layout.specs.Layout.{File, IsLayout, Layout, record_length}
+use Rattle.disk_layout.specs.Layout.{File, IsLayout, Layout, is_rel}
 use Rattle.disk_layout.specs.Same.{SameFiles}
-use Rattle.disk_layout.specs.Side.{side_sector}
 use Rattle.disk_layout.specs.declared.faults.Fault.{Fault}
 use Rattle.disk_layout.specs.declared.faults.Fault.TheVariants.{Device}
 use Rattle.disk_layout.specs.declared.slot.Slot.{Slot}
+use Rattle.layout_check.specs.Exact.{AreExactSides}
 
 -- the image c is sound, and has the files of a; only the map, side sectors and block counts may differ
 pub record IsMended (a : Image) (l : Layout) (c : Image) : Type 0 where
@@ -27,3 +27,18 @@ TellsDevice S old new fault = (p : Place) × (fault ≡ Device p) × Failed S ol
 -- each layout of the one is a layout of the other
 abbrev pub KeepsLayouts : Image → Image → Type 0
 KeepsLayouts old new = (l : Layout) → IsLayout old l → IsLayout new l
+
+-- these are the slot, the data blocks and the side sectors of a relative file of the image
+pub record IsPartsOf (img : Image) (s : Slot) (blocks sides : List Place) : Type 0 where
+  pub layout : Layout
+  pub sound : IsLayout img layout
+  pub file : File
+  pub own : Contains layout.files file
+  pub rel : IsTrue (is_rel file.slot)
+  pub slot : file.slot ≡ s
+  pub blocks_are : file.blocks ≡ blocks
+  pub sides_are : file.sides ≡ sides
+
+-- exact side sectors of relative files stay exact
+abbrev pub KeepsExact : Image → Image → Type 0
+KeepsExact old new = (s : Slot) (blocks sides : List Place) → IsPartsOf old s blocks sides → AreExactSides old s blocks sides → AreExactSides new s blocks sides

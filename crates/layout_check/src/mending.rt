@@ -1,15 +1,15 @@
 //! The map that a disk is to have, made from who owns which sector.
-ghost use Rattle.std.specs.Prelude.{◌≡◌, IfErr, OnOk};
+ghost use Rattle.std.specs.Prelude.{◌≡◌, ◌≤◌, IfErr, OnOk, length};
 ghost use Rattle.d64_image.specs.History.{Changes, OldOr, OnlyReads};
 ghost use Rattle.d64_image.specs.Images.{put, sector};
 ghost use Rattle.disk_layout.specs.Free.{IsWithoutFree};
 ghost use Rattle.layout_check.specs.Made.{IsMadeMap, IsMadeTrack};
-ghost use Rattle.layout_check.specs.Exact.{HasMap};
-ghost use Rattle.layout_check.specs.Mended.{KeepsLayouts, Mends, TellsDevice};
+ghost use Rattle.layout_check.specs.Exact.{AreExactSides, HasMap};
+ghost use Rattle.layout_check.specs.Mended.{IsPartsOf, KeepsExact, KeepsLayouts, Mends, TellsDevice};
 ghost use Rattle.layout_check.specs.Survey.{IsToldBy};
 
 use d64_image::{Place, Sectors};
-use disk_layout::{Bam, Fault, map_place};
+use disk_layout::{Bam, Fault, Slot, map_place, side_bytes};
 
 use crate::maps::check_bits;
 use crate::outcome::Survey;
@@ -83,4 +83,30 @@ pub fn mend_map<D: Sectors>(disk: &mut D, found: &Survey) -> Result<(), Fault>
     }
     let wanted = map_of(&map, found.owners());
     write_other(disk, map_place(), &map, &wanted)
+}
+
+/// Gives the side sectors of a relative entry of a sound disk the bytes that they are to have, in their order, each
+/// where it has others.
+fn mend_sides<D: Sectors>(disk: &mut D, slot: &Slot, blocks: &[Place], sides: &[Place]) -> Result<(), Fault>
+    requires parts { IsPartsOf (D.history.image disk.old) slot.now blocks.now sides.now }
+    requires few { length sides.now ≤ 6 }
+    ensures exact { OnOk result (AreExactSides (D.history.image disk.new) slot.now blocks.now sides.now) }
+    ensures others { OnOk result (KeepsExact (D.history.image disk.old) (D.history.image disk.new)) }
+    ensures layouts { OnOk result (KeepsLayouts (D.history.image disk.old) (D.history.image disk.new)) }
+    ensures err { IfErr result (TellsDevice D.history disk.old disk.new) }
+    ensures failures { OnOk result (D.history.failures disk.new ≡ D.history.failures disk.old) }
+    ensures mends { Mends D.history disk.old disk.new 6 }
+    // side sectors that are right are not written
+    ensures quiet { AreExactSides (D.history.image disk.old) slot.now blocks.now sides.now → OnlyReads D.history disk.old disk.new 6 }
+{
+    let mut sector = [0u8; 256];
+    for (number, &side) in sides.iter().enumerate() {
+        match disk.read(side, &mut sector) {
+            Ok(()) => {}
+            Err(_) => return Err(Fault::Device(side)),
+        }
+        let wanted = side_bytes(number as u8, blocks, sides, slot.bytes[23]);
+        write_other(disk, side, &sector, &wanted)?;
+    }
+    Ok(())
 }

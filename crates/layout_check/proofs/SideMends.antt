@@ -1,0 +1,110 @@
+-- Side sectors rewritten one by one.
+use Rattle.std.proofs.Common.{ℕ, ◌≡◌, ◌≢◌, ◌<◌, ◌≤◌, ◌+◌, ◌⊎◌, List, [], ◌∷◌, ◌++◌, length, get_or, sym, ◌∙◌, ap, refl, arith, subst, inl, inr, IsTrue}
+use Rattle.std.specs.Prelude.{Contains, Some, flat_map, slice_get}
+use Rattle.std.proofs.lemmas.Bool.{cases_eq}
+use Rattle.std.proofs.lemmas.List.Elements.{Contains-append_right}
+use Rattle.d64_image.proofs.Images.{sector-put_other, sector-put_same}
+use Rattle.d64_image.proofs.Places.{same_or_other}
+use Rattle.d64_image.specs.Images.{Image, put, sector}
+use Rattle.d64_image.specs.declared.place.Place.{Place}
+use Rattle.disk_layout.proofs.Layouts.{IsLayout-one, get-contains}
+use Rattle.disk_layout.proofs.Once.{Contains-cases, Contains-nil, EachOnce-apart, EachOnce-left, EachOnce-right, flat_map-in}
+use Rattle.disk_layout.proofs.Twice.{get-one}
+use Rattle.disk_layout.specs.Chain.{EachOnce}
+use Rattle.disk_layout.specs.Layout.{File, IsLayout, Layout, file_owns, is_rel, owners, record_length}
+use Rattle.disk_layout.specs.Side.{side_sector}
+use Rattle.disk_layout.specs.declared.slot.Slot.{Slot}
+use Rattle.layout_check.proofs.Mendings.{layout-side, mended-side}
+use Rattle.layout_check.specs.Exact.{AreExactSides, IsExactSide}
+use Rattle.layout_check.specs.Mended.{IsMended, IsPartsOf, KeepsExact, KeepsLayouts}
+
+-- two files that share a place are one
+files-apart : (fs : List File) (f g : File) (p : Place) → EachOnce (flat_map file_owns fs) → Contains fs f → Contains fs g → Contains (file_owns f) p → Contains (file_owns g) p → f ≡ g
+files-apart [] f g p once cf cg a b = absurd (Contains-nil f cf)
+files-apart (h ∷ fs) f g p once cf cg a b =
+    elim (Contains-cases f h fs cf) [
+      | inl e ↦ elim (Contains-cases g h fs cg) [
+        | inl d ↦ sym e ∙ d
+        | inr d ↦ absurd (EachOnce-apart (file_owns h) (flat_map file_owns fs) once p (rw e a) (flat_map-in file_owns fs g p d b))
+      ]
+      | inr e ↦ elim (Contains-cases g h fs cg) [
+        | inl d ↦ absurd (EachOnce-apart (file_owns h) (flat_map file_owns fs) once p (rw d b) (flat_map-in file_owns fs f p e a))
+        | inr d ↦ files-apart fs f g p (EachOnce-right (file_owns h) (flat_map file_owns fs) once) e d a b
+      ]
+    ]
+
+file-once : (fs : List File) (f : File) → EachOnce (flat_map file_owns fs) → Contains fs f → EachOnce (file_owns f)
+file-once [] f once c = absurd (Contains-nil f c)
+file-once (h ∷ fs) f once c = elim (Contains-cases f h fs c) [
+  | inl e ↦ rw (← e) (EachOnce-left (file_owns h) (flat_map file_owns fs) once)
+  | inr d ↦ file-once fs f (EachOnce-right (file_owns h) (flat_map file_owns fs) once) d
+]
+
+files-once : (img : Image) (l : Layout) → IsLayout img l → EachOnce (flat_map file_owns l.files)
+unfolding owners
+files-once img l h = EachOnce-right l.directory (flat_map file_owns l.files) h.once.1
+
+-- the parts in another layout of the same image
+pub parts-in : (img : Image) (s : Slot) (blocks sides : List Place) (l : Layout) → (h : IsPartsOf img s blocks sides) → IsLayout img l → Contains l.files h.file
+parts-in img s blocks sides l h is = let P : Layout → Type 0 = λ x. Contains x.files h.file in subst P (IsLayout-one img h.layout l h.sound is) h.own
+
+-- no side sector comes twice, and none is of two files
+side-one : (img : Image) (s t : Slot) (bs ss cs ts : List Place) (j k : ℕ) (p : Place) → (h : IsPartsOf img s bs ss) → (i : IsPartsOf img t cs ts) → slice_get ss j ≡ Some p → slice_get ts k ≡ Some p → (s ≡ t) × (bs ≡ cs) × (ss ≡ ts) × (j ≡ k)
+side-one img s t bs ss cs ts j k p h i a b =
+    let l = h.layout in
+    let once = files-once img l h.sound in
+    let of_f : slice_get h.file.sides j ≡ Some p = ap (λ (xs : List Place). slice_get xs j) h.sides_are ∙ a in
+    let of_g : slice_get i.file.sides k ≡ Some p = ap (λ (xs : List Place). slice_get xs k) i.sides_are ∙ b in
+    let own_g = parts-in img t cs ts l i h.sound in
+    let one : h.file ≡ i.file = files-apart l.files h.file i.file p once h.own own_g (Contains-append_right h.file.blocks h.file.sides p (get-contains h.file.sides j p of_f)) (Contains-append_right i.file.blocks i.file.sides p (get-contains i.file.sides k p of_g)) in
+    let each = EachOnce-right h.file.blocks h.file.sides (file-once l.files h.file once h.own) in
+    (
+      sym h.slot ∙ ap (λ (f : File). f.slot) one ∙ i.slot,
+      sym h.blocks_are ∙ ap (λ (f : File). f.blocks) one ∙ i.blocks_are,
+      sym h.sides_are ∙ ap (λ (f : File). f.sides) one ∙ i.sides_are,
+      get-one h.file.sides j k p each of_f (ap (λ (f : File). slice_get f.sides k) one ∙ of_g),
+    )
+
+-- the image with side sector n written
+abbrev pub with_side : Image → Slot → List Place → List Place → ℕ → Place → Image
+with_side c s blocks sides n p = put c p (side_sector n blocks sides (record_length s))
+
+exact-written : (img c : Image) (s t : Slot) (bs ss cs ts : List Place) (n j : ℕ) (p q : Place) → length c ≡ 683 → IsPartsOf img s bs ss → IsPartsOf img t cs ts → slice_get ss n ≡ Some p → slice_get ts j ≡ Some q → (p ≢ q → IsExactSide c t cs ts j q) → IsExactSide (with_side c s bs ss n p) t cs ts j q
+exact-written img c s t bs ss cs ts n j p q size h i here there so_far = elim (same_or_other p q) [
+  | inl e ↦
+      let (es, eb, ed, en) = side-one img s t bs ss cs ts n j p h i here (there ∙ ap Some (sym e)) in
+      let w : side_sector n bs ss (record_length s) ≡ side_sector j cs ts (record_length t) =
+          ap (λ (k : ℕ). side_sector k bs ss (record_length s)) en ∙ ap (λ (xs : List Place). side_sector j xs ss (record_length s)) eb ∙ ap (λ (xs : List Place). side_sector j cs xs (record_length s)) ed ∙ ap (λ (x : Slot). side_sector j cs ts (record_length x)) es in
+      ap (sector (with_side c s bs ss n p)) (sym e) ∙ sector-put_same c p (side_sector n bs ss (record_length s)) size ∙ w
+  | inr ne ↦ sector-put_other c p q (side_sector n bs ss (record_length s)) ne ∙ so_far ne
+]
+
+-- one more is exact, and no exact one is lost
+pub exact-more : (img c : Image) (s : Slot) (bs ss : List Place) (n : ℕ) (p : Place) → length c ≡ 683 → IsPartsOf img s bs ss → slice_get ss n ≡ Some p → ((j : ℕ) → j < n → (q : Place) → slice_get ss j ≡ Some q → IsExactSide c s bs ss j q) → (j : ℕ) → j < n + 1 → (q : Place) → slice_get ss j ≡ Some q → IsExactSide (with_side c s bs ss n p) s bs ss j q
+exact-more img c s bs ss n p size h here so_far j below q there = exact-written img c s s bs ss bs ss n j p q size h h here there (λ ne. so_far j (less ne) q there)
+  where
+    less : p ≢ q → j < n
+    less ne = elim (cases_eq j n) [ inl e ↦ absurd (ne (let z : p ≡ q = cc in z)) | inr n ↦ omega arith ]
+
+pub exact-others : (img c : Image) (s : Slot) (bs ss : List Place) (n : ℕ) (p : Place) → length c ≡ 683 → IsPartsOf img s bs ss → slice_get ss n ≡ Some p → KeepsExact img c → KeepsExact img (with_side c s bs ss n p)
+exact-others img c s bs ss n p size h here keeps t cs ts i exact j q there = exact-written img c s t bs ss cs ts n j p q size h i here there (λ ne. keeps t cs ts i exact j q there)
+
+-- the parts as the layout's file has them
+file-sector : (img : Image) (s : Slot) (bs ss : List Place) (n : ℕ) → (h : IsPartsOf img s bs ss) → side_sector n h.file.blocks h.file.sides (record_length h.file.slot) ≡ side_sector n bs ss (record_length s)
+file-sector img s bs ss n h =
+    ap (λ (xs : List Place). side_sector n xs h.file.sides (record_length h.file.slot)) h.blocks_are
+    ∙ ap (λ (xs : List Place). side_sector n bs xs (record_length h.file.slot)) h.sides_are
+    ∙ ap (λ (x : Slot). side_sector n bs ss (record_length x)) h.slot
+
+pub side-layouts : (img c : Image) (s : Slot) (bs ss : List Place) (n : ℕ) (p : Place) → length c ≡ 683 → IsPartsOf img s bs ss → length ss ≤ 6 → slice_get ss n ≡ Some p → KeepsLayouts img c → KeepsLayouts img (with_side c s bs ss n p)
+side-layouts img c s bs ss n p size h few here keeps l is =
+    let P : List ℕ → Type 0 = λ b. IsLayout (put c p b) l in
+    subst P (file-sector img s bs ss n h)
+    (layout-side c l h.file n p size (keeps l is) (parts-in img s bs ss l h is) h.rel (omega (arith, few, ap length h.sides_are)) (ap (λ (xs : List Place). slice_get xs n) h.sides_are ∙ here))
+
+pub side-mended : (a : Image) (l : Layout) (img c : Image) (s : Slot) (bs ss : List Place) (n : ℕ) (p : Place) → length c ≡ 683 → (h : IsPartsOf img s bs ss) → length ss ≤ 6 → slice_get ss n ≡ Some p → KeepsLayouts img c → IsMended a l c → IsMended a l (with_side c s bs ss n p)
+side-mended a l img c s bs ss n p size h few here keeps m =
+    let P : List ℕ → Type 0 = λ b. IsMended a l (put c p b) in
+    let own : Contains m.layout.files h.file = (let Q : Layout → Type 0 = λ x. Contains x.files h.file in subst Q (IsLayout-one c h.layout m.layout (keeps h.layout h.sound) m.sound) h.own) in
+    subst P (file-sector img s bs ss n h)
+    (mended-side a l c h.file n p size m own h.rel (omega (arith, few, ap length h.sides_are)) (ap (λ (xs : List Place). slice_get xs n) h.sides_are ∙ here))
