@@ -64,3 +64,6 @@ module _ {D : Type 0} (S : History D) where
 
   pub device_later : (a b c : D) (f : Fault) → S.failures b ≡ S.failures a → TellsDevice S b c f → TellsDevice S a c f
   device_later a b c f same (p, e, failed) = (p, e, failed_later S a b c same failed)
+
+  pub mends_weaker : (a b : D) (m n : ℕ) → m ≤ n → Mends S a b m → Mends S a b n
+  mends_weaker a b m n le h i l is = changes_weaker S a b m n (IsMended i l) (IsMended i l) le (λ c x. x) (h i l is)

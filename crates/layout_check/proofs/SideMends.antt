@@ -5,6 +5,7 @@ use Rattle.std.proofs.lemmas.Bool.{cases_eq}
 use Rattle.std.proofs.lemmas.List.Elements.{Contains-append_right}
 use Rattle.d64_image.proofs.Images.{sector-put_other, sector-put_same}
 use Rattle.d64_image.proofs.Places.{same_or_other}
+use Rattle.d64_image.specs.History.{Changes, History, OldOr, OnlyReads}
 use Rattle.d64_image.specs.Images.{Image, put, sector}
 use Rattle.d64_image.specs.declared.place.Place.{Place}
 use Rattle.disk_layout.proofs.Layouts.{IsLayout-one, get-contains}
@@ -14,9 +15,10 @@ use Rattle.disk_layout.specs.Chain.{EachOnce}
 use Rattle.disk_layout.specs.Layout.{File, IsLayout, Layout, file_owns, is_rel, owners, record_length}
 use Rattle.disk_layout.specs.Side.{side_sector}
 use Rattle.disk_layout.specs.declared.slot.Slot.{Slot}
+use Rattle.layout_check.proofs.MapMends.{mends_then, mends_write}
 use Rattle.layout_check.proofs.Mendings.{layout-side, mended-side}
 use Rattle.layout_check.specs.Exact.{AreExactSides, IsExactSide}
-use Rattle.layout_check.specs.Mended.{IsMended, IsPartsOf, KeepsExact, KeepsLayouts}
+use Rattle.layout_check.specs.Mended.{IsMended, IsPartsOf, KeepsExact, KeepsLayouts, Mends}
 
 -- two files that share a place are one
 files-apart : (fs : List File) (f g : File) (p : Place) → EachOnce (flat_map file_owns fs) → Contains fs f → Contains fs g → Contains (file_owns f) p → Contains (file_owns g) p → f ≡ g
@@ -108,3 +110,20 @@ side-mended a l img c s bs ss n p size h few here keeps m =
     let own : Contains m.layout.files h.file = (let Q : Layout → Type 0 = λ x. Contains x.files h.file in subst Q (IsLayout-one c h.layout m.layout (keeps h.layout h.sound) m.sound) h.own) in
     subst P (file-sector img s bs ss n h)
     (mended-side a l c h.file n p size m own h.rel (omega (arith, few, ap length h.sides_are)) (ap (λ (xs : List Place). slice_get xs n) h.sides_are ∙ here))
+
+module _ {D : Type 0} (S : History D) where
+  -- what the device has after the write
+  pub after-side : (b r w : D) (s : Slot) (bs ss : List Place) (n : ℕ) (p : Place) (wanted : List ℕ) → S.image r ≡ S.image b → wanted ≡ side_sector n bs ss (record_length s) → S.image w ≡ put (S.image r) p wanted → S.image w ≡ with_side (S.image b) s bs ss n p
+  after-side b r w s bs ss n p wanted same is done = done ∙ ap (λ (i : Image). put i p wanted) same ∙ ap (put (S.image b) p) is
+
+  pub side_mends : (a b r w : D) (s : Slot) (bs ss : List Place) (n : ℕ) (p : Place) (wanted : List ℕ) → IsPartsOf (S.image a) s bs ss → length ss ≤ 6 → slice_get ss n ≡ Some p → KeepsLayouts (S.image a) (S.image b) → Mends S a b n → OnlyReads S b r 1 → wanted ≡ side_sector n bs ss (record_length s) → Changes S r w 1 (OldOr (S.image r) (put (S.image r) p wanted)) → Mends S a w (n + 1)
+  side_mends a b r w s bs ss n p wanted h few here keeps so_far reads is held =
+      mends_then S a b w n 1 (n + 1) (omega arith) so_far (mends_write S b r w 1 p wanted reads held (λ i l m.
+          let same = reads.image in
+          let P : Image → Type 0 = IsMended i l in
+          let there = side-mended i l (S.image a) (S.image b) s bs ss n p (S.whole b).size h few here keeps (subst P same m) in
+          subst P (sym (ap (λ (x : Image). put x p wanted) same ∙ ap (put (S.image b) p) is)) there))
+
+  -- the sector is right already
+  pub side_right : (a b r : D) (s : Slot) (bs ss : List Place) (n : ℕ) (p : Place) (had wanted : List ℕ) → slice_get ss n ≡ Some p → AreExactSides (S.image a) s bs ss → S.image b ≡ S.image a → had ≡ sector (S.image b) p → wanted ≡ side_sector n bs ss (record_length s) → had ≡ wanted
+  side_right a b r s bs ss n p had wanted here exact same read is = read ∙ ap (λ (i : Image). sector i p) same ∙ exact n p here ∙ sym is
