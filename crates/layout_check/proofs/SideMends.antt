@@ -8,17 +8,22 @@ use Rattle.d64_image.proofs.Places.{same_or_other}
 use Rattle.d64_image.specs.History.{Changes, History, OldOr, OnlyReads}
 use Rattle.d64_image.specs.Images.{Image, put, sector}
 use Rattle.d64_image.specs.declared.place.Place.{Place}
-use Rattle.disk_layout.proofs.Layouts.{IsLayout-one, get-contains}
-use Rattle.disk_layout.proofs.Once.{Contains-cases, Contains-nil, EachOnce-apart, EachOnce-left, EachOnce-right, flat_map-in}
-use Rattle.disk_layout.proofs.Twice.{get-one}
+use Rattle.disk_layout.proofs.Layouts.{IsFile-one, IsLayout-one, get-contains}
+use Rattle.disk_layout.proofs.Once.{Contains-cases, Contains-nil, EachOnce-apart, EachOnce-left, EachOnce-right, all-in, flat_map-in}
+use Rattle.disk_layout.proofs.Twice.{get-one, told-unsound}
 use Rattle.disk_layout.specs.Chain.{EachOnce}
-use Rattle.disk_layout.specs.Layout.{File, IsLayout, Layout, file_owns, is_rel, owners, record_length}
+use Rattle.disk_layout.specs.Layout.{File, IsFile, IsLayout, IsSound, Layout, file_owns, is_rel, owners, record_length}
 use Rattle.disk_layout.specs.Side.{side_sector}
+use Rattle.disk_layout.specs.declared.faults.Fault.{Fault}
+use Rattle.disk_layout.specs.declared.faults.Fault.TheVariants.{BadLength, BadLink, BadSide, BadType, CountWrong, Device, Loop, MapWrong, OwnedTwice, Unclosed}
 use Rattle.disk_layout.specs.declared.slot.Slot.{Slot}
+use Rattle.layout_check.proofs.Inexact.{parts-of}
 use Rattle.layout_check.proofs.MapMends.{mends_then, mends_write}
 use Rattle.layout_check.proofs.Mendings.{layout-side, mended-side}
-use Rattle.layout_check.specs.Exact.{AreExactSides, IsExactSide}
-use Rattle.layout_check.specs.Mended.{IsMended, IsPartsOf, KeepsExact, KeepsLayouts, Mends}
+use Rattle.layout_check.specs.Exact.{AreExactSides, IsExactSide, IsFiled}
+use Rattle.layout_check.specs.Mended.{IsMended, IsPartsOf, KeepsExact, KeepsLayouts, Mends, TellsDevice}
+use Rattle.layout_check.specs.Calls.{Tells}
+use Rattle.layout_check.specs.Sides.{HasParts}
 
 -- two files that share a place are one
 files-apart : (fs : List File) (f g : File) (p : Place) → EachOnce (flat_map file_owns fs) → Contains fs f → Contains fs g → Contains (file_owns f) p → Contains (file_owns g) p → f ≡ g
@@ -127,3 +132,63 @@ module _ {D : Type 0} (S : History D) where
   -- the sector is right already
   pub side_right : (a b r : D) (s : Slot) (bs ss : List Place) (n : ℕ) (p : Place) (had wanted : List ℕ) → slice_get ss n ≡ Some p → AreExactSides (S.image a) s bs ss → S.image b ≡ S.image a → had ≡ sector (S.image b) p → wanted ≡ side_sector n bs ss (record_length s) → had ≡ wanted
   side_right a b r s bs ss n p had wanted here exact same read is = read ∙ ap (λ (i : Image). sector i p) same ∙ exact n p here ∙ sym is
+
+-- on a sound image nothing but a failure of the device is told
+pub sound-device : {D : Type 0} (S : History D) (a b : D) (n : ℕ) (f : Fault) → IsSound (S.image a) → Tells S a b n f → TellsDevice S a b f
+sound-device S a b n (Device p) sound h = (p, refl, h.failures)
+sound-device S a b n (BadLink p) sound h = absurd (told-unsound (S.image a) (BadLink p) h.holds sound)
+sound-device S a b n (Loop p) sound h = absurd (told-unsound (S.image a) (Loop p) h.holds sound)
+sound-device S a b n (OwnedTwice p) sound h = absurd (told-unsound (S.image a) (OwnedTwice p) h.holds sound)
+sound-device S a b n (BadType p) sound h = absurd (told-unsound (S.image a) (BadType p) h.holds sound)
+sound-device S a b n (Unclosed p) sound h = absurd (told-unsound (S.image a) (Unclosed p) h.holds sound)
+sound-device S a b n (BadSide p) sound h = absurd (told-unsound (S.image a) (BadSide p) h.holds sound)
+sound-device S a b n (BadLength p) sound h = absurd (told-unsound (S.image a) (BadLength p) h.holds sound)
+sound-device S a b n (CountWrong p) sound h = absurd h.holds
+sound-device S a b n (MapWrong p) sound h = absurd h.holds
+
+-- the parts that were found
+pub parts-here : (img : Image) (s : Slot) (blocks sides : List Place) → IsFiled img s → IsTrue (is_rel s) → HasParts img s blocks sides → IsPartsOf img s blocks sides
+parts-here img s blocks sides filed rel h =
+    let one = parts-of img filed.layout filed.file s blocks sides filed.sound filed.own filed.slot rel h in
+    record {
+      layout = filed.layout;
+      sound = filed.sound;
+      file = filed.file;
+      own = filed.own;
+      rel = rw filed.slot rel;
+      slot = filed.slot;
+      blocks_are = ap (λ (f : File). f.blocks) one;
+      sides_are = ap (λ (f : File). f.sides) one;
+    }
+
+-- an entry has one list of blocks and one of side sectors
+parts-one : (img : Image) (s : Slot) (bs ss cs ts : List Place) → IsPartsOf img s bs ss → IsPartsOf img s cs ts → (bs ≡ cs) × (ss ≡ ts)
+parts-one img s bs ss cs ts h i =
+    let own = parts-in img s cs ts h.layout i h.sound in
+    let one : h.file ≡ i.file = IsFile-one img h.file i.file (h.slot ∙ sym i.slot) (all-in (IsFile img) h.layout.files h.file h.sound.files h.own) (all-in (IsFile img) h.layout.files i.file h.sound.files own) in
+    (sym h.blocks_are ∙ ap (λ (f : File). f.blocks) one ∙ i.blocks_are, sym h.sides_are ∙ ap (λ (f : File). f.sides) one ∙ i.sides_are)
+
+pub parts-exact : (img now : Image) (s : Slot) (bs ss cs ts : List Place) → IsPartsOf img s bs ss → AreExactSides now s bs ss → IsPartsOf img s cs ts → AreExactSides now s cs ts
+parts-exact img now s bs ss cs ts h exact i =
+    let (eb, es) = parts-one img s bs ss cs ts h i in
+    let P : List Place → Type 0 = λ xs. AreExactSides now s xs ss in
+    let Q : List Place → Type 0 = λ xs. AreExactSides now s cs xs in
+    subst Q es (subst P eb exact)
+
+pub parts-at : (img now : Image) (s : Slot) (bs ss cs ts : List Place) → now ≡ img → cs ≡ bs → ts ≡ ss → IsPartsOf img s bs ss → IsPartsOf now s cs ts
+parts-at img now s bs ss cs ts same eb es h =
+    let P : Image → Type 0 = λ i. IsPartsOf i s cs ts in
+    let Q : List Place → Type 0 = λ xs. IsPartsOf img s xs ts in
+    let R : List Place → Type 0 = λ xs. IsPartsOf img s bs xs in
+    subst P (sym same) (subst Q (sym eb) (subst R (sym es) h))
+
+pub exact-from : (img now new : Image) (s : Slot) (bs ss : List Place) → now ≡ img → IsPartsOf img s bs ss → KeepsExact now new → AreExactSides img s bs ss → AreExactSides new s bs ss
+exact-from img now new s bs ss same h keeps exact =
+    keeps s bs ss (let P : Image → Type 0 = λ i. IsPartsOf i s bs ss in subst P (sym same) h) (let P : Image → Type 0 = λ i. AreExactSides i s bs ss in subst P (sym same) exact)
+
+pub right-there : (img now : Image) (s : Slot) (bs ss cs ts : List Place) → now ≡ img → cs ≡ bs → ts ≡ ss → AreExactSides img s bs ss → AreExactSides now s cs ts
+right-there img now s bs ss cs ts same eb es h =
+    let P : Image → Type 0 = λ i. AreExactSides i s cs ts in
+    let Q : List Place → Type 0 = λ xs. AreExactSides img s xs ts in
+    let R : List Place → Type 0 = λ xs. AreExactSides img s bs xs in
+    subst P (sym same) (subst Q (sym eb) (subst R (sym es) h))

@@ -1,19 +1,23 @@
 //! The map that a disk is to have, made from who owns which sector.
-ghost use Rattle.std.specs.Prelude.{◌≡◌, ◌≤◌, IfErr, OnOk, length};
+ghost use Rattle.std.specs.Prelude.{◌≡◌, ◌≤◌, IfErr, IsTrue, OnOk, length};
 ghost use Rattle.d64_image.specs.History.{Changes, OldOr, OnlyReads};
 ghost use Rattle.d64_image.specs.Images.{put, sector};
 ghost use Rattle.disk_layout.specs.Free.{IsWithoutFree};
 ghost use Rattle.layout_check.specs.Made.{IsMadeMap, IsMadeTrack};
-ghost use Rattle.layout_check.specs.Exact.{AreExactSides, HasMap};
-ghost use Rattle.layout_check.specs.Mended.{IsPartsOf, KeepsExact, KeepsLayouts, Mends, TellsDevice};
+ghost use Rattle.disk_layout.specs.Layout.{is_rel};
+ghost use Rattle.layout_check.specs.Entry.{IsEntry};
+ghost use Rattle.layout_check.specs.Exact.{AreExactSides, HasMap, IsFiled};
+ghost use Rattle.layout_check.specs.Mended.{IsExactFor, IsPartsOf, KeepsExact, KeepsLayouts, Mends, TellsDevice};
 ghost use Rattle.layout_check.specs.Survey.{IsToldBy};
 
+use arrayvec::ArrayVec;
 use d64_image::{Place, Sectors};
 use disk_layout::{Bam, Fault, Slot, map_place, side_bytes};
 
 use crate::maps::check_bits;
 use crate::outcome::Survey;
 use crate::owners::Owners;
+use crate::sides::find_parts;
 
 /// Frees the sectors of a track that nobody owns, where none was free.
 fn free_track(map: &mut Bam, owners: &Owners, track: u8)
@@ -109,4 +113,23 @@ fn mend_sides<D: Sectors>(disk: &mut D, slot: &Slot, blocks: &[Place], sides: &[
         write_other(disk, side, &sector, &wanted)?;
     }
     Ok(())
+}
+
+/// Gives the side sectors of a relative entry of a sound disk the bytes that they are to have. `blocks` and `sides` are
+/// emptied, and filled with what the entry owns.
+fn mend_relative<D: Sectors>(disk: &mut D, slot: &Slot, blocks: &mut ArrayVec<Place, 720>, sides: &mut ArrayVec<Place, 6>) -> Result<(), Fault>
+    requires entry { IsEntry (D.history.image disk.old) slot.now }
+    requires filed { IsFiled (D.history.image disk.old) slot.now }
+    requires rel { IsTrue (is_rel slot.now) }
+    ensures exact { OnOk result (IsExactFor (D.history.image disk.old) (D.history.image disk.new) slot.now) }
+    ensures others { OnOk result (KeepsExact (D.history.image disk.old) (D.history.image disk.new)) }
+    ensures layouts { OnOk result (KeepsLayouts (D.history.image disk.old) (D.history.image disk.new)) }
+    ensures err { IfErr result (TellsDevice D.history disk.old disk.new) }
+    ensures failures { OnOk result (D.history.failures disk.new ≡ D.history.failures disk.old) }
+    ensures mends { Mends D.history disk.old disk.new 6 }
+    // side sectors that are right are not written
+    ensures quiet { IsExactFor (D.history.image disk.old) (D.history.image disk.old) slot.now → OnlyReads D.history disk.old disk.new 738 }
+{
+    find_parts(disk, slot, blocks, sides)?;
+    mend_sides(disk, slot, blocks.as_slice(), sides.as_slice())
 }
