@@ -4,6 +4,7 @@ pub mod Claims
 pub mod Clashes
 pub mod Counting
 pub mod Entries
+pub mod EntryMends
 pub mod Finding
 pub mod Inexact
 pub mod Listed

@@ -46,3 +46,7 @@ KeepsExact old new = (s : Slot) (blocks sides : List Place) → IsPartsOf old s 
 -- the side sectors of this relative entry, as the old image has it, are exact in the new one
 abbrev pub IsExactFor : Image → Image → Slot → Type 0
 IsExactFor old new s = (blocks sides : List Place) → IsPartsOf old s blocks sides → AreExactSides new s blocks sides
+
+-- the side sectors of all relative entries are
+abbrev pub AreExactFor : Image → Image → Type 0
+AreExactFor old new = (s : Slot) → IsExactFor old new s

@@ -4,16 +4,17 @@ ghost use Rattle.d64_image.specs.History.{Changes, OldOr, OnlyReads};
 ghost use Rattle.d64_image.specs.Images.{put, sector};
 ghost use Rattle.disk_layout.specs.Free.{IsWithoutFree};
 ghost use Rattle.layout_check.specs.Made.{IsMadeMap, IsMadeTrack};
-ghost use Rattle.disk_layout.specs.Layout.{is_rel};
+ghost use Rattle.disk_layout.specs.Layout.{IsSound, is_rel};
 ghost use Rattle.layout_check.specs.Entry.{IsEntry};
 ghost use Rattle.layout_check.specs.Exact.{AreExactSides, HasMap, IsFiled};
-ghost use Rattle.layout_check.specs.Mended.{IsExactFor, IsPartsOf, KeepsExact, KeepsLayouts, Mends, TellsDevice};
+ghost use Rattle.layout_check.specs.Mended.{AreExactFor, IsExactFor, IsPartsOf, KeepsExact, KeepsLayouts, Mends, TellsDevice};
 ghost use Rattle.layout_check.specs.Survey.{IsToldBy};
 
 use arrayvec::ArrayVec;
 use d64_image::{Place, Sectors};
-use disk_layout::{Bam, Fault, Slot, map_place, side_bytes};
+use disk_layout::{Bam, Fault, Slot, map_place, read_directory, side_bytes};
 
+use crate::entry::is_relative;
 use crate::maps::check_bits;
 use crate::outcome::Survey;
 use crate::owners::Owners;
@@ -132,4 +133,28 @@ fn mend_relative<D: Sectors>(disk: &mut D, slot: &Slot, blocks: &mut ArrayVec<Pl
 {
     find_parts(disk, slot, blocks, sides)?;
     mend_sides(disk, slot, blocks.as_slice(), sides.as_slice())
+}
+
+/// Gives the side sectors of all relative entries of a sound disk the bytes that they are to have, in the order of the
+/// directory, each where it has others.
+pub fn mend_entries<D: Sectors>(disk: &mut D) -> Result<(), Fault>
+    requires { IsSound (D.history.image disk.old) }
+    ensures exact { OnOk result (AreExactFor (D.history.image disk.old) (D.history.image disk.new)) }
+    ensures layouts { OnOk result (KeepsLayouts (D.history.image disk.old) (D.history.image disk.new)) }
+    ensures err { IfErr result (TellsDevice D.history disk.old disk.new) }
+    ensures failures { OnOk result (D.history.failures disk.new ≡ D.history.failures disk.old) }
+    ensures mends { Mends D.history disk.old disk.new 864 }
+    // side sectors that are right are not written
+    ensures quiet { AreExactFor (D.history.image disk.old) (D.history.image disk.old) → OnlyReads D.history disk.old disk.new 106290 }
+{
+    let mut slots = ArrayVec::new();
+    let mut blocks = ArrayVec::new();
+    let mut sides = ArrayVec::new();
+    read_directory(disk, &mut slots)?;
+    for slot in slots.as_slice() {
+        if is_relative(slot) {
+            mend_relative(disk, slot, &mut blocks, &mut sides)?;
+        }
+    }
+    Ok(())
 }
