@@ -1,20 +1,19 @@
 -- Side sectors mended entry by entry.
-use Rattle.std.proofs.Common.{ℕ, ◌≡◌, ◌<◌, ◌≤◌, ◌+◌, ◌*◌, List, length, get_or, map, sym, ◌∙◌, ap, arith, subst, IsTrue}
+use Rattle.std.proofs.Common.{ℕ, ◌≡◌, ◌<◌, ◌≤◌, List, length, get_or, map, sym, arith, subst, IsTrue}
 use Rattle.std.specs.Prelude.{Contains, Some, slice_get}
 use Rattle.std.proofs.lemmas.Option.{slice_get_within}
 use Rattle.d64_image.specs.Images.{Image}
 use Rattle.d64_image.specs.declared.place.Place.{Place}
 use Rattle.disk_layout.proofs.Layouts.{IsDirectory-one}
 use Rattle.disk_layout.specs.Directory.{IsDirectory}
-use Rattle.disk_layout.specs.Layout.{File, IsSound, is_rel}
+use Rattle.disk_layout.specs.Layout.{is_rel}
 use Rattle.disk_layout.specs.declared.slot.Slot.{Slot}
 use Rattle.layout_check.proofs.Assembly.{contains-get}
 use Rattle.layout_check.proofs.Listed.{entry-listed}
 use Rattle.layout_check.proofs.Pointers.{read-there}
 use Rattle.layout_check.proofs.Progress.{slot-in}
-use Rattle.layout_check.proofs.Verdict.{filed-at}
 use Rattle.layout_check.specs.Entry.{IsEntry}
-use Rattle.layout_check.specs.Exact.{AreExactSides, IsFiled}
+use Rattle.layout_check.specs.Exact.{IsFiled}
 use Rattle.layout_check.specs.Mended.{AreExactFor, IsExactFor, IsPartsOf, KeepsExact, KeepsLayouts}
 
 -- a file of the old image is one of the new

@@ -1,23 +1,21 @@
 -- A map made from the owners, sector by sector.
-use Rattle.std.proofs.Common.{ℕ, zero, suc, ◌≡◌, ◌≢◌, ◌<◌, ◌≤◌, ◌+◌, ◌⊎◌, min, Option, Some, None, List, sym, ◌∙◌, ap, refl, arith, subst, inl, inr, ◌++◌, ◌*◌, ◌/◌, ◌%◌, ◌-◌, length, length-append, append_assoc, slice_index}
-use Rattle.std.specs.Prelude.{drop, replicate, sum_by, take}
+use Rattle.std.proofs.Common.{ℕ, ◌≡◌, ◌≢◌, ◌<◌, ◌≤◌, ◌+◌, min, Some, None, List, sym, ◌∙◌, ap, refl, arith, subst, inl, inr, ◌++◌, ◌*◌, ◌/◌, ◌%◌, ◌-◌, length, length-append, append_assoc, slice_index}
+use Rattle.std.specs.Prelude.{drop, replicate, take}
 use Rattle.std.proofs.Math.ListN.{get_or-append}
 use Rattle.std.proofs.Math.Seq.{drop-append_seam, take-append_seam}
 use Rattle.std.proofs.lemmas.List.{get_or-append_right, get_or-replicate, length-replicate, length-take}
 use Rattle.std.proofs.lemmas.Slice.{put_mid-paste}
 use borrow.Rule.Slice.PartMut.{put_mid}
 use Rattle.std.proofs.lemmas.Nat.Bits.{bit_at-zero}
-use Rattle.std.proofs.Math.Decide.{dec_lt}
 use Rattle.std.proofs.lemmas.Bool.{cases_eq}
-use Rattle.d64_image.proofs.Places.{place_at-some, same_place}
+use Rattle.d64_image.proofs.Places.{place_at-some}
 use Rattle.d64_image.specs.Geometry.{sectors_on}
 use Rattle.d64_image.specs.Places.{place_at}
 use Rattle.d64_image.specs.declared.place.Place.{Place}
 use Rattle.disk_layout.proofs.Bits.{few_sectors}
-use Rattle.disk_layout.proofs.Freeing.{past-track}
 use Rattle.disk_layout.proofs.Sums.{sum-same}
 use Rattle.disk_layout.specs.Free.{IsWithoutFree}
-use Rattle.disk_layout.specs.Map.{IsFree, IsGiven, map_bit, map_count, numbers_below}
+use Rattle.disk_layout.specs.Map.{IsFree, IsGiven, map_bit, map_count}
 use Rattle.layout_check.proofs.Ones.{marked-all, marked-next, marked-past, ones-all, ones-free, ones-none, ones-past, ones-same, ones-taken, ones_to}
 use Rattle.layout_check.specs.Made.{HasNoSpare, IsMadeMap, IsMadeTrack, KeepsTracks, SameHeader}
 use Rattle.layout_check.specs.Marked.{IsMarked, IsRightTrack}

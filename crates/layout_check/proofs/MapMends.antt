@@ -1,11 +1,11 @@
 -- A repair's steps: a read, and a write where it is due.
-use Rattle.std.proofs.Common.{ℕ, ◌≡◌, ◌≢◌, ◌≤◌, ◌+◌, ◌⊎◌, Bool, true, false, List, Result, Ok, Err, length, sym, ◌∙◌, ap, refl, arith, subst, inl, inr}
+use Rattle.std.proofs.Common.{ℕ, ◌≡◌, ◌≤◌, ◌+◌, true, false, List, Result, Ok, Err, length, sym, ◌∙◌, ap, arith, subst, inl, inr}
 use Rattle.std.specs.Prelude.{IfErr, OnOk}
 use Rattle.std.specs.Result.{is_ok}
 use Rattle.std.proofs.lemmas.Bool.{false≢true}
 use Rattle.d64_image.proofs.Images.{sector-put_same}
-use Rattle.d64_image.proofs.Moments.{at_end, changes_then, changes_weaker, failed_later, reads_change, reads_then}
-use Rattle.d64_image.specs.History.{Changes, Failed, History, OldOr, OnlyReads}
+use Rattle.d64_image.proofs.Moments.{at_end, changes_then, changes_weaker, failed_later, reads_change}
+use Rattle.d64_image.specs.History.{Changes, History, OldOr, OnlyReads}
 use Rattle.d64_image.specs.Images.{Image, put, sector}
 use Rattle.d64_image.specs.declared.place.Place.{Place}
 use Rattle.disk_layout.proofs.Agree.{IsLayout-put_map}

@@ -1,22 +1,20 @@
 -- Writes of a repair: what each leaves of the disk.
-use Rattle.std.proofs.Common.{ℕ, ◌≡◌, ◌≢◌, ◌<◌, ◌≤◌, ◌+◌, ◌⊎◌, List, [], ◌∷◌, ◌++◌, length, map, slice_index, sym, ◌∙◌, ap, refl, arith, subst, inl, inr, IsTrue}
+use Rattle.std.proofs.Common.{ℕ, ◌≡◌, ◌≢◌, ◌≤◌, List, [], ◌∷◌, ◌++◌, length, map, slice_index, sym, ◌∙◌, ap, refl, subst, inl, inr, IsTrue}
 use Rattle.std.specs.Prelude.{Contains, Some, drop, flat_map, slice_get, take}
-use Rattle.std.proofs.lemmas.List.Elements.{Contains-append_left, Contains-append_right}
+use Rattle.std.proofs.lemmas.List.Elements.{Contains-append_right}
 use Rattle.d64_image.proofs.Images.{put-sector, sector-put_other, sector-put_same}
 use Rattle.d64_image.specs.Images.{Image, put, sector}
 use Rattle.d64_image.specs.declared.place.Place.{Place}
-use Rattle.disk_layout.proofs.Agree.{IsLayout-put_map, map-unowned, owned-block, owned-directory, owned-side, stays-agree}
+use Rattle.disk_layout.proofs.Agree.{IsLayout-put_map, map-unowned, owned-block, owned-directory, stays-agree}
 use Rattle.disk_layout.proofs.Exact.{exact-side}
 use Rattle.disk_layout.proofs.Layouts.{block-no_side, get-contains}
 use Rattle.disk_layout.proofs.Once.{EachOnce-apart, EachOnce-right, flat_map-in}
 use Rattle.disk_layout.proofs.Recount.{split-at}
 use Rattle.disk_layout.proofs.Recounts.{map-same_on}
 use Rattle.disk_layout.proofs.SideWrites.{IsLayout-put_side}
-use Rattle.disk_layout.specs.Chain.{byte}
 use Rattle.disk_layout.specs.Directory.{map_place}
 use Rattle.disk_layout.specs.Layout.{File, IsLayout, Layout, file_owns, is_rel, owners, record_length}
-use Rattle.disk_layout.specs.Rest.{header_of}
-use Rattle.disk_layout.specs.Same.{IsCountByte, SameButCounts, SameFiles, Stays, stays_of}
+use Rattle.disk_layout.specs.Same.{SameButCounts, SameFiles, Stays, stays_of}
 use Rattle.disk_layout.specs.Side.{side_sector}
 use Rattle.layout_check.specs.Made.{SameHeader}
 use Rattle.layout_check.specs.Mended.{IsMended}

@@ -1,5 +1,5 @@
 -- Side sectors rewritten one by one.
-use Rattle.std.proofs.Common.{ℕ, ◌≡◌, ◌≢◌, ◌<◌, ◌≤◌, ◌+◌, ◌⊎◌, List, [], ◌∷◌, ◌++◌, length, get_or, sym, ◌∙◌, ap, refl, arith, subst, inl, inr, IsTrue}
+use Rattle.std.proofs.Common.{ℕ, ◌≡◌, ◌≢◌, ◌<◌, ◌≤◌, ◌+◌, List, [], ◌∷◌, length, sym, ◌∙◌, ap, refl, arith, subst, inl, inr, IsTrue}
 use Rattle.std.specs.Prelude.{Contains, Some, flat_map, slice_get}
 use Rattle.std.proofs.lemmas.Bool.{cases_eq}
 use Rattle.std.proofs.lemmas.List.Elements.{Contains-append_right}
@@ -64,8 +64,7 @@ side-one img s t bs ss cs ts j k p h i a b =
     let of_g : slice_get i.file.sides k ≡ Some p = ap (λ (xs : List Place). slice_get xs k) i.sides_are ∙ b in
     let own_g = parts-in img t cs ts l i h.sound in
     let one : h.file ≡ i.file = files-apart l.files h.file i.file p once h.own own_g (Contains-append_right h.file.blocks h.file.sides p (get-contains h.file.sides j p of_f)) (Contains-append_right i.file.blocks i.file.sides p (get-contains i.file.sides k p of_g)) in
-    let each = EachOnce-right h.file.blocks h.file.sides (file-once l.files h.file once h.own) in
-    (
+    let each = EachOnce-right h.file.blocks h.file.sides (file-once l.files h.file once h.own) in (
       sym h.slot ∙ ap (λ (f : File). f.slot) one ∙ i.slot,
       sym h.blocks_are ∙ ap (λ (f : File). f.blocks) one ∙ i.blocks_are,
       sym h.sides_are ∙ ap (λ (f : File). f.sides) one ∙ i.sides_are,
@@ -81,7 +80,7 @@ exact-written img c s t bs ss cs ts n j p q size h i here there so_far = elim (s
   | inl e ↦
       let (es, eb, ed, en) = side-one img s t bs ss cs ts n j p h i here (there ∙ ap Some (sym e)) in
       let w : side_sector n bs ss (record_length s) ≡ side_sector j cs ts (record_length t) =
-          ap (λ (k : ℕ). side_sector k bs ss (record_length s)) en ∙ ap (λ (xs : List Place). side_sector j xs ss (record_length s)) eb ∙ ap (λ (xs : List Place). side_sector j cs xs (record_length s)) ed ∙ ap (λ (x : Slot). side_sector j cs ts (record_length x)) es in
+      ap (λ (k : ℕ). side_sector k bs ss (record_length s)) en ∙ ap (λ (xs : List Place). side_sector j xs ss (record_length s)) eb ∙ ap (λ (xs : List Place). side_sector j cs xs (record_length s)) ed ∙ ap (λ (x : Slot). side_sector j cs ts (record_length x)) es in
       ap (sector (with_side c s bs ss n p)) (sym e) ∙ sector-put_same c p (side_sector n bs ss (record_length s)) size ∙ w
   | inr ne ↦ sector-put_other c p q (side_sector n bs ss (record_length s)) ne ∙ so_far ne
 ]
@@ -124,10 +123,10 @@ module _ {D : Type 0} (S : History D) where
   pub side_mends : (a b r w : D) (s : Slot) (bs ss : List Place) (n : ℕ) (p : Place) (wanted : List ℕ) → IsPartsOf (S.image a) s bs ss → length ss ≤ 6 → slice_get ss n ≡ Some p → KeepsLayouts (S.image a) (S.image b) → Mends S a b n → OnlyReads S b r 1 → wanted ≡ side_sector n bs ss (record_length s) → Changes S r w 1 (OldOr (S.image r) (put (S.image r) p wanted)) → Mends S a w (n + 1)
   side_mends a b r w s bs ss n p wanted h few here keeps so_far reads is held =
       mends_then S a b w n 1 (n + 1) (omega arith) so_far (mends_write S b r w 1 p wanted reads held (λ i l m.
-          let same = reads.image in
-          let P : Image → Type 0 = IsMended i l in
-          let there = side-mended i l (S.image a) (S.image b) s bs ss n p (S.whole b).size h few here keeps (subst P same m) in
-          subst P (sym (ap (λ (x : Image). put x p wanted) same ∙ ap (put (S.image b) p) is)) there))
+      let same = reads.image in
+      let P : Image → Type 0 = IsMended i l in
+      let there = side-mended i l (S.image a) (S.image b) s bs ss n p (S.whole b).size h few here keeps (subst P same m) in
+      subst P (sym (ap (λ (x : Image). put x p wanted) same ∙ ap (put (S.image b) p) is)) there))
 
   -- the sector is right already
   pub side_right : (a b r : D) (s : Slot) (bs ss : List Place) (n : ℕ) (p : Place) (had wanted : List ℕ) → slice_get ss n ≡ Some p → AreExactSides (S.image a) s bs ss → S.image b ≡ S.image a → had ≡ sector (S.image b) p → wanted ≡ side_sector n bs ss (record_length s) → had ≡ wanted

@@ -2,9 +2,8 @@
 use Rattle.std.specs.Prelude.{ℕ, ◌≡◌, ◌≢◌, ◌<◌, ◌≤◌, drop, take}
 use Rattle.d64_image.specs.Geometry.{sectors_on}
 use Rattle.d64_image.specs.Images.{Sector}
-use Rattle.d64_image.specs.declared.place.Place.{Place}
 use Rattle.disk_layout.specs.Map.{map_bit, map_count}
-use Rattle.layout_check.specs.Marked.{IsMarked, IsRightMap, IsRightTrack}
+use Rattle.layout_check.specs.Marked.{IsRightMap, IsRightTrack}
 use Rattle.layout_check.specs.declared.owners.Owners.{Owners}
 
 -- the bytes outside the map are the same

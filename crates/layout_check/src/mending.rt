@@ -10,15 +10,14 @@ ghost use Rattle.layout_check.specs.Exact.{AreExactSides, HasMap, IsFiled};
 ghost use Rattle.layout_check.specs.Mended.{AreExactFor, IsExactFor, IsPartsOf, KeepsExact, KeepsLayouts, Mends, TellsDevice};
 ghost use Rattle.layout_check.specs.Survey.{IsToldBy};
 
-use arrayvec::ArrayVec;
-use d64_image::{Place, Sectors};
-use disk_layout::{Bam, Fault, Slot, map_place, read_directory, side_bytes};
-
 use crate::entry::is_relative;
 use crate::maps::check_bits;
 use crate::outcome::Survey;
 use crate::owners::Owners;
 use crate::sides::find_parts;
+use arrayvec::ArrayVec;
+use d64_image::{Place, Sectors};
+use disk_layout::{Bam, Fault, Slot, map_place, read_directory, side_bytes};
 
 /// Frees the sectors of a track that nobody owns, where none was free.
 fn free_track(map: &mut Bam, owners: &Owners, track: u8)
@@ -49,7 +48,12 @@ pub fn map_of(old: &[u8; 256], owners: &Owners) -> [u8; 256]
 }
 
 /// Writes a sector where its bytes are others than those that it has.
-fn write_other<D: Sectors>(disk: &mut D, place: Place, had: &[u8; 256], wanted: &[u8; 256]) -> Result<(), Fault>
+fn write_other<D: Sectors>(
+    disk: &mut D,
+    place: Place,
+    had: &[u8; 256],
+    wanted: &[u8; 256],
+) -> Result<(), Fault>
     requires { had.now ≡ sector (D.history.image disk.old) place }
     ensures ok { OnOk result (D.history.image disk.new ≡ put (D.history.image disk.old) place wanted.now) }
     ensures err { IfErr result (TellsDevice D.history disk.old disk.new) }
@@ -92,7 +96,12 @@ pub fn mend_map<D: Sectors>(disk: &mut D, found: &Survey) -> Result<(), Fault>
 
 /// Gives the side sectors of a relative entry of a sound disk the bytes that they are to have, in their order, each
 /// where it has others.
-fn mend_sides<D: Sectors>(disk: &mut D, slot: &Slot, blocks: &[Place], sides: &[Place]) -> Result<(), Fault>
+fn mend_sides<D: Sectors>(
+    disk: &mut D,
+    slot: &Slot,
+    blocks: &[Place],
+    sides: &[Place],
+) -> Result<(), Fault>
     requires parts { IsPartsOf (D.history.image disk.old) slot.now blocks.now sides.now }
     requires few { length sides.now ≤ 6 }
     ensures exact { OnOk result (AreExactSides (D.history.image disk.new) slot.now blocks.now sides.now) }
@@ -118,7 +127,12 @@ fn mend_sides<D: Sectors>(disk: &mut D, slot: &Slot, blocks: &[Place], sides: &[
 
 /// Gives the side sectors of a relative entry of a sound disk the bytes that they are to have. `blocks` and `sides` are
 /// emptied, and filled with what the entry owns.
-fn mend_relative<D: Sectors>(disk: &mut D, slot: &Slot, blocks: &mut ArrayVec<Place, 720>, sides: &mut ArrayVec<Place, 6>) -> Result<(), Fault>
+fn mend_relative<D: Sectors>(
+    disk: &mut D,
+    slot: &Slot,
+    blocks: &mut ArrayVec<Place, 720>,
+    sides: &mut ArrayVec<Place, 6>,
+) -> Result<(), Fault>
     requires entry { IsEntry (D.history.image disk.old) slot.now }
     requires filed { IsFiled (D.history.image disk.old) slot.now }
     requires rel { IsTrue (is_rel slot.now) }

@@ -1,6 +1,6 @@
 -- Sector by sector: given, owned, or not there.
-use Rattle.std.proofs.Common.{arith, subst, sym, ◌+◌, ◌∙◌, ◌≡◌}
-use Rattle.std.proofs.lemmas.Bool.{cases_eq, false≢true}
+use Rattle.std.proofs.Common.{subst, sym, ◌+◌, ◌∙◌}
+use Rattle.std.proofs.lemmas.Bool.{false≢true}
 use Rattle.disk_layout.specs.declared.bam.Bam.{Bam}
 use Rattle.layout_check.proofs.Makings.{IsMadeTo, free-owner, made-end, made-free, made-owned, made-past, made-start, not-taken}
 use Rattle.layout_check.proofs.mending.free_track.Goals as goal

@@ -1,5 +1,5 @@
 -- The map cleared, and then track by track.
-use Rattle.std.proofs.Common.{arith, sym, ◌∙◌, ◌+◌}
+use Rattle.std.proofs.Common.{arith, ◌∙◌, ◌+◌}
 use Rattle.layout_check.proofs.Makings.{below-all, below-next, below-start, pasted}
 use Rattle.layout_check.proofs.mending.map_of.Goals as goal
 

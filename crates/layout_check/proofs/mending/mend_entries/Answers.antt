@@ -1,5 +1,5 @@
 -- Entry by entry of the directory.
-use Rattle.std.proofs.Common.{ℕ, ap, arith, refl, sym, subst, ◌∙◌, ◌+◌, ◌*◌, IsTrue}
+use Rattle.std.proofs.Common.{arith, refl, sym, subst, ◌∙◌}
 use Rattle.std.proofs.lemmas.Bool.{false≢true}
 use borrow.Author.Count.{below_more}
 use Rattle.std.proofs.lemmas.Result.{err_from_is_err_and}

@@ -12,5 +12,5 @@ invariant-loop-slot g l = record {
   exact : (k : ℕ) → k < l.slot-index → (s : Slot) → slice_get l.slot-items k ≡ Some s → IsTrue (is_rel s) → IsExactFor (g.D.Sectors.history.image l.fn.disk) (g.D.Sectors.history.image l.disk) s;
   mends : Mends g.D.Sectors.history l.fn.disk l.disk (6 * l.slot-index);
   failures : g.D.Sectors.history.failures l.disk ≡ g.D.Sectors.history.failures l.fn.disk;
-  quiet : AreExactFor (g.D.Sectors.history.image l.fn.disk) (g.D.Sectors.history.image l.fn.disk) → OnlyReads g.D.Sectors.history l.fn.disk l.disk (18 + 738 * l.slot-index)
+  quiet : AreExactFor (g.D.Sectors.history.image l.fn.disk) (g.D.Sectors.history.image l.fn.disk) → OnlyReads g.D.Sectors.history l.fn.disk l.disk (18 + 738 * l.slot-index);
 }

@@ -1,5 +1,5 @@
 -- The parts, and then the side sectors.
-use Rattle.std.proofs.Common.{ap, arith, subst, sym, ◌∙◌}
+use Rattle.std.proofs.Common.{arith, subst, ◌∙◌}
 use Rattle.std.proofs.lemmas.Result.{err_from_is_err_and}
 use Rattle.d64_image.proofs.Moments.{reads_then, reads_weaker}
 use Rattle.d64_image.specs.Images.{Image}

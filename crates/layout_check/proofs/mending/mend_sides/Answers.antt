@@ -2,11 +2,11 @@
 use Rattle.std.proofs.Common.{ap, arith, refl, subst, sym, ◌∙◌, ◌+◌}
 use Rattle.std.proofs.lemmas.Option.{slice_get_within}
 use Rattle.std.proofs.lemmas.Result.{err_from_is_err_and}
-use Rattle.d64_image.proofs.Moments.{changes_weaker, no_change, no_reads, reads_then, reads_weaker}
+use Rattle.d64_image.proofs.Moments.{no_change, no_reads, reads_then, reads_weaker}
 use Rattle.d64_image.specs.Images.{Image, sector}
 use Rattle.layout_check.proofs.MapMends.{device_later, mends_read, mends_then, mends_weaker}
 use Rattle.layout_check.proofs.Pointers.{read-there}
-use Rattle.layout_check.proofs.SideMends.{after-side, exact-more, exact-others, side-layouts, side_mends, side_right, with_side}
+use Rattle.layout_check.proofs.SideMends.{after-side, exact-more, exact-others, side-layouts, side_mends, side_right}
 use Rattle.layout_check.specs.Exact.{IsExactSide}
 use Rattle.layout_check.specs.Mended.{KeepsExact, KeepsLayouts}
 use Rattle.layout_check.proofs.mending.mend_sides.Goals as goal

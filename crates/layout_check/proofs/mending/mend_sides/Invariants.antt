@@ -13,5 +13,5 @@ invariant-loop-number g l = record {
   others : KeepsExact (g.D.Sectors.history.image l.fn.disk) (g.D.Sectors.history.image l.disk);
   mends : Mends g.D.Sectors.history l.fn.disk l.disk l.number;
   failures : g.D.Sectors.history.failures l.disk ≡ g.D.Sectors.history.failures l.fn.disk;
-  quiet : AreExactSides (g.D.Sectors.history.image l.fn.disk) l.slot l.blocks l.sides → OnlyReads g.D.Sectors.history l.fn.disk l.disk l.number
+  quiet : AreExactSides (g.D.Sectors.history.image l.fn.disk) l.slot l.blocks l.sides → OnlyReads g.D.Sectors.history l.fn.disk l.disk l.number;
 }

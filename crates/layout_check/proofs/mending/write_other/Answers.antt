@@ -1,8 +1,5 @@
 -- The sector is right already, or it is written.
-use Rattle.std.proofs.Common.{sym, ◌∙◌, refl, inl, arith}
-use Rattle.std.proofs.lemmas.Bool.{false≢true}
-use Rattle.std.proofs.lemmas.Slice.Eq.{bytes_eq-Decides}
-use Rattle.d64_image.proofs.Moments.{no_change, no_reads, write_change, changes_weaker}
+use Rattle.std.proofs.Common.{refl}
 use Rattle.layout_check.proofs.Inexact.{equal-bytes}
 use Rattle.layout_check.proofs.Mendings.{put-same}
 use Rattle.layout_check.proofs.mending.write_other.Goals as goal
