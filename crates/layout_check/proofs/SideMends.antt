@@ -8,10 +8,12 @@ use Rattle.d64_image.proofs.Places.{same_or_other}
 use Rattle.d64_image.specs.History.{Changes, History, OldOr, OnlyReads}
 use Rattle.d64_image.specs.Images.{Image, put, sector}
 use Rattle.d64_image.specs.declared.place.Place.{Place}
+use Rattle.disk_layout.proofs.Agree.{map-unowned, owned-side}
 use Rattle.disk_layout.proofs.Layouts.{IsFile-one, IsLayout-one, get-contains}
 use Rattle.disk_layout.proofs.Once.{Contains-cases, Contains-nil, EachOnce-apart, EachOnce-left, EachOnce-right, all-in, flat_map-in}
 use Rattle.disk_layout.proofs.Twice.{get-one, told-unsound}
 use Rattle.disk_layout.specs.Chain.{EachOnce}
+use Rattle.disk_layout.specs.Directory.{map_place}
 use Rattle.disk_layout.specs.Layout.{File, IsFile, IsLayout, IsSound, Layout, file_owns, is_rel, owners, record_length}
 use Rattle.disk_layout.specs.Side.{side_sector}
 use Rattle.disk_layout.specs.declared.faults.Fault.{Fault}
@@ -21,7 +23,7 @@ use Rattle.layout_check.proofs.Inexact.{parts-of}
 use Rattle.layout_check.proofs.MapMends.{mends_then, mends_write}
 use Rattle.layout_check.proofs.Mendings.{layout-side, mended-side}
 use Rattle.layout_check.specs.Exact.{AreExactSides, IsExactSide, IsFiled}
-use Rattle.layout_check.specs.Mended.{IsMended, IsPartsOf, KeepsExact, KeepsLayouts, Mends, TellsDevice}
+use Rattle.layout_check.specs.Mended.{IsMended, IsPartsOf, KeepsExact, KeepsLayouts, Mends, SameMap, TellsDevice}
 use Rattle.layout_check.specs.Calls.{Tells}
 use Rattle.layout_check.specs.Sides.{HasParts}
 
@@ -114,6 +116,15 @@ side-mended a l img c s bs ss n p size h few here keeps m =
     let own : Contains m.layout.files h.file = (let Q : Layout → Type 0 = λ x. Contains x.files h.file in subst Q (IsLayout-one c h.layout m.layout (keeps h.layout h.sound) m.sound) h.own) in
     subst P (file-sector img s bs ss n h)
     (mended-side a l c h.file n p size m own h.rel (omega (arith, few, ap length h.sides_are)) (ap (λ (xs : List Place). slice_get xs n) h.sides_are ∙ here))
+
+-- 18/0 is no side sector
+pub side-map : (img c : Image) (s : Slot) (bs ss : List Place) (n : ℕ) (p : Place) → IsPartsOf img s bs ss → slice_get ss n ≡ Some p → SameMap img c → SameMap img (with_side c s bs ss n p)
+side-map img c s bs ss n p h here same = sector-put_other c p map_place (side_sector n bs ss (record_length s)) other ∙ same
+  where
+    other : p ≢ map_place
+    other e =
+        let there : slice_get h.file.sides n ≡ Some p = ap (λ (xs : List Place). slice_get xs n) h.sides_are ∙ here in
+        map-unowned img h.layout h.sound (let P : Place → Type 0 = Contains (owners h.layout) in subst P e (owned-side h.layout h.file p h.own (get-contains h.file.sides n p there)))
 
 module _ {D : Type 0} (S : History D) where
   -- what the device has after the write

@@ -1,8 +1,9 @@
 -- What a repair may change, and what it leaves. Our own.
 use Rattle.std.specs.Prelude.{ℕ, ◌≡◌, Contains, IsTrue, List}
 use Rattle.d64_image.specs.History.{Changes, Failed, History}
-use Rattle.d64_image.specs.Images.{Image}
+use Rattle.d64_image.specs.Images.{Image, sector}
 use Rattle.d64_image.specs.declared.place.Place.{Place}
+use Rattle.disk_layout.specs.Directory.{map_place}
 use Rattle.disk_layout.specs.Layout.{File, IsLayout, Layout, is_rel}
 use Rattle.disk_layout.specs.Same.{SameFiles}
 use Rattle.disk_layout.specs.declared.faults.Fault.{Fault}
@@ -50,3 +51,7 @@ IsExactFor old new s = (blocks sides : List Place) → IsPartsOf old s blocks si
 -- the side sectors of all relative entries are
 abbrev pub AreExactFor : Image → Image → Type 0
 AreExactFor old new = (s : Slot) → IsExactFor old new s
+
+-- 18/0 is the same
+abbrev pub SameMap : Image → Image → Type 0
+SameMap old new = sector new map_place ≡ sector old map_place

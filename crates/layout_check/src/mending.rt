@@ -7,7 +7,7 @@ ghost use Rattle.layout_check.specs.Made.{IsMadeMap, IsMadeTrack};
 ghost use Rattle.disk_layout.specs.Layout.{IsSound, is_rel};
 ghost use Rattle.layout_check.specs.Entry.{IsEntry};
 ghost use Rattle.layout_check.specs.Exact.{AreExactSides, HasMap, IsFiled};
-ghost use Rattle.layout_check.specs.Mended.{AreExactFor, IsExactFor, IsPartsOf, KeepsExact, KeepsLayouts, Mends, TellsDevice};
+ghost use Rattle.layout_check.specs.Mended.{AreExactFor, IsExactFor, IsPartsOf, KeepsExact, KeepsLayouts, Mends, SameMap, TellsDevice};
 ghost use Rattle.layout_check.specs.Survey.{IsToldBy};
 
 use crate::entry::is_relative;
@@ -107,6 +107,7 @@ fn mend_sides<D: Sectors>(
     ensures exact { OnOk result (AreExactSides (D.history.image disk.new) slot.now blocks.now sides.now) }
     ensures others { OnOk result (KeepsExact (D.history.image disk.old) (D.history.image disk.new)) }
     ensures layouts { OnOk result (KeepsLayouts (D.history.image disk.old) (D.history.image disk.new)) }
+    ensures map { OnOk result (SameMap (D.history.image disk.old) (D.history.image disk.new)) }
     ensures err { IfErr result (TellsDevice D.history disk.old disk.new) }
     ensures failures { OnOk result (D.history.failures disk.new ≡ D.history.failures disk.old) }
     ensures mends { Mends D.history disk.old disk.new 6 }
@@ -139,6 +140,7 @@ fn mend_relative<D: Sectors>(
     ensures exact { OnOk result (IsExactFor (D.history.image disk.old) (D.history.image disk.new) slot.now) }
     ensures others { OnOk result (KeepsExact (D.history.image disk.old) (D.history.image disk.new)) }
     ensures layouts { OnOk result (KeepsLayouts (D.history.image disk.old) (D.history.image disk.new)) }
+    ensures map { OnOk result (SameMap (D.history.image disk.old) (D.history.image disk.new)) }
     ensures err { IfErr result (TellsDevice D.history disk.old disk.new) }
     ensures failures { OnOk result (D.history.failures disk.new ≡ D.history.failures disk.old) }
     ensures mends { Mends D.history disk.old disk.new 6 }
@@ -155,6 +157,7 @@ pub fn mend_entries<D: Sectors>(disk: &mut D) -> Result<(), Fault>
     requires { IsSound (D.history.image disk.old) }
     ensures exact { OnOk result (AreExactFor (D.history.image disk.old) (D.history.image disk.new)) }
     ensures layouts { OnOk result (KeepsLayouts (D.history.image disk.old) (D.history.image disk.new)) }
+    ensures map { OnOk result (SameMap (D.history.image disk.old) (D.history.image disk.new)) }
     ensures err { IfErr result (TellsDevice D.history disk.old disk.new) }
     ensures failures { OnOk result (D.history.failures disk.new ≡ D.history.failures disk.old) }
     ensures mends { Mends D.history disk.old disk.new 864 }

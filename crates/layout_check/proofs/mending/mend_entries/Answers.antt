@@ -1,10 +1,11 @@
 -- Entry by entry of the directory.
-use Rattle.std.proofs.Common.{arith, refl, sym, subst, ◌∙◌}
+use Rattle.std.proofs.Common.{ap, arith, refl, sym, subst, ◌∙◌}
 use Rattle.std.proofs.lemmas.Bool.{false≢true}
 use borrow.Author.Count.{below_more}
 use Rattle.std.proofs.lemmas.Result.{err_from_is_err_and}
 use Rattle.d64_image.proofs.Moments.{reads_then, reads_weaker}
-use Rattle.d64_image.specs.Images.{Image}
+use Rattle.d64_image.specs.Images.{Image, sector}
+use Rattle.disk_layout.specs.Directory.{map_place}
 use Rattle.disk_layout.specs.Layout.{IsLayout}
 use Rattle.layout_check.proofs.EntryMends.{entry-filed, exact-entries, exact-kept, exact-made, exact-read, exact-same, filed-kept}
 use Rattle.layout_check.proofs.MapMends.{device_later, mends_read, mends_then, mends_weaker}
@@ -33,6 +34,7 @@ loop-slot-init g c =
     let reads = c.in_ok-read_directory.ensures.reads in
     record {
       layouts = λ l h. let P : Image → Type 0 = λ i. IsLayout i l in subst P (sym reads.image) h;
+      map = ap (λ (i : Image). sector i map_place) reads.image;
       exact = λ k low. absurd (omega arith);
       mends = mends_read g.D.Sectors.history c.args.disk.now c.read_directory.new.disk 18 _ reads;
       failures = c.in_ok-read_directory.ensures.failures;
@@ -74,6 +76,7 @@ loop-slot-preserved g c =
           let d = w.mend_relative.new.disk in
           record {
             layouts = rw w.disk-is (λ l h. done.layouts l (old.layouts l h));
+            map = rw w.disk-is (done.map ∙ old.map);
             exact = rw w.disk-is (below_more _ _ (λ k low s there rel. exact-kept _ _ _ s old.layouts done.others (old.exact k low s there rel))
                 (exact-read _ _ items c.loop-slot.slot-index c.slot-item.result c.loop-slot-test.true c.slot-item.is (λ _. exact-made _ _ _ c.slot-item.result old.layouts done.exact)));
             mends = rw w.disk-is (mends_then S a b d _ 6 _ (omega arith) old.mends done.mends);
@@ -82,6 +85,7 @@ loop-slot-preserved g c =
           }
       | else-is_relative w ↦ record {
         layouts = rw w.disk-is old.layouts;
+        map = rw w.disk-is old.map;
         exact = rw w.disk-is (below_more _ _ old.exact
             (exact-read _ _ items c.loop-slot.slot-index c.slot-item.result c.loop-slot-test.true c.slot-item.is (λ rel. absurd (false≢true (sym w.if-is_relative.false ∙ c.is_relative.ensures ∙ rel)))));
         mends = rw w.disk-is (mends_weaker S a b _ _ (omega arith) old.mends);

@@ -7,7 +7,7 @@ use Rattle.layout_check.proofs.Entries.{rel-closed}
 use Rattle.layout_check.proofs.Finding.{if_err, on_ok}
 use Rattle.layout_check.proofs.MapMends.{device_later, mends_read, mends_then}
 use Rattle.layout_check.proofs.SideMends.{parts-at, parts-exact, parts-here, right-there, sound-device}
-use Rattle.layout_check.specs.Mended.{KeepsExact, KeepsLayouts}
+use Rattle.layout_check.specs.Mended.{KeepsExact, KeepsLayouts, SameMap}
 use Rattle.layout_check.proofs.mending.mend_relative.Goals as goal
 
 pub find_parts-requires-clause-closed : goal.find_parts-requires-clause-closed
@@ -61,3 +61,6 @@ returns-clause-quiet g c exact =
     let right = exact c.find_parts.new.blocks.items c.find_parts.new.sides.items (parts-here _ c.args.slot.now c.find_parts.new.blocks.items c.find_parts.new.sides.items c.requires.filed c.requires.rel found.parts) in
     reads_then S c.args.disk.now c.find_parts.new.disk c.mend_sides.new.disk _ 6 738 (omega (arith, found.few)) found.ok.reads
     (c.mend_sides.ensures.quiet (right-there _ _ c.args.slot.now c.find_parts.new.blocks.items c.find_parts.new.sides.items c.as_slice.result.now c.as_slice-2.result.now found.ok.reads.image c.as_slice.ensures.value c.as_slice-2.ensures.value right))
+
+pub returns-clause-map : goal.returns-clause-map
+returns-clause-map g c = on_ok c.mend_sides.result _ _ (λ h. let P : Image → Type 0 = λ i. SameMap i (g.D.Sectors.history.image c.mend_sides.new.disk) in subst P c.in_ok-find_parts.ensures.ok.reads.image h) c.mend_sides.ensures.map

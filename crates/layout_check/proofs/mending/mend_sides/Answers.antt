@@ -6,14 +6,15 @@ use Rattle.d64_image.proofs.Moments.{no_change, no_reads, reads_then, reads_weak
 use Rattle.d64_image.specs.Images.{Image, sector}
 use Rattle.layout_check.proofs.MapMends.{device_later, mends_read, mends_then, mends_weaker}
 use Rattle.layout_check.proofs.Pointers.{read-there}
-use Rattle.layout_check.proofs.SideMends.{after-side, exact-more, exact-others, side-layouts, side_mends, side_right}
+use Rattle.layout_check.proofs.SideMends.{after-side, exact-more, exact-others, side-layouts, side-map, side_mends, side_right}
 use Rattle.layout_check.specs.Exact.{IsExactSide}
-use Rattle.layout_check.specs.Mended.{KeepsExact, KeepsLayouts}
+use Rattle.layout_check.specs.Mended.{KeepsExact, KeepsLayouts, SameMap}
 use Rattle.layout_check.proofs.mending.mend_sides.Goals as goal
 
 pub loop-number-init : goal.loop-number-init
 loop-number-init g c = record {
   layouts = λ l h. h;
+  map = refl;
   exact = λ j low. absurd (omega arith);
   others = λ s bs ss h exact. exact;
   mends = λ i l h. no_change g.D.Sectors.history c.args.disk.now _ h;
@@ -79,6 +80,7 @@ loop-number-preserved g c =
     let Q : Image → Type 0 = KeepsExact (S.image c.args.disk.now) in
     record {
       layouts = subst P (sym done) (side-layouts (S.image c.args.disk.now) now s bs ss n p size c.requires.parts c.requires.few here old.layouts);
+      map = let R : Image → Type 0 = SameMap (S.image c.args.disk.now) in subst R (sym done) (side-map (S.image c.args.disk.now) now s bs ss n p c.requires.parts here old.map);
       exact = λ j low q there. let R : Image → Type 0 = λ i. IsExactSide i s bs ss j q in subst R (sym done) (exact-more (S.image c.args.disk.now) now s bs ss n p size c.requires.parts here old.exact j low q there);
       others = subst Q (sym done) (exact-others (S.image c.args.disk.now) now s bs ss n p size c.requires.parts here old.others);
       mends = side_mends S c.args.disk.now c.loop-number.disk c.read.new.self c.write_other.new.disk s bs ss n p c.side_bytes-wanted.result c.requires.parts c.requires.few here old.layouts old.mends c.in-Ok.ensures.reads c.side_bytes-wanted.ensures c.in_ok-write_other.ensures.held;
