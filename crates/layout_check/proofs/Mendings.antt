@@ -1,8 +1,9 @@
 -- Writes of a repair: what each leaves of the disk.
-use Rattle.std.proofs.Common.{ℕ, ◌≡◌, ◌≢◌, ◌≤◌, List, [], ◌∷◌, ◌++◌, length, map, slice_index, sym, ◌∙◌, ap, refl, subst, inl, inr, IsTrue}
+use Rattle.std.proofs.Common.{ℕ, ◌≡◌, ◌≢◌, ◌≤◌, List, [], ◌∷◌, ◌++◌, length, map, slice_index, sym, ◌∙◌, ap, refl, subst, inl, inr, IsTrue, ◌⊎◌, ◌<◌, ◌+◌, ◌*◌, ◌/◌, arith}
 use Rattle.std.specs.Prelude.{Contains, Some, drop, flat_map, slice_get, take}
 use Rattle.std.proofs.lemmas.List.Elements.{Contains-append_right}
 use Rattle.d64_image.proofs.Images.{put-sector, sector-put_other, sector-put_same}
+use Rattle.d64_image.proofs.Places.{same_or_other}
 use Rattle.d64_image.specs.Images.{Image, put, sector}
 use Rattle.d64_image.specs.declared.place.Place.{Place}
 use Rattle.disk_layout.proofs.Agree.{IsLayout-put_map, map-unowned, owned-block, owned-directory, stays-agree}
@@ -10,11 +11,13 @@ use Rattle.disk_layout.proofs.Exact.{exact-side}
 use Rattle.disk_layout.proofs.Layouts.{block-no_side, get-contains}
 use Rattle.disk_layout.proofs.Once.{EachOnce-apart, EachOnce-right, flat_map-in}
 use Rattle.disk_layout.proofs.Recount.{split-at}
-use Rattle.disk_layout.proofs.Recounts.{map-same_on}
+use Rattle.disk_layout.proofs.Recounts.{IsLayout-put_counts, map-same_on, reread_layout, stays-put_counts}
 use Rattle.disk_layout.proofs.SideWrites.{IsLayout-put_side}
 use Rattle.disk_layout.specs.Directory.{map_place}
 use Rattle.disk_layout.specs.Layout.{File, IsLayout, Layout, file_owns, is_rel, owners, record_length}
-use Rattle.disk_layout.specs.Same.{SameButCounts, SameFiles, Stays, stays_of}
+use Rattle.disk_layout.specs.Chain.{byte}
+use Rattle.disk_layout.specs.Entries.{IsRecountedAll}
+use Rattle.disk_layout.specs.Same.{IsCountByte, SameButCounts, SameFiles, Stays, stays_of}
 use Rattle.disk_layout.specs.Side.{side_sector}
 use Rattle.layout_check.specs.Made.{SameHeader}
 use Rattle.layout_check.specs.Mended.{IsMended}
@@ -116,3 +119,69 @@ mended-side a l c f j p size h own rel few there = record {
 
 pub put-same : (c : Image) (p : Place) (had wanted : List ℕ) → had ≡ sector c p → had ≡ wanted → c ≡ put c p wanted
 put-same c p had wanted read same = sym (put-sector c p) ∙ ap (put c p) (sym read ∙ same)
+
+-- the eight entries, where only block counts differ
+pub record IsCounted (old new : List ℕ) : Type 0 where
+  pub old_long : length old ≡ 256
+  pub long : length new ≡ 256
+  pub bytes : (i : ℕ) → i < 256 → IsCountByte old i ⊎ (slice_index new i ≡ slice_index old i)
+
+counted-all : (old new : List ℕ) → IsCounted old new → IsRecountedAll old new
+counted-all old new h = record {
+  old_long = h.old_long;
+  long = h.long;
+  same = λ n i low below. elim (h.bytes (32 * n + i) (omega arith)) [
+    | inl x ↦ absurd (omega (arith, x.0))
+    | inr e ↦ e
+  ];
+}
+
+-- a byte that may have changed twice
+count-byte : (a c : List ℕ) (i : ℕ) → i < 256 → ((k : ℕ) → k < 256 → IsCountByte a k ⊎ (slice_index c k ≡ slice_index a k)) → IsCountByte c i → IsCountByte a i
+count-byte a c i low same (high, kind) = (high, of_kind (same (32 * (i / 32) + 2) (omega arith)) kind)
+  where
+    of_kind : IsCountByte a (32 * (i / 32) + 2) ⊎ (slice_index c (32 * (i / 32) + 2) ≡ slice_index a (32 * (i / 32) + 2)) → (slice_index c (32 * (i / 32) + 2) ≡ 132) ⊎ (slice_index c (32 * (i / 32) + 2) ≡ 196) → (slice_index a (32 * (i / 32) + 2) ≡ 132) ⊎ (slice_index a (32 * (i / 32) + 2) ≡ 196)
+    of_kind (inl x) k = absurd (omega (arith, x.0))
+    of_kind (inr e) (inl k) = inl (sym e ∙ k)
+    of_kind (inr e) (inr k) = inr (sym e ∙ k)
+
+-- a write of a directory sector that changes block counts alone
+pub mended-count : (a : Image) (l : Layout) (c : Image) (p : Place) (b : List ℕ) → length c ≡ 683 → (h : IsMended a l c) → Contains h.layout.directory p → IsCounted (sector c p) b → IsMended a l (put c p b)
+mended-count a l c p b size h on counted = record {
+  layout = reread_layout d m;
+  sound = IsLayout-put_counts c m p b size h.sound on all;
+  same = record {
+    directory = h.same.directory;
+    files = stays-put_counts c m p b size h.sound on all ∙ h.same.files;
+    entries = λ q there i low. elim (same_or_other p q) [
+      | inl e ↦ let P : Place → Type 0 = λ x. IsCountByte (sector a x) i ⊎ (byte d x i ≡ byte a x i) in subst P e (mine (rw e there) i low)
+      | inr ne ↦ entries-kept a c d q (sector-put_other c p q b ne) (h.same.entries q there) i low
+    ];
+    header = ap (λ (x : List ℕ). take 4 x ++ drop 144 x) (sector-put_other c p map_place b no_map) ∙ h.same.header;
+    elsewhere = λ q ne off out. sector-put_other c p q b (λ e. off (rw (← h.same.directory, ← e) on)) ∙ h.same.elsewhere q ne off out;
+  };
+}
+  where
+    m : Layout
+    m = h.layout
+
+    d : Image
+    d = put c p b
+
+    all : IsRecountedAll (sector c p) b
+    all = counted-all (sector c p) b counted
+
+    here : sector d p ≡ b
+    here = sector-put_same c p b size
+
+    no_map : p ≢ map_place
+    no_map e = map-unowned c m h.sound (rw (← e) (owned-directory m p on))
+
+    mine : Contains l.directory p → (i : ℕ) → i < 256 → IsCountByte (sector a p) i ⊎ (byte d p i ≡ byte a p i)
+    mine there i low = elim (counted.bytes i low) [
+      | inl x ↦ inl (count-byte (sector a p) (sector c p) i low (h.same.entries p there) x)
+      | inr e ↦ elim (h.same.entries p there i low) [
+        | inl x ↦ inl x
+        | inr f ↦ inr (ap (λ (x : List ℕ). slice_index x i) here ∙ e ∙ f)
+      ]
+    ]
