@@ -10,6 +10,8 @@ pub mod Listed
 pub mod Ones
 pub mod Pointers
 pub mod Progress
+pub mod RightCounts
+pub mod RightSlots
 pub mod Roots
 pub mod SideWalks
 pub mod Verdict

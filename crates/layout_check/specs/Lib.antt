@@ -5,5 +5,6 @@ pub mod Found
 pub mod Marked
 pub mod Open
 pub mod Owners
+pub mod Recounted
 pub mod Sides
 pub mod Survey

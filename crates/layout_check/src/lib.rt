@@ -9,6 +9,7 @@ mod files;
 mod maps;
 mod outcome;
 mod owners;
+mod recounting;
 mod sides;
 mod surveying;
 #[cfg(test)]
@@ -16,4 +17,5 @@ mod tests;
 
 pub use checking::check;
 pub use outcome::Survey;
+pub use recounting::mend_counts;
 pub use surveying::survey;
