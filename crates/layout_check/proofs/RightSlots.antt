@@ -127,3 +127,19 @@ right-same img p x y n e right l f h at = ap count_field e ∙ right l f h at
 -- in a counted image each is right
 pub counted-right : (img : Image) (p : Place) → AreCounted img → AreRightIn img p (sector img p)
 counted-right img p all n low l f h at = ap count_field (sym (slot-is img l f p n h at)) ∙ all l f h at.own at.rel
+
+-- one slot more
+pub right-next : (img now : Image) (p : Place) (x y : Sector) (n : ℕ) → now ≡ img → n < 8 → IsRecounted x y n → ((k : ℕ) → k < n → IsRightAt img p x k) → IsRightAt now p y n → (k : ℕ) → k < n + 1 → IsRightAt img p y k
+right-next img now p x y n same low h old new k below = elim (cases_lt k n) [
+  | inl lt ↦ right-same img p x y k (other-slot p x y n k h (omega arith) (λ e. omega (arith, e, lt))) (old k lt)
+  | inr high ↦ let e : n ≡ k = omega arith in
+      let P : ℕ → Type 0 = λ m. IsRightAt img p y m in
+      let Q : Image → Type 0 = λ i. IsRightAt i p y n in
+      subst P e (subst Q same new)
+]
+
+-- a slot that was wrong, and was so from the start
+pub wrong-next : (img now : Image) (p : Place) (x y : Sector) (n : ℕ) → now ≡ img → n < 8 → slot_in p y n ≡ slot_in p x n → ¬ (IsRightAt now p y n) → ¬ (AreRightIn img p x)
+wrong-next img now p x y n same low e wrong all =
+    let Q : Image → Type 0 = λ i. IsRightAt i p y n in
+    wrong (subst Q (sym same) (right-same img p x y n e (all n low)))
