@@ -12,6 +12,7 @@ pub mod Pointers
 pub mod Progress
 pub mod RightCounts
 pub mod RightSlots
+pub mod RightWrites
 pub mod Roots
 pub mod SideWalks
 pub mod Verdict

@@ -128,13 +128,17 @@ fn mend_sector<D: Sectors>(disk: &mut D, place: Place) -> Result<(), Fault>
     ensures failures { TellsFault D.history disk.old disk.new result }
 {
     let mut bytes = [0u8; 256];
-    if disk.read(place, &mut bytes).is_err() {
-        return Err(Fault::Device(place));
+    match disk.read(place, &mut bytes) {
+        Ok(()) => {}
+        Err(_) => return Err(Fault::Device(place)),
     }
-    if recount_sector(disk, place, &mut bytes)? && disk.write(place, &bytes).is_err() {
-        return Err(Fault::Device(place));
+    if !recount_sector(disk, place, &mut bytes)? {
+        return Ok(());
     }
-    Ok(())
+    match disk.write(place, &bytes) {
+        Ok(()) => Ok(()),
+        Err(_) => Err(Fault::Device(place)),
+    }
 }
 
 /// Finds the sectors of a sound disk's directory, in order.
