@@ -100,3 +100,16 @@ module _ {D : Type 0} (S : History D) where
       let P : Sector → Type 0 = λ x. AreRightIn (S.image a) p x in
       let Q : Image → Type 0 = λ i. AreRightIn i p bytes in
       subst P (sym there) (subst Q same right)
+
+  pub right_unwritten : (a b : D) (c : Image) (p : Place) (new old : Sector) → S.image b ≡ S.image a → c ≡ S.image a → new ≡ old → old ≡ sector (S.image a) p → AreRightIn (S.image b) p new → AreRightIn (S.image a) p (sector c p)
+  right_unwritten a b c p new old same also kept read right =
+      let there : new ≡ sector c p = kept ∙ read ∙ sym (ap (λ i. sector i p) also) in
+      let P : Sector → Type 0 = λ x. AreRightIn (S.image a) p x in
+      let Q : Image → Type 0 = λ i. AreRightIn i p new in
+      subst P there (subst Q same right)
+
+  pub right_read : (a b : D) (p : Place) (old : Sector) → S.image b ≡ S.image a → old ≡ sector (S.image a) p → AreRightIn (S.image a) p (sector (S.image a) p) → AreRightIn (S.image b) p old
+  right_read a b p old same read right =
+      let P : Sector → Type 0 = λ x. AreRightIn (S.image a) p x in
+      let Q : Image → Type 0 = λ i. AreRightIn i p old in
+      subst Q (sym same) (subst P (sym read) right)
