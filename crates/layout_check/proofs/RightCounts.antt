@@ -1,24 +1,20 @@
 -- Directory sectors whose block counts alone differ: the image keeps its files, and its counts are those written.
-use Rattle.std.proofs.Common.{ℕ, ◌≡◌, ◌≢◌, ◌<◌, ◌≤◌, ◌+◌, ◌*◌, ◌%◌, ◌/◌, ◌⊎◌, Bool, true, false, List, [], ◌∷◌, ◌++◌, length, map, take, drop, sym, ◌∙◌, ap, refl, arith, subst, inl, inr, slice_index}
-use Rattle.std.specs.Prelude.{Contains, IsTrue, flat_map, slice_range, nat_eq, ◌||◌}
+use Rattle.std.proofs.Common.{ℕ, ◌≡◌, ◌<◌, ◌+◌, ◌*◌, ◌%◌, ◌/◌, List, [], ◌∷◌, ◌++◌, length, map, take, drop, sym, ◌∙◌, ap, refl, arith, subst, inl, inr, slice_index}
+use Rattle.std.specs.Prelude.{Contains, IsTrue, flat_map, nat_eq, ◌||◌}
 use Rattle.d64_image.proofs.Images.{is_sector, sector-put_other, sector-put_same}
 use Rattle.d64_image.proofs.Places.{same_or_other}
 use Rattle.d64_image.specs.Images.{Image, IsImage, Sector, put, sector}
 use Rattle.d64_image.specs.declared.place.Place.{Place}
 use Rattle.disk_layout.proofs.Chains.{SameLinks}
-use Rattle.disk_layout.proofs.Counts.{range-piece, uncounted-face}
-use Rattle.disk_layout.proofs.Faces.{with_slot}
-use Rattle.disk_layout.proofs.Layouts.{IsLayout-one, KeepsFiles, all_blocks, all_sides, block-owned, side-owned}
+use Rattle.disk_layout.proofs.Counts.{uncounted-face}
+use Rattle.disk_layout.proofs.Layouts.{IsLayout-one, KeepsFiles, block-owned, side-owned}
 use Rattle.disk_layout.proofs.Once.{Contains-cases, Contains-here, Contains-nil, Contains-there, EachOnce-apart, map-in}
-use Rattle.disk_layout.proofs.Pieces.{length-piece, piece, piece-byte, piece-same}
 use Rattle.disk_layout.proofs.Recount.{slot-there}
 use Rattle.disk_layout.proofs.Recounts.{IsLayout-reread, KeepsEntries, keeps-put_counts, reread, reread_layout, reslot, slot-of, slot-same, stays-reread}
 use Rattle.disk_layout.specs.Directory.{map_place, slot_in}
-use Rattle.disk_layout.specs.Entries.{IsRecounted, IsRecountedAll, uncounted}
+use Rattle.disk_layout.specs.Entries.{IsRecountedAll, uncounted}
 use Rattle.disk_layout.specs.Layout.{File, IsLayout, Layout, count_field, file_owns, is_rel, owners}
-use Rattle.disk_layout.specs.Rest.{header_of}
-use Rattle.disk_layout.specs.Same.{IsCountByte, SameButCounts, SameFiles}
-use Rattle.disk_layout.specs.declared.slot.Slot.{Slot}
+use Rattle.disk_layout.specs.Same.{IsCountByte, SameFiles}
 use Rattle.layout_check.specs.Recounted.{AreCounted, AreRightIn, IsCountedAs, IsMended, IsRecountAt, IsRecountOf, IsRightAt, owned_count}
 
 in-map : {X Y : Type 0} (f : X → Y) (xs : List X) (x : X) → Contains xs x → Contains (map f xs) (f x)

@@ -1,7 +1,7 @@
 -- One slot of a directory sector: its block count read, judged, and written.
 use Rattle.std.proofs.Common.{ℕ, ◌≡◌, ◌≢◌, ◌<◌, ◌≤◌, ◌+◌, ◌*◌, ◌%◌, ◌/◌, ◌⊎◌, List, length, take, drop, set, sym, ◌∙◌, ap, refl, arith, subst, inl, inr, slice_index}
-use Rattle.std.specs.Prelude.{Contains, IsTrue, Some, nat_eq, slice_range, ◌||◌}
-use Rattle.std.proofs.lemmas.Bool.{cases_lt, false≢true}
+use Rattle.std.specs.Prelude.{IsTrue, nat_eq, slice_range, ◌||◌}
+use Rattle.std.proofs.lemmas.Bool.{cases_lt}
 use Rattle.std.proofs.lemmas.Bool.Decides.{nat_tests}
 use Rattle.std.proofs.lemmas.Grind.{get_or-set_at}
 use Rattle.std.proofs.lemmas.List.{get_or-drop, get_or-set_other, get_or-take, length-set}

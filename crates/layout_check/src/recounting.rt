@@ -142,10 +142,7 @@ fn mend_sector<D: Sectors>(disk: &mut D, place: Place) -> Result<(), Fault>
 }
 
 /// Finds the sectors of a sound disk's directory, in order.
-fn find_directory<D: Sectors>(
-    disk: &mut D,
-    places: &mut ArrayVec<Place, 720>,
-) -> Result<(), Fault>
+fn find_directory<D: Sectors>(disk: &mut D, places: &mut ArrayVec<Place, 720>) -> Result<(), Fault>
     requires { IsSound (D.history.image disk.old) }
     ensures directory { OnOk result ((l : Layout) → IsLayout (D.history.image disk.old) l → places.new.items ≡ l.directory) }
     ensures ok { OnOk result (Passes D.history disk.old disk.new 720) }

@@ -5,7 +5,6 @@ use Rattle.disk_layout.proofs.Chains.{IsChain-one}
 use Rattle.disk_layout.specs.Directory.{directory_start}
 use Rattle.layout_check.proofs.Calls.{passes_none, passes_weaker}
 use Rattle.layout_check.proofs.Roots.{again-tells}
-use Rattle.layout_check.proofs.RightWrites.{few-sectors}
 use Rattle.layout_check.proofs.recounting.find_directory.Goals as goal
 
 pub returns-in_err-walked-clause-err : goal.returns-in_err-walked-clause-err

@@ -1,8 +1,8 @@
 -- The sector is read, its counts are made right, and it is written where one was wrong.
-use Rattle.std.proofs.Common.{ap, arith, refl, subst, sym, ◌∙◌}
+use Rattle.std.proofs.Common.{arith, refl, subst, sym, ◌∙◌}
 use Rattle.std.proofs.lemmas.Result.{err_from_is_err_and}
 use Rattle.d64_image.proofs.Moments.{reads_then}
-use Rattle.d64_image.specs.Images.{Image, Sector, sector}
+use Rattle.d64_image.specs.Images.{Image, Sector}
 use Rattle.disk_layout.specs.Layout.{IsSound}
 use Rattle.layout_check.proofs.RightWrites.{device-told, reads_moment, right_read, right_unwritten, right_written, write_moment}
 use Rattle.layout_check.specs.Recounted.{IsCountedAs}

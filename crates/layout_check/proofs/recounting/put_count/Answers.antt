@@ -1,7 +1,6 @@
 -- The two bytes, low byte first.
-use Rattle.std.proofs.Common.{ap, arith, sym, ◌∙◌, ◌%◌, ◌+◌, ◌*◌, ◌/◌}
+use Rattle.std.proofs.Common.{arith, ◌%◌, ◌+◌, ◌*◌, ◌/◌}
 use Rattle.layout_check.proofs.RightSlots.{count-there, two-high, two-low}
-use Rattle.layout_check.proofs.RightCounts.{recount-then}
 use Rattle.layout_check.proofs.recounting.put_count.Goals as goal
 
 pub returns-clause-count : goal.returns-clause-count

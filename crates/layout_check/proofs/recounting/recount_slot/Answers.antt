@@ -1,5 +1,5 @@
 -- The slot of these bytes is that of the image.
-use Rattle.std.proofs.Common.{ap, List, sym, ℕ, ◌∙◌, ◌≡◌, false, true}
+use Rattle.std.proofs.Common.{ap, List, sym, ℕ, ◌∙◌, ◌≡◌}
 use Rattle.std.specs.Prelude.{slice_range}
 use Rattle.std.proofs.lemmas.Bool.{false≢true}
 use Rattle.byteorder.specs.Endian.{little_number}
