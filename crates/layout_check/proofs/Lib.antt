@@ -17,3 +17,4 @@ pub mod Roots
 pub mod SideWalks
 pub mod Verdict
 pub mod Walked
+pub mod WritesOnce

@@ -14,6 +14,7 @@ use Rattle.disk_layout.proofs.Directories.{directory-few}
 use Rattle.disk_layout.proofs.Layouts.{IsLayout-one}
 use Rattle.disk_layout.proofs.Once.{Contains-cases, Contains-here, Contains-nil, Contains-there}
 use Rattle.disk_layout.proofs.Twice.{told-unsound}
+use Rattle.disk_layout.specs.Chain.{EachOnce}
 use Rattle.disk_layout.specs.Directory.{IsDirectory, IsDirectoryPlace, map_place}
 use Rattle.disk_layout.specs.Fault.{Holds}
 use Rattle.disk_layout.specs.Layout.{IsLayout, IsSound, Layout}
@@ -49,6 +50,9 @@ few-sectors img ps es d = omega (arith, directory-few ps d.chain.once (places-on
 
 pub few-of : (img : Image) (ps : List Place) → IsSound img → ((l : Layout) → IsLayout img l → ps ≡ l.directory) → length ps ≤ 18
 few-of img ps (l, h) same = omega (arith, few-sectors img l.directory _ h.directory, ap length (same l h))
+
+pub once-of : (img : Image) (ps : List Place) → IsSound img → ((l : Layout) → IsLayout img l → ps ≡ l.directory) → EachOnce ps
+once-of img ps (l, h) same = let P : List Place → Type 0 = EachOnce in subst P (sym (same l h)) h.directory.chain.once
 
 -- the image in which directory sectors were mended so far
 module _ (a b : Image) (ps : List Place) (full : length a ≡ 683) (l : Layout) (h : IsLayout a l) (same : ps ≡ l.directory) (r : IsRecountOf a b ps) where

@@ -1,7 +1,9 @@
 -- Block counts made right, a directory sector at a time. Our own words on the block count of the 1541 User's Guide.
-use Rattle.std.specs.Prelude.{ℕ, ◌≡◌, ◌+◌, ◌<◌, ◌⊎◌, List, [], ◌∷◌, Contains, IsTrue, length, slice_index}
+use Rattle.std.specs.Prelude.{ℕ, ◌≡◌, ◌+◌, ◌<◌, ◌⊎◌, List, [], ◌∷◌, Contains, IsTrue, length, slice_index, ◌≤◌, ◌≢◌}
+use Rattle.d64_image.specs.History.{History}
 use Rattle.d64_image.specs.Images.{Image, Sector, sector}
 use Rattle.d64_image.specs.declared.place.Place.{Place}
+use Rattle.disk_layout.specs.Chain.{EachOnce}
 use Rattle.disk_layout.specs.Directory.{slot_in}
 use Rattle.disk_layout.specs.Layout.{File, IsLayout, Layout, count_field, is_rel, sides_for}
 use Rattle.disk_layout.specs.Same.{IsCountByte, SameFiles}
@@ -69,3 +71,15 @@ IsRecountAt old p new = IsRecountOf old new (p ∷ [])
 -- the fault tells of the device
 abbrev pub IsOfDevice : Fault → Type 0
 IsOfDevice fault = (p : Place) × (fault ≡ Device p)
+
+-- a call that makes no write, or one that leaves another sector at p
+abbrev pub WritesOther : {D : Type 0} → History D → D → D → Place → Type 0
+WritesOther S old new p = (S.writes new ≡ S.writes old) ⊎ ((sector (S.image new) p ≢ sector (S.image old) p) × (S.writes new ≤ S.writes old + 1))
+
+-- a call that makes at most one write for each of these sectors that it leaves another, and no more
+pub record WritesOnce {D : Type 0} (S : History D) (old new : D) (ps : List Place) : Type 0 where
+  pub written : List Place
+  pub once : EachOnce written
+  pub own : (q : Place) → Contains written q → Contains ps q
+  pub other : (q : Place) → Contains written q → sector (S.image new) q ≢ sector (S.image old) q
+  pub writes : S.writes new ≤ S.writes old + length written

@@ -9,7 +9,7 @@ ghost use Rattle.disk_layout.specs.Layout.{IsLayout, IsSound, Layout, count_fiel
 ghost use Rattle.d64_image.specs.declared.place.Place.{Place};
 ghost use Rattle.layout_check.specs.Calls.{Passes, Tells};
 ghost use Rattle.layout_check.specs.Entry.{IsEntry};
-ghost use Rattle.layout_check.specs.Recounted.{AreCounted, AreRightIn, IsCountOf, IsCountedAs, IsInDirectory, IsOfDevice, IsRecountAt, IsRightAt, KeepsLayouts};
+ghost use Rattle.layout_check.specs.Recounted.{AreCounted, AreRightIn, IsCountOf, IsCountedAs, IsInDirectory, IsOfDevice, IsRecountAt, IsRightAt, KeepsLayouts, WritesOnce, WritesOther};
 
 use crate::entry::is_relative;
 use crate::sides::find_parts;
@@ -123,6 +123,7 @@ fn mend_sector<D: Sectors>(disk: &mut D, place: Place) -> Result<(), Fault>
     requires own { IsInDirectory (D.history.image disk.old) place }
     ensures right { OnOk result (AreRightIn (D.history.image disk.old) place (sector (D.history.image disk.new) place)) }
     ensures moments { Changes D.history disk.old disk.new 1 (IsRecountAt (D.history.image disk.old) place) }
+    ensures once { WritesOther D.history disk.old disk.new place }
     ensures silent { AreRightIn (D.history.image disk.old) place (sector (D.history.image disk.old) place) → OnlyReads D.history disk.old disk.new 5857 }
     ensures err { IfErr result IsOfDevice }
     ensures failures { TellsFault D.history disk.old disk.new result }
@@ -164,6 +165,7 @@ pub fn mend_counts<D: Sectors>(disk: &mut D) -> Result<(), Fault>
     ensures counted { OnOk result (AreCounted (D.history.image disk.new)) }
     // every image held, the last one too, has the same files
     ensures moments { Changes D.history disk.old disk.new 18 (KeepsLayouts (D.history.image disk.old)) }
+    ensures once { (l : Layout) → IsLayout (D.history.image disk.old) l → WritesOnce D.history disk.old disk.new l.directory }
     ensures silent { AreCounted (D.history.image disk.old) → OnlyReads D.history disk.old disk.new 106146 }
     ensures err { IfErr result IsOfDevice }
     ensures failures { TellsFault D.history disk.old disk.new result }

@@ -5,6 +5,7 @@ use Rattle.d64_image.specs.History.{Changes, OnlyReads}
 use Rattle.d64_image.specs.Images.{sector}
 use Rattle.d64_image.specs.declared.place.Place.{Place}
 use Rattle.layout_check.specs.Recounted.{AreCounted, AreRightIn, IsRecountOf}
+use Rattle.layout_check.proofs.WritesOnce.{IsWriting}
 use Rattle.layout_check.proofs.recounting.mend_counts.Given as goal
 
 abbrev pub invariant-loop-place : goal.invariant-loop-place
@@ -13,6 +14,7 @@ invariant-loop-place g l =
     record {
       moments : Changes S l.fn.disk l.disk l.place-index (λ c. IsRecountOf (S.image l.fn.disk) c l.place-items);
       right : (j : ℕ) → j < l.place-index → (q : Place) → slice_get l.place-items j ≡ Some q → AreRightIn (S.image l.fn.disk) q (sector (S.image l.disk) q);
+      once : IsWriting S l.fn.disk l.disk l.place-items l.place-index;
       silent : AreCounted (S.image l.fn.disk) → OnlyReads S l.fn.disk l.disk (720 + 5857 * l.place-index);
       failures : S.failures l.disk ≡ S.failures l.fn.disk;
     }

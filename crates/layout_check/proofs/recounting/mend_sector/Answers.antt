@@ -1,8 +1,10 @@
 -- The sector is read, its counts are made right, and it is written where one was wrong.
-use Rattle.std.proofs.Common.{arith, refl, subst, sym, ◌∙◌}
+use Rattle.d64_image.proofs.Images.{sector-put_same}
+use Rattle.layout_check.proofs.WritesOnce.{right-other}
+use Rattle.std.proofs.Common.{inr, ◌≡◌, ap, arith, refl, subst, sym, ◌∙◌}
 use Rattle.std.proofs.lemmas.Result.{err_from_is_err_and}
 use Rattle.d64_image.proofs.Moments.{reads_then}
-use Rattle.d64_image.specs.Images.{Image, Sector}
+use Rattle.d64_image.specs.Images.{Image, Sector, sector}
 use Rattle.disk_layout.specs.Layout.{IsSound}
 use Rattle.layout_check.proofs.RightWrites.{device-told, reads_moment, right_read, right_unwritten, right_written, write_moment}
 use Rattle.layout_check.specs.Recounted.{IsCountedAs}
@@ -61,3 +63,13 @@ returns-in-Err-write-clause-silent g c right =
 
 pub returns-in-Err-write-clause-err : goal.returns-in-Err-write-clause-err
 returns-in-Err-write-clause-err g c = (c.args.place, refl)
+
+pub returns-in-Ok-write-clause-once : goal.returns-in-Ok-write-clause-once
+returns-in-Ok-write-clause-once g c =
+    let S = g.D.Sectors.history in
+    let now = c.in_ok-recount_sector.ensures in
+    let there : sector (S.image c.write.new.self) c.args.place ≡ c.recount_sector.new.bytes = ap (λ i. sector i c.args.place) c.in-Ok-write.ensures.ok ∙ sector-put_same (S.image c.recount_sector.new.disk) c.args.place c.recount_sector.new.bytes (S.whole c.recount_sector.new.disk).size in
+    inr (
+      (λ e. right-other _ c.args.place c.read.new.to c.recount_sector.new.bytes (now.wrong c.if-not-branch.false) now.right (sym there ∙ e ∙ sym c.in-Ok.ensures.sector)),
+      omega (arith, c.in-Ok-write.ensures.counted, now.ok.reads.writes, c.read.ensures.reads.writes),
+    )
