@@ -10,6 +10,8 @@ mod maps;
 mod outcome;
 mod owners;
 mod recounting;
+#[cfg(test)]
+mod recounting_tests;
 mod sides;
 mod surveying;
 #[cfg(test)]
