@@ -14,8 +14,12 @@ pub mod Mendings
 pub mod Ones
 pub mod Pointers
 pub mod Progress
+pub mod RightCounts
+pub mod RightSlots
+pub mod RightWrites
 pub mod Roots
 pub mod SideMends
 pub mod SideWalks
 pub mod Verdict
 pub mod Walked
+pub mod WritesOnce

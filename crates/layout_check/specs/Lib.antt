@@ -7,5 +7,6 @@ pub mod Marked
 pub mod Mended
 pub mod Open
 pub mod Owners
+pub mod Recounted
 pub mod Sides
 pub mod Survey

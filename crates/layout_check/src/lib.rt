@@ -10,6 +10,9 @@ mod maps;
 mod mending;
 mod outcome;
 mod owners;
+mod recounting;
+#[cfg(test)]
+mod recounting_tests;
 mod sides;
 mod surveying;
 #[cfg(test)]
@@ -17,4 +20,5 @@ mod tests;
 
 pub use checking::check;
 pub use outcome::Survey;
+pub use recounting::mend_counts;
 pub use surveying::survey;
