@@ -14,6 +14,8 @@ pub mod Mendings
 pub mod Ones
 pub mod Pointers
 pub mod Progress
+pub mod RepairRuns
+pub mod Repairs
 pub mod RightCounts
 pub mod RightSlots
 pub mod RightWrites

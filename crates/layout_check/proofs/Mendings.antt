@@ -185,3 +185,26 @@ mended-count a l c p b size h on counted = record {
         | inr f ↦ inr (ap (λ (x : List ℕ). slice_index x i) here ∙ e ∙ f)
       ]
     ]
+
+-- files that stay, and stay once more
+pub mended-then : (a : Image) (l : Layout) (c d : Image) (n : Layout) → (h : IsMended a l c) → IsLayout d n → SameFiles c d h.layout n → IsMended a l d
+mended-then a l c d n h sound y = record {
+  layout = n;
+  sound = sound;
+  same = record {
+    directory = y.directory ∙ h.same.directory;
+    files = y.files ∙ h.same.files;
+    entries = λ p on i low. elim (y.entries p (rw h.same.directory on) i low) [
+      | inl t ↦ inl (count-byte (sector a p) (sector c p) i low (h.same.entries p on) t)
+      | inr e ↦ elim (h.same.entries p on i low) [
+        | inl t ↦ inl t
+        | inr f ↦ inr (e ∙ f)
+      ]
+    ];
+    header = y.header ∙ h.same.header;
+    elsewhere = λ p ne off out. y.elsewhere p ne
+      (λ on. off (let P : List Place → Type 0 = λ ps. Contains ps p in subst P h.same.directory on))
+      (λ on. out (let P : List Place → Type 0 = λ ps. Contains ps p in subst P (same-sides a c l h.layout h.same) on))
+      ∙ h.same.elsewhere p ne off out;
+  };
+}

@@ -8,5 +8,6 @@ pub mod Mended
 pub mod Open
 pub mod Owners
 pub mod Recounted
+pub mod Repaired
 pub mod Sides
 pub mod Survey

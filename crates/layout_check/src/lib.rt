@@ -11,6 +11,7 @@ mod mending;
 mod outcome;
 mod owners;
 mod recounting;
+mod repairing;
 #[cfg(test)]
 mod recounting_tests;
 mod sides;
@@ -20,5 +21,5 @@ mod tests;
 
 pub use checking::check;
 pub use outcome::Survey;
-pub use recounting::mend_counts;
+pub use repairing::repair;
 pub use surveying::survey;
