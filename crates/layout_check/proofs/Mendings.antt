@@ -203,8 +203,8 @@ mended-then a l c d n h sound y = record {
     ];
     header = y.header ∙ h.same.header;
     elsewhere = λ p ne off out. y.elsewhere p ne
-      (λ on. off (let P : List Place → Type 0 = λ ps. Contains ps p in subst P h.same.directory on))
-      (λ on. out (let P : List Place → Type 0 = λ ps. Contains ps p in subst P (same-sides a c l h.layout h.same) on))
-      ∙ h.same.elsewhere p ne off out;
+        (λ on. off (let P : List Place → Type 0 = λ ps. Contains ps p in subst P h.same.directory on))
+        (λ on. out (let P : List Place → Type 0 = λ ps. Contains ps p in subst P (same-sides a c l h.layout h.same) on))
+        ∙ h.same.elsewhere p ne off out;
   };
 }

@@ -13,7 +13,7 @@ mod owners;
 mod recounting;
 mod repairing;
 #[cfg(test)]
-mod recounting_tests;
+mod repairing_tests;
 mod sides;
 mod surveying;
 #[cfg(test)]
