@@ -9,7 +9,7 @@ use Rattle.d64_image.specs.Places.{place_at}
 use Rattle.d64_image.specs.declared.place.Place.{Place}
 use Rattle.disk_layout.proofs.Bits.{few_sectors}
 use Rattle.disk_layout.proofs.Freeing.{past-track}
-use Rattle.disk_layout.proofs.Sums.{sum_more}
+use Rattle.disk_layout.proofs.Sums.{sum-same, sum_more}
 use Rattle.disk_layout.specs.Map.{IsFree, map_bit, numbers_below}
 use Rattle.layout_check.specs.Marked.{IsMarked, ones_on}
 use Rattle.layout_check.specs.declared.owners.Owners.{Owners}
@@ -77,3 +77,7 @@ marked-all bytes t track n all so_far p on =
 
 pub free-in : (a b : List ℕ) (p : Place) → a ≡ b → IsFree a p → IsFree b p
 free-in a b p same h = let P : List ℕ → Type 0 = λ bytes. IsFree bytes p in subst P same h
+
+pub ones-same : (a b : List ℕ) (track n : ℕ) → ((s : ℕ) → s < n → map_bit a track s ≡ map_bit b track s) → ones_to a track n ≡ ones_to b track n
+unfolding ones_to
+ones-same a b track n same = sum-same (map_bit a track) (map_bit b track) (min n (sectors_on track)) (λ s below. same s (omega arith))

@@ -72,14 +72,14 @@ exact-all img ps items n d all exact l is = all-of (λ f. IsTrue (is_rel f.slot)
     exact k (omega (arith, slice_get_within items k f.slot there)) f.slot there rel l f is own refl)
 
 -- the bit of a sector, by its owner and by the list of what is owned
-marked-of : (bytes : List ℕ) (l : Layout) (s : Survey) (p : Place) → IsSurveyOf l s → IsMarked bytes s.owners p → IsFree bytes p ↔ ¬ (Contains (map_place ∷ owners l) p)
+pub marked-of : (bytes : List ℕ) (l : Layout) (s : Survey) (p : Place) → IsSurveyOf l s → IsMarked bytes s.owners p → IsFree bytes p ↔ ¬ (Contains (map_place ∷ owners l) p)
 unfolding owners
 marked-of bytes l s p h m = (
   λ free c. (h.table.owned p).1 c (m.0 free),
   λ none. m.1 (elim (cases_eq (owner_of s.owners p) 255) [ inl e ↦ e | inr ne ↦ absurd (none ((h.table.owned p).0 ne)) ]),
 )
 
-unmarked-of : (bytes : List ℕ) (l : Layout) (s : Survey) (p : Place) → IsSurveyOf l s → IsFree bytes p ↔ ¬ (Contains (map_place ∷ owners l) p) → IsMarked bytes s.owners p
+pub unmarked-of : (bytes : List ℕ) (l : Layout) (s : Survey) (p : Place) → IsSurveyOf l s → IsFree bytes p ↔ ¬ (Contains (map_place ∷ owners l) p) → IsMarked bytes s.owners p
 unfolding owners
 unmarked-of bytes l s p h m = (
   λ free. elim (cases_eq (owner_of s.owners p) 255) [ inl e ↦ e | inr ne ↦ absurd (m.0 free ((h.table.owned p).0 ne)) ],

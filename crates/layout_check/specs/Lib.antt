@@ -2,8 +2,12 @@ pub mod Calls
 pub mod Entry
 pub mod Exact
 pub mod Found
+pub mod Made
 pub mod Marked
+pub mod Mended
 pub mod Open
 pub mod Owners
+pub mod Recounted
+pub mod Repaired
 pub mod Sides
 pub mod Survey

@@ -7,8 +7,13 @@ mod entry;
 mod exact;
 mod files;
 mod maps;
+mod mending;
 mod outcome;
 mod owners;
+mod recounting;
+mod repairing;
+#[cfg(test)]
+mod repairing_tests;
 mod sides;
 mod surveying;
 #[cfg(test)]
@@ -16,4 +21,5 @@ mod tests;
 
 pub use checking::check;
 pub use outcome::Survey;
+pub use repairing::repair;
 pub use surveying::survey;

@@ -1,0 +1,106 @@
+-- Entry by entry of the directory.
+use Rattle.std.proofs.Common.{ap, arith, refl, sym, subst, ◌∙◌}
+use Rattle.std.proofs.lemmas.Bool.{false≢true}
+use borrow.Author.Count.{below_more}
+use Rattle.std.proofs.lemmas.Result.{err_from_is_err_and}
+use Rattle.d64_image.proofs.Moments.{reads_then, reads_weaker}
+use Rattle.d64_image.specs.Images.{Image, sector}
+use Rattle.disk_layout.specs.Directory.{map_place}
+use Rattle.disk_layout.specs.Layout.{IsLayout}
+use Rattle.layout_check.proofs.EntryMends.{entry-filed, exact-entries, exact-kept, exact-made, exact-read, exact-same, filed-kept}
+use Rattle.layout_check.proofs.MapMends.{device_later, mends_read, mends_then, mends_weaker}
+use Rattle.layout_check.proofs.Progress.{listed-as}
+use Rattle.layout_check.proofs.Roots.{directory-tells}
+use Rattle.layout_check.proofs.SideMends.{sound-device}
+use Rattle.layout_check.proofs.Verdict.{filed-at}
+use Rattle.layout_check.proofs.mending.mend_entries.Goals as goal
+use Rattle.layout_check.proofs.mending.mend_entries.Goals.{then-is_relative+in_ok-mend_relative, else-is_relative}
+
+pub returns-in_err-read_directory-clause-err : goal.returns-in_err-read_directory-clause-err
+returns-in_err-read_directory-clause-err g c =
+    let S = g.D.Sectors.history in
+    let p = err_from_is_err_and c.from_residual.result c.from_residual.ensures.1 in
+    rw (p.1, p.2) (sound-device S c.args.disk.now c.read_directory.new.disk 738 _ c.requires
+    (directory-tells S (Unit {0}) c.args.disk.now c.read_directory.new.disk _ c.in_err-read_directory.ensures.reads c.in_err-read_directory.ensures.failures c.in_err-read_directory.ensures.err))
+
+pub returns-in_err-read_directory-clause-mends : goal.returns-in_err-read_directory-clause-mends
+returns-in_err-read_directory-clause-mends g c = mends_read g.D.Sectors.history c.args.disk.now c.read_directory.new.disk 18 864 c.in_err-read_directory.ensures.reads
+
+pub returns-in_err-read_directory-clause-quiet : goal.returns-in_err-read_directory-clause-quiet
+returns-in_err-read_directory-clause-quiet g c exact = reads_weaker g.D.Sectors.history c.args.disk.now c.read_directory.new.disk 18 106290 (omega arith) c.in_err-read_directory.ensures.reads
+
+pub loop-slot-init : goal.loop-slot-init
+loop-slot-init g c =
+    let reads = c.in_ok-read_directory.ensures.reads in
+    record {
+      layouts = λ l h. let P : Image → Type 0 = λ i. IsLayout i l in subst P (sym reads.image) h;
+      map = ap (λ (i : Image). sector i map_place) reads.image;
+      exact = λ k low. absurd (omega arith);
+      mends = mends_read g.D.Sectors.history c.args.disk.now c.read_directory.new.disk 18 _ reads;
+      failures = c.in_ok-read_directory.ensures.failures;
+      quiet = λ exact. reads_weaker g.D.Sectors.history c.args.disk.now c.read_directory.new.disk 18 _ (omega arith) reads;
+    }
+
+pub mend_relative-requires-clause-filed : goal.mend_relative-requires-clause-filed
+mend_relative-requires-clause-filed g c =
+    let d = c.in_ok-read_directory.ensures.ok in
+    filed-kept _ _ c.slot-item.result c.loop-slot.invariant.layouts (filed-at _ _ d.0 c.as_slice-slot-items.result.now c.loop-slot.slot-index c.slot-item.result refl c.requires (listed-as _ d.0 c.read_directory.new.slots.items c.as_slice-slot-items.result.now c.as_slice-slot-items.ensures.value d.1) c.loop-slot-test.true c.slot-item.is)
+
+pub mend_relative-requires-clause-entry : goal.mend_relative-requires-clause-entry
+mend_relative-requires-clause-entry g c = entry-filed _ c.slot-item.result (mend_relative-requires-clause-filed g c)
+
+pub returns-in_err-mend_relative-clause-err : goal.returns-in_err-mend_relative-clause-err
+returns-in_err-mend_relative-clause-err g c =
+    let p = err_from_is_err_and c.from_residual-in_err-mend_relative.result c.from_residual-in_err-mend_relative.ensures.1 in
+    rw (p.1, p.2) (device_later g.D.Sectors.history c.args.disk.now c.loop-slot.disk c.mend_relative.new.disk _ c.loop-slot.invariant.failures c.in_err-mend_relative.ensures.err)
+
+pub returns-in_err-mend_relative-clause-mends : goal.returns-in_err-mend_relative-clause-mends
+returns-in_err-mend_relative-clause-mends g c = mends_then g.D.Sectors.history c.args.disk.now c.loop-slot.disk c.mend_relative.new.disk _ 6 864 (omega (arith, c.loop-slot-test.true, c.as_slice-slot-items.ensures.fits)) c.loop-slot.invariant.mends c.in_err-mend_relative.ensures.mends
+
+pub returns-in_err-mend_relative-clause-quiet : goal.returns-in_err-mend_relative-clause-quiet
+returns-in_err-mend_relative-clause-quiet g c exact =
+    let S = g.D.Sectors.history in
+    let so_far = c.loop-slot.invariant.quiet exact in
+    reads_then S c.args.disk.now c.loop-slot.disk c.mend_relative.new.disk _ 738 106290 (omega (arith, c.loop-slot-test.true, c.as_slice-slot-items.ensures.fits)) so_far (c.in_err-mend_relative.ensures.quiet (exact-same _ _ c.slot-item.result so_far.image exact))
+
+pub loop-slot-preserved : goal.loop-slot-preserved
+loop-slot-preserved g c =
+    let S = g.D.Sectors.history in
+    let a = c.args.disk.now in
+    let b = c.loop-slot.disk in
+    let old = c.loop-slot.invariant in
+    let items = c.as_slice-slot-items.result.now in
+    elim c.if-is_relative.branch [
+      | then-is_relative+in_ok-mend_relative w ↦
+          let done = w.in_ok-mend_relative.ensures in
+          let d = w.mend_relative.new.disk in
+          record {
+            layouts = rw w.disk-is (λ l h. done.layouts l (old.layouts l h));
+            map = rw w.disk-is (done.map ∙ old.map);
+            exact = rw w.disk-is (below_more _ _ (λ k low s there rel. exact-kept _ _ _ s old.layouts done.others (old.exact k low s there rel))
+                (exact-read _ _ items c.loop-slot.slot-index c.slot-item.result c.loop-slot-test.true c.slot-item.is (λ _. exact-made _ _ _ c.slot-item.result old.layouts done.exact)));
+            mends = rw w.disk-is (mends_then S a b d _ 6 _ (omega arith) old.mends done.mends);
+            failures = rw w.disk-is (done.failures ∙ old.failures);
+            quiet = rw w.disk-is (λ exact. let so_far = old.quiet exact in reads_then S a b d _ 738 _ (omega arith) so_far (done.quiet (exact-same _ _ c.slot-item.result so_far.image exact)));
+          }
+      | else-is_relative w ↦ record {
+        layouts = rw w.disk-is old.layouts;
+        map = rw w.disk-is old.map;
+        exact = rw w.disk-is (below_more _ _ old.exact
+            (exact-read _ _ items c.loop-slot.slot-index c.slot-item.result c.loop-slot-test.true c.slot-item.is (λ rel. absurd (false≢true (sym w.if-is_relative.false ∙ c.is_relative.ensures ∙ rel)))));
+        mends = rw w.disk-is (mends_weaker S a b _ _ (omega arith) old.mends);
+        failures = rw w.disk-is old.failures;
+        quiet = rw w.disk-is (λ exact. reads_weaker S a b _ _ (omega arith) (old.quiet exact));
+      }
+    ]
+
+pub returns-clause-exact : goal.returns-clause-exact
+returns-clause-exact g c =
+    let d = c.in_ok-read_directory.ensures.ok in
+    exact-entries _ _ d.0 c.as_slice-slot-items.result.now c.loop-slot.slot-index (listed-as _ d.0 c.read_directory.new.slots.items c.as_slice-slot-items.result.now c.as_slice-slot-items.ensures.value d.1) c.loop-slot-test.false c.loop-slot.invariant.exact
+
+pub returns-clause-mends : goal.returns-clause-mends
+returns-clause-mends g c = mends_weaker g.D.Sectors.history c.args.disk.now c.loop-slot.disk _ 864 (omega (arith, c.loop-slot.auto, c.as_slice-slot-items.ensures.fits)) c.loop-slot.invariant.mends
+
+pub returns-clause-quiet : goal.returns-clause-quiet
+returns-clause-quiet g c exact = reads_weaker g.D.Sectors.history c.args.disk.now c.loop-slot.disk _ 106290 (omega (arith, c.loop-slot.auto, c.as_slice-slot-items.ensures.fits)) (c.loop-slot.invariant.quiet exact)

@@ -1,0 +1,17 @@
+use Rattle.std.proofs.Common.{ℕ, ◌≡◌, ◌<◌, ◌+◌, ◌*◌, IsTrue}
+use Rattle.std.specs.Prelude.{Some, slice_get}
+use Rattle.d64_image.specs.History.{OnlyReads}
+use Rattle.disk_layout.specs.Layout.{is_rel}
+use Rattle.disk_layout.specs.declared.slot.Slot.{Slot}
+use Rattle.layout_check.specs.Mended.{AreExactFor, IsExactFor, KeepsLayouts, Mends, SameMap}
+use Rattle.layout_check.proofs.mending.mend_entries.Given as goal
+
+abbrev pub invariant-loop-slot : goal.invariant-loop-slot
+invariant-loop-slot g l = record {
+  layouts : KeepsLayouts (g.D.Sectors.history.image l.fn.disk) (g.D.Sectors.history.image l.disk);
+  map : SameMap (g.D.Sectors.history.image l.fn.disk) (g.D.Sectors.history.image l.disk);
+  exact : (k : ℕ) → k < l.slot-index → (s : Slot) → slice_get l.slot-items k ≡ Some s → IsTrue (is_rel s) → IsExactFor (g.D.Sectors.history.image l.fn.disk) (g.D.Sectors.history.image l.disk) s;
+  mends : Mends g.D.Sectors.history l.fn.disk l.disk (6 * l.slot-index);
+  failures : g.D.Sectors.history.failures l.disk ≡ g.D.Sectors.history.failures l.fn.disk;
+  quiet : AreExactFor (g.D.Sectors.history.image l.fn.disk) (g.D.Sectors.history.image l.fn.disk) → OnlyReads g.D.Sectors.history l.fn.disk l.disk (18 + 738 * l.slot-index);
+}

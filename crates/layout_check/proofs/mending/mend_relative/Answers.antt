@@ -1,0 +1,66 @@
+-- The parts, and then the side sectors.
+use Rattle.std.proofs.Common.{arith, subst, ◌∙◌}
+use Rattle.std.proofs.lemmas.Result.{err_from_is_err_and}
+use Rattle.d64_image.proofs.Moments.{reads_then, reads_weaker}
+use Rattle.d64_image.specs.Images.{Image}
+use Rattle.layout_check.proofs.Entries.{rel-closed}
+use Rattle.layout_check.proofs.Finding.{if_err, on_ok}
+use Rattle.layout_check.proofs.MapMends.{device_later, mends_read, mends_then}
+use Rattle.layout_check.proofs.SideMends.{parts-at, parts-exact, parts-here, right-there, sound-device}
+use Rattle.layout_check.specs.Mended.{KeepsExact, KeepsLayouts, SameMap}
+use Rattle.layout_check.proofs.mending.mend_relative.Goals as goal
+
+pub find_parts-requires-clause-closed : goal.find_parts-requires-clause-closed
+find_parts-requires-clause-closed g c = rel-closed _ c.args.slot.now c.requires.entry c.requires.rel
+
+pub returns-in_err-find_parts-clause-err : goal.returns-in_err-find_parts-clause-err
+returns-in_err-find_parts-clause-err g c =
+    let p = err_from_is_err_and c.from_residual.result c.from_residual.ensures.1 in
+    rw (p.1, p.2) (sound-device g.D.Sectors.history c.args.disk.now c.find_parts.new.disk 732 _ (c.requires.filed.layout, c.requires.filed.sound) c.in_err-find_parts.ensures.err)
+
+pub returns-in_err-find_parts-clause-mends : goal.returns-in_err-find_parts-clause-mends
+returns-in_err-find_parts-clause-mends g c = mends_read g.D.Sectors.history c.args.disk.now c.find_parts.new.disk 732 6 c.in_err-find_parts.ensures.err.reads
+
+pub returns-in_err-find_parts-clause-quiet : goal.returns-in_err-find_parts-clause-quiet
+returns-in_err-find_parts-clause-quiet g c exact = reads_weaker g.D.Sectors.history c.args.disk.now c.find_parts.new.disk 732 738 (omega arith) c.in_err-find_parts.ensures.err.reads
+
+pub mend_sides-requires : goal.mend_sides-requires
+mend_sides-requires g c =
+    let found = c.in_ok-find_parts.ensures in
+    record {
+      parts = parts-at _ _ c.args.slot.now c.find_parts.new.blocks.items c.find_parts.new.sides.items c.as_slice.result.now c.as_slice-2.result.now found.ok.reads.image c.as_slice.ensures.value c.as_slice-2.ensures.value (parts-here _ c.args.slot.now c.find_parts.new.blocks.items c.find_parts.new.sides.items c.requires.filed c.requires.rel found.parts);
+      few = c.as_slice-2.ensures.fits;
+    }
+
+pub returns-clause-exact : goal.returns-clause-exact
+returns-clause-exact g c =
+    let found = c.in_ok-find_parts.ensures in
+    on_ok c.mend_sides.result _ _ (λ h bs ss i. parts-exact _ _ c.args.slot.now c.find_parts.new.blocks.items c.find_parts.new.sides.items bs ss (parts-here _ c.args.slot.now c.find_parts.new.blocks.items c.find_parts.new.sides.items c.requires.filed c.requires.rel found.parts) (rw (← c.as_slice.ensures.value, ← c.as_slice-2.ensures.value) h) i) c.mend_sides.ensures.exact
+
+pub returns-clause-others : goal.returns-clause-others
+returns-clause-others g c = on_ok c.mend_sides.result _ _ (λ h. let P : Image → Type 0 = λ i. KeepsExact i (g.D.Sectors.history.image c.mend_sides.new.disk) in subst P c.in_ok-find_parts.ensures.ok.reads.image h) c.mend_sides.ensures.others
+
+pub returns-clause-layouts : goal.returns-clause-layouts
+returns-clause-layouts g c = on_ok c.mend_sides.result _ _ (λ h. let P : Image → Type 0 = λ i. KeepsLayouts i (g.D.Sectors.history.image c.mend_sides.new.disk) in subst P c.in_ok-find_parts.ensures.ok.reads.image h) c.mend_sides.ensures.layouts
+
+pub returns-clause-err : goal.returns-clause-err
+returns-clause-err g c = if_err c.mend_sides.result _ _ (λ f h. device_later g.D.Sectors.history c.args.disk.now c.find_parts.new.disk c.mend_sides.new.disk f c.in_ok-find_parts.ensures.ok.failures h) c.mend_sides.ensures.err
+
+pub returns-clause-failures : goal.returns-clause-failures
+returns-clause-failures g c = on_ok c.mend_sides.result _ _ (λ h. h ∙ c.in_ok-find_parts.ensures.ok.failures) c.mend_sides.ensures.failures
+
+pub returns-clause-mends : goal.returns-clause-mends
+returns-clause-mends g c =
+    let S = g.D.Sectors.history in
+    mends_then S c.args.disk.now c.find_parts.new.disk c.mend_sides.new.disk 0 6 6 (omega arith) (mends_read S c.args.disk.now c.find_parts.new.disk _ 0 c.in_ok-find_parts.ensures.ok.reads) c.mend_sides.ensures.mends
+
+pub returns-clause-quiet : goal.returns-clause-quiet
+returns-clause-quiet g c exact =
+    let S = g.D.Sectors.history in
+    let found = c.in_ok-find_parts.ensures in
+    let right = exact c.find_parts.new.blocks.items c.find_parts.new.sides.items (parts-here _ c.args.slot.now c.find_parts.new.blocks.items c.find_parts.new.sides.items c.requires.filed c.requires.rel found.parts) in
+    reads_then S c.args.disk.now c.find_parts.new.disk c.mend_sides.new.disk _ 6 738 (omega (arith, found.few)) found.ok.reads
+    (c.mend_sides.ensures.quiet (right-there _ _ c.args.slot.now c.find_parts.new.blocks.items c.find_parts.new.sides.items c.as_slice.result.now c.as_slice-2.result.now found.ok.reads.image c.as_slice.ensures.value c.as_slice-2.ensures.value right))
+
+pub returns-clause-map : goal.returns-clause-map
+returns-clause-map g c = on_ok c.mend_sides.result _ _ (λ h. let P : Image → Type 0 = λ i. SameMap i (g.D.Sectors.history.image c.mend_sides.new.disk) in subst P c.in_ok-find_parts.ensures.ok.reads.image h) c.mend_sides.ensures.map

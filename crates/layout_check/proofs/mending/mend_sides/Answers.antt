@@ -1,0 +1,102 @@
+-- Side sector by side sector: right already, or written.
+use Rattle.std.proofs.Common.{ap, arith, refl, subst, sym, ◌∙◌, ◌+◌}
+use Rattle.std.proofs.lemmas.Option.{slice_get_within}
+use Rattle.std.proofs.lemmas.Result.{err_from_is_err_and}
+use Rattle.d64_image.proofs.Moments.{no_change, no_reads, reads_then, reads_weaker}
+use Rattle.d64_image.specs.Images.{Image, sector}
+use Rattle.layout_check.proofs.MapMends.{device_later, mends_read, mends_then, mends_weaker}
+use Rattle.layout_check.proofs.Pointers.{read-there}
+use Rattle.layout_check.proofs.SideMends.{after-side, exact-more, exact-others, side-layouts, side-map, side_mends, side_right}
+use Rattle.layout_check.specs.Exact.{IsExactSide}
+use Rattle.layout_check.specs.Mended.{KeepsExact, KeepsLayouts, SameMap}
+use Rattle.layout_check.proofs.mending.mend_sides.Goals as goal
+
+pub loop-number-init : goal.loop-number-init
+loop-number-init g c = record {
+  layouts = λ l h. h;
+  map = refl;
+  exact = λ j low. absurd (omega arith);
+  others = λ s bs ss h exact. exact;
+  mends = λ i l h. no_change g.D.Sectors.history c.args.disk.now _ h;
+  failures = refl;
+  quiet = λ exact. no_reads g.D.Sectors.history c.args.disk.now;
+}
+
+pub returns-in-Err-clause-err : goal.returns-in-Err-clause-err
+returns-in-Err-clause-err g c = device_later g.D.Sectors.history c.args.disk.now c.loop-number.disk c.read.new.self _ c.loop-number.invariant.failures (c.index-sides-number.result, refl, c.in-Err.ensures.failures)
+
+pub returns-in-Err-clause-mends : goal.returns-in-Err-clause-mends
+returns-in-Err-clause-mends g c =
+    let S = g.D.Sectors.history in
+    mends_then S c.args.disk.now c.loop-number.disk c.read.new.self c.loop-number.number 0 6 (omega (arith, c.loop-number-test.true, c.requires.few)) c.loop-number.invariant.mends (mends_read S c.loop-number.disk c.read.new.self 1 0 c.in-Err.ensures.reads)
+
+pub returns-in-Err-clause-quiet : goal.returns-in-Err-clause-quiet
+returns-in-Err-clause-quiet g c exact =
+    reads_then g.D.Sectors.history c.args.disk.now c.loop-number.disk c.read.new.self c.loop-number.number 1 6 (omega (arith, c.loop-number-test.true, c.requires.few)) (c.loop-number.invariant.quiet exact) c.in-Err.ensures.reads
+
+pub write_other-requires : goal.write_other-requires
+write_other-requires g c = c.in-Ok.ensures.sector ∙ ap (λ (i : Image). sector i c.index-sides-number.result) (sym c.in-Ok.ensures.reads.image)
+
+pub returns-in_err-write_other-clause-err : goal.returns-in_err-write_other-clause-err
+returns-in_err-write_other-clause-err g c =
+    let S = g.D.Sectors.history in
+    let p = err_from_is_err_and c.from_residual.result c.from_residual.ensures.1 in
+    rw (p.1, p.2) (device_later S c.args.disk.now c.read.new.self c.write_other.new.disk _ (c.in-Ok.ensures.failures ∙ c.loop-number.invariant.failures) c.in_err-write_other.ensures.err)
+
+pub returns-in_err-write_other-clause-mends : goal.returns-in_err-write_other-clause-mends
+returns-in_err-write_other-clause-mends g c =
+    let S = g.D.Sectors.history in
+    let ss = c.args.sides.now in
+    let p = c.index-sides-number.result in
+    let here = read-there ss c.loop-number.number p c.loop-number-test.true c.index-sides-number.is in
+    let old = c.loop-number.invariant in
+    mends_weaker S c.args.disk.now c.write_other.new.disk (c.loop-number.number + 1) 6 (omega (arith, c.loop-number-test.true, c.requires.few))
+    (side_mends S c.args.disk.now c.loop-number.disk c.read.new.self c.write_other.new.disk c.args.slot.now c.args.blocks.now ss c.loop-number.number p c.side_bytes-wanted.result c.requires.parts c.requires.few here old.layouts old.mends c.in-Ok.ensures.reads c.side_bytes-wanted.ensures c.in_err-write_other.ensures.held)
+
+pub returns-in_err-write_other-clause-quiet : goal.returns-in_err-write_other-clause-quiet
+returns-in_err-write_other-clause-quiet g c exact =
+    let S = g.D.Sectors.history in
+    let p = c.index-sides-number.result in
+    let here = read-there c.args.sides.now c.loop-number.number p c.loop-number-test.true c.index-sides-number.is in
+    let so_far = c.loop-number.invariant.quiet exact in
+    let right = side_right S c.args.disk.now c.loop-number.disk c.read.new.self c.args.slot.now c.args.blocks.now c.args.sides.now c.loop-number.number p c.read.new.to c.side_bytes-wanted.result here exact so_far.image c.in-Ok.ensures.sector c.side_bytes-wanted.ensures in
+    let read = reads_then S c.args.disk.now c.loop-number.disk c.read.new.self c.loop-number.number 1 (c.loop-number.number + 1) (omega arith) so_far c.in-Ok.ensures.reads in
+    reads_then S c.args.disk.now c.read.new.self c.write_other.new.disk (c.loop-number.number + 1) 0 6 (omega (arith, c.loop-number-test.true, c.requires.few)) read (c.in_err-write_other.ensures.quiet right)
+
+pub loop-number-preserved : goal.loop-number-preserved
+loop-number-preserved g c =
+    let S = g.D.Sectors.history in
+    let n = c.loop-number.number in
+    let s = c.args.slot.now in
+    let bs = c.args.blocks.now in
+    let ss = c.args.sides.now in
+    let p = c.index-sides-number.result in
+    let here = read-there ss n p c.loop-number-test.true c.index-sides-number.is in
+    let old = c.loop-number.invariant in
+    let now = S.image c.loop-number.disk in
+    let size = (S.whole c.loop-number.disk).size in
+    let done = after-side S c.loop-number.disk c.read.new.self c.write_other.new.disk s bs ss n p c.side_bytes-wanted.result c.in-Ok.ensures.reads.image c.side_bytes-wanted.ensures c.in_ok-write_other.ensures.ok in
+    let P : Image → Type 0 = KeepsLayouts (S.image c.args.disk.now) in
+    let Q : Image → Type 0 = KeepsExact (S.image c.args.disk.now) in
+    record {
+      layouts = subst P (sym done) (side-layouts (S.image c.args.disk.now) now s bs ss n p size c.requires.parts c.requires.few here old.layouts);
+      map = let R : Image → Type 0 = SameMap (S.image c.args.disk.now) in subst R (sym done) (side-map (S.image c.args.disk.now) now s bs ss n p c.requires.parts here old.map);
+      exact = λ j low q there. let R : Image → Type 0 = λ i. IsExactSide i s bs ss j q in subst R (sym done) (exact-more (S.image c.args.disk.now) now s bs ss n p size c.requires.parts here old.exact j low q there);
+      others = subst Q (sym done) (exact-others (S.image c.args.disk.now) now s bs ss n p size c.requires.parts here old.others);
+      mends = side_mends S c.args.disk.now c.loop-number.disk c.read.new.self c.write_other.new.disk s bs ss n p c.side_bytes-wanted.result c.requires.parts c.requires.few here old.layouts old.mends c.in-Ok.ensures.reads c.side_bytes-wanted.ensures c.in_ok-write_other.ensures.held;
+      failures = c.in_ok-write_other.ensures.failures ∙ c.in-Ok.ensures.failures ∙ old.failures;
+      quiet = λ exact.
+          let so_far = old.quiet exact in
+          let right = side_right S c.args.disk.now c.loop-number.disk c.read.new.self s bs ss n p c.read.new.to c.side_bytes-wanted.result here exact so_far.image c.in-Ok.ensures.sector c.side_bytes-wanted.ensures in
+          let read = reads_then S c.args.disk.now c.loop-number.disk c.read.new.self n 1 (n + 1) (omega arith) so_far c.in-Ok.ensures.reads in
+          reads_then S c.args.disk.now c.read.new.self c.write_other.new.disk (n + 1) 0 (n + 1) (omega arith) read (c.in_ok-write_other.ensures.quiet right);
+    }
+
+pub returns-clause-exact : goal.returns-clause-exact
+returns-clause-exact g c j p there = c.loop-number.invariant.exact j (omega (arith, c.loop-number-test.false, slice_get_within c.args.sides.now j p there)) p there
+
+pub returns-clause-mends : goal.returns-clause-mends
+returns-clause-mends g c = mends_weaker g.D.Sectors.history c.args.disk.now c.loop-number.disk c.loop-number.number 6 (omega (arith, c.loop-number.auto, c.requires.few)) c.loop-number.invariant.mends
+
+pub returns-clause-quiet : goal.returns-clause-quiet
+returns-clause-quiet g c exact = reads_weaker g.D.Sectors.history c.args.disk.now c.loop-number.disk c.loop-number.number 6 (omega (arith, c.loop-number.auto, c.requires.few)) (c.loop-number.invariant.quiet exact)

@@ -1,0 +1,26 @@
+-- The survey, then what is to be mended.
+use Rattle.std.proofs.Common.{ℕ, arith}
+use Rattle.d64_image.proofs.Moments.{reads_then}
+use Rattle.layout_check.proofs.RepairRuns.{clean_after, mends_after}
+use Rattle.layout_check.proofs.repairing.repair.Goals as goal
+
+pub returns-in_err-mend-clause-moments : goal.returns-in_err-mend-clause-moments
+returns-in_err-mend-clause-moments g c = mends_after g.D.Sectors.history _ _ _ 2114 c.in_ok-found.ensures.reads c.mend.ensures.moments
+
+pub returns-in_err-mend-clause-quiet : goal.returns-in_err-mend-clause-quiet
+returns-in_err-mend-clause-quiet g c clean =
+    let S = g.D.Sectors.history in
+    let reads = c.in_ok-found.ensures.reads in
+    reads_then S _ _ _ 2114 212437 214551 (omega arith) reads (c.mend.ensures.quiet (clean_after S _ _ 2114 reads clean))
+
+pub returns-clause-moments : goal.returns-clause-moments
+returns-clause-moments g c = mends_after g.D.Sectors.history _ _ _ 2114 c.in_ok-found.ensures.reads c.mend.ensures.moments
+
+pub returns-clause-unsound : goal.returns-clause-unsound
+returns-clause-unsound g c not_sound = let l = c.in_ok-found.ensures.ok in absurd (not_sound (l.0, l.1))
+
+pub returns-clause-quiet : goal.returns-clause-quiet
+returns-clause-quiet g c clean =
+    let S = g.D.Sectors.history in
+    let reads = c.in_ok-found.ensures.reads in
+    reads_then S _ _ _ 2114 212437 214551 (omega arith) reads (c.mend.ensures.quiet (clean_after S _ _ 2114 reads clean))

@@ -1,0 +1,85 @@
+-- Block counts made right, a directory sector at a time. Our own words on the block count of the 1541 User's Guide.
+use Rattle.std.specs.Prelude.{ℕ, ◌≡◌, ◌+◌, ◌<◌, ◌⊎◌, List, [], ◌∷◌, Contains, IsTrue, length, slice_index, ◌≤◌, ◌≢◌}
+use Rattle.d64_image.specs.History.{History}
+use Rattle.d64_image.specs.Images.{Image, Sector, sector}
+use Rattle.d64_image.specs.declared.place.Place.{Place}
+use Rattle.disk_layout.specs.Chain.{EachOnce}
+use Rattle.disk_layout.specs.Directory.{slot_in}
+use Rattle.disk_layout.specs.Layout.{File, IsLayout, Layout, count_field, is_rel, sides_for}
+use Rattle.disk_layout.specs.Same.{IsCountByte, SameFiles}
+use Rattle.disk_layout.specs.declared.faults.Fault.{Fault}
+use Rattle.disk_layout.specs.declared.faults.Fault.TheVariants.{Device}
+use Rattle.disk_layout.specs.declared.slot.Slot.{Slot}
+
+-- how many sectors the file owns: its data blocks, and the side sectors that these need
+abbrev pub owned_count : File → ℕ
+owned_count f = length f.blocks + sides_for (length f.blocks)
+
+-- n is what the block count of this slot is to be
+abbrev pub IsCountOf : Image → Slot → ℕ → Type 0
+IsCountOf img s n = (l : Layout) (f : File) → IsLayout img l → Contains l.files f → f.slot ≡ s → n ≡ owned_count f
+
+-- the file is relative, and its slot is number n of the directory sector at p
+pub record IsRelAt (l : Layout) (p : Place) (n : ℕ) (f : File) : Type 0 where
+  pub own : Contains l.files f
+  pub rel : IsTrue (is_rel f.slot)
+  pub sector : f.slot.sector ≡ p
+  pub number : f.slot.number ≡ n
+
+-- in these bytes of the directory sector at p the block count of slot n is right, where it is a relative entry's
+abbrev pub IsRightAt : Image → Place → Sector → ℕ → Type 0
+IsRightAt img p bytes n = (l : Layout) (f : File) → IsLayout img l → IsRelAt l p n f → count_field (slot_in p bytes n) ≡ owned_count f
+
+-- and that of each of its eight slots
+abbrev pub AreRightIn : Image → Place → Sector → Type 0
+AreRightIn img p bytes = (n : ℕ) → n < 8 → IsRightAt img p bytes n
+
+-- the block counts of all relative files of the image are right
+abbrev pub AreCounted : Image → Type 0
+AreCounted img = (l : Layout) (f : File) → IsLayout img l → Contains l.files f → IsTrue (is_rel f.slot) → count_field f.slot ≡ owned_count f
+
+-- the bytes of a directory sector differ in block counts of relative entries alone
+pub record IsCountedAs (old new : Sector) : Type 0 where
+  pub old_long : length old ≡ 256
+  pub long : length new ≡ 256
+  pub same : (i : ℕ) → i < 256 → IsCountByte old i ⊎ (slice_index new i ≡ slice_index old i)
+
+-- the image differs in block counts of relative entries in these directory sectors alone
+pub record IsRecountOf (old new : Image) (ps : List Place) : Type 0 where
+  pub counts : (p : Place) → Contains ps p → IsCountedAs (sector old p) (sector new p)
+  pub rest : (p : Place) → ¬ (Contains ps p) → sector new p ≡ sector old p
+
+-- a layout of the new image with the same files, and the same bytes in every sector outside the directory
+pub record IsMended (old new : Image) (l : Layout) : Type 0 where
+  pub layout : Layout
+  pub sound : IsLayout new layout
+  pub files : SameFiles old new l layout
+  pub rest : (p : Place) → ¬ (Contains l.directory p) → sector new p ≡ sector old p
+
+-- so it is for each layout of the old one
+abbrev pub KeepsLayouts : Image → Image → Type 0
+KeepsLayouts old new = (l : Layout) → IsLayout old l → IsMended old new l
+
+-- the place is one of the directory
+abbrev pub IsInDirectory : Image → Place → Type 0
+IsInDirectory img p = (l : Layout) → IsLayout img l → Contains l.directory p
+
+-- one directory sector has other counts, and all else is the same
+abbrev pub IsRecountAt : Image → Place → Image → Type 0
+IsRecountAt old p new = IsRecountOf old new (p ∷ [])
+
+-- the fault tells of the device
+abbrev pub IsOfDevice : Fault → Type 0
+IsOfDevice fault = (p : Place) × (fault ≡ Device p)
+
+-- a call that makes no write, or one that leaves another sector at p
+abbrev pub WritesOther : {D : Type 0} → History D → D → D → Place → Type 0
+WritesOther S old new p = (S.writes new ≡ S.writes old) ⊎ ((sector (S.image new) p ≢ sector (S.image old) p) × (S.writes new ≤ S.writes old + 1))
+
+-- a call that makes at most one write for each of these sectors that it leaves another, and no more
+pub record WritesOnce {D : Type 0} (S : History D) (old new : D) (ps : List Place) : Type 0 where
+  pub written : List Place
+  pub once : EachOnce written
+  pub own : (q : Place) → Contains written q → Contains ps q
+  pub other : (q : Place) → Contains written q → sector (S.image new) q ≢ sector (S.image old) q
+  pub writes : S.writes new ≤ S.writes old + length written

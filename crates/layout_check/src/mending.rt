@@ -1,0 +1,177 @@
+//! The map that a disk is to have, made from who owns which sector.
+ghost use Rattle.std.specs.Prelude.{◌≡◌, ◌≤◌, IfErr, IsTrue, OnOk, length};
+ghost use Rattle.d64_image.specs.History.{Changes, OldOr, OnlyReads};
+ghost use Rattle.d64_image.specs.Images.{put, sector};
+ghost use Rattle.disk_layout.specs.Free.{IsWithoutFree};
+ghost use Rattle.layout_check.specs.Made.{IsMadeMap, IsMadeTrack};
+ghost use Rattle.disk_layout.specs.Layout.{IsSound, is_rel};
+ghost use Rattle.layout_check.specs.Entry.{IsEntry};
+ghost use Rattle.layout_check.specs.Exact.{AreExactSides, HasMap, IsFiled};
+ghost use Rattle.layout_check.specs.Mended.{AreExactFor, IsExactFor, IsPartsOf, KeepsExact, KeepsLayouts, Mends, SameMap, TellsDevice};
+ghost use Rattle.layout_check.specs.Survey.{IsToldBy};
+
+use crate::entry::is_relative;
+use crate::maps::check_bits;
+use crate::outcome::Survey;
+use crate::owners::Owners;
+use crate::sides::find_parts;
+use arrayvec::ArrayVec;
+use d64_image::{Place, Sectors};
+use disk_layout::{Bam, Fault, Slot, map_place, read_directory, side_bytes};
+
+/// Frees the sectors of a track that nobody owns, where none was free.
+fn free_track(map: &mut Bam, owners: &Owners, track: u8)
+    requires none { IsWithoutFree map.old.bytes track }
+    ensures { IsMadeTrack map.old.bytes map.new.bytes owners.now track }
+{
+    for sector in 0..24u8 {
+        if let Some(place) = Place::new(track, sector) {
+            if !owners.is_owned(place) {
+                map.give(place);
+            }
+        }
+    }
+}
+
+/// The bytes that 18/0 is to have: the map by the owners, bits past a track's last sector 0; and beside the map what
+/// stands there.
+pub fn map_of(old: &[u8; 256], owners: &Owners) -> [u8; 256]
+    ensures { IsMadeMap old.now result owners.now }
+{
+    let mut bytes = *old;
+    bytes[4..144].copy_from_slice(&[0; 140]);
+    let mut map = Bam::new(bytes);
+    for below in 0..35u8 {
+        free_track(&mut map, owners, below + 1);
+    }
+    map.bytes
+}
+
+/// Writes a sector where its bytes are others than those that it has.
+fn write_other<D: Sectors>(
+    disk: &mut D,
+    place: Place,
+    had: &[u8; 256],
+    wanted: &[u8; 256],
+) -> Result<(), Fault>
+    requires { had.now ≡ sector (D.history.image disk.old) place }
+    ensures ok { OnOk result (D.history.image disk.new ≡ put (D.history.image disk.old) place wanted.now) }
+    ensures err { IfErr result (TellsDevice D.history disk.old disk.new) }
+    ensures failures { OnOk result (D.history.failures disk.new ≡ D.history.failures disk.old) }
+    ensures held { Changes D.history disk.old disk.new 1 (OldOr (D.history.image disk.old) (put (D.history.image disk.old) place wanted.now)) }
+    // a sector that is right is not written
+    ensures quiet { had.now ≡ wanted.now → OnlyReads D.history disk.old disk.new 0 }
+{
+    if had == wanted {
+        return Ok(());
+    }
+    match disk.write(place, wanted) {
+        Ok(()) => Ok(()),
+        Err(_) => Err(Fault::Device(place)),
+    }
+}
+
+/// Gives a sound disk that was surveyed the map that it is to have, where it has another.
+pub fn mend_map<D: Sectors>(disk: &mut D, found: &Survey) -> Result<(), Fault>
+    requires { IsToldBy (D.history.image disk.old) found.now }
+    ensures map { OnOk result (HasMap (D.history.image disk.new)) }
+    ensures layouts { OnOk result (KeepsLayouts (D.history.image disk.old) (D.history.image disk.new)) }
+    ensures err { IfErr result (TellsDevice D.history disk.old disk.new) }
+    ensures failures { OnOk result (D.history.failures disk.new ≡ D.history.failures disk.old) }
+    ensures mends { Mends D.history disk.old disk.new 1 }
+    // a map that is right is not written
+    ensures quiet { HasMap (D.history.image disk.old) → OnlyReads D.history disk.old disk.new 1 }
+{
+    let mut map = [0u8; 256];
+    match disk.read(map_place(), &mut map) {
+        Ok(()) => {}
+        Err(_) => return Err(Fault::Device(map_place())),
+    }
+    if check_bits(&map, found.owners()).is_ok() {
+        return Ok(());
+    }
+    let wanted = map_of(&map, found.owners());
+    write_other(disk, map_place(), &map, &wanted)
+}
+
+/// Gives the side sectors of a relative entry of a sound disk the bytes that they are to have, in their order, each
+/// where it has others.
+fn mend_sides<D: Sectors>(
+    disk: &mut D,
+    slot: &Slot,
+    blocks: &[Place],
+    sides: &[Place],
+) -> Result<(), Fault>
+    requires parts { IsPartsOf (D.history.image disk.old) slot.now blocks.now sides.now }
+    requires few { length sides.now ≤ 6 }
+    ensures exact { OnOk result (AreExactSides (D.history.image disk.new) slot.now blocks.now sides.now) }
+    ensures others { OnOk result (KeepsExact (D.history.image disk.old) (D.history.image disk.new)) }
+    ensures layouts { OnOk result (KeepsLayouts (D.history.image disk.old) (D.history.image disk.new)) }
+    ensures map { OnOk result (SameMap (D.history.image disk.old) (D.history.image disk.new)) }
+    ensures err { IfErr result (TellsDevice D.history disk.old disk.new) }
+    ensures failures { OnOk result (D.history.failures disk.new ≡ D.history.failures disk.old) }
+    ensures mends { Mends D.history disk.old disk.new 6 }
+    // side sectors that are right are not written
+    ensures quiet { AreExactSides (D.history.image disk.old) slot.now blocks.now sides.now → OnlyReads D.history disk.old disk.new 6 }
+{
+    let mut sector = [0u8; 256];
+    for (number, &side) in sides.iter().enumerate() {
+        match disk.read(side, &mut sector) {
+            Ok(()) => {}
+            Err(_) => return Err(Fault::Device(side)),
+        }
+        let wanted = side_bytes(number as u8, blocks, sides, slot.bytes[23]);
+        write_other(disk, side, &sector, &wanted)?;
+    }
+    Ok(())
+}
+
+/// Gives the side sectors of a relative entry of a sound disk the bytes that they are to have. `blocks` and `sides` are
+/// emptied, and filled with what the entry owns.
+fn mend_relative<D: Sectors>(
+    disk: &mut D,
+    slot: &Slot,
+    blocks: &mut ArrayVec<Place, 720>,
+    sides: &mut ArrayVec<Place, 6>,
+) -> Result<(), Fault>
+    requires entry { IsEntry (D.history.image disk.old) slot.now }
+    requires filed { IsFiled (D.history.image disk.old) slot.now }
+    requires rel { IsTrue (is_rel slot.now) }
+    ensures exact { OnOk result (IsExactFor (D.history.image disk.old) (D.history.image disk.new) slot.now) }
+    ensures others { OnOk result (KeepsExact (D.history.image disk.old) (D.history.image disk.new)) }
+    ensures layouts { OnOk result (KeepsLayouts (D.history.image disk.old) (D.history.image disk.new)) }
+    ensures map { OnOk result (SameMap (D.history.image disk.old) (D.history.image disk.new)) }
+    ensures err { IfErr result (TellsDevice D.history disk.old disk.new) }
+    ensures failures { OnOk result (D.history.failures disk.new ≡ D.history.failures disk.old) }
+    ensures mends { Mends D.history disk.old disk.new 6 }
+    // side sectors that are right are not written
+    ensures quiet { IsExactFor (D.history.image disk.old) (D.history.image disk.old) slot.now → OnlyReads D.history disk.old disk.new 738 }
+{
+    find_parts(disk, slot, blocks, sides)?;
+    mend_sides(disk, slot, blocks.as_slice(), sides.as_slice())
+}
+
+/// Gives the side sectors of all relative entries of a sound disk the bytes that they are to have, in the order of the
+/// directory, each where it has others.
+pub fn mend_entries<D: Sectors>(disk: &mut D) -> Result<(), Fault>
+    requires { IsSound (D.history.image disk.old) }
+    ensures exact { OnOk result (AreExactFor (D.history.image disk.old) (D.history.image disk.new)) }
+    ensures layouts { OnOk result (KeepsLayouts (D.history.image disk.old) (D.history.image disk.new)) }
+    ensures map { OnOk result (SameMap (D.history.image disk.old) (D.history.image disk.new)) }
+    ensures err { IfErr result (TellsDevice D.history disk.old disk.new) }
+    ensures failures { OnOk result (D.history.failures disk.new ≡ D.history.failures disk.old) }
+    ensures mends { Mends D.history disk.old disk.new 864 }
+    // side sectors that are right are not written
+    ensures quiet { AreExactFor (D.history.image disk.old) (D.history.image disk.old) → OnlyReads D.history disk.old disk.new 106290 }
+{
+    let mut slots = ArrayVec::new();
+    let mut blocks = ArrayVec::new();
+    let mut sides = ArrayVec::new();
+    read_directory(disk, &mut slots)?;
+    for slot in slots.as_slice() {
+        if is_relative(slot) {
+            mend_relative(disk, slot, &mut blocks, &mut sides)?;
+        }
+    }
+    Ok(())
+}

@@ -1,0 +1,179 @@
+//! The block counts of the relative entries, made right.
+ghost use Rattle.std.specs.Prelude.{◌≡◌, ◌<◌, IfErr, IfOk, IsFalse, IsTrue, OnOk};
+ghost use Rattle.d64_image.specs.History.{Changes, OnlyReads};
+ghost use Rattle.d64_image.specs.Images.{sector};
+ghost use Rattle.disk_layout.specs.Directory.{slot_in};
+ghost use Rattle.disk_layout.specs.Entries.{IsRecounted};
+ghost use Rattle.disk_layout.specs.Fault.{TellsFault};
+ghost use Rattle.disk_layout.specs.Layout.{IsLayout, IsSound, Layout, count_field, is_rel};
+ghost use Rattle.d64_image.specs.declared.place.Place.{Place};
+ghost use Rattle.layout_check.specs.Calls.{Passes, Tells};
+ghost use Rattle.layout_check.specs.Entry.{IsEntry};
+ghost use Rattle.layout_check.specs.Recounted.{AreCounted, AreRightIn, IsCountOf, IsCountedAs, IsInDirectory, IsOfDevice, IsRecountAt, IsRightAt, KeepsLayouts, WritesOnce, WritesOther};
+
+use crate::entry::is_relative;
+use crate::sides::find_parts;
+use arrayvec::ArrayVec;
+use d64_image::{Place, Sectors};
+use disk_layout::{EntryView, Fault, Slot, directory_start, walk_chain};
+
+/// The slot with this number, from 0 to 7, of the directory sector at `place`, which holds these bytes.
+fn slot_at(bytes: &[u8; 256], place: Place, number: u8) -> Slot
+    requires { number < 8 }
+    ensures { result ≡ slot_in place bytes.now number }
+{
+    let start = 32 * number as usize;
+    let mut slot = [0u8; 32];
+    slot.copy_from_slice(&bytes[start..start + 32]);
+    Slot {
+        sector: place,
+        number,
+        bytes: slot,
+    }
+}
+
+/// Puts a block count into the slot with this number, low byte first.
+fn put_count(bytes: &mut [u8; 256], number: u8, count: u16)
+    requires { number < 8 }
+    ensures count { (p : Place) → count_field (slot_in p bytes.new number) ≡ count }
+    ensures rest { IsRecounted bytes.old bytes.new number }
+{
+    let at = 32 * number as usize + 30;
+    bytes[at] = (count % 256) as u8;
+    bytes[at + 1] = (count / 256) as u8;
+}
+
+/// How many sectors a relative entry of a sound disk owns: its data blocks and its side sectors.
+fn count_owned<D: Sectors>(
+    disk: &mut D,
+    slot: &Slot,
+    blocks: &mut ArrayVec<Place, 720>,
+    sides: &mut ArrayVec<Place, 6>,
+) -> Result<u16, Fault>
+    requires entry { IsEntry (D.history.image disk.old) slot.now }
+    requires rel { IsTrue (is_rel slot.now) }
+    ensures count { IfOk result (IsCountOf (D.history.image disk.old) slot.now) }
+    ensures ok { OnOk result (Passes D.history disk.old disk.new 732) }
+    ensures err { IfErr result (Tells D.history disk.old disk.new 732) }
+{
+    find_parts(disk, slot, blocks, sides)?;
+    Ok((blocks.len() + sides.len()) as u16)
+}
+
+/// Makes the block count of one slot right in the bytes of its directory sector, where it is a relative entry's. The
+/// answer is whether it was wrong.
+fn recount_slot<D: Sectors>(
+    disk: &mut D,
+    place: Place,
+    number: u8,
+    bytes: &mut [u8; 256],
+) -> Result<bool, Fault>
+    requires sound { IsSound (D.history.image disk.old) }
+    requires own { IsInDirectory (D.history.image disk.old) place }
+    requires eight { number < 8 }
+    requires there { slot_in place bytes.old number ≡ slot_in place (sector (D.history.image disk.old) place) number }
+    ensures rest { OnOk result (IsRecounted bytes.old bytes.new number) }
+    ensures counts { OnOk result (IsCountedAs bytes.old bytes.new) }
+    ensures right { OnOk result (IsRightAt (D.history.image disk.old) place bytes.new number) }
+    ensures same { IfOk result (λ wrong. IsFalse wrong → bytes.new ≡ bytes.old) }
+    ensures wrong { IfOk result (λ wrong. IsTrue wrong → ¬ (IsRightAt (D.history.image disk.old) place bytes.old number)) }
+    ensures ok { OnOk result (Passes D.history disk.old disk.new 732) }
+    ensures err { IfErr result (Tells D.history disk.old disk.new 732) }
+{
+    let slot = slot_at(bytes, place, number);
+    if !is_relative(&slot) {
+        return Ok(false);
+    }
+    let count = count_owned(disk, &slot, &mut ArrayVec::new(), &mut ArrayVec::new())?;
+    if EntryView::new(&slot.bytes).block_count() == count {
+        return Ok(false);
+    }
+    put_count(bytes, number, count);
+    Ok(true)
+}
+
+/// Makes the block counts right in the bytes of a directory sector of a sound disk. The answer is whether any was wrong.
+fn recount_sector<D: Sectors>(
+    disk: &mut D,
+    place: Place,
+    bytes: &mut [u8; 256],
+) -> Result<bool, Fault>
+    requires sound { IsSound (D.history.image disk.old) }
+    requires own { IsInDirectory (D.history.image disk.old) place }
+    requires there { bytes.old ≡ sector (D.history.image disk.old) place }
+    ensures counts { OnOk result (IsCountedAs bytes.old bytes.new) }
+    ensures right { OnOk result (AreRightIn (D.history.image disk.old) place bytes.new) }
+    ensures same { IfOk result (λ wrong. IsFalse wrong → bytes.new ≡ bytes.old) }
+    ensures wrong { IfOk result (λ wrong. IsTrue wrong → ¬ (AreRightIn (D.history.image disk.old) place bytes.old)) }
+    ensures ok { OnOk result (Passes D.history disk.old disk.new 5856) }
+    ensures err { IfErr result (Tells D.history disk.old disk.new 5856) }
+{
+    let mut wrong = false;
+    for number in 0..8u8 {
+        if recount_slot(disk, place, number, bytes)? {
+            wrong = true;
+        }
+    }
+    Ok(wrong)
+}
+
+/// Writes a directory sector of a sound disk with right block counts, where one of them is wrong.
+fn mend_sector<D: Sectors>(disk: &mut D, place: Place) -> Result<(), Fault>
+    requires sound { IsSound (D.history.image disk.old) }
+    requires own { IsInDirectory (D.history.image disk.old) place }
+    ensures right { OnOk result (AreRightIn (D.history.image disk.old) place (sector (D.history.image disk.new) place)) }
+    ensures moments { Changes D.history disk.old disk.new 1 (IsRecountAt (D.history.image disk.old) place) }
+    ensures once { WritesOther D.history disk.old disk.new place }
+    ensures silent { AreRightIn (D.history.image disk.old) place (sector (D.history.image disk.old) place) → OnlyReads D.history disk.old disk.new 5857 }
+    ensures err { IfErr result IsOfDevice }
+    ensures failures { TellsFault D.history disk.old disk.new result }
+{
+    let mut bytes = [0u8; 256];
+    match disk.read(place, &mut bytes) {
+        Ok(()) => {}
+        Err(_) => return Err(Fault::Device(place)),
+    }
+    if !recount_sector(disk, place, &mut bytes)? {
+        return Ok(());
+    }
+    match disk.write(place, &bytes) {
+        Ok(()) => Ok(()),
+        Err(_) => Err(Fault::Device(place)),
+    }
+}
+
+/// Finds the sectors of a sound disk's directory, in order.
+fn find_directory<D: Sectors>(disk: &mut D, places: &mut ArrayVec<Place, 720>) -> Result<(), Fault>
+    requires { IsSound (D.history.image disk.old) }
+    ensures directory { OnOk result ((l : Layout) → IsLayout (D.history.image disk.old) l → places.new.items ≡ l.directory) }
+    ensures ok { OnOk result (Passes D.history disk.old disk.new 720) }
+    ensures err { IfErr result (Tells D.history disk.old disk.new 738) }
+{
+    let walked = walk_chain(disk, directory_start(), places);
+    prove!(places.len() <= 720);
+    walked?;
+    Ok(())
+}
+
+/// Makes the block counts of the relative entries of a sound disk right: each is the number of the entry's data blocks
+/// and side sectors. The directory's sectors are gone over in order, and one is written, once, where a count in it is
+/// wrong; nothing else changes, and where all counts are right nothing is written.
+///
+/// `Device` is told where the device failed, and no other fault; the sectors before that one are then mended.
+pub fn mend_counts<D: Sectors>(disk: &mut D) -> Result<(), Fault>
+    requires sound { IsSound (D.history.image disk.old) }
+    ensures counted { OnOk result (AreCounted (D.history.image disk.new)) }
+    // every image held, the last one too, has the same files
+    ensures moments { Changes D.history disk.old disk.new 18 (KeepsLayouts (D.history.image disk.old)) }
+    ensures once { (l : Layout) → IsLayout (D.history.image disk.old) l → WritesOnce D.history disk.old disk.new l.directory }
+    ensures silent { AreCounted (D.history.image disk.old) → OnlyReads D.history disk.old disk.new 106146 }
+    ensures err { IfErr result IsOfDevice }
+    ensures failures { TellsFault D.history disk.old disk.new result }
+{
+    let mut places = ArrayVec::new();
+    find_directory(disk, &mut places)?;
+    for &place in places.as_slice() {
+        mend_sector(disk, place)?;
+    }
+    Ok(())
+}

@@ -1,0 +1,95 @@
+//! Disks that are repaired, and what that writes.
+use crate::{check, repair, survey};
+use d64_image::{DeviceFault, Fuse, MemDisk, Meter, Place, Sectors};
+use disk_layout::{Fault, blank_image};
+use std::alloc::Global;
+use std::test::Fail;
+
+/// The place, where the disk has it.
+fn place(track: u8, sector: u8) -> Result<Place, DeviceFault> {
+    Place::new(track, sector).ok_or(DeviceFault)
+}
+
+/// A fresh disk for two tills: STOCK has 17/0 and 17/1, REQUESTS has 17/2 and 17/3.
+fn fresh(alloc: Global) -> Result<MemDisk, Fail> {
+    let mut disk = MemDisk::zeroed(alloc)?;
+    blank_image(&mut disk, b"STOCK LEDGER", *b"01", 2)?;
+    Ok(disk)
+}
+
+/// Changes two bytes of a sector.
+fn change(
+    disk: &mut MemDisk,
+    at: Place,
+    first: (u8, u8),
+    second: (u8, u8),
+) -> Result<(), DeviceFault> {
+    let mut bytes = [0; 256];
+    disk.read(at, &mut bytes)?;
+    bytes[first.0 as usize] = first.1;
+    bytes[second.0 as usize] = second.1;
+    disk.write(at, &bytes)
+}
+
+/// A fresh disk with a bit and a count of the map, a block count and the end of a side sector wrong.
+fn worn(alloc: Global) -> Result<MemDisk, Fail> {
+    let mut disk = fresh(alloc)?;
+    change(&mut disk, place(18, 0)?, (0x44, 0x12), (0x45, 0xF8))?;
+    change(&mut disk, place(18, 1)?, (30, 3), (31, 0))?;
+    change(&mut disk, place(17, 1)?, (1, 0x10), (1, 0x10))?;
+    Ok(disk)
+}
+
+// Three sectors are wrong: three writes, and the disk is the fresh one again. Then it is clean, and nothing is written.
+#[test]
+fn wrong_sectors_are_written_once(rt: HostRuntime) -> Result<(), Fail> {
+    let mut disk = Meter::new(worn(rt.alloc())?);
+    for round in 0..2u8 {
+        let found = repair(&mut disk)?;
+        assert_eq!(rt;
+            (disk.writes(), found.entries()),
+            (3, 2),
+            "after round {round}"
+        );
+        assert!(rt; check(&mut disk).is_ok());
+    }
+    assert!(rt; disk.into_inner().bytes() == fresh(rt.alloc())?.bytes());
+    Ok(())
+}
+
+// Power goes after each number of writes: the disk is sound, and the next repair makes the rest of them.
+#[test]
+fn a_cut_repair_is_taken_up_again(rt: HostRuntime) -> Result<(), Fail> {
+    for passed in 0..3u8 {
+        let mut cut = Fuse::new(worn(rt.alloc())?, u32::from(passed));
+        assert!(rt; matches!(repair(&mut cut), Err(Fault::Device(_))));
+        let mut disk = Meter::new(cut.into_inner());
+        assert!(rt; survey(&mut disk).is_ok());
+        assert!(rt; repair(&mut disk).is_ok());
+        assert_eq!(rt; disk.writes(), 3 - u64::from(passed));
+        assert!(rt; disk.into_inner().bytes() == fresh(rt.alloc())?.bytes());
+    }
+    Ok(())
+}
+
+// A disk that isn't sound is told of and left as it is: a link that goes back, and an entry that isn't closed.
+#[test]
+fn a_disk_that_is_not_sound_stays(rt: HostRuntime) -> Result<(), Fail> {
+    let rows = [
+        (place(17, 0)?, (0, 17), (1, 0), Fault::Loop(place(17, 0)?)),
+        (
+            place(18, 1)?,
+            (2, 4),
+            (2, 4),
+            Fault::Unclosed(place(18, 1)?),
+        ),
+    ];
+    for (at, first, second, fault) in rows {
+        let mut disk = worn(rt.alloc())?;
+        change(&mut disk, at, first, second)?;
+        let mut disk = Meter::new(disk);
+        assert!(rt; repair(&mut disk).err() == Some(fault));
+        assert_eq!(rt; disk.writes(), 0);
+    }
+    Ok(())
+}
