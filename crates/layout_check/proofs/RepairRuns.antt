@@ -15,8 +15,7 @@ use Rattle.layout_check.proofs.Mendings.{mended-start, mended-then}
 use Rattle.layout_check.proofs.Repairs.{clean-after, clean-counts, clean-sides, survey-same}
 use Rattle.layout_check.specs.Exact.{HasMap}
 use Rattle.layout_check.specs.Mended.{AreExactFor, IsMended, KeepsLayouts, Mends, SameMap, TellsDevice}
-use Rattle.layout_check.specs.Recounted as recounted
-use Rattle.layout_check.specs.Recounted.{AreCounted, IsOfDevice}
+use Rattle.layout_check.specs.Recounted.{AreCounted, IsOfDevice, KeepsButCounts}
 use Rattle.layout_check.specs.Repaired.{IsRepaired, MendsFrom}
 use Rattle.layout_check.specs.Survey.{IsSurveyOf, IsToldBy}
 use Rattle.layout_check.specs.declared.outcome.Survey.{Survey}
@@ -31,7 +30,7 @@ err-then (Err e) P Q f p = f e p
 
 -- map, side sectors and counts in turn: the last image is the repaired one
 pub repaired : (a b c d : Image) (s : Survey) → IsToldBy a s → HasMap b → KeepsLayouts a b → KeepsLayouts b c → SameMap b c → AreExactFor b c
-    → recounted.KeepsLayouts c d → ((l : Layout) → IsLayout a l → IsMended a l d) → AreCounted d → IsRepaired a d s
+    → KeepsButCounts c d → ((l : Layout) → IsLayout a l → IsMended a l d) → AreCounted d → IsRepaired a d s
 repaired a b c d s (l, is, of) right ab bc map exact cd held counted =
     let h = cd l (bc l (ab l is)) in
     let clean = clean-after b c d l (ab l is) right bc map exact h counted in
@@ -51,8 +50,8 @@ module _ {D : Type 0} (S : History D) where
   mends_from a b n le h l is = mends_weaker S a b n 883 le h (S.image a) l (mended-start (S.image a) l is)
 
   -- a call that recounts mends
-  pub counts_mend : (a b : D) → Changes S a b 18 (recounted.KeepsLayouts (S.image a)) → Mends S a b 18
-  counts_mend a b h i l is = changes_weaker S a b 18 18 (recounted.KeepsLayouts (S.image a)) (IsMended i l) (omega arith)
+  pub counts_mend : (a b : D) → Changes S a b 18 (KeepsButCounts (S.image a)) → Mends S a b 18
+  counts_mend a b h i l is = changes_weaker S a b 18 18 (KeepsButCounts (S.image a)) (IsMended i l) (omega arith)
       (λ x keeps. let k = keeps is.layout is.sound in mended-then i l (S.image a) x k.layout is k.sound k.files) h
 
   -- the fault of a call that comes after one without a failure

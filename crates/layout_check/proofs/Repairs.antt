@@ -22,8 +22,7 @@ use Rattle.layout_check.proofs.Mendings.{mended-then}
 use Rattle.layout_check.specs.Exact.{HasMap}
 use Rattle.layout_check.specs.Owners.{owner_of}
 use Rattle.layout_check.specs.Mended.{AreExactFor, IsMended, IsPartsOf, KeepsLayouts, SameMap}
-use Rattle.layout_check.specs.Recounted.{AreCounted}
-use Rattle.layout_check.specs.Recounted as recounted
+use Rattle.layout_check.specs.Recounted.{AreCounted, IsSameButCounts}
 use Rattle.layout_check.specs.Survey.{IsSurveyOf, IsTable, IsToldBy, taken}
 use Rattle.layout_check.specs.declared.outcome.Survey.{Survey}
 
@@ -99,7 +98,7 @@ all-of P (x ∷ xs) h = (h x (Contains-here x xs), all-of P xs (λ y c. h y (Con
 
 -- b has a right map, c exact side sectors besides, d right counts: d is clean
 module _ (b c d : Image) (l : Layout) (is : IsLayout b l) (map-right : HasMap b) (kept : KeepsLayouts b c) (same-map : SameMap b c) (exact : AreExactFor b c)
-    (h : recounted.IsMended c d l) (counted : AreCounted d) where
+    (h : IsSameButCounts c d l) (counted : AreCounted d) where
   abbrev pub mended : Layout
   mended = h.layout
 

@@ -15,7 +15,7 @@ use Rattle.disk_layout.specs.Directory.{map_place, slot_in}
 use Rattle.disk_layout.specs.Entries.{IsRecountedAll, uncounted}
 use Rattle.disk_layout.specs.Layout.{File, IsLayout, Layout, count_field, file_owns, is_rel, owners}
 use Rattle.disk_layout.specs.Same.{IsCountByte, SameFiles}
-use Rattle.layout_check.specs.Recounted.{AreCounted, AreRightIn, IsCountedAs, IsMended, IsRecountAt, IsRecountOf, IsRightAt, owned_count}
+use Rattle.layout_check.specs.Recounted.{AreCounted, AreRightIn, IsCountedAs, IsSameButCounts, IsRecountAt, IsRecountOf, IsRightAt, owned_count}
 
 in-map : {X Y : Type 0} (f : X → Y) (xs : List X) (x : X) → Contains xs x → Contains (map f xs) (f x)
 in-map f [] x c = absurd (Contains-nil x c)
@@ -94,7 +94,7 @@ module _ (a b : Image) (l : Layout) (full : length a ≡ 683) (h : IsLayout a l)
     elsewhere = λ p ne off sides. r.rest p off;
   }
 
-  pub recount-mended : IsMended a b l
+  pub recount-mended : IsSameButCounts a b l
   recount-mended = record { layout = reread_layout b l; sound = reread-layout; files = same-files; rest = r.rest }
 
   same-rel : (f : File) → Contains l.files f → is_rel (reslot b f.slot) ≡ is_rel f.slot

@@ -25,7 +25,7 @@ use Rattle.disk_layout.proofs.Recounts.{reread_layout}
 use Rattle.layout_check.proofs.Assembly.{contains-get}
 use Rattle.layout_check.proofs.RightCounts.{all-counted, reread-layout, recount-mended, recount-none, recount-put, recount-then, right-before}
 use Rattle.layout_check.proofs.RightSlots.{counted-right}
-use Rattle.layout_check.specs.Recounted.{AreCounted, AreRightIn, IsCountedAs, IsInDirectory, IsOfDevice, IsRecountAt, IsRecountOf, KeepsLayouts}
+use Rattle.layout_check.specs.Recounted.{AreCounted, AreRightIn, IsCountedAs, IsInDirectory, IsOfDevice, IsRecountAt, IsRecountOf, KeepsButCounts}
 
 -- on a sound image no fault holds but the device's
 pub device-told : (failed : Type 0) (img : Image) (f : Fault) → IsSound img → Holds failed img f → IsOfDevice f
@@ -75,7 +75,7 @@ module _ (a b : Image) (ps : List Place) (full : length a ≡ 683) (l : Layout) 
   pub all-done : ((p : Place) → Contains ps p → AreRightIn a p (sector b p)) → AreCounted b
   all-done right = all-counted a b l full h on (λ p c. right p (let Q : List Place → Type 0 = λ xs. Contains xs p in subst Q (sym same) c))
 
-pub mended-of : (a b : Image) (ps : List Place) → length a ≡ 683 → ((l : Layout) → IsLayout a l → ps ≡ l.directory) → IsRecountOf a b ps → KeepsLayouts a b
+pub mended-of : (a b : Image) (ps : List Place) → length a ≡ 683 → ((l : Layout) → IsLayout a l → ps ≡ l.directory) → IsRecountOf a b ps → KeepsButCounts a b
 mended-of a b ps full same r l h = recount-mended a b l full h (on a b ps full l h (same l h) r)
 
 pub sound-of : (a b : Image) (ps : List Place) → length a ≡ 683 → IsSound a → ((l : Layout) → IsLayout a l → ps ≡ l.directory) → IsRecountOf a b ps → IsSound b
@@ -140,9 +140,9 @@ module _ {D : Type 0} (S : History D) where
       let here = at_end S a b P old.held in
       changes_then S a b c k 1 (k + 1) P (omega arith) old (changes_weaker S b c 1 1 (IsRecountAt (S.image b) p) P (omega arith) (λ i s. recount-then (S.image a) (S.image b) i ps p own here s) now)
 
-  pub all_moments : (a b : D) (ps : List Place) (k : ℕ) → k ≤ 18 → ((l : Layout) → IsLayout (S.image a) l → ps ≡ l.directory) → Changes S a b k (λ i. IsRecountOf (S.image a) i ps) → Changes S a b 18 (KeepsLayouts (S.image a))
+  pub all_moments : (a b : D) (ps : List Place) (k : ℕ) → k ≤ 18 → ((l : Layout) → IsLayout (S.image a) l → ps ≡ l.directory) → Changes S a b k (λ i. IsRecountOf (S.image a) i ps) → Changes S a b 18 (KeepsButCounts (S.image a))
   all_moments a b ps k few same h =
-      changes_weaker S a b k 18 (λ i. IsRecountOf (S.image a) i ps) (KeepsLayouts (S.image a)) few (λ i r. mended-of (S.image a) i ps (S.whole a).size same r) h
+      changes_weaker S a b k 18 (λ i. IsRecountOf (S.image a) i ps) (KeepsButCounts (S.image a)) few (λ i r. mended-of (S.image a) i ps (S.whole a).size same r) h
 
   pub first_moments : (a b : D) (ps : List Place) (n : ℕ) → OnlyReads S a b n → Changes S a b 0 (λ i. IsRecountOf (S.image a) i ps)
   first_moments a b ps n r = reads_change S a b n (λ i. IsRecountOf (S.image a) i ps) r (recount-none (S.image a) ps (S.whole a))

@@ -50,15 +50,15 @@ pub record IsRecountOf (old new : Image) (ps : List Place) : Type 0 where
   pub rest : (p : Place) → ¬ (Contains ps p) → sector new p ≡ sector old p
 
 -- a layout of the new image with the same files, and the same bytes in every sector outside the directory
-pub record IsMended (old new : Image) (l : Layout) : Type 0 where
+pub record IsSameButCounts (old new : Image) (l : Layout) : Type 0 where
   pub layout : Layout
   pub sound : IsLayout new layout
   pub files : SameFiles old new l layout
   pub rest : (p : Place) → ¬ (Contains l.directory p) → sector new p ≡ sector old p
 
 -- so it is for each layout of the old one
-abbrev pub KeepsLayouts : Image → Image → Type 0
-KeepsLayouts old new = (l : Layout) → IsLayout old l → IsMended old new l
+abbrev pub KeepsButCounts : Image → Image → Type 0
+KeepsButCounts old new = (l : Layout) → IsLayout old l → IsSameButCounts old new l
 
 -- the place is one of the directory
 abbrev pub IsInDirectory : Image → Place → Type 0

@@ -9,7 +9,7 @@ ghost use Rattle.disk_layout.specs.Layout.{IsLayout, IsSound, Layout, count_fiel
 ghost use Rattle.d64_image.specs.declared.place.Place.{Place};
 ghost use Rattle.layout_check.specs.Calls.{Passes, Tells};
 ghost use Rattle.layout_check.specs.Entry.{IsEntry};
-ghost use Rattle.layout_check.specs.Recounted.{AreCounted, AreRightIn, IsCountOf, IsCountedAs, IsInDirectory, IsOfDevice, IsRecountAt, IsRightAt, KeepsLayouts, WritesOnce, WritesOther};
+ghost use Rattle.layout_check.specs.Recounted.{AreCounted, AreRightIn, IsCountOf, IsCountedAs, IsInDirectory, IsOfDevice, IsRecountAt, IsRightAt, KeepsButCounts, WritesOnce, WritesOther};
 
 use crate::entry::is_relative;
 use crate::sides::find_parts;
@@ -164,7 +164,7 @@ pub fn mend_counts<D: Sectors>(disk: &mut D) -> Result<(), Fault>
     requires sound { IsSound (D.history.image disk.old) }
     ensures counted { OnOk result (AreCounted (D.history.image disk.new)) }
     // every image held, the last one too, has the same files
-    ensures moments { Changes D.history disk.old disk.new 18 (KeepsLayouts (D.history.image disk.old)) }
+    ensures moments { Changes D.history disk.old disk.new 18 (KeepsButCounts (D.history.image disk.old)) }
     ensures once { (l : Layout) → IsLayout (D.history.image disk.old) l → WritesOnce D.history disk.old disk.new l.directory }
     ensures silent { AreCounted (D.history.image disk.old) → OnlyReads D.history disk.old disk.new 106146 }
     ensures err { IfErr result IsOfDevice }
