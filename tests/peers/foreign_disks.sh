@@ -26,6 +26,11 @@ expect() {
     exit 1
 }
 
+# made WORD.. IMAGE: cc1541 makes or changes the image
+made() {
+    cc1541 -q "$@" >/dev/null
+}
+
 # byte AT VALUE IMAGE: sets one byte of the first directory sector, 18/1
 byte() {
     printf "\\$(printf %o "$2")" | dd of="$3" bs=1 seek=$((91648 + $1)) conv=notrunc 2>/dev/null
@@ -34,22 +39,22 @@ byte() {
 head -c 1000 /dev/zero | tr '\0' 'x' >data
 
 # a program, a text and a locked program: all agrees
-cc1541 -q -n shop -f program -w data -f text -T SEQ -w data -f locked -P -w data files.d64
+made -n shop -f program -w data -f text -T SEQ -w data -f locked -P -w data files.d64
 expect files.d64 OK
 
 # an entry that was never closed is told and not deleted
 cp files.d64 open.d64
-cc1541 -q -f open -O -w data open.d64
+made -f open -O -w data open.d64
 expect open.d64 "UNCLOSED 18/1"
 
 # a separator without a first block owns nothing
 cp files.d64 separator.d64
-cc1541 -q -f -------- -T DEL -L separator.d64
+made -f -------- -T DEL -L separator.d64
 expect separator.d64 OK
 
 # a second entry for the blocks of the first file, which so has two owners in each of its blocks; as a program, and as a separator
 cp files.d64 twice.d64
-cc1541 -q -f again -l program twice.d64
+made -f again -l program twice.d64
 expect twice.d64 "OWNEDTWICE 1/0" "OWNEDTWICE 1/9" "OWNEDTWICE 1/10" "OWNEDTWICE 1/20"
 cp twice.d64 owning_separator.d64
 byte 98 128 owning_separator.d64
@@ -57,7 +62,7 @@ expect owning_separator.d64 "OWNEDTWICE 1/0" "OWNEDTWICE 1/9" "OWNEDTWICE 1/10" 
 
 # cc1541 writes relative entries without record length and side sectors
 cp files.d64 relative.d64
-cc1541 -q -f relative -T REL -w data relative.d64
+made -f relative -T REL -w data relative.d64
 expect relative.d64 "BADLENGTH 18/1" "BADSIDE 18/1"
 
 # scratched by clearing the type byte alone: nobody owns the blocks, and the map still has them
