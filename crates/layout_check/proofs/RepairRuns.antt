@@ -1,5 +1,5 @@
 -- A repair's run: the images held, the fault told, what is left at the end, and that a clean disk is not written.
-use Rattle.std.proofs.Common.{ℕ, ◌≡◌, ◌+◌, ◌≤◌, Result, Ok, Err, OnOk, IfErr, sym, ◌∙◌, refl, subst, arith}
+use Rattle.std.proofs.Common.{ℕ, ◌≡◌, ◌≤◌, Result, Ok, Err, OnOk, IfErr, sym, subst, arith}
 use Rattle.d64_image.proofs.Moments.{changes_then, changes_weaker, reads_change}
 use Rattle.d64_image.specs.History.{Changes, Failed, History, OnlyReads}
 use Rattle.d64_image.specs.Images.{Image}
@@ -9,7 +9,6 @@ use Rattle.disk_layout.specs.Fault.{TellsFault}
 use Rattle.disk_layout.specs.Layout.{IsLayout, Layout}
 use Rattle.disk_layout.specs.Same.{SameFiles}
 use Rattle.disk_layout.specs.declared.faults.Fault.{Fault}
-use Rattle.disk_layout.specs.declared.faults.Fault.TheVariants.{Device}
 use Rattle.layout_check.proofs.MapMends.{device_later, mends_weaker}
 use Rattle.layout_check.proofs.Mendings.{mended-start, mended-then}
 use Rattle.layout_check.proofs.Repairs.{clean-after, clean-counts, clean-sides, survey-same}
@@ -17,7 +16,7 @@ use Rattle.layout_check.specs.Exact.{HasMap}
 use Rattle.layout_check.specs.Mended.{AreExactFor, IsMended, KeepsLayouts, Mends, SameMap, TellsDevice}
 use Rattle.layout_check.specs.Recounted.{AreCounted, IsOfDevice, KeepsButCounts}
 use Rattle.layout_check.specs.Repaired.{IsRepaired, MendsFrom}
-use Rattle.layout_check.specs.Survey.{IsSurveyOf, IsToldBy}
+use Rattle.layout_check.specs.Survey.{IsToldBy}
 use Rattle.layout_check.specs.declared.outcome.Survey.{Survey}
 
 pub ok-then : {T E : Type 0} (r : Result T E) (P Q : Type 0) → (P → Q) → OnOk r P → OnOk r Q

@@ -1,29 +1,29 @@
 -- A repair put together: with the map, the side sectors and the block counts made right, the image is clean and has the same files.
-use Rattle.std.proofs.Common.{ℕ, Bool, ◌↔◌, ◌≡◌, ◌≢◌, ◌<◌, ◌≤◌, ◌+◌, ◌-◌, ◌||◌, ◌++◌, List, [], ◌∷◌, Some, None, Option, length, map, take, drop, get_or, slice_index, sym, ◌∙◌, ap, ap₂, refl, subst, inl, inr, IsTrue, arith}
+use Rattle.std.proofs.Common.{ℕ, Bool, ◌↔◌, ◌≡◌, ◌≢◌, ◌<◌, ◌+◌, ◌||◌, ◌++◌, List, [], ◌∷◌, Some, None, Option, length, map, drop, slice_index, sym, ◌∙◌, ap, ap₂, refl, subst, IsTrue, arith}
 use Rattle.std.specs.Prelude.{Contains, flat_map, nat_eq, option_map, slice_get, slice_range}
 use Rattle.std.specs.List.{AllByRecursion}
 use Rattle.std.proofs.lemmas.List.{get_or-drop, get_or-take, length-map}
 use Rattle.std.proofs.lemmas.Option.{slice_get-map}
 use Rattle.std.proofs.lemmas.List.Elements.{Contains-append_right}
-use Rattle.d64_image.specs.Images.{Image, Sector, sector}
+use Rattle.d64_image.specs.Images.{Image, sector}
 use Rattle.d64_image.specs.declared.place.Place.{Place}
 use Rattle.disk_layout.proofs.Layouts.{IsLayout-one, get-contains}
-use Rattle.disk_layout.proofs.Once.{Contains-here, Contains-there, EachOnce-apart, all-in, flat_map-in}
+use Rattle.disk_layout.proofs.Once.{EachOnce-apart, all-in, flat_map-in}
 use Rattle.disk_layout.specs.Chain.{EachOnce}
 use Rattle.disk_layout.specs.Clean.{IsClean, IsCleanLayout, IsExactFile}
-use Rattle.disk_layout.specs.Directory.{map_place, type_byte}
-use Rattle.disk_layout.specs.Layout.{File, IsLayout, IsSound, Layout, file_owns, is_rel, owners, record_length}
+use Rattle.disk_layout.specs.Directory.{map_place}
+use Rattle.disk_layout.specs.Layout.{File, IsLayout, Layout, file_owns, is_rel, owners, record_length}
 use Rattle.disk_layout.specs.Map.{IsMapOf}
 use Rattle.disk_layout.specs.Same.{SameFiles, Stays, stays_of}
 use Rattle.disk_layout.specs.Side.{side_sector}
 use Rattle.disk_layout.specs.declared.slot.Slot.{Slot}
 use Rattle.layout_check.proofs.Assembly.{contains-get}
-use Rattle.layout_check.proofs.Mendings.{mended-then}
+use Rattle.layout_check.proofs.Verdict.{all-of}
 use Rattle.layout_check.specs.Exact.{HasMap}
 use Rattle.layout_check.specs.Owners.{owner_of}
-use Rattle.layout_check.specs.Mended.{AreExactFor, IsMended, IsPartsOf, KeepsLayouts, SameMap}
+use Rattle.layout_check.specs.Mended.{AreExactFor, KeepsLayouts, SameMap}
 use Rattle.layout_check.specs.Recounted.{AreCounted, IsSameButCounts}
-use Rattle.layout_check.specs.Survey.{IsSurveyOf, IsTable, IsToldBy, taken}
+use Rattle.layout_check.specs.Survey.{IsSurveyOf}
 use Rattle.layout_check.specs.declared.outcome.Survey.{Survey}
 
 -- what an option was made from
@@ -91,10 +91,6 @@ survey-same a c l m s same once h = record {
   where
     owned : flat_map file_owns m.files ≡ flat_map file_owns l.files
     owned = owned-stays c a m.files l.files same.files
-
-all-of : {X : Type 0} (P : X → Type 0) (xs : List X) → ((x : X) → Contains xs x → P x) → AllByRecursion P xs
-all-of P [] h = tt
-all-of P (x ∷ xs) h = (h x (Contains-here x xs), all-of P xs (λ y c. h y (Contains-there y x xs c)))
 
 -- b has a right map, c exact side sectors besides, d right counts: d is clean
 module _ (b c d : Image) (l : Layout) (is : IsLayout b l) (map-right : HasMap b) (kept : KeepsLayouts b c) (same-map : SameMap b c) (exact : AreExactFor b c)

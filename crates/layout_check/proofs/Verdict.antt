@@ -32,7 +32,8 @@ use Rattle.layout_check.specs.Owners.{owner_of}
 use Rattle.layout_check.specs.Survey.{IsSurveyOf, IsToldBy}
 use Rattle.layout_check.specs.declared.outcome.Survey.{Survey}
 
-all-of : {X : Type 0} (P : X → Type 0) (xs : List X) → ((x : X) → Contains xs x → P x) → AllByRecursion P xs
+-- what holds of each that is in the list
+pub all-of : {X : Type 0} (P : X → Type 0) (xs : List X) → ((x : X) → Contains xs x → P x) → AllByRecursion P xs
 all-of P [] h = tt
 all-of P (x ∷ xs) h = (h x (Contains-here x xs), all-of P xs (λ y c. h y (Contains-there y x xs c)))
 

@@ -1,4 +1,4 @@
-//! The map that a disk is to have, made from who owns which sector.
+//! The map and the side sectors that a sound disk is to have, each written where the disk has another.
 ghost use Rattle.std.specs.Prelude.{◌≡◌, ◌≤◌, IfErr, IsTrue, OnOk, length};
 ghost use Rattle.d64_image.specs.History.{Changes, OldOr, OnlyReads};
 ghost use Rattle.d64_image.specs.Images.{put, sector};

@@ -1,5 +1,5 @@
 -- The map, then the side sectors, then the block counts.
-use Rattle.std.proofs.Common.{ℕ, ◌∙◌, arith}
+use Rattle.std.proofs.Common.{◌∙◌, arith}
 use Rattle.std.proofs.lemmas.Result.{err_from_is_err_and}
 use Rattle.d64_image.proofs.Moments.{at_end, reads_then, reads_weaker}
 use Rattle.layout_check.proofs.MapMends.{device_later, mends_then}

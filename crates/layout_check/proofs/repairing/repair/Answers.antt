@@ -1,5 +1,5 @@
 -- The survey, then what is to be mended.
-use Rattle.std.proofs.Common.{ℕ, arith}
+use Rattle.std.proofs.Common.{arith}
 use Rattle.d64_image.proofs.Moments.{reads_then}
 use Rattle.layout_check.proofs.RepairRuns.{clean_after, mends_after}
 use Rattle.layout_check.proofs.repairing.repair.Goals as goal
