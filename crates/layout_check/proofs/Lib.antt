@@ -12,6 +12,7 @@ pub mod Makings
 pub mod MapMends
 pub mod Mendings
 pub mod Ones
+pub mod Orders
 pub mod Pointers
 pub mod Progress
 pub mod RepairRuns

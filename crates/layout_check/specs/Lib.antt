@@ -2,6 +2,7 @@ pub mod Calls
 pub mod Entry
 pub mod Exact
 pub mod Found
+pub mod InOrder
 pub mod Made
 pub mod Marked
 pub mod Mended

@@ -8,6 +8,7 @@ ghost use Rattle.disk_layout.specs.Layout.{IsSound, is_rel};
 ghost use Rattle.layout_check.specs.Entry.{IsEntry};
 ghost use Rattle.layout_check.specs.Exact.{AreExactSides, HasMap, IsFiled};
 ghost use Rattle.layout_check.specs.Mended.{AreExactFor, IsExactFor, IsPartsOf, KeepsExact, KeepsLayouts, Mends, SameMap, TellsDevice};
+ghost use Rattle.layout_check.specs.Recounted.{WritesOther};
 ghost use Rattle.layout_check.specs.Survey.{IsToldBy};
 
 use crate::entry::is_relative;
@@ -59,6 +60,7 @@ fn write_other<D: Sectors>(
     ensures err { IfErr result (TellsDevice D.history disk.old disk.new) }
     ensures failures { OnOk result (D.history.failures disk.new ≡ D.history.failures disk.old) }
     ensures held { Changes D.history disk.old disk.new 1 (OldOr (D.history.image disk.old) (put (D.history.image disk.old) place wanted.now)) }
+    ensures once { WritesOther D.history disk.old disk.new place }
     // a sector that is right is not written
     ensures quiet { had.now ≡ wanted.now → OnlyReads D.history disk.old disk.new 0 }
 {
