@@ -17,6 +17,7 @@ pub mod Pointers
 pub mod Progress
 pub mod RepairRuns
 pub mod Repairs
+pub mod Rights
 pub mod RightCounts
 pub mod RightSlots
 pub mod RightWrites
