@@ -15,6 +15,7 @@ pub mod Ones
 pub mod Orders
 pub mod Pointers
 pub mod Progress
+pub mod RepairOrder
 pub mod RepairRuns
 pub mod Repairs
 pub mod Rights
