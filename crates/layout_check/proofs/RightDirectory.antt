@@ -1,14 +1,14 @@
 -- A directory sector is right where its block counts are.
-use Rattle.std.proofs.Common.{ℕ, ◌≡◌, List, [], ◌∷◌, length, ap, refl, subst, inl, inr}
-use Rattle.std.specs.Prelude.{Contains, IsTrue}
+use Rattle.std.proofs.Common.{ℕ, ◌≡◌, [], ◌∷◌, length, ap, refl, subst, inl, inr}
+use Rattle.std.specs.Prelude.{Contains}
 use Rattle.d64_image.specs.Images.{Image, Sector, sector}
 use Rattle.d64_image.specs.declared.place.Place.{Place}
 use Rattle.disk_layout.proofs.Layouts.{IsLayout-one, get-contains}
 use Rattle.disk_layout.proofs.Once.{Contains-cases, Contains-nil, flat_map-in}
 use Rattle.disk_layout.proofs.Recount.{slot-there}
 use Rattle.disk_layout.proofs.Recounts.{slot-of}
-use Rattle.disk_layout.specs.Directory.{map_place, slot_in}
-use Rattle.disk_layout.specs.Layout.{File, IsLayout, Layout, count_field}
+use Rattle.disk_layout.specs.Directory.{slot_in}
+use Rattle.disk_layout.specs.Layout.{IsLayout, Layout, count_field}
 use Rattle.layout_check.proofs.Orders.{made_one}
 use Rattle.layout_check.proofs.RightCounts.{right-after, right-before}
 use Rattle.layout_check.proofs.Rights.{directory-not_map, side-not_directory}

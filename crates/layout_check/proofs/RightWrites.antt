@@ -82,7 +82,7 @@ pub counted-of : (a b : Image) (ps : List Place) → length a ≡ 683 → IsSoun
 counted-of a b ps full (l, h) same r made = all-counted a b l full h (on a b ps full l h (same l h) r) (λ p c. right-counts a l h p (sector b p) ((made l h).right p c))
 
 -- one more
-pub take-next : {X : Type 0} (xs : List X) (k : ℕ) (x : X) → k < length xs → x ≡ get_or xs k x → take (k + 1) xs ≡ take k xs ++ x ∷ []
+take-next : {X : Type 0} (xs : List X) (k : ℕ) (x : X) → k < length xs → x ≡ get_or xs k x → take (k + 1) xs ≡ take k xs ++ x ∷ []
 take-next xs k x lt e = take_more xs k x lt ∙ ap (λ y. take k xs ++ y ∷ []) (sym e)
 
 -- other bytes are right: so they differ
@@ -142,7 +142,7 @@ module _ {D : Type 0} (S : History D) where
       let P : Image → Type 0 = λ i. IsRecountOf (S.image a) i ps in
       let here = at_end S a b P old.held in
       changes_then S a b c k 1 (k + 1) P (omega arith) old (changes_weaker S b c 1 1 (OldOrMended (S.image b) p) P (omega arith)
-        (λ i. ⊎_elim (λ e. subst P (sym e) here) (λ m. recount-then (S.image a) (S.image b) i ps p own here m.counts)) now)
+      (λ i. ⊎_elim (λ e. subst P (sym e) here) (λ m. recount-then (S.image a) (S.image b) i ps p own here m.counts)) now)
 
   pub all_moments : (a b : D) (ps : List Place) (k : ℕ) → k ≤ 18 → ((l : Layout) → IsLayout (S.image a) l → ps ≡ l.directory) → Changes S a b k (λ i. IsRecountOf (S.image a) i ps) → Changes S a b 18 (KeepsButCounts (S.image a))
   all_moments a b ps k few same h =
@@ -183,14 +183,14 @@ module _ {D : Type 0} (S : History D) where
         let P : List Place → Type 0 = GoesOver S a c (IsRight l) in
         let recount = recounted b k old in
         subst P (sym (take-next ps k p lt e)) (over_then S (IsRight l) (take k ps) (p ∷ []) a b c (once_next k p lt e) over made
-          (over_one S (IsRight l) p b c (weaker S b c _ _ (λ i. ⊎_elim (λ x. inl x) (λ m. inr (mended-made (S.image a) (S.image b) l (S.whole a).size is recount p (on_directory k p lt e) i m))) now.held) other))
+        (over_one S (IsRight l) p b c (weaker S b c _ _ (λ i. ⊎_elim (λ x. inl x) (λ m. inr (mended-made (S.image a) (S.image b) l (S.whole a).size is recount p (on_directory k p lt e) i m))) now.held) other))
 
     pub made_step : (b c : D) (k : ℕ) (p : Place) → k < length ps → p ≡ get_or ps k p → Changes S a b k (λ i. IsRecountOf (S.image a) i ps) → Changes S b c 1 (OldOrMended (S.image b) p) → AreRightIn (S.image b) p (sector (S.image c) p)
         → AreMade (IsRight l) (take k ps) (S.image a) (S.image b) → AreMade (IsRight l) (take (k + 1) ps) (S.image a) (S.image c)
     made_step b c k p lt e old now right made =
         let P : List Place → Type 0 = λ xs. AreMade (IsRight l) xs (S.image a) (S.image c) in
         subst P (sym (take-next ps k p lt e)) (made_then (IsRight l) (take k ps) (p ∷ []) (S.image a) (S.image b) (S.image c) (once_next k p lt e) made
-          (sector-made (S.image a) (S.image b) l (S.whole a).size is (recounted b k old) p (on_directory k p lt e) (S.image c) (at_end S b c (OldOrMended (S.image b) p) now.held) right))
+        (sector-made (S.image a) (S.image b) l (S.whole a).size is (recounted b k old) p (on_directory k p lt e) (S.image c) (at_end S b c (OldOrMended (S.image b) p) now.held) right))
 
     pub over_directory : (b : D) (k : ℕ) → GoesOver S a b (IsRight l) (take k ps) → GoesOver S a b (IsRight l) l.directory
     over_directory b k over =

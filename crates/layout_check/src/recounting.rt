@@ -123,6 +123,7 @@ fn mend_sector<D: Sectors>(disk: &mut D, place: Place) -> Result<(), Fault>
     requires sound { IsSound (D.history.image disk.old) }
     requires own { IsInDirectory (D.history.image disk.old) place }
     ensures right { OnOk result (AreRightIn (D.history.image disk.old) place (sector (D.history.image disk.new) place)) }
+    // each image held is the old one, or has right counts in this sector, where one was wrong
     ensures moments { Changes D.history disk.old disk.new 1 (OldOrMended (D.history.image disk.old) place) }
     ensures once { WritesOther D.history disk.old disk.new place }
     ensures silent { AreRightIn (D.history.image disk.old) place (sector (D.history.image disk.old) place) → OnlyReads D.history disk.old disk.new 5857 }

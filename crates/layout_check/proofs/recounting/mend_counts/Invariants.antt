@@ -1,5 +1,5 @@
 -- The sectors so far were gone over, and the image differs in counts alone.
-use Rattle.std.proofs.Common.{ℕ, ◌≡◌, ◌+◌, ◌*◌, take}
+use Rattle.std.proofs.Common.{◌≡◌, ◌+◌, ◌*◌, take}
 use Rattle.d64_image.specs.History.{Changes, OnlyReads}
 use Rattle.disk_layout.specs.Layout.{IsLayout, Layout}
 use Rattle.layout_check.specs.InOrder.{AreMade, GoesOver, IsRight}

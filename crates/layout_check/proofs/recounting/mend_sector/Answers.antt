@@ -3,7 +3,7 @@ use Rattle.d64_image.proofs.Images.{sector-put_same}
 use Rattle.std.proofs.Common.{inr, ◌≡◌, ap, arith, refl, subst, sym, ◌∙◌}
 use Rattle.std.proofs.lemmas.Result.{err_from_is_err_and}
 use Rattle.d64_image.proofs.Moments.{reads_then}
-use Rattle.d64_image.specs.Images.{Image, Sector, sector}
+use Rattle.d64_image.specs.Images.{Image, sector}
 use Rattle.disk_layout.specs.Layout.{IsSound}
 use Rattle.layout_check.proofs.RightWrites.{device-told, mended-read, reads_moment, right-other, right_read, right_unwritten, right_written, write_moment}
 use Rattle.layout_check.specs.Recounted.{IsCountedAs}
