@@ -20,6 +20,7 @@ pub mod RepairRuns
 pub mod Repairs
 pub mod Rights
 pub mod RightCounts
+pub mod RightDirectory
 pub mod RightSlots
 pub mod RightWrites
 pub mod Roots
@@ -27,4 +28,3 @@ pub mod SideMends
 pub mod SideWalks
 pub mod Verdict
 pub mod Walked
-pub mod WritesOnce

@@ -112,6 +112,15 @@ module _ (a b : Image) (l : Layout) (full : length a ≡ 683) (h : IsLayout a l)
         number = at.number;
       })
 
+  -- and the other way round
+  pub right-after : (p : Place) (bytes : Sector) (n : ℕ) → IsRightAt a p bytes n → IsRightAt b p bytes n
+  right-after p bytes n right m g is at =
+      let one : m ≡ reread_layout b l = IsLayout-one b m (reread_layout b l) is reread-layout in
+      let there = (let P : Layout → Type 0 = λ x. Contains x.files g in subst P one at.own) in
+      let (f, c, e) = map-in (reread b) l.files g there in
+      let P : File → Type 0 = λ x. IsTrue (is_rel x.slot) → x.slot.sector ≡ p → x.slot.number ≡ n → count_field (slot_in p bytes n) ≡ owned_count x in
+      subst P e (λ t on number. right l f h (record { own = c; rel = sym (same-rel f c) ∙ t; sector = on; number = number })) at.rel at.sector at.number
+
   -- where all counts of all directory sectors are right, the image is counted
   pub all-counted : ((p : Place) → Contains l.directory p → AreRightIn a p (sector b p)) → AreCounted b
   all-counted right m g is own rel =

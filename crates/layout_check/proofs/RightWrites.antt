@@ -1,18 +1,16 @@
 -- Directory sectors written one after another: what the device held meanwhile, and what is right then.
-use Rattle.std.proofs.Common.{ℕ, ◌≡◌, ◌<◌, ◌≤◌, ◌+◌, List, [], ◌∷◌, length, sym, ◌∙◌, ap, refl, arith, subst, inl, inr}
-use Rattle.std.specs.Prelude.{Contains, Some, slice_get}
+use Rattle.std.proofs.Common.{ℕ, ◌≡◌, ◌≢◌, ◌<◌, ◌≤◌, ◌+◌, List, [], ◌∷◌, ◌++◌, length, take, drop, get_or, ⊎_elim, sym, ◌∙◌, ap, refl, arith, subst, inl, inr}
+use Rattle.std.specs.Prelude.{Contains}
 use Rattle.std.specs.List.{AllByRecursion}
-use Rattle.std.proofs.lemmas.Bool.{cases_lt}
-use Rattle.std.proofs.lemmas.Option.{slice_get_within}
+use Rattle.std.proofs.lemmas.List.{take-append-drop, take_all, take_more}
 use Rattle.d64_image.proofs.Images.{sector-put_same}
-use Rattle.d64_image.proofs.Moments.{at_end, changes_then, changes_weaker, reads_change, reads_then, write_change}
-use Rattle.d64_image.proofs.Places.{same_or_other}
+use Rattle.d64_image.proofs.Moments.{at_end, changes_then, changes_weaker, reads_change, reads_then, weaker, write_change}
 use Rattle.d64_image.specs.History.{Changes, HeldOnly, History, OldOr, OnlyReads}
-use Rattle.d64_image.specs.Images.{Image, Sector, put, sector}
+use Rattle.d64_image.specs.Images.{Image, IsImage, Sector, put, sector}
 use Rattle.d64_image.specs.declared.place.Place.{Place}
 use Rattle.disk_layout.proofs.Directories.{directory-few}
-use Rattle.disk_layout.proofs.Layouts.{IsLayout-one}
-use Rattle.disk_layout.proofs.Once.{Contains-cases, Contains-here, Contains-nil, Contains-there}
+use Rattle.disk_layout.proofs.Layouts.{IsLayout-one, get-contains}
+use Rattle.disk_layout.proofs.Once.{Contains-here, Contains-there, EachOnce-left}
 use Rattle.disk_layout.proofs.Twice.{told-unsound}
 use Rattle.disk_layout.specs.Chain.{EachOnce}
 use Rattle.disk_layout.specs.Directory.{IsDirectory, IsDirectoryPlace, map_place}
@@ -22,10 +20,14 @@ use Rattle.disk_layout.specs.declared.faults.Fault.{Fault}
 use Rattle.disk_layout.specs.declared.faults.Fault.TheVariants.{BadLength, BadLink, BadSide, BadType, CountWrong, Device, Loop, MapWrong, OwnedTwice, Unclosed}
 use Rattle.disk_layout.specs.declared.slot.Slot.{Slot}
 use Rattle.disk_layout.proofs.Recounts.{reread_layout}
-use Rattle.layout_check.proofs.Assembly.{contains-get}
-use Rattle.layout_check.proofs.RightCounts.{all-counted, reread-layout, recount-mended, recount-none, recount-put, recount-then, right-before}
+use Rattle.layout_check.proofs.Orders.{made_none, made_then, over_more, over_none, over_one, over_then}
+use Rattle.layout_check.proofs.Pointers.{read-there}
+use Rattle.layout_check.proofs.RightCounts.{all-counted, reread-layout, recount-mended, recount-none, recount-put, recount-then}
+use Rattle.layout_check.proofs.RightDirectory.{mended-made, right-counts, sector-made}
 use Rattle.layout_check.proofs.RightSlots.{counted-right}
-use Rattle.layout_check.specs.Recounted.{AreCounted, AreRightIn, IsCountedAs, IsInDirectory, IsOfDevice, IsRecountAt, IsRecountOf, KeepsButCounts}
+use Rattle.layout_check.proofs.Rights.{directory-once}
+use Rattle.layout_check.specs.InOrder.{AreMade, GoesOver, IsRight}
+use Rattle.layout_check.specs.Recounted.{AreCounted, AreRightIn, IsCountedAs, IsInDirectory, IsMendedAt, IsOfDevice, IsRecountOf, KeepsButCounts, OldOrMended, WritesOther}
 
 -- on a sound image no fault holds but the device's
 pub device-told : (failed : Type 0) (img : Image) (f : Fault) → IsSound img → Holds failed img f → IsOfDevice f
@@ -51,9 +53,6 @@ few-sectors img ps es d = omega (arith, directory-few ps d.chain.once (places-on
 pub few-of : (img : Image) (ps : List Place) → IsSound img → ((l : Layout) → IsLayout img l → ps ≡ l.directory) → length ps ≤ 18
 few-of img ps (l, h) same = omega (arith, few-sectors img l.directory _ h.directory, ap length (same l h))
 
-pub once-of : (img : Image) (ps : List Place) → IsSound img → ((l : Layout) → IsLayout img l → ps ≡ l.directory) → EachOnce ps
-once-of img ps (l, h) same = let P : List Place → Type 0 = EachOnce in subst P (sym (same l h)) h.directory.chain.once
-
 -- the image in which directory sectors were mended so far
 module _ (a b : Image) (ps : List Place) (full : length a ≡ 683) (l : Layout) (h : IsLayout a l) (same : ps ≡ l.directory) (r : IsRecountOf a b ps) where
   on : IsRecountOf a b l.directory
@@ -69,12 +68,6 @@ module _ (a b : Image) (ps : List Place) (full : length a ≡ 683) (l : Layout) 
       let Q : List Place → Type 0 = λ xs. Contains xs p in
       subst P (sym one) (subst Q same c)
 
-  pub all-before : (p : Place) (bytes : Sector) → AreRightIn b p bytes → AreRightIn a p bytes
-  all-before p bytes right n low = right-before a b l full h on p bytes n (right n low)
-
-  pub all-done : ((p : Place) → Contains ps p → AreRightIn a p (sector b p)) → AreCounted b
-  all-done right = all-counted a b l full h on (λ p c. right p (let Q : List Place → Type 0 = λ xs. Contains xs p in subst Q (sym same) c))
-
 pub mended-of : (a b : Image) (ps : List Place) → length a ≡ 683 → ((l : Layout) → IsLayout a l → ps ≡ l.directory) → IsRecountOf a b ps → KeepsButCounts a b
 mended-of a b ps full same r l h = recount-mended a b l full h (on a b ps full l h (same l h) r)
 
@@ -84,34 +77,37 @@ sound-of a b ps full (l, h) same r = still-sound a b ps full l h (same l h) r
 pub in-of : (a b : Image) (ps : List Place) (p : Place) → length a ≡ 683 → IsSound a → ((l : Layout) → IsLayout a l → ps ≡ l.directory) → IsRecountOf a b ps → Contains ps p → IsInDirectory b p
 in-of a b ps p full (l, h) same r c = still-in a b ps full l h (same l h) r p c
 
--- all of them are
-pub counted-of : (a b : Image) (ps : List Place) (k : ℕ) → length a ≡ 683 → IsSound a → ((l : Layout) → IsLayout a l → ps ≡ l.directory) → IsRecountOf a b ps → length ps ≤ k → ((j : ℕ) → j < k → (q : Place) → slice_get ps j ≡ Some q → AreRightIn a q (sector b q)) → AreCounted b
-counted-of a b ps k full (l, h) same r all right = all-done a b ps full l h (same l h) r (λ p c. let (j, e) = contains-get ps p c in right j (omega (arith, all, slice_get_within ps j p e)) p e)
+-- all of them were gone over, so all counts are right
+pub counted-of : (a b : Image) (ps : List Place) → length a ≡ 683 → IsSound a → ((l : Layout) → IsLayout a l → ps ≡ l.directory) → IsRecountOf a b ps → ((l : Layout) → IsLayout a l → AreMade (IsRight l) l.directory a b) → AreCounted b
+counted-of a b ps full (l, h) same r made = all-counted a b l full h (on a b ps full l h (same l h) r) (λ p c. right-counts a l h p (sector b p) ((made l h).right p c))
 
--- sectors that are right stay so when another is written
-pub right-more : (a b c : Image) (ps : List Place) (k : ℕ) (p : Place) → slice_get ps k ≡ Some p → IsRecountAt b p c → AreRightIn a p (sector c p) → ((j : ℕ) → j < k → (q : Place) → slice_get ps j ≡ Some q → AreRightIn a q (sector b q)) → (j : ℕ) → j < k + 1 → (q : Place) → slice_get ps j ≡ Some q → AreRightIn a q (sector c q)
-right-more a b c ps k p there s now old j below q at = elim (same_or_other p q) [
-  | inl e ↦ let P : Place → Type 0 = λ x. AreRightIn a x (sector c x) in subst P e now
-  | inr ne ↦ elim (cases_lt j k) [
-    | inl lt ↦ let same = s.rest q (λ d. elim (Contains-cases q p [] d) [ inl e ↦ ne e | inr none ↦ Contains-nil q none ]) in
-        let P : Sector → Type 0 = λ x. AreRightIn a q x in subst P (sym same) (old j lt q at)
-    | inr high ↦ let e : j ≡ k = omega arith in absurd (ne (cc (there, at, e)))
-  ]
-]
+-- one more
+take-next : {X : Type 0} (xs : List X) (k : ℕ) (x : X) → k < length xs → x ≡ get_or xs k x → take (k + 1) xs ≡ take k xs ++ x ∷ []
+take-next xs k x lt e = take_more xs k x lt ∙ ap (λ y. take k xs ++ y ∷ []) (sym e)
+
+-- other bytes are right: so they differ
+pub right-other : (img : Image) (p : Place) (x y : Sector) → ¬ (AreRightIn img p x) → AreRightIn img p y → y ≢ x
+right-other img p x y wrong right e = let P : Sector → Type 0 = λ z. AreRightIn img p z in wrong (subst P e right)
+
+mended-put : (a : Image) (p : Place) (bytes : Sector) → IsImage a → IsCountedAs (sector a p) bytes → ¬ (AreRightIn a p (sector a p)) → AreRightIn a p bytes → IsMendedAt a p (put a p bytes)
+mended-put a p bytes whole h wrong right = record {
+  counts = recount-put a p bytes whole h;
+  wrong = wrong;
+  right = let P : Sector → Type 0 = λ x. AreRightIn a p x in subst P (sym (sector-put_same a p bytes whole.size)) right;
+}
 
 module _ {D : Type 0} (S : History D) where
-  pub reads_moment : (a b : D) (n : ℕ) (p : Place) → OnlyReads S a b n → Changes S a b 1 (IsRecountAt (S.image a) p)
+  pub reads_moment : (a b : D) (n : ℕ) (p : Place) → OnlyReads S a b n → Changes S a b 1 (OldOrMended (S.image a) p)
   reads_moment a b n p r =
-      let P : Image → Type 0 = IsRecountAt (S.image a) p in
-      changes_weaker S a b 0 1 P P (omega arith) (λ c h. h) (reads_change S a b n P r (recount-none (S.image a) (p ∷ []) (S.whole a)))
+      let P : Image → Type 0 = OldOrMended (S.image a) p in
+      changes_weaker S a b 0 1 P P (omega arith) (λ c h. h) (reads_change S a b n P r (inl refl))
 
-  pub write_moment : (a b c : D) (n : ℕ) (p : Place) (bytes : Sector) → OnlyReads S a b n → HeldOnly S b c (OldOr (S.image b) (put (S.image b) p bytes)) → S.writes c ≤ S.writes b + 1 → IsCountedAs (sector (S.image a) p) bytes → Changes S a c 1 (IsRecountAt (S.image a) p)
-  write_moment a b c n p bytes r held counted h =
-      let P : Image → Type 0 = IsRecountAt (S.image a) p in
-      let here = recount-none (S.image a) (p ∷ []) (S.whole a) in
+  pub write_moment : (a b c : D) (n : ℕ) (p : Place) (bytes : Sector) → OnlyReads S a b n → HeldOnly S b c (OldOr (S.image b) (put (S.image b) p bytes)) → S.writes c ≤ S.writes b + 1 → IsMendedAt (S.image a) p (put (S.image a) p bytes) → Changes S a c 1 (OldOrMended (S.image a) p)
+  write_moment a b c n p bytes r held counted mended =
+      let P : Image → Type 0 = OldOrMended (S.image a) p in
       let Q : Image → Type 0 = λ i. P (put i p bytes) in
-      changes_then S a b c 0 1 1 P (omega arith) (reads_change S a b n P r here)
-      (write_change S b c (S.image b) (put (S.image b) p bytes) P held counted (subst P (sym r.image) here) (subst Q (sym r.image) (recount-put (S.image a) p bytes (S.whole a) h)))
+      changes_then S a b c 0 1 1 P (omega arith) (reads_change S a b n P r (inl refl))
+      (write_change S b c (S.image b) (put (S.image b) p bytes) P held counted (inl r.image) (subst Q (sym r.image) (inr mended)))
 
   pub right_written : (a b : D) (c : Image) (p : Place) (bytes : Sector) → S.image b ≡ S.image a → c ≡ put (S.image b) p bytes → AreRightIn (S.image b) p bytes → AreRightIn (S.image a) p (sector c p)
   right_written a b c p bytes same e right =
@@ -133,12 +129,20 @@ module _ {D : Type 0} (S : History D) where
       let Q : Image → Type 0 = λ i. AreRightIn i p old in
       subst Q (sym same) (subst P (sym read) right)
 
+  -- what was read had a wrong count, and these bytes have right ones
+  pub mended-read : (a b : D) (p : Place) (old bytes : Sector) → S.image b ≡ S.image a → old ≡ sector (S.image a) p → IsCountedAs old bytes → ¬ (AreRightIn (S.image b) p old) → AreRightIn (S.image b) p bytes → IsMendedAt (S.image a) p (put (S.image a) p bytes)
+  mended-read a b p old bytes same read counted wrong right =
+      let P : Sector → Type 0 = λ x. IsCountedAs x bytes in
+      let Q : Image → Type 0 = λ i. AreRightIn i p bytes in
+      mended-put (S.image a) p bytes (S.whole a) (subst P read counted) (λ x. wrong (right_read a b p old same read x)) (subst Q same right)
+
   -- one sector more of the directory
-  pub step_moments : (a b c : D) (ps : List Place) (k : ℕ) (p : Place) → Contains ps p → Changes S a b k (λ i. IsRecountOf (S.image a) i ps) → Changes S b c 1 (IsRecountAt (S.image b) p) → Changes S a c (k + 1) (λ i. IsRecountOf (S.image a) i ps)
+  pub step_moments : (a b c : D) (ps : List Place) (k : ℕ) (p : Place) → Contains ps p → Changes S a b k (λ i. IsRecountOf (S.image a) i ps) → Changes S b c 1 (OldOrMended (S.image b) p) → Changes S a c (k + 1) (λ i. IsRecountOf (S.image a) i ps)
   step_moments a b c ps k p own old now =
       let P : Image → Type 0 = λ i. IsRecountOf (S.image a) i ps in
       let here = at_end S a b P old.held in
-      changes_then S a b c k 1 (k + 1) P (omega arith) old (changes_weaker S b c 1 1 (IsRecountAt (S.image b) p) P (omega arith) (λ i s. recount-then (S.image a) (S.image b) i ps p own here s) now)
+      changes_then S a b c k 1 (k + 1) P (omega arith) old (changes_weaker S b c 1 1 (OldOrMended (S.image b) p) P (omega arith)
+      (λ i. ⊎_elim (λ e. subst P (sym e) here) (λ m. recount-then (S.image a) (S.image b) i ps p own here m.counts)) now)
 
   pub all_moments : (a b : D) (ps : List Place) (k : ℕ) → k ≤ 18 → ((l : Layout) → IsLayout (S.image a) l → ps ≡ l.directory) → Changes S a b k (λ i. IsRecountOf (S.image a) i ps) → Changes S a b 18 (KeepsButCounts (S.image a))
   all_moments a b ps k few same h =
@@ -153,8 +157,47 @@ module _ {D : Type 0} (S : History D) where
       let P : Image → Type 0 = λ i. AreRightIn i p (sector i p) in
       reads_then S a b c k 5857 n le r (now (subst P (sym r.image) (counted-right (S.image a) p all)))
 
-  pub step_right : (a b c : D) (ps : List Place) (k : ℕ) (p : Place) → IsSound (S.image a) → ((l : Layout) → IsLayout (S.image a) l → ps ≡ l.directory) → slice_get ps k ≡ Some p → Changes S a b k (λ i. IsRecountOf (S.image a) i ps) → Changes S b c 1 (IsRecountAt (S.image b) p) → AreRightIn (S.image b) p (sector (S.image c) p) → ((j : ℕ) → j < k → (q : Place) → slice_get ps j ≡ Some q → AreRightIn (S.image a) q (sector (S.image b) q)) → (j : ℕ) → j < k + 1 → (q : Place) → slice_get ps j ≡ Some q → AreRightIn (S.image a) q (sector (S.image c) q)
-  step_right a b c ps k p (l, h) same there old now right before =
-      let here = at_end S a b (λ i. IsRecountOf (S.image a) i ps) old.held in
-      let next = at_end S b c (IsRecountAt (S.image b) p) now.held in
-      right-more (S.image a) (S.image b) (S.image c) ps k p there next (all-before (S.image a) (S.image b) ps (S.whole a).size l h (same l h) here p (sector (S.image c) p) right) before
+  -- the order: the first k sectors of the directory were gone over, and then one more
+  module _ (a : D) (l : Layout) (is : IsLayout (S.image a) l) (ps : List Place) (same : ps ≡ l.directory) where
+    once : (k : ℕ) → EachOnce (take k ps)
+    once k = let P : List Place → Type 0 = EachOnce in EachOnce-left (take k ps) (drop k ps) (subst P (sym same ∙ sym (take-append-drop k ps)) (directory-once (S.image a) l is))
+
+    once_next : (k : ℕ) (p : Place) → k < length ps → p ≡ get_or ps k p → EachOnce (take k ps ++ p ∷ [])
+    once_next k p lt e = let P : List Place → Type 0 = EachOnce in subst P (take-next ps k p lt e) (once (k + 1))
+
+    on_directory : (k : ℕ) (p : Place) → k < length ps → p ≡ get_or ps k p → Contains l.directory p
+    on_directory k p lt e = let P : List Place → Type 0 = λ xs. Contains xs p in subst P same (get-contains ps k p (read-there ps k p lt e))
+
+    recounted : (b : D) (k : ℕ) → Changes S a b k (λ i. IsRecountOf (S.image a) i ps) → IsRecountOf (S.image a) (S.image b) l.directory
+    recounted b k h = let P : List Place → Type 0 = λ xs. IsRecountOf (S.image a) (S.image b) xs in subst P same (at_end S a b (λ i. IsRecountOf (S.image a) i ps) h.held)
+
+    pub made_start : (b : D) → S.image b ≡ S.image a → AreMade (IsRight l) (take 0 ps) (S.image a) (S.image b)
+    made_start b e = made_none (IsRight l) (S.image a) (S.image b) e
+
+    pub over_start : (b : D) (n : ℕ) → OnlyReads S a b n → GoesOver S a b (IsRight l) (take 0 ps)
+    over_start b n r = over_none S (IsRight l) [] a b n r
+
+    pub over_step : (b c : D) (k : ℕ) (p : Place) → k < length ps → p ≡ get_or ps k p → Changes S a b k (λ i. IsRecountOf (S.image a) i ps) → Changes S b c 1 (OldOrMended (S.image b) p) → WritesOther S b c p
+        → GoesOver S a b (IsRight l) (take k ps) → AreMade (IsRight l) (take k ps) (S.image a) (S.image b) → GoesOver S a c (IsRight l) (take (k + 1) ps)
+    over_step b c k p lt e old now other over made =
+        let P : List Place → Type 0 = GoesOver S a c (IsRight l) in
+        let recount = recounted b k old in
+        subst P (sym (take-next ps k p lt e)) (over_then S (IsRight l) (take k ps) (p ∷ []) a b c (once_next k p lt e) over made
+        (over_one S (IsRight l) p b c (weaker S b c _ _ (λ i. ⊎_elim (λ x. inl x) (λ m. inr (mended-made (S.image a) (S.image b) l (S.whole a).size is recount p (on_directory k p lt e) i m))) now.held) other))
+
+    pub made_step : (b c : D) (k : ℕ) (p : Place) → k < length ps → p ≡ get_or ps k p → Changes S a b k (λ i. IsRecountOf (S.image a) i ps) → Changes S b c 1 (OldOrMended (S.image b) p) → AreRightIn (S.image b) p (sector (S.image c) p)
+        → AreMade (IsRight l) (take k ps) (S.image a) (S.image b) → AreMade (IsRight l) (take (k + 1) ps) (S.image a) (S.image c)
+    made_step b c k p lt e old now right made =
+        let P : List Place → Type 0 = λ xs. AreMade (IsRight l) xs (S.image a) (S.image c) in
+        subst P (sym (take-next ps k p lt e)) (made_then (IsRight l) (take k ps) (p ∷ []) (S.image a) (S.image b) (S.image c) (once_next k p lt e) made
+        (sector-made (S.image a) (S.image b) l (S.whole a).size is (recounted b k old) p (on_directory k p lt e) (S.image c) (at_end S b c (OldOrMended (S.image b) p) now.held) right))
+
+    pub over_directory : (b : D) (k : ℕ) → GoesOver S a b (IsRight l) (take k ps) → GoesOver S a b (IsRight l) l.directory
+    over_directory b k over =
+        let P : List Place → Type 0 = GoesOver S a b (IsRight l) in
+        subst P (take-append-drop k ps ∙ same) (over_more S (IsRight l) (take k ps) (drop k ps) a b over)
+
+    pub made_directory : (b : D) (k : ℕ) → length ps ≤ k → AreMade (IsRight l) (take k ps) (S.image a) (S.image b) → AreMade (IsRight l) l.directory (S.image a) (S.image b)
+    made_directory b k all made =
+        let P : List Place → Type 0 = λ xs. AreMade (IsRight l) xs (S.image a) (S.image b) in
+        subst P (take_all k ps all ∙ same) made

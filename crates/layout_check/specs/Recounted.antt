@@ -3,7 +3,6 @@ use Rattle.std.specs.Prelude.{ℕ, ◌≡◌, ◌+◌, ◌<◌, ◌⊎◌, List,
 use Rattle.d64_image.specs.History.{History}
 use Rattle.d64_image.specs.Images.{Image, Sector, sector}
 use Rattle.d64_image.specs.declared.place.Place.{Place}
-use Rattle.disk_layout.specs.Chain.{EachOnce}
 use Rattle.disk_layout.specs.Directory.{slot_in}
 use Rattle.disk_layout.specs.Layout.{File, IsLayout, Layout, count_field, is_rel, sides_for}
 use Rattle.disk_layout.specs.Same.{IsCountByte, SameFiles}
@@ -68,6 +67,16 @@ IsInDirectory img p = (l : Layout) → IsLayout img l → Contains l.directory p
 abbrev pub IsRecountAt : Image → Place → Image → Type 0
 IsRecountAt old p new = IsRecountOf old new (p ∷ [])
 
+-- one directory sector, in which a block count was wrong, has right ones, and all else is the same
+pub record IsMendedAt (old : Image) (p : Place) (new : Image) : Type 0 where
+  pub counts : IsRecountAt old p new
+  pub wrong : ¬ (AreRightIn old p (sector old p))
+  pub right : AreRightIn old p (sector new p)
+
+-- the image is the old one, or that sector was mended
+abbrev pub OldOrMended : Image → Place → Image → Type 0
+OldOrMended old p new = (new ≡ old) ⊎ IsMendedAt old p new
+
 -- the fault tells of the device
 abbrev pub IsOfDevice : Fault → Type 0
 IsOfDevice fault = (p : Place) × (fault ≡ Device p)
@@ -75,11 +84,3 @@ IsOfDevice fault = (p : Place) × (fault ≡ Device p)
 -- a call that makes no write, or one that leaves another sector at p
 abbrev pub WritesOther : {D : Type 0} → History D → D → D → Place → Type 0
 WritesOther S old new p = (S.writes new ≡ S.writes old) ⊎ ((sector (S.image new) p ≢ sector (S.image old) p) × (S.writes new ≤ S.writes old + 1))
-
--- a call that makes at most one write for each of these sectors that it leaves another, and no more
-pub record WritesOnce {D : Type 0} (S : History D) (old new : D) (ps : List Place) : Type 0 where
-  pub written : List Place
-  pub once : EachOnce written
-  pub own : (q : Place) → Contains written q → Contains ps q
-  pub other : (q : Place) → Contains written q → sector (S.image new) q ≢ sector (S.image old) q
-  pub writes : S.writes new ≤ S.writes old + length written

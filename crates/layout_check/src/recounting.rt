@@ -9,7 +9,8 @@ ghost use Rattle.disk_layout.specs.Layout.{IsLayout, IsSound, Layout, count_fiel
 ghost use Rattle.d64_image.specs.declared.place.Place.{Place};
 ghost use Rattle.layout_check.specs.Calls.{Passes, Tells};
 ghost use Rattle.layout_check.specs.Entry.{IsEntry};
-ghost use Rattle.layout_check.specs.Recounted.{AreCounted, AreRightIn, IsCountOf, IsCountedAs, IsInDirectory, IsOfDevice, IsRecountAt, IsRightAt, KeepsButCounts, WritesOnce, WritesOther};
+ghost use Rattle.layout_check.specs.InOrder.{AreMade, GoesOver, IsRight};
+ghost use Rattle.layout_check.specs.Recounted.{AreCounted, AreRightIn, IsCountOf, IsCountedAs, IsInDirectory, IsOfDevice, IsRightAt, KeepsButCounts, OldOrMended, WritesOther};
 
 use crate::entry::is_relative;
 use crate::sides::find_parts;
@@ -122,7 +123,8 @@ fn mend_sector<D: Sectors>(disk: &mut D, place: Place) -> Result<(), Fault>
     requires sound { IsSound (D.history.image disk.old) }
     requires own { IsInDirectory (D.history.image disk.old) place }
     ensures right { OnOk result (AreRightIn (D.history.image disk.old) place (sector (D.history.image disk.new) place)) }
-    ensures moments { Changes D.history disk.old disk.new 1 (IsRecountAt (D.history.image disk.old) place) }
+    // each image held is the old one, or has right counts in this sector, where one was wrong
+    ensures moments { Changes D.history disk.old disk.new 1 (OldOrMended (D.history.image disk.old) place) }
     ensures once { WritesOther D.history disk.old disk.new place }
     ensures silent { AreRightIn (D.history.image disk.old) place (sector (D.history.image disk.old) place) → OnlyReads D.history disk.old disk.new 5857 }
     ensures err { IfErr result IsOfDevice }
@@ -165,7 +167,9 @@ pub fn mend_counts<D: Sectors>(disk: &mut D) -> Result<(), Fault>
     ensures counted { OnOk result (AreCounted (D.history.image disk.new)) }
     // every image held, the last one too, has the same files
     ensures moments { Changes D.history disk.old disk.new 18 (KeepsButCounts (D.history.image disk.old)) }
-    ensures once { (l : Layout) → IsLayout (D.history.image disk.old) l → WritesOnce D.history disk.old disk.new l.directory }
+    // a sector is written where a count in it is wrong, once, in the order of the directory
+    ensures over { (l : Layout) → IsLayout (D.history.image disk.old) l → GoesOver D.history disk.old disk.new (IsRight l) l.directory }
+    ensures made { OnOk result ((l : Layout) → IsLayout (D.history.image disk.old) l → AreMade (IsRight l) l.directory (D.history.image disk.old) (D.history.image disk.new)) }
     ensures silent { AreCounted (D.history.image disk.old) → OnlyReads D.history disk.old disk.new 106146 }
     ensures err { IfErr result IsOfDevice }
     ensures failures { TellsFault D.history disk.old disk.new result }

@@ -1,13 +1,14 @@
 -- Sector by sector of the directory.
-use Rattle.std.proofs.Common.{refl, arith, ◌∙◌, ◌+◌, ◌*◌, ◌≡◌}
+use Rattle.std.proofs.Common.{arith, ◌∙◌, ◌+◌, ◌*◌, ◌≡◌}
 use Rattle.std.proofs.lemmas.Result.{err_from_is_err_and}
 use Rattle.d64_image.proofs.Moments.{at_end, reads_weaker}
 use Rattle.disk_layout.proofs.Layouts.{get-contains}
 use Rattle.disk_layout.specs.Layout.{IsLayout, Layout}
+use Rattle.layout_check.proofs.Orders.{over_none}
 use Rattle.layout_check.proofs.Pointers.{read-there}
-use Rattle.layout_check.proofs.RightWrites.{once-of, all_moments, counted-of, device-told, few-of, first_moments, in-of, sound-of, step_moments, step_right, step_silent}
-use Rattle.layout_check.proofs.WritesOnce.{writing_done, writing_more, writing_none}
-use Rattle.layout_check.specs.Recounted.{IsRecountAt, IsRecountOf}
+use Rattle.layout_check.proofs.RightWrites.{all_moments, counted-of, device-told, few-of, first_moments, in-of, made_directory, made_start, made_step, over_directory, over_start, over_step, sound-of, step_moments, step_silent}
+use Rattle.layout_check.specs.InOrder.{IsRight}
+use Rattle.layout_check.specs.Recounted.{IsRecountOf}
 use Rattle.layout_check.proofs.recounting.mend_counts.Goals as goal
 
 pub returns-in_err-find_directory-clause-err : goal.returns-in_err-find_directory-clause-err
@@ -21,8 +22,8 @@ loop-place-init g c =
     let found = c.in_ok-find_directory.ensures.ok in
     record {
       moments = first_moments S c.args.disk.now c.find_directory.new.disk c.as_slice-place-items.result.now 720 found.reads;
-      right = λ j low. absurd (omega (arith, low));
-      once = writing_none S c.args.disk.now c.find_directory.new.disk c.as_slice-place-items.result.now 720 found.reads;
+      over = λ l h. over_start S c.args.disk.now l h c.as_slice-place-items.result.now (c.as_slice-place-items.ensures.value ∙ c.in_ok-find_directory.ensures.directory l h) c.find_directory.new.disk 720 found.reads;
+      made = λ l h. made_start S c.args.disk.now l h c.as_slice-place-items.result.now (c.as_slice-place-items.ensures.value ∙ c.in_ok-find_directory.ensures.directory l h) c.find_directory.new.disk found.reads.image;
       silent = λ all. reads_weaker S c.args.disk.now c.find_directory.new.disk 720 _ (omega arith) found.reads;
       failures = found.failures;
     }
@@ -71,8 +72,8 @@ loop-place-preserved g c =
     let there = read-there items k c.place-item.result c.loop-place-test.true c.place-item.is in
     record {
       moments = step_moments S c.args.disk.now c.loop-place.disk c.mend_sector.new.disk items k c.place-item.result (get-contains items k c.place-item.result there) old.moments now.moments;
-      right = step_right S c.args.disk.now c.loop-place.disk c.mend_sector.new.disk items k c.place-item.result c.requires.sound (λ l h. c.as_slice-place-items.ensures.value ∙ c.in_ok-find_directory.ensures.directory l h) there old.moments now.moments now.right old.right;
-      once = writing_more S c.args.disk.now c.loop-place.disk c.mend_sector.new.disk items k c.place-item.result (once-of (S.image c.args.disk.now) items c.requires.sound (λ l h. c.as_slice-place-items.ensures.value ∙ c.in_ok-find_directory.ensures.directory l h)) there (at_end S c.loop-place.disk c.mend_sector.new.disk (IsRecountAt (S.image c.loop-place.disk) c.place-item.result) now.moments.held) now.once old.once;
+      over = λ l h. over_step S c.args.disk.now l h items (c.as_slice-place-items.ensures.value ∙ c.in_ok-find_directory.ensures.directory l h) c.loop-place.disk c.mend_sector.new.disk k c.place-item.result c.loop-place-test.true c.place-item.is old.moments now.moments now.once (old.over l h) (old.made l h);
+      made = λ l h. made_step S c.args.disk.now l h items (c.as_slice-place-items.ensures.value ∙ c.in_ok-find_directory.ensures.directory l h) c.loop-place.disk c.mend_sector.new.disk k c.place-item.result c.loop-place-test.true c.place-item.is old.moments now.moments now.right (old.made l h);
       silent = step_silent S c.args.disk.now c.loop-place.disk c.mend_sector.new.disk c.place-item.result (720 + 5857 * k) (720 + 5857 * (k + 1)) (omega arith) old.silent now.silent;
       failures = now.failures ∙ old.failures;
     }
@@ -81,10 +82,10 @@ pub returns-clause-counted : goal.returns-clause-counted
 returns-clause-counted g c =
     let S = g.D.Sectors.history in
     let items = c.as_slice-place-items.result.now in
-    counted-of (S.image c.args.disk.now) (S.image c.loop-place.disk) items c.loop-place.place-index (S.whole c.args.disk.now).size c.requires.sound
-    (λ l h. c.as_slice-place-items.ensures.value ∙ c.in_ok-find_directory.ensures.directory l h)
+    let same : (l : Layout) → IsLayout (S.image c.args.disk.now) l → items ≡ l.directory = λ l h. c.as_slice-place-items.ensures.value ∙ c.in_ok-find_directory.ensures.directory l h in
+    counted-of (S.image c.args.disk.now) (S.image c.loop-place.disk) items (S.whole c.args.disk.now).size c.requires.sound same
     (at_end S c.args.disk.now c.loop-place.disk (λ i. IsRecountOf (S.image c.args.disk.now) i items) c.loop-place.invariant.moments.held)
-    (omega (arith, c.loop-place-test.false)) c.loop-place.invariant.right
+    (λ l h. made_directory S c.args.disk.now l h items (same l h) c.loop-place.disk c.loop-place.place-index (omega (arith, c.loop-place-test.false)) (c.loop-place.invariant.made l h))
 
 pub returns-clause-moments : goal.returns-clause-moments
 returns-clause-moments g c =
@@ -100,21 +101,24 @@ returns-clause-silent g c all =
     let same : (l : Layout) → IsLayout (S.image c.args.disk.now) l → items ≡ l.directory = λ l h. c.as_slice-place-items.ensures.value ∙ c.in_ok-find_directory.ensures.directory l h in
     reads_weaker S c.args.disk.now c.loop-place.disk _ 106146 (omega (arith, c.loop-place.auto, few-of (S.image c.args.disk.now) items c.requires.sound same)) (c.loop-place.invariant.silent all)
 
-pub returns-in_err-mend_sector-clause-once : goal.returns-in_err-mend_sector-clause-once
-returns-in_err-mend_sector-clause-once g c l h =
+pub returns-in_err-mend_sector-clause-over : goal.returns-in_err-mend_sector-clause-over
+returns-in_err-mend_sector-clause-over g c l h =
     let S = g.D.Sectors.history in
     let items = c.as_slice-place-items.result.now in
     let k = c.loop-place.place-index in
+    let old = c.loop-place.invariant in
     let now = c.in_err-mend_sector.ensures in
-    let same : (m : Layout) → IsLayout (S.image c.args.disk.now) m → items ≡ m.directory = λ m is. c.as_slice-place-items.ensures.value ∙ c.in_ok-find_directory.ensures.directory m is in
-    let held = at_end S c.loop-place.disk c.mend_sector.new.disk (IsRecountAt (S.image c.loop-place.disk) c.place-item.result) now.moments.held in
-    writing_done S c.args.disk.now c.mend_sector.new.disk items l.directory (k + 1) (same l h)
-    (writing_more S c.args.disk.now c.loop-place.disk c.mend_sector.new.disk items k c.place-item.result (once-of (S.image c.args.disk.now) items c.requires.sound same) (read-there items k c.place-item.result c.loop-place-test.true c.place-item.is) held now.once c.loop-place.invariant.once)
+    let same : items ≡ l.directory = c.as_slice-place-items.ensures.value ∙ c.in_ok-find_directory.ensures.directory l h in
+    over_directory S c.args.disk.now l h items same c.mend_sector.new.disk (k + 1)
+    (over_step S c.args.disk.now l h items same c.loop-place.disk c.mend_sector.new.disk k c.place-item.result c.loop-place-test.true c.place-item.is old.moments now.moments now.once (old.over l h) (old.made l h))
 
-pub returns-in_err-find_directory-clause-once : goal.returns-in_err-find_directory-clause-once
-returns-in_err-find_directory-clause-once g c l h =
-    let S = g.D.Sectors.history in
-    writing_done S c.args.disk.now c.find_directory.new.disk l.directory l.directory 0 refl (writing_none S c.args.disk.now c.find_directory.new.disk l.directory 738 c.in_err-find_directory.ensures.err.reads)
+pub returns-in_err-find_directory-clause-over : goal.returns-in_err-find_directory-clause-over
+returns-in_err-find_directory-clause-over g c l h = over_none g.D.Sectors.history (IsRight l) l.directory c.args.disk.now c.find_directory.new.disk 738 c.in_err-find_directory.ensures.err.reads
 
-pub returns-clause-once : goal.returns-clause-once
-returns-clause-once g c l h = writing_done g.D.Sectors.history c.args.disk.now c.loop-place.disk c.as_slice-place-items.result.now l.directory c.loop-place.place-index (c.as_slice-place-items.ensures.value ∙ c.in_ok-find_directory.ensures.directory l h) c.loop-place.invariant.once
+pub returns-clause-over : goal.returns-clause-over
+returns-clause-over g c l h =
+    over_directory g.D.Sectors.history c.args.disk.now l h c.as_slice-place-items.result.now (c.as_slice-place-items.ensures.value ∙ c.in_ok-find_directory.ensures.directory l h) c.loop-place.disk c.loop-place.place-index (c.loop-place.invariant.over l h)
+
+pub returns-clause-made : goal.returns-clause-made
+returns-clause-made g c l h =
+    made_directory g.D.Sectors.history c.args.disk.now l h c.as_slice-place-items.result.now (c.as_slice-place-items.ensures.value ∙ c.in_ok-find_directory.ensures.directory l h) c.loop-place.disk c.loop-place.place-index (omega (arith, c.loop-place-test.false)) (c.loop-place.invariant.made l h)

@@ -1,12 +1,11 @@
 -- The sector is read, its counts are made right, and it is written where one was wrong.
 use Rattle.d64_image.proofs.Images.{sector-put_same}
-use Rattle.layout_check.proofs.WritesOnce.{right-other}
 use Rattle.std.proofs.Common.{inr, ◌≡◌, ap, arith, refl, subst, sym, ◌∙◌}
 use Rattle.std.proofs.lemmas.Result.{err_from_is_err_and}
 use Rattle.d64_image.proofs.Moments.{reads_then}
-use Rattle.d64_image.specs.Images.{Image, Sector, sector}
+use Rattle.d64_image.specs.Images.{Image, sector}
 use Rattle.disk_layout.specs.Layout.{IsSound}
-use Rattle.layout_check.proofs.RightWrites.{device-told, reads_moment, right_read, right_unwritten, right_written, write_moment}
+use Rattle.layout_check.proofs.RightWrites.{device-told, mended-read, reads_moment, right-other, right_read, right_unwritten, right_written, write_moment}
 use Rattle.layout_check.specs.Recounted.{IsCountedAs}
 use Rattle.layout_check.proofs.recounting.mend_sector.Goals as goal
 
@@ -43,8 +42,8 @@ pub returns-in-Ok-write-clause-moments : goal.returns-in-Ok-write-clause-moments
 returns-in-Ok-write-clause-moments g c =
     let S = g.D.Sectors.history in
     let now = c.in_ok-recount_sector.ensures in
-    let P : Sector → Type 0 = λ x. IsCountedAs x c.recount_sector.new.bytes in
-    write_moment S c.args.disk.now c.recount_sector.new.disk c.write.new.self 5857 c.args.place c.recount_sector.new.bytes (reads_then S c.args.disk.now c.read.new.self c.recount_sector.new.disk 1 5856 5857 (omega arith) c.read.ensures.reads now.ok.reads) c.write.ensures.held c.in-Ok-write.ensures.counted (subst P c.in-Ok.ensures.sector now.counts)
+    write_moment S c.args.disk.now c.recount_sector.new.disk c.write.new.self 5857 c.args.place c.recount_sector.new.bytes (reads_then S c.args.disk.now c.read.new.self c.recount_sector.new.disk 1 5856 5857 (omega arith) c.read.ensures.reads now.ok.reads) c.write.ensures.held c.in-Ok-write.ensures.counted
+    (mended-read S c.args.disk.now c.read.new.self c.args.place c.read.new.to c.recount_sector.new.bytes c.read.ensures.reads.image c.in-Ok.ensures.sector now.counts (now.wrong c.if-not-branch.false) now.right)
 
 pub returns-in-Ok-write-clause-silent : goal.returns-in-Ok-write-clause-silent
 returns-in-Ok-write-clause-silent g c right =
@@ -54,8 +53,8 @@ pub returns-in-Err-write-clause-moments : goal.returns-in-Err-write-clause-momen
 returns-in-Err-write-clause-moments g c =
     let S = g.D.Sectors.history in
     let now = c.in_ok-recount_sector.ensures in
-    let P : Sector → Type 0 = λ x. IsCountedAs x c.recount_sector.new.bytes in
-    write_moment S c.args.disk.now c.recount_sector.new.disk c.write.new.self 5857 c.args.place c.recount_sector.new.bytes (reads_then S c.args.disk.now c.read.new.self c.recount_sector.new.disk 1 5856 5857 (omega arith) c.read.ensures.reads now.ok.reads) c.write.ensures.held (omega (arith, c.in-Err-write.ensures.uncounted)) (subst P c.in-Ok.ensures.sector now.counts)
+    write_moment S c.args.disk.now c.recount_sector.new.disk c.write.new.self 5857 c.args.place c.recount_sector.new.bytes (reads_then S c.args.disk.now c.read.new.self c.recount_sector.new.disk 1 5856 5857 (omega arith) c.read.ensures.reads now.ok.reads) c.write.ensures.held (omega (arith, c.in-Err-write.ensures.uncounted))
+    (mended-read S c.args.disk.now c.read.new.self c.args.place c.read.new.to c.recount_sector.new.bytes c.read.ensures.reads.image c.in-Ok.ensures.sector now.counts (now.wrong c.if-not-branch.false) now.right)
 
 pub returns-in-Err-write-clause-silent : goal.returns-in-Err-write-clause-silent
 returns-in-Err-write-clause-silent g c right =
