@@ -21,6 +21,7 @@ pub mod Repairs
 pub mod Rights
 pub mod RightCounts
 pub mod RightDirectory
+pub mod RightMap
 pub mod RightSlots
 pub mod RightWrites
 pub mod Roots

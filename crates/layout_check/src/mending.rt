@@ -1,12 +1,14 @@
 //! The map and the side sectors that a sound disk is to have, each written where the disk has another.
-ghost use Rattle.std.specs.Prelude.{◌≡◌, ◌≤◌, IfErr, IsTrue, OnOk, length};
+ghost use Rattle.std.specs.Prelude.{◌≡◌, ◌≤◌, ◌∷◌, [], IfErr, IsTrue, OnOk, length};
 ghost use Rattle.d64_image.specs.History.{Changes, OldOr, OnlyReads};
 ghost use Rattle.d64_image.specs.Images.{put, sector};
 ghost use Rattle.disk_layout.specs.Free.{IsWithoutFree};
 ghost use Rattle.layout_check.specs.Made.{IsMadeMap, IsMadeTrack};
-ghost use Rattle.disk_layout.specs.Layout.{IsSound, is_rel};
+ghost use Rattle.disk_layout.specs.Directory.{map_place};
+ghost use Rattle.disk_layout.specs.Layout.{IsLayout, IsSound, Layout, is_rel};
 ghost use Rattle.layout_check.specs.Entry.{IsEntry};
 ghost use Rattle.layout_check.specs.Exact.{AreExactSides, HasMap, IsFiled};
+ghost use Rattle.layout_check.specs.InOrder.{AreMade, ClearsSpare, GoesOver, IsRight};
 ghost use Rattle.layout_check.specs.Mended.{AreExactFor, IsExactFor, IsPartsOf, KeepsExact, KeepsLayouts, Mends, SameMap, TellsDevice};
 ghost use Rattle.layout_check.specs.Recounted.{WritesOther};
 ghost use Rattle.layout_check.specs.Survey.{IsToldBy};
@@ -81,6 +83,9 @@ pub fn mend_map<D: Sectors>(disk: &mut D, found: &Survey) -> Result<(), Fault>
     ensures err { IfErr result (TellsDevice D.history disk.old disk.new) }
     ensures failures { OnOk result (D.history.failures disk.new ≡ D.history.failures disk.old) }
     ensures mends { Mends D.history disk.old disk.new 1 }
+    ensures over { (l : Layout) → IsLayout (D.history.image disk.old) l → GoesOver D.history disk.old disk.new (IsRight l) (map_place ∷ []) }
+    ensures made { OnOk result ((l : Layout) → IsLayout (D.history.image disk.old) l → AreMade (IsRight l) (map_place ∷ []) (D.history.image disk.old) (D.history.image disk.new)) }
+    ensures spare { ClearsSpare (D.history.image disk.old) (D.history.image disk.new) }
     // a map that is right is not written
     ensures quiet { HasMap (D.history.image disk.old) → OnlyReads D.history disk.old disk.new 1 }
 {

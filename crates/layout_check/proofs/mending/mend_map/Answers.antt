@@ -1,5 +1,5 @@
 -- The map is right already, or it is written.
-use Rattle.std.proofs.Common.{ap, refl, subst, sym, ◌∙◌}
+use Rattle.std.proofs.Common.{[], ap, refl, subst, sym, ◌∙◌, ◌∷◌}
 use Rattle.d64_image.specs.Images.{Image, sector}
 use Rattle.d64_image.specs.declared.place.Place.{Place}
 use Rattle.disk_layout.specs.Directory.{map_place}
@@ -7,8 +7,12 @@ use Rattle.disk_layout.specs.Layout.{IsLayout}
 use Rattle.layout_check.proofs.Finding.{if_err, on_ok}
 use Rattle.layout_check.proofs.MapMends.{device_later, err-holds, layouts-put, map-put, mends_read, mends_write, ok-holds, right-map, written}
 use Rattle.layout_check.proofs.Mendings.{mended-map}
+use Rattle.layout_check.proofs.Orders.{over_none}
+use Rattle.layout_check.proofs.RightMap.{changed_written, made-passed, made-written, over_read_write}
 use Rattle.layout_check.proofs.Verdict.{map-right, told-at}
 use Rattle.layout_check.specs.Exact.{HasMap}
+use Rattle.layout_check.specs.InOrder.{AreMade, IsRight}
+use Rattle.layout_check.specs.Made.{HasNoSpare}
 use Rattle.layout_check.specs.Mended.{KeepsLayouts}
 use Rattle.layout_check.proofs.mending.mend_map.Goals as goal
 
@@ -64,3 +68,38 @@ returns-clause-quiet g c has =
     let e = c.in-Ok.ensures.sector ∙ ap (λ (p : Place). sector (S.image c.args.disk.now) p) c.map_place.ensures in
     let wrong = err-holds c.check_bits.result _ (sym c.is_ok.ensures.value ∙ c.if-is_ok.false) c.check_bits.ensures.err in
     absurd (right-map _ c.args.found.now c.read.new.to wrong.0 c.requires has e (rw (← c.owners.ensures) wrong.1))
+
+pub returns-in-Err-clause-over : goal.returns-in-Err-clause-over
+returns-in-Err-clause-over g c l is = over_none g.D.Sectors.history (IsRight l) (map_place ∷ []) c.args.disk.now c.read.new.self 1 c.in-Err.ensures.reads
+
+pub returns-then-is_ok-clause-over : goal.returns-then-is_ok-clause-over
+returns-then-is_ok-clause-over g c l is = over_none g.D.Sectors.history (IsRight l) (map_place ∷ []) c.args.disk.now c.read.new.self 1 c.in-Ok.ensures.reads
+
+pub returns-then-is_ok-clause-made : goal.returns-then-is_ok-clause-made
+returns-then-is_ok-clause-made g c l is = made-passed _ _ l c.in-Ok.ensures.reads.image (returns-then-is_ok-clause-map g c) is
+
+pub returns-clause-over : goal.returns-clause-over
+returns-clause-over g c l is =
+    let S = g.D.Sectors.history in
+    let a = c.args.disk.now in
+    let b = c.read.new.self in
+    let read = c.in-Ok.ensures.sector ∙ ap (λ (p : Place). sector (S.image a) p) c.map_place.ensures in
+    let wrong = err-holds c.check_bits.result _ (sym c.is_ok.ensures.value ∙ c.if-is_ok.false) c.check_bits.ensures.err in
+    let made = made-written (S.image a) (S.image b) c.args.found.now c.read.new.to c.map_of-wanted.result l (S.whole a).size c.in-Ok.ensures.reads.image c.requires read (rw (← c.owners.ensures) wrong) (rw (← c.owners-2.ensures) c.map_of-wanted.ensures.right) is in
+    let write = (rw c.map_place-2.ensures at c.write_other.ensures) in
+    over_read_write S a b c.write_other.new.disk 1 c.in-Ok.ensures.reads map_place c.map_of-wanted.result write.held.held (IsRight l) made write.once
+
+pub returns-clause-made : goal.returns-clause-made
+returns-clause-made g c =
+    let S = g.D.Sectors.history in
+    let a = c.args.disk.now in
+    let b = c.read.new.self in
+    let read = c.in-Ok.ensures.sector ∙ ap (λ (p : Place). sector (S.image a) p) c.map_place.ensures in
+    let wrong = err-holds c.check_bits.result _ (sym c.is_ok.ensures.value ∙ c.if-is_ok.false) c.check_bits.ensures.err in
+    on_ok c.write_other.result _ _ (λ h l is. written (AreMade (IsRight l) (map_place ∷ []) (S.image a)) _ (S.image b) c.map_place-2.result c.map_of-wanted.result h c.map_place-2.ensures
+    (made-written (S.image a) (S.image b) c.args.found.now c.read.new.to c.map_of-wanted.result l (S.whole a).size c.in-Ok.ensures.reads.image c.requires read (rw (← c.owners.ensures) wrong) (rw (← c.owners-2.ensures) c.map_of-wanted.ensures.right) is)) c.write_other.ensures.ok
+
+pub returns-clause-spare : goal.returns-clause-spare
+returns-clause-spare g c changed track low high =
+    let held = (rw c.map_place-2.ensures at c.write_other.ensures.held).held in
+    changed_written g.D.Sectors.history c.args.disk.now c.read.new.self c.write_other.new.disk 1 c.in-Ok.ensures.reads map_place c.map_of-wanted.result held (λ x. HasNoSpare x track) (c.map_of-wanted.ensures.spare track low high) changed
