@@ -19,6 +19,7 @@ pub mod RepairRuns
 pub mod Repairs
 pub mod Rights
 pub mod RightCounts
+pub mod RightSides
 pub mod RightSlots
 pub mod RightWrites
 pub mod Roots

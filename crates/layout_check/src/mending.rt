@@ -4,9 +4,10 @@ ghost use Rattle.d64_image.specs.History.{Changes, OldOr, OnlyReads};
 ghost use Rattle.d64_image.specs.Images.{put, sector};
 ghost use Rattle.disk_layout.specs.Free.{IsWithoutFree};
 ghost use Rattle.layout_check.specs.Made.{IsMadeMap, IsMadeTrack};
-ghost use Rattle.disk_layout.specs.Layout.{IsSound, is_rel};
+ghost use Rattle.disk_layout.specs.Layout.{IsLayout, IsSound, Layout, is_rel};
 ghost use Rattle.layout_check.specs.Entry.{IsEntry};
 ghost use Rattle.layout_check.specs.Exact.{AreExactSides, HasMap, IsFiled};
+ghost use Rattle.layout_check.specs.InOrder.{AreMade, GoesOver, IsRight};
 ghost use Rattle.layout_check.specs.Mended.{AreExactFor, IsExactFor, IsPartsOf, KeepsExact, KeepsLayouts, Mends, SameMap, TellsDevice};
 ghost use Rattle.layout_check.specs.Recounted.{WritesOther};
 ghost use Rattle.layout_check.specs.Survey.{IsToldBy};
@@ -113,6 +114,9 @@ fn mend_sides<D: Sectors>(
     ensures err { IfErr result (TellsDevice D.history disk.old disk.new) }
     ensures failures { OnOk result (D.history.failures disk.new ≡ D.history.failures disk.old) }
     ensures mends { Mends D.history disk.old disk.new 6 }
+    // side sector by side sector, each written once where it isn't right
+    ensures over { (l : Layout) → IsLayout (D.history.image disk.old) l → GoesOver D.history disk.old disk.new (IsRight l) sides.now }
+    ensures made { OnOk result ((l : Layout) → IsLayout (D.history.image disk.old) l → AreMade (IsRight l) sides.now (D.history.image disk.old) (D.history.image disk.new)) }
     // side sectors that are right are not written
     ensures quiet { AreExactSides (D.history.image disk.old) slot.now blocks.now sides.now → OnlyReads D.history disk.old disk.new 6 }
 {
