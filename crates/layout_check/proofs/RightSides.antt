@@ -16,12 +16,14 @@ use Rattle.disk_layout.specs.Directory.{map_place}
 use Rattle.disk_layout.specs.Layout.{File, IsLayout, Layout, file_owns, is_rel, record_length}
 use Rattle.disk_layout.specs.Side.{side_sector}
 use Rattle.disk_layout.specs.declared.slot.Slot.{Slot}
+use Rattle.layout_check.proofs.Inexact.{parts-of}
 use Rattle.layout_check.proofs.Orders.{made_none, made_put, made_then, over_more, over_none, over_then, over_write}
 use Rattle.layout_check.proofs.Rights.{files-once, side-not_directory, side-not_map}
 use Rattle.layout_check.proofs.SideMends.{file-once, file-sector, files-apart, parts-in}
 use Rattle.layout_check.specs.InOrder.{AreMade, GoesOver, IsRight, sides_of}
 use Rattle.layout_check.specs.Mended.{IsPartsOf}
 use Rattle.layout_check.specs.Recounted.{WritesOther}
+use Rattle.layout_check.specs.Sides.{HasParts}
 
 -- one element more of a list
 pub take-get : {X : Type 0} (xs : List X) (n : ℕ) (x : X) → slice_get xs n ≡ Some x → take (n + 1) xs ≡ take n xs ++ x ∷ []
@@ -80,6 +82,10 @@ module _ (img : Image) (l : Layout) (is : IsLayout img l) where
     -- and no others are
     pub part-one : (n : ℕ) (p : Place) (bytes : Sector) → slice_get ss n ≡ Some p → IsRight l p bytes → side_sector n bs ss (record_length s) ≡ bytes
     part-one n p bytes there r = sym (r.side h.file n own h.rel (at n p there) ∙ file-sector img s bs ss n h)
+
+-- the side sectors that were found are those of the file
+pub sides-found : (img : Image) (l : Layout) (f : File) (s : Slot) (blocks sides items : List Place) → IsLayout img l → Contains l.files f → f.slot ≡ s → IsTrue (is_rel s) → HasParts img s blocks sides → items ≡ sides → items ≡ f.sides
+sides-found img l f s blocks sides items is own slot rel h read = read ∙ sym (ap (λ (x : File). x.sides) (parts-of img l f s blocks sides is own slot rel h))
 
 module _ {D : Type 0} (S : History D) where
   -- reads, and then sectors gone over
