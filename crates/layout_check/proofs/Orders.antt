@@ -67,8 +67,8 @@ module _ (Right : Place → Sector → Type 0) where
     left = h.left;
     split = ap (λ (xs : List Place). ps ++ xs) h.split ∙ sym (append_assoc ps h.done h.left);
     made = made_then ps h.done a b c
-      (let P : List Place → Type 0 = EachOnce in EachOnce-left (ps ++ h.done) h.left (subst P (ap (λ (xs : List Place). ps ++ xs) h.split ∙ sym (append_assoc ps h.done h.left)) once))
-      first h.made;
+        (let P : List Place → Type 0 = EachOnce in EachOnce-left (ps ++ h.done) h.left (subst P (ap (λ (xs : List Place). ps ++ xs) h.split ∙ sym (append_assoc ps h.done h.left)) once))
+        first h.made;
   }
 
 module _ {D : Type 0} (S : History D) where

@@ -1,24 +1,27 @@
 -- Side sectors that are right, gone over in order.
-use Rattle.std.proofs.Common.{ℕ, ◌≡◌, ◌<◌, ◌≤◌, ◌+◌, List, [], ◌∷◌, ◌++◌, length, get_or, take, drop, sym, ◌∙◌, ap, refl, arith, subst, suc, zero, IsTrue}
-use Rattle.std.specs.Prelude.{Contains, Some, flat_map, slice_get}
-use Rattle.std.proofs.lemmas.List.{take-append-drop, take_all}
+use Rattle.std.proofs.Common.{ℕ, ◌≡◌, ◌<◌, ◌≤◌, ◌+◌, List, [], ◌∷◌, ◌++◌, length, map, get_or, take, drop, slice_index, inl, inr, sym, ◌∙◌, ap, refl, arith, subst, suc, zero, IsFalse, IsTrue}
+use Rattle.std.specs.Prelude.{Contains, Some, slice_get}
+use Rattle.std.proofs.lemmas.Bool.{cases_eq}
+use Rattle.std.proofs.lemmas.Grind.{flat_map-append}
+use Rattle.std.proofs.lemmas.List.{append-nil, length-map, take-append-drop, take_all}
 use Rattle.std.proofs.lemmas.List.Elements.{Contains-append_right}
 use Rattle.d64_image.specs.History.{Changes, History, OldOr, OnlyReads}
 use Rattle.d64_image.specs.Images.{Image, Sector, put, sector}
 use Rattle.d64_image.specs.declared.place.Place.{Place}
-use Rattle.disk_layout.proofs.Layouts.{get-contains}
-use Rattle.disk_layout.proofs.Once.{Contains-nil, EachOnce-left, EachOnce-right, flat_map-in}
+use Rattle.disk_layout.proofs.Layouts.{IsDirectory-one, get-contains}
+use Rattle.disk_layout.proofs.Once.{Contains-nil, EachOnce-left, EachOnce-right, all-in, flat_map-in}
 use Rattle.disk_layout.proofs.Recount.{slot-there}
 use Rattle.disk_layout.proofs.Recounts.{slot-of}
 use Rattle.disk_layout.proofs.Twice.{get-one}
 use Rattle.disk_layout.specs.Chain.{EachOnce}
-use Rattle.disk_layout.specs.Directory.{map_place}
-use Rattle.disk_layout.specs.Layout.{File, IsLayout, Layout, file_owns, is_rel, record_length}
+use Rattle.disk_layout.specs.Directory.{IsDirectory}
+use Rattle.disk_layout.specs.Layout.{File, IsFile, IsLayout, Layout, is_rel, record_length}
 use Rattle.disk_layout.specs.Side.{side_sector}
 use Rattle.disk_layout.specs.declared.slot.Slot.{Slot}
 use Rattle.layout_check.proofs.Inexact.{parts-of}
 use Rattle.layout_check.proofs.Orders.{made_none, made_put, made_then, over_more, over_none, over_then, over_write}
-use Rattle.layout_check.proofs.Rights.{files-once, side-not_directory, side-not_map}
+use Rattle.layout_check.proofs.Pointers.{read-there}
+use Rattle.layout_check.proofs.Rights.{files-once, side-not_directory, side-not_map, sides-once}
 use Rattle.layout_check.proofs.SideMends.{file-once, file-sector, files-apart, parts-in}
 use Rattle.layout_check.specs.InOrder.{AreMade, GoesOver, IsRight, sides_of}
 use Rattle.layout_check.specs.Mended.{IsPartsOf}
@@ -87,6 +90,39 @@ module _ (img : Image) (l : Layout) (is : IsLayout img l) where
 pub sides-found : (img : Image) (l : Layout) (f : File) (s : Slot) (blocks sides items : List Place) → IsLayout img l → Contains l.files f → f.slot ≡ s → IsTrue (is_rel s) → HasParts img s blocks sides → items ≡ sides → items ≡ f.sides
 sides-found img l f s blocks sides items is own slot rel h read = read ∙ sym (ap (λ (x : File). x.sides) (parts-of img l f s blocks sides is own slot rel h))
 
+-- the file of an entry that the directory lists
+pub file-at : (img : Image) (l : Layout) (ps : List Place) (items : List Slot) (k : ℕ) (s : Slot) → IsLayout img l → IsDirectory img ps items → k < length items → s ≡ get_or items k s → (f : File) × (slice_get l.files k ≡ Some f) × (f.slot ≡ s)
+file-at img l ps items k s is d below read =
+    let same = (IsDirectory-one img ps l.directory items (map (λ (f : File). f.slot) l.files) d is.directory).1 in
+    let P : List Slot → Type 0 = λ xs. slice_get xs k ≡ Some s in
+    in-files l.files k (subst P same (read-there items k s below read))
+  where
+    in-files : (fs : List File) (n : ℕ) → slice_get (map (λ (f : File). f.slot) fs) n ≡ Some s → (f : File) × (slice_get fs n ≡ Some f) × (f.slot ≡ s)
+    in-files [] n e = cc
+    in-files (f ∷ fs) zero e = (f, refl, cc)
+    in-files (f ∷ fs) (suc n) e = in-files fs n e
+
+-- a file that isn't relative has no side sectors
+pub plain-sides : (img : Image) (l : Layout) (f : File) → IsLayout img l → Contains l.files f → IsFalse (is_rel f.slot) → f.sides ≡ []
+plain-sides img l f is own plain =
+    let file = all-in (IsFile img) l.files f is.files own in
+    elim (cases_eq (slice_index f.slot.bytes 3) 0) [ inl none ↦ (file.empty plain none).2 | inr some ↦ (file.plain plain some).1 ]
+
+-- the side sectors of one file more
+sides-next : (fs : List File) (n : ℕ) (f : File) → slice_get fs n ≡ Some f → sides_of (take (n + 1) fs) ≡ sides_of (take n fs) ++ f.sides
+sides-next fs n f there = ap sides_of (take-get fs n f there) ∙ flat_map-append (λ (x : File). x.sides) (take n fs) (f ∷ []) ∙ ap (λ (ps : List Place). sides_of (take n fs) ++ ps) (append-nil f.sides)
+
+pub sides-past : (fs : List File) (n : ℕ) (f : File) → slice_get fs n ≡ Some f → f.sides ≡ [] → sides_of (take n fs) ≡ sides_of (take (n + 1) fs)
+sides-past fs n f there none = sym (sides-next fs n f there ∙ ap (λ (ps : List Place). sides_of (take n fs) ++ ps) none ∙ append-nil (sides_of (take n fs)))
+
+sides-split : (fs : List File) (n : ℕ) → sides_of (take n fs) ++ sides_of (drop n fs) ≡ sides_of fs
+sides-split fs n = sym (flat_map-append (λ (x : File). x.sides) (take n fs) (drop n fs)) ∙ ap sides_of (take-append-drop n fs)
+
+pub sides-all : (img : Image) (l : Layout) (ps : List Place) (items : List Slot) (n : ℕ) → IsLayout img l → IsDirectory img ps items → length items ≤ n → sides_of (take n l.files) ≡ sides_of l.files
+sides-all img l ps items n is d all =
+    let same = (IsDirectory-one img ps l.directory items (map (λ (f : File). f.slot) l.files) d is.directory).1 in
+    ap sides_of (take_all n l.files (omega (arith, all, ap length same, length-map l.files (λ (f : File). f.slot))))
+
 module _ {D : Type 0} (S : History D) where
   -- reads, and then sectors gone over
   pub over_read : (a b c : D) (n : ℕ) (Right : Place → Sector → Type 0) (ps : List Place) → EachOnce ps → OnlyReads S a b n → GoesOver S b c Right ps → GoesOver S a c Right ps
@@ -125,3 +161,25 @@ module _ {D : Type 0} (S : History D) where
         let Q : Image → Type 0 = AreMade (IsRight l) (p ∷ []) (S.image b) in
         let here = subst Q (sym done) (made_put (IsRight l) p (S.image b) wanted (S.whole b).size right (kept (sector (S.image b) p))) in
         subst P (sym (take-get ss n p there)) (made_then (IsRight l) (take n ss) (p ∷ []) (S.image a) (S.image b) (S.image w) once made here)
+
+  -- the files before this many
+  pub over_files : (a b : D) (k : ℕ) (Right : Place → Sector → Type 0) (fs : List File) → GoesOver S a b Right (sides_of (take k fs)) → GoesOver S a b Right (sides_of fs)
+  over_files a b k Right fs over = let P : List Place → Type 0 = GoesOver S a b Right in subst P (sides-split fs k) (over_more S Right (sides_of (take k fs)) (sides_of (drop k fs)) a b over)
+
+  -- one file more
+  module _ (a : D) (l : Layout) (is : IsLayout (S.image a) l) (n : ℕ) (f : File) (there : slice_get l.files n ≡ Some f) (b w : D) (made : AreMade (IsRight l) (sides_of (take n l.files)) (S.image a) (S.image b)) where
+    apart : EachOnce (sides_of (take n l.files) ++ f.sides)
+    apart =
+        let P : List Place → Type 0 = EachOnce in
+        let all = sides-once l.files (files-once (S.image a) l is) in
+        subst P (sides-next l.files n f there) (EachOnce-left (sides_of (take (n + 1) l.files)) (sides_of (drop (n + 1) l.files)) (subst P (sym (sides-split l.files (n + 1))) all))
+
+    pub file_over : GoesOver S a b (IsRight l) (sides_of (take n l.files)) → GoesOver S b w (IsRight l) f.sides → GoesOver S a w (IsRight l) (sides_of (take (n + 1) l.files))
+    file_over over here =
+        let P : List Place → Type 0 = GoesOver S a w (IsRight l) in
+        subst P (sym (sides-next l.files n f there)) (over_then S (IsRight l) (sides_of (take n l.files)) f.sides a b w apart over made here)
+
+    pub file_made : AreMade (IsRight l) f.sides (S.image b) (S.image w) → AreMade (IsRight l) (sides_of (take (n + 1) l.files)) (S.image a) (S.image w)
+    file_made here =
+        let P : List Place → Type 0 = λ xs. AreMade (IsRight l) xs (S.image a) (S.image w) in
+        subst P (sym (sides-next l.files n f there)) (made_then (IsRight l) (sides_of (take n l.files)) f.sides (S.image a) (S.image b) (S.image w) apart made here)

@@ -7,7 +7,7 @@ ghost use Rattle.layout_check.specs.Made.{IsMadeMap, IsMadeTrack};
 ghost use Rattle.disk_layout.specs.Layout.{File, IsLayout, IsSound, Layout, is_rel};
 ghost use Rattle.layout_check.specs.Entry.{IsEntry};
 ghost use Rattle.layout_check.specs.Exact.{AreExactSides, HasMap, IsFiled};
-ghost use Rattle.layout_check.specs.InOrder.{AreMade, GoesOver, IsRight};
+ghost use Rattle.layout_check.specs.InOrder.{AreMade, GoesOver, IsRight, sides_of};
 ghost use Rattle.layout_check.specs.Mended.{AreExactFor, IsExactFor, IsPartsOf, KeepsExact, KeepsLayouts, Mends, SameMap, TellsDevice};
 ghost use Rattle.layout_check.specs.Recounted.{WritesOther};
 ghost use Rattle.layout_check.specs.Survey.{IsToldBy};
@@ -170,6 +170,9 @@ pub fn mend_entries<D: Sectors>(disk: &mut D) -> Result<(), Fault>
     ensures err { IfErr result (TellsDevice D.history disk.old disk.new) }
     ensures failures { OnOk result (D.history.failures disk.new ≡ D.history.failures disk.old) }
     ensures mends { Mends D.history disk.old disk.new 864 }
+    // side sector by side sector in the order of the directory, each written once where it isn't right
+    ensures over { (l : Layout) → IsLayout (D.history.image disk.old) l → GoesOver D.history disk.old disk.new (IsRight l) (sides_of l.files) }
+    ensures made { OnOk result ((l : Layout) → IsLayout (D.history.image disk.old) l → AreMade (IsRight l) (sides_of l.files) (D.history.image disk.old) (D.history.image disk.new)) }
     // side sectors that are right are not written
     ensures quiet { AreExactFor (D.history.image disk.old) (D.history.image disk.old) → OnlyReads D.history disk.old disk.new 106290 }
 {
