@@ -12,6 +12,7 @@ pub mod Makings
 pub mod MapMends
 pub mod Mendings
 pub mod Ones
+pub mod OrderExamples
 pub mod Orders
 pub mod Pointers
 pub mod Progress
@@ -22,6 +23,7 @@ pub mod Rights
 pub mod RightCounts
 pub mod RightDirectory
 pub mod RightMap
+pub mod RightSides
 pub mod RightSlots
 pub mod RightWrites
 pub mod Roots

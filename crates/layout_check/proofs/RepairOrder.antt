@@ -21,6 +21,10 @@ untouched Right ps a b p out way = way.made.rest p (λ c. out (let P : List Plac
 pub spare-later : (a b c : Image) → sector c map_place ≡ sector b map_place → ClearsSpare a b → ClearsSpare a c
 spare-later a b c same h changed = let P : Sector → Type 0 = λ x. (track : ℕ) → 1 ≤ track → track ≤ 35 → HasNoSpare x track in subst P (sym same) (h (λ e. changed (same ∙ e)))
 
+-- reads before it
+pub spare_after : {D : Type 0} (S : History D) (a b c : D) (n : ℕ) → OnlyReads S a b n → ClearsSpare (S.image b) (S.image c) → ClearsSpare (S.image a) (S.image c)
+spare_after S a b c n reads h = let P : Image → Type 0 = λ i. ClearsSpare i (S.image c) in subst P reads.image h
+
 module _ {D : Type 0} (S : History D) (l : Layout) where
   -- after the map, it goes over the side sectors
   pub order_map : (a b : D) → GoesOver S a b (IsRight l) (map_place ∷ []) → GoesOver S a b (IsRight l) (repair_order l)
@@ -41,9 +45,12 @@ module _ {D : Type 0} (S : History D) (l : Layout) where
       (over_then S (IsRight l) (sides_of l.files) l.directory b c d (order-once (S.image a) l is).1 sides made_sides counts)
 
   -- reads before it
-  pub order_after : (a b c : D) (n : ℕ) → IsLayout (S.image a) l → OnlyReads S a b n → GoesOver S b c (IsRight l) (repair_order l) → GoesOver S a c (IsRight l) (repair_order l)
+  pub order_after : (a b c : D) (n : ℕ) → IsLayout (S.image a) l → OnlyReads S a b n
+      → ((m : Layout) → IsLayout (S.image b) m → GoesOver S b c (IsRight m) (repair_order m)) → GoesOver S a c (IsRight l) (repair_order l)
   order_after a b c n is reads h =
-      over_then S (IsRight l) [] (repair_order l) a b c (order-once (S.image a) l is) (over_none S (IsRight l) [] a b n reads) (made_none (IsRight l) (S.image a) (S.image b) reads.image) h
+      let P : Image → Type 0 = λ i. IsLayout i l in
+      over_then S (IsRight l) [] (repair_order l) a b c (order-once (S.image a) l is) (over_none S (IsRight l) [] a b n reads) (made_none (IsRight l) (S.image a) (S.image b) reads.image)
+      (h l (subst P (sym reads.image) is))
 
   -- the map of a repair that went on
   pub spare_sides : (a b c : D) → IsLayout (S.image b) l → ClearsSpare (S.image a) (S.image b) → GoesOver S b c (IsRight l) (sides_of l.files) → ClearsSpare (S.image a) (S.image c)

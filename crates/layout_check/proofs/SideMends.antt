@@ -28,7 +28,7 @@ use Rattle.layout_check.specs.Calls.{Tells}
 use Rattle.layout_check.specs.Sides.{HasParts}
 
 -- two files that share a place are one
-files-apart : (fs : List File) (f g : File) (p : Place) → EachOnce (flat_map file_owns fs) → Contains fs f → Contains fs g → Contains (file_owns f) p → Contains (file_owns g) p → f ≡ g
+pub files-apart : (fs : List File) (f g : File) (p : Place) → EachOnce (flat_map file_owns fs) → Contains fs f → Contains fs g → Contains (file_owns f) p → Contains (file_owns g) p → f ≡ g
 files-apart [] f g p once cf cg a b = absurd (Contains-nil f cf)
 files-apart (h ∷ fs) f g p once cf cg a b =
     elim (Contains-cases f h fs cf) [
@@ -42,7 +42,8 @@ files-apart (h ∷ fs) f g p once cf cg a b =
       ]
     ]
 
-file-once : (fs : List File) (f : File) → EachOnce (flat_map file_owns fs) → Contains fs f → EachOnce (file_owns f)
+-- a file owns no sector twice
+pub file-once : (fs : List File) (f : File) → EachOnce (flat_map file_owns fs) → Contains fs f → EachOnce (file_owns f)
 file-once [] f once c = absurd (Contains-nil f c)
 file-once (h ∷ fs) f once c = elim (Contains-cases f h fs c) [
   | inl e ↦ rw (← e) (EachOnce-left (file_owns h) (flat_map file_owns fs) once)
@@ -98,7 +99,7 @@ pub exact-others : (img c : Image) (s : Slot) (bs ss : List Place) (n : ℕ) (p 
 exact-others img c s bs ss n p size h here keeps t cs ts i exact j q there = exact-written img c s t bs ss cs ts n j p q size h i here there (λ ne. keeps t cs ts i exact j q there)
 
 -- the parts as the layout's file has them
-file-sector : (img : Image) (s : Slot) (bs ss : List Place) (n : ℕ) → (h : IsPartsOf img s bs ss) → side_sector n h.file.blocks h.file.sides (record_length h.file.slot) ≡ side_sector n bs ss (record_length s)
+pub file-sector : (img : Image) (s : Slot) (bs ss : List Place) (n : ℕ) → (h : IsPartsOf img s bs ss) → side_sector n h.file.blocks h.file.sides (record_length h.file.slot) ≡ side_sector n bs ss (record_length s)
 file-sector img s bs ss n h =
     ap (λ (xs : List Place). side_sector n xs h.file.sides (record_length h.file.slot)) h.blocks_are
     ∙ ap (λ (xs : List Place). side_sector n bs xs (record_length h.file.slot)) h.sides_are

@@ -1,14 +1,14 @@
 //! The map and the side sectors that a sound disk is to have, each written where the disk has another.
-ghost use Rattle.std.specs.Prelude.{◌≡◌, ◌≤◌, ◌∷◌, [], IfErr, IsTrue, OnOk, length};
+ghost use Rattle.std.specs.Prelude.{◌≡◌, ◌≤◌, ◌∷◌, [], Contains, IfErr, IsTrue, OnOk, length};
 ghost use Rattle.d64_image.specs.History.{Changes, OldOr, OnlyReads};
 ghost use Rattle.d64_image.specs.Images.{put, sector};
 ghost use Rattle.disk_layout.specs.Free.{IsWithoutFree};
 ghost use Rattle.layout_check.specs.Made.{IsMadeMap, IsMadeTrack};
 ghost use Rattle.disk_layout.specs.Directory.{map_place};
-ghost use Rattle.disk_layout.specs.Layout.{IsLayout, IsSound, Layout, is_rel};
+ghost use Rattle.disk_layout.specs.Layout.{File, IsLayout, IsSound, Layout, is_rel};
 ghost use Rattle.layout_check.specs.Entry.{IsEntry};
 ghost use Rattle.layout_check.specs.Exact.{AreExactSides, HasMap, IsFiled};
-ghost use Rattle.layout_check.specs.InOrder.{AreMade, ClearsSpare, GoesOver, IsRight};
+ghost use Rattle.layout_check.specs.InOrder.{AreMade, ClearsSpare, GoesOver, IsRight, sides_of};
 ghost use Rattle.layout_check.specs.Mended.{AreExactFor, IsExactFor, IsPartsOf, KeepsExact, KeepsLayouts, Mends, SameMap, TellsDevice};
 ghost use Rattle.layout_check.specs.Recounted.{WritesOther};
 ghost use Rattle.layout_check.specs.Survey.{IsToldBy};
@@ -118,6 +118,9 @@ fn mend_sides<D: Sectors>(
     ensures err { IfErr result (TellsDevice D.history disk.old disk.new) }
     ensures failures { OnOk result (D.history.failures disk.new ≡ D.history.failures disk.old) }
     ensures mends { Mends D.history disk.old disk.new 6 }
+    // side sector by side sector, each written once where it isn't right
+    ensures over { (l : Layout) → IsLayout (D.history.image disk.old) l → GoesOver D.history disk.old disk.new (IsRight l) sides.now }
+    ensures made { OnOk result ((l : Layout) → IsLayout (D.history.image disk.old) l → AreMade (IsRight l) sides.now (D.history.image disk.old) (D.history.image disk.new)) }
     // side sectors that are right are not written
     ensures quiet { AreExactSides (D.history.image disk.old) slot.now blocks.now sides.now → OnlyReads D.history disk.old disk.new 6 }
 {
@@ -151,6 +154,9 @@ fn mend_relative<D: Sectors>(
     ensures err { IfErr result (TellsDevice D.history disk.old disk.new) }
     ensures failures { OnOk result (D.history.failures disk.new ≡ D.history.failures disk.old) }
     ensures mends { Mends D.history disk.old disk.new 6 }
+    // side sector by side sector of the entry's file, each written once where it isn't right
+    ensures over { (l : Layout) (f : File) → IsLayout (D.history.image disk.old) l → Contains l.files f → f.slot ≡ slot.now → GoesOver D.history disk.old disk.new (IsRight l) f.sides }
+    ensures made { OnOk result ((l : Layout) (f : File) → IsLayout (D.history.image disk.old) l → Contains l.files f → f.slot ≡ slot.now → AreMade (IsRight l) f.sides (D.history.image disk.old) (D.history.image disk.new)) }
     // side sectors that are right are not written
     ensures quiet { IsExactFor (D.history.image disk.old) (D.history.image disk.old) slot.now → OnlyReads D.history disk.old disk.new 738 }
 {
@@ -168,6 +174,9 @@ pub fn mend_entries<D: Sectors>(disk: &mut D) -> Result<(), Fault>
     ensures err { IfErr result (TellsDevice D.history disk.old disk.new) }
     ensures failures { OnOk result (D.history.failures disk.new ≡ D.history.failures disk.old) }
     ensures mends { Mends D.history disk.old disk.new 864 }
+    // side sector by side sector in the order of the directory, each written once where it isn't right
+    ensures over { (l : Layout) → IsLayout (D.history.image disk.old) l → GoesOver D.history disk.old disk.new (IsRight l) (sides_of l.files) }
+    ensures made { OnOk result ((l : Layout) → IsLayout (D.history.image disk.old) l → AreMade (IsRight l) (sides_of l.files) (D.history.image disk.old) (D.history.image disk.new)) }
     // side sectors that are right are not written
     ensures quiet { AreExactFor (D.history.image disk.old) (D.history.image disk.old) → OnlyReads D.history disk.old disk.new 106290 }
 {

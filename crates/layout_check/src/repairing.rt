@@ -3,7 +3,8 @@ ghost use Rattle.std.specs.Prelude.{◌≡◌, ◌↔◌, IfErr, IfOk, IsOk, OnO
 ghost use Rattle.d64_image.specs.History.{Failed, NeverFailed, OnlyReads};
 ghost use Rattle.disk_layout.specs.Clean.{IsClean};
 ghost use Rattle.disk_layout.specs.Fault.{Holds, TellsFault};
-ghost use Rattle.disk_layout.specs.Layout.{IsSound};
+ghost use Rattle.disk_layout.specs.Layout.{IsLayout, IsSound, Layout};
+ghost use Rattle.layout_check.specs.InOrder.{ClearsSpare, GoesOver, IsRight, repair_order};
 ghost use Rattle.layout_check.specs.Mended.{TellsDevice};
 ghost use Rattle.layout_check.specs.Repaired.{IsRepaired, MendsFrom};
 ghost use Rattle.layout_check.specs.Survey.{IsToldBy};
@@ -20,6 +21,8 @@ fn mend<D: Sectors>(disk: &mut D, found: &Survey) -> Result<(), Fault>
     requires { IsToldBy (D.history.image disk.old) found.now }
     ensures clean { OnOk result (IsRepaired (D.history.image disk.old) (D.history.image disk.new) found.now) }
     ensures moments { MendsFrom D.history disk.old disk.new 883 }
+    ensures order { (l : Layout) → IsLayout (D.history.image disk.old) l → GoesOver D.history disk.old disk.new (IsRight l) (repair_order l) }
+    ensures spare { ClearsSpare (D.history.image disk.old) (D.history.image disk.new) }
     ensures err { IfErr result (TellsDevice D.history disk.old disk.new) }
     ensures failures { OnOk result (D.history.failures disk.new ≡ D.history.failures disk.old) }
     // a disk that is clean is not written
@@ -45,6 +48,9 @@ pub fn repair<D: Sectors>(disk: &mut D) -> Result<Survey, Fault>
     // neither a fault nor a layout is told always
     ensures sound { NeverFailed D.history disk.old disk.new → (IsOk result ↔ IsSound (D.history.image disk.old)) }
     ensures moments { MendsFrom D.history disk.old disk.new 883 }
+    // no sector that is right is written, the others once, the map first, then the side sectors, then the directory
+    ensures order { (l : Layout) → IsLayout (D.history.image disk.old) l → GoesOver D.history disk.old disk.new (IsRight l) (repair_order l) }
+    ensures spare { ClearsSpare (D.history.image disk.old) (D.history.image disk.new) }
     // a disk that isn't sound is not written
     ensures unsound { (IsSound (D.history.image disk.old) → ⊥) → OnlyReads D.history disk.old disk.new 2114 }
     // nor is one that is clean

@@ -1,18 +1,23 @@
 -- Entry by entry of the directory.
-use Rattle.std.proofs.Common.{ap, arith, refl, sym, subst, ◌∙◌}
+use Rattle.std.proofs.Common.{List, [], false, ◌≡◌, ◌+◌, ap, arith, refl, sym, subst, ◌∙◌}
 use Rattle.std.proofs.lemmas.Bool.{false≢true}
 use borrow.Author.Count.{below_more}
 use Rattle.std.proofs.lemmas.Result.{err_from_is_err_and}
 use Rattle.d64_image.proofs.Moments.{reads_then, reads_weaker}
 use Rattle.d64_image.specs.Images.{Image, sector}
+use Rattle.d64_image.specs.declared.place.Place.{Place}
+use Rattle.disk_layout.proofs.Layouts.{get-contains}
 use Rattle.disk_layout.specs.Directory.{map_place}
-use Rattle.disk_layout.specs.Layout.{IsLayout}
+use Rattle.disk_layout.specs.Layout.{IsLayout, Layout, is_rel}
 use Rattle.layout_check.proofs.EntryMends.{entry-filed, exact-entries, exact-kept, exact-made, exact-read, exact-same, filed-kept}
 use Rattle.layout_check.proofs.MapMends.{device_later, mends_read, mends_then, mends_weaker}
+use Rattle.layout_check.proofs.Orders.{made_none, over_none}
 use Rattle.layout_check.proofs.Progress.{listed-as}
+use Rattle.layout_check.proofs.RightSides.{file-at, file_made, file_over, over_files, plain-sides, sides-all, sides-past}
 use Rattle.layout_check.proofs.Roots.{directory-tells}
 use Rattle.layout_check.proofs.SideMends.{sound-device}
 use Rattle.layout_check.proofs.Verdict.{filed-at}
+use Rattle.layout_check.specs.InOrder.{AreMade, GoesOver, IsRight, sides_of}
 use Rattle.layout_check.proofs.mending.mend_entries.Goals as goal
 use Rattle.layout_check.proofs.mending.mend_entries.Goals.{then-is_relative+in_ok-mend_relative, else-is_relative}
 
@@ -29,6 +34,9 @@ returns-in_err-read_directory-clause-mends g c = mends_read g.D.Sectors.history 
 pub returns-in_err-read_directory-clause-quiet : goal.returns-in_err-read_directory-clause-quiet
 returns-in_err-read_directory-clause-quiet g c exact = reads_weaker g.D.Sectors.history c.args.disk.now c.read_directory.new.disk 18 106290 (omega arith) c.in_err-read_directory.ensures.reads
 
+pub returns-in_err-read_directory-clause-over : goal.returns-in_err-read_directory-clause-over
+returns-in_err-read_directory-clause-over g c l h = over_none g.D.Sectors.history (IsRight l) (sides_of l.files) c.args.disk.now c.read_directory.new.disk 18 c.in_err-read_directory.ensures.reads
+
 pub loop-slot-init : goal.loop-slot-init
 loop-slot-init g c =
     let reads = c.in_ok-read_directory.ensures.reads in
@@ -37,6 +45,8 @@ loop-slot-init g c =
       map = ap (λ (i : Image). sector i map_place) reads.image;
       exact = λ k low. absurd (omega arith);
       mends = mends_read g.D.Sectors.history c.args.disk.now c.read_directory.new.disk 18 _ reads;
+      over = λ l h. over_none g.D.Sectors.history (IsRight l) [] c.args.disk.now c.read_directory.new.disk 18 reads;
+      made = λ l h. made_none (IsRight l) (g.D.Sectors.history.image c.args.disk.now) (g.D.Sectors.history.image c.read_directory.new.disk) reads.image;
       failures = c.in_ok-read_directory.ensures.failures;
       quiet = λ exact. reads_weaker g.D.Sectors.history c.args.disk.now c.read_directory.new.disk 18 _ (omega arith) reads;
     }
@@ -57,6 +67,17 @@ returns-in_err-mend_relative-clause-err g c =
 pub returns-in_err-mend_relative-clause-mends : goal.returns-in_err-mend_relative-clause-mends
 returns-in_err-mend_relative-clause-mends g c = mends_then g.D.Sectors.history c.args.disk.now c.loop-slot.disk c.mend_relative.new.disk _ 6 864 (omega (arith, c.loop-slot-test.true, c.as_slice-slot-items.ensures.fits)) c.loop-slot.invariant.mends c.in_err-mend_relative.ensures.mends
 
+pub returns-in_err-mend_relative-clause-over : goal.returns-in_err-mend_relative-clause-over
+returns-in_err-mend_relative-clause-over g c l h =
+    let S = g.D.Sectors.history in
+    let n = c.loop-slot.slot-index in
+    let d = c.in_ok-read_directory.ensures.ok in
+    let items = c.as_slice-slot-items.result.now in
+    let old = c.loop-slot.invariant in
+    let (f, there, slot) = file-at _ l d.0 items n c.slot-item.result h (listed-as _ d.0 c.read_directory.new.slots.items items c.as_slice-slot-items.ensures.value d.1) c.loop-slot-test.true c.slot-item.is in
+    let here = c.in_err-mend_relative.ensures.over l f (old.layouts l h) (get-contains l.files n f there) slot in
+    over_files S c.args.disk.now c.mend_relative.new.disk (n + 1) (IsRight l) l.files (file_over S c.args.disk.now l h n f there c.loop-slot.disk c.mend_relative.new.disk (old.made l h) (old.over l h) here)
+
 pub returns-in_err-mend_relative-clause-quiet : goal.returns-in_err-mend_relative-clause-quiet
 returns-in_err-mend_relative-clause-quiet g c exact =
     let S = g.D.Sectors.history in
@@ -69,7 +90,13 @@ loop-slot-preserved g c =
     let a = c.args.disk.now in
     let b = c.loop-slot.disk in
     let old = c.loop-slot.invariant in
+    let n = c.loop-slot.slot-index in
+    let d = c.in_ok-read_directory.ensures.ok in
     let items = c.as_slice-slot-items.result.now in
+    let file = λ (l : Layout) (h : IsLayout (S.image a) l). file-at (S.image a) l d.0 items n c.slot-item.result h (listed-as _ d.0 c.read_directory.new.slots.items items c.as_slice-slot-items.ensures.value d.1) c.loop-slot-test.true c.slot-item.is in
+    let plain = λ (l : Layout) (h : IsLayout (S.image a) l) (e : c.is_relative.result ≡ false).
+    let (f, there, slot) = file l h in
+    sides-past l.files n f there (plain-sides (S.image a) l f h (get-contains l.files n f there) (ap is_rel slot ∙ sym c.is_relative.ensures ∙ e)) in
     elim c.if-is_relative.branch [
       | then-is_relative+in_ok-mend_relative w ↦
           let done = w.in_ok-mend_relative.ensures in
@@ -80,6 +107,8 @@ loop-slot-preserved g c =
             exact = rw w.disk-is (below_more _ _ (λ k low s there rel. exact-kept _ _ _ s old.layouts done.others (old.exact k low s there rel))
                 (exact-read _ _ items c.loop-slot.slot-index c.slot-item.result c.loop-slot-test.true c.slot-item.is (λ _. exact-made _ _ _ c.slot-item.result old.layouts done.exact)));
             mends = rw w.disk-is (mends_then S a b d _ 6 _ (omega arith) old.mends done.mends);
+            over = rw w.disk-is (λ l h. let (f, there, slot) = file l h in file_over S a l h n f there b d (old.made l h) (old.over l h) (done.over l f (old.layouts l h) (get-contains l.files n f there) slot));
+            made = rw w.disk-is (λ l h. let (f, there, slot) = file l h in file_made S a l h n f there b d (old.made l h) (done.made l f (old.layouts l h) (get-contains l.files n f there) slot));
             failures = rw w.disk-is (done.failures ∙ old.failures);
             quiet = rw w.disk-is (λ exact. let so_far = old.quiet exact in reads_then S a b d _ 738 _ (omega arith) so_far (done.quiet (exact-same _ _ c.slot-item.result so_far.image exact)));
           }
@@ -89,6 +118,8 @@ loop-slot-preserved g c =
         exact = rw w.disk-is (below_more _ _ old.exact
             (exact-read _ _ items c.loop-slot.slot-index c.slot-item.result c.loop-slot-test.true c.slot-item.is (λ rel. absurd (false≢true (sym w.if-is_relative.false ∙ c.is_relative.ensures ∙ rel)))));
         mends = rw w.disk-is (mends_weaker S a b _ _ (omega arith) old.mends);
+        over = rw w.disk-is (λ l h. let P : List Place → Type 0 = GoesOver S a b (IsRight l) in subst P (plain l h w.if-is_relative.false) (old.over l h));
+        made = rw w.disk-is (λ l h. let P : List Place → Type 0 = λ xs. AreMade (IsRight l) xs (S.image a) (S.image b) in subst P (plain l h w.if-is_relative.false) (old.made l h));
         failures = rw w.disk-is old.failures;
         quiet = rw w.disk-is (λ exact. reads_weaker S a b _ _ (omega arith) (old.quiet exact));
       }
@@ -104,3 +135,14 @@ returns-clause-mends g c = mends_weaker g.D.Sectors.history c.args.disk.now c.lo
 
 pub returns-clause-quiet : goal.returns-clause-quiet
 returns-clause-quiet g c exact = reads_weaker g.D.Sectors.history c.args.disk.now c.loop-slot.disk _ 106290 (omega (arith, c.loop-slot.auto, c.as_slice-slot-items.ensures.fits)) (c.loop-slot.invariant.quiet exact)
+
+pub returns-clause-over : goal.returns-clause-over
+returns-clause-over g c l h = over_files g.D.Sectors.history c.args.disk.now c.loop-slot.disk c.loop-slot.slot-index (IsRight l) l.files (c.loop-slot.invariant.over l h)
+
+pub returns-clause-made : goal.returns-clause-made
+returns-clause-made g c l h =
+    let S = g.D.Sectors.history in
+    let d = c.in_ok-read_directory.ensures.ok in
+    let items = c.as_slice-slot-items.result.now in
+    let P : List Place → Type 0 = λ xs. AreMade (IsRight l) xs (S.image c.args.disk.now) (S.image c.loop-slot.disk) in
+    subst P (sides-all _ l d.0 items c.loop-slot.slot-index h (listed-as _ d.0 c.read_directory.new.slots.items items c.as_slice-slot-items.ensures.value d.1) c.loop-slot-test.false) (c.loop-slot.invariant.made l h)

@@ -1,8 +1,9 @@
 use Rattle.std.proofs.Common.{ℕ, ◌≡◌, ◌<◌, ◌+◌, ◌*◌, IsTrue}
-use Rattle.std.specs.Prelude.{Some, slice_get}
+use Rattle.std.specs.Prelude.{Some, slice_get, take}
 use Rattle.d64_image.specs.History.{OnlyReads}
-use Rattle.disk_layout.specs.Layout.{is_rel}
+use Rattle.disk_layout.specs.Layout.{IsLayout, Layout, is_rel}
 use Rattle.disk_layout.specs.declared.slot.Slot.{Slot}
+use Rattle.layout_check.specs.InOrder.{AreMade, GoesOver, IsRight, sides_of}
 use Rattle.layout_check.specs.Mended.{AreExactFor, IsExactFor, KeepsLayouts, Mends, SameMap}
 use Rattle.layout_check.proofs.mending.mend_entries.Given as goal
 
@@ -12,6 +13,8 @@ invariant-loop-slot g l = record {
   map : SameMap (g.D.Sectors.history.image l.fn.disk) (g.D.Sectors.history.image l.disk);
   exact : (k : ℕ) → k < l.slot-index → (s : Slot) → slice_get l.slot-items k ≡ Some s → IsTrue (is_rel s) → IsExactFor (g.D.Sectors.history.image l.fn.disk) (g.D.Sectors.history.image l.disk) s;
   mends : Mends g.D.Sectors.history l.fn.disk l.disk (6 * l.slot-index);
+  over : (m : Layout) → IsLayout (g.D.Sectors.history.image l.fn.disk) m → GoesOver g.D.Sectors.history l.fn.disk l.disk (IsRight m) (sides_of (take l.slot-index m.files));
+  made : (m : Layout) → IsLayout (g.D.Sectors.history.image l.fn.disk) m → AreMade (IsRight m) (sides_of (take l.slot-index m.files)) (g.D.Sectors.history.image l.fn.disk) (g.D.Sectors.history.image l.disk);
   failures : g.D.Sectors.history.failures l.disk ≡ g.D.Sectors.history.failures l.fn.disk;
   quiet : AreExactFor (g.D.Sectors.history.image l.fn.disk) (g.D.Sectors.history.image l.fn.disk) → OnlyReads g.D.Sectors.history l.fn.disk l.disk (18 + 738 * l.slot-index);
 }

@@ -1,12 +1,17 @@
 -- The parts, and then the side sectors.
-use Rattle.std.proofs.Common.{arith, subst, ◌∙◌}
+use Rattle.std.proofs.Common.{List, arith, subst, sym, ◌∙◌}
 use Rattle.std.proofs.lemmas.Result.{err_from_is_err_and}
 use Rattle.d64_image.proofs.Moments.{reads_then, reads_weaker}
 use Rattle.d64_image.specs.Images.{Image}
+use Rattle.d64_image.specs.declared.place.Place.{Place}
+use Rattle.disk_layout.specs.Layout.{IsLayout}
 use Rattle.layout_check.proofs.Entries.{rel-closed}
 use Rattle.layout_check.proofs.Finding.{if_err, on_ok}
 use Rattle.layout_check.proofs.MapMends.{device_later, mends_read, mends_then}
+use Rattle.layout_check.proofs.Orders.{over_none}
+use Rattle.layout_check.proofs.RightSides.{file-sides_once, over_read, sides-found}
 use Rattle.layout_check.proofs.SideMends.{parts-at, parts-exact, parts-here, right-there, sound-device}
+use Rattle.layout_check.specs.InOrder.{AreMade, GoesOver, IsRight}
 use Rattle.layout_check.specs.Mended.{KeepsExact, KeepsLayouts, SameMap}
 use Rattle.layout_check.proofs.mending.mend_relative.Goals as goal
 
@@ -23,6 +28,9 @@ returns-in_err-find_parts-clause-mends g c = mends_read g.D.Sectors.history c.ar
 
 pub returns-in_err-find_parts-clause-quiet : goal.returns-in_err-find_parts-clause-quiet
 returns-in_err-find_parts-clause-quiet g c exact = reads_weaker g.D.Sectors.history c.args.disk.now c.find_parts.new.disk 732 738 (omega arith) c.in_err-find_parts.ensures.err.reads
+
+pub returns-in_err-find_parts-clause-over : goal.returns-in_err-find_parts-clause-over
+returns-in_err-find_parts-clause-over g c l f is own slot = over_none g.D.Sectors.history (IsRight l) f.sides c.args.disk.now c.find_parts.new.disk 732 c.in_err-find_parts.ensures.err.reads
 
 pub mend_sides-requires : goal.mend_sides-requires
 mend_sides-requires g c =
@@ -64,3 +72,24 @@ returns-clause-quiet g c exact =
 
 pub returns-clause-map : goal.returns-clause-map
 returns-clause-map g c = on_ok c.mend_sides.result _ _ (λ h. let P : Image → Type 0 = λ i. SameMap i (g.D.Sectors.history.image c.mend_sides.new.disk) in subst P c.in_ok-find_parts.ensures.ok.reads.image h) c.mend_sides.ensures.map
+
+pub returns-clause-over : goal.returns-clause-over
+returns-clause-over g c l f is own slot =
+    let S = g.D.Sectors.history in
+    let found = c.in_ok-find_parts.ensures in
+    let same = sides-found (S.image c.args.disk.now) l f c.args.slot.now c.find_parts.new.blocks.items c.find_parts.new.sides.items c.as_slice-2.result.now is own slot c.requires.rel found.parts c.as_slice-2.ensures.value in
+    let P : List Place → Type 0 = GoesOver S c.find_parts.new.disk c.mend_sides.new.disk (IsRight l) in
+    let Q : Image → Type 0 = λ i. IsLayout i l in
+    over_read S c.args.disk.now c.find_parts.new.disk c.mend_sides.new.disk _ (IsRight l) f.sides (file-sides_once (S.image c.args.disk.now) l is f own) found.ok.reads
+    (subst P same (c.mend_sides.ensures.over l (subst Q (sym found.ok.reads.image) is)))
+
+pub returns-clause-made : goal.returns-clause-made
+returns-clause-made g c =
+    let S = g.D.Sectors.history in
+    let found = c.in_ok-find_parts.ensures in
+    on_ok c.mend_sides.result _ _ (λ made l f is own slot.
+    let same = sides-found (S.image c.args.disk.now) l f c.args.slot.now c.find_parts.new.blocks.items c.find_parts.new.sides.items c.as_slice-2.result.now is own slot c.requires.rel found.parts c.as_slice-2.ensures.value in
+    let P : List Place → Type 0 = λ xs. AreMade (IsRight l) xs (S.image c.args.disk.now) (S.image c.mend_sides.new.disk) in
+    let Q : Image → Type 0 = λ i. IsLayout i l in
+    let R : Image → Type 0 = λ i. AreMade (IsRight l) c.as_slice-2.result.now i (S.image c.mend_sides.new.disk) in
+    subst P same (subst R found.ok.reads.image (made l (subst Q (sym found.ok.reads.image) is)))) c.mend_sides.ensures.made

@@ -1,13 +1,18 @@
 -- Side sector by side sector: right already, or written.
-use Rattle.std.proofs.Common.{ap, arith, refl, subst, sym, ◌∙◌, ◌+◌}
+use Rattle.std.proofs.Common.{List, [], ap, arith, refl, subst, sym, ◌∙◌, ◌+◌}
+use Rattle.std.proofs.lemmas.List.{take_all}
 use Rattle.std.proofs.lemmas.Option.{slice_get_within}
 use Rattle.std.proofs.lemmas.Result.{err_from_is_err_and}
 use Rattle.d64_image.proofs.Moments.{no_change, no_reads, reads_then, reads_weaker}
-use Rattle.d64_image.specs.Images.{Image, sector}
+use Rattle.d64_image.specs.Images.{Image, put, sector}
+use Rattle.d64_image.specs.declared.place.Place.{Place}
 use Rattle.layout_check.proofs.MapMends.{device_later, mends_read, mends_then, mends_weaker}
+use Rattle.layout_check.proofs.Orders.{made_none, over_none}
 use Rattle.layout_check.proofs.Pointers.{read-there}
+use Rattle.layout_check.proofs.RightSides.{over_first, over_left, parts-once, side_made, side_over}
 use Rattle.layout_check.proofs.SideMends.{after-side, exact-more, exact-others, side-layouts, side-map, side_mends, side_right}
 use Rattle.layout_check.specs.Exact.{IsExactSide}
+use Rattle.layout_check.specs.InOrder.{AreMade, IsRight}
 use Rattle.layout_check.specs.Mended.{KeepsExact, KeepsLayouts, SameMap}
 use Rattle.layout_check.proofs.mending.mend_sides.Goals as goal
 
@@ -18,6 +23,8 @@ loop-number-init g c = record {
   exact = λ j low. absurd (omega arith);
   others = λ s bs ss h exact. exact;
   mends = λ i l h. no_change g.D.Sectors.history c.args.disk.now _ h;
+  over = λ l h. over_none g.D.Sectors.history (IsRight l) [] c.args.disk.now c.args.disk.now 0 (no_reads g.D.Sectors.history c.args.disk.now);
+  made = λ l h. made_none (IsRight l) (g.D.Sectors.history.image c.args.disk.now) (g.D.Sectors.history.image c.args.disk.now) refl;
   failures = refl;
   quiet = λ exact. no_reads g.D.Sectors.history c.args.disk.now;
 }
@@ -29,6 +36,12 @@ pub returns-in-Err-clause-mends : goal.returns-in-Err-clause-mends
 returns-in-Err-clause-mends g c =
     let S = g.D.Sectors.history in
     mends_then S c.args.disk.now c.loop-number.disk c.read.new.self c.loop-number.number 0 6 (omega (arith, c.loop-number-test.true, c.requires.few)) c.loop-number.invariant.mends (mends_read S c.loop-number.disk c.read.new.self 1 0 c.in-Err.ensures.reads)
+
+pub returns-in-Err-clause-over : goal.returns-in-Err-clause-over
+returns-in-Err-clause-over g c l h =
+    let S = g.D.Sectors.history in
+    let old = c.loop-number.invariant in
+    over_left S c.args.disk.now c.loop-number.disk c.read.new.self 1 c.loop-number.number (IsRight l) c.args.sides.now (parts-once (S.image c.args.disk.now) l h c.args.slot.now c.args.blocks.now c.args.sides.now c.requires.parts) (old.over l h) (old.made l h) c.in-Err.ensures.reads
 
 pub returns-in-Err-clause-quiet : goal.returns-in-Err-clause-quiet
 returns-in-Err-clause-quiet g c exact =
@@ -52,6 +65,18 @@ returns-in_err-write_other-clause-mends g c =
     let old = c.loop-number.invariant in
     mends_weaker S c.args.disk.now c.write_other.new.disk (c.loop-number.number + 1) 6 (omega (arith, c.loop-number-test.true, c.requires.few))
     (side_mends S c.args.disk.now c.loop-number.disk c.read.new.self c.write_other.new.disk c.args.slot.now c.args.blocks.now ss c.loop-number.number p c.side_bytes-wanted.result c.requires.parts c.requires.few here old.layouts old.mends c.in-Ok.ensures.reads c.side_bytes-wanted.ensures c.in_err-write_other.ensures.held)
+
+pub returns-in_err-write_other-clause-over : goal.returns-in_err-write_other-clause-over
+returns-in_err-write_other-clause-over g c l h =
+    let S = g.D.Sectors.history in
+    let n = c.loop-number.number in
+    let ss = c.args.sides.now in
+    let p = c.index-sides-number.result in
+    let here = read-there ss n p c.loop-number-test.true c.index-sides-number.is in
+    let old = c.loop-number.invariant in
+    let done = c.in_err-write_other.ensures in
+    over_first S c.args.disk.now c.write_other.new.disk (n + 1) (IsRight l) ss
+    (side_over S c.args.disk.now l h c.args.slot.now c.args.blocks.now ss c.requires.parts n p here c.side_bytes-wanted.result c.side_bytes-wanted.ensures c.loop-number.disk c.read.new.self c.write_other.new.disk (old.over l h) (old.made l h) c.in-Ok.ensures.reads done.held done.once)
 
 pub returns-in_err-write_other-clause-quiet : goal.returns-in_err-write_other-clause-quiet
 returns-in_err-write_other-clause-quiet g c exact =
@@ -84,6 +109,8 @@ loop-number-preserved g c =
       exact = λ j low q there. let R : Image → Type 0 = λ i. IsExactSide i s bs ss j q in subst R (sym done) (exact-more (S.image c.args.disk.now) now s bs ss n p size c.requires.parts here old.exact j low q there);
       others = subst Q (sym done) (exact-others (S.image c.args.disk.now) now s bs ss n p size c.requires.parts here old.others);
       mends = side_mends S c.args.disk.now c.loop-number.disk c.read.new.self c.write_other.new.disk s bs ss n p c.side_bytes-wanted.result c.requires.parts c.requires.few here old.layouts old.mends c.in-Ok.ensures.reads c.side_bytes-wanted.ensures c.in_ok-write_other.ensures.held;
+      over = λ l h. side_over S c.args.disk.now l h s bs ss c.requires.parts n p here c.side_bytes-wanted.result c.side_bytes-wanted.ensures c.loop-number.disk c.read.new.self c.write_other.new.disk (old.over l h) (old.made l h) c.in-Ok.ensures.reads c.in_ok-write_other.ensures.held c.in_ok-write_other.ensures.once;
+      made = λ l h. side_made S c.args.disk.now l h s bs ss c.requires.parts n p here c.side_bytes-wanted.result c.side_bytes-wanted.ensures c.loop-number.disk c.write_other.new.disk (old.made l h) (c.in_ok-write_other.ensures.ok ∙ ap (λ (i : Image). put i p c.side_bytes-wanted.result) c.in-Ok.ensures.reads.image);
       failures = c.in_ok-write_other.ensures.failures ∙ c.in-Ok.ensures.failures ∙ old.failures;
       quiet = λ exact.
           let so_far = old.quiet exact in
@@ -100,3 +127,12 @@ returns-clause-mends g c = mends_weaker g.D.Sectors.history c.args.disk.now c.lo
 
 pub returns-clause-quiet : goal.returns-clause-quiet
 returns-clause-quiet g c exact = reads_weaker g.D.Sectors.history c.args.disk.now c.loop-number.disk c.loop-number.number 6 (omega (arith, c.loop-number.auto, c.requires.few)) (c.loop-number.invariant.quiet exact)
+
+pub returns-clause-over : goal.returns-clause-over
+returns-clause-over g c l h = over_first g.D.Sectors.history c.args.disk.now c.loop-number.disk c.loop-number.number (IsRight l) c.args.sides.now (c.loop-number.invariant.over l h)
+
+pub returns-clause-made : goal.returns-clause-made
+returns-clause-made g c l h =
+    let S = g.D.Sectors.history in
+    let P : List Place → Type 0 = λ xs. AreMade (IsRight l) xs (S.image c.args.disk.now) (S.image c.loop-number.disk) in
+    subst P (take_all c.loop-number.number c.args.sides.now (omega (arith, c.loop-number-test.false))) (c.loop-number.invariant.made l h)

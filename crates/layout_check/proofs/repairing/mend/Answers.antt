@@ -3,6 +3,7 @@ use Rattle.std.proofs.Common.{◌∙◌, arith}
 use Rattle.std.proofs.lemmas.Result.{err_from_is_err_and}
 use Rattle.d64_image.proofs.Moments.{at_end, reads_then, reads_weaker}
 use Rattle.layout_check.proofs.MapMends.{device_later, mends_then}
+use Rattle.layout_check.proofs.RepairOrder.{order_all, order_map, order_sides, spare_counts, spare_sides}
 use Rattle.layout_check.proofs.RepairRuns.{counts-at, counts_mend, device_after, mends_from, ok-then, repaired, sides-at}
 use Rattle.layout_check.proofs.Repairs.{clean-map}
 use Rattle.layout_check.proofs.repairing.mend.Goals as goal
@@ -56,3 +57,33 @@ returns-clause-quiet g c clean =
     let second = c.mend_entries.ensures.quiet (sides-at _ _ first.image clean) in
     reads_then S _ _ _ 106291 106146 212437 (omega arith) (reads_then S _ _ _ 1 106290 106291 (omega arith) first second)
     (c.mend_counts.ensures.silent (counts-at _ _ (second.image ∙ first.image) clean))
+
+pub returns-in_err-mend_map-clause-order : goal.returns-in_err-mend_map-clause-order
+returns-in_err-mend_map-clause-order g c l is = order_map g.D.Sectors.history l _ _ (c.mend_map.ensures.over l is)
+
+pub returns-in_err-mend_entries-clause-order : goal.returns-in_err-mend_entries-clause-order
+returns-in_err-mend_entries-clause-order g c l is =
+    order_sides g.D.Sectors.history l _ _ _ is (c.mend_map.ensures.over l is) (c.in_ok-mend_map.ensures.made l is)
+    (c.mend_entries.ensures.over l (c.in_ok-mend_map.ensures.layouts l is))
+
+pub returns-in_err-mend_entries-clause-spare : goal.returns-in_err-mend_entries-clause-spare
+returns-in_err-mend_entries-clause-spare g c =
+    let (l, is, of) = c.requires in
+    let after_map = c.in_ok-mend_map.ensures.layouts l is in
+    spare_sides g.D.Sectors.history l _ _ _ after_map c.mend_map.ensures.spare (c.mend_entries.ensures.over l after_map)
+
+pub returns-clause-order : goal.returns-clause-order
+returns-clause-order g c l is =
+    let after_map = c.in_ok-mend_map.ensures.layouts l is in
+    let after_sides = c.in_ok-mend_entries.ensures.layouts l after_map in
+    order_all g.D.Sectors.history l _ _ _ _ is (c.mend_map.ensures.over l is) (c.in_ok-mend_map.ensures.made l is)
+    (c.mend_entries.ensures.over l after_map) (c.in_ok-mend_entries.ensures.made l after_map) (c.mend_counts.ensures.over l after_sides)
+
+pub returns-clause-spare : goal.returns-clause-spare
+returns-clause-spare g c =
+    let S = g.D.Sectors.history in
+    let (l, is, of) = c.requires in
+    let after_map = c.in_ok-mend_map.ensures.layouts l is in
+    let after_sides = c.in_ok-mend_entries.ensures.layouts l after_map in
+    spare_counts S l _ _ _ after_sides
+    (spare_sides S l _ _ _ after_map c.mend_map.ensures.spare (c.mend_entries.ensures.over l after_map)) (c.mend_counts.ensures.over l after_sides)

@@ -1,6 +1,11 @@
 -- The survey, then what is to be mended.
 use Rattle.std.proofs.Common.{arith}
 use Rattle.d64_image.proofs.Moments.{reads_then}
+use Rattle.d64_image.specs.Images.{Image}
+use Rattle.disk_layout.specs.Layout.{IsLayout}
+use Rattle.layout_check.specs.InOrder.{IsRight, repair_order}
+use Rattle.layout_check.proofs.Orders.{over_none}
+use Rattle.layout_check.proofs.RepairOrder.{order_after, spare_after}
 use Rattle.layout_check.proofs.RepairRuns.{clean_after, mends_after}
 use Rattle.layout_check.proofs.repairing.repair.Goals as goal
 
@@ -24,3 +29,15 @@ returns-clause-quiet g c clean =
     let S = g.D.Sectors.history in
     let reads = c.in_ok-found.ensures.reads in
     reads_then S _ _ _ 2114 212437 214551 (omega arith) reads (c.mend.ensures.quiet (clean_after S _ _ 2114 reads clean))
+
+pub returns-in_err-found-clause-order : goal.returns-in_err-found-clause-order
+returns-in_err-found-clause-order g c l is = over_none g.D.Sectors.history (IsRight l) (repair_order l) _ _ 2114 c.survey.ensures.reads
+
+pub returns-in_err-mend-clause-order : goal.returns-in_err-mend-clause-order
+returns-in_err-mend-clause-order g c l is = order_after g.D.Sectors.history l _ _ _ 2114 is c.survey.ensures.reads c.mend.ensures.order
+
+pub returns-clause-order : goal.returns-clause-order
+returns-clause-order g c l is = order_after g.D.Sectors.history l _ _ _ 2114 is c.survey.ensures.reads c.mend.ensures.order
+
+pub returns-clause-spare : goal.returns-clause-spare
+returns-clause-spare g c = spare_after g.D.Sectors.history _ _ _ 2114 c.survey.ensures.reads c.mend.ensures.spare
