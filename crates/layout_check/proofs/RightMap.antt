@@ -12,7 +12,7 @@ use Rattle.disk_layout.proofs.Once.{flat_map-in}
 use Rattle.disk_layout.proofs.Recount.{slot-there}
 use Rattle.disk_layout.proofs.Recounts.{slot-of}
 use Rattle.disk_layout.specs.Directory.{map_place}
-use Rattle.disk_layout.specs.Layout.{File, IsLayout, Layout, owners}
+use Rattle.disk_layout.specs.Layout.{IsLayout, Layout, owners}
 use Rattle.disk_layout.specs.Map.{IsMapOf}
 use Rattle.disk_layout.specs.declared.faults.Fault.{Fault}
 use Rattle.layout_check.proofs.MapMends.{map-put, right-map}

@@ -83,8 +83,10 @@ pub fn mend_map<D: Sectors>(disk: &mut D, found: &Survey) -> Result<(), Fault>
     ensures err { IfErr result (TellsDevice D.history disk.old disk.new) }
     ensures failures { OnOk result (D.history.failures disk.new ≡ D.history.failures disk.old) }
     ensures mends { Mends D.history disk.old disk.new 1 }
+    // the map is written once at most, and only where it is wrong, also where the device fails
     ensures over { (l : Layout) → IsLayout (D.history.image disk.old) l → GoesOver D.history disk.old disk.new (IsRight l) (map_place ∷ []) }
     ensures made { OnOk result ((l : Layout) → IsLayout (D.history.image disk.old) l → AreMade (IsRight l) (map_place ∷ []) (D.history.image disk.old) (D.history.image disk.new)) }
+    // in a map that is written, the bits past the tracks' last sectors are 0
     ensures spare { ClearsSpare (D.history.image disk.old) (D.history.image disk.new) }
     // a map that is right is not written
     ensures quiet { HasMap (D.history.image disk.old) → OnlyReads D.history disk.old disk.new 1 }
