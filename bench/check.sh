@@ -3,34 +3,21 @@
 #   bench/check.sh [ROUNDS] [RUNS]
 # It takes the proved program that stands in crates/check_bench/out, and makes it with `rt run` where there is none.
 set -e
-top="$(cd "$(dirname "$0")/.." && pwd)"
+name=check
+source "$(dirname "$0")/common.sh"
 rounds="${1:-100000}"
 runs="${2:-9}"
-proved="$top/crates/check_bench/out/check_bench"
-
-if ! command -v rustc >/dev/null; then
-    echo "check.sh: there is no rustc here, so there is nothing to compare with" >&2
-    exit 1
-fi
-if [ ! -x "$proved" ]; then
-    echo "check.sh: proving and building check_bench first" >&2
-    (cd "$top/crates/check_bench" && rt run -- 1 >/dev/null 2>&1) || { echo "check.sh: rt run failed in crates/check_bench" >&2; exit 1; }
-fi
-work="$(mktemp -d)"
-trap 'rm -rf "$work"' EXIT
-rustc -O -o "$work/plain" "$top/bench/check_plain.rs"
-"$work/plain" make "$work/full.d64"
+prepare check_bench
+"$plain" make "$work/full.d64"
 
 # both programs judge an image alike, and as is wanted: so many of three rounds find it clean, and the plain one tells this
 same_of() {
-    local plain proved_count told
-    plain="$("$work/plain" judge 3 "$1")"
-    proved_count="$("$proved" 3 "$1")"
-    told="$("$work/plain" tell "$1")"
-    if [ "$plain" != "$2" ] || [ "$proved_count" != "$2" ] || [ "$told" != "$3" ]; then
-        echo "check.sh: $1: plain $plain of 3 clean, proved $proved_count; the plain program tells $told, and $3 was to be told" >&2
-        exit 1
-    fi
+    local said by_proved told
+    said="$("$plain" judge 3 "$1")"
+    by_proved="$("$proved" 3 "$1")"
+    told="$("$plain" tell "$1")"
+    [ "$said" = "$2" ] && [ "$by_proved" = "$2" ] && [ "$told" = "$3" ] ||
+        stop "$1: plain $said of 3 clean, proved $by_proved; the plain program tells $told, and $3 was to be told"
 }
 
 # the full disk under another name with one byte changed: damaged NAME INDEX BYTE VALUE, the value in octal digits
@@ -54,20 +41,12 @@ damaged count 358 30 001 && same_of "$work/count.d64" 0 "COUNTWRONG 18/1"
 damaged bit 357 5 001 && same_of "$work/bit.d64" 0 "MAPWRONG 1/0"
 damaged free 357 4 001 && same_of "$work/free.d64" 0 "MAPWRONG 18/0"
 
-# the processor seconds of one run
-seconds_of() {
-    local TIMEFORMAT=%U
-    { time "$@" >/dev/null; } 2>&1
+run_plain() {
+    "$plain" judge "$rounds" "$work/full.d64"
 }
 
-# turn by turn, so that what else runs on the machine slows both alike; the least of all runs counts
-for _ in $(seq "$runs"); do
-    echo "plain $(seconds_of "$work/plain" judge "$rounds" "$work/full.d64")"
-    echo "proved $(seconds_of "$proved" "$rounds" "$work/full.d64")"
-done | awk -v rounds="$rounds" '
-    !($1 in least) || $2 < least[$1] { least[$1] = $2 }
-    END {
-        plain = least["plain"] * 1e6 / rounds
-        proved = least["proved"] * 1e6 / rounds
-        printf "plain Rust %.2f us a check, proved %.2f us, ratio %.2f\n", plain, proved, proved / plain
-    }'
+run_proved() {
+    "$proved" "$rounds" "$work/full.d64"
+}
+
+print_ratio "$runs" "$rounds" 1e6 "us a check"
