@@ -8,7 +8,7 @@ use Rattle.check_bench.specs.Tallies.{IsTally}
 module _ {D : Type 0} (S : History D) where
   pub none : (d : D) → IsTally S d d 0 0
   none d = record {
-    reads = reads_weaker S d d 0 (108405 * 0) (omega arith) (no_reads S d);
+    reads = reads_weaker S d d 0 (2115 * 0) (omega arith) (no_reads S d);
     later = omega arith;
     few = omega arith;
     clean = λ never is. refl;
@@ -16,10 +16,10 @@ module _ {D : Type 0} (S : History D) where
   }
 
   -- the disk is found clean
-  pub found : (a b c : D) (checks count : ℕ) → IsTally S a b checks count → OnlyReads S b c 108405 → S.failures b ≤ S.failures c → IsClean (S.image b)
+  pub found : (a b c : D) (checks count : ℕ) → IsTally S a b checks count → OnlyReads S b c 2115 → S.failures b ≤ S.failures c → IsClean (S.image b)
       → IsTally S a c (checks + 1) (count + 1)
   found a b c checks count t read later is = record {
-    reads = reads_then S a b c (108405 * checks) 108405 (108405 * (checks + 1)) (omega arith) t.reads read;
+    reads = reads_then S a b c (2115 * checks) 2115 (2115 * (checks + 1)) (omega arith) t.reads read;
     later = omega (arith, t.later, later);
     few = omega (arith, t.few);
     clean = λ never here. ap (λ (n : ℕ). n + 1) (t.clean (never_failed_first S a b c t.later later never) here);
@@ -27,10 +27,10 @@ module _ {D : Type 0} (S : History D) where
   }
 
   -- it isn't
-  pub missed : (a b c : D) (checks count : ℕ) → IsTally S a b checks count → OnlyReads S b c 108405 → S.failures b ≤ S.failures c
+  pub missed : (a b c : D) (checks count : ℕ) → IsTally S a b checks count → OnlyReads S b c 2115 → S.failures b ≤ S.failures c
       → (NeverFailed S b c → IsClean (S.image b) → ⊥) → IsTally S a c (checks + 1) count
   missed a b c checks count t read later unclean = record {
-    reads = reads_then S a b c (108405 * checks) 108405 (108405 * (checks + 1)) (omega arith) t.reads read;
+    reads = reads_then S a b c (2115 * checks) 2115 (2115 * (checks + 1)) (omega arith) t.reads read;
     later = omega (arith, t.later, later);
     few = omega (arith, t.few);
     clean = λ never here. absurd (unclean (never_failed_rest S a b c t.later later never) (subst IsClean (sym t.reads.image) here));

@@ -5,8 +5,8 @@ use Rattle.disk_layout.specs.Clean.{IsClean}
 
 -- so many of the checks found the disk clean: all of a clean one where the device didn't fail, and none of another
 pub record IsTally {D : Type 0} (S : History D) (old new : D) (checks count : ℕ) : Type 0 where
-  -- at most 108405 reads a check
-  pub reads : OnlyReads S old new (108405 * checks)
+  -- at most 2115 reads a check
+  pub reads : OnlyReads S old new (2115 * checks)
   pub later : S.failures old ≤ S.failures new
   pub few : count ≤ checks
   pub clean : NeverFailed S old new → IsClean (S.image old) → count ≡ checks

@@ -12,7 +12,7 @@ fn is_clean<D: Sectors>(disk: &mut D) -> bool
     ensures found { IsTrue result → IsClean (D.history.image disk.old) }
     ensures clean { NeverFailed D.history disk.old disk.new → IsClean (D.history.image disk.old) → IsTrue result }
     ensures later { D.history.failures disk.old ≤ D.history.failures disk.new }
-    ensures reads { OnlyReads D.history disk.old disk.new 108405 }
+    ensures reads { OnlyReads D.history disk.old disk.new 2115 }
 {
     check(disk).is_ok()
 }

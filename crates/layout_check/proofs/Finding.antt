@@ -1,6 +1,7 @@
 -- The survey of one entry: its file, or the fault.
 use Rattle.std.proofs.Common.{ℕ, ◌≡◌, ◌≢◌, ◌≤◌, ◌+◌, ◌*◌, ◌⊎◌, IsTrue, List, [], ◌∷◌, ◌++◌, length, length-append, slice_index, sym, ◌∙◌, ap, refl, arith, subst, inl, inr, Result, Ok, Err}
-use Rattle.std.specs.Prelude.{Contains, IfErr, IsFalse, OnOk}
+use Rattle.std.specs.Prelude.{Contains, IfErr, IfOk, IsFalse, None, OnOk, Option}
+use Rattle.std.proofs.lemmas.Bool.{false≢true}
 use Rattle.d64_image.proofs.Places.{same_or_other}
 use Rattle.d64_image.specs.History.{History}
 use Rattle.d64_image.specs.Images.{Image}
@@ -15,6 +16,7 @@ use Rattle.layout_check.proofs.Assembly.{empty-file, owns-block, owns-side, plai
 use Rattle.layout_check.proofs.Calls.{passes_weaker, twice_tells}
 use Rattle.layout_check.specs.Calls.{Passes, Tells}
 use Rattle.layout_check.specs.Entry.{HasBlocks, IsProper}
+use Rattle.layout_check.specs.Exact.{JudgesFile}
 use Rattle.layout_check.specs.Found.{Finds, TellsOrClashes}
 use Rattle.layout_check.specs.Owners.{IsClaimed, IsOwned}
 use Rattle.layout_check.specs.Sides.{HasParts, IsRelEntry, IsWalkOfSides, ListsEach}
@@ -32,6 +34,10 @@ pub if_err : {T E : Type 0} (r : Result T E) (P Q : E → Type 0) → ((e : E) �
 if_err (Ok x) P Q f h = tt
 if_err (Err e) P Q f h = f e h
 
+pub if_ok : {T E : Type 0} (r : Result T E) (P Q : T → Type 0) → ((x : T) → P x → Q x) → IfOk r P → IfOk r Q
+if_ok (Ok x) P Q f h = f x h
+if_ok (Err e) P Q f h = tt
+
 pub contains_or_not : (ps : List Place) (p : Place) → Contains ps p ⊎ ¬ (Contains ps p)
 contains_or_not [] p = inr (Contains-nil p)
 contains_or_not (q ∷ ps) p = step (same_or_other q p) (contains_or_not ps p)
@@ -46,24 +52,27 @@ pub claims-none : (t : Owners) (n : ℕ) → IsClaimed t t n []
 claims-none t n p = (λ c. absurd (Contains-nil p c), λ _. refl)
 
 module _ {D : Type 0} (S : History D) where
-  pub plain-finds : (a b : D) (s : Slot) (n : ℕ) (t u : Owners) (blocks : List Place) (last : ℕ) → IsProper s → IsFalse (is_rel s) → slice_index s.bytes 3 ≢ 0 → HasBlocks (S.image a) s blocks last → Passes S a b (length blocks) → IsClaimed t u n blocks → Finds S a b s n t u
+  pub plain-finds : (a b : D) (s : Slot) (n : ℕ) (t u : Owners) (blocks : List Place) (last : ℕ) → IsProper s → IsFalse (is_rel s) → slice_index s.bytes 3 ≢ 0 → HasBlocks (S.image a) s blocks last → Passes S a b (length blocks) → IsClaimed t u n blocks → Finds S a b s n t u None
   plain-finds a b s n t u blocks last proper other some chain passes claimed = (
     record { slot = s; blocks = blocks; last = last; sides = [] },
     record { slot = refl; file = plain-file (S.image a) s blocks last proper other some chain; blocks_once = chain.2.once; sides_once = tt; between = u; blocks = claimed; sides = claims-none u n },
+    λ rel. absurd (false≢true (sym other ∙ rel)),
     passes_weaker S a b (length blocks) (2 * length (blocks ++ [])) (omega (arith, length-append {A = Place} blocks [])) passes,
   )
 
-  pub empty-finds : (a : D) (s : Slot) (n : ℕ) (t : Owners) → IsProper s → IsFalse (is_rel s) → slice_index s.bytes 3 ≡ 0 → Passes S a a 0 → Finds S a a s n t t
+  pub empty-finds : (a : D) (s : Slot) (n : ℕ) (t : Owners) → IsProper s → IsFalse (is_rel s) → slice_index s.bytes 3 ≡ 0 → Passes S a a 0 → Finds S a a s n t t None
   empty-finds a s n t proper other none passes = (
     record { slot = s; blocks = []; last = 0; sides = [] },
     record { slot = refl; file = empty-file (S.image a) s proper other none; blocks_once = tt; sides_once = tt; between = t; blocks = claims-none t n; sides = claims-none t n },
+    λ rel. absurd (false≢true (sym other ∙ rel)),
     passes,
   )
 
-  pub rel-finds : (a b : D) (s : Slot) (n k : ℕ) (t v u : Owners) (blocks sides : List Place) (last : ℕ) → IsProper s → IsTrue (is_rel s) → HasBlocks (S.image a) s blocks last → IsWalkOfSides (S.image a) s blocks sides → ListsEach (S.image a) sides → Passes S a b k → k ≤ length blocks + 2 * length sides → IsClaimed t v n blocks → IsClaimed v u n sides → Finds S a b s n t u
-  rel-finds a b s n k t v u blocks sides last proper rel chain walk lists passes few claimed also = (
+  pub rel-finds : (a b : D) (s : Slot) (n k : ℕ) (t v u : Owners) (blocks sides : List Place) (last : ℕ) (unclean : Option Fault) → IsProper s → IsTrue (is_rel s) → HasBlocks (S.image a) s blocks last → IsWalkOfSides (S.image a) s blocks sides → ListsEach (S.image a) sides → Passes S a b k → k ≤ length blocks + 2 * length sides → IsClaimed t v n blocks → IsClaimed v u n sides → JudgesFile (S.image a) (record { slot = s; blocks = blocks; last = last; sides = sides }) unclean → Finds S a b s n t u unclean
+  rel-finds a b s n k t v u blocks sides last unclean proper rel chain walk lists passes few claimed also judged = (
     record { slot = s; blocks = blocks; last = last; sides = sides },
     record { slot = refl; file = rel-file (S.image a) s blocks sides last proper rel chain walk lists; blocks_once = chain.2.once; sides_once = sides-once (S.image a) s blocks sides walk; between = v; blocks = claimed; sides = also },
+    judged,
     passes_weaker S a b k (2 * length (blocks ++ sides)) (omega (arith, length-append {A = Place} blocks sides)) passes,
   )
 

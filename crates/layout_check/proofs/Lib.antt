@@ -7,6 +7,7 @@ pub mod Entries
 pub mod EntryMends
 pub mod Finding
 pub mod Inexact
+pub mod Judged
 pub mod Listed
 pub mod Makings
 pub mod MapMends

@@ -1,7 +1,8 @@
 -- The steps of a survey: files found one by one, with a table of the owners.
 use Rattle.std.proofs.Common.{ℕ, ◌≡◌, ◌≢◌, ◌<◌, ◌≤◌, ◌+◌, ◌*◌, ◌⊎◌, List, [], ◌∷◌, ◌++◌, length, length-append, get_or, map, take, refl, sym, ◌∙◌, ap, subst, arith, inl, inr, append_assoc, append-nil, drop, ◌↔◌, Err, IsOk, Result}
-use Rattle.std.specs.Prelude.{Contains, flat_map}
+use Rattle.std.specs.Prelude.{Contains, None, Option, flat_map}
 use Rattle.std.specs.List.{AllByRecursion}
+use Rattle.std.specs.Option.{option_or}
 use Rattle.std.proofs.lemmas.Bool.{false≢true}
 use Rattle.std.proofs.lemmas.Grind.{flat_map-append}
 use Rattle.std.proofs.lemmas.List.{length-take, take-append-drop, take_all, take_more}
@@ -24,13 +25,15 @@ use Rattle.layout_check.proofs.Calls.{holds_alone, passes_then, passes_weaker, t
 use Rattle.layout_check.proofs.Claims.{not_before}
 use Rattle.layout_check.proofs.Clashes.{clash-holds}
 use Rattle.layout_check.proofs.Finding.{contains_or_not}
+use Rattle.layout_check.proofs.Judged.{all-push, judged-at, judged-more}
 use Rattle.layout_check.proofs.Listed.{entries-once, entry-listed}
 use Rattle.layout_check.proofs.SideWalks.{get-push}
 use Rattle.layout_check.specs.Calls.{Passes, Tells}
 use Rattle.layout_check.specs.Entry.{IsEntry}
+use Rattle.layout_check.specs.Exact.{JudgesFiles}
 use Rattle.layout_check.specs.Found.{Finds, TellsOrClashes}
 use Rattle.layout_check.specs.Owners.{IsClaimed, IsSystem, owner_of}
-use Rattle.layout_check.specs.Survey.{IsSurveyOf, IsSurveyed, IsTable, taken}
+use Rattle.layout_check.specs.Survey.{IsSurveyOf, IsSurveyed, IsTable, Surveys, taken}
 use Rattle.layout_check.specs.declared.outcome.Survey.{Survey}
 use Rattle.layout_check.specs.declared.owners.Owners.{Owners}
 
@@ -58,10 +61,6 @@ survey-start img dir es t d s = record {
     found : (p : Place) → owner_of t p ≢ 255 → Contains (map_place ∷ dir) p ⊎ ¬ (Contains (map_place ∷ dir) p) → Contains (map_place ∷ dir) p
     found p h (inl c) = c
     found p h (inr n) = absurd (h ((s p).1 n))
-
-all-push : {X : Type 0} (P : X → Type 0) (xs : List X) (x : X) → AllByRecursion P xs → P x → AllByRecursion P (xs ++ x ∷ [])
-all-push P [] x h p = (p, tt)
-all-push P (y ∷ xs) x h p = (h.0, all-push P xs x h.1 p)
 
 taken-push : (dir : List Place) (fs : List File) (g : File) → taken dir (fs ++ g ∷ []) ≡ taken dir fs ++ (g.blocks ++ g.sides)
 taken-push dir fs g =
@@ -161,40 +160,42 @@ abbrev pub told : (T : Type 0) → Fault → Result T Fault
 told T f = Err f
 
 module _ {D : Type 0} (S : History D) where
-  -- as far as the survey has come: the files of the first n entries
-  pub record IsFar (a b : D) (dir : List Place) (es : List Slot) (n : ℕ) (t : Owners) : Type 0 where
+  -- as far as the survey has come: the files of the first n entries, and what was kept back of them
+  pub record IsFar (a b : D) (dir : List Place) (es : List Slot) (n : ℕ) (t : Owners) (kept : Option Fault) : Type 0 where
     pub files : List File
     pub slots : map (λ f. f.slot) files ≡ take n es
     pub surveyed : IsSurveyed (S.image a) dir files t
+    pub judged : JudgesFiles (S.image a) files kept
     pub passes : Passes S a b (18 + length dir + 2 * own_of files)
 
-  pub far-start : (a b : D) (dir : List Place) (es : List Slot) (t : Owners) → IsDirectory (S.image a) dir es → IsSystem t dir → Passes S a b (18 + length dir) → IsFar a b dir es 0 t
-  far-start a b dir es t d s passes = record { files = []; slots = refl; surveyed = survey-start (S.image a) dir es t d s; passes = passes_weaker S a b (18 + length dir) _ (omega arith) passes }
+  pub far-start : (a b : D) (dir : List Place) (es : List Slot) (t : Owners) → IsDirectory (S.image a) dir es → IsSystem t dir → Passes S a b (18 + length dir) → IsFar a b dir es 0 t None
+  far-start a b dir es t d s passes = record { files = []; slots = refl; surveyed = survey-start (S.image a) dir es t d s; judged = tt; passes = passes_weaker S a b (18 + length dir) _ (omega arith) passes }
 
   -- what is owned are 683 sectors at most
-  far-few : (a b : D) (dir : List Place) (es : List Slot) (n : ℕ) (t : Owners) → (h : IsFar a b dir es n t) → length dir + own_of h.files ≤ 682
-  far-few a b dir es n t h = omega (arith, places-few (taken dir h.files) h.surveyed.once, length-append dir (flat_map file_owns h.files))
+  far-few : (a b : D) (dir : List Place) (es : List Slot) (n : ℕ) (t : Owners) (kept : Option Fault) → (h : IsFar a b dir es n t kept) → length dir + own_of h.files ≤ 682
+  far-few a b dir es n t kept h = omega (arith, places-few (taken dir h.files) h.surveyed.once, length-append dir (flat_map file_owns h.files))
 
-  pub far-entry : (a b : D) (dir : List Place) (es : List Slot) (n : ℕ) (t : Owners) (s : Slot) → IsDirectory (S.image a) dir es → IsFar a b dir es n t → n < length es → s ≡ get_or es n s → IsEntry (S.image b) s
-  far-entry a b dir es n t s d h below read =
+  pub far-entry : (a b : D) (dir : List Place) (es : List Slot) (n : ℕ) (t : Owners) (kept : Option Fault) (s : Slot) → IsDirectory (S.image a) dir es → IsFar a b dir es n t kept → n < length es → s ≡ get_or es n s → IsEntry (S.image b) s
+  far-entry a b dir es n t kept s d h below read =
       let P : Image → Type 0 = λ i. IsEntry i s in
       subst P (sym h.passes.reads.image) (entry-listed (S.image a) dir es s d (n, below, sym read))
 
-  pub far-step : (a b c : D) (dir : List Place) (es : List Slot) (n : ℕ) (t u : Owners) (s : Slot) → IsFar a b dir es n t → n < length es → n < 254 → s ≡ get_or es n s → Finds S b c s n t u → IsFar a c dir es (n + 1) u
-  far-step a b c dir es n t u s h below small read (g, found, passes) =
-      let file = (let P : Image → Type 0 = λ i. IsFile i g in subst P h.passes.reads.image found.file) in
+  pub far-step : (a b c : D) (dir : List Place) (es : List Slot) (n : ℕ) (t u : Owners) (kept found : Option Fault) (s : Slot) → IsFar a b dir es n t kept → n < length es → n < 254 → s ≡ get_or es n s → Finds S b c s n t u found → IsFar a c dir es (n + 1) u (option_or kept found)
+  far-step a b c dir es n t u kept found s h below small read (g, is, judged, passes) =
+      let file = (let P : Image → Type 0 = λ i. IsFile i g in subst P h.passes.reads.image is.file) in
       let many : n ≡ length h.files = omega (arith, length-slots h.files, ap length h.slots, length-take n es) in
       record {
         files = h.files ++ g ∷ [];
-        slots = map-push h.files g ∙ ap (λ xs. xs ++ g.slot ∷ []) h.slots ∙ ap (λ x. take n es ++ x ∷ []) (found.slot ∙ read) ∙ sym (take_more es n s below);
-        surveyed = survey-step (S.image a) dir h.files t found.between u g n h.surveyed file many small found.blocks found.sides found.blocks_once found.sides_once;
+        slots = map-push h.files g ∙ ap (λ xs. xs ++ g.slot ∷ []) h.slots ∙ ap (λ x. take n es ++ x ∷ []) (is.slot ∙ read) ∙ sym (take_more es n s below);
+        surveyed = survey-step (S.image a) dir h.files t is.between u g n h.surveyed file many small is.blocks is.sides is.blocks_once is.sides_once;
+        judged = judged-more (S.image a) h.files g kept found h.judged (judged-at (S.image a) (S.image b) g found h.passes.reads.image judged);
         passes = passes_then S a b c (18 + length dir + 2 * own_of h.files) (2 * length (file_owns g)) _ (omega (arith, own-push h.files g)) h.passes passes;
       }
 
-  pub far-tells : (a b c : D) (dir : List Place) (es : List Slot) (n : ℕ) (t : Owners) (s : Slot) (f : Fault) → IsDirectory (S.image a) dir es → IsFar a b dir es n t → n < length es → s ≡ get_or es n s → TellsOrClashes S b c s t f → Tells S a c 2114 f
-  far-tells a b c dir es n t s f d h below read (inl tells) = tells_then S a b c _ 732 2114 f (omega (arith, far-few a b dir es n t h)) h.passes tells
-  far-tells a b c dir es n t s f d h below read (inr clash) =
-      let passes = passes_then S a b c _ 732 2114 (omega (arith, far-few a b dir es n t h)) h.passes clash.passes in
+  pub far-tells : (a b c : D) (dir : List Place) (es : List Slot) (n : ℕ) (t : Owners) (kept : Option Fault) (s : Slot) (f : Fault) → IsDirectory (S.image a) dir es → IsFar a b dir es n t kept → n < length es → s ≡ get_or es n s → TellsOrClashes S b c s t f → Tells S a c 2114 f
+  far-tells a b c dir es n t kept s f d h below read (inl tells) = tells_then S a b c _ 732 2114 f (omega (arith, far-few a b dir es n t kept h)) h.passes tells
+  far-tells a b c dir es n t kept s f d h below read (inr clash) =
+      let passes = passes_then S a b c _ 732 2114 (omega (arith, far-few a b dir es n t kept h)) h.passes clash.passes in
       let once = entries-once (S.image a) dir es d in
       let holds = clash-holds (Failed S a c) (S.image a) dir es h.files s clash.place d h.surveyed.files
       (λ x there. let in_front : Contains (take n es) x.slot = rw (← h.slots) (slot-in h.files x there) in (before in_front, λ e. not_before es n s below read once (rw (← e) in_front)))
@@ -207,9 +208,9 @@ module _ {D : Type 0} (S : History D) where
       before {x} c = let P : List Slot → Type 0 = λ xs. Contains xs x in subst P (take-append-drop n es) (Contains-append_left (take n es) (drop n es) x c)
 
   -- all entries found: the image is sound, and the survey tells its layout
-  pub far-end : (a b : D) (dir : List Place) (es : List Slot) (n : ℕ) (t : Owners) (s : Survey) → IsDirectory (S.image a) dir es → IsFar a b dir es n t → length es ≤ n → length es ≤ 144 → s.owners ≡ t → s.entries ≡ length es → (l : Layout) × IsLayout (S.image a) l × IsSurveyOf l s × OnlyReads S a b (18 + 2 * length (owners l))
+  pub far-end : (a b : D) (dir : List Place) (es : List Slot) (n : ℕ) (t : Owners) (kept : Option Fault) (s : Survey) → IsDirectory (S.image a) dir es → IsFar a b dir es n t kept → length es ≤ n → length es ≤ 144 → s.owners ≡ t → s.entries ≡ length es → Surveys S a b (record { survey = s; unclean = kept })
   unfolding owners
-  far-end a b dir es n t s d h all small table entries =
+  far-end a b dir es n t kept s d h all small table entries =
       let same : map (λ f. f.slot) h.files ≡ es = h.slots ∙ take_all n es all in (
         record { directory = dir; files = h.files },
         record { directory = rw same d; files = h.surveyed.files; once = h.surveyed.once },
@@ -220,11 +221,9 @@ module _ {D : Type 0} (S : History D) where
           few = omega (arith, entries);
           on_track = d.on_track;
         },
-        reads_weaker S a b _ _ (omega (arith, length-append dir (flat_map file_owns h.files))) h.passes.reads,
+        h.judged,
+        passes_weaker S a b _ _ (omega (arith, length-append dir (flat_map file_owns h.files))) h.passes,
       )
-
-  pub far-all : (a b : D) (dir : List Place) (es : List Slot) (n : ℕ) (t : Owners) → IsFar a b dir es n t → Passes S a b 2114
-  far-all a b dir es n t h = passes_weaker S a b _ 2114 (omega (arith, far-few a b dir es n t h)) h.passes
 
   -- where the device doesn't fail, a fault is told exactly where the image isn't sound
   pub told-sound : (T : Type 0) (a b : D) (n : ℕ) (f : Fault) → Tells S a b n f → NeverFailed S a b → IsOk (told T f) ↔ IsSound (S.image a)

@@ -1,6 +1,6 @@
 -- A sound disk beside a clean one: its entries, its map, and what is told.
 use Rattle.std.proofs.Common.{ℕ, ◌≡◌, ◌≢◌, ◌<◌, ◌≤◌, ◌⊎◌, ◌↔◌, Err, IsOk, IsTrue, List, [], ◌∷◌, length, get_or, map, Result, sym, refl, arith, subst, inl, inr}
-use Rattle.std.specs.Prelude.{Contains, Some, slice_get}
+use Rattle.std.specs.Prelude.{Contains, None, Option, Some, slice_get}
 use Rattle.std.specs.List.{AllByRecursion}
 use Rattle.std.proofs.lemmas.Bool.{cases_eq, false≢true}
 use Rattle.std.proofs.lemmas.Option.{slice_get_within}
@@ -26,10 +26,11 @@ use Rattle.layout_check.proofs.Pointers.{read-there}
 use Rattle.layout_check.proofs.Progress.{slot-in, told}
 use Rattle.layout_check.specs.Calls.{Passes}
 use Rattle.layout_check.specs.Entry.{IsEntry}
-use Rattle.layout_check.specs.Exact.{AreExactFiles, HasMap, IsExactAt, IsFiled, TellsOfClean}
+use Rattle.layout_check.specs.Exact.{HasMap, IsFiled, JudgesFiles, TellsOfClean}
 use Rattle.layout_check.specs.Marked.{IsMarked, IsRightMap, IsWrongMap, ones_on}
 use Rattle.layout_check.specs.Owners.{owner_of}
-use Rattle.layout_check.specs.Survey.{IsSurveyOf, IsToldBy}
+use Rattle.layout_check.specs.Survey.{IsSurveyOf, IsToldBy, Surveys}
+use Rattle.layout_check.specs.declared.outcome.Findings.{Findings}
 use Rattle.layout_check.specs.declared.outcome.Survey.{Survey}
 
 -- what holds of each that is in the list
@@ -48,29 +49,6 @@ pub filed-at : (img now : Image) (ps : List Place) (items : List Slot) (k : ℕ)
 filed-at img now ps items k s same sound d below read =
     let P : Image → Type 0 = λ i. IsFiled i s in
     subst P (sym same) (filed img ps items s sound d (k, below, sym read))
-
-pub entry-at : (img now : Image) (ps : List Place) (items : List Slot) (k : ℕ) (s : Slot) → now ≡ img → IsDirectory img ps items → k < length items → s ≡ get_or items k s → IsEntry now s
-entry-at img now ps items k s same d below read =
-    let P : Image → Type 0 = λ i. IsEntry i s in
-    subst P (sym same) (entry-listed img ps items s d (k, below, sym read))
-
-pub exact-at : (img now : Image) (s : Slot) → now ≡ img → IsExactAt now s → IsExactAt img s
-exact-at img now s same h = let P : Image → Type 0 = λ i. IsExactAt i s in subst P same h
-
--- the entry that was read is the one there
-pub same-entry : (img : Image) (items : List Slot) (k : ℕ) (s : Slot) → k < length items → s ≡ get_or items k s → (IsTrue (is_rel s) → IsExactAt img s) → (t : Slot) → slice_get items k ≡ Some t → IsTrue (is_rel t) → IsExactAt img t
-same-entry img items k s below read h t there =
-    let one : s ≡ t = cc (read-there items k s below read) in
-    let P : Slot → Type 0 = λ x. IsTrue (is_rel x) → IsExactAt img x in
-    subst P one h
-
--- each entry's file is exact
-pub exact-all : (img : Image) (ps : List Place) (items : List Slot) (n : ℕ) → IsDirectory img ps items → length items ≤ n → ((k : ℕ) → k < n → (s : Slot) → slice_get items k ≡ Some s → IsTrue (is_rel s) → IsExactAt img s) → AreExactFiles img
-exact-all img ps items n d all exact l is = all-of (λ f. IsTrue (is_rel f.slot) → IsExactFile img f) l.files (λ f own rel.
-    let same = (IsDirectory-one img ps l.directory items (map (λ f. f.slot) l.files) d is.directory).1 in
-    let c = (let P : List Slot → Type 0 = λ xs. Contains xs f.slot in subst P (sym same) (slot-in l.files f own)) in
-    let (k, there) = contains-get items f.slot c in
-    exact k (omega (arith, slice_get_within items k f.slot there)) f.slot there rel l f is own refl)
 
 -- the bit of a sector, by its owner and by the list of what is owned
 pub marked-of : (bytes : List ℕ) (l : Layout) (s : Survey) (p : Place) → IsSurveyOf l s → IsMarked bytes s.owners p → IsFree bytes p ↔ ¬ (Contains (map_place ∷ owners l) p)
@@ -107,17 +85,17 @@ map-wrong failed img s bytes f (l, is, of) read (p, e, wrong) =
     step (inr (at, count)) = (l, is, inr (at, count))
 
 -- the layout of a clean image
-pub clean-layout : (img : Image) (s : Survey) → IsToldBy img s → AreExactFiles img → HasMap img → (l : Layout) × IsCleanLayout img l × IsSurveyOf l s
-clean-layout img s (l, is, of) exact has = (l, record { layout = is; files = exact l is; map = has l is }, of)
+pub clean-layout : {D : Type 0} (S : History D) (a b : D) (found : Findings) → found.unclean ≡ None → Surveys S a b found → HasMap (S.image a) → (l : Layout) × IsCleanLayout (S.image a) l × IsSurveyOf l found.survey
+clean-layout S a b found none (l, is, of, judged, passes) has =
+    let P : Option Fault → Type 0 = JudgesFiles (S.image a) l.files in
+    (l, record { layout = is; files = subst P none judged; map = has l is }, of)
 
 pub told-at : (img now : Image) (s : Survey) → now ≡ img → IsToldBy img s → IsToldBy now s
 told-at img now s same h = let P : Image → Type 0 = λ i. IsToldBy i s in subst P (sym same) h
 
-pub sound-at : (img now : Image) → now ≡ img → IsSound img → IsSound now
-sound-at img now same h = let P : Image → Type 0 = IsSound in subst P (sym same) h
-
-pub exact-files_at : (img now : Image) → now ≡ img → AreExactFiles now → AreExactFiles img
-exact-files_at img now same h = let P : Image → Type 0 = AreExactFiles in subst P same h
+-- what a survey finds is told of the image after the reads too
+pub survey-told : {D : Type 0} (S : History D) (a b : D) (found : Findings) → Surveys S a b found → IsToldBy (S.image b) found.survey
+survey-told S a b found (l, is, of, judged, passes) = told-at (S.image a) (S.image b) found.survey passes.reads.image (l, is, of)
 
 pub map-at : (img now : Image) → now ≡ img → HasMap now → HasMap img
 map-at img now same h = let P : Image → Type 0 = HasMap in subst P same h
@@ -132,10 +110,3 @@ module _ {D : Type 0} (S : History D) where
     failures = (let P : Fault → Type 0 = λ x. TellsFault {T = ℕ} S a b (Err x) in subst P (sym wrong.1) passes.failures);
     holds = map-wrong (Failed S a b) (S.image a) s bytes f is read wrong;
   }
-
--- what isn't sound isn't clean
-pub told-unsound_clean : (img : Image) (r : Result Survey Fault) (f : Fault) → r ≡ Err f → IsOk r ↔ IsSound img → IsOk (told Survey f) ↔ IsClean img
-told-unsound_clean img r f is sound = (
-  λ h. absurd (false≢true h),
-  λ c. let P : Result Survey Fault → Type 0 = λ x. IsOk x in subst P is (sound.1 (c.0, c.1.layout)),
-)

@@ -1,5 +1,5 @@
 -- An entry that was surveyed. Our own.
-use Rattle.std.specs.Prelude.{ℕ, ◌≡◌, ◌≢◌, ◌⊎◌, ◌*◌, length}
+use Rattle.std.specs.Prelude.{ℕ, ◌≡◌, ◌≢◌, ◌⊎◌, ◌*◌, Option, length}
 use Rattle.d64_image.specs.History.{History}
 use Rattle.d64_image.specs.Images.{Image}
 use Rattle.d64_image.specs.declared.place.Place.{Place}
@@ -10,6 +10,7 @@ use Rattle.disk_layout.specs.declared.faults.Fault.{Fault}
 use Rattle.disk_layout.specs.declared.faults.Fault.TheVariants.{OwnedTwice}
 use Rattle.disk_layout.specs.declared.slot.Slot.{Slot}
 use Rattle.layout_check.specs.Calls.{Passes, Tells}
+use Rattle.layout_check.specs.Exact.{JudgesFile}
 use Rattle.layout_check.specs.Owners.{IsClaimed, owner_of}
 use Rattle.layout_check.specs.declared.owners.Owners.{Owners}
 
@@ -36,6 +37,6 @@ pub record IsClash {D : Type 0} (S : History D) (old new : D) (s : Slot) (t : Ow
 abbrev pub TellsOrClashes : {D : Type 0} → History D → D → D → Slot → Owners → Fault → Type 0
 TellsOrClashes S old new s t fault = Tells S old new 732 fault ⊎ IsClash S old new s t fault
 
--- the file of the entry was found, each of its sectors read at most twice
-abbrev pub Finds : {D : Type 0} → History D → D → D → Slot → ℕ → Owners → Owners → Type 0
-Finds S old new s n t u = (g : File) × IsFound (S.image old) s n t u g × Passes S old new (2 * length (file_owns g))
+-- the file of the entry was found, each of its sectors read at most twice, and judged whether it is exact
+abbrev pub Finds : {D : Type 0} → History D → D → D → Slot → ℕ → Owners → Owners → Option Fault → Type 0
+Finds S old new s n t u unclean = (g : File) × IsFound (S.image old) s n t u g × JudgesFile (S.image old) g unclean × Passes S old new (2 * length (file_owns g))

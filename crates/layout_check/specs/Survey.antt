@@ -1,12 +1,16 @@
 -- What a survey tells of a layout. Our own.
-use Rattle.std.specs.Prelude.{ℕ, ◌≡◌, ◌≢◌, ◌≤◌, ◌↔◌, List, ◌∷◌, ◌++◌, Contains, Some, flat_map, length, slice_get}
+use Rattle.std.specs.Prelude.{ℕ, ◌≡◌, ◌≢◌, ◌≤◌, ◌↔◌, ◌+◌, ◌*◌, List, ◌∷◌, ◌++◌, Contains, Some, flat_map, length, slice_get}
 use Rattle.std.specs.List.{AllByRecursion}
+use Rattle.d64_image.specs.History.{History}
 use Rattle.d64_image.specs.Images.{Image}
 use Rattle.d64_image.specs.declared.place.Place.{Place}
 use Rattle.disk_layout.specs.Chain.{EachOnce}
 use Rattle.disk_layout.specs.Directory.{map_place}
 use Rattle.disk_layout.specs.Layout.{File, IsFile, IsLayout, Layout, file_owns, owners}
+use Rattle.layout_check.specs.Calls.{Passes}
+use Rattle.layout_check.specs.Exact.{JudgesFiles}
 use Rattle.layout_check.specs.Owners.{owner_of}
+use Rattle.layout_check.specs.declared.outcome.Findings.{Findings}
 use Rattle.layout_check.specs.declared.outcome.Survey.{Survey}
 use Rattle.layout_check.specs.declared.owners.Owners.{Owners}
 
@@ -42,3 +46,7 @@ entries_of s = s.entries
 -- the image is sound, and the survey tells its layout
 abbrev pub IsToldBy : Image → Survey → Type 0
 IsToldBy img s = (l : Layout) × IsLayout img l × IsSurveyOf l s
+
+-- a call that finds a layout of the image, each owned sector read at most twice, and judges whether its relative files are exact
+abbrev pub Surveys : {D : Type 0} → History D → D → D → Findings → Type 0
+Surveys S old new found = (l : Layout) × IsLayout (S.image old) l × IsSurveyOf l found.survey × JudgesFiles (S.image old) l.files found.unclean × Passes S old new (18 + 2 * length (owners l))

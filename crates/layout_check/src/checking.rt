@@ -3,38 +3,16 @@ ghost use Rattle.std.specs.Prelude.{◌↔◌, ◌∷◌, IfErr, IfOk, IsOk, OnO
 ghost use Rattle.d64_image.specs.History.{Failed, NeverFailed, OnlyReads};
 ghost use Rattle.disk_layout.specs.Clean.{IsClean, IsCleanLayout};
 ghost use Rattle.disk_layout.specs.Fault.{HoldsOfClean, TellsFault};
-ghost use Rattle.disk_layout.specs.Layout.{IsSound, Layout};
+ghost use Rattle.disk_layout.specs.Layout.{Layout};
 ghost use Rattle.layout_check.specs.Calls.{Passes};
-ghost use Rattle.layout_check.specs.Exact.{AreExactFiles, HasMap, TellsOfClean};
+ghost use Rattle.layout_check.specs.Exact.{HasMap, TellsOfClean};
 ghost use Rattle.layout_check.specs.Survey.{IsSurveyOf, IsToldBy};
 
-use crate::entry::is_relative;
-use crate::exact::check_relative;
 use crate::maps::check_bits;
 use crate::outcome::Survey;
-use crate::surveying::survey;
-use arrayvec::ArrayVec;
+use crate::surveying::survey_files;
 use d64_image::Sectors;
-use disk_layout::{Fault, map_place, read_directory};
-
-/// Judges the relative entries of a sound disk: their side sectors' bytes, and their block counts.
-fn check_entries<D: Sectors>(disk: &mut D) -> Result<(), Fault>
-    requires { IsSound (D.history.image disk.old) }
-    ensures exact { OnOk result (AreExactFiles (D.history.image disk.old)) }
-    ensures ok { OnOk result (Passes D.history disk.old disk.new 106290) }
-    ensures err { IfErr result (TellsOfClean D.history disk.old disk.new 106290) }
-{
-    let mut slots = ArrayVec::new();
-    let mut blocks = ArrayVec::new();
-    let mut sides = ArrayVec::new();
-    read_directory(disk, &mut slots)?;
-    for slot in slots.as_slice() {
-        if is_relative(slot) {
-            check_relative(disk, slot, &mut blocks, &mut sides)?;
-        }
-    }
-    Ok(())
-}
+use disk_layout::{Fault, map_place};
 
 /// Judges the map of a sound disk that was surveyed.
 fn check_map<D: Sectors>(disk: &mut D, found: &Survey) -> Result<(), Fault>
@@ -61,11 +39,13 @@ pub fn check<D: Sectors>(disk: &mut D) -> Result<Survey, Fault>
     // neither a fault nor a layout is told always
     ensures clean { NeverFailed D.history disk.old disk.new → (IsOk result ↔ IsClean (D.history.image disk.old)) }
     ensures failures { TellsFault D.history disk.old disk.new result }
-    // the survey, then the directory and 738 sectors for each of its entries, and the map
-    ensures reads { OnlyReads D.history disk.old disk.new 108405 }
+    // the survey, and the map
+    ensures reads { OnlyReads D.history disk.old disk.new 2115 }
 {
-    let found = survey(disk)?;
-    check_entries(disk)?;
-    check_map(disk, &found)?;
-    Ok(found)
+    let found = survey_files(disk)?;
+    if let Some(fault) = found.unclean {
+        return Err(fault);
+    }
+    check_map(disk, &found.survey)?;
+    Ok(found.survey)
 }

@@ -1,8 +1,9 @@
 //! The file of one entry: what it owns is found, and claimed for it.
-ghost use Rattle.std.specs.Prelude.{◌≢◌, ◌<◌, IfErr, IsFalse, IsTrue, OnOk, slice_index};
+ghost use Rattle.std.specs.Prelude.{◌≢◌, ◌<◌, IfErr, IfOk, IsFalse, IsTrue, None, OnOk, slice_index};
 ghost use Rattle.disk_layout.specs.Fault.{IsClosed};
 ghost use Rattle.disk_layout.specs.Layout.{is_rel};
 ghost use Rattle.layout_check.specs.Entry.{IsEntry, IsProper};
+ghost use Rattle.layout_check.specs.Exact.{TellsUnclean};
 ghost use Rattle.layout_check.specs.Found.{Finds, TellsOrClashes};
 
 use crate::blocks::survey_blocks;
@@ -11,7 +12,7 @@ use crate::owners::Owners;
 use crate::sides::find_parts;
 use arrayvec::ArrayVec;
 use d64_image::{Place, Sectors};
-use disk_layout::{Fault, Slot};
+use disk_layout::{EntryView, Fault, Slot};
 
 /// The file of an entry that isn't relative and names a first block: its chain.
 fn survey_plain<D: Sectors>(
@@ -26,36 +27,54 @@ fn survey_plain<D: Sectors>(
     requires plain { IsFalse (is_rel slot.now) }
     requires names { slice_index slot.now.bytes 3 ≢ 0 }
     requires some { number < 255 }
-    ensures ok { OnOk result (Finds D.history disk.old disk.new slot.now number owners.old owners.new) }
+    ensures ok { OnOk result (Finds D.history disk.old disk.new slot.now number owners.old owners.new None) }
     ensures err { IfErr result (TellsOrClashes D.history disk.old disk.new slot.now owners.old) }
 {
     survey_blocks(disk, slot, blocks)?;
     owners.claim(number, blocks.as_slice())
 }
 
-/// The file of a relative entry: its chain, and its side sectors.
+/// What a clean disk must not have of a relative entry that owns so many sectors: a side sector whose bytes aren't exact,
+/// or another block count; None where both are right.
+fn unclean_of(slot: &Slot, inexact: Option<Place>, owned: usize) -> Option<Fault>
+    ensures { TellsUnclean slot.now inexact owned result }
+{
+    if let Some(side) = inexact {
+        return Some(Fault::BadSide(side));
+    }
+    if EntryView::new(&slot.bytes).block_count() as usize != owned {
+        return Some(Fault::CountWrong(slot.sector));
+    }
+    None
+}
+
+/// The file of a relative entry: its chain, and its side sectors. The answer is what a clean disk must not have.
 fn survey_relative<D: Sectors>(
     disk: &mut D,
     slot: &Slot,
     number: u8,
     owners: &mut Owners,
     blocks: &mut ArrayVec<Place, 720>,
-) -> Result<(), Fault>
+) -> Result<Option<Fault>, Fault>
     requires closed { IsClosed (D.history.image disk.old) slot.now.sector slot.now }
     requires proper { IsProper slot.now }
     requires rel { IsTrue (is_rel slot.now) }
     requires some { number < 255 }
-    ensures ok { OnOk result (Finds D.history disk.old disk.new slot.now number owners.old owners.new) }
+    ensures ok { IfOk result (Finds D.history disk.old disk.new slot.now number owners.old owners.new) }
     ensures err { IfErr result (TellsOrClashes D.history disk.old disk.new slot.now owners.old) }
 {
     let mut sides = ArrayVec::new();
-    find_parts(disk, slot, blocks, &mut sides)?;
+    let inexact = find_parts(disk, slot, blocks, &mut sides)?;
     owners.claim(number, blocks.as_slice())?;
-    owners.claim(number, sides.as_slice())
+    owners.claim(number, sides.as_slice())?;
+    Ok(unclean_of(slot, inexact, blocks.len() + sides.len()))
 }
 
 /// Finds the file of a used slot, and claims what it owns for the owner with this number. `blocks` is emptied and filled
 /// with its data blocks. An entry that isn't relative and names no first block (track 0) owns nothing.
+///
+/// The answer is what a clean disk must not have beyond what a sound one must not: a side sector whose bytes aren't exact
+/// or a wrong block count. It holds only where the whole disk is sound, so the caller keeps it back until then.
 ///
 /// Told is what is wrong with the slot, its chain or its side sectors; or `OwnedTwice` at a sector that is claimed
 /// already.
@@ -65,10 +84,10 @@ pub fn survey_entry<D: Sectors>(
     number: u8,
     owners: &mut Owners,
     blocks: &mut ArrayVec<Place, 720>,
-) -> Result<(), Fault>
+) -> Result<Option<Fault>, Fault>
     requires entry { IsEntry (D.history.image disk.old) slot.now }
     requires some { number < 255 }
-    ensures ok { OnOk result (Finds D.history disk.old disk.new slot.now number owners.old owners.new) }
+    ensures ok { IfOk result (Finds D.history disk.old disk.new slot.now number owners.old owners.new) }
     ensures err { IfErr result (TellsOrClashes D.history disk.old disk.new slot.now owners.old) }
 {
     judge_entry(slot)?;
@@ -76,7 +95,8 @@ pub fn survey_entry<D: Sectors>(
         return survey_relative(disk, slot, number, owners, blocks);
     }
     if slot.bytes[3] == 0 {
-        return Ok(());
+        return Ok(None);
     }
-    survey_plain(disk, slot, number, owners, blocks)
+    survey_plain(disk, slot, number, owners, blocks)?;
+    Ok(None)
 }

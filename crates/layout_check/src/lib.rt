@@ -4,7 +4,6 @@
 mod blocks;
 mod checking;
 mod entry;
-mod exact;
 mod files;
 mod maps;
 mod mending;

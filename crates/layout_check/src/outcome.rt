@@ -4,12 +4,23 @@ ghost use Rattle.layout_check.specs.Open.{IsOpen, IsShut};
 
 use crate::owners::{NOBODY, Owners};
 use d64_image::Place;
+use disk_layout::Fault;
 
 /// What a sound disk has: the owner of each sector, and the number of entries. It is of the disk as it was surveyed.
 #[derive(Drop)]
 pub struct Survey {
     owners: Owners,
     entries: usize,
+}
+
+/// A survey, and what it kept back because only a clean disk must not have it.
+#[derive(Drop)]
+pub struct Findings {
+    /// The owners and the entries.
+    pub survey: Survey,
+    /// A side sector whose bytes aren't exact, or a wrong block count: the first in the order of the directory. It holds
+    /// where the whole disk was seen to be sound. None where all are right.
+    pub unclean: Option<Fault>,
 }
 
 /// Whether no other entry than this one owns the sector with this index and this owner's number, outside track 18, whose

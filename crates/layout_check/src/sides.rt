@@ -1,16 +1,17 @@
 //! The side sectors of a relative entry, judged as far as a sound disk asks.
-ghost use Rattle.std.specs.Prelude.{◌≡◌, ◌+◌, ◌*◌, ◌<◌, ◌≤◌, IfErr, IsFalse, IsTrue, MatchOption, OnOk, length};
+ghost use Rattle.std.specs.Prelude.{◌≡◌, ◌+◌, ◌*◌, ◌<◌, ◌≤◌, IfErr, IfOk, IsFalse, IsTrue, MatchOption, OnOk, length};
 ghost use Rattle.disk_layout.specs.Chain.{Names, NamesNone};
 ghost use Rattle.disk_layout.specs.Fault.{IsClosed};
 ghost use Rattle.disk_layout.specs.Layout.{is_rel, sides_for};
 ghost use Rattle.layout_check.specs.Calls.{Passes, Tells};
+ghost use Rattle.layout_check.specs.Exact.{JudgesSides};
 ghost use Rattle.layout_check.specs.Sides.{HasParts, IsJudged, IsMisjudged, IsMisnamed, IsRelEntry, IsWalkOfSides, ListsEach, NamesEach};
 
 use crate::blocks::survey_blocks;
 use crate::entry::place_in;
 use arrayvec::ArrayVec;
 use d64_image::{Place, Sectors};
-use disk_layout::{Fault, Slot};
+use disk_layout::{Fault, Slot, side_bytes};
 
 /// How many data blocks a side sector points to.
 const POINTERS: usize = 120;
@@ -98,43 +99,54 @@ fn walk_sides<D: Sectors>(
 
 /// Finds the side sectors of a closed relative entry with these blocks, as `walk_sides` does, and judges beside that each
 /// of them lists the places of all. Each is read twice at most.
+///
+/// The answer is the first of them whose bytes aren't exactly those that they are to be, which a sound disk may have and
+/// a clean one not; None where all are exact.
 fn survey_sides<D: Sectors>(
     disk: &mut D,
     slot: &Slot,
     blocks: &[Place],
     sides: &mut ArrayVec<Place, 6>,
-) -> Result<(), Fault>
+) -> Result<Option<Place>, Fault>
     requires entry { IsRelEntry (D.history.image disk.old) slot.now blocks.now }
     requires few { length blocks.now ≤ 720 }
     ensures sides { OnOk result (IsWalkOfSides (D.history.image disk.old) slot.now blocks.now sides.new.items) }
     ensures lists { OnOk result (ListsEach (D.history.image disk.old) sides.new.items) }
+    ensures exact { IfOk result (JudgesSides (D.history.image disk.old) slot.now blocks.now sides.new.items) }
     ensures ok { OnOk result (Passes D.history disk.old disk.new (2 * length sides.new.items)) }
     ensures err { IfErr result (Tells D.history disk.old disk.new 12) }
 {
     walk_sides(disk, slot, blocks, sides)?;
+    let mut inexact = None;
     let mut sector = [0u8; 256];
-    for &side in sides.as_slice() {
+    for (number, &side) in sides.as_slice().iter().enumerate() {
         match disk.read(side, &mut sector) {
             Ok(()) => {}
             Err(_) => return Err(Fault::Device(side)),
         }
-        if !names_each(&sector, 4, sides.as_slice()) {
-            return Err(Fault::BadSide(side));
+        let wanted = side_bytes(number as u8, blocks, sides.as_slice(), slot.bytes[23]);
+        if sector != wanted {
+            if !names_each(&sector, 4, sides.as_slice()) {
+                return Err(Fault::BadSide(side));
+            }
+            inexact = inexact.or(Some(side));
         }
     }
-    Ok(())
+    Ok(inexact)
 }
 
-/// Finds the data blocks and the side sectors of a closed relative entry, and fills the two lists with them in order.
+/// Finds the data blocks and the side sectors of a closed relative entry, and fills the two lists with them in order. The
+/// answer is the first side sector whose bytes aren't exact; None where all are.
 pub fn find_parts<D: Sectors>(
     disk: &mut D,
     slot: &Slot,
     blocks: &mut ArrayVec<Place, 720>,
     sides: &mut ArrayVec<Place, 6>,
-) -> Result<(), Fault>
+) -> Result<Option<Place>, Fault>
     requires closed { IsClosed (D.history.image disk.old) slot.now.sector slot.now }
     requires rel { IsTrue (is_rel slot.now) }
     ensures parts { OnOk result (HasParts (D.history.image disk.old) slot.now blocks.new.items sides.new.items) }
+    ensures exact { IfOk result (JudgesSides (D.history.image disk.old) slot.now blocks.new.items sides.new.items) }
     ensures ok { OnOk result (Passes D.history disk.old disk.new (length blocks.new.items + 2 * length sides.new.items)) }
     ensures few { OnOk result (length blocks.new.items + 2 * length sides.new.items ≤ 732) }
     ensures err { IfErr result (Tells D.history disk.old disk.new 732) }

@@ -5,10 +5,10 @@ ghost use Rattle.disk_layout.specs.Directory.{IsDirectory};
 ghost use Rattle.disk_layout.specs.Fault.{Holds, TellsFault};
 ghost use Rattle.disk_layout.specs.Layout.{IsLayout, IsSound, Layout, owners};
 ghost use Rattle.layout_check.specs.Calls.{Passes, Tells};
-ghost use Rattle.layout_check.specs.Survey.{IsSurveyOf};
+ghost use Rattle.layout_check.specs.Survey.{IsSurveyOf, Surveys};
 
 use crate::files::survey_entry;
-use crate::outcome::Survey;
+use crate::outcome::{Findings, Survey};
 use crate::owners::Owners;
 use arrayvec::ArrayVec;
 use d64_image::{Place, Sectors};
@@ -31,6 +31,26 @@ fn survey_directory<D: Sectors>(
     Ok(())
 }
 
+/// Surveys the disk as `survey` does, and judges beside that the bytes of the side sectors and the block counts.
+pub fn survey_files<D: Sectors>(disk: &mut D) -> Result<Findings, Fault>
+    ensures ok { IfOk result (Surveys D.history disk.old disk.new) }
+    ensures err { IfErr result (Tells D.history disk.old disk.new 2114) }
+{
+    let mut slots = ArrayVec::new();
+    let mut places = ArrayVec::new();
+    survey_directory(disk, &mut slots, &mut places)?;
+    let mut owners = Owners::of_directory(places.as_slice());
+    let mut unclean = None;
+    for (number, slot) in slots.as_slice().iter().enumerate() {
+        let found = survey_entry(disk, slot, number as u8, &mut owners, &mut places)?;
+        unclean = unclean.or(found);
+    }
+    Ok(Findings {
+        survey: Survey::new(owners, slots.len()),
+        unclean,
+    })
+}
+
 /// Surveys the disk: where each link, each type, each record length and each side sector of the entries agrees and no
 /// sector has two owners, the answer tells the owners and the entries; else a fault that holds at its place, where of
 /// several it is open which. An image that has no such fault is sound. Counts of blocks, the map, and those bytes of side
@@ -46,12 +66,6 @@ pub fn survey<D: Sectors>(disk: &mut D) -> Result<Survey, Fault>
     // the directory, all that may be owned twice, and the sectors of one entry once more
     ensures reads { OnlyReads D.history disk.old disk.new 2114 }
 {
-    let mut slots = ArrayVec::new();
-    let mut places = ArrayVec::new();
-    survey_directory(disk, &mut slots, &mut places)?;
-    let mut owners = Owners::of_directory(places.as_slice());
-    for (number, slot) in slots.as_slice().iter().enumerate() {
-        survey_entry(disk, slot, number as u8, &mut owners, &mut places)?;
-    }
-    Ok(Survey::new(owners, slots.len()))
+    let found = survey_files(disk)?;
+    Ok(found.survey)
 }

@@ -2,7 +2,8 @@
 use Rattle.std.proofs.Common.{ap, arith, length}
 use Rattle.std.proofs.lemmas.Result.{err_from_is_err_and}
 use Rattle.layout_check.proofs.Calls.{passes_then, tells_then, tells_weaker}
-use Rattle.layout_check.proofs.Finding.{if_err, on_ok, on_ok_both, parts-found, rel-entry, rel-few}
+use Rattle.layout_check.proofs.Finding.{if_err, if_ok, on_ok, on_ok_both, parts-found, rel-entry, rel-few}
+use Rattle.layout_check.proofs.Judged.{judged-same}
 use Rattle.layout_check.proofs.sides.find_parts.Goals as goal
 
 pub returns-in_err-survey_blocks-clause-err : goal.returns-in_err-survey_blocks-clause-err
@@ -20,6 +21,11 @@ pub returns-clause-parts : goal.returns-clause-parts
 returns-clause-parts g c = on_ok_both c.survey_sides.result _ _ _
     (λ walk lists. parts-found g.D.Sectors.history c.args.disk.now c.survey_blocks.new.disk c.args.slot.now c.survey_blocks.new.blocks.items c.as_slice.result.now c.survey_sides.new.sides.items _ _ c.in_ok-survey_blocks.ensures.blocks c.in_ok-survey_blocks.ensures.ok c.as_slice.ensures.value walk lists)
     c.survey_sides.ensures.sides c.survey_sides.ensures.lists
+
+pub returns-clause-exact : goal.returns-clause-exact
+returns-clause-exact g c = if_ok c.survey_sides.result _ _
+    (λ inexact judged. judged-same _ _ c.args.slot.now c.survey_blocks.new.blocks.items c.as_slice.result.now c.survey_sides.new.sides.items inexact c.in_ok-survey_blocks.ensures.ok.reads.image c.as_slice.ensures.value judged)
+    c.survey_sides.ensures.exact
 
 pub returns-clause-ok : goal.returns-clause-ok
 returns-clause-ok g c = on_ok c.survey_sides.result _ _
