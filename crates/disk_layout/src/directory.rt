@@ -9,6 +9,7 @@ ghost use Rattle.disk_layout.specs.Fault.{HoldsOfDirectory, TellsFault};
 ghost use Rattle.disk_layout.specs.Listing.{LinksOut};
 ghost use Rattle.d64_image.specs.declared.place.Place.{Place};
 
+use crate::access::read_sector;
 use crate::faults::Fault;
 use crate::slot::Slot;
 use arrayvec::ArrayVec;
@@ -97,10 +98,7 @@ pub fn read_directory<D: Sectors>(
     let mut at = directory_start();
     let mut sector = [0u8; 256];
     'sectors: loop {
-        match disk.read(at, &mut sector) {
-            Ok(()) => {}
-            Err(_) => return Err(Fault::Device(at)),
-        }
+        read_sector(disk, at, &mut sector)?;
         add_used(&sector, at, slots);
         visited.push(at);
         if sector[0] == 0 {
