@@ -2,6 +2,8 @@
 #![tactic(auto)]
 
 mod access;
+#[cfg(test)]
+mod access_tests;
 mod bam;
 mod blank;
 mod blank_map;
