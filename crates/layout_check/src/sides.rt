@@ -22,13 +22,12 @@ fn names_each(sector: &[u8; 256], at: usize, places: &[Place]) -> bool
     ensures right { IsTrue result → NamesEach sector.now at places.now }
     ensures wrong { IsFalse result → IsMisnamed sector.now at places.now }
 {
+    let mut same = true;
     for (number, place) in places.iter().enumerate() {
         let byte = at + 2 * number;
-        if sector[byte] != place.track() || sector[byte + 1] != place.sector() {
-            return false;
-        }
+        same &= (sector[byte] == place.track()) & (sector[byte + 1] == place.sector());
     }
-    true
+    same
 }
 
 /// Whether the bytes of a sector are those of side sector `number`, from 0, of an entry with these blocks: its number,
