@@ -22,6 +22,7 @@ fn names_each(sector: &[u8; 256], at: usize, places: &[Place]) -> bool
     ensures right { IsTrue result → NamesEach sector.now at places.now }
     ensures wrong { IsFalse result → IsMisnamed sector.now at places.now }
 {
+    // with no way out at the first difference, so that several places are compared at once
     let mut same = true;
     for (number, place) in places.iter().enumerate() {
         let byte = at + 2 * number;
@@ -124,6 +125,7 @@ fn survey_sides<D: Sectors>(
             Err(_) => return Err(Fault::Device(side)),
         }
         let wanted = side_bytes(number as u8, blocks, sides.as_slice(), slot.bytes[23]);
+        // the exact bytes list all side sectors
         if sector != wanted {
             if !names_each(&sector, 4, sides.as_slice()) {
                 return Err(Fault::BadSide(side));
