@@ -1,6 +1,8 @@
 -- Lists of places in the bytes of side sectors.
-use Rattle.std.proofs.Common.{ℕ, zero, suc, ◌≡◌, ◌<◌, ◌≤◌, ◌+◌, ◌-◌, ◌*◌, List, [], ◌∷◌, length, get_or, take, drop, min, sym, ◌∙◌, ap, refl, arith, inl, inr, ◌⊎◌}
-use Rattle.std.specs.Prelude.{Some, slice_get, slice_range}
+use Rattle.std.proofs.Common.{ℕ, zero, suc, ◌≡◌, ◌≢◌, Bool, true, false, ◌<◌, ◌≤◌, ◌+◌, ◌-◌, ◌*◌, List, [], ◌∷◌, length, get_or, take, drop, min, sym, ◌∙◌, ap, refl, arith, inl, inr, ◌⊎◌}
+use Rattle.std.specs.Prelude.{Some, nat_eq, slice_get, slice_range, ◌&&◌}
+use Rattle.std.proofs.lemmas.Bool.{and_cases, false≢true}
+use Rattle.std.proofs.lemmas.Bool.Decides.{Decides-eqb}
 use Rattle.std.proofs.lemmas.Option.{slice_get_read, slice_get_within}
 use Rattle.std.proofs.Math.Decide.{dec_lt}
 use Rattle.d64_image.specs.declared.place.Place.{Place}
@@ -18,6 +20,26 @@ named-here bytes at n ps p lt e h q there =
 
 pub misnamed-here : (bytes : List ℕ) (at n : ℕ) (ps : List Place) (p : Place) → n < length ps → p ≡ get_or ps n p → ¬ (Names bytes (at + 2 * n) p) → IsMisnamed bytes at ps
 misnamed-here bytes at n ps p lt e h = record { k = n; q = p; there = read-there ps n p lt e; other = h }
+
+and-parts : (a b : Bool) → (a && b) ≡ true → (a ≡ true) × (b ≡ true)
+and-parts true b h = (refl, h)
+and-parts false b h = absurd (false≢true h)
+
+-- the test of two bytes, after the tests of those before
+pub same-passed : (same : Bool) (x y t s : ℕ) → (same && (nat_eq x t && nat_eq y s)) ≡ true → (same ≡ true) × (x ≡ t) × (y ≡ s)
+same-passed same x y t s h =
+    let p = and-parts same (nat_eq x t && nat_eq y s) h in
+    let q = and-parts (nat_eq x t) (nat_eq y s) p.1 in
+    (p.0, (Decides-eqb x t).0 q.0, (Decides-eqb y s).0 q.1)
+
+pub same-failed : (same : Bool) (x y t s : ℕ) → (same && (nat_eq x t && nat_eq y s)) ≡ false → (same ≡ false) ⊎ ((x ≢ t) ⊎ (y ≢ s))
+same-failed same x y t s h = elim (and_cases same (nat_eq x t && nat_eq y s) h) [
+  | inl e ↦ inl e
+  | inr f ↦ inr (elim (and_cases (nat_eq x t) (nat_eq y s) f) [
+    | inl e ↦ inl (λ z. false≢true (sym e ∙ (Decides-eqb x t).1 z))
+    | inr e ↦ inr (λ z. false≢true (sym e ∙ (Decides-eqb y s).1 z))
+  ])
+]
 
 -- part of a list
 get-drop : {X : Type 0} (xs : List X) (a k : ℕ) → slice_get (drop a xs) k ≡ slice_get xs (a + k)

@@ -1,9 +1,8 @@
 -- A sound disk beside a clean one: its entries, its map, and what is told.
-use Rattle.std.proofs.Common.{ℕ, ◌≡◌, ◌≢◌, ◌<◌, ◌≤◌, ◌⊎◌, ◌↔◌, Err, IsOk, IsTrue, List, [], ◌∷◌, length, get_or, map, Result, sym, refl, arith, subst, inl, inr}
-use Rattle.std.specs.Prelude.{Contains, None, Option, Some, slice_get}
+use Rattle.std.proofs.Common.{ℕ, ◌≡◌, ◌≢◌, ◌<◌, ◌≤◌, ◌⊎◌, ◌↔◌, Err, IsOk, List, [], ◌∷◌, length, get_or, map, sym, refl, arith, subst, inl, inr}
+use Rattle.std.specs.Prelude.{Contains, None, Option}
 use Rattle.std.specs.List.{AllByRecursion}
 use Rattle.std.proofs.lemmas.Bool.{cases_eq, false≢true}
-use Rattle.std.proofs.lemmas.Option.{slice_get_within}
 use Rattle.d64_image.specs.History.{Failed, History, NeverFailed}
 use Rattle.d64_image.specs.Images.{Image, sector}
 use Rattle.d64_image.specs.declared.place.Place.{Place}
@@ -11,21 +10,17 @@ use Rattle.d64_image.proofs.Places.{track_fits, track_from_1}
 use Rattle.disk_layout.proofs.Layouts.{IsDirectory-one, IsLayout-one}
 use Rattle.disk_layout.proofs.Once.{Contains-here, Contains-there, map-in}
 use Rattle.disk_layout.proofs.Unclean.{told-unclean}
-use Rattle.disk_layout.specs.Clean.{IsClean, IsCleanLayout, IsExactFile}
+use Rattle.disk_layout.specs.Clean.{IsClean, IsCleanLayout}
 use Rattle.disk_layout.specs.Directory.{IsDirectory, map_place}
 use Rattle.disk_layout.specs.Fault.{HoldsOfClean, TellsFault}
-use Rattle.disk_layout.specs.Layout.{File, IsSound, Layout, is_rel, owners}
+use Rattle.disk_layout.specs.Layout.{File, IsSound, Layout, owners}
 use Rattle.disk_layout.specs.Map.{IsFree, IsMapOf, map_count}
 use Rattle.disk_layout.specs.declared.faults.Fault.{Fault}
 use Rattle.disk_layout.specs.declared.faults.Fault.TheVariants.{MapWrong}
 use Rattle.disk_layout.specs.declared.slot.Slot.{Slot}
-use Rattle.layout_check.proofs.Assembly.{contains-get}
 use Rattle.layout_check.proofs.Inexact.{clean_alone}
-use Rattle.layout_check.proofs.Listed.{entry-listed}
-use Rattle.layout_check.proofs.Pointers.{read-there}
-use Rattle.layout_check.proofs.Progress.{slot-in, told}
+use Rattle.layout_check.proofs.Progress.{told}
 use Rattle.layout_check.specs.Calls.{Passes}
-use Rattle.layout_check.specs.Entry.{IsEntry}
 use Rattle.layout_check.specs.Exact.{HasMap, IsFiled, JudgesFiles, TellsOfClean}
 use Rattle.layout_check.specs.Marked.{IsMarked, IsRightMap, IsWrongMap, ones_on}
 use Rattle.layout_check.specs.Owners.{owner_of}

@@ -22,13 +22,13 @@ fn names_each(sector: &[u8; 256], at: usize, places: &[Place]) -> bool
     ensures right { IsTrue result → NamesEach sector.now at places.now }
     ensures wrong { IsFalse result → IsMisnamed sector.now at places.now }
 {
+    // with no way out at the first difference, so that several places are compared at once
+    let mut same = true;
     for (number, place) in places.iter().enumerate() {
         let byte = at + 2 * number;
-        if sector[byte] != place.track() || sector[byte + 1] != place.sector() {
-            return false;
-        }
+        same &= (sector[byte] == place.track()) & (sector[byte + 1] == place.sector());
     }
-    true
+    same
 }
 
 /// Whether the bytes of a sector are those of side sector `number`, from 0, of an entry with these blocks: its number,
@@ -125,6 +125,7 @@ fn survey_sides<D: Sectors>(
             Err(_) => return Err(Fault::Device(side)),
         }
         let wanted = side_bytes(number as u8, blocks, sides.as_slice(), slot.bytes[23]);
+        // the exact bytes list all side sectors
         if sector != wanted {
             if !names_each(&sector, 4, sides.as_slice()) {
                 return Err(Fault::BadSide(side));

@@ -145,6 +145,19 @@ fn single_faults(rt: HostRuntime) -> Result<(), Fail> {
     Ok(())
 }
 
+// STOCK has a side sector that isn't exact, and another count; then REQUESTS isn't closed, so that the disk isn't sound.
+#[test]
+fn kept_back_until_the_disk_is_sound(rt: HostRuntime) -> Result<(), Fail> {
+    let mut disk = fresh(rt.alloc())?;
+    let directory = place(18, 1)?;
+    change(&mut disk, place(17, 1)?, (1, 0x10), (1, 0x10))?;
+    change(&mut disk, directory, (30, 3), (31, 0))?;
+    assert_eq!(rt; check(&mut disk).err(), Some(Fault::BadSide(place(17, 1)?)));
+    change(&mut disk, directory, (34, 0x04), (34, 0x04))?;
+    assert_eq!(rt; check(&mut disk).err(), Some(Fault::Unclosed(directory)));
+    Ok(())
+}
+
 // Record length 255 in the slot and in the side sector.
 #[test]
 fn a_length_too_large(rt: HostRuntime) -> Result<(), Fail> {

@@ -1,22 +1,22 @@
--- Place by place: each is named, or the one that isn't.
-use Rattle.std.proofs.Common.{sym, ◌∙◌, arith}
+-- Place by place: all are named so far, or one isn't.
+use Rattle.std.proofs.Common.{arith, inl, inr, sym, ◌∙◌}
 use borrow.Author.Count.{below_more}
 use Rattle.std.proofs.lemmas.Option.{slice_get_within}
-use Rattle.layout_check.proofs.Pointers.{misnamed-here, named-here}
+use Rattle.layout_check.proofs.Pointers.{misnamed-here, named-here, same-failed, same-passed}
 use Rattle.layout_check.proofs.sides.names_each.Goals as goal
-use Rattle.layout_check.proofs.sides.names_each.Goals.{then-sector-byte-via-then-sector-byte, then-sector-byte-via-else-sector-byte+then-sector-byte-2}
-
-pub returns-then-sector-byte-clause-wrong : goal.returns-then-sector-byte-clause-wrong
-returns-then-sector-byte-clause-wrong c _ = misnamed-here c.args.sector.now c.args.at c.loop-number.number c.args.places.now c.index-places-number.result c.loop-number-test.true c.index-places-number.is
-    (λ h. elim c.then-sector-byte.branch [
-      | then-sector-byte-via-then-sector-byte w ↦ w.if-sector-byte.true (h.0 ∙ sym c.track.ensures)
-      | then-sector-byte-via-else-sector-byte+then-sector-byte-2 w ↦ w.if-sector-byte-2.true (h.1 ∙ sym w.sector.ensures)
-    ])
 
 pub loop-number-preserved : goal.loop-number-preserved
-loop-number-preserved c = below_more _ _ c.loop-number.invariant
-    (named-here c.args.sector.now c.args.at c.loop-number.number c.args.places.now c.index-places-number.result c.loop-number-test.true c.index-places-number.is
-    (c.if-sector-byte.false ∙ c.track.ensures, c.if-sector-byte-2.false ∙ c.sector.ensures))
+loop-number-preserved c =
+    let old = c.loop-number.invariant in
+    record {
+      right = λ t. let p = same-passed c.loop-number.same _ _ c.track.result c.sector.result t in
+          below_more _ _ (old.right p.0) (named-here c.args.sector.now c.args.at c.loop-number.number c.args.places.now c.index-places-number.result c.loop-number-test.true c.index-places-number.is (p.1 ∙ c.track.ensures, p.2 ∙ c.sector.ensures));
+      wrong = λ f. elim (same-failed c.loop-number.same _ _ c.track.result c.sector.result f) [
+        | inl e ↦ old.wrong e
+        | inr n ↦ misnamed-here c.args.sector.now c.args.at c.loop-number.number c.args.places.now c.index-places-number.result c.loop-number-test.true c.index-places-number.is
+            (λ h. elim n [ inl x ↦ x (h.0 ∙ sym c.track.ensures) | inr y ↦ y (h.1 ∙ sym c.sector.ensures) ])
+      ];
+    }
 
 pub returns-clause-right : goal.returns-clause-right
-returns-clause-right c _ k q there = c.loop-number.invariant k (omega (arith, slice_get_within c.args.places.now k q there)) q there
+returns-clause-right c t k q there = c.loop-number.invariant.right t k (omega (arith, c.loop-number-test.false, slice_get_within c.args.places.now k q there)) q there
