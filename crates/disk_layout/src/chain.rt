@@ -4,6 +4,7 @@ ghost use Rattle.d64_image.specs.History.{Failed, OnlyReads};
 ghost use Rattle.disk_layout.specs.Chain.{IsChain};
 ghost use Rattle.disk_layout.specs.Fault.{HoldsOfChain, TellsFault};
 
+use crate::access::read_sector;
 use crate::faults::Fault;
 use crate::visited::Visited;
 use arrayvec::ArrayVec;
@@ -40,10 +41,7 @@ pub fn walk_chain<D: Sectors>(
         }
         visited.insert(at);
         places.push(at);
-        match disk.read(at, &mut sector) {
-            Ok(()) => {}
-            Err(_) => return Err(Fault::Device(at)),
-        }
+        read_sector(disk, at, &mut sector)?;
         if sector[0] == 0 {
             return Ok(sector[1]);
         }

@@ -9,6 +9,7 @@ ghost use Rattle.disk_layout.specs.Fault.{HoldsOfDirectory, TellsFault};
 ghost use Rattle.disk_layout.specs.Listing.{LinksOut};
 ghost use Rattle.d64_image.specs.declared.place.Place.{Place};
 
+use crate::access::read_sector;
 use crate::faults::Fault;
 use crate::slot::Slot;
 use arrayvec::ArrayVec;
@@ -68,15 +69,9 @@ fn add_used(bytes: &[u8; 256], place: Place, slots: &mut ArrayVec<Slot, 144>)
     ensures room { array_vec_len slots.new ≤ array_vec_len slots.old + 8 }
 {
     for number in 0..8u8 {
-        let start = 32 * number as usize;
-        let mut slot = [0u8; 32];
-        slot.copy_from_slice(&bytes[start..start + 32]);
-        if slot[2] != 0 {
-            slots.push(Slot {
-                sector: place,
-                number,
-                bytes: slot,
-            });
+        let slot = Slot::in_sector(bytes, place, number);
+        if slot.bytes[2] != 0 {
+            slots.push(slot);
         }
     }
 }
@@ -103,10 +98,7 @@ pub fn read_directory<D: Sectors>(
     let mut at = directory_start();
     let mut sector = [0u8; 256];
     'sectors: loop {
-        match disk.read(at, &mut sector) {
-            Ok(()) => {}
-            Err(_) => return Err(Fault::Device(at)),
-        }
+        read_sector(disk, at, &mut sector)?;
         add_used(&sector, at, slots);
         visited.push(at);
         if sector[0] == 0 {

@@ -13,14 +13,14 @@ returns-then-sector-eq0-clause-chain g c =
     let old = c.chain.invariant in
     rw c.push.ensures.items (walk-end _ c.args.first c.chain.at c.chain.places.items _ old.leads old.once
     (not_in c.chain.visited c.chain.places.items c.chain.at old.marks (sym c.contains.ensures ∙ c.if-contains.false))
-    (end-read _ _ c.chain.at c.read.new.to old.reads.image c.in-Ok.ensures.sector c.if-sector-eq0.true))
+    (end-read _ _ c.chain.at c.read_sector.new.to old.reads.image c.in_ok-read_sector.ensures.sector c.if-sector-eq0.true))
 
 pub returns-in-None-clause-fault : goal.returns-in-None-clause-fault
 returns-in-None-clause-fault g c =
     let old = c.chain.invariant in (
       c.chain.places.items,
       (old.leads, EachOnce-push _ _ old.once (not_in c.chain.visited _ _ old.marks (sym c.contains.ensures ∙ c.if-contains.false))),
-      nowhere-read _ _ c.chain.at c.read.new.to old.reads.image c.in-Ok.ensures.sector c.if-sector-eq0.false (λ h. false≢true (c.in-None.ensures.on_disk.1 h)),
+      nowhere-read _ _ c.chain.at c.read_sector.new.to old.reads.image c.in_ok-read_sector.ensures.sector c.if-sector-eq0.false (λ h. false≢true (c.in-None.ensures.on_disk.1 h)),
     )
 
 pub chain-preserved : goal.chain-preserved
@@ -28,10 +28,10 @@ chain-preserved g c =
     let old = c.chain.invariant in
     let S = g.D.Sectors.history in
     record {
-      leads = rw c.push.ensures.items (Leads-push _ _ c.chain.places.items c.chain.at c.in-Some.next old.leads (link-read _ _ c.chain.at c.in-Some.next c.read.new.to old.reads.image c.in-Ok.ensures.sector (place_at-some _ _ _ (sym c.new.ensures.value ∙ c.in-Some.is))));
+      leads = rw c.push.ensures.items (Leads-push _ _ c.chain.places.items c.chain.at c.in-Some.next old.leads (link-read _ _ c.chain.at c.in-Some.next c.read_sector.new.to old.reads.image c.in_ok-read_sector.ensures.sector (place_at-some _ _ _ (sym c.new.ensures.value ∙ c.in-Some.is))));
       once = rw c.push.ensures.items (EachOnce-push _ _ old.once (not_in c.chain.visited _ _ old.marks (sym c.contains.ensures ∙ c.if-contains.false)));
       marks = rw c.push.ensures.items (IsSetOf-push c.chain.visited c.insert.new.self _ _ old.marks c.insert.ensures.now);
       count = omega (arith, c.push.ensures.len, c.insert.ensures.room, old.count);
-      reads = reads_then S _ _ _ (length c.chain.places.items) 1 (length c.push.new.self.items) (omega (arith, c.push.ensures.len)) old.reads c.read.ensures.reads;
-      failures = c.in-Ok.ensures.failures ∙ old.failures;
+      reads = reads_then S _ _ _ (length c.chain.places.items) 1 (length c.push.new.self.items) (omega (arith, c.push.ensures.len)) old.reads c.read_sector.ensures.reads;
+      failures = c.in_ok-read_sector.ensures.failures ∙ old.failures;
     }

@@ -15,48 +15,48 @@ sectors-init g c = record {
   few = omega (arith, ap length c.new-visited.ensures);
 }
 
-pub returns-in-Err-clause-reads : goal.returns-in-Err-clause-reads
-returns-in-Err-clause-reads g c =
-    reads_then g.D.Sectors.history _ _ _ _ 1 18 (omega (arith, c.sectors.invariant.few)) c.sectors.invariant.reads c.read.ensures.reads
+pub returns-in_err-read_sector-clause-reads : goal.returns-in_err-read_sector-clause-reads
+returns-in_err-read_sector-clause-reads g c =
+    reads_then g.D.Sectors.history _ _ _ _ 1 18 (omega (arith, c.sectors.invariant.few)) c.sectors.invariant.reads c.read_sector.ensures.reads
 
 pub returns-then-sector-eq0-clause-ok : goal.returns-then-sector-eq0-clause-ok
 returns-then-sector-eq0-clause-ok g c =
     let old = c.sectors.invariant in
-    let read = read-now _ _ c.sectors.at c.read.new.to old.reads.image c.in-Ok.ensures.sector in
-    directory-whole _ c.sectors.visited.items c.sectors.at c.read.new.to _ old.reached read c.if-sector-eq0.true
-    (used-more _ c.sectors.visited.items c.sectors.at c.read.new.to _ _ old.slots read c.add_used.ensures.items)
+    let read = read-now _ _ c.sectors.at c.read_sector.new.to old.reads.image c.in_ok-read_sector.ensures.sector in
+    directory-whole _ c.sectors.visited.items c.sectors.at c.read_sector.new.to _ old.reached read c.if-sector-eq0.true
+    (used-more _ c.sectors.visited.items c.sectors.at c.read_sector.new.to _ _ old.slots read c.add_used.ensures.items)
 
 pub returns-then-sector-eq0-clause-reads : goal.returns-then-sector-eq0-clause-reads
 returns-then-sector-eq0-clause-reads g c =
-    reads_then g.D.Sectors.history _ _ _ _ 1 18 (omega (arith, c.sectors.invariant.few)) c.sectors.invariant.reads c.read.ensures.reads
+    reads_then g.D.Sectors.history _ _ _ _ 1 18 (omega (arith, c.sectors.invariant.few)) c.sectors.invariant.reads c.read_sector.ensures.reads
 
 pub returns-in_default-clause-err : goal.returns-in_default-clause-err
 returns-in_default-clause-err g c =
     let old = c.sectors.invariant in
-    let read = read-now _ _ c.sectors.at c.read.new.to old.reads.image c.in-Ok.ensures.sector in
-    bad-link _ c.sectors.visited.items c.sectors.at c.read.new.to old.reached read c.if-sector-eq0.false c.in_default.ensures
+    let read = read-now _ _ c.sectors.at c.read_sector.new.to old.reads.image c.in_ok-read_sector.ensures.sector in
+    bad-link _ c.sectors.visited.items c.sectors.at c.read_sector.new.to old.reached read c.if-sector-eq0.false c.in_default.ensures
 
 pub returns-in_default-clause-reads : goal.returns-in_default-clause-reads
 returns-in_default-clause-reads g c =
-    reads_then g.D.Sectors.history _ _ _ _ 1 18 (omega (arith, c.sectors.invariant.few)) c.sectors.invariant.reads c.read.ensures.reads
+    reads_then g.D.Sectors.history _ _ _ _ 1 18 (omega (arith, c.sectors.invariant.few)) c.sectors.invariant.reads c.read_sector.ensures.reads
 
 pub returns-then-contains-clause-err : goal.returns-then-contains-clause-err
 returns-then-contains-clause-err g c =
     let old = c.sectors.invariant in
-    let read = read-now _ _ c.sectors.at c.read.new.to old.reads.image c.in-Ok.ensures.sector in
-    comes-back _ c.sectors.visited.items c.sectors.at c.in-Some.next c.read.new.to old.reached read c.in-Some.ensures.0 (rw c.push.ensures.items at (c.contains.ensures.0 c.if-contains.true))
+    let read = read-now _ _ c.sectors.at c.read_sector.new.to old.reads.image c.in_ok-read_sector.ensures.sector in
+    comes-back _ c.sectors.visited.items c.sectors.at c.in-Some.next c.read_sector.new.to old.reached read c.in-Some.ensures.0 (rw c.push.ensures.items at (c.contains.ensures.0 c.if-contains.true))
 
 pub sectors-preserved : goal.sectors-preserved
 sectors-preserved g c =
     let old = c.sectors.invariant in
-    let read = read-now _ _ c.sectors.at c.read.new.to old.reads.image c.in-Ok.ensures.sector in
-    let next = reached-next _ c.sectors.visited.items c.sectors.at c.in-Some.next c.read.new.to old.reached read c.in-Some.ensures.0 c.in-Some.ensures.1
+    let read = read-now _ _ c.sectors.at c.read_sector.new.to old.reads.image c.in_ok-read_sector.ensures.sector in
+    let next = reached-next _ c.sectors.visited.items c.sectors.at c.in-Some.next c.read_sector.new.to old.reached read c.in-Some.ensures.0 c.in-Some.ensures.1
     (λ there. false≢true (sym c.if-contains.false ∙ c.contains.ensures.1 (rw c.push.ensures.items there))) in
     record {
-      reads = reads_then g.D.Sectors.history _ _ _ _ 1 _ (omega (arith, c.push.ensures.len)) old.reads c.read.ensures.reads;
-      failures = c.in-Ok.ensures.failures ∙ old.failures;
+      reads = reads_then g.D.Sectors.history _ _ _ _ 1 _ (omega (arith, c.push.ensures.len)) old.reads c.read_sector.ensures.reads;
+      failures = c.in_ok-read_sector.ensures.failures ∙ old.failures;
       reached = rw c.push.ensures.items next;
-      slots = rw c.push.ensures.items (used-more _ c.sectors.visited.items c.sectors.at c.read.new.to _ _ old.slots read c.add_used.ensures.items);
+      slots = rw c.push.ensures.items (used-more _ c.sectors.visited.items c.sectors.at c.read_sector.new.to _ _ old.slots read c.add_used.ensures.items);
       room = omega (arith, old.room, c.add_used.ensures.room, c.push.ensures.len);
       few = omega (arith, few-before _ _ _ next, ap length c.push.ensures.items);
     }
