@@ -19,22 +19,7 @@ use crate::sides::find_parts;
 use arrayvec::ArrayVec;
 use byteorder::{ByteOrder, LittleEndian};
 use d64_image::{Place, Sectors};
-use disk_layout::{Fault, Slot, directory_start, walk_chain};
-
-/// The slot with this number, from 0 to 7, of the directory sector at `place`, which holds these bytes.
-fn slot_at(bytes: &[u8; 256], place: Place, number: u8) -> Slot
-    requires { number < 8 }
-    ensures { result ≡ slot_in place bytes.now number }
-{
-    let start = 32 * number as usize;
-    let mut slot = [0u8; 32];
-    slot.copy_from_slice(&bytes[start..start + 32]);
-    Slot {
-        sector: place,
-        number,
-        bytes: slot,
-    }
-}
+use disk_layout::{Fault, Slot, directory_start, read_sector, walk_chain};
 
 /// Puts a block count into the slot with this number, low byte first.
 fn put_count(bytes: &mut [u8; 256], number: u8, count: u16)
@@ -86,7 +71,7 @@ fn recount_slot<D: Sectors>(
     ensures ok { OnOk result (Passes D.history disk.old disk.new 732) }
     ensures err { IfErr result (Tells D.history disk.old disk.new 732) }
 {
-    let slot = slot_at(bytes, place, number);
+    let slot = Slot::in_sector(bytes, place, number);
     if !is_relative(&slot) {
         return Ok(());
     }
@@ -120,7 +105,7 @@ fn recount_sector<D: Sectors>(
 }
 
 /// Makes the block counts right in a directory sector of a sound disk, which is written where one of them is wrong.
-/// `blocks` and `sides` are emptied, and filled with what an entry owns.
+/// `blocks` and `sides` are room for what an entry owns.
 fn mend_sector<D: Sectors>(
     disk: &mut D,
     place: Place,
@@ -139,10 +124,7 @@ fn mend_sector<D: Sectors>(
     ensures failures { TellsFault D.history disk.old disk.new result }
 {
     let mut had = [0u8; 256];
-    match disk.read(place, &mut had) {
-        Ok(()) => {}
-        Err(_) => return Err(Fault::Device(place)),
-    }
+    read_sector(disk, place, &mut had)?;
     let mut bytes = had;
     recount_sector(disk, place, &mut bytes, blocks, sides)?;
     write_other(disk, place, &had, &bytes)

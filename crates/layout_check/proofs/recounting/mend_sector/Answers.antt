@@ -1,5 +1,5 @@
 -- The sector is read, its counts are made right, and it is written where other bytes came out.
-use Rattle.std.proofs.Common.{ap, arith, refl, subst, sym, ◌∙◌}
+use Rattle.std.proofs.Common.{ap, arith, subst, sym, ◌∙◌}
 use Rattle.std.proofs.lemmas.Result.{err_from_is_err_and}
 use Rattle.d64_image.proofs.Moments.{reads_then}
 use Rattle.d64_image.specs.Images.{Image, sector}
@@ -9,54 +9,54 @@ use Rattle.layout_check.proofs.RightWrites.{device-told, fault_later, mended-rea
 use Rattle.layout_check.specs.Recounted.{AreRightIn}
 use Rattle.layout_check.proofs.recounting.mend_sector.Goals as goal
 
-pub returns-in-Err-clause-moments : goal.returns-in-Err-clause-moments
-returns-in-Err-clause-moments g c = reads_moment g.D.Sectors.history c.args.disk.now c.read.new.self 1 c.args.place c.read.ensures.reads
+pub returns-in_err-read_sector-clause-moments : goal.returns-in_err-read_sector-clause-moments
+returns-in_err-read_sector-clause-moments g c = reads_moment g.D.Sectors.history c.args.disk.now c.read_sector.new.disk 1 c.args.place c.read_sector.ensures.reads
 
-pub returns-in-Err-clause-err : goal.returns-in-Err-clause-err
-returns-in-Err-clause-err g c = (c.args.place, refl)
+pub returns-in_err-read_sector-clause-err : goal.returns-in_err-read_sector-clause-err
+returns-in_err-read_sector-clause-err g c = let p = err_from_is_err_and c.from_residual.result c.from_residual.ensures.1 in rw (p.1, p.2) (c.args.place, c.in_err-read_sector.ensures.told)
 
 pub returns-in_err-recount_sector-clause-moments : goal.returns-in_err-recount_sector-clause-moments
 returns-in_err-recount_sector-clause-moments g c =
     let S = g.D.Sectors.history in
-    reads_moment S c.args.disk.now c.recount_sector.new.disk 5857 c.args.place (reads_then S c.args.disk.now c.read.new.self c.recount_sector.new.disk 1 5856 5857 (omega arith) c.read.ensures.reads c.in_err-recount_sector.ensures.err.reads)
+    reads_moment S c.args.disk.now c.recount_sector.new.disk 5857 c.args.place (reads_then S c.args.disk.now c.read_sector.new.disk c.recount_sector.new.disk 1 5856 5857 (omega arith) c.read_sector.ensures.reads c.in_err-recount_sector.ensures.err.reads)
 
 pub returns-in_err-recount_sector-clause-err : goal.returns-in_err-recount_sector-clause-err
 returns-in_err-recount_sector-clause-err g c =
-    let p = err_from_is_err_and c.from_residual.result c.from_residual.ensures.1 in
+    let p = err_from_is_err_and c.from_residual-in_err-recount_sector.result c.from_residual-in_err-recount_sector.ensures.1 in
     let P : Image → Type 0 = IsSound in
-    rw (p.1, p.2) (device-told _ _ _ (subst P (sym c.read.ensures.reads.image) c.requires.sound) c.in_err-recount_sector.ensures.err.holds)
+    rw (p.1, p.2) (device-told _ _ _ (subst P (sym c.read_sector.ensures.reads.image) c.requires.sound) c.in_err-recount_sector.ensures.err.holds)
 
 pub write_other-requires : goal.write_other-requires
 write_other-requires g c =
-    c.in-Ok.ensures.sector ∙ ap (λ (i : Image). sector i c.args.place) (sym (c.in_ok-recount_sector.ensures.ok.reads.image ∙ c.read.ensures.reads.image))
+    c.in_ok-read_sector.ensures.sector ∙ ap (λ (i : Image). sector i c.args.place) (sym (c.in_ok-recount_sector.ensures.ok.reads.image ∙ c.read_sector.ensures.reads.image))
 
 pub returns-clause-right : goal.returns-clause-right
 returns-clause-right g c =
     let S = g.D.Sectors.history in
     let now = c.in_ok-recount_sector.ensures in
     let P : Image → Type 0 = λ i. AreRightIn i c.args.place c.recount_sector.new.bytes in
-    on_ok c.write_other.result _ _ (λ h. right_written S c.args.disk.now c.recount_sector.new.disk _ c.args.place c.recount_sector.new.bytes (now.ok.reads.image ∙ c.read.ensures.reads.image) h (subst P (sym now.ok.reads.image) now.right)) c.write_other.ensures.ok
+    on_ok c.write_other.result _ _ (λ h. right_written S c.args.disk.now c.recount_sector.new.disk _ c.args.place c.recount_sector.new.bytes (now.ok.reads.image ∙ c.read_sector.ensures.reads.image) h (subst P (sym now.ok.reads.image) now.right)) c.write_other.ensures.ok
 
 pub returns-clause-moments : goal.returns-clause-moments
 returns-clause-moments g c =
     let S = g.D.Sectors.history in
     let now = c.in_ok-recount_sector.ensures in
-    let reads = reads_then S c.args.disk.now c.read.new.self c.recount_sector.new.disk 1 5856 5857 (omega arith) c.read.ensures.reads now.ok.reads in
+    let reads = reads_then S c.args.disk.now c.read_sector.new.disk c.recount_sector.new.disk 1 5856 5857 (omega arith) c.read_sector.ensures.reads now.ok.reads in
     write_moment S c.args.disk.now c.recount_sector.new.disk c.write_other.new.disk 5857 c.args.place c.recount_sector.new.bytes reads c.write_other.ensures.held
-    (mended-read S c.args.disk.now c.read.new.self c.args.place c.read.new.to c.recount_sector.new.bytes c.read.ensures.reads.image c.in-Ok.ensures.sector now.counts now.kept now.right)
+    (mended-read S c.args.disk.now c.read_sector.new.disk c.args.place c.read_sector.new.to c.recount_sector.new.bytes c.read_sector.ensures.reads.image c.in_ok-read_sector.ensures.sector now.counts now.kept now.right)
 
 pub returns-clause-once : goal.returns-clause-once
 returns-clause-once g c =
     let S = g.D.Sectors.history in
-    let reads = reads_then S c.args.disk.now c.read.new.self c.recount_sector.new.disk 1 5856 5857 (omega arith) c.read.ensures.reads c.in_ok-recount_sector.ensures.ok.reads in
+    let reads = reads_then S c.args.disk.now c.read_sector.new.disk c.recount_sector.new.disk 1 5856 5857 (omega arith) c.read_sector.ensures.reads c.in_ok-recount_sector.ensures.ok.reads in
     other_later S c.args.disk.now c.recount_sector.new.disk c.write_other.new.disk 5857 c.args.place reads c.write_other.ensures.once
 
 pub returns-clause-silent : goal.returns-clause-silent
 returns-clause-silent g c right =
     let S = g.D.Sectors.history in
     let now = c.in_ok-recount_sector.ensures in
-    let reads = reads_then S c.args.disk.now c.read.new.self c.recount_sector.new.disk 1 5856 5857 (omega arith) c.read.ensures.reads now.ok.reads in
-    let kept = now.kept (right_read S c.args.disk.now c.read.new.self c.args.place c.read.new.to c.read.ensures.reads.image c.in-Ok.ensures.sector right) in
+    let reads = reads_then S c.args.disk.now c.read_sector.new.disk c.recount_sector.new.disk 1 5856 5857 (omega arith) c.read_sector.ensures.reads now.ok.reads in
+    let kept = now.kept (right_read S c.args.disk.now c.read_sector.new.disk c.args.place c.read_sector.new.to c.read_sector.ensures.reads.image c.in_ok-read_sector.ensures.sector right) in
     reads_then S c.args.disk.now c.recount_sector.new.disk c.write_other.new.disk 5857 0 5857 (omega arith) reads (c.write_other.ensures.quiet (sym kept))
 
 pub returns-clause-err : goal.returns-clause-err
@@ -64,4 +64,4 @@ returns-clause-err g c = if_err c.write_other.result _ _ (λ f told. (told.0, to
 
 pub returns-clause-failures : goal.returns-clause-failures
 returns-clause-failures g c =
-    fault_later g.D.Sectors.history c.args.disk.now c.recount_sector.new.disk c.write_other.new.disk c.write_other.result (c.in_ok-recount_sector.ensures.ok.failures ∙ c.in-Ok.ensures.failures) c.write_other.ensures.failures c.write_other.ensures.err
+    fault_later g.D.Sectors.history c.args.disk.now c.recount_sector.new.disk c.write_other.new.disk c.write_other.result (c.in_ok-recount_sector.ensures.ok.failures ∙ c.in_ok-read_sector.ensures.failures) c.write_other.ensures.failures c.write_other.ensures.err
