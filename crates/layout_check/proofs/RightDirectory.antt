@@ -45,7 +45,7 @@ module _ (a b : Image) (l : Layout) (full : length a ≡ 683) (is : IsLayout a l
   mended-made c m = made_one (IsRight l) p b c
       (λ q ne. m.counts.rest q (λ d. elim (Contains-cases q p [] d) [ inl e ↦ ne e | inr none ↦ Contains-nil q none ]))
       (now-right (sector c p) m.right)
-      (λ right. absurd (m.wrong (right-now (sector b p) right)))
+      (λ right. m.kept (right-now (sector b p) right))
 
   -- also where it was right before
   pub sector-made : (c : Image) → OldOrMended b p c → AreRightIn b p (sector c p) → AreMade (IsRight l) (p ∷ []) b c

@@ -1,10 +1,10 @@
 -- One slot of a directory sector: its block count read, judged, and written.
-use Rattle.std.proofs.Common.{ℕ, ◌≡◌, ◌≢◌, ◌<◌, ◌≤◌, ◌+◌, ◌*◌, ◌%◌, ◌/◌, ◌⊎◌, List, length, take, drop, set, sym, ◌∙◌, ap, refl, arith, subst, inl, inr, slice_index}
+use Rattle.std.proofs.Common.{ℕ, ◌≡◌, ◌≢◌, ◌<◌, ◌≤◌, ◌+◌, ◌*◌, ◌%◌, ◌/◌, ◌⊎◌, List, [], ◌∷◌, length, take, drop, sym, ◌∙◌, ap, ap₂, refl, arith, rules, subst, inl, inr, slice_index}
 use Rattle.std.specs.Prelude.{IsTrue, nat_eq, slice_range, ◌||◌}
 use Rattle.std.proofs.lemmas.Bool.{cases_lt}
 use Rattle.std.proofs.lemmas.Bool.Decides.{nat_tests}
-use Rattle.std.proofs.lemmas.Grind.{get_or-set_at}
-use Rattle.std.proofs.lemmas.List.{get_or-drop, get_or-set_other, get_or-take, length-set}
+use Rattle.std.proofs.lemmas.List.{get_or-drop, get_or-take, length-drop, length-take, places}
+use borrow.Rule.Slice.PartMut.{mid_of, put_mid, put_same}
 use Rattle.d64_image.specs.Images.{Image, Sector, sector}
 use Rattle.d64_image.specs.declared.place.Place.{Place}
 use Rattle.disk_layout.proofs.Counts.{range-piece}
@@ -30,20 +30,51 @@ slot-byte y n j lt =
     let at : n * 32 + j ≡ 32 * n + j = omega arith in
     ap (λ (z : List ℕ). slice_index z j) (range-piece y n) ∙ piece-byte 32 n y j lt ∙ ap (slice_index y) at
 
-count-byte : (y : Sector) (n j : ℕ) → j < 2 → slice_index (slice_range (slice_range y (32 * n) (32 * n + 32)) 30 32) j ≡ slice_index y (32 * n + (30 + j))
+count-byte : (y : Sector) (n j : ℕ) → j < 2 → slice_index (slice_range (slice_range y (32 * n) (32 * n + 32)) 30 32) j ≡ slice_index y (32 * n + 30 + j)
 count-byte y n j lt =
     let zs = slice_range y (32 * n) (32 * n + 32) in
-    get_or-take 2 (drop 30 zs) j 0 lt ∙ get_or-drop 30 zs j 0 ∙ slot-byte y n (30 + j) (omega arith)
+    let at : 32 * n + (30 + j) ≡ 32 * n + 30 + j = omega arith in
+    get_or-take 2 (drop 30 zs) j 0 lt ∙ get_or-drop 30 zs j 0 ∙ slot-byte y n (30 + j) (omega arith) ∙ ap (slice_index y) at
 
-pub count-there : (y : Sector) (p : Place) (n low high count : ℕ) → slice_index y (32 * n + (30 + 0)) ≡ low → slice_index y (32 * n + (30 + 1)) ≡ high → low + 256 * high ≡ count → count_field (slot_in p y n) ≡ count
-count-there y p n low high count a b e = omega (arith, count-byte y n 0 (omega arith), count-byte y n 1 (omega arith), a, b, e)
+-- two bytes from a on, written
+two-low : (x ys rest : Sector) (a k low : ℕ) → ys ≡ low ∷ rest → a ≤ length x → slice_index (put_mid a k x ys) (a + 0) ≡ low
+two-low x ys rest a k low e fits = rw e (search (rules, places))
 
--- two bytes written
-pub two-low : (x : Sector) (a low high : ℕ) → a + 1 < length x → slice_index (set (set x a low) (a + 1) high) a ≡ low
-two-low x a low high fits = get_or-set_other (set x a low) (a + 1) a high 0 (omega arith) ∙ get_or-set_at x a a low 0 refl (omega arith)
+two-high : (x ys rest : Sector) (a k low high : ℕ) → ys ≡ low ∷ high ∷ rest → a ≤ length x → slice_index (put_mid a k x ys) (a + 1) ≡ high
+two-high x ys rest a k low high e fits = rw e (search (rules, places))
 
-pub two-high : (x : Sector) (a b low high : ℕ) → a + 1 < length x → b ≡ a + 1 → slice_index (set (set x a low) (a + 1) high) b ≡ high
-two-high x a b low high fits e = get_or-set_at (set x a low) (a + 1) b high 0 e (omega (arith, length-set x a low))
+-- a number written into the block count of slot n
+pub count-written : (x ys rest : Sector) (p : Place) (n k count : ℕ) → count < 65536 → 32 * n + 32 ≤ length x → ys ≡ count % 256 ∷ count / 256 % 256 ∷ rest → count_field (slot_in p (put_mid (32 * n + 30) k x ys) n) ≡ count
+count-written x ys rest p n k count low fits e =
+    let y = put_mid (32 * n + 30) k x ys in
+    omega (arith, count-byte y n 0 (omega arith), count-byte y n 1 (omega arith), two-low x ys _ (32 * n + 30) k _ e (omega arith), two-high x ys rest (32 * n + 30) k _ _ e (omega arith))
+
+-- where the count is this number already, the bytes stay
+pub count-kept : (x ys : Sector) (p : Place) (n k count : ℕ) → ((i : ℕ) → slice_index x i < 256) → k ≡ 2 → 32 * n + 32 ≤ length x → ys ≡ count % 256 ∷ count / 256 % 256 ∷ drop 2 (mid_of (32 * n + 30) k x) → count_field (slot_in p x n) ≡ count → put_mid (32 * n + 30) k x ys ≡ x
+count-kept x ys p n k count bytes two fits e same = ap (put_mid a k x) (e ∙ sym (ap₂ (λ (u v : ℕ). u ∷ v ∷ drop 2 mid) low high) ∙ sym (front mid long)) ∙ put_same a k x
+  where
+    a : ℕ
+    a = 32 * n + 30
+
+    mid : List ℕ
+    mid = mid_of a k x
+
+    front : (zs : List ℕ) → 2 ≤ length zs → zs ≡ slice_index zs 0 ∷ slice_index zs 1 ∷ drop 2 zs
+    front [] h = absurd (omega arith)
+    front (u ∷ []) h = absurd (omega arith)
+    front (u ∷ v ∷ zs) h = refl
+
+    long : 2 ≤ length mid
+    long = omega (arith, length-take k (drop a x), length-drop a x)
+
+    here : (j : ℕ) → j < 2 → slice_index mid j ≡ slice_index x (a + j)
+    here j lt = get_or-take k (drop a x) j 0 (omega arith) ∙ get_or-drop a x j 0
+
+    low : slice_index mid 0 ≡ count % 256
+    low = omega (arith, same, here 0 (omega arith), count-byte x n 0 (omega arith), count-byte x n 1 (omega arith), bytes a)
+
+    high : slice_index mid 1 ≡ count / 256 % 256
+    high = omega (arith, same, here 1 (omega arith), count-byte x n 0 (omega arith), count-byte x n 1 (omega arith), bytes a, bytes (a + 1))
 
 -- the other slots stay
 pub other-slot : (p : Place) (x y : Sector) (n k : ℕ) → IsRecounted x y n → k < 8 → k ≢ n → slot_in p y k ≡ slot_in p x k
@@ -114,11 +145,12 @@ right-plain img p bytes n s e plain l f h at = absurd (plain (ap is_rel (e ∙ s
 pub right-counted : (img : Image) (p : Place) (bytes : Sector) (n count : ℕ) (s : Slot) → s ≡ slot_in p (sector img p) n → IsCountOf img s count → count_field (slot_in p bytes n) ≡ count → IsRightAt img p bytes n
 right-counted img p bytes n count s e is right l f h at = right ∙ is l f h at.own (slot-is img l f p n h at ∙ sym e)
 
-pub wrong-counted : (img : Image) (p : Place) (bytes : Sector) (n count : ℕ) (s : Slot) → IsSound img → s ≡ slot_in p (sector img p) n → s ≡ slot_in p bytes n → IsEntry img s → IsTrue (is_rel s) → IsCountOf img s count → count_field s ≢ count → ¬ (IsRightAt img p bytes n)
-wrong-counted img p bytes n count s (l, h) e d entry rel is wrong right =
+-- a count that is right for an entry of the image is the one that was counted
+pub counted-right_at : (img : Image) (p : Place) (bytes : Sector) (n count : ℕ) (s : Slot) → IsSound img → s ≡ slot_in p (sector img p) n → IsEntry img s → IsTrue (is_rel s) → IsCountOf img s count → IsRightAt img p bytes n → count_field (slot_in p bytes n) ≡ count
+counted-right_at img p bytes n count s (l, h) e entry rel is right =
     let (f, own, same, file) = slot-file img l s.sector s h entry.slot entry.used in
     let at : IsRelAt l p n f = record { own = own; rel = ap is_rel same ∙ rel; sector = ap (λ x. x.sector) (same ∙ e); number = ap (λ x. x.number) (same ∙ e) } in
-    wrong (ap count_field d ∙ right l f h at ∙ sym (is l f h own same))
+    right l f h at ∙ sym (is l f h own same)
 
 -- a slot with the same bytes is as right
 pub right-same : (img : Image) (p : Place) (x y : Sector) (n : ℕ) → slot_in p y n ≡ slot_in p x n → IsRightAt img p x n → IsRightAt img p y n
@@ -138,8 +170,9 @@ right-next img now p x y n same low h old new k below = elim (cases_lt k n) [
       subst P e (subst Q same new)
 ]
 
--- a slot that was wrong, and was so from the start
-pub wrong-next : (img now : Image) (p : Place) (x y : Sector) (n : ℕ) → now ≡ img → n < 8 → slot_in p y n ≡ slot_in p x n → ¬ (IsRightAt now p y n) → ¬ (AreRightIn img p x)
-wrong-next img now p x y n same low e wrong all =
+-- where all were right from the start, each slot of the bytes that are still the same is
+pub right-there : (img now : Image) (p : Place) (x y : Sector) (n : ℕ) → now ≡ img → n < 8 → y ≡ x → AreRightIn img p x → IsRightAt now p y n
+right-there img now p x y n same low e all =
+    let P : Sector → Type 0 = λ z. IsRightAt img p z n in
     let Q : Image → Type 0 = λ i. IsRightAt i p y n in
-    wrong (subst Q (sym same) (right-same img p x y n e (all n low)))
+    subst Q (sym same) (subst P (sym e) (all n low))

@@ -1,11 +1,11 @@
 -- Directory sectors written one after another: what the device held meanwhile, and what is right then.
-use Rattle.std.proofs.Common.{ℕ, ◌≡◌, ◌≢◌, ◌<◌, ◌≤◌, ◌+◌, List, [], ◌∷◌, ◌++◌, length, take, drop, get_or, ⊎_elim, sym, ◌∙◌, ap, refl, arith, subst, inl, inr}
-use Rattle.std.specs.Prelude.{Contains}
+use Rattle.std.proofs.Common.{ℕ, ◌≡◌, ◌<◌, ◌≤◌, ◌+◌, List, Result, Ok, Err, [], ◌∷◌, ◌++◌, length, take, drop, get_or, ⊎_elim, sym, ◌∙◌, ap, refl, arith, subst, inl, inr}
+use Rattle.std.specs.Prelude.{Contains, IfErr, OnOk}
 use Rattle.std.specs.List.{AllByRecursion}
 use Rattle.std.proofs.lemmas.List.{take-append-drop, take_all, take_more}
 use Rattle.d64_image.proofs.Images.{sector-put_same}
-use Rattle.d64_image.proofs.Moments.{at_end, changes_then, changes_weaker, reads_change, reads_then, weaker, write_change}
-use Rattle.d64_image.specs.History.{Changes, HeldOnly, History, OldOr, OnlyReads}
+use Rattle.d64_image.proofs.Moments.{at_end, changes_then, changes_weaker, failed_later, reads_change, reads_then, weaker}
+use Rattle.d64_image.specs.History.{Changes, History, OldOr, OnlyReads}
 use Rattle.d64_image.specs.Images.{Image, IsImage, Sector, put, sector}
 use Rattle.d64_image.specs.declared.place.Place.{Place}
 use Rattle.disk_layout.proofs.Directories.{directory-few}
@@ -14,7 +14,7 @@ use Rattle.disk_layout.proofs.Once.{Contains-here, Contains-there, EachOnce-left
 use Rattle.disk_layout.proofs.Twice.{told-unsound}
 use Rattle.disk_layout.specs.Chain.{EachOnce}
 use Rattle.disk_layout.specs.Directory.{IsDirectory, IsDirectoryPlace, map_place}
-use Rattle.disk_layout.specs.Fault.{Holds}
+use Rattle.disk_layout.specs.Fault.{Holds, TellsFault}
 use Rattle.disk_layout.specs.Layout.{IsLayout, IsSound, Layout}
 use Rattle.disk_layout.specs.declared.faults.Fault.{Fault}
 use Rattle.disk_layout.specs.declared.faults.Fault.TheVariants.{BadLength, BadLink, BadSide, BadType, CountWrong, Device, Loop, MapWrong, OwnedTwice, Unclosed}
@@ -27,6 +27,7 @@ use Rattle.layout_check.proofs.RightDirectory.{mended-made, right-counts, sector
 use Rattle.layout_check.proofs.RightSlots.{counted-right}
 use Rattle.layout_check.proofs.Rights.{directory-once}
 use Rattle.layout_check.specs.InOrder.{AreMade, GoesOver, IsRight}
+use Rattle.layout_check.specs.Mended.{TellsDevice}
 use Rattle.layout_check.specs.Recounted.{AreCounted, AreRightIn, IsCountedAs, IsInDirectory, IsMendedAt, IsOfDevice, IsRecountOf, KeepsButCounts, OldOrMended, WritesOther}
 
 -- on a sound image no fault holds but the device's
@@ -85,14 +86,10 @@ counted-of a b ps full (l, h) same r made = all-counted a b l full h (on a b ps 
 take-next : {X : Type 0} (xs : List X) (k : ℕ) (x : X) → k < length xs → x ≡ get_or xs k x → take (k + 1) xs ≡ take k xs ++ x ∷ []
 take-next xs k x lt e = take_more xs k x lt ∙ ap (λ y. take k xs ++ y ∷ []) (sym e)
 
--- other bytes are right: so they differ
-pub right-other : (img : Image) (p : Place) (x y : Sector) → ¬ (AreRightIn img p x) → AreRightIn img p y → y ≢ x
-right-other img p x y wrong right e = let P : Sector → Type 0 = λ z. AreRightIn img p z in wrong (subst P e right)
-
-mended-put : (a : Image) (p : Place) (bytes : Sector) → IsImage a → IsCountedAs (sector a p) bytes → ¬ (AreRightIn a p (sector a p)) → AreRightIn a p bytes → IsMendedAt a p (put a p bytes)
-mended-put a p bytes whole h wrong right = record {
+mended-put : (a : Image) (p : Place) (bytes : Sector) → IsImage a → IsCountedAs (sector a p) bytes → (AreRightIn a p (sector a p) → bytes ≡ sector a p) → AreRightIn a p bytes → IsMendedAt a p (put a p bytes)
+mended-put a p bytes whole h kept right = record {
   counts = recount-put a p bytes whole h;
-  wrong = wrong;
+  kept = λ x. sector-put_same a p bytes whole.size ∙ kept x;
   right = let P : Sector → Type 0 = λ x. AreRightIn a p x in subst P (sym (sector-put_same a p bytes whole.size)) right;
 }
 
@@ -102,12 +99,25 @@ module _ {D : Type 0} (S : History D) where
       let P : Image → Type 0 = OldOrMended (S.image a) p in
       changes_weaker S a b 0 1 P P (omega arith) (λ c h. h) (reads_change S a b n P r (inl refl))
 
-  pub write_moment : (a b c : D) (n : ℕ) (p : Place) (bytes : Sector) → OnlyReads S a b n → HeldOnly S b c (OldOr (S.image b) (put (S.image b) p bytes)) → S.writes c ≤ S.writes b + 1 → IsMendedAt (S.image a) p (put (S.image a) p bytes) → Changes S a c 1 (OldOrMended (S.image a) p)
-  write_moment a b c n p bytes r held counted mended =
+  -- reads, and then a write that mends the sector
+  pub write_moment : (a b c : D) (n : ℕ) (p : Place) (bytes : Sector) → OnlyReads S a b n → Changes S b c 1 (OldOr (S.image b) (put (S.image b) p bytes)) → IsMendedAt (S.image a) p (put (S.image a) p bytes) → Changes S a c 1 (OldOrMended (S.image a) p)
+  write_moment a b c n p bytes r now mended =
       let P : Image → Type 0 = OldOrMended (S.image a) p in
-      let Q : Image → Type 0 = λ i. P (put i p bytes) in
+      let Q : Image → Type 0 = IsMendedAt (S.image a) p in
       changes_then S a b c 0 1 1 P (omega arith) (reads_change S a b n P r (inl refl))
-      (write_change S b c (S.image b) (put (S.image b) p bytes) P held counted (inl r.image) (subst Q (sym r.image) (inr mended)))
+      (changes_weaker S b c 1 1 (OldOr (S.image b) (put (S.image b) p bytes)) P (omega arith)
+      (λ i. ⊎_elim (λ e. inl (e ∙ r.image)) (λ e. inr (subst Q (sym (e ∙ ap (λ j. put j p bytes) r.image)) mended))) now)
+
+  pub other_later : (a b c : D) (n : ℕ) (p : Place) → OnlyReads S a b n → WritesOther S b c p → WritesOther S a c p
+  other_later a b c n p r (inl none) = inl (none ∙ r.writes)
+  other_later a b c n p r (inr (changed, one)) = inr ((λ e. changed (e ∙ ap (λ i. sector i p) (sym r.image))), omega (arith, one, r.writes))
+
+  -- a device's failure, told after reads that met none
+  pub fault_later : (a b c : D) (r : Result Unit Fault) → S.failures b ≡ S.failures a → OnOk r (S.failures c ≡ S.failures b) → IfErr r (TellsDevice S b c) → TellsFault S a c r
+  fault_later a b c (Ok x) same ok err = ok ∙ same
+  fault_later a b c (Err f) same ok (p, is, failed) =
+      let P : Fault → Type 0 = λ x. TellsFault {T = Unit} S a c (Err x) in
+      subst P (sym is) (failed_later S a b c same failed)
 
   pub right_written : (a b : D) (c : Image) (p : Place) (bytes : Sector) → S.image b ≡ S.image a → c ≡ put (S.image b) p bytes → AreRightIn (S.image b) p bytes → AreRightIn (S.image a) p (sector c p)
   right_written a b c p bytes same e right =
@@ -116,25 +126,18 @@ module _ {D : Type 0} (S : History D) where
       let Q : Image → Type 0 = λ i. AreRightIn i p bytes in
       subst P (sym there) (subst Q same right)
 
-  pub right_unwritten : (a b : D) (c : Image) (p : Place) (new old : Sector) → S.image b ≡ S.image a → c ≡ S.image a → new ≡ old → old ≡ sector (S.image a) p → AreRightIn (S.image b) p new → AreRightIn (S.image a) p (sector c p)
-  right_unwritten a b c p new old same also kept read right =
-      let there : new ≡ sector c p = kept ∙ read ∙ sym (ap (λ i. sector i p) also) in
-      let P : Sector → Type 0 = λ x. AreRightIn (S.image a) p x in
-      let Q : Image → Type 0 = λ i. AreRightIn i p new in
-      subst P there (subst Q same right)
-
   pub right_read : (a b : D) (p : Place) (old : Sector) → S.image b ≡ S.image a → old ≡ sector (S.image a) p → AreRightIn (S.image a) p (sector (S.image a) p) → AreRightIn (S.image b) p old
   right_read a b p old same read right =
       let P : Sector → Type 0 = λ x. AreRightIn (S.image a) p x in
       let Q : Image → Type 0 = λ i. AreRightIn i p old in
       subst Q (sym same) (subst P (sym read) right)
 
-  -- what was read had a wrong count, and these bytes have right ones
-  pub mended-read : (a b : D) (p : Place) (old bytes : Sector) → S.image b ≡ S.image a → old ≡ sector (S.image a) p → IsCountedAs old bytes → ¬ (AreRightIn (S.image b) p old) → AreRightIn (S.image b) p bytes → IsMendedAt (S.image a) p (put (S.image a) p bytes)
-  mended-read a b p old bytes same read counted wrong right =
+  -- the bytes that were read were made right, or were right already
+  pub mended-read : (a b : D) (p : Place) (old bytes : Sector) → S.image b ≡ S.image a → old ≡ sector (S.image a) p → IsCountedAs old bytes → (AreRightIn (S.image b) p old → bytes ≡ old) → AreRightIn (S.image b) p bytes → IsMendedAt (S.image a) p (put (S.image a) p bytes)
+  mended-read a b p old bytes same read counted kept right =
       let P : Sector → Type 0 = λ x. IsCountedAs x bytes in
       let Q : Image → Type 0 = λ i. AreRightIn i p bytes in
-      mended-put (S.image a) p bytes (S.whole a) (subst P read counted) (λ x. wrong (right_read a b p old same read x)) (subst Q same right)
+      mended-put (S.image a) p bytes (S.whole a) (subst P read counted) (λ x. kept (right_read a b p old same read x) ∙ read) (subst Q same right)
 
   -- one sector more of the directory
   pub step_moments : (a b c : D) (ps : List Place) (k : ℕ) (p : Place) → Contains ps p → Changes S a b k (λ i. IsRecountOf (S.image a) i ps) → Changes S b c 1 (OldOrMended (S.image b) p) → Changes S a c (k + 1) (λ i. IsRecountOf (S.image a) i ps)

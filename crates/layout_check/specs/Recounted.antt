@@ -67,10 +67,10 @@ IsInDirectory img p = (l : Layout) → IsLayout img l → Contains l.directory p
 abbrev pub IsRecountAt : Image → Place → Image → Type 0
 IsRecountAt old p new = IsRecountOf old new (p ∷ [])
 
--- one directory sector, in which a block count was wrong, has right ones, and all else is the same
+-- one directory sector has right block counts, and is as it was where it had them, and all else is the same
 pub record IsMendedAt (old : Image) (p : Place) (new : Image) : Type 0 where
   pub counts : IsRecountAt old p new
-  pub wrong : ¬ (AreRightIn old p (sector old p))
+  pub kept : AreRightIn old p (sector old p) → sector new p ≡ sector old p
   pub right : AreRightIn old p (sector new p)
 
 -- the image is the old one, or that sector was mended

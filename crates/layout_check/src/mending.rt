@@ -51,7 +51,7 @@ pub fn map_of(old: &[u8; 256], owners: &Owners) -> [u8; 256]
 }
 
 /// Writes a sector where its bytes are others than those that it has.
-fn write_other<D: Sectors>(
+pub(crate) fn write_other<D: Sectors>(
     disk: &mut D,
     place: Place,
     had: &[u8; 256],

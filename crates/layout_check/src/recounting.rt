@@ -1,11 +1,12 @@
 //! The block counts of the relative entries, made right.
-ghost use Rattle.std.specs.Prelude.{◌≡◌, ◌<◌, IfErr, IfOk, IsFalse, IsTrue, OnOk};
+ghost use Rattle.std.specs.Prelude.{◌≡◌, ◌<◌, IfErr, IfOk, IsTrue, List, OnOk, length};
 ghost use Rattle.d64_image.specs.History.{Changes, OnlyReads};
 ghost use Rattle.d64_image.specs.Images.{sector};
-ghost use Rattle.disk_layout.specs.Directory.{slot_in};
+ghost use Rattle.disk_layout.specs.Directory.{IsDirectory, slot_in};
 ghost use Rattle.disk_layout.specs.Entries.{IsRecounted};
 ghost use Rattle.disk_layout.specs.Fault.{TellsFault};
 ghost use Rattle.disk_layout.specs.Layout.{IsLayout, IsSound, Layout, count_field, is_rel};
+ghost use Rattle.disk_layout.specs.declared.slot.Slot.{Slot};
 ghost use Rattle.d64_image.specs.declared.place.Place.{Place};
 ghost use Rattle.layout_check.specs.Calls.{Passes, Tells};
 ghost use Rattle.layout_check.specs.Entry.{IsEntry};
@@ -13,38 +14,26 @@ ghost use Rattle.layout_check.specs.InOrder.{AreMade, GoesOver, IsRight};
 ghost use Rattle.layout_check.specs.Recounted.{AreCounted, AreRightIn, IsCountOf, IsCountedAs, IsInDirectory, IsOfDevice, IsRightAt, KeepsButCounts, OldOrMended, WritesOther};
 
 use crate::entry::is_relative;
+use crate::mending::write_other;
 use crate::sides::find_parts;
 use arrayvec::ArrayVec;
+use byteorder::{ByteOrder, LittleEndian};
 use d64_image::{Place, Sectors};
-use disk_layout::{EntryView, Fault, Slot, directory_start, walk_chain};
-
-/// The slot with this number, from 0 to 7, of the directory sector at `place`, which holds these bytes.
-fn slot_at(bytes: &[u8; 256], place: Place, number: u8) -> Slot
-    requires { number < 8 }
-    ensures { result ≡ slot_in place bytes.now number }
-{
-    let start = 32 * number as usize;
-    let mut slot = [0u8; 32];
-    slot.copy_from_slice(&bytes[start..start + 32]);
-    Slot {
-        sector: place,
-        number,
-        bytes: slot,
-    }
-}
+use disk_layout::{Fault, Slot, directory_start, read_sector, walk_chain};
 
 /// Puts a block count into the slot with this number, low byte first.
 fn put_count(bytes: &mut [u8; 256], number: u8, count: u16)
     requires { number < 8 }
     ensures count { (p : Place) → count_field (slot_in p bytes.new number) ≡ count }
     ensures rest { IsRecounted bytes.old bytes.new number }
+    ensures kept { (p : Place) → count_field (slot_in p bytes.old number) ≡ count → bytes.new ≡ bytes.old }
 {
     let at = 32 * number as usize + 30;
-    bytes[at] = (count % 256) as u8;
-    bytes[at + 1] = (count / 256) as u8;
+    LittleEndian::write_u16(&mut bytes[at..at + 2], count);
 }
 
-/// How many sectors a relative entry of a sound disk owns: its data blocks and its side sectors.
+/// How many sectors a relative entry of a sound disk owns: its data blocks and its side sectors. `blocks` and `sides` are
+/// emptied, and filled with these.
 fn count_owned<D: Sectors>(
     disk: &mut D,
     slot: &Slot,
@@ -61,14 +50,15 @@ fn count_owned<D: Sectors>(
     Ok((blocks.len() + sides.len()) as u16)
 }
 
-/// Makes the block count of one slot right in the bytes of its directory sector, where it is a relative entry's. The
-/// answer is whether it was wrong.
+/// Makes the block count of one slot right in the bytes of its directory sector, where it is a relative entry's.
 fn recount_slot<D: Sectors>(
     disk: &mut D,
     place: Place,
     number: u8,
     bytes: &mut [u8; 256],
-) -> Result<bool, Fault>
+    blocks: &mut ArrayVec<Place, 720>,
+    sides: &mut ArrayVec<Place, 6>,
+) -> Result<(), Fault>
     requires sound { IsSound (D.history.image disk.old) }
     requires own { IsInDirectory (D.history.image disk.old) place }
     requires eight { number < 8 }
@@ -76,84 +66,78 @@ fn recount_slot<D: Sectors>(
     ensures rest { OnOk result (IsRecounted bytes.old bytes.new number) }
     ensures counts { OnOk result (IsCountedAs bytes.old bytes.new) }
     ensures right { OnOk result (IsRightAt (D.history.image disk.old) place bytes.new number) }
-    ensures same { IfOk result (λ wrong. IsFalse wrong → bytes.new ≡ bytes.old) }
-    ensures wrong { IfOk result (λ wrong. IsTrue wrong → ¬ (IsRightAt (D.history.image disk.old) place bytes.old number)) }
+    // a count that is right is left as it is
+    ensures kept { OnOk result (IsRightAt (D.history.image disk.old) place bytes.old number → bytes.new ≡ bytes.old) }
     ensures ok { OnOk result (Passes D.history disk.old disk.new 732) }
     ensures err { IfErr result (Tells D.history disk.old disk.new 732) }
 {
-    let slot = slot_at(bytes, place, number);
+    let slot = Slot::in_sector(bytes, place, number);
     if !is_relative(&slot) {
-        return Ok(false);
+        return Ok(());
     }
-    let count = count_owned(disk, &slot, &mut ArrayVec::new(), &mut ArrayVec::new())?;
-    if EntryView::new(&slot.bytes).block_count() == count {
-        return Ok(false);
-    }
+    let count = count_owned(disk, &slot, blocks, sides)?;
     put_count(bytes, number, count);
-    Ok(true)
+    Ok(())
 }
 
-/// Makes the block counts right in the bytes of a directory sector of a sound disk. The answer is whether any was wrong.
+/// Makes the block counts right in the bytes of a directory sector of a sound disk.
 fn recount_sector<D: Sectors>(
     disk: &mut D,
     place: Place,
     bytes: &mut [u8; 256],
-) -> Result<bool, Fault>
+    blocks: &mut ArrayVec<Place, 720>,
+    sides: &mut ArrayVec<Place, 6>,
+) -> Result<(), Fault>
     requires sound { IsSound (D.history.image disk.old) }
     requires own { IsInDirectory (D.history.image disk.old) place }
     requires there { bytes.old ≡ sector (D.history.image disk.old) place }
     ensures counts { OnOk result (IsCountedAs bytes.old bytes.new) }
     ensures right { OnOk result (AreRightIn (D.history.image disk.old) place bytes.new) }
-    ensures same { IfOk result (λ wrong. IsFalse wrong → bytes.new ≡ bytes.old) }
-    ensures wrong { IfOk result (λ wrong. IsTrue wrong → ¬ (AreRightIn (D.history.image disk.old) place bytes.old)) }
+    // counts that are right are left as they are
+    ensures kept { OnOk result (AreRightIn (D.history.image disk.old) place bytes.old → bytes.new ≡ bytes.old) }
     ensures ok { OnOk result (Passes D.history disk.old disk.new 5856) }
     ensures err { IfErr result (Tells D.history disk.old disk.new 5856) }
 {
-    let mut wrong = false;
     for number in 0..8u8 {
-        if recount_slot(disk, place, number, bytes)? {
-            wrong = true;
-        }
+        recount_slot(disk, place, number, bytes, blocks, sides)?;
     }
-    Ok(wrong)
+    Ok(())
 }
 
-/// Writes a directory sector of a sound disk with right block counts, where one of them is wrong.
-fn mend_sector<D: Sectors>(disk: &mut D, place: Place) -> Result<(), Fault>
+/// Makes the block counts right in a directory sector of a sound disk, which is written where one of them is wrong.
+/// `blocks` and `sides` are room for what an entry owns.
+fn mend_sector<D: Sectors>(
+    disk: &mut D,
+    place: Place,
+    blocks: &mut ArrayVec<Place, 720>,
+    sides: &mut ArrayVec<Place, 6>,
+) -> Result<(), Fault>
     requires sound { IsSound (D.history.image disk.old) }
     requires own { IsInDirectory (D.history.image disk.old) place }
     ensures right { OnOk result (AreRightIn (D.history.image disk.old) place (sector (D.history.image disk.new) place)) }
-    // each image held is the old one, or has right counts in this sector, where one was wrong
+    // each image held is the old one, or has right counts in this sector
     ensures moments { Changes D.history disk.old disk.new 1 (OldOrMended (D.history.image disk.old) place) }
     ensures once { WritesOther D.history disk.old disk.new place }
+    // a sector whose counts are right is not written
     ensures silent { AreRightIn (D.history.image disk.old) place (sector (D.history.image disk.old) place) → OnlyReads D.history disk.old disk.new 5857 }
     ensures err { IfErr result IsOfDevice }
     ensures failures { TellsFault D.history disk.old disk.new result }
 {
-    let mut bytes = [0u8; 256];
-    match disk.read(place, &mut bytes) {
-        Ok(()) => {}
-        Err(_) => return Err(Fault::Device(place)),
-    }
-    if !recount_sector(disk, place, &mut bytes)? {
-        return Ok(());
-    }
-    match disk.write(place, &bytes) {
-        Ok(()) => Ok(()),
-        Err(_) => Err(Fault::Device(place)),
-    }
+    let mut had = [0u8; 256];
+    read_sector(disk, place, &mut had)?;
+    let mut bytes = had;
+    recount_sector(disk, place, &mut bytes, blocks, sides)?;
+    write_other(disk, place, &had, &bytes)
 }
 
-/// Finds the sectors of a sound disk's directory, in order.
+/// Finds the sectors of a directory that is right, in order.
 fn find_directory<D: Sectors>(disk: &mut D, places: &mut ArrayVec<Place, 720>) -> Result<(), Fault>
-    requires { IsSound (D.history.image disk.old) }
-    ensures directory { OnOk result ((l : Layout) → IsLayout (D.history.image disk.old) l → places.new.items ≡ l.directory) }
-    ensures ok { OnOk result (Passes D.history disk.old disk.new 720) }
-    ensures err { IfErr result (Tells D.history disk.old disk.new 738) }
+    requires { (ps : List Place) × (slots : List Slot) × IsDirectory (D.history.image disk.old) ps slots }
+    ensures directory { OnOk result ((ps : List Place) (slots : List Slot) → IsDirectory (D.history.image disk.old) ps slots → places.new.items ≡ ps) }
+    ensures ok { OnOk result (Passes D.history disk.old disk.new (length places.new.items)) }
+    ensures err { IfErr result (Tells D.history disk.old disk.new 683) }
 {
-    let walked = walk_chain(disk, directory_start(), places);
-    prove!(places.len() <= 720);
-    walked?;
+    walk_chain(disk, directory_start(), places)?;
     Ok(())
 }
 
@@ -175,9 +159,11 @@ pub fn mend_counts<D: Sectors>(disk: &mut D) -> Result<(), Fault>
     ensures failures { TellsFault D.history disk.old disk.new result }
 {
     let mut places = ArrayVec::new();
+    let mut blocks = ArrayVec::new();
+    let mut sides = ArrayVec::new();
     find_directory(disk, &mut places)?;
     for &place in places.as_slice() {
-        mend_sector(disk, place)?;
+        mend_sector(disk, place, &mut blocks, &mut sides)?;
     }
     Ok(())
 }

@@ -1,20 +1,23 @@
 -- A walk along a directory that is there.
 use Rattle.std.proofs.Common.{ℕ, arith, sym}
 use Rattle.std.proofs.lemmas.Result.{err_from_is_err_and}
+use Rattle.d64_image.proofs.Moments.{reads_weaker}
 use Rattle.disk_layout.proofs.Chains.{IsChain-one}
 use Rattle.disk_layout.specs.Directory.{directory_start}
 use Rattle.layout_check.proofs.Calls.{passes_none, passes_weaker}
 use Rattle.layout_check.proofs.Roots.{again-tells}
 use Rattle.layout_check.proofs.recounting.find_directory.Goals as goal
 
-pub returns-in_err-walked-clause-err : goal.returns-in_err-walked-clause-err
-returns-in_err-walked-clause-err g c =
+pub returns-in_err-walk_chain-clause-err : goal.returns-in_err-walk_chain-clause-err
+returns-in_err-walk_chain-clause-err g c =
     let S = g.D.Sectors.history in
+    let a = c.args.disk.now in
     let p = err_from_is_err_and c.from_residual.result c.from_residual.ensures.1 in
-    let (l, h) = c.requires in
-    rw (p.1, p.2) (again-tells S ℕ c.args.disk.now c.args.disk.now c.walk_chain-walked.new.disk l.directory _ _ _ (omega (arith, c.len.ensures.fits, c.len.ensures.value))
-    (passes_weaker S c.args.disk.now c.args.disk.now 0 18 (omega arith) (passes_none S c.args.disk.now)) h.directory c.in_err-walked.ensures.reads c.in_err-walked.ensures.failures (rw c.directory_start.ensures at c.in_err-walked.ensures.fault))
+    let (ps, slots, d) = c.requires in
+    let told = again-tells S ℕ a a c.walk_chain.new.disk ps slots _ _ (omega (arith, c.walk_chain.ensures.few)) (passes_weaker S a a 0 18 (omega arith) (passes_none S a)) d
+    c.in_err-walk_chain.ensures.reads c.in_err-walk_chain.ensures.failures (rw c.directory_start.ensures at c.in_err-walk_chain.ensures.fault) in
+    rw (p.1, p.2) (record { reads = reads_weaker S a c.walk_chain.new.disk _ 683 c.walk_chain.ensures.few c.in_err-walk_chain.ensures.reads; failures = told.failures; holds = told.holds })
 
 pub returns-clause-directory : goal.returns-clause-directory
-returns-clause-directory g c l h =
-    sym (IsChain-one _ directory_start l.directory c.walk_chain-walked.new.places.items h.directory.last _ h.directory.chain (rw c.directory_start.ensures at c.in_ok-walked.ensures.chain)).0
+returns-clause-directory g c ps slots d =
+    sym (IsChain-one _ directory_start ps c.walk_chain.new.places.items d.last _ d.chain (rw c.directory_start.ensures at c.in_ok-walk_chain.ensures.chain)).0

@@ -1,8 +1,8 @@
 -- Sector by sector of the directory.
-use Rattle.std.proofs.Common.{arith, ◌∙◌, ◌+◌, ◌*◌, ◌≡◌}
+use Rattle.std.proofs.Common.{ap, arith, length, ◌∙◌, ◌+◌, ◌*◌, ◌≡◌}
 use Rattle.std.proofs.lemmas.Result.{err_from_is_err_and}
 use Rattle.d64_image.proofs.Moments.{at_end, reads_weaker}
-use Rattle.disk_layout.proofs.Layouts.{get-contains}
+use Rattle.disk_layout.proofs.Layouts.{IsLayout-one, get-contains}
 use Rattle.disk_layout.specs.Layout.{IsLayout, Layout}
 use Rattle.layout_check.proofs.Orders.{over_none}
 use Rattle.layout_check.proofs.Pointers.{read-there}
@@ -11,20 +11,30 @@ use Rattle.layout_check.specs.InOrder.{IsRight}
 use Rattle.layout_check.specs.Recounted.{IsRecountOf}
 use Rattle.layout_check.proofs.recounting.mend_counts.Goals as goal
 
+pub find_directory-requires : goal.find_directory-requires
+find_directory-requires g c = let (l, h) = c.requires.sound in (l.directory, _, h.directory)
+
 pub returns-in_err-find_directory-clause-err : goal.returns-in_err-find_directory-clause-err
 returns-in_err-find_directory-clause-err g c =
     let p = err_from_is_err_and c.from_residual.result c.from_residual.ensures.1 in
     rw (p.1, p.2) (device-told _ _ _ c.requires.sound c.in_err-find_directory.ensures.err.holds)
+
+pub returns-in_err-find_directory-clause-moments : goal.returns-in_err-find_directory-clause-moments
+returns-in_err-find_directory-clause-moments g c =
+    let S = g.D.Sectors.history in
+    let (l, h) = c.requires.sound in
+    all_moments S c.args.disk.now c.find_directory.new.disk l.directory 0 (omega arith) (λ m is. ap (λ (x : Layout). x.directory) (IsLayout-one (S.image c.args.disk.now) l m h is))
+    (first_moments S c.args.disk.now c.find_directory.new.disk l.directory 683 c.in_err-find_directory.ensures.err.reads)
 
 pub loop-place-init : goal.loop-place-init
 loop-place-init g c =
     let S = g.D.Sectors.history in
     let found = c.in_ok-find_directory.ensures.ok in
     record {
-      moments = first_moments S c.args.disk.now c.find_directory.new.disk c.as_slice-place-items.result.now 720 found.reads;
-      over = λ l h. over_start S c.args.disk.now l h c.as_slice-place-items.result.now (c.as_slice-place-items.ensures.value ∙ c.in_ok-find_directory.ensures.directory l h) c.find_directory.new.disk 720 found.reads;
-      made = λ l h. made_start S c.args.disk.now l h c.as_slice-place-items.result.now (c.as_slice-place-items.ensures.value ∙ c.in_ok-find_directory.ensures.directory l h) c.find_directory.new.disk found.reads.image;
-      silent = λ all. reads_weaker S c.args.disk.now c.find_directory.new.disk 720 _ (omega arith) found.reads;
+      moments = first_moments S c.args.disk.now c.find_directory.new.disk c.as_slice-place-items.result.now _ found.reads;
+      over = λ l h. over_start S c.args.disk.now l h c.as_slice-place-items.result.now (c.as_slice-place-items.ensures.value ∙ c.in_ok-find_directory.ensures.directory l.directory _ h.directory) c.find_directory.new.disk _ found.reads;
+      made = λ l h. made_start S c.args.disk.now l h c.as_slice-place-items.result.now (c.as_slice-place-items.ensures.value ∙ c.in_ok-find_directory.ensures.directory l.directory _ h.directory) c.find_directory.new.disk found.reads.image;
+      silent = λ all. reads_weaker S c.args.disk.now c.find_directory.new.disk _ _ (omega (arith, ap length c.as_slice-place-items.ensures.value, c.as_slice-place-items.ensures.fits)) found.reads;
       failures = found.failures;
     }
 
@@ -33,7 +43,7 @@ mend_sector-requires-clause-sound g c =
     let S = g.D.Sectors.history in
     let items = c.as_slice-place-items.result.now in
     sound-of (S.image c.args.disk.now) (S.image c.loop-place.disk) items (S.whole c.args.disk.now).size c.requires.sound
-    (λ l h. c.as_slice-place-items.ensures.value ∙ c.in_ok-find_directory.ensures.directory l h)
+    (λ l h. c.as_slice-place-items.ensures.value ∙ c.in_ok-find_directory.ensures.directory l.directory _ h.directory)
     (at_end S c.args.disk.now c.loop-place.disk (λ i. IsRecountOf (S.image c.args.disk.now) i items) c.loop-place.invariant.moments.held)
 
 pub mend_sector-requires-clause-own : goal.mend_sector-requires-clause-own
@@ -41,7 +51,7 @@ mend_sector-requires-clause-own g c =
     let S = g.D.Sectors.history in
     let items = c.as_slice-place-items.result.now in
     in-of (S.image c.args.disk.now) (S.image c.loop-place.disk) items c.place-item.result (S.whole c.args.disk.now).size c.requires.sound
-    (λ l h. c.as_slice-place-items.ensures.value ∙ c.in_ok-find_directory.ensures.directory l h)
+    (λ l h. c.as_slice-place-items.ensures.value ∙ c.in_ok-find_directory.ensures.directory l.directory _ h.directory)
     (at_end S c.args.disk.now c.loop-place.disk (λ i. IsRecountOf (S.image c.args.disk.now) i items) c.loop-place.invariant.moments.held)
     (get-contains items c.loop-place.place-index c.place-item.result (read-there items c.loop-place.place-index c.place-item.result c.loop-place-test.true c.place-item.is))
 
@@ -50,7 +60,7 @@ returns-in_err-mend_sector-clause-moments g c =
     let S = g.D.Sectors.history in
     let items = c.as_slice-place-items.result.now in
     let k = c.loop-place.place-index in
-    let same : (l : Layout) → IsLayout (S.image c.args.disk.now) l → items ≡ l.directory = λ l h. c.as_slice-place-items.ensures.value ∙ c.in_ok-find_directory.ensures.directory l h in
+    let same : (l : Layout) → IsLayout (S.image c.args.disk.now) l → items ≡ l.directory = λ l h. c.as_slice-place-items.ensures.value ∙ c.in_ok-find_directory.ensures.directory l.directory _ h.directory in
     all_moments S c.args.disk.now c.mend_sector.new.disk items (k + 1) (omega (arith, c.loop-place-test.true, few-of (S.image c.args.disk.now) items c.requires.sound same)) same
     (step_moments S c.args.disk.now c.loop-place.disk c.mend_sector.new.disk items k c.place-item.result
     (get-contains items k c.place-item.result (read-there items k c.place-item.result c.loop-place-test.true c.place-item.is)) c.loop-place.invariant.moments c.in_err-mend_sector.ensures.moments)
@@ -59,7 +69,7 @@ pub returns-in_err-mend_sector-clause-silent : goal.returns-in_err-mend_sector-c
 returns-in_err-mend_sector-clause-silent g c =
     let S = g.D.Sectors.history in
     let items = c.as_slice-place-items.result.now in
-    let same : (l : Layout) → IsLayout (S.image c.args.disk.now) l → items ≡ l.directory = λ l h. c.as_slice-place-items.ensures.value ∙ c.in_ok-find_directory.ensures.directory l h in
+    let same : (l : Layout) → IsLayout (S.image c.args.disk.now) l → items ≡ l.directory = λ l h. c.as_slice-place-items.ensures.value ∙ c.in_ok-find_directory.ensures.directory l.directory _ h.directory in
     step_silent S c.args.disk.now c.loop-place.disk c.mend_sector.new.disk c.place-item.result (720 + 5857 * c.loop-place.place-index) 106146 (omega (arith, c.loop-place-test.true, few-of (S.image c.args.disk.now) items c.requires.sound same)) c.loop-place.invariant.silent c.in_err-mend_sector.ensures.silent
 
 pub loop-place-preserved : goal.loop-place-preserved
@@ -72,8 +82,8 @@ loop-place-preserved g c =
     let there = read-there items k c.place-item.result c.loop-place-test.true c.place-item.is in
     record {
       moments = step_moments S c.args.disk.now c.loop-place.disk c.mend_sector.new.disk items k c.place-item.result (get-contains items k c.place-item.result there) old.moments now.moments;
-      over = λ l h. over_step S c.args.disk.now l h items (c.as_slice-place-items.ensures.value ∙ c.in_ok-find_directory.ensures.directory l h) c.loop-place.disk c.mend_sector.new.disk k c.place-item.result c.loop-place-test.true c.place-item.is old.moments now.moments now.once (old.over l h) (old.made l h);
-      made = λ l h. made_step S c.args.disk.now l h items (c.as_slice-place-items.ensures.value ∙ c.in_ok-find_directory.ensures.directory l h) c.loop-place.disk c.mend_sector.new.disk k c.place-item.result c.loop-place-test.true c.place-item.is old.moments now.moments now.right (old.made l h);
+      over = λ l h. over_step S c.args.disk.now l h items (c.as_slice-place-items.ensures.value ∙ c.in_ok-find_directory.ensures.directory l.directory _ h.directory) c.loop-place.disk c.mend_sector.new.disk k c.place-item.result c.loop-place-test.true c.place-item.is old.moments now.moments now.once (old.over l h) (old.made l h);
+      made = λ l h. made_step S c.args.disk.now l h items (c.as_slice-place-items.ensures.value ∙ c.in_ok-find_directory.ensures.directory l.directory _ h.directory) c.loop-place.disk c.mend_sector.new.disk k c.place-item.result c.loop-place-test.true c.place-item.is old.moments now.moments now.right (old.made l h);
       silent = step_silent S c.args.disk.now c.loop-place.disk c.mend_sector.new.disk c.place-item.result (720 + 5857 * k) (720 + 5857 * (k + 1)) (omega arith) old.silent now.silent;
       failures = now.failures ∙ old.failures;
     }
@@ -82,7 +92,7 @@ pub returns-clause-counted : goal.returns-clause-counted
 returns-clause-counted g c =
     let S = g.D.Sectors.history in
     let items = c.as_slice-place-items.result.now in
-    let same : (l : Layout) → IsLayout (S.image c.args.disk.now) l → items ≡ l.directory = λ l h. c.as_slice-place-items.ensures.value ∙ c.in_ok-find_directory.ensures.directory l h in
+    let same : (l : Layout) → IsLayout (S.image c.args.disk.now) l → items ≡ l.directory = λ l h. c.as_slice-place-items.ensures.value ∙ c.in_ok-find_directory.ensures.directory l.directory _ h.directory in
     counted-of (S.image c.args.disk.now) (S.image c.loop-place.disk) items (S.whole c.args.disk.now).size c.requires.sound same
     (at_end S c.args.disk.now c.loop-place.disk (λ i. IsRecountOf (S.image c.args.disk.now) i items) c.loop-place.invariant.moments.held)
     (λ l h. made_directory S c.args.disk.now l h items (same l h) c.loop-place.disk c.loop-place.place-index (omega (arith, c.loop-place-test.false)) (c.loop-place.invariant.made l h))
@@ -91,14 +101,14 @@ pub returns-clause-moments : goal.returns-clause-moments
 returns-clause-moments g c =
     let S = g.D.Sectors.history in
     let items = c.as_slice-place-items.result.now in
-    let same : (l : Layout) → IsLayout (S.image c.args.disk.now) l → items ≡ l.directory = λ l h. c.as_slice-place-items.ensures.value ∙ c.in_ok-find_directory.ensures.directory l h in
+    let same : (l : Layout) → IsLayout (S.image c.args.disk.now) l → items ≡ l.directory = λ l h. c.as_slice-place-items.ensures.value ∙ c.in_ok-find_directory.ensures.directory l.directory _ h.directory in
     all_moments S c.args.disk.now c.loop-place.disk items c.loop-place.place-index (omega (arith, c.loop-place.auto, few-of (S.image c.args.disk.now) items c.requires.sound same)) same c.loop-place.invariant.moments
 
 pub returns-clause-silent : goal.returns-clause-silent
 returns-clause-silent g c all =
     let S = g.D.Sectors.history in
     let items = c.as_slice-place-items.result.now in
-    let same : (l : Layout) → IsLayout (S.image c.args.disk.now) l → items ≡ l.directory = λ l h. c.as_slice-place-items.ensures.value ∙ c.in_ok-find_directory.ensures.directory l h in
+    let same : (l : Layout) → IsLayout (S.image c.args.disk.now) l → items ≡ l.directory = λ l h. c.as_slice-place-items.ensures.value ∙ c.in_ok-find_directory.ensures.directory l.directory _ h.directory in
     reads_weaker S c.args.disk.now c.loop-place.disk _ 106146 (omega (arith, c.loop-place.auto, few-of (S.image c.args.disk.now) items c.requires.sound same)) (c.loop-place.invariant.silent all)
 
 pub returns-in_err-mend_sector-clause-over : goal.returns-in_err-mend_sector-clause-over
@@ -108,17 +118,17 @@ returns-in_err-mend_sector-clause-over g c l h =
     let k = c.loop-place.place-index in
     let old = c.loop-place.invariant in
     let now = c.in_err-mend_sector.ensures in
-    let same : items ≡ l.directory = c.as_slice-place-items.ensures.value ∙ c.in_ok-find_directory.ensures.directory l h in
+    let same : items ≡ l.directory = c.as_slice-place-items.ensures.value ∙ c.in_ok-find_directory.ensures.directory l.directory _ h.directory in
     over_directory S c.args.disk.now l h items same c.mend_sector.new.disk (k + 1)
     (over_step S c.args.disk.now l h items same c.loop-place.disk c.mend_sector.new.disk k c.place-item.result c.loop-place-test.true c.place-item.is old.moments now.moments now.once (old.over l h) (old.made l h))
 
 pub returns-in_err-find_directory-clause-over : goal.returns-in_err-find_directory-clause-over
-returns-in_err-find_directory-clause-over g c l h = over_none g.D.Sectors.history (IsRight l) l.directory c.args.disk.now c.find_directory.new.disk 738 c.in_err-find_directory.ensures.err.reads
+returns-in_err-find_directory-clause-over g c l h = over_none g.D.Sectors.history (IsRight l) l.directory c.args.disk.now c.find_directory.new.disk 683 c.in_err-find_directory.ensures.err.reads
 
 pub returns-clause-over : goal.returns-clause-over
 returns-clause-over g c l h =
-    over_directory g.D.Sectors.history c.args.disk.now l h c.as_slice-place-items.result.now (c.as_slice-place-items.ensures.value ∙ c.in_ok-find_directory.ensures.directory l h) c.loop-place.disk c.loop-place.place-index (c.loop-place.invariant.over l h)
+    over_directory g.D.Sectors.history c.args.disk.now l h c.as_slice-place-items.result.now (c.as_slice-place-items.ensures.value ∙ c.in_ok-find_directory.ensures.directory l.directory _ h.directory) c.loop-place.disk c.loop-place.place-index (c.loop-place.invariant.over l h)
 
 pub returns-clause-made : goal.returns-clause-made
 returns-clause-made g c l h =
-    made_directory g.D.Sectors.history c.args.disk.now l h c.as_slice-place-items.result.now (c.as_slice-place-items.ensures.value ∙ c.in_ok-find_directory.ensures.directory l h) c.loop-place.disk c.loop-place.place-index (omega (arith, c.loop-place-test.false)) (c.loop-place.invariant.made l h)
+    made_directory g.D.Sectors.history c.args.disk.now l h c.as_slice-place-items.result.now (c.as_slice-place-items.ensures.value ∙ c.in_ok-find_directory.ensures.directory l.directory _ h.directory) c.loop-place.disk c.loop-place.place-index (omega (arith, c.loop-place-test.false)) (c.loop-place.invariant.made l h)

@@ -1,7 +1,10 @@
 -- The two bytes, low byte first.
-use Rattle.std.proofs.Common.{arith, ◌%◌, ◌+◌, ◌*◌, ◌/◌}
-use Rattle.layout_check.proofs.RightSlots.{count-there, two-high, two-low}
+use Rattle.std.proofs.Common.{arith}
+use Rattle.layout_check.proofs.RightSlots.{count-kept, count-written}
 use Rattle.layout_check.proofs.recounting.put_count.Goals as goal
 
 pub returns-clause-count : goal.returns-clause-count
-returns-clause-count c p = count-there _ p c.args.number (c.args.count % 256) (c.args.count / 256) c.args.count (two-low c.args.bytes.now (32 * c.args.number + 30) _ _ (omega arith)) (two-high c.args.bytes.now (32 * c.args.number + 30) (32 * c.args.number + (30 + 1)) _ _ (omega arith) (omega arith)) (omega arith)
+returns-clause-count c p = count-written c.args.bytes.now c.write_u16.new.buf _ p c.args.number _ c.args.count (omega (arith, c.ranges.count)) (omega (arith, c.told-bytes, c.requires)) c.write_u16.ensures
+
+pub returns-clause-kept : goal.returns-clause-kept
+returns-clause-kept c p same = count-kept c.args.bytes.now c.write_u16.new.buf p c.args.number _ c.args.count c.fits-bytes (omega arith) (omega (arith, c.told-bytes, c.requires)) c.write_u16.ensures same

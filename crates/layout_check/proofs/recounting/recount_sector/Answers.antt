@@ -1,12 +1,10 @@
 -- Slot by slot: the one that was made right, and those before and behind it.
-use Rattle.std.proofs.Common.{arith, sym, ◌∙◌, ◌*◌, ◌+◌}
-use Rattle.std.proofs.lemmas.Bool.{false≢true}
+use Rattle.std.proofs.Common.{arith, ◌∙◌, ◌*◌, ◌+◌}
 use Rattle.std.proofs.lemmas.Result.{err_from_is_err_and}
 use Rattle.layout_check.proofs.Calls.{passes_then, tells_then}
 use Rattle.layout_check.proofs.RightCounts.{counted-then}
-use Rattle.layout_check.proofs.RightSlots.{other-slot, right-next, wrong-next}
+use Rattle.layout_check.proofs.RightSlots.{other-slot, right-next, right-there}
 use Rattle.layout_check.proofs.recounting.recount_sector.Goals as goal
-use Rattle.layout_check.proofs.recounting.recount_sector.Goals.{then-branch, else-branch}
 
 pub returns-in_err-recount_slot-clause-err : goal.returns-in_err-recount_slot-clause-err
 returns-in_err-recount_slot-clause-err g c =
@@ -25,14 +23,7 @@ loop-number-preserved g c =
       counts = counted-then c.args.bytes.now c.loop-number.bytes c.recount_slot.new.bytes old.counts now.counts;
       later = λ k above low. other-slot c.args.place c.loop-number.bytes c.recount_slot.new.bytes n k now.rest low (λ e. omega (arith, e, above)) ∙ old.later k (omega (arith, above)) low;
       right = right-next _ _ c.args.place c.loop-number.bytes c.recount_slot.new.bytes n old.passes.reads.image eight now.rest old.right now.right;
-      same = elim c.if-branch.branch [
-        | then-branch w ↦ λ off. absurd (false≢true (sym off ∙ w.wrong-is))
-        | else-branch w ↦ λ off. now.same w.if-branch.false ∙ old.same (sym w.wrong-is ∙ off)
-      ];
-      wrong = elim c.if-branch.branch [
-        | then-branch w ↦ λ on. wrong-next _ _ c.args.place c.args.bytes.now c.loop-number.bytes n old.passes.reads.image eight (old.later n (omega arith) eight) (now.wrong w.if-branch.true)
-        | else-branch w ↦ λ on. old.wrong (sym w.wrong-is ∙ on)
-      ];
+      kept = λ all. let e = old.kept all in now.kept (right-there _ _ c.args.place c.args.bytes.now c.loop-number.bytes n old.passes.reads.image eight e all) ∙ e;
     }
 
 pub returns-clause-right : goal.returns-clause-right

@@ -1,5 +1,5 @@
 -- The slots so far are right, the later ones as they were.
-use Rattle.std.proofs.Common.{ℕ, ◌≡◌, ◌<◌, ◌≤◌, ◌*◌, IsFalse, IsTrue}
+use Rattle.std.proofs.Common.{ℕ, ◌≡◌, ◌<◌, ◌≤◌, ◌*◌}
 use Rattle.disk_layout.specs.Directory.{slot_in}
 use Rattle.layout_check.specs.Calls.{Passes}
 use Rattle.layout_check.specs.Recounted.{AreRightIn, IsCountedAs, IsRightAt}
@@ -13,6 +13,5 @@ invariant-loop-number g l =
       counts : IsCountedAs l.fn.bytes l.bytes;
       later : (k : ℕ) → l.number ≤ k → k < 8 → slot_in l.place l.bytes k ≡ slot_in l.place l.fn.bytes k;
       right : (k : ℕ) → k < l.number → IsRightAt (S.image l.fn.disk) l.place l.bytes k;
-      same : IsFalse l.wrong → l.bytes ≡ l.fn.bytes;
-      wrong : IsTrue l.wrong → ¬ (AreRightIn (S.image l.fn.disk) l.place l.fn.bytes);
+      kept : AreRightIn (S.image l.fn.disk) l.place l.fn.bytes → l.bytes ≡ l.fn.bytes;
     }
