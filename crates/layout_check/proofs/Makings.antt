@@ -150,13 +150,13 @@ cleared-header old long = (
 
 -- the map made as far as the tracks below n
 pub record IsMadeBelow (old now : List ℕ) (t : Owners) (n : ℕ) : Type 0 where
-  pub right : (track : ℕ) → 1 ≤ track → track ≤ n → IsRightTrack now t track
-  pub spare : (track : ℕ) → 1 ≤ track → track ≤ n → HasNoSpare now track
-  pub none : (track : ℕ) → n < track → track ≤ 35 → IsWithoutFree now track
+  pub right : (track : ℕ) → 1 ≤ track → track < n → IsRightTrack now t track
+  pub spare : (track : ℕ) → 1 ≤ track → track < n → HasNoSpare now track
+  pub none : (track : ℕ) → n ≤ track → track ≤ 35 → IsWithoutFree now track
   pub header : SameHeader old now
 
-pub below-start : (old now : List ℕ) (t : Owners) → length old ≡ 256 → now ≡ cleared old → IsMadeBelow old now t 0
-below-start old now t long e = let P : List ℕ → Type 0 = λ b. IsMadeBelow old b t 0 in subst P (sym e) (record {
+pub below-start : (old now : List ℕ) (t : Owners) → length old ≡ 256 → now ≡ cleared old → IsMadeBelow old now t 1
+below-start old now t long e = let P : List ℕ → Type 0 = λ b. IsMadeBelow old b t 1 in subst P (sym e) (record {
   right = λ track low high. absurd (omega arith);
   spare = λ track low high. absurd (omega arith);
   none = λ track low high. cleared-none old track long (omega arith) high;
@@ -173,13 +173,13 @@ right-kept a b t track bits count h = record {
   count = count ∙ h.count ∙ sum-same (map_bit a track) (map_bit b track) (sectors_on track) (λ s below. sym (bits s (omega (arith, below, few_sectors track))));
 }
 
-pub below-next : (old now new : List ℕ) (t : Owners) (n : ℕ) → IsMadeBelow old now t n → IsMadeTrack now new t (n + 1) → IsMadeBelow old new t (n + 1)
+pub below-next : (old now new : List ℕ) (t : Owners) (n : ℕ) → IsMadeBelow old now t n → IsMadeTrack now new t n → IsMadeBelow old new t (n + 1)
 below-next old now new t n h made = record {
-  right = λ track low high. elim (cases_eq track (n + 1)) [
+  right = λ track low high. elim (cases_eq track n) [
     | inl e ↦ rw e made.right
     | inr ne ↦ right-kept now new t track (λ s below. made.keeps.bits track s ne below) (made.keeps.counts track ne) (h.right track low (omega arith))
   ];
-  spare = λ track low high. elim (cases_eq track (n + 1)) [
+  spare = λ track low high. elim (cases_eq track n) [
     | inl e ↦ rw e made.spare
     | inr ne ↦ (λ s past below. made.keeps.bits track s ne below ∙ h.spare track low (omega arith) s past below)
   ];
@@ -190,7 +190,7 @@ below-next old now new t n h made = record {
   header = (made.keeps.header.0 ∙ h.header.0, made.keeps.header.1 ∙ h.header.1);
 }
 
-pub below-all : (old now : List ℕ) (t : Owners) (n : ℕ) → 35 ≤ n → IsMadeBelow old now t n → IsMadeMap old now t
+pub below-all : (old now : List ℕ) (t : Owners) (n : ℕ) → 35 < n → IsMadeBelow old now t n → IsMadeMap old now t
 below-all old now t n all h = record {
   right = λ track low high. h.right track low (omega arith);
   spare = λ track low high. h.spare track low (omega arith);
