@@ -3,7 +3,7 @@ use Rattle.std.proofs.Common.{ℕ, ◌≡◌, ◌≢◌, ◌<◌, ◌≤◌, ◌
 use Rattle.std.specs.Prelude.{drop, replicate, take}
 use Rattle.std.proofs.Math.ListN.{get_or-append}
 use Rattle.std.proofs.Math.Seq.{drop-append_seam, take-append_seam}
-use Rattle.std.proofs.lemmas.List.{get_or-append_right, get_or-replicate, length-replicate, length-take}
+use Rattle.std.proofs.lemmas.List.{get_or-append_right, get_or-replicate, length-drop, length-replicate, length-take}
 use Rattle.std.proofs.lemmas.Slice.{put_mid-paste}
 use borrow.Rule.Slice.PartMut.{put_mid}
 use Rattle.std.proofs.lemmas.Nat.Bits.{bit_at-zero}
@@ -108,9 +108,6 @@ made-end old now t track i all h = record {
   keeps = h.keeps;
 }
 
-pub free-owner : (t : Owners) (p : Place) → ¬ (owner_of t p ≢ 255) → owner_of t p ≡ 255
-free-owner t p h = elim (cases_eq (owner_of t p) 255) [ inl e ↦ e | inr ne ↦ absurd (h ne) ]
-
 pub not-taken : (old now : List ℕ) (t : Owners) (track i : ℕ) (p : Place) → i < 24 → Some p ≡ place_at track i → IsMadeTo old now t track i → ¬ (IsFree now p)
 not-taken old now t track i p low at h free =
     let both = place_at-some track i p (sym at) in
@@ -197,6 +194,9 @@ below-all old now t n all h = record {
   header = h.header;
 }
 
-pub pasted : (old ys : List ℕ) → ys ≡ replicate 140 0 → put_mid 4 140 old ys ≡ cleared old
+-- the bytes of the map filled with zeros
+pub filled : (old ys : List ℕ) → length old ≡ 256 → ys ≡ replicate (length (take 140 (drop 4 old))) 0 → put_mid 4 140 old ys ≡ cleared old
 unfolding cleared
-pasted old ys e = put_mid-paste 4 140 old ys (replicate 140 0) 140 e refl refl ∙ append_assoc (take 4 old) (replicate 140 0) (drop 144 old)
+filled old ys whole e =
+    let long : length (take 140 (drop 4 old)) ≡ 140 = omega (arith, length-take 140 (drop 4 old), length-drop 4 old, whole) in
+    put_mid-paste 4 140 old ys (replicate 140 0) 140 (e ∙ ap (λ (n : ℕ). replicate n 0) long) refl refl ∙ append_assoc (take 4 old) (replicate 140 0) (drop 144 old)

@@ -1,16 +1,10 @@
 -- The map cleared, and then track by track.
-use Rattle.std.proofs.Common.{ℕ, ◌≡◌, ap, arith, length, ◌∙◌}
-use Rattle.std.specs.Prelude.{drop, replicate, take}
-use Rattle.std.proofs.lemmas.List.{length-drop, length-take}
-use Rattle.layout_check.proofs.Makings.{below-all, below-next, below-start, pasted}
+use Rattle.std.proofs.Common.{arith, ◌∙◌}
+use Rattle.layout_check.proofs.Makings.{below-all, below-next, below-start, filled}
 use Rattle.layout_check.proofs.mending.map_of.Goals as goal
 
 pub loop-track-init : goal.loop-track-init
-loop-track-init c =
-    let old = c.args.old.now in
-    let long : length (take 140 (drop 4 old)) ≡ 140 = omega (arith, length-take 140 (drop 4 old), length-drop 4 old, c.told-old) in
-    let zeros = c.fill.ensures.after (λ y e. e) ∙ ap (λ (n : ℕ). replicate n 0) long in
-    below-start old c.new-map.result.bytes c.args.owners.now c.told-old (c.new-map.ensures ∙ pasted old c.fill.new.self zeros)
+loop-track-init c = below-start c.args.old.now c.new-map.result.bytes c.args.owners.now c.told-old (c.new-map.ensures ∙ filled c.args.old.now c.fill.new.self c.told-old (c.fill.ensures.after (λ y e. e)))
 
 pub free_track-requires : goal.free_track-requires
 free_track-requires c = record { none = c.loop-track.invariant.none c.loop-track.track (omega arith) (omega arith) }
