@@ -1,5 +1,5 @@
 -- The survey, what it kept back, then the map; a fault on the way is told, and holds.
-use Rattle.std.proofs.Common.{ℕ, arith, refl, sym, ◌∙◌}
+use Rattle.std.proofs.Common.{ℕ, arith, refl, ◌∙◌}
 use Rattle.std.proofs.lemmas.Result.{err_from_is_err_and}
 use Rattle.d64_image.proofs.Moments.{reads_weaker}
 use Rattle.layout_check.proofs.Calls.{any_answer, passes_then}
