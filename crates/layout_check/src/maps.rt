@@ -1,6 +1,6 @@
 //! The map of free sectors, beside who owns which sector.
-ghost use Rattle.std.specs.Prelude.{◌≡◌, ◌≤◌, ◌↔◌, IfErr, IsTrue, OnOk};
-ghost use Rattle.layout_check.specs.Marked.{IsMarked, IsRightMap, IsRightTrack, IsWrongMap, ones_on};
+ghost use Rattle.std.specs.Prelude.{◌≤◌, IfErr, OnOk};
+ghost use Rattle.layout_check.specs.Marked.{IsRightMap, IsRightTrack, IsWrongMap};
 
 use crate::owners::Owners;
 use d64_image::Place;
