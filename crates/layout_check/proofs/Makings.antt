@@ -3,7 +3,7 @@ use Rattle.std.proofs.Common.{ℕ, ◌≡◌, ◌≢◌, ◌<◌, ◌≤◌, ◌
 use Rattle.std.specs.Prelude.{drop, replicate, take}
 use Rattle.std.proofs.Math.ListN.{get_or-append}
 use Rattle.std.proofs.Math.Seq.{drop-append_seam, take-append_seam}
-use Rattle.std.proofs.lemmas.List.{get_or-append_right, get_or-replicate, length-replicate, length-take}
+use Rattle.std.proofs.lemmas.List.{get_or-append_right, get_or-replicate, length-drop, length-replicate, length-take}
 use Rattle.std.proofs.lemmas.Slice.{put_mid-paste}
 use borrow.Rule.Slice.PartMut.{put_mid}
 use Rattle.std.proofs.lemmas.Nat.Bits.{bit_at-zero}
@@ -108,9 +108,6 @@ made-end old now t track i all h = record {
   keeps = h.keeps;
 }
 
-pub free-owner : (t : Owners) (p : Place) → ¬ (owner_of t p ≢ 255) → owner_of t p ≡ 255
-free-owner t p h = elim (cases_eq (owner_of t p) 255) [ inl e ↦ e | inr ne ↦ absurd (h ne) ]
-
 pub not-taken : (old now : List ℕ) (t : Owners) (track i : ℕ) (p : Place) → i < 24 → Some p ≡ place_at track i → IsMadeTo old now t track i → ¬ (IsFree now p)
 not-taken old now t track i p low at h free =
     let both = place_at-some track i p (sym at) in
@@ -150,13 +147,13 @@ cleared-header old long = (
 
 -- the map made as far as the tracks below n
 pub record IsMadeBelow (old now : List ℕ) (t : Owners) (n : ℕ) : Type 0 where
-  pub right : (track : ℕ) → 1 ≤ track → track ≤ n → IsRightTrack now t track
-  pub spare : (track : ℕ) → 1 ≤ track → track ≤ n → HasNoSpare now track
-  pub none : (track : ℕ) → n < track → track ≤ 35 → IsWithoutFree now track
+  pub right : (track : ℕ) → 1 ≤ track → track < n → IsRightTrack now t track
+  pub spare : (track : ℕ) → 1 ≤ track → track < n → HasNoSpare now track
+  pub none : (track : ℕ) → n ≤ track → track ≤ 35 → IsWithoutFree now track
   pub header : SameHeader old now
 
-pub below-start : (old now : List ℕ) (t : Owners) → length old ≡ 256 → now ≡ cleared old → IsMadeBelow old now t 0
-below-start old now t long e = let P : List ℕ → Type 0 = λ b. IsMadeBelow old b t 0 in subst P (sym e) (record {
+pub below-start : (old now : List ℕ) (t : Owners) → length old ≡ 256 → now ≡ cleared old → IsMadeBelow old now t 1
+below-start old now t long e = let P : List ℕ → Type 0 = λ b. IsMadeBelow old b t 1 in subst P (sym e) (record {
   right = λ track low high. absurd (omega arith);
   spare = λ track low high. absurd (omega arith);
   none = λ track low high. cleared-none old track long (omega arith) high;
@@ -173,13 +170,13 @@ right-kept a b t track bits count h = record {
   count = count ∙ h.count ∙ sum-same (map_bit a track) (map_bit b track) (sectors_on track) (λ s below. sym (bits s (omega (arith, below, few_sectors track))));
 }
 
-pub below-next : (old now new : List ℕ) (t : Owners) (n : ℕ) → IsMadeBelow old now t n → IsMadeTrack now new t (n + 1) → IsMadeBelow old new t (n + 1)
+pub below-next : (old now new : List ℕ) (t : Owners) (n : ℕ) → IsMadeBelow old now t n → IsMadeTrack now new t n → IsMadeBelow old new t (n + 1)
 below-next old now new t n h made = record {
-  right = λ track low high. elim (cases_eq track (n + 1)) [
+  right = λ track low high. elim (cases_eq track n) [
     | inl e ↦ rw e made.right
     | inr ne ↦ right-kept now new t track (λ s below. made.keeps.bits track s ne below) (made.keeps.counts track ne) (h.right track low (omega arith))
   ];
-  spare = λ track low high. elim (cases_eq track (n + 1)) [
+  spare = λ track low high. elim (cases_eq track n) [
     | inl e ↦ rw e made.spare
     | inr ne ↦ (λ s past below. made.keeps.bits track s ne below ∙ h.spare track low (omega arith) s past below)
   ];
@@ -190,13 +187,16 @@ below-next old now new t n h made = record {
   header = (made.keeps.header.0 ∙ h.header.0, made.keeps.header.1 ∙ h.header.1);
 }
 
-pub below-all : (old now : List ℕ) (t : Owners) (n : ℕ) → 35 ≤ n → IsMadeBelow old now t n → IsMadeMap old now t
+pub below-all : (old now : List ℕ) (t : Owners) (n : ℕ) → 35 < n → IsMadeBelow old now t n → IsMadeMap old now t
 below-all old now t n all h = record {
   right = λ track low high. h.right track low (omega arith);
   spare = λ track low high. h.spare track low (omega arith);
   header = h.header;
 }
 
-pub pasted : (old ys : List ℕ) → ys ≡ replicate 140 0 → put_mid 4 140 old ys ≡ cleared old
+-- the bytes of the map filled with zeros
+pub filled : (old ys : List ℕ) → length old ≡ 256 → ys ≡ replicate (length (take 140 (drop 4 old))) 0 → put_mid 4 140 old ys ≡ cleared old
 unfolding cleared
-pasted old ys e = put_mid-paste 4 140 old ys (replicate 140 0) 140 e refl refl ∙ append_assoc (take 4 old) (replicate 140 0) (drop 144 old)
+filled old ys whole e =
+    let long : length (take 140 (drop 4 old)) ≡ 140 = omega (arith, length-take 140 (drop 4 old), length-drop 4 old, whole) in
+    put_mid-paste 4 140 old ys (replicate 140 0) 140 (e ∙ ap (λ (n : ℕ). replicate n 0) long) refl refl ∙ append_assoc (take 4 old) (replicate 140 0) (drop 144 old)

@@ -1,7 +1,10 @@
 -- The bits of a track: how many are ones, and which are right.
-use Rattle.std.proofs.Common.{ℕ, ◌≡◌, ◌<◌, ◌≤◌, ◌+◌, min, Some, None, List, sym, ◌∙◌, ap, refl, arith, subst, ◌*◌, ◌/◌, ◌%◌, slice_index}
+use Rattle.std.proofs.Common.{ℕ, Bool, IsTrue, true, false, inl, inr, ◌↔◌, ◌≡◌, ◌≢◌, ◌<◌, ◌≤◌, ◌+◌, min, Some, None, List, sym, ◌∙◌, ap, refl, arith, subst, ◌*◌, ◌/◌, ◌%◌, slice_index}
+use mathlib.Core.Bool.{beq}
+use mir.Val.{bool_byte}
 use Rattle.std.specs.Prelude.{sum_by}
 use Rattle.std.proofs.Math.Decide.{dec_lt}
+use Rattle.std.proofs.lemmas.Bool.{cases_eq, false≢true}
 use Rattle.std.proofs.lemmas.Nat.Bits.{bit_at-lt}
 use Rattle.d64_image.proofs.Places.{place_at-some, same_place}
 use Rattle.d64_image.specs.Geometry.{sectors_on}
@@ -12,6 +15,7 @@ use Rattle.disk_layout.proofs.Freeing.{past-track}
 use Rattle.disk_layout.proofs.Sums.{sum-same, sum_more}
 use Rattle.disk_layout.specs.Map.{IsFree, map_bit, numbers_below}
 use Rattle.layout_check.specs.Marked.{IsMarked, ones_on}
+use Rattle.layout_check.specs.Owners.{owner_of}
 use Rattle.layout_check.specs.declared.owners.Owners.{Owners}
 
 -- how many of the sectors of a track below n the bits call free
@@ -52,6 +56,31 @@ ones-taken bytes track n p h taken =
     let none : 0 ≡ map_bit bytes p.track p.sector = omega (arith, bit_at-lt (slice_index bytes (4 * p.track + 1 + p.sector / 8)) (p.sector % 8), taken) in
     omega (arith, ones-next bytes track n 0 p h (none ∙ ap (λ (t : ℕ). map_bit bytes t p.sector) both.0 ∙ ap (map_bit bytes track) both.1))
 
+-- a bit that was asked, counted
+pub ones-judged : (bytes : List ℕ) (track n : ℕ) (p : Place) → Some p ≡ place_at track n → (free : Bool) → (IsTrue free ↔ IsFree bytes p) → ones_to bytes track (n + 1) ≡ ones_to bytes track n + bool_byte free
+ones-judged bytes track n p h true tells = ones-free bytes track n p h (tells.0 refl)
+ones-judged bytes track n p h false tells = omega (arith, ones-taken bytes track n p h (λ f. false≢true (tells.1 f)))
+
+pub bit-small : (b : Bool) → bool_byte b ≤ 1
+bit-small true = omega arith
+bit-small false = omega arith
+
+pub free-owner : (t : Owners) (p : Place) → ¬ (owner_of t p ≢ 255) → owner_of t p ≡ 255
+free-owner t p h = elim (cases_eq (owner_of t p) 255) [ inl e ↦ e | inr ne ↦ absurd (h ne) ]
+
+-- a bit and an owner that were asked: the map is right where one of both is there, and not both
+pub told-marked : (bytes : List ℕ) (t : Owners) (p : Place) (free owned : Bool) → (IsTrue free ↔ IsFree bytes p) → (IsTrue owned ↔ (owner_of t p ≢ 255)) → beq free owned ≡ false → IsMarked bytes t p
+told-marked bytes t p true true is has same = absurd (false≢true (sym same))
+told-marked bytes t p true false is has same = ((λ _. free-owner t p (λ other. false≢true (has.1 other))), (λ _. is.0 refl))
+told-marked bytes t p false true is has same = ((λ f. absurd (false≢true (is.1 f))), (λ e. absurd (has.0 refl e)))
+told-marked bytes t p false false is has same = absurd (false≢true (sym same))
+
+pub told-unmarked : (bytes : List ℕ) (t : Owners) (p : Place) (free owned : Bool) → (IsTrue free ↔ IsFree bytes p) → (IsTrue owned ↔ (owner_of t p ≢ 255)) → beq free owned ≡ true → ¬ (IsMarked bytes t p)
+told-unmarked bytes t p true true is has same m = has.0 refl (m.0 (is.0 refl))
+told-unmarked bytes t p true false is has same m = false≢true same
+told-unmarked bytes t p false true is has same m = false≢true same
+told-unmarked bytes t p false false is has same m = false≢true (is.1 (m.1 (free-owner t p (λ other. false≢true (has.1 other)))))
+
 -- one more sector of the track that is right, or that isn't there
 pub marked-next : (bytes : List ℕ) (t : Owners) (track n : ℕ) (q : Place) → Some q ≡ place_at track n → ((p : Place) → p.track ≡ track → p.sector < n → IsMarked bytes t p) → IsMarked bytes t q → (p : Place) → p.track ≡ track → p.sector < n + 1 → IsMarked bytes t p
 marked-next bytes t track n q h so_far here p on below = elim (dec_lt p.sector n) [
@@ -74,9 +103,6 @@ pub marked-all : (bytes : List ℕ) (t : Owners) (track n : ℕ) → 24 ≤ n �
 marked-all bytes t track n all so_far p on =
     let low : p.sector < sectors_on track = rw (← on) p.on_disk in
     so_far p on (omega (arith, few_sectors track))
-
-pub free-in : (a b : List ℕ) (p : Place) → a ≡ b → IsFree a p → IsFree b p
-free-in a b p same h = let P : List ℕ → Type 0 = λ bytes. IsFree bytes p in subst P same h
 
 pub ones-same : (a b : List ℕ) (track n : ℕ) → ((s : ℕ) → s < n → map_bit a track s ≡ map_bit b track s) → ones_to a track n ≡ ones_to b track n
 unfolding ones_to

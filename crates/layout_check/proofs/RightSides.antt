@@ -18,11 +18,13 @@ use Rattle.disk_layout.specs.Directory.{IsDirectory}
 use Rattle.disk_layout.specs.Layout.{File, IsFile, IsLayout, Layout, is_rel, record_length}
 use Rattle.disk_layout.specs.Side.{side_sector}
 use Rattle.disk_layout.specs.declared.slot.Slot.{Slot}
+use Rattle.layout_check.proofs.Assembly.{contains-get}
 use Rattle.layout_check.proofs.Inexact.{parts-of}
 use Rattle.layout_check.proofs.Orders.{made_none, made_put, made_then, over_more, over_none, over_then, over_write}
 use Rattle.layout_check.proofs.Pointers.{read-there}
 use Rattle.layout_check.proofs.Rights.{files-once, side-not_directory, side-not_map, sides-once}
 use Rattle.layout_check.proofs.SideMends.{file-once, file-sector, files-apart, parts-in}
+use Rattle.layout_check.specs.Exact.{AreExactSides}
 use Rattle.layout_check.specs.InOrder.{AreMade, GoesOver, IsRight, sides_of}
 use Rattle.layout_check.specs.Mended.{IsPartsOf}
 use Rattle.layout_check.specs.Recounted.{WritesOther}
@@ -85,6 +87,20 @@ module _ (img : Image) (l : Layout) (is : IsLayout img l) where
     -- and no others are
     pub part-one : (n : ℕ) (p : Place) (bytes : Sector) → slice_get ss n ≡ Some p → IsRight l p bytes → side_sector n bs ss (record_length s) ≡ bytes
     part-one n p bytes there r = sym (r.side h.file n own h.rel (at n p there) ∙ file-sector img s bs ss n h)
+
+    -- where all are exact, they are made with no change
+    pub made_exact : (b : Image) → b ≡ img → AreExactSides img s bs ss → AreMade (IsRight l) ss img b
+    made_exact b same exact = record {
+      right = λ p c.
+          let (n, there) = contains-get ss p c in
+          let P : Sector → Type 0 = IsRight l p in
+          subst P (sym (stays p ∙ exact n p there)) (part-right n p there);
+      kept = λ p right. stays p;
+      rest = λ p none. stays p;
+    }
+      where
+        stays : (p : Place) → sector b p ≡ sector img p
+        stays p = ap (λ (i : Image). sector i p) same
 
 -- the side sectors that were found are those of the file
 pub sides-found : (img : Image) (l : Layout) (f : File) (s : Slot) (blocks sides items : List Place) → IsLayout img l → Contains l.files f → f.slot ≡ s → IsTrue (is_rel s) → HasParts img s blocks sides → items ≡ sides → items ≡ f.sides

@@ -12,7 +12,7 @@ use crate::maps::check_bits;
 use crate::outcome::Survey;
 use crate::surveying::survey_files;
 use d64_image::Sectors;
-use disk_layout::{Fault, map_place};
+use disk_layout::{Fault, map_place, read_sector};
 
 /// Judges the map of a sound disk that was surveyed.
 fn check_map<D: Sectors>(disk: &mut D, found: &Survey) -> Result<(), Fault>
@@ -22,10 +22,8 @@ fn check_map<D: Sectors>(disk: &mut D, found: &Survey) -> Result<(), Fault>
     ensures err { IfErr result (TellsOfClean D.history disk.old disk.new 1) }
 {
     let mut map = [0u8; 256];
-    match disk.read(map_place(), &mut map) {
-        Ok(()) => check_bits(&map, found.owners()),
-        Err(_) => Err(Fault::Device(map_place())),
-    }
+    read_sector(disk, map_place(), &mut map)?;
+    check_bits(&map, found.owners())
 }
 
 /// Checks the disk: where it is sound, and its side sectors, the block counts of its relative entries and its map are

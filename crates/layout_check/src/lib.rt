@@ -16,6 +16,8 @@ mod repairing_tests;
 mod sides;
 mod surveying;
 #[cfg(test)]
+mod test_disks;
+#[cfg(test)]
 mod tests;
 
 pub use checking::check;

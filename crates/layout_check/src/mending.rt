@@ -20,7 +20,9 @@ use crate::owners::Owners;
 use crate::sides::find_parts;
 use arrayvec::ArrayVec;
 use d64_image::{Place, Sectors};
-use disk_layout::{Bam, Fault, Slot, map_place, read_directory, side_bytes};
+use disk_layout::{
+    Bam, EntryView, Fault, Slot, map_place, read_directory, read_sector, side_bytes, write_sector,
+};
 
 /// Frees the sectors of a track that nobody owns, where none was free.
 fn free_track(map: &mut Bam, owners: &Owners, track: u8)
@@ -42,10 +44,10 @@ pub fn map_of(old: &[u8; 256], owners: &Owners) -> [u8; 256]
     ensures { IsMadeMap old.now result owners.now }
 {
     let mut bytes = *old;
-    bytes[4..144].copy_from_slice(&[0; 140]);
+    bytes[4..144].fill(0);
     let mut map = Bam::new(bytes);
-    for below in 0..35u8 {
-        free_track(&mut map, owners, below + 1);
+    for track in 1..=35u8 {
+        free_track(&mut map, owners, track);
     }
     map.bytes
 }
@@ -69,10 +71,7 @@ pub(crate) fn write_other<D: Sectors>(
     if had == wanted {
         return Ok(());
     }
-    match disk.write(place, wanted) {
-        Ok(()) => Ok(()),
-        Err(_) => Err(Fault::Device(place)),
-    }
+    write_sector(disk, place, wanted)
 }
 
 /// Gives a sound disk that was surveyed the map that it is to have, where it has another.
@@ -92,10 +91,7 @@ pub fn mend_map<D: Sectors>(disk: &mut D, found: &Survey) -> Result<(), Fault>
     ensures quiet { HasMap (D.history.image disk.old) → OnlyReads D.history disk.old disk.new 1 }
 {
     let mut map = [0u8; 256];
-    match disk.read(map_place(), &mut map) {
-        Ok(()) => {}
-        Err(_) => return Err(Fault::Device(map_place())),
-    }
+    read_sector(disk, map_place(), &mut map)?;
     if check_bits(&map, found.owners()).is_ok() {
         return Ok(());
     }
@@ -126,13 +122,11 @@ fn mend_sides<D: Sectors>(
     // side sectors that are right are not written
     ensures quiet { AreExactSides (D.history.image disk.old) slot.now blocks.now sides.now → OnlyReads D.history disk.old disk.new 6 }
 {
+    let record_length = EntryView::new(&slot.bytes).record_length();
     let mut sector = [0u8; 256];
     for (number, &side) in sides.iter().enumerate() {
-        match disk.read(side, &mut sector) {
-            Ok(()) => {}
-            Err(_) => return Err(Fault::Device(side)),
-        }
-        let wanted = side_bytes(number as u8, blocks, sides, slot.bytes[23]);
+        read_sector(disk, side, &mut sector)?;
+        let wanted = side_bytes(number as u8, blocks, sides, record_length);
         write_other(disk, side, &sector, &wanted)?;
     }
     Ok(())
@@ -162,8 +156,10 @@ fn mend_relative<D: Sectors>(
     // side sectors that are right are not written
     ensures quiet { IsExactFor (D.history.image disk.old) (D.history.image disk.old) slot.now → OnlyReads D.history disk.old disk.new 738 }
 {
-    find_parts(disk, slot, blocks, sides)?;
-    mend_sides(disk, slot, blocks.as_slice(), sides.as_slice())
+    match find_parts(disk, slot, blocks, sides)? {
+        Some(_) => mend_sides(disk, slot, blocks.as_slice(), sides.as_slice()),
+        None => Ok(()),
+    }
 }
 
 /// Gives the side sectors of all relative entries of a sound disk the bytes that they are to have, in the order of the

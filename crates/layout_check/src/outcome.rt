@@ -5,6 +5,7 @@ ghost use Rattle.layout_check.specs.Open.{IsOpen, IsShut};
 use crate::owners::{NOBODY, Owners};
 use d64_image::Place;
 use disk_layout::Fault;
+use std::ops::Range;
 
 /// What a sound disk has: the owner of each sector, and the number of entries. It is of the disk as it was surveyed.
 #[derive(Drop)]
@@ -23,16 +24,16 @@ pub struct Findings {
     pub unclean: Option<Fault>,
 }
 
-/// Whether no other entry than this one owns the sector with this index and this owner's number, outside track 18, whose
-/// sectors have the indices from 357 to 375.
+/// The indices of the sectors of track 18.
+const TRACK_18: Range<usize> = 357..376;
+
+/// Whether the sector with this index and this owner's number is outside track 18, and no other entry than this one owns
+/// it.
 fn is_open(entry: usize, index: usize, number: u8) -> bool
     ensures open { IsTrue result → IsOpen entry index number }
     ensures shut { IsFalse result → IsShut entry index number }
 {
-    if index >= 357 && index < 376 {
-        return false;
-    }
-    number == NOBODY || number as usize == entry
+    !TRACK_18.contains(&index) && (number == NOBODY || number as usize == entry)
 }
 
 impl Survey {

@@ -1,35 +1,10 @@
 //! Disks that are repaired, and what that writes.
+use crate::test_disks::{change, fresh, place};
 use crate::{check, repair, survey};
-use d64_image::{DeviceFault, Fuse, MemDisk, Meter, Place, Sectors};
-use disk_layout::{Fault, blank_image};
+use d64_image::{Fuse, MemDisk, Meter};
+use disk_layout::Fault;
 use std::alloc::Global;
 use std::test::Fail;
-
-/// The place, where the disk has it.
-fn place(track: u8, sector: u8) -> Result<Place, DeviceFault> {
-    Place::new(track, sector).ok_or(DeviceFault)
-}
-
-/// A fresh disk for two tills: STOCK has 17/0 and 17/1, REQUESTS has 17/2 and 17/3.
-fn fresh(alloc: Global) -> Result<MemDisk, Fail> {
-    let mut disk = MemDisk::zeroed(alloc)?;
-    blank_image(&mut disk, b"STOCK LEDGER", *b"01", 2)?;
-    Ok(disk)
-}
-
-/// Changes two bytes of a sector.
-fn change(
-    disk: &mut MemDisk,
-    at: Place,
-    first: (u8, u8),
-    second: (u8, u8),
-) -> Result<(), DeviceFault> {
-    let mut bytes = [0; 256];
-    disk.read(at, &mut bytes)?;
-    bytes[first.0 as usize] = first.1;
-    bytes[second.0 as usize] = second.1;
-    disk.write(at, &bytes)
-}
 
 /// A fresh disk with a bit and a count of the map, a block count and the end of a side sector wrong.
 fn worn(alloc: Global) -> Result<MemDisk, Fail> {

@@ -1,19 +1,27 @@
 -- The map that was read, beside the owners.
 use Rattle.std.proofs.Common.{ap, ◌∙◌}
+use Rattle.std.proofs.lemmas.Result.{err_from_is_err_and}
 use Rattle.d64_image.specs.Images.{sector}
 use Rattle.d64_image.specs.declared.place.Place.{Place}
 use Rattle.layout_check.proofs.Calls.{passes_read}
 use Rattle.layout_check.proofs.Finding.{if_err, on_ok}
+use Rattle.layout_check.proofs.Inexact.{clean_told}
 use Rattle.layout_check.proofs.Verdict.{map-right, map_tells}
 use Rattle.layout_check.proofs.checking.check_map.Goals as goal
 
-pub returns-in-Ok-clause-map : goal.returns-in-Ok-clause-map
-returns-in-Ok-clause-map g c =
-    let e = c.in-Ok.ensures.sector ∙ ap (λ (p : Place). sector (g.D.Sectors.history.image c.args.disk.now) p) c.map_place.ensures in
-    on_ok c.check_bits.result _ _ (λ h. map-right _ c.args.found.now c.read.new.to c.requires e (rw (← c.owners.ensures) h)) c.check_bits.ensures.ok
-
-pub returns-in-Ok-clause-err : goal.returns-in-Ok-clause-err
-returns-in-Ok-clause-err g c =
+pub returns-in_err-read_sector-clause-err : goal.returns-in_err-read_sector-clause-err
+returns-in_err-read_sector-clause-err g c =
     let S = g.D.Sectors.history in
-    let e = c.in-Ok.ensures.sector ∙ ap (λ (p : Place). sector (g.D.Sectors.history.image c.args.disk.now) p) c.map_place.ensures in
-    if_err c.check_bits.result _ _ (λ f h. map_tells S c.args.disk.now c.read.new.self c.args.found.now c.read.new.to f c.requires (passes_read S c.args.disk.now c.read.new.self c.in-Ok.ensures.reads c.in-Ok.ensures.failures) e (rw (← c.owners.ensures) h)) c.check_bits.ensures.err
+    let p = err_from_is_err_and c.from_residual.result c.from_residual.ensures.1 in
+    rw (p.1, p.2) (clean_told S (Unit {0}) c.args.disk.now c.read_sector.new.disk c.map_place.result _ c.in_err-read_sector.ensures.reads c.in_err-read_sector.ensures.told c.in_err-read_sector.ensures.failures)
+
+pub returns-clause-map : goal.returns-clause-map
+returns-clause-map g c =
+    let e = c.in_ok-read_sector.ensures.sector ∙ ap (λ (p : Place). sector (g.D.Sectors.history.image c.args.disk.now) p) c.map_place.ensures in
+    on_ok c.check_bits.result _ _ (λ h. map-right _ c.args.found.now c.read_sector.new.to c.requires e (rw (← c.owners.ensures) h)) c.check_bits.ensures.ok
+
+pub returns-clause-err : goal.returns-clause-err
+returns-clause-err g c =
+    let S = g.D.Sectors.history in
+    let e = c.in_ok-read_sector.ensures.sector ∙ ap (λ (p : Place). sector (g.D.Sectors.history.image c.args.disk.now) p) c.map_place.ensures in
+    if_err c.check_bits.result _ _ (λ f h. map_tells S c.args.disk.now c.read_sector.new.disk c.args.found.now c.read_sector.new.to f c.requires (passes_read S c.args.disk.now c.read_sector.new.disk c.in_ok-read_sector.ensures.reads c.in_ok-read_sector.ensures.failures) e (rw (← c.owners.ensures) h)) c.check_bits.ensures.err

@@ -2,7 +2,8 @@
 use Rattle.std.proofs.Common.{subst, sym, ◌+◌, ◌∙◌}
 use Rattle.std.proofs.lemmas.Bool.{false≢true}
 use Rattle.disk_layout.specs.declared.bam.Bam.{Bam}
-use Rattle.layout_check.proofs.Makings.{IsMadeTo, free-owner, made-end, made-free, made-owned, made-past, made-start, not-taken}
+use Rattle.layout_check.proofs.Makings.{IsMadeTo, made-end, made-free, made-owned, made-past, made-start, not-taken}
+use Rattle.layout_check.proofs.Ones.{free-owner}
 use Rattle.layout_check.proofs.mending.free_track.Goals as goal
 use Rattle.layout_check.proofs.mending.free_track.Goals.{in-Some+then-not-is_owned, in-Some+else-not-is_owned, in_default}
 

@@ -1,5 +1,6 @@
 -- The parts, and then the side sectors.
-use Rattle.std.proofs.Common.{List, arith, subst, sym, ◌∙◌}
+use Rattle.std.proofs.Common.{List, arith, refl, subst, sym, ◌∙◌}
+use Rattle.std.specs.Prelude.{Option}
 use Rattle.std.proofs.lemmas.Result.{err_from_is_err_and}
 use Rattle.d64_image.proofs.Moments.{reads_then, reads_weaker}
 use Rattle.d64_image.specs.Images.{Image}
@@ -9,8 +10,9 @@ use Rattle.layout_check.proofs.Entries.{rel-closed}
 use Rattle.layout_check.proofs.Finding.{if_err, on_ok}
 use Rattle.layout_check.proofs.MapMends.{device_later, mends_read, mends_then}
 use Rattle.layout_check.proofs.Orders.{over_none}
-use Rattle.layout_check.proofs.RightSides.{file-sides_once, over_read, sides-found}
+use Rattle.layout_check.proofs.RightSides.{file-sides_once, made_exact, over_read, sides-found}
 use Rattle.layout_check.proofs.SideMends.{parts-at, parts-exact, parts-here, right-there, sound-device}
+use Rattle.layout_check.specs.Exact.{AreExactSides, JudgesSides}
 use Rattle.layout_check.specs.InOrder.{AreMade, GoesOver, IsRight}
 use Rattle.layout_check.specs.Mended.{KeepsExact, KeepsLayouts, SameMap}
 use Rattle.layout_check.proofs.mending.mend_relative.Goals as goal
@@ -36,60 +38,95 @@ pub mend_sides-requires : goal.mend_sides-requires
 mend_sides-requires g c =
     let found = c.in_ok-find_parts.ensures in
     record {
-      parts = parts-at _ _ c.args.slot.now c.find_parts.new.blocks.items c.find_parts.new.sides.items c.as_slice.result.now c.as_slice-2.result.now found.ok.reads.image c.as_slice.ensures.value c.as_slice-2.ensures.value (parts-here _ c.args.slot.now c.find_parts.new.blocks.items c.find_parts.new.sides.items c.requires.filed c.requires.rel found.parts);
-      few = c.as_slice-2.ensures.fits;
+      parts = parts-at _ _ c.args.slot.now c.find_parts.new.blocks.items c.find_parts.new.sides.items c.as_slice.result.now c.as_slice-in-Some.result.now found.ok.reads.image c.as_slice.ensures.value c.as_slice-in-Some.ensures.value (parts-here _ c.args.slot.now c.find_parts.new.blocks.items c.find_parts.new.sides.items c.requires.filed c.requires.rel found.parts);
+      few = c.as_slice-in-Some.ensures.fits;
     }
 
-pub returns-clause-exact : goal.returns-clause-exact
-returns-clause-exact g c =
+pub returns-in-Some-clause-exact : goal.returns-in-Some-clause-exact
+returns-in-Some-clause-exact g c =
     let found = c.in_ok-find_parts.ensures in
-    on_ok c.mend_sides.result _ _ (λ h bs ss i. parts-exact _ _ c.args.slot.now c.find_parts.new.blocks.items c.find_parts.new.sides.items bs ss (parts-here _ c.args.slot.now c.find_parts.new.blocks.items c.find_parts.new.sides.items c.requires.filed c.requires.rel found.parts) (rw (← c.as_slice.ensures.value, ← c.as_slice-2.ensures.value) h) i) c.mend_sides.ensures.exact
+    on_ok c.mend_sides.result _ _ (λ h bs ss i. parts-exact _ _ c.args.slot.now c.find_parts.new.blocks.items c.find_parts.new.sides.items bs ss (parts-here _ c.args.slot.now c.find_parts.new.blocks.items c.find_parts.new.sides.items c.requires.filed c.requires.rel found.parts) (rw (← c.as_slice.ensures.value, ← c.as_slice-in-Some.ensures.value) h) i) c.mend_sides.ensures.exact
 
-pub returns-clause-others : goal.returns-clause-others
-returns-clause-others g c = on_ok c.mend_sides.result _ _ (λ h. let P : Image → Type 0 = λ i. KeepsExact i (g.D.Sectors.history.image c.mend_sides.new.disk) in subst P c.in_ok-find_parts.ensures.ok.reads.image h) c.mend_sides.ensures.others
+pub returns-in-Some-clause-others : goal.returns-in-Some-clause-others
+returns-in-Some-clause-others g c = on_ok c.mend_sides.result _ _ (λ h. let P : Image → Type 0 = λ i. KeepsExact i (g.D.Sectors.history.image c.mend_sides.new.disk) in subst P c.in_ok-find_parts.ensures.ok.reads.image h) c.mend_sides.ensures.others
 
-pub returns-clause-layouts : goal.returns-clause-layouts
-returns-clause-layouts g c = on_ok c.mend_sides.result _ _ (λ h. let P : Image → Type 0 = λ i. KeepsLayouts i (g.D.Sectors.history.image c.mend_sides.new.disk) in subst P c.in_ok-find_parts.ensures.ok.reads.image h) c.mend_sides.ensures.layouts
+pub returns-in-Some-clause-layouts : goal.returns-in-Some-clause-layouts
+returns-in-Some-clause-layouts g c = on_ok c.mend_sides.result _ _ (λ h. let P : Image → Type 0 = λ i. KeepsLayouts i (g.D.Sectors.history.image c.mend_sides.new.disk) in subst P c.in_ok-find_parts.ensures.ok.reads.image h) c.mend_sides.ensures.layouts
 
-pub returns-clause-err : goal.returns-clause-err
-returns-clause-err g c = if_err c.mend_sides.result _ _ (λ f h. device_later g.D.Sectors.history c.args.disk.now c.find_parts.new.disk c.mend_sides.new.disk f c.in_ok-find_parts.ensures.ok.failures h) c.mend_sides.ensures.err
+pub returns-in-Some-clause-err : goal.returns-in-Some-clause-err
+returns-in-Some-clause-err g c = if_err c.mend_sides.result _ _ (λ f h. device_later g.D.Sectors.history c.args.disk.now c.find_parts.new.disk c.mend_sides.new.disk f c.in_ok-find_parts.ensures.ok.failures h) c.mend_sides.ensures.err
 
-pub returns-clause-failures : goal.returns-clause-failures
-returns-clause-failures g c = on_ok c.mend_sides.result _ _ (λ h. h ∙ c.in_ok-find_parts.ensures.ok.failures) c.mend_sides.ensures.failures
+pub returns-in-Some-clause-failures : goal.returns-in-Some-clause-failures
+returns-in-Some-clause-failures g c = on_ok c.mend_sides.result _ _ (λ h. h ∙ c.in_ok-find_parts.ensures.ok.failures) c.mend_sides.ensures.failures
 
-pub returns-clause-mends : goal.returns-clause-mends
-returns-clause-mends g c =
+pub returns-in-Some-clause-mends : goal.returns-in-Some-clause-mends
+returns-in-Some-clause-mends g c =
     let S = g.D.Sectors.history in
     mends_then S c.args.disk.now c.find_parts.new.disk c.mend_sides.new.disk 0 6 6 (omega arith) (mends_read S c.args.disk.now c.find_parts.new.disk _ 0 c.in_ok-find_parts.ensures.ok.reads) c.mend_sides.ensures.mends
 
-pub returns-clause-quiet : goal.returns-clause-quiet
-returns-clause-quiet g c exact =
+pub returns-in-Some-clause-quiet : goal.returns-in-Some-clause-quiet
+returns-in-Some-clause-quiet g c exact =
     let S = g.D.Sectors.history in
     let found = c.in_ok-find_parts.ensures in
     let right = exact c.find_parts.new.blocks.items c.find_parts.new.sides.items (parts-here _ c.args.slot.now c.find_parts.new.blocks.items c.find_parts.new.sides.items c.requires.filed c.requires.rel found.parts) in
     reads_then S c.args.disk.now c.find_parts.new.disk c.mend_sides.new.disk _ 6 738 (omega (arith, found.few)) found.ok.reads
-    (c.mend_sides.ensures.quiet (right-there _ _ c.args.slot.now c.find_parts.new.blocks.items c.find_parts.new.sides.items c.as_slice.result.now c.as_slice-2.result.now found.ok.reads.image c.as_slice.ensures.value c.as_slice-2.ensures.value right))
+    (c.mend_sides.ensures.quiet (right-there _ _ c.args.slot.now c.find_parts.new.blocks.items c.find_parts.new.sides.items c.as_slice.result.now c.as_slice-in-Some.result.now found.ok.reads.image c.as_slice.ensures.value c.as_slice-in-Some.ensures.value right))
 
-pub returns-clause-map : goal.returns-clause-map
-returns-clause-map g c = on_ok c.mend_sides.result _ _ (λ h. let P : Image → Type 0 = λ i. SameMap i (g.D.Sectors.history.image c.mend_sides.new.disk) in subst P c.in_ok-find_parts.ensures.ok.reads.image h) c.mend_sides.ensures.map
+pub returns-in-Some-clause-map : goal.returns-in-Some-clause-map
+returns-in-Some-clause-map g c = on_ok c.mend_sides.result _ _ (λ h. let P : Image → Type 0 = λ i. SameMap i (g.D.Sectors.history.image c.mend_sides.new.disk) in subst P c.in_ok-find_parts.ensures.ok.reads.image h) c.mend_sides.ensures.map
 
-pub returns-clause-over : goal.returns-clause-over
-returns-clause-over g c l f is own slot =
+pub returns-in-Some-clause-over : goal.returns-in-Some-clause-over
+returns-in-Some-clause-over g c l f is own slot =
     let S = g.D.Sectors.history in
     let found = c.in_ok-find_parts.ensures in
-    let same = sides-found (S.image c.args.disk.now) l f c.args.slot.now c.find_parts.new.blocks.items c.find_parts.new.sides.items c.as_slice-2.result.now is own slot c.requires.rel found.parts c.as_slice-2.ensures.value in
+    let same = sides-found (S.image c.args.disk.now) l f c.args.slot.now c.find_parts.new.blocks.items c.find_parts.new.sides.items c.as_slice-in-Some.result.now is own slot c.requires.rel found.parts c.as_slice-in-Some.ensures.value in
     let P : List Place → Type 0 = GoesOver S c.find_parts.new.disk c.mend_sides.new.disk (IsRight l) in
     let Q : Image → Type 0 = λ i. IsLayout i l in
     over_read S c.args.disk.now c.find_parts.new.disk c.mend_sides.new.disk _ (IsRight l) f.sides (file-sides_once (S.image c.args.disk.now) l is f own) found.ok.reads
     (subst P same (c.mend_sides.ensures.over l (subst Q (sym found.ok.reads.image) is)))
 
-pub returns-clause-made : goal.returns-clause-made
-returns-clause-made g c =
+pub returns-in-Some-clause-made : goal.returns-in-Some-clause-made
+returns-in-Some-clause-made g c =
     let S = g.D.Sectors.history in
     let found = c.in_ok-find_parts.ensures in
     on_ok c.mend_sides.result _ _ (λ made l f is own slot.
-    let same = sides-found (S.image c.args.disk.now) l f c.args.slot.now c.find_parts.new.blocks.items c.find_parts.new.sides.items c.as_slice-2.result.now is own slot c.requires.rel found.parts c.as_slice-2.ensures.value in
+    let same = sides-found (S.image c.args.disk.now) l f c.args.slot.now c.find_parts.new.blocks.items c.find_parts.new.sides.items c.as_slice-in-Some.result.now is own slot c.requires.rel found.parts c.as_slice-in-Some.ensures.value in
     let P : List Place → Type 0 = λ xs. AreMade (IsRight l) xs (S.image c.args.disk.now) (S.image c.mend_sides.new.disk) in
     let Q : Image → Type 0 = λ i. IsLayout i l in
-    let R : Image → Type 0 = λ i. AreMade (IsRight l) c.as_slice-2.result.now i (S.image c.mend_sides.new.disk) in
+    let R : Image → Type 0 = λ i. AreMade (IsRight l) c.as_slice-in-Some.result.now i (S.image c.mend_sides.new.disk) in
     subst P same (subst R found.ok.reads.image (made l (subst Q (sym found.ok.reads.image) is)))) c.mend_sides.ensures.made
+
+pub returns-in-None-clause-exact : goal.returns-in-None-clause-exact
+returns-in-None-clause-exact g c bs ss i =
+    let S = g.D.Sectors.history in
+    let found = c.in_ok-find_parts.ensures in
+    let old = S.image c.args.disk.now in
+    let blocks = c.find_parts.new.blocks.items in
+    let sides = c.find_parts.new.sides.items in
+    let P : Option Place → Type 0 = JudgesSides old c.args.slot.now blocks sides in
+    let Q : Image → Type 0 = λ x. AreExactSides x c.args.slot.now bs ss in
+    subst Q (sym found.ok.reads.image) (parts-exact old old c.args.slot.now blocks sides bs ss (parts-here old c.args.slot.now blocks sides c.requires.filed c.requires.rel found.parts) (subst P c.in-None.is found.exact) i)
+
+pub returns-in-None-clause-others : goal.returns-in-None-clause-others
+returns-in-None-clause-others g c = let P : Image → Type 0 = KeepsExact (g.D.Sectors.history.image c.args.disk.now) in subst P (sym c.in_ok-find_parts.ensures.ok.reads.image) (λ s bs ss h exact. exact)
+
+pub returns-in-None-clause-mends : goal.returns-in-None-clause-mends
+returns-in-None-clause-mends g c = mends_read g.D.Sectors.history c.args.disk.now c.find_parts.new.disk _ 6 c.in_ok-find_parts.ensures.ok.reads
+
+pub returns-in-None-clause-over : goal.returns-in-None-clause-over
+returns-in-None-clause-over g c l f is own slot = over_none g.D.Sectors.history (IsRight l) f.sides c.args.disk.now c.find_parts.new.disk _ c.in_ok-find_parts.ensures.ok.reads
+
+pub returns-in-None-clause-made : goal.returns-in-None-clause-made
+returns-in-None-clause-made g c l f is own slot =
+    let S = g.D.Sectors.history in
+    let found = c.in_ok-find_parts.ensures in
+    let old = S.image c.args.disk.now in
+    let blocks = c.find_parts.new.blocks.items in
+    let sides = c.find_parts.new.sides.items in
+    let P : Option Place → Type 0 = JudgesSides old c.args.slot.now blocks sides in
+    let Q : List Place → Type 0 = λ xs. AreMade (IsRight l) xs old (S.image c.find_parts.new.disk) in
+    let parts = parts-here old c.args.slot.now blocks sides c.requires.filed c.requires.rel found.parts in
+    subst Q (sides-found old l f c.args.slot.now blocks sides sides is own slot c.requires.rel found.parts refl) (made_exact old l is c.args.slot.now blocks sides parts (S.image c.find_parts.new.disk) found.ok.reads.image (subst P c.in-None.is found.exact))
+
+pub returns-in-None-clause-quiet : goal.returns-in-None-clause-quiet
+returns-in-None-clause-quiet g c exact = let found = c.in_ok-find_parts.ensures in reads_weaker g.D.Sectors.history c.args.disk.now c.find_parts.new.disk _ 738 (omega (arith, found.few)) found.ok.reads

@@ -6,7 +6,7 @@ use Rattle.std.proofs.lemmas.Result.{err_from_is_err_and}
 use Rattle.d64_image.proofs.Moments.{no_change, no_reads, reads_then, reads_weaker}
 use Rattle.d64_image.specs.Images.{Image, put, sector}
 use Rattle.d64_image.specs.declared.place.Place.{Place}
-use Rattle.layout_check.proofs.MapMends.{device_later, mends_read, mends_then, mends_weaker}
+use Rattle.layout_check.proofs.MapMends.{device_later, device_told, mends_read, mends_then, mends_weaker}
 use Rattle.layout_check.proofs.Orders.{made_none, over_none}
 use Rattle.layout_check.proofs.Pointers.{read-there}
 use Rattle.layout_check.proofs.RightSides.{over_first, over_left, parts-once, side_made, side_over}
@@ -29,46 +29,52 @@ loop-number-init g c = record {
   quiet = λ exact. no_reads g.D.Sectors.history c.args.disk.now;
 }
 
-pub returns-in-Err-clause-err : goal.returns-in-Err-clause-err
-returns-in-Err-clause-err g c = device_later g.D.Sectors.history c.args.disk.now c.loop-number.disk c.read.new.self _ c.loop-number.invariant.failures (c.index-sides-number.result, refl, c.in-Err.ensures.failures)
-
-pub returns-in-Err-clause-mends : goal.returns-in-Err-clause-mends
-returns-in-Err-clause-mends g c =
+pub returns-in_err-read_sector-clause-err : goal.returns-in_err-read_sector-clause-err
+returns-in_err-read_sector-clause-err g c =
     let S = g.D.Sectors.history in
-    mends_then S c.args.disk.now c.loop-number.disk c.read.new.self c.loop-number.number 0 6 (omega (arith, c.loop-number-test.true, c.requires.few)) c.loop-number.invariant.mends (mends_read S c.loop-number.disk c.read.new.self 1 0 c.in-Err.ensures.reads)
+    let p = err_from_is_err_and c.from_residual.result c.from_residual.ensures.1 in
+    rw (p.1, p.2) (device_later S c.args.disk.now c.loop-number.disk c.read_sector.new.disk _ c.loop-number.invariant.failures
+    (device_told S (Unit {0}) c.loop-number.disk c.read_sector.new.disk c.index-sides-number.result _ c.in_err-read_sector.ensures.told c.in_err-read_sector.ensures.failures))
 
-pub returns-in-Err-clause-over : goal.returns-in-Err-clause-over
-returns-in-Err-clause-over g c l h =
+pub returns-in_err-read_sector-clause-mends : goal.returns-in_err-read_sector-clause-mends
+returns-in_err-read_sector-clause-mends g c =
+    let S = g.D.Sectors.history in
+    mends_then S c.args.disk.now c.loop-number.disk c.read_sector.new.disk c.loop-number.number 0 6 (omega (arith, c.loop-number-test.true, c.requires.few)) c.loop-number.invariant.mends (mends_read S c.loop-number.disk c.read_sector.new.disk 1 0 c.in_err-read_sector.ensures.reads)
+
+pub returns-in_err-read_sector-clause-over : goal.returns-in_err-read_sector-clause-over
+returns-in_err-read_sector-clause-over g c l h =
     let S = g.D.Sectors.history in
     let old = c.loop-number.invariant in
-    over_left S c.args.disk.now c.loop-number.disk c.read.new.self 1 c.loop-number.number (IsRight l) c.args.sides.now (parts-once (S.image c.args.disk.now) l h c.args.slot.now c.args.blocks.now c.args.sides.now c.requires.parts) (old.over l h) (old.made l h) c.in-Err.ensures.reads
+    over_left S c.args.disk.now c.loop-number.disk c.read_sector.new.disk 1 c.loop-number.number (IsRight l) c.args.sides.now (parts-once (S.image c.args.disk.now) l h c.args.slot.now c.args.blocks.now c.args.sides.now c.requires.parts) (old.over l h) (old.made l h) c.in_err-read_sector.ensures.reads
 
-pub returns-in-Err-clause-quiet : goal.returns-in-Err-clause-quiet
-returns-in-Err-clause-quiet g c exact =
-    reads_then g.D.Sectors.history c.args.disk.now c.loop-number.disk c.read.new.self c.loop-number.number 1 6 (omega (arith, c.loop-number-test.true, c.requires.few)) (c.loop-number.invariant.quiet exact) c.in-Err.ensures.reads
+pub returns-in_err-read_sector-clause-quiet : goal.returns-in_err-read_sector-clause-quiet
+returns-in_err-read_sector-clause-quiet g c exact =
+    reads_then g.D.Sectors.history c.args.disk.now c.loop-number.disk c.read_sector.new.disk c.loop-number.number 1 6 (omega (arith, c.loop-number-test.true, c.requires.few)) (c.loop-number.invariant.quiet exact) c.in_err-read_sector.ensures.reads
 
 pub write_other-requires : goal.write_other-requires
-write_other-requires g c = c.in-Ok.ensures.sector ∙ ap (λ (i : Image). sector i c.index-sides-number.result) (sym c.in-Ok.ensures.reads.image)
+write_other-requires g c = c.in_ok-read_sector.ensures.sector ∙ ap (λ (i : Image). sector i c.index-sides-number.result) (sym c.in_ok-read_sector.ensures.reads.image)
 
 pub returns-in_err-write_other-clause-err : goal.returns-in_err-write_other-clause-err
 returns-in_err-write_other-clause-err g c =
     let S = g.D.Sectors.history in
-    let p = err_from_is_err_and c.from_residual.result c.from_residual.ensures.1 in
-    rw (p.1, p.2) (device_later S c.args.disk.now c.read.new.self c.write_other.new.disk _ (c.in-Ok.ensures.failures ∙ c.loop-number.invariant.failures) c.in_err-write_other.ensures.err)
+    let p = err_from_is_err_and c.from_residual-in_err-write_other.result c.from_residual-in_err-write_other.ensures.1 in
+    rw (p.1, p.2) (device_later S c.args.disk.now c.read_sector.new.disk c.write_other.new.disk _ (c.in_ok-read_sector.ensures.failures ∙ c.loop-number.invariant.failures) c.in_err-write_other.ensures.err)
 
 pub returns-in_err-write_other-clause-mends : goal.returns-in_err-write_other-clause-mends
 returns-in_err-write_other-clause-mends g c =
     let S = g.D.Sectors.history in
+    let wanted = rw (c.record_length-record_length.ensures, c.new.ensures) at c.side_bytes-wanted.ensures in
     let ss = c.args.sides.now in
     let p = c.index-sides-number.result in
     let here = read-there ss c.loop-number.number p c.loop-number-test.true c.index-sides-number.is in
     let old = c.loop-number.invariant in
     mends_weaker S c.args.disk.now c.write_other.new.disk (c.loop-number.number + 1) 6 (omega (arith, c.loop-number-test.true, c.requires.few))
-    (side_mends S c.args.disk.now c.loop-number.disk c.read.new.self c.write_other.new.disk c.args.slot.now c.args.blocks.now ss c.loop-number.number p c.side_bytes-wanted.result c.requires.parts c.requires.few here old.layouts old.mends c.in-Ok.ensures.reads c.side_bytes-wanted.ensures c.in_err-write_other.ensures.held)
+    (side_mends S c.args.disk.now c.loop-number.disk c.read_sector.new.disk c.write_other.new.disk c.args.slot.now c.args.blocks.now ss c.loop-number.number p c.side_bytes-wanted.result c.requires.parts c.requires.few here old.layouts old.mends c.in_ok-read_sector.ensures.reads wanted c.in_err-write_other.ensures.held)
 
 pub returns-in_err-write_other-clause-over : goal.returns-in_err-write_other-clause-over
 returns-in_err-write_other-clause-over g c l h =
     let S = g.D.Sectors.history in
+    let wanted = rw (c.record_length-record_length.ensures, c.new.ensures) at c.side_bytes-wanted.ensures in
     let n = c.loop-number.number in
     let ss = c.args.sides.now in
     let p = c.index-sides-number.result in
@@ -76,21 +82,23 @@ returns-in_err-write_other-clause-over g c l h =
     let old = c.loop-number.invariant in
     let done = c.in_err-write_other.ensures in
     over_first S c.args.disk.now c.write_other.new.disk (n + 1) (IsRight l) ss
-    (side_over S c.args.disk.now l h c.args.slot.now c.args.blocks.now ss c.requires.parts n p here c.side_bytes-wanted.result c.side_bytes-wanted.ensures c.loop-number.disk c.read.new.self c.write_other.new.disk (old.over l h) (old.made l h) c.in-Ok.ensures.reads done.held done.once)
+    (side_over S c.args.disk.now l h c.args.slot.now c.args.blocks.now ss c.requires.parts n p here c.side_bytes-wanted.result wanted c.loop-number.disk c.read_sector.new.disk c.write_other.new.disk (old.over l h) (old.made l h) c.in_ok-read_sector.ensures.reads done.held done.once)
 
 pub returns-in_err-write_other-clause-quiet : goal.returns-in_err-write_other-clause-quiet
 returns-in_err-write_other-clause-quiet g c exact =
     let S = g.D.Sectors.history in
+    let wanted = rw (c.record_length-record_length.ensures, c.new.ensures) at c.side_bytes-wanted.ensures in
     let p = c.index-sides-number.result in
     let here = read-there c.args.sides.now c.loop-number.number p c.loop-number-test.true c.index-sides-number.is in
     let so_far = c.loop-number.invariant.quiet exact in
-    let right = side_right S c.args.disk.now c.loop-number.disk c.read.new.self c.args.slot.now c.args.blocks.now c.args.sides.now c.loop-number.number p c.read.new.to c.side_bytes-wanted.result here exact so_far.image c.in-Ok.ensures.sector c.side_bytes-wanted.ensures in
-    let read = reads_then S c.args.disk.now c.loop-number.disk c.read.new.self c.loop-number.number 1 (c.loop-number.number + 1) (omega arith) so_far c.in-Ok.ensures.reads in
-    reads_then S c.args.disk.now c.read.new.self c.write_other.new.disk (c.loop-number.number + 1) 0 6 (omega (arith, c.loop-number-test.true, c.requires.few)) read (c.in_err-write_other.ensures.quiet right)
+    let right = side_right S c.args.disk.now c.loop-number.disk c.read_sector.new.disk c.args.slot.now c.args.blocks.now c.args.sides.now c.loop-number.number p c.read_sector.new.to c.side_bytes-wanted.result here exact so_far.image c.in_ok-read_sector.ensures.sector wanted in
+    let read = reads_then S c.args.disk.now c.loop-number.disk c.read_sector.new.disk c.loop-number.number 1 (c.loop-number.number + 1) (omega arith) so_far c.in_ok-read_sector.ensures.reads in
+    reads_then S c.args.disk.now c.read_sector.new.disk c.write_other.new.disk (c.loop-number.number + 1) 0 6 (omega (arith, c.loop-number-test.true, c.requires.few)) read (c.in_err-write_other.ensures.quiet right)
 
 pub loop-number-preserved : goal.loop-number-preserved
 loop-number-preserved g c =
     let S = g.D.Sectors.history in
+    let wanted = rw (c.record_length-record_length.ensures, c.new.ensures) at c.side_bytes-wanted.ensures in
     let n = c.loop-number.number in
     let s = c.args.slot.now in
     let bs = c.args.blocks.now in
@@ -100,7 +108,7 @@ loop-number-preserved g c =
     let old = c.loop-number.invariant in
     let now = S.image c.loop-number.disk in
     let size = (S.whole c.loop-number.disk).size in
-    let done = after-side S c.loop-number.disk c.read.new.self c.write_other.new.disk s bs ss n p c.side_bytes-wanted.result c.in-Ok.ensures.reads.image c.side_bytes-wanted.ensures c.in_ok-write_other.ensures.ok in
+    let done = after-side S c.loop-number.disk c.read_sector.new.disk c.write_other.new.disk s bs ss n p c.side_bytes-wanted.result c.in_ok-read_sector.ensures.reads.image wanted c.in_ok-write_other.ensures.ok in
     let P : Image → Type 0 = KeepsLayouts (S.image c.args.disk.now) in
     let Q : Image → Type 0 = KeepsExact (S.image c.args.disk.now) in
     record {
@@ -108,15 +116,15 @@ loop-number-preserved g c =
       map = let R : Image → Type 0 = SameMap (S.image c.args.disk.now) in subst R (sym done) (side-map (S.image c.args.disk.now) now s bs ss n p c.requires.parts here old.map);
       exact = λ j low q there. let R : Image → Type 0 = λ i. IsExactSide i s bs ss j q in subst R (sym done) (exact-more (S.image c.args.disk.now) now s bs ss n p size c.requires.parts here old.exact j low q there);
       others = subst Q (sym done) (exact-others (S.image c.args.disk.now) now s bs ss n p size c.requires.parts here old.others);
-      mends = side_mends S c.args.disk.now c.loop-number.disk c.read.new.self c.write_other.new.disk s bs ss n p c.side_bytes-wanted.result c.requires.parts c.requires.few here old.layouts old.mends c.in-Ok.ensures.reads c.side_bytes-wanted.ensures c.in_ok-write_other.ensures.held;
-      over = λ l h. side_over S c.args.disk.now l h s bs ss c.requires.parts n p here c.side_bytes-wanted.result c.side_bytes-wanted.ensures c.loop-number.disk c.read.new.self c.write_other.new.disk (old.over l h) (old.made l h) c.in-Ok.ensures.reads c.in_ok-write_other.ensures.held c.in_ok-write_other.ensures.once;
-      made = λ l h. side_made S c.args.disk.now l h s bs ss c.requires.parts n p here c.side_bytes-wanted.result c.side_bytes-wanted.ensures c.loop-number.disk c.write_other.new.disk (old.made l h) (c.in_ok-write_other.ensures.ok ∙ ap (λ (i : Image). put i p c.side_bytes-wanted.result) c.in-Ok.ensures.reads.image);
-      failures = c.in_ok-write_other.ensures.failures ∙ c.in-Ok.ensures.failures ∙ old.failures;
+      mends = side_mends S c.args.disk.now c.loop-number.disk c.read_sector.new.disk c.write_other.new.disk s bs ss n p c.side_bytes-wanted.result c.requires.parts c.requires.few here old.layouts old.mends c.in_ok-read_sector.ensures.reads wanted c.in_ok-write_other.ensures.held;
+      over = λ l h. side_over S c.args.disk.now l h s bs ss c.requires.parts n p here c.side_bytes-wanted.result wanted c.loop-number.disk c.read_sector.new.disk c.write_other.new.disk (old.over l h) (old.made l h) c.in_ok-read_sector.ensures.reads c.in_ok-write_other.ensures.held c.in_ok-write_other.ensures.once;
+      made = λ l h. side_made S c.args.disk.now l h s bs ss c.requires.parts n p here c.side_bytes-wanted.result wanted c.loop-number.disk c.write_other.new.disk (old.made l h) (c.in_ok-write_other.ensures.ok ∙ ap (λ (i : Image). put i p c.side_bytes-wanted.result) c.in_ok-read_sector.ensures.reads.image);
+      failures = c.in_ok-write_other.ensures.failures ∙ c.in_ok-read_sector.ensures.failures ∙ old.failures;
       quiet = λ exact.
           let so_far = old.quiet exact in
-          let right = side_right S c.args.disk.now c.loop-number.disk c.read.new.self s bs ss n p c.read.new.to c.side_bytes-wanted.result here exact so_far.image c.in-Ok.ensures.sector c.side_bytes-wanted.ensures in
-          let read = reads_then S c.args.disk.now c.loop-number.disk c.read.new.self n 1 (n + 1) (omega arith) so_far c.in-Ok.ensures.reads in
-          reads_then S c.args.disk.now c.read.new.self c.write_other.new.disk (n + 1) 0 (n + 1) (omega arith) read (c.in_ok-write_other.ensures.quiet right);
+          let right = side_right S c.args.disk.now c.loop-number.disk c.read_sector.new.disk s bs ss n p c.read_sector.new.to c.side_bytes-wanted.result here exact so_far.image c.in_ok-read_sector.ensures.sector wanted in
+          let read = reads_then S c.args.disk.now c.loop-number.disk c.read_sector.new.disk n 1 (n + 1) (omega arith) so_far c.in_ok-read_sector.ensures.reads in
+          reads_then S c.args.disk.now c.read_sector.new.disk c.write_other.new.disk (n + 1) 0 (n + 1) (omega arith) read (c.in_ok-write_other.ensures.quiet right);
     }
 
 pub returns-clause-exact : goal.returns-clause-exact
