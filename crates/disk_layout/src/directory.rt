@@ -68,15 +68,9 @@ fn add_used(bytes: &[u8; 256], place: Place, slots: &mut ArrayVec<Slot, 144>)
     ensures room { array_vec_len slots.new ≤ array_vec_len slots.old + 8 }
 {
     for number in 0..8u8 {
-        let start = 32 * number as usize;
-        let mut slot = [0u8; 32];
-        slot.copy_from_slice(&bytes[start..start + 32]);
-        if slot[2] != 0 {
-            slots.push(Slot {
-                sector: place,
-                number,
-                bytes: slot,
-            });
+        let slot = Slot::in_sector(bytes, place, number);
+        if slot.bytes[2] != 0 {
+            slots.push(slot);
         }
     }
 }

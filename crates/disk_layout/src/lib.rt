@@ -1,6 +1,7 @@
 //! What lies on a 1541 disk and where: the map of free sectors, the directory, chains and side sectors.
 #![tactic(auto)]
 
+mod access;
 mod bam;
 mod blank;
 mod blank_map;
@@ -23,6 +24,7 @@ mod slot;
 mod views;
 mod visited;
 
+pub use access::{read_sector, write_sector};
 pub use bam::Bam;
 pub use blank::blank_image;
 pub use chain::walk_chain;
