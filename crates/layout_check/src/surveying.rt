@@ -38,9 +38,10 @@ pub fn survey_files<D: Sectors>(disk: &mut D) -> Result<Findings, Fault>
     let mut places = ArrayVec::new();
     survey_directory(disk, &mut slots, &mut places)?;
     let mut owners = Owners::of_directory(places.as_slice());
+    let mut blocks = ArrayVec::new();
     let mut unclean = None;
     for (number, slot) in slots.as_slice().iter().enumerate() {
-        let found = survey_entry(disk, slot, number as u8, &mut owners, &mut places)?;
+        let found = survey_entry(disk, slot, number as u8, &mut owners, &mut blocks)?;
         unclean = unclean.or(found);
     }
     Ok(Findings {
