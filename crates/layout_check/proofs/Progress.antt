@@ -1,14 +1,12 @@
 -- The steps of a survey: files found one by one, with a table of the owners.
 use Rattle.std.proofs.Common.{ℕ, ◌≡◌, ◌≢◌, ◌<◌, ◌≤◌, ◌+◌, ◌*◌, ◌⊎◌, List, [], ◌∷◌, ◌++◌, length, length-append, get_or, map, take, refl, sym, ◌∙◌, ap, subst, arith, inl, inr, append_assoc, append-nil, drop, ◌↔◌, Err, IsOk, Result}
 use Rattle.std.specs.Prelude.{Contains, None, Option, flat_map}
-use Rattle.std.specs.List.{AllByRecursion}
 use Rattle.std.specs.Option.{option_or}
 use Rattle.std.proofs.lemmas.Bool.{false≢true}
 use Rattle.std.proofs.lemmas.Grind.{flat_map-append}
 use Rattle.std.proofs.lemmas.List.{length-take, take-append-drop, take_all, take_more}
 use Rattle.std.proofs.lemmas.List.Elements.{Contains-append_cases, Contains-append_left, Contains-append_right}
-use Rattle.d64_image.proofs.Moments.{reads_weaker}
-use Rattle.d64_image.specs.History.{Failed, History, NeverFailed, OnlyReads}
+use Rattle.d64_image.specs.History.{Failed, History, NeverFailed}
 use Rattle.d64_image.specs.Images.{Image}
 use Rattle.d64_image.specs.declared.place.Place.{Place}
 use Rattle.disk_layout.proofs.Count.{places-few}
@@ -18,7 +16,7 @@ use Rattle.disk_layout.proofs.Twice.{told-unsound}
 use Rattle.disk_layout.specs.Chain.{EachOnce}
 use Rattle.disk_layout.specs.Directory.{IsDirectory, map_place}
 use Rattle.disk_layout.specs.Fault.{Owns, blocks_of, sides_of}
-use Rattle.disk_layout.specs.Layout.{File, IsFile, IsLayout, IsSound, Layout, file_owns, owners}
+use Rattle.disk_layout.specs.Layout.{File, IsFile, IsSound, file_owns, owners}
 use Rattle.disk_layout.specs.declared.faults.Fault.{Fault}
 use Rattle.disk_layout.specs.declared.slot.Slot.{Slot}
 use Rattle.layout_check.proofs.Calls.{holds_alone, passes_then, passes_weaker, tells_then, twice_tells}
@@ -33,7 +31,7 @@ use Rattle.layout_check.specs.Entry.{IsEntry}
 use Rattle.layout_check.specs.Exact.{JudgesFiles}
 use Rattle.layout_check.specs.Found.{Finds, TellsOrClashes}
 use Rattle.layout_check.specs.Owners.{IsClaimed, IsSystem, owner_of}
-use Rattle.layout_check.specs.Survey.{IsSurveyOf, IsSurveyed, IsTable, Surveys, taken}
+use Rattle.layout_check.specs.Survey.{IsSurveyed, IsTable, Surveys, taken}
 use Rattle.layout_check.specs.declared.outcome.Survey.{Survey}
 use Rattle.layout_check.specs.declared.owners.Owners.{Owners}
 
