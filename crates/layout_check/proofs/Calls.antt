@@ -75,8 +75,12 @@ module _ {D : Type 0} (S : History D) where
   pub passes_read : (a b : D) → OnlyReads S a b 1 → S.failures b ≡ S.failures a → Passes S a b 1
   passes_read a b reads same = record { reads = reads; failures = same }
 
-  pub device_tells : (a b : D) (p : Place) → OnlyReads S a b 1 → Failed S a b → Tells S a b 1 (Device p)
-  device_tells a b p reads failed = record { reads = reads; failures = failed; holds = failed }
+  -- what is told of a sector that the device failed to read
+  pub tells_read : (a b : D) (p : Place) (f : Fault) → f ≡ Device p → OnlyReads S a b 1 → TellsFault {T = Unit {0}} S a b (Err f) → Tells S a b 1 f
+  tells_read a b p f e reads tells =
+      let P : Fault → Type 0 = λ x. TellsFault {T = Unit {0}} S a b (Err x) in
+      let failed : Failed S a b = subst P e tells in
+      rw e (record { reads = reads; failures = failed; holds = failed })
 
   pub side_tells : (a b : D) (n : ℕ) (p : Place) → Passes S a b n → Holds (Failed S a b) (S.image a) (BadSide p) → Tells S a b n (BadSide p)
   side_tells a b n p passes h = record { reads = passes.reads; failures = passes.failures; holds = h }

@@ -158,44 +158,48 @@ abbrev pub told : (T : Type 0) → Fault → Result T Fault
 told T f = Err f
 
 module _ {D : Type 0} (S : History D) where
-  -- as far as the survey has come: the files of the first n entries, and what was kept back of them
-  pub record IsFar (a b : D) (dir : List Place) (es : List Slot) (n : ℕ) (t : Owners) (kept : Option Fault) : Type 0 where
+  -- as far as the survey has come: the files of the first n entries of the directory, and what was kept back of them
+  pub record IsFar (a b : D) (es : List Slot) (n : ℕ) (t : Owners) (kept : Option Fault) : Type 0 where
+    pub directory : List Place
+    pub listed : IsDirectory (S.image a) directory es
     pub files : List File
     pub slots : map (λ f. f.slot) files ≡ take n es
-    pub surveyed : IsSurveyed (S.image a) dir files t
+    pub surveyed : IsSurveyed (S.image a) directory files t
     pub judged : JudgesFiles (S.image a) files kept
-    pub passes : Passes S a b (18 + length dir + 2 * own_of files)
+    pub passes : Passes S a b (18 + length directory + 2 * own_of files)
 
-  pub far-start : (a b : D) (dir : List Place) (es : List Slot) (t : Owners) → IsDirectory (S.image a) dir es → IsSystem t dir → Passes S a b (18 + length dir) → IsFar a b dir es 0 t None
-  far-start a b dir es t d s passes = record { files = []; slots = refl; surveyed = survey-start (S.image a) dir es t d s; judged = tt; passes = passes_weaker S a b (18 + length dir) _ (omega arith) passes }
+  pub far-start : (a b : D) (dir : List Place) (es : List Slot) (t : Owners) → IsDirectory (S.image a) dir es → IsSystem t dir → Passes S a b (18 + length dir) → IsFar a b es 0 t None
+  far-start a b dir es t d s passes = record { directory = dir; listed = d; files = []; slots = refl; surveyed = survey-start (S.image a) dir es t d s; judged = tt; passes = passes_weaker S a b (18 + length dir) _ (omega arith) passes }
 
   -- what is owned are 683 sectors at most
-  far-few : (a b : D) (dir : List Place) (es : List Slot) (n : ℕ) (t : Owners) (kept : Option Fault) → (h : IsFar a b dir es n t kept) → length dir + own_of h.files ≤ 682
-  far-few a b dir es n t kept h = omega (arith, places-few (taken dir h.files) h.surveyed.once, length-append dir (flat_map file_owns h.files))
+  far-few : (a b : D) (es : List Slot) (n : ℕ) (t : Owners) (kept : Option Fault) → (h : IsFar a b es n t kept) → length h.directory + own_of h.files ≤ 682
+  far-few a b es n t kept h = omega (arith, places-few (taken h.directory h.files) h.surveyed.once, length-append h.directory (flat_map file_owns h.files))
 
-  pub far-entry : (a b : D) (dir : List Place) (es : List Slot) (n : ℕ) (t : Owners) (kept : Option Fault) (s : Slot) → IsDirectory (S.image a) dir es → IsFar a b dir es n t kept → n < length es → s ≡ get_or es n s → IsEntry (S.image b) s
-  far-entry a b dir es n t kept s d h below read =
+  pub far-entry : (a b : D) (es : List Slot) (n : ℕ) (t : Owners) (kept : Option Fault) (s : Slot) → IsFar a b es n t kept → n < length es → s ≡ get_or es n s → IsEntry (S.image b) s
+  far-entry a b es n t kept s h below read =
       let P : Image → Type 0 = λ i. IsEntry i s in
-      subst P (sym h.passes.reads.image) (entry-listed (S.image a) dir es s d (n, below, sym read))
+      subst P (sym h.passes.reads.image) (entry-listed (S.image a) h.directory es s h.listed (n, below, sym read))
 
-  pub far-step : (a b c : D) (dir : List Place) (es : List Slot) (n : ℕ) (t u : Owners) (kept found : Option Fault) (s : Slot) → IsFar a b dir es n t kept → n < length es → n < 254 → s ≡ get_or es n s → Finds S b c s n t u found → IsFar a c dir es (n + 1) u (option_or kept found)
-  far-step a b c dir es n t u kept found s h below small read (g, is, judged, passes) =
+  pub far-step : (a b c : D) (es : List Slot) (n : ℕ) (t u : Owners) (kept found : Option Fault) (s : Slot) → IsFar a b es n t kept → n < length es → n < 254 → s ≡ get_or es n s → Finds S b c s n t u found → IsFar a c es (n + 1) u (option_or kept found)
+  far-step a b c es n t u kept found s h below small read (g, is, judged, passes) =
       let file = (let P : Image → Type 0 = λ i. IsFile i g in subst P h.passes.reads.image is.file) in
       let many : n ≡ length h.files = omega (arith, length-slots h.files, ap length h.slots, length-take n es) in
       record {
+        directory = h.directory;
+        listed = h.listed;
         files = h.files ++ g ∷ [];
         slots = map-push h.files g ∙ ap (λ xs. xs ++ g.slot ∷ []) h.slots ∙ ap (λ x. take n es ++ x ∷ []) (is.slot ∙ read) ∙ sym (take_more es n s below);
-        surveyed = survey-step (S.image a) dir h.files t is.between u g n h.surveyed file many small is.blocks is.sides is.blocks_once is.sides_once;
+        surveyed = survey-step (S.image a) h.directory h.files t is.between u g n h.surveyed file many small is.blocks is.sides is.blocks_once is.sides_once;
         judged = judged-more (S.image a) h.files g kept found h.judged (judged-at (S.image a) (S.image b) g found h.passes.reads.image judged);
-        passes = passes_then S a b c (18 + length dir + 2 * own_of h.files) (2 * length (file_owns g)) _ (omega (arith, own-push h.files g)) h.passes passes;
+        passes = passes_then S a b c (18 + length h.directory + 2 * own_of h.files) (2 * length (file_owns g)) _ (omega (arith, own-push h.files g)) h.passes passes;
       }
 
-  pub far-tells : (a b c : D) (dir : List Place) (es : List Slot) (n : ℕ) (t : Owners) (kept : Option Fault) (s : Slot) (f : Fault) → IsDirectory (S.image a) dir es → IsFar a b dir es n t kept → n < length es → s ≡ get_or es n s → TellsOrClashes S b c s t f → Tells S a c 2114 f
-  far-tells a b c dir es n t kept s f d h below read (inl tells) = tells_then S a b c _ 732 2114 f (omega (arith, far-few a b dir es n t kept h)) h.passes tells
-  far-tells a b c dir es n t kept s f d h below read (inr clash) =
-      let passes = passes_then S a b c _ 732 2114 (omega (arith, far-few a b dir es n t kept h)) h.passes clash.passes in
-      let once = entries-once (S.image a) dir es d in
-      let holds = clash-holds (Failed S a c) (S.image a) dir es h.files s clash.place d h.surveyed.files
+  pub far-tells : (a b c : D) (es : List Slot) (n : ℕ) (t : Owners) (kept : Option Fault) (s : Slot) (f : Fault) → IsFar a b es n t kept → n < length es → s ≡ get_or es n s → TellsOrClashes S b c s t f → Tells S a c 2114 f
+  far-tells a b c es n t kept s f h below read (inl tells) = tells_then S a b c _ 732 2114 f (omega (arith, far-few a b es n t kept h)) h.passes tells
+  far-tells a b c es n t kept s f h below read (inr clash) =
+      let passes = passes_then S a b c _ 732 2114 (omega (arith, far-few a b es n t kept h)) h.passes clash.passes in
+      let once = entries-once (S.image a) h.directory es h.listed in
+      let holds = clash-holds (Failed S a c) (S.image a) h.directory es h.files s clash.place h.listed h.surveyed.files
       (λ x there. let in_front : Contains (take n es) x.slot = rw (← h.slots) (slot-in h.files x there) in (before in_front, λ e. not_before es n s below read once (rw (← e) in_front)))
       ((h.surveyed.table.owned clash.place).0 clash.owned)
       (let P : Image → Type 0 = λ i. Owns i (blocks_of s) clash.place ⊎ Owns i (sides_of s) clash.place in subst P h.passes.reads.image clash.has) in
@@ -206,21 +210,21 @@ module _ {D : Type 0} (S : History D) where
       before {x} c = let P : List Slot → Type 0 = λ xs. Contains xs x in subst P (take-append-drop n es) (Contains-append_left (take n es) (drop n es) x c)
 
   -- all entries found: the image is sound, and the survey tells its layout
-  pub far-end : (a b : D) (dir : List Place) (es : List Slot) (n : ℕ) (t : Owners) (kept : Option Fault) (s : Survey) → IsDirectory (S.image a) dir es → IsFar a b dir es n t kept → length es ≤ n → length es ≤ 144 → s.owners ≡ t → s.entries ≡ length es → Surveys S a b (record { survey = s; unclean = kept })
+  pub far-end : (a b : D) (es : List Slot) (n : ℕ) (t : Owners) (kept : Option Fault) (s : Survey) → IsFar a b es n t kept → length es ≤ n → length es ≤ 144 → s.owners ≡ t → s.entries ≡ length es → Surveys S a b (record { survey = s; unclean = kept })
   unfolding owners
-  far-end a b dir es n t kept s d h all small table entries =
+  far-end a b es n t kept s h all small table entries =
       let same : map (λ f. f.slot) h.files ≡ es = h.slots ∙ take_all n es all in (
-        record { directory = dir; files = h.files },
-        record { directory = rw same d; files = h.surveyed.files; once = h.surveyed.once },
+        record { directory = h.directory; files = h.files },
+        record { directory = rw same h.listed; files = h.surveyed.files; once = h.surveyed.once },
         record {
-          table = let P : Owners → Type 0 = λ o. IsTable o dir h.files in subst P (sym table) h.surveyed.table;
+          table = let P : Owners → Type 0 = λ o. IsTable o h.directory h.files in subst P (sym table) h.surveyed.table;
           once = h.surveyed.once;
           entries = omega (arith, entries, ap length same, length-slots h.files);
           few = omega (arith, entries);
-          on_track = d.on_track;
+          on_track = h.listed.on_track;
         },
         h.judged,
-        passes_weaker S a b _ _ (omega (arith, length-append dir (flat_map file_owns h.files))) h.passes,
+        passes_weaker S a b _ _ (omega (arith, length-append h.directory (flat_map file_owns h.files))) h.passes,
       )
 
   -- where the device doesn't fail, a fault is told exactly where the image isn't sound

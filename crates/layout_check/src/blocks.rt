@@ -5,7 +5,7 @@ ghost use Rattle.disk_layout.specs.Layout.{is_rel};
 ghost use Rattle.layout_check.specs.Calls.{Passes, Tells};
 ghost use Rattle.layout_check.specs.Entry.{HasBlocks};
 
-use crate::entry::place_in;
+use crate::entry::first_block;
 use arrayvec::ArrayVec;
 use d64_image::{Place, Sectors};
 use disk_layout::{Fault, Slot, walk_chain};
@@ -23,10 +23,8 @@ pub fn survey_blocks<D: Sectors>(
     ensures ok { OnOk result (Passes D.history disk.old disk.new (length blocks.new.items)) }
     ensures err { IfErr result (Tells D.history disk.old disk.new 720) }
 {
-    let Some(first) = place_in(&slot.bytes, 3) else {
+    let Some(first) = first_block(slot) else {
         return Err(Fault::BadLink(slot.sector));
     };
-    let walked = walk_chain(disk, first, blocks);
-    prove!(blocks.len() <= 720);
-    walked
+    walk_chain(disk, first, blocks)
 }

@@ -94,7 +94,8 @@ pub fn survey_entry<D: Sectors>(
     if is_relative(slot) {
         return survey_relative(disk, slot, number, owners, blocks);
     }
-    if slot.bytes[3] == 0 {
+    let (first_track, _) = EntryView::new(&slot.bytes).first_block();
+    if first_track == 0 {
         return Ok(None);
     }
     survey_plain(disk, slot, number, owners, blocks)?;

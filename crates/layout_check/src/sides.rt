@@ -1,6 +1,5 @@
 //! The side sectors of a relative entry, judged as far as a sound disk asks.
-ghost use Rattle.std.specs.Prelude.{◌≡◌, ◌+◌, ◌*◌, ◌<◌, ◌≤◌, IfErr, IfOk, IsFalse, IsTrue, MatchOption, OnOk, length};
-ghost use Rattle.disk_layout.specs.Chain.{Names, NamesNone};
+ghost use Rattle.std.specs.Prelude.{◌+◌, ◌*◌, ◌<◌, ◌≤◌, IfErr, IfOk, IsFalse, IsTrue, OnOk, length};
 ghost use Rattle.disk_layout.specs.Fault.{IsClosed};
 ghost use Rattle.disk_layout.specs.Layout.{is_rel, sides_for};
 ghost use Rattle.layout_check.specs.Calls.{Passes, Tells};
@@ -8,13 +7,19 @@ ghost use Rattle.layout_check.specs.Exact.{JudgesSides};
 ghost use Rattle.layout_check.specs.Sides.{HasParts, IsJudged, IsMisjudged, IsMisnamed, IsRelEntry, IsWalkOfSides, ListsEach, NamesEach};
 
 use crate::blocks::survey_blocks;
-use crate::entry::place_in;
+use crate::entry::first_side;
 use arrayvec::ArrayVec;
 use d64_image::{Place, Sectors};
-use disk_layout::{Fault, Slot, side_bytes};
+use disk_layout::{EntryView, Fault, SideView, Slot, read_sector, side_bytes};
 
 /// How many data blocks a side sector points to.
 const POINTERS: usize = 120;
+
+/// Where in a side sector the places of all side sectors stand.
+const LIST_AT: usize = 4;
+
+/// Where in a side sector its pointers to data blocks stand.
+const POINTERS_AT: usize = 16;
 
 /// Whether the bytes from `at` on name these places in order, track and sector of each.
 fn names_each(sector: &[u8; 256], at: usize, places: &[Place]) -> bool
@@ -38,19 +43,14 @@ fn is_side(sector: &[u8; 256], number: usize, slot: &Slot, blocks: &[Place]) -> 
     ensures right { IsTrue result → IsJudged sector.now slot.now blocks.now number }
     ensures wrong { IsFalse result → IsMisjudged sector.now slot.now blocks.now number }
 {
-    if sector[2] as usize != number || sector[3] != slot.bytes[23] {
+    let side = SideView::new(sector);
+    let record_length = EntryView::new(&slot.bytes).record_length();
+    if side.number() as usize != number || side.record_length() != record_length {
         return false;
     }
     let start = POINTERS * number;
     let end = blocks.len().min(start + POINTERS);
-    names_each(sector, 16, &blocks[start..end])
-}
-
-/// The place to which a sector links; None where its first two bytes name no place of the disk.
-fn link_of(sector: &[u8; 256]) -> Option<Place>
-    ensures { MatchOption result (NamesNone sector.now 0) (λ p. Names sector.now 0 p) }
-{
-    Place::new(sector[0], sector[1])
+    names_each(sector, POINTERS_AT, &blocks[start..end])
 }
 
 /// Follows the side sectors of a closed relative entry with these blocks from the first on by their links, as many as the
@@ -71,17 +71,14 @@ fn walk_sides<D: Sectors>(
     ensures err { IfErr result (Tells D.history disk.old disk.new 6) }
 {
     sides.clear();
-    let Some(first) = place_in(&slot.bytes, 21) else {
+    let Some(first) = first_side(slot) else {
         return Err(Fault::BadSide(slot.sector));
     };
     let needed = blocks.len().div_ceil(POINTERS);
     let mut at = first;
     let mut sector = [0u8; 256];
     for number in 0..needed {
-        match disk.read(at, &mut sector) {
-            Ok(()) => {}
-            Err(_) => return Err(Fault::Device(at)),
-        }
+        read_sector(disk, at, &mut sector)?;
         if !is_side(&sector, number, slot, blocks) {
             return Err(Fault::BadSide(at));
         }
@@ -89,10 +86,10 @@ fn walk_sides<D: Sectors>(
         if number + 1 == needed {
             return Ok(());
         }
-        match link_of(&sector) {
-            Some(next) => at = next,
-            None => return Err(Fault::BadSide(at)),
-        }
+        let Some(next) = SideView::new(&sector).next() else {
+            return Err(Fault::BadSide(at));
+        };
+        at = next;
     }
     Ok(())
 }
@@ -117,17 +114,15 @@ fn survey_sides<D: Sectors>(
     ensures err { IfErr result (Tells D.history disk.old disk.new 12) }
 {
     walk_sides(disk, slot, blocks, sides)?;
+    let record_length = EntryView::new(&slot.bytes).record_length();
     let mut inexact = None;
     let mut sector = [0u8; 256];
     for (number, &side) in sides.as_slice().iter().enumerate() {
-        match disk.read(side, &mut sector) {
-            Ok(()) => {}
-            Err(_) => return Err(Fault::Device(side)),
-        }
-        let wanted = side_bytes(number as u8, blocks, sides.as_slice(), slot.bytes[23]);
+        read_sector(disk, side, &mut sector)?;
+        let wanted = side_bytes(number as u8, blocks, sides.as_slice(), record_length);
         // the exact bytes list all side sectors
         if sector != wanted {
-            if !names_each(&sector, 4, sides.as_slice()) {
+            if !names_each(&sector, LIST_AT, sides.as_slice()) {
                 return Err(Fault::BadSide(side));
             }
             inexact = inexact.or(Some(side));

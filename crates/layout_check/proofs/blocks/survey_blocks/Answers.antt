@@ -7,7 +7,7 @@ pub returns-in_default-clause-err : goal.returns-in_default-clause-err
 returns-in_default-clause-err g c = no_first g.D.Sectors.history c.args.disk.now c.args.slot.now.sector c.args.slot.now c.requires.closed c.in_default.ensures c.requires.names
 
 pub returns-clause-blocks : goal.returns-clause-blocks
-returns-clause-blocks g c = blocks-found _ c.args.slot.now c.in-Some.first _ _ c.in-Some.ensures c.walk_chain-walked.ensures.chain
+returns-clause-blocks g c = blocks-found _ c.args.slot.now c.in-Some.first _ _ c.in-Some.ensures c.walk_chain.ensures.chain
 
 pub returns-clause-err : goal.returns-clause-err
-returns-clause-err g c = chain-tells g.D.Sectors.history c.args.disk.now c.walk_chain-walked.new.disk c.args.slot.now.sector c.in-Some.first c.args.slot.now _ _ (omega (arith, c.len.ensures)) c.requires.closed c.in-Some.ensures c.walk_chain-walked.ensures.fault c.walk_chain-walked.ensures.failures c.walk_chain-walked.ensures.reads
+returns-clause-err g c = chain-tells g.D.Sectors.history c.args.disk.now c.walk_chain.new.disk c.args.slot.now.sector c.in-Some.first c.args.slot.now _ _ (omega (arith, c.walk_chain.ensures.few)) c.requires.closed c.in-Some.ensures c.walk_chain.ensures.fault c.walk_chain.ensures.failures c.walk_chain.ensures.reads

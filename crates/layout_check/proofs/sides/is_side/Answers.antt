@@ -5,8 +5,8 @@ use Rattle.layout_check.proofs.sides.is_side.Goals as goal
 
 pub returns-clause-right : goal.returns-clause-right
 returns-clause-right c t = record {
-  number = c.if-sector-number.false;
-  length_byte = c.if-sector-slot.false;
+  number = cc;
+  length_byte = cc;
   pointers = pointers-right c.args.sector.now c.args.blocks.now c.args.number c.min-end.result (end-far _ _ c.min-end.result c.min-end.ensures) (c.names_each.ensures.right t);
 }
 

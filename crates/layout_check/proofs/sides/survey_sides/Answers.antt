@@ -1,12 +1,12 @@
 -- The walk along the links, and then each list.
-use Rattle.std.proofs.Common.{ap, arith, sym, ◌∙◌, ◌≡◌, List, length, subst}
+use Rattle.std.proofs.Common.{ap, arith, refl, sym, ◌∙◌, ◌≡◌, List, length, subst}
 use Rattle.std.specs.Prelude.{Some, slice_get}
 use borrow.Author.Count.{below_more}
 use Rattle.std.proofs.lemmas.Option.{slice_get_within}
 use Rattle.std.proofs.lemmas.Result.{err_from_is_err_and}
 use Rattle.d64_image.specs.Images.{Image, sector}
 use Rattle.d64_image.specs.declared.place.Place.{Place}
-use Rattle.layout_check.proofs.Calls.{device_tells, passes_read, passes_then, passes_weaker, side_tells, tells_then, tells_weaker}
+use Rattle.layout_check.proofs.Calls.{passes_read, passes_then, passes_weaker, side_tells, tells_read, tells_then, tells_weaker}
 use Rattle.layout_check.proofs.Inexact.{exact-here, other-bytes, same-bytes}
 use Rattle.layout_check.proofs.Judged.{exact-lists, judged-all, judged-exact, judged-none, judged-other}
 use Rattle.layout_check.proofs.Pointers.{read-there}
@@ -30,13 +30,15 @@ loop-number-init g c = record {
   judged = judged-none _ c.args.slot.now c.args.blocks.now c.as_slice-side-items.result.now;
 }
 
-pub returns-in-Err-clause-err : goal.returns-in-Err-clause-err
-returns-in-Err-clause-err g c =
+pub returns-in_err-read_sector-clause-err : goal.returns-in_err-read_sector-clause-err
+returns-in_err-read_sector-clause-err g c =
     let S = g.D.Sectors.history in
     let old = c.loop-number.invariant in
-    tells_then S c.args.disk.now c.loop-number.disk c.read.new.self _ 1 12 _
+    let read = c.in_err-read_sector.ensures in
+    let p = err_from_is_err_and c.from_residual-in_err-read_sector.result c.from_residual-in_err-read_sector.ensures.1 in
+    rw (p.1, p.2) (tells_then S c.args.disk.now c.loop-number.disk c.read_sector.new.disk _ 1 12 _
     (few-sides _ c.args.slot.now c.args.blocks.now c.walk_sides.new.sides.items c.as_slice-side-items.result.now c.loop-number.number c.in_ok-walk_sides.ensures.sides c.requires.few c.as_slice-side-items.ensures.value c.loop-number-test.true)
-    old.passes (device_tells S c.loop-number.disk c.read.new.self c.side-item.result c.in-Err.ensures.reads c.in-Err.ensures.failures)
+    old.passes (tells_read S c.loop-number.disk c.read_sector.new.disk c.side-item.result _ read.told read.reads read.failures))
 
 pub names_each-requires : goal.names_each-requires
 names_each-requires g c = omega (arith, ap length c.as_slice-then-ne.ensures.value, c.in_ok-walk_sides.ensures.sides.count, c.requires.few)
@@ -46,10 +48,10 @@ returns-then-not-names_each-clause-err g c =
     let S = g.D.Sectors.history in
     let old = c.loop-number.invariant in
     let few = few-sides _ c.args.slot.now c.args.blocks.now c.walk_sides.new.sides.items c.as_slice-side-items.result.now c.loop-number.number c.in_ok-walk_sides.ensures.sides c.requires.few c.as_slice-side-items.ensures.value c.loop-number-test.true in
-    let passes = passes_then S c.args.disk.now c.loop-number.disk c.read.new.self _ 1 12 few old.passes (passes_read S c.loop-number.disk c.read.new.self c.in-Ok.ensures.reads c.in-Ok.ensures.failures) in
-    let e = c.in-Ok.ensures.sector ∙ ap (λ (i : Image). sector i c.side-item.result) old.passes.reads.image in
-    side_tells S c.args.disk.now c.read.new.self 12 c.side-item.result passes
-    (unlisted-holds ⊥ _ c.args.slot.now c.args.blocks.now c.walk_sides.new.sides.items c.loop-number.number c.side-item.result c.read.new.to c.requires.entry c.in_ok-walk_sides.ensures.sides
+    let passes = passes_then S c.args.disk.now c.loop-number.disk c.read_sector.new.disk _ 1 12 few old.passes (passes_read S c.loop-number.disk c.read_sector.new.disk c.in_ok-read_sector.ensures.reads c.in_ok-read_sector.ensures.failures) in
+    let e = c.in_ok-read_sector.ensures.sector ∙ ap (λ (i : Image). sector i c.side-item.result) old.passes.reads.image in
+    side_tells S c.args.disk.now c.read_sector.new.disk 12 c.side-item.result passes
+    (unlisted-holds ⊥ _ c.args.slot.now c.args.blocks.now c.walk_sides.new.sides.items c.loop-number.number c.side-item.result c.read_sector.new.to c.requires.entry c.in_ok-walk_sides.ensures.sides
     (unlisted-part c.walk_sides.new.sides.items c.as_slice-side-items.result.now c.loop-number.number c.side-item.result c.as_slice-side-items.ensures.value c.loop-number-test.true c.side-item.is)
     e (rw (← c.as_slice-then-ne.ensures.value) (c.names_each.ensures.wrong c.if-not-names_each.true)))
 
@@ -59,23 +61,24 @@ loop-number-preserved g c =
     let old = c.loop-number.invariant in
     let items = c.as_slice-side-items.result.now in
     let n = c.loop-number.number in
-    let e = c.in-Ok.ensures.sector ∙ ap (λ (i : Image). sector i c.side-item.result) old.passes.reads.image in
+    let e = c.in_ok-read_sector.ensures.sector ∙ ap (λ (i : Image). sector i c.side-item.result) old.passes.reads.image in
     let there = read-there items n c.side-item.result c.loop-number-test.true c.side-item.is in
-    let passes = passes_then S c.args.disk.now c.loop-number.disk c.read.new.self _ 1 _ (omega arith) old.passes (passes_read S c.loop-number.disk c.read.new.self c.in-Ok.ensures.reads c.in-Ok.ensures.failures) in
+    let passes = passes_then S c.args.disk.now c.loop-number.disk c.read_sector.new.disk _ 1 _ (omega arith) old.passes (passes_read S c.loop-number.disk c.read_sector.new.disk c.in_ok-read_sector.ensures.reads c.in_ok-read_sector.ensures.failures) in
+    let length_byte : c.record_length-record_length.result ≡ record_length c.args.slot.now = rw (c.record_length-record_length.ensures, c.new.ensures) refl in
     let wanted : c.side_bytes-wanted.result ≡ side_sector n c.args.blocks.now items (record_length c.args.slot.now) =
-    c.side_bytes-wanted.ensures ∙ ap (λ (xs : List Place). side_sector n c.args.blocks.now xs (record_length c.args.slot.now)) (c.as_slice.ensures.value ∙ sym c.as_slice-side-items.ensures.value) in
+    rw (← length_byte) c.side_bytes-wanted.ensures ∙ ap (λ (xs : List Place). side_sector n c.args.blocks.now xs (record_length c.args.slot.now)) (c.as_slice.ensures.value ∙ sym c.as_slice-side-items.ensures.value) in
     elim c.if-ne.branch [
       | then-ne+else-not-names_each w ↦ record {
         passes = passes;
-        lists = below_more _ _ old.lists (listed-here _ c.walk_sides.new.sides.items items w.as_slice-then-ne.result.now n c.side-item.result c.read.new.to c.as_slice-side-items.ensures.value w.as_slice-then-ne.ensures.value c.loop-number-test.true c.side-item.is e (w.names_each.ensures.right w.if-not-names_each.false));
+        lists = below_more _ _ old.lists (listed-here _ c.walk_sides.new.sides.items items w.as_slice-then-ne.result.now n c.side-item.result c.read_sector.new.to c.as_slice-side-items.ensures.value w.as_slice-then-ne.ensures.value c.loop-number-test.true c.side-item.is e (w.names_each.ensures.right w.if-not-names_each.false));
         judged = rw (w.inexact-is, w.or-inexact.ensures) (judged-other _ c.args.slot.now c.args.blocks.now items n c.loop-number.inexact c.side-item.result old.judged (record {
           number = n;
           there = there;
-          other = λ same. other-bytes c.read.new.to c.side_bytes-wanted.result c.ne.result c.ne.ensures w.if-ne.true (e ∙ same ∙ sym wanted);
+          other = λ same. other-bytes c.read_sector.new.to c.side_bytes-wanted.result c.ne.result c.ne.ensures w.if-ne.true (e ∙ same ∙ sym wanted);
         }));
       }
       | else-ne w ↦
-          let exact = exact-here _ c.args.slot.now c.args.blocks.now items n c.side-item.result c.loop-number-test.true c.side-item.is (sym e ∙ same-bytes c.read.new.to c.side_bytes-wanted.result c.ne.result c.ne.ensures w.if-ne.false ∙ wanted) in
+          let exact = exact-here _ c.args.slot.now c.args.blocks.now items n c.side-item.result c.loop-number-test.true c.side-item.is (sym e ∙ same-bytes c.read_sector.new.to c.side_bytes-wanted.result c.ne.result c.ne.ensures w.if-ne.false ∙ wanted) in
           record {
             passes = passes;
             lists = below_more _ _ old.lists (λ q at. exact-lists _ c.args.slot.now c.args.blocks.now items n q c.as_slice-side-items.ensures.fits (exact q at));

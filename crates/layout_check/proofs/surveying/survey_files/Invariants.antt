@@ -2,4 +2,4 @@ use Rattle.layout_check.proofs.Progress.{IsFar}
 use Rattle.layout_check.proofs.surveying.survey_files.Given as goal
 
 abbrev pub invariant-loop-number : goal.invariant-loop-number
-invariant-loop-number g l = IsFar g.D.Sectors.history l.fn.disk l.disk l.initial.places.items l.slot-items l.number l.owners l.unclean
+invariant-loop-number g l = IsFar g.D.Sectors.history l.fn.disk l.disk l.slot-items l.number l.owners l.unclean
