@@ -18,7 +18,7 @@ use Rattle.disk_layout.specs.declared.faults.Fault.{Fault}
 use Rattle.disk_layout.specs.declared.faults.Fault.TheVariants.{BadLength, BadLink, BadSide, BadType, CountWrong, Device, Loop, MapWrong, OwnedTwice, Unclosed}
 use Rattle.disk_layout.specs.declared.slot.Slot.{Slot}
 use Rattle.layout_check.proofs.Assembly.{rel-file}
-use Rattle.layout_check.proofs.Calls.{device_tells, passes_then, tells_later, tells_then}
+use Rattle.layout_check.proofs.Calls.{passes_then, tells_later, tells_then}
 use Rattle.layout_check.proofs.Pointers.{read-there}
 use Rattle.layout_check.specs.Calls.{Passes, Tells}
 use Rattle.layout_check.specs.Entry.{IsProper}
@@ -83,13 +83,6 @@ parts-of img l f s blocks sides is own same rel h =
 module _ {D : Type 0} (S : History D) where
   pub clean_tells : (a b : D) (n : ℕ) (f : Fault) → Tells S a b n f → TellsOfClean S a b n f
   clean_tells a b n f h = record { reads = h.reads; failures = h.failures; holds = clean-holds (Failed S a b) (S.image a) f h.holds }
-
-  -- a read that failed
-  pub clean_told : (T : Type 0) (a b : D) (p : Place) (f : Fault) → OnlyReads S a b 1 → f ≡ Device p → TellsFault {T = T} S a b (Err f) → TellsOfClean S a b 1 f
-  clean_told T a b p f reads is tells =
-      let P : Fault → Type 0 = λ x. TellsFault {T = T} S a b (Err x) in
-      let Q : Fault → Type 0 = TellsOfClean S a b 1 in
-      subst Q (sym is) (clean_tells a b 1 (Device p) (device_tells S a b p reads (subst P is tells)))
 
   pub clean_then : (a b c : D) (k m n : ℕ) (f : Fault) → k + m ≤ n → Passes S a b k → TellsOfClean S b c m f → TellsOfClean S a c n f
   clean_then a b c k m n f le first second = record {
