@@ -1,7 +1,7 @@
 -- Calls that go over sectors in order, one after another.
-use Rattle.std.proofs.Common.{ℕ, ◌≡◌, ◌≢◌, ◌≤◌, ◌+◌, List, [], ◌∷◌, ◌++◌, ◌⊎◌, length, ⊎_elim, sym, ◌∙◌, ap, refl, arith, subst, inl, inr}
-use Rattle.std.specs.Prelude.{Contains}
-use Rattle.std.proofs.lemmas.List.{append-nil, append_assoc, length-append}
+use Rattle.std.proofs.Common.{ℕ, zero, suc, ◌≡◌, ◌≢◌, ◌≤◌, ◌+◌, List, [], ◌∷◌, ◌++◌, ◌⊎◌, drop, length, take, ⊎_elim, sym, ◌∙◌, ap, refl, arith, subst, inl, inr}
+use Rattle.std.specs.Prelude.{Contains, Some, slice_get}
+use Rattle.std.proofs.lemmas.List.{append-nil, append_assoc, length-append, take-append-drop}
 use Rattle.std.proofs.lemmas.List.Elements.{Contains-append_left, Contains-append_right, Contains-append_cases}
 use Rattle.d64_image.proofs.Moments.{at_end, reading, start, then, weaker}
 use Rattle.d64_image.proofs.Images.{sector-put_other, sector-put_same}
@@ -13,6 +13,20 @@ use Rattle.disk_layout.proofs.Once.{Contains-cases, Contains-here, Contains-nil,
 use Rattle.disk_layout.specs.Chain.{EachOnce}
 use Rattle.layout_check.specs.InOrder.{AreMade, GoesOver, IsUnderWay, WritesOnce}
 use Rattle.layout_check.specs.Recounted.{WritesOther}
+
+-- one element more of a list
+pub take-get : {X : Type 0} (xs : List X) (n : ℕ) (x : X) → slice_get xs n ≡ Some x → take (n + 1) xs ≡ take n xs ++ x ∷ []
+take-get [] n x e = cc
+take-get (y ∷ ys) zero x e = let one : y ≡ x = cc in ap (λ z. z ∷ []) one
+take-get (y ∷ ys) (suc n) x e = let next : suc n + 1 ≡ suc (n + 1) = omega arith in rw next (ap (λ zs. y ∷ zs) (take-get ys n x e))
+
+pub once-split : (xs : List Place) (n : ℕ) → EachOnce xs → EachOnce (take n xs ++ drop n xs)
+once-split xs n once = let P : List Place → Type 0 = EachOnce in subst P (sym (take-append-drop n xs)) once
+
+pub once-next : (xs : List Place) (n : ℕ) (p : Place) → slice_get xs n ≡ Some p → EachOnce xs → EachOnce (take n xs ++ p ∷ [])
+once-next xs n p there once =
+    let P : List Place → Type 0 = EachOnce in
+    subst P (take-get xs n p there) (EachOnce-left (take (n + 1) xs) (drop (n + 1) xs) (once-split xs (n + 1) once))
 
 module _ (Right : Place → Sector → Type 0) where
   -- nothing is done yet
@@ -141,3 +155,17 @@ module _ {D : Type 0} (S : History D) where
     over_write p a b bytes held right kept other = over_one p a b
         (weaker S a b _ _ (λ c. ⊎_elim (λ e. inl e) (λ e. inr (let P : Image → Type 0 = AreMade Right (p ∷ []) (S.image a) in subst P (sym e) (made_put Right p (S.image a) bytes (S.whole a).size right kept)))) held)
         other
+
+    -- reads, and then these
+    pub over_read : (ps : List Place) (a b c : D) (n : ℕ) → EachOnce ps → OnlyReads S a b n → GoesOver S b c Right ps → GoesOver S a c Right ps
+    over_read ps a b c n once r over = over_then [] ps a b c once (over_none [] a b n r) (made_none Right (S.image a) (S.image b) r.image) over
+
+    -- the first k of these
+    pub over_first : (ps : List Place) (k : ℕ) (a b : D) → GoesOver S a b Right (take k ps) → GoesOver S a b Right ps
+    over_first ps k a b over = let P : List Place → Type 0 = GoesOver S a b Right in subst P (take-append-drop k ps) (over_more (take k ps) (drop k ps) a b over)
+
+    -- and reads in place of what is left
+    pub over_left : (ps : List Place) (k : ℕ) (a b c : D) (n : ℕ) → EachOnce ps → GoesOver S a b Right (take k ps) → AreMade Right (take k ps) (S.image a) (S.image b) → OnlyReads S b c n → GoesOver S a c Right ps
+    over_left ps k a b c n once over made r =
+        let P : List Place → Type 0 = GoesOver S a c Right in
+        subst P (take-append-drop k ps) (over_then (take k ps) (drop k ps) a b c (once-split ps k once) over made (over_none (drop k ps) b c n r))

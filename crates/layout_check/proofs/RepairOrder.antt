@@ -8,7 +8,7 @@ use Rattle.d64_image.specs.Images.{Image, Sector, sector}
 use Rattle.d64_image.specs.declared.place.Place.{Place}
 use Rattle.disk_layout.specs.Directory.{map_place}
 use Rattle.disk_layout.specs.Layout.{IsLayout, Layout}
-use Rattle.layout_check.proofs.Orders.{made_none, over_more, over_none, over_then}
+use Rattle.layout_check.proofs.Orders.{over_more, over_read, over_then}
 use Rattle.layout_check.proofs.Rights.{directory-not_map, order-once, side-not_map}
 use Rattle.layout_check.specs.InOrder.{AreMade, ClearsSpare, GoesOver, IsRight, IsUnderWay, repair_order, sides_of}
 use Rattle.layout_check.specs.Made.{HasNoSpare}
@@ -49,8 +49,7 @@ module _ {D : Type 0} (S : History D) (l : Layout) where
       → ((m : Layout) → IsLayout (S.image b) m → GoesOver S b c (IsRight m) (repair_order m)) → GoesOver S a c (IsRight l) (repair_order l)
   order_after a b c n is reads h =
       let P : Image → Type 0 = λ i. IsLayout i l in
-      over_then S (IsRight l) [] (repair_order l) a b c (order-once (S.image a) l is) (over_none S (IsRight l) [] a b n reads) (made_none (IsRight l) (S.image a) (S.image b) reads.image)
-      (h l (subst P (sym reads.image) is))
+      over_read S (IsRight l) (repair_order l) a b c n (order-once (S.image a) l is) reads (h l (subst P (sym reads.image) is))
 
   -- the map of a repair that went on
   pub spare_sides : (a b c : D) → IsLayout (S.image b) l → ClearsSpare (S.image a) (S.image b) → GoesOver S b c (IsRight l) (sides_of l.files) → ClearsSpare (S.image a) (S.image c)

@@ -8,7 +8,7 @@ use Rattle.d64_image.specs.Images.{Image, Sector, put, sector}
 use Rattle.d64_image.specs.declared.place.Place.{Place}
 use Rattle.disk_layout.proofs.Agree.{IsLayout-put_map}
 use Rattle.disk_layout.proofs.Layouts.{IsLayout-one, get-contains}
-use Rattle.disk_layout.proofs.Once.{flat_map-in}
+use Rattle.disk_layout.proofs.Once.{Contains-nil, flat_map-in}
 use Rattle.disk_layout.proofs.Recount.{slot-there}
 use Rattle.disk_layout.proofs.Recounts.{slot-of}
 use Rattle.disk_layout.specs.Directory.{map_place}
@@ -16,7 +16,7 @@ use Rattle.disk_layout.specs.Layout.{IsLayout, Layout, owners}
 use Rattle.disk_layout.specs.Map.{IsMapOf}
 use Rattle.disk_layout.specs.declared.faults.Fault.{Fault}
 use Rattle.layout_check.proofs.MapMends.{map-put, right-map}
-use Rattle.layout_check.proofs.Orders.{made_one, made_put, over_one}
+use Rattle.layout_check.proofs.Orders.{made_one, made_put, over_one, over_read}
 use Rattle.layout_check.proofs.Rights.{directory-not_map, side-not_map}
 use Rattle.layout_check.specs.Exact.{HasMap}
 use Rattle.layout_check.specs.InOrder.{AreMade, GoesOver, IsRight}
@@ -61,16 +61,10 @@ made-written a b s had bytes l size same told read (f, wrong) right is =
 module _ {D : Type 0} (S : History D) (a b c : D) (n : ℕ) (reads : OnlyReads S a b n) (p : Place) (bytes : Sector) (held : HeldOnly S b c (OldOr (S.image b) (put (S.image b) p bytes))) where
   -- a read, and then a write that makes the sector right
   pub over_read_write : (Right : Place → Sector → Type 0) → AreMade Right (p ∷ []) (S.image a) (put (S.image b) p bytes) → WritesOther S b c p → GoesOver S a c Right (p ∷ [])
-  over_read_write Right made other = over_one S Right p a c
-      (then S a b c P (reading S a b n P reads (inl refl)) (weaker S b c (OldOr (S.image b) (put (S.image b) p bytes)) P (λ i. ⊎_elim (λ e. inl (e ∙ reads.image)) (λ e. inr (rw e made))) held))
-      (later other)
-    where
-      P : Image → Type 0
-      P i = (i ≡ S.image a) ⊎ AreMade Right (p ∷ []) (S.image a) i
-
-      later : WritesOther S b c p → WritesOther S a c p
-      later (inl none) = inl (none ∙ reads.writes)
-      later (inr (changed, one)) = inr ((λ e. changed (e ∙ ap (λ (i : Image). sector i p) (sym reads.image))), omega (arith, one, reads.writes))
+  over_read_write Right made other =
+      let P : Image → Type 0 = λ i. AreMade Right (p ∷ []) i (put (S.image b) p bytes) in
+      over_read S Right (p ∷ []) a b c n (Contains-nil p, tt) reads
+      (over_one S Right p b c (weaker S b c _ _ (λ i. ⊎_elim (λ e. inl e) (λ e. inr (rw e (subst P (sym reads.image) made)))) held) other)
 
   -- the sector has what was written, where it isn't as it was
   pub changed_written : (Q : Sector → Type 0) → Q bytes → sector (S.image c) p ≢ sector (S.image a) p → Q (sector (S.image c) p)

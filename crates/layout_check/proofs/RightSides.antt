@@ -20,7 +20,7 @@ use Rattle.disk_layout.specs.Side.{side_sector}
 use Rattle.disk_layout.specs.declared.slot.Slot.{Slot}
 use Rattle.layout_check.proofs.Assembly.{contains-get}
 use Rattle.layout_check.proofs.Inexact.{parts-of}
-use Rattle.layout_check.proofs.Orders.{made_none, made_put, made_then, over_more, over_none, over_then, over_write}
+use Rattle.layout_check.proofs.Orders.{made_put, made_then, once-next, over_more, over_read, over_then, over_write, take-get}
 use Rattle.layout_check.proofs.Pointers.{read-there}
 use Rattle.layout_check.proofs.Rights.{files-once, side-not_directory, side-not_map, sides-once}
 use Rattle.layout_check.proofs.SideMends.{file-once, file-sector, files-apart, parts-in}
@@ -29,20 +29,6 @@ use Rattle.layout_check.specs.InOrder.{AreMade, GoesOver, IsRight, sides_of}
 use Rattle.layout_check.specs.Mended.{IsPartsOf}
 use Rattle.layout_check.specs.Recounted.{WritesOther}
 use Rattle.layout_check.specs.Sides.{HasParts}
-
--- one element more of a list
-pub take-get : {X : Type 0} (xs : List X) (n : ℕ) (x : X) → slice_get xs n ≡ Some x → take (n + 1) xs ≡ take n xs ++ x ∷ []
-take-get [] n x e = cc
-take-get (y ∷ ys) zero x e = let one : y ≡ x = cc in ap (λ z. z ∷ []) one
-take-get (y ∷ ys) (suc n) x e = let next : suc n + 1 ≡ suc (n + 1) = omega arith in rw next (ap (λ zs. y ∷ zs) (take-get ys n x e))
-
-pub once-split : (xs : List Place) (n : ℕ) → EachOnce xs → EachOnce (take n xs ++ drop n xs)
-once-split xs n once = let P : List Place → Type 0 = EachOnce in subst P (sym (take-append-drop n xs)) once
-
-pub once-next : (xs : List Place) (n : ℕ) (p : Place) → slice_get xs n ≡ Some p → EachOnce xs → EachOnce (take n xs ++ p ∷ [])
-once-next xs n p there once =
-    let P : List Place → Type 0 = EachOnce in
-    subst P (take-get xs n p there) (EachOnce-left (take (n + 1) xs) (drop (n + 1) xs) (once-split xs (n + 1) once))
 
 module _ (img : Image) (l : Layout) (is : IsLayout img l) where
   pub file-sides_once : (f : File) → Contains l.files f → EachOnce f.sides
@@ -140,20 +126,6 @@ sides-all img l ps items n is d all =
     ap sides_of (take_all n l.files (omega (arith, all, ap length same, length-map l.files (λ (f : File). f.slot))))
 
 module _ {D : Type 0} (S : History D) where
-  -- reads, and then sectors gone over
-  pub over_read : (a b c : D) (n : ℕ) (Right : Place → Sector → Type 0) (ps : List Place) → EachOnce ps → OnlyReads S a b n → GoesOver S b c Right ps → GoesOver S a c Right ps
-  over_read a b c n Right ps once r over = over_then S Right [] ps a b c once (over_none S Right [] a b n r) (made_none Right (S.image a) (S.image b) r.image) over
-
-  -- reads in place of what is left
-  pub over_left : (a b c : D) (n k : ℕ) (Right : Place → Sector → Type 0) (ps : List Place) → EachOnce ps → GoesOver S a b Right (take k ps) → AreMade Right (take k ps) (S.image a) (S.image b) → OnlyReads S b c n → GoesOver S a c Right ps
-  over_left a b c n k Right ps once over made r =
-      let P : List Place → Type 0 = GoesOver S a c Right in
-      subst P (take-append-drop k ps) (over_then S Right (take k ps) (drop k ps) a b c (once-split ps k once) over made (over_none S Right (drop k ps) b c n r))
-
-  -- the first of these
-  pub over_first : (a b : D) (k : ℕ) (Right : Place → Sector → Type 0) (ps : List Place) → GoesOver S a b Right (take k ps) → GoesOver S a b Right ps
-  over_first a b k Right ps over = let P : List Place → Type 0 = GoesOver S a b Right in subst P (take-append-drop k ps) (over_more S Right (take k ps) (drop k ps) a b over)
-
   -- side sector n, read and written
   module _ (a : D) (l : Layout) (is : IsLayout (S.image a) l) (s : Slot) (bs ss : List Place) (h : IsPartsOf (S.image a) s bs ss) (n : ℕ) (p : Place) (there : slice_get ss n ≡ Some p) (wanted : Sector) (exact : wanted ≡ side_sector n bs ss (record_length s)) where
     right : IsRight l p wanted
@@ -169,7 +141,7 @@ module _ {D : Type 0} (S : History D) where
     side_over b r w over made read held other =
         let P : List Place → Type 0 = GoesOver S a w (IsRight l) in
         let here = over_write S (IsRight l) p r w wanted held.held right (kept (sector (S.image r) p)) other in
-        subst P (sym (take-get ss n p there)) (over_then S (IsRight l) (take n ss) (p ∷ []) a b w once over made (over_read b r w 1 (IsRight l) (p ∷ []) (Contains-nil p, tt) read here))
+        subst P (sym (take-get ss n p there)) (over_then S (IsRight l) (take n ss) (p ∷ []) a b w once over made (over_read S (IsRight l) (p ∷ []) b r w 1 (Contains-nil p, tt) read here))
 
     pub side_made : (b w : D) → AreMade (IsRight l) (take n ss) (S.image a) (S.image b) → S.image w ≡ put (S.image b) p wanted → AreMade (IsRight l) (take (n + 1) ss) (S.image a) (S.image w)
     side_made b w made done =

@@ -1,6 +1,6 @@
 -- Directory sectors written one after another: what the device held meanwhile, and what is right then.
 use Rattle.std.proofs.Common.{ℕ, ◌≡◌, ◌<◌, ◌≤◌, ◌+◌, List, Result, Ok, Err, [], ◌∷◌, ◌++◌, length, take, drop, get_or, ⊎_elim, sym, ◌∙◌, ap, refl, arith, subst, inl, inr}
-use Rattle.std.specs.Prelude.{Contains, IfErr, OnOk}
+use Rattle.std.specs.Prelude.{Contains, IfErr, OnOk, Some, slice_get}
 use Rattle.std.specs.List.{AllByRecursion}
 use Rattle.std.proofs.lemmas.List.{take-append-drop, take_all, take_more}
 use Rattle.d64_image.proofs.Images.{sector-put_same}
@@ -20,7 +20,7 @@ use Rattle.disk_layout.specs.declared.faults.Fault.{Fault}
 use Rattle.disk_layout.specs.declared.faults.Fault.TheVariants.{BadLength, BadLink, BadSide, BadType, CountWrong, Device, Loop, MapWrong, OwnedTwice, Unclosed}
 use Rattle.disk_layout.specs.declared.slot.Slot.{Slot}
 use Rattle.disk_layout.proofs.Recounts.{reread_layout}
-use Rattle.layout_check.proofs.Orders.{made_none, made_then, over_more, over_none, over_one, over_then}
+use Rattle.layout_check.proofs.Orders.{made_none, made_then, once-next, over_first, over_none, over_one, over_then, take-get}
 use Rattle.layout_check.proofs.Pointers.{read-there}
 use Rattle.layout_check.proofs.RightCounts.{all-counted, reread-layout, recount-mended, recount-none, recount-put, recount-then}
 use Rattle.layout_check.proofs.RightDirectory.{mended-made, right-counts, sector-made}
@@ -81,10 +81,6 @@ in-of a b ps p full (l, h) same r c = still-in a b ps full l h (same l h) r p c
 -- all of them were gone over, so all counts are right
 pub counted-of : (a b : Image) (ps : List Place) → length a ≡ 683 → IsSound a → ((l : Layout) → IsLayout a l → ps ≡ l.directory) → IsRecountOf a b ps → ((l : Layout) → IsLayout a l → AreMade (IsRight l) l.directory a b) → AreCounted b
 counted-of a b ps full (l, h) same r made = all-counted a b l full h (on a b ps full l h (same l h) r) (λ p c. right-counts a l h p (sector b p) ((made l h).right p c))
-
--- one more
-take-next : {X : Type 0} (xs : List X) (k : ℕ) (x : X) → k < length xs → x ≡ get_or xs k x → take (k + 1) xs ≡ take k xs ++ x ∷ []
-take-next xs k x lt e = take_more xs k x lt ∙ ap (λ y. take k xs ++ y ∷ []) (sym e)
 
 mended-put : (a : Image) (p : Place) (bytes : Sector) → IsImage a → IsCountedAs (sector a p) bytes → (AreRightIn a p (sector a p) → bytes ≡ sector a p) → AreRightIn a p bytes → IsMendedAt a p (put a p bytes)
 mended-put a p bytes whole h kept right = record {
@@ -162,14 +158,14 @@ module _ {D : Type 0} (S : History D) where
 
   -- the order: the first k sectors of the directory were gone over, and then one more
   module _ (a : D) (l : Layout) (is : IsLayout (S.image a) l) (ps : List Place) (same : ps ≡ l.directory) where
-    once : (k : ℕ) → EachOnce (take k ps)
-    once k = let P : List Place → Type 0 = EachOnce in EachOnce-left (take k ps) (drop k ps) (subst P (sym same ∙ sym (take-append-drop k ps)) (directory-once (S.image a) l is))
+    there : (k : ℕ) (p : Place) → k < length ps → p ≡ get_or ps k p → slice_get ps k ≡ Some p
+    there k p lt e = read-there ps k p lt e
 
     once_next : (k : ℕ) (p : Place) → k < length ps → p ≡ get_or ps k p → EachOnce (take k ps ++ p ∷ [])
-    once_next k p lt e = let P : List Place → Type 0 = EachOnce in subst P (take-next ps k p lt e) (once (k + 1))
+    once_next k p lt e = let P : List Place → Type 0 = EachOnce in once-next ps k p (there k p lt e) (subst P (sym same) (directory-once (S.image a) l is))
 
     on_directory : (k : ℕ) (p : Place) → k < length ps → p ≡ get_or ps k p → Contains l.directory p
-    on_directory k p lt e = let P : List Place → Type 0 = λ xs. Contains xs p in subst P same (get-contains ps k p (read-there ps k p lt e))
+    on_directory k p lt e = let P : List Place → Type 0 = λ xs. Contains xs p in subst P same (get-contains ps k p (there k p lt e))
 
     recounted : (b : D) (k : ℕ) → Changes S a b k (λ i. IsRecountOf (S.image a) i ps) → IsRecountOf (S.image a) (S.image b) l.directory
     recounted b k h = let P : List Place → Type 0 = λ xs. IsRecountOf (S.image a) (S.image b) xs in subst P same (at_end S a b (λ i. IsRecountOf (S.image a) i ps) h.held)
@@ -185,20 +181,18 @@ module _ {D : Type 0} (S : History D) where
     over_step b c k p lt e old now other over made =
         let P : List Place → Type 0 = GoesOver S a c (IsRight l) in
         let recount = recounted b k old in
-        subst P (sym (take-next ps k p lt e)) (over_then S (IsRight l) (take k ps) (p ∷ []) a b c (once_next k p lt e) over made
+        subst P (sym (take-get ps k p (there k p lt e))) (over_then S (IsRight l) (take k ps) (p ∷ []) a b c (once_next k p lt e) over made
         (over_one S (IsRight l) p b c (weaker S b c _ _ (λ i. ⊎_elim (λ x. inl x) (λ m. inr (mended-made (S.image a) (S.image b) l (S.whole a).size is recount p (on_directory k p lt e) i m))) now.held) other))
 
     pub made_step : (b c : D) (k : ℕ) (p : Place) → k < length ps → p ≡ get_or ps k p → Changes S a b k (λ i. IsRecountOf (S.image a) i ps) → Changes S b c 1 (OldOrMended (S.image b) p) → AreRightIn (S.image b) p (sector (S.image c) p)
         → AreMade (IsRight l) (take k ps) (S.image a) (S.image b) → AreMade (IsRight l) (take (k + 1) ps) (S.image a) (S.image c)
     made_step b c k p lt e old now right made =
         let P : List Place → Type 0 = λ xs. AreMade (IsRight l) xs (S.image a) (S.image c) in
-        subst P (sym (take-next ps k p lt e)) (made_then (IsRight l) (take k ps) (p ∷ []) (S.image a) (S.image b) (S.image c) (once_next k p lt e) made
+        subst P (sym (take-get ps k p (there k p lt e))) (made_then (IsRight l) (take k ps) (p ∷ []) (S.image a) (S.image b) (S.image c) (once_next k p lt e) made
         (sector-made (S.image a) (S.image b) l (S.whole a).size is (recounted b k old) p (on_directory k p lt e) (S.image c) (at_end S b c (OldOrMended (S.image b) p) now.held) right))
 
     pub over_directory : (b : D) (k : ℕ) → GoesOver S a b (IsRight l) (take k ps) → GoesOver S a b (IsRight l) l.directory
-    over_directory b k over =
-        let P : List Place → Type 0 = GoesOver S a b (IsRight l) in
-        subst P (take-append-drop k ps ∙ same) (over_more S (IsRight l) (take k ps) (drop k ps) a b over)
+    over_directory b k over = let P : List Place → Type 0 = GoesOver S a b (IsRight l) in subst P same (over_first S (IsRight l) ps k a b over)
 
     pub made_directory : (b : D) (k : ℕ) → length ps ≤ k → AreMade (IsRight l) (take k ps) (S.image a) (S.image b) → AreMade (IsRight l) l.directory (S.image a) (S.image b)
     made_directory b k all made =

@@ -9,8 +9,8 @@ use Rattle.disk_layout.specs.Layout.{IsLayout}
 use Rattle.layout_check.proofs.Entries.{rel-closed}
 use Rattle.layout_check.proofs.Finding.{if_err, on_ok}
 use Rattle.layout_check.proofs.MapMends.{device_later, mends_read, mends_then}
-use Rattle.layout_check.proofs.Orders.{over_none}
-use Rattle.layout_check.proofs.RightSides.{file-sides_once, made_exact, over_read, sides-found}
+use Rattle.layout_check.proofs.Orders.{over_none, over_read}
+use Rattle.layout_check.proofs.RightSides.{file-sides_once, made_exact, sides-found}
 use Rattle.layout_check.proofs.SideMends.{parts-at, parts-exact, parts-here, right-there, sound-device}
 use Rattle.layout_check.specs.Exact.{AreExactSides, JudgesSides}
 use Rattle.layout_check.specs.InOrder.{AreMade, GoesOver, IsRight}
@@ -82,7 +82,7 @@ returns-in-Some-clause-over g c l f is own slot =
     let same = sides-found (S.image c.args.disk.now) l f c.args.slot.now c.find_parts.new.blocks.items c.find_parts.new.sides.items c.as_slice-in-Some.result.now is own slot c.requires.rel found.parts c.as_slice-in-Some.ensures.value in
     let P : List Place → Type 0 = GoesOver S c.find_parts.new.disk c.mend_sides.new.disk (IsRight l) in
     let Q : Image → Type 0 = λ i. IsLayout i l in
-    over_read S c.args.disk.now c.find_parts.new.disk c.mend_sides.new.disk _ (IsRight l) f.sides (file-sides_once (S.image c.args.disk.now) l is f own) found.ok.reads
+    over_read S (IsRight l) f.sides c.args.disk.now c.find_parts.new.disk c.mend_sides.new.disk _ (file-sides_once (S.image c.args.disk.now) l is f own) found.ok.reads
     (subst P same (c.mend_sides.ensures.over l (subst Q (sym found.ok.reads.image) is)))
 
 pub returns-in-Some-clause-made : goal.returns-in-Some-clause-made

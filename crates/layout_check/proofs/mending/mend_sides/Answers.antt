@@ -7,9 +7,9 @@ use Rattle.d64_image.proofs.Moments.{no_change, no_reads, reads_then, reads_weak
 use Rattle.d64_image.specs.Images.{Image, put, sector}
 use Rattle.d64_image.specs.declared.place.Place.{Place}
 use Rattle.layout_check.proofs.MapMends.{device_later, device_told, mends_read, mends_then, mends_weaker}
-use Rattle.layout_check.proofs.Orders.{made_none, over_none}
+use Rattle.layout_check.proofs.Orders.{made_none, over_first, over_left, over_none}
 use Rattle.layout_check.proofs.Pointers.{read-there}
-use Rattle.layout_check.proofs.RightSides.{over_first, over_left, parts-once, side_made, side_over}
+use Rattle.layout_check.proofs.RightSides.{parts-once, side_made, side_over}
 use Rattle.layout_check.proofs.SideMends.{after-side, exact-more, exact-others, side-layouts, side-map, side_mends, side_right}
 use Rattle.layout_check.specs.Exact.{IsExactSide}
 use Rattle.layout_check.specs.InOrder.{AreMade, IsRight}
@@ -45,7 +45,7 @@ pub returns-in_err-read_sector-clause-over : goal.returns-in_err-read_sector-cla
 returns-in_err-read_sector-clause-over g c l h =
     let S = g.D.Sectors.history in
     let old = c.loop-number.invariant in
-    over_left S c.args.disk.now c.loop-number.disk c.read_sector.new.disk 1 c.loop-number.number (IsRight l) c.args.sides.now (parts-once (S.image c.args.disk.now) l h c.args.slot.now c.args.blocks.now c.args.sides.now c.requires.parts) (old.over l h) (old.made l h) c.in_err-read_sector.ensures.reads
+    over_left S (IsRight l) c.args.sides.now c.loop-number.number c.args.disk.now c.loop-number.disk c.read_sector.new.disk 1 (parts-once (S.image c.args.disk.now) l h c.args.slot.now c.args.blocks.now c.args.sides.now c.requires.parts) (old.over l h) (old.made l h) c.in_err-read_sector.ensures.reads
 
 pub returns-in_err-read_sector-clause-quiet : goal.returns-in_err-read_sector-clause-quiet
 returns-in_err-read_sector-clause-quiet g c exact =
@@ -81,7 +81,7 @@ returns-in_err-write_other-clause-over g c l h =
     let here = read-there ss n p c.loop-number-test.true c.index-sides-number.is in
     let old = c.loop-number.invariant in
     let done = c.in_err-write_other.ensures in
-    over_first S c.args.disk.now c.write_other.new.disk (n + 1) (IsRight l) ss
+    over_first S (IsRight l) ss (n + 1) c.args.disk.now c.write_other.new.disk
     (side_over S c.args.disk.now l h c.args.slot.now c.args.blocks.now ss c.requires.parts n p here c.side_bytes-wanted.result wanted c.loop-number.disk c.read_sector.new.disk c.write_other.new.disk (old.over l h) (old.made l h) c.in_ok-read_sector.ensures.reads done.held done.once)
 
 pub returns-in_err-write_other-clause-quiet : goal.returns-in_err-write_other-clause-quiet
@@ -137,7 +137,7 @@ pub returns-clause-quiet : goal.returns-clause-quiet
 returns-clause-quiet g c exact = reads_weaker g.D.Sectors.history c.args.disk.now c.loop-number.disk c.loop-number.number 6 (omega (arith, c.loop-number.auto, c.requires.few)) (c.loop-number.invariant.quiet exact)
 
 pub returns-clause-over : goal.returns-clause-over
-returns-clause-over g c l h = over_first g.D.Sectors.history c.args.disk.now c.loop-number.disk c.loop-number.number (IsRight l) c.args.sides.now (c.loop-number.invariant.over l h)
+returns-clause-over g c l h = over_first g.D.Sectors.history (IsRight l) c.args.sides.now c.loop-number.number c.args.disk.now c.loop-number.disk (c.loop-number.invariant.over l h)
 
 pub returns-clause-made : goal.returns-clause-made
 returns-clause-made g c l h =
