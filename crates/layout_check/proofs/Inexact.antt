@@ -1,24 +1,22 @@
 -- Side sectors beside their exact bytes, and what is told of a disk that isn't clean.
-use Rattle.std.proofs.Common.{ℕ, Err, ◌≡◌, ◌≢◌, ◌<◌, ◌≤◌, ◌+◌, Bool, true, false, IsTrue, List, length, get_or, sym, ◌∙◌, ap, refl, arith, subst, inl, inr}
+use Rattle.std.proofs.Common.{ℕ, ◌≡◌, ◌≢◌, ◌<◌, ◌≤◌, ◌+◌, Bool, true, false, IsTrue, List, length, get_or, sym, ◌∙◌, ap, refl, subst, inl}
 use Rattle.std.specs.Prelude.{Contains, Some, not, slice_get}
 use Rattle.std.specs.Str.{bytes_eq}
 use Rattle.std.proofs.lemmas.Bool.{false≢true}
 use Rattle.std.proofs.lemmas.Slice.Eq.{bytes_eq-Decides}
-use Rattle.d64_image.proofs.Moments.{failed_later, never_failed, reads_then, reads_weaker}
-use Rattle.d64_image.specs.History.{Failed, History, NeverFailed, OnlyReads}
-use Rattle.d64_image.specs.Images.{Image, sector}
+use Rattle.d64_image.proofs.Moments.{failed_later, never_failed, reads_then}
+use Rattle.d64_image.specs.History.{Failed, History, NeverFailed}
+use Rattle.d64_image.specs.Images.{Image}
 use Rattle.d64_image.specs.declared.place.Place.{Place}
 use Rattle.disk_layout.proofs.Layouts.{IsFile-one}
 use Rattle.disk_layout.proofs.Once.{all-in}
-use Rattle.disk_layout.specs.Clean.{IsExactFile}
-use Rattle.disk_layout.specs.Fault.{Holds, HoldsOfClean, TellsFault}
-use Rattle.disk_layout.specs.Layout.{File, IsFile, IsLayout, Layout, count_field, is_rel, record_length, sides_for}
-use Rattle.disk_layout.specs.Side.{side_sector}
+use Rattle.disk_layout.specs.Fault.{Holds, HoldsOfClean}
+use Rattle.disk_layout.specs.Layout.{File, IsFile, IsLayout, Layout, is_rel}
 use Rattle.disk_layout.specs.declared.faults.Fault.{Fault}
 use Rattle.disk_layout.specs.declared.faults.Fault.TheVariants.{BadLength, BadLink, BadSide, BadType, CountWrong, Device, Loop, MapWrong, OwnedTwice, Unclosed}
 use Rattle.disk_layout.specs.declared.slot.Slot.{Slot}
 use Rattle.layout_check.proofs.Assembly.{rel-file}
-use Rattle.layout_check.proofs.Calls.{passes_then, tells_later, tells_then}
+use Rattle.layout_check.proofs.Calls.{tells_later}
 use Rattle.layout_check.proofs.Pointers.{read-there}
 use Rattle.layout_check.specs.Calls.{Passes, Tells}
 use Rattle.layout_check.specs.Entry.{IsProper}

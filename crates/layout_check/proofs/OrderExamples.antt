@@ -1,6 +1,6 @@
 -- What the words for a repair's order say: on the disk with the file STOCK, and of any call.
-use Rattle.std.proofs.Common.{ℕ, ◌≡◌, ◌≢◌, ◌≤◌, ◌+◌, List, [], ◌∷◌, ◌++◌, length, sym, ap, refl, arith, subst}
-use Rattle.std.specs.Prelude.{Contains, IsTrue}
+use Rattle.std.proofs.Common.{ℕ, ◌≡◌, ◌≤◌, List, [], ◌∷◌, ◌++◌, length, sym, ap, refl, arith, subst}
+use Rattle.std.specs.Prelude.{Contains}
 use Rattle.d64_image.specs.History.{History}
 use Rattle.d64_image.specs.Images.{Image, Sector, sector}
 use Rattle.d64_image.specs.declared.place.Place.{Place}

@@ -1,9 +1,9 @@
 -- Calls that go over sectors in order, one after another.
-use Rattle.std.proofs.Common.{ℕ, zero, suc, ◌≡◌, ◌≢◌, ◌≤◌, ◌+◌, List, [], ◌∷◌, ◌++◌, ◌⊎◌, drop, length, take, ⊎_elim, sym, ◌∙◌, ap, refl, arith, subst, inl, inr}
+use Rattle.std.proofs.Common.{ℕ, zero, suc, ◌≡◌, ◌≢◌, ◌+◌, List, [], ◌∷◌, ◌++◌, ◌⊎◌, drop, length, take, ⊎_elim, sym, ◌∙◌, ap, refl, arith, subst, inl, inr}
 use Rattle.std.specs.Prelude.{Contains, Some, slice_get}
 use Rattle.std.proofs.lemmas.List.{append-nil, append_assoc, length-append, take-append-drop}
 use Rattle.std.proofs.lemmas.List.Elements.{Contains-append_left, Contains-append_right, Contains-append_cases}
-use Rattle.d64_image.proofs.Moments.{at_end, reading, start, then, weaker}
+use Rattle.d64_image.proofs.Moments.{at_end, reading, then, weaker}
 use Rattle.d64_image.proofs.Images.{sector-put_other, sector-put_same}
 use Rattle.d64_image.proofs.Places.{same_or_other}
 use Rattle.d64_image.specs.History.{HeldOnly, History, OldOr, OnlyReads}

@@ -1,8 +1,8 @@
 -- The map as a repair goes over it: right already, or written, and then right.
-use Rattle.std.proofs.Common.{ℕ, ◌≡◌, ◌≢◌, ◌⊎◌, ⊎_elim, [], ◌∷◌, length, sym, ◌∙◌, ap, arith, refl, subst, inl, inr}
+use Rattle.std.proofs.Common.{ℕ, ◌≡◌, ◌≢◌, ⊎_elim, [], ◌∷◌, length, sym, ◌∙◌, ap, refl, subst, inl, inr}
 use Rattle.std.specs.Prelude.{Contains}
 use Rattle.d64_image.proofs.Images.{sector-put_same}
-use Rattle.d64_image.proofs.Moments.{at_end, reading, then, weaker}
+use Rattle.d64_image.proofs.Moments.{at_end, weaker}
 use Rattle.d64_image.specs.History.{HeldOnly, History, OldOr, OnlyReads}
 use Rattle.d64_image.specs.Images.{Image, Sector, put, sector}
 use Rattle.d64_image.specs.declared.place.Place.{Place}

@@ -1,8 +1,8 @@
 -- Directory sectors written one after another: what the device held meanwhile, and what is right then.
-use Rattle.std.proofs.Common.{ℕ, ◌≡◌, ◌<◌, ◌≤◌, ◌+◌, List, Result, Ok, Err, [], ◌∷◌, ◌++◌, length, take, drop, get_or, ⊎_elim, sym, ◌∙◌, ap, refl, arith, subst, inl, inr}
+use Rattle.std.proofs.Common.{ℕ, ◌≡◌, ◌<◌, ◌≤◌, ◌+◌, List, Result, Ok, Err, [], ◌∷◌, ◌++◌, length, take, get_or, ⊎_elim, sym, ◌∙◌, ap, refl, arith, subst, inl, inr}
 use Rattle.std.specs.Prelude.{Contains, IfErr, OnOk, Some, slice_get}
 use Rattle.std.specs.List.{AllByRecursion}
-use Rattle.std.proofs.lemmas.List.{take-append-drop, take_all, take_more}
+use Rattle.std.proofs.lemmas.List.{take_all}
 use Rattle.d64_image.proofs.Images.{sector-put_same}
 use Rattle.d64_image.proofs.Moments.{at_end, changes_then, changes_weaker, failed_later, reads_change, reads_then, weaker}
 use Rattle.d64_image.specs.History.{Changes, History, OldOr, OnlyReads}
@@ -10,7 +10,7 @@ use Rattle.d64_image.specs.Images.{Image, IsImage, Sector, put, sector}
 use Rattle.d64_image.specs.declared.place.Place.{Place}
 use Rattle.disk_layout.proofs.Directories.{directory-few}
 use Rattle.disk_layout.proofs.Layouts.{IsLayout-one, get-contains}
-use Rattle.disk_layout.proofs.Once.{Contains-here, Contains-there, EachOnce-left}
+use Rattle.disk_layout.proofs.Once.{Contains-here, Contains-there}
 use Rattle.disk_layout.proofs.Twice.{told-unsound}
 use Rattle.disk_layout.specs.Chain.{EachOnce}
 use Rattle.disk_layout.specs.Directory.{IsDirectory, IsDirectoryPlace, map_place}

@@ -1,8 +1,6 @@
 -- The survey, then what is to be mended.
 use Rattle.std.proofs.Common.{arith}
 use Rattle.d64_image.proofs.Moments.{reads_then}
-use Rattle.d64_image.specs.Images.{Image}
-use Rattle.disk_layout.specs.Layout.{IsLayout}
 use Rattle.layout_check.specs.InOrder.{IsRight, repair_order}
 use Rattle.layout_check.proofs.Orders.{over_none}
 use Rattle.layout_check.proofs.RepairOrder.{order_after, spare_after}
