@@ -1,5 +1,5 @@
 //! The check of a disk: its survey, and what a clean disk has beyond a sound one.
-ghost use Rattle.std.specs.Prelude.{◌↔◌, ◌∷◌, IfErr, IfOk, IsOk, OnOk};
+ghost use Rattle.std.specs.Prelude.{◌↔◌, IfErr, IfOk, IsOk, OnOk};
 ghost use Rattle.d64_image.specs.History.{Failed, NeverFailed, OnlyReads};
 ghost use Rattle.disk_layout.specs.Clean.{IsClean, IsCleanLayout};
 ghost use Rattle.disk_layout.specs.Fault.{HoldsOfClean, TellsFault};
