@@ -32,6 +32,21 @@ fn wrong_sectors_are_written_once(rt: HostRuntime) -> Result<(), Fail> {
     Ok(())
 }
 
+// Bits past a track's last sector aren't judged: in a map that is right they stay, in one that is written they become 0.
+#[test]
+fn bits_past_the_last_sector(rt: HostRuntime) -> Result<(), Fail> {
+    let mut spare = fresh(rt.alloc())?;
+    change(&mut spare, place(18, 0)?, (7, 0xFF), (7, 0xFF))?;
+    let mut disk = Meter::new(spare);
+    repair(&mut disk)?;
+    assert_eq!(rt; disk.writes(), 0);
+    let mut wrong = disk.into_inner();
+    change(&mut wrong, place(18, 0)?, (0x44, 0x12), (0x45, 0xF8))?;
+    repair(&mut wrong)?;
+    assert!(rt; wrong.bytes() == fresh(rt.alloc())?.bytes());
+    Ok(())
+}
+
 // Power goes after each number of writes: the disk is sound, and the next repair makes the rest of them.
 #[test]
 fn a_cut_repair_is_taken_up_again(rt: HostRuntime) -> Result<(), Fail> {
