@@ -4,9 +4,13 @@ use Rattle.std.specs.Prelude.{filter, flat_map, nat_eq, not}
 use Rattle.std.proofs.lemmas.List.{drop-drop, drop-take, get_or-drop, get_or-take}
 use Rattle.d64_image.specs.Images.{Image, sector}
 use Rattle.d64_image.specs.declared.place.Place.{Place}
+use Rattle.disk_layout.proofs.Counts.{uncounted-face, uncounted-name}
 use Rattle.disk_layout.proofs.Joined.{joined-cons, joined-nil}
 use Rattle.disk_layout.proofs.Lists.{alike, take-take}
 use Rattle.disk_layout.proofs.Others.{kept_owns, map-others, others_kept}
+use Rattle.disk_layout.proofs.Recounts.{map-map}
+use Rattle.disk_layout.specs.Entries.{SameEntries, uncounted}
+use Rattle.disk_layout.specs.declared.slot.Slot.{Slot}
 use Rattle.disk_layout.specs.Layout.{File, Layout, record_length}
 use Rattle.disk_layout.specs.Records.{joined, pieces, record_count, records}
 use Rattle.disk_layout.specs.Rest.{Fits, IsFirst, IsNamed, IsTop, Kept, kept_of, slot_name, taken_by_others}
@@ -49,6 +53,25 @@ IsFirst-kept a b l m name n f e h =
       },
       same,
     )
+
+-- where entries are the same, block counts aside, the first of a name is at the same place too
+pub IsNamed-uncounted : (name : List ℕ) (f g : File) → uncounted f.slot ≡ uncounted g.slot → IsNamed name f → IsNamed name g
+IsNamed-uncounted name f g e h =
+    let P : ℕ → Type 0 = λ t. IsTrue (nat_eq t 132 || nat_eq t 196) in
+    (subst P (uncounted-face f.slot g.slot e).kind h.0, sym (uncounted-name f.slot g.slot e) ∙ h.1)
+
+pub IsFirst-entries : (l m : Layout) (name : List ℕ) (n : ℕ) (f : File) → SameEntries (map (λ (x : File). x.slot) m.files) (map (λ (x : File). x.slot) l.files) → IsFirst l name n f → (g : File) × IsFirst m name n g
+IsFirst-entries l m name n f same h =
+    let u : File → Slot = λ x. uncounted x.slot in
+    let e : map u l.files ≡ map u m.files = sym (sym (map-map uncounted (λ (x : File). x.slot) m.files) ∙ same ∙ map-map uncounted (λ (x : File). x.slot) l.files) in
+    let (g, there, like) = alike u u l.files m.files n f e h.file in
+    (g, record {
+      file = there;
+      named = IsNamed-uncounted name f g (sym like) h.named;
+      first = λ k q lt at named.
+          let (r, before, eq) = alike u u m.files l.files k q (sym e) at in
+          h.first k r lt before (IsNamed-uncounted name q r (sym eq) named);
+    })
 
 -- where the same is kept of all files, the others own as many sectors
 pub taken-kept : (a b : Image) (l m : Layout) (n : ℕ) → map (kept_of a) l.files ≡ map (kept_of b) m.files → taken_by_others l n ≡ taken_by_others m n

@@ -1,5 +1,5 @@
 -- Lists: their parts, their elements by index, and what is made of each element.
-use Rattle.std.proofs.Common.{◌≡◌, ◌<◌, ◌≤◌, ◌+◌, ℕ, zero, suc, Bool, true, false, inl, inr, List, [], ◌∷◌, ◌++◌, Some, None, Option, drop, length, map, take, refl, sym, ◌∙◌, ap, arith, length-append}
+use Rattle.std.proofs.Common.{◌≡◌, ◌≢◌, ◌<◌, ◌≤◌, ◌+◌, ℕ, zero, suc, Bool, true, false, inl, inr, List, [], ◌∷◌, ◌++◌, Some, None, Option, drop, length, map, take, refl, sym, ◌∙◌, ap, arith, length-append}
 use Rattle.std.specs.Prelude.{Contains, cond, filter, option_map, slice_get}
 use Rattle.std.specs.List.{AllByRecursion}
 use Rattle.std.proofs.lemmas.Option.{slice_get-get_or, slice_get-map}
@@ -45,6 +45,13 @@ get-once (y ∷ xs) zero zero x once a b = refl
 get-once (y ∷ xs) zero (suc j) x once a b = let s : y ≡ x = cc in absurd (once.0 (rw s (get-contains xs j x b)))
 get-once (y ∷ xs) (suc i) zero x once a b = let s : y ≡ x = cc in absurd (once.0 (rw s (get-contains xs i x a)))
 get-once (y ∷ xs) (suc i) (suc j) x once a b = ap suc (get-once xs i j x once.1 a b)
+
+-- an element of a list with another in the place of one
+pub get-exchanged : {X : Type 0} (xs ys : List X) (x y : X) (k : ℕ) → k ≢ length xs → slice_get (xs ++ x ∷ ys) k ≡ slice_get (xs ++ y ∷ ys) k
+get-exchanged [] ys x y zero ne = absurd (ne refl)
+get-exchanged [] ys x y (suc k) ne = refl
+get-exchanged (z ∷ xs) ys x y zero ne = refl
+get-exchanged (z ∷ xs) ys x y (suc k) ne = get-exchanged xs ys x y k (λ e. ne (ap suc e))
 
 -- where each element has its number, no two are equal
 pub numbered-once : {X : Type 0} (f : X → ℕ) (n : ℕ) (xs : List X) → ((k : ℕ) (x : X) → slice_get xs k ≡ Some x → f x ≡ n + k) → EachOnce xs

@@ -59,3 +59,12 @@ others-around a n (g ∷ before) after f e = keep (not (nat_eq n a) && not (nat_
     keep : (t : Bool) → t ≡ true → others a a (suc n) (before ++ f ∷ after) ≡ before ++ after → cond t (g ∷ []) [] ++ others a a (suc n) (before ++ f ∷ after) ≡ g ∷ (before ++ after)
     keep true is same = ap (λ xs. g ∷ xs) same
     keep false is same = absurd (false≢true is)
+
+-- where one that is left out is another, the others are the same
+pub others-exchanged : (a b n : ℕ) (ks js : List Kept) (x y : Kept) → a ≡ n + length ks → others_kept a b n (ks ++ x ∷ js) ≡ others_kept a b n (ks ++ y ∷ js)
+others-exchanged a b n [] js x y e = step (not (nat_eq n a) && not (nat_eq n b)) (grind (arith, nat_tests))
+  where
+    step : (t : Bool) → t ≡ false → cond t (x ∷ []) [] ++ others_kept a b (suc n) js ≡ cond t (y ∷ []) [] ++ others_kept a b (suc n) js
+    step false is = refl
+    step true is = absurd (false≢true (sym is))
+others-exchanged a b n (k ∷ ks) js x y e = ap (λ zs. cond (not (nat_eq n a) && not (nat_eq n b)) (k ∷ []) [] ++ zs) (others-exchanged a b (suc n) ks js x y (omega (arith, e)))
