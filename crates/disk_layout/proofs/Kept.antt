@@ -64,14 +64,16 @@ pub IsFirst-entries : (l m : Layout) (name : List ℕ) (n : ℕ) (f : File) → 
 IsFirst-entries l m name n f same h =
     let u : File → Slot = λ x. uncounted x.slot in
     let e : map u l.files ≡ map u m.files = sym (sym (map-map uncounted (λ (x : File). x.slot) m.files) ∙ same ∙ map-map uncounted (λ (x : File). x.slot) l.files) in
-    let (g, there, like) = alike u u l.files m.files n f e h.file in
-    (g, record {
-      file = there;
-      named = IsNamed-uncounted name f g (sym like) h.named;
-      first = λ k q lt at named.
-          let (r, before, eq) = alike u u m.files l.files k q (sym e) at in
-          h.first k r lt before (IsNamed-uncounted name q r (sym eq) named);
-    })
+    let (g, there, like) = alike u u l.files m.files n f e h.file in (
+      g,
+      record {
+        file = there;
+        named = IsNamed-uncounted name f g (sym like) h.named;
+        first = λ k q lt at named.
+            let (r, before, eq) = alike u u m.files l.files k q (sym e) at in
+            h.first k r lt before (IsNamed-uncounted name q r (sym eq) named);
+      },
+    )
 
 -- where the same is kept of all files, the others own as many sectors
 pub taken-kept : (a b : Image) (l m : Layout) (n : ℕ) → map (kept_of a) l.files ≡ map (kept_of b) m.files → taken_by_others l n ≡ taken_by_others m n

@@ -16,6 +16,7 @@ pub mod ExampleMap
 pub mod Examples
 pub mod Faces
 pub mod Fillers
+pub mod FreeAndOwned
 pub mod FreeBlocks
 pub mod Freeing
 pub mod GrowthRecords

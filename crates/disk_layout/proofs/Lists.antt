@@ -34,6 +34,12 @@ get-take [] (suc n) k h = refl
 get-take (x ∷ xs) (suc n) zero h = refl
 get-take (x ∷ xs) (suc n) (suc k) h = get-take xs n k (omega arith)
 
+-- what stands before an element, and behind it
+pub split-get : {X : Type 0} (xs : List X) (k : ℕ) (x : X) → slice_get xs k ≡ Some x → (before : List X) × (after : List X) × (xs ≡ before ++ x ∷ after) × (length before ≡ k)
+split-get [] k x e = cc
+split-get (y ∷ xs) zero x e = let one : y ≡ x = cc in ([], xs, ap (λ z. z ∷ xs) one, refl)
+split-get (y ∷ xs) (suc k) x e = let (before, after, split, at) = split-get xs k x e in (y ∷ before, after, ap (λ zs. y ∷ zs) split, ap suc at)
+
 -- what is in a list has an index
 pub contains-get : {X : Type 0} (xs : List X) (x : X) → Contains xs x → (k : ℕ) × (slice_get xs k ≡ Some x)
 contains-get xs x (k, lt, e) = (k, slice_get-get_or xs k x lt ∙ ap Some e)

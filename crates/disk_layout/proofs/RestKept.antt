@@ -111,10 +111,10 @@ module _ (a c : Image) (l : Layout) (before after : List File) (f : File) (m : �
         answers' = answers';
         same = λ t. record {
           files = (kept-others a (length before) j 0 l.files
-          ∙ ap (others_kept (length before) j 0) kept-was
-          ∙ others-exchanged (length before) j 0 (map (kept_of a) before) (map (kept_of a) after) (kept_of a f) (kept_of c grown.file) n
-          ∙ ap (others_kept (length before) j 0) (sym kept-is)
-          ∙ sym (kept-others c (length before) j 0 (before ++ grown.file ∷ after))) t;
+              ∙ ap (others_kept (length before) j 0) kept-was
+              ∙ others-exchanged (length before) j 0 (map (kept_of a) before) (map (kept_of a) after) (kept_of a f) (kept_of c grown.file) n
+              ∙ ap (others_kept (length before) j 0) (sym kept-is)
+              ∙ sym (kept-others c (length before) j 0 (before ++ grown.file ∷ after))) t;
           header = sym grown.header t;
           count = ap (λ (rs : List (List ℕ)). length rs) records-same t;
           past = ap (λ (rs : List (List ℕ)). drop 64 rs) records-same t;
