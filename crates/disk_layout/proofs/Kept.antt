@@ -1,6 +1,6 @@
 -- What is asked to stay of files decides their names and their records, the first of a name, and how far it can grow.
 use Rattle.std.proofs.Common.{ℕ, ◌≡◌, ◌<◌, ◌≤◌, ◌+◌, ◌*◌, ◌/◌, List, [], ◌∷◌, ◌++◌, length, drop, map, refl, sym, ◌∙◌, ap, ap₂, subst, IsTrue, ◌||◌, take, slice_index, slice_range, arith}
-use Rattle.std.specs.Prelude.{filter, flat_map, nat_eq, not}
+use Rattle.std.specs.Prelude.{Some, filter, flat_map, nat_eq, not, slice_get}
 use Rattle.std.proofs.lemmas.List.{drop-drop, drop-take, get_or-drop, get_or-take}
 use Rattle.d64_image.specs.Images.{Image, sector}
 use Rattle.d64_image.specs.declared.place.Place.{Place}
@@ -10,7 +10,6 @@ use Rattle.disk_layout.proofs.Lists.{alike, take-take}
 use Rattle.disk_layout.proofs.Others.{kept_owns, map-others, others_kept}
 use Rattle.disk_layout.proofs.Recounts.{map-map}
 use Rattle.disk_layout.specs.Entries.{SameEntries, uncounted}
-use Rattle.disk_layout.specs.declared.slot.Slot.{Slot}
 use Rattle.disk_layout.specs.Layout.{File, Layout, record_length}
 use Rattle.disk_layout.specs.Records.{joined, pieces, record_count, records}
 use Rattle.disk_layout.specs.Rest.{Fits, IsFirst, IsNamed, IsTop, Kept, kept_of, slot_name, taken_by_others}
@@ -54,26 +53,26 @@ IsFirst-kept a b l m name n f e h =
       same,
     )
 
--- where entries are the same, block counts aside, the first of a name is at the same place too
+-- where entries are the same, block counts aside, names are, and the first of a name is at the same place
 pub IsNamed-uncounted : (name : List ℕ) (f g : File) → uncounted f.slot ≡ uncounted g.slot → IsNamed name f → IsNamed name g
 IsNamed-uncounted name f g e h =
     let P : ℕ → Type 0 = λ t. IsTrue (nat_eq t 132 || nat_eq t 196) in
     (subst P (uncounted-face f.slot g.slot e).kind h.0, sym (uncounted-name f.slot g.slot e) ∙ h.1)
 
-pub IsFirst-entries : (l m : Layout) (name : List ℕ) (n : ℕ) (f : File) → SameEntries (map (λ (x : File). x.slot) m.files) (map (λ (x : File). x.slot) l.files) → IsFirst l name n f → (g : File) × IsFirst m name n g
-IsFirst-entries l m name n f same h =
-    let u : File → Slot = λ x. uncounted x.slot in
-    let e : map u l.files ≡ map u m.files = sym (sym (map-map uncounted (λ (x : File). x.slot) m.files) ∙ same ∙ map-map uncounted (λ (x : File). x.slot) l.files) in
-    let (g, there, like) = alike u u l.files m.files n f e h.file in (
-      g,
-      record {
-        file = there;
-        named = IsNamed-uncounted name f g (sym like) h.named;
-        first = λ k q lt at named.
-            let (r, before, eq) = alike u u m.files l.files k q (sym e) at in
-            h.first k r lt before (IsNamed-uncounted name q r (sym eq) named);
-      },
-    )
+pub entry-alike : (fs gs : List File) (k : ℕ) (g : File) → SameEntries (map (λ x. x.slot) gs) (map (λ x. x.slot) fs) → slice_get gs k ≡ Some g → (f : File) × (slice_get fs k ≡ Some f) × (uncounted f.slot ≡ uncounted g.slot)
+entry-alike fs gs k g same there =
+    let spread : (hs : List File) → map uncounted (map (λ (x : File). x.slot) hs) ≡ map (λ (x : File). uncounted x.slot) hs = map-map uncounted (λ (x : File). x.slot) in
+    alike (λ (x : File). uncounted x.slot) (λ (x : File). uncounted x.slot) gs fs k g (sym (spread gs) ∙ same ∙ spread fs) there
+
+pub first-kept : (l m : Layout) (name : List ℕ) (n : ℕ) (f g : File) → SameEntries (map (λ x. x.slot) m.files) (map (λ x. x.slot) l.files) → slice_get m.files n ≡ Some g → IsFirst l name n f → IsFirst m name n g
+first-kept l m name n f g same there h =
+    let (own, at, e) = entry-alike l.files m.files n g same there in
+    let one : f ≡ own = (let both : Some f ≡ Some own = sym h.file ∙ at in cc) in
+    record {
+      file = there;
+      named = IsNamed-uncounted name f g (ap (λ (x : File). uncounted x.slot) one ∙ e) h.named;
+      first = λ k x lt before named. let (y, was, eq) = entry-alike l.files m.files k x same before in h.first k y lt was (IsNamed-uncounted name x y (sym eq) named);
+    }
 
 -- where the same is kept of all files, the others own as many sectors
 pub taken-kept : (a b : Image) (l m : Layout) (n : ℕ) → map (kept_of a) l.files ≡ map (kept_of b) m.files → taken_by_others l n ≡ taken_by_others m n

@@ -31,6 +31,7 @@ pub mod Marks
 pub mod Names
 pub mod NewSide
 pub mod Once
+pub mod Orders
 pub mod Others
 pub mod Picking
 pub mod Pieces

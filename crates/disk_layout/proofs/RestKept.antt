@@ -4,7 +4,8 @@ use Rattle.std.specs.Prelude.{option_map, slice_get}
 use Rattle.std.proofs.lemmas.List.{length-map, map-append}
 use Rattle.std.proofs.lemmas.Option.{slice_get-map}
 use Rattle.d64_image.specs.Images.{Image}
-use Rattle.disk_layout.proofs.Kept.{IsFirst-entries, IsFirst-kept, kept-of_same, records-kept_of, records-of_stays}
+use Rattle.disk_layout.proofs.GrowthRecords.{get-seam}
+use Rattle.disk_layout.proofs.Kept.{IsFirst-kept, first-kept, kept-of_same, records-kept_of, records-of_stays}
 use Rattle.disk_layout.proofs.Lists.{alike, get-exchanged}
 use Rattle.disk_layout.proofs.Others.{kept-others, others-exchanged, others_kept}
 use Rattle.disk_layout.proofs.Recounts.{map-map}
@@ -89,10 +90,8 @@ module _ (a c : Image) (l : Layout) (before after : List File) (f : File) (m : �
   pub KeepsRest-grown : (stock requests : List ℕ) (j : ℕ) (g : File) → IsFirst l stock (length before) f → IsFirst l requests j g → j ≢ length before → KeepsRest a c stock requests
   unfolding rest_of
   KeepsRest-grown stock requests j g cards answers ne =
-      let (f', cards') = IsFirst-entries l later stock (length before) f same-entries cards in
-      let (g', answers') = IsFirst-entries l later requests j g same-entries answers in
-      let one : g ≡ g' = (let both : Some g ≡ Some g' = sym (other-same j g ne answers.file) ∙ answers'.file in cc) in
-      let records-same : records a g ≡ records c g' = other-records j g ne answers.file ∙ ap (records c) one in
+      let stays = other-same j g ne answers.file in
+      let records-same = other-records j g ne answers.file in
       let n : length before ≡ 0 + length (map (kept_of a) before) = omega (arith, length-map before (kept_of a)) in
       record {
         before = l;
@@ -103,12 +102,12 @@ module _ (a c : Image) (l : Layout) (before after : List File) (f : File) (m : �
         b = j;
         card_file = f;
         request_file = g;
-        card_file' = f';
-        request_file' = g';
+        card_file' = grown.file;
+        request_file' = g;
         cards = cards;
         answers = answers;
-        cards' = cards';
-        answers' = answers';
+        cards' = first-kept l later stock (length before) f grown.file same-entries (get-seam before after grown.file) cards;
+        answers' = first-kept l later requests j g g same-entries stays answers;
         same = λ t. record {
           files = (kept-others a (length before) j 0 l.files
               ∙ ap (others_kept (length before) j 0) kept-was

@@ -11,6 +11,7 @@ use Rattle.d64_image.specs.Images.{Image, sector}
 use Rattle.d64_image.specs.declared.place.Place.{Place}
 use Rattle.disk_layout.proofs.Count.{places-few}
 use Rattle.disk_layout.proofs.Exact.{exact-side}
+use Rattle.disk_layout.proofs.Lists.{all-push}
 use Rattle.disk_layout.proofs.Once.{Contains-here}
 use Rattle.disk_layout.specs.Directory.{map_place}
 use Rattle.disk_layout.specs.Fault.{HoldsOfClean, TellsFault}
@@ -72,11 +73,6 @@ judged-file img s blocks sides u owned None None rel walk many judged is = λ _.
 
 pub judged-at : (img now : Image) (f : File) (o : Option Fault) → now ≡ img → JudgesFile now f o → JudgesFile img f o
 judged-at img now f o same h = let P : Image → Type 0 = λ i. JudgesFile i f o in subst P same h
-
--- what holds of each, and of one more
-pub all-push : {X : Type 0} (P : X → Type 0) (xs : List X) (x : X) → AllByRecursion P xs → P x → AllByRecursion P (xs ++ x ∷ [])
-all-push P [] x h p = (p, tt)
-all-push P (y ∷ xs) x h p = (h.0, all-push P xs x h.1 p)
 
 -- one more file
 pub judged-more : (img : Image) (fs : List File) (g : File) (kept found : Option Fault) → JudgesFiles img fs kept → JudgesFile img g found → JudgesFiles img (fs ++ g ∷ []) (option_or kept found)

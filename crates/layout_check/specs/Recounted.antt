@@ -80,7 +80,3 @@ OldOrMended old p new = (new ≡ old) ⊎ IsMendedAt old p new
 -- the fault tells of the device
 abbrev pub IsOfDevice : Fault → Type 0
 IsOfDevice fault = (p : Place) × (fault ≡ Device p)
-
--- a call that makes no write, or one that leaves another sector at p
-abbrev pub WritesOther : {D : Type 0} → History D → D → D → Place → Type 0
-WritesOther S old new p = (S.writes new ≡ S.writes old) ⊎ ((sector (S.image new) p ≢ sector (S.image old) p) × (S.writes new ≤ S.writes old + 1))

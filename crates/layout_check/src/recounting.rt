@@ -5,13 +5,14 @@ ghost use Rattle.d64_image.specs.Images.{sector};
 ghost use Rattle.disk_layout.specs.Directory.{IsDirectory, slot_in};
 ghost use Rattle.disk_layout.specs.Entries.{IsRecounted};
 ghost use Rattle.disk_layout.specs.Fault.{TellsFault};
+ghost use Rattle.disk_layout.specs.InOrder.{AreMade, GoesOver, WritesOther};
 ghost use Rattle.disk_layout.specs.Layout.{IsLayout, IsSound, Layout, count_field, is_rel};
 ghost use Rattle.disk_layout.specs.declared.slot.Slot.{Slot};
 ghost use Rattle.d64_image.specs.declared.place.Place.{Place};
 ghost use Rattle.layout_check.specs.Calls.{Passes, Tells};
 ghost use Rattle.layout_check.specs.Entry.{IsEntry};
-ghost use Rattle.layout_check.specs.InOrder.{AreMade, GoesOver, IsRight};
-ghost use Rattle.layout_check.specs.Recounted.{AreCounted, AreRightIn, IsCountOf, IsCountedAs, IsInDirectory, IsOfDevice, IsRightAt, KeepsButCounts, OldOrMended, WritesOther};
+ghost use Rattle.layout_check.specs.RepairOrder.{IsRight};
+ghost use Rattle.layout_check.specs.Recounted.{AreCounted, AreRightIn, IsCountOf, IsCountedAs, IsInDirectory, IsOfDevice, IsRightAt, KeepsButCounts, OldOrMended};
 
 use crate::entry::is_relative;
 use crate::mending::write_other;

@@ -3,8 +3,9 @@ ghost use Rattle.std.specs.Prelude.{◌≡◌, ◌↔◌, IfErr, IfOk, IsOk, OnO
 ghost use Rattle.d64_image.specs.History.{Failed, NeverFailed, OnlyReads};
 ghost use Rattle.disk_layout.specs.Clean.{IsClean};
 ghost use Rattle.disk_layout.specs.Fault.{Holds, TellsFault};
+ghost use Rattle.disk_layout.specs.InOrder.{GoesOver};
 ghost use Rattle.disk_layout.specs.Layout.{IsLayout, IsSound, Layout};
-ghost use Rattle.layout_check.specs.InOrder.{ClearsSpare, GoesOver, IsRight, repair_order};
+ghost use Rattle.layout_check.specs.RepairOrder.{ClearsSpare, IsRight, repair_order};
 ghost use Rattle.layout_check.specs.Mended.{TellsDevice};
 ghost use Rattle.layout_check.specs.Repaired.{IsRepaired, MendsFrom};
 ghost use Rattle.layout_check.specs.Survey.{IsToldBy};

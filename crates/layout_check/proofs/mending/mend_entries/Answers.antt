@@ -7,17 +7,18 @@ use Rattle.d64_image.proofs.Moments.{reads_then, reads_weaker}
 use Rattle.d64_image.specs.Images.{Image, sector}
 use Rattle.d64_image.specs.declared.place.Place.{Place}
 use Rattle.disk_layout.proofs.Layouts.{get-contains}
+use Rattle.disk_layout.proofs.Orders.{made_none, over_none}
 use Rattle.disk_layout.specs.Directory.{map_place}
+use Rattle.disk_layout.specs.InOrder.{AreMade, GoesOver}
 use Rattle.disk_layout.specs.Layout.{IsLayout, Layout, is_rel}
 use Rattle.layout_check.proofs.EntryMends.{entry-filed, exact-entries, exact-kept, exact-made, exact-read, exact-same, filed-kept}
 use Rattle.layout_check.proofs.MapMends.{device_later, mends_read, mends_then, mends_weaker}
-use Rattle.layout_check.proofs.Orders.{made_none, over_none}
 use Rattle.layout_check.proofs.Progress.{listed-as}
 use Rattle.layout_check.proofs.RightSides.{file-at, file_made, file_over, over_files, plain-sides, sides-all, sides-past}
 use Rattle.layout_check.proofs.Roots.{directory-tells}
 use Rattle.layout_check.proofs.SideMends.{sound-device}
 use Rattle.layout_check.proofs.Verdict.{filed-at}
-use Rattle.layout_check.specs.InOrder.{AreMade, GoesOver, IsRight, sides_of}
+use Rattle.layout_check.specs.RepairOrder.{IsRight, sides_of}
 use Rattle.layout_check.proofs.mending.mend_entries.Goals as goal
 use Rattle.layout_check.proofs.mending.mend_entries.Goals.{then-is_relative+in_ok-mend_relative, else-is_relative}
 

@@ -3,11 +3,11 @@ use Rattle.std.proofs.Common.{ap, arith, length, ◌∙◌, ◌+◌, ◌*◌, �
 use Rattle.std.proofs.lemmas.Result.{err_from_is_err_and}
 use Rattle.d64_image.proofs.Moments.{at_end, reads_weaker}
 use Rattle.disk_layout.proofs.Layouts.{IsLayout-one, get-contains}
+use Rattle.disk_layout.proofs.Orders.{over_none}
 use Rattle.disk_layout.specs.Layout.{IsLayout, Layout}
-use Rattle.layout_check.proofs.Orders.{over_none}
 use Rattle.layout_check.proofs.Pointers.{read-there}
 use Rattle.layout_check.proofs.RightWrites.{all_moments, counted-of, device-told, few-of, first_moments, in-of, made_directory, made_start, made_step, over_directory, over_start, over_step, sound-of, step_moments, step_silent}
-use Rattle.layout_check.specs.InOrder.{IsRight}
+use Rattle.layout_check.specs.RepairOrder.{IsRight}
 use Rattle.layout_check.specs.Recounted.{IsRecountOf}
 use Rattle.layout_check.proofs.recounting.mend_counts.Goals as goal
 
