@@ -3,6 +3,7 @@ pub mod Bits
 pub mod BlankClean
 pub mod BlankPlaces
 pub mod Blanks
+pub mod BlankTop
 pub mod Chains
 pub mod Commit
 pub mod Count

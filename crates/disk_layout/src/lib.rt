@@ -34,7 +34,7 @@ pub use directory::{directory_start, map_place, read_directory};
 pub use entries::{padded_name, relative_entry};
 pub use faults::Fault;
 pub use filling::fill;
-pub use laws::blank_is_clean;
+pub use laws::{blank_has_top, blank_is_clean};
 pub use side::{SideView, side_bytes};
 pub use slot::Slot;
 pub use views::{BamView, DirView, EntryView};
