@@ -8,6 +8,7 @@ pub mod Chains
 pub mod Commit
 pub mod Count
 pub mod Counts
+pub mod CountWrites
 pub mod Directories
 pub mod Exact
 pub mod ExampleChanges

@@ -31,7 +31,7 @@ pub use bam::Bam;
 pub use blank::blank_image;
 pub use chain::walk_chain;
 pub use directory::{directory_start, map_place, read_directory};
-pub use entries::{padded_name, relative_entry};
+pub use entries::{padded_name, put_count, relative_entry};
 pub use faults::Fault;
 pub use filling::fill;
 pub use laws::{blank_has_top, blank_is_clean};
