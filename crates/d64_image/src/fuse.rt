@@ -25,7 +25,7 @@ impl<D: Sectors> Fuse<D> {
         ensures disk { fuse_disk result ≡ disk }
         ensures limit { fuse_limit result ≡ limit }
         ensures left { fuse_left result ≡ limit }
-        ensures failures { (fuse D.history).failures result ≡ 0 }
+        ensures unfailed { (fuse D.history).failures result ≡ 0 }
     {
         Fuse {
             disk,
