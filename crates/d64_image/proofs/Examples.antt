@@ -5,6 +5,7 @@ use Rattle.d64_image.specs.Geometry.{sectors_on, sectors_below}
 use Rattle.d64_image.specs.Places.{index_of, place_at, first_place}
 use Rattle.d64_image.specs.Images.{Image, Sector, sector, put}
 use Rattle.d64_image.specs.Calls.{ReadsSector, WritesSector}
+use Rattle.d64_image.specs.Faults.{device_fault}
 use Rattle.d64_image.specs.Fuses.{fuse, fuse_left}
 use Rattle.d64_image.specs.History.{History, HeldOnly, Failed, IfCounted, OnlyReads, OldOr, WritesNothing}
 use Rattle.d64_image.specs.Memory.{memory}
@@ -93,10 +94,10 @@ module _ {D : Type 0} (S : History D) (old new : D) where
   counted_write_left_the_new_image b done e = done (omega (arith, e))
 
   -- an error of a read at a place is a failure there, and one of a write too
-  pub read_failed_there : (p : Place) (bytes : Sector) → ReadsSector {T = Unit {0}} {E = Unit {0}} S old new p bytes (Err tt) → S.failed_at new p
+  pub read_failed_there : (p : Place) (bytes : Sector) → ReadsSector {T = Unit {0}} S old new p bytes device_fault (Err device_fault) → S.failed_at new p
   read_failed_there p bytes r = r.failed
 
-  pub write_failed_there : (p : Place) (bytes : Sector) → WritesSector {T = Unit {0}} {E = Unit {0}} S old new p bytes (Err tt) → S.failed_at new p
+  pub write_failed_there : (p : Place) (bytes : Sector) → WritesSector {T = Unit {0}} S old new p bytes device_fault (Err device_fault) → S.failed_at new p
   write_failed_there p bytes w = w.failed
 
 -- memory fails nowhere

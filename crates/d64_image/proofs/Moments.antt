@@ -111,10 +111,10 @@ module _ {D : Type 0} (S : History D) where
   pub none_counted : (a b : D) (P : Image → Type 0) → S.writes b ≡ S.writes a → IfCounted S a b P
   none_counted a b P same = λ (lt : S.writes a < S.writes b). absurd (omega (arith, same, lt))
 
-  pub write_counted : {T E : Type 0} (a b : D) (p : Place) (bytes : Sector) (result : Result T E) → WritesSector S a b p bytes result
+  pub write_counted : {T E : Type 0} (a b : D) (p : Place) (bytes : Sector) (fault : E) (result : Result T E) → WritesSector S a b p bytes fault result
       → IfCounted S a b (λ c. c ≡ put (S.image a) p bytes)
-  write_counted a b p bytes (Ok _) w = λ lt. w.ok
-  write_counted a b p bytes (Err _) w = none_counted a b (λ c. c ≡ put (S.image a) p bytes) w.uncounted
+  write_counted a b p bytes fault (Ok _) w = λ lt. w.ok
+  write_counted a b p bytes fault (Err _) w = none_counted a b (λ c. c ≡ put (S.image a) p bytes) w.uncounted
 
   pub counted_weaker : (a b : D) (P Q : Image → Type 0) → (P (S.image b) → Q (S.image b)) → IfCounted S a b P → IfCounted S a b Q
   counted_weaker a b P Q f done = λ lt. f (done lt)

@@ -52,17 +52,18 @@ impl<D: Sectors> Fuse<D> {
 impl<D: Sectors> Sectors for Fuse<D> {
     ghost use Rattle.std.specs.Prelude.{◌≡◌, ◌+◌, ◌<◌, OnOk, OnErr, IsErr};
     ghost use Rattle.d64_image.specs.Calls.{ReadsSector, WritesSector};
+    ghost use Rattle.d64_image.specs.Faults.{device_fault};
     ghost use Rattle.d64_image.specs.Fuses.{fuse, fuse_disk, fuse_left, fuse_limit};
 
     ghost history = { fuse D.history };
 
     /// Passes a read on where the fuse has not blown.
     fn read(&mut self, place: Place, to: &mut [u8; 256]) -> Result<(), DeviceFault>
-        ensures reads { ReadsSector (fuse D.history) self.old self.new place to.new result }
+        ensures reads { ReadsSector (fuse D.history) self.old self.new place to.new device_fault result }
         // a blown fuse reads nothing
         ensures spent { fuse_left self.old ≡ 0 → IsErr result × (fuse_disk self.new ≡ fuse_disk self.old) }
         // else the disk beneath answers
-        ensures passes { 0 < fuse_left self.old → ReadsSector D.history (fuse_disk self.old) (fuse_disk self.new) place to.new result }
+        ensures passes { 0 < fuse_left self.old → ReadsSector D.history (fuse_disk self.old) (fuse_disk self.new) place to.new device_fault result }
         ensures kept { (fuse_left self.new ≡ fuse_left self.old) × (fuse_limit self.new ≡ fuse_limit self.old) }
     {
         if self.passed == self.limit {
@@ -80,11 +81,11 @@ impl<D: Sectors> Sectors for Fuse<D> {
 
     /// Passes a write on where the fuse has not blown; a write that passed uses it up by one.
     fn write(&mut self, place: Place, from: &[u8; 256]) -> Result<(), DeviceFault>
-        ensures writes { WritesSector (fuse D.history) self.old self.new place from.now result }
+        ensures writes { WritesSector (fuse D.history) self.old self.new place from.now device_fault result }
         // a blown fuse writes nothing
         ensures spent { fuse_left self.old ≡ 0 → IsErr result × (fuse_disk self.new ≡ fuse_disk self.old) }
         // else the disk beneath answers
-        ensures passes { 0 < fuse_left self.old → WritesSector D.history (fuse_disk self.old) (fuse_disk self.new) place from.now result }
+        ensures passes { 0 < fuse_left self.old → WritesSector D.history (fuse_disk self.old) (fuse_disk self.new) place from.now device_fault result }
         ensures burns { OnOk result (fuse_left self.old ≡ fuse_left self.new + 1) }
         ensures kept { OnErr result (fuse_left self.new ≡ fuse_left self.old) }
         ensures limit { fuse_limit self.new ≡ fuse_limit self.old }

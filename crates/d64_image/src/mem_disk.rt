@@ -70,6 +70,7 @@ impl MemDisk {
 impl Sectors for MemDisk {
     ghost use Rattle.std.specs.Prelude.{IsOk};
     ghost use Rattle.d64_image.specs.Calls.{ReadsSector, WritesSector};
+    ghost use Rattle.d64_image.specs.Faults.{device_fault};
     ghost use Rattle.d64_image.specs.Memory.{memory};
 
     ghost history = { memory };
@@ -78,7 +79,7 @@ impl Sectors for MemDisk {
     #[tactic(auto, using(std::proofs::lemmas::List::get_or_read), unfolding(crate::specs::Images::sector))]
     fn read(&mut self, place: Place, to: &mut [u8; 256]) -> Result<(), DeviceFault>
         ensures never_fails { IsOk result }
-        ensures reads { ReadsSector memory self.old self.new place to.new result }
+        ensures reads { ReadsSector memory self.old self.new place to.new device_fault result }
     {
         *to = self.sectors[place.index()];
         Ok(())
@@ -88,7 +89,7 @@ impl Sectors for MemDisk {
     #[tactic(auto, unfolding(crate::specs::Images::put))]
     fn write(&mut self, place: Place, from: &[u8; 256]) -> Result<(), DeviceFault>
         ensures never_fails { IsOk result }
-        ensures writes { WritesSector memory self.old self.new place from.now result }
+        ensures writes { WritesSector memory self.old self.new place from.now device_fault result }
     {
         self.sectors[place.index()] = *from;
         Ok(())

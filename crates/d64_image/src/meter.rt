@@ -59,15 +59,16 @@ impl<D: Sectors> Meter<D> {
 impl<D: Sectors> Sectors for Meter<D> {
     ghost use Rattle.std.specs.Prelude.{◌≡◌, ◌+◌, min, OnErr, OnOk};
     ghost use Rattle.d64_image.specs.Calls.{ReadsSector, WritesSector};
+    ghost use Rattle.d64_image.specs.Faults.{device_fault};
     ghost use Rattle.d64_image.specs.Meters.{meter, meter_disk, meter_reads, meter_writes};
 
     ghost history = { meter D.history };
 
     /// Passes a read on, and counts it where it passed.
     fn read(&mut self, place: Place, to: &mut [u8; 256]) -> Result<(), DeviceFault>
-        ensures reads { ReadsSector (meter D.history) self.old self.new place to.new result }
+        ensures reads { ReadsSector (meter D.history) self.old self.new place to.new device_fault result }
         // the disk beneath answers, and is read once
-        ensures beneath { ReadsSector D.history (meter_disk self.old) (meter_disk self.new) place to.new result }
+        ensures beneath { ReadsSector D.history (meter_disk self.old) (meter_disk self.new) place to.new device_fault result }
         ensures exact { OnOk result (meter_reads self.new ≡ min (meter_reads self.old + 1) 18446744073709551615) }
         ensures kept { OnErr result (meter_reads self.new ≡ meter_reads self.old) }
     {
@@ -78,9 +79,9 @@ impl<D: Sectors> Sectors for Meter<D> {
 
     /// Passes a write on, and counts it where it passed.
     fn write(&mut self, place: Place, from: &[u8; 256]) -> Result<(), DeviceFault>
-        ensures writes { WritesSector (meter D.history) self.old self.new place from.now result }
+        ensures writes { WritesSector (meter D.history) self.old self.new place from.now device_fault result }
         // the disk beneath answers, and is written once
-        ensures beneath { WritesSector D.history (meter_disk self.old) (meter_disk self.new) place from.now result }
+        ensures beneath { WritesSector D.history (meter_disk self.old) (meter_disk self.new) place from.now device_fault result }
         ensures exact { OnOk result (meter_writes self.new ≡ min (meter_writes self.old + 1) 18446744073709551615) }
     {
         self.disk.write(place, from)?;

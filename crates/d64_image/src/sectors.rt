@@ -1,5 +1,6 @@
 //! A disk as the layers above see it: its sectors, read and written one at a time.
 ghost use Rattle.d64_image.specs.Calls.{ReadsSector, WritesSector};
+ghost use Rattle.d64_image.specs.Faults.{device_fault};
 ghost use Rattle.d64_image.specs.History.{History};
 
 use crate::faults::DeviceFault;
@@ -13,9 +14,9 @@ pub trait Sectors {
 
     /// Reads a sector as it was last written. At an error the bytes that were read are any bytes; the disk is the same.
     fn read(&mut self, place: Place, to: &mut [u8; 256]) -> Result<(), DeviceFault>
-        ensures { ReadsSector history self.old self.new place to.new result };
+        ensures { ReadsSector history self.old self.new place to.new device_fault result };
 
     /// Writes a sector. At an error it is written or as before; nothing else changes, and nothing else was ever held.
     fn write(&mut self, place: Place, from: &[u8; 256]) -> Result<(), DeviceFault>
-        ensures { WritesSector history self.old self.new place from.now result };
+        ensures { WritesSector history self.old self.new place from.now device_fault result };
 }
