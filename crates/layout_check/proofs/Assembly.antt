@@ -2,7 +2,6 @@
 use Rattle.std.proofs.Common.{ℕ, zero, suc, ◌≡◌, ◌≢◌, ◌+◌, IsTrue, List, [], ◌∷◌, ◌++◌, slice_index, sym, ◌∙◌, ap, refl, arith, subst, inl, inr, append_assoc}
 use Rattle.std.specs.Prelude.{Contains, IsFalse, Some, slice_get}
 use Rattle.std.proofs.lemmas.Bool.{false≢true}
-use Rattle.std.proofs.lemmas.Option.{slice_get-get_or}
 use Rattle.d64_image.specs.Images.{Image}
 use Rattle.d64_image.specs.declared.place.Place.{Place}
 use Rattle.disk_layout.proofs.Chains.{cons_both}

@@ -1,6 +1,6 @@
 -- The entries of a directory: where each stands, and that no two are one.
-use Rattle.std.proofs.Common.{ℕ, ◌≡◌, ◌≢◌, ◌<◌, ◌+◌, Bool, true, false, cond, List, [], ◌∷◌, ◌++◌, length, sym, ◌∙◌, ap, refl, arith, subst, append_assoc}
-use Rattle.std.specs.Prelude.{Contains, Some, filter, flat_map, slice_get}
+use Rattle.std.proofs.Common.{ℕ, ◌≡◌, ◌≢◌, ◌<◌, ◌+◌, true, List, [], ◌∷◌, ◌++◌, length, sym, ◌∙◌, ap, refl, arith, subst, append_assoc}
+use Rattle.std.specs.Prelude.{Contains, Some, flat_map, slice_get}
 use Rattle.std.specs.List.{AllByRecursion}
 use Rattle.std.proofs.lemmas.Bool.Decides.{nat_tests}
 use Rattle.std.proofs.lemmas.Option.{slice_get_within}
@@ -10,7 +10,7 @@ use Rattle.disk_layout.proofs.Commit.{all-left}
 use Rattle.disk_layout.proofs.Layouts.{get-contains}
 use Rattle.disk_layout.proofs.Lists.{contains-get, filter-once, numbered-once}
 use Rattle.disk_layout.proofs.Once.{Contains-here, Contains-there, EachOnce-join}
-use Rattle.disk_layout.proofs.Recount.{filter-out, flat_map-out, slot-get, slot-there}
+use Rattle.disk_layout.proofs.Recount.{flat_map-out, slot-get, slot-there}
 use Rattle.disk_layout.specs.Chain.{EachOnce}
 use Rattle.disk_layout.specs.Directory.{IsDirectory, IsDirectoryPlace, directory_start, is_used, map_place, slot_in, slots_in, type_byte, used_slots}
 use Rattle.disk_layout.specs.Fault.{IsDirectorySector}

@@ -1,5 +1,5 @@
 -- Lists of places in the bytes of side sectors.
-use Rattle.std.proofs.Common.{ℕ, zero, suc, ◌≡◌, ◌≢◌, Bool, true, false, ◌<◌, ◌≤◌, ◌+◌, ◌-◌, ◌*◌, List, [], ◌∷◌, length, get_or, take, drop, min, sym, ◌∙◌, ap, refl, arith, inl, inr, ◌⊎◌}
+use Rattle.std.proofs.Common.{ℕ, zero, suc, ◌≡◌, ◌≢◌, Bool, true, false, ◌<◌, ◌≤◌, ◌+◌, ◌-◌, ◌*◌, List, [], ◌∷◌, length, get_or, take, drop, min, sym, ◌∙◌, refl, arith, inl, inr, ◌⊎◌}
 use Rattle.std.specs.Prelude.{Some, nat_eq, slice_get, slice_range, ◌&&◌}
 use Rattle.std.proofs.lemmas.Bool.{and_cases, false≢true}
 use Rattle.std.proofs.lemmas.Bool.Decides.{Decides-eqb}

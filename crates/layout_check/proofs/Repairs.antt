@@ -1,9 +1,8 @@
 -- A repair put together: with the map, the side sectors and the block counts made right, the image is clean and has the same files.
-use Rattle.std.proofs.Common.{ℕ, Bool, ◌↔◌, ◌≡◌, ◌≢◌, ◌<◌, ◌+◌, ◌||◌, ◌++◌, List, [], ◌∷◌, Some, None, Option, length, map, drop, slice_index, sym, ◌∙◌, ap, ap₂, refl, subst, IsTrue, arith}
-use Rattle.std.specs.Prelude.{Contains, flat_map, nat_eq, option_map, slice_get, slice_range}
+use Rattle.std.proofs.Common.{ℕ, Bool, ◌↔◌, ◌≡◌, ◌≢◌, ◌<◌, ◌+◌, ◌||◌, ◌++◌, List, [], ◌∷◌, Some, length, map, drop, slice_index, sym, ◌∙◌, ap, ap₂, refl, subst, IsTrue, arith}
+use Rattle.std.specs.Prelude.{Contains, flat_map, nat_eq, slice_get, slice_range}
 use Rattle.std.specs.List.{AllByRecursion}
 use Rattle.std.proofs.lemmas.List.{get_or-drop, get_or-take, length-map}
-use Rattle.std.proofs.lemmas.Option.{slice_get-map}
 use Rattle.std.proofs.lemmas.List.Elements.{Contains-append_right}
 use Rattle.d64_image.specs.Images.{Image, sector}
 use Rattle.d64_image.specs.declared.place.Place.{Place}

@@ -1,5 +1,5 @@
 -- Directory sectors whose block counts alone differ: the image keeps its files, and its counts are those written.
-use Rattle.std.proofs.Common.{ℕ, ◌≡◌, ◌<◌, ◌+◌, ◌*◌, ◌%◌, ◌/◌, List, [], ◌∷◌, ◌++◌, length, map, take, drop, sym, ◌∙◌, ap, refl, arith, subst, inl, inr, slice_index}
+use Rattle.std.proofs.Common.{ℕ, ◌≡◌, ◌<◌, ◌+◌, ◌*◌, ◌%◌, ◌/◌, List, [], ◌++◌, length, take, drop, sym, ◌∙◌, ap, refl, arith, subst, inl, inr, slice_index}
 use Rattle.std.specs.Prelude.{Contains, IsTrue, flat_map, nat_eq, ◌||◌}
 use Rattle.d64_image.proofs.Images.{is_sector, sector-put_other, sector-put_same}
 use Rattle.d64_image.proofs.Places.{same_or_other}
@@ -9,7 +9,7 @@ use Rattle.disk_layout.proofs.Chains.{SameLinks}
 use Rattle.disk_layout.proofs.Counts.{uncounted-face}
 use Rattle.disk_layout.proofs.Layouts.{IsLayout-one, KeepsFiles, block-owned, side-owned}
 use Rattle.disk_layout.proofs.Lists.{in-map}
-use Rattle.disk_layout.proofs.Once.{Contains-cases, Contains-here, Contains-nil, Contains-there, EachOnce-apart, map-in}
+use Rattle.disk_layout.proofs.Once.{Contains-cases, Contains-here, Contains-nil, EachOnce-apart, map-in}
 use Rattle.disk_layout.proofs.Recount.{slot-there}
 use Rattle.disk_layout.proofs.Recounts.{IsLayout-reread, KeepsEntries, keeps-put_counts, reread, reread_layout, reslot, slot-of, slot-same, stays-reread}
 use Rattle.disk_layout.specs.Directory.{map_place, slot_in}
