@@ -28,8 +28,8 @@ pub fn same_body(a: &Request, b: &Request) -> bool
 
 /// What a till is told about a number that this request has.
 #[inline]
-fn again(kept: &(Request, Answer), request: &Request) -> Word
-    ensures { result ≡ told_again (entry_of kept.now) request.now }
+fn again(kept: (Request, Answer), request: &Request) -> Word
+    ensures { result ≡ told_again (entry_of kept) request.now }
 {
     if same_body(request, &kept.0) {
         Word::Kept(kept.1)
@@ -40,8 +40,8 @@ fn again(kept: &(Request, Answer), request: &Request) -> Word
 
 /// What a till is told about a number below its last one, with this request before the last.
 #[inline]
-fn late(prior: &Option<(Request, Answer)>, request: &Request) -> Word
-    ensures { result ≡ told_late (option_map entry_of prior.now) request.now }
+fn late(prior: Option<(Request, Answer)>, request: &Request) -> Word
+    ensures { result ≡ told_late (option_map entry_of prior) request.now }
 {
     match prior {
         Some(kept) if request.number() == kept.0.number() => again(kept, request),
@@ -57,15 +57,15 @@ fn late(prior: &Option<(Request, Answer)>, request: &Request) -> Word
 #[inline]
 pub fn standing_of(
     tills: u8,
-    last: &Option<(Request, Answer)>,
-    prior: &Option<(Request, Answer)>,
+    last: Option<(Request, Answer)>,
+    prior: Option<(Request, Answer)>,
     request: &Request,
 ) -> Standing
     ensures exact { result
-        ≡ standing tills (option_map entry_of last.now) (option_map entry_of prior.now) request.now }
+        ≡ standing tills (option_map entry_of last) (option_map entry_of prior) request.now }
     // New is the next number of a till that is there, and no other.
     ensures new { is_new result ≡ (nat_le request.now.till tills
-        && request.now.number == number_of (option_map entry_of last.now) + 1) }
+        && request.now.number == number_of (option_map entry_of last) + 1) }
 {
     let number = request.number();
     if request.till() > tills {
