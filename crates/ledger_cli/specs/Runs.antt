@@ -5,9 +5,9 @@ use Rattle.d64_image.specs.Memory.{sectors_in}
 use Rattle.disk_layout.specs.Clean.{IsClean}
 use Rattle.disk_layout.specs.Fault.{HoldsOfClean, HoldsOfDirectory}
 use Rattle.disk_layout.specs.declared.faults.Fault.{Fault}
-use Rattle.ledger_cli.specs.Images.{HasDirectory}
-use Rattle.ledger_cli.specs.Scripts.{first_bad, lines}
-use Rattle.ledger_cli.specs.Tables.{dry_report}
+use Rattle.ledger_commands.specs.Images.{HasDirectory}
+use Rattle.script_lines.specs.Lines.{first_reset, lines}
+use Rattle.ledger_commands.specs.Tables.{dry_report}
 use Rattle.ledger_cli.specs.declared.jobs.Job.{Job}
 use Rattle.ledger_cli.specs.declared.jobs.Job.TheVariants as jobs
 
@@ -16,7 +16,7 @@ pub record IsDryRun {W : Type 0} (contents : W → Option (List ℕ)) (script : 
   -- 0: each line has its reply over the lines before it, and all of them were handed over
   pub done : status ≡ 0 → Appends (contents old) (contents new) (dry_report script)
   -- 1: exactly where a line is bad, and then nothing was written
-  pub bad_line : (status ≡ 1) ↔ IsSome (first_bad (lines script))
+  pub bad_line : (status ≡ 1) ↔ IsSome (first_reset (lines script))
   pub untouched : status ≡ 1 → new ≡ old
   -- 3: the output failed
   pub statuses : (status ≡ 0) ⊎ ((status ≡ 1) ⊎ (status ≡ 3))
