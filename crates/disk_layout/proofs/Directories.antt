@@ -16,7 +16,7 @@ use Rattle.disk_layout.proofs.Chains.{Leads-push}
 use Rattle.disk_layout.proofs.Once.{Contains-here, Contains-there, EachOnce-push, all-in}
 use Rattle.disk_layout.specs.Chain.{EachOnce, Leads, Names, NamesNone}
 use Rattle.disk_layout.specs.Directory.{IsDirectory, IsDirectoryPlace, directory_start, is_used, map_place, slots_in, used_slots}
-use Rattle.disk_layout.specs.Fault.{HoldsOfDirectory}
+use Rattle.disk_layout.specs.Fault.{HoldsOfDirectory, nowhere}
 use Rattle.disk_layout.specs.Listing.{LinksOut}
 use Rattle.disk_layout.specs.declared.faults.Fault.TheVariants.{BadLink, Loop}
 use Rattle.disk_layout.specs.declared.slot.Slot.{Slot}
@@ -136,7 +136,7 @@ directory-whole img before p to entries h read ends slots = (
 )
 
 -- the sector links to none that a directory may have
-pub bad-link : (img : Image) (before : List Place) (p : Place) (to : List ℕ) → IsReached img before p → to ≡ sector img p → slice_index to 0 ≢ 0 → LinksOut to → HoldsOfDirectory ⊥ img (BadLink p)
+pub bad-link : (img : Image) (before : List Place) (p : Place) (to : List ℕ) → IsReached img before p → to ≡ sector img p → slice_index to 0 ≢ 0 → LinksOut to → HoldsOfDirectory nowhere img (BadLink p)
 bad-link img before p to h read ne out = (record { before = before; visits = (h.leads, h.once); places = h.places }, rw (← read) (by out))
   where
     by : LinksOut to → ((slice_index to 0 ≢ 0) × NamesNone to 0) ⊎ ((q : Place) × Names to 0 q × ¬ (IsDirectoryPlace q))
@@ -144,7 +144,7 @@ bad-link img before p to h read ne out = (record { before = before; visits = (h.
     by (inr other) = inr other
 
 -- the sector links back to one of those before it, or to itself
-pub comes-back : (img : Image) (before : List Place) (p next : Place) (to : List ℕ) → IsReached img before p → to ≡ sector img p → Names to 0 next → Contains (before ++ p ∷ []) next → HoldsOfDirectory ⊥ img (Loop next)
+pub comes-back : (img : Image) (before : List Place) (p next : Place) (to : List ℕ) → IsReached img before p → to ≡ sector img p → Names to 0 next → Contains (before ++ p ∷ []) next → HoldsOfDirectory nowhere img (Loop next)
 comes-back img before p next to h read names there =
     (before ++ p ∷ [], (Leads-push img directory_start before p next h.leads (rw (← read) names), h.once, there), h.places)
 

@@ -105,7 +105,7 @@ other-owner img dir es fs s p d all slots c = elim (Contains-cases p map_place (
   ]
 ]
 
-pub clash-holds : (failed : Type 0) (img : Image) (dir : List Place) (es : List Slot) (fs : List File) (s : Slot) (p : Place) → IsDirectory img dir es → AllByRecursion (IsFile img) fs → ((f : File) → Contains fs f → Contains es f.slot × (f.slot ≢ s)) → Contains (taken dir fs) p → Owns img (blocks_of s) p ⊎ Owns img (sides_of s) p → Holds failed img (OwnedTwice p)
+pub clash-holds : (failed : Place → Type 0) (img : Image) (dir : List Place) (es : List Slot) (fs : List File) (s : Slot) (p : Place) → IsDirectory img dir es → AllByRecursion (IsFile img) fs → ((f : File) → Contains fs f → Contains es f.slot × (f.slot ≢ s)) → Contains (taken dir fs) p → Owns img (blocks_of s) p ⊎ Owns img (sides_of s) p → Holds failed img (OwnedTwice p)
 clash-holds failed img dir es fs s p d all slots c own =
     let (a, x, other) = other-owner img dir es fs s p d all slots c in
     elim own [ inl y ↦ inl (a, blocks_of s, other.0, x, y) | inr y ↦ inl (a, sides_of s, other.1, x, y) ]

@@ -5,7 +5,7 @@ use Rattle.std.proofs.lemmas.Bool.Decides.{nat_tests}
 use Rattle.std.proofs.Math.Decide.{dec_lt}
 use Rattle.d64_image.proofs.Places.{place_at-found, place_at-none, place_at-some}
 use Rattle.d64_image.proofs.Moments.{no_reads, reads_weaker}
-use Rattle.d64_image.specs.History.{Failed, History}
+use Rattle.d64_image.specs.History.{History}
 use Rattle.d64_image.specs.Geometry.{sectors_on}
 use Rattle.d64_image.specs.Images.{Image}
 use Rattle.d64_image.specs.Places.{place_at}
@@ -30,7 +30,7 @@ pub closed-entry : (img : Image) (s : Slot) → IsEntry img s → 128 ≤ type_b
 closed-entry img s e h = record { slot = e.slot; closed = h }
 
 -- what a slot shows holds of the image that has the slot
-pub shown-holds : (failed : Type 0) (img : Image) (s : Slot) (f : Fault) → IsEntry img s → IsShown s f → Holds failed img f
+pub shown-holds : (failed : Place → Type 0) (img : Image) (s : Slot) (f : Fault) → IsEntry img s → IsShown s f → Holds failed img f
 shown-holds failed img s (BadType p) e (at, high, bad) = (s, rw at (closed-entry img s e high), bad)
 shown-holds failed img s (Unclosed p) e (at, low) = (s, rw at e.slot, e.used, low)
 shown-holds failed img s (BadLength p) e (at, high, rel, out) = (s, rw at (closed-entry img s e high), rel, out)
@@ -66,5 +66,5 @@ module _ {D : Type 0} (S : History D) where
   shown-tells d n s f e h = record {
     reads = reads_weaker S d d 0 n (omega arith) (no_reads S d);
     failures = shown-tells_alone d s f h;
-    holds = shown-holds (Failed S d d) (S.image d) s f e h;
+    holds = shown-holds (S.failed_at d) (S.image d) s f e h;
   }

@@ -6,7 +6,7 @@ use Rattle.std.specs.Option.{option_or}
 use borrow.Author.Count.{below_more}
 use Rattle.std.proofs.lemmas.Option.{slice_get_within}
 use Rattle.std.proofs.lemmas.List.Elements.{Contains-append_left, Contains-append_right}
-use Rattle.d64_image.specs.History.{Failed, History}
+use Rattle.d64_image.specs.History.{History}
 use Rattle.d64_image.specs.Images.{Image, sector}
 use Rattle.d64_image.specs.declared.place.Place.{Place}
 use Rattle.disk_layout.proofs.Count.{places-few}
@@ -85,7 +85,7 @@ judged-more img fs g None (Some fault) all judged = (g, Contains-append_right fs
 judged-more img fs g None None all judged = all-push (IsCleanFile img) fs g all judged
 
 -- what was kept back holds of a sound disk
-unclean-holds : (failed : Type 0) (img : Image) (l : Layout) (fault : Fault) → IsLayout img l → JudgesFiles img l.files (Some fault) → HoldsOfClean failed img fault
+unclean-holds : (failed : Place → Type 0) (img : Image) (l : Layout) (fault : Fault) → IsLayout img l → JudgesFiles img l.files (Some fault) → HoldsOfClean failed img fault
 unclean-holds failed img l (BadSide p) is (f, own, h) = inr (l, is, f, own, h.0, h.1.number, h.1.there, h.1.other)
 unclean-holds failed img l (CountWrong p) is (f, own, h) = (l, is, f, record { file = own; rel = h.0; slot = sym h.1.0 }, h.1.1)
 unclean-holds failed img l (BadLink p) is (f, own, none) = absurd none.1
@@ -122,5 +122,5 @@ module _ {D : Type 0} (S : History D) where
       record {
         reads = all.reads;
         failures = unclean-tells a b (S.image a) l.files fault all.failures there;
-        holds = unclean-holds (Failed S a b) (S.image a) l fault is there;
+        holds = unclean-holds (S.failed_at b) (S.image a) l fault is there;
       }

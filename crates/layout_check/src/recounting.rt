@@ -1,17 +1,17 @@
 //! The block counts of the relative entries, made right.
 ghost use Rattle.std.specs.Prelude.{◌≡◌, ◌<◌, IfErr, IfOk, IsTrue, List, OnOk, length};
-ghost use Rattle.d64_image.specs.History.{Changes, OnlyReads};
+ghost use Rattle.d64_image.specs.History.{Changes, WritesNothing};
 ghost use Rattle.d64_image.specs.Images.{sector};
 ghost use Rattle.disk_layout.specs.Directory.{IsDirectory, slot_in};
 ghost use Rattle.disk_layout.specs.Entries.{IsRecounted};
-ghost use Rattle.disk_layout.specs.Fault.{TellsFault};
 ghost use Rattle.disk_layout.specs.Layout.{IsLayout, IsSound, Layout, count_field, is_rel};
 ghost use Rattle.disk_layout.specs.declared.slot.Slot.{Slot};
 ghost use Rattle.d64_image.specs.declared.place.Place.{Place};
 ghost use Rattle.layout_check.specs.Calls.{Passes, Tells};
 ghost use Rattle.layout_check.specs.Entry.{IsEntry};
 ghost use Rattle.layout_check.specs.InOrder.{AreMade, GoesOver, IsRight};
-ghost use Rattle.layout_check.specs.Recounted.{AreCounted, AreRightIn, IsCountOf, IsCountedAs, IsInDirectory, IsOfDevice, IsRightAt, KeepsButCounts, OldOrMended, WritesOther};
+ghost use Rattle.layout_check.specs.Mended.{TellsDevice};
+ghost use Rattle.layout_check.specs.Recounted.{AreCounted, AreRightIn, IsCountOf, IsCountedAs, IsInDirectory, IsRightAt, KeepsButCounts, OldOrMended, WritesOther};
 
 use crate::entry::is_relative;
 use crate::mending::write_other;
@@ -119,9 +119,8 @@ fn mend_sector<D: Sectors>(
     ensures moments { Changes D.history disk.old disk.new 1 (OldOrMended (D.history.image disk.old) place) }
     ensures once { WritesOther D.history disk.old disk.new place }
     // a sector whose counts are right is not written
-    ensures silent { AreRightIn (D.history.image disk.old) place (sector (D.history.image disk.old) place) → OnlyReads D.history disk.old disk.new 5857 }
-    ensures err { IfErr result IsOfDevice }
-    ensures failures { TellsFault D.history disk.old disk.new result }
+    ensures quiet { AreRightIn (D.history.image disk.old) place (sector (D.history.image disk.old) place) → WritesNothing D.history disk.old disk.new }
+    ensures failures { TellsDevice D.history disk.old disk.new result }
 {
     let mut had = [0u8; 256];
     read_sector(disk, place, &mut had)?;
@@ -154,9 +153,8 @@ pub fn mend_counts<D: Sectors>(disk: &mut D) -> Result<(), Fault>
     // a sector is written where a count in it is wrong, once, in the order of the directory
     ensures over { (l : Layout) → IsLayout (D.history.image disk.old) l → GoesOver D.history disk.old disk.new (IsRight l) l.directory }
     ensures made { OnOk result ((l : Layout) → IsLayout (D.history.image disk.old) l → AreMade (IsRight l) l.directory (D.history.image disk.old) (D.history.image disk.new)) }
-    ensures silent { AreCounted (D.history.image disk.old) → OnlyReads D.history disk.old disk.new 106146 }
-    ensures err { IfErr result IsOfDevice }
-    ensures failures { TellsFault D.history disk.old disk.new result }
+    ensures quiet { AreCounted (D.history.image disk.old) → WritesNothing D.history disk.old disk.new }
+    ensures failures { TellsDevice D.history disk.old disk.new result }
 {
     let mut places = ArrayVec::new();
     let mut blocks = ArrayVec::new();

@@ -1,11 +1,12 @@
 -- The map is right already, or it is written.
 use Rattle.std.proofs.Common.{[], ap, subst, sym, ◌∙◌, ◌∷◌}
 use Rattle.std.proofs.lemmas.Result.{err_from_is_err_and}
+use Rattle.d64_image.proofs.Moments.{reads_no_write}
 use Rattle.d64_image.specs.Images.{Image, sector}
 use Rattle.d64_image.specs.declared.place.Place.{Place}
 use Rattle.disk_layout.specs.Directory.{map_place}
 use Rattle.disk_layout.specs.Layout.{IsLayout}
-use Rattle.layout_check.proofs.Finding.{if_err, on_ok}
+use Rattle.layout_check.proofs.Finding.{on_ok}
 use Rattle.layout_check.proofs.MapMends.{device_later, device_told, err-holds, layouts-put, map-put, mends_read, mends_write, ok-holds, right-map, written}
 use Rattle.layout_check.proofs.Mendings.{mended-map}
 use Rattle.layout_check.proofs.Orders.{over_none}
@@ -17,11 +18,14 @@ use Rattle.layout_check.specs.Made.{HasNoSpare}
 use Rattle.layout_check.specs.Mended.{KeepsLayouts}
 use Rattle.layout_check.proofs.mending.mend_map.Goals as goal
 
-pub returns-in_err-read_sector-clause-err : goal.returns-in_err-read_sector-clause-err
-returns-in_err-read_sector-clause-err g c =
+pub returns-in_err-read_sector-clause-failures : goal.returns-in_err-read_sector-clause-failures
+returns-in_err-read_sector-clause-failures g c =
     let S = g.D.Sectors.history in
     let p = err_from_is_err_and c.from_residual.result c.from_residual.ensures.1 in
-    rw (p.1, p.2) (device_told S (Unit {0}) c.args.disk.now c.read_sector.new.disk c.map_place.result _ c.in_err-read_sector.ensures.told c.in_err-read_sector.ensures.failures)
+    rw (p.1, p.2) (device_told S (Unit {0}) c.args.disk.now c.read_sector.new.disk c.map_place.result _ c.in_err-read_sector.ensures.told c.in_err-read_sector.ensures.failures c.in_err-read_sector.ensures.failed)
+
+pub returns-in_err-read_sector-clause-quiet : goal.returns-in_err-read_sector-clause-quiet
+returns-in_err-read_sector-clause-quiet g c has = reads_no_write g.D.Sectors.history c.args.disk.now c.read_sector.new.disk 1 c.in_err-read_sector.ensures.reads
 
 pub returns-in_err-read_sector-clause-mends : goal.returns-in_err-read_sector-clause-mends
 returns-in_err-read_sector-clause-mends g c = mends_read g.D.Sectors.history c.args.disk.now c.read_sector.new.disk 1 1 c.in_err-read_sector.ensures.reads
@@ -38,6 +42,9 @@ returns-then-is_ok-clause-layouts g c l h = let P : Image → Type 0 = λ i. IsL
 pub returns-then-is_ok-clause-mends : goal.returns-then-is_ok-clause-mends
 returns-then-is_ok-clause-mends g c = mends_read g.D.Sectors.history c.args.disk.now c.read_sector.new.disk 1 1 c.in_ok-read_sector.ensures.reads
 
+pub returns-then-is_ok-clause-quiet : goal.returns-then-is_ok-clause-quiet
+returns-then-is_ok-clause-quiet g c has = reads_no_write g.D.Sectors.history c.args.disk.now c.read_sector.new.disk 1 c.in_ok-read_sector.ensures.reads
+
 pub write_other-requires : goal.write_other-requires
 write_other-requires g c =
     c.in_ok-read_sector.ensures.sector ∙ ap (λ (i : Image). sector i c.map_place.result) (sym c.in_ok-read_sector.ensures.reads.image) ∙ ap (λ (p : Place). sector (g.D.Sectors.history.image c.read_sector.new.disk) p) (c.map_place.ensures ∙ sym c.map_place-2.ensures)
@@ -53,11 +60,8 @@ returns-clause-layouts g c =
     let S = g.D.Sectors.history in
     on_ok c.write_other.result _ _ (λ h. written (KeepsLayouts (S.image c.args.disk.now)) _ (S.image c.read_sector.new.disk) c.map_place-2.result c.map_of-wanted.result h c.map_place-2.ensures (layouts-put (S.image c.args.disk.now) (S.image c.read_sector.new.disk) c.map_of-wanted.result c.in_ok-read_sector.ensures.reads.image)) c.write_other.ensures.ok
 
-pub returns-clause-err : goal.returns-clause-err
-returns-clause-err g c = if_err c.write_other.result _ _ (λ f h. device_later g.D.Sectors.history c.args.disk.now c.read_sector.new.disk c.write_other.new.disk f c.in_ok-read_sector.ensures.failures h) c.write_other.ensures.err
-
 pub returns-clause-failures : goal.returns-clause-failures
-returns-clause-failures g c = on_ok c.write_other.result _ _ (λ h. h ∙ c.in_ok-read_sector.ensures.failures) c.write_other.ensures.failures
+returns-clause-failures g c = device_later g.D.Sectors.history (Unit {0}) c.args.disk.now c.read_sector.new.disk c.write_other.new.disk c.write_other.result c.in_ok-read_sector.ensures.failures c.write_other.ensures.failures
 
 pub returns-clause-mends : goal.returns-clause-mends
 returns-clause-mends g c =

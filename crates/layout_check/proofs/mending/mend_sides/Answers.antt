@@ -1,9 +1,9 @@
 -- Side sector by side sector: right already, or written.
-use Rattle.std.proofs.Common.{List, [], ap, arith, refl, subst, sym, ◌∙◌, ◌+◌}
+use Rattle.std.proofs.Common.{Err, List, [], ap, arith, refl, subst, sym, ◌∙◌, ◌+◌}
 use Rattle.std.proofs.lemmas.List.{take_all}
 use Rattle.std.proofs.lemmas.Option.{slice_get_within}
 use Rattle.std.proofs.lemmas.Result.{err_from_is_err_and}
-use Rattle.d64_image.proofs.Moments.{no_change, no_reads, reads_then, reads_weaker}
+use Rattle.d64_image.proofs.Moments.{no_change, no_reads, no_write, no_write_then, reads_no_write}
 use Rattle.d64_image.specs.Images.{Image, put, sector}
 use Rattle.d64_image.specs.declared.place.Place.{Place}
 use Rattle.layout_check.proofs.MapMends.{device_later, device_told, mends_read, mends_then, mends_weaker}
@@ -26,15 +26,15 @@ loop-number-init g c = record {
   over = λ l h. over_none g.D.Sectors.history (IsRight l) [] c.args.disk.now c.args.disk.now 0 (no_reads g.D.Sectors.history c.args.disk.now);
   made = λ l h. made_none (IsRight l) (g.D.Sectors.history.image c.args.disk.now) (g.D.Sectors.history.image c.args.disk.now) refl;
   failures = refl;
-  quiet = λ exact. no_reads g.D.Sectors.history c.args.disk.now;
+  quiet = λ exact. no_write g.D.Sectors.history c.args.disk.now;
 }
 
-pub returns-in_err-read_sector-clause-err : goal.returns-in_err-read_sector-clause-err
-returns-in_err-read_sector-clause-err g c =
+pub returns-in_err-read_sector-clause-failures : goal.returns-in_err-read_sector-clause-failures
+returns-in_err-read_sector-clause-failures g c =
     let S = g.D.Sectors.history in
     let p = err_from_is_err_and c.from_residual.result c.from_residual.ensures.1 in
-    rw (p.1, p.2) (device_later S c.args.disk.now c.loop-number.disk c.read_sector.new.disk _ c.loop-number.invariant.failures
-    (device_told S (Unit {0}) c.loop-number.disk c.read_sector.new.disk c.index-sides-number.result _ c.in_err-read_sector.ensures.told c.in_err-read_sector.ensures.failures))
+    rw (p.1, p.2) (device_later S (Unit {0}) c.args.disk.now c.loop-number.disk c.read_sector.new.disk (Err _) c.loop-number.invariant.failures
+    (device_told S (Unit {0}) c.loop-number.disk c.read_sector.new.disk c.index-sides-number.result _ c.in_err-read_sector.ensures.told c.in_err-read_sector.ensures.failures c.in_err-read_sector.ensures.failed))
 
 pub returns-in_err-read_sector-clause-mends : goal.returns-in_err-read_sector-clause-mends
 returns-in_err-read_sector-clause-mends g c =
@@ -49,16 +49,17 @@ returns-in_err-read_sector-clause-over g c l h =
 
 pub returns-in_err-read_sector-clause-quiet : goal.returns-in_err-read_sector-clause-quiet
 returns-in_err-read_sector-clause-quiet g c exact =
-    reads_then g.D.Sectors.history c.args.disk.now c.loop-number.disk c.read_sector.new.disk c.loop-number.number 1 6 (omega (arith, c.loop-number-test.true, c.requires.few)) (c.loop-number.invariant.quiet exact) c.in_err-read_sector.ensures.reads
+    let S = g.D.Sectors.history in
+    no_write_then S c.args.disk.now c.loop-number.disk c.read_sector.new.disk (c.loop-number.invariant.quiet exact) (reads_no_write S _ _ 1 c.in_err-read_sector.ensures.reads)
 
 pub write_other-requires : goal.write_other-requires
 write_other-requires g c = c.in_ok-read_sector.ensures.sector ∙ ap (λ (i : Image). sector i c.index-sides-number.result) (sym c.in_ok-read_sector.ensures.reads.image)
 
-pub returns-in_err-write_other-clause-err : goal.returns-in_err-write_other-clause-err
-returns-in_err-write_other-clause-err g c =
+pub returns-in_err-write_other-clause-failures : goal.returns-in_err-write_other-clause-failures
+returns-in_err-write_other-clause-failures g c =
     let S = g.D.Sectors.history in
     let p = err_from_is_err_and c.from_residual-in_err-write_other.result c.from_residual-in_err-write_other.ensures.1 in
-    rw (p.1, p.2) (device_later S c.args.disk.now c.read_sector.new.disk c.write_other.new.disk _ (c.in_ok-read_sector.ensures.failures ∙ c.loop-number.invariant.failures) c.in_err-write_other.ensures.err)
+    rw (p.1, p.2) (device_later S (Unit {0}) c.args.disk.now c.read_sector.new.disk c.write_other.new.disk (Err _) (c.in_ok-read_sector.ensures.failures ∙ c.loop-number.invariant.failures) c.in_err-write_other.ensures.failures)
 
 pub returns-in_err-write_other-clause-mends : goal.returns-in_err-write_other-clause-mends
 returns-in_err-write_other-clause-mends g c =
@@ -92,8 +93,8 @@ returns-in_err-write_other-clause-quiet g c exact =
     let here = read-there c.args.sides.now c.loop-number.number p c.loop-number-test.true c.index-sides-number.is in
     let so_far = c.loop-number.invariant.quiet exact in
     let right = side_right S c.args.disk.now c.loop-number.disk c.read_sector.new.disk c.args.slot.now c.args.blocks.now c.args.sides.now c.loop-number.number p c.read_sector.new.to c.side_bytes-wanted.result here exact so_far.image c.in_ok-read_sector.ensures.sector wanted in
-    let read = reads_then S c.args.disk.now c.loop-number.disk c.read_sector.new.disk c.loop-number.number 1 (c.loop-number.number + 1) (omega arith) so_far c.in_ok-read_sector.ensures.reads in
-    reads_then S c.args.disk.now c.read_sector.new.disk c.write_other.new.disk (c.loop-number.number + 1) 0 6 (omega (arith, c.loop-number-test.true, c.requires.few)) read (c.in_err-write_other.ensures.quiet right)
+    let read = no_write_then S c.args.disk.now c.loop-number.disk c.read_sector.new.disk so_far (reads_no_write S _ _ 1 c.in_ok-read_sector.ensures.reads) in
+    no_write_then S c.args.disk.now c.read_sector.new.disk c.write_other.new.disk read (c.in_err-write_other.ensures.quiet right)
 
 pub loop-number-preserved : goal.loop-number-preserved
 loop-number-preserved g c =
@@ -123,8 +124,8 @@ loop-number-preserved g c =
       quiet = λ exact.
           let so_far = old.quiet exact in
           let right = side_right S c.args.disk.now c.loop-number.disk c.read_sector.new.disk s bs ss n p c.read_sector.new.to c.side_bytes-wanted.result here exact so_far.image c.in_ok-read_sector.ensures.sector wanted in
-          let read = reads_then S c.args.disk.now c.loop-number.disk c.read_sector.new.disk n 1 (n + 1) (omega arith) so_far c.in_ok-read_sector.ensures.reads in
-          reads_then S c.args.disk.now c.read_sector.new.disk c.write_other.new.disk (n + 1) 0 (n + 1) (omega arith) read (c.in_ok-write_other.ensures.quiet right);
+          let read = no_write_then S c.args.disk.now c.loop-number.disk c.read_sector.new.disk so_far (reads_no_write S _ _ 1 c.in_ok-read_sector.ensures.reads) in
+          no_write_then S c.args.disk.now c.read_sector.new.disk c.write_other.new.disk read (c.in_ok-write_other.ensures.quiet right);
     }
 
 pub returns-clause-exact : goal.returns-clause-exact
@@ -132,9 +133,6 @@ returns-clause-exact g c j p there = c.loop-number.invariant.exact j (omega (ari
 
 pub returns-clause-mends : goal.returns-clause-mends
 returns-clause-mends g c = mends_weaker g.D.Sectors.history c.args.disk.now c.loop-number.disk c.loop-number.number 6 (omega (arith, c.loop-number.auto, c.requires.few)) c.loop-number.invariant.mends
-
-pub returns-clause-quiet : goal.returns-clause-quiet
-returns-clause-quiet g c exact = reads_weaker g.D.Sectors.history c.args.disk.now c.loop-number.disk c.loop-number.number 6 (omega (arith, c.loop-number.auto, c.requires.few)) (c.loop-number.invariant.quiet exact)
 
 pub returns-clause-over : goal.returns-clause-over
 returns-clause-over g c l h = over_first g.D.Sectors.history (IsRight l) c.args.sides.now c.loop-number.number c.args.disk.now c.loop-number.disk (c.loop-number.invariant.over l h)
