@@ -1,12 +1,10 @@
 #!/usr/bin/env python3
-"""Compares docs/DEFINITIONS.md with what public contracts cite, and prints a line for each difference:
-
-    tests/definitions.py [--all]
+"""Compares docs/DEFINITIONS.md with the contracts, and prints a line for each difference:
 
 `missing`: a word of a specs/ folder that a contract of a public function, trait or type cites, and that no table has.
-`stale`: a word in the first column of a table that its crate's specs/ don't define, or don't define any more.
-With --all also `rests on`: words that no table has and that no contract cites itself, but a definition that one rests on.
-The status is 1 where a word is missing or stale."""
+`missing below`: a word that no table has, and on which such a word rests.
+`stale`: a word in the first column of a table that the specs/ of its crate don't define.
+The status is 1 where there is a difference."""
 
 import re
 import sys
@@ -128,15 +126,13 @@ def main():
                 left.append(it)
     tables = listed()
     is_listed = lambda it: it[2] in tables.get(it[0], ())
-    lines = [f"missing   {'/'.join(it)}" for it in sorted(wanted) if not is_listed(it)]
+    lines = [f"missing        {'/'.join(it)}" for it in sorted(wanted) if not is_listed(it)]
+    lines += [f"missing below  {'/'.join(it)}" for it in sorted(below - wanted) if not is_listed(it)]
     for crate in sorted(tables):
         there = {name for of, _, name in defined if of == crate}
-        lines += [f"stale     {crate}/{name}" for name in sorted(tables[crate] - there)]
-    faults = len(lines)
-    if "--all" in sys.argv[1:]:
-        lines += [f"rests on  {'/'.join(it)}" for it in sorted(below - wanted) if not is_listed(it)]
-    print("\n".join(lines) if lines else "docs/DEFINITIONS.md has each definition that a public contract cites")
-    return 1 if faults else 0
+        lines += [f"stale          {crate}/{name}" for name in sorted(tables[crate] - there)]
+    print("\n".join(lines) or "docs/DEFINITIONS.md has each definition on which a public contract rests")
+    return 1 if lines else 0
 
 
 if __name__ == "__main__":
