@@ -1,5 +1,5 @@
 -- Calls that go over sectors in order, one after another.
-use Rattle.std.proofs.Common.{ℕ, zero, suc, ◌≡◌, ◌≢◌, ◌+◌, List, [], ◌∷◌, ◌++◌, ◌⊎◌, drop, length, take, ⊎_elim, sym, ◌∙◌, ap, refl, arith, subst, inl, inr}
+use Rattle.std.proofs.Common.{ℕ, ◌≡◌, ◌≢◌, ◌+◌, List, [], ◌∷◌, ◌++◌, ◌⊎◌, drop, length, take, ⊎_elim, sym, ◌∙◌, ap, refl, arith, subst, inl, inr}
 use Rattle.std.specs.Prelude.{Contains, Some, slice_get}
 use Rattle.std.proofs.lemmas.List.{append-nil, append_assoc, length-append, take-append-drop}
 use Rattle.std.proofs.lemmas.List.Elements.{Contains-append_left, Contains-append_right, Contains-append_cases}
@@ -9,17 +9,12 @@ use Rattle.d64_image.proofs.Places.{same_or_other}
 use Rattle.d64_image.specs.History.{HeldOnly, History, OldOr, OnlyReads}
 use Rattle.d64_image.specs.Images.{Image, Sector, put, sector}
 use Rattle.d64_image.specs.declared.place.Place.{Place}
+use Rattle.disk_layout.proofs.Lists.{take-get}
 use Rattle.disk_layout.proofs.Once.{Contains-cases, Contains-here, Contains-nil, EachOnce-apart, EachOnce-join, EachOnce-left}
 use Rattle.disk_layout.specs.Chain.{EachOnce}
-use Rattle.layout_check.specs.InOrder.{AreMade, GoesOver, IsUnderWay, WritesOnce}
-use Rattle.layout_check.specs.Recounted.{WritesOther}
+use Rattle.disk_layout.specs.InOrder.{AreMade, GoesOver, IsUnderWay, WritesOnce, WritesOther}
 
--- one element more of a list
-pub take-get : {X : Type 0} (xs : List X) (n : ℕ) (x : X) → slice_get xs n ≡ Some x → take (n + 1) xs ≡ take n xs ++ x ∷ []
-take-get [] n x e = cc
-take-get (y ∷ ys) zero x e = let one : y ≡ x = cc in ap (λ z. z ∷ []) one
-take-get (y ∷ ys) (suc n) x e = let next : suc n + 1 ≡ suc (n + 1) = omega arith in rw next (ap (λ zs. y ∷ zs) (take-get ys n x e))
-
+-- part of distinct places
 pub once-split : (xs : List Place) (n : ℕ) → EachOnce xs → EachOnce (take n xs ++ drop n xs)
 once-split xs n once = let P : List Place → Type 0 = EachOnce in subst P (sym (take-append-drop n xs)) once
 
