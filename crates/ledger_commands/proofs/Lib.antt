@@ -1,3 +1,2 @@
-pub mod Images
 pub mod Replies
 pub mod Tables

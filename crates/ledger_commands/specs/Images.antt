@@ -6,7 +6,7 @@ use Rattle.d64_image.specs.declared.place.Place.{Place}
 use Rattle.disk_layout.specs.Blank.{IsBlank}
 use Rattle.disk_layout.specs.Directory.{IsDirectory}
 use Rattle.disk_layout.specs.Clean.{IsClean}
-use Rattle.disk_layout.specs.Fault.{HoldsOfClean, HoldsOfDirectory}
+use Rattle.disk_layout.specs.Fault.{HoldsOfClean, HoldsOfDirectory, nowhere}
 use Rattle.disk_layout.specs.declared.faults.Fault.{Fault}
 use Rattle.disk_layout.specs.declared.slot.Slot.{Slot}
 use Rattle.ledger_commands.specs.declared.faults.RunFault.{RunFault}
@@ -44,7 +44,7 @@ IsLoadFault image _ = ⊥
 -- why an image isn't listed: its size, a fault of its directory that holds, the output, or memory
 abbrev pub IsListFault : List ℕ → RunFault → Type 0
 IsListFault image run.ImageSize = length image ≢ 174848
-IsListFault image (run.Layout fault) = (length image ≡ 174848) × HoldsOfDirectory ⊥ (sectors_in image) fault
+IsListFault image (run.Layout fault) = (length image ≡ 174848) × HoldsOfDirectory nowhere (sectors_in image) fault
 IsListFault image run.File = HasDirectory image
 IsListFault image run.NoMemory = length image ≡ 174848
 IsListFault image run.Device = ⊥
@@ -52,7 +52,7 @@ IsListFault image run.Device = ⊥
 -- what is said of an image: that it is clean, or a fault that holds of it
 abbrev pub IsVerdict : Image → Option Fault → Type 0
 IsVerdict img None = IsClean img
-IsVerdict img (Some fault) = HoldsOfClean ⊥ img fault
+IsVerdict img (Some fault) = HoldsOfClean nowhere img fault
 
 -- why an image isn't judged: its size, the output, or memory
 abbrev pub IsCheckFault : List ℕ → RunFault → Type 0

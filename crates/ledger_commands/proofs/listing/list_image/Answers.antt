@@ -6,9 +6,8 @@ use Rattle.d64_image.specs.Images.{Image}
 use Rattle.d64_image.specs.Memory.{sectors_in}
 use Rattle.d64_image.specs.declared.place.Place.{Place}
 use Rattle.disk_layout.specs.Directory.{IsDirectory}
-use Rattle.disk_layout.specs.Fault.{HoldsOfDirectory}
+use Rattle.disk_layout.specs.Fault.{HoldsOfDirectory, nowhere}
 use Rattle.disk_layout.specs.declared.slot.Slot.{Slot}
-use Rattle.ledger_commands.proofs.Images.{holds-alone, memory-never}
 use Rattle.ledger_commands.specs.Images.{HasDirectory, IsListFault}
 use Rattle.ledger_commands.proofs.listing.list_image.Goals as goal
 
@@ -30,8 +29,7 @@ pub returns-in-Err-clause-err : goal.returns-in-Err-clause-err
 returns-in-Err-clause-err g c =
     let loaded = c.in_ok-disk.ensures.ok in (
       loaded.0,
-      subst (λ (i : Image). HoldsOfDirectory ⊥ i c.in-Err.fault) loaded.1
-          (holds-alone (memory-never _ _) _ c.in-Err.fault c.in-Err.ensures.err),
+      subst (λ (i : Image). HoldsOfDirectory nowhere i c.in-Err.fault) loaded.1 c.in-Err.ensures.err,
     )
 
 pub returns-clause-ok : goal.returns-clause-ok
