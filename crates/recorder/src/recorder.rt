@@ -135,7 +135,7 @@ impl<D: Sectors> Sectors for Recorder<D> {
 
     /// Passes a write on, once what stands there is recorded.
     fn write(&mut self, place: Place, from: &[u8; 256]) -> Result<(), DeviceFault>
-        ensures writes { WritesSector (recorded D.history) self.old self.new place from.now device_fault result }
+        ensures device { WritesSector (recorded D.history) self.old self.new place from.now device_fault result }
         // our own: the write is recorded, and what was held before stays known
         ensures recorded { OnOk result (moments_of self.new ≡ moments_of self.old + 1) }
         ensures keeps { (t : ℕ) → t ≤ moments_of self.old → image_at D.history self.new t ≡ image_at D.history self.old t }
