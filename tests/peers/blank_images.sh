@@ -3,7 +3,6 @@
 # cc1541 has to list each as `list` does, case aside, and leave it as it is; cbmconvert has to extract both relative
 # files with their names, record lengths and bytes. Not part of the gate. Run it from anywhere.
 . "$(dirname "$0")/common.sh"
-cd "$work"
 
 # a directory listing as plain capitals with single spaces: `2 "STOCK" REL`
 plain() {

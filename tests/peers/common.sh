@@ -7,3 +7,4 @@ for tool in cc1541 cbmconvert; do
 done
 work=$(mktemp -d)
 trap 'rm -rf "$work"' EXIT
+cd "$work"

@@ -4,7 +4,6 @@
 # an entry scratched by clearing its type alone, and relative files of one and of several hundred blocks.
 # Not part of the gate. Run it from anywhere.
 . "$(dirname "$0")/common.sh"
-cd "$work"
 
 # expect IMAGE WORD..: `check` prints one of these words
 expect() {

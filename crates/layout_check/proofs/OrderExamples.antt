@@ -8,10 +8,11 @@ use Rattle.disk_layout.proofs.ExampleDisk.{entry_bytes, exact_side, stock_file, 
 use Rattle.disk_layout.proofs.Examples.{block_1}
 use Rattle.disk_layout.proofs.Once.{Contains-here, Contains-nil}
 use Rattle.disk_layout.specs.Directory.{directory_start, map_place, slot_in}
+use Rattle.disk_layout.specs.InOrder.{IsUnderWay, WritesOnce}
 use Rattle.disk_layout.specs.Layout.{count_field}
 use Rattle.disk_layout.specs.declared.faults.Fault.TheVariants.{Loop}
-use Rattle.layout_check.specs.InOrder.{IsRight, IsUnderWay, WritesOnce, repair_order}
 use Rattle.layout_check.specs.Mended.{TellsDevice}
+use Rattle.layout_check.specs.RepairOrder.{IsRight, repair_order}
 
 -- 18/0, the side sector 17/1, the directory sector 18/1
 pub order-stock : (u n : ℕ) → repair_order (stock_layout u n) ≡ map_place ∷ block_1 ∷ directory_start ∷ []

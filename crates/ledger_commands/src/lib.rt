@@ -2,6 +2,8 @@
 #![tactic(auto)]
 
 mod bytes;
+#[cfg(test)]
+mod card_tests;
 mod dry_run;
 mod faults;
 mod formatting;

@@ -1,54 +1,26 @@
-//! A ledger in two arrays: the quantity on hand of each item, and the last request of each till.
-ghost use Rattle.std.specs.Prelude.{◌≡◌, ◌≤◌, ◌<◌, IfSome, None, Some};
+//! A ledger in three arrays: the quantity on hand of each item, and the last two requests of each till.
+ghost use Rattle.std.specs.Prelude.{◌≡◌, ◌≤◌, ◌<◌, IfSome, Some};
 ghost use Rattle.request_cards.specs.Ledgers.{after, after_message, applied, nothing};
 ghost use Rattle.request_cards.specs.Ledgers.{reply_in, word_in};
 ghost use Rattle.request_cards.specs.Reading.{request_of};
-ghost use Rattle.request_cards.specs.Requests.{same_body as is_same_body};
-ghost use Rattle.request_cards.specs.Trade.{cards_after, outcome, put, room_for};
-ghost use Rattle.ledger_commands.specs.Tables.{dry_start, entry_of, nth, state_of};
+ghost use Rattle.request_cards.specs.Trade.{cards_after, outcome, put};
+ghost use Rattle.request_cards.specs.declared.kind.Kind.TheVariants.{Move};
+ghost use Rattle.ledger_commands.specs.Tables.{dry_start, nth, state_of};
 
-use request_cards::{Answer, Reply, Request, Room, Word, decide};
+use request_cards::{Answer, Reply, Request, Standing, Word, decide, room_for, standing_of};
 
 /// The last item that has room on a fresh disk with 64 tills.
 const TOP: usize = 8819;
-
-/// The last item that has a record in a file of 720 blocks.
-const LAST_RECORD: u16 = 10160;
-
-/// A request that was answered, with its answer.
-#[derive(Clone, Copy)]
-struct Kept {
-    request: Request,
-    answer: Answer,
-}
 
 /// The cards and the kept requests of a fresh disk with 64 tills, without the disk.
 #[derive(Drop)]
 pub(crate) struct Table {
     /// The quantity on hand of each item, from item 1 on.
     cards: [Option<u32>; TOP],
-    /// The last request of each till, from till 1 on.
-    kept: [Option<Kept>; 64],
-}
-
-/// The room for a new card of the item.
-fn room(item: u16) -> Room
-    ensures { result ≡ room_for 8819 item }
-{
-    if usize::from(item) <= TOP {
-        Room::Fits
-    } else if item <= LAST_RECORD {
-        Room::Full
-    } else {
-        Room::TooLarge
-    }
-}
-
-/// Whether two requests want the same.
-fn same_body(a: &Request, b: &Request) -> bool
-    ensures { result ≡ is_same_body a.now.body b.now.body }
-{
-    a.kind() == b.kind() && a.item() == b.item() && a.quantity() == b.quantity()
+    /// The last request of each till with its answer, from till 1 on.
+    kept: [Option<(Request, Answer)>; 64],
+    /// The one before it.
+    prior: [Option<(Request, Answer)>; 64],
 }
 
 impl Table {
@@ -59,6 +31,7 @@ impl Table {
         Table {
             cards: [None; TOP],
             kept: [None; 64],
+            prior: [None; 64],
         }
     }
 
@@ -72,12 +45,24 @@ impl Table {
         if place < TOP { self.cards[place] } else { None }
     }
 
+    /// The quantity on hand of the item that a move goes to.
+    fn to_hand(&self, request: &Request) -> Option<u32>
+        ensures value { result ≡ nth self.now.cards request.now.body.to }
+        ensures past { 8819 < request.now.body.to → result ≡ None }
+    {
+        match request.to() {
+            None => None,
+            Some(to) => self.on_hand(to),
+        }
+    }
+
     /// Writes the item's card.
     fn set_card(&mut self, item: u16, quantity: u32)
         requires low { 1 ≤ item }
         requires high { item ≤ 8819 }
         ensures cards { nth self.new.cards ≡ put (nth self.old.cards) item (Some quantity) }
         ensures kept { self.new.kept ≡ self.old.kept }
+        ensures prior { self.new.prior ≡ self.old.prior }
     {
         self.cards[usize::from(item) - 1] = Some(quantity);
     }
@@ -88,20 +73,39 @@ impl Table {
         requires high { IfSome quantity (λ _. item ≤ 8819) }
         ensures cards { nth self.new.cards ≡ cards_after (nth self.old.cards) item quantity }
         ensures kept { self.new.kept ≡ self.old.kept }
+        ensures prior { self.new.prior ≡ self.old.prior }
     {
         if let Some(quantity) = quantity {
             self.set_card(item, quantity);
         }
     }
 
-    /// Keeps the request with its answer, in place of its till's last one.
+    /// Writes the card of the item that a move goes to, where there is a new quantity.
+    fn store_to(&mut self, request: &Request, quantity: Option<u32>)
+        requires { IfSome quantity (λ _. (request.now.body.kind ≡ Move)
+            × (request.now.body.to ≤ 8819)) }
+        ensures cards { nth self.new.cards
+            ≡ cards_after (nth self.old.cards) request.now.body.to quantity }
+        ensures kept { self.new.kept ≡ self.old.kept }
+        ensures prior { self.new.prior ≡ self.old.prior }
+    {
+        if let Some(to) = request.to() {
+            self.store(to, quantity);
+        }
+    }
+
+    /// Keeps the request with its answer as its till's last one; what was the last is the one before it.
     fn keep(&mut self, request: &Request, answer: Answer)
         ensures cards { self.new.cards ≡ self.old.cards }
         ensures kept { nth self.new.kept ≡ put (nth self.old.kept) request.now.till
-            (Some (record { request = request.now; answer = answer })) }
+            (Some (request.now, answer)) }
+        ensures prior { nth self.new.prior
+            ≡ put (nth self.old.prior) request.now.till (nth self.old.kept request.now.till) }
     {
         let request = *request;
-        self.kept[usize::from(request.till()) - 1] = Some(Kept { request, answer });
+        let place = usize::from(request.till()) - 1;
+        self.prior[place] = self.kept[place];
+        self.kept[place] = Some((request, answer));
     }
 
     /// Serves the next request of its till.
@@ -111,8 +115,15 @@ impl Table {
         ensures applied { state_of self.new ≡ applied 8819 (state_of self.old) request.now }
     {
         let item = request.item();
-        let outcome = decide(self.on_hand(item), room(item), request);
+        let to_hand = self.to_hand(request);
+        let outcome = decide(
+            self.on_hand(item),
+            to_hand,
+            room_for(TOP as u16, item),
+            request,
+        );
         self.store(item, outcome.quantity);
+        self.store_to(request, outcome.to_quantity);
         self.keep(request, outcome.answer);
         outcome.answer
     }
@@ -122,31 +133,10 @@ impl Table {
         ensures word { result ≡ word_in dry_start (state_of self.old) request.now }
         ensures after { state_of self.new ≡ after dry_start (state_of self.old) request.now }
     {
-        let number = request.number();
-        match self.kept[usize::from(request.till()) - 1] {
-            None => {
-                if number > 1 {
-                    Word::Ahead
-                } else {
-                    Word::Kept(self.serve(request))
-                }
-            }
-            Some(kept) => {
-                let last = kept.request.number();
-                if number < last {
-                    Word::Stale
-                } else if number == last {
-                    if same_body(request, &kept.request) {
-                        Word::Kept(kept.answer)
-                    } else {
-                        Word::Clash
-                    }
-                } else if number > last + 1 {
-                    Word::Ahead
-                } else {
-                    Word::Kept(self.serve(request))
-                }
-            }
+        let place = usize::from(request.till()) - 1;
+        match standing_of(64, self.kept[place], self.prior[place], request) {
+            Standing::New => Word::Kept(self.serve(request)),
+            Standing::Settled(word) => word,
         }
     }
 
