@@ -78,11 +78,6 @@ module _ {D : Type 0} (S : History D) where
   if_device T a b p (Ok x) told tells there = tells
   if_device T a b p (Err f) told tells there = (tells, (p, told, there))
 
-  -- and is a call that tells a fault
-  pub device_fault : (T : Type 0) (a b : D) (r : Result T Fault) → TellsDevice S a b r → TellsFault S a b r
-  device_fault T a b (Ok x) tells = tells
-  device_fault T a b (Err f) (failed, (p, is, there)) = let P : Fault → Type 0 = λ x. TellsFault {T = T} S a b (Err x) in subst P (sym is) failed
-
   -- a write of other bytes than the sector had, which may have failed
   pub other_written : (T : Type 0) (a b : D) (p : Place) (had bytes : Sector) (r : Result T Fault) → had ≡ sector (S.image a) p → had ≢ bytes → OnOk r (S.image b ≡ put (S.image a) p bytes) → OnOk r (S.writes b ≤ S.writes a + 1) → OnErr r (S.writes b ≡ S.writes a) → WritesOther S a b p
   other_written T a b p had bytes (Ok x) read other is counted none = inr (put-changed (S.image a) (S.image b) p had bytes (S.whole a).size read other is, counted)
