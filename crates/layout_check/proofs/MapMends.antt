@@ -81,10 +81,5 @@ module _ {D : Type 0} (S : History D) where
   pub write_device : (T : Type 0) (a b : D) (p : Place) (bytes : Sector) (r : Result T Fault) → WritesSector S a b p bytes (Device p) r → TellsDevice S a b r
   write_device T a b p bytes r w = if_device T a b p r w.told w.failures w.failed
 
-  -- and is a call that tells a fault
-  pub device_fault : (T : Type 0) (a b : D) (r : Result T Fault) → TellsDevice S a b r → TellsFault S a b r
-  device_fault T a b (Ok x) tells = tells
-  device_fault T a b (Err f) (failed, (p, is, there)) = let P : Fault → Type 0 = λ x. TellsFault {T = T} S a b (Err x) in subst P (sym is) failed
-
   pub mends_weaker : (a b : D) (m n : ℕ) → m ≤ n → Mends S a b m → Mends S a b n
   mends_weaker a b m n le h i l is = changes_weaker S a b m n (IsMended i l) (IsMended i l) le (λ c x. x) (h i l is)
