@@ -59,7 +59,7 @@ impl<D: Sectors> Sectors for Fuse<D> {
 
     /// Passes a read on where the fuse has not blown.
     fn read(&mut self, place: Place, to: &mut [u8; 256]) -> Result<(), DeviceFault>
-        ensures reads { ReadsSector (fuse D.history) self.old self.new place to.new device_fault result }
+        ensures device { ReadsSector (fuse D.history) self.old self.new place to.new device_fault result }
         // a blown fuse reads nothing
         ensures spent { fuse_left self.old ≡ 0 → IsErr result × (fuse_disk self.new ≡ fuse_disk self.old) }
         // else the disk beneath answers
@@ -81,7 +81,7 @@ impl<D: Sectors> Sectors for Fuse<D> {
 
     /// Passes a write on where the fuse has not blown; a write that passed uses it up by one.
     fn write(&mut self, place: Place, from: &[u8; 256]) -> Result<(), DeviceFault>
-        ensures writes { WritesSector (fuse D.history) self.old self.new place from.now device_fault result }
+        ensures device { WritesSector (fuse D.history) self.old self.new place from.now device_fault result }
         // a blown fuse writes nothing
         ensures spent { fuse_left self.old ≡ 0 → IsErr result × (fuse_disk self.new ≡ fuse_disk self.old) }
         // else the disk beneath answers

@@ -79,7 +79,7 @@ impl Sectors for MemDisk {
     #[tactic(auto, using(std::proofs::lemmas::List::get_or_read), unfolding(crate::specs::Images::sector))]
     fn read(&mut self, place: Place, to: &mut [u8; 256]) -> Result<(), DeviceFault>
         ensures never_fails { IsOk result }
-        ensures reads { ReadsSector memory self.old self.new place to.new device_fault result }
+        ensures device { ReadsSector memory self.old self.new place to.new device_fault result }
     {
         *to = self.sectors[place.index()];
         Ok(())
@@ -89,7 +89,7 @@ impl Sectors for MemDisk {
     #[tactic(auto, unfolding(crate::specs::Images::put))]
     fn write(&mut self, place: Place, from: &[u8; 256]) -> Result<(), DeviceFault>
         ensures never_fails { IsOk result }
-        ensures writes { WritesSector memory self.old self.new place from.now device_fault result }
+        ensures device { WritesSector memory self.old self.new place from.now device_fault result }
     {
         self.sectors[place.index()] = *from;
         Ok(())

@@ -1,7 +1,6 @@
 -- What a survey judges of relative files beyond their layout, and keeps back until the disk is seen to be sound.
 use Rattle.std.proofs.Common.{ℕ, ◌≡◌, ◌<◌, ◌≤◌, ◌+◌, Err, IsTrue, List, [], ◌∷◌, ◌++◌, length, sym, refl, arith, subst, inr}
 use Rattle.std.specs.Prelude.{None, Option, Some, slice_get}
-use Rattle.std.specs.List.{AllByRecursion}
 use Rattle.std.specs.Option.{option_or}
 use borrow.Author.Count.{below_more}
 use Rattle.std.proofs.lemmas.Option.{slice_get_within}
@@ -11,6 +10,7 @@ use Rattle.d64_image.specs.Images.{Image, sector}
 use Rattle.d64_image.specs.declared.place.Place.{Place}
 use Rattle.disk_layout.proofs.Count.{places-few}
 use Rattle.disk_layout.proofs.Exact.{exact-side}
+use Rattle.disk_layout.proofs.Lists.{all-push}
 use Rattle.disk_layout.proofs.Once.{Contains-here}
 use Rattle.disk_layout.specs.Directory.{map_place}
 use Rattle.disk_layout.specs.Fault.{HoldsOfClean, TellsFault}
@@ -72,11 +72,6 @@ judged-file img s blocks sides u owned None None rel walk many judged is = λ _.
 
 pub judged-at : (img now : Image) (f : File) (o : Option Fault) → now ≡ img → JudgesFile now f o → JudgesFile img f o
 judged-at img now f o same h = let P : Image → Type 0 = λ i. JudgesFile i f o in subst P same h
-
--- what holds of each, and of one more
-pub all-push : {X : Type 0} (P : X → Type 0) (xs : List X) (x : X) → AllByRecursion P xs → P x → AllByRecursion P (xs ++ x ∷ [])
-all-push P [] x h p = (p, tt)
-all-push P (y ∷ xs) x h p = (h.0, all-push P xs x h.1 p)
 
 -- one more file
 pub judged-more : (img : Image) (fs : List File) (g : File) (kept found : Option Fault) → JudgesFiles img fs kept → JudgesFile img g found → JudgesFiles img (fs ++ g ∷ []) (option_or kept found)

@@ -11,6 +11,7 @@ use Rattle.d64_image.specs.declared.place.Place.{Place}
 use Rattle.disk_layout.proofs.Agree.{IsLayout-put_map}
 use Rattle.disk_layout.specs.Directory.{map_place}
 use Rattle.disk_layout.specs.Fault.{TellsFault}
+use Rattle.disk_layout.specs.InOrder.{WritesOther}
 use Rattle.disk_layout.specs.Layout.{IsLayout, Layout}
 use Rattle.disk_layout.specs.declared.faults.Fault.{Fault}
 use Rattle.disk_layout.specs.declared.faults.Fault.TheVariants.{Device}
@@ -19,7 +20,6 @@ use Rattle.layout_check.proofs.Verdict.{map-right, unmarked-of}
 use Rattle.layout_check.specs.Exact.{HasMap}
 use Rattle.layout_check.specs.Marked.{IsRightMap, IsWrongMap}
 use Rattle.layout_check.specs.Mended.{IsMended, KeepsLayouts, Mends, TellsDevice}
-use Rattle.layout_check.specs.Recounted.{WritesOther}
 use Rattle.layout_check.specs.Survey.{IsToldBy}
 use Rattle.layout_check.specs.declared.outcome.Survey.{Survey}
 
@@ -77,11 +77,6 @@ module _ {D : Type 0} (S : History D) where
   pub if_device : (T : Type 0) (a b : D) (p : Place) (r : Result T Fault) → IfErr r (λ f. f ≡ Device p) → TellsFailure S a b r → OnErr r (S.failed_at b p) → TellsDevice S a b r
   if_device T a b p (Ok x) told tells there = tells
   if_device T a b p (Err f) told tells there = (tells, (p, told, there))
-
-  -- and is a call that tells a fault
-  pub device_fault : (T : Type 0) (a b : D) (r : Result T Fault) → TellsDevice S a b r → TellsFault S a b r
-  device_fault T a b (Ok x) tells = tells
-  device_fault T a b (Err f) (failed, (p, is, there)) = let P : Fault → Type 0 = λ x. TellsFault {T = T} S a b (Err x) in subst P (sym is) failed
 
   -- a write of other bytes than the sector had, which may have failed
   pub other_written : (T : Type 0) (a b : D) (p : Place) (had bytes : Sector) (r : Result T Fault) → had ≡ sector (S.image a) p → had ≢ bytes → OnOk r (S.image b ≡ put (S.image a) p bytes) → OnOk r (S.writes b ≤ S.writes a + 1) → OnErr r (S.writes b ≡ S.writes a) → WritesOther S a b p

@@ -11,6 +11,7 @@ use Rattle.d64_image.specs.Images.{Image}
 use Rattle.d64_image.specs.declared.place.Place.{Place}
 use Rattle.disk_layout.proofs.Count.{places-few}
 use Rattle.disk_layout.proofs.Layouts.{get-contains}
+use Rattle.disk_layout.proofs.Lists.{all-push}
 use Rattle.disk_layout.proofs.Once.{Contains-cases, Contains-nil, EachOnce-join, flat_map-in}
 use Rattle.disk_layout.proofs.Twice.{told-unsound}
 use Rattle.disk_layout.specs.Chain.{EachOnce}
@@ -23,7 +24,7 @@ use Rattle.layout_check.proofs.Calls.{holds_alone, passes_then, passes_weaker, t
 use Rattle.layout_check.proofs.Claims.{not_before}
 use Rattle.layout_check.proofs.Clashes.{clash-holds}
 use Rattle.layout_check.proofs.Finding.{contains_or_not}
-use Rattle.layout_check.proofs.Judged.{all-push, judged-at, judged-more}
+use Rattle.layout_check.proofs.Judged.{judged-at, judged-more}
 use Rattle.layout_check.proofs.Listed.{entries-once, entry-listed}
 use Rattle.layout_check.proofs.SideWalks.{get-push}
 use Rattle.layout_check.specs.Calls.{Passes, Tells}

@@ -10,20 +10,22 @@ use Rattle.d64_image.specs.Images.{Image, IsImage, Sector, put, sector}
 use Rattle.d64_image.specs.declared.place.Place.{Place}
 use Rattle.disk_layout.proofs.Directories.{directory-few}
 use Rattle.disk_layout.proofs.Layouts.{IsLayout-one, get-contains}
+use Rattle.disk_layout.proofs.Lists.{take-get}
 use Rattle.disk_layout.proofs.Once.{Contains-here, Contains-there}
+use Rattle.disk_layout.proofs.Orders.{made_none, made_then, once-next, over_first, over_none, over_one, over_then}
 use Rattle.disk_layout.specs.Chain.{EachOnce}
 use Rattle.disk_layout.specs.Directory.{IsDirectory, IsDirectoryPlace, map_place}
+use Rattle.disk_layout.specs.InOrder.{AreMade, GoesOver, WritesOther}
 use Rattle.disk_layout.specs.Layout.{IsLayout, IsSound, Layout}
 use Rattle.disk_layout.specs.declared.slot.Slot.{Slot}
 use Rattle.disk_layout.proofs.Recounts.{reread_layout}
-use Rattle.layout_check.proofs.Orders.{made_none, made_then, once-next, over_first, over_none, over_one, over_then, take-get}
 use Rattle.layout_check.proofs.Pointers.{read-there}
 use Rattle.layout_check.proofs.RightCounts.{all-counted, reread-layout, recount-mended, recount-none, recount-put, recount-then}
 use Rattle.layout_check.proofs.RightDirectory.{mended-made, right-counts, sector-made}
 use Rattle.layout_check.proofs.RightSlots.{counted-right}
 use Rattle.layout_check.proofs.Rights.{directory-once}
-use Rattle.layout_check.specs.InOrder.{AreMade, GoesOver, IsRight}
-use Rattle.layout_check.specs.Recounted.{AreCounted, AreRightIn, IsCountedAs, IsInDirectory, IsMendedAt, IsRecountOf, KeepsButCounts, OldOrMended, WritesOther}
+use Rattle.layout_check.specs.RepairOrder.{IsRight}
+use Rattle.layout_check.specs.Recounted.{AreCounted, AreRightIn, IsCountedAs, IsInDirectory, IsMendedAt, IsRecountOf, KeepsButCounts, OldOrMended}
 
 -- a directory has eighteen sectors at most
 places-on : (ps : List Place) → AllByRecursion (λ p. p.track ≡ 18) ps → ¬ (Contains ps map_place) → AllByRecursion IsDirectoryPlace ps

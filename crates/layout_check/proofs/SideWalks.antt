@@ -1,15 +1,14 @@
 -- The side sectors to which links lead, one after another.
-use Rattle.std.proofs.Common.{ℕ, zero, suc, ◌≡◌, ◌<◌, ◌≤◌, ◌+◌, ◌*◌, ◌/◌, ◌%◌, ◌⊎◌, min, List, [], ◌∷◌, ◌++◌, Option, length, length-append, sym, ◌∙◌, ap, refl, arith, subst, inl, inr, get_or}
-use Rattle.std.specs.Prelude.{MatchOption, Some, slice_get}
+use Rattle.std.proofs.Common.{ℕ, zero, suc, ◌≡◌, ◌<◌, ◌≤◌, ◌+◌, ◌*◌, ◌/◌, ◌%◌, ◌⊎◌, min, List, [], ◌∷◌, ◌++◌, length, length-append, sym, ◌∙◌, ap, refl, arith, subst, inl, inr, get_or}
+use Rattle.std.specs.Prelude.{Some, slice_get}
 use Rattle.std.proofs.lemmas.Option.{slice_get_within}
 use Rattle.d64_image.specs.Images.{Image, sector}
 use Rattle.d64_image.specs.declared.place.Place.{Place}
-use Rattle.disk_layout.specs.Chain.{Leads, LinksTo, Names, NamesNone, named_at}
+use Rattle.disk_layout.specs.Chain.{Leads, LinksTo, Names, NamesNone}
 use Rattle.disk_layout.specs.Fault.{Holds, IsBadSide, IsSideSector, length_byte, link, listed, number, pointer}
 use Rattle.disk_layout.specs.Layout.{sides_for}
 use Rattle.disk_layout.specs.declared.faults.Fault.TheVariants.{BadSide}
 use Rattle.disk_layout.specs.declared.slot.Slot.{Slot}
-use Rattle.layout_check.proofs.Entries.{named}
 use Rattle.layout_check.proofs.Pointers.{read-there}
 use Rattle.layout_check.specs.Sides.{IsJudged, IsMisjudged, IsMisnamed, IsRelEntry, IsWalkOfSides, NamesEach}
 
@@ -75,10 +74,6 @@ bad-holds failed img s blocks j p e side bad = inr (s.sector, s, e.closed, e.rel
 
 pub judged-at : (img : Image) (s : Slot) (blocks : List Place) (j : ℕ) (p : Place) (bytes : List ℕ) → bytes ≡ sector img p → IsJudged bytes s blocks j → IsJudged (sector img p) s blocks j
 judged-at img s blocks j p bytes e h = let P : List ℕ → Type 0 = λ b. IsJudged b s blocks j in subst P e h
-
--- the next side sector that a view of these bytes gives
-pub next-named : (bytes viewed : List ℕ) (next : Option Place) → viewed ≡ bytes → next ≡ named_at viewed 0 → MatchOption next (NamesNone bytes 0) (λ p. Names bytes 0 p)
-next-named bytes viewed next same e = rw (e, same) (named _ _)
 
 pub linked-at : (img : Image) (p q : Place) (bytes : List ℕ) → bytes ≡ sector img p → Names bytes 0 q → LinksTo img p q
 linked-at img p q bytes e h = let P : List ℕ → Type 0 = λ b. Names b 0 q in subst P e h

@@ -3,17 +3,16 @@ ghost use Rattle.std.specs.Prelude.{◌≡◌, ◌≤◌, ◌∷◌, [], Contain
 ghost use Rattle.d64_image.specs.History.{Changes, OldOr, WritesNothing};
 ghost use Rattle.d64_image.specs.Images.{put, sector};
 ghost use Rattle.disk_layout.specs.Free.{IsWithoutFree};
+ghost use Rattle.disk_layout.specs.InOrder.{AreMade, GoesOver, WritesOther};
 ghost use Rattle.layout_check.specs.Made.{IsMadeMap, IsMadeTrack};
 ghost use Rattle.disk_layout.specs.Directory.{map_place};
 ghost use Rattle.disk_layout.specs.Layout.{File, IsLayout, IsSound, Layout, is_rel};
 ghost use Rattle.layout_check.specs.Entry.{IsEntry};
 ghost use Rattle.layout_check.specs.Exact.{AreExactSides, HasMap, IsFiled};
-ghost use Rattle.layout_check.specs.InOrder.{AreMade, ClearsSpare, GoesOver, IsRight, sides_of};
+ghost use Rattle.layout_check.specs.RepairOrder.{ClearsSpare, IsRight, sides_of};
 ghost use Rattle.layout_check.specs.Mended.{AreExactFor, IsExactFor, IsPartsOf, KeepsExact, KeepsLayouts, Mends, SameMap, TellsDevice};
-ghost use Rattle.layout_check.specs.Recounted.{WritesOther};
 ghost use Rattle.layout_check.specs.Survey.{IsToldBy};
 
-use crate::entry::is_relative;
 use crate::maps::check_bits;
 use crate::outcome::Survey;
 use crate::owners::Owners;
@@ -178,7 +177,7 @@ pub fn mend_entries<D: Sectors>(disk: &mut D) -> Result<(), Fault>
     let mut sides = ArrayVec::new();
     read_directory(disk, &mut slots)?;
     for slot in slots.as_slice() {
-        if is_relative(slot) {
+        if EntryView::new(&slot.bytes).is_relative() {
             mend_relative(disk, slot, &mut blocks, &mut sides)?;
         }
     }

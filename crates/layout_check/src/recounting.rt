@@ -4,33 +4,21 @@ ghost use Rattle.d64_image.specs.History.{Changes, WritesNothing};
 ghost use Rattle.d64_image.specs.Images.{sector};
 ghost use Rattle.disk_layout.specs.Directory.{IsDirectory, slot_in};
 ghost use Rattle.disk_layout.specs.Entries.{IsRecounted};
-ghost use Rattle.disk_layout.specs.Layout.{IsLayout, IsSound, Layout, count_field, is_rel};
+ghost use Rattle.disk_layout.specs.InOrder.{AreMade, GoesOver, WritesOther};
+ghost use Rattle.disk_layout.specs.Layout.{IsLayout, IsSound, Layout, is_rel};
 ghost use Rattle.disk_layout.specs.declared.slot.Slot.{Slot};
 ghost use Rattle.d64_image.specs.declared.place.Place.{Place};
 ghost use Rattle.layout_check.specs.Calls.{Passes, Tells};
 ghost use Rattle.layout_check.specs.Entry.{IsEntry};
-ghost use Rattle.layout_check.specs.InOrder.{AreMade, GoesOver, IsRight};
+ghost use Rattle.layout_check.specs.RepairOrder.{IsRight};
 ghost use Rattle.layout_check.specs.Mended.{TellsDevice};
-ghost use Rattle.layout_check.specs.Recounted.{AreCounted, AreRightIn, IsCountOf, IsCountedAs, IsInDirectory, IsRightAt, KeepsButCounts, OldOrMended, WritesOther};
+ghost use Rattle.layout_check.specs.Recounted.{AreCounted, AreRightIn, IsCountOf, IsCountedAs, IsInDirectory, IsRightAt, KeepsButCounts, OldOrMended};
 
-use crate::entry::is_relative;
 use crate::mending::write_other;
 use crate::sides::find_parts;
 use arrayvec::ArrayVec;
-use byteorder::{ByteOrder, LittleEndian};
 use d64_image::{Place, Sectors};
-use disk_layout::{Fault, Slot, directory_start, read_sector, walk_chain};
-
-/// Puts a block count into the slot with this number, low byte first.
-fn put_count(bytes: &mut [u8; 256], number: u8, count: u16)
-    requires { number < 8 }
-    ensures count { (p : Place) → count_field (slot_in p bytes.new number) ≡ count }
-    ensures rest { IsRecounted bytes.old bytes.new number }
-    ensures kept { (p : Place) → count_field (slot_in p bytes.old number) ≡ count → bytes.new ≡ bytes.old }
-{
-    let at = 32 * number as usize + 30;
-    LittleEndian::write_u16(&mut bytes[at..at + 2], count);
-}
+use disk_layout::{EntryView, Fault, Slot, directory_start, put_count, read_sector, walk_chain};
 
 /// How many sectors a relative entry of a sound disk owns: its data blocks and its side sectors. `blocks` and `sides` are
 /// emptied, and filled with these.
@@ -72,7 +60,7 @@ fn recount_slot<D: Sectors>(
     ensures err { IfErr result (Tells D.history disk.old disk.new 732) }
 {
     let slot = Slot::in_sector(bytes, place, number);
-    if !is_relative(&slot) {
+    if !EntryView::new(&slot.bytes).is_relative() {
         return Ok(());
     }
     let count = count_owned(disk, &slot, blocks, sides)?;

@@ -1,7 +1,7 @@
 //! Worked scripts, each with the replies that it must have.
 use crate::dry_run::dry;
 use crate::table::Table;
-use request_cards::{Answer, Kind, Till, Wish};
+use request_cards::{Answer, Kind, Reply, Till, Wish, Word};
 use std::test::Fail;
 
 /// What a script shows, the script, and its replies.
@@ -89,40 +89,55 @@ fn scripts_have_their_replies(rt: HostRuntime) -> Result<(), Fail> {
     Ok(())
 }
 
-/// Replies that are lost, late and repeated: the till hears each answer once.
-#[test]
-fn a_till_hears_each_answer_once(rt: HostRuntime) -> Result<(), Fail> {
-    let mut shop = Table::new();
+/// The reply to the till's message, if it asks.
+fn reply_to(shop: &mut Table, till: &Till) -> Reply {
+    match till.ask() {
+        Some(message) => shop.reply(message.as_slice()),
+        None => Reply::Cut,
+    }
+}
+
+/// A till's run in which one reply is lost and comes late, and an old message comes twice more: what the
+/// till hears each time, and the last reply.
+fn a_run(shop: &mut Table) -> Option<([Option<Answer>; 6], Reply)> {
     let mut till = Till::new(1, 0);
-    assert!(rt; till.wish(Wish::new(Kind::Set, 42, 120, None).ok_or("no wish")?));
-    let set = till.ask().ok_or("nothing asked")?;
-    assert_eq!(rt; set.as_slice(), b"1,1,S,42,120".as_slice());
-    let lost = shop.reply(set.as_slice());
-    let again = till.ask().ok_or("nothing asked again")?;
-    let second = shop.reply(again.as_slice());
-    assert_eq!(rt; till.hear(&second), Some(Answer::Done(120)));
-    assert_eq!(rt; till.hear(&lost), None, "the lost reply comes late");
-    assert!(rt; till.wish(Wish::new(Kind::Receive, 42, 5, None).ok_or("no wish")?));
-    let old = shop.reply(set.as_slice());
-    assert_eq!(rt; old.print().as_slice(), b"1,1,DONE,120".as_slice());
-    assert_eq!(rt; till.hear(&old), None, "an old answer, with a wish open");
-    let receive = till.ask().ok_or("nothing asked of the second wish")?;
-    let third = shop.reply(receive.as_slice());
-    assert_eq!(rt; third.print().as_slice(), b"1,2,DONE,125".as_slice());
-    assert_eq!(rt; till.hear(&third), Some(Answer::Done(125)));
-    let late = shop.reply(set.as_slice());
-    assert_eq!(rt; late.print().as_slice(), b"1,1,DONE,120".as_slice());
-    assert_eq!(rt; till.hear(&late), None, "an old answer, with no wish open");
-    Ok(())
+    till.wish(Wish::new(Kind::Set, 42, 120, None)?);
+    let lost = reply_to(shop, &till);
+    let second = reply_to(shop, &till);
+    let heard = till.hear(&second);
+    let late = till.hear(&lost);
+    till.wish(Wish::new(Kind::Receive, 42, 5, None)?);
+    let old = shop.reply(b"1,1,S,42,120");
+    let with_a_wish = till.hear(&old);
+    let third = reply_to(shop, &till);
+    let next = till.hear(&third);
+    let again = till.hear(&third);
+    let last = shop.reply(b"1,1,S,42,120");
+    let at_last = till.hear(&last);
+    Some(([heard, late, with_a_wish, next, again, at_last], last))
 }
 
 #[test]
-fn a_till_without_numbers_wishes_nothing(rt: HostRuntime) -> Result<(), Fail> {
+fn a_till_hears_each_answer_once(rt: HostRuntime) {
+    let heard = [
+        Some(Answer::Done(120)),
+        None,
+        None,
+        Some(Answer::Done(125)),
+        None,
+        None,
+    ];
+    let last = Reply::Told {
+        till: 1,
+        number: 1,
+        word: Word::Kept(Answer::Done(120)),
+    };
+    assert_eq!(rt; a_run(&mut Table::new()), Some((heard, last)));
+}
+
+#[test]
+fn a_till_without_numbers_wishes_nothing(rt: HostRuntime) {
     let mut till = Till::new(1, 999_999_999);
-    for item in 1..=3 {
-        let wish = Wish::new(Kind::Set, item, 0, None).ok_or("no wish")?;
-        assert!(rt; !till.wish(wish), "no number is left");
-        assert!(rt; till.ask().is_none(), "nothing is asked");
-    }
-    Ok(())
+    let opened = Wish::new(Kind::Set, 1, 0, None).map(|wish| till.wish(wish));
+    assert_eq!(rt; opened, Some(false));
 }

@@ -1,5 +1,5 @@
 -- Entry by entry of the directory.
-use Rattle.std.proofs.Common.{Err, List, [], false, ◌≡◌, ◌+◌, ap, arith, refl, sym, subst, ◌∙◌}
+use Rattle.std.proofs.Common.{Err, List, [], ap, arith, false, refl, slice_index, subst, sym, ℕ, ◌+◌, ◌∙◌, ◌≡◌}
 use Rattle.std.proofs.lemmas.Bool.{false≢true}
 use borrow.Author.Count.{below_more}
 use Rattle.std.proofs.lemmas.Result.{err_from_is_err_and}
@@ -7,17 +7,18 @@ use Rattle.d64_image.proofs.Moments.{no_write_then, reads_no_write}
 use Rattle.d64_image.specs.Images.{Image, sector}
 use Rattle.d64_image.specs.declared.place.Place.{Place}
 use Rattle.disk_layout.proofs.Layouts.{get-contains}
+use Rattle.disk_layout.proofs.Orders.{made_none, over_none}
 use Rattle.disk_layout.specs.Directory.{map_place}
-use Rattle.disk_layout.specs.Layout.{IsLayout, Layout, is_rel}
+use Rattle.disk_layout.specs.InOrder.{AreMade, GoesOver}
+use Rattle.disk_layout.specs.Layout.{IsLayout, Layout, is_rel, is_rel_type}
 use Rattle.layout_check.proofs.EntryMends.{entry-filed, exact-entries, exact-kept, exact-made, exact-read, exact-same, filed-kept}
 use Rattle.layout_check.proofs.MapMends.{device_later, mends_read, mends_then, mends_weaker}
-use Rattle.layout_check.proofs.Orders.{made_none, over_none}
 use Rattle.layout_check.proofs.Progress.{listed-as}
 use Rattle.layout_check.proofs.RightSides.{file-at, file_made, file_over, over_files, plain-sides, sides-all, sides-past}
 use Rattle.layout_check.proofs.Roots.{directory-tells}
 use Rattle.layout_check.proofs.SideMends.{sound-device}
 use Rattle.layout_check.proofs.Verdict.{filed-at}
-use Rattle.layout_check.specs.InOrder.{AreMade, GoesOver, IsRight, sides_of}
+use Rattle.layout_check.specs.RepairOrder.{IsRight, sides_of}
 use Rattle.layout_check.proofs.mending.mend_entries.Goals as goal
 use Rattle.layout_check.proofs.mending.mend_entries.Goals.{then-is_relative+in_ok-mend_relative, else-is_relative}
 
@@ -96,7 +97,7 @@ loop-slot-preserved g c =
     let file = λ (l : Layout) (h : IsLayout (S.image a) l). file-at (S.image a) l d.0 items n c.slot-item.result h (listed-as _ d.0 c.read_directory.new.slots.items items c.as_slice-slot-items.ensures.value d.1) c.loop-slot-test.true c.slot-item.is in
     let plain = λ (l : Layout) (h : IsLayout (S.image a) l) (e : c.is_relative.result ≡ false).
     let (f, there, slot) = file l h in
-    sides-past l.files n f there (plain-sides (S.image a) l f h (get-contains l.files n f there) (ap is_rel slot ∙ sym c.is_relative.ensures ∙ e)) in
+    sides-past l.files n f there (plain-sides (S.image a) l f h (get-contains l.files n f there) (ap is_rel slot ∙ sym (c.is_relative.ensures ∙ ap (λ (bs : List ℕ). is_rel_type (slice_index bs 2)) c.new.ensures) ∙ e)) in
     elim c.if-is_relative.branch [
       | then-is_relative+in_ok-mend_relative w ↦
           let done = w.in_ok-mend_relative.ensures in
@@ -116,7 +117,7 @@ loop-slot-preserved g c =
         layouts = rw w.disk-is old.layouts;
         map = rw w.disk-is old.map;
         exact = rw w.disk-is (below_more _ _ old.exact
-            (exact-read _ _ items c.loop-slot.slot-index c.slot-item.result c.loop-slot-test.true c.slot-item.is (λ rel. absurd (false≢true (sym w.if-is_relative.false ∙ c.is_relative.ensures ∙ rel)))));
+            (exact-read _ _ items c.loop-slot.slot-index c.slot-item.result c.loop-slot-test.true c.slot-item.is (λ rel. absurd (false≢true (sym w.if-is_relative.false ∙ (c.is_relative.ensures ∙ ap (λ (bs : List ℕ). is_rel_type (slice_index bs 2)) c.new.ensures) ∙ rel)))));
         mends = rw w.disk-is (mends_weaker S a b _ _ (omega arith) old.mends);
         over = rw w.disk-is (λ l h. let P : List Place → Type 0 = GoesOver S a b (IsRight l) in subst P (plain l h w.if-is_relative.false) (old.over l h));
         made = rw w.disk-is (λ l h. let P : List Place → Type 0 = λ xs. AreMade (IsRight l) xs (S.image a) (S.image b) in subst P (plain l h w.if-is_relative.false) (old.made l h));

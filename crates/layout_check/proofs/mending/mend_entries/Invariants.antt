@@ -1,9 +1,10 @@
 use Rattle.std.proofs.Common.{ℕ, ◌≡◌, ◌<◌, ◌*◌, IsTrue}
 use Rattle.std.specs.Prelude.{Some, slice_get, take}
 use Rattle.d64_image.specs.History.{WritesNothing}
+use Rattle.disk_layout.specs.InOrder.{AreMade, GoesOver}
 use Rattle.disk_layout.specs.Layout.{IsLayout, Layout, is_rel}
 use Rattle.disk_layout.specs.declared.slot.Slot.{Slot}
-use Rattle.layout_check.specs.InOrder.{AreMade, GoesOver, IsRight, sides_of}
+use Rattle.layout_check.specs.RepairOrder.{IsRight, sides_of}
 use Rattle.layout_check.specs.Mended.{AreExactFor, IsExactFor, KeepsLayouts, Mends, SameMap}
 use Rattle.layout_check.proofs.mending.mend_entries.Given as goal
 

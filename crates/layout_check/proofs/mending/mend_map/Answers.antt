@@ -4,16 +4,17 @@ use Rattle.std.proofs.lemmas.Result.{err_from_is_err_and}
 use Rattle.d64_image.proofs.Moments.{reads_no_write}
 use Rattle.d64_image.specs.Images.{Image, sector}
 use Rattle.d64_image.specs.declared.place.Place.{Place}
+use Rattle.disk_layout.proofs.Orders.{over_none}
 use Rattle.disk_layout.specs.Directory.{map_place}
+use Rattle.disk_layout.specs.InOrder.{AreMade}
 use Rattle.disk_layout.specs.Layout.{IsLayout}
 use Rattle.layout_check.proofs.Finding.{on_ok}
 use Rattle.layout_check.proofs.MapMends.{device_later, device_told, err-holds, layouts-put, map-put, mends_read, mends_write, ok-holds, right-map, written}
 use Rattle.layout_check.proofs.Mendings.{mended-map}
-use Rattle.layout_check.proofs.Orders.{over_none}
 use Rattle.layout_check.proofs.RightMap.{changed_written, made-passed, made-written, over_read_write}
 use Rattle.layout_check.proofs.Verdict.{map-right, told-at}
 use Rattle.layout_check.specs.Exact.{HasMap}
-use Rattle.layout_check.specs.InOrder.{AreMade, IsRight}
+use Rattle.layout_check.specs.RepairOrder.{IsRight}
 use Rattle.layout_check.specs.Made.{HasNoSpare}
 use Rattle.layout_check.specs.Mended.{KeepsLayouts}
 use Rattle.layout_check.proofs.mending.mend_map.Goals as goal

@@ -6,13 +6,14 @@ use Rattle.std.proofs.lemmas.Result.{err_from_is_err_and}
 use Rattle.d64_image.proofs.Moments.{no_change, no_reads, no_write, no_write_then, reads_no_write}
 use Rattle.d64_image.specs.Images.{Image, put, sector}
 use Rattle.d64_image.specs.declared.place.Place.{Place}
+use Rattle.disk_layout.proofs.Orders.{made_none, over_first, over_left, over_none}
+use Rattle.disk_layout.specs.InOrder.{AreMade}
 use Rattle.layout_check.proofs.MapMends.{device_later, device_told, mends_read, mends_then, mends_weaker}
-use Rattle.layout_check.proofs.Orders.{made_none, over_first, over_left, over_none}
 use Rattle.layout_check.proofs.Pointers.{read-there}
 use Rattle.layout_check.proofs.RightSides.{parts-once, side_made, side_over}
 use Rattle.layout_check.proofs.SideMends.{after-side, exact-more, exact-others, side-layouts, side-map, side_mends, side_right}
 use Rattle.layout_check.specs.Exact.{IsExactSide}
-use Rattle.layout_check.specs.InOrder.{AreMade, IsRight}
+use Rattle.layout_check.specs.RepairOrder.{IsRight}
 use Rattle.layout_check.specs.Mended.{KeepsExact, KeepsLayouts, SameMap}
 use Rattle.layout_check.proofs.mending.mend_sides.Goals as goal
 

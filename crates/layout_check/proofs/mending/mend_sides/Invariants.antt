@@ -2,9 +2,10 @@ use Rattle.std.proofs.Common.{ℕ, ◌≡◌, ◌<◌}
 use Rattle.std.specs.Prelude.{Some, slice_get, take}
 use Rattle.d64_image.specs.History.{WritesNothing}
 use Rattle.d64_image.specs.declared.place.Place.{Place}
+use Rattle.disk_layout.specs.InOrder.{AreMade, GoesOver}
 use Rattle.disk_layout.specs.Layout.{IsLayout, Layout}
 use Rattle.layout_check.specs.Exact.{AreExactSides, IsExactSide}
-use Rattle.layout_check.specs.InOrder.{AreMade, GoesOver, IsRight}
+use Rattle.layout_check.specs.RepairOrder.{IsRight}
 use Rattle.layout_check.specs.Mended.{KeepsExact, KeepsLayouts, Mends, SameMap}
 use Rattle.layout_check.proofs.mending.mend_sides.Given as goal
 

@@ -3,13 +3,13 @@ use Rattle.std.proofs.Common.{Err, ap, arith, ◌∙◌, ◌+◌, ◌≡◌}
 use Rattle.std.proofs.lemmas.Result.{err_from_is_err_and}
 use Rattle.d64_image.proofs.Moments.{at_end, reads_no_write}
 use Rattle.disk_layout.proofs.Layouts.{IsLayout-one, get-contains}
+use Rattle.disk_layout.proofs.Orders.{over_none}
 use Rattle.disk_layout.specs.Layout.{IsLayout, Layout}
 use Rattle.layout_check.proofs.MapMends.{device_later}
-use Rattle.layout_check.proofs.Orders.{over_none}
 use Rattle.layout_check.proofs.Pointers.{read-there}
 use Rattle.layout_check.proofs.RightWrites.{all_moments, counted-of, few-of, first_moments, in-of, made_directory, made_start, made_step, over_directory, over_start, over_step, sound-of, step_moments, step_quiet}
 use Rattle.layout_check.proofs.SideMends.{sound-device}
-use Rattle.layout_check.specs.InOrder.{IsRight}
+use Rattle.layout_check.specs.RepairOrder.{IsRight}
 use Rattle.layout_check.specs.Recounted.{IsRecountOf}
 use Rattle.layout_check.proofs.recounting.mend_counts.Goals as goal
 

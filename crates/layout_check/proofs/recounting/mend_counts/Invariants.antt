@@ -1,8 +1,9 @@
 -- The sectors so far were gone over, and the image differs in counts alone.
 use Rattle.std.proofs.Common.{◌≡◌, take}
 use Rattle.d64_image.specs.History.{Changes, WritesNothing}
+use Rattle.disk_layout.specs.InOrder.{AreMade, GoesOver}
 use Rattle.disk_layout.specs.Layout.{IsLayout, Layout}
-use Rattle.layout_check.specs.InOrder.{AreMade, GoesOver, IsRight}
+use Rattle.layout_check.specs.RepairOrder.{IsRight}
 use Rattle.layout_check.specs.Recounted.{AreCounted, IsRecountOf}
 use Rattle.layout_check.proofs.recounting.mend_counts.Given as goal
 

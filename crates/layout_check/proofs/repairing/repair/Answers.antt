@@ -1,7 +1,7 @@
 -- The survey, then what is to be mended.
 use Rattle.d64_image.proofs.Moments.{no_write_then, reads_no_write}
-use Rattle.layout_check.specs.InOrder.{IsRight, repair_order}
-use Rattle.layout_check.proofs.Orders.{over_none}
+use Rattle.disk_layout.proofs.Orders.{over_none}
+use Rattle.layout_check.specs.RepairOrder.{IsRight, repair_order}
 use Rattle.layout_check.proofs.RepairOrder.{order_after, spare_after}
 use Rattle.layout_check.proofs.RepairRuns.{clean_after, mends_after}
 use Rattle.layout_check.proofs.repairing.repair.Goals as goal
