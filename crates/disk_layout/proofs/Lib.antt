@@ -35,6 +35,7 @@ pub mod NewSide
 pub mod Once
 pub mod Orders
 pub mod Others
+pub mod OtherWrites
 pub mod Picking
 pub mod Pieces
 pub mod RecordWrites

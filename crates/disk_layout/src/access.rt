@@ -1,5 +1,9 @@
 //! Sectors read and written by calls of the layout: a device's failure is told as a fault of the sector.
+ghost use Rattle.std.specs.Prelude.{◌≡◌};
 ghost use Rattle.d64_image.specs.Calls.{ReadsSector, WritesSector};
+ghost use Rattle.d64_image.specs.History.{WritesNothing};
+ghost use Rattle.d64_image.specs.Images.{sector};
+ghost use Rattle.disk_layout.specs.InOrder.{WritesOther};
 ghost use Rattle.disk_layout.specs.declared.faults.Fault.TheVariants.{Device};
 
 use crate::faults::Fault;
@@ -23,4 +27,23 @@ pub fn write_sector<D: Sectors>(disk: &mut D, place: Place, from: &[u8; 256]) ->
     ensures { WritesSector D.history disk.old disk.new place from.now (Device place) result }
 {
     disk.write(place, from).map_err(|_| Fault::Device(place))
+}
+
+/// Writes a sector, as `write_sector` does, where its bytes are others than those that it has, which are handed in.
+pub fn write_other<D: Sectors>(
+    disk: &mut D,
+    place: Place,
+    had: &[u8; 256],
+    wanted: &[u8; 256],
+) -> Result<(), Fault>
+    requires { had.now ≡ sector (D.history.image disk.old) place }
+    ensures write { WritesSector D.history disk.old disk.new place wanted.now (Device place) result }
+    ensures once { WritesOther D.history disk.old disk.new place }
+    // a sector that is right is not written
+    ensures quiet { had.now ≡ wanted.now → WritesNothing D.history disk.old disk.new }
+{
+    if had == wanted {
+        return Ok(());
+    }
+    write_sector(disk, place, wanted)
 }

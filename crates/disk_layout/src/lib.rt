@@ -26,7 +26,7 @@ mod slot;
 mod views;
 mod visited;
 
-pub use access::{read_sector, write_sector};
+pub use access::{read_sector, write_other, write_sector};
 pub use bam::Bam;
 pub use blank::blank_image;
 pub use chain::walk_chain;

@@ -31,12 +31,6 @@ same-bytes xs ys r is off = step (bytes_eq xs ys) refl
     step true e = (bytes_eq-Decides xs ys).0 e
     step false e = absurd (false≢true (sym off ∙ is ∙ ap not e))
 
-pub equal-bytes : (xs ys : List ℕ) (r : Bool) → r ≡ bytes_eq xs ys → r ≡ true → xs ≡ ys
-equal-bytes xs ys r is on = (bytes_eq-Decides xs ys).0 (sym is ∙ on)
-
-pub other-bytes : (xs ys : List ℕ) (r : Bool) → r ≡ not (bytes_eq xs ys) → r ≡ true → xs ≢ ys
-other-bytes xs ys r is on e = false≢true (sym (ap not ((bytes_eq-Decides xs ys).1 e)) ∙ sym is ∙ on)
-
 -- the side sector that was read
 pub exact-here : (img : Image) (s : Slot) (blocks sides : List Place) (j : ℕ) (p : Place) → j < length sides → p ≡ get_or sides j p → IsExactSide img s blocks sides j p → (q : Place) → slice_get sides j ≡ Some q → IsExactSide img s blocks sides j q
 exact-here img s blocks sides j p below read h q there =

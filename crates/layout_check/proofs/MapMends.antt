@@ -8,6 +8,7 @@ use Rattle.d64_image.proofs.Moments.{at_end, changes_then, changes_weaker, faile
 use Rattle.d64_image.specs.History.{Changes, Failed, History, OldOr, OnlyReads, TellsFailure}
 use Rattle.d64_image.specs.Images.{Image, Sector, put, sector}
 use Rattle.d64_image.specs.declared.place.Place.{Place}
+use Rattle.d64_image.specs.Calls.{WritesSector}
 use Rattle.disk_layout.proofs.Agree.{IsLayout-put_map}
 use Rattle.disk_layout.specs.Directory.{map_place}
 use Rattle.disk_layout.specs.Fault.{TellsFault}
@@ -15,7 +16,6 @@ use Rattle.disk_layout.specs.InOrder.{WritesOther}
 use Rattle.disk_layout.specs.Layout.{IsLayout, Layout}
 use Rattle.disk_layout.specs.declared.faults.Fault.{Fault}
 use Rattle.disk_layout.specs.declared.faults.Fault.TheVariants.{Device}
-use Rattle.layout_check.proofs.Mendings.{put-changed}
 use Rattle.layout_check.proofs.Verdict.{map-right, unmarked-of}
 use Rattle.layout_check.specs.Exact.{HasMap}
 use Rattle.layout_check.specs.Marked.{IsRightMap, IsWrongMap}
@@ -78,10 +78,9 @@ module _ {D : Type 0} (S : History D) where
   if_device T a b p (Ok x) told tells there = tells
   if_device T a b p (Err f) told tells there = (tells, (p, told, there))
 
-  -- a write of other bytes than the sector had, which may have failed
-  pub other_written : (T : Type 0) (a b : D) (p : Place) (had bytes : Sector) (r : Result T Fault) → had ≡ sector (S.image a) p → had ≢ bytes → OnOk r (S.image b ≡ put (S.image a) p bytes) → OnOk r (S.writes b ≤ S.writes a + 1) → OnErr r (S.writes b ≡ S.writes a) → WritesOther S a b p
-  other_written T a b p had bytes (Ok x) read other is counted none = inr (put-changed (S.image a) (S.image b) p had bytes (S.whole a).size read other is, counted)
-  other_written T a b p had bytes (Err f) read other is counted none = inl none
+  -- as a write does
+  pub write_device : (T : Type 0) (a b : D) (p : Place) (bytes : Sector) (r : Result T Fault) → WritesSector S a b p bytes (Device p) r → TellsDevice S a b r
+  write_device T a b p bytes r w = if_device T a b p r w.told w.failures w.failed
 
   pub mends_weaker : (a b : D) (m n : ℕ) → m ≤ n → Mends S a b m → Mends S a b n
   mends_weaker a b m n le h i l is = changes_weaker S a b m n (IsMended i l) (IsMended i l) le (λ c x. x) (h i l is)

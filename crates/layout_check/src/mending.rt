@@ -20,7 +20,7 @@ use crate::sides::find_parts;
 use arrayvec::ArrayVec;
 use d64_image::{Place, Sectors};
 use disk_layout::{
-    Bam, EntryView, Fault, Slot, map_place, read_directory, read_sector, side_bytes, write_sector,
+    Bam, EntryView, Fault, Slot, map_place, read_directory, read_sector, side_bytes, write_other,
 };
 
 /// Frees the sectors of a track that nobody owns, where none was free.
@@ -49,27 +49,6 @@ pub fn map_of(old: &[u8; 256], owners: &Owners) -> [u8; 256]
         free_track(&mut map, owners, track);
     }
     map.bytes
-}
-
-/// Writes a sector where its bytes are others than those that it has.
-pub(crate) fn write_other<D: Sectors>(
-    disk: &mut D,
-    place: Place,
-    had: &[u8; 256],
-    wanted: &[u8; 256],
-) -> Result<(), Fault>
-    requires { had.now ≡ sector (D.history.image disk.old) place }
-    ensures ok { OnOk result (D.history.image disk.new ≡ put (D.history.image disk.old) place wanted.now) }
-    ensures failures { TellsDevice D.history disk.old disk.new result }
-    ensures held { Changes D.history disk.old disk.new 1 (OldOr (D.history.image disk.old) (put (D.history.image disk.old) place wanted.now)) }
-    ensures once { WritesOther D.history disk.old disk.new place }
-    // a sector that is right is not written
-    ensures quiet { had.now ≡ wanted.now → WritesNothing D.history disk.old disk.new }
-{
-    if had == wanted {
-        return Ok(());
-    }
-    write_sector(disk, place, wanted)
 }
 
 /// Gives a sound disk that was surveyed the map that it is to have, where it has another.

@@ -14,11 +14,12 @@ ghost use Rattle.layout_check.specs.RepairOrder.{IsRight};
 ghost use Rattle.layout_check.specs.Mended.{TellsDevice};
 ghost use Rattle.layout_check.specs.Recounted.{AreCounted, AreRightIn, IsCountOf, IsCountedAs, IsInDirectory, IsRightAt, KeepsButCounts, OldOrMended};
 
-use crate::mending::write_other;
 use crate::sides::find_parts;
 use arrayvec::ArrayVec;
 use d64_image::{Place, Sectors};
-use disk_layout::{EntryView, Fault, Slot, directory_start, put_count, read_sector, walk_chain};
+use disk_layout::{
+    EntryView, Fault, Slot, directory_start, put_count, read_sector, walk_chain, write_other,
+};
 
 /// How many sectors a relative entry of a sound disk owns: its data blocks and its side sectors. `blocks` and `sides` are
 /// emptied, and filled with these.

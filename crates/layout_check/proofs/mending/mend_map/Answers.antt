@@ -5,11 +5,12 @@ use Rattle.d64_image.proofs.Moments.{reads_no_write}
 use Rattle.d64_image.specs.Images.{Image, sector}
 use Rattle.d64_image.specs.declared.place.Place.{Place}
 use Rattle.disk_layout.proofs.Orders.{over_none}
+use Rattle.disk_layout.proofs.OtherWrites.{write_changes}
 use Rattle.disk_layout.specs.Directory.{map_place}
 use Rattle.disk_layout.specs.InOrder.{AreMade}
 use Rattle.disk_layout.specs.Layout.{IsLayout}
 use Rattle.layout_check.proofs.Finding.{on_ok}
-use Rattle.layout_check.proofs.MapMends.{device_later, device_told, err-holds, layouts-put, map-put, mends_read, mends_write, ok-holds, right-map, written}
+use Rattle.layout_check.proofs.MapMends.{device_later, device_told, err-holds, layouts-put, map-put, mends_read, mends_write, ok-holds, right-map, write_device, written}
 use Rattle.layout_check.proofs.Mendings.{mended-map}
 use Rattle.layout_check.proofs.RightMap.{changed_written, made-passed, made-written, over_read_write}
 use Rattle.layout_check.proofs.Verdict.{map-right, told-at}
@@ -54,21 +55,21 @@ pub returns-clause-map : goal.returns-clause-map
 returns-clause-map g c =
     let S = g.D.Sectors.history in
     let same = c.in_ok-read_sector.ensures.reads.image in
-    on_ok c.write_other.result _ _ (λ h. written HasMap _ (S.image c.read_sector.new.disk) c.map_place-2.result c.map_of-wanted.result h c.map_place-2.ensures (map-put (S.image c.read_sector.new.disk) c.args.found.now c.map_of-wanted.result (S.whole c.read_sector.new.disk).size (told-at _ _ c.args.found.now same c.requires) (rw (← c.owners-2.ensures) c.map_of-wanted.ensures.right))) c.write_other.ensures.ok
+    on_ok c.write_other.result _ _ (λ h. written HasMap _ (S.image c.read_sector.new.disk) c.map_place-2.result c.map_of-wanted.result h c.map_place-2.ensures (map-put (S.image c.read_sector.new.disk) c.args.found.now c.map_of-wanted.result (S.whole c.read_sector.new.disk).size (told-at _ _ c.args.found.now same c.requires) (rw (← c.owners-2.ensures) c.map_of-wanted.ensures.right))) c.write_other.ensures.write.ok
 
 pub returns-clause-layouts : goal.returns-clause-layouts
 returns-clause-layouts g c =
     let S = g.D.Sectors.history in
-    on_ok c.write_other.result _ _ (λ h. written (KeepsLayouts (S.image c.args.disk.now)) _ (S.image c.read_sector.new.disk) c.map_place-2.result c.map_of-wanted.result h c.map_place-2.ensures (layouts-put (S.image c.args.disk.now) (S.image c.read_sector.new.disk) c.map_of-wanted.result c.in_ok-read_sector.ensures.reads.image)) c.write_other.ensures.ok
+    on_ok c.write_other.result _ _ (λ h. written (KeepsLayouts (S.image c.args.disk.now)) _ (S.image c.read_sector.new.disk) c.map_place-2.result c.map_of-wanted.result h c.map_place-2.ensures (layouts-put (S.image c.args.disk.now) (S.image c.read_sector.new.disk) c.map_of-wanted.result c.in_ok-read_sector.ensures.reads.image)) c.write_other.ensures.write.ok
 
 pub returns-clause-failures : goal.returns-clause-failures
-returns-clause-failures g c = device_later g.D.Sectors.history (Unit {0}) c.args.disk.now c.read_sector.new.disk c.write_other.new.disk c.write_other.result c.in_ok-read_sector.ensures.failures c.write_other.ensures.failures
+returns-clause-failures g c = device_later g.D.Sectors.history (Unit {0}) c.args.disk.now c.read_sector.new.disk c.write_other.new.disk c.write_other.result c.in_ok-read_sector.ensures.failures (write_device g.D.Sectors.history (Unit {0}) c.read_sector.new.disk c.write_other.new.disk c.map_place-2.result c.map_of-wanted.result c.write_other.result c.write_other.ensures.write)
 
 pub returns-clause-mends : goal.returns-clause-mends
 returns-clause-mends g c =
     let S = g.D.Sectors.history in
     let read = c.in_ok-read_sector.ensures.sector ∙ ap (λ (p : Place). sector (S.image c.args.disk.now) p) c.map_place.ensures ∙ ap (λ (i : Image). sector i map_place) (sym c.in_ok-read_sector.ensures.reads.image) in
-    mends_write S c.args.disk.now c.read_sector.new.disk c.write_other.new.disk 1 map_place c.map_of-wanted.result c.in_ok-read_sector.ensures.reads (rw c.map_place-2.ensures at c.write_other.ensures.held)
+    mends_write S c.args.disk.now c.read_sector.new.disk c.write_other.new.disk 1 map_place c.map_of-wanted.result c.in_ok-read_sector.ensures.reads (rw c.map_place-2.ensures at (write_changes S c.read_sector.new.disk c.write_other.new.disk c.map_place-2.result c.map_of-wanted.result _ c.write_other.result c.write_other.ensures.write))
     (λ i l h. mended-map i l (S.image c.read_sector.new.disk) c.map_of-wanted.result (S.whole c.read_sector.new.disk).size (rw (← read) c.map_of-wanted.ensures.header) h)
 
 pub returns-clause-quiet : goal.returns-clause-quiet
@@ -96,7 +97,7 @@ returns-clause-over g c l is =
     let wrong = err-holds c.check_bits.result _ (sym c.is_ok.ensures.value ∙ c.if-is_ok.false) c.check_bits.ensures.err in
     let made = made-written (S.image a) (S.image b) c.args.found.now c.read_sector.new.to c.map_of-wanted.result l (S.whole a).size c.in_ok-read_sector.ensures.reads.image c.requires read (rw (← c.owners.ensures) wrong) (rw (← c.owners-2.ensures) c.map_of-wanted.ensures.right) is in
     let write = (rw c.map_place-2.ensures at c.write_other.ensures) in
-    over_read_write S a b c.write_other.new.disk 1 c.in_ok-read_sector.ensures.reads map_place c.map_of-wanted.result write.held.held (IsRight l) made write.once
+    over_read_write S a b c.write_other.new.disk 1 c.in_ok-read_sector.ensures.reads map_place c.map_of-wanted.result write.write.held (IsRight l) made write.once
 
 pub returns-clause-made : goal.returns-clause-made
 returns-clause-made g c =
@@ -106,9 +107,9 @@ returns-clause-made g c =
     let read = c.in_ok-read_sector.ensures.sector ∙ ap (λ (p : Place). sector (S.image a) p) c.map_place.ensures in
     let wrong = err-holds c.check_bits.result _ (sym c.is_ok.ensures.value ∙ c.if-is_ok.false) c.check_bits.ensures.err in
     on_ok c.write_other.result _ _ (λ h l is. written (AreMade (IsRight l) (map_place ∷ []) (S.image a)) _ (S.image b) c.map_place-2.result c.map_of-wanted.result h c.map_place-2.ensures
-    (made-written (S.image a) (S.image b) c.args.found.now c.read_sector.new.to c.map_of-wanted.result l (S.whole a).size c.in_ok-read_sector.ensures.reads.image c.requires read (rw (← c.owners.ensures) wrong) (rw (← c.owners-2.ensures) c.map_of-wanted.ensures.right) is)) c.write_other.ensures.ok
+    (made-written (S.image a) (S.image b) c.args.found.now c.read_sector.new.to c.map_of-wanted.result l (S.whole a).size c.in_ok-read_sector.ensures.reads.image c.requires read (rw (← c.owners.ensures) wrong) (rw (← c.owners-2.ensures) c.map_of-wanted.ensures.right) is)) c.write_other.ensures.write.ok
 
 pub returns-clause-spare : goal.returns-clause-spare
 returns-clause-spare g c changed track low high =
-    let held = (rw c.map_place-2.ensures at c.write_other.ensures.held).held in
+    let held = (rw c.map_place-2.ensures at c.write_other.ensures.write.held) in
     changed_written g.D.Sectors.history c.args.disk.now c.read_sector.new.disk c.write_other.new.disk 1 c.in_ok-read_sector.ensures.reads map_place c.map_of-wanted.result held (λ x. HasNoSpare x track) (c.map_of-wanted.ensures.spare track low high) changed

@@ -3,9 +3,10 @@ use Rattle.std.proofs.Common.{Err, ap, arith, subst, sym, ◌∙◌}
 use Rattle.std.proofs.lemmas.Result.{err_from_is_err_and}
 use Rattle.d64_image.proofs.Moments.{no_write_then, reads_no_write, reads_then}
 use Rattle.d64_image.specs.Images.{Image, sector}
+use Rattle.disk_layout.proofs.OtherWrites.{write_changes}
 use Rattle.disk_layout.specs.Layout.{IsSound}
 use Rattle.layout_check.proofs.Finding.{on_ok}
-use Rattle.layout_check.proofs.MapMends.{device_later, device_told}
+use Rattle.layout_check.proofs.MapMends.{device_later, device_told, write_device}
 use Rattle.layout_check.proofs.RightWrites.{mended-read, other_later, reads_moment, right_read, right_written, write_moment}
 use Rattle.layout_check.proofs.SideMends.{sound-device}
 use Rattle.layout_check.specs.Recounted.{AreRightIn}
@@ -50,14 +51,14 @@ returns-clause-right g c =
     let S = g.D.Sectors.history in
     let now = c.in_ok-recount_sector.ensures in
     let P : Image → Type 0 = λ i. AreRightIn i c.args.place c.recount_sector.new.bytes in
-    on_ok c.write_other.result _ _ (λ h. right_written S c.args.disk.now c.recount_sector.new.disk _ c.args.place c.recount_sector.new.bytes (now.ok.reads.image ∙ c.read_sector.ensures.reads.image) h (subst P (sym now.ok.reads.image) now.right)) c.write_other.ensures.ok
+    on_ok c.write_other.result _ _ (λ h. right_written S c.args.disk.now c.recount_sector.new.disk _ c.args.place c.recount_sector.new.bytes (now.ok.reads.image ∙ c.read_sector.ensures.reads.image) h (subst P (sym now.ok.reads.image) now.right)) c.write_other.ensures.write.ok
 
 pub returns-clause-moments : goal.returns-clause-moments
 returns-clause-moments g c =
     let S = g.D.Sectors.history in
     let now = c.in_ok-recount_sector.ensures in
     let reads = reads_then S c.args.disk.now c.read_sector.new.disk c.recount_sector.new.disk 1 5856 5857 (omega arith) c.read_sector.ensures.reads now.ok.reads in
-    write_moment S c.args.disk.now c.recount_sector.new.disk c.write_other.new.disk 5857 c.args.place c.recount_sector.new.bytes reads c.write_other.ensures.held
+    write_moment S c.args.disk.now c.recount_sector.new.disk c.write_other.new.disk 5857 c.args.place c.recount_sector.new.bytes reads (write_changes S c.recount_sector.new.disk c.write_other.new.disk c.args.place c.recount_sector.new.bytes _ c.write_other.result c.write_other.ensures.write)
     (mended-read S c.args.disk.now c.read_sector.new.disk c.args.place c.read_sector.new.to c.recount_sector.new.bytes c.read_sector.ensures.reads.image c.in_ok-read_sector.ensures.sector now.counts now.kept now.right)
 
 pub returns-clause-once : goal.returns-clause-once
@@ -76,4 +77,4 @@ returns-clause-quiet g c right =
 
 pub returns-clause-failures : goal.returns-clause-failures
 returns-clause-failures g c =
-    device_later g.D.Sectors.history (Unit {0}) c.args.disk.now c.recount_sector.new.disk c.write_other.new.disk c.write_other.result (c.in_ok-recount_sector.ensures.ok.failures ∙ c.in_ok-read_sector.ensures.failures) c.write_other.ensures.failures
+    device_later g.D.Sectors.history (Unit {0}) c.args.disk.now c.recount_sector.new.disk c.write_other.new.disk c.write_other.result (c.in_ok-recount_sector.ensures.ok.failures ∙ c.in_ok-read_sector.ensures.failures) (write_device g.D.Sectors.history (Unit {0}) c.recount_sector.new.disk c.write_other.new.disk c.args.place c.recount_sector.new.bytes c.write_other.result c.write_other.ensures.write)
