@@ -1,5 +1,5 @@
 -- The definitions at work on small values: what each says is computed here, or shown in a few lines.
-use Rattle.std.proofs.Common.{List, [], ap, arith, drop, inl, inr, length, lit<, refl, replicate, sym, take, true, ℕ, ◌++◌, ◌∙◌, ◌∷◌, ◌≡◌, ◌≢◌}
+use Rattle.std.proofs.Common.{List, [], ap, arith, drop, false, inl, inr, length, lit<, refl, replicate, sym, take, true, ℕ, ◌++◌, ◌∙◌, ◌∷◌, ◌≡◌, ◌≢◌}
 use Rattle.std.proofs.lemmas.List.{get_or-replicate, length-replicate}
 use Rattle.std.specs.Prelude.{Contains, Some, filter, slice_range}
 use Rattle.d64_image.proofs.Images.{length-put, sector-put_other, sector-put_same}
@@ -10,11 +10,12 @@ use Rattle.d64_image.specs.declared.place.Place.{Place}
 use Rattle.disk_layout.proofs.Names.{named-is, named-none}
 use Rattle.disk_layout.proofs.Once.{Contains-cases, Contains-here, Contains-nil}
 use Rattle.disk_layout.proofs.Twice.{told-unsound}
+use Rattle.disk_layout.specs.BlankLayout.{blank_top}
 use Rattle.disk_layout.specs.Chain.{IsChain, Names, NamesNone, byte, named_at}
 use Rattle.disk_layout.specs.Directory.{directory_start, is_used, map_place, slot_in, slots_in, used_slots}
 use Rattle.disk_layout.specs.Entries.{uncounted}
 use Rattle.disk_layout.specs.Fault.{Holds, HoldsOfChain, nowhere}
-use Rattle.disk_layout.specs.Layout.{File, IsClosedType, IsSound, count_field, is_rel, owners, record_length, sides_for}
+use Rattle.disk_layout.specs.Layout.{File, IsClosedType, IsSound, count_field, is_rel, is_rel_type, owners, record_length, sides_for}
 use Rattle.disk_layout.specs.Records.{empty_record, filler, pieces, record_count}
 use Rattle.disk_layout.specs.Rest.{IsTop, others, slot_name, taken_by_others}
 use Rattle.disk_layout.specs.Side.{padded, side_sector}
@@ -275,3 +276,11 @@ top-alone ps f = record {
   fits = record { number = omega arith; blocks = omega arith; room = omega arith };
   greatest = λ s h. omega (arith, h.room);
 }
+
+-- a blank image leaves STOCK 9256 records with 1 or 2 tills, 9242 with 3, 8819 with 64
+pub blank-tops : blank_top 1 ∷ blank_top 2 ∷ blank_top 3 ∷ blank_top 64 ∷ [] ≡ 9256 ∷ 9256 ∷ 9242 ∷ 8819 ∷ []
+blank-tops = refl
+
+-- 84 and C4 are relative, 82 (a program) and 04 (an open relative file) are not
+pub rel-types : is_rel_type 132 ∷ is_rel_type 196 ∷ is_rel_type 130 ∷ is_rel_type 4 ∷ [] ≡ true ∷ true ∷ false ∷ false ∷ []
+rel-types = refl

@@ -27,6 +27,7 @@ pub mod Kept
 pub mod Layouts
 pub mod Listed
 pub mod Lists
+pub mod LongerDirectory
 pub mod MapExamples
 pub mod Maps
 pub mod Marks

@@ -65,18 +65,18 @@ map-same_on f g (x ∷ xs) same =
     cc
 
 -- the slots of the new image, sector by sector
-slots-reslot : (a b : Image) (p : Place) → slots_in p (sector b p) ≡ map (reslot b) (slots_in p (sector a p))
+pub slots-reslot : (a b : Image) (p : Place) → slots_in p (sector b p) ≡ map (reslot b) (slots_in p (sector a p))
 unfolding slots_in
 slots-reslot a b p = refl
 
-all_slots-reslot : (a b : Image) (ps : List Place) → flat_map (λ p. slots_in p (sector b p)) ps ≡ map (reslot b) (flat_map (λ p. slots_in p (sector a p)) ps)
+pub all_slots-reslot : (a b : Image) (ps : List Place) → flat_map (λ p. slots_in p (sector b p)) ps ≡ map (reslot b) (flat_map (λ p. slots_in p (sector a p)) ps)
 all_slots-reslot a b [] = refl
 all_slots-reslot a b (p ∷ ps) =
     let here = slots-reslot a b p in
     let rest = all_slots-reslot a b ps in
     cc (here, rest, map-append (reslot b) (slots_in p (sector a p)) (flat_map (λ q. slots_in q (sector a q)) ps))
 
-slot-any : (a : Image) (ps : List Place) (s : Slot) → Contains (flat_map (λ p. slots_in p (sector a p)) ps) s → Contains ps s.sector × (s.number < 8) × (s ≡ slot_in s.sector (sector a s.sector) s.number)
+pub slot-any : (a : Image) (ps : List Place) (s : Slot) → Contains (flat_map (λ p. slots_in p (sector a p)) ps) s → Contains ps s.sector × (s.number < 8) × (s ≡ slot_in s.sector (sector a s.sector) s.number)
 slot-any a ps s d =
     let (p, on, e) = flat_map-out (λ p. slots_in p (sector a p)) ps s d in
     let (low, same) = slot-number p (sector a p) s e in
@@ -97,11 +97,11 @@ module _ (a b : Image) (ps : List Place) (keeps : (p : Place) → Contains ps p 
   used_slots-reslot = ap (filter is_used) (all_slots-reslot a b ps) ∙ filter-map is_used (reslot b) (flat_map (λ p. slots_in p (sector a p)) ps) reslot-used
 
 -- the files of the new image own what they owned
-reread-owns : (b : Image) (fs : List File) → flat_map file_owns (map (reread b) fs) ≡ flat_map file_owns fs
+pub reread-owns : (b : Image) (fs : List File) → flat_map file_owns (map (reread b) fs) ≡ flat_map file_owns fs
 reread-owns b [] = refl
 reread-owns b (f ∷ fs) = ap (λ ps. file_owns f ++ ps) (reread-owns b fs)
 
-reread-files : (b : Image) (fs : List File) → ((f : File) → Contains fs f → uncounted f.slot ≡ uncounted (reslot b f.slot)) → AllByRecursion (IsFile b) fs → AllByRecursion (IsFile b) (map (reread b) fs)
+pub reread-files : (b : Image) (fs : List File) → ((f : File) → Contains fs f → uncounted f.slot ≡ uncounted (reslot b f.slot)) → AllByRecursion (IsFile b) fs → AllByRecursion (IsFile b) (map (reread b) fs)
 reread-files b [] same h = tt
 reread-files b (f ∷ fs) same h = (
   IsFile-slot b f (reslot b f.slot) (uncounted-face f.slot (reslot b f.slot) (same f (Contains-here f fs))) h.0,

@@ -208,3 +208,16 @@ told-unsound img (BadLength p) h = no_bad_length img p h
 told-unsound img (CountWrong p) h = absurd h
 told-unsound img (MapWrong p) h = absurd h
 told-unsound img (Device p) h = absurd h
+
+-- so on a sound image nothing is told but a failure of the device, at a place where it failed
+pub told-sound : (failed_at : Place → Type 0) (img : Image) (f : Fault) → Holds failed_at img f → IsSound img → (p : Place) × (f ≡ Device p) × failed_at p
+told-sound failed_at img (BadLink p) h sound = absurd (told-unsound img (BadLink p) h sound)
+told-sound failed_at img (Loop p) h sound = absurd (told-unsound img (Loop p) h sound)
+told-sound failed_at img (OwnedTwice p) h sound = absurd (told-unsound img (OwnedTwice p) h sound)
+told-sound failed_at img (BadType p) h sound = absurd (told-unsound img (BadType p) h sound)
+told-sound failed_at img (Unclosed p) h sound = absurd (told-unsound img (Unclosed p) h sound)
+told-sound failed_at img (BadSide p) h sound = absurd (told-unsound img (BadSide p) h sound)
+told-sound failed_at img (BadLength p) h sound = absurd (told-unsound img (BadLength p) h sound)
+told-sound failed_at img (CountWrong p) h sound = absurd h
+told-sound failed_at img (MapWrong p) h sound = absurd h
+told-sound failed_at img (Device p) h sound = (p, refl, h)

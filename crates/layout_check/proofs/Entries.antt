@@ -12,7 +12,7 @@ use Rattle.disk_layout.specs.Layout.{is_rel}
 use Rattle.disk_layout.specs.declared.faults.Fault.{Fault}
 use Rattle.disk_layout.specs.declared.faults.Fault.TheVariants.{BadLength, BadLink, BadSide, BadType, CountWrong, Device, Loop, MapWrong, OwnedTwice, Unclosed}
 use Rattle.disk_layout.specs.declared.slot.Slot.{Slot}
-use Rattle.layout_check.specs.Calls.{Tells}
+use Rattle.layout_check.specs.Calls.{TellsUnsound}
 use Rattle.layout_check.specs.Entry.{IsEntry, IsShown}
 
 pub closed-entry : (img : Image) (s : Slot) → IsEntry img s → 128 ≤ type_byte s → IsClosed img s.sector s
@@ -51,7 +51,7 @@ module _ {D : Type 0} (S : History D) where
   shown-tells_alone d s (MapWrong p) h = refl
   shown-tells_alone d s (Device p) h = absurd h
 
-  pub shown-tells : (d : D) (n : ℕ) (s : Slot) (f : Fault) → IsEntry (S.image d) s → IsShown s f → Tells S d d n f
+  pub shown-tells : (d : D) (n : ℕ) (s : Slot) (f : Fault) → IsEntry (S.image d) s → IsShown s f → TellsUnsound S d d n f
   shown-tells d n s f e h = record {
     reads = reads_weaker S d d 0 n (omega arith) (no_reads S d);
     failures = shown-tells_alone d s f h;

@@ -1,5 +1,5 @@
 -- Side sectors beside their exact bytes, and what is told of a disk that isn't clean.
-use Rattle.std.proofs.Common.{ℕ, ◌≡◌, ◌≢◌, ◌<◌, ◌≤◌, ◌+◌, Bool, true, false, IsTrue, List, length, get_or, sym, ◌∙◌, ap, refl, subst, inl}
+use Rattle.std.proofs.Common.{ℕ, ◌≡◌, ◌<◌, ◌≤◌, ◌+◌, Bool, true, false, IsTrue, List, length, get_or, sym, ◌∙◌, ap, refl, subst, inl}
 use Rattle.std.specs.Prelude.{Contains, Err, Some, not, slice_get}
 use Rattle.std.specs.Str.{bytes_eq}
 use Rattle.std.proofs.lemmas.Bool.{false≢true}
@@ -18,9 +18,9 @@ use Rattle.disk_layout.specs.declared.slot.Slot.{Slot}
 use Rattle.layout_check.proofs.Assembly.{rel-file}
 use Rattle.layout_check.proofs.Calls.{tells_later}
 use Rattle.layout_check.proofs.Pointers.{read-there}
-use Rattle.layout_check.specs.Calls.{Passes, Tells}
+use Rattle.layout_check.specs.Calls.{Passes, TellsUnsound}
 use Rattle.layout_check.specs.Entry.{IsProper}
-use Rattle.layout_check.specs.Exact.{IsExactSide, TellsOfClean}
+use Rattle.layout_check.specs.Exact.{IsExactSide, TellsUnclean}
 use Rattle.layout_check.specs.Sides.{HasParts}
 
 -- two lists of bytes, compared
@@ -61,10 +61,10 @@ parts-of img l f s blocks sides is own same rel h =
     IsFile-one img f (record { slot = s; blocks = blocks; last = h.last; sides = sides }) same file (rel-file img s blocks sides h.last (subst P same proper) rel h.chain h.walk h.lists)
 
 module _ {D : Type 0} (S : History D) where
-  pub clean_tells : (a b : D) (n : ℕ) (f : Fault) → Tells S a b n f → TellsOfClean S a b n f
+  pub clean_tells : (a b : D) (n : ℕ) (f : Fault) → TellsUnsound S a b n f → TellsUnclean S a b n f
   clean_tells a b n f h = record { reads = h.reads; failures = h.failures; holds = clean-holds (S.failed_at b) (S.image a) f h.holds }
 
-  pub clean_then : (a b c : D) (k m n : ℕ) (f : Fault) → k + m ≤ n → Passes S a b k → TellsOfClean S b c m f → TellsOfClean S a c n f
+  pub clean_then : (a b c : D) (k m n : ℕ) (f : Fault) → k + m ≤ n → Passes S a b k → TellsUnclean S b c m f → TellsUnclean S a c n f
   clean_then a b c k m n f le first second = record {
     reads = reads_then S a b c k m n le first.reads second.reads;
     failures = tells_later S ℕ a b c f first.failures second.failures;

@@ -2,7 +2,7 @@
 use Rattle.std.proofs.Common.{ℕ, ◌≡◌, ◌≢◌, ◌≤◌, List, [], ◌∷◌, ◌++◌, length, map, slice_index, sym, ◌∙◌, ap, refl, subst, inl, inr, IsTrue, ◌⊎◌, ◌<◌, ◌+◌, ◌*◌, ◌/◌, arith}
 use Rattle.std.specs.Prelude.{Contains, Some, drop, flat_map, slice_get, take}
 use Rattle.std.proofs.lemmas.List.Elements.{Contains-append_right}
-use Rattle.d64_image.proofs.Images.{put-sector, sector-put_other, sector-put_same}
+use Rattle.d64_image.proofs.Images.{sector-put_other, sector-put_same}
 use Rattle.d64_image.proofs.Places.{same_or_other}
 use Rattle.d64_image.specs.Images.{Image, put, sector}
 use Rattle.d64_image.specs.declared.place.Place.{Place}

@@ -12,7 +12,7 @@ use Rattle.disk_layout.specs.declared.faults.Fault.{Fault}
 use Rattle.disk_layout.specs.declared.faults.Fault.TheVariants.{BadLength, BadLink, BadSide, BadType, CountWrong, Device, Loop, MapWrong, OwnedTwice, Unclosed}
 use Rattle.disk_layout.specs.declared.slot.Slot.{Slot}
 use Rattle.layout_check.proofs.Calls.{any_answer, passes_then, tells_then}
-use Rattle.layout_check.specs.Calls.{Passes, Tells}
+use Rattle.layout_check.specs.Calls.{Passes, TellsUnsound}
 
 directory-holds : (failed : Place → Type 0) (img : Image) (f : Fault) → HoldsOfDirectory failed img f → Holds failed img f
 directory-holds failed img (BadLink p) (d, inl nowhere) = inl (d, nowhere)
@@ -49,14 +49,14 @@ directory-walked img now ps qs es u same d chain =
     subst Q one d
 
 module _ {D : Type 0} (S : History D) where
-  pub directory-tells : (T : Type 0) (a b : D) (f : Fault) → OnlyReads S a b 18 → TellsFault {T = T} S a b (Err f) → HoldsOfDirectory (S.failed_at b) (S.image a) f → Tells S a b 738 f
+  pub directory-tells : (T : Type 0) (a b : D) (f : Fault) → OnlyReads S a b 18 → TellsFault {T = T} S a b (Err f) → HoldsOfDirectory (S.failed_at b) (S.image a) f → TellsUnsound S a b 738 f
   directory-tells T a b f reads tells h = record {
     reads = reads_weaker S a b 18 738 (omega arith) reads;
     failures = any_answer S T ℕ a b f tells;
     holds = directory-holds (S.failed_at b) (S.image a) f h;
   }
 
-  pub again-tells : (T : Type 0) (a b c : D) (ps : List Place) (es : List Slot) (n : ℕ) (f : Fault) → n ≤ 720 → Passes S a b 18 → IsDirectory (S.image a) ps es → OnlyReads S b c n → TellsFault {T = T} S b c (Err f) → HoldsOfChain (S.failed_at c) (S.image b) directory_start f → Tells S a c 738 f
+  pub again-tells : (T : Type 0) (a b c : D) (ps : List Place) (es : List Slot) (n : ℕ) (f : Fault) → n ≤ 720 → Passes S a b 18 → IsDirectory (S.image a) ps es → OnlyReads S b c n → TellsFault {T = T} S b c (Err f) → HoldsOfChain (S.failed_at c) (S.image b) directory_start f → TellsUnsound S a c 738 f
   again-tells T a b c ps es n f few passes d reads tells h = tells_then S a b c 18 n 738 f (omega arith) passes (record {
     reads = reads;
     failures = any_answer S T ℕ b c f tells;

@@ -10,7 +10,7 @@ use Rattle.disk_layout.specs.Layout.{sides_for}
 use Rattle.disk_layout.specs.declared.faults.Fault.TheVariants.{BadSide}
 use Rattle.disk_layout.specs.declared.slot.Slot.{Slot}
 use Rattle.layout_check.proofs.Pointers.{read-there}
-use Rattle.layout_check.specs.Sides.{IsJudged, IsMisjudged, IsMisnamed, IsRelEntry, IsWalkOfSides, NamesEach}
+use Rattle.layout_check.specs.Sides.{HasOtherFields, HasSideFields, IsMisnamed, IsRelEntry, IsWalkOfSides, NamesEach}
 
 pub needed-sides : (n : ℕ) → n / 120 + min 1 (n % 120) ≡ sides_for n
 needed-sides n = omega arith
@@ -58,10 +58,10 @@ side-reached img s blocks sides first at j e named leads count below = record {
   leads = leads;
 }
 
-pub misjudged-bad : (img : Image) (s : Slot) (blocks : List Place) (j : ℕ) (p : Place) (bytes : List ℕ) → bytes ≡ sector img p → IsMisjudged bytes s blocks j → IsBadSide img s blocks j p
-misjudged-bad img s blocks j p bytes e h = here (let P : List ℕ → Type 0 = λ b. IsMisjudged b s blocks j in subst P e h)
+pub misjudged-bad : (img : Image) (s : Slot) (blocks : List Place) (j : ℕ) (p : Place) (bytes : List ℕ) → bytes ≡ sector img p → HasOtherFields bytes s blocks j → IsBadSide img s blocks j p
+misjudged-bad img s blocks j p bytes e h = here (let P : List ℕ → Type 0 = λ b. HasOtherFields b s blocks j in subst P e h)
   where
-    here : IsMisjudged (sector img p) s blocks j → IsBadSide img s blocks j p
+    here : HasOtherFields (sector img p) s blocks j → IsBadSide img s blocks j p
     here (inl n) = number n
     here (inr (inl n)) = length_byte n
     here (inr (inr h)) = pointer h.k h.q h.low h.there h.other
@@ -72,14 +72,14 @@ unlinked-bad img s blocks j p bytes e more none = link more (let P : List ℕ �
 pub bad-holds : (failed : Place → Type 0) (img : Image) (s : Slot) (blocks : List Place) (j : ℕ) (p : Place) → IsRelEntry img s blocks → IsSideSector img s blocks j p → IsBadSide img s blocks j p → Holds failed img (BadSide p)
 bad-holds failed img s blocks j p e side bad = inr (s.sector, s, e.closed, e.rel, blocks, j, side, bad)
 
-pub judged-at : (img : Image) (s : Slot) (blocks : List Place) (j : ℕ) (p : Place) (bytes : List ℕ) → bytes ≡ sector img p → IsJudged bytes s blocks j → IsJudged (sector img p) s blocks j
-judged-at img s blocks j p bytes e h = let P : List ℕ → Type 0 = λ b. IsJudged b s blocks j in subst P e h
+pub judged-at : (img : Image) (s : Slot) (blocks : List Place) (j : ℕ) (p : Place) (bytes : List ℕ) → bytes ≡ sector img p → HasSideFields bytes s blocks j → HasSideFields (sector img p) s blocks j
+judged-at img s blocks j p bytes e h = let P : List ℕ → Type 0 = λ b. HasSideFields b s blocks j in subst P e h
 
 pub linked-at : (img : Image) (p q : Place) (bytes : List ℕ) → bytes ≡ sector img p → Names bytes 0 q → LinksTo img p q
 linked-at img p q bytes e h = let P : List ℕ → Type 0 = λ b. Names b 0 q in subst P e h
 
 -- all side sectors are there
-pub walk-done : (img : Image) (s : Slot) (blocks sides : List Place) (first at : Place) (n : ℕ) → Names s.bytes 21 first → Leads img first sides at → length sides ≡ n → n + 1 ≡ sides_for (length blocks) → ((j : ℕ) (q : Place) → slice_get sides j ≡ Some q → IsJudged (sector img q) s blocks j) → IsJudged (sector img at) s blocks n → IsWalkOfSides img s blocks (sides ++ at ∷ [])
+pub walk-done : (img : Image) (s : Slot) (blocks sides : List Place) (first at : Place) (n : ℕ) → Names s.bytes 21 first → Leads img first sides at → length sides ≡ n → n + 1 ≡ sides_for (length blocks) → ((j : ℕ) (q : Place) → slice_get sides j ≡ Some q → HasSideFields (sector img q) s blocks j) → HasSideFields (sector img at) s blocks n → IsWalkOfSides img s blocks (sides ++ at ∷ [])
 walk-done img s blocks sides first at n named leads count full judged last = record {
   first = first;
   named = named;
@@ -88,7 +88,7 @@ walk-done img s blocks sides first at n named leads count full judged last = rec
   places = refl;
   leads = leads;
   count = omega (arith, length-append sides (at ∷ []), count, full);
-  judged = each-push (λ j q. IsJudged (sector img q) s blocks j) sides at n count judged last;
+  judged = each-push (λ j q. HasSideFields (sector img q) s blocks j) sides at n count judged last;
 }
 
 -- each sector of a walk is reached by as many links as its place in the list says

@@ -1,7 +1,6 @@
 pub mod Calls
 pub mod Entry
 pub mod Exact
-pub mod Found
 pub mod Made
 pub mod Marked
 pub mod Mended
@@ -12,3 +11,4 @@ pub mod RepairOrder
 pub mod Repaired
 pub mod Sides
 pub mod Survey
+pub mod SurveyedEntry

@@ -5,7 +5,7 @@ ghost use Rattle.disk_layout.specs.Clean.{IsClean, IsCleanLayout};
 ghost use Rattle.disk_layout.specs.Fault.{HoldsOfClean, TellsFault};
 ghost use Rattle.disk_layout.specs.Layout.{Layout};
 ghost use Rattle.layout_check.specs.Calls.{Passes};
-ghost use Rattle.layout_check.specs.Exact.{HasMap, TellsOfClean};
+ghost use Rattle.layout_check.specs.Exact.{HasMap, TellsUnclean};
 ghost use Rattle.layout_check.specs.Survey.{IsSurveyOf, IsToldBy};
 
 use crate::maps::check_bits;
@@ -19,7 +19,7 @@ fn check_map<D: Sectors>(disk: &mut D, found: &Survey) -> Result<(), Fault>
     requires { IsToldBy (D.history.image disk.old) found.now }
     ensures map { OnOk result (HasMap (D.history.image disk.old)) }
     ensures ok { OnOk result (Passes D.history disk.old disk.new 1) }
-    ensures err { IfErr result (TellsOfClean D.history disk.old disk.new 1) }
+    ensures err { IfErr result (TellsUnclean D.history disk.old disk.new 1) }
 {
     let mut map = [0u8; 256];
     read_sector(disk, map_place(), &mut map)?;

@@ -8,7 +8,7 @@ ghost use Rattle.disk_layout.specs.InOrder.{AreMade, GoesOver, WritesOther};
 ghost use Rattle.disk_layout.specs.Layout.{IsLayout, IsSound, Layout, is_rel};
 ghost use Rattle.disk_layout.specs.declared.slot.Slot.{Slot};
 ghost use Rattle.d64_image.specs.declared.place.Place.{Place};
-ghost use Rattle.layout_check.specs.Calls.{Passes, Tells};
+ghost use Rattle.layout_check.specs.Calls.{Passes, TellsUnsound};
 ghost use Rattle.layout_check.specs.Entry.{IsEntry};
 ghost use Rattle.layout_check.specs.RepairOrder.{IsRight};
 ghost use Rattle.layout_check.specs.Mended.{TellsDevice};
@@ -33,7 +33,7 @@ fn count_owned<D: Sectors>(
     requires rel { IsTrue (is_rel slot.now) }
     ensures count { IfOk result (IsCountOf (D.history.image disk.old) slot.now) }
     ensures ok { OnOk result (Passes D.history disk.old disk.new 732) }
-    ensures err { IfErr result (Tells D.history disk.old disk.new 732) }
+    ensures err { IfErr result (TellsUnsound D.history disk.old disk.new 732) }
 {
     find_parts(disk, slot, blocks, sides)?;
     Ok((blocks.len() + sides.len()) as u16)
@@ -58,7 +58,7 @@ fn recount_slot<D: Sectors>(
     // a count that is right is left as it is
     ensures kept { OnOk result (IsRightAt (D.history.image disk.old) place bytes.old number → bytes.new ≡ bytes.old) }
     ensures ok { OnOk result (Passes D.history disk.old disk.new 732) }
-    ensures err { IfErr result (Tells D.history disk.old disk.new 732) }
+    ensures err { IfErr result (TellsUnsound D.history disk.old disk.new 732) }
 {
     let slot = Slot::in_sector(bytes, place, number);
     if !EntryView::new(&slot.bytes).is_relative() {
@@ -85,7 +85,7 @@ fn recount_sector<D: Sectors>(
     // counts that are right are left as they are
     ensures kept { OnOk result (AreRightIn (D.history.image disk.old) place bytes.old → bytes.new ≡ bytes.old) }
     ensures ok { OnOk result (Passes D.history disk.old disk.new 5856) }
-    ensures err { IfErr result (Tells D.history disk.old disk.new 5856) }
+    ensures err { IfErr result (TellsUnsound D.history disk.old disk.new 5856) }
 {
     for number in 0..8u8 {
         recount_slot(disk, place, number, bytes, blocks, sides)?;
@@ -123,7 +123,7 @@ fn find_directory<D: Sectors>(disk: &mut D, places: &mut ArrayVec<Place, 720>) -
     requires { (ps : List Place) × (slots : List Slot) × IsDirectory (D.history.image disk.old) ps slots }
     ensures directory { OnOk result ((ps : List Place) (slots : List Slot) → IsDirectory (D.history.image disk.old) ps slots → places.new.items ≡ ps) }
     ensures ok { OnOk result (Passes D.history disk.old disk.new (length places.new.items)) }
-    ensures err { IfErr result (Tells D.history disk.old disk.new 683) }
+    ensures err { IfErr result (TellsUnsound D.history disk.old disk.new 683) }
 {
     walk_chain(disk, directory_start(), places)?;
     Ok(())

@@ -13,7 +13,7 @@ use Rattle.layout_check.proofs.Finding.{on_ok}
 use Rattle.layout_check.proofs.MapMends.{device_later, mends_read, mends_then}
 use Rattle.layout_check.proofs.RightSides.{file-sides_once, made_exact, sides-found}
 use Rattle.layout_check.proofs.SideMends.{parts-at, parts-exact, parts-here, right-there, sound-device}
-use Rattle.layout_check.specs.Exact.{AreExactSides, JudgesSides}
+use Rattle.layout_check.specs.Exact.{AreExactSides, ToldOfSides}
 use Rattle.layout_check.specs.RepairOrder.{IsRight}
 use Rattle.layout_check.specs.Mended.{KeepsExact, KeepsLayouts, SameMap}
 use Rattle.layout_check.proofs.mending.mend_relative.Goals as goal
@@ -101,7 +101,7 @@ returns-in-None-clause-exact g c bs ss i =
     let old = S.image c.args.disk.now in
     let blocks = c.find_parts.new.blocks.items in
     let sides = c.find_parts.new.sides.items in
-    let P : Option Place → Type 0 = JudgesSides old c.args.slot.now blocks sides in
+    let P : Option Place → Type 0 = ToldOfSides old c.args.slot.now blocks sides in
     let Q : Image → Type 0 = λ x. AreExactSides x c.args.slot.now bs ss in
     subst Q (sym found.ok.reads.image) (parts-exact old old c.args.slot.now blocks sides bs ss (parts-here old c.args.slot.now blocks sides c.requires.filed c.requires.rel found.parts) (subst P c.in-None.is found.exact) i)
 
@@ -121,7 +121,7 @@ returns-in-None-clause-made g c l f is own slot =
     let old = S.image c.args.disk.now in
     let blocks = c.find_parts.new.blocks.items in
     let sides = c.find_parts.new.sides.items in
-    let P : Option Place → Type 0 = JudgesSides old c.args.slot.now blocks sides in
+    let P : Option Place → Type 0 = ToldOfSides old c.args.slot.now blocks sides in
     let Q : List Place → Type 0 = λ xs. AreMade (IsRight l) xs old (S.image c.find_parts.new.disk) in
     let parts = parts-here old c.args.slot.now blocks sides c.requires.filed c.requires.rel found.parts in
     subst Q (sides-found old l f c.args.slot.now blocks sides sides is own slot c.requires.rel found.parts refl) (made_exact old l is c.args.slot.now blocks sides parts (S.image c.find_parts.new.disk) found.ok.reads.image (subst P c.in-None.is found.exact))

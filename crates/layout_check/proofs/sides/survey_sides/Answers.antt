@@ -14,7 +14,7 @@ use Rattle.layout_check.proofs.Pointers.{read-there}
 use Rattle.layout_check.proofs.SideWalks.{few-sides, listed-here, unlisted-holds, unlisted-part}
 use Rattle.disk_layout.specs.Layout.{record_length}
 use Rattle.disk_layout.specs.Side.{side_sector}
-use Rattle.layout_check.specs.Exact.{JudgesSides}
+use Rattle.layout_check.specs.Exact.{ToldOfSides}
 use Rattle.layout_check.specs.Sides.{NamesEach}
 use Rattle.disk_layout.specs.Fault.{nowhere}
 use Rattle.layout_check.proofs.sides.survey_sides.Goals as goal
@@ -73,11 +73,8 @@ loop-number-preserved g c =
       | then-ne+else-not-names_each w ↦ record {
         passes = passes;
         lists = below_more _ _ old.lists (listed-here _ c.walk_sides.new.sides.items items w.as_slice-then-ne.result.now n c.side-item.result c.read_sector.new.to c.as_slice-side-items.ensures.value w.as_slice-then-ne.ensures.value c.loop-number-test.true c.side-item.is e (w.names_each.ensures.right w.if-not-names_each.false));
-        judged = rw (w.inexact-is, w.or-inexact.ensures) (judged-other _ c.args.slot.now c.args.blocks.now items n c.loop-number.inexact c.side-item.result old.judged (record {
-          number = n;
-          there = there;
-          other = λ same. other-bytes c.read_sector.new.to c.side_bytes-wanted.result c.ne.result c.ne.ensures w.if-ne.true (e ∙ same ∙ sym wanted);
-        }));
+        judged = rw (w.inexact-is, w.or-inexact.ensures) (judged-other _ c.args.slot.now c.args.blocks.now items n c.loop-number.inexact c.side-item.result old.judged there
+            (λ same. other-bytes c.read_sector.new.to c.side_bytes-wanted.result c.ne.result c.ne.ensures w.if-ne.true (e ∙ same ∙ sym wanted)));
       }
       | else-ne w ↦
           let exact = exact-here _ c.args.slot.now c.args.blocks.now items n c.side-item.result c.loop-number-test.true c.side-item.is (sym e ∙ same-bytes c.read_sector.new.to c.side_bytes-wanted.result c.ne.result c.ne.ensures w.if-ne.false ∙ wanted) in
@@ -97,7 +94,7 @@ returns-clause-lists g c j p there =
 
 pub returns-clause-exact : goal.returns-clause-exact
 returns-clause-exact g c =
-    let P : List Place → Type 0 = λ xs. JudgesSides (g.D.Sectors.history.image c.args.disk.now) c.args.slot.now c.args.blocks.now xs c.loop-number.inexact in
+    let P : List Place → Type 0 = λ xs. ToldOfSides (g.D.Sectors.history.image c.args.disk.now) c.args.slot.now c.args.blocks.now xs c.loop-number.inexact in
     subst P c.as_slice-side-items.ensures.value (judged-all _ c.args.slot.now c.args.blocks.now c.as_slice-side-items.result.now c.loop-number.number c.loop-number.inexact (omega (arith, c.loop-number-test.false)) c.loop-number.invariant.judged)
 
 pub returns-clause-ok : goal.returns-clause-ok

@@ -9,13 +9,13 @@ use Rattle.disk_layout.specs.Layout.{File, IsFile, file_owns}
 use Rattle.disk_layout.specs.declared.faults.Fault.{Fault}
 use Rattle.disk_layout.specs.declared.faults.Fault.TheVariants.{OwnedTwice}
 use Rattle.disk_layout.specs.declared.slot.Slot.{Slot}
-use Rattle.layout_check.specs.Calls.{Passes, Tells}
-use Rattle.layout_check.specs.Exact.{JudgesFile}
+use Rattle.layout_check.specs.Calls.{Passes, TellsUnsound}
+use Rattle.layout_check.specs.Exact.{ToldOfFile}
 use Rattle.layout_check.specs.Owners.{IsClaimed, owner_of}
 use Rattle.layout_check.specs.declared.owners.Owners.{Owners}
 
 -- g is the file of the entry with this slot, and what it owns has got the number n
-pub record IsFound (img : Image) (s : Slot) (n : ℕ) (old new : Owners) (g : File) : Type 0 where
+pub record IsClaimedFile (img : Image) (s : Slot) (n : ℕ) (old new : Owners) (g : File) : Type 0 where
   pub slot : g.slot ≡ s
   pub file : IsFile img g
   pub blocks_once : EachOnce g.blocks
@@ -35,8 +35,8 @@ pub record IsClash {D : Type 0} (S : History D) (old new : D) (s : Slot) (t : Ow
 
 -- the fault holds by what the entry is, or there is a clash with what the table has
 abbrev pub TellsOrClashes : {D : Type 0} → History D → D → D → Slot → Owners → Fault → Type 0
-TellsOrClashes S old new s t fault = Tells S old new 732 fault ⊎ IsClash S old new s t fault
+TellsOrClashes S old new s t fault = TellsUnsound S old new 732 fault ⊎ IsClash S old new s t fault
 
 -- the file of the entry was found, each of its sectors read at most twice, and judged whether it is exact
-abbrev pub Finds : {D : Type 0} → History D → D → D → Slot → ℕ → Owners → Owners → Option Fault → Type 0
-Finds S old new s n t u unclean = (g : File) × IsFound (S.image old) s n t u g × JudgesFile (S.image old) g unclean × Passes S old new (2 * length (file_owns g))
+abbrev pub SurveysEntry : {D : Type 0} → History D → D → D → Slot → ℕ → Owners → Owners → Option Fault → Type 0
+SurveysEntry S old new s n t u unclean = (g : File) × IsClaimedFile (S.image old) s n t u g × ToldOfFile (S.image old) g unclean × Passes S old new (2 * length (file_owns g))
