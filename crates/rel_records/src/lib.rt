@@ -7,9 +7,13 @@ mod faults;
 mod finding;
 mod growth;
 mod lookup;
+mod next_block;
 mod parts;
 mod reading;
 mod rel_file;
+mod sizes;
+mod step_parts;
+mod steps;
 #[cfg(test)]
 mod tests;
 mod writing;
