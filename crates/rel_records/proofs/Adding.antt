@@ -23,13 +23,13 @@ use Rattle.disk_layout.specs.Directory.{map_place, slot_in}
 use Rattle.disk_layout.specs.Entries.{IsRecounted, uncounted}
 use Rattle.disk_layout.specs.Layout.{File, IsRelFile, Layout, count_field, exchanged, file_owns, is_rel, owners, record_length, sides_for}
 use Rattle.disk_layout.specs.Map.{IsMapOf}
-use Rattle.disk_layout.specs.Records.{IsFilled, filler, record_count, records}
+use Rattle.disk_layout.specs.Records.{IsFilled, empty_record, filler, record_count, records}
 use Rattle.disk_layout.specs.Side.{side_sector}
 use Rattle.disk_layout.specs.View.{blocks_free}
 use Rattle.disk_layout.specs.declared.slot.Slot.{Slot}
 use Rattle.rel_records.proofs.Before.{before-grows, prepared-of}
 use Rattle.rel_records.proofs.Committing.{after-same, before-same, clean-again, committed-has, counted-has, entry-unowned, g-owned, header-same, last-not_entry, map-now, records-longer, same-entry, slot-records}
-use Rattle.rel_records.proofs.Others.{others-kept}
+use Rattle.rel_records.proofs.Others.{others-kept, places-more}
 use Rattle.rel_records.proofs.FullSides.{side_sector-full}
 use Rattle.rel_records.proofs.Fulls.{full-inside, full-last, full-more}
 use Rattle.rel_records.proofs.Owned.{IsNextOf, next-block, next-side}
@@ -331,6 +331,8 @@ module _ (a : Image) (l : Layout) (n : ℕ) (f : File) (p q : Parts) (fresh : Pl
           slot-records a c l before after f fresh u ss q.map.bytes block q.last q.directory at.front at.last_place x.size at.clean split at.rel next.once next.long next.count few-sides some ready made.ends refl at.last_is linked.link recount counted next.map
           ∙ records-longer a c l before after f fresh u ss q.map.bytes block q.last q.directory at.front at.last_place x.size at.clean split at.rel next.once next.long next.count few-sides some ready made.ends refl at.last_is linked.link
           (full (record_length f.slot) (length f.blocks)) more x v some-more (filled up) (counts ∙ total-is);
+      same_size = sym (uncounted-face f.slot t same).length;
+      places = places-more a f h more (empty_record (record_length f.slot)) some-more;
       count = length-append f.blocks (fresh ∷ []);
       filled =
           let L = record_length f.slot in

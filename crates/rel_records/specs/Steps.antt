@@ -1,7 +1,7 @@
 -- A file takes one data block more: what is kept in memory for it, what it leaves, and what it writes. The order of the
 -- writes is our own.
 use Rattle.std.specs.Prelude.{ℕ, ◌≡◌, ◌≢◌, ◌⊎◌, ◌+◌, ◌-◌, ◌*◌, ◌/◌, ◌%◌, ◌<◌, ◌≤◌, ◌++◌, ◌∷◌, [], IsTrue, List, Some, Contains, if◌then◌else◌, length, nat_eq, nat_lt, slice_get, slice_index}
-use Rattle.d64_image.specs.Images.{Image, Sector, put, sector}
+use Rattle.d64_image.specs.Images.{Image, IsSector, Sector, put, sector}
 use Rattle.d64_image.specs.declared.place.Place.{Place}
 use Rattle.disk_layout.specs.Chain.{Names, byte}
 use Rattle.disk_layout.specs.Clean.{IsCleanLayout}
@@ -11,9 +11,8 @@ use Rattle.disk_layout.specs.Map.{IsMapOf, IsTaken}
 use Rattle.disk_layout.specs.Records.{filler, record_count, records}
 use Rattle.disk_layout.specs.Side.{side_sector}
 use Rattle.disk_layout.specs.View.{blocks_free}
-use Rattle.rel_records.specs.File.{IsFileOf}
 use Rattle.rel_records.specs.Growth.{full, records_had}
-use Rattle.rel_records.specs.Others.{KeepsOthers}
+use Rattle.rel_records.specs.Others.{KeepsOthers, KeepsPlaces}
 use Rattle.rel_records.specs.Written.{grown_by}
 use Rattle.rel_records.specs.declared.rel_file.RelFile.{RelFile}
 use Rattle.rel_records.specs.declared.step_parts.Parts.{Parts}
@@ -56,7 +55,9 @@ pub record HasBlockMore (old new : Image) (l : Layout) (n : ℕ) (f : File) (p q
   pub file : File
   pub at : IsAt new layout n file q
   pub others : KeepsOthers old new l layout n
+  pub same_size : record_length file.slot ≡ record_length f.slot
   pub records_are : records new file ≡ grown_by (record_length f.slot) (full (record_length f.slot) (length f.blocks + 1) - full (record_length f.slot) (length f.blocks)) (records old f)
+  pub places : KeepsPlaces old f file (grown_by (record_length f.slot) (full (record_length f.slot) (length f.blocks + 1) - full (record_length f.slot) (length f.blocks)) (records old f))
   pub count : length file.blocks ≡ length f.blocks + 1
   pub filled : IsFilledUp file
   pub free : blocks_free q.map.bytes + taken_next (length f.blocks) ≡ blocks_free p.map.bytes
@@ -93,24 +94,12 @@ pub record HasFilled (old new : Image) (l : Layout) (n : ℕ) (f : File) (p q : 
   pub file : File
   pub at : IsAt new layout n file q
   pub others : KeepsOthers old new l layout n
+  pub same_size : record_length file.slot ≡ record_length f.slot
   pub records_are : records new file ≡ grown_by (record_length f.slot) (full (record_length f.slot) (length f.blocks) - records_had f) (records old f)
+  pub places : KeepsPlaces old f file (grown_by (record_length f.slot) (full (record_length f.slot) (length f.blocks) - records_had f) (records old f))
   pub blocks : file.blocks ≡ f.blocks
   pub filled : IsFilledUp file
   pub map : q.map.bytes ≡ p.map.bytes
-
--- the file has w blocks, and all whole records that fit
-pub record HasRun (old new : Image) (l : Layout) (n : ℕ) (f : File) (w : ℕ) (v : RelFile) : Type 0 where
-  pub layout : Layout
-  pub clean : IsCleanLayout new layout
-  pub file : File
-  pub of : IsFileOf new layout n file v
-  pub others : KeepsOthers old new l layout n
-  pub count : length file.blocks ≡ w
-  pub records_are : records new file ≡ grown_by (record_length f.slot) (full (record_length f.slot) w - records_had f) (records old f)
-
--- these bytes of side sector j name the data blocks 120 j and on, as far as there are so many
-abbrev pub PointsTo : Sector → List Place → ℕ → Type 0
-PointsTo bytes all j = (k : ℕ) (q : Place) → k < 120 → slice_get all (120 * j + k) ≡ Some q → Names bytes (16 + 2 * k) q
 
 -- the file has k blocks, all whole records that fit, and what is kept in memory is of the image
 pub record IsRunTo (old now : Image) (l : Layout) (n : ℕ) (f : File) (k : ℕ) (p : Parts) : Type 0 where
@@ -120,14 +109,41 @@ pub record IsRunTo (old now : Image) (l : Layout) (n : ℕ) (f : File) (k : ℕ)
   pub others : KeepsOthers old now l layout n
   pub count : length file.blocks ≡ k
   pub filled : IsFilledUp file
+  pub same_size : record_length file.slot ≡ record_length f.slot
   pub records_are : records now file ≡ grown_by (record_length f.slot) (full (record_length f.slot) k - records_had f) (records old f)
+  pub places : KeepsPlaces old f file (grown_by (record_length f.slot) (full (record_length f.slot) k - records_had f) (records old f))
+
+-- what is kept of a file after growth is what growth kept in memory
+pub record IsKeptOf (v : RelFile) (p : Parts) : Type 0 where
+  pub sector : v.sector ≡ p.sector
+  pub number : v.number ≡ p.number
+  pub size : v.size ≡ p.size
+  pub sides : v.sides.items ≡ p.sides.items
+  pub blocks : v.blocks ≡ length p.blocks.items
+  pub last : v.last ≡ slice_index p.last 1
+
+-- the file has w blocks and all whole records that fit, and v is of it
+pub record HasRun (old new : Image) (l : Layout) (n : ℕ) (f : File) (w : ℕ) (v : RelFile) : Type 0 where
+  pub parts : Parts
+  pub run : IsRunTo old new l n f w parts
+  pub kept : IsKeptOf v parts
 
 -- a data block whose bytes from data byte `from` of the file on are empty records; the bytes before and the link stay
 pub record IsTailOf (img : Image) (place : Place) (at from L total : ℕ) (bytes : Sector) : Type 0 where
   pub link : (j : ℕ) → j < 2 → slice_index bytes j ≡ byte img place j
   pub kept : (j : ℕ) → j < 254 → at + j < from → slice_index bytes (2 + j) ≡ byte img place (2 + j)
   pub filled : (j : ℕ) → j < 254 → from ≤ at + j → slice_index bytes (2 + j) ≡ filler L total (at + j)
+  pub is_sector : IsSector bytes
 
--- the image is as it was, or has that block
-abbrev pub OldOrTail : Image → Place → ℕ → ℕ → ℕ → ℕ → Image → Type 0
-OldOrTail img place at from L total c = (c ≡ img) ⊎ ((bytes : Sector) × IsTailOf img place at from L total bytes × (c ≡ put img place bytes))
+-- nothing was to be filled before the last block, or the block before it got its tail
+abbrev pub FillsBefore : Image → Parts → ℕ → ℕ → Image → Type 0
+FillsBefore old p from total c =
+    ((254 * (length p.blocks.items - 1) ≤ from) × (c ≡ old))
+    ⊎ ((from < 254 * (length p.blocks.items - 1)) × ((place : Place) × (bytes : Sector) × (slice_get p.blocks.items (length p.blocks.items - 2) ≡ Some place) × IsTailOf old place (254 * (length p.blocks.items - 2)) from p.size total bytes × (c ≡ put old place bytes)))
+
+-- the last of n data blocks, filled up with empty records, of which the file then has all that fit
+pub record IsEnd (n L from : ℕ) (old new : Sector) : Type 0 where
+  pub ends : slice_index new 0 ≡ slice_index old 0
+  pub index : slice_index new 1 + 254 * (n - 1) ≡ full L n * L + 1
+  pub kept : (j : ℕ) → j < 254 → 254 * (n - 1) + j < from → slice_index new (2 + j) ≡ slice_index old (2 + j)
+  pub filled : (j : ℕ) → j < 254 → from ≤ 254 * (n - 1) + j → slice_index new (2 + j) ≡ filler L (full L n) (254 * (n - 1) + j)

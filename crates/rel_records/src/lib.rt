@@ -4,7 +4,9 @@
 mod access;
 mod counting;
 mod faults;
+mod filling;
 mod finding;
+mod gathering;
 mod growth;
 mod lookup;
 mod next_block;
