@@ -12,6 +12,7 @@ use Rattle.disk_layout.proofs.Runs.{replicate-add}
 use Rattle.disk_layout.specs.Layout.{File, Layout, record_length, sides_for}
 use Rattle.disk_layout.specs.Records.{empty_record, records}
 use Rattle.disk_layout.specs.View.{blocks_free}
+use Rattle.rel_records.proofs.Filled.{filled-already}
 use Rattle.rel_records.proofs.Fulls.{full-inside}
 use Rattle.rel_records.proofs.Kept.{has_then, keeps_then, places-then}
 use Rattle.rel_records.proofs.Standing.{had-full}
@@ -98,6 +99,14 @@ run-filled a x l n f p q h = record {
   records_are = h.records_are;
   places = h.places;
 }
+
+-- nothing is done yet
+pub run-here : (a : Image) (l : Layout) (n : ℕ) (f : File) (p : Parts) (k : ℕ) → IsImage a → IsAt a l n f p → IsFilledUp f → length f.blocks ≡ k → IsRunTo a a l n f k p
+run-here a l n f p k w at up e = let P : ℕ → Type 0 = λ c. IsRunTo a a l n f c p in subst P e (run-filled a a l n f p p (filled-already a l n f p w at up))
+
+-- so many records fit into the blocks that the file has
+pub low-full : (f : File) (k : ℕ) → 0 < record_length f.slot → IsFilledUp f → length f.blocks ≤ k → records_had f ≤ full (record_length f.slot) k
+low-full f k pos up le = omega (arith, up, full-mono (record_length f.slot) (length f.blocks) k pos le)
 
 -- a block more is a run
 pub run-block : (a x : Image) (l : Layout) (n : ℕ) (f : File) (p q : Parts) → IsFilledUp f → HasBlockMore a x l n f p q → IsRunTo a x l n f (length f.blocks + 1) q

@@ -41,6 +41,10 @@ StandsAt img p = (l : Layout) × (n : ℕ) × (f : File) × IsAt img l n f p
 abbrev pub IsFilledUp : File → Type 0
 IsFilledUp f = record_count (length f.blocks) f.last (record_length f.slot) ≡ full (record_length f.slot) (length f.blocks)
 
+-- and the file has all whole records that fit into its blocks
+abbrev pub StandsFilled : Image → Parts → Type 0
+StandsFilled img p = (l : Layout) × (n : ℕ) × (f : File) × IsAt img l n f p × IsFilledUp f
+
 -- the sectors that the next block takes: two where the side sectors of n blocks are full
 abbrev pub taken_next : ℕ → ℕ
 taken_next n = if nat_eq (n % 120) 0 then 2 else 1
