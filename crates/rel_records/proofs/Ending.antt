@@ -75,11 +75,13 @@ module _ (a : Image) (l : Layout) (before after : List File) (f : File) (h : IsL
       record {
         layout = (let P : Place → Type 0 = λ x. IsLayout (put a x bytes) (exchanged l before (ended f u) after) in subst P last (IsLayout-ended a l before after f u bytes w.size h split r rel zero_there index));
         files = all-join (λ x. IsTrue (is_rel x.slot) → IsExactFile (put a q bytes) x) before (ended f u ∷ after)
-            (exact-stay a (put a q bytes) before others-before (all-left (λ x. IsTrue (is_rel x.slot) → IsExactFile a x) before (f ∷ after) exact))
-            (λ t. record {
-              sides = λ j x at. sector-put_other a q x bytes (λ e. EachOnce-apart f.blocks f.sides (own-once l before after f once) q mine (let P : Place → Type 0 = Contains f.sides in subst P (sym e) (get-contains f.sides j x at))) ∙ here.sides j x at;
-              count = here.count;
-            }, exact-stay a (put a q bytes) after others-after behind.1);
+            (exact-stay a (put a q bytes) before others-before (all-left (λ x. IsTrue (is_rel x.slot) → IsExactFile a x) before (f ∷ after) exact)) (
+              λ t. record {
+                sides = λ j x at. sector-put_other a q x bytes (λ e. EachOnce-apart f.blocks f.sides (own-once l before after f once) q mine (let P : Place → Type 0 = Contains f.sides in subst P (sym e) (get-contains f.sides j x at))) ∙ here.sides j x at;
+                count = here.count;
+              },
+              exact-stay a (put a q bytes) after others-after behind.1,
+            );
         map =
             let P : Sector → Type 0 = λ b. IsMapOf b (map_place ∷ owners (exchanged l before (ended f u) after)) in
             let Q : List Place → Type 0 = λ ps. IsMapOf (sector a map_place) (map_place ∷ ps) in

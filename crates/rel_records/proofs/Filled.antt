@@ -135,13 +135,17 @@ module _ (a : Image) (l : Layout) (n : ℕ) (f : File) (p : Parts) (w : IsImage 
       bytes = λ i lo hi. tail-new a f.blocks (length f.blocks - 2) from L total q bytes w v (blocks-once a l n f p at) here tail.kept tail.filled i lo (omega (arith, reach, lo)) (omega (arith, hi, two));
     }
 
--- the last index stands in the last block, so the count of records is that of what is in memory
+-- the last index stands in the last block
+pub last-index : (a : Image) (l : Layout) (n : ℕ) (f : File) (p : Parts) → IsAt a l n f p → slice_index p.last 1 ≡ f.last
+last-index a l n f p at =
+    let c = (file-rel a l n f p at).chain.2 in
+    ap (λ s. slice_index s 1) (at.last ∙ ap (sector a) (sym (same-last a l n f p at))) ∙ c.ends.1
+
+-- so the count of records is that of what is in memory
 pub had-is : (a : Image) (l : Layout) (n : ℕ) (f : File) (p : Parts) → IsAt a l n f p → records_had f ≡ record_count (length p.blocks.items) (slice_index p.last 1) p.size
 had-is a l n f p at =
-    let c = (file-rel a l n f p at).chain.2 in
-    let last : slice_index p.last 1 ≡ f.last = ap (λ s. slice_index s 1) (at.last ∙ ap (sector a) (sym (same-last a l n f p at))) ∙ c.ends.1 in
     let many : length p.blocks.items ≡ length f.blocks = ap length at.blocks in
-    ap (λ k. record_count k f.last (record_length f.slot)) (sym many) ∙ ap (λ u. record_count (length p.blocks.items) u (record_length f.slot)) (sym last) ∙ ap (record_count (length p.blocks.items) (slice_index p.last 1)) (sym at.size)
+    ap (λ k. record_count k f.last (record_length f.slot)) (sym many) ∙ ap (λ u. record_count (length p.blocks.items) u (record_length f.slot)) (sym (last-index a l n f p at)) ∙ ap (record_count (length p.blocks.items) (slice_index p.last 1)) (sym at.size)
 
 -- the tail of a block, as it is filled
 pub tail-of : (a : Image) (place : Place) (old new : Sector) (k n from L total : ℕ) → k ≡ n → old ≡ sector a place → IsSector new
@@ -185,16 +189,19 @@ module _ (a : Image) (l : Layout) (n : ℕ) (f : File) (p : Parts) (w : IsImage 
 
   pub old-grows : (m : ℕ) → IsGrowingBy a l n f m a
   old-grows m =
-      let P : List (List ℕ) → Type 0 = HasRecords a a l n in
-      (0, omega arith, subst P (sym (append-nil (records a f))) (record {
-        layout = l;
-        is_layout = at.clean.layout;
-        others = record { directory = refl; entries = refl; files = λ k g ne h. h; bytes = λ k g ne h. refl; header = refl };
-        file = f;
-        there = at.there;
-        records = refl;
-        places = λ y e. let same : f ≡ y = cc in (let Q : File → Type 0 = λ z. (length (records a z) ≤ length (records a f)) × ((file_owns f ≡ file_owns z) ⊎ (length (records a z) < length (records a f))) in subst Q same (omega arith, inl refl));
-      }))
+      let P : List (List ℕ) → Type 0 = HasRecords a a l n in (
+        0,
+        omega arith,
+        subst P (sym (append-nil (records a f))) (record {
+          layout = l;
+          is_layout = at.clean.layout;
+          others = record { directory = refl; entries = refl; files = λ k g ne h. h; bytes = λ k g ne h. refl; header = refl };
+          file = f;
+          there = at.there;
+          records = refl;
+          places = λ y e. let same : f ≡ y = cc in (let Q : File → Type 0 = λ z. (length (records a z) ≤ length (records a f)) × ((file_owns f ≡ file_owns z) ⊎ (length (records a z) < length (records a f))) in subst Q same (omega arith, inl refl));
+        }),
+      )
 
   -- nothing was to be filled
   pub filled-already : records_had f ≡ full (record_length f.slot) (length f.blocks) → HasFilled a a l n f p p

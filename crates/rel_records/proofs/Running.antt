@@ -112,7 +112,7 @@ low-full f k pos up le = omega (arith, up, full-mono (record_length f.slot) (len
 pub run-block : (a x : Image) (l : Layout) (n : ℕ) (f : File) (p q : Parts) → IsFilledUp f → HasBlockMore a x l n f p q → IsRunTo a x l n f (length f.blocks + 1) q
 run-block a x l n f p q up h =
     let e : full (record_length f.slot) (length f.blocks + 1) - full (record_length f.slot) (length f.blocks) ≡ full (record_length f.slot) (length f.blocks + 1) - records_had f
-        = ap (λ c. full (record_length f.slot) (length f.blocks + 1) - c) (sym up) in
+    = ap (λ c. full (record_length f.slot) (length f.blocks + 1) - c) (sym up) in
     record {
       layout = h.layout;
       file = h.file;
@@ -229,6 +229,6 @@ module _ {D : Type 0} (S : History D) (d x y : D) (l : Layout) (n : ℕ) (f : Fi
       let steps : step_writes (length run.file.blocks) ≡ step_writes k = ap step_writes run.count in
       let size = run.same_size in
       let fewer : full (record_length run.file.slot) (length run.file.blocks + 1) - full (record_length run.file.slot) (length run.file.blocks) ≤ full (record_length run.file.slot) w - records_had run.file =
-          omega (arith, run.filled, full-mono (record_length run.file.slot) (length run.file.blocks + 1) w (let P : ℕ → Type 0 = λ s. 0 < s in subst P (sym size) pos) (omega (arith, run.count, more))) in
+      omega (arith, run.filled, full-mono (record_length run.file.slot) (length run.file.blocks + 1) w (let P : ℕ → Type 0 = λ s. 0 < s in subst P (sym size) pos) (omega (arith, run.count, more))) in
       changes_then S d x y (run_writes (length f.blocks) k) (step_writes (length run.file.blocks)) (run_writes (length f.blocks) (k + 1)) _ (omega (arith, writes, steps)) so_far
       (changes_weaker S x y _ _ _ _ (omega arith) (λ c h. run-held (S.image d) (S.image x) l n f k w p low (omega (arith, more)) pos there run c (growing-more (S.image x) c run.layout n run.file _ _ fewer h)) next)

@@ -59,7 +59,13 @@ fn fill_before<D: Sectors>(
     let place = parts.blocks[count - 2];
     let mut bytes = [0; 256];
     disk.read(place, &mut bytes)?;
-    fill_tail(&mut bytes, BLOCK * (count as u32 - 2), from, parts.size, total);
+    fill_tail(
+        &mut bytes,
+        BLOCK * (count as u32 - 2),
+        from,
+        parts.size,
+        total,
+    );
     disk.write(place, &bytes)
 }
 

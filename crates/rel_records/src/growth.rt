@@ -99,11 +99,7 @@ fn grow<D: Sectors>(
 }
 
 /// Gives a file that is filled up blocks, one after another, until it has `wanted`.
-fn add_blocks<D: Sectors>(
-    disk: &mut D,
-    parts: &mut Parts,
-    wanted: u16,
-) -> Result<(), DeviceFault>
+fn add_blocks<D: Sectors>(disk: &mut D, parts: &mut Parts, wanted: u16) -> Result<(), DeviceFault>
     requires at { StandsFilled (D.history.image disk.old) parts.old }
     requires more { length parts.old.blocks.items ≤ wanted }
     requires few { wanted ≤ 720 }

@@ -22,10 +22,11 @@ list_blocks-requires-clause-named g c =
     let items : c.as_slice-side-items.result.now ≡ v.sides.items = c.as_slice-side-items.ensures.value in
     let lt : i < length v.sides.items = omega (arith, c.loop-side-test.true, ap length items) in
     let at : slice_get v.sides.items i ≡ Some c.side-item.result = read-there v.sides.items i c.side-item.result lt (rw items at c.side-item.is) in
-    let read : c.read.new.to ≡ sector (S.image c.args.disk.now) c.side-item.result = c.in_ok-read.ensures.sector ∙ ap (λ img. sector img c.side-item.result) c.loop-side.invariant.reads.image in
-    (take 120 (drop (120 * i) f.blocks),
-    piece-long _ l n f v of i c.len.result c.loop-side.blocks.items (c.loop-side.invariant.listed l n f of) c.len.ensures.value lt ∙ sym c.min-count.ensures,
-    piece-named _ l n f v of i c.side-item.result c.read.new.to at read)
+    let read : c.read.new.to ≡ sector (S.image c.args.disk.now) c.side-item.result = c.in_ok-read.ensures.sector ∙ ap (λ img. sector img c.side-item.result) c.loop-side.invariant.reads.image in (
+      take 120 (drop (120 * i) f.blocks),
+      piece-long _ l n f v of i c.len.result c.loop-side.blocks.items (c.loop-side.invariant.listed l n f of) c.len.ensures.value lt ∙ sym c.min-count.ensures,
+      piece-named _ l n f v of i c.side-item.result c.read.new.to at read,
+    )
 
 pub loop-side-preserved : goal.loop-side-preserved
 loop-side-preserved g c =
