@@ -14,7 +14,6 @@ ghost use Rattle.rel_records.specs.Written.{IsDone, IsInOneBlock, IsWriting, gro
 ghost use Rattle.rel_records.specs.declared.faults.RelFault.TheVariants.{Device, Full, Overflow, TooLarge};
 
 use crate::access::{read, write};
-use crate::counting::records;
 use crate::faults::RelFault;
 use crate::growth::grow_to;
 use crate::lookup::block_at;
@@ -189,9 +188,7 @@ pub fn write_record<D: Sectors>(
     ensures entry { entry_of file.new ≡ entry_of file.old }
     ensures failures { TellsRelFault D.history disk.old disk.new result }
 {
-    if number > records(file) {
-        grow_to(disk, file, number)?;
-    }
+    grow_to(disk, file, number)?;
     write_there(disk, file, number, position, text)?;
     if text.len() + position as usize > file.size as usize + 1 {
         return Err(RelFault::Overflow);
