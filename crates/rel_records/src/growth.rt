@@ -39,12 +39,5 @@ pub fn grow_to<D: Sectors>(disk: &mut D, file: &mut RelFile, number: u32) -> Res
     ensures failures { TellsRelFault D.history disk.old disk.new result }
 {
     // a stand-in
-    if number as usize > file.entry {
-        return Err(RelFault::Full);
-    }
-    let mut block = [0; 256];
-    disk.read(file.sector, &mut block)
-        .map_err(|_| RelFault::Device)?;
-    file.last = block[0];
     Ok(())
 }
