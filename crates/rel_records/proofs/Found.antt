@@ -1,5 +1,6 @@
 -- A relative file found by its name: what a sound disk excludes, and what the slot says of its file.
-use Rattle.std.proofs.Common.{[], ◌∷◌, List, None, Option, Some, IsSome, ap, arith, inl, inr, length, length-append, map, refl, subst, sym, ℕ, ◌+◌, ◌*◌, ◌<◌, ◌∙◌, ◌≡◌, ◌≤◌}
+use Rattle.std.proofs.lemmas.Bool.{false≢true}
+use Rattle.std.proofs.Common.{[], ◌∷◌, Bool, IsTrue, List, None, false, Option, Some, IsSome, ap, arith, inl, inr, length, length-append, map, refl, subst, sym, ℕ, ◌+◌, ◌*◌, ◌<◌, ◌∙◌, ◌≡◌, ◌≤◌}
 use Rattle.std.proofs.lemmas.Option.{slice_get-map}
 use Rattle.std.specs.Prelude.{option_map, slice_get, slice_index}
 use Rattle.d64_image.specs.Images.{Image, sector}
@@ -90,6 +91,13 @@ some-first img s o (f, of) is = let (p, at, chain) = first-named img s f of in l
 pub some-side : (img : Image) (s : Slot) (o : Option Place) → HasRel img s → o ≡ named_at s.bytes 21 → IsSome o
 some-side img s o (f, of) is = let (q, at, names) = first-side img s f of in let P : Option Place → Type 0 = IsSome in subst P (sym (is ∙ at)) refl
 
+-- the walk of its chain fails by the device alone
+pub walk-failed : (failed : Type 0) (img : Image) (s : Slot) (o : Option Place) (first : Place) (fault : Fault) → HasRel img s → o ≡ named_at s.bytes 3 → o ≡ Some first → HoldsOfChain failed img first fault → failed
+walk-failed failed img s o first fault (f, of) named is h =
+    let (p, at, chain) = first-named img s f of in
+    let P : Place → Type 0 = λ x. HoldsOfChain failed img x fault in
+    chain-failed failed img p f.blocks f.last fault chain (subst P (some-named first p o (named ∙ at) is) h)
+
 -- what an option was made from
 made-from : {X Y : Type 0} (g : X → Y) (o : Option X) (z : Y) → option_map g o ≡ Some z → (x : X) × (o ≡ Some x) × (g x ≡ z)
 made-from g None z e = cc
@@ -117,3 +125,13 @@ first-found img l slots name n is e h =
 -- where no slot has the name, no file has
 pub none-found : (l : Layout) (slots : List Slot) (name : List ℕ) → slots ≡ map (λ (f : File). f.slot) l.files → HasNoneNamed slots name → (k : ℕ) (f : File) → slice_get l.files k ≡ Some f → ¬ (IsNamed name f)
 none-found l slots name e none k f at = none k f.slot (file-slot l slots k f e at)
+
+-- one slot at one place
+pub same-slot : (slots : List Slot) (n : ℕ) (s t : Slot) → slice_get slots n ≡ Some s → slice_get slots n ≡ Some t → s ≡ t
+same-slot slots n s t at to = cc
+
+-- a slot that was judged not to have the name
+pub not-named : (name : List ℕ) (s t : Slot) (judged : Bool) → judged ≡ false → (IsNamedSlot name s → IsTrue judged) → s ≡ t → ¬ (IsNamedSlot name t)
+not-named name s t judged off tells same named =
+    let P : Slot → Type 0 = IsNamedSlot name in
+    false≢true (sym off ∙ tells (subst P (sym same) named))

@@ -53,13 +53,18 @@ fn list_slots<D: Sectors>(disk: &mut D, slots: &mut ArrayVec<Slot, 144>) -> Resu
     ensures reads { OnlyReads D.history disk.old disk.new 18 }
     ensures failures { TellsRelFault D.history disk.old disk.new result }
 {
-    read_directory(disk, slots).map_err(|_| RelFault::Device)
+    match read_directory(disk, slots) {
+        Ok(()) => Ok(()),
+        // a sound disk has a directory
+        Err(_) => Err(RelFault::Device),
+    }
 }
 
 /// How many data blocks the file of a relative slot has, and the index of the last used byte of the last one.
 fn measure<D: Sectors>(disk: &mut D, slot: &Slot) -> Result<(u16, u8), RelFault>
     requires of { HasRel (D.history.image disk.old) slot.now }
     ensures ok { (f : File) → IsRelOf (D.history.image disk.old) slot.now f → IfOk result (λ found. (found.0 ≡ length f.blocks) × (found.1 ≡ f.last)) }
+    ensures few { IfOk result (λ found. found.0 ≤ 683) }
     ensures err { IfErr result (λ fault. fault ≡ Device) }
     ensures reads { OnlyReads D.history disk.old disk.new 683 }
     ensures failures { TellsRelFault D.history disk.old disk.new result }
@@ -67,8 +72,11 @@ fn measure<D: Sectors>(disk: &mut D, slot: &Slot) -> Result<(u16, u8), RelFault>
     let (track, sector) = EntryView::new(&slot.bytes).first_block();
     let first = Place::new(track, sector).unwrap();
     let mut blocks = ArrayVec::new();
-    let last = walk_chain(disk, first, &mut blocks).map_err(|_| RelFault::Device)?;
-    Ok((blocks.len() as u16, last))
+    match walk_chain(disk, first, &mut blocks) {
+        Ok(last) => Ok((blocks.len() as u16, last)),
+        // the file has a chain
+        Err(_) => Err(RelFault::Device),
+    }
 }
 
 /// Reads the side sector at `place` and lists the first `count` side sectors that it names.
