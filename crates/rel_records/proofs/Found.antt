@@ -1,9 +1,10 @@
 -- A relative file found by its name: what a sound disk excludes, and what the slot says of its file.
 use Rattle.std.proofs.lemmas.Bool.{false≢true}
-use Rattle.std.proofs.Common.{[], ◌∷◌, Bool, IsTrue, List, None, false, Option, Some, IsSome, ap, arith, inl, inr, length, length-append, map, refl, subst, sym, ℕ, ◌+◌, ◌*◌, ◌<◌, ◌∙◌, ◌≡◌, ◌≤◌}
-use Rattle.std.proofs.lemmas.Option.{slice_get-map}
+use Rattle.std.proofs.Common.{[], ◌∷◌, Bool, IsTrue, List, None, ap₂, false, get_or, take, ◌++◌, Option, Some, IsSome, ap, arith, inl, inr, length, length-append, map, refl, subst, sym, ℕ, ◌+◌, ◌*◌, ◌<◌, ◌∙◌, ◌≡◌, ◌≤◌}
+use Rattle.std.proofs.lemmas.List.{take_more}
+use Rattle.std.proofs.lemmas.Option.{slice_get-get_or, slice_get-map}
 use Rattle.std.specs.Prelude.{option_map, slice_get, slice_index}
-use Rattle.d64_image.specs.Images.{Image, sector}
+use Rattle.d64_image.specs.Images.{Image, Sector, sector}
 use Rattle.d64_image.specs.declared.place.Place.{Place}
 use Rattle.disk_layout.proofs.BlankPlaces.{get-some}
 use Rattle.disk_layout.proofs.Chains.{IsChain-one, bad_link-no_chain, loop-no_chain}
@@ -135,3 +136,16 @@ pub not-named : (name : List ℕ) (s t : Slot) (judged : Bool) → judged ≡ fa
 not-named name s t judged off tells same named =
     let P : Slot → Type 0 = IsNamedSlot name in
     false≢true (sym off ∙ tells (subst P (sym same) named))
+
+-- the place that a side sector lists next
+pub listed-some : (bytes : Sector) (qs : List Place) (k : ℕ) (o : Option Place) → NamesEach bytes 4 qs → k < length qs → o ≡ named_at bytes (4 + 2 * k) → IsSome o
+listed-some bytes qs k o names lt is =
+    let (q, at) = get-some qs k lt in
+    let P : Option Place → Type 0 = IsSome in
+    subst P (sym (is ∙ named-is bytes (4 + 2 * k) q (names k q at))) refl
+
+pub listed-more : (bytes : Sector) (qs before after : List Place) (k : ℕ) (o : Option Place) (p : Place) → NamesEach bytes 4 qs → k < length qs → o ≡ named_at bytes (4 + 2 * k) → o ≡ Some p → before ≡ take k qs → after ≡ before ++ p ∷ [] → after ≡ take (k + 1) qs
+listed-more bytes qs before after k o p names lt is some so_far now =
+    let there : slice_get qs k ≡ Some (get_or qs k p) = slice_get-get_or qs k p lt in
+    let same : p ≡ get_or qs k p = some-named p (get_or qs k p) o (is ∙ named-is bytes (4 + 2 * k) (get_or qs k p) (names k (get_or qs k p) there)) some in
+    now ∙ ap₂ (λ (xs : List Place) (x : Place). xs ++ x ∷ []) so_far same ∙ sym (take_more qs k p lt)
