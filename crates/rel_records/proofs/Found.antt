@@ -82,6 +82,12 @@ module _ (img : Image) (s : Slot) (f : File) (of : IsRelOf img s f) where
       let (q, at) = get-some f.sides 0 (omega (arith, of.file.count, some-blocks)) in
       (q, ap (λ (x : Slot). named_at x.bytes 21) (sym of.slot) ∙ named-is f.slot.bytes 21 q (of.file.first_side q at), (of.file.sides 0 q at).sides)
 
+  pub sides-named : (now : Image) (o : Option Place) (first : Place) → now ≡ img → o ≡ named_at s.bytes 21 → o ≡ Some first → NamesEach (sector now first) 4 f.sides
+  sides-named now o first same named is =
+      let (q, at, names) = first-side in
+      let P : Image → Place → Type 0 = λ i x. NamesEach (sector i x) 4 f.sides in
+      subst (λ (i : Image). P i first) (sym same) (subst (P img) (sym (some-named first q o (named ∙ at) is)) names)
+
   pub length-is : slice_index s.bytes 23 ≡ record_length f.slot
   length-is = ap (λ (x : Slot). slice_index x.bytes 23) (sym of.slot)
 

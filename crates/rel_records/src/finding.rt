@@ -124,7 +124,8 @@ fn open_entry<D: Sectors>(disk: &mut D, entry: usize, slot: &Slot) -> Result<Rel
     let first = Place::new(track, sector).unwrap();
     let (blocks, last) = measure(disk, slot)?;
     let mut sides = ArrayVec::new();
-    read_sides(disk, first, blocks.div_ceil(POINTERS) as usize, &mut sides)?;
+    let count = (blocks + POINTERS - 1) / POINTERS;
+    read_sides(disk, first, count as usize, &mut sides)?;
     Ok(RelFile {
         entry,
         sector: slot.sector,
