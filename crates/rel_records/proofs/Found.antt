@@ -2,8 +2,8 @@
 use Rattle.std.proofs.lemmas.Bool.{false≢true}
 use Rattle.std.proofs.Common.{[], ◌∷◌, Bool, IsTrue, List, None, ap₂, false, get_or, take, ◌++◌, Option, Some, IsSome, ap, arith, inl, inr, length, length-append, map, refl, subst, sym, ℕ, ◌+◌, ◌*◌, ◌<◌, ◌∙◌, ◌≡◌, ◌≤◌}
 use Rattle.std.proofs.lemmas.List.{take_more}
-use Rattle.std.proofs.lemmas.Option.{slice_get-get_or, slice_get-map}
-use Rattle.std.specs.Prelude.{option_map, slice_get, slice_index}
+use Rattle.std.proofs.lemmas.Option.{slice_get-get_or, slice_get-map, slice_get_read, slice_get_within}
+use Rattle.std.specs.Prelude.{Err, IfOk, Ok, Result, option_map, slice_get, slice_index}
 use Rattle.d64_image.specs.Images.{Image, Sector, sector}
 use Rattle.d64_image.specs.declared.place.Place.{Place}
 use Rattle.disk_layout.proofs.BlankPlaces.{get-some}
@@ -20,8 +20,11 @@ use Rattle.disk_layout.specs.declared.faults.Fault.{Fault}
 use Rattle.disk_layout.specs.declared.faults.Fault.TheVariants.{BadLength, BadLink, BadSide, BadType, CountWrong, Device, Loop, MapWrong, OwnedTwice, Unclosed}
 use Rattle.disk_layout.specs.declared.slot.Slot.{Slot}
 use Rattle.rel_records.proofs.Opened.{rel-of}
+use Rattle.rel_records.specs.File.{IsFileOf, Shows, entry_of}
 use Rattle.rel_records.specs.Named.{HasNoneNamed, HasRel, IsFirstNamed, IsNamedSlot, IsRelOf}
 use Rattle.rel_records.specs.Sides.{NamesEach}
+use Rattle.rel_records.specs.declared.faults.RelFault.{RelFault}
+use Rattle.rel_records.specs.declared.rel_file.RelFile.{RelFile}
 
 -- a walk along a chain that is there fails by the device alone
 pub chain-failed : (failed : Type 0) (img : Image) (first : Place) (ps : List Place) (u : ℕ) (fault : Fault) → IsChain img first ps u → HoldsOfChain failed img first fault → failed
@@ -155,3 +158,19 @@ listed-more bytes qs before after k o p names lt is some so_far now =
     let there : slice_get qs k ≡ Some (get_or qs k p) = slice_get-get_or qs k p lt in
     let same : p ≡ get_or qs k p = some-named p (get_or qs k p) o (is ∙ named-is bytes (4 + 2 * k) (get_or qs k p) (names k (get_or qs k p) there)) some in
     now ∙ ap₂ (λ (xs : List Place) (x : Place). xs ++ x ∷ []) so_far same ∙ sym (take_more qs k p lt)
+
+-- the slot that is opened is that of the first file of the name
+pub opened-of : (img now : Image) (l : Layout) (slots : List Slot) (name : List ℕ) (n : ℕ) (s : Slot) → now ≡ img → IsLayout img l → slots ≡ map (λ (f : File). f.slot) l.files → IsFirstNamed slots name n → s ≡ get_or slots n s → (f : File) × IsFirst l name n f × IsRelOf now s f
+opened-of img now l slots name n s same is e h read =
+    let (f, first, rel) = first-found img l slots name n is e h in
+    let there = slice_get_read slots (length slots) n s refl (slice_get_within slots n h.slot h.there) read in
+    let slot : h.slot ≡ s = same-slot slots n h.slot s h.there there in
+    let P : Image → Slot → Type 0 = λ i t. IsRelOf i t f in
+    (f, first, subst (λ (i : Image). P i s) (sym same) (subst (P img) slot rel))
+
+-- so what is kept is of it
+pub opened : (img : Image) (l : Layout) (name : List ℕ) (n : ℕ) (f : File) (r : Result RelFile RelFault) → IsLayout img l → IsFirst l name n f → IfOk r (Shows f) → IfOk r (λ v. entry_of v ≡ n) → IfOk r (λ v. (g : File) × IsFirst l name (entry_of v) g × IsFileOf img l (entry_of v) g v)
+opened img l name n f (Ok v) is first shows entry =
+    let P : ℕ → Type 0 = λ k. (g : File) × IsFirst l name k g × IsFileOf img l k g v in
+    subst P (sym entry) (f, first, record { layout = is; there = first.file; rel = first.named.0; shows = shows })
+opened img l name n f (Err e) is first shows entry = tt

@@ -1,5 +1,5 @@
 //! A relative file found by its name.
-ghost use Rattle.std.specs.Prelude.{◌≡◌, ◌⊎◌, ◌↔◌, ◌+◌, ◌≤◌, ◌<◌, List, IfErr, IfOk, IsTrue, MatchOption, OnOk, Some, length, map, slice_get};
+ghost use Rattle.std.specs.Prelude.{◌≡◌, ◌⊎◌, ◌↔◌, ◌+◌, ◌≤◌, ◌<◌, List, IfErr, IfOk, IsTrue, MatchOption, OnOk, Some, length, map, slice_get, ℕ};
 ghost use Rattle.d64_image.specs.History.{OnlyReads};
 ghost use Rattle.d64_image.specs.Images.{sector};
 ghost use Rattle.d64_image.specs.declared.place.Place.{Place};
@@ -151,9 +151,10 @@ pub fn find<D: Sectors>(disk: &mut D, name: &[u8]) -> Result<RelFile, RelFault>
     ensures reads { OnlyReads D.history disk.old disk.new 702 }
     ensures failures { TellsRelFault D.history disk.old disk.new result }
 {
-    let mut slots = ArrayVec::new();
-    list_slots(disk, &mut slots)?;
-    let Some(entry) = first_named(slots.as_slice(), name) else {
+    let mut used = ArrayVec::new();
+    list_slots(disk, &mut used)?;
+    let slots = used.as_slice();
+    let Some(entry) = first_named(slots, name) else {
         return Err(RelFault::NotFound);
     };
     open_entry(disk, entry, &slots[entry])
