@@ -38,7 +38,7 @@ module _ (img : Image) (l : Layout) (n : ℕ) (f : File) (v : RelFile) (w : IsIm
   reach = rw (← of.shows.size) pos_high
 
   below : r - 1 < record_count (length f.blocks) f.last (record_length f.slot)
-  below = omega (arith, same-count img l n f v of w, low, high)
+  below = omega (arith, same-count img l n f v of, low, high)
 
   room-is : 254 * block + 254 - (r - 1) * record_length f.slot ≡ room_in_first (record_length f.slot) r
   room-is =

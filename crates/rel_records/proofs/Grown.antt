@@ -11,10 +11,6 @@ use Rattle.rel_records.specs.Others.{HasRecords, KeepsRelFiles, LeavesRecords}
 use Rattle.rel_records.specs.Written.{IsGrowingBy, IsWriting, grown_by, with_half, with_written}
 use Rattle.rel_records.specs.declared.rel_file.RelFile.{RelFile}
 
-pub le-rows : (r L : ℕ) → 1 ≤ L → r ≤ r * L
-le-rows zero L h = omega arith
-le-rows (suc k) L h = omega (arith, h, le-rows k L h)
-
 -- the record length that the file keeps
 pub size-kept : (a b : Image) (l m : Layout) (n k : ℕ) (f g : File) (v w : RelFile) → IsFileOf a l n f v → IsFileOf b m k g w → length_of w ≡ length_of v → record_length g.slot ≡ record_length f.slot
 size-kept a b l m n k f g v w of to same = sym to.shows.size ∙ same ∙ of.shows.size

@@ -5,8 +5,8 @@ use Rattle.d64_image.proofs.Moments.{at_end}
 use Rattle.d64_image.specs.History.{Changes}
 use Rattle.d64_image.specs.Images.{Image}
 use Rattle.disk_layout.specs.Layout.{record_length}
-use Rattle.rel_records.proofs.Grown.{changes-growing, changes-grown, le-rows, size-kept, written-then, writing-others}
-use Rattle.rel_records.proofs.Readings.{there-fits}
+use Rattle.rel_records.proofs.Grown.{changes-growing, changes-grown, size-kept, written-then, writing-others}
+use Rattle.rel_records.proofs.Readings.{placed}
 use Rattle.rel_records.specs.File.{length_of}
 use Rattle.rel_records.specs.Growth.{IsFull, IsTooLarge, added, growth_writes, records_had}
 use Rattle.rel_records.specs.Written.{IsWriting, touched}
@@ -104,7 +104,7 @@ returns-then-text-position-clause-there g c = λ done.
     let w = c.grow_to.new.file in
     let (l, n, f, of) = c.requires.of in
     let h = c.in_ok-grow_to.ensures.ok l n f of in
-    (c.in_ok-grow_to.ensures.there, omega (arith, there-fits (S.image c.grow_to.new.disk) w c.args.number (h.layout, n, h.file, h.of) (S.whole c.grow_to.new.disk) c.requires.number c.in_ok-grow_to.ensures.there, w.few, le-rows c.args.number (length_of w) w.size_low))
+    (c.in_ok-grow_to.ensures.there, placed (S.image c.grow_to.new.disk) w c.args.number (h.layout, n, h.file, h.of) (S.whole c.grow_to.new.disk) c.requires.number c.in_ok-grow_to.ensures.there)
 
 pub returns-then-text-position-clause-fits : goal.returns-then-text-position-clause-fits
 returns-then-text-position-clause-fits g c = λ l n f of done. c.in_ok-grow_to.ensures.fits l n f of
@@ -165,7 +165,7 @@ returns-clause-there g c = λ done.
     let w = c.grow_to.new.file in
     let (l, n, f, of) = c.requires.of in
     let h = c.in_ok-grow_to.ensures.ok l n f of in
-    (c.in_ok-grow_to.ensures.there, omega (arith, there-fits (S.image c.grow_to.new.disk) w c.args.number (h.layout, n, h.file, h.of) (S.whole c.grow_to.new.disk) c.requires.number c.in_ok-grow_to.ensures.there, w.few, le-rows c.args.number (length_of w) w.size_low))
+    (c.in_ok-grow_to.ensures.there, placed (S.image c.grow_to.new.disk) w c.args.number (h.layout, n, h.file, h.of) (S.whole c.grow_to.new.disk) c.requires.number c.in_ok-grow_to.ensures.there)
 
 pub returns-clause-fits : goal.returns-clause-fits
 returns-clause-fits g c = λ l n f of done. c.in_ok-grow_to.ensures.fits l n f of
