@@ -125,12 +125,15 @@ pub first-found : (img : Image) (l : Layout) (slots : List Slot) (name : List �
 first-found img l slots name n is e h =
     let (f, at, slot) = slot-file l slots n h.slot e h.there in
     let P : Slot → Type 0 = IsNamedSlot name in
-    let named : IsNamedSlot name f.slot = subst P (sym slot) h.named in
-    (f, record {
-      file = at;
-      named = named;
-      first = λ k g lt there. h.first k g.slot lt (file-slot l slots k g e there);
-    }, record { slot = slot; file = rel-of img l n f is at named.0 })
+    let named : IsNamedSlot name f.slot = subst P (sym slot) h.named in (
+      f,
+      record {
+        file = at;
+        named = named;
+        first = λ k g lt there. h.first k g.slot lt (file-slot l slots k g e there);
+      },
+      record { slot = slot; file = rel-of img l n f is at named.0 },
+    )
 
 -- where no slot has the name, no file has
 pub none-found : (l : Layout) (slots : List Slot) (name : List ℕ) → slots ≡ map (λ (f : File). f.slot) l.files → HasNoneNamed slots name → (k : ℕ) (f : File) → slice_get l.files k ≡ Some f → ¬ (IsNamed name f)

@@ -1,9 +1,7 @@
 -- Slot by slot: none is so named yet, or this one is the first.
-use Rattle.std.proofs.Common.{arith, length, refl, sym, ℕ, ◌∙◌, ◌≡◌}
+use Rattle.std.proofs.Common.{arith, length, refl}
 use borrow.Author.Count.{below_more}
 use Rattle.std.proofs.lemmas.Option.{slice_get_read, slice_get_within}
-use Rattle.std.specs.Prelude.{Some, slice_get}
-use Rattle.disk_layout.specs.declared.slot.Slot.{Slot}
 use Rattle.rel_records.proofs.Found.{not-named, same-slot}
 use Rattle.rel_records.proofs.finding.first_named.Goals as goal
 

@@ -1,5 +1,5 @@
 -- Number by number: the places listed so far.
-use Rattle.std.proofs.Common.{arith, List, ap, length, ℕ, ◌*◌, ◌+◌, ◌∙◌, ◌≡◌}
+use Rattle.std.proofs.Common.{arith, List, ap, ℕ, ◌*◌, ◌+◌, ◌∙◌}
 use Rattle.std.proofs.lemmas.List.{take_all}
 use Rattle.disk_layout.specs.Chain.{named_at}
 use Rattle.rel_records.proofs.Found.{listed-more, listed-some}

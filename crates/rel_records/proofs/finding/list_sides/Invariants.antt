@@ -1,4 +1,4 @@
-use Rattle.std.proofs.Common.{◌≡◌, List, ℕ, length, take}
+use Rattle.std.proofs.Common.{◌≡◌, List, length, take}
 use Rattle.d64_image.specs.declared.place.Place.{Place}
 use Rattle.rel_records.specs.Sides.{NamesEach}
 use Rattle.rel_records.proofs.finding.list_sides.Given as goal

@@ -1,5 +1,5 @@
 -- Two blocks are written: the image before, the record with its first part new, and the record as it is to be.
-use Rattle.std.proofs.Common.{arith, length, refl, slice_index, subst, sym, ℕ, ◌+◌, ◌<◌, ◌∙◌, ◌≡◌}
+use Rattle.std.proofs.Common.{arith, length, refl, slice_index, subst, sym, ℕ, ◌+◌, ◌<◌, ◌∙◌}
 use Rattle.d64_image.specs.Images.{Image}
 use Rattle.disk_layout.specs.Layout.{record_length}
 use Rattle.disk_layout.specs.Records.{records}
@@ -46,7 +46,7 @@ returns-in_err-write_block-clause-moments g c = λ l n f of.
     (leaves-half a l n f v (S.whole c.args.disk.now) of (clean-of a l n f v of r.clean) c.args.block c.args.number c.args.position c.args.place c.unwrap.result c.args.text.now small (r.at l n f of) to r.low r.high r.position_low r.position_high r.from r.inside r.over)
     c.write_block-2.new.disk _ c.in_ok-next.ensures.ok c.write_block-2.ensures.held c.write_block-2.ensures.writes
     (leaves-both a l n f v (S.whole c.args.disk.now) of (clean-of a l n f v of r.clean) c.args.block c.args.number c.args.position c.args.place c.unwrap.result c.args.text.now small (r.at l n f of) to r.low r.high r.position_low r.position_high r.from r.inside r.over
-        c.min.result (S.image c.write_block.new.disk) c.min.ensures c.in_ok-next.ensures.ok)
+    c.min.result (S.image c.write_block.new.disk) c.min.ensures c.in_ok-next.ensures.ok)
 
 pub returns-clause-ok : goal.returns-clause-ok
 returns-clause-ok g c = λ l n f of.
@@ -60,7 +60,7 @@ returns-clause-ok g c = λ l n f of.
     let P : Image → Type 0 = λ i. LeavesRecords a i l n (with_written (record_length f.slot) c.args.number c.args.position c.args.text.now (records a f)) v in
     subst P (sym c.in_ok-write_block.ensures.ok)
     (leaves-both a l n f v (S.whole c.args.disk.now) of (clean-of a l n f v of r.clean) c.args.block c.args.number c.args.position c.args.place c.unwrap.result c.args.text.now small (r.at l n f of) to r.low r.high r.position_low r.position_high r.from r.inside r.over
-        c.min.result (S.image c.write_block.new.disk) c.min.ensures c.in_ok-next.ensures.ok)
+    c.min.result (S.image c.write_block.new.disk) c.min.ensures c.in_ok-next.ensures.ok)
 
 pub returns-clause-moments : goal.returns-clause-moments
 returns-clause-moments g c = λ l n f of.
@@ -75,4 +75,4 @@ returns-clause-moments g c = λ l n f of.
     (leaves-half a l n f v (S.whole c.args.disk.now) of (clean-of a l n f v of r.clean) c.args.block c.args.number c.args.position c.args.place c.unwrap.result c.args.text.now small (r.at l n f of) to r.low r.high r.position_low r.position_high r.from r.inside r.over)
     c.write_block-2.new.disk _ c.in_ok-next.ensures.ok c.write_block-2.ensures.held c.write_block-2.ensures.writes
     (leaves-both a l n f v (S.whole c.args.disk.now) of (clean-of a l n f v of r.clean) c.args.block c.args.number c.args.position c.args.place c.unwrap.result c.args.text.now small (r.at l n f of) to r.low r.high r.position_low r.position_high r.from r.inside r.over
-        c.min.result (S.image c.write_block.new.disk) c.min.ensures c.in_ok-next.ensures.ok)
+    c.min.result (S.image c.write_block.new.disk) c.min.ensures c.in_ok-next.ensures.ok)

@@ -201,4 +201,3 @@ returns-clause-others g c = λ l n f of.
     (c.grow_to.ensures.moments l n f of) (subst T (c.in_ok-grow_to.ensures.same ∙ of.shows.size) (c.write_there.ensures.moments h.layout n h.file h.of))
     in writing-others a (S.image c.write_there.new.disk) l n f m c.args.number c.args.position c.args.text.now
     (at_end S c.args.disk.now c.write_there.new.disk (IsWriting a l n f m c.args.number c.args.position c.args.text.now) held.held)
-

@@ -1,10 +1,10 @@
 -- The block is looked up, and then one is written, or two.
-use Rattle.std.proofs.Common.{arith, subst, sym, ◌*◌, ◌≤◌}
+use Rattle.std.proofs.Common.{arith, subst, sym}
 use Rattle.d64_image.specs.Images.{Image}
 use Rattle.rel_records.proofs.Composed.{reads_first, reads_only}
 use Rattle.rel_records.proofs.OneBlock.{old-moment, one-more}
 use Rattle.rel_records.proofs.Readings.{there-fits}
-use Rattle.rel_records.specs.File.{IsFileOf, IsOf, blocks_of, length_of}
+use Rattle.rel_records.specs.File.{IsFileOf, IsOf, length_of}
 use Rattle.rel_records.specs.Written.{IsWriting, touched}
 use Rattle.rel_records.proofs.writing.write_there.Goals as goal
 
