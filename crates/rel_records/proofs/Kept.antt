@@ -78,6 +78,7 @@ leaves_has a b l n rs v h = record { layout = h.layout; is_layout = h.clean.layo
 
 -- after a call that is done, and then a moment of the next
 pub leaves_then : (a b c : Image) (l : Layout) (n : ℕ) (rs ts : List (List ℕ)) (v : RelFile) (h : LeavesRecords a b l n rs v) → HasRecords b c h.layout n ts → HasRecords a c l n ts
+unfolding leaves_has
 leaves_then a b c l n rs ts v h k = has_then a b c l n rs ts (leaves_has a b l n rs v h) k
 
 pub leaves_leaves : (a b c : Image) (l : Layout) (n : ℕ) (rs ts : List (List ℕ)) (v w : RelFile) (h : LeavesRecords a b l n rs v) → LeavesRecords b c h.layout n ts w → LeavesRecords a c l n ts w

@@ -36,11 +36,15 @@ keeps-block img l n f p b h at c = record {
   header = let same : sector (put img p b) map_place ≡ sector img map_place = sector-put_other img p map_place b (λ e. map-unowned img l h (rw (← e) (owned-block l f p (get-contains l.files n f at) c))) in cc;
 }
 
+-- it keeps a clean image clean, where it keeps the block's link
+pub clean-block : (img : Image) (l : Layout) (n : ℕ) (f : File) (v : RelFile) (r : ℕ) (p : Place) (b : Sector) → IsImage img → IsFileOf img l n f v → IsCleanLayout img l → slice_get f.blocks r ≡ Some p → slice_index b 0 ≡ byte img p 0 → slice_index b 1 ≡ byte img p 1 → IsCleanLayout (put img p b) l
+clean-block img l n f v r p b w of clean at e0 e1 = IsCleanLayout-put_block img l p b w.size (block-in img l n f v of p (get-contains f.blocks r p at)) e0 e1 clean
+
 -- a write to a block that keeps its link and changes record k alone, counted from 0
 pub leaves-block : (img : Image) (l : Layout) (n : ℕ) (f : File) (v : RelFile) (r k : ℕ) (p : Place) (b : Sector) → IsImage img → IsImage (put img p b) → IsFileOf img l n f v → IsCleanLayout img l → slice_get f.blocks r ≡ Some p → slice_index b 0 ≡ byte img p 0 → slice_index b 1 ≡ byte img p 1 → k < record_count (length f.blocks) f.last (record_length f.slot) → ChangesRecord f r k (sector img p) b → LeavesRecords img (put img p b) l n (set (records img f) k (piece (record_length f.slot) k (joined (put img p b) f.blocks))) v
 leaves-block img l n f v r k p b w u of clean at e0 e1 below changes =
     let c : Contains f.blocks p = get-contains f.blocks r p at in
-    let after : IsCleanLayout (put img p b) l = IsCleanLayout-put_block img l p b w.size (block-in img l n f v of p c) e0 e1 clean in
+    let after : IsCleanLayout (put img p b) l = clean-block img l n f v r p b w of clean at e0 e1 in
     record {
       layout = l;
       clean = after;

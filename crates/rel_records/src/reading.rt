@@ -4,7 +4,7 @@ ghost use Rattle.d64_image.specs.History.{OnlyReads};
 ghost use Rattle.disk_layout.specs.Layout.{File, Layout};
 ghost use Rattle.disk_layout.specs.Records as records_of;
 ghost use Rattle.rel_records.specs.Faults.{TellsRelFault};
-ghost use Rattle.rel_records.specs.File.{IsFileOf, IsOf, OfItsFile, blocks_of, records_in};
+ghost use Rattle.rel_records.specs.File.{IsOf, OfItsFile, blocks_of, length_of, records_in};
 ghost use Rattle.rel_records.specs.Pair.{IsPair};
 ghost use Rattle.rel_records.specs.Written.{IsAbsent, IsRecord};
 ghost use Rattle.rel_records.specs.declared.faults.RelFault.TheVariants.{Device, NotPresent};
@@ -68,6 +68,7 @@ fn read_there<D: Sectors>(
     requires low { 1 ≤ number }
     requires high { number ≤ records_in file.now }
     ensures ok { OfItsFile (D.history.image disk.old) file.now (λ l n f. OnOk result (IsRecord (records_of.records (D.history.image disk.old) f) number text.new.items)) }
+    ensures size { OnOk result (length text.new.items ≡ length_of file.now) }
     ensures err { IfErr result (λ fault. fault ≡ Device) }
     ensures reads { OnlyReads D.history disk.old disk.new 3 }
     ensures failures { TellsRelFault D.history disk.old disk.new result }
@@ -92,6 +93,8 @@ pub fn read_record<D: Sectors>(
 ) -> Result<(), RelFault>
     requires of { IsOf (D.history.image disk.old) file.now }
     ensures ok { OfItsFile (D.history.image disk.old) file.now (λ l n f. OnOk result (IsRecord (records_of.records (D.history.image disk.old) f) number text.new.items)) }
+    ensures size { OnOk result (length text.new.items ≡ length_of file.now) }
+    ensures bound { OnOk result (number ≤ 182880) }
     ensures not_present { OfItsFile (D.history.image disk.old) file.now (λ l n f. IfErr result (λ fault. fault ≡ NotPresent → IsAbsent (records_of.records (D.history.image disk.old) f) number)) }
     ensures told { IfErr result (λ fault. (fault ≡ NotPresent) ⊎ (fault ≡ Device)) }
     // its side sector, and the one or two blocks where it lies

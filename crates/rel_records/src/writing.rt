@@ -14,7 +14,6 @@ ghost use Rattle.rel_records.specs.Written.{IsDone, IsInOneBlock, IsWriting, gro
 ghost use Rattle.rel_records.specs.declared.faults.RelFault.TheVariants.{Device, Full, Overflow, TooLarge};
 
 use crate::access::{read, write};
-use crate::counting::records;
 use crate::faults::RelFault;
 use crate::growth::grow_to;
 use crate::lookup::block_at;
@@ -60,7 +59,7 @@ fn write_in_block<D: Sectors>(
     place: Place,
 ) -> Result<(), RelFault>
     requires clean { IsClean (D.history.image disk.old) }
-    requires at { (l : Layout) → (n : ℕ) → (f : File) → IsFileOf (D.history.image disk.old) l n f file.now → slice_get f.blocks block ≡ Some place }
+    requires at { OfItsFile (D.history.image disk.old) file.now (λ l n f. slice_get f.blocks block ≡ Some place) }
     requires low { 1 ≤ number }
     requires high { number ≤ records_in file.now }
     requires position_low { 1 ≤ position }
@@ -79,6 +78,44 @@ fn write_in_block<D: Sectors>(
     let start = (number as usize - 1) * size + (position as usize - 1);
     let end = number as usize * size;
     write_block(disk, place, start - DATA * block, end - DATA * block, text)?;
+    Ok(())
+}
+
+/// Writes the text into a record that is there, where it goes on behind the block at `place`, the one with this number, from
+/// 0, in which the position lies: first the part in that block, then the rest.
+fn write_across<D: Sectors>(
+    disk: &mut D,
+    file: &RelFile,
+    number: u32,
+    position: u8,
+    text: &[u8],
+    block: usize,
+    place: Place,
+) -> Result<(), RelFault>
+    requires clean { IsClean (D.history.image disk.old) }
+    requires of { IsOf (D.history.image disk.old) file.now }
+    requires at { OfItsFile (D.history.image disk.old) file.now (λ l n f. slice_get f.blocks block ≡ Some place) }
+    requires low { 1 ≤ number }
+    requires high { number ≤ records_in file.now }
+    requires position_low { 1 ≤ position }
+    requires position_high { position ≤ length_of file.now }
+    requires from { 254 * block ≤ (number - 1) * length_of file.now + (position - 1) }
+    requires inside { (number - 1) * length_of file.now + (position - 1) < 254 * block + 254 }
+    requires over { 254 * block + 254 < number * length_of file.now }
+    requires few { block < 720 }
+    requires large { number * length_of file.now ≤ 182880 }
+    ensures ok { OfItsFile (D.history.image disk.old) file.now (λ l n f. OnOk result (LeavesRecords (D.history.image disk.old) (D.history.image disk.new) l n (with_written (record_length f.slot) number position text.now (records_of.records (D.history.image disk.old) f)) file.now)) }
+    ensures err { IfErr result (λ fault. fault ≡ Device) }
+    ensures moments { OfItsFile (D.history.image disk.old) file.now (λ l n f. Changes D.history disk.old disk.new 2 (IsWriting (D.history.image disk.old) l n f 0 number position text.now)) }
+    ensures failures { TellsRelFault D.history disk.old disk.new result }
+{
+    let size = file.size as usize;
+    let start = (number as usize - 1) * size + (position as usize - 1);
+    let end = number as usize * size;
+    let here = DATA * (block + 1);
+    let next = write_block(disk, place, start - DATA * block, DATA, text)?;
+    let rest = &text[text.len().min(here - start)..];
+    write_block(disk, next.unwrap(), 0, end - here, rest)?;
     Ok(())
 }
 
@@ -108,14 +145,10 @@ fn write_there<D: Sectors>(
     let end = number as usize * size;
     let block = start / DATA;
     let place = block_at(disk, file, block)?;
-    let here = DATA * (block + 1);
-    if end <= here {
+    if end <= DATA * (block + 1) {
         return write_in_block(disk, file, number, position, text, block, place);
     }
-    let next = write_block(disk, place, start % DATA, DATA, text)?;
-    let rest = text.len().min(here - start);
-    write_block(disk, next.unwrap(), 0, end - here, &text[rest..])?;
-    Ok(())
+    write_across(disk, file, number, position, text, block, place)
 }
 
 /// Writes the text into a record, from the position on, counted from 1: the record's bytes before it stay, and those
@@ -155,9 +188,7 @@ pub fn write_record<D: Sectors>(
     ensures entry { entry_of file.new ≡ entry_of file.old }
     ensures failures { TellsRelFault D.history disk.old disk.new result }
 {
-    if number > records(file) {
-        grow_to(disk, file, number)?;
-    }
+    grow_to(disk, file, number)?;
     write_there(disk, file, number, position, text)?;
     if text.len() + position as usize > file.size as usize + 1 {
         return Err(RelFault::Overflow);
