@@ -1,5 +1,5 @@
 -- The definitions at work on small values: what each says is computed here, or shown in a few lines.
-use Rattle.std.proofs.Common.{List, [], ap, arith, drop, inl, inr, length, lit<, refl, replicate, sym, take, true, ℕ, ◌++◌, ◌∙◌, ◌∷◌, ◌≡◌, ◌≢◌}
+use Rattle.std.proofs.Common.{List, [], ap, arith, drop, false, inl, inr, length, lit<, refl, replicate, sym, take, true, ℕ, ◌++◌, ◌∙◌, ◌∷◌, ◌≡◌, ◌≢◌}
 use Rattle.std.proofs.lemmas.List.{get_or-replicate, length-replicate}
 use Rattle.std.specs.Prelude.{Contains, Some, filter, slice_range}
 use Rattle.d64_image.proofs.Images.{length-put, sector-put_other, sector-put_same}
@@ -10,11 +10,12 @@ use Rattle.d64_image.specs.declared.place.Place.{Place}
 use Rattle.disk_layout.proofs.Names.{named-is, named-none}
 use Rattle.disk_layout.proofs.Once.{Contains-cases, Contains-here, Contains-nil}
 use Rattle.disk_layout.proofs.Twice.{told-unsound}
+use Rattle.disk_layout.specs.BlankLayout.{blank_top}
 use Rattle.disk_layout.specs.Chain.{IsChain, Names, NamesNone, byte, named_at}
 use Rattle.disk_layout.specs.Directory.{directory_start, is_used, map_place, slot_in, slots_in, used_slots}
 use Rattle.disk_layout.specs.Entries.{uncounted}
-use Rattle.disk_layout.specs.Fault.{Holds, HoldsOfChain}
-use Rattle.disk_layout.specs.Layout.{File, IsClosedType, IsSound, count_field, is_rel, owners, record_length, sides_for}
+use Rattle.disk_layout.specs.Fault.{Holds, HoldsOfChain, nowhere}
+use Rattle.disk_layout.specs.Layout.{File, IsClosedType, IsSound, count_field, is_rel, is_rel_type, owners, record_length, sides_for}
 use Rattle.disk_layout.specs.Records.{empty_record, filler, pieces, record_count}
 use Rattle.disk_layout.specs.Rest.{IsTop, others, slot_name, taken_by_others}
 use Rattle.disk_layout.specs.Side.{padded, side_sector}
@@ -127,7 +128,7 @@ self_linked = put zero_image block_0 (17 ∷ 0 ∷ [])
 at_self : sector self_linked block_0 ≡ 17 ∷ 0 ∷ []
 at_self = sector-put_same zero_image block_0 (17 ∷ 0 ∷ []) zero-long
 
-pub loop_of_one : HoldsOfChain ⊥ self_linked block_0 (Loop block_0)
+pub loop_of_one : HoldsOfChain nowhere self_linked block_0 (Loop block_0)
 loop_of_one = (block_0 ∷ [], ((block_0, refl, rw at_self (refl, refl), refl), (Contains-nil block_0, tt), Contains-here block_0 []))
 
 -- a link to track 36 is told as BadLink at the sector that has it
@@ -140,7 +141,7 @@ at_off = sector-put_same zero_image block_0 (36 ∷ 0 ∷ []) zero-long
 not_zero : (n : ℕ) → n ≡ 36 → n ≢ 0
 not_zero n e z = omega (arith, e, z)
 
-pub bad_link_off : HoldsOfChain ⊥ linked_off block_0 (BadLink block_0)
+pub bad_link_off : HoldsOfChain nowhere linked_off block_0 (BadLink block_0)
 bad_link_off = ([], (refl, (Contains-nil block_0, tt)), rw at_off (not_zero 36 refl, none-36_0))
 
 -- a directory whose first sector links to itself: the fault holds, so the image is not sound
@@ -150,7 +151,7 @@ directory_looped = put zero_image directory_start (18 ∷ 1 ∷ [])
 at_directory : sector directory_looped directory_start ≡ 18 ∷ 1 ∷ []
 at_directory = sector-put_same zero_image directory_start (18 ∷ 1 ∷ []) zero-long
 
-pub loop_of_directory : Holds ⊥ directory_looped (Loop directory_start)
+pub loop_of_directory : Holds nowhere directory_looped (Loop directory_start)
 loop_of_directory = inl (directory_start ∷ [], ((directory_start, refl, rw at_directory (refl, refl), refl), (Contains-nil directory_start, tt), Contains-here directory_start []), ((refl, apart), tt))
 
 pub directory_looped-unsound : ¬ (IsSound directory_looped)
@@ -275,3 +276,11 @@ top-alone ps f = record {
   fits = record { number = omega arith; blocks = omega arith; room = omega arith };
   greatest = λ s h. omega (arith, h.room);
 }
+
+-- a blank image leaves STOCK 9256 records with 1 or 2 tills, 9242 with 3, 8819 with 64
+pub blank-tops : blank_top 1 ∷ blank_top 2 ∷ blank_top 3 ∷ blank_top 64 ∷ [] ≡ 9256 ∷ 9256 ∷ 9242 ∷ 8819 ∷ []
+blank-tops = refl
+
+-- 84 and C4 are relative, 82 (a program) and 04 (an open relative file) are not
+pub rel-types : is_rel_type 132 ∷ is_rel_type 196 ∷ is_rel_type 130 ∷ is_rel_type 4 ∷ [] ≡ true ∷ true ∷ false ∷ false ∷ []
+rel-types = refl

@@ -92,7 +92,7 @@ slot-there a ps s c =
     let one : s.sector ≡ p = ap (λ x. x.sector) same in
     (rw one on, low, same ∙ ap (λ x. slot_in x (sector a x) s.number) (sym one), used)
 
-slots-around : (p : Place) (x y : List ℕ) (n : ℕ) → n < 8 → ((k : ℕ) → k < 8 → k ≢ n → slot_in p x k ≡ slot_in p y k) → (take n (slots_in p x) ≡ take n (slots_in p y)) × (drop (suc n) (slots_in p x) ≡ drop (suc n) (slots_in p y))
+pub slots-around : (p : Place) (x y : List ℕ) (n : ℕ) → n < 8 → ((k : ℕ) → k < 8 → k ≢ n → slot_in p x k ≡ slot_in p y k) → (take n (slots_in p x) ≡ take n (slots_in p y)) × (drop (suc n) (slots_in p x) ≡ drop (suc n) (slots_in p y))
 slots-around p x y n h same = (
   same_lists _ _ (length-take n (slots_in p x) ∙ cc (slots-eight p x, slots-eight p y) ∙ sym (length-take n (slots_in p y))) (λ k d lt.
       let below : k < n = omega (arith, lt, length-take n (slots_in p x)) in
@@ -103,7 +103,7 @@ slots-around p x y n h same = (
 )
 
 -- the used slots around one used slot
-used-split : (p : Place) (bytes : List ℕ) (n : ℕ) → n < 8 → is_used (slot_in p bytes n) ≡ true → filter is_used (slots_in p bytes) ≡ filter is_used (take n (slots_in p bytes)) ++ slot_in p bytes n ∷ filter is_used (drop (suc n) (slots_in p bytes))
+pub used-split : (p : Place) (bytes : List ℕ) (n : ℕ) → n < 8 → is_used (slot_in p bytes n) ≡ true → filter is_used (slots_in p bytes) ≡ filter is_used (take n (slots_in p bytes)) ++ slot_in p bytes n ∷ filter is_used (drop (suc n) (slots_in p bytes))
 used-split p bytes n h used =
     ap (filter is_used) (around (slots_in p bytes) n (slot_in p bytes n) (slot-get p bytes n h))
     ∙ filter-append is_used (take n (slots_in p bytes)) (slot_in p bytes n ∷ drop (suc n) (slots_in p bytes))
@@ -112,7 +112,7 @@ used-split p bytes n h used =
     keep : filter is_used (slot_in p bytes n ∷ drop (suc n) (slots_in p bytes)) ≡ slot_in p bytes n ∷ filter is_used (drop (suc n) (slots_in p bytes))
     keep = rw used refl
 
-used-append : (a : Image) (front back : List Place) (p : Place) → used_slots a (front ++ p ∷ back) ≡ used_slots a front ++ (filter is_used (slots_in p (sector a p)) ++ used_slots a back)
+pub used-append : (a : Image) (front back : List Place) (p : Place) → used_slots a (front ++ p ∷ back) ≡ used_slots a front ++ (filter is_used (slots_in p (sector a p)) ++ used_slots a back)
 unfolding used_slots
 used-append a front back p =
     ap (filter is_used) (flat_map-append (λ p. slots_in p (sector a p)) front (p ∷ back))

@@ -14,10 +14,10 @@ use Rattle.disk_layout.specs.declared.faults.Fault.TheVariants.{OwnedTwice}
 use Rattle.disk_layout.specs.declared.slot.Slot.{Slot}
 use Rattle.layout_check.proofs.Assembly.{empty-file, owns-block, owns-side, plain-file, rel-file, sides-once}
 use Rattle.layout_check.proofs.Calls.{passes_weaker, twice_tells}
-use Rattle.layout_check.specs.Calls.{Passes, Tells}
+use Rattle.layout_check.specs.Calls.{Passes, TellsUnsound}
 use Rattle.layout_check.specs.Entry.{HasBlocks, IsProper}
-use Rattle.layout_check.specs.Exact.{JudgesFile}
-use Rattle.layout_check.specs.Found.{Finds, TellsOrClashes}
+use Rattle.layout_check.specs.Exact.{ToldOfFile}
+use Rattle.layout_check.specs.SurveyedEntry.{SurveysEntry, TellsOrClashes}
 use Rattle.layout_check.specs.Owners.{IsClaimed, IsOwned}
 use Rattle.layout_check.specs.Sides.{HasParts, IsRelEntry, IsWalkOfSides, ListsEach}
 use Rattle.layout_check.specs.declared.owners.Owners.{Owners}
@@ -52,7 +52,7 @@ pub claims-none : (t : Owners) (n : ℕ) → IsClaimed t t n []
 claims-none t n p = (λ c. absurd (Contains-nil p c), λ _. refl)
 
 module _ {D : Type 0} (S : History D) where
-  pub plain-finds : (a b : D) (s : Slot) (n : ℕ) (t u : Owners) (blocks : List Place) (last : ℕ) → IsProper s → IsFalse (is_rel s) → slice_index s.bytes 3 ≢ 0 → HasBlocks (S.image a) s blocks last → Passes S a b (length blocks) → IsClaimed t u n blocks → Finds S a b s n t u None
+  pub plain-finds : (a b : D) (s : Slot) (n : ℕ) (t u : Owners) (blocks : List Place) (last : ℕ) → IsProper s → IsFalse (is_rel s) → slice_index s.bytes 3 ≢ 0 → HasBlocks (S.image a) s blocks last → Passes S a b (length blocks) → IsClaimed t u n blocks → SurveysEntry S a b s n t u None
   plain-finds a b s n t u blocks last proper other some chain passes claimed = (
     record { slot = s; blocks = blocks; last = last; sides = [] },
     record { slot = refl; file = plain-file (S.image a) s blocks last proper other some chain; blocks_once = chain.2.once; sides_once = tt; between = u; blocks = claimed; sides = claims-none u n },
@@ -60,7 +60,7 @@ module _ {D : Type 0} (S : History D) where
     passes_weaker S a b (length blocks) (2 * length (blocks ++ [])) (omega (arith, length-append {A = Place} blocks [])) passes,
   )
 
-  pub empty-finds : (a : D) (s : Slot) (n : ℕ) (t : Owners) → IsProper s → IsFalse (is_rel s) → slice_index s.bytes 3 ≡ 0 → Passes S a a 0 → Finds S a a s n t t None
+  pub empty-finds : (a : D) (s : Slot) (n : ℕ) (t : Owners) → IsProper s → IsFalse (is_rel s) → slice_index s.bytes 3 ≡ 0 → Passes S a a 0 → SurveysEntry S a a s n t t None
   empty-finds a s n t proper other none passes = (
     record { slot = s; blocks = []; last = 0; sides = [] },
     record { slot = refl; file = empty-file (S.image a) s proper other none; blocks_once = tt; sides_once = tt; between = t; blocks = claims-none t n; sides = claims-none t n },
@@ -68,7 +68,7 @@ module _ {D : Type 0} (S : History D) where
     passes,
   )
 
-  pub rel-finds : (a b : D) (s : Slot) (n k : ℕ) (t v u : Owners) (blocks sides : List Place) (last : ℕ) (unclean : Option Fault) → IsProper s → IsTrue (is_rel s) → HasBlocks (S.image a) s blocks last → IsWalkOfSides (S.image a) s blocks sides → ListsEach (S.image a) sides → Passes S a b k → k ≤ length blocks + 2 * length sides → IsClaimed t v n blocks → IsClaimed v u n sides → JudgesFile (S.image a) (record { slot = s; blocks = blocks; last = last; sides = sides }) unclean → Finds S a b s n t u unclean
+  pub rel-finds : (a b : D) (s : Slot) (n k : ℕ) (t v u : Owners) (blocks sides : List Place) (last : ℕ) (unclean : Option Fault) → IsProper s → IsTrue (is_rel s) → HasBlocks (S.image a) s blocks last → IsWalkOfSides (S.image a) s blocks sides → ListsEach (S.image a) sides → Passes S a b k → k ≤ length blocks + 2 * length sides → IsClaimed t v n blocks → IsClaimed v u n sides → ToldOfFile (S.image a) (record { slot = s; blocks = blocks; last = last; sides = sides }) unclean → SurveysEntry S a b s n t u unclean
   rel-finds a b s n k t v u blocks sides last unclean proper rel chain walk lists passes few claimed also judged = (
     record { slot = s; blocks = blocks; last = last; sides = sides },
     record { slot = refl; file = rel-file (S.image a) s blocks sides last proper rel chain walk lists; blocks_once = chain.2.once; sides_once = sides-once (S.image a) s blocks sides walk; between = v; blocks = claimed; sides = also },
@@ -93,11 +93,11 @@ module _ {D : Type 0} (S : History D) where
       there : Passes S a b 732
       there = passes_weaker S a b k 732 few passes
 
-      both : Contains blocks p → Tells S a b 732 (OwnedTwice p)
+      both : Contains blocks p → TellsUnsound S a b 732 (OwnedTwice p)
       both d = twice_tells S a b 732 p there (inl (blocks_of s, sides_of s, (λ e. cc), owns-block (S.image a) s blocks e.last p e.closed e.chain d, owns-side (S.image a) s blocks sides p e walk c))
 
       step : Contains blocks p ⊎ ¬ (Contains blocks p) → TellsOrClashes S a b s t f
-      step (inl d) = inl (let P : Fault → Type 0 = λ x. Tells S a b 732 x in subst P (sym told) (both d))
+      step (inl d) = inl (let P : Fault → Type 0 = λ x. TellsUnsound S a b 732 x in subst P (sym told) (both d))
       step (inr d) = inr (record {
         place = p;
         told = told;

@@ -2,7 +2,7 @@
 use Rattle.std.proofs.Common.{ℕ, ◌≡◌, ◌≢◌, ◌≤◌, List, [], ◌∷◌, ◌++◌, length, map, slice_index, sym, ◌∙◌, ap, refl, subst, inl, inr, IsTrue, ◌⊎◌, ◌<◌, ◌+◌, ◌*◌, ◌/◌, arith}
 use Rattle.std.specs.Prelude.{Contains, Some, drop, flat_map, slice_get, take}
 use Rattle.std.proofs.lemmas.List.Elements.{Contains-append_right}
-use Rattle.d64_image.proofs.Images.{put-sector, sector-put_other, sector-put_same}
+use Rattle.d64_image.proofs.Images.{sector-put_other, sector-put_same}
 use Rattle.d64_image.proofs.Places.{same_or_other}
 use Rattle.d64_image.specs.Images.{Image, put, sector}
 use Rattle.d64_image.specs.declared.place.Place.{Place}
@@ -116,13 +116,6 @@ mended-side a l c f j p size h own rel few there = record {
 
     no_block : (g : File) (q : Place) → Contains m.files g → Contains g.blocks q → p ≢ q
     no_block g q of on e = block-no_side m.files (EachOnce-right m.directory (flat_map file_owns m.files) h.sound.once.1) q (flat_map-in (λ x. x.blocks) m.files g q of on) (rw (← e) there_all)
-
-pub put-same : (c : Image) (p : Place) (had wanted : List ℕ) → had ≡ sector c p → had ≡ wanted → c ≡ put c p wanted
-put-same c p had wanted read same = sym (put-sector c p) ∙ ap (put c p) (sym read ∙ same)
-
--- other bytes than those that were read were written
-pub put-changed : (c d : Image) (p : Place) (had wanted : List ℕ) → length c ≡ 683 → had ≡ sector c p → had ≢ wanted → d ≡ put c p wanted → sector d p ≢ sector c p
-put-changed c d p had wanted size read other done same = other (read ∙ sym same ∙ ap (λ (i : Image). sector i p) done ∙ sector-put_same c p wanted size)
 
 -- the eight entries, where only block counts differ
 pub record IsCounted (old new : List ℕ) : Type 0 where

@@ -6,11 +6,12 @@ use Rattle.std.proofs.lemmas.Bool.{false≢true}
 use Rattle.std.proofs.lemmas.Grind.{flat_map-append}
 use Rattle.std.proofs.lemmas.List.{length-take, take-append-drop, take_all, take_more}
 use Rattle.std.proofs.lemmas.List.Elements.{Contains-append_cases, Contains-append_left, Contains-append_right}
-use Rattle.d64_image.specs.History.{Failed, History, NeverFailed}
+use Rattle.d64_image.specs.History.{History, NeverFailed}
 use Rattle.d64_image.specs.Images.{Image}
 use Rattle.d64_image.specs.declared.place.Place.{Place}
 use Rattle.disk_layout.proofs.Count.{places-few}
 use Rattle.disk_layout.proofs.Layouts.{get-contains}
+use Rattle.disk_layout.proofs.Lists.{all-push}
 use Rattle.disk_layout.proofs.Once.{Contains-cases, Contains-nil, EachOnce-join, flat_map-in}
 use Rattle.disk_layout.proofs.Twice.{told-unsound}
 use Rattle.disk_layout.specs.Chain.{EachOnce}
@@ -23,13 +24,13 @@ use Rattle.layout_check.proofs.Calls.{holds_alone, passes_then, passes_weaker, t
 use Rattle.layout_check.proofs.Claims.{not_before}
 use Rattle.layout_check.proofs.Clashes.{clash-holds}
 use Rattle.layout_check.proofs.Finding.{contains_or_not}
-use Rattle.layout_check.proofs.Judged.{all-push, judged-at, judged-more}
+use Rattle.layout_check.proofs.Judged.{judged-at, judged-more}
 use Rattle.layout_check.proofs.Listed.{entries-once, entry-listed}
 use Rattle.layout_check.proofs.SideWalks.{get-push}
-use Rattle.layout_check.specs.Calls.{Passes, Tells}
+use Rattle.layout_check.specs.Calls.{Passes, TellsUnsound}
 use Rattle.layout_check.specs.Entry.{IsEntry}
-use Rattle.layout_check.specs.Exact.{JudgesFiles}
-use Rattle.layout_check.specs.Found.{Finds, TellsOrClashes}
+use Rattle.layout_check.specs.Exact.{ToldOfFiles}
+use Rattle.layout_check.specs.SurveyedEntry.{SurveysEntry, TellsOrClashes}
 use Rattle.layout_check.specs.Owners.{IsClaimed, IsSystem, owner_of}
 use Rattle.layout_check.specs.Survey.{IsSurveyed, IsTable, Surveys, taken}
 use Rattle.layout_check.specs.declared.outcome.Survey.{Survey}
@@ -165,7 +166,7 @@ module _ {D : Type 0} (S : History D) where
     pub files : List File
     pub slots : map (λ f. f.slot) files ≡ take n es
     pub surveyed : IsSurveyed (S.image a) directory files t
-    pub judged : JudgesFiles (S.image a) files kept
+    pub judged : ToldOfFiles (S.image a) files kept
     pub passes : Passes S a b (18 + length directory + 2 * own_of files)
 
   pub far-start : (a b : D) (dir : List Place) (es : List Slot) (t : Owners) → IsDirectory (S.image a) dir es → IsSystem t dir → Passes S a b (18 + length dir) → IsFar a b es 0 t None
@@ -180,7 +181,7 @@ module _ {D : Type 0} (S : History D) where
       let P : Image → Type 0 = λ i. IsEntry i s in
       subst P (sym h.passes.reads.image) (entry-listed (S.image a) h.directory es s h.listed (n, below, sym read))
 
-  pub far-step : (a b c : D) (es : List Slot) (n : ℕ) (t u : Owners) (kept found : Option Fault) (s : Slot) → IsFar a b es n t kept → n < length es → n < 254 → s ≡ get_or es n s → Finds S b c s n t u found → IsFar a c es (n + 1) u (option_or kept found)
+  pub far-step : (a b c : D) (es : List Slot) (n : ℕ) (t u : Owners) (kept found : Option Fault) (s : Slot) → IsFar a b es n t kept → n < length es → n < 254 → s ≡ get_or es n s → SurveysEntry S b c s n t u found → IsFar a c es (n + 1) u (option_or kept found)
   far-step a b c es n t u kept found s h below small read (g, is, judged, passes) =
       let file = (let P : Image → Type 0 = λ i. IsFile i g in subst P h.passes.reads.image is.file) in
       let many : n ≡ length h.files = omega (arith, length-slots h.files, ap length h.slots, length-take n es) in
@@ -194,16 +195,16 @@ module _ {D : Type 0} (S : History D) where
         passes = passes_then S a b c (18 + length h.directory + 2 * own_of h.files) (2 * length (file_owns g)) _ (omega (arith, own-push h.files g)) h.passes passes;
       }
 
-  pub far-tells : (a b c : D) (es : List Slot) (n : ℕ) (t : Owners) (kept : Option Fault) (s : Slot) (f : Fault) → IsFar a b es n t kept → n < length es → s ≡ get_or es n s → TellsOrClashes S b c s t f → Tells S a c 2114 f
+  pub far-tells : (a b c : D) (es : List Slot) (n : ℕ) (t : Owners) (kept : Option Fault) (s : Slot) (f : Fault) → IsFar a b es n t kept → n < length es → s ≡ get_or es n s → TellsOrClashes S b c s t f → TellsUnsound S a c 2114 f
   far-tells a b c es n t kept s f h below read (inl tells) = tells_then S a b c _ 732 2114 f (omega (arith, far-few a b es n t kept h)) h.passes tells
   far-tells a b c es n t kept s f h below read (inr clash) =
       let passes = passes_then S a b c _ 732 2114 (omega (arith, far-few a b es n t kept h)) h.passes clash.passes in
       let once = entries-once (S.image a) h.directory es h.listed in
-      let holds = clash-holds (Failed S a c) (S.image a) h.directory es h.files s clash.place h.listed h.surveyed.files
+      let holds = clash-holds (S.failed_at c) (S.image a) h.directory es h.files s clash.place h.listed h.surveyed.files
       (λ x there. let in_front : Contains (take n es) x.slot = rw (← h.slots) (slot-in h.files x there) in (before in_front, λ e. not_before es n s below read once (rw (← e) in_front)))
       ((h.surveyed.table.owned clash.place).0 clash.owned)
       (let P : Image → Type 0 = λ i. Owns i (blocks_of s) clash.place ⊎ Owns i (sides_of s) clash.place in subst P h.passes.reads.image clash.has) in
-      let P : Fault → Type 0 = λ x. Tells S a c 2114 x in
+      let P : Fault → Type 0 = λ x. TellsUnsound S a c 2114 x in
       subst P (sym clash.told) (twice_tells S a c 2114 clash.place passes holds)
     where
       before : {x : Slot} → Contains (take n es) x → Contains es x
@@ -228,5 +229,5 @@ module _ {D : Type 0} (S : History D) where
       )
 
   -- where the device doesn't fail, a fault is told exactly where the image isn't sound
-  pub told-sound : (T : Type 0) (a b : D) (n : ℕ) (f : Fault) → Tells S a b n f → NeverFailed S a b → IsOk (told T f) ↔ IsSound (S.image a)
-  told-sound T a b n f tells never = (λ h. absurd (false≢true h), λ s. absurd (told-unsound (S.image a) f (holds_alone S a b f never tells.holds) s))
+  pub told-sound : (T : Type 0) (a b : D) (n : ℕ) (f : Fault) → TellsUnsound S a b n f → NeverFailed S a b → IsOk (told T f) ↔ IsSound (S.image a)
+  told-sound T a b n f tells never = (λ h. absurd (false≢true h), λ s. absurd (told-unsound (S.image a) f (holds_alone S ℕ a b f never tells.failures tells.holds) s))

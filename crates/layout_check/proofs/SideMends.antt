@@ -1,5 +1,5 @@
 -- Side sectors rewritten one by one.
-use Rattle.std.proofs.Common.{ℕ, ◌≡◌, ◌≢◌, ◌<◌, ◌≤◌, ◌+◌, List, [], ◌∷◌, length, sym, ◌∙◌, ap, refl, arith, subst, inl, inr, IsTrue}
+use Rattle.std.proofs.Common.{Err, ℕ, ◌≡◌, ◌≢◌, ◌<◌, ◌≤◌, ◌+◌, List, [], ◌∷◌, length, sym, ◌∙◌, ap, arith, subst, inl, inr, IsTrue}
 use Rattle.std.specs.Prelude.{Contains, Some, flat_map, slice_get}
 use Rattle.std.proofs.lemmas.Bool.{cases_eq}
 use Rattle.std.proofs.lemmas.List.Elements.{Contains-append_right}
@@ -11,20 +11,20 @@ use Rattle.d64_image.specs.declared.place.Place.{Place}
 use Rattle.disk_layout.proofs.Agree.{map-unowned, owned-side}
 use Rattle.disk_layout.proofs.Layouts.{IsFile-one, IsLayout-one, get-contains}
 use Rattle.disk_layout.proofs.Once.{Contains-cases, Contains-nil, EachOnce-apart, EachOnce-left, EachOnce-right, all-in, flat_map-in}
-use Rattle.disk_layout.proofs.Twice.{get-one, told-unsound}
+use Rattle.disk_layout.proofs.Twice.{get-one, told-sound}
 use Rattle.disk_layout.specs.Chain.{EachOnce}
 use Rattle.disk_layout.specs.Directory.{map_place}
+use Rattle.disk_layout.specs.Fault.{TellsFault}
 use Rattle.disk_layout.specs.Layout.{File, IsFile, IsLayout, IsSound, Layout, file_owns, is_rel, owners, record_length}
 use Rattle.disk_layout.specs.Side.{side_sector}
 use Rattle.disk_layout.specs.declared.faults.Fault.{Fault}
-use Rattle.disk_layout.specs.declared.faults.Fault.TheVariants.{BadLength, BadLink, BadSide, BadType, CountWrong, Device, Loop, MapWrong, OwnedTwice, Unclosed}
 use Rattle.disk_layout.specs.declared.slot.Slot.{Slot}
 use Rattle.layout_check.proofs.Inexact.{parts-of}
 use Rattle.layout_check.proofs.MapMends.{mends_then, mends_write}
 use Rattle.layout_check.proofs.Mendings.{layout-side, mended-side}
 use Rattle.layout_check.specs.Exact.{AreExactSides, IsExactSide, IsFiled}
 use Rattle.layout_check.specs.Mended.{IsMended, IsPartsOf, KeepsExact, KeepsLayouts, Mends, SameMap, TellsDevice}
-use Rattle.layout_check.specs.Calls.{Tells}
+use Rattle.layout_check.specs.Calls.{TellsUnsound}
 use Rattle.layout_check.specs.Sides.{HasParts}
 
 -- two files that share a place are one
@@ -145,17 +145,11 @@ module _ {D : Type 0} (S : History D) where
   side_right a b r s bs ss n p had wanted here exact same read is = read ∙ ap (λ (i : Image). sector i p) same ∙ exact n p here ∙ sym is
 
 -- on a sound image nothing but a failure of the device is told
-pub sound-device : {D : Type 0} (S : History D) (a b : D) (n : ℕ) (f : Fault) → IsSound (S.image a) → Tells S a b n f → TellsDevice S a b f
-sound-device S a b n (Device p) sound h = (p, refl, h.failures)
-sound-device S a b n (BadLink p) sound h = absurd (told-unsound (S.image a) (BadLink p) h.holds sound)
-sound-device S a b n (Loop p) sound h = absurd (told-unsound (S.image a) (Loop p) h.holds sound)
-sound-device S a b n (OwnedTwice p) sound h = absurd (told-unsound (S.image a) (OwnedTwice p) h.holds sound)
-sound-device S a b n (BadType p) sound h = absurd (told-unsound (S.image a) (BadType p) h.holds sound)
-sound-device S a b n (Unclosed p) sound h = absurd (told-unsound (S.image a) (Unclosed p) h.holds sound)
-sound-device S a b n (BadSide p) sound h = absurd (told-unsound (S.image a) (BadSide p) h.holds sound)
-sound-device S a b n (BadLength p) sound h = absurd (told-unsound (S.image a) (BadLength p) h.holds sound)
-sound-device S a b n (CountWrong p) sound h = absurd h.holds
-sound-device S a b n (MapWrong p) sound h = absurd h.holds
+pub sound-device : {D : Type 0} (S : History D) (T : Type 0) (a b : D) (n : ℕ) (f : Fault) → IsSound (S.image a) → TellsUnsound S a b n f → TellsDevice {T = T} S a b (Err f)
+sound-device S T a b n f sound h =
+    let (p, is, there) = told-sound (S.failed_at b) (S.image a) f h.holds sound in
+    let P : Fault → Type 0 = λ x. TellsFault {T = ℕ} S a b (Err x) in
+    (subst P is h.failures, (p, is, there))
 
 -- the parts that were found
 pub parts-here : (img : Image) (s : Slot) (blocks sides : List Place) → IsFiled img s → IsTrue (is_rel s) → HasParts img s blocks sides → IsPartsOf img s blocks sides

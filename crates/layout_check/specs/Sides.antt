@@ -20,7 +20,7 @@ pub record IsMisnamed (bytes : Sector) (at : ℕ) (ps : List Place) : Type 0 whe
   pub other : ¬ (Names bytes (at + 2 * k) q)
 
 -- number, record length and pointers are those of side sector j of the entry, which has these blocks
-pub record IsJudged (bytes : Sector) (s : Slot) (blocks : List Place) (j : ℕ) : Type 0 where
+pub record HasSideFields (bytes : Sector) (s : Slot) (blocks : List Place) (j : ℕ) : Type 0 where
   pub number : slice_index bytes 2 ≡ j
   pub length_byte : slice_index bytes 3 ≡ record_length s
   pub pointers : (k : ℕ) (q : Place) → k < 120 → slice_get blocks (120 * j + k) ≡ Some q → Names bytes (16 + 2 * k) q
@@ -34,8 +34,8 @@ pub record IsMispointed (bytes : Sector) (blocks : List Place) (j : ℕ) : Type 
   pub other : ¬ (Names bytes (16 + 2 * k) q)
 
 -- one of the three is not
-abbrev pub IsMisjudged : Sector → Slot → List Place → ℕ → Type 0
-IsMisjudged bytes s blocks j = (slice_index bytes 2 ≢ j) ⊎ ((slice_index bytes 3 ≢ record_length s) ⊎ IsMispointed bytes blocks j)
+abbrev pub HasOtherFields : Sector → Slot → List Place → ℕ → Type 0
+HasOtherFields bytes s blocks j = (slice_index bytes 2 ≢ j) ⊎ ((slice_index bytes 3 ≢ record_length s) ⊎ IsMispointed bytes blocks j)
 
 -- the sectors to which the links lead from the first side sector that the slot names on, as many as these blocks need,
 -- each judged alone
@@ -47,7 +47,7 @@ pub record IsWalkOfSides (img : Image) (s : Slot) (blocks sides : List Place) : 
   pub places : sides ≡ front ++ last ∷ []
   pub leads : Leads img first front last
   pub count : length sides ≡ sides_for (length blocks)
-  pub judged : (j : ℕ) (q : Place) → slice_get sides j ≡ Some q → IsJudged (sector img q) s blocks j
+  pub judged : (j : ℕ) (q : Place) → slice_get sides j ≡ Some q → HasSideFields (sector img q) s blocks j
 
 -- each of them lists them all
 abbrev pub ListsEach : Image → List Place → Type 0

@@ -8,7 +8,7 @@ use Rattle.disk_layout.specs.Chain.{EachOnce}
 use Rattle.disk_layout.specs.Directory.{map_place}
 use Rattle.disk_layout.specs.Layout.{File, IsFile, IsLayout, Layout, file_owns, owners}
 use Rattle.layout_check.specs.Calls.{Passes}
-use Rattle.layout_check.specs.Exact.{JudgesFiles}
+use Rattle.layout_check.specs.Exact.{ToldOfFiles}
 use Rattle.layout_check.specs.Owners.{owner_of}
 use Rattle.layout_check.specs.declared.outcome.Findings.{Findings}
 use Rattle.layout_check.specs.declared.outcome.Survey.{Survey}
@@ -49,4 +49,4 @@ IsToldBy img s = (l : Layout) × IsLayout img l × IsSurveyOf l s
 
 -- a call that finds a layout of the image, each owned sector read at most twice, and judges whether its relative files are exact
 abbrev pub Surveys : {D : Type 0} → History D → D → D → Findings → Type 0
-Surveys S old new found = (l : Layout) × IsLayout (S.image old) l × IsSurveyOf l found.survey × JudgesFiles (S.image old) l.files found.unclean × Passes S old new (18 + 2 * length (owners l))
+Surveys S old new found = (l : Layout) × IsLayout (S.image old) l × IsSurveyOf l found.survey × ToldOfFiles (S.image old) l.files found.unclean × Passes S old new (18 + 2 * length (owners l))

@@ -2,13 +2,12 @@
 ghost use Rattle.std.specs.Prelude.{◌≡◌, ◌≢◌, ◌⊎◌, IfErr, IfOk, IsTrue, OnOk, length, slice_index};
 ghost use Rattle.disk_layout.specs.Fault.{IsClosed};
 ghost use Rattle.disk_layout.specs.Layout.{is_rel};
-ghost use Rattle.layout_check.specs.Calls.{Passes, Tells};
+ghost use Rattle.layout_check.specs.Calls.{Passes, TellsUnsound};
 ghost use Rattle.layout_check.specs.Entry.{HasBlocks};
 
-use crate::entry::first_block;
 use arrayvec::ArrayVec;
 use d64_image::{Place, Sectors};
-use disk_layout::{Fault, Slot, walk_chain};
+use disk_layout::{EntryView, Fault, Slot, walk_chain};
 
 /// Follows the chain of a closed entry that names a first block, and fills `blocks` with its sectors in order. The answer
 /// is the index of the last used byte in the last one.
@@ -21,9 +20,9 @@ pub fn survey_blocks<D: Sectors>(
     requires names { IsTrue (is_rel slot.now) ⊎ (slice_index slot.now.bytes 3 ≢ 0) }
     ensures blocks { IfOk result (HasBlocks (D.history.image disk.old) slot.now blocks.new.items) }
     ensures ok { OnOk result (Passes D.history disk.old disk.new (length blocks.new.items)) }
-    ensures err { IfErr result (Tells D.history disk.old disk.new 720) }
+    ensures err { IfErr result (TellsUnsound D.history disk.old disk.new 720) }
 {
-    let Some(first) = first_block(slot) else {
+    let Some(first) = EntryView::new(&slot.bytes).first_block() else {
         return Err(Fault::BadLink(slot.sector));
     };
     walk_chain(disk, first, blocks)

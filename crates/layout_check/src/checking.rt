@@ -1,11 +1,11 @@
 //! The check of a disk: its survey, and what a clean disk has beyond a sound one.
 ghost use Rattle.std.specs.Prelude.{◌↔◌, IfErr, IfOk, IsOk, OnOk};
-ghost use Rattle.d64_image.specs.History.{Failed, NeverFailed, OnlyReads};
+ghost use Rattle.d64_image.specs.History.{NeverFailed, OnlyReads};
 ghost use Rattle.disk_layout.specs.Clean.{IsClean, IsCleanLayout};
 ghost use Rattle.disk_layout.specs.Fault.{HoldsOfClean, TellsFault};
 ghost use Rattle.disk_layout.specs.Layout.{Layout};
 ghost use Rattle.layout_check.specs.Calls.{Passes};
-ghost use Rattle.layout_check.specs.Exact.{HasMap, TellsOfClean};
+ghost use Rattle.layout_check.specs.Exact.{HasMap, TellsUnclean};
 ghost use Rattle.layout_check.specs.Survey.{IsSurveyOf, IsToldBy};
 
 use crate::maps::check_bits;
@@ -19,7 +19,7 @@ fn check_map<D: Sectors>(disk: &mut D, found: &Survey) -> Result<(), Fault>
     requires { IsToldBy (D.history.image disk.old) found.now }
     ensures map { OnOk result (HasMap (D.history.image disk.old)) }
     ensures ok { OnOk result (Passes D.history disk.old disk.new 1) }
-    ensures err { IfErr result (TellsOfClean D.history disk.old disk.new 1) }
+    ensures err { IfErr result (TellsUnclean D.history disk.old disk.new 1) }
 {
     let mut map = [0u8; 256];
     read_sector(disk, map_place(), &mut map)?;
@@ -33,7 +33,7 @@ fn check_map<D: Sectors>(disk: &mut D, found: &Survey) -> Result<(), Fault>
 /// Nothing is written, and no memory is taken.
 pub fn check<D: Sectors>(disk: &mut D) -> Result<Survey, Fault>
     ensures ok { IfOk result (λ s. (l : Layout) × IsCleanLayout (D.history.image disk.old) l × IsSurveyOf l s) }
-    ensures err { IfErr result (HoldsOfClean (Failed D.history disk.old disk.new) (D.history.image disk.old)) }
+    ensures err { IfErr result (HoldsOfClean (D.history.failed_at disk.new) (D.history.image disk.old)) }
     // neither a fault nor a layout is told always
     ensures clean { NeverFailed D.history disk.old disk.new → (IsOk result ↔ IsClean (D.history.image disk.old)) }
     ensures failures { TellsFault D.history disk.old disk.new result }

@@ -3,11 +3,11 @@ ghost use Rattle.std.specs.Prelude.{◌≢◌, ◌<◌, IfErr, IfOk, IsFalse, Is
 ghost use Rattle.disk_layout.specs.Fault.{IsClosed};
 ghost use Rattle.disk_layout.specs.Layout.{is_rel};
 ghost use Rattle.layout_check.specs.Entry.{IsEntry, IsProper};
-ghost use Rattle.layout_check.specs.Exact.{TellsUnclean};
-ghost use Rattle.layout_check.specs.Found.{Finds, TellsOrClashes};
+ghost use Rattle.layout_check.specs.Exact.{ToldOfEntry};
+ghost use Rattle.layout_check.specs.SurveyedEntry.{SurveysEntry, TellsOrClashes};
 
 use crate::blocks::survey_blocks;
-use crate::entry::{is_relative, judge_entry};
+use crate::entry::judge_entry;
 use crate::owners::Owners;
 use crate::sides::find_parts;
 use arrayvec::ArrayVec;
@@ -27,7 +27,7 @@ fn survey_plain<D: Sectors>(
     requires plain { IsFalse (is_rel slot.now) }
     requires names { slice_index slot.now.bytes 3 ≢ 0 }
     requires some { number < 255 }
-    ensures ok { OnOk result (Finds D.history disk.old disk.new slot.now number owners.old owners.new None) }
+    ensures ok { OnOk result (SurveysEntry D.history disk.old disk.new slot.now number owners.old owners.new None) }
     ensures err { IfErr result (TellsOrClashes D.history disk.old disk.new slot.now owners.old) }
 {
     survey_blocks(disk, slot, blocks)?;
@@ -37,7 +37,7 @@ fn survey_plain<D: Sectors>(
 /// What a clean disk must not have of a relative entry that owns so many sectors: a side sector whose bytes aren't exact,
 /// or another block count; None where both are right.
 fn unclean_of(slot: &Slot, inexact: Option<Place>, owned: usize) -> Option<Fault>
-    ensures { TellsUnclean slot.now inexact owned result }
+    ensures { ToldOfEntry slot.now inexact owned result }
 {
     if let Some(side) = inexact {
         return Some(Fault::BadSide(side));
@@ -60,7 +60,7 @@ fn survey_relative<D: Sectors>(
     requires proper { IsProper slot.now }
     requires rel { IsTrue (is_rel slot.now) }
     requires some { number < 255 }
-    ensures ok { IfOk result (Finds D.history disk.old disk.new slot.now number owners.old owners.new) }
+    ensures ok { IfOk result (SurveysEntry D.history disk.old disk.new slot.now number owners.old owners.new) }
     ensures err { IfErr result (TellsOrClashes D.history disk.old disk.new slot.now owners.old) }
 {
     let mut sides = ArrayVec::new();
@@ -87,15 +87,15 @@ pub fn survey_entry<D: Sectors>(
 ) -> Result<Option<Fault>, Fault>
     requires entry { IsEntry (D.history.image disk.old) slot.now }
     requires some { number < 255 }
-    ensures ok { IfOk result (Finds D.history disk.old disk.new slot.now number owners.old owners.new) }
+    ensures ok { IfOk result (SurveysEntry D.history disk.old disk.new slot.now number owners.old owners.new) }
     ensures err { IfErr result (TellsOrClashes D.history disk.old disk.new slot.now owners.old) }
 {
     judge_entry(slot)?;
-    if is_relative(slot) {
+    let entry = EntryView::new(&slot.bytes);
+    if entry.is_relative() {
         return survey_relative(disk, slot, number, owners, blocks);
     }
-    let (first_track, _) = EntryView::new(&slot.bytes).first_block();
-    if first_track == 0 {
+    if !entry.has_first_block() {
         return Ok(None);
     }
     survey_plain(disk, slot, number, owners, blocks)?;

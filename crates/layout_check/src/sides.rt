@@ -2,12 +2,11 @@
 ghost use Rattle.std.specs.Prelude.{◌+◌, ◌*◌, ◌<◌, ◌≤◌, IfErr, IfOk, IsFalse, IsTrue, OnOk, length};
 ghost use Rattle.disk_layout.specs.Fault.{IsClosed};
 ghost use Rattle.disk_layout.specs.Layout.{is_rel, sides_for};
-ghost use Rattle.layout_check.specs.Calls.{Passes, Tells};
-ghost use Rattle.layout_check.specs.Exact.{JudgesSides};
-ghost use Rattle.layout_check.specs.Sides.{HasParts, IsJudged, IsMisjudged, IsMisnamed, IsRelEntry, IsWalkOfSides, ListsEach, NamesEach};
+ghost use Rattle.layout_check.specs.Calls.{Passes, TellsUnsound};
+ghost use Rattle.layout_check.specs.Exact.{ToldOfSides};
+ghost use Rattle.layout_check.specs.Sides.{HasOtherFields, HasParts, HasSideFields, IsMisnamed, IsRelEntry, IsWalkOfSides, ListsEach, NamesEach};
 
 use crate::blocks::survey_blocks;
-use crate::entry::first_side;
 use arrayvec::ArrayVec;
 use d64_image::{Place, Sectors};
 use disk_layout::{EntryView, Fault, SideView, Slot, read_sector, side_bytes};
@@ -40,8 +39,8 @@ fn names_each(sector: &[u8; 256], at: usize, places: &[Place]) -> bool
 /// its record length and its pointers. The list of side sectors and the link are judged beside.
 fn is_side(sector: &[u8; 256], number: usize, slot: &Slot, blocks: &[Place]) -> bool
     requires { number < sides_for (length blocks.now) }
-    ensures right { IsTrue result → IsJudged sector.now slot.now blocks.now number }
-    ensures wrong { IsFalse result → IsMisjudged sector.now slot.now blocks.now number }
+    ensures right { IsTrue result → HasSideFields sector.now slot.now blocks.now number }
+    ensures wrong { IsFalse result → HasOtherFields sector.now slot.now blocks.now number }
 {
     let side = SideView::new(sector);
     let record_length = EntryView::new(&slot.bytes).record_length();
@@ -68,10 +67,10 @@ fn walk_sides<D: Sectors>(
     requires few { length blocks.now ≤ 720 }
     ensures sides { OnOk result (IsWalkOfSides (D.history.image disk.old) slot.now blocks.now sides.new.items) }
     ensures ok { OnOk result (Passes D.history disk.old disk.new (length sides.new.items)) }
-    ensures err { IfErr result (Tells D.history disk.old disk.new 6) }
+    ensures err { IfErr result (TellsUnsound D.history disk.old disk.new 6) }
 {
     sides.clear();
-    let Some(first) = first_side(slot) else {
+    let Some(first) = EntryView::new(&slot.bytes).first_side() else {
         return Err(Fault::BadSide(slot.sector));
     };
     let needed = blocks.len().div_ceil(POINTERS);
@@ -109,9 +108,9 @@ fn survey_sides<D: Sectors>(
     requires few { length blocks.now ≤ 720 }
     ensures sides { OnOk result (IsWalkOfSides (D.history.image disk.old) slot.now blocks.now sides.new.items) }
     ensures lists { OnOk result (ListsEach (D.history.image disk.old) sides.new.items) }
-    ensures exact { IfOk result (JudgesSides (D.history.image disk.old) slot.now blocks.now sides.new.items) }
+    ensures exact { IfOk result (ToldOfSides (D.history.image disk.old) slot.now blocks.now sides.new.items) }
     ensures ok { OnOk result (Passes D.history disk.old disk.new (2 * length sides.new.items)) }
-    ensures err { IfErr result (Tells D.history disk.old disk.new 12) }
+    ensures err { IfErr result (TellsUnsound D.history disk.old disk.new 12) }
 {
     walk_sides(disk, slot, blocks, sides)?;
     let record_length = EntryView::new(&slot.bytes).record_length();
@@ -142,10 +141,10 @@ pub fn find_parts<D: Sectors>(
     requires closed { IsClosed (D.history.image disk.old) slot.now.sector slot.now }
     requires rel { IsTrue (is_rel slot.now) }
     ensures parts { OnOk result (HasParts (D.history.image disk.old) slot.now blocks.new.items sides.new.items) }
-    ensures exact { IfOk result (JudgesSides (D.history.image disk.old) slot.now blocks.new.items sides.new.items) }
+    ensures exact { IfOk result (ToldOfSides (D.history.image disk.old) slot.now blocks.new.items sides.new.items) }
     ensures ok { OnOk result (Passes D.history disk.old disk.new (length blocks.new.items + 2 * length sides.new.items)) }
     ensures few { OnOk result (length blocks.new.items + 2 * length sides.new.items ≤ 732) }
-    ensures err { IfErr result (Tells D.history disk.old disk.new 732) }
+    ensures err { IfErr result (TellsUnsound D.history disk.old disk.new 732) }
 {
     survey_blocks(disk, slot, blocks)?;
     survey_sides(disk, slot, blocks.as_slice(), sides)

@@ -1,10 +1,10 @@
 //! The survey of a disk: its directory, and entry by entry what each owns.
 ghost use Rattle.std.specs.Prelude.{◌+◌, ◌*◌, ◌↔◌, IfErr, IfOk, IsOk, OnOk, length};
-ghost use Rattle.d64_image.specs.History.{Failed, NeverFailed, OnlyReads};
+ghost use Rattle.d64_image.specs.History.{NeverFailed, OnlyReads};
 ghost use Rattle.disk_layout.specs.Directory.{IsDirectory};
 ghost use Rattle.disk_layout.specs.Fault.{Holds, TellsFault};
 ghost use Rattle.disk_layout.specs.Layout.{IsLayout, IsSound, Layout, owners};
-ghost use Rattle.layout_check.specs.Calls.{Passes, Tells};
+ghost use Rattle.layout_check.specs.Calls.{Passes, TellsUnsound};
 ghost use Rattle.layout_check.specs.Survey.{IsSurveyOf, Surveys};
 
 use crate::files::survey_entry;
@@ -22,7 +22,7 @@ fn survey_directory<D: Sectors>(
 ) -> Result<(), Fault>
     ensures directory { OnOk result (IsDirectory (D.history.image disk.old) places.new.items slots.new.items) }
     ensures ok { OnOk result (Passes D.history disk.old disk.new (18 + length places.new.items)) }
-    ensures err { IfErr result (Tells D.history disk.old disk.new 738) }
+    ensures err { IfErr result (TellsUnsound D.history disk.old disk.new 738) }
 {
     read_directory(disk, slots)?;
     walk_chain(disk, directory_start(), places)?;
@@ -32,7 +32,7 @@ fn survey_directory<D: Sectors>(
 /// Surveys the disk as `survey` does, and judges beside that the bytes of the side sectors and the block counts.
 pub fn survey_files<D: Sectors>(disk: &mut D) -> Result<Findings, Fault>
     ensures ok { IfOk result (Surveys D.history disk.old disk.new) }
-    ensures err { IfErr result (Tells D.history disk.old disk.new 2114) }
+    ensures err { IfErr result (TellsUnsound D.history disk.old disk.new 2114) }
 {
     let mut slots = ArrayVec::new();
     let mut places = ArrayVec::new();
@@ -59,7 +59,7 @@ pub fn survey_files<D: Sectors>(disk: &mut D) -> Result<Findings, Fault>
 /// Nothing is written. Each owned sector is read twice at most, and no memory is taken.
 pub fn survey<D: Sectors>(disk: &mut D) -> Result<Survey, Fault>
     ensures ok { IfOk result (λ s. (l : Layout) × IsLayout (D.history.image disk.old) l × IsSurveyOf l s × OnlyReads D.history disk.old disk.new (18 + 2 * length (owners l))) }
-    ensures err { IfErr result (Holds (Failed D.history disk.old disk.new) (D.history.image disk.old)) }
+    ensures err { IfErr result (Holds (D.history.failed_at disk.new) (D.history.image disk.old)) }
     // neither a fault nor a layout is told always
     ensures sound { NeverFailed D.history disk.old disk.new → (IsOk result ↔ IsSound (D.history.image disk.old)) }
     ensures failures { TellsFault D.history disk.old disk.new result }

@@ -4,7 +4,7 @@ use Rattle.d64_image.specs.Images.{sector}
 use Rattle.d64_image.specs.declared.place.Place.{Place}
 use Rattle.disk_layout.specs.Chain.{Leads}
 use Rattle.layout_check.specs.Calls.{Passes}
-use Rattle.layout_check.specs.Sides.{IsJudged}
+use Rattle.layout_check.specs.Sides.{HasSideFields}
 use Rattle.layout_check.proofs.sides.walk_sides.Given as goal
 
 abbrev pub invariant-loop-number : goal.invariant-loop-number
@@ -13,5 +13,5 @@ invariant-loop-number g l = record {
   below : l.number < l.needed;
   leads : Leads (g.D.Sectors.history.image l.fn.disk) l.initial.at l.sides.items l.at;
   count : length l.sides.items ≡ l.number;
-  judged : (j : ℕ) (q : Place) → slice_get l.sides.items j ≡ Some q → IsJudged (sector (g.D.Sectors.history.image l.fn.disk) q) l.slot l.blocks j;
+  judged : (j : ℕ) (q : Place) → slice_get l.sides.items j ≡ Some q → HasSideFields (sector (g.D.Sectors.history.image l.fn.disk) q) l.slot l.blocks j;
 }
