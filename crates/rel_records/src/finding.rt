@@ -69,8 +69,7 @@ fn measure<D: Sectors>(disk: &mut D, slot: &Slot) -> Result<(u16, u8), RelFault>
     ensures reads { OnlyReads D.history disk.old disk.new 683 }
     ensures failures { TellsRelFault D.history disk.old disk.new result }
 {
-    let (track, sector) = EntryView::new(&slot.bytes).first_block();
-    let first = Place::new(track, sector).unwrap();
+    let first = EntryView::new(&slot.bytes).first_block().unwrap();
     let mut blocks = ArrayVec::new();
     match walk_chain(disk, first, &mut blocks) {
         Ok(last) => Ok((blocks.len() as u16, last)),
@@ -120,8 +119,7 @@ fn open_entry<D: Sectors>(disk: &mut D, entry: usize, slot: &Slot) -> Result<Rel
     ensures failures { TellsRelFault D.history disk.old disk.new result }
 {
     let view = EntryView::new(&slot.bytes);
-    let (track, sector) = view.first_side();
-    let first = Place::new(track, sector).unwrap();
+    let first = view.first_side().unwrap();
     let (blocks, last) = measure(disk, slot)?;
     let mut sides = ArrayVec::new();
     let count = (blocks + POINTERS - 1) / POINTERS;

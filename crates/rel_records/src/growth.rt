@@ -56,18 +56,23 @@ pub fn grow_to<D: Sectors>(disk: &mut D, file: &mut RelFile, number: u32) -> Res
     let Some(wanted) = blocks_for(number, file.size) else {
         return Err(RelFault::TooLarge);
     };
-    let map = Bam::read(disk).map_err(|_| RelFault::Device)?;
+    let Ok(map) = Bam::read(disk) else {
+        return Err(RelFault::Device);
+    };
     if map.view().blocks_free() < sectors_needed(file.blocks, wanted) {
         return Err(RelFault::Full);
     }
-    grow(disk, file, map, wanted).map_err(|_| RelFault::Device)
+    let Ok(()) = grow(disk, file, map, wanted) else {
+        return Err(RelFault::Device);
+    };
+    Ok(())
 }
 
 /// How many sectors a file of `blocks` blocks needs to have `wanted` of them, beyond those that it has.
 fn sectors_needed(blocks: u16, wanted: u16) -> u16
     requires blocks { blocks ≤ 720 }
     requires wanted { wanted ≤ 720 }
-    ensures { blocks ≤ wanted → result ≡ needed blocks wanted }
+    ensures { result ≡ needed blocks wanted }
 {
     (wanted + side_count(wanted)).saturating_sub(blocks + side_count(blocks))
 }

@@ -3,9 +3,7 @@ ghost use Rattle.std.specs.Prelude.{◌≡◌, ◌≢◌, ◌≤◌, ◌<◌, �
 ghost use Rattle.d64_image.specs.Images.{IsSector};
 ghost use Rattle.d64_image.specs.declared.place.Place.{Place};
 ghost use Rattle.disk_layout.specs.Chain.{Names};
-ghost use Rattle.disk_layout.specs.Directory.{slot_in};
-ghost use Rattle.disk_layout.specs.Entries.{IsRecounted};
-ghost use Rattle.disk_layout.specs.Layout.{count_field, sides_for};
+ghost use Rattle.disk_layout.specs.Layout.{sides_for};
 ghost use Rattle.disk_layout.specs.Map.{IsMapOf};
 ghost use Rattle.disk_layout.specs.View.{blocks_free};
 ghost use Rattle.rel_records.specs.Next.{IsFresh, IsLaidOut, IsLinked, TakesPlaces};
@@ -13,9 +11,8 @@ ghost use Rattle.rel_records.specs.Steps.{TakesNext, taken_next};
 
 use crate::sizes::{BLOCK, POINTERS, full_records, last_index};
 use crate::step_parts::Parts;
-use byteorder::{ByteOrder, LittleEndian};
 use d64_image::Place;
-use disk_layout::{Bam, fill};
+use disk_layout::{Bam, fill, put_count};
 
 /// Takes the next free sector for data.
 pub(crate) fn take_next(map: &mut Bam) -> Place
@@ -78,16 +75,6 @@ fn link_block(bytes: &mut [u8; 256], fresh: Place, blocks: u16, length: u8)
     fill(bytes, BLOCK * (blocks as u32 - 1), from, length, total);
     bytes[0] = fresh.track();
     bytes[1] = fresh.sector();
-}
-
-/// Writes the block count of a slot into the bytes of its directory sector.
-fn put_count(bytes: &mut [u8; 256], number: u8, count: u16)
-    requires { number < 8 }
-    ensures count { (p : Place) → count_field (slot_in p bytes.new number) ≡ count }
-    ensures rest { IsRecounted bytes.old bytes.new number }
-{
-    let at = 32 * number as usize + 30;
-    LittleEndian::write_u16(&mut bytes[at..at + 2], count);
 }
 
 /// Makes the file's next block in memory: takes its sectors, and makes its bytes, those of the old last block, which then

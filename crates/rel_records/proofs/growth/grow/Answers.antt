@@ -27,7 +27,7 @@ pub fill_up-requires-clause-had : goal.fill_up-requires-clause-had
 fill_up-requires-clause-had g c =
     let (l, n, f, of) = c.requires.of in
     let a = g.D.Sectors.history.image c.args.disk.now in
-    c.records.ensures ∙ had-of a l n f c.args.file.now of ∙ had-is a l n f c.in_ok-parts.parts (c.in_ok-parts.ensures.ok l n f of)
+    c.records.ensures.value ∙ had-of a l n f c.args.file.now of ∙ had-is a l n f c.in_ok-parts.parts (c.in_ok-parts.ensures.ok l n f of)
 
 pub returns-in_err-fill_up-clause-moments : goal.returns-in_err-fill_up-clause-moments
 returns-in_err-fill_up-clause-moments g c l n f of =
