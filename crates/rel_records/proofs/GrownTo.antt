@@ -13,14 +13,17 @@ use Rattle.disk_layout.specs.Clean.{IsClean}
 use Rattle.rel_records.proofs.Filled.{last-index}
 use Rattle.rel_records.proofs.Gathers.{clean-of}
 use Rattle.rel_records.proofs.Grows.{had-of}
-use Rattle.rel_records.proofs.Kept.{keeps_same, places-stay}
+use Rattle.d64_image.proofs.Moments.{at_end, changes_then, changes_weaker, reads_change}
+use Rattle.d64_image.specs.History.{Changes, History, OnlyReads}
+use Rattle.rel_records.proofs.Grown.{growing-others}
+use Rattle.rel_records.proofs.Kept.{growing_same, has-others, has_same, keeps_same, places-stay}
 use Rattle.rel_records.proofs.Opened.{file-rel, some-blocks}
 use Rattle.rel_records.proofs.Standing.{count-low}
 use Rattle.rel_records.specs.File.{IsFileOf, blocks_of, length_of, records_in}
 use Rattle.rel_records.specs.Growth.{IsFull, IsTooLarge, added, blocks_for, fill_writes, full, growth_writes, needed, records_had, run_writes}
-use Rattle.rel_records.specs.Others.{KeepsPlaces, LeavesRecords}
+use Rattle.rel_records.specs.Others.{KeepsPlaces, KeepsRelFiles, LeavesRecords}
 use Rattle.rel_records.specs.Steps.{HasRun, IsAt, IsFilledUp, IsKeptOf}
-use Rattle.rel_records.specs.Written.{grown_by, grown_to}
+use Rattle.rel_records.specs.Written.{IsGrowingBy, grown_by, grown_to}
 use Rattle.rel_records.specs.declared.rel_file.RelFile.{RelFile}
 
 module _ (a : Image) (l : Layout) (n : ℕ) (f : File) (v : RelFile) (of : IsFileOf a l n f v) (r : ℕ) where
@@ -146,3 +149,40 @@ module _ (a : Image) (l : Layout) (n : ℕ) (f : File) (v : RelFile) (of : IsFil
 
       pub size-now : length_of z ≡ length_of v
       size-now = h.kept.size ∙ at.size ∙ h.run.same_size ∙ sym of.shows.size
+
+-- the map is read, and then the file grows
+module _ {D : Type 0} (S : History D) (d b : D) (l : Layout) (n : ℕ) (f : File) (v : RelFile) (of : IsFileOf (S.image d) l n f v) (r : ℕ) (reads : OnlyReads S d b 1) where
+  abbrev Grows : Image → Type 0
+  Grows = IsGrowingBy (S.image d) l n f (added (record_length f.slot) (records_had f) r)
+
+  pub of-now : IsFileOf (S.image b) l n f v
+  of-now = let P : Image → Type 0 = λ i. IsFileOf i l n f v in subst P (sym reads.image) of
+
+  pub read-moments : Changes S d b (growth_writes f r) Grows
+  read-moments = changes_weaker S d b 0 _ Grows Grows (omega arith) (λ c h. h) (reads_change S d b 1 Grows reads (growing_same (S.image d) l n f v _ of))
+
+  pub read-others : KeepsRelFiles (S.image d) (S.image b) l n
+  read-others =
+      let P : Image → Type 0 = λ i. KeepsRelFiles (S.image d) i l n in
+      subst P (sym reads.image) (has-others (S.image d) (S.image d) l n _ (has_same (S.image d) l n f v of))
+
+  module _ (lt : records_in v < r) (w : ℕ) (wanted : w ≡ blocks_for (length_of v) r) (y : D) where
+    same-sum : full (record_length f.slot) w - records_had f ≡ added (record_length f.slot) (records_had f) r
+    same-sum = ap (λ k. full (record_length f.slot) k - records_had f) (wanted ∙ ap (λ s. blocks_for s r) of.shows.size) ∙ sym (some-added (S.image d) l n f v of r lt)
+
+    same-writes : fill_writes f + run_writes (length f.blocks) w ≡ growth_writes f r
+    same-writes = ap (λ k. fill_writes f + run_writes (length f.blocks) k) (wanted ∙ ap (λ s. blocks_for s r) of.shows.size) ∙ sym (writes-are (S.image d) l n f v of r lt)
+
+    pub grow-moments : Changes S b y (fill_writes f + run_writes (length f.blocks) w) (IsGrowingBy (S.image b) l n f (full (record_length f.slot) w - records_had f)) → Changes S d y (growth_writes f r) Grows
+    grow-moments h =
+        let P : Image → Type 0 = λ i. Changes S b y (fill_writes f + run_writes (length f.blocks) w) (IsGrowingBy i l n f (full (record_length f.slot) w - records_had f)) in
+        let Q : ℕ → Type 0 = λ k. Changes S b y (fill_writes f + run_writes (length f.blocks) w) (IsGrowingBy (S.image d) l n f k) in
+        changes_then S d b y 0 _ (growth_writes f r) Grows (omega (arith, same-writes)) (reads_change S d b 1 Grows reads (growing_same (S.image d) l n f v _ of)) (subst Q same-sum (subst P reads.image h))
+
+    pub grow-others : Changes S d y (growth_writes f r) Grows → KeepsRelFiles (S.image d) (S.image y) l n
+    grow-others h = growing-others (S.image d) (S.image y) l n f _ (at_end S d y Grows h.held)
+
+    pub grow-leaves : (z : RelFile) → HasRun (S.image b) (S.image y) l n f w z → LeavesRecords (S.image d) (S.image y) l n (grown_to (S.image d) f r) z
+    grow-leaves z h =
+        let P : Image → Type 0 = λ i. LeavesRecords i (S.image y) l n (grown_to i f r) z in
+        subst P reads.image (leaves-run (S.image b) l n f v of-now r lt (S.image y) w z wanted h)

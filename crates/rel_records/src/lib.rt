@@ -8,6 +8,8 @@ mod filling;
 mod finding;
 mod gathering;
 mod growth;
+#[cfg(test)]
+mod growth_tests;
 mod lookup;
 mod next_block;
 mod parts;
