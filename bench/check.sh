@@ -1,20 +1,16 @@
 #!/bin/bash
 # Times `check` on a full disk, proved and in plain Rust, and prints the ratio:
 #   bench/check.sh [ROUNDS] [RUNS]
-# It takes the proved program that stands in crates/check_bench/out, and makes it with `rt run` where there is none.
-set -e
-name=check
 source "$(dirname "$0")/common.sh"
 rounds="${1:-100000}"
-runs="${2:-9}"
-prepare check_bench
+prepare benchmarks
 "$plain" make "$work/full.d64"
 
 # both programs judge an image alike, and as is wanted: so many of three rounds find it clean, and the plain one tells this
 same_of() {
     local said by_proved told
     said="$("$plain" judge 3 "$1")"
-    by_proved="$("$proved" 3 "$1")"
+    by_proved="$("$proved" check 3 "$1")"
     told="$("$plain" tell "$1")"
     [ "$said" = "$2" ] && [ "$by_proved" = "$2" ] && [ "$told" = "$3" ] ||
         stop "$1: plain $said of 3 clean, proved $by_proved; the plain program tells $told, and $3 was to be told"
@@ -46,7 +42,7 @@ run_plain() {
 }
 
 run_proved() {
-    "$proved" "$rounds" "$work/full.d64"
+    "$proved" check "$rounds" "$work/full.d64"
 }
 
-print_ratio "$runs" "$rounds" 1e6 "us a check"
+print_ratio "$rounds" 1e6 "us a check"

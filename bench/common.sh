@@ -1,27 +1,35 @@
-# Sourced by the scripts beside it, which time a proved program beside a plain one. A script names itself in `name`, and
-# says in two functions, `run_plain` and `run_proved`, what is timed.
+# Sourced by the scripts beside it, most of which time a proved program beside a plain one. Such a script says in two
+# functions, `run_plain` and `run_proved`, what is timed. Its second word says how many runs of each are made.
+set -e
+name="$(basename "$0" .sh)"
 top="$(cd "$(dirname "${BASH_SOURCE[0]}")/.." && pwd)"
+runs="${2:-9}"
+work="$(mktemp -d)"
+trap 'rm -rf "$work"' EXIT
 
-# stop WORDS: says why there is nothing to compare
+# stop WORDS: says why there is nothing to time
 stop() {
     echo "$name: $*" >&2
     exit 1
 }
 
-# prepare CRATE: `proved` becomes the program of this crate, made with `rt run` where there is none; `work` a folder of
-# this run's own; and `plain` the plain program of the script, made with `rustc -O`
+# make_plain: `plain` becomes the plain program of the script, made with `rustc -O`
+make_plain() {
+    command -v rustc >/dev/null || stop "there is no rustc here, so there is no plain program"
+    plain="$work/plain"
+    rustc -O -o "$plain" "$top/bench/${name}_plain.rs"
+}
+
+# prepare CRATE: makes the plain program, and `proved` becomes the program of this crate, crates/CRATE/out/CRATE. One that
+# stands there is taken as it is; where there is none, `rt run` proves and builds it.
 prepare() {
-    command -v rustc >/dev/null || stop "there is no rustc here, so there is nothing to compare with"
+    make_plain
     proved="$top/crates/$1/out/$1"
     if [ ! -x "$proved" ]; then
         echo "$name: proving and building $1 first" >&2
         (cd "$top/crates/$1" && rt run -- --help >/dev/null 2>&1) || true
         [ -x "$proved" ] || stop "rt run failed in crates/$1"
     fi
-    work="$(mktemp -d)"
-    trap 'rm -rf "$work"' EXIT
-    plain="$work/plain"
-    rustc -O -o "$plain" "$top/bench/${name}_plain.rs"
 }
 
 # the processor seconds, the kernel's aside, of what is run
@@ -30,13 +38,13 @@ seconds_of() {
     { time "$@" >/dev/null; } 2>&1
 }
 
-# print_ratio RUNS TIMES PER_SECOND UNIT: runs both, each of which does its work so many times over, turn by turn, so that
-# what else runs on the machine slows both alike; the least of all runs counts
+# print_ratio TIMES PER_SECOND UNIT: runs both programs, each of which does its work so many times over, turn by turn, so
+# that what else runs on the machine slows both alike; the least of all runs counts
 print_ratio() {
-    for _ in $(seq "$1"); do
+    for _ in $(seq "$runs"); do
         echo "plain $(seconds_of run_plain)"
         echo "proved $(seconds_of run_proved)"
-    done | awk -v factor="$3" -v times="$2" -v unit="$4" '
+    done | awk -v times="$1" -v factor="$2" -v unit="$3" '
         !($1 in least) || $2 < least[$1] { least[$1] = $2 }
         END {
             plain = least["plain"] * factor / times

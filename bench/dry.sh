@@ -1,12 +1,8 @@
 #!/bin/bash
 # Times `dry` on a script of 200,000 lines beside a plain Rust program that prints the same, and prints the ratio:
 #   bench/dry.sh [LINES] [RUNS]
-# It takes the proved program that stands in crates/ledger_cli/out, and makes it with `rt run` where there is none.
-set -e
-name=dry
 source "$(dirname "$0")/common.sh"
 lines="${1:-200000}"
-runs="${2:-9}"
 prepare ledger_cli
 awk -v lines="$lines" -f "$top/bench/script.awk" >"$work/script.txt"
 
@@ -20,4 +16,4 @@ run_proved() {
 }
 
 cmp -s <("$plain" "$work/script.txt") <("$proved" dry "$work/script.txt") || stop "the two programs print different replies"
-print_ratio "$runs" 20 1000 "ms a run"
+print_ratio 20 1000 "ms a run"

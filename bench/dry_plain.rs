@@ -12,11 +12,13 @@ struct Body {
     kind: u8,
     item: u16,
     quantity: u32,
+    to: u16,
 }
 
 #[derive(Clone, Copy)]
 enum Answer {
     Done(u32),
+    Moved(u32, u32),
     Short(u32),
     Over(u32),
     NoCard,
@@ -110,7 +112,11 @@ fn request(script: &[u8], at: usize) -> Option<(usize, u32, Body, usize)> {
     let kind = *script.get(at)?;
     let (item, at) = number(script, comma(script, at + 1)?)?;
     let (quantity, at) = number(script, comma(script, at)?)?;
-    if till == 0 || till > 64 || count == 0 || item == 0 || item > 65535 || !matches!(kind, b'R' | b'I' | b'S') {
+    let (to, at) = if kind == b'M' { number(script, comma(script, at)?)? } else { (0, at) };
+    if till == 0 || till > 64 || count == 0 || item == 0 || item > 65535 || !matches!(kind, b'R' | b'I' | b'S' | b'M') {
+        return None;
+    }
+    if kind == b'M' && (to == 0 || to > 65535 || to == item) {
         return None;
     }
     let end = match script.get(at) {
@@ -119,12 +125,27 @@ fn request(script: &[u8], at: usize) -> Option<(usize, u32, Body, usize)> {
         Some(b'\r') if script.get(at + 1) == Some(&b'\n') => at + 2,
         Some(_) => return None,
     };
-    Some((till as usize, count, Body { kind, item: item as u16, quantity }, end))
+    Some((till as usize, count, Body { kind, item: item as u16, quantity, to: to as u16 }, end))
 }
 
 fn trade(cards: &mut [Option<u32>; TOP], body: Body) -> Answer {
     let place = usize::from(body.item) - 1;
     let card = cards.get(place).copied().flatten();
+    if body.kind == b'M' {
+        let to = usize::from(body.to) - 1;
+        let (Some(on), Some(there)) = (card, cards.get(to).copied().flatten()) else {
+            return Answer::NoCard;
+        };
+        if body.quantity > on {
+            return Answer::Short(on);
+        }
+        if body.quantity > MOST - there {
+            return Answer::Over(there);
+        }
+        cards[place] = Some(on - body.quantity);
+        cards[to] = Some(there + body.quantity);
+        return Answer::Moved(on - body.quantity, there + body.quantity);
+    }
     let (answer, quantity) = match (body.kind, card) {
         (b'S', None) if place >= 10160 => (Answer::TooLarge, None),
         (b'S', None) if place >= TOP => (Answer::DiskFull, None),
@@ -147,6 +168,12 @@ fn tell<W: Write>(out: &mut Out<W>, answer: Answer) {
         Answer::Done(n) => {
             out.text(b"DONE,");
             out.number(n);
+        }
+        Answer::Moved(n, m) => {
+            out.text(b"DONE,");
+            out.number(n);
+            out.text(b",");
+            out.number(m);
         }
         Answer::Short(n) => {
             out.text(b"SHORT,");
@@ -190,6 +217,7 @@ fn main() {
     let script = script.as_slice();
     let mut cards = [None; TOP];
     let mut kept: [Option<Kept>; 65] = [None; 65];
+    let mut prior: [Option<Kept>; 65] = [None; 65];
     let mut out = Out { inner: io::stdout().lock(), buffer: [0; ROOM], used: 0 };
     let mut at = 0;
     while at < script.len() {
@@ -213,18 +241,19 @@ fn main() {
         let last_number = last.map_or(0, |kept| kept.number);
         if number == last_number + 1 {
             let answer = trade(&mut cards, body);
+            prior[till] = kept[till];
             kept[till] = Some(Kept { number, body, answer });
             tell(&mut out, answer);
         } else if number > last_number {
             out.text(b"AHEAD");
-        } else if number < last_number {
-            out.text(b"STALE");
-        } else if let Some(kept) = last {
+        } else if let Some(kept) = if number == last_number { last } else { prior[till].filter(|kept| kept.number == number) } {
             if kept.body == body {
                 tell(&mut out, kept.answer);
             } else {
                 out.text(b"CLASH");
             }
+        } else {
+            out.text(b"STALE");
         }
         out.text(b"\n");
         if out.used > ROOM - 64 {

@@ -8,6 +8,7 @@ BEGIN {
         chance = draw(100)
         ending = (draw(20) == 0) ? "\r\n" : "\n"
         if (chance < 12 && last[till] != "") text = last[till]
+        else if (chance < 14 && before[till] != "") text = before[till]
         else if (chance < 15) text = till "," (number[till] + 2 + draw(5)) ",S," (1 + draw(8819)) ",1"
         else if (chance < 18 && number[till] > 1) text = till "," (number[till] - 1) ",I," (1 + draw(8819)) ",1"
         else if (chance < 20 && number[till] > 0) text = till "," number[till] ",S," (1 + draw(8819)) "," draw(1000000)
@@ -20,6 +21,8 @@ BEGIN {
             quantity = (draw(50) == 0) ? 999999999 : draw(draw(30) == 0 ? 32767 : 1000)
             number[till]++
             text = till "," number[till] "," kind "," item "," quantity
+            if (draw(10) == 0) text = till "," number[till] ",M," item "," quantity "," (1 + draw(300))
+            before[till] = last[till]
             last[till] = text
         }
         printf "%s%s", text, ending

@@ -1,5 +1,5 @@
-//! The rounds of `sector_bench` in plain Rust, against which `sectors.sh` times it: a disk of 683 sectors behind a
-//! trait, and a caller that knows only the trait.
+//! The rounds of `benchmarks sectors` in plain Rust, against which `sectors.sh` times them: a disk of 683 sectors behind
+//! a trait, and a caller that knows only the trait.
 use std::env;
 
 /// The device failed.

@@ -2,14 +2,7 @@
 # Reads the images that `format` makes with two programs that others wrote (Debian's packages cc1541 and cbmconvert):
 # cc1541 has to list each as `list` does, case aside, and leave it as it is; cbmconvert has to extract both relative
 # files with their names, record lengths and bytes. Not part of the gate. Run it from anywhere.
-set -eu
-top="$(cd "$(dirname "$0")/../.." && pwd)"
-for tool in cc1541 cbmconvert; do
-    command -v "$tool" >/dev/null 2>&1 || { echo "blank_images: $tool is not installed; nothing was compared"; exit 0; }
-done
-work=$(mktemp -d)
-trap 'rm -rf "$work"' EXIT
-cd "$work"
+. "$(dirname "$0")/common.sh"
 
 # a directory listing as plain capitals with single spaces: `2 "STOCK" REL`
 plain() {

@@ -3,14 +3,7 @@
 # The disks: closed, locked and open entries, separators, a file listed twice, a relative entry without side sectors,
 # an entry scratched by clearing its type alone, and relative files of one and of several hundred blocks.
 # Not part of the gate. Run it from anywhere.
-set -eu
-top="$(cd "$(dirname "$0")/../.." && pwd)"
-for tool in cc1541 cbmconvert; do
-    command -v "$tool" >/dev/null 2>&1 || { echo "foreign_disks: $tool is not installed; nothing was compared"; exit 0; }
-done
-work=$(mktemp -d)
-trap 'rm -rf "$work"' EXIT
-cd "$work"
+. "$(dirname "$0")/common.sh"
 
 # expect IMAGE WORD..: `check` prints one of these words
 expect() {

@@ -1,10 +1,16 @@
 -- Worked examples of this crate's definitions, each named by what it shows. The numbers are those of the D64 layout.
-use Rattle.std.proofs.Common.{◌+◌, ◌≡◌, ◌<◌, ◌≤◌, ◌≢◌, [], ◌∷◌, Some, None, refl, lit<, lit≤, ⊎_elim, arith}
+use Rattle.std.proofs.Common.{◌+◌, ◌≡◌, ◌<◌, ◌≤◌, ◌≢◌, [], ◌∷◌, Some, None, Err, inl, refl, lit<, lit≤, ⊎_elim, arith}
 use Rattle.d64_image.specs.declared.place.Place.{Place}
 use Rattle.d64_image.specs.Geometry.{sectors_on, sectors_below}
 use Rattle.d64_image.specs.Places.{index_of, place_at, first_place}
-use Rattle.d64_image.specs.Images.{Image, sector, put}
-use Rattle.d64_image.specs.History.{History, HeldOnly, Failed, OnlyReads, OldOr}
+use Rattle.d64_image.specs.Images.{Image, Sector, sector, put}
+use Rattle.d64_image.specs.Calls.{ReadsSector, WritesSector}
+use Rattle.d64_image.specs.Faults.{device_fault}
+use Rattle.d64_image.specs.Fuses.{fuse, fuse_left}
+use Rattle.d64_image.specs.History.{History, HeldOnly, Failed, IfCounted, OnlyReads, OldOr, WritesNothing}
+use Rattle.d64_image.specs.Memory.{memory}
+use Rattle.d64_image.specs.declared.fuse.Fuse.{Fuse}
+use Rattle.d64_image.specs.declared.mem_disk.MemDisk.{MemDisk}
 use Rattle.d64_image.proofs.Places.{place_at-none, place_at-self}
 
 -- the map's sector, and the last sector of the disk
@@ -78,3 +84,29 @@ module _ {D : Type 0} (S : History D) (old new : D) where
   -- a call that only reads at most two sectors is one that makes no write
   pub reads_make_no_write : OnlyReads S old new 2 → S.writes new ≤ S.writes old
   reads_make_no_write r = omega (arith, r.writes)
+
+  -- a call that counted a write isn't one that writes nothing
+  pub counted_write_is_one : S.writes new ≡ S.writes old + 1 → ¬ (WritesNothing S old new)
+  counted_write_is_one e w = let same : S.writes new ≡ S.writes old = w.writes in omega (arith, e, same)
+
+  -- a write that was counted left the new image
+  pub counted_write_left_the_new_image : (b : Image) → IfCounted S old new (λ c. c ≡ b) → S.writes new ≡ S.writes old + 1 → S.image new ≡ b
+  counted_write_left_the_new_image b done e = done (omega (arith, e))
+
+  -- an error of a read at a place is a failure there, and one of a write too
+  pub read_failed_there : (p : Place) (bytes : Sector) → ReadsSector {T = Unit {0}} S old new p bytes device_fault (Err device_fault) → S.failed_at new p
+  read_failed_there p bytes r = r.failed
+
+  pub write_failed_there : (p : Place) (bytes : Sector) → WritesSector {T = Unit {0}} S old new p bytes device_fault (Err device_fault) → S.failed_at new p
+  write_failed_there p bytes w = w.failed
+
+-- memory fails nowhere
+pub memory_fails_nowhere : (d : MemDisk) (p : Place) → ¬ (memory.failed_at d p)
+memory_fails_nowhere d p never = never
+
+-- a fuse that has blown fails everywhere, and one that hasn't only where the disk beneath failed
+pub blown_fuse_fails_everywhere : {D : Type 0} (h : History D) (f : Fuse D) (p : Place) → fuse_left f ≡ 0 → (fuse h).failed_at f p
+blown_fuse_fails_everywhere h f p blown = inl blown
+
+pub whole_fuse_fails_beneath : (f : Fuse MemDisk) (p : Place) → fuse_left f ≡ 1 → ¬ ((fuse memory).failed_at f p)
+whole_fuse_fails_beneath f p left = ⊎_elim (λ blown. omega (arith, left, blown)) (λ never. never)

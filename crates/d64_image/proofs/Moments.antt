@@ -1,7 +1,10 @@
 -- How the words on moments, counts and failures go on from one call to the next.
-use Rattle.std.proofs.Common.{ℕ, ◌≡◌, ◌≤◌, ◌+◌, ◌⊎◌, ⊎_elim, inl, inr, sym, ◌∙◌, subst, refl, Result, Ok, Err, IsOk, arith}
-use Rattle.d64_image.specs.Images.{Image}
-use Rattle.d64_image.specs.History.{History, HeldOnly, Failed, NeverFailed, OnlyReads, OldOr, Changes, TellsFailure}
+use Rattle.std.proofs.Common.{ℕ, ◌≡◌, ◌≤◌, ◌<◌, ◌+◌, ◌⊎◌, ⊎_elim, inl, inr, sym, ◌∙◌, subst, refl, Result, Ok, Err, IsOk, OnOk, OnErr, arith}
+use Rattle.std.proofs.lemmas.Bool.{cases_lt}
+use Rattle.d64_image.specs.Calls.{WritesSector}
+use Rattle.d64_image.specs.Images.{Image, Sector, put}
+use Rattle.d64_image.specs.History.{History, HeldOnly, Failed, NeverFailed, OnlyReads, OldOr, Changes, TellsFailure, WritesNothing, IfCounted}
+use Rattle.d64_image.specs.declared.place.Place.{Place}
 
 module _ {D : Type 0} (S : History D) where
   pub start : (d : D) (P : Image → Type 0) → P (S.image d) → HeldOnly S d d P
@@ -80,6 +83,54 @@ module _ {D : Type 0} (S : History D) where
 
   pub reads_weaker : (a b : D) (m n : ℕ) → m ≤ n → OnlyReads S a b m → OnlyReads S a b n
   reads_weaker a b m n le r = record { image = r.image; held = r.held; reads = omega (arith, le, r.reads); writes = r.writes }
+
+  -- nothing is written
+  pub no_write : (d : D) → WritesNothing S d d
+  no_write d = record { image = refl; held = start d (λ c. c ≡ S.image d) refl; writes = refl }
+
+  pub reads_no_write : (a b : D) (n : ℕ) → OnlyReads S a b n → WritesNothing S a b
+  reads_no_write a b n r = record { image = r.image; held = r.held; writes = r.writes }
+
+  pub no_write_then : (a b c : D) → WritesNothing S a b → WritesNothing S b c → WritesNothing S a c
+  no_write_then a b c first second = record {
+    image = second.image ∙ first.image;
+    held = then a b c (λ i. i ≡ S.image a) first.held (weaker b c (λ i. i ≡ S.image b) (λ i. i ≡ S.image a) (λ i e. e ∙ first.image) second.held);
+    writes = second.writes ∙ first.writes;
+  }
+
+  pub no_write_change : (a b : D) (P : Image → Type 0) → WritesNothing S a b → P (S.image a) → Changes S a b 0 P
+  no_write_change a b P w p = record { held = weaker a b (λ c. c ≡ S.image a) P (λ c e. subst P (sym e) p) w.held; writes = omega (arith, w.writes) }
+
+  -- a write is counted at most once, however it ends
+  pub counted_once : {T E : Type 0} (a b : D) (result : Result T E) → OnOk result (S.writes b ≤ S.writes a + 1) → OnErr result (S.writes b ≡ S.writes a)
+      → S.writes b ≤ S.writes a + 1
+  counted_once a b (Ok _) counted uncounted = counted
+  counted_once a b (Err _) counted uncounted = omega (arith, uncounted)
+
+  -- where a write was counted: one call that writes, and what comes before or after it
+  pub none_counted : (a b : D) (P : Image → Type 0) → S.writes b ≡ S.writes a → IfCounted S a b P
+  none_counted a b P same = λ (lt : S.writes a < S.writes b). absurd (omega (arith, same, lt))
+
+  pub write_counted : {T E : Type 0} (a b : D) (p : Place) (bytes : Sector) (fault : E) (result : Result T E) → WritesSector S a b p bytes fault result
+      → IfCounted S a b (λ c. c ≡ put (S.image a) p bytes)
+  write_counted a b p bytes fault (Ok _) w = λ lt. w.ok
+  write_counted a b p bytes fault (Err _) w = none_counted a b (λ c. c ≡ put (S.image a) p bytes) w.uncounted
+
+  pub counted_weaker : (a b : D) (P Q : Image → Type 0) → (P (S.image b) → Q (S.image b)) → IfCounted S a b P → IfCounted S a b Q
+  counted_weaker a b P Q f done = λ lt. f (done lt)
+
+  -- what comes after keeps it where it was so
+  pub counted_then : (a b c : D) (P Q : Image → Type 0) → (P (S.image b) → Q (S.image c)) → IfCounted S a b P → IfCounted S b c Q → IfCounted S a c Q
+  counted_then a b c P Q keeps first second = λ (lt : S.writes a < S.writes c). ⊎_elim
+      (λ (before : S.writes a < S.writes b). keeps (first before))
+      (λ (none : S.writes b ≤ S.writes a). second (omega (arith, none, lt)))
+      (cases_lt (S.writes a) (S.writes b))
+
+  pub counted_after : (a b c : D) (P : Image → Type 0) → WritesNothing S a b → IfCounted S b c P → IfCounted S a c P
+  counted_after a b c P w done = λ (lt : S.writes a < S.writes c). done (omega (arith, w.writes, lt))
+
+  pub counted_before : (a b c : D) (P : Image → Type 0) → IfCounted S a b P → WritesNothing S b c → IfCounted S a c P
+  counted_before a b c P done w = λ (lt : S.writes a < S.writes c). subst P (sym w.image) (done (omega (arith, w.writes, lt)))
 
   -- failures
   pub failed_later : (a b c : D) → S.failures b ≡ S.failures a → Failed S b c → Failed S a c

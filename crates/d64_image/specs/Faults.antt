@@ -1,7 +1,12 @@
--- The numbers of faults. Our own.
+-- The device's fault, and the numbers of an image's. Our own.
 use Rattle.std.specs.Prelude.{ℕ}
+use Rattle.d64_image.specs.declared.faults.DeviceFault.{DeviceFault}
 use Rattle.d64_image.specs.declared.faults.ImageFault.{ImageFault}
 use Rattle.d64_image.specs.declared.faults.ImageFault.TheVariants.{Size, NoMemory}
+
+-- what a device tells
+abbrev pub device_fault : DeviceFault
+device_fault = record {}
 
 -- the number under which a fault of an image is told
 abbrev pub number_of : ImageFault → ℕ

@@ -2,6 +2,7 @@
 use Rattle.std.specs.Prelude.{ℕ, ◌≡◌, ◌≤◌, ◌+◌, ◌-◌, ◌⊎◌, refl}
 use Rattle.std.proofs.Common.{◌∙◌, inl, inr, ⊎_elim, le_refl, arith}
 use Rattle.d64_image.specs.declared.fuse.Fuse.{Fuse}
+use Rattle.d64_image.specs.declared.place.Place.{Place}
 use Rattle.d64_image.specs.History.{History, Failed, through}
 
 -- the disk beneath
@@ -72,6 +73,16 @@ fused_then h a b c x y = record {
       x.cause;
 }
 
+-- It has blown, so that it fails each call, or the disk beneath failed there.
+abbrev pub fails_at : {D : Type 0} → History D → Fuse D → Place → Type 0
+fails_at h f p = (fuse_left f ≡ 0) ⊎ h.failed_at (fuse_disk f) p
+
+pub fails_still : {D : Type 0} (h : History D) (a b : Fuse D) (p : Place) → IsFused h a b → fails_at h a p → fails_at h b p
+fails_still h a b p x failed = ⊎_elim
+    (λ (blown : fuse_left a ≡ 0). inl (omega (arith, blown, x.limit, x.passed)))
+    (λ beneath. inr (h.failed_stays a.disk b.disk p x.beneath beneath))
+    failed
+
 -- A fuse counts the writes that it let pass, and its own failures.
 abbrev pub fuse : {D : Type 0} → History D → History (Fuse D)
 fuse h = record (through fuse_disk h) {
@@ -82,4 +93,6 @@ fuse h = record (through fuse_disk h) {
   reached = IsFused h;
   reached_same = fused_same h;
   reached_then = fused_then h;
+  failed_at = fails_at h;
+  failed_stays = fails_still h;
 }

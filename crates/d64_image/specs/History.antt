@@ -1,6 +1,7 @@
--- What a device holds now, what it held at the moments before, and how often it failed. Our own.
+-- What a device holds now, what it held at the moments before, how often it failed, and where. Our own.
 use Rattle.std.specs.Prelude.{ℕ, ◌≡◌, ◌<◌, ◌≤◌, ◌+◌, ◌⊎◌, Result, Ok, Err}
 use Rattle.d64_image.specs.Images.{Image, IsImage}
+use Rattle.d64_image.specs.declared.place.Place.{Place}
 
 pub record History (D : Type 0) : Type 1 where
   -- what the device holds now
@@ -26,6 +27,9 @@ pub record History (D : Type 0) : Type 1 where
   pub reached : D → D → Type 0
   pub reached_same : (d : D) → reached d d
   pub reached_then : (a b c : D) → reached a b → reached b c → reached a c
+  -- it has failed at this place, or fails each call from now on
+  pub failed_at : D → Place → Type 0
+  pub failed_stays : (a b : D) (p : Place) → reached a b → failed_at a p → failed_at b p
 
 -- the history of a device that passes each call on to another
 abbrev pub through : {E D : Type 0} → (E → D) → History D → History E
@@ -44,6 +48,8 @@ through f h = record {
   reached = λ a b. h.reached (f a) (f b);
   reached_same = λ e. h.reached_same (f e);
   reached_then = λ a b c. h.reached_then (f a) (f b) (f c);
+  failed_at = λ e. h.failed_at (f e);
+  failed_stays = λ a b. h.failed_stays (f a) (f b);
 }
 
 -- From old to new the device held only images that have P.
@@ -84,3 +90,13 @@ OldOr old new c = (c ≡ old) ⊎ (c ≡ new)
 pub record Changes {D : Type 0} (S : History D) (old new : D) (n : ℕ) (P : Image → Type 0) : Type 0 where
   pub held : HeldOnly S old new P
   pub writes : S.writes new ≤ S.writes old + n
+
+-- A call that writes nothing, however much it reads: the image stays, and no write is counted.
+pub record WritesNothing {D : Type 0} (S : History D) (old new : D) : Type 0 where
+  pub image : S.image new ≡ S.image old
+  pub held : HeldOnly S old new (λ c. c ≡ S.image old)
+  pub writes : S.writes new ≡ S.writes old
+
+-- Where a write was counted, the image at the end has P.
+abbrev pub IfCounted : {D : Type 0} → History D → D → D → (Image → Type 0) → Type 0
+IfCounted S old new P = S.writes old < S.writes new → P (S.image new)

@@ -39,4 +39,6 @@ memory = record {
   reached = λ _ _. Unit {0};
   reached_same = λ _. tt;
   reached_then = λ _ _ _ _ _. tt;
+  failed_at = λ _ _. ⊥;
+  failed_stays = λ _ _ _ _ never. never;
 }

@@ -25,7 +25,7 @@ impl<D: Sectors> Fuse<D> {
         ensures disk { fuse_disk result ≡ disk }
         ensures limit { fuse_limit result ≡ limit }
         ensures left { fuse_left result ≡ limit }
-        ensures failures { (fuse D.history).failures result ≡ 0 }
+        ensures unfailed { (fuse D.history).failures result ≡ 0 }
     {
         Fuse {
             disk,
@@ -51,21 +51,19 @@ impl<D: Sectors> Fuse<D> {
 
 impl<D: Sectors> Sectors for Fuse<D> {
     ghost use Rattle.std.specs.Prelude.{◌≡◌, ◌+◌, ◌<◌, OnOk, OnErr, IsErr};
-    ghost use Rattle.d64_image.specs.Images.{put, sector};
-    ghost use Rattle.d64_image.specs.History.{Failed, HeldOnly, OldOr, OnlyReads, TellsFailure};
+    ghost use Rattle.d64_image.specs.Calls.{ReadsSector, WritesSector};
+    ghost use Rattle.d64_image.specs.Faults.{device_fault};
     ghost use Rattle.d64_image.specs.Fuses.{fuse, fuse_disk, fuse_left, fuse_limit};
 
     ghost history = { fuse D.history };
 
     /// Passes a read on where the fuse has not blown.
     fn read(&mut self, place: Place, to: &mut [u8; 256]) -> Result<(), DeviceFault>
-        ensures sector { OnOk result (to.new ≡ sector ((fuse D.history).image self.old) place) }
-        ensures reads { OnlyReads (fuse D.history) self.old self.new 1 }
-        ensures failures { TellsFailure (fuse D.history) self.old self.new result }
+        ensures device { ReadsSector (fuse D.history) self.old self.new place to.new device_fault result }
         // a blown fuse reads nothing
         ensures spent { fuse_left self.old ≡ 0 → IsErr result × (fuse_disk self.new ≡ fuse_disk self.old) }
         // else the disk beneath answers
-        ensures passes { 0 < fuse_left self.old → TellsFailure D.history (fuse_disk self.old) (fuse_disk self.new) result }
+        ensures passes { 0 < fuse_left self.old → ReadsSector D.history (fuse_disk self.old) (fuse_disk self.new) place to.new device_fault result }
         ensures kept { (fuse_left self.new ≡ fuse_left self.old) × (fuse_limit self.new ≡ fuse_limit self.old) }
     {
         if self.passed == self.limit {
@@ -83,17 +81,11 @@ impl<D: Sectors> Sectors for Fuse<D> {
 
     /// Passes a write on where the fuse has not blown; a write that passed uses it up by one.
     fn write(&mut self, place: Place, from: &[u8; 256]) -> Result<(), DeviceFault>
-        ensures ok { OnOk result ((fuse D.history).image self.new ≡ put ((fuse D.history).image self.old) place from.now) }
-        ensures err { OnErr result (OldOr ((fuse D.history).image self.old) (put ((fuse D.history).image self.old) place from.now) ((fuse D.history).image self.new)) }
-        ensures held { HeldOnly (fuse D.history) self.old self.new (OldOr ((fuse D.history).image self.old) (put ((fuse D.history).image self.old) place from.now)) }
-        ensures counted { OnOk result ((fuse D.history).writes self.new ≤ (fuse D.history).writes self.old + 1) }
-        ensures uncounted { OnErr result ((fuse D.history).writes self.new ≡ (fuse D.history).writes self.old) }
-        ensures reads { (fuse D.history).reads self.new ≡ (fuse D.history).reads self.old }
-        ensures failures { TellsFailure (fuse D.history) self.old self.new result }
+        ensures device { WritesSector (fuse D.history) self.old self.new place from.now device_fault result }
         // a blown fuse writes nothing
         ensures spent { fuse_left self.old ≡ 0 → IsErr result × (fuse_disk self.new ≡ fuse_disk self.old) }
         // else the disk beneath answers
-        ensures passes { 0 < fuse_left self.old → TellsFailure D.history (fuse_disk self.old) (fuse_disk self.new) result }
+        ensures passes { 0 < fuse_left self.old → WritesSector D.history (fuse_disk self.old) (fuse_disk self.new) place from.now device_fault result }
         ensures burns { OnOk result (fuse_left self.old ≡ fuse_left self.new + 1) }
         ensures kept { OnErr result (fuse_left self.new ≡ fuse_left self.old) }
         ensures limit { fuse_limit self.new ≡ fuse_limit self.old }

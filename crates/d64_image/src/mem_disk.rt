@@ -68,9 +68,9 @@ impl MemDisk {
 }
 
 impl Sectors for MemDisk {
-    ghost use Rattle.std.specs.Prelude.{◌+◌, ◌≤◌, OnOk, OnErr, IsOk};
-    ghost use Rattle.d64_image.specs.Images.{put, sector};
-    ghost use Rattle.d64_image.specs.History.{HeldOnly, OldOr, OnlyReads, TellsFailure};
+    ghost use Rattle.std.specs.Prelude.{IsOk};
+    ghost use Rattle.d64_image.specs.Calls.{ReadsSector, WritesSector};
+    ghost use Rattle.d64_image.specs.Faults.{device_fault};
     ghost use Rattle.d64_image.specs.Memory.{memory};
 
     ghost history = { memory };
@@ -79,9 +79,7 @@ impl Sectors for MemDisk {
     #[tactic(auto, using(std::proofs::lemmas::List::get_or_read), unfolding(crate::specs::Images::sector))]
     fn read(&mut self, place: Place, to: &mut [u8; 256]) -> Result<(), DeviceFault>
         ensures never_fails { IsOk result }
-        ensures sector { OnOk result (to.new ≡ sector (memory.image self.old) place) }
-        ensures reads { OnlyReads memory self.old self.new 1 }
-        ensures failures { TellsFailure memory self.old self.new result }
+        ensures device { ReadsSector memory self.old self.new place to.new device_fault result }
     {
         *to = self.sectors[place.index()];
         Ok(())
@@ -91,13 +89,7 @@ impl Sectors for MemDisk {
     #[tactic(auto, unfolding(crate::specs::Images::put))]
     fn write(&mut self, place: Place, from: &[u8; 256]) -> Result<(), DeviceFault>
         ensures never_fails { IsOk result }
-        ensures ok { OnOk result (memory.image self.new ≡ put (memory.image self.old) place from.now) }
-        ensures err { OnErr result (OldOr (memory.image self.old) (put (memory.image self.old) place from.now) (memory.image self.new)) }
-        ensures held { HeldOnly memory self.old self.new (OldOr (memory.image self.old) (put (memory.image self.old) place from.now)) }
-        ensures counted { OnOk result (memory.writes self.new ≤ memory.writes self.old + 1) }
-        ensures uncounted { OnErr result (memory.writes self.new ≡ memory.writes self.old) }
-        ensures reads { memory.reads self.new ≡ memory.reads self.old }
-        ensures failures { TellsFailure memory self.old self.new result }
+        ensures device { WritesSector memory self.old self.new place from.now device_fault result }
     {
         self.sectors[place.index()] = *from;
         Ok(())

@@ -57,18 +57,18 @@ impl<D: Sectors> Meter<D> {
 }
 
 impl<D: Sectors> Sectors for Meter<D> {
-    ghost use Rattle.std.specs.Prelude.{◌≡◌, ◌+◌, ◌≤◌, min, OnOk, OnErr};
-    ghost use Rattle.d64_image.specs.Images.{put, sector};
-    ghost use Rattle.d64_image.specs.History.{HeldOnly, OldOr, OnlyReads, TellsFailure};
+    ghost use Rattle.std.specs.Prelude.{◌≡◌, ◌+◌, min, OnErr, OnOk};
+    ghost use Rattle.d64_image.specs.Calls.{ReadsSector, WritesSector};
+    ghost use Rattle.d64_image.specs.Faults.{device_fault};
     ghost use Rattle.d64_image.specs.Meters.{meter, meter_disk, meter_reads, meter_writes};
 
     ghost history = { meter D.history };
 
     /// Passes a read on, and counts it where it passed.
     fn read(&mut self, place: Place, to: &mut [u8; 256]) -> Result<(), DeviceFault>
-        ensures sector { OnOk result (to.new ≡ sector ((meter D.history).image self.old) place) }
-        ensures reads { OnlyReads (meter D.history) self.old self.new 1 }
-        ensures failures { TellsFailure (meter D.history) self.old self.new result }
+        ensures device { ReadsSector (meter D.history) self.old self.new place to.new device_fault result }
+        // the disk beneath answers, and is read once
+        ensures beneath { ReadsSector D.history (meter_disk self.old) (meter_disk self.new) place to.new device_fault result }
         ensures exact { OnOk result (meter_reads self.new ≡ min (meter_reads self.old + 1) 18446744073709551615) }
         ensures kept { OnErr result (meter_reads self.new ≡ meter_reads self.old) }
     {
@@ -79,13 +79,9 @@ impl<D: Sectors> Sectors for Meter<D> {
 
     /// Passes a write on, and counts it where it passed.
     fn write(&mut self, place: Place, from: &[u8; 256]) -> Result<(), DeviceFault>
-        ensures ok { OnOk result ((meter D.history).image self.new ≡ put ((meter D.history).image self.old) place from.now) }
-        ensures err { OnErr result (OldOr ((meter D.history).image self.old) (put ((meter D.history).image self.old) place from.now) ((meter D.history).image self.new)) }
-        ensures held { HeldOnly (meter D.history) self.old self.new (OldOr ((meter D.history).image self.old) (put ((meter D.history).image self.old) place from.now)) }
-        ensures counted { OnOk result ((meter D.history).writes self.new ≤ (meter D.history).writes self.old + 1) }
-        ensures uncounted { OnErr result ((meter D.history).writes self.new ≡ (meter D.history).writes self.old) }
-        ensures reads { (meter D.history).reads self.new ≡ (meter D.history).reads self.old }
-        ensures failures { TellsFailure (meter D.history) self.old self.new result }
+        ensures device { WritesSector (meter D.history) self.old self.new place from.now device_fault result }
+        // the disk beneath answers, and is written once
+        ensures beneath { WritesSector D.history (meter_disk self.old) (meter_disk self.new) place from.now device_fault result }
         ensures exact { OnOk result (meter_writes self.new ≡ min (meter_writes self.old + 1) 18446744073709551615) }
     {
         self.disk.write(place, from)?;

@@ -3,7 +3,7 @@ ghost use Rattle.std.specs.Prelude.{◌<◌, ◌≡◌, ◌↔◌, IsSome};
 ghost use Rattle.d64_image.specs.Geometry.{sectors_on};
 
 /// A place on the disk: a track from 1 to 35, and a sector from 0 on that the track has.
-#[derive(Clone, Copy, Debug, PartialEq, Eq, PartialOrd, Ord)]
+#[derive(Clone, Copy, Debug, PartialEq, Eq)]
 pub struct Place {
     track: u8,
     sector: u8,

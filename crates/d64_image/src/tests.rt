@@ -90,6 +90,14 @@ fn an_image_of_another_size_is_refused(rt: HostRuntime) -> Result<(), Fail> {
     Ok(())
 }
 
+// A body that always refuses is proved: no clause can say that memory is there.
+#[test]
+fn a_disk_of_zeros(rt: HostRuntime) -> Result<(), Fail> {
+    let disk = MemDisk::zeroed(rt.alloc())?;
+    assert_eq!(rt; disk.bytes(), vec![in rt.alloc(); 0; 174_848]?.as_slice());
+    Ok(())
+}
+
 #[test]
 fn a_write_changes_its_sector_alone(rt: HostRuntime) -> Result<(), Fail> {
     let mut disk = MemDisk::zeroed(rt.alloc())?;

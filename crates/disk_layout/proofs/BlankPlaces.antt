@@ -9,6 +9,7 @@ use Rattle.d64_image.specs.declared.place.Place.{Place}
 use Rattle.disk_layout.proofs.Blanks.{number_at, request-number}
 use Rattle.disk_layout.proofs.Exact.{get-lt}
 use Rattle.disk_layout.proofs.Layouts.{get-contains}
+use Rattle.disk_layout.proofs.Lists.{contains-get, numbered-once}
 use Rattle.disk_layout.proofs.Once.{Contains-cases, Contains-here, Contains-nil, Contains-there, EachOnce-push}
 use Rattle.disk_layout.specs.Blank.{AreRequestPlaces, IsRequestPlace, request_sector, request_track, requests_block, requests_side, stock_block, stock_side, taken_on}
 use Rattle.disk_layout.specs.Chain.{EachOnce}
@@ -19,21 +20,6 @@ pub get-some : {X : Type 0} (xs : List X) (k : ℕ) → k < length xs → (x : X
 get-some [] k h = absurd (omega arith)
 get-some (x ∷ xs) zero h = (x, refl)
 get-some (x ∷ xs) (suc k) h = get-some xs k (omega arith)
-
-contains-get : {X : Type 0} (xs : List X) (x : X) → Contains xs x → (k : ℕ) × (slice_get xs k ≡ Some x)
-contains-get [] x c = absurd (Contains-nil x c)
-contains-get (y ∷ ys) x c = elim (Contains-cases x y ys c) [
-  | inl e ↦ (0, ap Some e)
-  | inr d ↦ let (k, g) = contains-get ys x d in (suc k, g)
-]
-
--- elements that are numbered in their order are each there once
-once-numbered : {X : Type 0} (f : X → ℕ) (xs : List X) (c : ℕ) → ((k : ℕ) (x : X) → slice_get xs k ≡ Some x → f x ≡ k + c) → EachOnce xs
-once-numbered f [] c h = tt
-once-numbered f (x ∷ xs) c h = (
-  λ d. let (k, g) = contains-get xs x d in omega (arith, h 0 x refl, h (suc k) x g),
-  once-numbered f xs (c + 1) (λ k y g. h (suc k) y g ∙ omega arith),
-)
 
 -- what the directory and the files own, the map aside
 abbrev pub blank_owners : List Place → List Place
@@ -93,10 +79,10 @@ taken-cases n t s some h = elim (cases_eq t 17) [
     nothing h a b c = let e : taken_on n t ≡ 0 = grind (arith, nat_tests) in omega (arith, e, h)
 
 module _ (blocks : List Place) (n : ℕ) (are : AreRequestPlaces blocks n) where
-  block-number : (k : ℕ) (p : Place) → slice_get blocks k ≡ Some p → number_at p.track p.sector ≡ k + 5
+  block-number : (k : ℕ) (p : Place) → slice_get blocks k ≡ Some p → number_at p.track p.sector ≡ 5 + k
   block-number k p at =
       let here = are.each k p at in
-      rw (here.0, here.1) (request-number k)
+      rw (here.0, here.1) (request-number k ∙ omega arith)
 
   in-block : (p : Place) → Contains blocks p → 5 ≤ number_at p.track p.sector
   in-block p c = let (k, g) = contains-get blocks p c in omega (arith, block-number k p g)
@@ -110,7 +96,7 @@ module _ (blocks : List Place) (n : ℕ) (are : AreRequestPlaces blocks n) where
 
   pub blank-once : EachOnce (map_place ∷ blank_owners blocks)
   blank-once =
-      let ends : EachOnce (blocks ++ requests_side ∷ []) = EachOnce-push blocks requests_side (once-numbered (λ (p : Place). number_at p.track p.sector) blocks 5 block-number) (λ c. let h : 5 ≤ 4 = in-block requests_side c in omega (arith, h)) in (
+      let ends : EachOnce (blocks ++ requests_side ∷ []) = EachOnce-push blocks requests_side (numbered-once (λ (p : Place). number_at p.track p.sector) 5 blocks block-number) (λ c. let h : 5 ≤ 4 = in-block requests_side c in omega (arith, h)) in (
         past map_place directory_start (file_owners blocks) (lit< tt) (past map_place stock_block (side_owners blocks) (lit< tt) (past map_place stock_side (last_owners blocks) (lit< tt) (low map_place (lit< tt)))),
         (
           past directory_start stock_block (side_owners blocks) (lit< tt) (past directory_start stock_side (last_owners blocks) (lit< tt) (low directory_start (lit< tt))),

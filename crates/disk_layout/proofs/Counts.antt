@@ -1,5 +1,5 @@
 -- The write of a block count.
-use Rattle.std.proofs.Common.{IsTrue, List, [], ap, arith, drop, get_or, inl, inr, length, map, refl, slice_index, suc, sym, take, true, zero, ℕ, ◌*◌, ◌++◌, ◌+◌, ◌-◌, ◌<◌, ◌∙◌, ◌∷◌, ◌≡◌, ◌≢◌, ◌≤◌, ◌⊎◌}
+use Rattle.std.proofs.Common.{IsTrue, List, [], ap, arith, drop, get_or, inl, inr, length, map, refl, slice_index, sym, take, true, ℕ, ◌*◌, ◌++◌, ◌+◌, ◌-◌, ◌<◌, ◌∙◌, ◌∷◌, ◌≡◌, ◌≢◌, ◌≤◌, ◌⊎◌}
 use Rattle.std.proofs.lemmas.Bool.{cases_eq, cases_lt}
 use Rattle.std.proofs.lemmas.Grind.{flat_map-append, same_number_lists}
 use Rattle.std.proofs.lemmas.List.{drop-take, get_or-take, length-take}
@@ -15,6 +15,7 @@ use Rattle.disk_layout.proofs.Chains.{SameLinks, chain-last}
 use Rattle.disk_layout.proofs.Commit.{IsAlone, all-join, all-left, all-right, alone, keeps-other}
 use Rattle.disk_layout.proofs.Faces.{IsFile-slot, IsLayout-directory, SameFace, with_slot}
 use Rattle.disk_layout.proofs.Layouts.{IsFile-one, files-frame, unless-same}
+use Rattle.disk_layout.proofs.Lists.{take-take}
 use Rattle.disk_layout.proofs.Once.{Contains-here, EachOnce-apart, all-in, flat_map-in, map-in}
 use Rattle.disk_layout.proofs.Pieces.{length-piece, piece, piece-byte, piece-same}
 use Rattle.disk_layout.proofs.Recount.{slot-there, split-one, used_slots-one}
@@ -44,14 +45,8 @@ uncounted-face s t e = record {
 pub uncounted-name : (s t : Slot) → uncounted s ≡ uncounted t → slice_range s.bytes 5 21 ≡ slice_range t.bytes 5 21
 uncounted-name s t e = name s ∙ ap (λ x. slice_range x.bytes 5 21) e ∙ sym (name t)
   where
-    shorter : (m n : ℕ) (xs : List ℕ) → m ≤ n → take m (take n xs) ≡ take m xs
-    shorter zero n xs h = refl
-    shorter (suc m) zero xs h = absurd (omega arith)
-    shorter (suc m) (suc n) [] h = refl
-    shorter (suc m) (suc n) (x ∷ xs) h = ap (λ ys. x ∷ ys) (shorter m n xs (omega arith))
-
     name : (s : Slot) → slice_range s.bytes 5 21 ≡ slice_range (take 30 s.bytes) 5 21
-    name s = sym (ap (take 16) (drop-take 5 25 s.bytes) ∙ shorter 16 25 (drop 5 s.bytes) (omega arith))
+    name s = sym (ap (take 16) (drop-take 5 25 s.bytes) ∙ take-take 16 25 (drop 5 s.bytes) (omega arith))
 
 -- so all that is asked to stay of a file stays under such a slot
 pub kept-slot : (img : Image) (f : File) (s : Slot) → uncounted f.slot ≡ uncounted s → kept_of img (with_slot f s) ≡ kept_of img f

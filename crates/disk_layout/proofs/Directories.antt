@@ -13,10 +13,11 @@ use Rattle.d64_image.specs.Images.{Image, sector}
 use Rattle.d64_image.specs.Places.{place_at}
 use Rattle.d64_image.specs.declared.place.Place.{Place}
 use Rattle.disk_layout.proofs.Chains.{Leads-push}
+use Rattle.disk_layout.proofs.Lists.{all-map, all-push}
 use Rattle.disk_layout.proofs.Once.{Contains-here, Contains-there, EachOnce-push, all-in}
 use Rattle.disk_layout.specs.Chain.{EachOnce, Leads, Names, NamesNone}
 use Rattle.disk_layout.specs.Directory.{IsDirectory, IsDirectoryPlace, directory_start, is_used, map_place, slots_in, used_slots}
-use Rattle.disk_layout.specs.Fault.{HoldsOfDirectory}
+use Rattle.disk_layout.specs.Fault.{HoldsOfDirectory, nowhere}
 use Rattle.disk_layout.specs.Listing.{LinksOut}
 use Rattle.disk_layout.specs.declared.faults.Fault.TheVariants.{BadLink, Loop}
 use Rattle.disk_layout.specs.declared.slot.Slot.{Slot}
@@ -73,14 +74,6 @@ length-ranks (p ∷ ps) = ap suc (length-ranks ps)
 pub directory-few : (ps : List Place) → EachOnce ps → AllByRecursion IsDirectoryPlace ps → length ps ≤ 18
 directory-few ps once all = omega (arith, length-ranks ps, length-le_from_distinct_below (map rank ps) 18 (distinct ps once all) (below ps all))
 
-all-push : {X : Type 0} (P : X → Type 0) (xs : List X) (x : X) → AllByRecursion P xs → P x → AllByRecursion P (xs ++ x ∷ [])
-all-push P [] x h p = (p, tt)
-all-push P (y ∷ xs) x h p = (h.0, all-push P xs x h.1 p)
-
-all-weaker : {X : Type 0} (P Q : X → Type 0) → ((x : X) → P x → Q x) → (xs : List X) → AllByRecursion P xs → AllByRecursion Q xs
-all-weaker P Q f [] h = tt
-all-weaker P Q f (x ∷ xs) h = (f x h.0, all-weaker P Q f xs h.1)
-
 -- the links of the directory lead through these sectors, each of them once and each one that a directory may have, to p
 pub record IsReached (img : Image) (before : List Place) (p : Place) : Type 0 where
   pub leads : Leads img directory_start before p
@@ -129,14 +122,14 @@ directory-whole img before p to entries h read ends slots = (
   record {
     last = slice_index to 1;
     chain = record { front = before; last = p; places = refl; leads = h.leads; ends = rw (← read) (ends, refl); once = h.once };
-    on_track = all-weaker IsDirectoryPlace (λ q. q.track ≡ 18) (λ q d. d.0) (before ++ p ∷ []) h.places;
+    on_track = all-map IsDirectoryPlace (λ q. q.track ≡ 18) (before ++ p ∷ []) (λ q c d. d.0) h.places;
     not_map = λ c. (all-in IsDirectoryPlace (before ++ p ∷ []) map_place h.places c).1 refl;
     slots = slots;
   },
 )
 
 -- the sector links to none that a directory may have
-pub bad-link : (img : Image) (before : List Place) (p : Place) (to : List ℕ) → IsReached img before p → to ≡ sector img p → slice_index to 0 ≢ 0 → LinksOut to → HoldsOfDirectory ⊥ img (BadLink p)
+pub bad-link : (img : Image) (before : List Place) (p : Place) (to : List ℕ) → IsReached img before p → to ≡ sector img p → slice_index to 0 ≢ 0 → LinksOut to → HoldsOfDirectory nowhere img (BadLink p)
 bad-link img before p to h read ne out = (record { before = before; visits = (h.leads, h.once); places = h.places }, rw (← read) (by out))
   where
     by : LinksOut to → ((slice_index to 0 ≢ 0) × NamesNone to 0) ⊎ ((q : Place) × Names to 0 q × ¬ (IsDirectoryPlace q))
@@ -144,7 +137,7 @@ bad-link img before p to h read ne out = (record { before = before; visits = (h.
     by (inr other) = inr other
 
 -- the sector links back to one of those before it, or to itself
-pub comes-back : (img : Image) (before : List Place) (p next : Place) (to : List ℕ) → IsReached img before p → to ≡ sector img p → Names to 0 next → Contains (before ++ p ∷ []) next → HoldsOfDirectory ⊥ img (Loop next)
+pub comes-back : (img : Image) (before : List Place) (p next : Place) (to : List ℕ) → IsReached img before p → to ≡ sector img p → Names to 0 next → Contains (before ++ p ∷ []) next → HoldsOfDirectory nowhere img (Loop next)
 comes-back img before p next to h read names there =
     (before ++ p ∷ [], (Leads-push img directory_start before p next h.leads (rw (← read) names), h.once, there), h.places)
 

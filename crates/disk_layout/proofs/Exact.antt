@@ -5,6 +5,7 @@ use Rattle.std.proofs.lemmas.List.{get_or-append_right, length-replicate, length
 use Rattle.std.proofs.Math.ListN.{get_or-append}
 use Rattle.d64_image.specs.Images.{Image, sector}
 use Rattle.d64_image.specs.declared.place.Place.{Place}
+use Rattle.disk_layout.proofs.Lists.{get-drop, get-take}
 use Rattle.disk_layout.specs.Chain.{Names}
 use Rattle.disk_layout.specs.Layout.{File, IsSide, record_length}
 use Rattle.disk_layout.specs.Side.{link_bytes, padded, place_bytes, pointers_of, side_sector}
@@ -54,18 +55,6 @@ length-link (Some q) u = refl
 length-link None u = refl
 
 -- part of a list
-get-drop : {X : Type 0} (xs : List X) (a k : ℕ) → slice_get (drop a xs) k ≡ slice_get xs (a + k)
-get-drop [] zero k = refl
-get-drop [] (suc a) k = refl
-get-drop (x ∷ xs) zero k = ap (slice_get (x ∷ xs)) (let e : k ≡ 0 + k = omega arith in e)
-get-drop (x ∷ xs) (suc a) k = let e : suc a + k ≡ suc (a + k) = omega arith in rw e (get-drop xs a k)
-
-get-take : {X : Type 0} (xs : List X) (n k : ℕ) → k < n → slice_get (take n xs) k ≡ slice_get xs k
-get-take xs zero k h = absurd (omega arith)
-get-take [] (suc n) k h = refl
-get-take (x ∷ xs) (suc n) zero h = refl
-get-take (x ∷ xs) (suc n) (suc k) h = get-take xs n k (omega arith)
-
 get-range : (ps : List Place) (a k n : ℕ) (q : Place) → k < n → slice_get ps (a + k) ≡ Some q → slice_get (slice_range ps a (a + n)) k ≡ Some q
 get-range ps a k n q h e =
     let m : a + n - a ≡ n = omega arith in

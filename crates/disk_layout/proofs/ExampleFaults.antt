@@ -3,7 +3,7 @@ use Rattle.std.proofs.Common.{[], ap, arith, inl, inr, lit<, lit≤, refl, take,
 use Rattle.std.specs.Prelude.{Contains, Err, Ok, slice_index}
 use Rattle.d64_image.specs.History.{Failed, History}
 use Rattle.d64_image.proofs.Places.{place_at-none}
-use Rattle.d64_image.specs.Images.{Sector}
+use Rattle.d64_image.specs.Images.{Image, Sector}
 use Rattle.d64_image.specs.declared.place.Place.{Place}
 use Rattle.disk_layout.proofs.ExampleDisk.{IsStockSide, at_entry, at_map, at_side, disk, entry_bytes, entry_slot, exact-side_is, exact_side, lower_sector, one-chain, only, stock-is_layout, stock_disk, stock_file, stock_layout}
 use Rattle.disk_layout.proofs.ExampleMap.{block_0-free, count-18, map-is, map_bytes}
@@ -14,7 +14,7 @@ use Rattle.disk_layout.proofs.Twice.{told-unsound}
 use Rattle.disk_layout.proofs.Unclean.{told-unclean}
 use Rattle.disk_layout.specs.Clean.{IsClean}
 use Rattle.disk_layout.specs.Directory.{directory_start, map_place, slot_in, slots_in}
-use Rattle.disk_layout.specs.Fault.{Holds, HoldsOfClean, IsClosed, IsSlot, TellsFault, length_byte}
+use Rattle.disk_layout.specs.Fault.{Holds, HoldsOfClean, IsClosed, IsSlot, TellsFault, length_byte, nowhere}
 use Rattle.disk_layout.specs.Fault.Owner.{blocks_of, sides_of}
 use Rattle.disk_layout.specs.Layout.{IsSound, owners}
 use Rattle.disk_layout.specs.Number.{number_of}
@@ -50,31 +50,31 @@ module _ (kind side len n : ℕ) (b s m : Sector) where
   closed-there h = record { slot = slot-there; closed = h }
 
 -- type 133: closed, with low bits 5
-pub bad_type : (b s m : Sector) → Holds ⊥ (disk (entry_bytes 133 1 18 2) b s m) (BadType directory_start)
+pub bad_type : (b s m : Sector) → Holds nowhere (disk (entry_bytes 133 1 18 2) b s m) (BadType directory_start)
 unfolding entry_bytes
 bad_type b s m = (entry_slot 133 1 18 2, closed-there 133 1 18 2 b s m (lit≤ tt), type_133)
 
 -- type 4: relative, and not closed
-pub unclosed : (b s m : Sector) → Holds ⊥ (disk (entry_bytes 4 1 18 2) b s m) (Unclosed directory_start)
+pub unclosed : (b s m : Sector) → Holds nowhere (disk (entry_bytes 4 1 18 2) b s m) (Unclosed directory_start)
 unfolding entry_bytes
 unclosed b s m = (entry_slot 4 1 18 2, slot-there 4 1 18 2 b s m, λ e. omega (arith, e), lit< tt)
 
 -- record lengths 0 and 255
-pub bad_length-0 : (b s m : Sector) → Holds ⊥ (disk (entry_bytes 132 1 0 2) b s m) (BadLength directory_start)
+pub bad_length-0 : (b s m : Sector) → Holds nowhere (disk (entry_bytes 132 1 0 2) b s m) (BadLength directory_start)
 unfolding entry_bytes
 bad_length-0 b s m = (entry_slot 132 1 0 2, closed-there 132 1 0 2 b s m (lit≤ tt), refl, inl refl)
 
-pub bad_length-255 : (b s m : Sector) → Holds ⊥ (disk (entry_bytes 132 1 255 2) b s m) (BadLength directory_start)
+pub bad_length-255 : (b s m : Sector) → Holds nowhere (disk (entry_bytes 132 1 255 2) b s m) (BadLength directory_start)
 unfolding entry_bytes
 bad_length-255 b s m = (entry_slot 132 1 255 2, closed-there 132 1 255 2 b s m (lit≤ tt), refl, inr refl)
 
 -- the entry names sector 21 of track 17 as its side sector, which is no place
-pub no_side : (b s m : Sector) → Holds ⊥ (disk (entry_bytes 132 21 18 2) b s m) (BadSide directory_start)
+pub no_side : (b s m : Sector) → Holds nowhere (disk (entry_bytes 132 21 18 2) b s m) (BadSide directory_start)
 unfolding entry_bytes
 no_side b s m = inl (entry_slot 132 21 18 2, closed-there 132 21 18 2 b s m (lit≤ tt), refl, named-none (entry_slot 132 21 18 2).bytes 21 (place_at-none 17 21 (omega arith)))
 
 -- 17/0 is the file's block, and is named as its side sector as well
-pub owned_twice : (rest s m : Sector) → Holds ⊥ (disk (entry_bytes 132 0 18 2) (0 ∷ 37 ∷ rest) s m) (OwnedTwice block_0)
+pub owned_twice : (rest s m : Sector) → Holds nowhere (disk (entry_bytes 132 0 18 2) (0 ∷ 37 ∷ rest) s m) (OwnedTwice block_0)
 unfolding entry_bytes
 owned_twice rest s m = inl (
   blocks_of (entry_slot 132 0 18 2),
@@ -103,7 +103,7 @@ owned_twice rest s m = inl (
 )
 
 -- a side sector whose record length isn't the entry's
-pub bad_side : (rest m : Sector) → Holds ⊥ (stock_disk 37 2 rest (side_sector 0 (block_0 ∷ []) (block_1 ∷ []) 19) m) (BadSide block_1)
+pub bad_side : (rest m : Sector) → Holds nowhere (stock_disk 37 2 rest (side_sector 0 (block_0 ∷ []) (block_1 ∷ []) 19) m) (BadSide block_1)
 unfolding entry_bytes side_sector padded
 bad_side rest m =
     let s : Sector = side_sector 0 (block_0 ∷ []) (block_1 ∷ []) 19 in
@@ -141,22 +141,22 @@ other-side : changed_side ≢ exact_side
 unfolding changed_side exact_side side_sector padded
 other-side e = let s : ◌≡◌ {A = ℕ} 1 0 = ap (λ (x : Sector). slice_index x 255) e in omega (arith, s)
 
-pub inexact_side : (rest m : Sector) → HoldsOfClean ⊥ (stock_disk 37 2 rest changed_side m) (BadSide block_1)
+pub inexact_side : (rest m : Sector) → HoldsOfClean nowhere (stock_disk 37 2 rest changed_side m) (BadSide block_1)
 unfolding entry_bytes exact_side
 inexact_side rest m = inr (stock_layout 37 2, stock-is_layout 37 2 rest changed_side m changed-side, stock_file 37 2, Contains-here (stock_file 37 2) [], refl, 0, refl, rw (at_side (entry_bytes 132 1 18 2) (0 ∷ 37 ∷ rest) changed_side m) other-side)
 
 -- the entry counts three blocks in place of two
-pub count_wrong : (rest m : Sector) → HoldsOfClean ⊥ (stock_disk 37 3 rest exact_side m) (CountWrong directory_start)
+pub count_wrong : (rest m : Sector) → HoldsOfClean nowhere (stock_disk 37 3 rest exact_side m) (CountWrong directory_start)
 unfolding entry_bytes
 count_wrong rest m = (stock_layout 37 3, stock-is_layout 37 3 rest exact_side m exact-side_is, stock_file 37 3, record { file = Contains-here (stock_file 37 3) []; rel = refl; slot = refl }, λ e. omega (arith, e))
 
 -- the map has 17/0 as free
-pub map_wrong : (rest : Sector) → HoldsOfClean ⊥ (stock_disk 37 2 rest exact_side (map_bytes 19 253)) (MapWrong block_0)
+pub map_wrong : (rest : Sector) → HoldsOfClean nowhere (stock_disk 37 2 rest exact_side (map_bytes 19 253)) (MapWrong block_0)
 unfolding owners
 map_wrong rest = (stock_layout 37 2, stock-is_layout 37 2 rest exact_side (map_bytes 19 253) exact-side_is, inl (rw (at_map (entry_bytes 132 1 18 2) (0 ∷ 37 ∷ rest) exact_side (map_bytes 19 253)) (λ iff. iff.0 block_0-free (2, lit< tt, refl))))
 
 -- the map counts 18 free sectors on track 17, where it has 19
-pub map_count_wrong : (rest : Sector) → HoldsOfClean ⊥ (stock_disk 37 2 rest exact_side (map_bytes 18 252)) (MapWrong map_place)
+pub map_count_wrong : (rest : Sector) → HoldsOfClean nowhere (stock_disk 37 2 rest exact_side (map_bytes 18 252)) (MapWrong map_place)
 map_count_wrong rest = (stock_layout 37 2, stock-is_layout 37 2 rest exact_side (map_bytes 18 252) exact-side_is, inr (refl, (17, lit≤ tt, lit≤ tt, rw (at_map (entry_bytes 132 1 18 2) (0 ∷ 37 ∷ rest) exact_side (map_bytes 18 252)) count-18)))
 
 -- so the disk isn't sound, or isn't clean
@@ -175,6 +175,13 @@ tells-loop S d = refl
 
 pub tells-device : {D : Type 0} (S : History D) (d : D) → ¬ (Failed S d d) → ¬ (TellsFault {T = ℕ} S d d (Err (Device block_0)))
 tells-device S d none h = none h
+
+-- where the device failed at one sector alone, Device holds there, and nowhere else
+pub device_there : (img : Image) (p : Place) → Holds (λ x. x ≡ p) img (Device p)
+device_there img p = refl
+
+pub device_elsewhere : (img : Image) (p q : Place) → q ≢ p → ¬ (Holds (λ x. x ≡ p) img (Device q))
+device_elsewhere img p q other = other
 
 pub numbers : (p : Place) → (number_of (BadLink p) ≡ 1) × (number_of (MapWrong p) ≡ 9) × (number_of (Device p) ≡ 10)
 numbers p = (refl, refl, refl)

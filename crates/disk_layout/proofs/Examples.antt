@@ -13,7 +13,7 @@ use Rattle.disk_layout.proofs.Twice.{told-unsound}
 use Rattle.disk_layout.specs.Chain.{IsChain, Names, NamesNone, byte, named_at}
 use Rattle.disk_layout.specs.Directory.{directory_start, is_used, map_place, slot_in, slots_in, used_slots}
 use Rattle.disk_layout.specs.Entries.{uncounted}
-use Rattle.disk_layout.specs.Fault.{Holds, HoldsOfChain}
+use Rattle.disk_layout.specs.Fault.{Holds, HoldsOfChain, nowhere}
 use Rattle.disk_layout.specs.Layout.{File, IsClosedType, IsSound, count_field, is_rel, owners, record_length, sides_for}
 use Rattle.disk_layout.specs.Records.{empty_record, filler, pieces, record_count}
 use Rattle.disk_layout.specs.Rest.{IsTop, others, slot_name, taken_by_others}
@@ -127,7 +127,7 @@ self_linked = put zero_image block_0 (17 ∷ 0 ∷ [])
 at_self : sector self_linked block_0 ≡ 17 ∷ 0 ∷ []
 at_self = sector-put_same zero_image block_0 (17 ∷ 0 ∷ []) zero-long
 
-pub loop_of_one : HoldsOfChain ⊥ self_linked block_0 (Loop block_0)
+pub loop_of_one : HoldsOfChain nowhere self_linked block_0 (Loop block_0)
 loop_of_one = (block_0 ∷ [], ((block_0, refl, rw at_self (refl, refl), refl), (Contains-nil block_0, tt), Contains-here block_0 []))
 
 -- a link to track 36 is told as BadLink at the sector that has it
@@ -140,7 +140,7 @@ at_off = sector-put_same zero_image block_0 (36 ∷ 0 ∷ []) zero-long
 not_zero : (n : ℕ) → n ≡ 36 → n ≢ 0
 not_zero n e z = omega (arith, e, z)
 
-pub bad_link_off : HoldsOfChain ⊥ linked_off block_0 (BadLink block_0)
+pub bad_link_off : HoldsOfChain nowhere linked_off block_0 (BadLink block_0)
 bad_link_off = ([], (refl, (Contains-nil block_0, tt)), rw at_off (not_zero 36 refl, none-36_0))
 
 -- a directory whose first sector links to itself: the fault holds, so the image is not sound
@@ -150,7 +150,7 @@ directory_looped = put zero_image directory_start (18 ∷ 1 ∷ [])
 at_directory : sector directory_looped directory_start ≡ 18 ∷ 1 ∷ []
 at_directory = sector-put_same zero_image directory_start (18 ∷ 1 ∷ []) zero-long
 
-pub loop_of_directory : Holds ⊥ directory_looped (Loop directory_start)
+pub loop_of_directory : Holds nowhere directory_looped (Loop directory_start)
 loop_of_directory = inl (directory_start ∷ [], ((directory_start, refl, rw at_directory (refl, refl), refl), (Contains-nil directory_start, tt), Contains-here directory_start []), ((refl, apart), tt))
 
 pub directory_looped-unsound : ¬ (IsSound directory_looped)

@@ -1,22 +1,17 @@
 -- The count of free blocks, and what it says of the map.
-use Rattle.std.proofs.Common.{List, ap, arith, inl, inr, refl, subst, suc, sym, zero, ℕ, ◌+◌, ◌-◌, ◌<◌, ◌∙◌, ◌≡◌, ◌≢◌, ◌≤◌}
+use Rattle.std.proofs.Common.{List, ap, arith, inl, inr, refl, subst, sym, ℕ, ◌+◌, ◌-◌, ◌<◌, ◌∙◌, ◌≡◌, ◌≢◌, ◌≤◌}
 use Rattle.std.proofs.lemmas.Bool.{cases_eq}
 use Rattle.std.proofs.lemmas.Bool.Decides.{nat_tests}
-use Rattle.std.proofs.lemmas.List.Sums.{sum_by-cons}
 use Rattle.std.proofs.lemmas.Nat.Bits.{bit_at-lt}
-use Rattle.std.specs.Prelude.{slice_index, sum_by, ◌%◌, ◌*◌, ◌/◌}
+use Rattle.std.specs.Prelude.{slice_index, ◌%◌, ◌*◌, ◌/◌}
 use Rattle.d64_image.proofs.Places.{track_fits, track_from_1}
 use Rattle.d64_image.specs.Geometry.{sectors_on}
 use Rattle.d64_image.specs.Images.{Sector}
 use Rattle.d64_image.specs.declared.place.Place.{Place}
 use Rattle.disk_layout.proofs.Maps.{in-bits}
-use Rattle.disk_layout.proofs.Sums.{sum-less}
-use Rattle.disk_layout.specs.Map.{IsFree, IsFullDisk, IsMapOf, IsTaken, map_bit, map_count, numbers_below}
+use Rattle.disk_layout.proofs.Sums.{sum-less, sum-zero}
+use Rattle.disk_layout.specs.Map.{IsFree, IsFullDisk, IsMapOf, IsTaken, map_bit, map_count}
 use Rattle.disk_layout.specs.View.{blocks_free, data_count}
-
-sum-zero : (f : ℕ → ℕ) (n : ℕ) → ((k : ℕ) → k < n → f k ≡ 0) → sum_by f (numbers_below n) ≡ 0
-sum-zero f zero none = refl
-sum-zero f (suc n) none = sum_by-cons f n (numbers_below n) ∙ omega (arith, none n (omega arith), sum-zero f n (λ k h. none k (omega arith)))
 
 -- a free sector is one of those that its track counts
 pub taken-count : (old new : Sector) (ps : List Place) (p : Place) → IsMapOf old ps → IsFree old p → IsTaken old new p → map_count new p.track + 1 ≡ map_count old p.track

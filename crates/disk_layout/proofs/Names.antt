@@ -1,6 +1,6 @@
 -- Two bytes that name a place, as a fact and as a value.
-use Rattle.std.proofs.Common.{◌≡◌, ℕ, ◌+◌, ap₂, refl, sym, slice_index, ◌∙◌}
-use Rattle.std.specs.Prelude.{Option, Some, None}
+use Rattle.std.proofs.Common.{◌≡◌, ℕ, ◌+◌, ap, ap₂, refl, sym, slice_index, ◌∙◌}
+use Rattle.std.specs.Prelude.{MatchOption, Option, Some, None}
 use Rattle.d64_image.proofs.Places.{place_at-self, place_at-some}
 use Rattle.d64_image.specs.Images.{Sector}
 use Rattle.d64_image.specs.Places.{place_at}
@@ -24,3 +24,8 @@ none-named bytes i h = by (named_at bytes i) refl
     by : (o : Option Place) → named_at bytes i ≡ o → named_at bytes i ≡ None
     by None e = e
     by (Some q) e = absurd (h q (named-names bytes i q e))
+
+-- what a view of these bytes gives
+pub named-match : (bytes viewed : Sector) (i : ℕ) (o : Option Place) → viewed ≡ bytes → o ≡ named_at viewed i → MatchOption o (NamesNone bytes i) (λ p. Names bytes i p)
+named-match bytes viewed i None same e = named-none bytes i (sym (e ∙ ap (λ (bs : Sector). named_at bs i) same))
+named-match bytes viewed i (Some p) same e = named-names bytes i p (sym (e ∙ ap (λ (bs : Sector). named_at bs i) same))

@@ -3,7 +3,7 @@ use Rattle.std.proofs.Common.{◌≡◌, ℕ, ◌+◌, ◌*◌, ◌<◌, Bool, t
 use Rattle.std.specs.Prelude.{Contains, filter, flat_map, slice_range, cond, nat_eq, not}
 use Rattle.std.specs.List.{AllByRecursion}
 use Rattle.std.proofs.Common.{inl, inr, drop}
-use Rattle.std.proofs.lemmas.List.{drop-take, get_or-take, length-take}
+use Rattle.std.proofs.lemmas.List.{drop-take, get_or-take, length-take, map-append}
 use Rattle.std.proofs.lemmas.Grind.{same_number_lists}
 use Rattle.d64_image.proofs.Images.{sector-put_same}
 use Rattle.d64_image.proofs.Places.{same_or_other}
@@ -15,7 +15,8 @@ use Rattle.disk_layout.proofs.Commit.{keeps-other}
 use Rattle.disk_layout.proofs.Counts.{kept-slot, range-piece, uncounted-face}
 use Rattle.disk_layout.proofs.Faces.{IsFile-slot, IsLayout-directory, with_slot}
 use Rattle.disk_layout.proofs.Layouts.{KeepsFiles, all_blocks, block-owned, files-frame, unless-same}
-use Rattle.disk_layout.proofs.Once.{Contains-cases, Contains-here, Contains-nil, Contains-there, EachOnce-apart, flat_map-in}
+use Rattle.disk_layout.proofs.Lists.{in-map}
+use Rattle.disk_layout.proofs.Once.{Contains-here, Contains-there, EachOnce-apart, flat_map-in}
 use Rattle.disk_layout.proofs.Pieces.{length-piece, piece, piece-byte}
 use Rattle.disk_layout.proofs.Recount.{flat_map-out, slot-number, slot-there}
 use Rattle.disk_layout.specs.Directory.{is_used, slot_in, slots_in, used_slots}
@@ -63,10 +64,6 @@ map-same_on f g (x ∷ xs) same =
     let rest = map-same_on f g xs (λ y c. same y (Contains-there y x xs c)) in
     cc
 
-map-join : {X Y : Type 0} (f : X → Y) (xs ys : List X) → map f (xs ++ ys) ≡ map f xs ++ map f ys
-map-join f [] ys = refl
-map-join f (x ∷ xs) ys = ap (λ zs. f x ∷ zs) (map-join f xs ys)
-
 -- the slots of the new image, sector by sector
 slots-reslot : (a b : Image) (p : Place) → slots_in p (sector b p) ≡ map (reslot b) (slots_in p (sector a p))
 unfolding slots_in
@@ -77,7 +74,7 @@ all_slots-reslot a b [] = refl
 all_slots-reslot a b (p ∷ ps) =
     let here = slots-reslot a b p in
     let rest = all_slots-reslot a b ps in
-    cc (here, rest, map-join (reslot b) (slots_in p (sector a p)) (flat_map (λ q. slots_in q (sector a q)) ps))
+    cc (here, rest, map-append (reslot b) (slots_in p (sector a p)) (flat_map (λ q. slots_in q (sector a q)) ps))
 
 slot-any : (a : Image) (ps : List Place) (s : Slot) → Contains (flat_map (λ p. slots_in p (sector a p)) ps) s → Contains ps s.sector × (s.number < 8) × (s ≡ slot_in s.sector (sector a s.sector) s.number)
 slot-any a ps s d =
@@ -114,13 +111,6 @@ reread-files b (f ∷ fs) same h = (
 -- a file's slot stands in the directory
 pub slot-of : (a : Image) (l : Layout) (f : File) → IsLayout a l → Contains l.files f → Contains (used_slots a l.directory) f.slot
 slot-of a l f h c = let P : List Slot → Type 0 = λ ss. Contains ss f.slot in subst P h.directory.slots (in-map (λ g. g.slot) l.files f c)
-  where
-    in-map : {X Y : Type 0} (g : X → Y) (xs : List X) (x : X) → Contains xs x → Contains (map g xs) (g x)
-    in-map g [] x d = absurd (Contains-nil x d)
-    in-map g (y ∷ xs) x d = elim (Contains-cases x y xs d) [
-      | inl e ↦ rw (← e) (Contains-here (g y) (map g xs))
-      | inr r ↦ Contains-there (g x) (g y) (map g xs) (in-map g xs x r)
-    ]
 
 pub slot-same : (a b : Image) (l : Layout) (f : File) → IsLayout a l → ((p : Place) → Contains l.directory p → KeepsEntries a b p) → Contains l.files f → uncounted f.slot ≡ uncounted (reslot b f.slot)
 slot-same a b l f h keeps c =

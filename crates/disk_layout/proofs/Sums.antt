@@ -22,3 +22,13 @@ sum-less f g (suc n) s h e same = elim (cases_eq n s) [
   | inr ne ↦ let rest = sum-less f g n s (omega arith) e (λ k lt. same k (omega arith)) in
       omega (arith, sum_by-cons f n (numbers_below n), sum_by-cons g n (numbers_below n), rest, same n (omega arith) ne)
 ]
+
+-- a sum of zeros
+pub sum-zero : (f : ℕ → ℕ) (n : ℕ) → ((k : ℕ) → k < n → f k ≡ 0) → sum_by f (numbers_below n) ≡ 0
+sum-zero f zero none = refl
+sum-zero f (suc n) none = sum_by-cons f n (numbers_below n) ∙ omega (arith, none n (omega arith), sum-zero f n (λ k h. none k (omega arith)))
+
+-- two sums in one
+pub sum-plus : (f g : ℕ → ℕ) (n : ℕ) → sum_by (λ k. f k + g k) (numbers_below n) ≡ sum_by f (numbers_below n) + sum_by g (numbers_below n)
+sum-plus f g zero = refl
+sum-plus f g (suc n) = omega (arith, sum_by-cons (λ k. f k + g k) n (numbers_below n), sum_by-cons f n (numbers_below n), sum_by-cons g n (numbers_below n), sum-plus f g n)

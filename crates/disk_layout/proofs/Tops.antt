@@ -7,6 +7,7 @@ use Rattle.std.proofs.lemmas.List.Elements.{Contains-append_cases, Contains-appe
 use Rattle.d64_image.specs.Images.{Image}
 use Rattle.d64_image.specs.declared.place.Place.{Place}
 use Rattle.disk_layout.proofs.Count.{places-few}
+use Rattle.disk_layout.proofs.Lists.{filter-once}
 use Rattle.disk_layout.proofs.Once.{Contains-cases, Contains-nil, EachOnce-apart, EachOnce-join, EachOnce-left, EachOnce-right}
 use Rattle.disk_layout.proofs.Recount.{filter-out}
 use Rattle.disk_layout.specs.Chain.{EachOnce}
@@ -44,15 +45,6 @@ outside-few ps once off = with_all (omega arith)
     with_all h =
         let few = places-few (ps ++ on_18 19 h) (EachOnce-join ps (on_18 19 h) once (on_18-once 19 h) (λ p c d. off p c (on_18-track 19 h p d).0)) in
         omega (arith, few, length-append ps (on_18 19 h), on_18-long 19 h)
-
--- what is filtered is distinct where all is
-filter-once : {X : Type 0} (t : X → Bool) (xs : List X) → EachOnce xs → EachOnce (filter t xs)
-filter-once t [] once = tt
-filter-once {X} t (x ∷ xs) once = step (t x) (filter-once t xs once.1)
-  where
-    step : (b : Bool) → EachOnce (filter t xs) → EachOnce (cond b (x ∷ filter t xs) (filter t xs))
-    step true rest = (λ c. once.0 (filter-out t xs x c).0, rest)
-    step false rest = rest
 
 -- the other files own what they own among all
 others-in : (a b n : ℕ) (fs : List File) (p : Place) → Contains (flat_map file_owns (others a b n fs)) p → Contains (flat_map file_owns fs) p

@@ -10,7 +10,7 @@ use Rattle.disk_layout.proofs.Once.{Contains-cases, Contains-nil, EachOnce-apart
 use Rattle.disk_layout.proofs.Unsound.{closed-file, has-chain, in-directory, no_bad_length, no_bad_link, no_bad_type, no_loop, no_unclosed, visited-in}
 use Rattle.disk_layout.specs.Chain.{EachOnce, Leads, Names}
 use Rattle.disk_layout.specs.Directory.{map_place}
-use Rattle.disk_layout.specs.Fault.{Holds, IsBadSide, IsSideSector, Owner, Owns, blocks_of, length_byte, link, listed, map_itself, number, pointer, sides_of, the_directory}
+use Rattle.disk_layout.specs.Fault.{Holds, IsBadSide, IsSideSector, Owner, Owns, blocks_of, length_byte, link, listed, map_itself, nowhere, number, pointer, sides_of, the_directory}
 use Rattle.disk_layout.specs.Layout.{File, IsLayout, IsRelFile, IsSide, IsSound, Layout, file_owns, owners, record_length}
 use Rattle.disk_layout.specs.declared.faults.Fault.{Fault}
 use Rattle.disk_layout.specs.declared.faults.Fault.TheVariants.{BadLength, BadLink, BadSide, BadType, CountWrong, Device, Loop, MapWrong, OwnedTwice, Unclosed}
@@ -148,7 +148,7 @@ claims-one img l a b p h = go a b
 at-slot : (img : Image) (s t : Slot) (blocks : List Place) (j : ℕ) (p : Place) → s ≡ t → IsSideSector img t blocks j p → IsSideSector img s blocks j p
 at-slot img s t blocks j p e h = let P : Slot → Type 0 = λ t. IsSideSector img t blocks j p in subst P (sym e) h
 
-pub no_owned_twice : (img : Image) (p : Place) → Holds ⊥ img (OwnedTwice p) → ¬ (IsSound img)
+pub no_owned_twice : (img : Image) (p : Place) → Holds nowhere img (OwnedTwice p) → ¬ (IsSound img)
 unfolding owners
 no_owned_twice img p (inl (a, b, ne, x, y)) (l, h) = ne (claims-one img l a b p h (claim img l a p h x) (claim img l b p h y))
 no_owned_twice img p (inr (q, s, closed, rel, blocks, j, k, ne, x, y)) (l, h) =
@@ -169,7 +169,7 @@ some-side img f r =
     let n = ap length r.chain.2.places ∙ length-append r.chain.2.front (r.chain.2.last ∷ []) in
     omega (arith, r.count)
 
-pub no_bad_side : (img : Image) (p : Place) → Holds ⊥ img (BadSide p) → ¬ (IsSound img)
+pub no_bad_side : (img : Image) (p : Place) → Holds nowhere img (BadSide p) → ¬ (IsSound img)
 no_bad_side img p (inl (s, closed, rel, none)) (l, h) =
     let (f, c, e, file) = closed-file img l p s h closed in
     let r = file.rel (rw e rel) in
@@ -197,7 +197,7 @@ no_bad_side img p (inr (q, s, closed, rel, blocks, j, side, bad)) (l, h) =
     wrong f e r same good (pointer k y lt at n) = n (good.pointers k y lt (rw (← same) at))
 
 -- whatever survey tells and holds, the image is not sound
-pub told-unsound : (img : Image) (f : Fault) → Holds ⊥ img f → ¬ (IsSound img)
+pub told-unsound : (img : Image) (f : Fault) → Holds nowhere img f → ¬ (IsSound img)
 told-unsound img (BadLink p) h = no_bad_link img p h
 told-unsound img (Loop p) h = no_loop img p h
 told-unsound img (OwnedTwice p) h = no_owned_twice img p h

@@ -6,7 +6,7 @@ use Rattle.disk_layout.proofs.Layouts.{IsLayout-one}
 use Rattle.disk_layout.proofs.Once.{all-in}
 use Rattle.disk_layout.proofs.Twice.{told-unsound}
 use Rattle.disk_layout.specs.Clean.{IsClean, IsCleanLayout, IsExactFile}
-use Rattle.disk_layout.specs.Fault.{HoldsOfClean}
+use Rattle.disk_layout.specs.Fault.{HoldsOfClean, nowhere}
 use Rattle.disk_layout.specs.Layout.{File, IsLayout, IsSound, Layout, is_rel}
 use Rattle.disk_layout.specs.declared.faults.Fault.{Fault}
 use Rattle.disk_layout.specs.declared.faults.Fault.TheVariants.{BadLength, BadLink, BadSide, BadType, CountWrong, Device, Loop, MapWrong, OwnedTwice, Unclosed}
@@ -22,7 +22,7 @@ exact-of img l f k c rel = all-in (λ g. IsTrue (is_rel g.slot) → IsExactFile 
 sound-of : (img : Image) → IsClean img → IsSound img
 sound-of img (m, k) = (m, k.layout)
 
-pub told-unclean : (img : Image) (f : Fault) → HoldsOfClean ⊥ img f → ¬ (IsClean img)
+pub told-unclean : (img : Image) (f : Fault) → HoldsOfClean nowhere img f → ¬ (IsClean img)
 told-unclean img (BadLink p) h c = told-unsound img (BadLink p) h (sound-of img c)
 told-unclean img (Loop p) h c = told-unsound img (Loop p) h (sound-of img c)
 told-unclean img (OwnedTwice p) h c = told-unsound img (OwnedTwice p) h (sound-of img c)

@@ -10,7 +10,7 @@ use Rattle.disk_layout.proofs.Chains.{IsChain-follows, Leads-along, Leads-push, 
 use Rattle.disk_layout.proofs.Once.{Contains-here, all-in, filter-in, flat_map-in, map-in}
 use Rattle.disk_layout.specs.Chain.{IsChain, Leads, LinksTo, Names, NamesNone}
 use Rattle.disk_layout.specs.Directory.{directory_start, is_used, slots_in, type_byte, used_slots}
-use Rattle.disk_layout.specs.Fault.{Holds, HoldsOfChain, IsClosed, IsDirectorySector, IsSlot}
+use Rattle.disk_layout.specs.Fault.{Holds, HoldsOfChain, IsClosed, IsDirectorySector, IsSlot, nowhere}
 use Rattle.disk_layout.specs.Layout.{File, HasChain, IsClosedType, IsFile, IsLayout, IsSound, Layout, is_rel, record_length}
 use Rattle.disk_layout.specs.declared.faults.Fault.{Fault}
 use Rattle.disk_layout.specs.declared.faults.Fault.TheVariants.{BadLength, BadLink, BadSide, BadType, CountWrong, Device, Loop, MapWrong, OwnedTwice, Unclosed}
@@ -54,7 +54,7 @@ has-chain img f first h named = by_type (is_rel f.slot) refl
     by_type true e = found (h.rel e).chain
     by_type false e = found (h.plain e (λ z. omega (arith, track_from_1 first, named.0))).0
 
-pub no_bad_link : (img : Image) (p : Place) → Holds ⊥ img (BadLink p) → ¬ (IsSound img)
+pub no_bad_link : (img : Image) (p : Place) → Holds nowhere img (BadLink p) → ¬ (IsSound img)
 no_bad_link img p (inl a) (l, h) = bad_link-no_chain img directory_start p a.0.before l.directory h.directory.last a.0.visits.0 a.1 h.directory.chain
 no_bad_link img p (inr (inl (d, (q, link, out)))) (l, h) =
     let there = next-in img directory_start p q d.before l.directory h.directory.last d.visits.0 link h.directory.chain in
@@ -74,18 +74,18 @@ no_bad_link img p (inr (inr (inr (q, s, closed, block, nowhere)))) (l, h) =
     let (f, c, e, file) = closed-file img l q s h closed in
     bad_link-no_chain img block.first p block.before f.blocks f.last block.visits.0 nowhere (has-chain img f block.first file (rw e block.named))
 
-pub no_loop : (img : Image) (p : Place) → Holds ⊥ img (Loop p) → ¬ (IsSound img)
+pub no_loop : (img : Image) (p : Place) → Holds nowhere img (Loop p) → ¬ (IsSound img)
 no_loop img p (inl (vs, back, on)) (l, h) = loop-no_chain img directory_start p vs l.directory h.directory.last back.0 back.2 h.directory.chain
 no_loop img p (inr (q, s, closed, first, named, vs, back)) (l, h) =
     let (f, c, e, file) = closed-file img l q s h closed in
     loop-no_chain img first p vs f.blocks f.last back.0 back.2 (has-chain img f first file (rw e named))
 
-pub no_bad_type : (img : Image) (p : Place) → Holds ⊥ img (BadType p) → ¬ (IsSound img)
+pub no_bad_type : (img : Image) (p : Place) → Holds nowhere img (BadType p) → ¬ (IsSound img)
 no_bad_type img p (s, closed, bad) (l, h) =
     let (f, c, e, file) = closed-file img l p s h closed in
     bad (rw (← e) file.closed)
 
-pub no_unclosed : (img : Image) (p : Place) → Holds ⊥ img (Unclosed p) → ¬ (IsSound img)
+pub no_unclosed : (img : Image) (p : Place) → Holds nowhere img (Unclosed p) → ¬ (IsSound img)
 no_unclosed img p (s, slot, used, low) (l, h) =
     let (f, c, e, file) = slot-file img l p s h slot used in
     low_type (type_byte s) low (rw (← e) file.closed)
@@ -94,7 +94,7 @@ no_unclosed img p (s, slot, used, low) (l, h) =
     low_type t h (inl a) = omega (arith, a)
     low_type t h (inr a) = omega (arith, a)
 
-pub no_bad_length : (img : Image) (p : Place) → Holds ⊥ img (BadLength p) → ¬ (IsSound img)
+pub no_bad_length : (img : Image) (p : Place) → Holds nowhere img (BadLength p) → ¬ (IsSound img)
 no_bad_length img p (s, closed, rel, out) (l, h) =
     let (f, c, e, file) = closed-file img l p s h closed in
     let r = file.rel (rw e rel) in
@@ -103,7 +103,7 @@ no_bad_length img p (s, closed, rel, out) (l, h) =
     elim out [ inl z ↦ omega arith | inr z ↦ omega arith ]
 
 -- where a fault of a chain holds, there is no chain; a failed device tells nothing
-pub told-no_chain : (img : Image) (first : Place) (f : Fault) → HoldsOfChain ⊥ img first f → (ps : List Place) (u : ℕ) → ¬ (IsChain img first ps u)
+pub told-no_chain : (img : Image) (first : Place) (f : Fault) → HoldsOfChain nowhere img first f → (ps : List Place) (u : ℕ) → ¬ (IsChain img first ps u)
 told-no_chain img first (BadLink p) (vs, visits, nowhere) ps u = bad_link-no_chain img first p vs ps u visits.0 nowhere
 told-no_chain img first (Loop p) (vs, back) ps u = loop-no_chain img first p vs ps u back.0 back.2
 told-no_chain img first (Device p) h ps u = absurd h

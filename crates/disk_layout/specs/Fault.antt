@@ -78,51 +78,55 @@ pub record IsRelOf (l : Layout) (p : Place) (f : File) : Type 0 where
   pub rel : IsTrue (is_rel f.slot)
   pub slot : f.slot.sector ≡ p
 
--- what survey may tell
-abbrev pub Holds : Type 0 → Image → Fault → Type 0
-Holds failed img (BadLink p) =
+-- the device failed nowhere
+abbrev pub nowhere : Place → Type 0
+nowhere _ = ⊥
+
+-- what survey may tell: a fact of the image, or of the places at which the device failed
+abbrev pub Holds : (Place → Type 0) → Image → Fault → Type 0
+Holds failed_at img (BadLink p) =
     (IsDirectorySector img p × LinksNowhere img p)
     ⊎ (IsDirectorySector img p × ((q : Place) × LinksTo img p q × ¬ (IsDirectoryPlace q)))
     ⊎ ((s : Slot) × IsClosed img p s × NamesNone s.bytes 3 × (IsTrue (is_rel s) ⊎ (slice_index s.bytes 3 ≢ 0)))
     ⊎ ((q : Place) × (s : Slot) × IsClosed img q s × IsBlock img s p × LinksNowhere img p)
-Holds failed img (Loop p) =
+Holds failed_at img (Loop p) =
     ((vs : List Place) × ComesBack img directory_start vs p × AllByRecursion IsDirectoryPlace vs)
     ⊎ ((q : Place) × (s : Slot) × IsClosed img q s × (first : Place) × Names s.bytes 3 first × (vs : List Place) × ComesBack img first vs p)
-Holds failed img (OwnedTwice p) =
+Holds failed_at img (OwnedTwice p) =
     ((a : Owner) × (b : Owner) × (a ≢ b) × Owns img a p × Owns img b p)
     ⊎ ((q : Place) × (s : Slot) × IsClosed img q s × IsTrue (is_rel s) × (blocks : List Place) × (j : ℕ) × (k : ℕ) × (j ≢ k) × IsSideSector img s blocks j p × IsSideSector img s blocks k p)
-Holds failed img (BadType p) = (s : Slot) × IsClosed img p s × ¬ (IsClosedType (type_byte s))
-Holds failed img (Unclosed p) = (s : Slot) × IsSlot img p s × (type_byte s ≢ 0) × (type_byte s < 128)
-Holds failed img (BadSide p) =
+Holds failed_at img (BadType p) = (s : Slot) × IsClosed img p s × ¬ (IsClosedType (type_byte s))
+Holds failed_at img (Unclosed p) = (s : Slot) × IsSlot img p s × (type_byte s ≢ 0) × (type_byte s < 128)
+Holds failed_at img (BadSide p) =
     ((s : Slot) × IsClosed img p s × IsTrue (is_rel s) × NamesNone s.bytes 21)
     ⊎ ((q : Place) × (s : Slot) × IsClosed img q s × IsTrue (is_rel s) × (blocks : List Place) × (j : ℕ) × IsSideSector img s blocks j p × IsBadSide img s blocks j p)
-Holds failed img (BadLength p) = (s : Slot) × IsClosed img p s × IsTrue (is_rel s) × ((record_length s ≡ 0) ⊎ (record_length s ≡ 255))
-Holds failed img (CountWrong p) = ⊥
-Holds failed img (MapWrong p) = ⊥
-Holds failed img (Device p) = failed
+Holds failed_at img (BadLength p) = (s : Slot) × IsClosed img p s × IsTrue (is_rel s) × ((record_length s ≡ 0) ⊎ (record_length s ≡ 255))
+Holds failed_at img (CountWrong p) = ⊥
+Holds failed_at img (MapWrong p) = ⊥
+Holds failed_at img (Device p) = failed_at p
 
 -- what check may tell as well
-abbrev pub HoldsOfClean : Type 0 → Image → Fault → Type 0
-HoldsOfClean failed img (BadSide p) = Holds failed img (BadSide p) ⊎ ((l : Layout) × IsLayout img l × (f : File) × Contains l.files f × IsTrue (is_rel f.slot) × (j : ℕ) × (slice_get f.sides j ≡ Some p) × (sector img p ≢ side_sector j f.blocks f.sides (record_length f.slot)))
-HoldsOfClean failed img (CountWrong p) = (l : Layout) × IsLayout img l × (f : File) × IsRelOf l p f × (count_field f.slot ≢ length f.blocks + sides_for (length f.blocks))
-HoldsOfClean failed img (MapWrong p) = (l : Layout) × IsLayout img l × (
+abbrev pub HoldsOfClean : (Place → Type 0) → Image → Fault → Type 0
+HoldsOfClean failed_at img (BadSide p) = Holds failed_at img (BadSide p) ⊎ ((l : Layout) × IsLayout img l × (f : File) × Contains l.files f × IsTrue (is_rel f.slot) × (j : ℕ) × (slice_get f.sides j ≡ Some p) × (sector img p ≢ side_sector j f.blocks f.sides (record_length f.slot)))
+HoldsOfClean failed_at img (CountWrong p) = (l : Layout) × IsLayout img l × (f : File) × IsRelOf l p f × (count_field f.slot ≢ length f.blocks + sides_for (length f.blocks))
+HoldsOfClean failed_at img (MapWrong p) = (l : Layout) × IsLayout img l × (
     ¬ ((map_bit (sector img map_place) p.track p.sector ≡ 1) ↔ ¬ (Contains (map_place ∷ owners l) p))
     ⊎ ((p ≡ map_place) × ((t : ℕ) × (1 ≤ t) × (t ≤ 35) × (map_count (sector img map_place) t ≢ sum_by (map_bit (sector img map_place) t) (numbers_below (sectors_on t))))))
-HoldsOfClean failed img fault = Holds failed img fault
+HoldsOfClean failed_at img fault = Holds failed_at img fault
 
 -- the fault holds of the chain from first
-abbrev pub HoldsOfChain : Type 0 → Image → Place → Fault → Type 0
-HoldsOfChain failed img first (BadLink p) = (vs : List Place) × Visits img first vs p × LinksNowhere img p
-HoldsOfChain failed img first (Loop p) = (vs : List Place) × ComesBack img first vs p
-HoldsOfChain failed img first (Device p) = failed
-HoldsOfChain failed img first _ = ⊥
+abbrev pub HoldsOfChain : (Place → Type 0) → Image → Place → Fault → Type 0
+HoldsOfChain failed_at img first (BadLink p) = (vs : List Place) × Visits img first vs p × LinksNowhere img p
+HoldsOfChain failed_at img first (Loop p) = (vs : List Place) × ComesBack img first vs p
+HoldsOfChain failed_at img first (Device p) = failed_at p
+HoldsOfChain failed_at img first _ = ⊥
 
 -- the fault holds of the directory's chain
-abbrev pub HoldsOfDirectory : Type 0 → Image → Fault → Type 0
-HoldsOfDirectory failed img (BadLink p) = IsDirectorySector img p × (LinksNowhere img p ⊎ ((q : Place) × LinksTo img p q × ¬ (IsDirectoryPlace q)))
-HoldsOfDirectory failed img (Loop p) = (vs : List Place) × ComesBack img directory_start vs p × AllByRecursion IsDirectoryPlace vs
-HoldsOfDirectory failed img (Device p) = failed
-HoldsOfDirectory failed img _ = ⊥
+abbrev pub HoldsOfDirectory : (Place → Type 0) → Image → Fault → Type 0
+HoldsOfDirectory failed_at img (BadLink p) = IsDirectorySector img p × (LinksNowhere img p ⊎ ((q : Place) × LinksTo img p q × ¬ (IsDirectoryPlace q)))
+HoldsOfDirectory failed_at img (Loop p) = (vs : List Place) × ComesBack img directory_start vs p × AllByRecursion IsDirectoryPlace vs
+HoldsOfDirectory failed_at img (Device p) = failed_at p
+HoldsOfDirectory failed_at img _ = ⊥
 
 -- Device is told only where the device failed, and any other answer only where no failure was counted
 abbrev pub TellsFault : {D T : Type 0} → History D → D → D → Result T Fault → Type 0

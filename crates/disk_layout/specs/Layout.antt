@@ -20,9 +20,12 @@ pub record File : Type 0 where
 abbrev pub IsClosedType : ℕ → Type 0
 IsClosedType t = ((128 ≤ t) × (t ≤ 132)) ⊎ ((192 ≤ t) × (t ≤ 196))
 
--- relative, locked or not
+-- closed and REL, locked or not
+abbrev pub is_rel_type : ℕ → Bool
+is_rel_type t = nat_eq t 132 || nat_eq t 196
+
 abbrev pub is_rel : Slot → Bool
-is_rel s = nat_eq (type_byte s) 132 || nat_eq (type_byte s) 196
+is_rel s = is_rel_type (type_byte s)
 
 -- the record length of a relative entry
 abbrev pub record_length : Slot → ℕ

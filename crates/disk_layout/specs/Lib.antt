@@ -7,6 +7,7 @@ pub mod Entries
 pub mod Fault
 pub mod Free
 pub mod Growth
+pub mod InOrder
 pub mod Layout
 pub mod Listing
 pub mod Map

@@ -1,8 +1,9 @@
 //! Sectors read and written by calls of the layout: a device's failure is told as a fault of the sector.
-ghost use Rattle.std.specs.Prelude.{◌≡◌, ◌+◌, ◌≤◌, IfErr, OnErr, OnOk};
-ghost use Rattle.d64_image.specs.History.{HeldOnly, OldOr, OnlyReads};
-ghost use Rattle.d64_image.specs.Images.{put, sector};
-ghost use Rattle.disk_layout.specs.Fault.{TellsFault};
+ghost use Rattle.std.specs.Prelude.{◌≡◌};
+ghost use Rattle.d64_image.specs.Calls.{ReadsSector, WritesSector};
+ghost use Rattle.d64_image.specs.History.{WritesNothing};
+ghost use Rattle.d64_image.specs.Images.{sector};
+ghost use Rattle.disk_layout.specs.InOrder.{WritesOther};
 ghost use Rattle.disk_layout.specs.declared.faults.Fault.TheVariants.{Device};
 
 use crate::faults::Fault;
@@ -10,32 +11,39 @@ use d64_image::{Place, Sectors};
 
 /// Reads a sector as it was last written, of 256 bytes.
 ///
-/// `Device` at this place is told where the device failed, and no other fault; the bytes that were read are then any
+/// `Device` at this place is told where the device failed there, and no other fault; the bytes that were read are then any
 /// bytes. The disk is the same at each answer.
 pub fn read_sector<D: Sectors>(disk: &mut D, place: Place, to: &mut [u8; 256]) -> Result<(), Fault>
-    ensures sector { OnOk result (to.new ≡ sector (D.history.image disk.old) place) }
-    ensures reads { OnlyReads D.history disk.old disk.new 1 }
-    ensures failures { TellsFault D.history disk.old disk.new result }
-    ensures told { IfErr result (λ fault. fault ≡ Device place) }
+    ensures { ReadsSector D.history disk.old disk.new place to.new (Device place) result }
 {
     disk.read(place, to).map_err(|_| Fault::Device(place))
 }
 
 /// Writes a sector of 256 bytes.
 ///
-/// `Device` at this place is told where the device failed, and no other fault; the sector is then written or as before.
+/// `Device` at this place is told where the device failed there, and no other fault; the sector is then written or as before.
 /// Nothing else changes, and nothing else was ever held.
 pub fn write_sector<D: Sectors>(disk: &mut D, place: Place, from: &[u8; 256]) -> Result<(), Fault>
-    ensures ok { OnOk result (D.history.image disk.new ≡ put (D.history.image disk.old) place from.now) }
-    ensures err { OnErr result (OldOr (D.history.image disk.old) (put (D.history.image disk.old) place from.now) (D.history.image disk.new)) }
-    // during the call
-    ensures held { HeldOnly D.history disk.old disk.new (OldOr (D.history.image disk.old) (put (D.history.image disk.old) place from.now)) }
-    // a write is counted at most once, and at Ok alone
-    ensures counted { OnOk result (D.history.writes disk.new ≤ D.history.writes disk.old + 1) }
-    ensures uncounted { OnErr result (D.history.writes disk.new ≡ D.history.writes disk.old) }
-    ensures reads { D.history.reads disk.new ≡ D.history.reads disk.old }
-    ensures failures { TellsFault D.history disk.old disk.new result }
-    ensures told { IfErr result (λ fault. fault ≡ Device place) }
+    ensures { WritesSector D.history disk.old disk.new place from.now (Device place) result }
 {
     disk.write(place, from).map_err(|_| Fault::Device(place))
+}
+
+/// Writes a sector, as `write_sector` does, where its bytes are others than those that it has, which are handed in.
+pub fn write_other<D: Sectors>(
+    disk: &mut D,
+    place: Place,
+    had: &[u8; 256],
+    wanted: &[u8; 256],
+) -> Result<(), Fault>
+    requires { had.now ≡ sector (D.history.image disk.old) place }
+    ensures write { WritesSector D.history disk.old disk.new place wanted.now (Device place) result }
+    ensures once { WritesOther D.history disk.old disk.new place }
+    // a sector that is right is not written
+    ensures quiet { had.now ≡ wanted.now → WritesNothing D.history disk.old disk.new }
+{
+    if had == wanted {
+        return Ok(());
+    }
+    write_sector(disk, place, wanted)
 }

@@ -1,5 +1,5 @@
 //! The map of free sectors: which are free, which one is next, taking and giving back.
-ghost use Rattle.std.specs.Prelude.{◌≡◌, ◌≢◌, ◌↔◌, IfOk, IsTrue, MatchOption, length};
+ghost use Rattle.std.specs.Prelude.{◌≡◌, ◌≢◌, ◌↔◌, IfOk, IsTrue, MatchOption, OnErr, length};
 
 use crate::directory::map_place;
 use crate::views::BamView;
@@ -35,6 +35,7 @@ impl Bam {
     pub fn read<D: Sectors>(disk: &mut D) -> Result<Bam, DeviceFault>
         ensures ok { IfOk result (λ map. map.bytes ≡ sector (D.history.image disk.old) map_place) }
         ensures failures { TellsFailure D.history disk.old disk.new result }
+        ensures failed { OnErr result (D.history.failed_at disk.new map_place) }
         ensures reads { OnlyReads D.history disk.old disk.new 1 }
     {
         let mut bytes = [0; 256];

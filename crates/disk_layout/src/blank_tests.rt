@@ -213,14 +213,15 @@ fn names_and_entries(rt: HostRuntime) -> Result<(), Fail> {
             (0x84, 2, 1)
         );
         let _ = names.try_extend_from_slice(entry.name());
-        let first = entry.first_block();
-        let side = entry.first_side();
+        assert!(rt; entry.is_relative() && entry.has_first_block());
+        let first = entry.first_block().unwrap_or_default();
+        let side = entry.first_side().unwrap_or_default();
         let _ = names.try_extend_from_slice(&[
             slot.number,
-            first.0,
-            first.1,
-            side.0,
-            side.1,
+            first.track(),
+            first.sector(),
+            side.track(),
+            side.sector(),
             entry.record_length(),
         ]);
     }

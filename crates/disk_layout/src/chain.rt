@@ -1,6 +1,6 @@
 //! Chains of sectors: each sector's first two bytes name the next.
 ghost use Rattle.std.specs.Prelude.{◌≤◌, IfOk, IfErr, length};
-ghost use Rattle.d64_image.specs.History.{Failed, OnlyReads};
+ghost use Rattle.d64_image.specs.History.{OnlyReads};
 ghost use Rattle.disk_layout.specs.Chain.{IsChain};
 ghost use Rattle.disk_layout.specs.Fault.{HoldsOfChain, TellsFault};
 
@@ -25,7 +25,7 @@ pub fn walk_chain<D: Sectors>(
     places: &mut ArrayVec<Place, 720>,
 ) -> Result<u8, Fault>
     ensures chain { IfOk result (λ u. IsChain (D.history.image disk.old) first places.new.items u) }
-    ensures fault { IfErr result (HoldsOfChain (Failed D.history disk.old disk.new) (D.history.image disk.old) first) }
+    ensures fault { IfErr result (HoldsOfChain (D.history.failed_at disk.new) (D.history.image disk.old) first) }
     ensures failures { TellsFault D.history disk.old disk.new result }
     // no sector is read twice, and the disk has no more
     ensures reads { OnlyReads D.history disk.old disk.new (length places.new.items) }

@@ -1,7 +1,7 @@
 //! The directory: its sectors are read along the chain on track 18, and their used slots are listed in order.
 ghost use Rattle.std.specs.Prelude.{◌≡◌, ◌+◌, ◌≤◌, ◌++◌, ◌↔◌, Contains, IfErr, IsTrue, List, MatchOption, OnOk, filter};
 ghost use Rattle.arrayvec.specs.ArrayVec.{array_vec_len};
-ghost use Rattle.d64_image.specs.History.{Failed, OnlyReads};
+ghost use Rattle.d64_image.specs.History.{OnlyReads};
 ghost use Rattle.disk_layout.specs.Chain.{Names};
 ghost use Rattle.disk_layout.specs.Directory as names;
 ghost use Rattle.disk_layout.specs.Directory.{IsDirectory, IsDirectoryPlace, is_used, slots_in};
@@ -89,7 +89,7 @@ pub fn read_directory<D: Sectors>(
     slots: &mut ArrayVec<Slot, 144>,
 ) -> Result<(), Fault>
     ensures ok { OnOk result ((ps : List Place) × IsDirectory (D.history.image disk.old) ps slots.new.items) }
-    ensures err { IfErr result (HoldsOfDirectory (Failed D.history disk.old disk.new) (D.history.image disk.old)) }
+    ensures err { IfErr result (HoldsOfDirectory (D.history.failed_at disk.new) (D.history.image disk.old)) }
     ensures failures { TellsFault D.history disk.old disk.new result }
     ensures reads { OnlyReads D.history disk.old disk.new 18 }
 {

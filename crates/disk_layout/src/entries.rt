@@ -1,13 +1,23 @@
-//! What is written into a slot of the directory for a new relative file.
-ghost use Rattle.std.specs.Prelude.{◌≡◌, ◌≤◌, length};
+//! What is written into a slot of the directory: a new relative file, and a block count.
+ghost use Rattle.std.specs.Prelude.{◌≡◌, ◌≤◌, ◌<◌, length};
+ghost use Rattle.d64_image.specs.declared.place.Place.{Place};
 ghost use Rattle.disk_layout.specs.Blank.{rel_entry};
+ghost use Rattle.disk_layout.specs.Directory.{slot_in};
+ghost use Rattle.disk_layout.specs.Entries.{IsRecounted};
+ghost use Rattle.disk_layout.specs.Layout.{count_field};
 ghost use Rattle.disk_layout.specs.Rest.{slot_name};
 
 use byteorder::{ByteOrder, LittleEndian};
 use d64_image::Place;
 
 /// The type byte of a closed relative file.
-const CLOSED_REL: u8 = 0x84;
+pub(crate) const REL: u8 = 0x84;
+
+/// The type byte of a closed relative file that is locked.
+pub(crate) const LOCKED_REL: u8 = 0xC4;
+
+/// Where in a slot the block count stands, low byte first.
+const COUNT_AT: usize = 30;
 
 /// A name as a slot or 18/0 holds it: sixteen bytes, shifted spaces behind the name.
 pub fn padded_name(name: &[u8]) -> [u8; 16]
@@ -33,7 +43,7 @@ pub fn relative_entry(
 {
     let mut entry = [0; 30];
     LittleEndian::write_u16(&mut entry[28..30], blocks);
-    entry[0] = CLOSED_REL;
+    entry[0] = REL;
     entry[1] = first.track();
     entry[2] = first.sector();
     entry[19] = side.track();
@@ -41,4 +51,16 @@ pub fn relative_entry(
     entry[21] = record_length;
     entry[3..19].copy_from_slice(&padded_name(name));
     entry
+}
+
+/// Writes the block count of the slot with this number, from 0 to 7, into the bytes of its directory sector. All other
+/// bytes stay, and all of them where that is the count already.
+pub fn put_count(bytes: &mut [u8; 256], number: u8, count: u16)
+    requires { number < 8 }
+    ensures count { (p : Place) → count_field (slot_in p bytes.new number) ≡ count }
+    ensures rest { IsRecounted bytes.old bytes.new number }
+    ensures kept { (p : Place) → count_field (slot_in p bytes.old number) ≡ count → bytes.new ≡ bytes.old }
+{
+    let at = 32 * number as usize + COUNT_AT;
+    LittleEndian::write_u16(&mut bytes[at..at + 2], count);
 }

@@ -26,15 +26,15 @@ mod slot;
 mod views;
 mod visited;
 
-pub use access::{read_sector, write_sector};
+pub use access::{read_sector, write_other, write_sector};
 pub use bam::Bam;
 pub use blank::blank_image;
 pub use chain::walk_chain;
 pub use directory::{directory_start, map_place, read_directory};
-pub use entries::{padded_name, relative_entry};
+pub use entries::{padded_name, put_count, relative_entry};
 pub use faults::Fault;
 pub use filling::fill;
-pub use laws::blank_is_clean;
+pub use laws::{blank_has_top, blank_is_clean};
 pub use side::{SideView, side_bytes};
 pub use slot::Slot;
 pub use views::{BamView, DirView, EntryView};

@@ -1,6 +1,7 @@
 //! The sectors of track 18 as they are read: names, counts and entries, lent and not copied.
-ghost use Rattle.std.specs.Prelude.{◌≡◌, ◌+◌, ◌<◌, ◌≤◌, ◌↔◌, IsTrue, length, slice_index, slice_range};
+ghost use Rattle.std.specs.Prelude.{◌≡◌, ◌≢◌, ◌+◌, ◌<◌, ◌≤◌, ◌↔◌, IsTrue, length, slice_index, slice_range};
 
+use crate::entries::{LOCKED_REL, REL};
 use byteorder::{ByteOrder, LittleEndian};
 use d64_image::Place;
 
@@ -18,6 +19,8 @@ fn unpadded(padded: &[u8]) -> &[u8]
 }
 
 ghost use Rattle.disk_layout.specs.View.{IsUnpadded, blocks_free, data_count, entry_bytes};
+ghost use Rattle.disk_layout.specs.Chain.{named_at};
+ghost use Rattle.disk_layout.specs.Layout.{is_rel_type};
 ghost use Rattle.disk_layout.specs.Map.{IsFree, map_count};
 ghost use Rattle.byteorder.specs.Endian.{little_number};
 
@@ -157,6 +160,13 @@ impl<'a> EntryView<'a> {
         self.bytes[2]
     }
 
+    /// Whether the entry is that of a closed relative file, locked or not.
+    pub fn is_relative(&self) -> bool
+        ensures { result ≡ is_rel_type (slice_index self.now.bytes.now 2) }
+    {
+        matches!(self.type_byte(), REL | LOCKED_REL)
+    }
+
     /// The name without its padding: at most sixteen bytes.
     pub fn name(&self) -> &'a [u8]
         ensures { IsUnpadded (slice_range self.now.bytes.now 5 21) result.now }
@@ -164,18 +174,25 @@ impl<'a> EntryView<'a> {
         unpadded(&self.bytes[5..21])
     }
 
-    /// Track and sector of the first data block.
-    pub fn first_block(&self) -> (u8, u8)
-        ensures { result ≡ (slice_index self.now.bytes.now 3, slice_index self.now.bytes.now 4) }
+    /// Whether bytes 3-4 are to name a first data block: track 0 says that there is none.
+    pub fn has_first_block(&self) -> bool
+        ensures { IsTrue result ↔ (slice_index self.now.bytes.now 3 ≢ 0) }
     {
-        (self.bytes[3], self.bytes[4])
+        self.bytes[3] != 0
     }
 
-    /// Track and sector of the first side sector, in the slot of a relative file.
-    pub fn first_side(&self) -> (u8, u8)
-        ensures { result ≡ (slice_index self.now.bytes.now 21, slice_index self.now.bytes.now 22) }
+    /// The first data block; None where bytes 3-4 name no place of the disk.
+    pub fn first_block(&self) -> Option<Place>
+        ensures { result ≡ named_at self.now.bytes.now 3 }
     {
-        (self.bytes[21], self.bytes[22])
+        Place::new(self.bytes[3], self.bytes[4])
+    }
+
+    /// The first side sector, in the slot of a relative file; None where bytes 21-22 name no place of the disk.
+    pub fn first_side(&self) -> Option<Place>
+        ensures { result ≡ named_at self.now.bytes.now 21 }
+    {
+        Place::new(self.bytes[21], self.bytes[22])
     }
 
     /// The record length, in the slot of a relative file.

@@ -2,10 +2,10 @@
 use Rattle.std.proofs.Common.{ℕ, zero, suc, ◌≡◌, ◌≢◌, ◌+◌, IsTrue, List, [], ◌∷◌, ◌++◌, slice_index, sym, ◌∙◌, ap, refl, arith, subst, inl, inr, append_assoc}
 use Rattle.std.specs.Prelude.{Contains, IsFalse, Some, slice_get}
 use Rattle.std.proofs.lemmas.Bool.{false≢true}
-use Rattle.std.proofs.lemmas.Option.{slice_get-get_or}
 use Rattle.d64_image.specs.Images.{Image}
 use Rattle.d64_image.specs.declared.place.Place.{Place}
 use Rattle.disk_layout.proofs.Chains.{cons_both}
+use Rattle.disk_layout.proofs.Lists.{contains-get, numbered-once}
 use Rattle.disk_layout.proofs.Once.{Contains-cases, Contains-nil, EachOnce-left}
 use Rattle.disk_layout.specs.Chain.{EachOnce, IsChain, Leads, LinksTo, Names, Visits, byte}
 use Rattle.disk_layout.specs.Fault.{IsClosed, Owns, blocks_of, sides_of}
@@ -38,17 +38,6 @@ pub side-link : (img : Image) (s : Slot) (blocks sides : List Place) (j : ℕ) (
 side-link img s blocks sides j p q w h k =
     let n : suc j ≡ j + 1 = omega arith in
     leads-link img w.first w.front w.last j p q w.leads (ap (λ (xs : List Place). slice_get xs j) (sym w.places) ∙ h) (ap (λ (xs : List Place). slice_get xs (suc j)) (sym w.places) ∙ ap (slice_get sides) n ∙ k)
-
-pub contains-get : {X : Type 0} (xs : List X) (x : X) → Contains xs x → (k : ℕ) × (slice_get xs k ≡ Some x)
-contains-get xs x (k, lt, e) = (k, slice_get-get_or xs k x lt ∙ ap Some e)
-
--- where each element has its number, no two are equal
-pub numbered-once : {X : Type 0} (f : X → ℕ) (n : ℕ) (xs : List X) → ((k : ℕ) (x : X) → slice_get xs k ≡ Some x → f x ≡ n + k) → EachOnce xs
-numbered-once f n [] h = tt
-numbered-once f n (x ∷ xs) h = (
-  λ c. let (k, e) = contains-get xs x c in omega (arith, h 0 x refl, h (suc k) x e),
-  numbered-once f (n + 1) xs (λ k y e. omega (arith, h (suc k) y e)),
-)
 
 pub sides-once : (img : Image) (s : Slot) (blocks sides : List Place) → IsWalkOfSides img s blocks sides → EachOnce sides
 sides-once img s blocks sides w = numbered-once (λ p. byte img p 2) 0 sides (λ k q h. let e : 0 + k ≡ k = omega arith in (w.judged k q h).number ∙ sym e)

@@ -4,23 +4,10 @@ use Rattle.d64_image.proofs.Moments.{reads_then, reads_weaker, no_reads, failed_
 use Rattle.d64_image.specs.History.{Failed, History, NeverFailed, OnlyReads}
 use Rattle.d64_image.specs.Images.{Image}
 use Rattle.d64_image.specs.declared.place.Place.{Place}
-use Rattle.disk_layout.specs.Fault.{Holds, TellsFault}
+use Rattle.disk_layout.specs.Fault.{Holds, TellsFault, nowhere}
 use Rattle.disk_layout.specs.declared.faults.Fault.{Fault}
 use Rattle.disk_layout.specs.declared.faults.Fault.TheVariants.{BadLength, BadLink, BadSide, BadType, CountWrong, Device, Loop, MapWrong, OwnedTwice, Unclosed}
 use Rattle.layout_check.specs.Calls.{Passes, Tells}
-
--- what a failed device means, where another meaning follows from it
-pub Holds-of : (failed also : Type 0) (img : Image) (f : Fault) → (failed → also) → Holds failed img f → Holds also img f
-Holds-of failed also img (BadLink p) to h = h
-Holds-of failed also img (Loop p) to h = h
-Holds-of failed also img (OwnedTwice p) to h = h
-Holds-of failed also img (BadType p) to h = h
-Holds-of failed also img (Unclosed p) to h = h
-Holds-of failed also img (BadSide p) to h = h
-Holds-of failed also img (BadLength p) to h = h
-Holds-of failed also img (CountWrong p) to h = h
-Holds-of failed also img (MapWrong p) to h = h
-Holds-of failed also img (Device p) to h = to h
 
 module _ {D : Type 0} (S : History D) where
   -- the type of what would have been answered doesn't matter
@@ -64,9 +51,7 @@ module _ {D : Type 0} (S : History D) where
   tells_then a b c k m n f le first second = record {
     reads = reads_then S a b c k m n le first.reads second.reads;
     failures = tells_later ℕ a b c f first.failures second.failures;
-    holds =
-        let P : Image → Type 0 = λ img. Holds (Failed S a c) img f in
-        subst P first.reads.image (Holds-of (Failed S b c) (Failed S a c) (S.image b) f (failed_later S a b c first.failures) second.holds);
+    holds = let P : Image → Type 0 = λ img. Holds (S.failed_at c) img f in subst P first.reads.image second.holds;
   }
 
   pub tells_weaker : (a b : D) (m n : ℕ) (f : Fault) → m ≤ n → Tells S a b m f → Tells S a b n f
@@ -76,18 +61,24 @@ module _ {D : Type 0} (S : History D) where
   passes_read a b reads same = record { reads = reads; failures = same }
 
   -- what is told of a sector that the device failed to read
-  pub tells_read : (a b : D) (p : Place) (f : Fault) → f ≡ Device p → OnlyReads S a b 1 → TellsFault {T = Unit {0}} S a b (Err f) → Tells S a b 1 f
-  tells_read a b p f e reads tells =
-      let P : Fault → Type 0 = λ x. TellsFault {T = Unit {0}} S a b (Err x) in
-      let failed : Failed S a b = subst P e tells in
-      rw e (record { reads = reads; failures = failed; holds = failed })
+  pub tells_read : (a b : D) (p : Place) (f : Fault) → f ≡ Device p → OnlyReads S a b 1 → Failed S a b → S.failed_at b p → Tells S a b 1 f
+  tells_read a b p f e reads failed there = rw e (record { reads = reads; failures = failed; holds = there })
 
-  pub side_tells : (a b : D) (n : ℕ) (p : Place) → Passes S a b n → Holds (Failed S a b) (S.image a) (BadSide p) → Tells S a b n (BadSide p)
+  pub side_tells : (a b : D) (n : ℕ) (p : Place) → Passes S a b n → Holds (S.failed_at b) (S.image a) (BadSide p) → Tells S a b n (BadSide p)
   side_tells a b n p passes h = record { reads = passes.reads; failures = passes.failures; holds = h }
 
-  pub twice_tells : (a b : D) (n : ℕ) (p : Place) → Passes S a b n → Holds (Failed S a b) (S.image a) (OwnedTwice p) → Tells S a b n (OwnedTwice p)
+  pub twice_tells : (a b : D) (n : ℕ) (p : Place) → Passes S a b n → Holds (S.failed_at b) (S.image a) (OwnedTwice p) → Tells S a b n (OwnedTwice p)
   twice_tells a b n p passes h = record { reads = passes.reads; failures = passes.failures; holds = h }
 
   -- where the device doesn't fail, the fault holds of the image itself
-  pub holds_alone : (a b : D) (f : Fault) → NeverFailed S a b → Holds (Failed S a b) (S.image a) f → Holds ⊥ (S.image a) f
-  holds_alone a b f never h = Holds-of (Failed S a b) ⊥ (S.image a) f (never_failed S a b never) h
+  pub holds_alone : (T : Type 0) (a b : D) (f : Fault) → NeverFailed S a b → TellsFault {T = T} S a b (Err f) → Holds (S.failed_at b) (S.image a) f → Holds nowhere (S.image a) f
+  holds_alone T a b (BadLink p) never tells h = h
+  holds_alone T a b (Loop p) never tells h = h
+  holds_alone T a b (OwnedTwice p) never tells h = h
+  holds_alone T a b (BadType p) never tells h = h
+  holds_alone T a b (Unclosed p) never tells h = h
+  holds_alone T a b (BadSide p) never tells h = h
+  holds_alone T a b (BadLength p) never tells h = h
+  holds_alone T a b (CountWrong p) never tells h = h
+  holds_alone T a b (MapWrong p) never tells h = h
+  holds_alone T a b (Device p) never tells h = absurd (never_failed S a b never tells)

@@ -8,6 +8,7 @@ use Rattle.std.proofs.lemmas.Option.{slice_get_within}
 use Rattle.d64_image.specs.Images.{Image}
 use Rattle.d64_image.specs.declared.place.Place.{Place}
 use Rattle.disk_layout.proofs.Chains.{Leads-push}
+use Rattle.disk_layout.proofs.Lists.{contains-get}
 use Rattle.disk_layout.proofs.Once.{Contains-cases, Contains-nil, all-in}
 use Rattle.disk_layout.proofs.Recount.{flat_map-out}
 use Rattle.disk_layout.proofs.Twice.{get-below}
@@ -17,7 +18,7 @@ use Rattle.disk_layout.specs.Fault.{Holds, IsClosed, IsSideSector, Owner, Owns, 
 use Rattle.disk_layout.specs.Layout.{File, HasChain, IsClosedType, IsFile, IsRelFile, file_owns, is_rel}
 use Rattle.disk_layout.specs.declared.faults.Fault.TheVariants.{OwnedTwice}
 use Rattle.disk_layout.specs.declared.slot.Slot.{Slot}
-use Rattle.layout_check.proofs.Assembly.{contains-get, owns-block}
+use Rattle.layout_check.proofs.Assembly.{owns-block}
 use Rattle.layout_check.proofs.Listed.{directory-sector, entry-listed}
 use Rattle.layout_check.specs.Survey.{taken}
 
@@ -105,7 +106,7 @@ other-owner img dir es fs s p d all slots c = elim (Contains-cases p map_place (
   ]
 ]
 
-pub clash-holds : (failed : Type 0) (img : Image) (dir : List Place) (es : List Slot) (fs : List File) (s : Slot) (p : Place) → IsDirectory img dir es → AllByRecursion (IsFile img) fs → ((f : File) → Contains fs f → Contains es f.slot × (f.slot ≢ s)) → Contains (taken dir fs) p → Owns img (blocks_of s) p ⊎ Owns img (sides_of s) p → Holds failed img (OwnedTwice p)
+pub clash-holds : (failed : Place → Type 0) (img : Image) (dir : List Place) (es : List Slot) (fs : List File) (s : Slot) (p : Place) → IsDirectory img dir es → AllByRecursion (IsFile img) fs → ((f : File) → Contains fs f → Contains es f.slot × (f.slot ≢ s)) → Contains (taken dir fs) p → Owns img (blocks_of s) p ⊎ Owns img (sides_of s) p → Holds failed img (OwnedTwice p)
 clash-holds failed img dir es fs s p d all slots c own =
     let (a, x, other) = other-owner img dir es fs s p d all slots c in
     elim own [ inl y ↦ inl (a, blocks_of s, other.0, x, y) | inr y ↦ inl (a, sides_of s, other.1, x, y) ]

@@ -11,14 +11,13 @@ use Rattle.d64_image.specs.Geometry.{sectors_below, sectors_on}
 use Rattle.d64_image.specs.Places.{index_of}
 use Rattle.d64_image.specs.declared.place.Place.{Place}
 use Rattle.disk_layout.proofs.Layouts.{get-contains}
+use Rattle.disk_layout.proofs.Lists.{contains-get, filter-once}
 use Rattle.disk_layout.proofs.Once.{Contains-cases, Contains-here, Contains-nil, Contains-there, EachOnce-apart, EachOnce-join, EachOnce-left, EachOnce-right, all-in, filter-in, flat_map-in}
 use Rattle.disk_layout.proofs.Recount.{filter-out, flat_map-out}
 use Rattle.disk_layout.specs.Chain.{EachOnce}
 use Rattle.disk_layout.specs.Directory.{map_place}
 use Rattle.disk_layout.specs.Layout.{File, Layout, file_owns, owners}
 use Rattle.disk_layout.specs.Rest.{others, taken_by_others}
-use Rattle.layout_check.proofs.Assembly.{contains-get}
-use Rattle.layout_check.proofs.Listed.{filter-once}
 use Rattle.layout_check.specs.Open.{IsShut}
 use Rattle.layout_check.specs.Owners.{owner_of}
 use Rattle.layout_check.specs.Survey.{IsSurveyOf}

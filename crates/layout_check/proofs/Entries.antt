@@ -1,14 +1,10 @@
 -- What the bytes of an entry name, and what they show.
-use Rattle.std.proofs.Common.{ℕ, ◌≤◌, ◌≡◌, sym, arith, Err, refl}
-use Rattle.std.specs.Prelude.{◌||◌, IsTrue, MatchOption, nat_eq}
+use Rattle.std.proofs.Common.{ℕ, ◌≤◌, arith, Err, refl}
+use Rattle.std.specs.Prelude.{◌||◌, IsTrue, nat_eq}
 use Rattle.std.proofs.lemmas.Bool.Decides.{nat_tests}
-use Rattle.std.proofs.Math.Decide.{dec_lt}
-use Rattle.d64_image.proofs.Places.{place_at-found, place_at-none, place_at-some}
 use Rattle.d64_image.proofs.Moments.{no_reads, reads_weaker}
-use Rattle.d64_image.specs.History.{Failed, History}
-use Rattle.d64_image.specs.Geometry.{sectors_on}
+use Rattle.d64_image.specs.History.{History}
 use Rattle.d64_image.specs.Images.{Image}
-use Rattle.d64_image.specs.Places.{place_at}
 use Rattle.d64_image.specs.declared.place.Place.{Place}
 use Rattle.disk_layout.specs.Directory.{type_byte}
 use Rattle.disk_layout.specs.Fault.{Holds, IsClosed, TellsFault}
@@ -19,18 +15,11 @@ use Rattle.disk_layout.specs.declared.slot.Slot.{Slot}
 use Rattle.layout_check.specs.Calls.{Tells}
 use Rattle.layout_check.specs.Entry.{IsEntry, IsShown}
 
--- the place that two bytes name, or that they name none
-pub named : (t s : ℕ) → MatchOption (place_at t s) ((q : Place) → ¬ ((t ≡ q.track) × (s ≡ q.sector))) (λ p. (t ≡ p.track) × (s ≡ p.sector))
-named t s = elim (dec_lt s (sectors_on t)) [
-  | yes h ↦ let (p, e) = place_at-found t s h in let both = place_at-some t s p e in rw e (sym both.0, sym both.1)
-  | no n ↦ rw (place_at-none t s (omega (arith, n))) (λ q h. n (rw (h.0, h.1) q.on_disk))
-]
-
 pub closed-entry : (img : Image) (s : Slot) → IsEntry img s → 128 ≤ type_byte s → IsClosed img s.sector s
 closed-entry img s e h = record { slot = e.slot; closed = h }
 
 -- what a slot shows holds of the image that has the slot
-pub shown-holds : (failed : Type 0) (img : Image) (s : Slot) (f : Fault) → IsEntry img s → IsShown s f → Holds failed img f
+pub shown-holds : (failed : Place → Type 0) (img : Image) (s : Slot) (f : Fault) → IsEntry img s → IsShown s f → Holds failed img f
 shown-holds failed img s (BadType p) e (at, high, bad) = (s, rw at (closed-entry img s e high), bad)
 shown-holds failed img s (Unclosed p) e (at, low) = (s, rw at e.slot, e.used, low)
 shown-holds failed img s (BadLength p) e (at, high, rel, out) = (s, rw at (closed-entry img s e high), rel, out)
@@ -66,5 +55,5 @@ module _ {D : Type 0} (S : History D) where
   shown-tells d n s f e h = record {
     reads = reads_weaker S d d 0 n (omega arith) (no_reads S d);
     failures = shown-tells_alone d s f h;
-    holds = shown-holds (Failed S d d) (S.image d) s f e h;
+    holds = shown-holds (S.failed_at d) (S.image d) s f e h;
   }

@@ -5,10 +5,10 @@ use Rattle.std.proofs.lemmas.Option.{slice_get_within}
 use Rattle.d64_image.specs.Images.{Image}
 use Rattle.d64_image.specs.declared.place.Place.{Place}
 use Rattle.disk_layout.proofs.Layouts.{IsDirectory-one}
+use Rattle.disk_layout.proofs.Lists.{contains-get}
 use Rattle.disk_layout.specs.Directory.{IsDirectory}
 use Rattle.disk_layout.specs.Layout.{is_rel}
 use Rattle.disk_layout.specs.declared.slot.Slot.{Slot}
-use Rattle.layout_check.proofs.Assembly.{contains-get}
 use Rattle.layout_check.proofs.Listed.{entry-listed}
 use Rattle.layout_check.proofs.Pointers.{read-there}
 use Rattle.layout_check.proofs.Progress.{slot-in}

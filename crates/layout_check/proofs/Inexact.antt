@@ -1,16 +1,16 @@
 -- Side sectors beside their exact bytes, and what is told of a disk that isn't clean.
 use Rattle.std.proofs.Common.{ℕ, ◌≡◌, ◌≢◌, ◌<◌, ◌≤◌, ◌+◌, Bool, true, false, IsTrue, List, length, get_or, sym, ◌∙◌, ap, refl, subst, inl}
-use Rattle.std.specs.Prelude.{Contains, Some, not, slice_get}
+use Rattle.std.specs.Prelude.{Contains, Err, Some, not, slice_get}
 use Rattle.std.specs.Str.{bytes_eq}
 use Rattle.std.proofs.lemmas.Bool.{false≢true}
 use Rattle.std.proofs.lemmas.Slice.Eq.{bytes_eq-Decides}
-use Rattle.d64_image.proofs.Moments.{failed_later, never_failed, reads_then}
-use Rattle.d64_image.specs.History.{Failed, History, NeverFailed}
+use Rattle.d64_image.proofs.Moments.{never_failed, reads_then}
+use Rattle.d64_image.specs.History.{History, NeverFailed}
 use Rattle.d64_image.specs.Images.{Image}
 use Rattle.d64_image.specs.declared.place.Place.{Place}
 use Rattle.disk_layout.proofs.Layouts.{IsFile-one}
 use Rattle.disk_layout.proofs.Once.{all-in}
-use Rattle.disk_layout.specs.Fault.{Holds, HoldsOfClean}
+use Rattle.disk_layout.specs.Fault.{Holds, HoldsOfClean, TellsFault, nowhere}
 use Rattle.disk_layout.specs.Layout.{File, IsFile, IsLayout, Layout, is_rel}
 use Rattle.disk_layout.specs.declared.faults.Fault.{Fault}
 use Rattle.disk_layout.specs.declared.faults.Fault.TheVariants.{BadLength, BadLink, BadSide, BadType, CountWrong, Device, Loop, MapWrong, OwnedTwice, Unclosed}
@@ -31,12 +31,6 @@ same-bytes xs ys r is off = step (bytes_eq xs ys) refl
     step true e = (bytes_eq-Decides xs ys).0 e
     step false e = absurd (false≢true (sym off ∙ is ∙ ap not e))
 
-pub equal-bytes : (xs ys : List ℕ) (r : Bool) → r ≡ bytes_eq xs ys → r ≡ true → xs ≡ ys
-equal-bytes xs ys r is on = (bytes_eq-Decides xs ys).0 (sym is ∙ on)
-
-pub other-bytes : (xs ys : List ℕ) (r : Bool) → r ≡ not (bytes_eq xs ys) → r ≡ true → xs ≢ ys
-other-bytes xs ys r is on e = false≢true (sym (ap not ((bytes_eq-Decides xs ys).1 e)) ∙ sym is ∙ on)
-
 -- the side sector that was read
 pub exact-here : (img : Image) (s : Slot) (blocks sides : List Place) (j : ℕ) (p : Place) → j < length sides → p ≡ get_or sides j p → IsExactSide img s blocks sides j p → (q : Place) → slice_get sides j ≡ Some q → IsExactSide img s blocks sides j q
 exact-here img s blocks sides j p below read h q there =
@@ -45,7 +39,7 @@ exact-here img s blocks sides j p below read h q there =
     subst P one h
 
 -- what holds of an image holds too where it is asked whether it is clean
-pub clean-holds : (failed : Type 0) (img : Image) (f : Fault) → Holds failed img f → HoldsOfClean failed img f
+pub clean-holds : (failed : Place → Type 0) (img : Image) (f : Fault) → Holds failed img f → HoldsOfClean failed img f
 clean-holds failed img (BadLink p) h = h
 clean-holds failed img (Loop p) h = h
 clean-holds failed img (OwnedTwice p) h = h
@@ -56,18 +50,6 @@ clean-holds failed img (BadLength p) h = h
 clean-holds failed img (CountWrong p) h = absurd h
 clean-holds failed img (MapWrong p) h = absurd h
 clean-holds failed img (Device p) h = h
-
-HoldsOfClean-of : (failed also : Type 0) (img : Image) (f : Fault) → (failed → also) → HoldsOfClean failed img f → HoldsOfClean also img f
-HoldsOfClean-of failed also img (BadLink p) to h = h
-HoldsOfClean-of failed also img (Loop p) to h = h
-HoldsOfClean-of failed also img (OwnedTwice p) to h = h
-HoldsOfClean-of failed also img (BadType p) to h = h
-HoldsOfClean-of failed also img (Unclosed p) to h = h
-HoldsOfClean-of failed also img (BadSide p) to h = h
-HoldsOfClean-of failed also img (BadLength p) to h = h
-HoldsOfClean-of failed also img (CountWrong p) to h = h
-HoldsOfClean-of failed also img (MapWrong p) to h = h
-HoldsOfClean-of failed also img (Device p) to h = to h
 
 -- the parts that were found are those of the file
 pub parts-of : (img : Image) (l : Layout) (f : File) (s : Slot) (blocks sides : List Place) → IsLayout img l → Contains l.files f → f.slot ≡ s → IsTrue (is_rel s) → (h : HasParts img s blocks sides) → f ≡ record { slot = s; blocks = blocks; last = h.last; sides = sides }
@@ -80,16 +62,23 @@ parts-of img l f s blocks sides is own same rel h =
 
 module _ {D : Type 0} (S : History D) where
   pub clean_tells : (a b : D) (n : ℕ) (f : Fault) → Tells S a b n f → TellsOfClean S a b n f
-  clean_tells a b n f h = record { reads = h.reads; failures = h.failures; holds = clean-holds (Failed S a b) (S.image a) f h.holds }
+  clean_tells a b n f h = record { reads = h.reads; failures = h.failures; holds = clean-holds (S.failed_at b) (S.image a) f h.holds }
 
   pub clean_then : (a b c : D) (k m n : ℕ) (f : Fault) → k + m ≤ n → Passes S a b k → TellsOfClean S b c m f → TellsOfClean S a c n f
   clean_then a b c k m n f le first second = record {
     reads = reads_then S a b c k m n le first.reads second.reads;
     failures = tells_later S ℕ a b c f first.failures second.failures;
-    holds =
-        let P : Image → Type 0 = λ img. HoldsOfClean (Failed S a c) img f in
-        subst P first.reads.image (HoldsOfClean-of (Failed S b c) (Failed S a c) (S.image b) f (failed_later S a b c first.failures) second.holds);
+    holds = let P : Image → Type 0 = λ img. HoldsOfClean (S.failed_at c) img f in subst P first.reads.image second.holds;
   }
 
-  pub clean_alone : (a b : D) (f : Fault) → NeverFailed S a b → HoldsOfClean (Failed S a b) (S.image a) f → HoldsOfClean ⊥ (S.image a) f
-  clean_alone a b f never h = HoldsOfClean-of (Failed S a b) ⊥ (S.image a) f (never_failed S a b never) h
+  pub clean_alone : (T : Type 0) (a b : D) (f : Fault) → NeverFailed S a b → TellsFault {T = T} S a b (Err f) → HoldsOfClean (S.failed_at b) (S.image a) f → HoldsOfClean nowhere (S.image a) f
+  clean_alone T a b (BadLink p) never tells h = h
+  clean_alone T a b (Loop p) never tells h = h
+  clean_alone T a b (OwnedTwice p) never tells h = h
+  clean_alone T a b (BadType p) never tells h = h
+  clean_alone T a b (Unclosed p) never tells h = h
+  clean_alone T a b (BadSide p) never tells h = h
+  clean_alone T a b (BadLength p) never tells h = h
+  clean_alone T a b (CountWrong p) never tells h = h
+  clean_alone T a b (MapWrong p) never tells h = h
+  clean_alone T a b (Device p) never tells h = absurd (never_failed S a b never tells)

@@ -1,16 +1,16 @@
 -- What a survey judges of relative files beyond their layout, and keeps back until the disk is seen to be sound.
 use Rattle.std.proofs.Common.{ℕ, ◌≡◌, ◌<◌, ◌≤◌, ◌+◌, Err, IsTrue, List, [], ◌∷◌, ◌++◌, length, sym, refl, arith, subst, inr}
 use Rattle.std.specs.Prelude.{None, Option, Some, slice_get}
-use Rattle.std.specs.List.{AllByRecursion}
 use Rattle.std.specs.Option.{option_or}
 use borrow.Author.Count.{below_more}
 use Rattle.std.proofs.lemmas.Option.{slice_get_within}
 use Rattle.std.proofs.lemmas.List.Elements.{Contains-append_left, Contains-append_right}
-use Rattle.d64_image.specs.History.{Failed, History}
+use Rattle.d64_image.specs.History.{History}
 use Rattle.d64_image.specs.Images.{Image, sector}
 use Rattle.d64_image.specs.declared.place.Place.{Place}
 use Rattle.disk_layout.proofs.Count.{places-few}
 use Rattle.disk_layout.proofs.Exact.{exact-side}
+use Rattle.disk_layout.proofs.Lists.{all-push}
 use Rattle.disk_layout.proofs.Once.{Contains-here}
 use Rattle.disk_layout.specs.Directory.{map_place}
 use Rattle.disk_layout.specs.Fault.{HoldsOfClean, TellsFault}
@@ -73,11 +73,6 @@ judged-file img s blocks sides u owned None None rel walk many judged is = λ _.
 pub judged-at : (img now : Image) (f : File) (o : Option Fault) → now ≡ img → JudgesFile now f o → JudgesFile img f o
 judged-at img now f o same h = let P : Image → Type 0 = λ i. JudgesFile i f o in subst P same h
 
--- what holds of each, and of one more
-pub all-push : {X : Type 0} (P : X → Type 0) (xs : List X) (x : X) → AllByRecursion P xs → P x → AllByRecursion P (xs ++ x ∷ [])
-all-push P [] x h p = (p, tt)
-all-push P (y ∷ xs) x h p = (h.0, all-push P xs x h.1 p)
-
 -- one more file
 pub judged-more : (img : Image) (fs : List File) (g : File) (kept found : Option Fault) → JudgesFiles img fs kept → JudgesFile img g found → JudgesFiles img (fs ++ g ∷ []) (option_or kept found)
 judged-more img fs g (Some fault) found (f, own, h) judged = (f, Contains-append_left fs (g ∷ []) f own, h)
@@ -85,7 +80,7 @@ judged-more img fs g None (Some fault) all judged = (g, Contains-append_right fs
 judged-more img fs g None None all judged = all-push (IsCleanFile img) fs g all judged
 
 -- what was kept back holds of a sound disk
-unclean-holds : (failed : Type 0) (img : Image) (l : Layout) (fault : Fault) → IsLayout img l → JudgesFiles img l.files (Some fault) → HoldsOfClean failed img fault
+unclean-holds : (failed : Place → Type 0) (img : Image) (l : Layout) (fault : Fault) → IsLayout img l → JudgesFiles img l.files (Some fault) → HoldsOfClean failed img fault
 unclean-holds failed img l (BadSide p) is (f, own, h) = inr (l, is, f, own, h.0, h.1.number, h.1.there, h.1.other)
 unclean-holds failed img l (CountWrong p) is (f, own, h) = (l, is, f, record { file = own; rel = h.0; slot = sym h.1.0 }, h.1.1)
 unclean-holds failed img l (BadLink p) is (f, own, none) = absurd none.1
@@ -122,5 +117,5 @@ module _ {D : Type 0} (S : History D) where
       record {
         reads = all.reads;
         failures = unclean-tells a b (S.image a) l.files fault all.failures there;
-        holds = unclean-holds (Failed S a b) (S.image a) l fault is there;
+        holds = unclean-holds (S.failed_at b) (S.image a) l fault is there;
       }

@@ -14,7 +14,6 @@ pub mod MapMends
 pub mod Mendings
 pub mod Ones
 pub mod OrderExamples
-pub mod Orders
 pub mod Pointers
 pub mod Progress
 pub mod RepairOrder

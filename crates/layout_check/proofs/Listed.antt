@@ -1,6 +1,6 @@
 -- The entries of a directory: where each stands, and that no two are one.
-use Rattle.std.proofs.Common.{ℕ, ◌≡◌, ◌≢◌, ◌<◌, ◌+◌, Bool, true, false, cond, List, [], ◌∷◌, ◌++◌, length, sym, ◌∙◌, ap, refl, arith, subst, append_assoc}
-use Rattle.std.specs.Prelude.{Contains, Some, filter, flat_map, slice_get}
+use Rattle.std.proofs.Common.{ℕ, ◌≡◌, ◌≢◌, ◌<◌, ◌+◌, true, List, [], ◌∷◌, ◌++◌, length, sym, ◌∙◌, ap, refl, arith, subst, append_assoc}
+use Rattle.std.specs.Prelude.{Contains, Some, flat_map, slice_get}
 use Rattle.std.specs.List.{AllByRecursion}
 use Rattle.std.proofs.lemmas.Bool.Decides.{nat_tests}
 use Rattle.std.proofs.lemmas.Option.{slice_get_within}
@@ -8,23 +8,15 @@ use Rattle.d64_image.specs.Images.{Image, sector}
 use Rattle.d64_image.specs.declared.place.Place.{Place}
 use Rattle.disk_layout.proofs.Commit.{all-left}
 use Rattle.disk_layout.proofs.Layouts.{get-contains}
+use Rattle.disk_layout.proofs.Lists.{contains-get, filter-once, numbered-once}
 use Rattle.disk_layout.proofs.Once.{Contains-here, Contains-there, EachOnce-join}
-use Rattle.disk_layout.proofs.Recount.{filter-out, flat_map-out, slot-get, slot-there}
+use Rattle.disk_layout.proofs.Recount.{flat_map-out, slot-get, slot-there}
 use Rattle.disk_layout.specs.Chain.{EachOnce}
 use Rattle.disk_layout.specs.Directory.{IsDirectory, IsDirectoryPlace, directory_start, is_used, map_place, slot_in, slots_in, type_byte, used_slots}
 use Rattle.disk_layout.specs.Fault.{IsDirectorySector}
 use Rattle.disk_layout.specs.declared.slot.Slot.{Slot}
-use Rattle.layout_check.proofs.Assembly.{chain-visits, contains-get, numbered-once}
+use Rattle.layout_check.proofs.Assembly.{chain-visits}
 use Rattle.layout_check.specs.Entry.{IsEntry}
-
--- the part of a list without repeats that passes a test has none
-pub filter-once : {X : Type 0} (t : X → Bool) (xs : List X) → EachOnce xs → EachOnce (filter t xs)
-filter-once t [] once = tt
-filter-once {X} t (x ∷ xs) once = step (t x) (filter-once t xs once.1)
-  where
-    step : (b : Bool) → EachOnce (filter t xs) → EachOnce (cond b (x ∷ filter t xs) (filter t xs))
-    step true rest = (λ c. once.0 (filter-out t xs x c).0, rest)
-    step false rest = rest
 
 -- lists side by side, each element of which tells of which it is
 flat_map-once : {X Y : Type 0} (f : X → List Y) (key : Y → X) (xs : List X) → EachOnce xs → ((x : X) → EachOnce (f x)) → ((x : X) (y : Y) → Contains (f x) y → key y ≡ x) → EachOnce (flat_map f xs)

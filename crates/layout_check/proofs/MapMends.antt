@@ -5,21 +5,20 @@ use Rattle.std.specs.Result.{is_ok}
 use Rattle.std.proofs.lemmas.Bool.{false≢true}
 use Rattle.d64_image.proofs.Images.{sector-put_same}
 use Rattle.d64_image.proofs.Moments.{at_end, changes_then, changes_weaker, failed_later, reads_change}
-use Rattle.d64_image.specs.History.{Changes, History, OldOr, OnlyReads}
+use Rattle.d64_image.specs.History.{Changes, Failed, History, OldOr, OnlyReads, TellsFailure}
 use Rattle.d64_image.specs.Images.{Image, Sector, put, sector}
 use Rattle.d64_image.specs.declared.place.Place.{Place}
+use Rattle.d64_image.specs.Calls.{WritesSector}
 use Rattle.disk_layout.proofs.Agree.{IsLayout-put_map}
 use Rattle.disk_layout.specs.Directory.{map_place}
-use Rattle.disk_layout.specs.Fault.{TellsFault}
+use Rattle.disk_layout.specs.InOrder.{WritesOther}
 use Rattle.disk_layout.specs.Layout.{IsLayout, Layout}
 use Rattle.disk_layout.specs.declared.faults.Fault.{Fault}
 use Rattle.disk_layout.specs.declared.faults.Fault.TheVariants.{Device}
-use Rattle.layout_check.proofs.Mendings.{put-changed}
 use Rattle.layout_check.proofs.Verdict.{map-right, unmarked-of}
 use Rattle.layout_check.specs.Exact.{HasMap}
 use Rattle.layout_check.specs.Marked.{IsRightMap, IsWrongMap}
 use Rattle.layout_check.specs.Mended.{IsMended, KeepsLayouts, Mends, TellsDevice}
-use Rattle.layout_check.specs.Recounted.{WritesOther}
 use Rattle.layout_check.specs.Survey.{IsToldBy}
 use Rattle.layout_check.specs.declared.outcome.Survey.{Survey}
 
@@ -66,21 +65,21 @@ module _ {D : Type 0} (S : History D) where
       let one = first i l h in
       changes_then S a b c k m n (IsMended i l) le one (second i l (at_end S a b (IsMended i l) one.held))
 
-  pub device_later : (a b c : D) (f : Fault) → S.failures b ≡ S.failures a → TellsDevice S b c f → TellsDevice S a c f
-  device_later a b c f same (p, e, failed) = (p, e, failed_later S a b c same failed)
+  pub device_later : (T : Type 0) (a b c : D) (r : Result T Fault) → S.failures b ≡ S.failures a → TellsDevice S b c r → TellsDevice S a c r
+  device_later T a b c (Ok x) same tells = tells ∙ same
+  device_later T a b c (Err f) same (failed, told) = (failed_later S a b c same failed, told)
 
   -- a call that tells of the device alone
-  pub device_told : (T : Type 0) (a b : D) (p : Place) (f : Fault) → f ≡ Device p → TellsFault {T = T} S a b (Err f) → TellsDevice S a b f
-  device_told T a b p f is tells = (p, is, (let P : Fault → Type 0 = λ x. TellsFault {T = T} S a b (Err x) in subst P is tells))
+  pub device_told : (T : Type 0) (a b : D) (p : Place) (f : Fault) → f ≡ Device p → Failed S a b → S.failed_at b p → TellsDevice {T = T} S a b (Err f)
+  device_told T a b p f is failed there = (failed, (p, is, there))
 
-  pub if_device : (T : Type 0) (a b : D) (p : Place) (r : Result T Fault) → IfErr r (λ f. f ≡ Device p) → TellsFault S a b r → IfErr r (TellsDevice S a b)
-  if_device T a b p (Ok x) told tells = tt
-  if_device T a b p (Err f) told tells = device_told T a b p f told tells
+  pub if_device : (T : Type 0) (a b : D) (p : Place) (r : Result T Fault) → IfErr r (λ f. f ≡ Device p) → TellsFailure S a b r → OnErr r (S.failed_at b p) → TellsDevice S a b r
+  if_device T a b p (Ok x) told tells there = tells
+  if_device T a b p (Err f) told tells there = (tells, (p, told, there))
 
-  -- a write of other bytes than the sector had, which may have failed
-  pub other_written : (T : Type 0) (a b : D) (p : Place) (had bytes : Sector) (r : Result T Fault) → had ≡ sector (S.image a) p → had ≢ bytes → OnOk r (S.image b ≡ put (S.image a) p bytes) → OnOk r (S.writes b ≤ S.writes a + 1) → OnErr r (S.writes b ≡ S.writes a) → WritesOther S a b p
-  other_written T a b p had bytes (Ok x) read other is counted none = inr (put-changed (S.image a) (S.image b) p had bytes (S.whole a).size read other is, counted)
-  other_written T a b p had bytes (Err f) read other is counted none = inl none
+  -- as a write does
+  pub write_device : (T : Type 0) (a b : D) (p : Place) (bytes : Sector) (r : Result T Fault) → WritesSector S a b p bytes (Device p) r → TellsDevice S a b r
+  write_device T a b p bytes r w = if_device T a b p r w.told w.failures w.failed
 
   pub mends_weaker : (a b : D) (m n : ℕ) → m ≤ n → Mends S a b m → Mends S a b n
   mends_weaker a b m n le h i l is = changes_weaker S a b m n (IsMended i l) (IsMended i l) le (λ c x. x) (h i l is)

@@ -117,13 +117,6 @@ mended-side a l c f j p size h own rel few there = record {
     no_block : (g : File) (q : Place) → Contains m.files g → Contains g.blocks q → p ≢ q
     no_block g q of on e = block-no_side m.files (EachOnce-right m.directory (flat_map file_owns m.files) h.sound.once.1) q (flat_map-in (λ x. x.blocks) m.files g q of on) (rw (← e) there_all)
 
-pub put-same : (c : Image) (p : Place) (had wanted : List ℕ) → had ≡ sector c p → had ≡ wanted → c ≡ put c p wanted
-put-same c p had wanted read same = sym (put-sector c p) ∙ ap (put c p) (sym read ∙ same)
-
--- other bytes than those that were read were written
-pub put-changed : (c d : Image) (p : Place) (had wanted : List ℕ) → length c ≡ 683 → had ≡ sector c p → had ≢ wanted → d ≡ put c p wanted → sector d p ≢ sector c p
-put-changed c d p had wanted size read other done same = other (read ∙ sym same ∙ ap (λ (i : Image). sector i p) done ∙ sector-put_same c p wanted size)
-
 -- the eight entries, where only block counts differ
 pub record IsCounted (old new : List ℕ) : Type 0 where
   pub old_long : length old ≡ 256

@@ -1,12 +1,12 @@
 -- The bits of a track: how many are ones, and which are right.
 use Rattle.std.proofs.Common.{ℕ, Bool, IsTrue, true, false, inl, inr, ◌↔◌, ◌≡◌, ◌≢◌, ◌<◌, ◌≤◌, ◌+◌, min, Some, None, List, sym, ◌∙◌, ap, refl, arith, subst, ◌*◌, ◌/◌, ◌%◌, slice_index}
-use mathlib.Core.Bool.{beq}
+use mathlib.Core.Bool.{beq, not, ◌&&◌}
 use mir.Val.{bool_byte}
-use Rattle.std.specs.Prelude.{sum_by}
+use Rattle.std.specs.Prelude.{nat_eq, sum_by}
 use Rattle.std.proofs.Math.Decide.{dec_lt}
-use Rattle.std.proofs.lemmas.Bool.{cases_eq, false≢true}
+use Rattle.std.proofs.lemmas.Bool.{cases_eq, eqb-true, false≢true}
 use Rattle.std.proofs.lemmas.Nat.Bits.{bit_at-lt}
-use Rattle.d64_image.proofs.Places.{place_at-some, same_place}
+use Rattle.d64_image.proofs.Places.{place_at-some, same_place, sector_small}
 use Rattle.d64_image.specs.Geometry.{sectors_on}
 use Rattle.d64_image.specs.Places.{place_at}
 use Rattle.d64_image.specs.declared.place.Place.{Place}
@@ -29,6 +29,11 @@ ones-none bytes track = let e : min 0 (sectors_on track) ≡ 0 = omega arith in 
 pub ones-all : (bytes : List ℕ) (track n : ℕ) → 24 ≤ n → ones_to bytes track n ≡ ones_on bytes track
 unfolding ones_to
 ones-all bytes track n h = let e : min n (sectors_on track) ≡ sectors_on track = omega (arith, few_sectors track) in rw e refl
+
+-- with no further sector on the track all of it was counted
+pub ones-ended : (bytes : List ℕ) (track n : ℕ) → None ≡ place_at track n → ones_to bytes track n ≡ ones_on bytes track
+unfolding ones_to
+ones-ended bytes track n h = let e : min n (sectors_on track) ≡ sectors_on track = omega (arith, past-track track n h) in rw e refl
 
 pub ones-past : (bytes : List ℕ) (track n : ℕ) → None ≡ place_at track n → ones_to bytes track (n + 1) ≡ ones_to bytes track n
 unfolding ones_to
@@ -103,6 +108,28 @@ pub marked-all : (bytes : List ℕ) (t : Owners) (track n : ℕ) → 24 ≤ n �
 marked-all bytes t track n all so_far p on =
     let low : p.sector < sectors_on track = rw (← on) p.on_disk in
     so_far p on (omega (arith, few_sectors track))
+
+pub marked-ended : (bytes : List ℕ) (t : Owners) (track n : ℕ) → None ≡ place_at track n → ((p : Place) → p.track ≡ track → p.sector < n → IsMarked bytes t p) → (p : Place) → p.track ≡ track → IsMarked bytes t p
+marked-ended bytes t track n h so_far p on =
+    let past = past-track track n h in
+    let low : p.sector < sectors_on track = rw (← on) p.on_disk in
+    so_far p on (omega arith)
+
+-- the sector is one of 21
+pub there-low : (track n : ℕ) (p : Place) → Some p ≡ place_at track n → n < 21
+there-low track n p h = let both = place_at-some track n p (sym h) in omega (arith, both.1, sector_small p)
+
+-- right so far, and here
+pub right-here : (right free owned : Bool) → IsTrue (right && not (beq free owned)) → IsTrue right × (beq free owned ≡ false)
+right-here true true false h = (refl, refl)
+right-here true false true h = (refl, refl)
+right-here true true true h = absurd (false≢true h)
+right-here true false false h = absurd (false≢true h)
+right-here false free owned h = absurd (false≢true h)
+
+pub right-count : (right : Bool) (a b : ℕ) → IsTrue (right && nat_eq a b) → IsTrue right × (a ≡ b)
+right-count true a b h = (refl, eqb-true a b h)
+right-count false a b h = absurd (false≢true h)
 
 pub ones-same : (a b : List ℕ) (track n : ℕ) → ((s : ℕ) → s < n → map_bit a track s ≡ map_bit b track s) → ones_to a track n ≡ ones_to b track n
 unfolding ones_to

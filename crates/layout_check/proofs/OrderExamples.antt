@@ -1,5 +1,5 @@
--- What the words for a repair's order say: on the disk with the file STOCK, and of any call.
-use Rattle.std.proofs.Common.{ℕ, ◌≡◌, ◌≤◌, List, [], ◌∷◌, ◌++◌, length, sym, ap, refl, arith, subst}
+-- What the words for a repair's order and its faults say: on the disk with the file STOCK, and of any call.
+use Rattle.std.proofs.Common.{ℕ, ◌≡◌, ◌≤◌, List, [], ◌∷◌, ◌++◌, length, sym, ap, refl, arith, subst, Err}
 use Rattle.std.specs.Prelude.{Contains}
 use Rattle.d64_image.specs.History.{History}
 use Rattle.d64_image.specs.Images.{Image, Sector, sector}
@@ -8,8 +8,11 @@ use Rattle.disk_layout.proofs.ExampleDisk.{entry_bytes, exact_side, stock_file, 
 use Rattle.disk_layout.proofs.Examples.{block_1}
 use Rattle.disk_layout.proofs.Once.{Contains-here, Contains-nil}
 use Rattle.disk_layout.specs.Directory.{directory_start, map_place, slot_in}
+use Rattle.disk_layout.specs.InOrder.{IsUnderWay, WritesOnce}
 use Rattle.disk_layout.specs.Layout.{count_field}
-use Rattle.layout_check.specs.InOrder.{IsRight, IsUnderWay, WritesOnce, repair_order}
+use Rattle.disk_layout.specs.declared.faults.Fault.TheVariants.{Loop}
+use Rattle.layout_check.specs.Mended.{TellsDevice}
+use Rattle.layout_check.specs.RepairOrder.{IsRight, repair_order}
 
 -- 18/0, the side sector 17/1, the directory sector 18/1
 pub order-stock : (u n : ℕ) → repair_order (stock_layout u n) ≡ map_place ∷ block_1 ∷ directory_start ∷ []
@@ -45,3 +48,7 @@ module _ {D : Type 0} (S : History D) (a b : D) (h : WritesOnce S a b) where
       none : (ps : List Place) → h.written ≡ ps → S.writes b ≤ S.writes a
       none [] e = omega (arith, h.writes, ap (λ (xs : List Place). length xs) e)
       none (p ∷ ps) e = absurd (h.other p (let P : List Place → Type 0 = λ xs. Contains xs p in subst P (sym e) (Contains-here p ps)) (same p))
+
+-- what may be told of a sound disk is the device's, and no loop
+pub loop-not_of_device : {D : Type 0} (S : History D) (a b : D) (p : Place) → ¬ (TellsDevice {T = ℕ} S a b (Err (Loop p)))
+loop-not_of_device S a b p (failed, (q, e, there)) = cc

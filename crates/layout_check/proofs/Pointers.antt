@@ -1,11 +1,12 @@
 -- Lists of places in the bytes of side sectors.
-use Rattle.std.proofs.Common.{ℕ, zero, suc, ◌≡◌, ◌≢◌, Bool, true, false, ◌<◌, ◌≤◌, ◌+◌, ◌-◌, ◌*◌, List, [], ◌∷◌, length, get_or, take, drop, min, sym, ◌∙◌, ap, refl, arith, inl, inr, ◌⊎◌}
+use Rattle.std.proofs.Common.{ℕ, zero, suc, ◌≡◌, ◌≢◌, Bool, true, false, ◌<◌, ◌≤◌, ◌+◌, ◌-◌, ◌*◌, List, [], ◌∷◌, length, get_or, take, drop, min, sym, ◌∙◌, refl, arith, inl, inr, ◌⊎◌}
 use Rattle.std.specs.Prelude.{Some, nat_eq, slice_get, slice_range, ◌&&◌}
 use Rattle.std.proofs.lemmas.Bool.{and_cases, false≢true}
 use Rattle.std.proofs.lemmas.Bool.Decides.{Decides-eqb}
 use Rattle.std.proofs.lemmas.Option.{slice_get_read, slice_get_within}
 use Rattle.std.proofs.Math.Decide.{dec_lt}
 use Rattle.d64_image.specs.declared.place.Place.{Place}
+use Rattle.disk_layout.proofs.Lists.{get-drop, get-take}
 use Rattle.disk_layout.specs.Chain.{Names}
 use Rattle.layout_check.specs.Sides.{IsMisnamed, IsMispointed, NamesEach}
 
@@ -42,18 +43,6 @@ same-failed same x y t s h = elim (and_cases same (nat_eq x t && nat_eq y s) h) 
 ]
 
 -- part of a list
-get-drop : {X : Type 0} (xs : List X) (a k : ℕ) → slice_get (drop a xs) k ≡ slice_get xs (a + k)
-get-drop [] zero k = refl
-get-drop [] (suc a) k = refl
-get-drop (x ∷ xs) zero k = ap (slice_get (x ∷ xs)) (let e : k ≡ 0 + k = omega arith in e)
-get-drop (x ∷ xs) (suc a) k = get-drop xs a k ∙ ap (slice_get (x ∷ xs)) (let e : suc (a + k) ≡ suc a + k = omega arith in e)
-
-get-take : {X : Type 0} (xs : List X) (n k : ℕ) → k < n → slice_get (take n xs) k ≡ slice_get xs k
-get-take xs zero k h = absurd (omega arith)
-get-take [] (suc n) k h = refl
-get-take (x ∷ xs) (suc n) zero h = refl
-get-take (x ∷ xs) (suc n) (suc k) h = get-take xs n k (omega arith)
-
 take-short : {X : Type 0} (xs : List X) (n : ℕ) → length (take n xs) ≤ n
 take-short xs zero = omega arith
 take-short [] (suc n) = omega arith

@@ -6,11 +6,12 @@ use Rattle.std.proofs.lemmas.Bool.{false≢true}
 use Rattle.std.proofs.lemmas.Grind.{flat_map-append}
 use Rattle.std.proofs.lemmas.List.{length-take, take-append-drop, take_all, take_more}
 use Rattle.std.proofs.lemmas.List.Elements.{Contains-append_cases, Contains-append_left, Contains-append_right}
-use Rattle.d64_image.specs.History.{Failed, History, NeverFailed}
+use Rattle.d64_image.specs.History.{History, NeverFailed}
 use Rattle.d64_image.specs.Images.{Image}
 use Rattle.d64_image.specs.declared.place.Place.{Place}
 use Rattle.disk_layout.proofs.Count.{places-few}
 use Rattle.disk_layout.proofs.Layouts.{get-contains}
+use Rattle.disk_layout.proofs.Lists.{all-push}
 use Rattle.disk_layout.proofs.Once.{Contains-cases, Contains-nil, EachOnce-join, flat_map-in}
 use Rattle.disk_layout.proofs.Twice.{told-unsound}
 use Rattle.disk_layout.specs.Chain.{EachOnce}
@@ -23,7 +24,7 @@ use Rattle.layout_check.proofs.Calls.{holds_alone, passes_then, passes_weaker, t
 use Rattle.layout_check.proofs.Claims.{not_before}
 use Rattle.layout_check.proofs.Clashes.{clash-holds}
 use Rattle.layout_check.proofs.Finding.{contains_or_not}
-use Rattle.layout_check.proofs.Judged.{all-push, judged-at, judged-more}
+use Rattle.layout_check.proofs.Judged.{judged-at, judged-more}
 use Rattle.layout_check.proofs.Listed.{entries-once, entry-listed}
 use Rattle.layout_check.proofs.SideWalks.{get-push}
 use Rattle.layout_check.specs.Calls.{Passes, Tells}
@@ -199,7 +200,7 @@ module _ {D : Type 0} (S : History D) where
   far-tells a b c es n t kept s f h below read (inr clash) =
       let passes = passes_then S a b c _ 732 2114 (omega (arith, far-few a b es n t kept h)) h.passes clash.passes in
       let once = entries-once (S.image a) h.directory es h.listed in
-      let holds = clash-holds (Failed S a c) (S.image a) h.directory es h.files s clash.place h.listed h.surveyed.files
+      let holds = clash-holds (S.failed_at c) (S.image a) h.directory es h.files s clash.place h.listed h.surveyed.files
       (λ x there. let in_front : Contains (take n es) x.slot = rw (← h.slots) (slot-in h.files x there) in (before in_front, λ e. not_before es n s below read once (rw (← e) in_front)))
       ((h.surveyed.table.owned clash.place).0 clash.owned)
       (let P : Image → Type 0 = λ i. Owns i (blocks_of s) clash.place ⊎ Owns i (sides_of s) clash.place in subst P h.passes.reads.image clash.has) in
@@ -229,4 +230,4 @@ module _ {D : Type 0} (S : History D) where
 
   -- where the device doesn't fail, a fault is told exactly where the image isn't sound
   pub told-sound : (T : Type 0) (a b : D) (n : ℕ) (f : Fault) → Tells S a b n f → NeverFailed S a b → IsOk (told T f) ↔ IsSound (S.image a)
-  told-sound T a b n f tells never = (λ h. absurd (false≢true h), λ s. absurd (told-unsound (S.image a) f (holds_alone S a b f never tells.holds) s))
+  told-sound T a b n f tells never = (λ h. absurd (false≢true h), λ s. absurd (told-unsound (S.image a) f (holds_alone S ℕ a b f never tells.failures tells.holds) s))

@@ -6,11 +6,12 @@ use Rattle.d64_image.proofs.Moments.{at_end}
 use Rattle.d64_image.specs.History.{History, OnlyReads}
 use Rattle.d64_image.specs.Images.{Image, Sector, sector}
 use Rattle.d64_image.specs.declared.place.Place.{Place}
+use Rattle.disk_layout.proofs.Orders.{over_more, over_read, over_then}
 use Rattle.disk_layout.specs.Directory.{map_place}
+use Rattle.disk_layout.specs.InOrder.{AreMade, GoesOver, IsUnderWay}
 use Rattle.disk_layout.specs.Layout.{IsLayout, Layout}
-use Rattle.layout_check.proofs.Orders.{over_more, over_read, over_then}
 use Rattle.layout_check.proofs.Rights.{directory-not_map, order-once, side-not_map}
-use Rattle.layout_check.specs.InOrder.{AreMade, ClearsSpare, GoesOver, IsRight, IsUnderWay, repair_order, sides_of}
+use Rattle.layout_check.specs.RepairOrder.{ClearsSpare, IsRight, repair_order, sides_of}
 use Rattle.layout_check.specs.Made.{HasNoSpare}
 
 -- a sector that isn't gone over stays

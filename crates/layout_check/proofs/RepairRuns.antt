@@ -1,20 +1,18 @@
 -- A repair's run: the images held, the fault told, what is left at the end, and that a clean disk is not written.
 use Rattle.std.proofs.Common.{ℕ, ◌≡◌, ◌≤◌, Result, Ok, Err, OnOk, IfErr, sym, subst, arith}
 use Rattle.d64_image.proofs.Moments.{changes_then, changes_weaker, reads_change}
-use Rattle.d64_image.specs.History.{Changes, Failed, History, OnlyReads}
+use Rattle.d64_image.specs.History.{Changes, History, OnlyReads}
 use Rattle.d64_image.specs.Images.{Image}
 use Rattle.disk_layout.proofs.Layouts.{IsLayout-one}
 use Rattle.disk_layout.specs.Clean.{IsClean}
-use Rattle.disk_layout.specs.Fault.{TellsFault}
 use Rattle.disk_layout.specs.Layout.{IsLayout, Layout}
 use Rattle.disk_layout.specs.Same.{SameFiles}
-use Rattle.disk_layout.specs.declared.faults.Fault.{Fault}
-use Rattle.layout_check.proofs.MapMends.{device_later, mends_weaker}
+use Rattle.layout_check.proofs.MapMends.{mends_weaker}
 use Rattle.layout_check.proofs.Mendings.{mended-start, mended-then}
 use Rattle.layout_check.proofs.Repairs.{clean-after, clean-counts, clean-sides, survey-same}
 use Rattle.layout_check.specs.Exact.{HasMap}
-use Rattle.layout_check.specs.Mended.{AreExactFor, IsMended, KeepsLayouts, Mends, SameMap, TellsDevice}
-use Rattle.layout_check.specs.Recounted.{AreCounted, IsOfDevice, KeepsButCounts}
+use Rattle.layout_check.specs.Mended.{AreExactFor, IsMended, KeepsLayouts, Mends, SameMap}
+use Rattle.layout_check.specs.Recounted.{AreCounted, KeepsButCounts}
 use Rattle.layout_check.specs.Repaired.{IsRepaired, MendsFrom}
 use Rattle.layout_check.specs.Survey.{IsToldBy}
 use Rattle.layout_check.specs.declared.outcome.Survey.{Survey}
@@ -52,14 +50,6 @@ module _ {D : Type 0} (S : History D) where
   pub counts_mend : (a b : D) → Changes S a b 18 (KeepsButCounts (S.image a)) → Mends S a b 18
   counts_mend a b h i l is = changes_weaker S a b 18 18 (KeepsButCounts (S.image a)) (IsMended i l) (omega arith)
       (λ x keeps. let k = keeps is.layout is.sound in mended-then i l (S.image a) x k.layout is k.sound k.files) h
-
-  -- the fault of a call that comes after one without a failure
-  pub device_after : (a b c : D) (r : Result Unit Fault) → S.failures b ≡ S.failures a → IfErr r IsOfDevice → TellsFault S b c r → IfErr r (TellsDevice S a c)
-  device_after a b c (Ok x) same of tells = tt
-  device_after a b c (Err f) same (p, e) tells =
-      let P : Fault → Type 0 = λ x. TellsFault {T = Unit} S b c (Err x) in
-      let failed : Failed S b c = subst P e tells in
-      device_later S a b c f same (p, e, failed)
 
   -- reads before it, and the images held are mended from the first one all the same
   pub mends_after : (a b c : D) (k : ℕ) → OnlyReads S a b k → MendsFrom S b c 883 → MendsFrom S a c 883

@@ -1,13 +1,13 @@
 -- A repair put together: with the map, the side sectors and the block counts made right, the image is clean and has the same files.
-use Rattle.std.proofs.Common.{ℕ, Bool, ◌↔◌, ◌≡◌, ◌≢◌, ◌<◌, ◌+◌, ◌||◌, ◌++◌, List, [], ◌∷◌, Some, None, Option, length, map, drop, slice_index, sym, ◌∙◌, ap, ap₂, refl, subst, IsTrue, arith}
-use Rattle.std.specs.Prelude.{Contains, flat_map, nat_eq, option_map, slice_get, slice_range}
+use Rattle.std.proofs.Common.{ℕ, Bool, ◌↔◌, ◌≡◌, ◌≢◌, ◌<◌, ◌+◌, ◌||◌, ◌++◌, List, [], ◌∷◌, Some, length, map, drop, slice_index, sym, ◌∙◌, ap, ap₂, refl, subst, IsTrue, arith}
+use Rattle.std.specs.Prelude.{Contains, flat_map, nat_eq, slice_get, slice_range}
 use Rattle.std.specs.List.{AllByRecursion}
 use Rattle.std.proofs.lemmas.List.{get_or-drop, get_or-take, length-map}
-use Rattle.std.proofs.lemmas.Option.{slice_get-map}
 use Rattle.std.proofs.lemmas.List.Elements.{Contains-append_right}
 use Rattle.d64_image.specs.Images.{Image, sector}
 use Rattle.d64_image.specs.declared.place.Place.{Place}
 use Rattle.disk_layout.proofs.Layouts.{IsLayout-one, get-contains}
+use Rattle.disk_layout.proofs.Lists.{alike, contains-get}
 use Rattle.disk_layout.proofs.Once.{EachOnce-apart, all-in, flat_map-in}
 use Rattle.disk_layout.specs.Chain.{EachOnce}
 use Rattle.disk_layout.specs.Clean.{IsClean, IsCleanLayout, IsExactFile}
@@ -17,7 +17,6 @@ use Rattle.disk_layout.specs.Map.{IsMapOf}
 use Rattle.disk_layout.specs.Same.{SameFiles, Stays, stays_of}
 use Rattle.disk_layout.specs.Side.{side_sector}
 use Rattle.disk_layout.specs.declared.slot.Slot.{Slot}
-use Rattle.layout_check.proofs.Assembly.{contains-get}
 use Rattle.layout_check.proofs.Verdict.{all-of}
 use Rattle.layout_check.specs.Exact.{HasMap}
 use Rattle.layout_check.specs.Owners.{owner_of}
@@ -25,16 +24,6 @@ use Rattle.layout_check.specs.Mended.{AreExactFor, KeepsLayouts, SameMap}
 use Rattle.layout_check.specs.Recounted.{AreCounted, IsSameButCounts}
 use Rattle.layout_check.specs.Survey.{IsSurveyOf}
 use Rattle.layout_check.specs.declared.outcome.Survey.{Survey}
-
--- what an option was made from
-made-from : {X Y : Type 0} (g : X → Y) (o : Option X) (z : Y) → option_map g o ≡ Some z → (x : X) × (o ≡ Some x) × (g x ≡ z)
-made-from g None z e = cc
-made-from g (Some x) z e = (x, refl, cc)
-
--- an element of the one list has its like in the other, at the same place
-alike : {X Y : Type 0} (f g : X → Y) (xs ys : List X) (k : ℕ) (x : X) → map f xs ≡ map g ys → slice_get xs k ≡ Some x → (y : X) × (slice_get ys k ≡ Some y) × (g y ≡ f x)
-alike f g xs ys k x e there =
-    made-from g (slice_get ys k) (f x) (sym (slice_get-map g ys k) ∙ ap (λ (zs : List _). slice_get zs k) (sym e) ∙ slice_get-map f xs k ∙ ap (option_map f) there)
 
 -- a byte of an entry that stays
 entry-byte : (xs : List ℕ) (i : ℕ) → i < 28 → slice_index (slice_range xs 2 30) i ≡ slice_index xs (2 + i)

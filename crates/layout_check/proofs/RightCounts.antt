@@ -1,5 +1,5 @@
 -- Directory sectors whose block counts alone differ: the image keeps its files, and its counts are those written.
-use Rattle.std.proofs.Common.{ℕ, ◌≡◌, ◌<◌, ◌+◌, ◌*◌, ◌%◌, ◌/◌, List, [], ◌∷◌, ◌++◌, length, map, take, drop, sym, ◌∙◌, ap, refl, arith, subst, inl, inr, slice_index}
+use Rattle.std.proofs.Common.{ℕ, ◌≡◌, ◌<◌, ◌+◌, ◌*◌, ◌%◌, ◌/◌, List, [], ◌++◌, length, take, drop, sym, ◌∙◌, ap, refl, arith, subst, inl, inr, slice_index}
 use Rattle.std.specs.Prelude.{Contains, IsTrue, flat_map, nat_eq, ◌||◌}
 use Rattle.d64_image.proofs.Images.{is_sector, sector-put_other, sector-put_same}
 use Rattle.d64_image.proofs.Places.{same_or_other}
@@ -8,7 +8,8 @@ use Rattle.d64_image.specs.declared.place.Place.{Place}
 use Rattle.disk_layout.proofs.Chains.{SameLinks}
 use Rattle.disk_layout.proofs.Counts.{uncounted-face}
 use Rattle.disk_layout.proofs.Layouts.{IsLayout-one, KeepsFiles, block-owned, side-owned}
-use Rattle.disk_layout.proofs.Once.{Contains-cases, Contains-here, Contains-nil, Contains-there, EachOnce-apart, map-in}
+use Rattle.disk_layout.proofs.Lists.{in-map}
+use Rattle.disk_layout.proofs.Once.{Contains-cases, Contains-here, Contains-nil, EachOnce-apart, map-in}
 use Rattle.disk_layout.proofs.Recount.{slot-there}
 use Rattle.disk_layout.proofs.Recounts.{IsLayout-reread, KeepsEntries, keeps-put_counts, reread, reread_layout, reslot, slot-of, slot-same, stays-reread}
 use Rattle.disk_layout.specs.Directory.{map_place, slot_in}
@@ -16,13 +17,6 @@ use Rattle.disk_layout.specs.Entries.{IsRecountedAll, uncounted}
 use Rattle.disk_layout.specs.Layout.{File, IsLayout, Layout, count_field, file_owns, is_rel, owners}
 use Rattle.disk_layout.specs.Same.{IsCountByte, SameFiles}
 use Rattle.layout_check.specs.Recounted.{AreCounted, AreRightIn, IsCountedAs, IsSameButCounts, IsRecountAt, IsRecountOf, IsRightAt, owned_count}
-
-in-map : {X Y : Type 0} (f : X → Y) (xs : List X) (x : X) → Contains xs x → Contains (map f xs) (f x)
-in-map f [] x c = absurd (Contains-nil x c)
-in-map f (y ∷ xs) x c = elim (Contains-cases x y xs c) [
-  | inl e ↦ rw (← e) (Contains-here (f y) (map f xs))
-  | inr d ↦ Contains-there (f x) (f y) (map f xs) (in-map f xs x d)
-]
 
 -- the first thirty bytes of a slot are no count bytes
 slot-byte : (n i : ℕ) → i < 30 → (32 * n + i) % 32 ≡ i

@@ -5,14 +5,15 @@ use Rattle.d64_image.specs.Images.{Image, Sector, sector}
 use Rattle.d64_image.specs.declared.place.Place.{Place}
 use Rattle.disk_layout.proofs.Layouts.{IsLayout-one, get-contains}
 use Rattle.disk_layout.proofs.Once.{Contains-cases, Contains-nil, flat_map-in}
+use Rattle.disk_layout.proofs.Orders.{made_one}
 use Rattle.disk_layout.proofs.Recount.{slot-there}
 use Rattle.disk_layout.proofs.Recounts.{slot-of}
 use Rattle.disk_layout.specs.Directory.{slot_in}
+use Rattle.disk_layout.specs.InOrder.{AreMade}
 use Rattle.disk_layout.specs.Layout.{IsLayout, Layout, count_field}
-use Rattle.layout_check.proofs.Orders.{made_one}
 use Rattle.layout_check.proofs.RightCounts.{right-after, right-before}
 use Rattle.layout_check.proofs.Rights.{directory-not_map, side-not_directory}
-use Rattle.layout_check.specs.InOrder.{AreMade, IsRight}
+use Rattle.layout_check.specs.RepairOrder.{IsRight}
 use Rattle.layout_check.specs.Recounted.{AreRightIn, IsMendedAt, IsRecountOf, OldOrMended, owned_count}
 
 module _ (a : Image) (l : Layout) (is : IsLayout a l) (p : Place) (bytes : Sector) where

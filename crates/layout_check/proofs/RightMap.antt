@@ -9,19 +9,19 @@ use Rattle.d64_image.specs.declared.place.Place.{Place}
 use Rattle.disk_layout.proofs.Agree.{IsLayout-put_map}
 use Rattle.disk_layout.proofs.Layouts.{IsLayout-one, get-contains}
 use Rattle.disk_layout.proofs.Once.{Contains-nil, flat_map-in}
+use Rattle.disk_layout.proofs.Orders.{made_one, made_put, over_one, over_read}
 use Rattle.disk_layout.proofs.Recount.{slot-there}
 use Rattle.disk_layout.proofs.Recounts.{slot-of}
 use Rattle.disk_layout.specs.Directory.{map_place}
+use Rattle.disk_layout.specs.InOrder.{AreMade, GoesOver, WritesOther}
 use Rattle.disk_layout.specs.Layout.{IsLayout, Layout, owners}
 use Rattle.disk_layout.specs.Map.{IsMapOf}
 use Rattle.disk_layout.specs.declared.faults.Fault.{Fault}
 use Rattle.layout_check.proofs.MapMends.{map-put, right-map}
-use Rattle.layout_check.proofs.Orders.{made_one, made_put, over_one, over_read}
 use Rattle.layout_check.proofs.Rights.{directory-not_map, side-not_map}
 use Rattle.layout_check.specs.Exact.{HasMap}
-use Rattle.layout_check.specs.InOrder.{AreMade, GoesOver, IsRight}
+use Rattle.layout_check.specs.RepairOrder.{IsRight}
 use Rattle.layout_check.specs.Marked.{IsRightMap, IsWrongMap}
-use Rattle.layout_check.specs.Recounted.{WritesOther}
 use Rattle.layout_check.specs.Survey.{IsToldBy}
 use Rattle.layout_check.specs.declared.outcome.Survey.{Survey}
 

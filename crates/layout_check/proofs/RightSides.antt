@@ -9,25 +9,25 @@ use Rattle.d64_image.specs.History.{Changes, History, OldOr, OnlyReads}
 use Rattle.d64_image.specs.Images.{Image, Sector, put, sector}
 use Rattle.d64_image.specs.declared.place.Place.{Place}
 use Rattle.disk_layout.proofs.Layouts.{IsDirectory-one, get-contains}
+use Rattle.disk_layout.proofs.Lists.{contains-get, take-get}
 use Rattle.disk_layout.proofs.Once.{Contains-nil, EachOnce-left, EachOnce-right, all-in, flat_map-in}
+use Rattle.disk_layout.proofs.Orders.{made_put, made_then, once-next, over_more, over_read, over_then, over_write}
 use Rattle.disk_layout.proofs.Recount.{slot-there}
 use Rattle.disk_layout.proofs.Recounts.{slot-of}
 use Rattle.disk_layout.proofs.Twice.{get-one}
 use Rattle.disk_layout.specs.Chain.{EachOnce}
 use Rattle.disk_layout.specs.Directory.{IsDirectory}
+use Rattle.disk_layout.specs.InOrder.{AreMade, GoesOver, WritesOther}
 use Rattle.disk_layout.specs.Layout.{File, IsFile, IsLayout, Layout, is_rel, record_length}
 use Rattle.disk_layout.specs.Side.{side_sector}
 use Rattle.disk_layout.specs.declared.slot.Slot.{Slot}
-use Rattle.layout_check.proofs.Assembly.{contains-get}
 use Rattle.layout_check.proofs.Inexact.{parts-of}
-use Rattle.layout_check.proofs.Orders.{made_put, made_then, once-next, over_more, over_read, over_then, over_write, take-get}
 use Rattle.layout_check.proofs.Pointers.{read-there}
 use Rattle.layout_check.proofs.Rights.{files-once, side-not_directory, side-not_map, sides-once}
 use Rattle.layout_check.proofs.SideMends.{file-once, file-sector, files-apart, parts-in}
 use Rattle.layout_check.specs.Exact.{AreExactSides}
-use Rattle.layout_check.specs.InOrder.{AreMade, GoesOver, IsRight, sides_of}
+use Rattle.layout_check.specs.RepairOrder.{IsRight, sides_of}
 use Rattle.layout_check.specs.Mended.{IsPartsOf}
-use Rattle.layout_check.specs.Recounted.{WritesOther}
 use Rattle.layout_check.specs.Sides.{HasParts}
 
 module _ (img : Image) (l : Layout) (is : IsLayout img l) where

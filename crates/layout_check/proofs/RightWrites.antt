@@ -1,47 +1,31 @@
 -- Directory sectors written one after another: what the device held meanwhile, and what is right then.
-use Rattle.std.proofs.Common.{ℕ, ◌≡◌, ◌<◌, ◌≤◌, ◌+◌, List, Result, Ok, Err, [], ◌∷◌, ◌++◌, length, take, get_or, ⊎_elim, sym, ◌∙◌, ap, refl, arith, subst, inl, inr}
-use Rattle.std.specs.Prelude.{Contains, IfErr, OnOk, Some, slice_get}
+use Rattle.std.proofs.Common.{ℕ, ◌≡◌, ◌<◌, ◌≤◌, ◌+◌, List, [], ◌∷◌, ◌++◌, length, take, get_or, ⊎_elim, sym, ◌∙◌, ap, refl, arith, subst, inl, inr}
+use Rattle.std.specs.Prelude.{Contains, Some, slice_get}
 use Rattle.std.specs.List.{AllByRecursion}
 use Rattle.std.proofs.lemmas.List.{take_all}
 use Rattle.d64_image.proofs.Images.{sector-put_same}
-use Rattle.d64_image.proofs.Moments.{at_end, changes_then, changes_weaker, failed_later, reads_change, reads_then, weaker}
-use Rattle.d64_image.specs.History.{Changes, History, OldOr, OnlyReads}
+use Rattle.d64_image.proofs.Moments.{at_end, changes_then, changes_weaker, no_write_then, reads_change, weaker}
+use Rattle.d64_image.specs.History.{Changes, History, OldOr, OnlyReads, WritesNothing}
 use Rattle.d64_image.specs.Images.{Image, IsImage, Sector, put, sector}
 use Rattle.d64_image.specs.declared.place.Place.{Place}
 use Rattle.disk_layout.proofs.Directories.{directory-few}
 use Rattle.disk_layout.proofs.Layouts.{IsLayout-one, get-contains}
+use Rattle.disk_layout.proofs.Lists.{take-get}
 use Rattle.disk_layout.proofs.Once.{Contains-here, Contains-there}
-use Rattle.disk_layout.proofs.Twice.{told-unsound}
+use Rattle.disk_layout.proofs.Orders.{made_none, made_then, once-next, over_first, over_none, over_one, over_then}
 use Rattle.disk_layout.specs.Chain.{EachOnce}
 use Rattle.disk_layout.specs.Directory.{IsDirectory, IsDirectoryPlace, map_place}
-use Rattle.disk_layout.specs.Fault.{Holds, TellsFault}
+use Rattle.disk_layout.specs.InOrder.{AreMade, GoesOver, WritesOther}
 use Rattle.disk_layout.specs.Layout.{IsLayout, IsSound, Layout}
-use Rattle.disk_layout.specs.declared.faults.Fault.{Fault}
-use Rattle.disk_layout.specs.declared.faults.Fault.TheVariants.{BadLength, BadLink, BadSide, BadType, CountWrong, Device, Loop, MapWrong, OwnedTwice, Unclosed}
 use Rattle.disk_layout.specs.declared.slot.Slot.{Slot}
 use Rattle.disk_layout.proofs.Recounts.{reread_layout}
-use Rattle.layout_check.proofs.Orders.{made_none, made_then, once-next, over_first, over_none, over_one, over_then, take-get}
 use Rattle.layout_check.proofs.Pointers.{read-there}
 use Rattle.layout_check.proofs.RightCounts.{all-counted, reread-layout, recount-mended, recount-none, recount-put, recount-then}
 use Rattle.layout_check.proofs.RightDirectory.{mended-made, right-counts, sector-made}
 use Rattle.layout_check.proofs.RightSlots.{counted-right}
 use Rattle.layout_check.proofs.Rights.{directory-once}
-use Rattle.layout_check.specs.InOrder.{AreMade, GoesOver, IsRight}
-use Rattle.layout_check.specs.Mended.{TellsDevice}
-use Rattle.layout_check.specs.Recounted.{AreCounted, AreRightIn, IsCountedAs, IsInDirectory, IsMendedAt, IsOfDevice, IsRecountOf, KeepsButCounts, OldOrMended, WritesOther}
-
--- on a sound image no fault holds but the device's
-pub device-told : (failed : Type 0) (img : Image) (f : Fault) → IsSound img → Holds failed img f → IsOfDevice f
-device-told failed img (Device p) sound h = (p, refl)
-device-told failed img (BadLink p) sound h = absurd (told-unsound img (BadLink p) h sound)
-device-told failed img (Loop p) sound h = absurd (told-unsound img (Loop p) h sound)
-device-told failed img (OwnedTwice p) sound h = absurd (told-unsound img (OwnedTwice p) h sound)
-device-told failed img (BadType p) sound h = absurd (told-unsound img (BadType p) h sound)
-device-told failed img (Unclosed p) sound h = absurd (told-unsound img (Unclosed p) h sound)
-device-told failed img (BadSide p) sound h = absurd (told-unsound img (BadSide p) h sound)
-device-told failed img (BadLength p) sound h = absurd (told-unsound img (BadLength p) h sound)
-device-told failed img (CountWrong p) sound h = absurd (told-unsound img (CountWrong p) h sound)
-device-told failed img (MapWrong p) sound h = absurd (told-unsound img (MapWrong p) h sound)
+use Rattle.layout_check.specs.RepairOrder.{IsRight}
+use Rattle.layout_check.specs.Recounted.{AreCounted, AreRightIn, IsCountedAs, IsInDirectory, IsMendedAt, IsRecountOf, KeepsButCounts, OldOrMended}
 
 -- a directory has eighteen sectors at most
 places-on : (ps : List Place) → AllByRecursion (λ p. p.track ≡ 18) ps → ¬ (Contains ps map_place) → AllByRecursion IsDirectoryPlace ps
@@ -108,13 +92,6 @@ module _ {D : Type 0} (S : History D) where
   other_later a b c n p r (inl none) = inl (none ∙ r.writes)
   other_later a b c n p r (inr (changed, one)) = inr ((λ e. changed (e ∙ ap (λ i. sector i p) (sym r.image))), omega (arith, one, r.writes))
 
-  -- a device's failure, told after reads that met none
-  pub fault_later : (a b c : D) (r : Result Unit Fault) → S.failures b ≡ S.failures a → OnOk r (S.failures c ≡ S.failures b) → IfErr r (TellsDevice S b c) → TellsFault S a c r
-  fault_later a b c (Ok x) same ok err = ok ∙ same
-  fault_later a b c (Err f) same ok (p, is, failed) =
-      let P : Fault → Type 0 = λ x. TellsFault {T = Unit} S a c (Err x) in
-      subst P (sym is) (failed_later S a b c same failed)
-
   pub right_written : (a b : D) (c : Image) (p : Place) (bytes : Sector) → S.image b ≡ S.image a → c ≡ put (S.image b) p bytes → AreRightIn (S.image b) p bytes → AreRightIn (S.image a) p (sector c p)
   right_written a b c p bytes same e right =
       let there : sector c p ≡ bytes = ap (λ i. sector i p) e ∙ sector-put_same (S.image b) p bytes (S.whole b).size in
@@ -150,11 +127,11 @@ module _ {D : Type 0} (S : History D) where
   pub first_moments : (a b : D) (ps : List Place) (n : ℕ) → OnlyReads S a b n → Changes S a b 0 (λ i. IsRecountOf (S.image a) i ps)
   first_moments a b ps n r = reads_change S a b n (λ i. IsRecountOf (S.image a) i ps) r (recount-none (S.image a) ps (S.whole a))
 
-  pub step_silent : (a b c : D) (p : Place) (k n : ℕ) → k + 5857 ≤ n → (AreCounted (S.image a) → OnlyReads S a b k) → (AreRightIn (S.image b) p (sector (S.image b) p) → OnlyReads S b c 5857) → AreCounted (S.image a) → OnlyReads S a c n
-  step_silent a b c p k n le old now all =
-      let r = old all in
+  pub step_quiet : (a b c : D) (p : Place) → (AreCounted (S.image a) → WritesNothing S a b) → (AreRightIn (S.image b) p (sector (S.image b) p) → WritesNothing S b c) → AreCounted (S.image a) → WritesNothing S a c
+  step_quiet a b c p old now all =
+      let w = old all in
       let P : Image → Type 0 = λ i. AreRightIn i p (sector i p) in
-      reads_then S a b c k 5857 n le r (now (subst P (sym r.image) (counted-right (S.image a) p all)))
+      no_write_then S a b c w (now (subst P (sym w.image) (counted-right (S.image a) p all)))
 
   -- the order: the first k sectors of the directory were gone over, and then one more
   module _ (a : D) (l : Layout) (is : IsLayout (S.image a) l) (ps : List Place) (same : ps ≡ l.directory) where

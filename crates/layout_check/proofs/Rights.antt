@@ -8,7 +8,7 @@ use Rattle.disk_layout.proofs.Once.{EachOnce-apart, EachOnce-join, EachOnce-left
 use Rattle.disk_layout.specs.Chain.{EachOnce}
 use Rattle.disk_layout.specs.Directory.{map_place}
 use Rattle.disk_layout.specs.Layout.{File, IsLayout, Layout, file_owns, owners}
-use Rattle.layout_check.specs.InOrder.{repair_order, sides_of}
+use Rattle.layout_check.specs.RepairOrder.{repair_order, sides_of}
 
 -- a side sector is owned
 pub sides-owned : (fs : List File) (p : Place) → Contains (sides_of fs) p → Contains (flat_map file_owns fs) p

@@ -1,5 +1,5 @@
 -- Side sectors rewritten one by one.
-use Rattle.std.proofs.Common.{ℕ, ◌≡◌, ◌≢◌, ◌<◌, ◌≤◌, ◌+◌, List, [], ◌∷◌, length, sym, ◌∙◌, ap, refl, arith, subst, inl, inr, IsTrue}
+use Rattle.std.proofs.Common.{Err, ℕ, ◌≡◌, ◌≢◌, ◌<◌, ◌≤◌, ◌+◌, List, [], ◌∷◌, length, sym, ◌∙◌, ap, refl, arith, subst, inl, inr, IsTrue}
 use Rattle.std.specs.Prelude.{Contains, Some, flat_map, slice_get}
 use Rattle.std.proofs.lemmas.Bool.{cases_eq}
 use Rattle.std.proofs.lemmas.List.Elements.{Contains-append_right}
@@ -145,17 +145,17 @@ module _ {D : Type 0} (S : History D) where
   side_right a b r s bs ss n p had wanted here exact same read is = read ∙ ap (λ (i : Image). sector i p) same ∙ exact n p here ∙ sym is
 
 -- on a sound image nothing but a failure of the device is told
-pub sound-device : {D : Type 0} (S : History D) (a b : D) (n : ℕ) (f : Fault) → IsSound (S.image a) → Tells S a b n f → TellsDevice S a b f
-sound-device S a b n (Device p) sound h = (p, refl, h.failures)
-sound-device S a b n (BadLink p) sound h = absurd (told-unsound (S.image a) (BadLink p) h.holds sound)
-sound-device S a b n (Loop p) sound h = absurd (told-unsound (S.image a) (Loop p) h.holds sound)
-sound-device S a b n (OwnedTwice p) sound h = absurd (told-unsound (S.image a) (OwnedTwice p) h.holds sound)
-sound-device S a b n (BadType p) sound h = absurd (told-unsound (S.image a) (BadType p) h.holds sound)
-sound-device S a b n (Unclosed p) sound h = absurd (told-unsound (S.image a) (Unclosed p) h.holds sound)
-sound-device S a b n (BadSide p) sound h = absurd (told-unsound (S.image a) (BadSide p) h.holds sound)
-sound-device S a b n (BadLength p) sound h = absurd (told-unsound (S.image a) (BadLength p) h.holds sound)
-sound-device S a b n (CountWrong p) sound h = absurd h.holds
-sound-device S a b n (MapWrong p) sound h = absurd h.holds
+pub sound-device : {D : Type 0} (S : History D) (T : Type 0) (a b : D) (n : ℕ) (f : Fault) → IsSound (S.image a) → Tells S a b n f → TellsDevice {T = T} S a b (Err f)
+sound-device S T a b n (Device p) sound h = (h.failures, (p, refl, h.holds))
+sound-device S T a b n (BadLink p) sound h = absurd (told-unsound (S.image a) (BadLink p) h.holds sound)
+sound-device S T a b n (Loop p) sound h = absurd (told-unsound (S.image a) (Loop p) h.holds sound)
+sound-device S T a b n (OwnedTwice p) sound h = absurd (told-unsound (S.image a) (OwnedTwice p) h.holds sound)
+sound-device S T a b n (BadType p) sound h = absurd (told-unsound (S.image a) (BadType p) h.holds sound)
+sound-device S T a b n (Unclosed p) sound h = absurd (told-unsound (S.image a) (Unclosed p) h.holds sound)
+sound-device S T a b n (BadSide p) sound h = absurd (told-unsound (S.image a) (BadSide p) h.holds sound)
+sound-device S T a b n (BadLength p) sound h = absurd (told-unsound (S.image a) (BadLength p) h.holds sound)
+sound-device S T a b n (CountWrong p) sound h = absurd h.holds
+sound-device S T a b n (MapWrong p) sound h = absurd h.holds
 
 -- the parts that were found
 pub parts-here : (img : Image) (s : Slot) (blocks sides : List Place) → IsFiled img s → IsTrue (is_rel s) → HasParts img s blocks sides → IsPartsOf img s blocks sides

@@ -1,15 +1,14 @@
 -- The side sectors to which links lead, one after another.
-use Rattle.std.proofs.Common.{ℕ, zero, suc, ◌≡◌, ◌<◌, ◌≤◌, ◌+◌, ◌*◌, ◌/◌, ◌%◌, ◌⊎◌, min, List, [], ◌∷◌, ◌++◌, Option, length, length-append, sym, ◌∙◌, ap, refl, arith, subst, inl, inr, get_or}
-use Rattle.std.specs.Prelude.{MatchOption, Some, slice_get}
+use Rattle.std.proofs.Common.{ℕ, zero, suc, ◌≡◌, ◌<◌, ◌≤◌, ◌+◌, ◌*◌, ◌/◌, ◌%◌, ◌⊎◌, min, List, [], ◌∷◌, ◌++◌, length, length-append, sym, ◌∙◌, ap, refl, arith, subst, inl, inr, get_or}
+use Rattle.std.specs.Prelude.{Some, slice_get}
 use Rattle.std.proofs.lemmas.Option.{slice_get_within}
 use Rattle.d64_image.specs.Images.{Image, sector}
 use Rattle.d64_image.specs.declared.place.Place.{Place}
-use Rattle.disk_layout.specs.Chain.{Leads, LinksTo, Names, NamesNone, named_at}
+use Rattle.disk_layout.specs.Chain.{Leads, LinksTo, Names, NamesNone}
 use Rattle.disk_layout.specs.Fault.{Holds, IsBadSide, IsSideSector, length_byte, link, listed, number, pointer}
 use Rattle.disk_layout.specs.Layout.{sides_for}
 use Rattle.disk_layout.specs.declared.faults.Fault.TheVariants.{BadSide}
 use Rattle.disk_layout.specs.declared.slot.Slot.{Slot}
-use Rattle.layout_check.proofs.Entries.{named}
 use Rattle.layout_check.proofs.Pointers.{read-there}
 use Rattle.layout_check.specs.Sides.{IsJudged, IsMisjudged, IsMisnamed, IsRelEntry, IsWalkOfSides, NamesEach}
 
@@ -41,7 +40,7 @@ some-blocks img s blocks e =
     let chain = e.chain.2 in
     omega (arith, ap length chain.places, length-append chain.front (chain.last ∷ []))
 
-pub no_first_side : (failed : Type 0) (img : Image) (s : Slot) (blocks : List Place) → IsRelEntry img s blocks → NamesNone s.bytes 21 → Holds failed img (BadSide s.sector)
+pub no_first_side : (failed : Place → Type 0) (img : Image) (s : Slot) (blocks : List Place) → IsRelEntry img s blocks → NamesNone s.bytes 21 → Holds failed img (BadSide s.sector)
 no_first_side failed img s blocks e none = inl (s, e.closed, e.rel, none)
 
 -- where the links lead is a side sector of the entry
@@ -70,15 +69,11 @@ misjudged-bad img s blocks j p bytes e h = here (let P : List ℕ → Type 0 = �
 pub unlinked-bad : (img : Image) (s : Slot) (blocks : List Place) (j : ℕ) (p : Place) (bytes : List ℕ) → bytes ≡ sector img p → j + 1 < sides_for (length blocks) → NamesNone bytes 0 → IsBadSide img s blocks j p
 unlinked-bad img s blocks j p bytes e more none = link more (let P : List ℕ → Type 0 = λ b. NamesNone b 0 in subst P e none)
 
-pub bad-holds : (failed : Type 0) (img : Image) (s : Slot) (blocks : List Place) (j : ℕ) (p : Place) → IsRelEntry img s blocks → IsSideSector img s blocks j p → IsBadSide img s blocks j p → Holds failed img (BadSide p)
+pub bad-holds : (failed : Place → Type 0) (img : Image) (s : Slot) (blocks : List Place) (j : ℕ) (p : Place) → IsRelEntry img s blocks → IsSideSector img s blocks j p → IsBadSide img s blocks j p → Holds failed img (BadSide p)
 bad-holds failed img s blocks j p e side bad = inr (s.sector, s, e.closed, e.rel, blocks, j, side, bad)
 
 pub judged-at : (img : Image) (s : Slot) (blocks : List Place) (j : ℕ) (p : Place) (bytes : List ℕ) → bytes ≡ sector img p → IsJudged bytes s blocks j → IsJudged (sector img p) s blocks j
 judged-at img s blocks j p bytes e h = let P : List ℕ → Type 0 = λ b. IsJudged b s blocks j in subst P e h
-
--- the next side sector that a view of these bytes gives
-pub next-named : (bytes viewed : List ℕ) (next : Option Place) → viewed ≡ bytes → next ≡ named_at viewed 0 → MatchOption next (NamesNone bytes 0) (λ p. Names bytes 0 p)
-next-named bytes viewed next same e = rw (e, same) (named _ _)
 
 pub linked-at : (img : Image) (p q : Place) (bytes : List ℕ) → bytes ≡ sector img p → Names bytes 0 q → LinksTo img p q
 linked-at img p q bytes e h = let P : List ℕ → Type 0 = λ b. Names b 0 q in subst P e h
@@ -112,7 +107,7 @@ walk-side img s blocks sides j p e w h =
     side-reached img s blocks vs w.first p j e w.named leads long (omega (arith, slice_get_within sides j p h, w.count))
 
 -- a side sector that doesn't list one of them
-pub unlisted-holds : (failed : Type 0) (img : Image) (s : Slot) (blocks sides : List Place) (j : ℕ) (p : Place) (bytes : List ℕ) → IsRelEntry img s blocks → IsWalkOfSides img s blocks sides → slice_get sides j ≡ Some p → bytes ≡ sector img p → IsMisnamed bytes 4 sides → Holds failed img (BadSide p)
+pub unlisted-holds : (failed : Place → Type 0) (img : Image) (s : Slot) (blocks sides : List Place) (j : ℕ) (p : Place) (bytes : List ℕ) → IsRelEntry img s blocks → IsWalkOfSides img s blocks sides → slice_get sides j ≡ Some p → bytes ≡ sector img p → IsMisnamed bytes 4 sides → Holds failed img (BadSide p)
 unlisted-holds failed img s blocks sides j p bytes e w there same wrong =
     bad-holds failed img s blocks j p e (walk-side img s blocks sides j p e w there)
     (listed wrong.k wrong.q (walk-side img s blocks sides wrong.k wrong.q e w wrong.there) (λ h. wrong.other (let P : List ℕ → Type 0 = λ b. Names b (4 + 2 * wrong.k) wrong.q in subst P (sym same) h)))

@@ -3,7 +3,7 @@ use Rattle.std.proofs.Common.{ℕ, ◌≡◌, ◌≢◌, ◌<◌, ◌≤◌, ◌
 use Rattle.std.specs.Prelude.{Contains, None, Option}
 use Rattle.std.specs.List.{AllByRecursion}
 use Rattle.std.proofs.lemmas.Bool.{cases_eq, false≢true}
-use Rattle.d64_image.specs.History.{Failed, History, NeverFailed}
+use Rattle.d64_image.specs.History.{History, NeverFailed}
 use Rattle.d64_image.specs.Images.{Image, sector}
 use Rattle.d64_image.specs.declared.place.Place.{Place}
 use Rattle.d64_image.proofs.Places.{track_fits, track_from_1}
@@ -70,7 +70,7 @@ map-right img s bytes (l, is, of) read right m also =
       counts = λ t low high. (right t low high).count;
     }))
 
-pub map-wrong : (failed : Type 0) (img : Image) (s : Survey) (bytes : List ℕ) (f : Fault) → IsToldBy img s → bytes ≡ sector img map_place → IsWrongMap bytes s.owners f → HoldsOfClean failed img f
+pub map-wrong : (failed : Place → Type 0) (img : Image) (s : Survey) (bytes : List ℕ) (f : Fault) → IsToldBy img s → bytes ≡ sector img map_place → IsWrongMap bytes s.owners f → HoldsOfClean failed img f
 map-wrong failed img s bytes f (l, is, of) read (p, e, wrong) =
     let P : Fault → Type 0 = HoldsOfClean failed img in
     subst P (sym e) (step (let Q : List ℕ → Type 0 = λ b. ¬ (IsMarked b s.owners p) ⊎ ((p ≡ map_place) × ((track : ℕ) × (1 ≤ track) × (track ≤ 35) × (map_count b track ≢ ones_on b track))) in subst Q read wrong))
@@ -97,11 +97,11 @@ map-at img now same h = let P : Image → Type 0 = HasMap in subst P same h
 
 module _ {D : Type 0} (S : History D) where
   pub told-clean : (T : Type 0) (a b : D) (n : ℕ) (f : Fault) → TellsOfClean S a b n f → NeverFailed S a b → IsOk (told T f) ↔ IsClean (S.image a)
-  told-clean T a b n f tells never = (λ h. absurd (false≢true h), λ s. absurd (told-unclean (S.image a) f (clean_alone S a b f never tells.holds) s))
+  told-clean T a b n f tells never = (λ h. absurd (false≢true h), λ s. absurd (told-unclean (S.image a) f (clean_alone S ℕ a b f never tells.failures tells.holds) s))
 
   pub map_tells : (a b : D) (s : Survey) (bytes : List ℕ) (f : Fault) → IsToldBy (S.image a) s → Passes S a b 1 → bytes ≡ sector (S.image a) map_place → IsWrongMap bytes s.owners f → TellsOfClean S a b 1 f
   map_tells a b s bytes f is passes read wrong = record {
     reads = passes.reads;
     failures = (let P : Fault → Type 0 = λ x. TellsFault {T = ℕ} S a b (Err x) in subst P (sym wrong.1) passes.failures);
-    holds = map-wrong (Failed S a b) (S.image a) s bytes f is read wrong;
+    holds = map-wrong (S.failed_at b) (S.image a) s bytes f is read wrong;
   }

@@ -2,7 +2,7 @@
 use Rattle.std.proofs.Common.{ℕ, ◌≢◌, ◌≤◌, ◌⊎◌, Err, IsTrue, List, Ok, Result, arith, inl, inr, refl, slice_index}
 use Rattle.std.specs.Prelude.{IfErr, IfOk}
 use Rattle.d64_image.proofs.Moments.{no_reads, reads_weaker}
-use Rattle.d64_image.specs.History.{Failed, History, OnlyReads}
+use Rattle.d64_image.specs.History.{History, OnlyReads}
 use Rattle.d64_image.specs.Images.{Image}
 use Rattle.d64_image.specs.declared.place.Place.{Place}
 use Rattle.disk_layout.specs.Chain.{IsChain, Names, NamesNone}
@@ -16,7 +16,7 @@ use Rattle.layout_check.specs.Calls.{Tells}
 use Rattle.layout_check.specs.Entry.{HasBlocks}
 
 -- what holds of the chain that a closed entry names, holds of the image
-pub chain-holds : (failed : Type 0) (img : Image) (q first : Place) (s : Slot) (f : Fault) → IsClosed img q s → Names s.bytes 3 first → HoldsOfChain failed img first f → Holds failed img f
+pub chain-holds : (failed : Place → Type 0) (img : Image) (q first : Place) (s : Slot) (f : Fault) → IsClosed img q s → Names s.bytes 3 first → HoldsOfChain failed img first f → Holds failed img f
 chain-holds failed img q first s (BadLink p) closed names (vs, visits, nowhere) = inr (inr (inr (q, s, closed, record { first = first; named = names; before = vs; visits = visits }, nowhere)))
 chain-holds failed img q first s (Loop p) closed names (vs, back) = inr (q, s, closed, first, names, vs, back)
 chain-holds failed img q first s (Device p) closed names h = h
@@ -40,10 +40,10 @@ module _ {D : Type 0} (S : History D) where
     holds = inr (inr (inl (s, closed, none, why)));
   }
 
-  pub chain-tells : (a b : D) (q first : Place) (s : Slot) (n : ℕ) (r : Result ℕ Fault) → n ≤ 720 → IsClosed (S.image a) q s → Names s.bytes 3 first → IfErr r (HoldsOfChain (Failed S a b) (S.image a) first) → TellsFault S a b r → OnlyReads S a b n → IfErr r (Tells S a b 720)
+  pub chain-tells : (a b : D) (q first : Place) (s : Slot) (n : ℕ) (r : Result ℕ Fault) → n ≤ 720 → IsClosed (S.image a) q s → Names s.bytes 3 first → IfErr r (HoldsOfChain (S.failed_at b) (S.image a) first) → TellsFault S a b r → OnlyReads S a b n → IfErr r (Tells S a b 720)
   chain-tells a b q first s n (Ok u) few closed names h tells reads = tt
   chain-tells a b q first s n (Err f) few closed names h tells reads = record {
     reads = reads_weaker S a b n 720 few reads;
     failures = any_answer S ℕ ℕ a b f tells;
-    holds = chain-holds (Failed S a b) (S.image a) q first s f closed names h;
+    holds = chain-holds (S.failed_at b) (S.image a) q first s f closed names h;
   }

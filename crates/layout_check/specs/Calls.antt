@@ -1,6 +1,6 @@
 -- Calls that read a device and judge what they read. Our own.
 use Rattle.std.specs.Prelude.{ℕ, ◌≡◌, Err}
-use Rattle.d64_image.specs.History.{Failed, History, OnlyReads}
+use Rattle.d64_image.specs.History.{History, OnlyReads}
 use Rattle.disk_layout.specs.Fault.{Holds, TellsFault}
 use Rattle.disk_layout.specs.declared.faults.Fault.{Fault}
 
@@ -13,4 +13,4 @@ pub record Passes {D : Type 0} (S : History D) (old new : D) (n : ℕ) : Type 0 
 pub record Tells {D : Type 0} (S : History D) (old new : D) (n : ℕ) (fault : Fault) : Type 0 where
   pub reads : OnlyReads S old new n
   pub failures : TellsFault {T = ℕ} S old new (Err fault)
-  pub holds : Holds (Failed S old new) (S.image old) fault
+  pub holds : Holds (S.failed_at new) (S.image old) fault

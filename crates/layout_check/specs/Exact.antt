@@ -1,7 +1,7 @@
 -- What a check asks of a relative entry beyond what a survey asks. Our own.
 use Rattle.std.specs.Prelude.{ℕ, ◌≡◌, ◌≢◌, ◌+◌, ◌∷◌, Contains, Err, IsTrue, List, None, Option, Some, length, slice_get}
 use Rattle.std.specs.List.{AllByRecursion}
-use Rattle.d64_image.specs.History.{Failed, History, OnlyReads}
+use Rattle.d64_image.specs.History.{History, OnlyReads}
 use Rattle.d64_image.specs.Images.{Image, sector}
 use Rattle.d64_image.specs.declared.place.Place.{Place}
 use Rattle.disk_layout.specs.Clean.{IsExactFile}
@@ -18,7 +18,7 @@ use Rattle.disk_layout.specs.declared.slot.Slot.{Slot}
 pub record TellsOfClean {D : Type 0} (S : History D) (old new : D) (n : ℕ) (fault : Fault) : Type 0 where
   pub reads : OnlyReads S old new n
   pub failures : TellsFault {T = ℕ} S old new (Err fault)
-  pub holds : HoldsOfClean (Failed S old new) (S.image old) fault
+  pub holds : HoldsOfClean (S.failed_at new) (S.image old) fault
 
 -- the slot is that of a file of the image
 pub record IsFiled (img : Image) (s : Slot) : Type 0 where

@@ -2,13 +2,13 @@ pub mod Calls
 pub mod Entry
 pub mod Exact
 pub mod Found
-pub mod InOrder
 pub mod Made
 pub mod Marked
 pub mod Mended
 pub mod Open
 pub mod Owners
 pub mod Recounted
+pub mod RepairOrder
 pub mod Repaired
 pub mod Sides
 pub mod Survey

@@ -1,5 +1,5 @@
 -- What a repair may change, and what it leaves. Our own.
-use Rattle.std.specs.Prelude.{ℕ, ◌≡◌, Contains, IsTrue, List}
+use Rattle.std.specs.Prelude.{ℕ, ◌≡◌, Contains, Err, IsTrue, List, Ok, Result}
 use Rattle.d64_image.specs.History.{Changes, Failed, History}
 use Rattle.d64_image.specs.Images.{Image, sector}
 use Rattle.d64_image.specs.declared.place.Place.{Place}
@@ -21,9 +21,10 @@ pub record IsMended (a : Image) (l : Layout) (c : Image) : Type 0 where
 abbrev pub Mends : {D : Type 0} → History D → D → D → ℕ → Type 0
 Mends S old new n = (a : Image) (l : Layout) → IsMended a l (S.image old) → Changes S old new n (IsMended a l)
 
--- the fault is Device, where the device failed
-abbrev pub TellsDevice : {D : Type 0} → History D → D → D → Fault → Type 0
-TellsDevice S old new fault = (p : Place) × (fault ≡ Device p) × Failed S old new
+-- Device alone is told, where the device failed, at a place where it did; Ok only where no failure was counted
+abbrev pub TellsDevice : {D T : Type 0} → History D → D → D → Result T Fault → Type 0
+TellsDevice S old new (Ok _) = S.failures new ≡ S.failures old
+TellsDevice S old new (Err fault) = Failed S old new × ((p : Place) × (fault ≡ Device p) × S.failed_at new p)
 
 -- each layout of the one is a layout of the other
 abbrev pub KeepsLayouts : Image → Image → Type 0

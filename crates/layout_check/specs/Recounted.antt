@@ -1,13 +1,10 @@
 -- Block counts made right, a directory sector at a time. Our own words on the block count of the 1541 User's Guide.
-use Rattle.std.specs.Prelude.{ℕ, ◌≡◌, ◌+◌, ◌<◌, ◌⊎◌, List, [], ◌∷◌, Contains, IsTrue, length, slice_index, ◌≤◌, ◌≢◌}
-use Rattle.d64_image.specs.History.{History}
+use Rattle.std.specs.Prelude.{ℕ, ◌≡◌, ◌+◌, ◌<◌, ◌⊎◌, List, [], ◌∷◌, Contains, IsTrue, length, slice_index}
 use Rattle.d64_image.specs.Images.{Image, Sector, sector}
 use Rattle.d64_image.specs.declared.place.Place.{Place}
 use Rattle.disk_layout.specs.Directory.{slot_in}
 use Rattle.disk_layout.specs.Layout.{File, IsLayout, Layout, count_field, is_rel, sides_for}
 use Rattle.disk_layout.specs.Same.{IsCountByte, SameFiles}
-use Rattle.disk_layout.specs.declared.faults.Fault.{Fault}
-use Rattle.disk_layout.specs.declared.faults.Fault.TheVariants.{Device}
 use Rattle.disk_layout.specs.declared.slot.Slot.{Slot}
 
 -- how many sectors the file owns: its data blocks, and the side sectors that these need
@@ -76,11 +73,3 @@ pub record IsMendedAt (old : Image) (p : Place) (new : Image) : Type 0 where
 -- the image is the old one, or that sector was mended
 abbrev pub OldOrMended : Image → Place → Image → Type 0
 OldOrMended old p new = (new ≡ old) ⊎ IsMendedAt old p new
-
--- the fault tells of the device
-abbrev pub IsOfDevice : Fault → Type 0
-IsOfDevice fault = (p : Place) × (fault ≡ Device p)
-
--- a call that makes no write, or one that leaves another sector at p
-abbrev pub WritesOther : {D : Type 0} → History D → D → D → Place → Type 0
-WritesOther S old new p = (S.writes new ≡ S.writes old) ⊎ ((sector (S.image new) p ≢ sector (S.image old) p) × (S.writes new ≤ S.writes old + 1))

@@ -5,10 +5,9 @@ ghost use Rattle.disk_layout.specs.Layout.{is_rel};
 ghost use Rattle.layout_check.specs.Calls.{Passes, Tells};
 ghost use Rattle.layout_check.specs.Entry.{HasBlocks};
 
-use crate::entry::first_block;
 use arrayvec::ArrayVec;
 use d64_image::{Place, Sectors};
-use disk_layout::{Fault, Slot, walk_chain};
+use disk_layout::{EntryView, Fault, Slot, walk_chain};
 
 /// Follows the chain of a closed entry that names a first block, and fills `blocks` with its sectors in order. The answer
 /// is the index of the last used byte in the last one.
@@ -23,7 +22,7 @@ pub fn survey_blocks<D: Sectors>(
     ensures ok { OnOk result (Passes D.history disk.old disk.new (length blocks.new.items)) }
     ensures err { IfErr result (Tells D.history disk.old disk.new 720) }
 {
-    let Some(first) = first_block(slot) else {
+    let Some(first) = EntryView::new(&slot.bytes).first_block() else {
         return Err(Fault::BadLink(slot.sector));
     };
     walk_chain(disk, first, blocks)

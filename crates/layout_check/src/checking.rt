@@ -1,6 +1,6 @@
 //! The check of a disk: its survey, and what a clean disk has beyond a sound one.
 ghost use Rattle.std.specs.Prelude.{◌↔◌, IfErr, IfOk, IsOk, OnOk};
-ghost use Rattle.d64_image.specs.History.{Failed, NeverFailed, OnlyReads};
+ghost use Rattle.d64_image.specs.History.{NeverFailed, OnlyReads};
 ghost use Rattle.disk_layout.specs.Clean.{IsClean, IsCleanLayout};
 ghost use Rattle.disk_layout.specs.Fault.{HoldsOfClean, TellsFault};
 ghost use Rattle.disk_layout.specs.Layout.{Layout};
@@ -33,7 +33,7 @@ fn check_map<D: Sectors>(disk: &mut D, found: &Survey) -> Result<(), Fault>
 /// Nothing is written, and no memory is taken.
 pub fn check<D: Sectors>(disk: &mut D) -> Result<Survey, Fault>
     ensures ok { IfOk result (λ s. (l : Layout) × IsCleanLayout (D.history.image disk.old) l × IsSurveyOf l s) }
-    ensures err { IfErr result (HoldsOfClean (Failed D.history disk.old disk.new) (D.history.image disk.old)) }
+    ensures err { IfErr result (HoldsOfClean (D.history.failed_at disk.new) (D.history.image disk.old)) }
     // neither a fault nor a layout is told always
     ensures clean { NeverFailed D.history disk.old disk.new → (IsOk result ↔ IsClean (D.history.image disk.old)) }
     ensures failures { TellsFault D.history disk.old disk.new result }

@@ -7,7 +7,7 @@ ghost use Rattle.layout_check.specs.Exact.{TellsUnclean};
 ghost use Rattle.layout_check.specs.Found.{Finds, TellsOrClashes};
 
 use crate::blocks::survey_blocks;
-use crate::entry::{is_relative, judge_entry};
+use crate::entry::judge_entry;
 use crate::owners::Owners;
 use crate::sides::find_parts;
 use arrayvec::ArrayVec;
@@ -91,11 +91,11 @@ pub fn survey_entry<D: Sectors>(
     ensures err { IfErr result (TellsOrClashes D.history disk.old disk.new slot.now owners.old) }
 {
     judge_entry(slot)?;
-    if is_relative(slot) {
+    let entry = EntryView::new(&slot.bytes);
+    if entry.is_relative() {
         return survey_relative(disk, slot, number, owners, blocks);
     }
-    let (first_track, _) = EntryView::new(&slot.bytes).first_block();
-    if first_track == 0 {
+    if !entry.has_first_block() {
         return Ok(None);
     }
     survey_plain(disk, slot, number, owners, blocks)?;

@@ -1,10 +1,30 @@
 //! The map of free sectors, beside who owns which sector.
-ghost use Rattle.std.specs.Prelude.{◌≤◌, IfErr, OnOk};
+ghost use Rattle.std.specs.Prelude.{◌≤◌, IfErr, IsTrue, OnOk};
 ghost use Rattle.layout_check.specs.Marked.{IsRightMap, IsRightTrack, IsWrongMap};
 
 use crate::owners::Owners;
 use d64_image::Place;
 use disk_layout::{BamView, Fault, map_place};
+
+/// Whether the map has the right bit for each sector of a track, and the right count of them. No branch hangs on a bit, so
+/// that this takes a third of the time of `check_track`, which tells what is wrong.
+fn is_right_track(map: &[u8; 256], owners: &Owners, track: u8) -> bool
+    requires first { 1 ≤ track }
+    requires last { track ≤ 35 }
+    ensures { IsTrue result → IsRightTrack map.now owners.now track }
+{
+    let view = BamView::new(map);
+    let mut right = true;
+    let mut count = 0;
+    let mut sector = 0;
+    while let Some(place) = Place::new(track, sector) {
+        let free = view.is_free(place);
+        right &= free != owners.is_owned(place);
+        count += u8::from(free);
+        sector += 1;
+    }
+    right & (view.free_on(track) == count)
+}
 
 /// Judges the bit of each sector of a track, and the track's count.
 fn check_track(map: &[u8; 256], owners: &Owners, track: u8) -> Result<(), Fault>
@@ -36,7 +56,9 @@ pub fn check_bits(map: &[u8; 256], owners: &Owners) -> Result<(), Fault>
     ensures err { IfErr result (IsWrongMap map.now owners.now) }
 {
     for track in 1..=35u8 {
-        check_track(map, owners, track)?;
+        if !is_right_track(map, owners, track) {
+            check_track(map, owners, track)?;
+        }
     }
     Ok(())
 }

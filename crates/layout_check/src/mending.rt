@@ -1,19 +1,18 @@
 //! The map and the side sectors that a sound disk is to have, each written where the disk has another.
-ghost use Rattle.std.specs.Prelude.{◌≡◌, ◌≤◌, ◌∷◌, [], Contains, IfErr, IsTrue, OnOk, length};
-ghost use Rattle.d64_image.specs.History.{Changes, OldOr, OnlyReads};
+ghost use Rattle.std.specs.Prelude.{◌≡◌, ◌≤◌, ◌∷◌, [], Contains, IsTrue, OnOk, length};
+ghost use Rattle.d64_image.specs.History.{Changes, OldOr, WritesNothing};
 ghost use Rattle.d64_image.specs.Images.{put, sector};
 ghost use Rattle.disk_layout.specs.Free.{IsWithoutFree};
+ghost use Rattle.disk_layout.specs.InOrder.{AreMade, GoesOver, WritesOther};
 ghost use Rattle.layout_check.specs.Made.{IsMadeMap, IsMadeTrack};
 ghost use Rattle.disk_layout.specs.Directory.{map_place};
 ghost use Rattle.disk_layout.specs.Layout.{File, IsLayout, IsSound, Layout, is_rel};
 ghost use Rattle.layout_check.specs.Entry.{IsEntry};
 ghost use Rattle.layout_check.specs.Exact.{AreExactSides, HasMap, IsFiled};
-ghost use Rattle.layout_check.specs.InOrder.{AreMade, ClearsSpare, GoesOver, IsRight, sides_of};
+ghost use Rattle.layout_check.specs.RepairOrder.{ClearsSpare, IsRight, sides_of};
 ghost use Rattle.layout_check.specs.Mended.{AreExactFor, IsExactFor, IsPartsOf, KeepsExact, KeepsLayouts, Mends, SameMap, TellsDevice};
-ghost use Rattle.layout_check.specs.Recounted.{WritesOther};
 ghost use Rattle.layout_check.specs.Survey.{IsToldBy};
 
-use crate::entry::is_relative;
 use crate::maps::check_bits;
 use crate::outcome::Survey;
 use crate::owners::Owners;
@@ -21,7 +20,7 @@ use crate::sides::find_parts;
 use arrayvec::ArrayVec;
 use d64_image::{Place, Sectors};
 use disk_layout::{
-    Bam, EntryView, Fault, Slot, map_place, read_directory, read_sector, side_bytes, write_sector,
+    Bam, EntryView, Fault, Slot, map_place, read_directory, read_sector, side_bytes, write_other,
 };
 
 /// Frees the sectors of a track that nobody owns, where none was free.
@@ -52,35 +51,12 @@ pub fn map_of(old: &[u8; 256], owners: &Owners) -> [u8; 256]
     map.bytes
 }
 
-/// Writes a sector where its bytes are others than those that it has.
-pub(crate) fn write_other<D: Sectors>(
-    disk: &mut D,
-    place: Place,
-    had: &[u8; 256],
-    wanted: &[u8; 256],
-) -> Result<(), Fault>
-    requires { had.now ≡ sector (D.history.image disk.old) place }
-    ensures ok { OnOk result (D.history.image disk.new ≡ put (D.history.image disk.old) place wanted.now) }
-    ensures err { IfErr result (TellsDevice D.history disk.old disk.new) }
-    ensures failures { OnOk result (D.history.failures disk.new ≡ D.history.failures disk.old) }
-    ensures held { Changes D.history disk.old disk.new 1 (OldOr (D.history.image disk.old) (put (D.history.image disk.old) place wanted.now)) }
-    ensures once { WritesOther D.history disk.old disk.new place }
-    // a sector that is right is not written
-    ensures quiet { had.now ≡ wanted.now → OnlyReads D.history disk.old disk.new 0 }
-{
-    if had == wanted {
-        return Ok(());
-    }
-    write_sector(disk, place, wanted)
-}
-
 /// Gives a sound disk that was surveyed the map that it is to have, where it has another.
 pub fn mend_map<D: Sectors>(disk: &mut D, found: &Survey) -> Result<(), Fault>
     requires { IsToldBy (D.history.image disk.old) found.now }
     ensures map { OnOk result (HasMap (D.history.image disk.new)) }
     ensures layouts { OnOk result (KeepsLayouts (D.history.image disk.old) (D.history.image disk.new)) }
-    ensures err { IfErr result (TellsDevice D.history disk.old disk.new) }
-    ensures failures { OnOk result (D.history.failures disk.new ≡ D.history.failures disk.old) }
+    ensures failures { TellsDevice D.history disk.old disk.new result }
     ensures mends { Mends D.history disk.old disk.new 1 }
     // the map is written once at most, and only where it is wrong, also where the device fails
     ensures over { (l : Layout) → IsLayout (D.history.image disk.old) l → GoesOver D.history disk.old disk.new (IsRight l) (map_place ∷ []) }
@@ -88,7 +64,7 @@ pub fn mend_map<D: Sectors>(disk: &mut D, found: &Survey) -> Result<(), Fault>
     // in a map that is written, the bits past the tracks' last sectors are 0
     ensures spare { ClearsSpare (D.history.image disk.old) (D.history.image disk.new) }
     // a map that is right is not written
-    ensures quiet { HasMap (D.history.image disk.old) → OnlyReads D.history disk.old disk.new 1 }
+    ensures quiet { HasMap (D.history.image disk.old) → WritesNothing D.history disk.old disk.new }
 {
     let mut map = [0u8; 256];
     read_sector(disk, map_place(), &mut map)?;
@@ -113,14 +89,13 @@ fn mend_sides<D: Sectors>(
     ensures others { OnOk result (KeepsExact (D.history.image disk.old) (D.history.image disk.new)) }
     ensures layouts { OnOk result (KeepsLayouts (D.history.image disk.old) (D.history.image disk.new)) }
     ensures map { OnOk result (SameMap (D.history.image disk.old) (D.history.image disk.new)) }
-    ensures err { IfErr result (TellsDevice D.history disk.old disk.new) }
-    ensures failures { OnOk result (D.history.failures disk.new ≡ D.history.failures disk.old) }
+    ensures failures { TellsDevice D.history disk.old disk.new result }
     ensures mends { Mends D.history disk.old disk.new 6 }
     // side sector by side sector, each written once where it isn't right
     ensures over { (l : Layout) → IsLayout (D.history.image disk.old) l → GoesOver D.history disk.old disk.new (IsRight l) sides.now }
     ensures made { OnOk result ((l : Layout) → IsLayout (D.history.image disk.old) l → AreMade (IsRight l) sides.now (D.history.image disk.old) (D.history.image disk.new)) }
     // side sectors that are right are not written
-    ensures quiet { AreExactSides (D.history.image disk.old) slot.now blocks.now sides.now → OnlyReads D.history disk.old disk.new 6 }
+    ensures quiet { AreExactSides (D.history.image disk.old) slot.now blocks.now sides.now → WritesNothing D.history disk.old disk.new }
 {
     let record_length = EntryView::new(&slot.bytes).record_length();
     let mut sector = [0u8; 256];
@@ -147,14 +122,13 @@ fn mend_relative<D: Sectors>(
     ensures others { OnOk result (KeepsExact (D.history.image disk.old) (D.history.image disk.new)) }
     ensures layouts { OnOk result (KeepsLayouts (D.history.image disk.old) (D.history.image disk.new)) }
     ensures map { OnOk result (SameMap (D.history.image disk.old) (D.history.image disk.new)) }
-    ensures err { IfErr result (TellsDevice D.history disk.old disk.new) }
-    ensures failures { OnOk result (D.history.failures disk.new ≡ D.history.failures disk.old) }
+    ensures failures { TellsDevice D.history disk.old disk.new result }
     ensures mends { Mends D.history disk.old disk.new 6 }
     // side sector by side sector of the entry's file, each written once where it isn't right
     ensures over { (l : Layout) (f : File) → IsLayout (D.history.image disk.old) l → Contains l.files f → f.slot ≡ slot.now → GoesOver D.history disk.old disk.new (IsRight l) f.sides }
     ensures made { OnOk result ((l : Layout) (f : File) → IsLayout (D.history.image disk.old) l → Contains l.files f → f.slot ≡ slot.now → AreMade (IsRight l) f.sides (D.history.image disk.old) (D.history.image disk.new)) }
     // side sectors that are right are not written
-    ensures quiet { IsExactFor (D.history.image disk.old) (D.history.image disk.old) slot.now → OnlyReads D.history disk.old disk.new 738 }
+    ensures quiet { IsExactFor (D.history.image disk.old) (D.history.image disk.old) slot.now → WritesNothing D.history disk.old disk.new }
 {
     match find_parts(disk, slot, blocks, sides)? {
         Some(_) => mend_sides(disk, slot, blocks.as_slice(), sides.as_slice()),
@@ -169,21 +143,20 @@ pub fn mend_entries<D: Sectors>(disk: &mut D) -> Result<(), Fault>
     ensures exact { OnOk result (AreExactFor (D.history.image disk.old) (D.history.image disk.new)) }
     ensures layouts { OnOk result (KeepsLayouts (D.history.image disk.old) (D.history.image disk.new)) }
     ensures map { OnOk result (SameMap (D.history.image disk.old) (D.history.image disk.new)) }
-    ensures err { IfErr result (TellsDevice D.history disk.old disk.new) }
-    ensures failures { OnOk result (D.history.failures disk.new ≡ D.history.failures disk.old) }
+    ensures failures { TellsDevice D.history disk.old disk.new result }
     ensures mends { Mends D.history disk.old disk.new 864 }
     // side sector by side sector in the order of the directory, each written once where it isn't right
     ensures over { (l : Layout) → IsLayout (D.history.image disk.old) l → GoesOver D.history disk.old disk.new (IsRight l) (sides_of l.files) }
     ensures made { OnOk result ((l : Layout) → IsLayout (D.history.image disk.old) l → AreMade (IsRight l) (sides_of l.files) (D.history.image disk.old) (D.history.image disk.new)) }
     // side sectors that are right are not written
-    ensures quiet { AreExactFor (D.history.image disk.old) (D.history.image disk.old) → OnlyReads D.history disk.old disk.new 106290 }
+    ensures quiet { AreExactFor (D.history.image disk.old) (D.history.image disk.old) → WritesNothing D.history disk.old disk.new }
 {
     let mut slots = ArrayVec::new();
     let mut blocks = ArrayVec::new();
     let mut sides = ArrayVec::new();
     read_directory(disk, &mut slots)?;
     for slot in slots.as_slice() {
-        if is_relative(slot) {
+        if EntryView::new(&slot.bytes).is_relative() {
             mend_relative(disk, slot, &mut blocks, &mut sides)?;
         }
     }

@@ -1,36 +1,25 @@
 //! The block counts of the relative entries, made right.
 ghost use Rattle.std.specs.Prelude.{◌≡◌, ◌<◌, IfErr, IfOk, IsTrue, List, OnOk, length};
-ghost use Rattle.d64_image.specs.History.{Changes, OnlyReads};
+ghost use Rattle.d64_image.specs.History.{Changes, WritesNothing};
 ghost use Rattle.d64_image.specs.Images.{sector};
 ghost use Rattle.disk_layout.specs.Directory.{IsDirectory, slot_in};
 ghost use Rattle.disk_layout.specs.Entries.{IsRecounted};
-ghost use Rattle.disk_layout.specs.Fault.{TellsFault};
-ghost use Rattle.disk_layout.specs.Layout.{IsLayout, IsSound, Layout, count_field, is_rel};
+ghost use Rattle.disk_layout.specs.InOrder.{AreMade, GoesOver, WritesOther};
+ghost use Rattle.disk_layout.specs.Layout.{IsLayout, IsSound, Layout, is_rel};
 ghost use Rattle.disk_layout.specs.declared.slot.Slot.{Slot};
 ghost use Rattle.d64_image.specs.declared.place.Place.{Place};
 ghost use Rattle.layout_check.specs.Calls.{Passes, Tells};
 ghost use Rattle.layout_check.specs.Entry.{IsEntry};
-ghost use Rattle.layout_check.specs.InOrder.{AreMade, GoesOver, IsRight};
-ghost use Rattle.layout_check.specs.Recounted.{AreCounted, AreRightIn, IsCountOf, IsCountedAs, IsInDirectory, IsOfDevice, IsRightAt, KeepsButCounts, OldOrMended, WritesOther};
+ghost use Rattle.layout_check.specs.RepairOrder.{IsRight};
+ghost use Rattle.layout_check.specs.Mended.{TellsDevice};
+ghost use Rattle.layout_check.specs.Recounted.{AreCounted, AreRightIn, IsCountOf, IsCountedAs, IsInDirectory, IsRightAt, KeepsButCounts, OldOrMended};
 
-use crate::entry::is_relative;
-use crate::mending::write_other;
 use crate::sides::find_parts;
 use arrayvec::ArrayVec;
-use byteorder::{ByteOrder, LittleEndian};
 use d64_image::{Place, Sectors};
-use disk_layout::{Fault, Slot, directory_start, read_sector, walk_chain};
-
-/// Puts a block count into the slot with this number, low byte first.
-fn put_count(bytes: &mut [u8; 256], number: u8, count: u16)
-    requires { number < 8 }
-    ensures count { (p : Place) → count_field (slot_in p bytes.new number) ≡ count }
-    ensures rest { IsRecounted bytes.old bytes.new number }
-    ensures kept { (p : Place) → count_field (slot_in p bytes.old number) ≡ count → bytes.new ≡ bytes.old }
-{
-    let at = 32 * number as usize + 30;
-    LittleEndian::write_u16(&mut bytes[at..at + 2], count);
-}
+use disk_layout::{
+    EntryView, Fault, Slot, directory_start, put_count, read_sector, walk_chain, write_other,
+};
 
 /// How many sectors a relative entry of a sound disk owns: its data blocks and its side sectors. `blocks` and `sides` are
 /// emptied, and filled with these.
@@ -72,7 +61,7 @@ fn recount_slot<D: Sectors>(
     ensures err { IfErr result (Tells D.history disk.old disk.new 732) }
 {
     let slot = Slot::in_sector(bytes, place, number);
-    if !is_relative(&slot) {
+    if !EntryView::new(&slot.bytes).is_relative() {
         return Ok(());
     }
     let count = count_owned(disk, &slot, blocks, sides)?;
@@ -119,9 +108,8 @@ fn mend_sector<D: Sectors>(
     ensures moments { Changes D.history disk.old disk.new 1 (OldOrMended (D.history.image disk.old) place) }
     ensures once { WritesOther D.history disk.old disk.new place }
     // a sector whose counts are right is not written
-    ensures silent { AreRightIn (D.history.image disk.old) place (sector (D.history.image disk.old) place) → OnlyReads D.history disk.old disk.new 5857 }
-    ensures err { IfErr result IsOfDevice }
-    ensures failures { TellsFault D.history disk.old disk.new result }
+    ensures quiet { AreRightIn (D.history.image disk.old) place (sector (D.history.image disk.old) place) → WritesNothing D.history disk.old disk.new }
+    ensures failures { TellsDevice D.history disk.old disk.new result }
 {
     let mut had = [0u8; 256];
     read_sector(disk, place, &mut had)?;
@@ -154,9 +142,8 @@ pub fn mend_counts<D: Sectors>(disk: &mut D) -> Result<(), Fault>
     // a sector is written where a count in it is wrong, once, in the order of the directory
     ensures over { (l : Layout) → IsLayout (D.history.image disk.old) l → GoesOver D.history disk.old disk.new (IsRight l) l.directory }
     ensures made { OnOk result ((l : Layout) → IsLayout (D.history.image disk.old) l → AreMade (IsRight l) l.directory (D.history.image disk.old) (D.history.image disk.new)) }
-    ensures silent { AreCounted (D.history.image disk.old) → OnlyReads D.history disk.old disk.new 106146 }
-    ensures err { IfErr result IsOfDevice }
-    ensures failures { TellsFault D.history disk.old disk.new result }
+    ensures quiet { AreCounted (D.history.image disk.old) → WritesNothing D.history disk.old disk.new }
+    ensures failures { TellsDevice D.history disk.old disk.new result }
 {
     let mut places = ArrayVec::new();
     let mut blocks = ArrayVec::new();

@@ -7,7 +7,6 @@ ghost use Rattle.layout_check.specs.Exact.{JudgesSides};
 ghost use Rattle.layout_check.specs.Sides.{HasParts, IsJudged, IsMisjudged, IsMisnamed, IsRelEntry, IsWalkOfSides, ListsEach, NamesEach};
 
 use crate::blocks::survey_blocks;
-use crate::entry::first_side;
 use arrayvec::ArrayVec;
 use d64_image::{Place, Sectors};
 use disk_layout::{EntryView, Fault, SideView, Slot, read_sector, side_bytes};
@@ -71,7 +70,7 @@ fn walk_sides<D: Sectors>(
     ensures err { IfErr result (Tells D.history disk.old disk.new 6) }
 {
     sides.clear();
-    let Some(first) = first_side(slot) else {
+    let Some(first) = EntryView::new(&slot.bytes).first_side() else {
         return Err(Fault::BadSide(slot.sector));
     };
     let needed = blocks.len().div_ceil(POINTERS);

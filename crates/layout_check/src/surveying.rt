@@ -1,6 +1,6 @@
 //! The survey of a disk: its directory, and entry by entry what each owns.
 ghost use Rattle.std.specs.Prelude.{◌+◌, ◌*◌, ◌↔◌, IfErr, IfOk, IsOk, OnOk, length};
-ghost use Rattle.d64_image.specs.History.{Failed, NeverFailed, OnlyReads};
+ghost use Rattle.d64_image.specs.History.{NeverFailed, OnlyReads};
 ghost use Rattle.disk_layout.specs.Directory.{IsDirectory};
 ghost use Rattle.disk_layout.specs.Fault.{Holds, TellsFault};
 ghost use Rattle.disk_layout.specs.Layout.{IsLayout, IsSound, Layout, owners};
@@ -59,7 +59,7 @@ pub fn survey_files<D: Sectors>(disk: &mut D) -> Result<Findings, Fault>
 /// Nothing is written. Each owned sector is read twice at most, and no memory is taken.
 pub fn survey<D: Sectors>(disk: &mut D) -> Result<Survey, Fault>
     ensures ok { IfOk result (λ s. (l : Layout) × IsLayout (D.history.image disk.old) l × IsSurveyOf l s × OnlyReads D.history disk.old disk.new (18 + 2 * length (owners l))) }
-    ensures err { IfErr result (Holds (Failed D.history disk.old disk.new) (D.history.image disk.old)) }
+    ensures err { IfErr result (Holds (D.history.failed_at disk.new) (D.history.image disk.old)) }
     // neither a fault nor a layout is told always
     ensures sound { NeverFailed D.history disk.old disk.new → (IsOk result ↔ IsSound (D.history.image disk.old)) }
     ensures failures { TellsFault D.history disk.old disk.new result }

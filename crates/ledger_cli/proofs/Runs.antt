@@ -6,10 +6,10 @@ use Rattle.d64_image.specs.Memory.{sectors_in}
 use Rattle.disk_layout.proofs.Unclean.{told-unclean}
 use Rattle.disk_layout.specs.declared.faults.Fault.{Fault}
 use Rattle.ledger_cli.specs.Faults.{check_status, end_status}
-use Rattle.ledger_cli.specs.Images.{HasDirectory, IsCheckFault, IsListFault, IsVerdict}
+use Rattle.ledger_commands.specs.Images.{HasDirectory, IsCheckFault, IsListFault, IsVerdict}
 use Rattle.ledger_cli.specs.Runs.{IsCheckRun, IsListRun}
-use Rattle.ledger_cli.specs.declared.faults.RunFault.{RunFault}
-use Rattle.ledger_cli.specs.declared.faults.RunFault.TheVariants as run
+use Rattle.ledger_commands.specs.declared.faults.RunFault.{RunFault}
+use Rattle.ledger_commands.specs.declared.faults.RunFault.TheVariants as run
 
 -- 0 for a fault of a file alone
 abbrev file_or : RunFault → ℕ

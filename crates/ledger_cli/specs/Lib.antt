@@ -1,7 +1,4 @@
 pub mod Faults
 pub mod Grammar
-pub mod Images
 pub mod Jobs
 pub mod Runs
-pub mod Scripts
-pub mod Tables

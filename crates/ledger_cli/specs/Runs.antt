@@ -3,11 +3,11 @@ use Rattle.std.specs.Prelude.{◌≡◌, ◌≢◌, ◌↔◌, ◌⊎◌, ℕ, L
 use Rattle.std.specs.Io.KnownBytes.{Appends}
 use Rattle.d64_image.specs.Memory.{sectors_in}
 use Rattle.disk_layout.specs.Clean.{IsClean}
-use Rattle.disk_layout.specs.Fault.{HoldsOfClean, HoldsOfDirectory}
+use Rattle.disk_layout.specs.Fault.{HoldsOfClean, HoldsOfDirectory, nowhere}
 use Rattle.disk_layout.specs.declared.faults.Fault.{Fault}
-use Rattle.ledger_cli.specs.Images.{HasDirectory}
-use Rattle.ledger_cli.specs.Scripts.{first_bad, lines}
-use Rattle.ledger_cli.specs.Tables.{dry_report}
+use Rattle.ledger_commands.specs.Images.{HasDirectory}
+use Rattle.script_lines.specs.Lines.{first_reset, lines}
+use Rattle.ledger_commands.specs.Tables.{dry_report}
 use Rattle.ledger_cli.specs.declared.jobs.Job.{Job}
 use Rattle.ledger_cli.specs.declared.jobs.Job.TheVariants as jobs
 
@@ -16,7 +16,7 @@ pub record IsDryRun {W : Type 0} (contents : W → Option (List ℕ)) (script : 
   -- 0: each line has its reply over the lines before it, and all of them were handed over
   pub done : status ≡ 0 → Appends (contents old) (contents new) (dry_report script)
   -- 1: exactly where a line is bad, and then nothing was written
-  pub bad_line : (status ≡ 1) ↔ IsSome (first_bad (lines script))
+  pub bad_line : (status ≡ 1) ↔ IsSome (first_reset (lines script))
   pub untouched : status ≡ 1 → new ≡ old
   -- 3: the output failed
   pub statuses : (status ≡ 0) ⊎ ((status ≡ 1) ⊎ (status ≡ 3))
@@ -35,7 +35,7 @@ pub record IsListRun {W : Type 0} (image : List ℕ) (old new : W) (status : ℕ
   pub done : status ≡ 0 → HasDirectory image
   -- 1: it has another size, or a fault of its directory holds; nothing was written
   pub size : length image ≢ 174848 → status ≡ 1
-  pub refused : status ≡ 1 → (length image ≢ 174848) ⊎ ((fault : Fault) × HoldsOfDirectory ⊥ (sectors_in image) fault)
+  pub refused : status ≡ 1 → (length image ≢ 174848) ⊎ ((fault : Fault) × HoldsOfDirectory nowhere (sectors_in image) fault)
   pub untouched : status ≡ 1 → new ≡ old
   -- 3: the output failed, or there was no memory
   pub statuses : (status ≡ 0) ⊎ ((status ≡ 1) ⊎ (status ≡ 3))
@@ -46,7 +46,7 @@ pub record IsCheckRun {W : Type 0} (contents : W → Option (List ℕ)) (image :
   pub done : status ≡ 0 → (length image ≡ 174848) × IsClean (sectors_in image) × Appends (contents old) (contents new) (codes "OK\n")
   -- 1: it has another size, and nothing was written; or a fault holds of it
   pub size : length image ≢ 174848 → (status ≡ 1) × (new ≡ old)
-  pub refused : status ≡ 1 → (length image ≢ 174848) ⊎ ((fault : Fault) × HoldsOfClean ⊥ (sectors_in image) fault)
+  pub refused : status ≡ 1 → (length image ≢ 174848) ⊎ ((fault : Fault) × HoldsOfClean nowhere (sectors_in image) fault)
   -- so a clean image isn't refused
   pub clean : status ≡ 1 → length image ≡ 174848 → ¬ (IsClean (sectors_in image))
   -- 3: the output failed, or there was no memory

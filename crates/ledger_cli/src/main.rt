@@ -1,22 +1,14 @@
 //! A retry-safe stock ledger: the program. It opens, reads and prints; the modules do the rest.
 #![tactic(auto)]
 
-mod bytes;
 #[cfg(test)]
 mod check_tests;
-mod dry_run;
-mod faults;
-mod formatting;
 mod grammar;
 #[cfg(test)]
 mod image_tests;
 mod jobs;
-mod judging;
-mod listing;
 mod replaced;
 mod running;
-mod script;
-mod table;
 #[cfg(test)]
 mod tests;
 mod words;

@@ -1,19 +1,16 @@
 //! Doing a job over the bytes of its files.
 ghost use Rattle.std.specs.Prelude.{◌≡◌, None, IfErr, IsOk, IsSome, OnOk};
 ghost use Rattle.std.specs.Io.KnownBytes.{Appends};
-ghost use Rattle.ledger_cli.specs.Faults.{IsDryFault, check_status, dry_status, end_status};
+ghost use Rattle.ledger_cli.specs.Faults.{check_status, end_status};
+ghost use Rattle.ledger_commands.specs.Faults.{IsDryFault, dry_status};
 ghost use Rattle.ledger_cli.specs.Jobs.{HasTills};
 ghost use Rattle.ledger_cli.specs.Runs.{IsQuiet, IsRun};
-ghost use Rattle.ledger_cli.specs.Scripts.{first_bad, lines};
-ghost use Rattle.ledger_cli.specs.Tables.{dry_report};
+ghost use Rattle.script_lines.specs.Lines.{first_reset, lines};
+ghost use Rattle.ledger_commands.specs.Tables.{dry_report};
 
-use crate::dry_run::{DryFault, dry};
-use crate::faults::RunFault;
-use crate::formatting::format_image;
 use crate::jobs::Job;
-use crate::judging::check_image;
-use crate::listing::list_image;
 use disk_layout::Fault;
+use ledger_commands::{DryFault, RunFault, check_image, dry, format_image, list_image};
 use std::alloc::Global;
 use std::fmt::Display;
 use std::io::{Seek, Write};
@@ -27,9 +24,9 @@ fn tell<E: Write, D: Display + Drop>(err: &mut E, fault: D) {
 fn play_whole<W: Write>(script: &[u8], out: &mut W) -> Result<(), DryFault>
     ensures ok { OnOk result
         (Appends (W.contents out.old) (W.contents out.new) (dry_report script.now)) }
-    ensures good { OnOk result (first_bad (lines script.now) ≡ None) }
-    ensures err { IfErr result (IsDryFault (first_bad (lines script.now))) }
-    ensures untouched { IsSome (first_bad (lines script.now)) → out.new ≡ out.old }
+    ensures good { OnOk result (first_reset (lines script.now) ≡ None) }
+    ensures err { IfErr result (IsDryFault (first_reset (lines script.now))) }
+    ensures untouched { IsSome (first_reset (lines script.now)) → out.new ≡ out.old }
 {
     dry(script, out)?;
     if out.flush().is_err() {

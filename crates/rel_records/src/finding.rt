@@ -25,8 +25,7 @@ const POINTERS: u16 = 120;
 fn is_named(slot: &Slot, name: &[u8]) -> bool
     ensures { IsTrue result ↔ IsNamedSlot name.now slot.now }
 {
-    let entry = EntryView::new(&slot.bytes);
-    if name.len() > 16 || !matches!(entry.type_byte(), 0x84 | 0xC4) {
+    if name.len() > 16 || !EntryView::new(&slot.bytes).is_relative() {
         return false;
     }
     let padded = padded_name(name);
@@ -69,8 +68,7 @@ fn measure<D: Sectors>(disk: &mut D, slot: &Slot) -> Result<(u16, u8), RelFault>
     ensures reads { OnlyReads D.history disk.old disk.new 683 }
     ensures failures { TellsRelFault D.history disk.old disk.new result }
 {
-    let (track, sector) = EntryView::new(&slot.bytes).first_block();
-    let first = Place::new(track, sector).unwrap();
+    let first = EntryView::new(&slot.bytes).first_block().unwrap();
     let mut blocks = ArrayVec::new();
     match walk_chain(disk, first, &mut blocks) {
         Ok(last) => Ok((blocks.len() as u16, last)),
@@ -120,8 +118,7 @@ fn open_entry<D: Sectors>(disk: &mut D, entry: usize, slot: &Slot) -> Result<Rel
     ensures failures { TellsRelFault D.history disk.old disk.new result }
 {
     let view = EntryView::new(&slot.bytes);
-    let (track, sector) = view.first_side();
-    let first = Place::new(track, sector).unwrap();
+    let first = view.first_side().unwrap();
     let (blocks, last) = measure(disk, slot)?;
     let mut sides = ArrayVec::new();
     let count = (blocks + POINTERS - 1) / POINTERS;

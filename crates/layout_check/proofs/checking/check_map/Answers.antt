@@ -13,7 +13,7 @@ pub returns-in_err-read_sector-clause-err : goal.returns-in_err-read_sector-clau
 returns-in_err-read_sector-clause-err g c =
     let S = g.D.Sectors.history in
     let p = err_from_is_err_and c.from_residual.result c.from_residual.ensures.1 in
-    rw (p.1, p.2) (clean_tells S _ _ 1 _ (tells_read S c.args.disk.now c.read_sector.new.disk c.map_place.result _ c.in_err-read_sector.ensures.told c.in_err-read_sector.ensures.reads c.in_err-read_sector.ensures.failures))
+    rw (p.1, p.2) (clean_tells S _ _ 1 _ (tells_read S c.args.disk.now c.read_sector.new.disk c.map_place.result _ c.in_err-read_sector.ensures.told c.in_err-read_sector.ensures.reads c.in_err-read_sector.ensures.failures c.in_err-read_sector.ensures.failed))
 
 pub returns-clause-map : goal.returns-clause-map
 returns-clause-map g c =

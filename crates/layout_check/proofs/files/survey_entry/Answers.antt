@@ -1,5 +1,6 @@
 -- What the slot shows, or what its kind of file gives.
-use Rattle.std.proofs.Common.{inl, rules}
+use Rattle.std.proofs.Common.{inl, inr, rules, slice_index, sym, ◌∙◌, ◌≡◌}
+use Rattle.std.proofs.lemmas.Bool.{cases_eq, false≢true}
 use Rattle.std.proofs.lemmas.Result.{err_from_is_err_and}
 use Rattle.layout_check.proofs.Calls.{passes_none}
 use Rattle.layout_check.proofs.Entries.{shown-tells}
@@ -11,5 +12,10 @@ returns-in_err-judge_entry-clause-err g c =
     let p = err_from_is_err_and c.from_residual.result c.from_residual.ensures.1 in
     rw (p.1, p.2) (inl (shown-tells g.D.Sectors.history c.args.disk.now 732 c.args.slot.now _ c.requires.entry c.in_err-judge_entry.ensures.err))
 
-pub returns-then-first_track-eq0-clause-ok : goal.returns-then-first_track-eq0-clause-ok
-returns-then-first_track-eq0-clause-ok g c = empty-finds g.D.Sectors.history c.args.disk.now c.args.slot.now c.args.number c.args.owners.now c.in_ok-judge_entry.ensures.ok (search rules) (rw (c.first_block-first_track.ensures, c.new.ensures) at c.if-first_track-eq0.true) (passes_none g.D.Sectors.history c.args.disk.now)
+pub returns-then-not-has_first_block-clause-ok : goal.returns-then-not-has_first_block-clause-ok
+returns-then-not-has_first_block-clause-ok g c =
+    let none : slice_index c.args.slot.now.bytes 3 ≡ 0 = elim (cases_eq (slice_index c.args.slot.now.bytes 3) 0) [
+      | inl e ↦ e
+      | inr ne ↦ absurd (false≢true (sym c.if-not-has_first_block.true ∙ c.has_first_block.ensures.1 (rw c.new-entry.ensures ne)))
+    ] in
+    empty-finds g.D.Sectors.history c.args.disk.now c.args.slot.now c.args.number c.args.owners.now c.in_ok-judge_entry.ensures.ok (search rules) none (passes_none g.D.Sectors.history c.args.disk.now)

@@ -1,38 +1,39 @@
 -- Entry by entry of the directory.
-use Rattle.std.proofs.Common.{List, [], false, ◌≡◌, ◌+◌, ap, arith, refl, sym, subst, ◌∙◌}
+use Rattle.std.proofs.Common.{Err, List, [], ap, arith, false, refl, slice_index, subst, sym, ℕ, ◌+◌, ◌∙◌, ◌≡◌}
 use Rattle.std.proofs.lemmas.Bool.{false≢true}
 use borrow.Author.Count.{below_more}
 use Rattle.std.proofs.lemmas.Result.{err_from_is_err_and}
-use Rattle.d64_image.proofs.Moments.{reads_then, reads_weaker}
+use Rattle.d64_image.proofs.Moments.{no_write_then, reads_no_write}
 use Rattle.d64_image.specs.Images.{Image, sector}
 use Rattle.d64_image.specs.declared.place.Place.{Place}
 use Rattle.disk_layout.proofs.Layouts.{get-contains}
+use Rattle.disk_layout.proofs.Orders.{made_none, over_none}
 use Rattle.disk_layout.specs.Directory.{map_place}
-use Rattle.disk_layout.specs.Layout.{IsLayout, Layout, is_rel}
+use Rattle.disk_layout.specs.InOrder.{AreMade, GoesOver}
+use Rattle.disk_layout.specs.Layout.{IsLayout, Layout, is_rel, is_rel_type}
 use Rattle.layout_check.proofs.EntryMends.{entry-filed, exact-entries, exact-kept, exact-made, exact-read, exact-same, filed-kept}
 use Rattle.layout_check.proofs.MapMends.{device_later, mends_read, mends_then, mends_weaker}
-use Rattle.layout_check.proofs.Orders.{made_none, over_none}
 use Rattle.layout_check.proofs.Progress.{listed-as}
 use Rattle.layout_check.proofs.RightSides.{file-at, file_made, file_over, over_files, plain-sides, sides-all, sides-past}
 use Rattle.layout_check.proofs.Roots.{directory-tells}
 use Rattle.layout_check.proofs.SideMends.{sound-device}
 use Rattle.layout_check.proofs.Verdict.{filed-at}
-use Rattle.layout_check.specs.InOrder.{AreMade, GoesOver, IsRight, sides_of}
+use Rattle.layout_check.specs.RepairOrder.{IsRight, sides_of}
 use Rattle.layout_check.proofs.mending.mend_entries.Goals as goal
 use Rattle.layout_check.proofs.mending.mend_entries.Goals.{then-is_relative+in_ok-mend_relative, else-is_relative}
 
-pub returns-in_err-read_directory-clause-err : goal.returns-in_err-read_directory-clause-err
-returns-in_err-read_directory-clause-err g c =
+pub returns-in_err-read_directory-clause-failures : goal.returns-in_err-read_directory-clause-failures
+returns-in_err-read_directory-clause-failures g c =
     let S = g.D.Sectors.history in
     let p = err_from_is_err_and c.from_residual.result c.from_residual.ensures.1 in
-    rw (p.1, p.2) (sound-device S c.args.disk.now c.read_directory.new.disk 738 _ c.requires
+    rw (p.1, p.2) (sound-device S (Unit {0}) c.args.disk.now c.read_directory.new.disk 738 _ c.requires
     (directory-tells S (Unit {0}) c.args.disk.now c.read_directory.new.disk _ c.in_err-read_directory.ensures.reads c.in_err-read_directory.ensures.failures c.in_err-read_directory.ensures.err))
 
 pub returns-in_err-read_directory-clause-mends : goal.returns-in_err-read_directory-clause-mends
 returns-in_err-read_directory-clause-mends g c = mends_read g.D.Sectors.history c.args.disk.now c.read_directory.new.disk 18 864 c.in_err-read_directory.ensures.reads
 
 pub returns-in_err-read_directory-clause-quiet : goal.returns-in_err-read_directory-clause-quiet
-returns-in_err-read_directory-clause-quiet g c exact = reads_weaker g.D.Sectors.history c.args.disk.now c.read_directory.new.disk 18 106290 (omega arith) c.in_err-read_directory.ensures.reads
+returns-in_err-read_directory-clause-quiet g c exact = reads_no_write g.D.Sectors.history c.args.disk.now c.read_directory.new.disk 18 c.in_err-read_directory.ensures.reads
 
 pub returns-in_err-read_directory-clause-over : goal.returns-in_err-read_directory-clause-over
 returns-in_err-read_directory-clause-over g c l h = over_none g.D.Sectors.history (IsRight l) (sides_of l.files) c.args.disk.now c.read_directory.new.disk 18 c.in_err-read_directory.ensures.reads
@@ -48,7 +49,7 @@ loop-slot-init g c =
       over = λ l h. over_none g.D.Sectors.history (IsRight l) [] c.args.disk.now c.read_directory.new.disk 18 reads;
       made = λ l h. made_none (IsRight l) (g.D.Sectors.history.image c.args.disk.now) (g.D.Sectors.history.image c.read_directory.new.disk) reads.image;
       failures = c.in_ok-read_directory.ensures.failures;
-      quiet = λ exact. reads_weaker g.D.Sectors.history c.args.disk.now c.read_directory.new.disk 18 _ (omega arith) reads;
+      quiet = λ exact. reads_no_write g.D.Sectors.history c.args.disk.now c.read_directory.new.disk 18 reads;
     }
 
 pub mend_relative-requires-clause-filed : goal.mend_relative-requires-clause-filed
@@ -59,10 +60,10 @@ mend_relative-requires-clause-filed g c =
 pub mend_relative-requires-clause-entry : goal.mend_relative-requires-clause-entry
 mend_relative-requires-clause-entry g c = entry-filed _ c.slot-item.result (mend_relative-requires-clause-filed g c)
 
-pub returns-in_err-mend_relative-clause-err : goal.returns-in_err-mend_relative-clause-err
-returns-in_err-mend_relative-clause-err g c =
+pub returns-in_err-mend_relative-clause-failures : goal.returns-in_err-mend_relative-clause-failures
+returns-in_err-mend_relative-clause-failures g c =
     let p = err_from_is_err_and c.from_residual-in_err-mend_relative.result c.from_residual-in_err-mend_relative.ensures.1 in
-    rw (p.1, p.2) (device_later g.D.Sectors.history c.args.disk.now c.loop-slot.disk c.mend_relative.new.disk _ c.loop-slot.invariant.failures c.in_err-mend_relative.ensures.err)
+    rw (p.1, p.2) (device_later g.D.Sectors.history (Unit {0}) c.args.disk.now c.loop-slot.disk c.mend_relative.new.disk (Err _) c.loop-slot.invariant.failures c.in_err-mend_relative.ensures.failures)
 
 pub returns-in_err-mend_relative-clause-mends : goal.returns-in_err-mend_relative-clause-mends
 returns-in_err-mend_relative-clause-mends g c = mends_then g.D.Sectors.history c.args.disk.now c.loop-slot.disk c.mend_relative.new.disk _ 6 864 (omega (arith, c.loop-slot-test.true, c.as_slice-slot-items.ensures.fits)) c.loop-slot.invariant.mends c.in_err-mend_relative.ensures.mends
@@ -82,7 +83,7 @@ pub returns-in_err-mend_relative-clause-quiet : goal.returns-in_err-mend_relativ
 returns-in_err-mend_relative-clause-quiet g c exact =
     let S = g.D.Sectors.history in
     let so_far = c.loop-slot.invariant.quiet exact in
-    reads_then S c.args.disk.now c.loop-slot.disk c.mend_relative.new.disk _ 738 106290 (omega (arith, c.loop-slot-test.true, c.as_slice-slot-items.ensures.fits)) so_far (c.in_err-mend_relative.ensures.quiet (exact-same _ _ c.slot-item.result so_far.image exact))
+    no_write_then S c.args.disk.now c.loop-slot.disk c.mend_relative.new.disk so_far (c.in_err-mend_relative.ensures.quiet (exact-same _ _ c.slot-item.result so_far.image exact))
 
 pub loop-slot-preserved : goal.loop-slot-preserved
 loop-slot-preserved g c =
@@ -96,7 +97,7 @@ loop-slot-preserved g c =
     let file = λ (l : Layout) (h : IsLayout (S.image a) l). file-at (S.image a) l d.0 items n c.slot-item.result h (listed-as _ d.0 c.read_directory.new.slots.items items c.as_slice-slot-items.ensures.value d.1) c.loop-slot-test.true c.slot-item.is in
     let plain = λ (l : Layout) (h : IsLayout (S.image a) l) (e : c.is_relative.result ≡ false).
     let (f, there, slot) = file l h in
-    sides-past l.files n f there (plain-sides (S.image a) l f h (get-contains l.files n f there) (ap is_rel slot ∙ sym c.is_relative.ensures ∙ e)) in
+    sides-past l.files n f there (plain-sides (S.image a) l f h (get-contains l.files n f there) (ap is_rel slot ∙ sym (c.is_relative.ensures ∙ ap (λ (bs : List ℕ). is_rel_type (slice_index bs 2)) c.new.ensures) ∙ e)) in
     elim c.if-is_relative.branch [
       | then-is_relative+in_ok-mend_relative w ↦
           let done = w.in_ok-mend_relative.ensures in
@@ -110,18 +111,18 @@ loop-slot-preserved g c =
             over = rw w.disk-is (λ l h. let (f, there, slot) = file l h in file_over S a l h n f there b d (old.made l h) (old.over l h) (done.over l f (old.layouts l h) (get-contains l.files n f there) slot));
             made = rw w.disk-is (λ l h. let (f, there, slot) = file l h in file_made S a l h n f there b d (old.made l h) (done.made l f (old.layouts l h) (get-contains l.files n f there) slot));
             failures = rw w.disk-is (done.failures ∙ old.failures);
-            quiet = rw w.disk-is (λ exact. let so_far = old.quiet exact in reads_then S a b d _ 738 _ (omega arith) so_far (done.quiet (exact-same _ _ c.slot-item.result so_far.image exact)));
+            quiet = rw w.disk-is (λ exact. let so_far = old.quiet exact in no_write_then S a b d so_far (done.quiet (exact-same _ _ c.slot-item.result so_far.image exact)));
           }
       | else-is_relative w ↦ record {
         layouts = rw w.disk-is old.layouts;
         map = rw w.disk-is old.map;
         exact = rw w.disk-is (below_more _ _ old.exact
-            (exact-read _ _ items c.loop-slot.slot-index c.slot-item.result c.loop-slot-test.true c.slot-item.is (λ rel. absurd (false≢true (sym w.if-is_relative.false ∙ c.is_relative.ensures ∙ rel)))));
+            (exact-read _ _ items c.loop-slot.slot-index c.slot-item.result c.loop-slot-test.true c.slot-item.is (λ rel. absurd (false≢true (sym w.if-is_relative.false ∙ (c.is_relative.ensures ∙ ap (λ (bs : List ℕ). is_rel_type (slice_index bs 2)) c.new.ensures) ∙ rel)))));
         mends = rw w.disk-is (mends_weaker S a b _ _ (omega arith) old.mends);
         over = rw w.disk-is (λ l h. let P : List Place → Type 0 = GoesOver S a b (IsRight l) in subst P (plain l h w.if-is_relative.false) (old.over l h));
         made = rw w.disk-is (λ l h. let P : List Place → Type 0 = λ xs. AreMade (IsRight l) xs (S.image a) (S.image b) in subst P (plain l h w.if-is_relative.false) (old.made l h));
         failures = rw w.disk-is old.failures;
-        quiet = rw w.disk-is (λ exact. reads_weaker S a b _ _ (omega arith) (old.quiet exact));
+        quiet = rw w.disk-is old.quiet;
       }
     ]
 
@@ -132,9 +133,6 @@ returns-clause-exact g c =
 
 pub returns-clause-mends : goal.returns-clause-mends
 returns-clause-mends g c = mends_weaker g.D.Sectors.history c.args.disk.now c.loop-slot.disk _ 864 (omega (arith, c.loop-slot.auto, c.as_slice-slot-items.ensures.fits)) c.loop-slot.invariant.mends
-
-pub returns-clause-quiet : goal.returns-clause-quiet
-returns-clause-quiet g c exact = reads_weaker g.D.Sectors.history c.args.disk.now c.loop-slot.disk _ 106290 (omega (arith, c.loop-slot.auto, c.as_slice-slot-items.ensures.fits)) (c.loop-slot.invariant.quiet exact)
 
 pub returns-clause-over : goal.returns-clause-over
 returns-clause-over g c l h = over_files g.D.Sectors.history c.args.disk.now c.loop-slot.disk c.loop-slot.slot-index (IsRight l) l.files (c.loop-slot.invariant.over l h)

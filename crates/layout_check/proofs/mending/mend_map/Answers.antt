@@ -1,27 +1,33 @@
 -- The map is right already, or it is written.
 use Rattle.std.proofs.Common.{[], ap, subst, sym, ◌∙◌, ◌∷◌}
 use Rattle.std.proofs.lemmas.Result.{err_from_is_err_and}
+use Rattle.d64_image.proofs.Moments.{reads_no_write}
 use Rattle.d64_image.specs.Images.{Image, sector}
 use Rattle.d64_image.specs.declared.place.Place.{Place}
+use Rattle.disk_layout.proofs.Orders.{over_none}
+use Rattle.disk_layout.proofs.OtherWrites.{write_changes}
 use Rattle.disk_layout.specs.Directory.{map_place}
+use Rattle.disk_layout.specs.InOrder.{AreMade}
 use Rattle.disk_layout.specs.Layout.{IsLayout}
-use Rattle.layout_check.proofs.Finding.{if_err, on_ok}
-use Rattle.layout_check.proofs.MapMends.{device_later, device_told, err-holds, layouts-put, map-put, mends_read, mends_write, ok-holds, right-map, written}
+use Rattle.layout_check.proofs.Finding.{on_ok}
+use Rattle.layout_check.proofs.MapMends.{device_later, device_told, err-holds, layouts-put, map-put, mends_read, mends_write, ok-holds, right-map, write_device, written}
 use Rattle.layout_check.proofs.Mendings.{mended-map}
-use Rattle.layout_check.proofs.Orders.{over_none}
 use Rattle.layout_check.proofs.RightMap.{changed_written, made-passed, made-written, over_read_write}
 use Rattle.layout_check.proofs.Verdict.{map-right, told-at}
 use Rattle.layout_check.specs.Exact.{HasMap}
-use Rattle.layout_check.specs.InOrder.{AreMade, IsRight}
+use Rattle.layout_check.specs.RepairOrder.{IsRight}
 use Rattle.layout_check.specs.Made.{HasNoSpare}
 use Rattle.layout_check.specs.Mended.{KeepsLayouts}
 use Rattle.layout_check.proofs.mending.mend_map.Goals as goal
 
-pub returns-in_err-read_sector-clause-err : goal.returns-in_err-read_sector-clause-err
-returns-in_err-read_sector-clause-err g c =
+pub returns-in_err-read_sector-clause-failures : goal.returns-in_err-read_sector-clause-failures
+returns-in_err-read_sector-clause-failures g c =
     let S = g.D.Sectors.history in
     let p = err_from_is_err_and c.from_residual.result c.from_residual.ensures.1 in
-    rw (p.1, p.2) (device_told S (Unit {0}) c.args.disk.now c.read_sector.new.disk c.map_place.result _ c.in_err-read_sector.ensures.told c.in_err-read_sector.ensures.failures)
+    rw (p.1, p.2) (device_told S (Unit {0}) c.args.disk.now c.read_sector.new.disk c.map_place.result _ c.in_err-read_sector.ensures.told c.in_err-read_sector.ensures.failures c.in_err-read_sector.ensures.failed)
+
+pub returns-in_err-read_sector-clause-quiet : goal.returns-in_err-read_sector-clause-quiet
+returns-in_err-read_sector-clause-quiet g c has = reads_no_write g.D.Sectors.history c.args.disk.now c.read_sector.new.disk 1 c.in_err-read_sector.ensures.reads
 
 pub returns-in_err-read_sector-clause-mends : goal.returns-in_err-read_sector-clause-mends
 returns-in_err-read_sector-clause-mends g c = mends_read g.D.Sectors.history c.args.disk.now c.read_sector.new.disk 1 1 c.in_err-read_sector.ensures.reads
@@ -38,6 +44,9 @@ returns-then-is_ok-clause-layouts g c l h = let P : Image → Type 0 = λ i. IsL
 pub returns-then-is_ok-clause-mends : goal.returns-then-is_ok-clause-mends
 returns-then-is_ok-clause-mends g c = mends_read g.D.Sectors.history c.args.disk.now c.read_sector.new.disk 1 1 c.in_ok-read_sector.ensures.reads
 
+pub returns-then-is_ok-clause-quiet : goal.returns-then-is_ok-clause-quiet
+returns-then-is_ok-clause-quiet g c has = reads_no_write g.D.Sectors.history c.args.disk.now c.read_sector.new.disk 1 c.in_ok-read_sector.ensures.reads
+
 pub write_other-requires : goal.write_other-requires
 write_other-requires g c =
     c.in_ok-read_sector.ensures.sector ∙ ap (λ (i : Image). sector i c.map_place.result) (sym c.in_ok-read_sector.ensures.reads.image) ∙ ap (λ (p : Place). sector (g.D.Sectors.history.image c.read_sector.new.disk) p) (c.map_place.ensures ∙ sym c.map_place-2.ensures)
@@ -46,24 +55,21 @@ pub returns-clause-map : goal.returns-clause-map
 returns-clause-map g c =
     let S = g.D.Sectors.history in
     let same = c.in_ok-read_sector.ensures.reads.image in
-    on_ok c.write_other.result _ _ (λ h. written HasMap _ (S.image c.read_sector.new.disk) c.map_place-2.result c.map_of-wanted.result h c.map_place-2.ensures (map-put (S.image c.read_sector.new.disk) c.args.found.now c.map_of-wanted.result (S.whole c.read_sector.new.disk).size (told-at _ _ c.args.found.now same c.requires) (rw (← c.owners-2.ensures) c.map_of-wanted.ensures.right))) c.write_other.ensures.ok
+    on_ok c.write_other.result _ _ (λ h. written HasMap _ (S.image c.read_sector.new.disk) c.map_place-2.result c.map_of-wanted.result h c.map_place-2.ensures (map-put (S.image c.read_sector.new.disk) c.args.found.now c.map_of-wanted.result (S.whole c.read_sector.new.disk).size (told-at _ _ c.args.found.now same c.requires) (rw (← c.owners-2.ensures) c.map_of-wanted.ensures.right))) c.write_other.ensures.write.ok
 
 pub returns-clause-layouts : goal.returns-clause-layouts
 returns-clause-layouts g c =
     let S = g.D.Sectors.history in
-    on_ok c.write_other.result _ _ (λ h. written (KeepsLayouts (S.image c.args.disk.now)) _ (S.image c.read_sector.new.disk) c.map_place-2.result c.map_of-wanted.result h c.map_place-2.ensures (layouts-put (S.image c.args.disk.now) (S.image c.read_sector.new.disk) c.map_of-wanted.result c.in_ok-read_sector.ensures.reads.image)) c.write_other.ensures.ok
-
-pub returns-clause-err : goal.returns-clause-err
-returns-clause-err g c = if_err c.write_other.result _ _ (λ f h. device_later g.D.Sectors.history c.args.disk.now c.read_sector.new.disk c.write_other.new.disk f c.in_ok-read_sector.ensures.failures h) c.write_other.ensures.err
+    on_ok c.write_other.result _ _ (λ h. written (KeepsLayouts (S.image c.args.disk.now)) _ (S.image c.read_sector.new.disk) c.map_place-2.result c.map_of-wanted.result h c.map_place-2.ensures (layouts-put (S.image c.args.disk.now) (S.image c.read_sector.new.disk) c.map_of-wanted.result c.in_ok-read_sector.ensures.reads.image)) c.write_other.ensures.write.ok
 
 pub returns-clause-failures : goal.returns-clause-failures
-returns-clause-failures g c = on_ok c.write_other.result _ _ (λ h. h ∙ c.in_ok-read_sector.ensures.failures) c.write_other.ensures.failures
+returns-clause-failures g c = device_later g.D.Sectors.history (Unit {0}) c.args.disk.now c.read_sector.new.disk c.write_other.new.disk c.write_other.result c.in_ok-read_sector.ensures.failures (write_device g.D.Sectors.history (Unit {0}) c.read_sector.new.disk c.write_other.new.disk c.map_place-2.result c.map_of-wanted.result c.write_other.result c.write_other.ensures.write)
 
 pub returns-clause-mends : goal.returns-clause-mends
 returns-clause-mends g c =
     let S = g.D.Sectors.history in
     let read = c.in_ok-read_sector.ensures.sector ∙ ap (λ (p : Place). sector (S.image c.args.disk.now) p) c.map_place.ensures ∙ ap (λ (i : Image). sector i map_place) (sym c.in_ok-read_sector.ensures.reads.image) in
-    mends_write S c.args.disk.now c.read_sector.new.disk c.write_other.new.disk 1 map_place c.map_of-wanted.result c.in_ok-read_sector.ensures.reads (rw c.map_place-2.ensures at c.write_other.ensures.held)
+    mends_write S c.args.disk.now c.read_sector.new.disk c.write_other.new.disk 1 map_place c.map_of-wanted.result c.in_ok-read_sector.ensures.reads (rw c.map_place-2.ensures at (write_changes S c.read_sector.new.disk c.write_other.new.disk c.map_place-2.result c.map_of-wanted.result _ c.write_other.result c.write_other.ensures.write))
     (λ i l h. mended-map i l (S.image c.read_sector.new.disk) c.map_of-wanted.result (S.whole c.read_sector.new.disk).size (rw (← read) c.map_of-wanted.ensures.header) h)
 
 pub returns-clause-quiet : goal.returns-clause-quiet
@@ -91,7 +97,7 @@ returns-clause-over g c l is =
     let wrong = err-holds c.check_bits.result _ (sym c.is_ok.ensures.value ∙ c.if-is_ok.false) c.check_bits.ensures.err in
     let made = made-written (S.image a) (S.image b) c.args.found.now c.read_sector.new.to c.map_of-wanted.result l (S.whole a).size c.in_ok-read_sector.ensures.reads.image c.requires read (rw (← c.owners.ensures) wrong) (rw (← c.owners-2.ensures) c.map_of-wanted.ensures.right) is in
     let write = (rw c.map_place-2.ensures at c.write_other.ensures) in
-    over_read_write S a b c.write_other.new.disk 1 c.in_ok-read_sector.ensures.reads map_place c.map_of-wanted.result write.held.held (IsRight l) made write.once
+    over_read_write S a b c.write_other.new.disk 1 c.in_ok-read_sector.ensures.reads map_place c.map_of-wanted.result write.write.held (IsRight l) made write.once
 
 pub returns-clause-made : goal.returns-clause-made
 returns-clause-made g c =
@@ -101,9 +107,9 @@ returns-clause-made g c =
     let read = c.in_ok-read_sector.ensures.sector ∙ ap (λ (p : Place). sector (S.image a) p) c.map_place.ensures in
     let wrong = err-holds c.check_bits.result _ (sym c.is_ok.ensures.value ∙ c.if-is_ok.false) c.check_bits.ensures.err in
     on_ok c.write_other.result _ _ (λ h l is. written (AreMade (IsRight l) (map_place ∷ []) (S.image a)) _ (S.image b) c.map_place-2.result c.map_of-wanted.result h c.map_place-2.ensures
-    (made-written (S.image a) (S.image b) c.args.found.now c.read_sector.new.to c.map_of-wanted.result l (S.whole a).size c.in_ok-read_sector.ensures.reads.image c.requires read (rw (← c.owners.ensures) wrong) (rw (← c.owners-2.ensures) c.map_of-wanted.ensures.right) is)) c.write_other.ensures.ok
+    (made-written (S.image a) (S.image b) c.args.found.now c.read_sector.new.to c.map_of-wanted.result l (S.whole a).size c.in_ok-read_sector.ensures.reads.image c.requires read (rw (← c.owners.ensures) wrong) (rw (← c.owners-2.ensures) c.map_of-wanted.ensures.right) is)) c.write_other.ensures.write.ok
 
 pub returns-clause-spare : goal.returns-clause-spare
 returns-clause-spare g c changed track low high =
-    let held = (rw c.map_place-2.ensures at c.write_other.ensures.held).held in
+    let held = (rw c.map_place-2.ensures at c.write_other.ensures.write.held) in
     changed_written g.D.Sectors.history c.args.disk.now c.read_sector.new.disk c.write_other.new.disk 1 c.in_ok-read_sector.ensures.reads map_place c.map_of-wanted.result held (λ x. HasNoSpare x track) (c.map_of-wanted.ensures.spare track low high) changed

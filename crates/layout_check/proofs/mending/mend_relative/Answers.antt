@@ -1,35 +1,36 @@
 -- The parts, and then the side sectors.
-use Rattle.std.proofs.Common.{List, arith, refl, subst, sym, ◌∙◌}
+use Rattle.std.proofs.Common.{List, arith, refl, subst, sym}
 use Rattle.std.specs.Prelude.{Option}
 use Rattle.std.proofs.lemmas.Result.{err_from_is_err_and}
-use Rattle.d64_image.proofs.Moments.{reads_then, reads_weaker}
+use Rattle.d64_image.proofs.Moments.{no_write_then, reads_no_write}
 use Rattle.d64_image.specs.Images.{Image}
 use Rattle.d64_image.specs.declared.place.Place.{Place}
+use Rattle.disk_layout.proofs.Orders.{over_none, over_read}
+use Rattle.disk_layout.specs.InOrder.{AreMade, GoesOver}
 use Rattle.disk_layout.specs.Layout.{IsLayout}
 use Rattle.layout_check.proofs.Entries.{rel-closed}
-use Rattle.layout_check.proofs.Finding.{if_err, on_ok}
+use Rattle.layout_check.proofs.Finding.{on_ok}
 use Rattle.layout_check.proofs.MapMends.{device_later, mends_read, mends_then}
-use Rattle.layout_check.proofs.Orders.{over_none, over_read}
 use Rattle.layout_check.proofs.RightSides.{file-sides_once, made_exact, sides-found}
 use Rattle.layout_check.proofs.SideMends.{parts-at, parts-exact, parts-here, right-there, sound-device}
 use Rattle.layout_check.specs.Exact.{AreExactSides, JudgesSides}
-use Rattle.layout_check.specs.InOrder.{AreMade, GoesOver, IsRight}
+use Rattle.layout_check.specs.RepairOrder.{IsRight}
 use Rattle.layout_check.specs.Mended.{KeepsExact, KeepsLayouts, SameMap}
 use Rattle.layout_check.proofs.mending.mend_relative.Goals as goal
 
 pub find_parts-requires-clause-closed : goal.find_parts-requires-clause-closed
 find_parts-requires-clause-closed g c = rel-closed _ c.args.slot.now c.requires.entry c.requires.rel
 
-pub returns-in_err-find_parts-clause-err : goal.returns-in_err-find_parts-clause-err
-returns-in_err-find_parts-clause-err g c =
+pub returns-in_err-find_parts-clause-failures : goal.returns-in_err-find_parts-clause-failures
+returns-in_err-find_parts-clause-failures g c =
     let p = err_from_is_err_and c.from_residual.result c.from_residual.ensures.1 in
-    rw (p.1, p.2) (sound-device g.D.Sectors.history c.args.disk.now c.find_parts.new.disk 732 _ (c.requires.filed.layout, c.requires.filed.sound) c.in_err-find_parts.ensures.err)
+    rw (p.1, p.2) (sound-device g.D.Sectors.history (Unit {0}) c.args.disk.now c.find_parts.new.disk 732 _ (c.requires.filed.layout, c.requires.filed.sound) c.in_err-find_parts.ensures.err)
 
 pub returns-in_err-find_parts-clause-mends : goal.returns-in_err-find_parts-clause-mends
 returns-in_err-find_parts-clause-mends g c = mends_read g.D.Sectors.history c.args.disk.now c.find_parts.new.disk 732 6 c.in_err-find_parts.ensures.err.reads
 
 pub returns-in_err-find_parts-clause-quiet : goal.returns-in_err-find_parts-clause-quiet
-returns-in_err-find_parts-clause-quiet g c exact = reads_weaker g.D.Sectors.history c.args.disk.now c.find_parts.new.disk 732 738 (omega arith) c.in_err-find_parts.ensures.err.reads
+returns-in_err-find_parts-clause-quiet g c exact = reads_no_write g.D.Sectors.history c.args.disk.now c.find_parts.new.disk 732 c.in_err-find_parts.ensures.err.reads
 
 pub returns-in_err-find_parts-clause-over : goal.returns-in_err-find_parts-clause-over
 returns-in_err-find_parts-clause-over g c l f is own slot = over_none g.D.Sectors.history (IsRight l) f.sides c.args.disk.now c.find_parts.new.disk 732 c.in_err-find_parts.ensures.err.reads
@@ -53,11 +54,8 @@ returns-in-Some-clause-others g c = on_ok c.mend_sides.result _ _ (λ h. let P :
 pub returns-in-Some-clause-layouts : goal.returns-in-Some-clause-layouts
 returns-in-Some-clause-layouts g c = on_ok c.mend_sides.result _ _ (λ h. let P : Image → Type 0 = λ i. KeepsLayouts i (g.D.Sectors.history.image c.mend_sides.new.disk) in subst P c.in_ok-find_parts.ensures.ok.reads.image h) c.mend_sides.ensures.layouts
 
-pub returns-in-Some-clause-err : goal.returns-in-Some-clause-err
-returns-in-Some-clause-err g c = if_err c.mend_sides.result _ _ (λ f h. device_later g.D.Sectors.history c.args.disk.now c.find_parts.new.disk c.mend_sides.new.disk f c.in_ok-find_parts.ensures.ok.failures h) c.mend_sides.ensures.err
-
 pub returns-in-Some-clause-failures : goal.returns-in-Some-clause-failures
-returns-in-Some-clause-failures g c = on_ok c.mend_sides.result _ _ (λ h. h ∙ c.in_ok-find_parts.ensures.ok.failures) c.mend_sides.ensures.failures
+returns-in-Some-clause-failures g c = device_later g.D.Sectors.history (Unit {0}) c.args.disk.now c.find_parts.new.disk c.mend_sides.new.disk c.mend_sides.result c.in_ok-find_parts.ensures.ok.failures c.mend_sides.ensures.failures
 
 pub returns-in-Some-clause-mends : goal.returns-in-Some-clause-mends
 returns-in-Some-clause-mends g c =
@@ -69,7 +67,7 @@ returns-in-Some-clause-quiet g c exact =
     let S = g.D.Sectors.history in
     let found = c.in_ok-find_parts.ensures in
     let right = exact c.find_parts.new.blocks.items c.find_parts.new.sides.items (parts-here _ c.args.slot.now c.find_parts.new.blocks.items c.find_parts.new.sides.items c.requires.filed c.requires.rel found.parts) in
-    reads_then S c.args.disk.now c.find_parts.new.disk c.mend_sides.new.disk _ 6 738 (omega (arith, found.few)) found.ok.reads
+    no_write_then S c.args.disk.now c.find_parts.new.disk c.mend_sides.new.disk (reads_no_write S _ _ _ found.ok.reads)
     (c.mend_sides.ensures.quiet (right-there _ _ c.args.slot.now c.find_parts.new.blocks.items c.find_parts.new.sides.items c.as_slice.result.now c.as_slice-in-Some.result.now found.ok.reads.image c.as_slice.ensures.value c.as_slice-in-Some.ensures.value right))
 
 pub returns-in-Some-clause-map : goal.returns-in-Some-clause-map
@@ -129,4 +127,4 @@ returns-in-None-clause-made g c l f is own slot =
     subst Q (sides-found old l f c.args.slot.now blocks sides sides is own slot c.requires.rel found.parts refl) (made_exact old l is c.args.slot.now blocks sides parts (S.image c.find_parts.new.disk) found.ok.reads.image (subst P c.in-None.is found.exact))
 
 pub returns-in-None-clause-quiet : goal.returns-in-None-clause-quiet
-returns-in-None-clause-quiet g c exact = let found = c.in_ok-find_parts.ensures in reads_weaker g.D.Sectors.history c.args.disk.now c.find_parts.new.disk _ 738 (omega (arith, found.few)) found.ok.reads
+returns-in-None-clause-quiet g c exact = reads_no_write g.D.Sectors.history c.args.disk.now c.find_parts.new.disk _ c.in_ok-find_parts.ensures.ok.reads

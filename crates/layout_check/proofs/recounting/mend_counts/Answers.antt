@@ -1,23 +1,28 @@
 -- Sector by sector of the directory.
-use Rattle.std.proofs.Common.{ap, arith, length, ◌∙◌, ◌+◌, ◌*◌, ◌≡◌}
+use Rattle.std.proofs.Common.{Err, ap, arith, ◌∙◌, ◌+◌, ◌≡◌}
 use Rattle.std.proofs.lemmas.Result.{err_from_is_err_and}
-use Rattle.d64_image.proofs.Moments.{at_end, reads_weaker}
+use Rattle.d64_image.proofs.Moments.{at_end, reads_no_write}
 use Rattle.disk_layout.proofs.Layouts.{IsLayout-one, get-contains}
+use Rattle.disk_layout.proofs.Orders.{over_none}
 use Rattle.disk_layout.specs.Layout.{IsLayout, Layout}
-use Rattle.layout_check.proofs.Orders.{over_none}
+use Rattle.layout_check.proofs.MapMends.{device_later}
 use Rattle.layout_check.proofs.Pointers.{read-there}
-use Rattle.layout_check.proofs.RightWrites.{all_moments, counted-of, device-told, few-of, first_moments, in-of, made_directory, made_start, made_step, over_directory, over_start, over_step, sound-of, step_moments, step_silent}
-use Rattle.layout_check.specs.InOrder.{IsRight}
+use Rattle.layout_check.proofs.RightWrites.{all_moments, counted-of, few-of, first_moments, in-of, made_directory, made_start, made_step, over_directory, over_start, over_step, sound-of, step_moments, step_quiet}
+use Rattle.layout_check.proofs.SideMends.{sound-device}
+use Rattle.layout_check.specs.RepairOrder.{IsRight}
 use Rattle.layout_check.specs.Recounted.{IsRecountOf}
 use Rattle.layout_check.proofs.recounting.mend_counts.Goals as goal
 
 pub find_directory-requires : goal.find_directory-requires
 find_directory-requires g c = let (l, h) = c.requires.sound in (l.directory, _, h.directory)
 
-pub returns-in_err-find_directory-clause-err : goal.returns-in_err-find_directory-clause-err
-returns-in_err-find_directory-clause-err g c =
+pub returns-in_err-find_directory-clause-failures : goal.returns-in_err-find_directory-clause-failures
+returns-in_err-find_directory-clause-failures g c =
     let p = err_from_is_err_and c.from_residual.result c.from_residual.ensures.1 in
-    rw (p.1, p.2) (device-told _ _ _ c.requires.sound c.in_err-find_directory.ensures.err.holds)
+    rw (p.1, p.2) (sound-device g.D.Sectors.history (Unit {0}) c.args.disk.now c.find_directory.new.disk 683 _ c.requires.sound c.in_err-find_directory.ensures.err)
+
+pub returns-in_err-find_directory-clause-quiet : goal.returns-in_err-find_directory-clause-quiet
+returns-in_err-find_directory-clause-quiet g c all = reads_no_write g.D.Sectors.history c.args.disk.now c.find_directory.new.disk 683 c.in_err-find_directory.ensures.err.reads
 
 pub returns-in_err-find_directory-clause-moments : goal.returns-in_err-find_directory-clause-moments
 returns-in_err-find_directory-clause-moments g c =
@@ -34,7 +39,7 @@ loop-place-init g c =
       moments = first_moments S c.args.disk.now c.find_directory.new.disk c.as_slice-place-items.result.now _ found.reads;
       over = λ l h. over_start S c.args.disk.now l h c.as_slice-place-items.result.now (c.as_slice-place-items.ensures.value ∙ c.in_ok-find_directory.ensures.directory l.directory _ h.directory) c.find_directory.new.disk _ found.reads;
       made = λ l h. made_start S c.args.disk.now l h c.as_slice-place-items.result.now (c.as_slice-place-items.ensures.value ∙ c.in_ok-find_directory.ensures.directory l.directory _ h.directory) c.find_directory.new.disk found.reads.image;
-      silent = λ all. reads_weaker S c.args.disk.now c.find_directory.new.disk _ _ (omega (arith, ap length c.as_slice-place-items.ensures.value, c.as_slice-place-items.ensures.fits)) found.reads;
+      quiet = λ all. reads_no_write S c.args.disk.now c.find_directory.new.disk _ found.reads;
       failures = found.failures;
     }
 
@@ -65,12 +70,13 @@ returns-in_err-mend_sector-clause-moments g c =
     (step_moments S c.args.disk.now c.loop-place.disk c.mend_sector.new.disk items k c.place-item.result
     (get-contains items k c.place-item.result (read-there items k c.place-item.result c.loop-place-test.true c.place-item.is)) c.loop-place.invariant.moments c.in_err-mend_sector.ensures.moments)
 
-pub returns-in_err-mend_sector-clause-silent : goal.returns-in_err-mend_sector-clause-silent
-returns-in_err-mend_sector-clause-silent g c =
-    let S = g.D.Sectors.history in
-    let items = c.as_slice-place-items.result.now in
-    let same : (l : Layout) → IsLayout (S.image c.args.disk.now) l → items ≡ l.directory = λ l h. c.as_slice-place-items.ensures.value ∙ c.in_ok-find_directory.ensures.directory l.directory _ h.directory in
-    step_silent S c.args.disk.now c.loop-place.disk c.mend_sector.new.disk c.place-item.result (720 + 5857 * c.loop-place.place-index) 106146 (omega (arith, c.loop-place-test.true, few-of (S.image c.args.disk.now) items c.requires.sound same)) c.loop-place.invariant.silent c.in_err-mend_sector.ensures.silent
+pub returns-in_err-mend_sector-clause-quiet : goal.returns-in_err-mend_sector-clause-quiet
+returns-in_err-mend_sector-clause-quiet g c = step_quiet g.D.Sectors.history c.args.disk.now c.loop-place.disk c.mend_sector.new.disk c.place-item.result c.loop-place.invariant.quiet c.in_err-mend_sector.ensures.quiet
+
+pub returns-in_err-mend_sector-clause-failures : goal.returns-in_err-mend_sector-clause-failures
+returns-in_err-mend_sector-clause-failures g c =
+    let p = err_from_is_err_and c.from_residual-in_err-mend_sector.result c.from_residual-in_err-mend_sector.ensures.1 in
+    rw (p.1, p.2) (device_later g.D.Sectors.history (Unit {0}) c.args.disk.now c.loop-place.disk c.mend_sector.new.disk (Err _) c.loop-place.invariant.failures c.in_err-mend_sector.ensures.failures)
 
 pub loop-place-preserved : goal.loop-place-preserved
 loop-place-preserved g c =
@@ -84,7 +90,7 @@ loop-place-preserved g c =
       moments = step_moments S c.args.disk.now c.loop-place.disk c.mend_sector.new.disk items k c.place-item.result (get-contains items k c.place-item.result there) old.moments now.moments;
       over = λ l h. over_step S c.args.disk.now l h items (c.as_slice-place-items.ensures.value ∙ c.in_ok-find_directory.ensures.directory l.directory _ h.directory) c.loop-place.disk c.mend_sector.new.disk k c.place-item.result c.loop-place-test.true c.place-item.is old.moments now.moments now.once (old.over l h) (old.made l h);
       made = λ l h. made_step S c.args.disk.now l h items (c.as_slice-place-items.ensures.value ∙ c.in_ok-find_directory.ensures.directory l.directory _ h.directory) c.loop-place.disk c.mend_sector.new.disk k c.place-item.result c.loop-place-test.true c.place-item.is old.moments now.moments now.right (old.made l h);
-      silent = step_silent S c.args.disk.now c.loop-place.disk c.mend_sector.new.disk c.place-item.result (720 + 5857 * k) (720 + 5857 * (k + 1)) (omega arith) old.silent now.silent;
+      quiet = step_quiet S c.args.disk.now c.loop-place.disk c.mend_sector.new.disk c.place-item.result old.quiet now.quiet;
       failures = now.failures ∙ old.failures;
     }
 
@@ -103,13 +109,6 @@ returns-clause-moments g c =
     let items = c.as_slice-place-items.result.now in
     let same : (l : Layout) → IsLayout (S.image c.args.disk.now) l → items ≡ l.directory = λ l h. c.as_slice-place-items.ensures.value ∙ c.in_ok-find_directory.ensures.directory l.directory _ h.directory in
     all_moments S c.args.disk.now c.loop-place.disk items c.loop-place.place-index (omega (arith, c.loop-place.auto, few-of (S.image c.args.disk.now) items c.requires.sound same)) same c.loop-place.invariant.moments
-
-pub returns-clause-silent : goal.returns-clause-silent
-returns-clause-silent g c all =
-    let S = g.D.Sectors.history in
-    let items = c.as_slice-place-items.result.now in
-    let same : (l : Layout) → IsLayout (S.image c.args.disk.now) l → items ≡ l.directory = λ l h. c.as_slice-place-items.ensures.value ∙ c.in_ok-find_directory.ensures.directory l.directory _ h.directory in
-    reads_weaker S c.args.disk.now c.loop-place.disk _ 106146 (omega (arith, c.loop-place.auto, few-of (S.image c.args.disk.now) items c.requires.sound same)) (c.loop-place.invariant.silent all)
 
 pub returns-in_err-mend_sector-clause-over : goal.returns-in_err-mend_sector-clause-over
 returns-in_err-mend_sector-clause-over g c l h =

@@ -1,8 +1,9 @@
 -- The sectors so far were gone over, and the image differs in counts alone.
-use Rattle.std.proofs.Common.{◌≡◌, ◌+◌, ◌*◌, take}
-use Rattle.d64_image.specs.History.{Changes, OnlyReads}
+use Rattle.std.proofs.Common.{◌≡◌, take}
+use Rattle.d64_image.specs.History.{Changes, WritesNothing}
+use Rattle.disk_layout.specs.InOrder.{AreMade, GoesOver}
 use Rattle.disk_layout.specs.Layout.{IsLayout, Layout}
-use Rattle.layout_check.specs.InOrder.{AreMade, GoesOver, IsRight}
+use Rattle.layout_check.specs.RepairOrder.{IsRight}
 use Rattle.layout_check.specs.Recounted.{AreCounted, IsRecountOf}
 use Rattle.layout_check.proofs.recounting.mend_counts.Given as goal
 
@@ -13,6 +14,6 @@ invariant-loop-place g l =
       moments : Changes S l.fn.disk l.disk l.place-index (λ c. IsRecountOf (S.image l.fn.disk) c l.place-items);
       over : (m : Layout) → IsLayout (S.image l.fn.disk) m → GoesOver S l.fn.disk l.disk (IsRight m) (take l.place-index l.place-items);
       made : (m : Layout) → IsLayout (S.image l.fn.disk) m → AreMade (IsRight m) (take l.place-index l.place-items) (S.image l.fn.disk) (S.image l.disk);
-      silent : AreCounted (S.image l.fn.disk) → OnlyReads S l.fn.disk l.disk (720 + 5857 * l.place-index);
+      quiet : AreCounted (S.image l.fn.disk) → WritesNothing S l.fn.disk l.disk;
       failures : S.failures l.disk ≡ S.failures l.fn.disk;
     }

@@ -1,18 +1,18 @@
 -- The slot of these bytes is that of the image.
-use Rattle.std.proofs.Common.{ap, sym, ◌∙◌}
+use Rattle.std.proofs.Common.{List, ap, slice_index, sym, ℕ, ◌∙◌}
 use Rattle.std.proofs.lemmas.Bool.{false≢true}
-use Rattle.disk_layout.specs.Layout.{is_rel}
+use Rattle.disk_layout.specs.Layout.{is_rel, is_rel_type}
 use Rattle.layout_check.proofs.RightSlots.{counted-one, counted-right_at, rel-entry-at, right-counted, right-plain}
 use Rattle.layout_check.proofs.recounting.recount_slot.Goals as goal
 
 pub returns-then-not-is_relative-clause-right : goal.returns-then-not-is_relative-clause-right
-returns-then-not-is_relative-clause-right g c = right-plain _ c.args.place c.args.bytes.now c.args.number c.in_sector-slot.result (c.in_sector-slot.ensures ∙ c.requires.there) (λ e. false≢true (sym c.if-not-is_relative.true ∙ c.is_relative.ensures ∙ e))
+returns-then-not-is_relative-clause-right g c = right-plain _ c.args.place c.args.bytes.now c.args.number c.in_sector-slot.result (c.in_sector-slot.ensures ∙ c.requires.there) (λ e. false≢true (sym c.if-not-is_relative.true ∙ (c.is_relative.ensures ∙ ap (λ (bs : List ℕ). is_rel_type (slice_index bs 2)) c.new.ensures) ∙ e))
 
 pub count_owned-requires-clause-entry : goal.count_owned-requires-clause-entry
-count_owned-requires-clause-entry g c = rel-entry-at _ c.args.place c.args.number c.in_sector-slot.result c.requires.sound c.requires.own c.requires.eight (c.in_sector-slot.ensures ∙ c.requires.there) (sym c.is_relative.ensures ∙ c.if-not-is_relative.false)
+count_owned-requires-clause-entry g c = rel-entry-at _ c.args.place c.args.number c.in_sector-slot.result c.requires.sound c.requires.own c.requires.eight (c.in_sector-slot.ensures ∙ c.requires.there) (sym (c.is_relative.ensures ∙ ap (λ (bs : List ℕ). is_rel_type (slice_index bs 2)) c.new.ensures) ∙ c.if-not-is_relative.false)
 
 pub returns-clause-counts : goal.returns-clause-counts
-returns-clause-counts g c = counted-one c.args.place c.args.bytes.now c.put_count.new.bytes c.args.number c.requires.eight (ap is_rel (sym c.in_sector-slot.ensures) ∙ sym c.is_relative.ensures ∙ c.if-not-is_relative.false) c.put_count.ensures.rest
+returns-clause-counts g c = counted-one c.args.place c.args.bytes.now c.put_count.new.bytes c.args.number c.requires.eight (ap is_rel (sym c.in_sector-slot.ensures) ∙ sym (c.is_relative.ensures ∙ ap (λ (bs : List ℕ). is_rel_type (slice_index bs 2)) c.new.ensures) ∙ c.if-not-is_relative.false) c.put_count.ensures.rest
 
 pub returns-clause-right : goal.returns-clause-right
 returns-clause-right g c = right-counted _ c.args.place c.put_count.new.bytes c.args.number c.in_ok-count.count c.in_sector-slot.result (c.in_sector-slot.ensures ∙ c.requires.there) c.in_ok-count.ensures.count (c.put_count.ensures.count c.args.place)
@@ -20,6 +20,6 @@ returns-clause-right g c = right-counted _ c.args.place c.put_count.new.bytes c.
 pub returns-clause-kept : goal.returns-clause-kept
 returns-clause-kept g c right =
     let there = c.in_sector-slot.ensures ∙ c.requires.there in
-    let rel = sym c.is_relative.ensures ∙ c.if-not-is_relative.false in
+    let rel = sym (c.is_relative.ensures ∙ ap (λ (bs : List ℕ). is_rel_type (slice_index bs 2)) c.new.ensures) ∙ c.if-not-is_relative.false in
     let entry = rel-entry-at _ c.args.place c.args.number c.in_sector-slot.result c.requires.sound c.requires.own c.requires.eight there rel in
     c.put_count.ensures.kept c.args.place (counted-right_at _ c.args.place c.args.bytes.now c.args.number c.in_ok-count.count c.in_sector-slot.result c.requires.sound there entry rel c.in_ok-count.ensures.count right)

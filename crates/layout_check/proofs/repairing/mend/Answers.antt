@@ -1,34 +1,34 @@
 -- The map, then the side sectors, then the block counts.
-use Rattle.std.proofs.Common.{◌∙◌, arith}
+use Rattle.std.proofs.Common.{Err, ◌∙◌, arith}
 use Rattle.std.proofs.lemmas.Result.{err_from_is_err_and}
-use Rattle.d64_image.proofs.Moments.{at_end, reads_then, reads_weaker}
+use Rattle.d64_image.proofs.Moments.{at_end, no_write_then}
 use Rattle.layout_check.proofs.MapMends.{device_later, mends_then}
 use Rattle.layout_check.proofs.RepairOrder.{order_all, order_map, order_sides, spare_counts, spare_sides}
-use Rattle.layout_check.proofs.RepairRuns.{counts-at, counts_mend, device_after, mends_from, ok-then, repaired, sides-at}
+use Rattle.layout_check.proofs.RepairRuns.{counts-at, counts_mend, mends_from, ok-then, repaired, sides-at}
 use Rattle.layout_check.proofs.Repairs.{clean-map}
 use Rattle.layout_check.proofs.repairing.mend.Goals as goal
 
 pub returns-in_err-mend_map-clause-moments : goal.returns-in_err-mend_map-clause-moments
 returns-in_err-mend_map-clause-moments g c = mends_from g.D.Sectors.history _ _ 1 (omega arith) c.mend_map.ensures.mends
 
-pub returns-in_err-mend_map-clause-quiet : goal.returns-in_err-mend_map-clause-quiet
-returns-in_err-mend_map-clause-quiet g c clean = reads_weaker g.D.Sectors.history _ _ 1 212437 (omega arith) (c.mend_map.ensures.quiet (clean-map _ clean))
-
 pub returns-in_err-mend_entries-clause-moments : goal.returns-in_err-mend_entries-clause-moments
 returns-in_err-mend_entries-clause-moments g c =
     let S = g.D.Sectors.history in
     mends_from S _ _ 865 (omega arith) (mends_then S _ _ _ 1 864 865 (omega arith) c.mend_map.ensures.mends c.mend_entries.ensures.mends)
 
-pub returns-in_err-mend_entries-clause-err : goal.returns-in_err-mend_entries-clause-err
-returns-in_err-mend_entries-clause-err g c =
+pub returns-in_err-mend_entries-clause-failures : goal.returns-in_err-mend_entries-clause-failures
+returns-in_err-mend_entries-clause-failures g c =
     let p = err_from_is_err_and c.from_residual-in_err-mend_entries.result c.from_residual-in_err-mend_entries.ensures.1 in
-    rw (p.1, p.2) (device_later g.D.Sectors.history c.args.disk.now c.mend_map.new.disk c.mend_entries.new.disk _ c.in_ok-mend_map.ensures.failures c.in_err-mend_entries.ensures.err)
+    rw (p.1, p.2) (device_later g.D.Sectors.history (Unit {0}) c.args.disk.now c.mend_map.new.disk c.mend_entries.new.disk (Err _) c.in_ok-mend_map.ensures.failures c.in_err-mend_entries.ensures.failures)
+
+pub returns-in_err-mend_map-clause-quiet : goal.returns-in_err-mend_map-clause-quiet
+returns-in_err-mend_map-clause-quiet g c clean = c.mend_map.ensures.quiet (clean-map _ clean)
 
 pub returns-in_err-mend_entries-clause-quiet : goal.returns-in_err-mend_entries-clause-quiet
 returns-in_err-mend_entries-clause-quiet g c clean =
     let S = g.D.Sectors.history in
     let first = c.mend_map.ensures.quiet (clean-map _ clean) in
-    reads_then S _ _ _ 1 106290 212437 (omega arith) first (c.mend_entries.ensures.quiet (sides-at _ _ first.image clean))
+    no_write_then S _ _ _ first (c.mend_entries.ensures.quiet (sides-at _ _ first.image clean))
 
 pub returns-clause-moments : goal.returns-clause-moments
 returns-clause-moments g c =
@@ -45,18 +45,18 @@ returns-clause-clean g c =
     (at_end S _ _ _ c.mend_counts.ensures.moments.held) (λ l is. at_end S _ _ _ (returns-clause-moments g c l is).held))
     c.mend_counts.ensures.counted
 
-pub returns-clause-err : goal.returns-clause-err
-returns-clause-err g c =
-    device_after g.D.Sectors.history c.args.disk.now c.mend_entries.new.disk c.mend_counts.new.disk c.mend_counts.result
-    (c.in_ok-mend_entries.ensures.failures ∙ c.in_ok-mend_map.ensures.failures) c.mend_counts.ensures.err c.mend_counts.ensures.failures
+pub returns-clause-failures : goal.returns-clause-failures
+returns-clause-failures g c =
+    device_later g.D.Sectors.history (Unit {0}) c.args.disk.now c.mend_entries.new.disk c.mend_counts.new.disk c.mend_counts.result
+    (c.in_ok-mend_entries.ensures.failures ∙ c.in_ok-mend_map.ensures.failures) c.mend_counts.ensures.failures
 
 pub returns-clause-quiet : goal.returns-clause-quiet
 returns-clause-quiet g c clean =
     let S = g.D.Sectors.history in
     let first = c.mend_map.ensures.quiet (clean-map _ clean) in
     let second = c.mend_entries.ensures.quiet (sides-at _ _ first.image clean) in
-    reads_then S _ _ _ 106291 106146 212437 (omega arith) (reads_then S _ _ _ 1 106290 106291 (omega arith) first second)
-    (c.mend_counts.ensures.silent (counts-at _ _ (second.image ∙ first.image) clean))
+    no_write_then S _ _ _ (no_write_then S _ _ _ first second)
+    (c.mend_counts.ensures.quiet (counts-at _ _ (second.image ∙ first.image) clean))
 
 pub returns-in_err-mend_map-clause-order : goal.returns-in_err-mend_map-clause-order
 returns-in_err-mend_map-clause-order g c l is = order_map g.D.Sectors.history l _ _ (c.mend_map.ensures.over l is)

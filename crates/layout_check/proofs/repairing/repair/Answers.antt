@@ -1,11 +1,13 @@
 -- The survey, then what is to be mended.
-use Rattle.std.proofs.Common.{arith}
-use Rattle.d64_image.proofs.Moments.{reads_then}
-use Rattle.layout_check.specs.InOrder.{IsRight, repair_order}
-use Rattle.layout_check.proofs.Orders.{over_none}
+use Rattle.d64_image.proofs.Moments.{no_write_then, reads_no_write}
+use Rattle.disk_layout.proofs.Orders.{over_none}
+use Rattle.layout_check.specs.RepairOrder.{IsRight, repair_order}
 use Rattle.layout_check.proofs.RepairOrder.{order_after, spare_after}
 use Rattle.layout_check.proofs.RepairRuns.{clean_after, mends_after}
 use Rattle.layout_check.proofs.repairing.repair.Goals as goal
+
+pub returns-in_err-found-clause-quiet : goal.returns-in_err-found-clause-quiet
+returns-in_err-found-clause-quiet g c clean = reads_no_write g.D.Sectors.history _ _ 2114 c.survey.ensures.reads
 
 pub returns-in_err-mend-clause-moments : goal.returns-in_err-mend-clause-moments
 returns-in_err-mend-clause-moments g c = mends_after g.D.Sectors.history _ _ _ 2114 c.in_ok-found.ensures.reads c.mend.ensures.moments
@@ -14,7 +16,7 @@ pub returns-in_err-mend-clause-quiet : goal.returns-in_err-mend-clause-quiet
 returns-in_err-mend-clause-quiet g c clean =
     let S = g.D.Sectors.history in
     let reads = c.in_ok-found.ensures.reads in
-    reads_then S _ _ _ 2114 212437 214551 (omega arith) reads (c.mend.ensures.quiet (clean_after S _ _ 2114 reads clean))
+    no_write_then S _ _ _ (reads_no_write S _ _ 2114 reads) (c.mend.ensures.quiet (clean_after S _ _ 2114 reads clean))
 
 pub returns-clause-moments : goal.returns-clause-moments
 returns-clause-moments g c = mends_after g.D.Sectors.history _ _ _ 2114 c.in_ok-found.ensures.reads c.mend.ensures.moments
@@ -26,7 +28,7 @@ pub returns-clause-quiet : goal.returns-clause-quiet
 returns-clause-quiet g c clean =
     let S = g.D.Sectors.history in
     let reads = c.in_ok-found.ensures.reads in
-    reads_then S _ _ _ 2114 212437 214551 (omega arith) reads (c.mend.ensures.quiet (clean_after S _ _ 2114 reads clean))
+    no_write_then S _ _ _ (reads_no_write S _ _ 2114 reads) (c.mend.ensures.quiet (clean_after S _ _ 2114 reads clean))
 
 pub returns-in_err-found-clause-order : goal.returns-in_err-found-clause-order
 returns-in_err-found-clause-order g c l is = over_none g.D.Sectors.history (IsRight l) (repair_order l) _ _ 2114 c.survey.ensures.reads

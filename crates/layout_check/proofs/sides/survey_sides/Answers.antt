@@ -6,8 +6,9 @@ use Rattle.std.proofs.lemmas.Option.{slice_get_within}
 use Rattle.std.proofs.lemmas.Result.{err_from_is_err_and}
 use Rattle.d64_image.specs.Images.{Image, sector}
 use Rattle.d64_image.specs.declared.place.Place.{Place}
+use Rattle.disk_layout.proofs.OtherWrites.{other-bytes}
 use Rattle.layout_check.proofs.Calls.{passes_read, passes_then, passes_weaker, side_tells, tells_read, tells_then, tells_weaker}
-use Rattle.layout_check.proofs.Inexact.{exact-here, other-bytes, same-bytes}
+use Rattle.layout_check.proofs.Inexact.{exact-here, same-bytes}
 use Rattle.layout_check.proofs.Judged.{exact-lists, judged-all, judged-exact, judged-none, judged-other}
 use Rattle.layout_check.proofs.Pointers.{read-there}
 use Rattle.layout_check.proofs.SideWalks.{few-sides, listed-here, unlisted-holds, unlisted-part}
@@ -15,6 +16,7 @@ use Rattle.disk_layout.specs.Layout.{record_length}
 use Rattle.disk_layout.specs.Side.{side_sector}
 use Rattle.layout_check.specs.Exact.{JudgesSides}
 use Rattle.layout_check.specs.Sides.{NamesEach}
+use Rattle.disk_layout.specs.Fault.{nowhere}
 use Rattle.layout_check.proofs.sides.survey_sides.Goals as goal
 use Rattle.layout_check.proofs.sides.survey_sides.Goals.{then-ne+else-not-names_each, else-ne}
 
@@ -38,7 +40,7 @@ returns-in_err-read_sector-clause-err g c =
     let p = err_from_is_err_and c.from_residual-in_err-read_sector.result c.from_residual-in_err-read_sector.ensures.1 in
     rw (p.1, p.2) (tells_then S c.args.disk.now c.loop-number.disk c.read_sector.new.disk _ 1 12 _
     (few-sides _ c.args.slot.now c.args.blocks.now c.walk_sides.new.sides.items c.as_slice-side-items.result.now c.loop-number.number c.in_ok-walk_sides.ensures.sides c.requires.few c.as_slice-side-items.ensures.value c.loop-number-test.true)
-    old.passes (tells_read S c.loop-number.disk c.read_sector.new.disk c.side-item.result _ read.told read.reads read.failures))
+    old.passes (tells_read S c.loop-number.disk c.read_sector.new.disk c.side-item.result _ read.told read.reads read.failures read.failed))
 
 pub names_each-requires : goal.names_each-requires
 names_each-requires g c = omega (arith, ap length c.as_slice-then-ne.ensures.value, c.in_ok-walk_sides.ensures.sides.count, c.requires.few)
@@ -51,7 +53,7 @@ returns-then-not-names_each-clause-err g c =
     let passes = passes_then S c.args.disk.now c.loop-number.disk c.read_sector.new.disk _ 1 12 few old.passes (passes_read S c.loop-number.disk c.read_sector.new.disk c.in_ok-read_sector.ensures.reads c.in_ok-read_sector.ensures.failures) in
     let e = c.in_ok-read_sector.ensures.sector ∙ ap (λ (i : Image). sector i c.side-item.result) old.passes.reads.image in
     side_tells S c.args.disk.now c.read_sector.new.disk 12 c.side-item.result passes
-    (unlisted-holds ⊥ _ c.args.slot.now c.args.blocks.now c.walk_sides.new.sides.items c.loop-number.number c.side-item.result c.read_sector.new.to c.requires.entry c.in_ok-walk_sides.ensures.sides
+    (unlisted-holds nowhere _ c.args.slot.now c.args.blocks.now c.walk_sides.new.sides.items c.loop-number.number c.side-item.result c.read_sector.new.to c.requires.entry c.in_ok-walk_sides.ensures.sides
     (unlisted-part c.walk_sides.new.sides.items c.as_slice-side-items.result.now c.loop-number.number c.side-item.result c.as_slice-side-items.ensures.value c.loop-number-test.true c.side-item.is)
     e (rw (← c.as_slice-then-ne.ensures.value) (c.names_each.ensures.wrong c.if-not-names_each.true)))
 

@@ -1,0 +1,3 @@
+pub mod Rounds
+pub mod Tallies
+pub mod Walks

@@ -1,0 +1,89 @@
+//! Does the same work so many times over, so that it can be timed: `benchmarks WORD ROUNDS IMAGE`. Each word prints one
+//! number, from which no round can be left out. Where there is no word, each benchmark is run for a few rounds.
+#![tactic(auto)]
+
+mod checks;
+mod sectors;
+
+use checks::count_clean;
+use d64_image::MemDisk;
+use disk_layout::blank_image;
+use std::process::ExitCode;
+use std::{env, fs, io};
+
+/// How many rounds there are where no word says it.
+const ROUNDS: u64 = 1000;
+
+/// Rounds of a benchmark and the number that they give. Err is a text that says what failed.
+type Done = Result<u64, &'static str>;
+
+/// The rounds that a word asks for; None where it is no number of at most 64 bits.
+fn asked_rounds(word: Option<String>) -> Option<u64> {
+    match word {
+        Some(word) => word.as_str().parse().ok(),
+        None => Some(ROUNDS),
+    }
+}
+
+/// The disk of the image file that is named; where none is, the blank disk for two tills.
+fn asked_disk(rt: &HostRuntime, path: Option<String>) -> Result<MemDisk, &'static str> {
+    let Some(path) = path else {
+        let mut disk = MemDisk::zeroed(rt.alloc()).map_err(|_| "no memory")?;
+        blank_image(&mut disk, b"STOCK LEDGER", *b"01", 2).map_err(|_| "no blank image")?;
+        return Ok(disk);
+    };
+    let bytes = fs::read(rt, path.as_str()).map_err(|_| "the image is not readable")?;
+    MemDisk::load(rt.alloc(), bytes.as_slice()).map_err(
+        |_| "the image has another size, or no memory",
+    )
+}
+
+/// `sectors`: a byte of so many sectors is raised; gives a checksum of these bytes.
+fn time_sectors(rt: &HostRuntime, rounds: u64) -> Done {
+    let mut disk = MemDisk::zeroed(rt.alloc()).map_err(|_| "no memory")?;
+    sectors::run(&mut disk, rounds).map_err(|_| "the device failed")
+}
+
+/// `check`: the disk is checked so many times; gives how often it was clean.
+fn time_checks(rt: &HostRuntime, rounds: u64, path: Option<String>) -> Done {
+    let mut disk = asked_disk(rt, path)?;
+    Ok(count_clean(&mut disk, rounds))
+}
+
+/// The benchmark of a word. Err also where there is no such word.
+fn timed(rt: &HostRuntime, word: &str, rounds: u64, path: Option<String>) -> Done {
+    match word {
+        "sectors" => time_sectors(rt, rounds),
+        "check" => time_checks(rt, rounds, path),
+        _ => Err("the words are sectors, check"),
+    }
+}
+
+fn main(rt: HostRuntime) -> io::Result<ExitCode> {
+    let mut words = env::args(&rt)?;
+    words.next();
+    let word = words.next();
+    let Some(rounds) = asked_rounds(words.next()) else {
+        eprintln!(rt; "benchmarks: ROUNDS is a number")?;
+        return Ok(ExitCode::from(2));
+    };
+    let Some(word) = word else {
+        for word in ["sectors", "check"] {
+            match timed(&rt, word, rounds, None) {
+                Ok(number) => println!(rt; "{word} {number}")?,
+                Err(what) => println!(rt; "{word} {what}")?,
+            }
+        }
+        return Ok(ExitCode::SUCCESS);
+    };
+    match timed(&rt, word.as_str(), rounds, words.next()) {
+        Ok(number) => {
+            println!(rt; "{number}")?;
+            Ok(ExitCode::SUCCESS)
+        }
+        Err(what) => {
+            eprintln!(rt; "benchmarks: {what}")?;
+            Ok(ExitCode::FAILURE)
+        }
+    }
+}

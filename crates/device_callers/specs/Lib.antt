@@ -1,4 +1,0 @@
-pub mod Copies
-pub mod Stamps
-pub mod Fills
-pub mod Recorder

@@ -1,9 +1,0 @@
--- Without an @ no line is bad.
-use Rattle.std.proofs.Common.{◌≡◌, false, rules, sym, ◌∙◌}
-use Rattle.ledger_cli.proofs.Lines.{no_at}
-use Rattle.ledger_cli.proofs.script.first_bad_line.Goals as goal
-
-pub returns-then-not-has_byte : goal.returns-then-not-has_byte
-returns-then-not-has_byte c =
-    let absent : c.has_byte.result ≡ false = search rules in
-    sym (no_at c.args.script.now (sym c.has_byte.ensures ∙ absent))

@@ -1,0 +1,10 @@
+-- The replies from an empty state on are the replies over the requests before each line.
+use Rattle.std.proofs.Common.{[]}
+use Rattle.request_cards.proofs.Plain.{replies_by_ledger, plain_nil}
+use Rattle.script_lines.specs.Lines.{lines}
+use Rattle.ledger_commands.specs.Tables.{dry_start}
+use Rattle.ledger_commands.proofs.dry_run.dry.Goals as goal
+
+pub returns-clause-ok : goal.returns-clause-ok
+returns-clause-ok g c =
+    rw (replies_by_ledger dry_start [] (lines c.args.script.now), plain_nil dry_start, ← c.new-table.ensures) c.play.ensures.ok

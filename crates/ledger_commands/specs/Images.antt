@@ -1,0 +1,64 @@
+-- What the commands over an image make and find. The names of a fresh disk are our own.
+use Rattle.std.specs.Prelude.{◌≡◌, ◌≢◌, ◌⊎◌, ℕ, List, None, Option, Some, codes, length, slice_index}
+use Rattle.d64_image.specs.Images.{Image, sector}
+use Rattle.d64_image.specs.Memory.{bytes_of, sectors_in}
+use Rattle.d64_image.specs.declared.place.Place.{Place}
+use Rattle.disk_layout.specs.Blank.{IsBlank}
+use Rattle.disk_layout.specs.Directory.{IsDirectory}
+use Rattle.disk_layout.specs.Clean.{IsClean}
+use Rattle.disk_layout.specs.Fault.{HoldsOfClean, HoldsOfDirectory, nowhere}
+use Rattle.disk_layout.specs.declared.faults.Fault.{Fault}
+use Rattle.disk_layout.specs.declared.slot.Slot.{Slot}
+use Rattle.ledger_commands.specs.declared.faults.RunFault.{RunFault}
+use Rattle.ledger_commands.specs.declared.faults.RunFault.TheVariants as run
+
+-- every byte of the image is 0
+abbrev pub IsZero : Image → Type 0
+IsZero img = (p : Place) (i : ℕ) → slice_index (sector img p) i ≡ 0
+
+-- the disk of an empty shop with so many tills: the blank image over zeros, by the name and the id of our disks
+pub record IsFreshDisk (img : Image) (tills : ℕ) : Type 0 where
+  pub zeros : Image
+  pub zero : IsZero zeros
+  pub blank : IsBlank zeros img (codes "STOCK LEDGER") (codes "01") tills
+
+-- the bytes of such a disk, sector after sector
+pub record AreFreshBytes (tills : ℕ) (bytes : List ℕ) : Type 0 where
+  pub disk : Image
+  pub fresh : IsFreshDisk disk tills
+  pub bytes_of : bytes ≡ bytes_of disk
+
+-- the image's directory, of an image that has the size of a disk
+pub record HasDirectory (image : List ℕ) : Type 0 where
+  pub size : length image ≡ 174848
+  pub sectors : List Place
+  pub entries : List Slot
+  pub directory : IsDirectory (sectors_in image) sectors entries
+
+-- why an image isn't taken into memory
+abbrev pub IsLoadFault : List ℕ → RunFault → Type 0
+IsLoadFault image run.ImageSize = length image ≢ 174848
+IsLoadFault image run.NoMemory = length image ≡ 174848
+IsLoadFault image _ = ⊥
+
+-- why an image isn't listed: its size, a fault of its directory that holds, the output, or memory
+abbrev pub IsListFault : List ℕ → RunFault → Type 0
+IsListFault image run.ImageSize = length image ≢ 174848
+IsListFault image (run.Layout fault) = (length image ≡ 174848) × HoldsOfDirectory nowhere (sectors_in image) fault
+IsListFault image run.File = HasDirectory image
+IsListFault image run.NoMemory = length image ≡ 174848
+IsListFault image run.Device = ⊥
+
+-- what is said of an image: that it is clean, or a fault that holds of it
+abbrev pub IsVerdict : Image → Option Fault → Type 0
+IsVerdict img None = IsClean img
+IsVerdict img (Some fault) = HoldsOfClean nowhere img fault
+
+-- why an image isn't judged: its size, the output, or memory
+abbrev pub IsCheckFault : List ℕ → RunFault → Type 0
+IsCheckFault image run.File = length image ≡ 174848
+IsCheckFault image fault = IsLoadFault image fault
+
+-- why no disk is made: the file or the output, or memory
+abbrev pub IsFormatFault : RunFault → Type 0
+IsFormatFault fault = (fault ≡ run.File) ⊎ (fault ≡ run.NoMemory)

@@ -1,0 +1,3 @@
+pub mod Faults
+pub mod Images
+pub mod Tables

@@ -1,0 +1,91 @@
+//! The run of a script without a disk.
+ghost use Rattle.std.specs.Prelude.{◌≡◌, ◌↔◌, ◌++◌, ℕ, None, IfErr, IsSome, OnOk, Ok, Err, Some};
+ghost use Rattle.std.specs.Prelude.{codes};
+ghost use Rattle.std.specs.Io.KnownBytes.{Appends};
+ghost use Rattle.request_cards.specs.Ledgers.{replies_from, report};
+ghost use Rattle.request_cards.specs.Texts.{reply_text};
+ghost use Rattle.ledger_commands.specs.Faults.{IsDryFault, dry_number};
+ghost use Rattle.script_lines.specs.Lines.{first_reset, lines};
+ghost use Rattle.ledger_commands.specs.Tables.{dry_report, dry_start, state_of};
+
+use crate::table::Table;
+use request_cards::Reply;
+use script_lines::{first_reset_line, next_line};
+use std::io::Write;
+use thiserror::Error;
+
+/// Why a script has no replies, or not all of them.
+#[derive(Clone, Copy, Debug, PartialEq, Eq, Error)]
+pub enum DryFault {
+    /// A line can't be played: the first such line, counted from 1.
+    #[error("SCRIPT LINE {0}")]
+    BadLine(usize),
+    /// The output failed.
+    #[error("FILE")]
+    Output,
+}
+
+impl DryFault {
+    /// The fault's number.
+    pub fn number(&self) -> u8
+        ensures { result ≡ dry_number self.now }
+    {
+        match self {
+            DryFault::BadLine(_) => 2,
+            DryFault::Output => 3,
+        }
+    }
+}
+
+/// Writes the reply on a line of its own.
+fn put_line<W: Write>(out: &mut W, reply: Reply) -> Result<(), DryFault>
+    ensures ok { OnOk result
+        (Appends (W.contents out.old) (W.contents out.new) (reply_text reply ++ codes "\n")) }
+    ensures err { IfErr result (λ e. e ≡ DryFault.Output) }
+{
+    let mut room = [b'\n'; 48];
+    let start = reply.write(&mut room, 47);
+    if out.write_all(&room[start..]).is_err() {
+        return Err(DryFault::Output);
+    }
+    Ok(())
+}
+
+/// Writes the reply to each line of the script, from the table on.
+fn play<W: Write>(script: &[u8], table: &mut Table, out: &mut W) -> Result<(), DryFault>
+    ensures ok { OnOk result (Appends (W.contents out.old) (W.contents out.new)
+        (report (replies_from dry_start (state_of table.old) (lines script.now)))) }
+    ensures err { IfErr result (λ e. e ≡ DryFault.Output) }
+{
+    let mut rest = script;
+    while let Some((line, more)) = next_line(rest) {
+        let reply = table.reply(line);
+        put_line(out, reply)?;
+        rest = more;
+    }
+    Ok(())
+}
+
+/// Writes the reply to each line of a script on a line of its own, as a fresh disk with 64 tills
+/// would give it, without a disk. A line that begins with `@` is bad: the first such line is told
+/// before anything is written (`BadLine`). Where the writer fails, what it took of the replies is
+/// open (`Output`). It takes no memory.
+pub fn dry<W: Write>(script: &[u8], out: &mut W) -> Result<(), DryFault>
+    // A bad line is told exactly where there is one, and it is the first.
+    ensures bad_line { (n : ℕ) →
+        (result ≡ Err (DryFault.BadLine n)) ↔ (first_reset (lines script.now) ≡ Some n) }
+    // Then nothing was written.
+    ensures untouched { IsSome (first_reset (lines script.now)) → out.new ≡ out.old }
+    // Where no line is bad, each has its reply over the lines before it.
+    ensures good { OnOk result (first_reset (lines script.now) ≡ None) }
+    ensures ok { OnOk result
+        (Appends (W.contents out.old) (W.contents out.new) (dry_report script.now)) }
+    // The output is at fault only where no line is.
+    ensures err { IfErr result (IsDryFault (first_reset (lines script.now))) }
+{
+    if let Some(line) = first_reset_line(script) {
+        return Err(DryFault::BadLine(line));
+    }
+    let mut table = Table::new();
+    play(script, &mut table, out)
+}

@@ -1,0 +1,289 @@
+-- A card is read where the bytes are its text, and nowhere else.
+use Rattle.std.proofs.Common.{◌≡◌, ℕ, zero, suc, ◌+◌, ◌*◌, ◌/◌, ◌%◌, ◌^◌, ◌<◌, ◌≤◌, Bool, true, false, List, [], ◌∷◌, ◌++◌, drop, take, get_or, refl, ap, ap₂, sym, subst, ◌∙◌, arith, append_assoc, pow-suc, Option, Some, None, inl, inr, ◌⊎◌}
+use Rattle.std.specs.Prelude.{◌==◌, ◌&&◌, replicate, IfNone, IfSome, IsTrue, not, slice_index, unwrap_or, if◌then◌else◌, bytes_eq}
+use Rattle.std.specs.Bool.{Decides}
+use Rattle.std.specs.Char.{digit_value}
+use Rattle.std.specs.Str.Parse.{digits_value}
+use Rattle.std.proofs.lemmas.Bool.{and_parts, and_from, eqb-true, not-true}
+use Rattle.std.proofs.lemmas.Bool.Decides.{Decides-and, Decides-eqb}
+use Rattle.std.proofs.lemmas.Int.Digits.{digits_value_push}
+use Rattle.std.proofs.lemmas.Slice.Eq.{bytes_eq-Decides}
+use Rattle.std.proofs.lemmas.Str.{digit_value_digit}
+use Rattle.request_cards.specs.declared.answer.Answer.{Answer}
+use Rattle.request_cards.specs.declared.answer.Answer.TheVariants as answers
+use Rattle.request_cards.specs.declared.kind.Kind.{Kind}
+use Rattle.request_cards.specs.declared.kind.Kind.TheVariants.{Receive, Issue, Set, Move}
+use Rattle.request_cards.specs.Requests.{Body, IsBody, is_body, may_go_to, same_kind}
+use Rattle.request_cards.specs.Ledgers.{Entry}
+use Rattle.request_cards.specs.Texts.{commas}
+use Rattle.request_cards.specs.CardTexts.{Card, IsCard, IsCardText, IsEntry, IsStock, IsStockText, Stock, answer_code, answer_quantity, answer_to_quantity, card_text, entry_fields, entry_text, fixed, goes_with, is_done, second_text, stock_text}
+use Rattle.request_cards.specs.CardReading.{number_at, kind_at, answer_with, fields_at, entry_at, old_card_at, new_card_at, is_entry, is_second, is_intent, is_new_card, is_old_card, read_as, stock_at, is_stock, stock_card_of, request_card_of}
+use Rattle.request_cards.proofs.Cards.{card_cut, card_same, second_is, second_mark, second_marked}
+use Rattle.request_cards.proofs.Entries.{IsCut, body_same, code_low, entry_same, fields_cut, to_high, whole_cut}
+use Rattle.request_cards.proofs.Fields.{Decides-leb, if_some}
+use Rattle.request_cards.proofs.Widths.{stock_cut}
+
+-- the digits of a number spell it
+digits_fixed : (w n : ℕ) → n < 10 ^ w → digits_value 10 (fixed w n) ≡ n
+unfolding fixed
+digits_fixed zero n h = omega arith
+digits_fixed (suc w) n h =
+    let power : 10 ^ suc w ≡ 10 ^ w * 10 = pow-suc 10 w in
+    let front : n / 10 < 10 ^ w = omega arith in
+    let digit : digit_value (48 + n % 10) + 48 ≡ 48 + n % 10 = digit_value_digit (48 + n % 10) (omega arith, omega arith) in
+    let rest : digits_value 10 (fixed w (n / 10)) ≡ n / 10 = digits_fixed w (n / 10) front in
+    let push = digits_value_push 10 (fixed w (n / 10)) (48 + n % 10) in
+    omega (arith, push, rest, digit)
+
+-- a number of this width is read where it stands
+number_reads : (bytes : List ℕ) (at w n : ℕ) → take w (drop at bytes) ≡ fixed w n → n < 10 ^ w → number_at bytes at w ≡ n
+number_reads bytes at w n e low = ap (digits_value 10) e ∙ digits_fixed w n low
+
+-- what has its own text is read, and what is read has its text
+text_reads : {A : Type 0} (bytes : List ℕ) (x : A) (fits : Bool) (text : List ℕ) → fits ≡ true → bytes ≡ text
+    → read_as bytes x fits text ≡ Some x
+text_reads bytes x fits text f e = rw (f, (bytes_eq-Decides bytes text).1 e) refl
+
+read_text : {A : Type 0} (bytes : List ℕ) (x y : A) (fits : Bool) (text : List ℕ) → read_as bytes x fits text ≡ Some y
+    → (fits ≡ true) × (bytes ≡ text) × (x ≡ y)
+read_text bytes x y fits text e =
+    let p = if_some (fits && bytes_eq bytes text) x y e in
+    let q = and_parts fits (bytes_eq bytes text) p.0 in
+    (q.0, (bytes_eq-Decides bytes text).0 q.1, p.1)
+
+-- the ranges of a stock card
+stock_decides : (s : Stock) → Decides (is_stock s) (IsStock s)
+stock_decides s =
+    let d = Decides-and _ _ (Decides-leb 1 s.item) (Decides-and _ _ (Decides-leb s.item 65535) (Decides-leb s.quantity 999999999)) in (
+      (λ e. let p = d.0 e in record { item_low = p.0; item_high = p.1.0; quantity_high = p.1.1 }),
+      (λ i. d.1 (i.item_low, (i.item_high, i.quantity_high))),
+    )
+
+stock_reads : (bytes : List ℕ) (s : Stock) → IsStockText bytes s → stock_card_of bytes ≡ Some s
+unfolding stock_card_of
+stock_reads bytes s m =
+    let cut = stock_cut bytes s m.1 in
+    let item = number_reads bytes 2 5 s.item cut.0 (omega (arith, m.0.item_high)) in
+    let quantity = number_reads bytes 8 9 s.quantity cut.1 (omega (arith, m.0.quantity_high)) in
+    ap (λ (t : Stock). read_as bytes t (is_stock t) (stock_text t)) (same item quantity)
+    ∙ text_reads bytes s (is_stock s) (stock_text s) ((stock_decides s).1 m.0) m.1
+  where
+    same : number_at bytes 2 5 ≡ s.item → number_at bytes 8 9 ≡ s.quantity → stock_at bytes ≡ s
+    same item quantity i = record { item = item i; quantity = quantity i }
+
+pub stock_is : (bytes : List ℕ) (s : Stock) → (stock_card_of bytes ≡ Some s → IsStockText bytes s) × (IsStockText bytes s → stock_card_of bytes ≡ Some s)
+unfolding stock_card_of
+stock_is bytes s = (
+  (λ e.
+      let p = read_text bytes (stock_at bytes) s (is_stock (stock_at bytes)) (stock_text (stock_at bytes)) e in
+      subst (IsStockText bytes) p.2 ((stock_decides (stock_at bytes)).0 p.0, p.1)),
+  stock_reads bytes s,
+)
+
+-- the ranges of a body and of an entry
+self_decides : (b : Bool) → Decides b (IsTrue b)
+self_decides b = ((λ e. e), (λ e. e))
+
+body_decides : (b : Body) → Decides (is_body b) (IsBody b)
+body_decides b =
+    let d = Decides-and _ _ (Decides-leb 1 b.item) (Decides-and _ _ (Decides-leb b.item 65535)
+    (Decides-and _ _ (Decides-leb b.quantity 999999999) (self_decides (may_go_to b.kind b.item b.to)))) in (
+      (λ e. let p = d.0 e in record { item_low = p.0; item_high = p.1.0; quantity_high = p.1.1.0; to = p.1.1.1 }),
+      (λ i. d.1 (i.item_low, (i.item_high, (i.quantity_high, i.to)))),
+    )
+
+entry_decides : (e : Entry) → Decides (is_entry e) (IsEntry e)
+entry_decides e =
+    let d = Decides-and _ _ (Decides-leb 1 e.number) (Decides-and _ _ (Decides-leb e.number 999999999)
+    (Decides-and _ _ (body_decides e.body) (Decides-and _ _ (self_decides (goes_with e.body.kind e.answer))
+    (Decides-and _ _ (Decides-leb (answer_quantity e.answer) 999999999) (Decides-leb (answer_to_quantity e.answer) 999999999))))) in (
+      (λ t. let p = d.0 t in record {
+        number_low = p.0;
+        number_high = p.1.0;
+        body = p.1.1.0;
+        fits = p.1.1.1.0;
+        quantity_high = p.1.1.1.1.0;
+        to_quantity_high = p.1.1.1.1.1;
+      }),
+      (λ i. d.1 (i.number_low, (i.number_high, (i.body, (i.fits, (i.quantity_high, i.to_quantity_high)))))),
+    )
+
+-- what is asked of an intent and of a second entry
+intent_decides : (p : Bool) (a : Answer) → Decides (is_intent p a) (IsTrue p → IsTrue (is_done a))
+intent_decides true a = ((λ e t. e), (λ f. f refl))
+intent_decides false a = ((λ e t. cc), (λ f. refl))
+
+second_decides : (n : ℕ) (s : Option Entry) → Decides (is_second n s) (IfSome s (λ e. IsEntry e × (e.number + 1 ≡ n)))
+second_decides n None = ((λ e. tt), (λ i. refl))
+second_decides n (Some e) = Decides-and _ _ (entry_decides e) (Decides-eqb (e.number + 1) n)
+
+new_decides : (c : Card) → Decides (is_new_card c)
+    (IsEntry c.newest × ((IsTrue c.pending → IsTrue (is_done c.newest.answer)) × IfSome c.second (λ e. IsEntry e × (e.number + 1 ≡ c.newest.number))))
+new_decides c =
+    Decides-and _ _ (entry_decides c.newest)
+    (Decides-and _ _ (intent_decides c.pending c.newest.answer) (second_decides c.newest.number c.second))
+
+-- the ranges of a version 2 card
+new_is : (c : Card) → c.version ≡ 2 → is_new_card c ≡ true → IsCard c
+new_is c two e =
+    let p = (new_decides c).0 e in
+    record {
+      version = inr two;
+      old = λ one. absurd (omega (arith, two, one));
+      newest = p.0;
+      intent = p.1.0;
+      second = p.1.1;
+    }
+
+card_fits : (c : Card) → IsCard c → is_new_card c ≡ true
+card_fits c i = (new_decides c).1 (i.newest, (i.intent, i.second))
+
+-- those of a version 1 card
+old_is : (c : Card) → c.version ≡ 1 → c.second ≡ None → is_old_card c ≡ true → IsCard c
+old_is c one alone e =
+    let q = and_parts (is_new_card c) (not (same_kind c.newest.body.kind Move)) e in
+    let p = (new_decides c).0 q.0 in
+    record {
+      version = inl one;
+      old = λ v. (alone, q.1);
+      newest = p.0;
+      intent = p.1.0;
+      second = p.1.1;
+    }
+
+-- an answer is told by its digit and its quantities
+answer_again : (k : Kind) (a : Answer) → goes_with k a ≡ true
+    → answer_with (same_kind k Move) (answer_code a) (answer_quantity a) (answer_to_quantity a) ≡ a
+answer_again k (answers.Done h) e = rw (not-true (same_kind k Move) e) refl
+answer_again k (answers.Moved h g) e = rw e refl
+answer_again k (answers.Short h) e = refl
+answer_again k (answers.Over h) e = refl
+answer_again k answers.NoCard e = refl
+answer_again k answers.DiskFull e = refl
+answer_again k answers.TooLarge e = refl
+
+-- the fields of an entry are read where they stand
+fields_read : (bytes : List ℕ) (at to g : ℕ) (e : Entry) (rest : List ℕ) → IsCut bytes at e rest → IsEntry e → to ≡ e.body.to
+    → g ≡ answer_to_quantity e.answer → fields_at bytes at to g ≡ e
+fields_read bytes at to g e rest cut is goes second =
+    let kind : kind_at bytes (at + 12) ≡ e.body.kind = ap (λ o. unwrap_or o Receive) (cut.kind 0) in
+    let number = number_reads bytes (at + 2) 9 e.number cut.number (omega (arith, is.number_high)) in
+    let item = number_reads bytes (at + 14) 5 e.body.item cut.item (omega (arith, is.body.item_high)) in
+    let quantity = number_reads bytes (at + 20) 9 e.body.quantity cut.quantity (omega (arith, is.body.quantity_high)) in
+    let code = number_reads bytes (at + 30) 1 _ cut.code (code_low e.answer) in
+    let first = number_reads bytes (at + 32) 9 _ cut.answer (omega (arith, is.quantity_high)) in
+    let answer : answer_with (same_kind (kind_at bytes (at + 12)) Move) (number_at bytes (at + 30) 1) (number_at bytes (at + 32) 9) g ≡ e.answer =
+    (λ i. answer_with (same_kind (kind i) Move) (code i) (first i) (second i)) ∙ answer_again e.body.kind e.answer is.fits in
+    entry_same e _ _ _ number (body_same e.body _ _ _ to kind item quantity goes) answer
+
+whole_reads : (bytes : List ℕ) (at : ℕ) (p : Bool) (e : Entry) (rest : List ℕ) → drop at bytes ≡ entry_text p e ++ rest → IsEntry e
+    → entry_at bytes at ≡ e
+whole_reads bytes at p e rest text is =
+    let cut = whole_cut bytes at p e rest text in
+    fields_read bytes at _ _ e cut.more (fields_cut bytes at p e cut.more cut.fields) is
+    (number_reads bytes (at + 42) 5 e.body.to cut.to (to_high e.body is.body))
+    (number_reads bytes (at + 48) 9 _ cut.to_quantity (omega (arith, is.to_quantity_high)))
+
+-- what isn't a move goes nowhere, and has one quantity in its answer
+goes_nowhere : (k : Kind) (item to : ℕ) → not (same_kind k Move) ≡ true → may_go_to k item to ≡ true → 0 ≡ to
+goes_nowhere Receive item to h g = sym (eqb-true to 0 g)
+goes_nowhere Issue item to h g = sym (eqb-true to 0 g)
+goes_nowhere Set item to h g = sym (eqb-true to 0 g)
+goes_nowhere Move item to h g = cc
+
+one_quantity : (k : Kind) (a : Answer) → not (same_kind k Move) ≡ true → goes_with k a ≡ true → 0 ≡ answer_to_quantity a
+one_quantity k (answers.Moved h g) e f =
+    (let stays : same_kind k Move ≡ false = not-true (same_kind k Move) e in let both : true ≡ false = sym f ∙ stays in cc)
+one_quantity k (answers.Done h) e f = refl
+one_quantity k (answers.Short h) e f = refl
+one_quantity k (answers.Over h) e f = refl
+one_quantity k answers.NoCard e f = refl
+one_quantity k answers.DiskFull e f = refl
+one_quantity k answers.TooLarge e f = refl
+
+-- a version 1 card is read
+old_text : (c : Card) → c.version ≡ 1 → card_text c ≡ commas (entry_fields c.pending c.newest []) ++ (13 ∷ replicate 85 0)
+old_text c one =
+    ap (λ v. card_text (record c { version = v })) one
+    ∙ append_assoc (commas (entry_fields c.pending c.newest [])) (13 ∷ []) (replicate 85 0)
+
+state_mark : (p : Bool) (e : Entry) (rest : List ℕ) → (get_or (commas (entry_fields p e []) ++ rest) 0 0 == 73) ≡ p
+state_mark true e rest = refl
+state_mark false e rest = refl
+
+old_reads : (bytes : List ℕ) (c : Card) → IsCardText bytes c → c.version ≡ 1 → old_card_at bytes ≡ c
+old_reads bytes c m one =
+    let text = m.1 ∙ old_text c one in
+    let plain = m.0.old one in
+    let newest = fields_read bytes 0 0 0 c.newest _ (fields_cut bytes 0 c.pending c.newest _ text) m.0.newest
+    (goes_nowhere c.newest.body.kind _ _ plain.1 m.0.newest.body.to) (one_quantity c.newest.body.kind _ plain.1 m.0.newest.fits) in
+    let state : (slice_index bytes 0 == 73) ≡ c.pending =
+    ap (λ (xs : List ℕ). get_or xs 0 0 == 73) text ∙ state_mark c.pending c.newest _ in
+    card_same c 1 _ _ None (sym one) state newest (sym plain.0)
+
+-- a version 2 card is read
+second_reads : (bytes : List ℕ) (c : Card) → IsCardText bytes c → c.version ≡ 2
+    → (if slice_index bytes 59 == 0 then None else Some (entry_at bytes 59)) ≡ c.second
+second_reads bytes c m two =
+    let cut = card_cut bytes c m.1 two in
+    let mark = second_marked bytes c.second _ 0 cut.second in
+    by c.second (ap (λ x. x == 0) mark) (second_is c m.0) cut.second
+  where
+    by : (s : Option Entry) → (slice_index bytes 59 == 0) ≡ (second_mark s == 0) → IfSome s IsEntry
+        → drop 59 bytes ≡ second_text s ++ replicate 10 0
+        → (if slice_index bytes 59 == 0 then None else Some (entry_at bytes 59)) ≡ s
+    by None e is text = rw e refl
+    by (Some s) e is text = rw e (ap (λ x. Some x) (whole_reads bytes 59 false s _ text is))
+
+new_reads : (bytes : List ℕ) (c : Card) → IsCardText bytes c → c.version ≡ 2 → new_card_at bytes ≡ c
+new_reads bytes c m two =
+    let cut = card_cut bytes c m.1 two in
+    card_same c 2 _ _ _ (sym two) (cut.state 0) (whole_reads bytes 1 c.pending c.newest _ cut.newest m.0.newest) (second_reads bytes c m two)
+
+-- the first byte tells the version
+old_first : (p : Bool) (e : Entry) (rest : List ℕ) → (get_or (commas (entry_fields p e []) ++ rest) 0 0 == 50) ≡ false
+old_first true e rest = refl
+old_first false e rest = refl
+
+version_of : (bytes : List ℕ) (c : Card) → bytes ≡ card_text c → IsCard c
+    → ((c.version ≡ 1) × ((get_or bytes 0 0 == 50) ≡ false)) ⊎ ((c.version ≡ 2) × ((get_or bytes 0 0 == 50) ≡ true))
+version_of bytes c e is = elim is.version [
+  | inl one ↦ inl (one, ap (λ (xs : List ℕ). get_or xs 0 0 == 50) (e ∙ old_text c one) ∙ old_first c.pending c.newest (13 ∷ replicate 85 0))
+  | inr two ↦ inr (two, ap (λ (xs : List ℕ). get_or xs 0 0 == 50) (e ∙ ap (λ v. card_text (record c { version = v })) two))
+]
+
+card_reads : (bytes : List ℕ) (c : Card) → IsCardText bytes c → request_card_of bytes ≡ Some c
+unfolding request_card_of
+card_reads bytes c m = elim (version_of bytes c m.1 m.0) [
+  | inl a ↦ rw a.1 (
+      ap (λ (d : Card). read_as bytes d (is_old_card d) (card_text d)) (old_reads bytes c m a.0)
+      ∙ text_reads bytes c (is_old_card c) (card_text c) (and_from _ _ (card_fits c m.0) (m.0.old a.0).1) m.1)
+  | inr a ↦ rw a.1 (
+      ap (λ (d : Card). read_as bytes d (is_new_card d) (card_text d)) (new_reads bytes c m a.0)
+      ∙ text_reads bytes c (is_new_card c) (card_text c) (card_fits c m.0) m.1)
+]
+
+-- what is read is a card
+read_card : (bytes : List ℕ) (c : Card) → request_card_of bytes ≡ Some c → IsCardText bytes c
+unfolding request_card_of
+read_card bytes c e = by (slice_index bytes 0 == 50) e
+  where
+    by : (b : Bool) → (if b then read_as bytes (new_card_at bytes) (is_new_card (new_card_at bytes)) (card_text (new_card_at bytes))
+        else read_as bytes (old_card_at bytes) (is_old_card (old_card_at bytes)) (card_text (old_card_at bytes))) ≡ Some c
+        → IsCardText bytes c
+    by true e =
+        let p = read_text bytes (new_card_at bytes) c _ _ e in
+        subst (IsCardText bytes) p.2 (new_is (new_card_at bytes) refl p.0, p.1)
+    by false e =
+        let p = read_text bytes (old_card_at bytes) c _ _ e in
+        subst (IsCardText bytes) p.2 (old_is (old_card_at bytes) refl refl p.0, p.1)
+
+pub card_is : (bytes : List ℕ) (c : Card) → (request_card_of bytes ≡ Some c → IsCardText bytes c) × (IsCardText bytes c → request_card_of bytes ≡ Some c)
+card_is bytes c = (read_card bytes c, card_reads bytes c)
+
+-- what is read where a text is, and none where none is, is what the function reads
+pub is_read : {A : Type 0} (T : A → Type 0) (f o : Option A) → ((x : A) → (f ≡ Some x → T x) × (T x → f ≡ Some x))
+    → (r : Option A) → o ≡ r → IfSome r T → IfNone r ((x : A) → ¬ (T x)) → o ≡ f
+is_read T f o agrees (Some x) e found none = e ∙ sym ((agrees x).1 found)
+is_read T None o agrees None e found none = e
+is_read T (Some x) o agrees None e found none = absurd (none x ((agrees x).0 refl))
