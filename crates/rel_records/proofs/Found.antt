@@ -4,16 +4,18 @@ use Rattle.std.proofs.Common.{[], ◌∷◌, Bool, IsTrue, List, None, ap₂, fa
 use Rattle.std.proofs.lemmas.List.{take_more}
 use Rattle.std.proofs.lemmas.Option.{slice_get-get_or, slice_get-map, slice_get_read, slice_get_within}
 use Rattle.std.specs.Prelude.{Err, IfOk, Ok, Result, option_map, slice_get, slice_index}
+use Rattle.d64_image.specs.History.{Failed, History}
 use Rattle.d64_image.specs.Images.{Image, Sector, sector}
 use Rattle.d64_image.specs.declared.place.Place.{Place}
 use Rattle.disk_layout.proofs.BlankPlaces.{get-some}
 use Rattle.disk_layout.proofs.Chains.{IsChain-one, bad_link-no_chain, loop-no_chain}
 use Rattle.disk_layout.proofs.Layouts.{IsDirectory-one}
+use Rattle.disk_layout.proofs.Lists.{made-from}
 use Rattle.disk_layout.proofs.Names.{named-is}
 use Rattle.disk_layout.proofs.Twice.{told-unsound}
 use Rattle.disk_layout.specs.Chain.{IsChain, named_at}
 use Rattle.disk_layout.specs.Directory.{IsDirectory}
-use Rattle.disk_layout.specs.Fault.{Holds, HoldsOfChain, HoldsOfDirectory}
+use Rattle.disk_layout.specs.Fault.{HoldsOfChain, HoldsOfDirectory, TellsFault}
 use Rattle.disk_layout.specs.Layout.{File, IsLayout, IsSound, Layout, record_length}
 use Rattle.disk_layout.specs.Rest.{IsFirst, IsNamed}
 use Rattle.disk_layout.specs.declared.faults.Fault.{Fault}
@@ -27,31 +29,31 @@ use Rattle.rel_records.specs.declared.faults.RelFault.{RelFault}
 use Rattle.rel_records.specs.declared.rel_file.RelFile.{RelFile}
 
 -- a walk along a chain that is there fails by the device alone
-pub chain-failed : (failed : Type 0) (img : Image) (first : Place) (ps : List Place) (u : ℕ) (fault : Fault) → IsChain img first ps u → HoldsOfChain failed img first fault → failed
-chain-failed failed img first ps u (BadLink p) chain (vs, visits, nowhere) = absurd (bad_link-no_chain img first p vs ps u visits.0 nowhere chain)
-chain-failed failed img first ps u (Loop p) chain (vs, back) = absurd (loop-no_chain img first p vs ps u back.0 back.2 chain)
-chain-failed failed img first ps u (Device p) chain h = h
-chain-failed failed img first ps u (OwnedTwice p) chain h = absurd h
-chain-failed failed img first ps u (BadType p) chain h = absurd h
-chain-failed failed img first ps u (Unclosed p) chain h = absurd h
-chain-failed failed img first ps u (BadSide p) chain h = absurd h
-chain-failed failed img first ps u (BadLength p) chain h = absurd h
-chain-failed failed img first ps u (CountWrong p) chain h = absurd h
-chain-failed failed img first ps u (MapWrong p) chain h = absurd h
+pub chain-failed : {D : Type 0} (T : Type 0) (S : History D) (a b : D) (failed_at : Place → Type 0) (img : Image) (first : Place) (ps : List Place) (u : ℕ) (fault : Fault) → IsChain img first ps u → HoldsOfChain failed_at img first fault → TellsFault {T = T} S a b (Err fault) → Failed S a b
+chain-failed T S a b failed_at img first ps u (BadLink p) chain (vs, visits, nowhere) tells = absurd (bad_link-no_chain img first p vs ps u visits.0 nowhere chain)
+chain-failed T S a b failed_at img first ps u (Loop p) chain (vs, back) tells = absurd (loop-no_chain img first p vs ps u back.0 back.2 chain)
+chain-failed T S a b failed_at img first ps u (Device p) chain h tells = tells
+chain-failed T S a b failed_at img first ps u (OwnedTwice p) chain h tells = absurd h
+chain-failed T S a b failed_at img first ps u (BadType p) chain h tells = absurd h
+chain-failed T S a b failed_at img first ps u (Unclosed p) chain h tells = absurd h
+chain-failed T S a b failed_at img first ps u (BadSide p) chain h tells = absurd h
+chain-failed T S a b failed_at img first ps u (BadLength p) chain h tells = absurd h
+chain-failed T S a b failed_at img first ps u (CountWrong p) chain h tells = absurd h
+chain-failed T S a b failed_at img first ps u (MapWrong p) chain h tells = absurd h
 
 -- and one along the directory of a sound disk
-pub directory-failed : (failed : Type 0) (img : Image) (fault : Fault) → IsSound img → HoldsOfDirectory failed img fault → failed
-directory-failed failed img (BadLink p) sound (d, inl nowhere) = absurd (told-unsound img (BadLink p) (inl (d, nowhere)) sound)
-directory-failed failed img (BadLink p) sound (d, inr away) = absurd (told-unsound img (BadLink p) (inr (inl (d, away))) sound)
-directory-failed failed img (Loop p) sound h = absurd (told-unsound img (Loop p) (inl h) sound)
-directory-failed failed img (Device p) sound h = h
-directory-failed failed img (OwnedTwice p) sound h = absurd h
-directory-failed failed img (BadType p) sound h = absurd h
-directory-failed failed img (Unclosed p) sound h = absurd h
-directory-failed failed img (BadSide p) sound h = absurd h
-directory-failed failed img (BadLength p) sound h = absurd h
-directory-failed failed img (CountWrong p) sound h = absurd h
-directory-failed failed img (MapWrong p) sound h = absurd h
+pub directory-failed : {D : Type 0} (T : Type 0) (S : History D) (a b : D) (failed_at : Place → Type 0) (img : Image) (fault : Fault) → IsSound img → HoldsOfDirectory failed_at img fault → TellsFault {T = T} S a b (Err fault) → Failed S a b
+directory-failed T S a b failed_at img (BadLink p) sound (d, inl nowhere) tells = absurd (told-unsound img (BadLink p) (inl (d, nowhere)) sound)
+directory-failed T S a b failed_at img (BadLink p) sound (d, inr away) tells = absurd (told-unsound img (BadLink p) (inr (inl (d, away))) sound)
+directory-failed T S a b failed_at img (Loop p) sound h tells = absurd (told-unsound img (Loop p) (inl h) sound)
+directory-failed T S a b failed_at img (Device p) sound h tells = tells
+directory-failed T S a b failed_at img (OwnedTwice p) sound h tells = absurd h
+directory-failed T S a b failed_at img (BadType p) sound h tells = absurd h
+directory-failed T S a b failed_at img (Unclosed p) sound h tells = absurd h
+directory-failed T S a b failed_at img (BadSide p) sound h tells = absurd h
+directory-failed T S a b failed_at img (BadLength p) sound h tells = absurd h
+directory-failed T S a b failed_at img (CountWrong p) sound h tells = absurd h
+directory-failed T S a b failed_at img (MapWrong p) sound h tells = absurd h
 
 -- the slots that are listed are those of the files
 pub slots-listed : (img : Image) (l : Layout) (ps : List Place) (slots : List Slot) → IsLayout img l → IsDirectory img ps slots → slots ≡ map (λ (f : File). f.slot) l.files
@@ -102,16 +104,11 @@ pub some-side : (img : Image) (s : Slot) (o : Option Place) → HasRel img s →
 some-side img s o (f, of) is = let (q, at, names) = first-side img s f of in let P : Option Place → Type 0 = IsSome in subst P (sym (is ∙ at)) refl
 
 -- the walk of its chain fails by the device alone
-pub walk-failed : (failed : Type 0) (img : Image) (s : Slot) (o : Option Place) (first : Place) (fault : Fault) → HasRel img s → o ≡ named_at s.bytes 3 → o ≡ Some first → HoldsOfChain failed img first fault → failed
-walk-failed failed img s o first fault (f, of) named is h =
+pub walk-failed : {D : Type 0} (T : Type 0) (S : History D) (a b : D) (failed_at : Place → Type 0) (img : Image) (s : Slot) (o : Option Place) (first : Place) (fault : Fault) → HasRel img s → o ≡ named_at s.bytes 3 → o ≡ Some first → HoldsOfChain failed_at img first fault → TellsFault {T = T} S a b (Err fault) → Failed S a b
+walk-failed T S a b failed_at img s o first fault (f, of) named is h tells =
     let (p, at, chain) = first-named img s f of in
-    let P : Place → Type 0 = λ x. HoldsOfChain failed img x fault in
-    chain-failed failed img p f.blocks f.last fault chain (subst P (some-named first p o (named ∙ at) is) h)
-
--- what an option was made from
-made-from : {X Y : Type 0} (g : X → Y) (o : Option X) (z : Y) → option_map g o ≡ Some z → (x : X) × (o ≡ Some x) × (g x ≡ z)
-made-from g None z e = cc
-made-from g (Some x) z e = (x, refl, cc)
+    let P : Place → Type 0 = λ x. HoldsOfChain failed_at img x fault in
+    chain-failed T S a b failed_at img p f.blocks f.last fault chain (subst P (some-named first p o (named ∙ at) is) h) tells
 
 -- the file of a slot that is listed
 pub slot-file : (l : Layout) (slots : List Slot) (n : ℕ) (s : Slot) → slots ≡ map (λ (f : File). f.slot) l.files → slice_get slots n ≡ Some s → (f : File) × (slice_get l.files n ≡ Some f) × (f.slot ≡ s)

@@ -25,8 +25,7 @@ const POINTERS: u16 = 120;
 fn is_named(slot: &Slot, name: &[u8]) -> bool
     ensures { IsTrue result ↔ IsNamedSlot name.now slot.now }
 {
-    let entry = EntryView::new(&slot.bytes);
-    if name.len() > 16 || !matches!(entry.type_byte(), 0x84 | 0xC4) {
+    if name.len() > 16 || !EntryView::new(&slot.bytes).is_relative() {
         return false;
     }
     let padded = padded_name(name);

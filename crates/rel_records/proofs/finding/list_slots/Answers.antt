@@ -1,5 +1,4 @@
 -- The directory of a sound disk is read, or the device failed.
-use Rattle.d64_image.specs.History.{Failed}
 use Rattle.rel_records.proofs.Found.{directory-failed, slots-listed}
 use Rattle.rel_records.proofs.finding.list_slots.Goals as goal
 
@@ -11,4 +10,4 @@ returns-in-Ok-clause-ok g c = λ l is.
 pub returns-in-Err-clause-failures : goal.returns-in-Err-clause-failures
 returns-in-Err-clause-failures g c =
     let S = g.D.Sectors.history in
-    directory-failed (Failed S c.args.disk.now c.read_directory.new.disk) (S.image c.args.disk.now) c.in-Err.field-0 c.requires.sound c.in-Err.ensures.err
+    directory-failed (Unit {0}) S c.args.disk.now c.read_directory.new.disk _ (S.image c.args.disk.now) c.in-Err.field-0 c.requires.sound c.in-Err.ensures.err c.in-Err.ensures.failures
