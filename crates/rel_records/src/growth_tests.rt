@@ -129,9 +129,9 @@ fn two_blocks_are_filled(rt: HostRuntime) -> Result<(), Fail> {
     }
     put(&mut grown, 17, 4, &bytes)?;
     for (cut, count) in [(0u32, 14), (1, 14), (2, 28)] {
-        let copy = MemDisk::load(rt.alloc(), grown.bytes())?;
+        let mut copy = MemDisk::load(rt.alloc(), grown.bytes())?;
+        let mut file = find(&mut copy, b"STOCK")?;
         let mut disk = Fuse::new(copy, cut);
-        let mut file = find(&mut disk, b"STOCK")?;
         assert_eq!(rt;
             grow_to(&mut disk, &mut file, 15).is_ok(),
             cut == 2,
@@ -151,9 +151,9 @@ fn a_new_side_sector_cut(rt: HostRuntime) -> Result<(), Fail> {
     grow_to(&mut grown, &mut file, 1693)?;
     assert_eq!(rt; (file.blocks, records(&file)), (120, 1693));
     for cut in 0..7u32 {
-        let copy = MemDisk::load(rt.alloc(), grown.bytes())?;
+        let mut copy = MemDisk::load(rt.alloc(), grown.bytes())?;
+        let mut file = find(&mut copy, b"STOCK")?;
         let mut disk = Fuse::new(copy, cut);
-        let mut file = find(&mut disk, b"STOCK")?;
         assert_eq!(rt;
             grow_to(&mut disk, &mut file, 1694).is_ok(),
             cut == 6,
