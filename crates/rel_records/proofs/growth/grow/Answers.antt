@@ -1,0 +1,109 @@
+-- What is read, the last blocks filled, blocks one after another.
+use Rattle.std.proofs.Common.{arith, refl, sym, ap, subst, ◌∙◌, ◌≡◌, ◌≤◌, ◌+◌, ℕ, length}
+use Rattle.d64_image.proofs.Moments.{changes_weaker, reads_change}
+use Rattle.disk_layout.specs.View.{blocks_free}
+use Rattle.rel_records.proofs.Filled.{had-is}
+use Rattle.rel_records.proofs.Grows.{at-now, at-sides, at-some, fill-moments, had-of, has-run, long, read-moments, room, run, run-moments, standing}
+use Rattle.rel_records.proofs.Kept.{growing_same}
+use Rattle.rel_records.specs.File.{IsFileOf}
+use Rattle.rel_records.specs.Growth.{needed}
+use Rattle.rel_records.specs.Steps.{IsAt}
+use Rattle.rel_records.proofs.growth.grow.Goals as goal
+
+pub returns-in_err-parts-clause-moments : goal.returns-in_err-parts-clause-moments
+returns-in_err-parts-clause-moments g c l n f of =
+    let S = g.D.Sectors.history in
+    changes_weaker S _ _ 0 _ _ _ (omega arith) (λ i h. h) (reads_change S _ _ 8 _ c.in_err-parts.ensures.reads (growing_same (S.image c.args.disk.now) l n f c.args.file.now _ of))
+
+pub fill_up-requires-clause-at : goal.fill_up-requires-clause-at
+fill_up-requires-clause-at g c =
+    let (l, n, f, of) = c.requires.of in
+    let S = g.D.Sectors.history in
+    let at = c.in_ok-parts.ensures.ok l n f of in
+    let more : length f.blocks ≤ c.args.wanted = omega (arith, c.requires.more, of.shows.blocks) in
+    (l, n, f, at-now S c.args.disk.now c.read_parts.new.disk l n f c.in_ok-parts.parts c.args.wanted c.in_ok-parts.ensures.reads at more)
+
+pub fill_up-requires-clause-had : goal.fill_up-requires-clause-had
+fill_up-requires-clause-had g c =
+    let (l, n, f, of) = c.requires.of in
+    let a = g.D.Sectors.history.image c.args.disk.now in
+    c.records.ensures.value ∙ had-of a l n f c.args.file.now of ∙ had-is a l n f c.in_ok-parts.parts (c.in_ok-parts.ensures.ok l n f of)
+
+pub returns-in_err-fill_up-clause-moments : goal.returns-in_err-fill_up-clause-moments
+returns-in_err-fill_up-clause-moments g c l n f of =
+    let S = g.D.Sectors.history in
+    let at = c.in_ok-parts.ensures.ok l n f of in
+    let more : length f.blocks ≤ c.args.wanted = omega (arith, c.requires.more, of.shows.blocks) in
+    fill-moments S c.args.disk.now c.read_parts.new.disk l n f c.in_ok-parts.parts c.args.wanted c.in_ok-parts.ensures.reads at more c.fill_up.new.disk (c.in_err-fill_up.ensures.moments l n f (at-now S c.args.disk.now c.read_parts.new.disk l n f c.in_ok-parts.parts c.args.wanted c.in_ok-parts.ensures.reads at more))
+
+pub add_blocks-requires-clause-at : goal.add_blocks-requires-clause-at
+add_blocks-requires-clause-at g c =
+    let (l, n, f, of) = c.requires.of in
+    let S = g.D.Sectors.history in
+    let at = c.in_ok-parts.ensures.ok l n f of in
+    let more : length f.blocks ≤ c.args.wanted = omega (arith, c.requires.more, of.shows.blocks) in
+    standing S c.args.disk.now c.read_parts.new.disk l n f c.in_ok-parts.parts c.args.wanted c.in_ok-parts.ensures.reads at more c.fill_up.new.disk (c.in_ok-fill_up.ensures.moments l n f (at-now S c.args.disk.now c.read_parts.new.disk l n f c.in_ok-parts.parts c.args.wanted c.in_ok-parts.ensures.reads at more)) c.fill_up.new.parts (c.in_ok-fill_up.ensures.ok l n f (at-now S c.args.disk.now c.read_parts.new.disk l n f c.in_ok-parts.parts c.args.wanted c.in_ok-parts.ensures.reads at more))
+
+pub add_blocks-requires-clause-more : goal.add_blocks-requires-clause-more
+add_blocks-requires-clause-more g c =
+    let (l, n, f, of) = c.requires.of in
+    let S = g.D.Sectors.history in
+    let at = c.in_ok-parts.ensures.ok l n f of in
+    let more : length f.blocks ≤ c.args.wanted = omega (arith, c.requires.more, of.shows.blocks) in
+    omega (arith, more, long S c.args.disk.now c.read_parts.new.disk l n f c.in_ok-parts.parts c.args.wanted c.in_ok-parts.ensures.reads at more c.fill_up.new.disk (c.in_ok-fill_up.ensures.moments l n f (at-now S c.args.disk.now c.read_parts.new.disk l n f c.in_ok-parts.parts c.args.wanted c.in_ok-parts.ensures.reads at more)) c.fill_up.new.parts (c.in_ok-fill_up.ensures.ok l n f (at-now S c.args.disk.now c.read_parts.new.disk l n f c.in_ok-parts.parts c.args.wanted c.in_ok-parts.ensures.reads at more)))
+
+pub add_blocks-requires-clause-room : goal.add_blocks-requires-clause-room
+add_blocks-requires-clause-room g c =
+    let (l, n, f, of) = c.requires.of in
+    let S = g.D.Sectors.history in
+    let at = c.in_ok-parts.ensures.ok l n f of in
+    let more : length f.blocks ≤ c.args.wanted = omega (arith, c.requires.more, of.shows.blocks) in
+    room S c.args.disk.now c.read_parts.new.disk l n f c.in_ok-parts.parts c.args.wanted c.in_ok-parts.ensures.reads at more c.fill_up.new.disk (c.in_ok-fill_up.ensures.moments l n f (at-now S c.args.disk.now c.read_parts.new.disk l n f c.in_ok-parts.parts c.args.wanted c.in_ok-parts.ensures.reads at more)) c.fill_up.new.parts (c.in_ok-fill_up.ensures.ok l n f (at-now S c.args.disk.now c.read_parts.new.disk l n f c.in_ok-parts.parts c.args.wanted c.in_ok-parts.ensures.reads at more))
+    (omega (arith, c.requires.room, ap (λ k. needed k c.args.wanted) of.shows.blocks, ap blocks_free (at.map ∙ sym c.requires.map)))
+
+pub returns-in_err-add_blocks-clause-moments : goal.returns-in_err-add_blocks-clause-moments
+returns-in_err-add_blocks-clause-moments g c l n f of =
+    let S = g.D.Sectors.history in
+    let at = c.in_ok-parts.ensures.ok l n f of in
+    let more : length f.blocks ≤ c.args.wanted = omega (arith, c.requires.more, of.shows.blocks) in
+    let r = run S c.args.disk.now c.read_parts.new.disk l n f c.in_ok-parts.parts c.args.wanted c.in_ok-parts.ensures.reads at more c.fill_up.new.disk (c.in_ok-fill_up.ensures.moments l n f (at-now S c.args.disk.now c.read_parts.new.disk l n f c.in_ok-parts.parts c.args.wanted c.in_ok-parts.ensures.reads at more)) c.fill_up.new.parts (c.in_ok-fill_up.ensures.ok l n f (at-now S c.args.disk.now c.read_parts.new.disk l n f c.in_ok-parts.parts c.args.wanted c.in_ok-parts.ensures.reads at more)) in
+    run-moments S c.args.disk.now c.read_parts.new.disk l n f c.in_ok-parts.parts c.args.wanted c.in_ok-parts.ensures.reads at more c.fill_up.new.disk (c.in_ok-fill_up.ensures.moments l n f (at-now S c.args.disk.now c.read_parts.new.disk l n f c.in_ok-parts.parts c.args.wanted c.in_ok-parts.ensures.reads at more)) c.fill_up.new.parts (c.in_ok-fill_up.ensures.ok l n f (at-now S c.args.disk.now c.read_parts.new.disk l n f c.in_ok-parts.parts c.args.wanted c.in_ok-parts.ensures.reads at more))
+    c.add_blocks.new.disk (c.in_err-add_blocks.ensures.moments r.layout n r.file r.at r.filled)
+
+pub renew-requires-clause-some : goal.renew-requires-clause-some
+renew-requires-clause-some g c =
+    let (l, n, f, of) = c.requires.of in
+    let S = g.D.Sectors.history in
+    let at = c.in_ok-parts.ensures.ok l n f of in
+    let more : length f.blocks ≤ c.args.wanted = omega (arith, c.requires.more, of.shows.blocks) in
+    let r = run S c.args.disk.now c.read_parts.new.disk l n f c.in_ok-parts.parts c.args.wanted c.in_ok-parts.ensures.reads at more c.fill_up.new.disk (c.in_ok-fill_up.ensures.moments l n f (at-now S c.args.disk.now c.read_parts.new.disk l n f c.in_ok-parts.parts c.args.wanted c.in_ok-parts.ensures.reads at more)) c.fill_up.new.parts (c.in_ok-fill_up.ensures.ok l n f (at-now S c.args.disk.now c.read_parts.new.disk l n f c.in_ok-parts.parts c.args.wanted c.in_ok-parts.ensures.reads at more)) in
+    let z = c.in_ok-add_blocks.ensures.ok r.layout n r.file r.at r.filled in
+    at-some (S.image c.add_blocks.new.disk) z.layout n z.file c.add_blocks.new.parts z.at
+
+pub renew-requires-clause-sides : goal.renew-requires-clause-sides
+renew-requires-clause-sides g c =
+    let (l, n, f, of) = c.requires.of in
+    let S = g.D.Sectors.history in
+    let at = c.in_ok-parts.ensures.ok l n f of in
+    let more : length f.blocks ≤ c.args.wanted = omega (arith, c.requires.more, of.shows.blocks) in
+    let r = run S c.args.disk.now c.read_parts.new.disk l n f c.in_ok-parts.parts c.args.wanted c.in_ok-parts.ensures.reads at more c.fill_up.new.disk (c.in_ok-fill_up.ensures.moments l n f (at-now S c.args.disk.now c.read_parts.new.disk l n f c.in_ok-parts.parts c.args.wanted c.in_ok-parts.ensures.reads at more)) c.fill_up.new.parts (c.in_ok-fill_up.ensures.ok l n f (at-now S c.args.disk.now c.read_parts.new.disk l n f c.in_ok-parts.parts c.args.wanted c.in_ok-parts.ensures.reads at more)) in
+    let z = c.in_ok-add_blocks.ensures.ok r.layout n r.file r.at r.filled in
+    at-sides (S.image c.add_blocks.new.disk) z.layout n z.file c.add_blocks.new.parts z.at
+
+pub returns-clause-ok : goal.returns-clause-ok
+returns-clause-ok g c l n f of =
+    let S = g.D.Sectors.history in
+    let at = c.in_ok-parts.ensures.ok l n f of in
+    let more : length f.blocks ≤ c.args.wanted = omega (arith, c.requires.more, of.shows.blocks) in
+    let r = run S c.args.disk.now c.read_parts.new.disk l n f c.in_ok-parts.parts c.args.wanted c.in_ok-parts.ensures.reads at more c.fill_up.new.disk (c.in_ok-fill_up.ensures.moments l n f (at-now S c.args.disk.now c.read_parts.new.disk l n f c.in_ok-parts.parts c.args.wanted c.in_ok-parts.ensures.reads at more)) c.fill_up.new.parts (c.in_ok-fill_up.ensures.ok l n f (at-now S c.args.disk.now c.read_parts.new.disk l n f c.in_ok-parts.parts c.args.wanted c.in_ok-parts.ensures.reads at more)) in
+    has-run S c.args.disk.now c.read_parts.new.disk l n f c.in_ok-parts.parts c.args.wanted c.in_ok-parts.ensures.reads at more c.fill_up.new.disk (c.in_ok-fill_up.ensures.moments l n f (at-now S c.args.disk.now c.read_parts.new.disk l n f c.in_ok-parts.parts c.args.wanted c.in_ok-parts.ensures.reads at more)) c.fill_up.new.parts (c.in_ok-fill_up.ensures.ok l n f (at-now S c.args.disk.now c.read_parts.new.disk l n f c.in_ok-parts.parts c.args.wanted c.in_ok-parts.ensures.reads at more))
+    c.add_blocks.new.disk (c.in_ok-add_blocks.ensures.moments r.layout n r.file r.at r.filled) c.add_blocks.new.parts c.renew.new.file (c.in_ok-add_blocks.ensures.ok r.layout n r.file r.at r.filled) c.renew.ensures.kept
+
+pub returns-clause-moments : goal.returns-clause-moments
+returns-clause-moments g c l n f of =
+    let S = g.D.Sectors.history in
+    let at = c.in_ok-parts.ensures.ok l n f of in
+    let more : length f.blocks ≤ c.args.wanted = omega (arith, c.requires.more, of.shows.blocks) in
+    let r = run S c.args.disk.now c.read_parts.new.disk l n f c.in_ok-parts.parts c.args.wanted c.in_ok-parts.ensures.reads at more c.fill_up.new.disk (c.in_ok-fill_up.ensures.moments l n f (at-now S c.args.disk.now c.read_parts.new.disk l n f c.in_ok-parts.parts c.args.wanted c.in_ok-parts.ensures.reads at more)) c.fill_up.new.parts (c.in_ok-fill_up.ensures.ok l n f (at-now S c.args.disk.now c.read_parts.new.disk l n f c.in_ok-parts.parts c.args.wanted c.in_ok-parts.ensures.reads at more)) in
+    run-moments S c.args.disk.now c.read_parts.new.disk l n f c.in_ok-parts.parts c.args.wanted c.in_ok-parts.ensures.reads at more c.fill_up.new.disk (c.in_ok-fill_up.ensures.moments l n f (at-now S c.args.disk.now c.read_parts.new.disk l n f c.in_ok-parts.parts c.args.wanted c.in_ok-parts.ensures.reads at more)) c.fill_up.new.parts (c.in_ok-fill_up.ensures.ok l n f (at-now S c.args.disk.now c.read_parts.new.disk l n f c.in_ok-parts.parts c.args.wanted c.in_ok-parts.ensures.reads at more))
+    c.add_blocks.new.disk (c.in_ok-add_blocks.ensures.moments r.layout n r.file r.at r.filled)

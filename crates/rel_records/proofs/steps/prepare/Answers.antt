@@ -1,0 +1,35 @@
+-- The map, the fresh block, the side sectors.
+use Rattle.std.proofs.Common.{rules, arith, refl, sym, subst, ap, length, ◌≡◌, ◌∙◌, ◌+◌, ◌≤◌, ℕ, List}
+use Rattle.d64_image.proofs.Moments.{at_end, changes_weaker}
+use Rattle.d64_image.specs.Images.{Image, put}
+use Rattle.d64_image.specs.declared.place.Place.{Place}
+use Rattle.disk_layout.specs.Directory.{map_place}
+use Rattle.rel_records.proofs.Sided.{ok-then}
+use Rattle.rel_records.proofs.Sided.{before_sides, before_two, counted_once}
+use Rattle.rel_records.specs.Steps.{AreSidedFrom, IsSided}
+use Rattle.rel_records.proofs.steps.prepare.Goals as goal
+
+pub returns-in_err-write-2-clause-moments : goal.returns-in_err-write-2-clause-moments
+returns-in_err-write-2-clause-moments g c =
+    let S = g.D.Sectors.history in
+    changes_weaker S _ _ 2 _ _ _ (omega arith) (λ x h. h)
+    (before_two S c.args.parts.now c.args.fresh c.args.block.now c.args.disk.now c.write.new.self c.write-2.new.self c.map_place.result c.map_place.ensures c.in_ok-write.ensures.ok c.in_ok-write.ensures.held c.in_ok-write.ensures.counted c.write-2.ensures.held (omega (arith, c.in_err-write-2.ensures.uncounted)))
+
+pub returns-clause-ok : goal.returns-clause-ok
+returns-clause-ok g c =
+    let S = g.D.Sectors.history in
+    let done = rw (c.as_slice.ensures.value, c.as_slice-2.ensures.value) at c.write_sides.ensures.ok in
+    let moments = rw (c.as_slice.ensures.value, c.as_slice-2.ensures.value) at c.write_sides.ensures.moments in
+    let p = c.args.parts.now in
+    let first : S.image c.write.new.self ≡ put (S.image c.args.disk.now) map_place p.map.bytes = c.in_ok-write.ensures.ok ∙ ap (λ (x : Place). put (S.image c.args.disk.now) x p.map.bytes) c.map_place.ensures in
+    let P : Image → Type 0 = λ i. IsSided i p.blocks.items p.sides.items p.size (S.image c.write_sides.new.disk) in
+    let sided = subst P (c.in_ok-write-2.ensures.ok ∙ ap (λ (i : Image). put i c.args.fresh c.args.block.now) first) (at_end S c.write-2.new.self c.write_sides.new.disk _ moments.held) in
+    ok-then c.write_sides.result _ _ (λ h. (h, sided)) done
+
+pub returns-clause-moments : goal.returns-clause-moments
+returns-clause-moments g c =
+    let S = g.D.Sectors.history in
+    let moments = rw (c.as_slice.ensures.value, c.as_slice-2.ensures.value) at c.write_sides.ensures.moments in
+    before_sides S c.args.parts.now c.args.fresh c.args.block.now c.args.disk.now c.write.new.self c.write-2.new.self c.write_sides.new.disk c.map_place.result _ _ (omega arith) c.map_place.ensures c.in_ok-write.ensures.ok c.in_ok-write-2.ensures.ok
+    (before_two S c.args.parts.now c.args.fresh c.args.block.now c.args.disk.now c.write.new.self c.write-2.new.self c.map_place.result c.map_place.ensures c.in_ok-write.ensures.ok c.in_ok-write.ensures.held c.in_ok-write.ensures.counted c.in_ok-write-2.ensures.held c.in_ok-write-2.ensures.counted)
+    moments

@@ -1,0 +1,23 @@
+-- One side sector is written.
+use Rattle.std.proofs.Common.{rules, sym, subst, ap, ◌≡◌, ◌∙◌}
+use Rattle.std.specs.Prelude.{Some, slice_get, get_or}
+use Rattle.std.proofs.lemmas.Option.{slice_get_within}
+use Rattle.d64_image.proofs.Moments.{write_change}
+use Rattle.d64_image.specs.declared.place.Place.{Place}
+use Rattle.d64_image.specs.Images.{Image, Sector, put}
+use Rattle.rel_records.proofs.Sided.{read-there}
+use Rattle.rel_records.specs.Steps.{IsSided}
+use Rattle.rel_records.proofs.Sided.{counted_once, sided-none, sided-put}
+use Rattle.rel_records.proofs.steps.write_side.Goals as goal
+
+pub returns-clause-moments : goal.returns-clause-moments
+returns-clause-moments g c =
+    let S = g.D.Sectors.history in
+    let a = S.image c.args.disk.now in
+    let p = c.index-sides-number.result in
+    let at = read-there c.args.sides.now c.args.number p c.requires c.index-sides-number.is in
+    let P : Sector → Type 0 = λ b. IsSided a c.args.blocks.now c.args.sides.now c.args.size (put a p b) in
+    write_change S c.args.disk.now c.write.new.self a (put a p c.side_bytes-bytes.result) _ c.write.ensures.held
+    (counted_once S _ _ c.write.result c.write.ensures.counted c.write.ensures.uncounted)
+    (sided-none a c.args.blocks.now c.args.sides.now c.args.size)
+    (subst P (sym c.side_bytes-bytes.ensures) (sided-put a a c.args.blocks.now c.args.sides.now c.args.size c.args.number p (S.whole c.args.disk.now).size at (sided-none a c.args.blocks.now c.args.sides.now c.args.size)))

@@ -1,0 +1,78 @@
+-- Two blocks are written: the image before, the record with its first part new, and the record as it is to be.
+use Rattle.std.proofs.Common.{arith, length, refl, slice_index, subst, sym, ℕ, ◌+◌, ◌<◌, ◌∙◌}
+use Rattle.d64_image.specs.Images.{Image}
+use Rattle.disk_layout.specs.Layout.{record_length}
+use Rattle.disk_layout.specs.Records.{records}
+use Rattle.rel_records.proofs.Across.{both-moments, first-moments, leaves-both, leaves-half}
+use Rattle.rel_records.proofs.OneBlock.{clean-of, one-more}
+use Rattle.rel_records.proofs.Readings.{block-there, inside-of, next-is, next-some}
+use Rattle.rel_records.specs.File.{length_of}
+use Rattle.rel_records.specs.Others.{LeavesRecords}
+use Rattle.rel_records.specs.Written.{with_written}
+use Rattle.rel_records.proofs.writing.write_across.Goals as goal
+
+pub unwrap-requires : goal.unwrap-requires
+unwrap-requires g c =
+    let S = g.D.Sectors.history in
+    let a = S.image c.args.disk.now in
+    let v = c.args.file.now in
+    let r = c.requires in
+    next-some a v c.args.block c.args.place _ c.in_ok-next.next r.of r.at
+    (omega (arith, r.over, one-more c.args.number (length_of v) r.low, inside-of a v c.args.number r.of (S.whole c.args.disk.now) r.low r.high))
+    refl c.in_ok-next.ensures.next
+
+pub returns-in_err-next-clause-moments : goal.returns-in_err-next-clause-moments
+returns-in_err-next-clause-moments g c = λ l n f of.
+    let S = g.D.Sectors.history in
+    let a = S.image c.args.disk.now in
+    let v = c.args.file.now in
+    let r = c.requires in
+    let small : (i : ℕ) → slice_index c.args.text.now i < 256 = λ i. omega (arith, c.type_inv.text i) in
+    let more : c.args.block + 1 < length f.blocks = omega (arith, r.over, of.shows.blocks, one-more c.args.number (length_of v) r.low, inside-of a v c.args.number r.of (S.whole c.args.disk.now) r.low r.high) in
+    let (q, to) = block-there a l n f v of (c.args.block + 1) c.args.place more in
+    first-moments S c.args.disk.now c.write_block.new.disk l n f v c.args.number c.args.position c.args.text.now _ of c.write_block.ensures.held c.write_block.ensures.writes
+    (leaves-half a l n f v (S.whole c.args.disk.now) of (clean-of a l n f v of r.clean) c.args.block c.args.number c.args.position c.args.place q c.args.text.now small (r.at l n f of) to r.low r.high r.position_low r.position_high r.from r.inside r.over)
+
+pub returns-in_err-write_block-clause-moments : goal.returns-in_err-write_block-clause-moments
+returns-in_err-write_block-clause-moments g c = λ l n f of.
+    let S = g.D.Sectors.history in
+    let a = S.image c.args.disk.now in
+    let v = c.args.file.now in
+    let r = c.requires in
+    let small : (i : ℕ) → slice_index c.args.text.now i < 256 = λ i. omega (arith, c.type_inv.text i) in
+    let more : c.args.block + 1 < length f.blocks = omega (arith, r.over, of.shows.blocks, one-more c.args.number (length_of v) r.low, inside-of a v c.args.number r.of (S.whole c.args.disk.now) r.low r.high) in
+    let to = next-is a l n f v of c.args.block c.args.place _ c.in_ok-next.next (r.at l n f of) more refl c.in_ok-next.ensures.next ∙ c.unwrap.ensures in
+    both-moments S c.args.disk.now c.write_block.new.disk l n f v c.args.number c.args.position c.args.text.now _ of c.in_ok-next.ensures.held c.in_ok-next.ensures.writes
+    (leaves-half a l n f v (S.whole c.args.disk.now) of (clean-of a l n f v of r.clean) c.args.block c.args.number c.args.position c.args.place c.unwrap.result c.args.text.now small (r.at l n f of) to r.low r.high r.position_low r.position_high r.from r.inside r.over)
+    c.write_block-2.new.disk _ c.in_ok-next.ensures.ok c.write_block-2.ensures.held c.write_block-2.ensures.writes
+    (leaves-both a l n f v (S.whole c.args.disk.now) of (clean-of a l n f v of r.clean) c.args.block c.args.number c.args.position c.args.place c.unwrap.result c.args.text.now small (r.at l n f of) to r.low r.high r.position_low r.position_high r.from r.inside r.over
+    c.min.result (S.image c.write_block.new.disk) c.min.ensures c.in_ok-next.ensures.ok)
+
+pub returns-clause-ok : goal.returns-clause-ok
+returns-clause-ok g c = λ l n f of.
+    let S = g.D.Sectors.history in
+    let a = S.image c.args.disk.now in
+    let v = c.args.file.now in
+    let r = c.requires in
+    let small : (i : ℕ) → slice_index c.args.text.now i < 256 = λ i. omega (arith, c.type_inv.text i) in
+    let more : c.args.block + 1 < length f.blocks = omega (arith, r.over, of.shows.blocks, one-more c.args.number (length_of v) r.low, inside-of a v c.args.number r.of (S.whole c.args.disk.now) r.low r.high) in
+    let to = next-is a l n f v of c.args.block c.args.place _ c.in_ok-next.next (r.at l n f of) more refl c.in_ok-next.ensures.next ∙ c.unwrap.ensures in
+    let P : Image → Type 0 = λ i. LeavesRecords a i l n (with_written (record_length f.slot) c.args.number c.args.position c.args.text.now (records a f)) v in
+    subst P (sym c.in_ok-write_block.ensures.ok)
+    (leaves-both a l n f v (S.whole c.args.disk.now) of (clean-of a l n f v of r.clean) c.args.block c.args.number c.args.position c.args.place c.unwrap.result c.args.text.now small (r.at l n f of) to r.low r.high r.position_low r.position_high r.from r.inside r.over
+    c.min.result (S.image c.write_block.new.disk) c.min.ensures c.in_ok-next.ensures.ok)
+
+pub returns-clause-moments : goal.returns-clause-moments
+returns-clause-moments g c = λ l n f of.
+    let S = g.D.Sectors.history in
+    let a = S.image c.args.disk.now in
+    let v = c.args.file.now in
+    let r = c.requires in
+    let small : (i : ℕ) → slice_index c.args.text.now i < 256 = λ i. omega (arith, c.type_inv.text i) in
+    let more : c.args.block + 1 < length f.blocks = omega (arith, r.over, of.shows.blocks, one-more c.args.number (length_of v) r.low, inside-of a v c.args.number r.of (S.whole c.args.disk.now) r.low r.high) in
+    let to = next-is a l n f v of c.args.block c.args.place _ c.in_ok-next.next (r.at l n f of) more refl c.in_ok-next.ensures.next ∙ c.unwrap.ensures in
+    both-moments S c.args.disk.now c.write_block.new.disk l n f v c.args.number c.args.position c.args.text.now _ of c.in_ok-next.ensures.held c.in_ok-next.ensures.writes
+    (leaves-half a l n f v (S.whole c.args.disk.now) of (clean-of a l n f v of r.clean) c.args.block c.args.number c.args.position c.args.place c.unwrap.result c.args.text.now small (r.at l n f of) to r.low r.high r.position_low r.position_high r.from r.inside r.over)
+    c.write_block-2.new.disk _ c.in_ok-next.ensures.ok c.write_block-2.ensures.held c.write_block-2.ensures.writes
+    (leaves-both a l n f v (S.whole c.args.disk.now) of (clean-of a l n f v of r.clean) c.args.block c.args.number c.args.position c.args.place c.unwrap.result c.args.text.now small (r.at l n f of) to r.low r.high r.position_low r.position_high r.from r.inside r.over
+    c.min.result (S.image c.write_block.new.disk) c.min.ensures c.in_ok-next.ensures.ok)

@@ -1,0 +1,82 @@
+-- The block is looked up, and then one is written, or two.
+use Rattle.std.proofs.Common.{arith, subst, sym}
+use Rattle.d64_image.specs.Images.{Image}
+use Rattle.rel_records.proofs.Composed.{reads_first, reads_only}
+use Rattle.rel_records.proofs.OneBlock.{old-moment, one-more}
+use Rattle.rel_records.proofs.Readings.{there-fits}
+use Rattle.rel_records.specs.File.{IsFileOf, IsOf, length_of}
+use Rattle.rel_records.specs.Written.{IsWriting, touched}
+use Rattle.rel_records.proofs.writing.write_there.Goals as goal
+
+pub block_at-requires-clause-there : goal.block_at-requires-clause-there
+block_at-requires-clause-there g c =
+    let S = g.D.Sectors.history in
+    let v = c.args.file.now in
+    let fits = there-fits (S.image c.args.disk.now) v c.args.number c.requires.of (S.whole c.args.disk.now) c.requires.low c.requires.high in
+    omega (arith, fits, one-more c.args.number (length_of v) c.requires.low, c.requires.position_low, c.requires.position_high)
+
+pub returns-in_err-place-clause-moments : goal.returns-in_err-place-clause-moments
+returns-in_err-place-clause-moments g c = λ l n f of.
+    let S = g.D.Sectors.history in
+    let a = c.args.disk.now in
+    reads_only S a c.block_at.new.disk 1 (touched (length_of c.args.file.now) c.args.number c.args.position) (IsWriting (S.image a) l n f 0 c.args.number c.args.position c.args.text.now)
+    c.block_at.ensures.reads (old-moment (S.image a) (S.image a) l n f c.args.file.now c.args.number c.args.position c.args.text.now of)
+
+pub write_in_block-requires-clause-at : goal.write_in_block-requires-clause-at
+write_in_block-requires-clause-at g c = λ l n f of.
+    let P : Image → Type 0 = λ i. IsFileOf i l n f c.args.file.now in
+    c.in_ok-place.ensures.ok l n f (subst P c.block_at.ensures.reads.image of)
+
+pub write_in_block-requires-clause-few : goal.write_in_block-requires-clause-few
+write_in_block-requires-clause-few g c =
+    let S = g.D.Sectors.history in
+    let v = c.args.file.now in
+    let fits = there-fits (S.image c.args.disk.now) v c.args.number c.requires.of (S.whole c.args.disk.now) c.requires.low c.requires.high in
+    omega (arith, fits, one-more c.args.number (length_of v) c.requires.low, c.requires.position_low, c.requires.position_high, v.few)
+
+pub write_in_block-requires-clause-large : goal.write_in_block-requires-clause-large
+write_in_block-requires-clause-large g c =
+    let S = g.D.Sectors.history in
+    let v = c.args.file.now in
+    let fits = there-fits (S.image c.args.disk.now) v c.args.number c.requires.of (S.whole c.args.disk.now) c.requires.low c.requires.high in
+    omega (arith, fits, v.few)
+
+pub returns-then-end-block-clause-moments : goal.returns-then-end-block-clause-moments
+returns-then-end-block-clause-moments g c = λ l n f of.
+    let S = g.D.Sectors.history in
+    let a = c.args.disk.now in
+    let v = c.args.file.now in
+    let of' = let P : Image → Type 0 = λ i. IsFileOf i l n f v in subst P (sym c.block_at.ensures.reads.image) of in
+    reads_first S a c.block_at.new.disk c.write_in_block.new.disk 1 1 (touched (length_of v) c.args.number c.args.position) (λ old. IsWriting old l n f 0 c.args.number c.args.position c.args.text.now)
+    (omega (arith)) c.block_at.ensures.reads (old-moment (S.image a) (S.image a) l n f v c.args.number c.args.position c.args.text.now of) (c.write_in_block.ensures.moments l n f of')
+
+pub write_across-requires-clause-of : goal.write_across-requires-clause-of
+write_across-requires-clause-of g c = let P : Image → Type 0 = λ i. IsOf i c.args.file.now in subst P (sym c.block_at.ensures.reads.image) c.requires.of
+
+pub write_across-requires-clause-at : goal.write_across-requires-clause-at
+write_across-requires-clause-at g c = λ l n f of.
+    let P : Image → Type 0 = λ i. IsFileOf i l n f c.args.file.now in
+    c.in_ok-place.ensures.ok l n f (subst P c.block_at.ensures.reads.image of)
+
+pub write_across-requires-clause-few : goal.write_across-requires-clause-few
+write_across-requires-clause-few g c =
+    let S = g.D.Sectors.history in
+    let v = c.args.file.now in
+    let fits = there-fits (S.image c.args.disk.now) v c.args.number c.requires.of (S.whole c.args.disk.now) c.requires.low c.requires.high in
+    omega (arith, fits, one-more c.args.number (length_of v) c.requires.low, c.requires.position_low, c.requires.position_high, v.few)
+
+pub write_across-requires-clause-large : goal.write_across-requires-clause-large
+write_across-requires-clause-large g c =
+    let S = g.D.Sectors.history in
+    let v = c.args.file.now in
+    let fits = there-fits (S.image c.args.disk.now) v c.args.number c.requires.of (S.whole c.args.disk.now) c.requires.low c.requires.high in
+    omega (arith, fits, v.few)
+
+pub returns-clause-moments : goal.returns-clause-moments
+returns-clause-moments g c = λ l n f of.
+    let S = g.D.Sectors.history in
+    let a = c.args.disk.now in
+    let v = c.args.file.now in
+    let of' = let P : Image → Type 0 = λ i. IsFileOf i l n f v in subst P (sym c.block_at.ensures.reads.image) of in
+    reads_first S a c.block_at.new.disk c.write_across.new.disk 1 2 (touched (length_of v) c.args.number c.args.position) (λ old. IsWriting old l n f 0 c.args.number c.args.position c.args.text.now)
+    (omega (arith, c.if-end-block.false)) c.block_at.ensures.reads (old-moment (S.image a) (S.image a) l n f v c.args.number c.args.position c.args.text.now of) (c.write_across.ensures.moments l n f of')

@@ -1,0 +1,148 @@
+//! Growth of a relative file to a record.
+ghost use Rattle.std.specs.Prelude.{◌≡◌, ◌≢◌, ◌≤◌, ◌+◌, ◌-◌, ◌⊎◌, ◌↔◌, ℕ, Err, IfErr, IsOk, OnOk, length};
+ghost use Rattle.d64_image.specs.History.{Changes, OnlyReads, TellsFailure};
+ghost use Rattle.d64_image.specs.Images.{sector};
+ghost use Rattle.disk_layout.specs.Clean.{IsClean};
+ghost use Rattle.disk_layout.specs.Directory.{map_place};
+ghost use Rattle.disk_layout.specs.Layout.{File, Layout, record_length, sides_for};
+ghost use Rattle.disk_layout.specs.View.{blocks_free};
+ghost use Rattle.rel_records.specs.Faults.{TellsRelFault};
+ghost use Rattle.rel_records.specs.File.{IsOf, OfItsFile, blocks_of, entry_of, length_of, records_in};
+ghost use Rattle.rel_records.specs.Growth.{IsFull, IsTooLarge, fill_writes, full, growth_writes, needed, records_had, run_writes};
+ghost use Rattle.rel_records.specs.Others.{KeepsRelFiles, LeavesRecords};
+ghost use Rattle.rel_records.specs.Steps.{HasRun, IsAt, IsFilledUp, IsKeptOf, IsRunTo, StandsFilled};
+ghost use Rattle.rel_records.specs.Written.{IsGrowingBy, IsGrowingTo, grown_to};
+ghost use Rattle.rel_records.specs.declared.faults.RelFault.TheVariants.{Device, Full, TooLarge};
+
+use crate::counting::records;
+use crate::faults::RelFault;
+use crate::filling::fill_up;
+use crate::gathering::read_parts;
+use crate::rel_file::RelFile;
+use crate::sizes::{blocks_for, side_count};
+use crate::step_parts::Parts;
+use crate::steps::add_block;
+use d64_image::{DeviceFault, Sectors};
+use disk_layout::Bam;
+
+/// Grows the file so that record `number` is there, by empty records; where it is there, or for 0, nothing is read or written.
+///
+/// All whole records that fit into the file's blocks are made then. `TooLarge` where the record isn't there and would need
+/// more than 720 data blocks, or its number is past 65535; `Full` where the free blocks don't suffice. Both write nothing.
+/// All reads come before the first write.
+pub fn grow_to<D: Sectors>(disk: &mut D, file: &mut RelFile, number: u32) -> Result<(), RelFault>
+    requires clean { IsClean (D.history.image disk.old) }
+    requires of { IsOf (D.history.image disk.old) file.old }
+    ensures ok { OfItsFile (D.history.image disk.old) file.old (λ l n f. OnOk result (LeavesRecords (D.history.image disk.old) (D.history.image disk.new) l n (grown_to (D.history.image disk.old) f number) file.new)) }
+    ensures there { OnOk result (number ≤ records_in file.new) }
+    ensures same { OnOk result (length_of file.new ≡ length_of file.old) }
+    // a record that is there: nothing is done
+    ensures quiet { number ≤ records_in file.old → IsOk result × (file.new ≡ file.old) × OnlyReads D.history disk.old disk.new 0 }
+    // each refusal, exactly
+    ensures too_large { OfItsFile (D.history.image disk.old) file.old (λ l n f. (result ≡ Err TooLarge) ↔ IsTooLarge f number) }
+    ensures full { OfItsFile (D.history.image disk.old) file.old (λ l n f. IfErr result (λ fault. fault ≡ Full → IsFull (D.history.image disk.old) f number)) }
+    ensures fits { OfItsFile (D.history.image disk.old) file.old (λ l n f. OnOk result (¬ (IsFull (D.history.image disk.old) f number))) }
+    ensures told { IfErr result (λ fault. (fault ≡ TooLarge) ⊎ ((fault ≡ Full) ⊎ (fault ≡ Device))) }
+    ensures refused { IfErr result (λ fault. fault ≢ Device → (file.new ≡ file.old) × OnlyReads D.history disk.old disk.new 1) }
+    // every image held, and the writes: those of the filling, then five for each block and one for each older side sector
+    ensures moments { OfItsFile (D.history.image disk.old) file.old (λ l n f. Changes D.history disk.old disk.new (growth_writes f number) (IsGrowingTo (D.history.image disk.old) l n f number)) }
+    ensures others { OfItsFile (D.history.image disk.old) file.old (λ l n f. KeepsRelFiles (D.history.image disk.old) (D.history.image disk.new) l n) }
+    ensures entry { entry_of file.new ≡ entry_of file.old }
+    ensures failures { TellsRelFault D.history disk.old disk.new result }
+{
+    if number <= records(file) {
+        return Ok(());
+    }
+    let Some(wanted) = blocks_for(number, file.size) else {
+        return Err(RelFault::TooLarge);
+    };
+    let Ok(map) = Bam::read(disk) else {
+        return Err(RelFault::Device);
+    };
+    if map.view().blocks_free() < sectors_needed(file.blocks, wanted) {
+        return Err(RelFault::Full);
+    }
+    let Ok(()) = grow(disk, file, map, wanted) else {
+        return Err(RelFault::Device);
+    };
+    Ok(())
+}
+
+/// How many sectors a file of `blocks` blocks needs to have `wanted` of them, beyond those that it has.
+fn sectors_needed(blocks: u16, wanted: u16) -> u16
+    requires blocks { blocks ≤ 720 }
+    requires wanted { wanted ≤ 720 }
+    ensures { result ≡ needed blocks wanted }
+{
+    (wanted + side_count(wanted)).saturating_sub(blocks + side_count(blocks))
+}
+
+/// Fills the room in a file's last blocks, and gives it blocks until it has `wanted`. All reads come before the first
+/// write.
+fn grow<D: Sectors>(
+    disk: &mut D,
+    file: &mut RelFile,
+    map: Bam,
+    wanted: u16,
+) -> Result<(), DeviceFault>
+    requires clean { IsClean (D.history.image disk.old) }
+    requires of { IsOf (D.history.image disk.old) file.old }
+    requires map { map.bytes ≡ sector (D.history.image disk.old) map_place }
+    requires more { blocks_of file.old ≤ wanted }
+    requires few { wanted ≤ 720 }
+    requires room { needed (blocks_of file.old) wanted ≤ blocks_free map.bytes }
+    ensures ok { OfItsFile (D.history.image disk.old) file.old (λ l n f. OnOk result (HasRun (D.history.image disk.old) (D.history.image disk.new) l n f wanted file.new)) }
+    ensures moments { OfItsFile (D.history.image disk.old) file.old (λ l n f. Changes D.history disk.old disk.new (fill_writes f + run_writes (length f.blocks) wanted) (IsGrowingBy (D.history.image disk.old) l n f (full (record_length f.slot) wanted - records_had f))) }
+    ensures entry { entry_of file.new ≡ entry_of file.old }
+    ensures failures { TellsFailure D.history disk.old disk.new result }
+{
+    let mut parts = read_parts(disk, file, map)?;
+    fill_up(disk, &mut parts, records(file))?;
+    add_blocks(disk, &mut parts, wanted)?;
+    renew(file, parts);
+    Ok(())
+}
+
+/// Gives a file that is filled up blocks, one after another, until it has `wanted`.
+fn add_blocks<D: Sectors>(disk: &mut D, parts: &mut Parts, wanted: u16) -> Result<(), DeviceFault>
+    requires at { StandsFilled (D.history.image disk.old) parts.old }
+    requires more { length parts.old.blocks.items ≤ wanted }
+    requires few { wanted ≤ 720 }
+    requires room { needed (length parts.old.blocks.items) wanted ≤ blocks_free parts.old.map.bytes }
+    ensures ok { (l : Layout) → (n : ℕ) → (f : File) → IsAt (D.history.image disk.old) l n f parts.old → IsFilledUp f → OnOk result (IsRunTo (D.history.image disk.old) (D.history.image disk.new) l n f wanted parts.new) }
+    ensures moments { (l : Layout) → (n : ℕ) → (f : File) → IsAt (D.history.image disk.old) l n f parts.old → IsFilledUp f → Changes D.history disk.old disk.new (run_writes (length f.blocks) wanted) (IsGrowingBy (D.history.image disk.old) l n f (full (record_length f.slot) wanted - records_had f)) }
+    ensures failures { TellsFailure D.history disk.old disk.new result }
+{
+    for count in parts.blocks.len()..wanted as usize {
+        add_block(disk, parts)?;
+    }
+    Ok(())
+}
+
+/// The file as growth leaves it.
+fn renew(file: &mut RelFile, parts: Parts)
+    requires some { 1 ≤ length parts.blocks.items }
+    requires sides { length parts.sides.items ≡ sides_for (length parts.blocks.items) }
+    ensures kept { IsKeptOf file.new parts }
+    ensures entry { entry_of file.new ≡ entry_of file.old }
+{
+    let Parts {
+        map: _,
+        sector,
+        number,
+        size,
+        sides,
+        blocks,
+        last,
+        directory: _,
+    } = parts;
+    *file = RelFile {
+        entry: file.entry,
+        sector,
+        number,
+        size,
+        sides,
+        blocks: blocks.len() as u16,
+        last: last[1],
+    };
+}

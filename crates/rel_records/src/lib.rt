@@ -1,0 +1,32 @@
+//! Records of relative files on a 1541 disk: found through side sectors, read and written.
+#![tactic(auto)]
+
+mod access;
+mod counting;
+mod faults;
+mod filling;
+mod finding;
+mod gathering;
+mod growth;
+#[cfg(test)]
+mod growth_tests;
+mod lookup;
+mod next_block;
+mod parts;
+mod reading;
+mod rel_file;
+mod sizes;
+mod step_parts;
+mod steps;
+#[cfg(test)]
+mod tests;
+mod writing;
+
+pub use counting::records;
+pub use faults::RelFault;
+pub use finding::find;
+pub use growth::grow_to;
+pub use parts::record_parts;
+pub use reading::read_record;
+pub use rel_file::RelFile;
+pub use writing::write_record;

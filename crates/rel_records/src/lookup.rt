@@ -1,0 +1,35 @@
+//! Where a data block of a file lies: one side sector tells it.
+ghost use Rattle.std.specs.Prelude.{ℕ, ◌≡◌, ◌<◌, IfErr, IfOk, Some, slice_get};
+ghost use Rattle.d64_image.specs.History.{OnlyReads};
+ghost use Rattle.disk_layout.specs.Layout.{File, Layout};
+ghost use Rattle.rel_records.specs.Faults.{TellsRelFault};
+ghost use Rattle.rel_records.specs.File.{IsFileOf, IsOf, OfItsFile, blocks_of};
+ghost use Rattle.rel_records.specs.declared.faults.RelFault.TheVariants.{Device};
+
+use crate::access::read;
+use crate::faults::RelFault;
+use crate::rel_file::RelFile;
+use d64_image::{Place, Sectors};
+use disk_layout::SideView;
+
+/// How many data blocks a side sector points to.
+const POINTERS: usize = 120;
+
+/// The data block of this number, from 0, as its side sector names it.
+pub(crate) fn block_at<D: Sectors>(
+    disk: &mut D,
+    file: &RelFile,
+    block: usize,
+) -> Result<Place, RelFault>
+    requires of { IsOf (D.history.image disk.old) file.now }
+    requires there { block < blocks_of file.now }
+    ensures ok { OfItsFile (D.history.image disk.old) file.now (λ l n f. IfOk result (λ p. slice_get f.blocks block ≡ Some p)) }
+    ensures err { IfErr result (λ fault. fault ≡ Device) }
+    ensures reads { OnlyReads D.history disk.old disk.new 1 }
+    ensures failures { TellsRelFault D.history disk.old disk.new result }
+{
+    let side = file.sides[block / POINTERS];
+    let mut sector = [0; 256];
+    read(disk, side, &mut sector)?;
+    Ok(SideView::new(&sector).block(block % POINTERS).unwrap())
+}

@@ -1,0 +1,50 @@
+//! How many records, blocks and side sectors go with one another.
+ghost use Rattle.std.specs.Prelude.{◌≡◌, ◌≤◌, ◌<◌, ◌+◌, ◌-◌, ◌*◌, ◌⊎◌, MatchOption};
+ghost use Rattle.disk_layout.specs.Layout.{sides_for};
+ghost use Rattle.rel_records.specs.Growth as growth;
+
+/// The bytes of a data block behind its link.
+pub(crate) const BLOCK: u32 = 254;
+
+/// How many data blocks a side sector points to.
+pub(crate) const POINTERS: usize = 120;
+
+/// The whole records of `length` bytes in `blocks` full blocks.
+pub(crate) fn full_records(blocks: u16, length: u8) -> u32
+    requires { 1 ≤ length }
+    ensures { result ≡ growth.full length blocks }
+{
+    BLOCK * blocks as u32 / length as u32
+}
+
+/// The index of the last byte of the last whole record in the last of `blocks` full blocks.
+pub(crate) fn last_index(blocks: u16, length: u8) -> u8
+    requires blocks { 1 ≤ blocks }
+    requires low { 1 ≤ length }
+    requires high { length ≤ 254 }
+    ensures { result + 254 * (blocks - 1) ≡ growth.full length blocks * length + 1 }
+{
+    (full_records(blocks, length) * length as u32 + 1 - BLOCK * (blocks as u32 - 1)) as u8
+}
+
+/// The side sectors of a file of `blocks` data blocks.
+pub(crate) fn side_count(blocks: u16) -> u16
+    requires { blocks ≤ 720 }
+    ensures { result ≡ sides_for blocks }
+{
+    (blocks + POINTERS as u16 - 1) / POINTERS as u16
+}
+
+/// The data blocks that a file needs for its record `number`, None where no file can have them.
+pub(crate) fn blocks_for(number: u32, length: u8) -> Option<u16>
+    ensures { MatchOption result ((65535 < number) ⊎ (720 < growth.blocks_for length number)) (λ n. (n ≡ growth.blocks_for length number) × (n ≤ 720) × (number ≤ 65535)) }
+{
+    if number > 65535 {
+        return None;
+    }
+    let needed = (number * length as u32 + BLOCK - 1) / BLOCK;
+    if needed > 720 {
+        return None;
+    }
+    Some(needed as u16)
+}

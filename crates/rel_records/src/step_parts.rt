@@ -1,0 +1,37 @@
+//! What growth keeps in memory between two blocks.
+ghost use Rattle.std.specs.Prelude.{◌<◌, ◌≤◌};
+
+use arrayvec::ArrayVec;
+use d64_image::Place;
+use disk_layout::Bam;
+
+/// What growth keeps in memory between two blocks, so that a block more needs no read: the map, and of the file its slot's
+/// place, its record length, its side sectors, its data blocks, the bytes of the last of them, and those of the directory
+/// sector with its slot.
+#[derive(Drop)]
+pub(crate) struct Parts {
+    pub(crate) map: Bam,
+    pub(crate) sector: Place,
+    pub(crate) number: u8,
+    pub(crate) size: u8,
+    pub(crate) sides: ArrayVec<Place, 6>,
+    pub(crate) blocks: ArrayVec<Place, 720>,
+    pub(crate) last: [u8; 256],
+    pub(crate) directory: [u8; 256],
+    ghost eight: { number < 8 },
+    ghost size_low: { 1 ≤ size },
+    ghost size_high: { size ≤ 254 },
+}
+
+impl Parts {
+    ghost use Rattle.std.specs.Prelude.{◌≡◌, ◌++◌, ◌∷◌, [], List, length};
+    ghost use Rattle.d64_image.specs.declared.place.Place.{Place};
+
+    /// The last data block.
+    pub(crate) fn last_place(&self) -> Place
+        requires { 1 ≤ length self.now.blocks.items }
+        ensures { (front : List Place) (last : Place) → self.now.blocks.items ≡ front ++ last ∷ [] → result ≡ last }
+    {
+        self.blocks[self.blocks.len() - 1]
+    }
+}

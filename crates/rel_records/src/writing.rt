@@ -1,0 +1,197 @@
+//! Records written: the bytes of one record, in the one or two blocks that they touch.
+ghost use Rattle.std.specs.Prelude.{ℕ, ◌≡◌, ◌≢◌, ◌⊎◌, ◌↔◌, ◌+◌, ◌-◌, ◌*◌, ◌<◌, ◌≤◌, Err, IfErr, IfOk, OnErr, OnOk, Some, length, slice_get};
+ghost use Rattle.d64_image.specs.History.{Changes, HeldOnly, OldOr, OnlyReads};
+ghost use Rattle.d64_image.specs.Images.{put, sector};
+ghost use Rattle.disk_layout.specs.Chain.{named_at};
+ghost use Rattle.disk_layout.specs.Clean.{IsClean};
+ghost use Rattle.disk_layout.specs.Layout.{File, Layout, record_length};
+ghost use Rattle.disk_layout.specs.Records as records_of;
+ghost use Rattle.rel_records.specs.Faults.{TellsRelFault};
+ghost use Rattle.rel_records.specs.File.{IsFileOf, IsOf, OfItsFile, entry_of, length_of, records_in};
+ghost use Rattle.rel_records.specs.Growth.{IsFull, IsTooLarge, added, growth_writes, records_had};
+ghost use Rattle.rel_records.specs.Others.{KeepsRelFiles, LeavesRecords};
+ghost use Rattle.rel_records.specs.Written.{IsDone, IsInOneBlock, IsWriting, grown_to, patched, touched, with_written};
+ghost use Rattle.rel_records.specs.declared.faults.RelFault.TheVariants.{Device, Full, Overflow, TooLarge};
+
+use crate::access::{read, write};
+use crate::faults::RelFault;
+use crate::growth::grow_to;
+use crate::lookup::block_at;
+use crate::parts::{DATA, patch};
+use crate::rel_file::RelFile;
+use d64_image::{Place, Sectors};
+
+/// Writes the text over the data bytes from `start` to below `end` of the block at `place`, and zeros where it is shorter.
+/// The answer is the block that it links to, where it does.
+fn write_block<D: Sectors>(
+    disk: &mut D,
+    place: Place,
+    start: usize,
+    end: usize,
+    text: &[u8],
+) -> Result<Option<Place>, RelFault>
+    requires order { start ≤ end }
+    requires inside { end ≤ 254 }
+    ensures ok { OnOk result (D.history.image disk.new ≡ put (D.history.image disk.old) place (patched start end text.now (sector (D.history.image disk.old) place))) }
+    ensures next { IfOk result (λ next. next ≡ named_at (sector (D.history.image disk.old) place) 0) }
+    ensures err { IfErr result (λ fault. fault ≡ Device) }
+    ensures held { HeldOnly D.history disk.old disk.new (OldOr (D.history.image disk.old) (put (D.history.image disk.old) place (patched start end text.now (sector (D.history.image disk.old) place)))) }
+    ensures writes { D.history.writes disk.new ≤ D.history.writes disk.old + 1 }
+    ensures uncounted { OnErr result (D.history.writes disk.new ≡ D.history.writes disk.old) }
+    ensures failures { TellsRelFault D.history disk.old disk.new result }
+{
+    let mut block = [0; 256];
+    read(disk, place, &mut block)?;
+    patch(&mut block, start, end, text);
+    write(disk, place, &block)?;
+    Ok(Place::new(block[0], block[1]))
+}
+
+/// Writes the text into a record that is there, where its bytes from the position on lie in the block at `place`, the one
+/// with this number, from 0.
+fn write_in_block<D: Sectors>(
+    disk: &mut D,
+    file: &RelFile,
+    number: u32,
+    position: u8,
+    text: &[u8],
+    block: usize,
+    place: Place,
+) -> Result<(), RelFault>
+    requires clean { IsClean (D.history.image disk.old) }
+    requires at { OfItsFile (D.history.image disk.old) file.now (λ l n f. slice_get f.blocks block ≡ Some place) }
+    requires low { 1 ≤ number }
+    requires high { number ≤ records_in file.now }
+    requires position_low { 1 ≤ position }
+    requires position_high { position ≤ length_of file.now }
+    requires from { 254 * block ≤ (number - 1) * length_of file.now + (position - 1) }
+    requires to { number * length_of file.now ≤ 254 * block + 254 }
+    requires few { block < 720 }
+    requires large { number * length_of file.now ≤ 182880 }
+    ensures ok { OfItsFile (D.history.image disk.old) file.now (λ l n f. OnOk result (LeavesRecords (D.history.image disk.old) (D.history.image disk.new) l n (with_written (record_length f.slot) number position text.now (records_of.records (D.history.image disk.old) f)) file.now)) }
+    ensures err { IfErr result (λ fault. fault ≡ Device) }
+    ensures moments { OfItsFile (D.history.image disk.old) file.now (λ l n f. Changes D.history disk.old disk.new 1 (IsWriting (D.history.image disk.old) l n f 0 number position text.now)) }
+    ensures uncounted { OnErr result (D.history.writes disk.new ≡ D.history.writes disk.old) }
+    ensures failures { TellsRelFault D.history disk.old disk.new result }
+{
+    let size = file.size as usize;
+    let start = (number as usize - 1) * size + (position as usize - 1);
+    let end = number as usize * size;
+    write_block(disk, place, start - DATA * block, end - DATA * block, text)?;
+    Ok(())
+}
+
+/// Writes the text into a record that is there, where it goes on behind the block at `place`, the one with this number, from
+/// 0, in which the position lies: first the part in that block, then the rest.
+fn write_across<D: Sectors>(
+    disk: &mut D,
+    file: &RelFile,
+    number: u32,
+    position: u8,
+    text: &[u8],
+    block: usize,
+    place: Place,
+) -> Result<(), RelFault>
+    requires clean { IsClean (D.history.image disk.old) }
+    requires of { IsOf (D.history.image disk.old) file.now }
+    requires at { OfItsFile (D.history.image disk.old) file.now (λ l n f. slice_get f.blocks block ≡ Some place) }
+    requires low { 1 ≤ number }
+    requires high { number ≤ records_in file.now }
+    requires position_low { 1 ≤ position }
+    requires position_high { position ≤ length_of file.now }
+    requires from { 254 * block ≤ (number - 1) * length_of file.now + (position - 1) }
+    requires inside { (number - 1) * length_of file.now + (position - 1) < 254 * block + 254 }
+    requires over { 254 * block + 254 < number * length_of file.now }
+    requires few { block < 720 }
+    requires large { number * length_of file.now ≤ 182880 }
+    ensures ok { OfItsFile (D.history.image disk.old) file.now (λ l n f. OnOk result (LeavesRecords (D.history.image disk.old) (D.history.image disk.new) l n (with_written (record_length f.slot) number position text.now (records_of.records (D.history.image disk.old) f)) file.now)) }
+    ensures err { IfErr result (λ fault. fault ≡ Device) }
+    ensures moments { OfItsFile (D.history.image disk.old) file.now (λ l n f. Changes D.history disk.old disk.new 2 (IsWriting (D.history.image disk.old) l n f 0 number position text.now)) }
+    ensures failures { TellsRelFault D.history disk.old disk.new result }
+{
+    let size = file.size as usize;
+    let start = (number as usize - 1) * size + (position as usize - 1);
+    let end = number as usize * size;
+    let here = DATA * (block + 1);
+    let next = write_block(disk, place, start - DATA * block, DATA, text)?;
+    let rest = &text[text.len().min(here - start)..];
+    write_block(disk, next.unwrap(), 0, end - here, rest)?;
+    Ok(())
+}
+
+/// Writes the text into a record that is there, from the position on, as far as it fits; the rest of the record is zeros.
+fn write_there<D: Sectors>(
+    disk: &mut D,
+    file: &RelFile,
+    number: u32,
+    position: u8,
+    text: &[u8],
+) -> Result<(), RelFault>
+    requires clean { IsClean (D.history.image disk.old) }
+    requires of { IsOf (D.history.image disk.old) file.now }
+    requires low { 1 ≤ number }
+    requires high { number ≤ records_in file.now }
+    requires position_low { 1 ≤ position }
+    requires position_high { position ≤ length_of file.now }
+    ensures ok { OfItsFile (D.history.image disk.old) file.now (λ l n f. OnOk result (LeavesRecords (D.history.image disk.old) (D.history.image disk.new) l n (with_written (record_length f.slot) number position text.now (records_of.records (D.history.image disk.old) f)) file.now)) }
+    ensures err { IfErr result (λ fault. fault ≡ Device) }
+    ensures moments { OfItsFile (D.history.image disk.old) file.now (λ l n f. Changes D.history disk.old disk.new (touched (length_of file.now) number position) (IsWriting (D.history.image disk.old) l n f 0 number position text.now)) }
+    // a record in one block is written at once
+    ensures uncounted { IsInOneBlock (length_of file.now) number → OnErr result (D.history.writes disk.new ≡ D.history.writes disk.old) }
+    ensures failures { TellsRelFault D.history disk.old disk.new result }
+{
+    let size = file.size as usize;
+    let start = (number as usize - 1) * size + (position as usize - 1);
+    let end = number as usize * size;
+    let block = start / DATA;
+    let place = block_at(disk, file, block)?;
+    if end <= DATA * (block + 1) {
+        return write_in_block(disk, file, number, position, text, block, place);
+    }
+    write_across(disk, file, number, position, text, block, place)
+}
+
+/// Writes the text into a record, from the position on, counted from 1: the record's bytes before it stay, and those
+/// behind the text become zeros. No other record changes. Where the file has no such record, it grows first.
+///
+/// `Overflow` is told where the text is longer than what is left of the record: it is written as far as it fits. `TooLarge`
+/// and `Full` are those of `grow_to`; then nothing is written.
+pub fn write_record<D: Sectors>(
+    disk: &mut D,
+    file: &mut RelFile,
+    number: u32,
+    position: u8,
+    text: &[u8],
+) -> Result<(), RelFault>
+    requires clean { IsClean (D.history.image disk.old) }
+    requires of { IsOf (D.history.image disk.old) file.old }
+    requires number { 1 ≤ number }
+    requires position_low { 1 ≤ position }
+    requires position_high { position ≤ length_of file.old }
+    // the record is written, whole or cut
+    ensures done { OfItsFile (D.history.image disk.old) file.old (λ l n f. IsDone result → LeavesRecords (D.history.image disk.old) (D.history.image disk.new) l n (with_written (record_length f.slot) number position text.now (grown_to (D.history.image disk.old) f number)) file.new) }
+    ensures ok { OnOk result (length text.now + position ≤ length_of file.old + 1) }
+    ensures overflow { IfErr result (λ fault. fault ≡ Overflow → length_of file.old + 1 < length text.now + position) }
+    ensures there { IsDone result → (number ≤ records_in file.new) × (number ≤ 182880) }
+    ensures same { IsDone result → length_of file.new ≡ length_of file.old }
+    // refusals of growth, and no other
+    ensures told { IfErr result (λ fault. (fault ≡ Overflow) ⊎ ((fault ≡ TooLarge) ⊎ ((fault ≡ Full) ⊎ (fault ≡ Device)))) }
+    ensures too_large { OfItsFile (D.history.image disk.old) file.old (λ l n f. (result ≡ Err TooLarge) ↔ IsTooLarge f number) }
+    ensures full { OfItsFile (D.history.image disk.old) file.old (λ l n f. IfErr result (λ fault. fault ≡ Full → IsFull (D.history.image disk.old) f number)) }
+    ensures fits { OfItsFile (D.history.image disk.old) file.old (λ l n f. IsDone result → ¬ (IsFull (D.history.image disk.old) f number)) }
+    ensures refused { IfErr result (λ fault. fault ≢ Device → fault ≢ Overflow → (file.new ≡ file.old) × OnlyReads D.history disk.old disk.new 1) }
+    // every image held
+    ensures moments { OfItsFile (D.history.image disk.old) file.old (λ l n f. Changes D.history disk.old disk.new (growth_writes f number + touched (record_length f.slot) number position) (IsWriting (D.history.image disk.old) l n f (added (record_length f.slot) (records_had f) number) number position text.now)) }
+    ensures others { OfItsFile (D.history.image disk.old) file.old (λ l n f. KeepsRelFiles (D.history.image disk.old) (D.history.image disk.new) l n) }
+    // a record that is there and lies in one block is written at once: a write that was counted is the whole one
+    ensures uncounted { number ≤ records_in file.old → IsInOneBlock (length_of file.old) number → IfErr result (λ fault. fault ≢ Overflow → D.history.writes disk.new ≡ D.history.writes disk.old) }
+    ensures entry { entry_of file.new ≡ entry_of file.old }
+    ensures failures { TellsRelFault D.history disk.old disk.new result }
+{
+    grow_to(disk, file, number)?;
+    write_there(disk, file, number, position, text)?;
+    if text.len() + position as usize > file.size as usize + 1 {
+        return Err(RelFault::Overflow);
+    }
+    Ok(())
+}
