@@ -1,0 +1,6 @@
+pub mod Files
+pub mod Shop
+pub mod Opening
+pub mod Handling
+pub mod Standing
+pub mod Putting
