@@ -7,4 +7,6 @@ pub mod Steps
 pub mod Layers
 pub mod Mended
 pub mod Calls
+pub mod Readings
+pub mod Search
 pub mod Examples

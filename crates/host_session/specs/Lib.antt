@@ -4,3 +4,4 @@ pub mod Opening
 pub mod Handling
 pub mod Standing
 pub mod Putting
+pub mod Found

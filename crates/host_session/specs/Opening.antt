@@ -82,6 +82,12 @@ disk_of disk (Err e) = e.1
 abbrev pub Untouched : {D : Type 0} → History D → D → D → Type 0
 Untouched S old new = Changes S old new 0 (λ c. c ≡ S.image old)
 
+-- a call that judges tells the device's fault only where that failed, and any other answer only where no failure was counted
+abbrev pub TellsJudging : {D T : Type 0} → History D → D → D → Result T OpenFault → Type 0
+TellsJudging S old new (Ok _) = S.failures new ≡ S.failures old
+TellsJudging S old new (Err faults.Device) = Failed S old new
+TellsJudging S old new (Err _) = S.failures new ≡ S.failures old
+
 -- no failure was counted, but where the fault is the device's
 abbrev pub TellsOpening : {S D : Type 0} → (S → D) → History D → D → Result S (OpenFault × D) → Type 0
 TellsOpening disk H old (Ok s) = H.failures (disk s) ≡ H.failures old

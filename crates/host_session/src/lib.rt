@@ -2,7 +2,9 @@
 #![tactic(auto)]
 
 mod faults;
+mod finding;
 mod laws;
+mod reading;
 
 pub use faults::OpenFault;
 pub use laws::{both_ends, last_two, one_shop, refused_no_shop};
