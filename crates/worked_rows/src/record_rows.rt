@@ -1,0 +1,51 @@
+//! Records written past the end, and read on a full disk.
+use crate::disks::fresh;
+use arrayvec::ArrayVec;
+use d64_image::Meter;
+use layout_check::check;
+use rel_records::{find, grow_to, read_record, records, write_record};
+use std::test::Fail;
+
+// Record 15 needs a block, and lies in two: five writes and two. Then its second part alone is written.
+#[test]
+fn a_record_is_written_past_the_end(rt: HostRuntime) -> Result<(), Fail> {
+    let mut disk = Meter::new(fresh(rt.alloc())?);
+    let mut stock = find(&mut disk, b"STOCK")?;
+    let mut text = ArrayVec::new();
+    let rows = [
+        (
+            1,
+            b"K,00015,000000007\r".as_slice(),
+            7,
+            b"K,00015,000000007\r",
+        ),
+        (3, b"X".as_slice(), 8, b"K,X\0\0\0\0\0\0\0\0\0\0\0\0\0\0\0"),
+    ];
+    for (position, written, writes, bytes) in rows {
+        write_record(&mut disk, &mut stock, 15, position, written)?;
+        assert_eq!(rt; (disk.writes(), records(&stock)), (writes, 28));
+        read_record(&mut disk, &stock, 15, &mut text)?;
+        assert!(rt;
+            text.as_slice() == bytes.as_slice(),
+            "from position {position}"
+        );
+    }
+    assert!(rt; check(&mut disk).is_ok());
+    Ok(())
+}
+
+// On a full disk the last record, and one that lies in two blocks, are read with three sectors at most.
+#[test]
+fn three_sectors_are_read(rt: HostRuntime) -> Result<(), Fail> {
+    let mut disk = Meter::new(fresh(rt.alloc())?);
+    let mut stock = find(&mut disk, b"STOCK")?;
+    grow_to(&mut disk, &mut stock, 9256)?;
+    let mut text = ArrayVec::new();
+    for (number, reads) in [(9256, 2), (15, 3)] {
+        let before = disk.reads();
+        read_record(&mut disk, &stock, number, &mut text)?;
+        assert_eq!(rt; disk.reads() - before, reads, "record {number}");
+    }
+    assert!(rt; check(&mut disk).is_ok());
+    Ok(())
+}
