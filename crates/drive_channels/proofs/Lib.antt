@@ -1,0 +1,10 @@
+pub mod Given
+pub mod Kept
+pub mod Lengths
+pub mod Moves
+pub mod Orders
+pub mod Refusals
+pub mod Rows
+pub mod Steady
+pub mod Writes
+pub mod Written
