@@ -2,7 +2,7 @@
 use Rattle.std.proofs.Common.{ℕ, ◌≡◌, ◌≤◌, ◌<◌, ◌⊎◌, inl, inr, Bool, true, false, ap, if◌then◌else◌, List, length, nat_lt, Option, Some, sym, ◌∙◌, ap₂, subst, refl, arith}
 use Rattle.d64_image.specs.Images.{Image}
 use Rattle.rel_records.specs.File.{entry_of, length_of, records_in}
-use Rattle.rel_records.specs.Growth.{blocks_for, records_had}
+use Rattle.rel_records.specs.Growth.{blocks_for}
 use Rattle.drive_channels.proofs.Rows.{in-file}
 use Rattle.drive_channels.proofs.Writes.{had-is}
 use Rattle.drive_channels.specs.Inside.{IsFound, at_spot, channel_at, channel_of, shown}

@@ -1,5 +1,5 @@
 -- The rows of the tables, from what the record calls ensure.
-use Rattle.std.proofs.Common.{ℕ, ◌≡◌, ◌<◌, ◌≤◌, ◌+◌, ◌-◌, ◌⊎◌, inl, inr, Bool, List, [], ◌∷◌, length, drop, Some, Option, slice_get, sym, ◌∙◌, ap, subst, refl, arith}
+use Rattle.std.proofs.Common.{ℕ, ◌≡◌, ◌<◌, ◌≤◌, ◌-◌, inl, inr, Bool, List, [], drop, Some, Option, slice_get, sym, ◌∙◌, ap, subst, refl, arith}
 use Rattle.std.proofs.lemmas.Option.{same_Some, slice_get_within}
 use Rattle.d64_image.specs.Images.{Image}
 use Rattle.disk_layout.proofs.Layouts.{IsLayout-one}
@@ -11,7 +11,7 @@ use Rattle.drive_channels.proofs.Lengths.{count-is}
 use Rattle.drive_channels.specs.Files.{IsRelAt}
 use Rattle.rel_records.specs.Growth.{records_had}
 use Rattle.drive_channels.specs.Given.{IsGiven}
-use Rattle.drive_channels.specs.Inside.{IsFound, IsSpot, at_spot, channel_of, next_spot, shown}
+use Rattle.drive_channels.specs.Inside.{IsFound, at_spot, channel_of, next_spot, shown}
 use Rattle.drive_channels.specs.State.{Channel, View}
 use Rattle.drive_channels.specs.Tables.{InFile, Reads, ReadsIn}
 use Rattle.drive_channels.specs.declared.found.Found.{Found}

@@ -1,11 +1,10 @@
 -- What the fields of a drive say of what it shows.
-use Rattle.std.proofs.Common.{ℕ, ◌≡◌, ◌≢◌, ◌≤◌, Bool, true, false, Option, None, Some, IfSome, Ok, Err, sym, ◌∙◌, ap, subst, refl}
+use Rattle.std.proofs.Common.{ℕ, ◌≡◌, ◌≤◌, Bool, true, false, Option, None, Some, IfSome, Ok, Err, sym, ◌∙◌, ap, subst, refl}
 use Rattle.std.proofs.lemmas.Option.{same_Some, none-some}
 use Rattle.d64_image.specs.History.{Failed, History}
 use Rattle.d64_image.specs.Images.{Image}
-use Rattle.disk_layout.specs.Layout.{record_length}
-use Rattle.rel_records.specs.File.{entry_of, length_of}
-use Rattle.drive_channels.specs.Inside.{IsFound, IsKnown, IsSpot, Remembers, channel_in, channel_of, seen_of}
+use Rattle.rel_records.specs.File.{entry_of}
+use Rattle.drive_channels.specs.Inside.{IsFound, IsKnown, IsSpot, channel_in, channel_of, seen_of}
 use Rattle.drive_channels.specs.Serving.{IsChannel, IsOrderly, Serves}
 use Rattle.drive_channels.specs.State.{Channel, Seen}
 use Rattle.drive_channels.specs.declared.found.Found.{Found}

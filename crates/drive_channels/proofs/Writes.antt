@@ -1,5 +1,5 @@
 -- The rows of a write, and what it leaves of the files that are remembered.
-use Rattle.std.proofs.Common.{ℕ, ◌≡◌, ◌≤◌, ◌<◌, ◌+◌, ◌⊎◌, inl, inr, Bool, true, false, List, [], ◌∷◌, if◌then◌else◌, length, nat_lt, Some, sym, ◌∙◌, ap, ap₂, subst, refl, arith, Result, OnErr}
+use Rattle.std.proofs.Common.{ℕ, ◌≡◌, ◌≤◌, ◌<◌, ◌+◌, ◌⊎◌, inl, inr, Bool, true, false, List, [], ◌∷◌, if◌then◌else◌, length, nat_lt, Some, sym, ap, ap₂, subst, refl, arith, Result, OnErr}
 use Rattle.d64_image.proofs.Moments.{changes_weaker}
 use Rattle.d64_image.specs.History.{Changes, History}
 use Rattle.d64_image.specs.Images.{Image}
@@ -15,7 +15,7 @@ use Rattle.drive_channels.proofs.Kept.{other-found, own-found}
 use Rattle.drive_channels.proofs.Rows.{in-file}
 use Rattle.drive_channels.specs.Inside.{IsFound, IsSpot, KeepsFound, at_spot, channel_in, next_spot}
 use Rattle.drive_channels.specs.Moments.{IsWrittenAt}
-use Rattle.drive_channels.specs.State.{Channel, View}
+use Rattle.drive_channels.specs.State.{Channel}
 use Rattle.drive_channels.specs.Tables.{InFile, WritesIn}
 use Rattle.drive_channels.specs.declared.found.Found.{Found}
 use Rattle.drive_channels.specs.declared.found.Spot.{Spot}

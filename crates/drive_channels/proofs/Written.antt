@@ -1,5 +1,5 @@
 -- A write to the channel of a number, and what is known of the files behind it.
-use Rattle.std.proofs.Common.{ℕ, ◌≡◌, ◌≢◌, inl, inr, Bool, true, false, List, [], ◌∷◌, append-nil, arith, Option, None, Some, IfSome, Result, OnErr, Ok, Err, sym, ◌∙◌, subst, refl}
+use Rattle.std.proofs.Common.{ℕ, ◌≡◌, ◌≢◌, inl, inr, List, [], ◌∷◌, append-nil, arith, Option, None, Some, IfSome, Result, OnErr, Ok, Err, sym, ◌∙◌, subst, refl}
 use Rattle.std.proofs.lemmas.Option.{same_Some, none-some}
 use Rattle.d64_image.proofs.Moments.{changes_weaker, no_change}
 use Rattle.d64_image.specs.History.{Changes, History}

@@ -1,5 +1,5 @@
 -- Names, the texts of open, and commands (1541 User's Guide, relative files; what of them is taken is our own).
-use Rattle.std.specs.Prelude.{ℕ, ◌≡◌, ◌≤◌, ◌⊎◌, ◌&&◌, ◌||◌, ◌%◌, ◌+◌, ◌*◌, not, Bool, List, [], ◌∷◌, ◌++◌, None, Option, Some, IsTrue, Contains, codes, length, max, nat_eq, nat_le, slice_index, slice_index_or}
+use Rattle.std.specs.Prelude.{ℕ, ◌≡◌, ◌≤◌, ◌⊎◌, ◌&&◌, ◌%◌, ◌+◌, ◌*◌, not, Bool, List, [], ◌∷◌, ◌++◌, None, Option, Some, IsTrue, codes, length, max, nat_eq, nat_le, slice_index, slice_index_or}
 use Rattle.std.specs.List.{AllByRecursion}
 
 -- a byte of a name: $20 to $5F but " $ * , : = ? @

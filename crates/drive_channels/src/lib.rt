@@ -7,8 +7,12 @@ mod drive;
 mod faults;
 mod found;
 mod known;
+mod opening;
 mod reading;
 mod status;
+#[cfg(test)]
+mod tests;
+mod text;
 mod writing;
 
 pub use drive::Drive;
