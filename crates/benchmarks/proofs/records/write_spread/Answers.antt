@@ -1,5 +1,5 @@
 -- A record that is written leaves the disk clean, and what is kept of the file good.
-use Rattle.std.proofs.Common.{tt, ◌∙◌}
+use Rattle.std.proofs.Common.{◌∙◌}
 use Rattle.benchmarks.proofs.records.write_spread.Goals as goal
 
 pub loop-round-preserved : goal.loop-round-preserved
