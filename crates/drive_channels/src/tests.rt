@@ -15,11 +15,11 @@ fn fresh(alloc: Global) -> Result<MemDisk, Fail> {
     Ok(disk)
 }
 
-fn change(disk: &mut MemDisk, track: u8, sector: u8, at: usize, byte: u8) -> Result<(), Fail> {
+fn change(disk: &mut MemDisk, track: u8, sector: u8, at: u8, byte: u8) -> Result<(), Fail> {
     let place = Place::new(track, sector).ok_or(DeviceFault)?;
     let mut bytes = [0; 256];
     disk.read(place, &mut bytes)?;
-    bytes[at] = byte;
+    bytes[at as usize] = byte;
     disk.write(place, &bytes)?;
     Ok(())
 }
