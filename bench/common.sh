@@ -13,11 +13,11 @@ stop() {
     exit 1
 }
 
-# make_plain: `plain` becomes the plain program of the script, made with `rustc -O`
+# make_plain: `plain` becomes the plain program of the script, made optimised and in one piece
 make_plain() {
     command -v rustc >/dev/null || stop "there is no rustc here, so there is no plain program"
     plain="$work/plain"
-    rustc -O -o "$plain" "$top/bench/${name}_plain.rs"
+    rustc -O -C codegen-units=1 -o "$plain" "$top/bench/${name}_plain.rs"
 }
 
 # prepare CRATE: makes the plain program, and `proved` becomes the program of this crate, crates/CRATE/out/CRATE. One that
