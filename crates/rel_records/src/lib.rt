@@ -3,6 +3,9 @@
 
 mod access;
 mod counting;
+mod creation;
+#[cfg(test)]
+mod creation_tests;
 mod faults;
 mod filling;
 mod finding;
@@ -23,6 +26,7 @@ mod tests;
 mod writing;
 
 pub use counting::records;
+pub use creation::create;
 pub use faults::RelFault;
 pub use finding::find;
 pub use growth::grow_to;
