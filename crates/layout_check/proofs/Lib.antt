@@ -29,5 +29,6 @@ pub mod RightWrites
 pub mod Roots
 pub mod SideMends
 pub mod SideWalks
+pub mod ToldExamples
 pub mod Verdict
 pub mod Walked

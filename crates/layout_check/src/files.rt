@@ -9,6 +9,7 @@ ghost use Rattle.layout_check.specs.SurveyedEntry.{SurveysEntry, TellsOrClashes}
 use crate::blocks::survey_blocks;
 use crate::entry::judge_entry;
 use crate::owners::Owners;
+use crate::parts::Parts;
 use crate::sides::find_parts;
 use arrayvec::ArrayVec;
 use d64_image::{Place, Sectors};
@@ -54,7 +55,7 @@ fn survey_relative<D: Sectors>(
     slot: &Slot,
     number: u8,
     owners: &mut Owners,
-    blocks: &mut ArrayVec<Place, 720>,
+    parts: &mut Parts,
 ) -> Result<Option<Fault>, Fault>
     requires closed { IsClosed (D.history.image disk.old) slot.now.sector slot.now }
     requires proper { IsProper slot.now }
@@ -63,15 +64,13 @@ fn survey_relative<D: Sectors>(
     ensures ok { IfOk result (SurveysEntry D.history disk.old disk.new slot.now number owners.old owners.new) }
     ensures err { IfErr result (TellsOrClashes D.history disk.old disk.new slot.now owners.old) }
 {
-    let mut sides = ArrayVec::new();
-    let inexact = find_parts(disk, slot, blocks, &mut sides)?;
-    owners.claim(number, blocks.as_slice())?;
-    owners.claim(number, sides.as_slice())?;
-    Ok(unclean_of(slot, inexact, blocks.len() + sides.len()))
+    let inexact = find_parts(disk, slot, parts)?;
+    owners.claim(number, parts.blocks.as_slice())?;
+    owners.claim(number, parts.sides.as_slice())?;
+    Ok(unclean_of(slot, inexact, parts.blocks.len() + parts.sides.len()))
 }
 
-/// Finds the file of a used slot, and claims what it owns for the owner with this number. `blocks` is emptied and filled
-/// with its data blocks. An entry that isn't relative and names no first block (track 0) owns nothing.
+/// Finds the file of a used slot, and claims what it owns for the owner with this number. `parts` is room for what it owns. An entry that isn't relative and names no first block (track 0) owns nothing.
 ///
 /// The answer is what a clean disk must not have beyond what a sound one must not: a side sector whose bytes aren't exact
 /// or a wrong block count. It holds only where the whole disk is sound, so the caller keeps it back until then.
@@ -83,7 +82,7 @@ pub fn survey_entry<D: Sectors>(
     slot: &Slot,
     number: u8,
     owners: &mut Owners,
-    blocks: &mut ArrayVec<Place, 720>,
+    parts: &mut Parts,
 ) -> Result<Option<Fault>, Fault>
     requires entry { IsEntry (D.history.image disk.old) slot.now }
     requires some { number < 255 }
@@ -93,11 +92,11 @@ pub fn survey_entry<D: Sectors>(
     judge_entry(slot)?;
     let entry = EntryView::new(&slot.bytes);
     if entry.is_relative() {
-        return survey_relative(disk, slot, number, owners, blocks);
+        return survey_relative(disk, slot, number, owners, parts);
     }
     if !entry.has_first_block() {
         return Ok(None);
     }
-    survey_plain(disk, slot, number, owners, blocks)?;
+    survey_plain(disk, slot, number, owners, &mut parts.blocks)?;
     Ok(None)
 }

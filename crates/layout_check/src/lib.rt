@@ -9,6 +9,7 @@ mod maps;
 mod mending;
 mod outcome;
 mod owners;
+mod parts;
 mod recounting;
 mod repairing;
 #[cfg(test)]

@@ -16,6 +16,7 @@ ghost use Rattle.layout_check.specs.Survey.{IsToldBy};
 use crate::maps::check_bits;
 use crate::outcome::Survey;
 use crate::owners::Owners;
+use crate::parts::Parts;
 use crate::sides::find_parts;
 use arrayvec::ArrayVec;
 use d64_image::{Place, Sectors};
@@ -107,14 +108,9 @@ fn mend_sides<D: Sectors>(
     Ok(())
 }
 
-/// Gives the side sectors of a relative entry of a sound disk the bytes that they are to have. `blocks` and `sides` are
-/// emptied, and filled with what the entry owns.
-fn mend_relative<D: Sectors>(
-    disk: &mut D,
-    slot: &Slot,
-    blocks: &mut ArrayVec<Place, 720>,
-    sides: &mut ArrayVec<Place, 6>,
-) -> Result<(), Fault>
+/// Gives the side sectors of a relative entry of a sound disk the bytes that they are to have. `parts` is filled with what
+/// the entry owns.
+fn mend_relative<D: Sectors>(disk: &mut D, slot: &Slot, parts: &mut Parts) -> Result<(), Fault>
     requires entry { IsEntry (D.history.image disk.old) slot.now }
     requires filed { IsFiled (D.history.image disk.old) slot.now }
     requires rel { IsTrue (is_rel slot.now) }
@@ -130,8 +126,8 @@ fn mend_relative<D: Sectors>(
     // side sectors that are right are not written
     ensures quiet { IsExactFor (D.history.image disk.old) (D.history.image disk.old) slot.now → WritesNothing D.history disk.old disk.new }
 {
-    match find_parts(disk, slot, blocks, sides)? {
-        Some(_) => mend_sides(disk, slot, blocks.as_slice(), sides.as_slice()),
+    match find_parts(disk, slot, parts)? {
+        Some(_) => mend_sides(disk, slot, parts.blocks.as_slice(), parts.sides.as_slice()),
         None => Ok(()),
     }
 }
@@ -152,12 +148,11 @@ pub fn mend_entries<D: Sectors>(disk: &mut D) -> Result<(), Fault>
     ensures quiet { AreExactFor (D.history.image disk.old) (D.history.image disk.old) → WritesNothing D.history disk.old disk.new }
 {
     let mut slots = ArrayVec::new();
-    let mut blocks = ArrayVec::new();
-    let mut sides = ArrayVec::new();
+    let mut parts = Parts::new();
     read_directory(disk, &mut slots)?;
     for slot in slots.as_slice() {
         if EntryView::new(&slot.bytes).is_relative() {
-            mend_relative(disk, slot, &mut blocks, &mut sides)?;
+            mend_relative(disk, slot, &mut parts)?;
         }
     }
     Ok(())

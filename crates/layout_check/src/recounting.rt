@@ -14,6 +14,7 @@ ghost use Rattle.layout_check.specs.RepairOrder.{IsRight};
 ghost use Rattle.layout_check.specs.Mended.{TellsDevice};
 ghost use Rattle.layout_check.specs.Recounted.{AreCounted, AreRightIn, IsCountOf, IsCountedAs, IsInDirectory, IsRightAt, KeepsButCounts, OldOrMended};
 
+use crate::parts::Parts;
 use crate::sides::find_parts;
 use arrayvec::ArrayVec;
 use d64_image::{Place, Sectors};
@@ -21,22 +22,17 @@ use disk_layout::{
     EntryView, Fault, Slot, directory_start, put_count, read_sector, walk_chain, write_other,
 };
 
-/// How many sectors a relative entry of a sound disk owns: its data blocks and its side sectors. `blocks` and `sides` are
-/// emptied, and filled with these.
-fn count_owned<D: Sectors>(
-    disk: &mut D,
-    slot: &Slot,
-    blocks: &mut ArrayVec<Place, 720>,
-    sides: &mut ArrayVec<Place, 6>,
-) -> Result<u16, Fault>
+/// How many sectors a relative entry of a sound disk owns: its data blocks and its side sectors. `parts` is filled
+/// with these.
+fn count_owned<D: Sectors>(disk: &mut D, slot: &Slot, parts: &mut Parts) -> Result<u16, Fault>
     requires entry { IsEntry (D.history.image disk.old) slot.now }
     requires rel { IsTrue (is_rel slot.now) }
     ensures count { IfOk result (IsCountOf (D.history.image disk.old) slot.now) }
     ensures ok { OnOk result (Passes D.history disk.old disk.new 732) }
     ensures err { IfErr result (TellsUnsound D.history disk.old disk.new 732) }
 {
-    find_parts(disk, slot, blocks, sides)?;
-    Ok((blocks.len() + sides.len()) as u16)
+    find_parts(disk, slot, parts)?;
+    Ok((parts.blocks.len() + parts.sides.len()) as u16)
 }
 
 /// Makes the block count of one slot right in the bytes of its directory sector, where it is a relative entry's.
@@ -45,8 +41,7 @@ fn recount_slot<D: Sectors>(
     place: Place,
     number: u8,
     bytes: &mut [u8; 256],
-    blocks: &mut ArrayVec<Place, 720>,
-    sides: &mut ArrayVec<Place, 6>,
+    parts: &mut Parts,
 ) -> Result<(), Fault>
     requires sound { IsSound (D.history.image disk.old) }
     requires own { IsInDirectory (D.history.image disk.old) place }
@@ -64,7 +59,7 @@ fn recount_slot<D: Sectors>(
     if !EntryView::new(&slot.bytes).is_relative() {
         return Ok(());
     }
-    let count = count_owned(disk, &slot, blocks, sides)?;
+    let count = count_owned(disk, &slot, parts)?;
     put_count(bytes, number, count);
     Ok(())
 }
@@ -74,8 +69,7 @@ fn recount_sector<D: Sectors>(
     disk: &mut D,
     place: Place,
     bytes: &mut [u8; 256],
-    blocks: &mut ArrayVec<Place, 720>,
-    sides: &mut ArrayVec<Place, 6>,
+    parts: &mut Parts,
 ) -> Result<(), Fault>
     requires sound { IsSound (D.history.image disk.old) }
     requires own { IsInDirectory (D.history.image disk.old) place }
@@ -88,19 +82,14 @@ fn recount_sector<D: Sectors>(
     ensures err { IfErr result (TellsUnsound D.history disk.old disk.new 5856) }
 {
     for number in 0..8u8 {
-        recount_slot(disk, place, number, bytes, blocks, sides)?;
+        recount_slot(disk, place, number, bytes, parts)?;
     }
     Ok(())
 }
 
 /// Makes the block counts right in a directory sector of a sound disk, which is written where one of them is wrong.
-/// `blocks` and `sides` are room for what an entry owns.
-fn mend_sector<D: Sectors>(
-    disk: &mut D,
-    place: Place,
-    blocks: &mut ArrayVec<Place, 720>,
-    sides: &mut ArrayVec<Place, 6>,
-) -> Result<(), Fault>
+/// `parts` is room for what an entry owns.
+fn mend_sector<D: Sectors>(disk: &mut D, place: Place, parts: &mut Parts) -> Result<(), Fault>
     requires sound { IsSound (D.history.image disk.old) }
     requires own { IsInDirectory (D.history.image disk.old) place }
     ensures right { OnOk result (AreRightIn (D.history.image disk.old) place (sector (D.history.image disk.new) place)) }
@@ -114,7 +103,7 @@ fn mend_sector<D: Sectors>(
     let mut had = [0u8; 256];
     read_sector(disk, place, &mut had)?;
     let mut bytes = had;
-    recount_sector(disk, place, &mut bytes, blocks, sides)?;
+    recount_sector(disk, place, &mut bytes, parts)?;
     write_other(disk, place, &had, &bytes)
 }
 
@@ -146,11 +135,10 @@ pub fn mend_counts<D: Sectors>(disk: &mut D) -> Result<(), Fault>
     ensures failures { TellsDevice D.history disk.old disk.new result }
 {
     let mut places = ArrayVec::new();
-    let mut blocks = ArrayVec::new();
-    let mut sides = ArrayVec::new();
+    let mut parts = Parts::new();
     find_directory(disk, &mut places)?;
     for &place in places.as_slice() {
-        mend_sector(disk, place, &mut blocks, &mut sides)?;
+        mend_sector(disk, place, &mut parts)?;
     }
     Ok(())
 }

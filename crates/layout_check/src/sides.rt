@@ -7,6 +7,7 @@ ghost use Rattle.layout_check.specs.Exact.{ToldOfSides};
 ghost use Rattle.layout_check.specs.Sides.{HasOtherFields, HasParts, HasSideFields, IsMisnamed, IsRelEntry, IsWalkOfSides, ListsEach, NamesEach};
 
 use crate::blocks::survey_blocks;
+use crate::parts::Parts;
 use arrayvec::ArrayVec;
 use d64_image::{Place, Sectors};
 use disk_layout::{EntryView, Fault, SideView, Slot, read_sector, side_bytes};
@@ -130,22 +131,21 @@ fn survey_sides<D: Sectors>(
     Ok(inexact)
 }
 
-/// Finds the data blocks and the side sectors of a closed relative entry, and fills the two lists with them in order. The
-/// answer is the first side sector whose bytes aren't exact; None where all are.
+/// Finds the data blocks and the side sectors of a closed relative entry, and fills `parts` with them in order. The answer
+/// is the first side sector whose bytes aren't exact; None where all are.
 pub fn find_parts<D: Sectors>(
     disk: &mut D,
     slot: &Slot,
-    blocks: &mut ArrayVec<Place, 720>,
-    sides: &mut ArrayVec<Place, 6>,
+    parts: &mut Parts,
 ) -> Result<Option<Place>, Fault>
     requires closed { IsClosed (D.history.image disk.old) slot.now.sector slot.now }
     requires rel { IsTrue (is_rel slot.now) }
-    ensures parts { OnOk result (HasParts (D.history.image disk.old) slot.now blocks.new.items sides.new.items) }
-    ensures exact { IfOk result (ToldOfSides (D.history.image disk.old) slot.now blocks.new.items sides.new.items) }
-    ensures ok { OnOk result (Passes D.history disk.old disk.new (length blocks.new.items + 2 * length sides.new.items)) }
-    ensures few { OnOk result (length blocks.new.items + 2 * length sides.new.items ≤ 732) }
+    ensures parts { OnOk result (HasParts (D.history.image disk.old) slot.now parts.new.blocks.items parts.new.sides.items) }
+    ensures exact { IfOk result (ToldOfSides (D.history.image disk.old) slot.now parts.new.blocks.items parts.new.sides.items) }
+    ensures ok { OnOk result (Passes D.history disk.old disk.new (length parts.new.blocks.items + 2 * length parts.new.sides.items)) }
+    ensures few { OnOk result (length parts.new.blocks.items + 2 * length parts.new.sides.items ≤ 732) }
     ensures err { IfErr result (TellsUnsound D.history disk.old disk.new 732) }
 {
-    survey_blocks(disk, slot, blocks)?;
-    survey_sides(disk, slot, blocks.as_slice(), sides)
+    survey_blocks(disk, slot, &mut parts.blocks)?;
+    survey_sides(disk, slot, parts.blocks.as_slice(), &mut parts.sides)
 }

@@ -10,6 +10,7 @@ ghost use Rattle.layout_check.specs.Survey.{IsSurveyOf, Surveys};
 use crate::files::survey_entry;
 use crate::outcome::{Findings, Survey};
 use crate::owners::Owners;
+use crate::parts::Parts;
 use arrayvec::ArrayVec;
 use d64_image::{Place, Sectors};
 use disk_layout::{Fault, Slot, directory_start, read_directory, walk_chain};
@@ -35,14 +36,13 @@ pub fn survey_files<D: Sectors>(disk: &mut D) -> Result<Findings, Fault>
     ensures err { IfErr result (TellsUnsound D.history disk.old disk.new 2114) }
 {
     let mut slots = ArrayVec::new();
-    let mut places = ArrayVec::new();
-    survey_directory(disk, &mut slots, &mut places)?;
-    let mut owners = Owners::of_directory(places.as_slice());
-    // the directory's places are done with, and a list of its own for blocks would take time to blank
-    let blocks = &mut places;
+    // the directory's places stand where blocks will: a list of their own would take time to blank
+    let mut parts = Parts::new();
+    survey_directory(disk, &mut slots, &mut parts.blocks)?;
+    let mut owners = Owners::of_directory(parts.blocks.as_slice());
     let mut unclean = None;
     for (number, slot) in slots.as_slice().iter().enumerate() {
-        let found = survey_entry(disk, slot, number as u8, &mut owners, blocks)?;
+        let found = survey_entry(disk, slot, number as u8, &mut owners, &mut parts)?;
         unclean = unclean.or(found);
     }
     Ok(Findings {

@@ -35,10 +35,14 @@ dry = with_rule (new_app (codes "dry")) (required (codes "SCRIPT"))
 abbrev pub with_required_subcommand : App → App
 with_required_subcommand a = record { top = record a.top { subcommand_required = true }; subs = a.subs }
 
+-- the same with a version, which is printed where it is asked for
+abbrev pub with_version : App → App
+with_version a = record { top = record a.top { has_version = true }; subs = a.subs }
+
 -- the program with its subcommands
 abbrev pub ledger : App
 ledger = with_subcommand (with_subcommand (with_subcommand (with_subcommand
-    (with_required_subcommand (new_app (codes "ledger"))) format.top) list.top) check.top) dry.top
+    (with_required_subcommand (with_version (new_app (codes "ledger_cli")))) format.top) list.top) check.top) dry.top
 
 -- the value of an argument, or an empty text where it has none
 abbrev pub value : Text → List Row → Text

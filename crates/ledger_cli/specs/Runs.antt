@@ -1,12 +1,13 @@
 -- What a run of the program ends with, and what it leaves of the output. All of it is our own.
-use Rattle.std.specs.Prelude.{◌≡◌, ◌≢◌, ◌↔◌, ◌⊎◌, ℕ, List, Option, None, IsSome, codes, length}
+use Rattle.std.specs.Prelude.{◌≡◌, ◌≢◌, ◌↔◌, ◌⊎◌, ℕ, List, Option, None, Some, IsSome, codes, length}
 use Rattle.std.specs.Io.KnownBytes.{Appends}
 use Rattle.d64_image.specs.Memory.{sectors_in}
 use Rattle.disk_layout.specs.Clean.{IsClean}
 use Rattle.disk_layout.specs.Fault.{HoldsOfClean, HoldsOfDirectory, nowhere}
 use Rattle.disk_layout.specs.declared.faults.Fault.{Fault}
-use Rattle.ledger_commands.specs.Images.{HasDirectory}
+use Rattle.ledger_commands.specs.Images.{IsHandedTo, IsListed}
 use Rattle.script_lines.specs.Lines.{first_reset, lines}
+use Rattle.ledger_commands.specs.Texts.{verdict_text}
 use Rattle.ledger_commands.specs.Tables.{dry_report}
 use Rattle.ledger_cli.specs.declared.jobs.Job.{Job}
 use Rattle.ledger_cli.specs.declared.jobs.Job.TheVariants as jobs
@@ -21,18 +22,20 @@ pub record IsDryRun {W : Type 0} (contents : W → Option (List ℕ)) (script : 
   -- 3: the output failed
   pub statuses : (status ≡ 0) ⊎ ((status ≡ 1) ⊎ (status ≡ 3))
 
--- a run that makes an image, over the file that was handed in
-pub record IsFormatRun {F W : Type 0} (contents : W → Option (List ℕ)) (file : Option F) (old new : W) (status : ℕ) : Type 0 where
-  -- 0: there was a file, and that it is made was handed over
-  pub done : status ≡ 0 → IsSome file × Appends (contents old) (contents new) (codes "FORMATTED\n")
+-- a run that makes an image for so many tills, over the file that was handed in
+pub record IsFormatRun {F W : Type 0} (into : F → Option (List ℕ)) (contents : W → Option (List ℕ)) (tills : ℕ) (file : Option F) (old new : W) (status : ℕ) : Type 0 where
+  -- 0: there was a file, which was handed the whole image, and that it is made was said
+  pub done : status ≡ 0 → IsHandedTo into tills file × Appends (contents old) (contents new) (codes "FORMATTED\n")
+  -- nothing is said before
+  pub first : (new ≡ old) ⊎ IsHandedTo into tills file
   -- 3: there was no file, or it or the output failed, or there was no memory
   pub no_file : file ≡ None → (status ≡ 3) × (new ≡ old)
   pub statuses : (status ≡ 0) ⊎ (status ≡ 3)
 
 -- a run that lists an image
-pub record IsListRun {W : Type 0} (image : List ℕ) (old new : W) (status : ℕ) : Type 0 where
-  -- 0: it has the size of a disk, and a directory
-  pub done : status ≡ 0 → HasDirectory image
+pub record IsListRun {W : Type 0} (contents : W → Option (List ℕ)) (image : List ℕ) (old new : W) (status : ℕ) : Type 0 where
+  -- 0: it has the size of a disk and a directory, whose listing was handed over
+  pub done : status ≡ 0 → IsListed contents image old new
   -- 1: it has another size, or a fault of its directory holds; nothing was written
   pub size : length image ≢ 174848 → status ≡ 1
   pub refused : status ≡ 1 → (length image ≢ 174848) ⊎ ((fault : Fault) × HoldsOfDirectory nowhere (sectors_in image) fault)
@@ -40,24 +43,30 @@ pub record IsListRun {W : Type 0} (image : List ℕ) (old new : W) (status : ℕ
   -- 3: the output failed, or there was no memory
   pub statuses : (status ≡ 0) ⊎ ((status ≡ 1) ⊎ (status ≡ 3))
 
+-- a fault that holds of the image was told on the output
+pub record TellsOfImage {W : Type 0} (contents : W → Option (List ℕ)) (image : List ℕ) (old new : W) : Type 0 where
+  pub fault : Fault
+  pub holds : HoldsOfClean nowhere (sectors_in image) fault
+  pub told : Appends (contents old) (contents new) (verdict_text (Some fault))
+
 -- a run that judges an image
 pub record IsCheckRun {W : Type 0} (contents : W → Option (List ℕ)) (image : List ℕ) (old new : W) (status : ℕ) : Type 0 where
   -- 0: the image is clean, and that was handed over
-  pub done : status ≡ 0 → (length image ≡ 174848) × IsClean (sectors_in image) × Appends (contents old) (contents new) (codes "OK\n")
-  -- 1: it has another size, and nothing was written; or a fault holds of it
+  pub done : status ≡ 0 → (length image ≡ 174848) × IsClean (sectors_in image) × Appends (contents old) (contents new) (verdict_text None)
+  -- 1: it has another size, and nothing was written; or a fault holds of it, which was handed over
   pub size : length image ≢ 174848 → (status ≡ 1) × (new ≡ old)
-  pub refused : status ≡ 1 → (length image ≢ 174848) ⊎ ((fault : Fault) × HoldsOfClean nowhere (sectors_in image) fault)
+  pub refused : status ≡ 1 → (length image ≢ 174848) ⊎ TellsOfImage contents image old new
   -- so a clean image isn't refused
   pub clean : status ≡ 1 → length image ≡ 174848 → ¬ (IsClean (sectors_in image))
   -- 3: the output failed, or there was no memory
   pub statuses : (status ≡ 0) ⊎ ((status ≡ 1) ⊎ (status ≡ 3))
 
 -- the run of a job
-abbrev pub IsRun : {F W : Type 0} → (W → Option (List ℕ)) → Job → (image script : List ℕ) → Option F → W → W → ℕ → Type 0
-IsRun contents (jobs.Format path tills) image script file old new status = IsFormatRun contents file old new status
-IsRun contents (jobs.List path) image script file old new status = IsListRun image old new status
-IsRun contents (jobs.Check path) image script file old new status = IsCheckRun contents image old new status
-IsRun contents (jobs.Dry path) image script file old new status = IsDryRun contents script old new status
+abbrev pub IsRun : {F W : Type 0} → (F → Option (List ℕ)) → (W → Option (List ℕ)) → Job → (image script : List ℕ) → Option F → W → W → ℕ → Type 0
+IsRun into contents (jobs.Format path tills) image script file old new status = IsFormatRun into contents tills file old new status
+IsRun into contents (jobs.List path) image script file old new status = IsListRun contents image old new status
+IsRun into contents (jobs.Check path) image script file old new status = IsCheckRun contents image old new status
+IsRun into contents (jobs.Dry path) image script file old new status = IsDryRun contents script old new status
 
 -- where nothing is told: at status 0, and where what is wrong with a disk's layout is what was asked for
 abbrev pub IsQuiet : {E : Type 0} → Job → (image : List ℕ) → E → E → ℕ → Type 0

@@ -7,6 +7,9 @@ ghost use Rattle.ledger_cli.specs.Grammar as grammar;
 use clap::{Arg, Command};
 use std::alloc::{AllocError, Global};
 
+/// The version that `--version` prints.
+const VERSION: &str = "0.1.0";
+
 /// A value that has to stand, shown in help by its name.
 fn required<'a>(alloc: Global, name: &'a str, help: &'a str) -> Arg<'a>
     ensures rule { rule_of result ≡ grammar.required name.entry.now }
@@ -88,8 +91,10 @@ pub fn ledger_command<'a>(alloc: Global) -> Result<Command<'a>, AllocError>
     let list = list_command(alloc)?;
     let check = check_command(alloc)?;
     let dry = dry_command(alloc)?;
-    Command::new(alloc, "ledger")
+    Command::new(alloc, "ledger_cli")
         .about("A retry-safe stock ledger: a request that comes again gets its first answer")
+        .after_help("README.md says what each subcommand does, and what is proved of it.")
+        .version(VERSION)
         .subcommand_required(true)
         .subcommand(format)?
         .subcommand(list)?

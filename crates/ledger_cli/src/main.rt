@@ -1,13 +1,8 @@
 //! A retry-safe stock ledger: the program. It opens, reads and prints; the modules do the rest.
 #![tactic(auto)]
 
-#[cfg(test)]
-mod check_tests;
 mod grammar;
-#[cfg(test)]
-mod image_tests;
 mod jobs;
-mod replaced;
 mod running;
 #[cfg(test)]
 mod tests;
@@ -17,42 +12,41 @@ ghost use Rattle.ledger_cli.specs.Jobs.{HasTills};
 
 use clap::error::ErrorKind;
 use jobs::{Job, JobFault};
-use replaced::Replaced;
+pub use ledger_commands::dry;
+use ledger_commands::{OpensFile, Replaced, RunFault, read_image, read_script};
 use running::run;
 use std::alloc::{AllocError, Global};
 use std::env;
-use std::fs::{self, File};
-use std::io::{self, BufWriter, Read};
+use std::fs::{File, OpenOptions};
+use std::io::{self, BufWriter};
 use std::process::ExitCode;
 use words::job;
 
 /// The exit status of words that are refused.
 const WORDS: u8 = 2;
-/// The exit status where a file, the output or memory failed.
-const SYSTEM: u8 = 3;
 
-/// How many bytes the image of a disk has.
-const IMAGE_SIZE: u64 = 174_848;
+/// The name under which standard input is read.
+const STANDARD_INPUT: &str = "/dev/stdin";
 
 /// How many bytes of output are gathered before they are written.
 const OUTPUT_ROOM: usize = 65536;
 
 /// Tells that a file or the output failed, or that there was no memory for it.
+fn refuse(rt: &HostRuntime, fault: RunFault) -> u8 {
+    let _ = eprintln!(rt; "{fault}");
+    fault.status()
+}
+
+/// The same for an error of the system.
 fn refuse_io(rt: &HostRuntime, error: &io::Error) -> u8 {
-    let text = match error.kind() {
-        io::ErrorKind::OutOfMemory => "NO MEMORY",
-        _ => "FILE",
-    };
-    let _ = rt.eprintln(text);
-    SYSTEM
+    refuse(rt, RunFault::of_io(error))
 }
 
 /// Tells why the words ask for nothing, or gives the help that they ask for.
 fn refuse_words(rt: &HostRuntime, fault: &JobFault) -> u8 {
     match fault {
         JobFault::Words(error) if error.kind() == ErrorKind::OutOfMemory => {
-            let _ = rt.eprintln("NO MEMORY");
-            SYSTEM
+            refuse(rt, RunFault::NoMemory)
         }
         JobFault::Tills => {
             let _ = rt.eprintln("TILLS");
@@ -66,28 +60,42 @@ fn refuse_words(rt: &HostRuntime, fault: &JobFault) -> u8 {
     }
 }
 
-/// The bytes of a file, or of standard input under its usual name, which the program may not be
-/// allowed to open again.
-fn read_file(rt: &HostRuntime, path: &str) -> io::Result<Vec<u8>> {
-    if path == "/dev/stdin" {
-        let mut bytes = Vec::new(rt.alloc());
-        rt.reader().read_to_end(&mut bytes)?;
-        return Ok(bytes);
+/// The bytes of an image's file. Standard input is read as it is under its usual name, since the program
+/// may not be allowed to open it again.
+fn image_at(rt: &HostRuntime, path: &str) -> io::Result<Vec<u8>> {
+    if path == STANDARD_INPUT {
+        read_image(rt.alloc(), rt.reader())
+    } else {
+        read_image(rt.alloc(), File::open(rt, path)?)
     }
-    fs::read(rt, path)
 }
 
-/// The image's bytes, one more than a disk has at most: enough to tell that there are too many.
-fn read_image(rt: &HostRuntime, path: &str) -> io::Result<Vec<u8>> {
-    let mut bytes = Vec::new(rt.alloc());
-    if path == "/dev/stdin" {
-        rt.reader().take(IMAGE_SIZE + 1).read_to_end(&mut bytes)?;
+/// The bytes of a script's file, or of standard input.
+fn script_at(rt: &HostRuntime, path: &str) -> io::Result<Vec<u8>> {
+    if path == STANDARD_INPUT {
+        read_script(rt.alloc(), rt.reader())
     } else {
-        File::open(rt, path)?
-            .take(IMAGE_SIZE + 1)
-            .read_to_end(&mut bytes)?;
+        read_script(rt.alloc(), File::open(rt, path)?)
     }
-    Ok(bytes)
+}
+
+/// The file at a path.
+#[derive(Drop)]
+struct AtPath<'a> {
+    rt: &'a HostRuntime,
+    path: &'a str,
+}
+
+impl OpensFile for AtPath<'_> {
+    type File = File;
+
+    fn open(&mut self) -> io::Result<File> {
+        OpenOptions::new()
+            .write(true)
+            .create(true)
+            .truncate(false)
+            .open(self.rt, self.path)
+    }
 }
 
 /// Reads or opens the job's files and does it.
@@ -101,9 +109,9 @@ fn do_job(rt: &HostRuntime, job: &Job<'_>) -> io::Result<u8>
         Job::Format {
             image: path,
             tills: _,
-        } => file = Some(Replaced::new(rt, path)),
-        Job::List { image: path } | Job::Check { image: path } => image = read_image(rt, path)?,
-        Job::Dry { script: path } => script = read_file(rt, path)?,
+        } => file = Some(Replaced::new(AtPath { rt, path })),
+        Job::List { image: path } | Job::Check { image: path } => image = image_at(rt, path)?,
+        Job::Dry { script: path } => script = script_at(rt, path)?,
     }
     let mut out = BufWriter::with_capacity(rt.alloc(), OUTPUT_ROOM, io::writer(rt))?;
     Ok(run(

@@ -2,7 +2,7 @@
 ghost use Rattle.std.specs.Prelude.{◌≡◌, None, IfErr, IsOk, IsSome, OnOk};
 ghost use Rattle.std.specs.Io.KnownBytes.{Appends};
 ghost use Rattle.ledger_cli.specs.Faults.{check_status, end_status};
-ghost use Rattle.ledger_commands.specs.Faults.{IsDryFault, dry_status};
+ghost use Rattle.ledger_commands.specs.Faults.{IsDryFault};
 ghost use Rattle.ledger_cli.specs.Jobs.{HasTills};
 ghost use Rattle.ledger_cli.specs.Runs.{IsQuiet, IsRun};
 ghost use Rattle.script_lines.specs.Lines.{first_reset, lines};
@@ -10,7 +10,7 @@ ghost use Rattle.ledger_commands.specs.Tables.{dry_report};
 
 use crate::jobs::Job;
 use disk_layout::Fault;
-use ledger_commands::{DryFault, RunFault, check_image, dry, format_image, list_image};
+use ledger_commands::{DryFault, RunFault, check_image, dry, format_file, list_image};
 use std::alloc::Global;
 use std::fmt::Display;
 use std::io::{Seek, Write};
@@ -33,16 +33,6 @@ fn play_whole<W: Write>(script: &[u8], out: &mut W) -> Result<(), DryFault>
         return Err(DryFault::Output);
     }
     Ok(())
-}
-
-/// The exit status for a fault of a run without a disk: 1 for the script, 3 for the output.
-fn status_of(fault: DryFault) -> u8
-    ensures { result ≡ dry_status fault }
-{
-    match fault {
-        DryFault::BadLine(_) => 1,
-        DryFault::Output => 3,
-    }
 }
 
 /// Tells why a job over an image isn't done, where it isn't, and answers the exit status.
@@ -88,21 +78,18 @@ pub fn run<F: Write + Seek + Drop, W: Write, E: Write>(
     err: &mut E,
 ) -> u8
     requires tills { HasTills job.now }
-    ensures run { IsRun W.contents job.now image.now script.now file out.old out.new result }
+    ensures run { IsRun F.contents W.contents job.now image.now script.now file out.old out.new result }
     ensures quiet { IsQuiet job.now image.now err.old err.new result }
 {
     match job {
-        Job::Format { image: _, tills } => status_after(
-            format_image(alloc, *tills, file, out),
-            err,
-        ),
+        Job::Format { image: _, tills } => status_after(format_file(alloc, *tills, file, out), err),
         Job::List { image: _ } => status_after(list_image(alloc, image, out), err),
         Job::Check { image: _ } => judged(check_image(alloc, image, out), err),
         Job::Dry { script: _ } => match play_whole(script, out) {
             Ok(()) => 0,
             Err(fault) => {
                 tell(err, fault);
-                status_of(fault)
+                fault.status()
             }
         },
     }

@@ -1,2 +1,4 @@
+pub mod Examples
+pub mod Listings
 pub mod Replies
 pub mod Tables

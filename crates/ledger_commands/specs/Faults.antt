@@ -1,5 +1,7 @@
 -- The numbers and exit statuses of what the commands refuse (our own).
 use Rattle.std.specs.Prelude.{◌≡◌, ℕ, Option, Some, None}
+use Rattle.std.specs.declared.io.ErrorKind.{ErrorKind}
+use Rattle.std.specs.declared.io.ErrorKind.TheVariants as kinds
 use Rattle.ledger_commands.specs.declared.dry_run.DryFault.{DryFault}
 use Rattle.ledger_commands.specs.declared.dry_run.DryFault.TheVariants as dry
 use Rattle.ledger_commands.specs.declared.faults.RunFault.{RunFault}
@@ -27,3 +29,8 @@ run_status (run.Layout fault) = 1
 run_status run.File = 3
 run_status run.NoMemory = 3
 run_status run.Device = 3
+
+-- what is told where a file or the output failed with an error of this kind
+abbrev pub io_fault : ErrorKind → RunFault
+io_fault kinds.OutOfMemory = run.NoMemory
+io_fault _ = run.File

@@ -1,14 +1,16 @@
 -- What the commands over an image make and find. The names of a fresh disk are our own.
 use Rattle.std.specs.Prelude.{◌≡◌, ◌≢◌, ◌⊎◌, ℕ, List, None, Option, Some, codes, length, slice_index}
+use Rattle.std.specs.Io.KnownBytes.{Appends}
 use Rattle.d64_image.specs.Images.{Image, sector}
 use Rattle.d64_image.specs.Memory.{bytes_of, sectors_in}
 use Rattle.d64_image.specs.declared.place.Place.{Place}
 use Rattle.disk_layout.specs.Blank.{IsBlank}
-use Rattle.disk_layout.specs.Directory.{IsDirectory}
+use Rattle.disk_layout.specs.Directory.{IsDirectory, map_place}
 use Rattle.disk_layout.specs.Clean.{IsClean}
 use Rattle.disk_layout.specs.Fault.{HoldsOfClean, HoldsOfDirectory, nowhere}
 use Rattle.disk_layout.specs.declared.faults.Fault.{Fault}
 use Rattle.disk_layout.specs.declared.slot.Slot.{Slot}
+use Rattle.ledger_commands.specs.Texts.{listing}
 use Rattle.ledger_commands.specs.declared.faults.RunFault.{RunFault}
 use Rattle.ledger_commands.specs.declared.faults.RunFault.TheVariants as run
 
@@ -28,12 +30,30 @@ pub record AreFreshBytes (tills : ℕ) (bytes : List ℕ) : Type 0 where
   pub fresh : IsFreshDisk disk tills
   pub bytes_of : bytes ≡ bytes_of disk
 
+-- a file that held `old` and holds `new` was handed the whole image of such a disk, and nothing else
+pub record IsHandedOver {F : Type 0} (contents : F → Option (List ℕ)) (tills : ℕ) (old new : F) : Type 0 where
+  pub bytes : List ℕ
+  pub fresh : AreFreshBytes tills bytes
+  pub appended : Appends (contents old) (contents new) bytes
+
+-- the same of a file that is there
+pub record IsHandedTo {F : Type 0} (contents : F → Option (List ℕ)) (tills : ℕ) (file : Option F) : Type 0 where
+  pub before : F
+  pub is : file ≡ Some before
+  pub after : F
+  pub image : IsHandedOver contents tills before after
+
 -- the image's directory, of an image that has the size of a disk
 pub record HasDirectory (image : List ℕ) : Type 0 where
   pub size : length image ≡ 174848
   pub sectors : List Place
   pub entries : List Slot
   pub directory : IsDirectory (sectors_in image) sectors entries
+
+-- the image was listed on an output that held `old` and holds `new`: it has a directory, and its listing was handed over
+pub record IsListed {W : Type 0} (contents : W → Option (List ℕ)) (image : List ℕ) (old new : W) : Type 0 where
+  pub listed : HasDirectory image
+  pub printed : Appends (contents old) (contents new) (listing (sector (sectors_in image) map_place) listed.entries)
 
 -- why an image isn't taken into memory
 abbrev pub IsLoadFault : List ℕ → RunFault → Type 0

@@ -1,3 +1,4 @@
 pub mod Faults
 pub mod Images
 pub mod Tables
+pub mod Texts

@@ -1,6 +1,6 @@
 //! The bytes of an image taken into memory, and bytes handed to a writer.
-ghost use Rattle.std.specs.Prelude.{◌≡◌, IfErr, IfOk, OnOk, length};
-ghost use Rattle.std.specs.Io.KnownBytes.{Appends};
+ghost use Rattle.std.specs.Prelude.{◌≡◌, ◌++◌, IfErr, IfOk, IfSome, OnOk, codes, length};
+ghost use Rattle.std.specs.Io.KnownBytes.{Appends, Keeps};
 ghost use Rattle.d64_image.specs.Memory.{disk_image, sectors_in};
 ghost use Rattle.ledger_commands.specs.Images.{IsLoadFault};
 ghost use Rattle.ledger_commands.specs.declared.faults.RunFault.TheVariants as faults;
@@ -8,6 +8,7 @@ ghost use Rattle.ledger_commands.specs.declared.faults.RunFault.TheVariants as f
 use crate::faults::RunFault;
 use d64_image::{ImageFault, MemDisk};
 use std::alloc::Global;
+use std::fmt::Display;
 use std::io::Write;
 
 /// The disk in memory that holds the image. `ImageSize` where it hasn't the size of a disk, else
@@ -30,7 +31,30 @@ pub fn write_whole<W: Write>(out: &mut W, bytes: &[u8]) -> Result<(), RunFault>
     ensures ok { OnOk result (Appends (W.contents out.old) (W.contents out.new) bytes.now) }
     ensures err { IfErr result (λ fault. fault ≡ faults.File) }
 {
-    if out.write_all(bytes).is_err() || out.flush().is_err() {
+    if out.write_all(bytes).is_err() {
+        return Err(RunFault::File);
+    }
+    flush(out)
+}
+
+/// Prints this on a line of its own. `File` where the writer failed.
+pub fn put_line<W: Write, T: Display + Drop>(out: &mut W, text: T) -> Result<(), RunFault>
+    ensures ok { OnOk result (IfSome (T.output text)
+        (λ text. Appends (W.contents out.old) (W.contents out.new) (text ++ codes "\n"))) }
+    ensures err { IfErr result (λ fault. fault ≡ faults.File) }
+{
+    if writeln!(out, "{text}").is_err() {
+        return Err(RunFault::File);
+    }
+    Ok(())
+}
+
+/// Hands on what the writer still holds back. `File` where it failed.
+pub fn flush<W: Write>(out: &mut W) -> Result<(), RunFault>
+    ensures ok { OnOk result (Keeps (W.contents out.old) (W.contents out.new)) }
+    ensures err { IfErr result (λ fault. fault ≡ faults.File) }
+{
+    if out.flush().is_err() {
         return Err(RunFault::File);
     }
     Ok(())

@@ -4,24 +4,24 @@ ghost use Rattle.std.specs.Prelude.{codes};
 ghost use Rattle.std.specs.Io.KnownBytes.{Appends};
 ghost use Rattle.request_cards.specs.Ledgers.{replies_from, report};
 ghost use Rattle.request_cards.specs.Texts.{reply_text};
-ghost use Rattle.ledger_commands.specs.Faults.{IsDryFault, dry_number};
+ghost use Rattle.ledger_commands.specs.Faults.{IsDryFault, dry_number, dry_status};
 ghost use Rattle.script_lines.specs.Lines.{first_reset, lines};
+ghost use Rattle.ledger_commands.specs.Texts.{dry_text};
 ghost use Rattle.ledger_commands.specs.Tables.{dry_report, dry_start, state_of};
 
 use crate::table::Table;
 use request_cards::Reply;
 use script_lines::{first_reset_line, next_line};
+use std::error::Error;
+use std::fmt::{self, Display, Formatter};
 use std::io::Write;
-use thiserror::Error;
 
 /// Why a script has no replies, or not all of them.
-#[derive(Clone, Copy, Debug, PartialEq, Eq, Error)]
+#[derive(Clone, Copy, Debug, PartialEq, Eq)]
 pub enum DryFault {
     /// A line can't be played: the first such line, counted from 1.
-    #[error("SCRIPT LINE {0}")]
     BadLine(usize),
     /// The output failed.
-    #[error("FILE")]
     Output,
 }
 
@@ -35,7 +35,30 @@ impl DryFault {
             DryFault::Output => 3,
         }
     }
+
+    /// The exit status: 1 for the script, 3 for the output.
+    pub fn status(&self) -> u8
+        ensures { result ≡ dry_status self.now }
+    {
+        match self {
+            DryFault::BadLine(_) => 1,
+            DryFault::Output => 3,
+        }
+    }
 }
+
+impl Display for DryFault {
+    ghost output = { λ fault. Some (dry_text fault) };
+
+    fn fmt<W: fmt::Write>(&self, f: &mut Formatter<W>) -> fmt::Result {
+        match self {
+            DryFault::BadLine(line) => write!(f, "SCRIPT LINE {line}"),
+            DryFault::Output => f.write_str("FILE"),
+        }
+    }
+}
+
+impl Error for DryFault {}
 
 /// Writes the reply on a line of its own.
 fn put_line<W: Write>(out: &mut W, reply: Reply) -> Result<(), DryFault>

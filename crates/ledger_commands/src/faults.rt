@@ -1,27 +1,27 @@
 //! Why a job over an image isn't done.
-ghost use Rattle.std.specs.Prelude.{◌≡◌};
-ghost use Rattle.ledger_commands.specs.Faults.{run_status};
+ghost use Rattle.std.specs.Prelude.{◌≡◌, Some};
+ghost use Rattle.std.specs.IoError.{error_kind};
+ghost use Rattle.ledger_commands.specs.Faults.{io_fault, run_status};
+ghost use Rattle.ledger_commands.specs.Texts.{refusal_text};
 
+use crate::texts::FaultText;
 use disk_layout::Fault;
-use thiserror::Error;
+use std::error::Error;
+use std::fmt::{self, Display, Formatter};
+use std::io;
 
 /// Why a job over an image isn't done, as it is told on standard error.
-#[derive(Clone, Copy, Debug, PartialEq, Eq, Error)]
+#[derive(Clone, Copy, Debug, PartialEq, Eq)]
 pub enum RunFault {
     /// The image hasn't the 174,848 bytes of a disk of 35 tracks.
-    #[error("IMAGE SIZE")]
     ImageSize,
     /// What the layout of the image has wrong, and where.
-    #[error("LAYOUT {0}")]
     Layout(Fault),
     /// The image's file or the output couldn't be written.
-    #[error("FILE")]
     File,
     /// There was no memory for the image.
-    #[error("NO MEMORY")]
     NoMemory,
     /// A sector couldn't be read or written. A disk in memory has no such fault.
-    #[error("DEVICE")]
     Device,
 }
 
@@ -35,4 +35,30 @@ impl RunFault {
             RunFault::File | RunFault::NoMemory | RunFault::Device => 3,
         }
     }
+
+    /// What is told where a file or the output failed so: `NoMemory` for want of memory, else `File`.
+    pub fn of_io(error: &io::Error) -> RunFault
+        ensures { result ≡ io_fault (error_kind error.now) }
+    {
+        match error.kind() {
+            io::ErrorKind::OutOfMemory => RunFault::NoMemory,
+            _ => RunFault::File,
+        }
+    }
 }
+
+impl Display for RunFault {
+    ghost output = { λ fault. Some (refusal_text fault) };
+
+    fn fmt<W: fmt::Write>(&self, f: &mut Formatter<W>) -> fmt::Result {
+        match self {
+            RunFault::ImageSize => f.write_str("IMAGE SIZE"),
+            RunFault::Layout(fault) => write!(f, "LAYOUT {}", FaultText(*fault)),
+            RunFault::File => f.write_str("FILE"),
+            RunFault::NoMemory => f.write_str("NO MEMORY"),
+            RunFault::Device => f.write_str("DEVICE"),
+        }
+    }
+}
+
+impl Error for RunFault {}

@@ -1,11 +1,11 @@
 //! Making the image of an empty shop.
-ghost use Rattle.std.specs.Prelude.{◌≡◌, ◌≤◌, ℕ, List, IfErr, IfOk, IsOk, IsSome, None, OnOk, codes};
+ghost use Rattle.std.specs.Prelude.{◌≡◌, ◌≤◌, ◌⊎◌, Err, IfErr, IfOk, None, OnOk, codes};
 ghost use Rattle.std.specs.Io.KnownBytes.{Appends};
 ghost use Rattle.d64_image.specs.Memory.{disk_image};
-ghost use Rattle.ledger_commands.specs.Images.{AreFreshBytes, IsFormatFault, IsFreshDisk};
+ghost use Rattle.ledger_commands.specs.Images.{IsFormatFault, IsFreshDisk, IsHandedOver, IsHandedTo};
 ghost use Rattle.ledger_commands.specs.declared.faults.RunFault.TheVariants as faults;
 
-use crate::bytes::write_whole;
+use crate::bytes::{flush, put_line, write_whole};
 use crate::faults::RunFault;
 use d64_image::MemDisk;
 use disk_layout::blank_image;
@@ -41,8 +41,7 @@ pub fn write_image<F: Write>(alloc: Global, tills: u8, file: &mut F) -> Result<(
     requires some { 1 ≤ tills }
     requires few { tills ≤ 64 }
     // The bytes are those of the blank image over zeros.
-    ensures ok { OnOk result ((bytes : List ℕ) × AreFreshBytes tills bytes
-        × Appends (F.contents file.old) (F.contents file.new) bytes) }
+    ensures ok { OnOk result (IsHandedOver F.contents tills file.old file.new) }
     ensures err { IfErr result IsFormatFault }
     ensures untouched { result ≡ Err faults.NoMemory → file.new ≡ file.old }
 {
@@ -50,8 +49,33 @@ pub fn write_image<F: Write>(alloc: Global, tills: u8, file: &mut F) -> Result<(
     write_whole(file, disk.bytes())
 }
 
-/// Makes the image, and says so on `out` once the file has all of it. `File` where there is no file.
-pub fn format_image<F: Write + Drop, W: Write>(
+/// Makes the disk of an empty shop with 1 to 64 tills, hands its image to the file, and says so on
+/// `out` once the file has all of it. `NoMemory` before anything is written; `File` where the file or
+/// `out` failed, which may then have a part.
+pub fn format_image<F: Write, W: Write>(
+    alloc: Global,
+    tills: u8,
+    file: &mut F,
+    out: &mut W,
+) -> Result<(), RunFault>
+    requires some { 1 ≤ tills }
+    requires few { tills ≤ 64 }
+    ensures made { OnOk result (IsHandedOver F.contents tills file.old file.new) }
+    ensures ok { OnOk result
+        (Appends (W.contents out.old) (W.contents out.new) (codes "FORMATTED\n")) }
+    // Nothing is said before the file has the whole image.
+    ensures first { (out.new ≡ out.old) ⊎ IsHandedOver F.contents tills file.old file.new }
+    ensures err { IfErr result IsFormatFault }
+    ensures untouched { result ≡ Err faults.NoMemory
+        → (file.new ≡ file.old) × (out.new ≡ out.old) }
+{
+    write_image(alloc, tills, file)?;
+    put_line(out, "FORMATTED")?;
+    flush(out)
+}
+
+/// The same with the file that was handed in, which is let go afterwards. `File` where there is none.
+pub fn format_file<F: Write + Drop, W: Write>(
     alloc: Global,
     tills: u8,
     file: Option<F>,
@@ -59,17 +83,16 @@ pub fn format_image<F: Write + Drop, W: Write>(
 ) -> Result<(), RunFault>
     requires some { 1 ≤ tills }
     requires few { tills ≤ 64 }
-    ensures file { IsOk result → IsSome file }
+    ensures made { OnOk result (IsHandedTo F.contents tills file) }
     ensures ok { OnOk result
         (Appends (W.contents out.old) (W.contents out.new) (codes "FORMATTED\n")) }
+    // Nothing is said before the file has the whole image, and nothing where there is no file.
+    ensures first { (out.new ≡ out.old) ⊎ IsHandedTo F.contents tills file }
+    ensures no_file { file ≡ None → (result ≡ Err faults.File) × (out.new ≡ out.old) }
     ensures err { IfErr result IsFormatFault }
-    // Nothing is said where no file is given, or there was no memory.
-    ensures untouched { file ≡ None → out.new ≡ out.old }
-    ensures no_memory { result ≡ Err faults.NoMemory → out.new ≡ out.old }
 {
     let Some(mut file) = file else {
         return Err(RunFault::File);
     };
-    write_image(alloc, tills, &mut file)?;
-    write_whole(out, b"FORMATTED\n")
+    format_image(alloc, tills, &mut file, out)
 }

@@ -1,13 +1,15 @@
 //! What is wrong with the layout of an image, as it is printed.
-ghost use Rattle.std.specs.Prelude.{◌≡◌, ◌≢◌, IfErr, IfOk, None, Ok, codes, length};
+ghost use Rattle.std.specs.Prelude.{◌≡◌, ◌≢◌, IfErr, IfOk, OnOk, length};
 ghost use Rattle.std.specs.Io.KnownBytes.{Appends};
 ghost use Rattle.d64_image.specs.Memory.{disk_image, sectors_in};
 ghost use Rattle.disk_layout.specs.declared.faults.Fault.{Fault};
 ghost use Rattle.ledger_commands.specs.Images.{IsCheckFault, IsVerdict};
+ghost use Rattle.ledger_commands.specs.Texts.{verdict_text};
 ghost use Rattle.ledger_commands.specs.declared.faults.RunFault.TheVariants as faults;
 
-use crate::bytes::{load, write_whole};
+use crate::bytes::{flush, load, put_line};
 use crate::faults::RunFault;
+use crate::texts::FaultText;
 use d64_image::MemDisk;
 use disk_layout::Fault;
 use layout_check::check;
@@ -24,14 +26,17 @@ fn verdict(disk: &mut MemDisk) -> Option<Fault>
     }
 }
 
-/// Prints the fault on a line of its own.
-fn put_fault<W: Write>(out: &mut W, fault: Fault) -> Result<(), RunFault>
+/// Prints what a check told on a line of its own.
+fn put_verdict<W: Write>(out: &mut W, found: Option<Fault>) -> Result<(), RunFault>
+    ensures ok { OnOk result
+        (Appends (W.contents out.old) (W.contents out.new) (verdict_text found)) }
     ensures err { IfErr result (λ fault. fault ≡ faults.File) }
 {
-    if writeln!(out, "{fault}").is_err() || out.flush().is_err() {
-        return Err(RunFault::File);
+    match found {
+        None => put_line(out, "OK")?,
+        Some(fault) => put_line(out, FaultText(fault))?,
     }
-    Ok(())
+    flush(out)
 }
 
 /// Judges the layout of the image, and prints `OK` where it is clean, else a fault and its place,
@@ -45,17 +50,15 @@ pub fn check_image<W: Write>(
     ensures size { IfOk result (λ _. length image.now ≡ 174848) }
     // A clean image is called so, and a fault that is told holds.
     ensures verdict { IfOk result (IsVerdict (sectors_in image.now)) }
-    ensures clean { result ≡ Ok None
-        → Appends (W.contents out.old) (W.contents out.new) (codes "OK\n") }
+    // That is what was printed, and nothing else.
+    ensures printed { IfOk result
+        (λ found. Appends (W.contents out.old) (W.contents out.new) (verdict_text found)) }
     ensures err { IfErr result (IsCheckFault image.now) }
     // Only where the output failed something may have been printed at a refusal.
     ensures untouched { IfErr result (λ fault. (fault ≢ faults.File) → out.new ≡ out.old) }
 {
     let mut disk = load(alloc, image)?;
     let found = verdict(&mut disk);
-    match found {
-        None => write_whole(out, b"OK\n")?,
-        Some(fault) => put_fault(out, fault)?,
-    }
+    put_verdict(out, found)?;
     Ok(found)
 }

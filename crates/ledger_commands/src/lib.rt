@@ -4,17 +4,26 @@
 mod bytes;
 #[cfg(test)]
 mod card_tests;
+#[cfg(test)]
+mod check_tests;
 mod dry_run;
 mod faults;
 mod formatting;
+#[cfg(test)]
+mod image_tests;
 mod judging;
 mod listing;
+mod reading;
+mod replaced;
 mod table;
 #[cfg(test)]
 mod tests;
+mod texts;
 
 pub use dry_run::{DryFault, dry};
 pub use faults::RunFault;
-pub use formatting::{format_image, write_image};
+pub use formatting::{format_file, format_image, write_image};
 pub use judging::check_image;
 pub use listing::list_image;
+pub use reading::{read_image, read_script};
+pub use replaced::{EndedFile, OpensFile, Replaced};

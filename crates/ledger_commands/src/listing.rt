@@ -1,80 +1,57 @@
 //! The directory of an image, as it is printed.
-ghost use Rattle.std.specs.Prelude.{◌≡◌, ◌≢◌, IfErr, OnOk};
-ghost use Rattle.ledger_commands.specs.Images.{HasDirectory, IsListFault};
+ghost use Rattle.std.specs.Prelude.{◌≡◌, ◌≢◌, IfErr, IfOk, OnOk, flat_map};
+ghost use Rattle.std.specs.Io.KnownBytes.{Appends};
+ghost use Rattle.d64_image.specs.Images.{sector};
+ghost use Rattle.d64_image.specs.Memory.{disk_image};
+ghost use Rattle.disk_layout.specs.Directory.{map_place as directory_map};
+ghost use Rattle.ledger_commands.specs.Images.{IsListFault, IsListed};
+ghost use Rattle.ledger_commands.specs.Texts.{entry_line, listing};
 ghost use Rattle.ledger_commands.specs.declared.faults.RunFault.TheVariants as faults;
 
-use crate::bytes::load;
+use crate::bytes::{flush, load, put_line};
 use crate::faults::RunFault;
+use crate::texts::{DiskText, EntryText, FreeText};
 use arrayvec::ArrayVec;
-use d64_image::Sectors;
-use disk_layout::{BamView, EntryView, Slot, map_place, read_directory};
+use d64_image::{MemDisk, Sectors};
+use disk_layout::{BamView, Slot, map_place, read_directory};
 use std::alloc::Global;
-use std::fmt::{self, Display, Formatter};
 use std::io::Write;
 
-/// Bytes of a name as they are printed: a question mark stands for each outside $20 to $7E.
-#[derive(Clone, Copy)]
-struct Shown<'a>(&'a [u8]);
-
-impl Display for Shown<'_> {
-    fn fmt<W: fmt::Write>(&self, f: &mut Formatter<W>) -> fmt::Result {
-        for byte in self.0 {
-            let shown = match *byte {
-                0x20..=0x7E => char::from(*byte),
-                _ => '?',
-            };
-            f.write_char(shown)?;
-        }
-        Ok(())
+/// The bytes of 18/0. A disk in memory gives them always.
+fn map_of(disk: &mut MemDisk) -> Result<[u8; 256], RunFault>
+    ensures ok { IfOk result (λ bytes. bytes ≡ sector (disk_image disk.old) directory_map) }
+    ensures err { IfErr result (λ _. ⊥) }
+{
+    let mut map = [0; 256];
+    if disk.read(map_place(), &mut map).is_err() {
+        return Err(RunFault::Device);
     }
+    Ok(map)
 }
 
-/// The name of a type: the low six bits of its byte.
-fn type_name(type_byte: u8) -> &'static str {
-    match type_byte % 64 {
-        0 => "DEL",
-        1 => "SEQ",
-        2 => "PRG",
-        3 => "USR",
-        4 => "REL",
-        _ => "???",
-    }
-}
-
-/// Prints an entry: its block count as stored, its name, a star where it isn't closed, its type, and
-/// `<` where it is locked.
-fn put_entry<W: Write>(out: &mut W, entry: &EntryView<'_>) -> Result<(), RunFault>
+/// Prints a line for each of these entries.
+fn put_entries<W: Write>(out: &mut W, slots: &[Slot]) -> Result<(), RunFault>
+    ensures ok { OnOk result
+        (Appends (W.contents out.old) (W.contents out.new) (flat_map entry_line slots.now)) }
     ensures err { IfErr result (λ fault. fault ≡ faults.File) }
 {
-    let type_byte = entry.type_byte();
-    let open = if type_byte < 0x80 { "*" } else { "" };
-    let locked = if type_byte & 0x40 == 0 { "" } else { "<" };
-    let line = writeln!(
-        out,
-        "{} \"{}\" {open}{}{locked}",
-        entry.block_count(),
-        Shown(entry.name()),
-        type_name(type_byte),
-    );
-    line.map_err(|_| RunFault::File)
+    for slot in slots {
+        put_line(out, EntryText(slot))?;
+    }
+    Ok(())
 }
 
 /// Prints the disk's name, id and version, a line for each entry, and the free blocks as the map
 /// counts them.
 fn put_directory<W: Write>(out: &mut W, map: &BamView<'_>, slots: &[Slot]) -> Result<(), RunFault>
+    ensures ok { OnOk result
+        (Appends (W.contents out.old) (W.contents out.new) (listing map.now.bytes.now slots.now)) }
     ensures err { IfErr result (λ fault. fault ≡ faults.File) }
 {
-    let (name, id, version) = (Shown(map.name()), Shown(map.id()), Shown(map.version()));
-    if writeln!(out, "0 \"{name}\" {id} {version}").is_err() {
-        return Err(RunFault::File);
-    }
-    for slot in slots {
-        put_entry(out, &EntryView::new(&slot.bytes))?;
-    }
-    if writeln!(out, "{} BLOCKS FREE", map.blocks_free()).is_err() || out.flush().is_err() {
-        return Err(RunFault::File);
-    }
-    Ok(())
+    put_line(out, DiskText(*map))?;
+    put_entries(out, slots)?;
+    put_line(out, FreeText(map.blocks_free()))?;
+    flush(out)
 }
 
 /// Prints the directory of the image. It is read and judged whole before anything is printed:
@@ -82,8 +59,8 @@ fn put_directory<W: Write>(out: &mut W, map: &BamView<'_>, slots: &[Slot]) -> Re
 /// aren't a chain on track 18 outside 18/0, `NoMemory` where there was none for the disk, `File`
 /// where the output failed, which may then have a part.
 pub fn list_image<W: Write>(alloc: Global, image: &[u8], out: &mut W) -> Result<(), RunFault>
-    // What is listed has a directory, and what is told holds.
-    ensures ok { OnOk result (HasDirectory image.now) }
+    // What is listed has a directory, whose listing was printed; and what is told holds.
+    ensures ok { OnOk result (IsListed W.contents image.now out.old out.new) }
     ensures err { IfErr result (IsListFault image.now) }
     // Only where the output failed something may have been printed.
     ensures untouched { IfErr result (λ fault. (fault ≢ faults.File) → out.new ≡ out.old) }
@@ -93,9 +70,6 @@ pub fn list_image<W: Write>(alloc: Global, image: &[u8], out: &mut W) -> Result<
     if let Err(fault) = read_directory(&mut disk, &mut slots) {
         return Err(RunFault::Layout(fault));
     }
-    let mut map = [0; 256];
-    if disk.read(map_place(), &mut map).is_err() {
-        return Err(RunFault::Device);
-    }
+    let map = map_of(&mut disk)?;
     put_directory(out, &BamView::new(&map), slots.as_slice())
 }

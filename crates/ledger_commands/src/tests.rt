@@ -1,7 +1,12 @@
-//! Worked scripts, each with the replies that it must have.
-use crate::dry_run::dry;
+//! Worked scripts, each with the replies that it must have, a till's run, and files as they are read.
+use crate::dry_run::{DryFault, dry};
+use crate::formatting::format_image;
+use crate::image_tests::formatted;
+use crate::reading::{read_image, read_script};
+use crate::replaced::{EndedFile, OpensFile, Replaced};
 use crate::table::Table;
 use request_cards::{Answer, Kind, Reply, Till, Wish, Word};
+use std::io::{self, Cursor, Write};
 use std::test::Fail;
 
 /// What a script shows, the script, and its replies.
@@ -140,4 +145,111 @@ fn a_till_without_numbers_wishes_nothing(rt: HostRuntime) {
     let mut till = Till::new(1, 999_999_999);
     let opened = Wish::new(Kind::Set, 1, 0, None).map(|wish| till.wish(wish));
     assert_eq!(rt; opened, Some(false));
+}
+
+/// A writer that takes this many bytes and then fails, or fails to hand them on.
+#[derive(Drop)]
+pub(crate) struct Full {
+    pub room: usize,
+    pub flushes: bool,
+}
+
+impl Write for Full {
+    fn write(&mut self, buf: &[u8]) -> io::Result<usize> {
+        let taken = buf.len().min(self.room);
+        self.room -= taken;
+        if taken == 0 {
+            return Err(io::Error::from(io::ErrorKind::StorageFull));
+        }
+        Ok(taken)
+    }
+
+    fn flush(&mut self) -> io::Result<()> {
+        if self.flushes {
+            Ok(())
+        } else {
+            Err(io::Error::from(io::ErrorKind::StorageFull))
+        }
+    }
+}
+
+#[test]
+fn a_bad_line_or_an_output_that_fails_is_told(rt: HostRuntime) -> Result<(), Fail> {
+    let bad: &[u8] = b"1,1,S,1,0\n@x 1,1,S,1,0\n@y\n";
+    let good: &[u8] = b"1,1,S,1,0\n1,2,S,1,0\n";
+    let none = Full {
+        room: 0,
+        flushes: false,
+    };
+    for (script, fault, number, text) in [
+        (bad, DryFault::BadLine(2), 2, "SCRIPT LINE 2"),
+        (good, DryFault::Output, 3, "FILE"),
+    ] {
+        let mut out = Full { ..none };
+        assert_eq!(rt; dry(script, &mut out), Err(fault));
+        assert_eq!(rt; fault.number(), number);
+        assert_eq!(rt; format!(in rt.alloc(); "{fault}")?.as_str(), text);
+    }
+    Ok(())
+}
+
+#[test]
+fn files_are_read(rt: HostRuntime) -> Result<(), Fail> {
+    // Past a mebibyte, and past a disk with its error bytes; the last byte isn't 0.
+    for (size, of_image) in [
+        (0usize, 0usize),
+        (174848, 174848),
+        (175531, 174849),
+        (1_500_000, 174849),
+    ] {
+        let mut file = Vec::new(rt.alloc());
+        file.resize(size, 7u8)?;
+        assert!(rt; read_script(rt.alloc(), file.as_slice())? == file, "{size}");
+        let image = read_image(rt.alloc(), file.as_slice())?;
+        file.truncate(of_image);
+        assert!(rt; image == file, "{size}");
+    }
+    Ok(())
+}
+
+impl EndedFile for Cursor<Vec<u8>> {
+    fn end_at(&mut self, bytes: u64) -> io::Result<()> {
+        if let Ok(length) = usize::try_from(bytes) {
+            self.get_mut().truncate(length);
+        }
+        Ok(())
+    }
+}
+
+/// A file in memory, which is there before it is opened, and can be opened once.
+#[derive(Drop)]
+struct Held(Option<Cursor<Vec<u8>>>);
+
+impl OpensFile for Held {
+    type File = Cursor<Vec<u8>>;
+
+    fn open(&mut self) -> io::Result<Cursor<Vec<u8>>> {
+        match self.0.take() {
+            Some(file) => Ok(file),
+            None => Err(io::Error::from(io::ErrorKind::NotFound)),
+        }
+    }
+}
+
+#[test]
+fn nothing_stays_of_an_older_file(rt: HostRuntime) -> Result<(), Fail> {
+    for size in [0usize, 174848, 175531] {
+        let mut older = Vec::new(rt.alloc());
+        older.resize(size, 7u8)?;
+        let mut replaced = Replaced::new(Held(Some(Cursor::new(older))));
+        // It isn't opened before there is something to write.
+        assert!(rt; replaced.file.is_none());
+        let mut out = Vec::new(rt.alloc());
+        format_image(rt.alloc(), 2, &mut replaced, &mut out)?;
+        match &replaced.file {
+            Some(file) => assert!(rt; *file.get_ref() == formatted(&rt, 2)?, "{size}"),
+            None => assert!(rt; false, "{size}"),
+        }
+    }
+    Ok(())
 }

@@ -18,21 +18,21 @@ pub returns-in_err-claim-clause-err : goal.returns-in_err-claim-clause-err
 returns-in_err-claim-clause-err g c =
     let p = err_from_is_err_and c.from_residual-in_err-claim.result c.from_residual-in_err-claim.ensures.1 in
     let parts = c.in_ok-inexact.ensures.parts in
-    rw (p.1, p.2) (block-clash g.D.Sectors.history c.args.disk.now c.find_parts.new.disk c.args.slot.now _ c.args.owners.now c.find_parts.new.blocks.items parts.last _ c.requires.closed parts.chain c.in_ok-inexact.ensures.ok c.in_ok-inexact.ensures.few (rw (← c.as_slice.ensures.value) c.in_err-claim.ensures.err))
+    rw (p.1, p.2) (block-clash g.D.Sectors.history c.args.disk.now c.find_parts.new.disk c.args.slot.now _ c.args.owners.now c.find_parts.new.parts.blocks.items parts.last _ c.requires.closed parts.chain c.in_ok-inexact.ensures.ok c.in_ok-inexact.ensures.few (rw (← c.as_slice.ensures.value) c.in_err-claim.ensures.err))
 
 pub claim-requires-2-clause-once : goal.claim-requires-2-clause-once
-claim-requires-2-clause-once g c = rw c.as_slice-2.ensures.value (sides-once _ c.args.slot.now c.find_parts.new.blocks.items c.find_parts.new.sides.items c.in_ok-inexact.ensures.parts.walk)
+claim-requires-2-clause-once g c = rw c.as_slice-2.ensures.value (sides-once _ c.args.slot.now c.find_parts.new.parts.blocks.items c.find_parts.new.parts.sides.items c.in_ok-inexact.ensures.parts.walk)
 
 pub returns-in_err-claim-2-clause-err : goal.returns-in_err-claim-2-clause-err
 returns-in_err-claim-2-clause-err g c =
     let p = err_from_is_err_and c.from_residual-in_err-claim-2.result c.from_residual-in_err-claim-2.ensures.1 in
     let parts = c.in_ok-inexact.ensures.parts in
-    rw (p.1, p.2) (side-clash g.D.Sectors.history c.args.disk.now c.find_parts.new.disk c.args.slot.now c.args.number _ c.args.owners.now c.claim.new.self c.find_parts.new.blocks.items c.find_parts.new.sides.items _
+    rw (p.1, p.2) (side-clash g.D.Sectors.history c.args.disk.now c.find_parts.new.disk c.args.slot.now c.args.number _ c.args.owners.now c.claim.new.self c.find_parts.new.parts.blocks.items c.find_parts.new.parts.sides.items _
     (record { closed = c.requires.closed; rel = c.requires.rel; last = parts.last; chain = parts.chain }) parts.walk c.in_ok-inexact.ensures.ok c.in_ok-inexact.ensures.few (rw (← c.as_slice.ensures.value) c.in_ok-claim.ensures.ok) (rw (← c.as_slice-2.ensures.value) c.in_err-claim-2.ensures.err))
 
 pub returns-clause-ok : goal.returns-clause-ok
 returns-clause-ok g c =
     let found = c.in_ok-inexact.ensures in
     let parts = found.parts in
-    let judged = judged-file _ c.args.slot.now c.find_parts.new.blocks.items c.find_parts.new.sides.items parts.last _ c.in_ok-inexact.inexact c.unclean_of.result c.requires.rel parts.walk (omega (arith, c.len.ensures.value, c.len-2.ensures.value)) found.exact c.unclean_of.ensures in
-    rel-finds g.D.Sectors.history c.args.disk.now c.find_parts.new.disk c.args.slot.now c.args.number _ c.args.owners.now c.claim.new.self c.claim-2.new.self c.find_parts.new.blocks.items c.find_parts.new.sides.items parts.last c.unclean_of.result c.requires.proper c.requires.rel parts.chain parts.walk parts.lists found.ok (omega arith) (rw (← c.as_slice.ensures.value) c.in_ok-claim.ensures.ok) (rw (← c.as_slice-2.ensures.value) c.in_ok-claim-2.ensures.ok) judged
+    let judged = judged-file _ c.args.slot.now c.find_parts.new.parts.blocks.items c.find_parts.new.parts.sides.items parts.last _ c.in_ok-inexact.inexact c.unclean_of.result c.requires.rel parts.walk (omega (arith, c.len.ensures.value, c.len-2.ensures.value)) found.exact c.unclean_of.ensures in
+    rel-finds g.D.Sectors.history c.args.disk.now c.find_parts.new.disk c.args.slot.now c.args.number _ c.args.owners.now c.claim.new.self c.claim-2.new.self c.find_parts.new.parts.blocks.items c.find_parts.new.parts.sides.items parts.last c.unclean_of.result c.requires.proper c.requires.rel parts.chain parts.walk parts.lists found.ok (omega arith) (rw (← c.as_slice.ensures.value) c.in_ok-claim.ensures.ok) (rw (← c.as_slice-2.ensures.value) c.in_ok-claim-2.ensures.ok) judged

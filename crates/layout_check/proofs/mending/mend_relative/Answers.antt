@@ -39,14 +39,14 @@ pub mend_sides-requires : goal.mend_sides-requires
 mend_sides-requires g c =
     let found = c.in_ok-find_parts.ensures in
     record {
-      parts = parts-at _ _ c.args.slot.now c.find_parts.new.blocks.items c.find_parts.new.sides.items c.as_slice.result.now c.as_slice-in-Some.result.now found.ok.reads.image c.as_slice.ensures.value c.as_slice-in-Some.ensures.value (parts-here _ c.args.slot.now c.find_parts.new.blocks.items c.find_parts.new.sides.items c.requires.filed c.requires.rel found.parts);
+      parts = parts-at _ _ c.args.slot.now c.find_parts.new.parts.blocks.items c.find_parts.new.parts.sides.items c.as_slice.result.now c.as_slice-in-Some.result.now found.ok.reads.image c.as_slice.ensures.value c.as_slice-in-Some.ensures.value (parts-here _ c.args.slot.now c.find_parts.new.parts.blocks.items c.find_parts.new.parts.sides.items c.requires.filed c.requires.rel found.parts);
       few = c.as_slice-in-Some.ensures.fits;
     }
 
 pub returns-in-Some-clause-exact : goal.returns-in-Some-clause-exact
 returns-in-Some-clause-exact g c =
     let found = c.in_ok-find_parts.ensures in
-    on_ok c.mend_sides.result _ _ (λ h bs ss i. parts-exact _ _ c.args.slot.now c.find_parts.new.blocks.items c.find_parts.new.sides.items bs ss (parts-here _ c.args.slot.now c.find_parts.new.blocks.items c.find_parts.new.sides.items c.requires.filed c.requires.rel found.parts) (rw (← c.as_slice.ensures.value, ← c.as_slice-in-Some.ensures.value) h) i) c.mend_sides.ensures.exact
+    on_ok c.mend_sides.result _ _ (λ h bs ss i. parts-exact _ _ c.args.slot.now c.find_parts.new.parts.blocks.items c.find_parts.new.parts.sides.items bs ss (parts-here _ c.args.slot.now c.find_parts.new.parts.blocks.items c.find_parts.new.parts.sides.items c.requires.filed c.requires.rel found.parts) (rw (← c.as_slice.ensures.value, ← c.as_slice-in-Some.ensures.value) h) i) c.mend_sides.ensures.exact
 
 pub returns-in-Some-clause-others : goal.returns-in-Some-clause-others
 returns-in-Some-clause-others g c = on_ok c.mend_sides.result _ _ (λ h. let P : Image → Type 0 = λ i. KeepsExact i (g.D.Sectors.history.image c.mend_sides.new.disk) in subst P c.in_ok-find_parts.ensures.ok.reads.image h) c.mend_sides.ensures.others
@@ -66,9 +66,9 @@ pub returns-in-Some-clause-quiet : goal.returns-in-Some-clause-quiet
 returns-in-Some-clause-quiet g c exact =
     let S = g.D.Sectors.history in
     let found = c.in_ok-find_parts.ensures in
-    let right = exact c.find_parts.new.blocks.items c.find_parts.new.sides.items (parts-here _ c.args.slot.now c.find_parts.new.blocks.items c.find_parts.new.sides.items c.requires.filed c.requires.rel found.parts) in
+    let right = exact c.find_parts.new.parts.blocks.items c.find_parts.new.parts.sides.items (parts-here _ c.args.slot.now c.find_parts.new.parts.blocks.items c.find_parts.new.parts.sides.items c.requires.filed c.requires.rel found.parts) in
     no_write_then S c.args.disk.now c.find_parts.new.disk c.mend_sides.new.disk (reads_no_write S _ _ _ found.ok.reads)
-    (c.mend_sides.ensures.quiet (right-there _ _ c.args.slot.now c.find_parts.new.blocks.items c.find_parts.new.sides.items c.as_slice.result.now c.as_slice-in-Some.result.now found.ok.reads.image c.as_slice.ensures.value c.as_slice-in-Some.ensures.value right))
+    (c.mend_sides.ensures.quiet (right-there _ _ c.args.slot.now c.find_parts.new.parts.blocks.items c.find_parts.new.parts.sides.items c.as_slice.result.now c.as_slice-in-Some.result.now found.ok.reads.image c.as_slice.ensures.value c.as_slice-in-Some.ensures.value right))
 
 pub returns-in-Some-clause-map : goal.returns-in-Some-clause-map
 returns-in-Some-clause-map g c = on_ok c.mend_sides.result _ _ (λ h. let P : Image → Type 0 = λ i. SameMap i (g.D.Sectors.history.image c.mend_sides.new.disk) in subst P c.in_ok-find_parts.ensures.ok.reads.image h) c.mend_sides.ensures.map
@@ -77,7 +77,7 @@ pub returns-in-Some-clause-over : goal.returns-in-Some-clause-over
 returns-in-Some-clause-over g c l f is own slot =
     let S = g.D.Sectors.history in
     let found = c.in_ok-find_parts.ensures in
-    let same = sides-found (S.image c.args.disk.now) l f c.args.slot.now c.find_parts.new.blocks.items c.find_parts.new.sides.items c.as_slice-in-Some.result.now is own slot c.requires.rel found.parts c.as_slice-in-Some.ensures.value in
+    let same = sides-found (S.image c.args.disk.now) l f c.args.slot.now c.find_parts.new.parts.blocks.items c.find_parts.new.parts.sides.items c.as_slice-in-Some.result.now is own slot c.requires.rel found.parts c.as_slice-in-Some.ensures.value in
     let P : List Place → Type 0 = GoesOver S c.find_parts.new.disk c.mend_sides.new.disk (IsRight l) in
     let Q : Image → Type 0 = λ i. IsLayout i l in
     over_read S (IsRight l) f.sides c.args.disk.now c.find_parts.new.disk c.mend_sides.new.disk _ (file-sides_once (S.image c.args.disk.now) l is f own) found.ok.reads
@@ -88,7 +88,7 @@ returns-in-Some-clause-made g c =
     let S = g.D.Sectors.history in
     let found = c.in_ok-find_parts.ensures in
     on_ok c.mend_sides.result _ _ (λ made l f is own slot.
-    let same = sides-found (S.image c.args.disk.now) l f c.args.slot.now c.find_parts.new.blocks.items c.find_parts.new.sides.items c.as_slice-in-Some.result.now is own slot c.requires.rel found.parts c.as_slice-in-Some.ensures.value in
+    let same = sides-found (S.image c.args.disk.now) l f c.args.slot.now c.find_parts.new.parts.blocks.items c.find_parts.new.parts.sides.items c.as_slice-in-Some.result.now is own slot c.requires.rel found.parts c.as_slice-in-Some.ensures.value in
     let P : List Place → Type 0 = λ xs. AreMade (IsRight l) xs (S.image c.args.disk.now) (S.image c.mend_sides.new.disk) in
     let Q : Image → Type 0 = λ i. IsLayout i l in
     let R : Image → Type 0 = λ i. AreMade (IsRight l) c.as_slice-in-Some.result.now i (S.image c.mend_sides.new.disk) in
@@ -99,8 +99,8 @@ returns-in-None-clause-exact g c bs ss i =
     let S = g.D.Sectors.history in
     let found = c.in_ok-find_parts.ensures in
     let old = S.image c.args.disk.now in
-    let blocks = c.find_parts.new.blocks.items in
-    let sides = c.find_parts.new.sides.items in
+    let blocks = c.find_parts.new.parts.blocks.items in
+    let sides = c.find_parts.new.parts.sides.items in
     let P : Option Place → Type 0 = ToldOfSides old c.args.slot.now blocks sides in
     let Q : Image → Type 0 = λ x. AreExactSides x c.args.slot.now bs ss in
     subst Q (sym found.ok.reads.image) (parts-exact old old c.args.slot.now blocks sides bs ss (parts-here old c.args.slot.now blocks sides c.requires.filed c.requires.rel found.parts) (subst P c.in-None.is found.exact) i)
@@ -119,8 +119,8 @@ returns-in-None-clause-made g c l f is own slot =
     let S = g.D.Sectors.history in
     let found = c.in_ok-find_parts.ensures in
     let old = S.image c.args.disk.now in
-    let blocks = c.find_parts.new.blocks.items in
-    let sides = c.find_parts.new.sides.items in
+    let blocks = c.find_parts.new.parts.blocks.items in
+    let sides = c.find_parts.new.parts.sides.items in
     let P : Option Place → Type 0 = ToldOfSides old c.args.slot.now blocks sides in
     let Q : List Place → Type 0 = λ xs. AreMade (IsRight l) xs old (S.image c.find_parts.new.disk) in
     let parts = parts-here old c.args.slot.now blocks sides c.requires.filed c.requires.rel found.parts in

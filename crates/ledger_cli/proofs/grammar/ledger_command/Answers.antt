@@ -3,12 +3,12 @@ use Rattle.std.proofs.Common.{◌≡◌, ap, ap₂, ◌∙◌, rules}
 use Rattle.std.specs.Prelude.{codes}
 use Rattle.std.proofs.lemmas.Result.{IfOk-weaker}
 use Rattle.clap.specs.Words.{App, app_of, new_app, with_subcommand}
-use Rattle.ledger_cli.specs.Grammar.{with_required_subcommand}
+use Rattle.ledger_cli.specs.Grammar.{with_required_subcommand, with_version}
 use Rattle.ledger_cli.proofs.grammar.ledger_command.Goals as goal
 
 pub returns : goal.returns
 returns c =
-    let bare : app_of c.subcommand_required.result ≡ with_required_subcommand (new_app (codes "ledger")) = search rules in
+    let bare : app_of c.subcommand_required.result ≡ with_required_subcommand (with_version (new_app (codes "ledger_cli"))) = search rules in
     let with_format = c.in_ok-subcommand.ensures.shape c.in_ok-format.ensures.local
     ∙ ap₂ with_subcommand bare (ap (λ (a : App). a.top) c.in_ok-format.ensures.app) in
     let with_list = c.in_ok-subcommand-2.ensures.shape c.in_ok-list.ensures.local

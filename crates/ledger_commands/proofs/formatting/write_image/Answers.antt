@@ -5,8 +5,8 @@ use Rattle.ledger_commands.proofs.formatting.write_image.Goals as goal
 
 pub returns-clause-ok : goal.returns-clause-ok
 returns-clause-ok g c =
-    on_ok_weaker c.write_whole.result (λ handed. (
-      c.bytes.result.now,
-      record { disk = disk_image c.in_ok-disk.disk; fresh = c.in_ok-disk.ensures.ok; bytes_of = c.bytes.ensures.value },
-      handed,
-    )) c.write_whole.ensures.ok
+    on_ok_weaker c.write_whole.result (λ handed. record {
+      bytes = c.bytes.result.now;
+      fresh = record { disk = disk_image c.in_ok-disk.disk; fresh = c.in_ok-disk.ensures.ok; bytes_of = c.bytes.ensures.value };
+      appended = handed;
+    }) c.write_whole.ensures.ok

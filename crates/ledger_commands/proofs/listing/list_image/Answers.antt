@@ -1,13 +1,14 @@
 -- What the disk in memory holds is the image, and a fault of the directory is a fact of it.
-use Rattle.std.proofs.Common.{◌≡◌, ℕ, List, subst, sym}
+use Rattle.std.proofs.Common.{◌≡◌, ◌∙◌, ℕ, List, ap, subst, sym}
 use Rattle.std.specs.Prelude.{length, Result, Ok, Err, OnOk}
-use Rattle.std.proofs.lemmas.Result.{IfErr-weaker}
-use Rattle.d64_image.specs.Images.{Image}
+use Rattle.std.proofs.lemmas.Result.{IfErr-weaker, on_ok_weaker}
+use Rattle.d64_image.specs.Images.{Image, sector}
 use Rattle.d64_image.specs.Memory.{sectors_in}
 use Rattle.d64_image.specs.declared.place.Place.{Place}
-use Rattle.disk_layout.specs.Directory.{IsDirectory}
+use Rattle.disk_layout.specs.Directory.{IsDirectory, map_place}
 use Rattle.disk_layout.specs.Fault.{HoldsOfDirectory, nowhere}
 use Rattle.disk_layout.specs.declared.slot.Slot.{Slot}
+use Rattle.ledger_commands.proofs.Listings.{is-listed}
 use Rattle.ledger_commands.specs.Images.{HasDirectory, IsListFault}
 use Rattle.ledger_commands.proofs.listing.list_image.Goals as goal
 
@@ -16,7 +17,7 @@ at_ok : {T E P : Type 0} (r : Result T E) → P → OnOk r P
 at_ok (Ok _) p = p
 at_ok (Err _) p = tt
 
-has_directory : (image : List ℕ) (img : Image) (places : List Place) (slots : List Slot)
+abbrev has_directory : (image : List ℕ) (img : Image) (places : List Place) (slots : List Slot)
     → length image ≡ 174848 → img ≡ sectors_in image → IsDirectory img places slots → HasDirectory image
 has_directory image img places slots size same directory = record {
   size = size;
@@ -36,7 +37,11 @@ pub returns-clause-ok : goal.returns-clause-ok
 returns-clause-ok g c =
     let loaded = c.in_ok-disk.ensures.ok in
     let found = c.in_default.ensures.ok in
-    at_ok c.put_directory.result (has_directory _ _ found.0 _ loaded.0 loaded.1 found.1)
+    let here = c.new.ensures ∙ c.in_ok-map.ensures.ok ∙ ap (λ (i : Image). sector i map_place) (c.read_directory.ensures.reads.image ∙ loaded.1) in
+    on_ok_weaker c.put_directory.result
+    (is-listed _ c.args.image.now c.args.out.now c.put_directory.new.out (has_directory c.args.image.now _ found.0 _ loaded.0 loaded.1 found.1)
+    _ _ here c.as_slice.ensures.value)
+    c.put_directory.ensures.ok
 
 pub returns-clause-err : goal.returns-clause-err
 returns-clause-err g c =

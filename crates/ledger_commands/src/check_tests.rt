@@ -1,13 +1,12 @@
 //! What `check` prints of a fresh disk, and of the same disk with one change.
+use crate::faults::RunFault;
 use crate::image_tests::{Bytes, S17_0, S17_1, S18_0, S18_1, formatted, patch};
-use crate::jobs::Job;
-use crate::running::run;
+use crate::judging::check_image;
 use crate::tests::Full;
-use std::fs::File;
 use std::test::Fail;
 
-/// What `check` prints of a disk for two tills after these changes, and its status.
-const VERDICTS: [(&[Bytes], &[u8], u8); 15] = [
+/// What `check` prints of a disk for two tills after these changes, and how many faults it tells.
+const VERDICTS: [(&[Bytes], &[u8], u8); 16] = [
     (&[], b"OK\n", 0),
     // The map: a count, and a sector that is in use but free in the map.
     (&[(S18_0 + 0x44, b"\x10")], b"MAPWRONG 18/0\n", 1),
@@ -53,59 +52,43 @@ const VERDICTS: [(&[Bytes], &[u8], u8); 15] = [
         b"OK\n",
         0,
     ),
+    // The last byte of the disk, in a sector that nobody owns.
+    (&[(174847, b"\x07")], b"OK\n", 0),
 ];
-
-/// Does `check` over an image, with an output of this room: its status, and what it tells.
-fn checked<W: std::io::Write>(rt: &impl AllocGlobal, image: &[u8], out: &mut W) -> (u8, Vec<u8>) {
-    let mut err = Vec::new(rt.alloc());
-    let file: Option<File> = None;
-    let job = Job::Check { image: "a.d64" };
-    let status = run(rt.alloc(), &job, image, &[], file, out, &mut err);
-    (status, err)
-}
 
 #[test]
 fn images_are_judged(rt: HostRuntime) -> Result<(), Fail> {
-    for (changes, verdict, wanted) in VERDICTS {
-        let mut image = formatted(&rt, "2")?;
+    for (changes, verdict, faults) in VERDICTS {
+        let mut image = formatted(&rt, 2)?;
         patch(&mut image, changes);
         let mut out = Vec::new(rt.alloc());
-        let (status, err) = checked(&rt, image.as_slice(), &mut out);
-        assert_eq!(rt;
-            (out.as_slice(), status, err.as_slice()),
-            (verdict, wanted, b"" as &[u8])
-        );
+        let found = check_image(rt.alloc(), image.as_slice(), &mut out)?;
+        assert_eq!(rt; (out.as_slice(), found.is_some()), (verdict, faults == 1));
     }
     Ok(())
 }
 
 #[test]
 fn a_size_or_an_output_that_fails_is_told(rt: HostRuntime) -> Result<(), Fail> {
-    let mut image = formatted(&rt, "64")?;
+    let mut image = formatted(&rt, 64)?;
     // What the output takes, and whether it flushes.
     for (room, flushes) in [(2, true), (3, false)] {
-        let (status, err) = checked(&rt, image.as_slice(), &mut Full { room, flushes });
-        assert_eq!(rt; (status, err.as_slice()), (3, b"FILE\n" as &[u8]));
+        let ended = check_image(rt.alloc(), image.as_slice(), &mut Full { room, flushes });
+        assert_eq!(rt; ended, Err(RunFault::File));
     }
     patch(&mut image, &[(S17_0, b"\x11\x00")]);
-    let (status, err) = checked(
-        &rt,
-        image.as_slice(),
-        &mut Full {
-            room: 9,
-            flushes: true,
-        },
-    );
-    assert_eq!(rt; (status, err.as_slice()), (3, b"FILE\n" as &[u8]));
+    for (room, flushes) in [(9, true), (10, false)] {
+        let ended = check_image(rt.alloc(), image.as_slice(), &mut Full { room, flushes });
+        assert_eq!(rt; ended, Err(RunFault::File));
+    }
     image.truncate(174847);
-    let (status, err) = checked(
-        &rt,
-        image.as_slice(),
-        &mut Full {
-            room: 0,
-            flushes: true,
-        },
+    let mut out = Full {
+        room: 0,
+        flushes: true,
+    };
+    assert_eq!(rt;
+        check_image(rt.alloc(), image.as_slice(), &mut out),
+        Err(RunFault::ImageSize)
     );
-    assert_eq!(rt; (status, err.as_slice()), (1, b"IMAGE SIZE\n" as &[u8]));
     Ok(())
 }

@@ -1,10 +1,10 @@
 //! The images that `format` makes, and what `list` prints of them and of damaged ones.
-use crate::jobs::Job;
-use crate::running::run;
+use crate::faults::RunFault;
+use crate::formatting::{format_file, format_image};
+use crate::judging::check_image;
+use crate::listing::list_image;
 use crate::tests::Full;
-use crate::words::job;
 use std::fs::File;
-use std::io::Cursor;
 use std::process::Abort;
 use std::test::Fail;
 
@@ -65,42 +65,29 @@ const FREE_TRACKS: [(usize, usize, &[u8]); 4] = [
 ];
 
 /// For so many tills, what stands somewhere.
-const OTHER_TILLS: [(&str, Bytes); 12] = [
-    ("3", (S17_2, b"\x11\x04\xFF\x00")),
-    ("3", (S17_3, b"\x00\x13\x00\x7F\x11\x03\x00\x00")),
-    ("3", (S17_3 + 16, b"\x11\x02\x11\x04\x00")),
-    ("3", (S17_4, b"\x00\xFF\xFF\x00")),
-    ("3", (S18_1 + 62, b"\x03\x00")),
-    ("64", (S18_0 + 0x44, b"\x00\x00\x00\x00")),
-    ("64", (S18_0 + 0x4C, b"\x05\x00\xC0\x07")),
-    ("64", (S18_1 + 62, b"\x21\x00")),
-    ("64", (S17_2, b"\x11\x04\xFF\x00")),
-    ("64", (S17_3, b"\x00\x4F\x00\x7F\x11\x03\x00\x00")),
-    ("64", (S17_3 + 78, b"\x13\x0D\x00")),
-    ("64", (S19_13, b"\x00\xFF\xFF\x00")),
+const OTHER_TILLS: [(u8, Bytes); 12] = [
+    (3, (S17_2, b"\x11\x04\xFF\x00")),
+    (3, (S17_3, b"\x00\x13\x00\x7F\x11\x03\x00\x00")),
+    (3, (S17_3 + 16, b"\x11\x02\x11\x04\x00")),
+    (3, (S17_4, b"\x00\xFF\xFF\x00")),
+    (3, (S18_1 + 62, b"\x03\x00")),
+    (64, (S18_0 + 0x44, b"\x00\x00\x00\x00")),
+    (64, (S18_0 + 0x4C, b"\x05\x00\xC0\x07")),
+    (64, (S18_1 + 62, b"\x21\x00")),
+    (64, (S17_2, b"\x11\x04\xFF\x00")),
+    (64, (S17_3, b"\x00\x4F\x00\x7F\x11\x03\x00\x00")),
+    (64, (S17_3 + 78, b"\x13\x0D\x00")),
+    (64, (S19_13, b"\x00\xFF\xFF\x00")),
 ];
 
-/// The image that `format` makes for so many tills, which are given as a word.
-pub(crate) fn formatted(rt: &(impl AllocGlobal + Abort), tills: &str) -> Result<Vec<u8>, Fail> {
-    let words = ["ledger", "format", "a.d64", "--tills", tills];
-    let job = job(rt.alloc(), &words)?;
-    let mut file = Cursor::new(Vec::new(rt.alloc()));
+/// The image that `format` makes for so many tills; for two where that is none of 1 to 64.
+pub(crate) fn formatted(rt: &(impl AllocGlobal + Abort), tills: u8) -> Result<Vec<u8>, Fail> {
+    let tills = if tills >= 1 && tills <= 64 { tills } else { 2 };
+    let mut file = Vec::new(rt.alloc());
     let mut out = Vec::new(rt.alloc());
-    let mut err = Vec::new(rt.alloc());
-    let status = run(
-        rt.alloc(),
-        &job,
-        &[],
-        &[],
-        Some(&mut file),
-        &mut out,
-        &mut err,
-    );
-    assert_eq!(rt;
-        (status, out.as_slice(), err.as_slice()),
-        (0, b"FORMATTED\n" as &[u8], b"" as &[u8])
-    );
-    Ok(file.into_inner())
+    format_image(rt.alloc(), tills, &mut file, &mut out)?;
+    assert_eq!(rt; out.as_slice(), b"FORMATTED\n".as_slice());
+    Ok(file)
 }
 
 /// Writes the bytes over the image.
@@ -130,10 +117,10 @@ fn a_disk_for_two_tills_has_these_bytes_and_zeros(rt: HostRuntime) -> Result<(),
         }
     }
     patch(&mut wanted, &TWO_TILLS);
-    let image = formatted(&rt, "2")?;
+    let image = formatted(&rt, 2)?;
     assert!(rt; image == wanted);
     // An odd number gives one till more.
-    assert!(rt; formatted(&rt, "1")? == wanted);
+    assert!(rt; formatted(&rt, 1)? == wanted);
     Ok(())
 }
 
@@ -150,25 +137,25 @@ fn disks_for_other_tills_have_these_bytes(rt: HostRuntime) -> Result<(), Fail> {
 }
 
 /// What is printed of a disk for so many tills after these changes.
-const LISTINGS: [(&str, &[Bytes], &[u8]); 12] = [
+const LISTINGS: [(u8, &[Bytes], &[u8]); 13] = [
     (
-        "2",
+        2,
         &[],
         b"0 \"STOCK LEDGER\" 01 2A\n2 \"STOCK\" REL\n2 \"REQUESTS\" REL\n660 BLOCKS FREE\n",
     ),
     (
-        "3",
+        3,
         &[],
         b"0 \"STOCK LEDGER\" 01 2A\n2 \"STOCK\" REL\n3 \"REQUESTS\" REL\n659 BLOCKS FREE\n",
     ),
     (
-        "64",
+        64,
         &[],
         b"0 \"STOCK LEDGER\" 01 2A\n2 \"STOCK\" REL\n33 \"REQUESTS\" REL\n629 BLOCKS FREE\n",
     ),
     // An entry that isn't closed, a locked one, one that is both, and a type that there isn't.
     (
-        "2",
+        2,
         &[
             (SLOT_3, b"\x00\x00\x02\x11\x02X\xA0"),
             (SLOT_3 + 30, b"\x01"),
@@ -176,7 +163,7 @@ const LISTINGS: [(&str, &[Bytes], &[u8]); 12] = [
         b"0 \"STOCK LEDGER\" 01 2A\n2 \"STOCK\" REL\n2 \"REQUESTS\" REL\n1 \"X\" *PRG\n660 BLOCKS FREE\n",
     ),
     (
-        "2",
+        2,
         &[
             (SLOT_3, b"\x00\x00\xC2\x11\x02X\xA0"),
             (SLOT_3 + 30, b"\x01"),
@@ -184,7 +171,7 @@ const LISTINGS: [(&str, &[Bytes], &[u8]); 12] = [
         b"0 \"STOCK LEDGER\" 01 2A\n2 \"STOCK\" REL\n2 \"REQUESTS\" REL\n1 \"X\" PRG<\n660 BLOCKS FREE\n",
     ),
     (
-        "2",
+        2,
         &[
             (SLOT_3, b"\x00\x00\x41\x11\x02X\xA0"),
             (SLOT_3 + 30, b"\xFF\xFF"),
@@ -192,7 +179,7 @@ const LISTINGS: [(&str, &[Bytes], &[u8]); 12] = [
         b"0 \"STOCK LEDGER\" 01 2A\n2 \"STOCK\" REL\n2 \"REQUESTS\" REL\n65535 \"X\" *SEQ<\n660 BLOCKS FREE\n",
     ),
     (
-        "2",
+        2,
         &[
             (SLOT_3, b"\x00\x00\x85\x11\x02X\xA0"),
             (SLOT_3 + 30, b"\x01"),
@@ -201,7 +188,7 @@ const LISTINGS: [(&str, &[Bytes], &[u8]); 12] = [
     ),
     // The other types, the name of the second entry empty, and a free slot passed over.
     (
-        "2",
+        2,
         &[
             (S18_1 + 2, b"\x80"),
             (S18_1 + 34, b"\xA3\x00\x00\xA0"),
@@ -211,7 +198,7 @@ const LISTINGS: [(&str, &[Bytes], &[u8]); 12] = [
     ),
     // Bytes that aren't printed as they are, and a quote mark; a name ends at its first A0.
     (
-        "2",
+        2,
         &[
             (S18_1 + 5, b"S\x1F \x7E\x7F\xC1"),
             (S18_0 + 0x90, b"\"A\xA0B"),
@@ -221,13 +208,13 @@ const LISTINGS: [(&str, &[Bytes], &[u8]); 12] = [
     ),
     // A name without padding.
     (
-        "2",
+        2,
         &[(S18_1 + 5, b"ABCDEFGHIJKLMNOP"), (S18_0 + 0xA5, b"\x7F@")],
         b"0 \"STOCK LEDGER\" 01 ?@\n2 \"ABCDEFGHIJKLMNOP\" REL\n2 \"REQUESTS\" REL\n660 BLOCKS FREE\n",
     ),
     // The map's counts as they are stored, but that of track 18.
     (
-        "2",
+        2,
         &[
             (S18_0 + 0x44, b"\x10"),
             (S18_0 + 0x48, b"\xFF"),
@@ -237,7 +224,7 @@ const LISTINGS: [(&str, &[Bytes], &[u8]); 12] = [
     ),
     // An entry of a second directory sector.
     (
-        "2",
+        2,
         &[
             (S18_1, b"\x12\x04"),
             (S18_0 + 4 * 256, b"\x00\xFF\x82\x11\x02N\xA0"),
@@ -245,16 +232,30 @@ const LISTINGS: [(&str, &[Bytes], &[u8]); 12] = [
         ],
         b"0 \"STOCK LEDGER\" 01 2A\n2 \"STOCK\" REL\n2 \"REQUESTS\" REL\n7 \"N\" PRG\n660 BLOCKS FREE\n",
     ),
+    // Ten entries, of which the first sector has eight.
+    (
+        2,
+        &[
+            (S18_1, b"\x12\x04"),
+            (SLOT_3 + 2, b"\x81\x00\x00C\xA0"),
+            (SLOT_3 + 34, b"\x81\x00\x00D\xA0"),
+            (SLOT_3 + 66, b"\x81\x00\x00E\xA0"),
+            (SLOT_3 + 98, b"\x81\x00\x00F\xA0"),
+            (SLOT_3 + 130, b"\x81\x00\x00G\xA0"),
+            (SLOT_3 + 162, b"\x81\x00\x00H\xA0"),
+            (S18_0 + 4 * 256, b"\x00\xFF\x82\x11\x02I\xA0"),
+            (S18_0 + 4 * 256 + 30, b"\x00\x01"),
+            (S18_0 + 4 * 256 + 34, b"\x83\x00\x00J\xA0"),
+        ],
+        b"0 \"STOCK LEDGER\" 01 2A\n2 \"STOCK\" REL\n2 \"REQUESTS\" REL\n0 \"C\" SEQ\n0 \"D\" SEQ\n0 \"E\" SEQ\n0 \"F\" SEQ\n0 \"G\" SEQ\n0 \"H\" SEQ\n256 \"I\" PRG\n0 \"J\" USR\n660 BLOCKS FREE\n",
+    ),
 ];
 
-/// Does `list` over an image: its status, what it prints and what it tells.
-fn list(rt: &impl AllocGlobal, image: &[u8]) -> (u8, Vec<u8>, Vec<u8>) {
+/// Lists an image: how it ends, and what it prints.
+fn list(rt: &impl AllocGlobal, image: &[u8]) -> (Result<(), RunFault>, Vec<u8>) {
     let mut out = Vec::new(rt.alloc());
-    let mut err = Vec::new(rt.alloc());
-    let file: Option<File> = None;
-    let job = Job::List { image: "a.d64" };
-    let status = run(rt.alloc(), &job, image, &[], file, &mut out, &mut err);
-    (status, out, err)
+    let ended = list_image(rt.alloc(), image, &mut out);
+    (ended, out)
 }
 
 #[test]
@@ -262,30 +263,69 @@ fn images_are_listed(rt: HostRuntime) -> Result<(), Fail> {
     for (tills, changes, listing) in LISTINGS {
         let mut image = formatted(&rt, tills)?;
         patch(&mut image, changes);
-        let (status, out, err) = list(&rt, image.as_slice());
-        assert_eq!(rt; out.as_slice(), listing, "{changes:?}");
-        assert_eq!(rt; (status, err.as_slice()), (0, b"" as &[u8]), "{changes:?}");
+        let (ended, out) = list(&rt, image.as_slice());
+        assert_eq!(rt; (ended, out.as_slice()), (Ok(()), listing), "{changes:?}");
+    }
+    Ok(())
+}
+
+#[test]
+fn each_number_of_tills_has_its_disk(rt: HostRuntime) -> Result<(), Fail> {
+    for tills in 1..65u8 {
+        let image = formatted(&rt, tills)?;
+        // Two tills have a block, and all blocks together one side sector.
+        let blocks = (tills + 1) / 2;
+        let listing = format!(in rt.alloc();
+            "0 \"STOCK LEDGER\" 01 2A\n2 \"STOCK\" REL\n{} \"REQUESTS\" REL\n{} BLOCKS FREE\n",
+            blocks + 1,
+            661 - u16::from(blocks)
+        )?;
+        let (ended, out) = list(&rt, image.as_slice());
+        assert_eq!(rt;
+            (ended, out.as_slice()),
+            (Ok(()), listing.as_bytes()),
+            "{tills}"
+        );
+        let mut out = Vec::new(rt.alloc());
+        assert_eq!(rt;
+            check_image(rt.alloc(), image.as_slice(), &mut out),
+            Ok(None),
+            "{tills}"
+        );
     }
     Ok(())
 }
 
 /// What is told of a directory that links so from its first sector.
-const BAD_LINKS: [(&[u8], &[u8]); 5] = [
-    (b"\x11\x00", b"LAYOUT BADLINK 18/1\n"),
-    (b"\x12\x00", b"LAYOUT BADLINK 18/1\n"),
-    (b"\x12\x13", b"LAYOUT BADLINK 18/1\n"),
-    (b"\x24\x00", b"LAYOUT BADLINK 18/1\n"),
-    (b"\x12\x01", b"LAYOUT LOOP 18/1\n"),
+const BAD_LINKS: [(&[u8], &str); 5] = [
+    (b"\x11\x00", "LAYOUT BADLINK 18/1"),
+    (b"\x12\x00", "LAYOUT BADLINK 18/1"),
+    (b"\x12\x13", "LAYOUT BADLINK 18/1"),
+    (b"\x24\x00", "LAYOUT BADLINK 18/1"),
+    (b"\x12\x01", "LAYOUT LOOP 18/1"),
 ];
+
+/// What a command tells where it isn't done.
+pub(crate) fn told<T: Drop>(
+    rt: &impl AllocGlobal,
+    ended: Result<T, RunFault>,
+) -> Result<String, Fail> {
+    match ended {
+        Ok(_) => Ok(String::new(rt.alloc())),
+        Err(fault) => Ok(format!(in rt.alloc(); "{fault}")?),
+    }
+}
 
 #[test]
 fn a_bad_directory_is_told_and_nothing_is_printed(rt: HostRuntime) -> Result<(), Fail> {
-    for (link, told) in BAD_LINKS {
-        let mut image = formatted(&rt, "2")?;
+    for (link, text) in BAD_LINKS {
+        let mut image = formatted(&rt, 2)?;
         patch(&mut image, &[(S18_1, link)]);
-        let (status, out, err) = list(&rt, image.as_slice());
-        assert_eq!(rt; err.as_slice(), told);
-        assert_eq!(rt; (status, out.as_slice()), (1, b"" as &[u8]), "{told:?}");
+        let (ended, out) = list(&rt, image.as_slice());
+        assert_eq!(rt;
+            (told(&rt, ended)?.as_str(), out.as_slice()),
+            (text, b"" as &[u8])
+        );
     }
     Ok(())
 }
@@ -295,26 +335,24 @@ fn other_sizes_are_told(rt: HostRuntime) -> Result<(), Fail> {
     for size in [0usize, 174847, 174849, 175531] {
         let mut image = Vec::new(rt.alloc());
         image.resize(size, 0u8)?;
-        let (status, out, err) = list(&rt, image.as_slice());
-        assert_eq!(rt; err.as_slice(), b"IMAGE SIZE\n".as_slice());
-        assert_eq!(rt; (status, out.as_slice()), (1, b"" as &[u8]), "{size}");
+        let (ended, out) = list(&rt, image.as_slice());
+        assert_eq!(rt;
+            (ended, out.as_slice()),
+            (Err(RunFault::ImageSize), b"" as &[u8]),
+            "{size}"
+        );
     }
     Ok(())
 }
 
 #[test]
 fn a_file_or_an_output_that_fails_is_told(rt: HostRuntime) -> Result<(), Fail> {
-    let job = Job::Format {
-        image: "a.d64",
-        tills: 2,
-    };
     let mut out = Vec::new(rt.alloc());
-    let mut err = Vec::new(rt.alloc());
     let none: Option<File> = None;
-    let status = run(rt.alloc(), &job, &[], &[], none, &mut out, &mut err);
+    let ended = format_file(rt.alloc(), 2, none, &mut out);
     assert_eq!(rt;
-        (status, out.as_slice(), err.as_slice()),
-        (3, b"" as &[u8], b"FILE\n" as &[u8])
+        (ended, out.as_slice()),
+        (Err(RunFault::File), b"" as &[u8])
     );
     // What the file takes, and whether it flushes; the same of the output, and how much more it then
     // would take: nothing is printed before the file has all.
@@ -325,34 +363,19 @@ fn a_file_or_an_output_that_fails_is_told(rt: HostRuntime) -> Result<(), Fail> {
         (174848, true, 10, false, 0),
     ];
     for (room, flushes, out_room, out_flushes, left) in runs {
-        let file = Full { room, flushes };
+        let mut file = Full { room, flushes };
         let mut out = Full {
             room: out_room,
             flushes: out_flushes,
         };
-        let mut err = Vec::new(rt.alloc());
-        let status = run(rt.alloc(), &job, &[], &[], Some(file), &mut out, &mut err);
-        assert_eq!(rt;
-            (status, err.as_slice(), out.room),
-            (3, b"FILE\n" as &[u8], left)
-        );
+        let ended = format_image(rt.alloc(), 2, &mut file, &mut out);
+        assert_eq!(rt; (ended, out.room), (Err(RunFault::File), left));
     }
-    let image = formatted(&rt, "2")?;
+    let image = formatted(&rt, 2)?;
     for (room, flushes) in [(69, true), (70, false)] {
         let mut out = Full { room, flushes };
-        let mut err = Vec::new(rt.alloc());
-        let file: Option<File> = None;
-        let job = Job::List { image: "a.d64" };
-        let status = run(
-            rt.alloc(),
-            &job,
-            image.as_slice(),
-            &[],
-            file,
-            &mut out,
-            &mut err,
-        );
-        assert_eq!(rt; (status, err.as_slice()), (3, b"FILE\n" as &[u8]));
+        let ended = list_image(rt.alloc(), image.as_slice(), &mut out);
+        assert_eq!(rt; ended, Err(RunFault::File));
     }
     Ok(())
 }

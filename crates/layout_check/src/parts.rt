@@ -1,0 +1,23 @@
+//! What a relative entry owns, as it is found.
+
+use arrayvec::ArrayVec;
+use d64_image::Place;
+
+/// The data blocks and the side sectors of a relative entry, each in order. The room is used again from entry to entry.
+#[derive(Drop)]
+pub struct Parts {
+    /// Its data blocks.
+    pub blocks: ArrayVec<Place, 720>,
+    /// Its side sectors.
+    pub sides: ArrayVec<Place, 6>,
+}
+
+impl Parts {
+    /// Room for the parts of an entry.
+    pub fn new() -> Parts {
+        Parts {
+            blocks: ArrayVec::new(),
+            sides: ArrayVec::new(),
+        }
+    }
+}

@@ -1,0 +1,29 @@
+//! The bytes of the files that a job reads.
+ghost use Rattle.std.specs.Prelude.{◌≡◌, IfOk, IfSome, take, vec_items};
+
+use std::alloc::Global;
+use std::io::{self, Read};
+
+/// How many bytes of an image are read: one more than a disk has, which is enough to tell that there are
+/// too many.
+const IMAGE_BYTES: u64 = 174_849;
+
+/// The bytes of a script: all that the reader has left. Its error where it failed, or where there was no
+/// memory for them.
+pub fn read_script<R: Read + Drop>(alloc: Global, reader: R) -> io::Result<Vec<u8>>
+    ensures { IfOk result (λ bytes. IfSome (R.remaining reader) (λ all. vec_items bytes ≡ all)) }
+{
+    let mut reader = reader;
+    let mut bytes = Vec::new(alloc);
+    reader.read_to_end(&mut bytes)?;
+    Ok(bytes)
+}
+
+/// The bytes of an image: the first 174,849 that the reader has left, or all of them where there are
+/// fewer. Its error where it failed, or where there was no memory for them.
+pub fn read_image<R: Read + Drop>(alloc: Global, reader: R) -> io::Result<Vec<u8>>
+    ensures { IfOk result (λ bytes. IfSome (R.remaining reader)
+        (λ all. vec_items bytes ≡ take 174849 all)) }
+{
+    read_script(alloc, reader.take(IMAGE_BYTES))
+}
