@@ -3,9 +3,7 @@
 
 mod access;
 mod counting;
-mod creation;
-#[cfg(test)]
-mod creation_tests;
+mod directory_room;
 mod faults;
 mod filling;
 mod finding;
@@ -14,6 +12,7 @@ mod growth;
 #[cfg(test)]
 mod growth_tests;
 mod lookup;
+mod new_file;
 mod next_block;
 mod parts;
 mod reading;
@@ -26,7 +25,6 @@ mod tests;
 mod writing;
 
 pub use counting::records;
-pub use creation::create;
 pub use faults::RelFault;
 pub use finding::find;
 pub use growth::grow_to;

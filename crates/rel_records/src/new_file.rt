@@ -1,0 +1,47 @@
+//! A new file's sectors, and its entry.
+ghost use Rattle.std.specs.Prelude.{◌≡◌, ◌≢◌, ◌≤◌, ◌<◌, ◌+◌, ◌*◌, ◌∷◌, [], ◌⊎◌, ℕ, OnOk, slice_index, slice_range};
+ghost use Rattle.d64_image.specs.History.{Changes, TellsFailure};
+ghost use Rattle.disk_layout.specs.Directory.{map_place};
+ghost use Rattle.rel_records.specs.NewFile.{ChangesOnly, HasNewSectors};
+
+use crate::next_block::fresh_block;
+use d64_image::{DeviceFault, Place, Sectors};
+use disk_layout::{Bam, map_place, side_bytes};
+
+/// Writes what nobody owns yet: the map, the data block and the side sector.
+pub(crate) fn write_sectors<D: Sectors>(
+    disk: &mut D,
+    map: &Bam,
+    block: Place,
+    side: Place,
+    length: u8,
+) -> Result<(), DeviceFault>
+    requires low { 1 ≤ length }
+    requires high { length ≤ 254 }
+    requires block { block ≢ map_place }
+    requires side { side ≢ map_place }
+    requires apart { block ≢ side }
+    ensures ok { OnOk result (HasNewSectors map.now.bytes block side length (D.history.image disk.new)) }
+    ensures moments { Changes D.history disk.old disk.new 3 (ChangesOnly (D.history.image disk.old) map.now.bytes (block ∷ side ∷ [])) }
+    ensures failures { TellsFailure D.history disk.old disk.new result }
+{
+    disk.write(map_place(), &map.bytes)?;
+    disk.write(block, &fresh_block(0, length))?;
+    disk.write(side, &side_bytes(0, &[block], &[side], length))
+}
+
+/// Puts the entry into a slot of a directory sector; the first slot keeps the sector's link.
+fn put_entry(bytes: &mut [u8; 256], number: u8, entry: &[u8; 30])
+    requires { number < 8 }
+    ensures entry { slice_range bytes.new (32 * number + 2) (32 * number + 32) ≡ entry.now }
+    ensures rest { (i : ℕ) → (i < 32 * number) ⊎ (32 * number + 32 ≤ i) → slice_index bytes.new i ≡ slice_index bytes.old i }
+    ensures link { (i : ℕ) → i < 2 → slice_index bytes.new i ≡ slice_index bytes.old i }
+    ensures zeros { 0 < number → (slice_index bytes.new (32 * number) ≡ 0) × (slice_index bytes.new (32 * number + 1) ≡ 0) }
+{
+    let at = 32 * number as usize;
+    if number > 0 {
+        bytes[at] = 0;
+        bytes[at + 1] = 0;
+    }
+    bytes[at + 2..at + 32].copy_from_slice(entry);
+}
