@@ -1,5 +1,5 @@
 -- The sectors of a new file are written: the map, the data block, the side sector.
-use Rattle.std.proofs.Common.{ℕ, ◌≡◌, ◌≢◌, ◌≤◌, ◌+◌, ◌⊎◌, inl, inr, List, [], ◌∷◌, ap, length, refl, subst, sym, ◌∙◌}
+use Rattle.std.proofs.Common.{ℕ, ◌≡◌, ◌≢◌, ◌≤◌, ◌+◌, ◌⊎◌, inl, inr, List, [], ◌∷◌, ◌++◌, ap, ap₂, drop, length, take, refl, subst, sym, ◌∙◌}
 use Rattle.std.specs.Prelude.{Contains}
 use Rattle.d64_image.proofs.Images.{sector-put_other, sector-put_same}
 use Rattle.d64_image.proofs.Moments.{at_end, one_write_more, write_change}
@@ -7,7 +7,10 @@ use Rattle.d64_image.specs.History.{Changes, HeldOnly, History, OldOr}
 use Rattle.d64_image.specs.Images.{Image, Sector, put, sector}
 use Rattle.d64_image.specs.declared.place.Place.{Place}
 use Rattle.disk_layout.specs.Directory.{map_place}
+use Rattle.disk_layout.specs.Layout.{IsLayout, Layout, owners}
 use Rattle.disk_layout.specs.Side.{side_sector}
+use Rattle.rel_records.proofs.Creating.{creating-before}
+use Rattle.rel_records.specs.Made.{HasFilesOf}
 use Rattle.rel_records.specs.NewFile.{ChangesOnly, HasNewSectors}
 use Rattle.rel_records.specs.Next.{IsFresh}
 
@@ -52,3 +55,12 @@ new-sectors a b c d map made links m block side L la lb lc is block_off side_off
       subst P (sym at) is_fresh;
   links = ap (λ i. sector i side) three ∙ sector-put_same c side links lc ∙ exact;
 }
+
+-- where nobody owned these sectors, and the new map has the old header, the files are there as before
+pub files-before : (a c : Image) (map : Sector) (ps : List Place) (l : Layout) → IsLayout a l → ((q : Place) → Contains ps q → ¬ (Contains (owners l) q)) → (take 4 map ≡ take 4 (sector a map_place)) × (drop 144 map ≡ drop 144 (sector a map_place)) → ChangesOnly a map ps c → HasFilesOf a l c
+files-before a c map ps l h unowned header changes = creating-before a c l h
+    (λ q own. sym (changes.rest q (λ e. h.once.0 (let P : Place → Type 0 = Contains (owners l) in subst P e own)) (λ on. unowned q on own)))
+    (elim changes.map [
+      | inl e ↦ ap (λ s. take 4 s ++ drop 144 s) e
+      | inr e ↦ ap (λ s. take 4 s ++ drop 144 s) e ∙ ap₂ (λ x y. x ++ y) header.0 header.1
+    ])

@@ -1,7 +1,8 @@
--- A new file's sectors, written before its entry. Our own.
-use Rattle.std.specs.Prelude.{ℕ, ◌≡◌, ◌≢◌, ◌⊎◌, ◌∷◌, [], List, Contains}
+-- A new file's sectors, and its entry. Our own.
+use Rattle.std.specs.Prelude.{ℕ, ◌≡◌, ◌≢◌, ◌⊎◌, ◌+◌, ◌*◌, ◌<◌, ◌≤◌, ◌∷◌, [], List, Contains, length, slice_index, slice_range}
 use Rattle.d64_image.specs.Images.{Image, Sector, sector}
 use Rattle.d64_image.specs.declared.place.Place.{Place}
+use Rattle.disk_layout.specs.Chain.{Names}
 use Rattle.disk_layout.specs.Directory.{map_place}
 use Rattle.disk_layout.specs.Side.{side_sector}
 use Rattle.rel_records.specs.Next.{IsFresh}
@@ -16,3 +17,25 @@ pub record HasNewSectors (new_map : Sector) (block side : Place) (L : ℕ) (c : 
   pub map : sector c map_place ≡ new_map
   pub fresh : IsFresh 0 L (sector c block)
   pub links : sector c side ≡ side_sector 0 (block ∷ []) (side ∷ []) L
+
+-- the bytes of a directory sector with the entry in slot n; the first slot keeps the sector's link, the others begin with zeros
+pub record IsEntered (old new : Sector) (n : ℕ) (entry : List ℕ) : Type 0 where
+  pub old_long : length old ≡ 256
+  pub long : length new ≡ 256
+  pub here : slice_range new (32 * n + 2) (32 * n + 32) ≡ entry
+  pub rest : (i : ℕ) → (i < 32 * n) ⊎ (32 * n + 32 ≤ i) → slice_index new i ≡ slice_index old i
+  pub link : (i : ℕ) → i < 2 → slice_index new i ≡ slice_index old i
+  pub zeros : 0 < n → (slice_index new (32 * n) ≡ 0) × (slice_index new (32 * n + 1) ≡ 0)
+
+-- a new directory sector, the last one, with the entry in its first slot and none in the others
+pub record IsNewDirectory (bytes : Sector) (entry : List ℕ) : Type 0 where
+  pub ends : slice_index bytes 0 ≡ 0
+  pub entered : (old : Sector) × IsEntered old bytes 0 entry
+  pub free : (n : ℕ) → 0 < n → n < 8 → slice_index bytes (32 * n + 2) ≡ 0
+
+-- the bytes of a directory sector that links to p
+pub record IsLinkedTo (old new : Sector) (p : Place) : Type 0 where
+  pub old_long : length old ≡ 256
+  pub long : length new ≡ 256
+  pub link : Names new 0 p
+  pub rest : (i : ℕ) → 2 ≤ i → slice_index new i ≡ slice_index old i

@@ -1,8 +1,8 @@
 //! A new file's sectors, and its entry.
-ghost use Rattle.std.specs.Prelude.{◌≡◌, ◌≢◌, ◌≤◌, ◌<◌, ◌+◌, ◌*◌, ◌∷◌, [], ◌⊎◌, ℕ, OnOk, slice_index, slice_range};
+ghost use Rattle.std.specs.Prelude.{◌≡◌, ◌≢◌, ◌≤◌, ◌<◌, ◌∷◌, [], OnOk};
 ghost use Rattle.d64_image.specs.History.{Changes, TellsFailure};
 ghost use Rattle.disk_layout.specs.Directory.{map_place};
-ghost use Rattle.rel_records.specs.NewFile.{ChangesOnly, HasNewSectors};
+ghost use Rattle.rel_records.specs.NewFile.{ChangesOnly, HasNewSectors, IsEntered, IsLinkedTo, IsNewDirectory};
 
 use crate::next_block::fresh_block;
 use d64_image::{DeviceFault, Place, Sectors};
@@ -31,12 +31,9 @@ pub(crate) fn write_sectors<D: Sectors>(
 }
 
 /// Puts the entry into a slot of a directory sector; the first slot keeps the sector's link.
-fn put_entry(bytes: &mut [u8; 256], number: u8, entry: &[u8; 30])
+pub(crate) fn put_entry(bytes: &mut [u8; 256], number: u8, entry: &[u8; 30])
     requires { number < 8 }
-    ensures entry { slice_range bytes.new (32 * number + 2) (32 * number + 32) ≡ entry.now }
-    ensures rest { (i : ℕ) → (i < 32 * number) ⊎ (32 * number + 32 ≤ i) → slice_index bytes.new i ≡ slice_index bytes.old i }
-    ensures link { (i : ℕ) → i < 2 → slice_index bytes.new i ≡ slice_index bytes.old i }
-    ensures zeros { 0 < number → (slice_index bytes.new (32 * number) ≡ 0) × (slice_index bytes.new (32 * number + 1) ≡ 0) }
+    ensures { IsEntered bytes.old bytes.new number entry.now }
 {
     let at = 32 * number as usize;
     if number > 0 {
@@ -44,4 +41,22 @@ fn put_entry(bytes: &mut [u8; 256], number: u8, entry: &[u8; 30])
         bytes[at + 1] = 0;
     }
     bytes[at + 2..at + 32].copy_from_slice(entry);
+}
+
+/// A new directory sector behind the directory's last, with the entry in its first slot.
+pub(crate) fn directory_with(entry: &[u8; 30]) -> [u8; 256]
+    ensures { IsNewDirectory result entry.now }
+{
+    let mut bytes = [0; 256];
+    bytes[1] = 0xFF;
+    put_entry(&mut bytes, 0, entry);
+    bytes
+}
+
+/// Links a directory sector to another.
+pub(crate) fn link_to(bytes: &mut [u8; 256], place: Place)
+    ensures { IsLinkedTo bytes.old bytes.new place }
+{
+    bytes[0] = place.track();
+    bytes[1] = place.sector();
 }
