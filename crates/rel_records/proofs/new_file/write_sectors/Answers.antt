@@ -3,8 +3,6 @@ use Rattle.std.proofs.Common.{rules, arith, refl, sym, ◌≡◌, ◌∷◌, [],
 use Rattle.d64_image.proofs.Moments.{changes_weaker}
 use Rattle.d64_image.specs.declared.place.Place.{Place}
 use Rattle.disk_layout.proofs.Once.{Contains-here, Contains-there}
-use Rattle.rel_records.proofs.Entered.{is-entry}
-use Rattle.rel_records.proofs.InSector.{linked-clean}
 use Rattle.rel_records.proofs.NewWrites.{map-first, new-sectors, one-more}
 use Rattle.rel_records.proofs.Sided.{counted_once, ok-then}
 use Rattle.rel_records.proofs.new_file.write_sectors.Goals as goal

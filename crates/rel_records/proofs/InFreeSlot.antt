@@ -1,0 +1,111 @@
+-- A new file whose entry goes into a free slot: its sectors are written, then the entry, by one write.
+use Rattle.std.proofs.Common.{◌≡◌, ◌≢◌, ℕ, ◌+◌, ◌*◌, ◌<◌, ◌≤◌, ◌⊎◌, inl, inr, true, false, List, [], ◌∷◌, ◌++◌, ap, drop, length, refl, slice_index, subst, sym, take, ◌∙◌}
+use Rattle.std.specs.Prelude.{Contains}
+use Rattle.std.proofs.lemmas.List.Elements.{Contains-append_left}
+use Rattle.d64_image.proofs.Images.{sector-put_other}
+use Rattle.d64_image.specs.Images.{Image, IsImage, Sector, put, sector}
+use Rattle.d64_image.specs.declared.place.Place.{Place}
+use Rattle.disk_layout.proofs.Chains.{AgreeAt}
+use Rattle.disk_layout.proofs.Once.{Contains-cases, Contains-here, Contains-nil, Contains-there}
+use Rattle.disk_layout.specs.Blank.{rel_entry}
+use Rattle.disk_layout.specs.Clean.{IsCleanLayout}
+use Rattle.disk_layout.specs.Directory.{is_used, map_place, slot_in}
+use Rattle.disk_layout.specs.Layout.{IsLayout, Layout, file_owns, owners}
+use Rattle.disk_layout.specs.Map.{IsMapOf}
+use Rattle.disk_layout.specs.Side.{side_sector}
+use Rattle.rel_records.proofs.Entered.{IsEntry, entry-apart, entry-links, entry-used, is-entry}
+use Rattle.rel_records.proofs.InSlot.{Made, made, made-clean}
+use Rattle.rel_records.proofs.NewClean.{file-more, is-new, map-same, two-among}
+use Rattle.rel_records.proofs.NewFiles.{IsNewFile, new_file}
+use Rattle.rel_records.proofs.NewWrites.{files-before}
+use Rattle.rel_records.specs.Made.{HasFileMore, HasFilesOf}
+use Rattle.rel_records.specs.NewFile.{ChangesOnly, HasNewSectors, IsEntered}
+use Rattle.rel_records.specs.Next.{IsFresh}
+use Rattle.rel_records.specs.Room.{IsFirstSlot}
+
+-- the image at the start is clean, and two sectors that nobody owned are taken in its map
+pub record IsTakenFor (a : Image) (l : Layout) (new_map : Sector) (block side : Place) : Type 0 where
+  pub clean : IsCleanLayout a l
+  pub no_block : ¬ (Contains (map_place ∷ owners l) block)
+  pub no_side : ¬ (Contains (map_place ∷ owners l) side)
+  pub apart : side ≢ block
+  pub header : (take 4 new_map ≡ take 4 (sector a map_place)) × (drop 144 new_map ≡ drop 144 (sector a map_place))
+  pub map : IsMapOf new_map (side ∷ block ∷ map_place ∷ owners l)
+
+module _ (a c : Image) (l : Layout) (new_map : Sector) (block side p : Place) (n : ℕ) (bytes : Sector) (name : List ℕ) (L : ℕ)
+    (taken : IsTakenFor a l new_map block side) (changes : ChangesOnly a new_map (block ∷ side ∷ []) c) (has : HasNewSectors new_map block side L c)
+    (wc : IsImage c) (wb : IsImage (put c p bytes)) (on : Contains l.directory p) (first : IsFirstSlot p (sector a p) n)
+    (entered : IsEntered (sector a p) bytes n (rel_entry name block side L 2)) (few : length name ≤ 16) (low : 1 ≤ L) (high : L ≤ 254) where
+  unowned : (q : Place) → Contains (block ∷ side ∷ []) q → ¬ (Contains (owners l) q)
+  unowned q c own = elim (Contains-cases q block (side ∷ []) c) [
+    | inl e ↦ taken.no_block (let P : Place → Type 0 = λ x. Contains (map_place ∷ owners l) x in subst P (sym e) (Contains-there q map_place (owners l) own))
+    | inr d ↦ elim (Contains-cases q side [] d) [
+      | inl e ↦ taken.no_side (let P : Place → Type 0 = λ x. Contains (map_place ∷ owners l) x in subst P (sym e) (Contains-there q map_place (owners l) own))
+      | inr none ↦ Contains-nil q none
+    ]
+  ]
+
+  pub was : HasFilesOf a l c
+  was = files-before a c new_map (block ∷ side ∷ []) l taken.clean.layout unowned taken.header changes
+
+  same : AgreeAt a c (owners l)
+  same q own = sym (changes.rest q (λ e. taken.clean.layout.once.0 (let P : Place → Type 0 = Contains (owners l) in subst P e own)) (λ d. unowned q d own))
+
+  owned : Contains (owners l) p
+  unfolding owners
+  owned = Contains-append_left l.directory (Rattle.std.specs.Prelude.flat_map file_owns l.files) p on
+
+  here : sector c p ≡ sector a p
+  here = sym (same p owned)
+
+  put-in : IsEntered (sector c p) bytes n (rel_entry name block side L 2)
+  put-in = let P : Sector → Type 0 = λ x. IsEntered x bytes n (rel_entry name block side L 2) in subst P (sym here) entered
+
+  off-block : p ≢ block
+  off-block e = taken.no_block (let P : Place → Type 0 = λ x. Contains (map_place ∷ owners l) x in subst P e (Contains-there p map_place (owners l) owned))
+
+  off-side : p ≢ side
+  off-side e = taken.no_side (let P : Place → Type 0 = λ x. Contains (map_place ∷ owners l) x in subst P e (Contains-there p map_place (owners l) owned))
+
+  entry : IsEntry (slot_in p bytes n) name block side L
+  entry = is-entry (sector c p) bytes n name block side L first.number few put-in p
+
+  fresh : IsFresh 0 L (sector (put c p bytes) block)
+  fresh = let P : Sector → Type 0 = IsFresh 0 L in subst P (sym (sector-put_other c p block bytes off-block)) has.fresh
+
+  links : sector (put c p bytes) side ≡ side_sector 0 (block ∷ []) (side ∷ []) L
+  links = sector-put_other c p side bytes off-side ∙ has.links
+
+  abbrev u : ℕ
+  u = slice_index (sector (put c p bytes) block) 1
+
+  new : IsNewFile (put c p bytes) (slot_in p bytes n) block side u
+  new = is-new (put c p bytes) (slot_in p bytes n) name block side L entry fresh links low high
+
+  free : is_used (slot_in p (sector c p) n) ≡ false
+  free = ap (λ x. is_used (slot_in p x n)) here ∙ first.free
+
+  abbrev It : Type 0
+  It = Made a c l p n bytes block side u wc.size was.layout was on first.number
+      (entry-apart (sector c p) bytes n name block side L first.number few put-in p) (entry-links (sector c p) bytes n name block side L first.number few put-in)
+      free (entry-used (sector c p) bytes n name block side L first.number few put-in p) taken.no_block taken.no_side taken.apart new
+
+  it : It
+  it = made a c l p n bytes block side u wc.size was.layout was on first.number
+      (entry-apart (sector c p) bytes n name block side L first.number few put-in p) (entry-links (sector c p) bytes n name block side L first.number few put-in)
+      free (entry-used (sector c p) bytes n name block side L first.number few put-in p) taken.no_block taken.no_side taken.apart new
+
+  right : (xs ys : List Place) → owners l ≡ xs ++ ys → IsMapOf (sector c map_place) (map_place ∷ (xs ++ block ∷ (side ∷ ys)))
+  right xs ys e =
+      let P : List Place → Type 0 = λ ps. IsMapOf new_map (side ∷ block ∷ map_place ∷ ps) in
+      let Q : Sector → Type 0 = λ x. IsMapOf x (map_place ∷ (xs ++ block ∷ (side ∷ ys))) in
+      subst Q (sym has.map) (map-same new_map (side ∷ block ∷ map_place ∷ (xs ++ ys)) (map_place ∷ (xs ++ block ∷ (side ∷ ys))) (two-among xs ys block side) (subst P e taken.map))
+
+  -- the image has the files of before and the new one, and is clean
+  pub slot-more : HasFileMore a l name L (put c p bytes)
+  slot-more = file-more (put c p bytes) (slot_in p bytes n) name block side L entry fresh links low high a l _ wb
+      (made-clean a c l p n bytes block side u wc.size was.layout was on first.number
+      (entry-apart (sector c p) bytes n name block side L first.number few put-in p) (entry-links (sector c p) bytes n name block side L first.number few put-in)
+      free (entry-used (sector c p) bytes n name block side L first.number few put-in p) taken.no_block taken.no_side taken.apart new
+      taken.clean same entry.count right it)
+      it.adds
