@@ -1,9 +1,11 @@
 -- A new file whose entry goes into a free slot: its sectors are written, then the entry, by one write.
-use Rattle.std.proofs.Common.{◌≡◌, ◌≢◌, ℕ, ◌+◌, ◌*◌, ◌<◌, ◌≤◌, ◌⊎◌, inl, inr, true, false, List, [], ◌∷◌, ◌++◌, ap, drop, length, refl, slice_index, subst, sym, take, ◌∙◌}
+use Rattle.std.proofs.Common.{◌≡◌, ◌≢◌, ℕ, ◌+◌, ◌*◌, ◌<◌, ◌≤◌, ◌⊎◌, inl, inr, true, false, List, [], ◌∷◌, ◌++◌, ap, arith, drop, length, refl, slice_index, subst, sym, take, ◌∙◌}
 use Rattle.std.specs.Prelude.{Contains}
 use Rattle.std.proofs.lemmas.List.Elements.{Contains-append_left}
-use Rattle.d64_image.proofs.Images.{sector-put_other}
-use Rattle.d64_image.specs.Images.{Image, IsImage, Sector, put, sector}
+use Rattle.d64_image.proofs.Images.{put_is_image, sector-put_other}
+use Rattle.d64_image.proofs.Moments.{at_end, changes_weaker, one_write_more}
+use Rattle.d64_image.specs.History.{Changes, HeldOnly, History, OldOr}
+use Rattle.d64_image.specs.Images.{Image, IsImage, IsSector, Sector, put, sector}
 use Rattle.d64_image.specs.declared.place.Place.{Place}
 use Rattle.disk_layout.proofs.Chains.{AgreeAt}
 use Rattle.disk_layout.proofs.Once.{Contains-cases, Contains-here, Contains-nil, Contains-there}
@@ -18,32 +20,27 @@ use Rattle.rel_records.proofs.InSlot.{Made, made, made-clean}
 use Rattle.rel_records.proofs.NewClean.{file-more, is-new, map-same, two-among}
 use Rattle.rel_records.proofs.NewFiles.{IsNewFile, new_file}
 use Rattle.rel_records.proofs.NewWrites.{files-before}
-use Rattle.rel_records.specs.Made.{HasFileMore, HasFilesOf}
-use Rattle.rel_records.specs.NewFile.{ChangesOnly, HasNewSectors, IsEntered}
+use Rattle.rel_records.specs.Made.{HasFileMore, HasFilesOf, IsCreating}
+use Rattle.rel_records.specs.NewFile.{ChangesOnly, GoesIntoSlot, HasNewSectors, IsEntered, IsTakenFor}
 use Rattle.rel_records.specs.Next.{IsFresh}
 use Rattle.rel_records.specs.Room.{IsFirstSlot}
 
--- the image at the start is clean, and two sectors that nobody owned are taken in its map
-pub record IsTakenFor (a : Image) (l : Layout) (new_map : Sector) (block side : Place) : Type 0 where
-  pub clean : IsCleanLayout a l
-  pub no_block : ¬ (Contains (map_place ∷ owners l) block)
-  pub no_side : ¬ (Contains (map_place ∷ owners l) side)
-  pub apart : side ≢ block
-  pub header : (take 4 new_map ≡ take 4 (sector a map_place)) × (drop 144 new_map ≡ drop 144 (sector a map_place))
-  pub map : IsMapOf new_map (side ∷ block ∷ map_place ∷ owners l)
+-- neither of them was owned
+unowned-two : (a : Image) (l : Layout) (new_map : Sector) (block side : Place) → IsTakenFor a l new_map block side → (q : Place) → Contains (block ∷ side ∷ []) q → ¬ (Contains (owners l) q)
+unowned-two a l new_map block side taken q c own = elim (Contains-cases q block (side ∷ []) c) [
+  | inl e ↦ taken.no_block (let P : Place → Type 0 = λ x. Contains (map_place ∷ owners l) x in subst P (sym e) (Contains-there q map_place (owners l) own))
+  | inr d ↦ elim (Contains-cases q side [] d) [
+    | inl e ↦ taken.no_side (let P : Place → Type 0 = λ x. Contains (map_place ∷ owners l) x in subst P (sym e) (Contains-there q map_place (owners l) own))
+    | inr none ↦ Contains-nil q none
+  ]
+]
 
 module _ (a c : Image) (l : Layout) (new_map : Sector) (block side p : Place) (n : ℕ) (bytes : Sector) (name : List ℕ) (L : ℕ)
     (taken : IsTakenFor a l new_map block side) (changes : ChangesOnly a new_map (block ∷ side ∷ []) c) (has : HasNewSectors new_map block side L c)
     (wc : IsImage c) (wb : IsImage (put c p bytes)) (on : Contains l.directory p) (first : IsFirstSlot p (sector a p) n)
     (entered : IsEntered (sector a p) bytes n (rel_entry name block side L 2)) (few : length name ≤ 16) (low : 1 ≤ L) (high : L ≤ 254) where
   unowned : (q : Place) → Contains (block ∷ side ∷ []) q → ¬ (Contains (owners l) q)
-  unowned q c own = elim (Contains-cases q block (side ∷ []) c) [
-    | inl e ↦ taken.no_block (let P : Place → Type 0 = λ x. Contains (map_place ∷ owners l) x in subst P (sym e) (Contains-there q map_place (owners l) own))
-    | inr d ↦ elim (Contains-cases q side [] d) [
-      | inl e ↦ taken.no_side (let P : Place → Type 0 = λ x. Contains (map_place ∷ owners l) x in subst P (sym e) (Contains-there q map_place (owners l) own))
-      | inr none ↦ Contains-nil q none
-    ]
-  ]
+  unowned = unowned-two a l new_map block side taken
 
   pub was : HasFilesOf a l c
   was = files-before a c new_map (block ∷ side ∷ []) l taken.clean.layout unowned taken.header changes
@@ -109,3 +106,22 @@ module _ (a c : Image) (l : Layout) (new_map : Sector) (block side p : Place) (n
       free (entry-used (sector c p) bytes n name block side L first.number few put-in p) taken.no_block taken.no_side taken.apart new
       taken.clean same entry.count right it)
       it.adds
+
+module _ {D : Type 0} (S : History D) (d e : D) (l : Layout) (new_map : Sector) (block side p : Place) (bytes : Sector) (name : List ℕ) (L : ℕ)
+    (taken : IsTakenFor (S.image d) l new_map block side) (goes : GoesIntoSlot (S.image d) l name block side L p bytes) (low : 1 ≤ L) (high : L ≤ 254)
+    (prepared : Changes S d e 3 (ChangesOnly (S.image d) new_map (block ∷ side ∷ []))) where
+  -- while its sectors are written the files are there as before
+  pub sectors-moments : Changes S d e 4 (IsCreating (S.image d) l name L)
+  sectors-moments = changes_weaker S d e 3 4 _ _ (omega arith)
+      (λ c h. inl (files-before (S.image d) c new_map (block ∷ side ∷ []) l taken.clean.layout (unowned-two (S.image d) l new_map block side taken) taken.header h)) prepared
+
+  module _ (has : HasNewSectors new_map block side L (S.image e)) (sized : IsSector bytes) where
+    pub entry-more : HasFileMore (S.image d) l name L (put (S.image e) p bytes)
+    entry-more = slot-more (S.image d) (S.image e) l new_map block side p goes.number bytes name L taken (at_end S d e _ prepared.held) has
+        (S.whole e) (put_is_image (S.image e) p bytes (S.whole e) sized) goes.on goes.first goes.entered goes.few low high
+
+    pub entry-moments : (f : D) → HeldOnly S e f (OldOr (S.image e) (put (S.image e) p bytes)) → S.writes f ≤ S.writes e + 1 → Changes S d f 4 (IsCreating (S.image d) l name L)
+    entry-moments f held counted =
+        let before = changes_weaker S d e 3 3 (ChangesOnly (S.image d) new_map (block ∷ side ∷ [])) (IsCreating (S.image d) l name L) (omega arith)
+        (λ c h. inl (files-before (S.image d) c new_map (block ∷ side ∷ []) l taken.clean.layout (unowned-two (S.image d) l new_map block side taken) taken.header h)) prepared in
+        one_write_more S d e f 3 (S.image e) (put (S.image e) p bytes) _ before held counted (at_end S d e _ before.held) (inr entry-more)

@@ -1,11 +1,16 @@
 -- A new file's sectors, and its entry. Our own.
-use Rattle.std.specs.Prelude.{ℕ, ◌≡◌, ◌≢◌, ◌⊎◌, ◌+◌, ◌*◌, ◌<◌, ◌≤◌, ◌∷◌, [], List, Contains, length, slice_index, slice_range}
+use Rattle.std.specs.Prelude.{ℕ, ◌≡◌, ◌≢◌, ◌⊎◌, ◌+◌, ◌*◌, ◌<◌, ◌≤◌, ◌∷◌, [], List, Contains, drop, length, slice_index, slice_range, take}
 use Rattle.d64_image.specs.Images.{Image, Sector, sector}
 use Rattle.d64_image.specs.declared.place.Place.{Place}
+use Rattle.disk_layout.specs.Blank.{rel_entry}
 use Rattle.disk_layout.specs.Chain.{Names}
+use Rattle.disk_layout.specs.Clean.{IsCleanLayout}
 use Rattle.disk_layout.specs.Directory.{map_place}
+use Rattle.disk_layout.specs.Layout.{Layout, owners}
+use Rattle.disk_layout.specs.Map.{IsMapOf}
 use Rattle.disk_layout.specs.Side.{side_sector}
 use Rattle.rel_records.specs.Next.{IsFresh}
+use Rattle.rel_records.specs.Room.{IsFirstSlot}
 
 -- the map is as it was or the new one, and of the other sectors only these may differ
 pub record ChangesOnly (old : Image) (new_map : Sector) (ps : List Place) (c : Image) : Type 0 where
@@ -39,3 +44,20 @@ pub record IsLinkedTo (old new : Sector) (p : Place) : Type 0 where
   pub long : length new ≡ 256
   pub link : Names new 0 p
   pub rest : (i : ℕ) → 2 ≤ i → slice_index new i ≡ slice_index old i
+
+-- the image at the start is clean, and two sectors that nobody owned are taken in its map
+pub record IsTakenFor (a : Image) (l : Layout) (new_map : Sector) (block side : Place) : Type 0 where
+  pub clean : IsCleanLayout a l
+  pub no_block : ¬ (Contains (map_place ∷ owners l) block)
+  pub no_side : ¬ (Contains (map_place ∷ owners l) side)
+  pub apart : side ≢ block
+  pub header : (take 4 new_map ≡ take 4 (sector a map_place)) × (drop 144 new_map ≡ drop 144 (sector a map_place))
+  pub map : IsMapOf new_map (side ∷ block ∷ map_place ∷ owners l)
+
+-- these bytes are those of a directory sector with the entry of a new file in its first free slot
+pub record GoesIntoSlot (old : Image) (l : Layout) (name : List ℕ) (block side : Place) (L : ℕ) (p : Place) (bytes : Sector) : Type 0 where
+  pub number : ℕ
+  pub on : Contains l.directory p
+  pub first : IsFirstSlot p (sector old p) number
+  pub entered : IsEntered (sector old p) bytes number (rel_entry name block side L 2)
+  pub few : length name ≤ 16

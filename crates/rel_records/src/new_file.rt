@@ -1,8 +1,10 @@
 //! A new file's sectors, and its entry.
-ghost use Rattle.std.specs.Prelude.{◌≡◌, ◌≢◌, ◌≤◌, ◌<◌, ◌∷◌, [], OnOk};
+ghost use Rattle.std.specs.Prelude.{◌≡◌, ◌≢◌, ◌≤◌, ◌<◌, ◌∷◌, [], List, OnOk, ℕ};
 ghost use Rattle.d64_image.specs.History.{Changes, TellsFailure};
 ghost use Rattle.disk_layout.specs.Directory.{map_place};
-ghost use Rattle.rel_records.specs.NewFile.{ChangesOnly, HasNewSectors, IsEntered, IsLinkedTo, IsNewDirectory};
+ghost use Rattle.disk_layout.specs.Layout.{Layout};
+ghost use Rattle.rel_records.specs.Made.{HasFileMore, IsCreating};
+ghost use Rattle.rel_records.specs.NewFile.{ChangesOnly, GoesIntoSlot, HasNewSectors, IsEntered, IsLinkedTo, IsNewDirectory, IsTakenFor};
 
 use crate::next_block::fresh_block;
 use d64_image::{DeviceFault, Place, Sectors};
@@ -28,6 +30,27 @@ pub(crate) fn write_sectors<D: Sectors>(
     disk.write(map_place(), &map.bytes)?;
     disk.write(block, &fresh_block(0, length))?;
     disk.write(side, &side_bytes(0, &[block], &[side], length))
+}
+
+/// Writes a new file's sectors, and then the directory sector whose free slot got its entry: this last write makes the file.
+pub(crate) fn write_in_slot<D: Sectors>(
+    disk: &mut D,
+    map: &Bam,
+    block: Place,
+    side: Place,
+    length: u8,
+    place: Place,
+    bytes: &[u8; 256],
+) -> Result<(), DeviceFault>
+    requires low { 1 ≤ length }
+    requires high { length ≤ 254 }
+    requires taken { (l : Layout) × IsTakenFor (D.history.image disk.old) l map.now.bytes block side }
+    ensures ok { (l : Layout) → (name : List ℕ) → IsTakenFor (D.history.image disk.old) l map.now.bytes block side → GoesIntoSlot (D.history.image disk.old) l name block side length place bytes.now → OnOk result (HasFileMore (D.history.image disk.old) l name length (D.history.image disk.new)) }
+    ensures moments { (l : Layout) → (name : List ℕ) → IsTakenFor (D.history.image disk.old) l map.now.bytes block side → GoesIntoSlot (D.history.image disk.old) l name block side length place bytes.now → Changes D.history disk.old disk.new 4 (IsCreating (D.history.image disk.old) l name length) }
+    ensures failures { TellsFailure D.history disk.old disk.new result }
+{
+    write_sectors(disk, map, block, side, length)?;
+    disk.write(place, bytes)
 }
 
 /// Puts the entry into a slot of a directory sector; the first slot keeps the sector's link.
