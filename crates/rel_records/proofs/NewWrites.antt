@@ -6,6 +6,7 @@ use Rattle.d64_image.proofs.Moments.{at_end, one_write_more, write_change}
 use Rattle.d64_image.specs.History.{Changes, HeldOnly, History, OldOr}
 use Rattle.d64_image.specs.Images.{Image, Sector, put, sector}
 use Rattle.d64_image.specs.declared.place.Place.{Place}
+use Rattle.disk_layout.proofs.Once.{Contains-there}
 use Rattle.disk_layout.specs.Directory.{map_place}
 use Rattle.disk_layout.specs.Layout.{IsLayout, Layout, owners}
 use Rattle.disk_layout.specs.Side.{side_sector}
@@ -64,3 +65,17 @@ files-before a c map ps l h unowned header changes = creating-before a c l h
       | inl e ↦ ap (λ s. take 4 s ++ drop 144 s) e
       | inr e ↦ ap (λ s. take 4 s ++ drop 144 s) e ∙ ap₂ (λ x y. x ++ y) header.0 header.1
     ])
+
+-- a new directory sector, which nobody owned either
+pub changes-more : (a : Image) (map : Sector) (ps : List Place) (p : Place) (c : Image) → ChangesOnly a map ps c → ChangesOnly a map (p ∷ ps) c
+changes-more a map ps p c h = record { map = h.map; rest = λ q off out. h.rest q off (λ d. out (Contains-there q p ps d)) }
+
+pub sectors-still : (c d : Image) (map bytes : Sector) (block side fresh : Place) (L : ℕ) → length c ≡ 683 → fresh ≢ map_place → fresh ≢ block → fresh ≢ side → d ≡ put c fresh bytes → HasNewSectors map block side L c → HasNewSectors map block side L d × (sector d fresh ≡ bytes)
+sectors-still c d map bytes block side fresh L full no_map no_block no_side e has = (
+  record {
+    map = ap (λ i. sector i map_place) e ∙ sector-put_other c fresh map_place bytes no_map ∙ has.map;
+    fresh = (let P : Sector → Type 0 = IsFresh 0 L in subst P (sym (ap (λ i. sector i block) e ∙ sector-put_other c fresh block bytes no_block)) has.fresh);
+    links = ap (λ i. sector i side) e ∙ sector-put_other c fresh side bytes no_side ∙ has.links;
+  },
+  ap (λ i. sector i fresh) e ∙ sector-put_same c fresh bytes full,
+)

@@ -1,5 +1,5 @@
 -- A new file's sectors, and its entry. Our own.
-use Rattle.std.specs.Prelude.{ℕ, ◌≡◌, ◌≢◌, ◌⊎◌, ◌+◌, ◌*◌, ◌<◌, ◌≤◌, ◌∷◌, [], List, Contains, drop, length, slice_index, slice_range, take}
+use Rattle.std.specs.Prelude.{ℕ, ◌≡◌, ◌≢◌, ◌⊎◌, ◌+◌, ◌*◌, ◌<◌, ◌≤◌, ◌++◌, ◌∷◌, [], List, Contains, drop, length, slice_index, slice_range, take}
 use Rattle.d64_image.specs.Images.{Image, Sector, sector}
 use Rattle.d64_image.specs.declared.place.Place.{Place}
 use Rattle.disk_layout.specs.Blank.{rel_entry}
@@ -60,4 +60,26 @@ pub record GoesIntoSlot (old : Image) (l : Layout) (name : List ℕ) (block side
   pub on : Contains l.directory p
   pub first : IsFirstSlot p (sector old p) number
   pub entered : IsEntered (sector old p) bytes number (rel_entry name block side L 2)
+  pub few : length name ≤ 16
+
+-- a third sector that nobody owned, on track 18, is taken for the directory
+pub record IsTakenForDirectory (a : Image) (l : Layout) (new_map : Sector) (block side fresh : Place) : Type 0 where
+  pub clean : IsCleanLayout a l
+  pub no_block : ¬ (Contains (map_place ∷ owners l) block)
+  pub no_side : ¬ (Contains (map_place ∷ owners l) side)
+  pub no_fresh : ¬ (Contains (map_place ∷ owners l) fresh)
+  pub apart : side ≢ block
+  pub apart_block : fresh ≢ block
+  pub apart_side : fresh ≢ side
+  pub on_18 : fresh.track ≡ 18
+  pub header : (take 4 new_map ≡ take 4 (sector a map_place)) × (drop 144 new_map ≡ drop 144 (sector a map_place))
+  pub map : IsMapOf new_map (fresh ∷ side ∷ block ∷ map_place ∷ owners l)
+
+-- these bytes are those of the directory's last sector with a link to the fresh one, and those of that one, with the entry of
+-- a new file
+pub record GoesBehind (old : Image) (l : Layout) (name : List ℕ) (block side : Place) (L : ℕ) (fresh last : Place) (first_bytes last_bytes : Sector) : Type 0 where
+  pub front : List Place
+  pub ends : l.directory ≡ front ++ last ∷ []
+  pub linked : IsLinkedTo (sector old last) last_bytes fresh
+  pub entered : IsNewDirectory first_bytes (rel_entry name block side L 2)
   pub few : length name ≤ 16

@@ -1,6 +1,7 @@
 //! A new file's sectors, and its entry.
 ghost use Rattle.std.specs.Prelude.{◌≡◌, ◌≢◌, ◌≤◌, ◌<◌, ◌∷◌, [], List, OnOk, ℕ};
 ghost use Rattle.d64_image.specs.History.{Changes, TellsFailure};
+ghost use Rattle.d64_image.specs.Images.{sector};
 ghost use Rattle.disk_layout.specs.Directory.{map_place};
 ghost use Rattle.disk_layout.specs.Layout.{Layout};
 ghost use Rattle.rel_records.specs.Made.{HasFileMore, IsCreating};
@@ -51,6 +52,32 @@ pub(crate) fn write_in_slot<D: Sectors>(
 {
     write_sectors(disk, map, block, side, length)?;
     disk.write(place, bytes)
+}
+
+/// Writes a new file's sectors and a new directory sector: still what nobody owns.
+pub(crate) fn write_with_directory<D: Sectors>(
+    disk: &mut D,
+    map: &Bam,
+    block: Place,
+    side: Place,
+    length: u8,
+    fresh: Place,
+    bytes: &[u8; 256],
+) -> Result<(), DeviceFault>
+    requires low { 1 ≤ length }
+    requires high { length ≤ 254 }
+    requires block { block ≢ map_place }
+    requires side { side ≢ map_place }
+    requires apart { block ≢ side }
+    requires fresh { fresh ≢ map_place }
+    requires fresh_block { fresh ≢ block }
+    requires fresh_side { fresh ≢ side }
+    ensures ok { OnOk result (HasNewSectors map.now.bytes block side length (D.history.image disk.new) × (sector (D.history.image disk.new) fresh ≡ bytes.now)) }
+    ensures moments { Changes D.history disk.old disk.new 4 (ChangesOnly (D.history.image disk.old) map.now.bytes (fresh ∷ block ∷ side ∷ [])) }
+    ensures failures { TellsFailure D.history disk.old disk.new result }
+{
+    write_sectors(disk, map, block, side, length)?;
+    disk.write(fresh, bytes)
 }
 
 /// Puts the entry into a slot of a directory sector; the first slot keeps the sector's link.
