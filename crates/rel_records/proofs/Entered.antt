@@ -1,5 +1,5 @@
 -- An entry that was put into a slot of a directory sector: what the slot says, and that all others stay.
-use Rattle.std.proofs.Common.{ℕ, zero, suc, ◌≡◌, ◌≢◌, ◌<◌, ◌≤◌, ◌+◌, ◌-◌, ◌*◌, ◌⊎◌, inl, inr, true, List, [], ◌∷◌, ◌++◌, ap, arith, drop, get_or, length, refl, replicate, sym, slice_index, take, ◌∙◌}
+use Rattle.std.proofs.Common.{ℕ, zero, suc, ◌≡◌, ◌≢◌, ◌<◌, ◌≤◌, ◌+◌, ◌-◌, ◌*◌, ◌⊎◌, inl, inr, true, List, [], ◌∷◌, ◌++◌, ap, arith, drop, get_or, length, refl, replicate, sym, slice_index, ◌∙◌}
 use Rattle.std.proofs.lemmas.Bool.{cases_lt}
 use Rattle.std.proofs.lemmas.Grind.{same_number_lists}
 use Rattle.std.proofs.lemmas.List.{get_or-append_right, get_or-drop, get_or-take, length-append, length-drop, length-replicate, length-take, get_or_append_left}

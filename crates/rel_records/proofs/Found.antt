@@ -1,6 +1,6 @@
 -- A relative file found by its name: what a sound disk excludes, and what the slot says of its file.
 use Rattle.std.proofs.lemmas.Bool.{false≢true}
-use Rattle.std.proofs.Common.{[], ◌∷◌, Bool, IsTrue, List, None, ap₂, false, get_or, take, ◌++◌, Option, Some, IsSome, ap, arith, inl, inr, length, length-append, map, refl, subst, sym, ℕ, ◌+◌, ◌*◌, ◌<◌, ◌∙◌, ◌≡◌, ◌≤◌}
+use Rattle.std.proofs.Common.{[], ◌∷◌, Bool, IsTrue, List, ap₂, false, get_or, take, ◌++◌, Option, Some, IsSome, ap, arith, inl, inr, length, length-append, map, refl, subst, sym, ℕ, ◌+◌, ◌*◌, ◌<◌, ◌∙◌, ◌≡◌, ◌≤◌}
 use Rattle.std.proofs.lemmas.List.{take_more}
 use Rattle.std.proofs.lemmas.Option.{slice_get-get_or, slice_get-map, slice_get_read, slice_get_within}
 use Rattle.std.specs.Prelude.{Err, IfOk, Ok, Result, option_map, slice_get, slice_index}

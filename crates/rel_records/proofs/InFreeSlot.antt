@@ -1,5 +1,5 @@
 -- A new file whose entry goes into a free slot: its sectors are written, then the entry, by one write.
-use Rattle.std.proofs.Common.{◌≡◌, ◌≢◌, ℕ, ◌+◌, ◌*◌, ◌<◌, ◌≤◌, ◌⊎◌, inl, inr, true, false, List, [], ◌∷◌, ◌++◌, ap, arith, drop, length, refl, slice_index, subst, sym, take, ◌∙◌}
+use Rattle.std.proofs.Common.{◌≡◌, ◌≢◌, ℕ, ◌+◌, ◌≤◌, inl, inr, false, List, [], ◌∷◌, ◌++◌, ap, arith, length, slice_index, subst, sym, ◌∙◌}
 use Rattle.std.specs.Prelude.{Contains}
 use Rattle.std.proofs.lemmas.List.Elements.{Contains-append_left}
 use Rattle.d64_image.proofs.Images.{put_is_image, sector-put_other}
@@ -8,17 +8,16 @@ use Rattle.d64_image.specs.History.{Changes, HeldOnly, History, OldOr}
 use Rattle.d64_image.specs.Images.{Image, IsImage, IsSector, Sector, put, sector}
 use Rattle.d64_image.specs.declared.place.Place.{Place}
 use Rattle.disk_layout.proofs.Chains.{AgreeAt}
-use Rattle.disk_layout.proofs.Once.{Contains-cases, Contains-here, Contains-nil, Contains-there}
+use Rattle.disk_layout.proofs.Once.{Contains-cases, Contains-nil, Contains-there}
 use Rattle.disk_layout.specs.Blank.{rel_entry}
-use Rattle.disk_layout.specs.Clean.{IsCleanLayout}
 use Rattle.disk_layout.specs.Directory.{is_used, map_place, slot_in}
-use Rattle.disk_layout.specs.Layout.{IsLayout, Layout, file_owns, owners}
+use Rattle.disk_layout.specs.Layout.{Layout, file_owns, owners}
 use Rattle.disk_layout.specs.Map.{IsMapOf}
 use Rattle.disk_layout.specs.Side.{side_sector}
 use Rattle.rel_records.proofs.Entered.{IsEntry, entry-apart, entry-links, entry-used, is-entry}
 use Rattle.rel_records.proofs.InSlot.{Made, made, made-clean}
 use Rattle.rel_records.proofs.NewClean.{file-more, is-new, map-same, two-among}
-use Rattle.rel_records.proofs.NewFiles.{IsNewFile, new_file}
+use Rattle.rel_records.proofs.NewFiles.{IsNewFile}
 use Rattle.rel_records.proofs.NewWrites.{files-before}
 use Rattle.rel_records.specs.Made.{HasFileMore, HasFilesOf, IsCreating}
 use Rattle.rel_records.specs.NewFile.{ChangesOnly, GoesIntoSlot, HasNewSectors, IsEntered, IsTakenFor}

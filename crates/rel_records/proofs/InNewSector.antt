@@ -1,15 +1,14 @@
 -- A new file whose entry goes into a new directory sector: its sectors and that one are written, then the link to it.
-use Rattle.std.proofs.Common.{◌≡◌, ◌≢◌, ℕ, ◌+◌, ◌*◌, ◌<◌, ◌≤◌, ◌⊎◌, inl, inr, true, false, List, [], ◌∷◌, ◌++◌, ap, append_assoc, append-nil, arith, drop, length, refl, slice_index, subst, sym, take, ◌∙◌}
+use Rattle.std.proofs.Common.{◌≡◌, ◌≢◌, ℕ, ◌<◌, ◌≤◌, inl, inr, true, false, List, [], ◌∷◌, ◌++◌, ap, append_assoc, append-nil, arith, length, refl, slice_index, subst, sym, ◌∙◌}
 use Rattle.std.specs.Prelude.{Contains, flat_map, nat_eq, not, ◌↔◌}
 use Rattle.std.proofs.lemmas.List.Elements.{Contains-append_left, Contains-append_right}
-use Rattle.d64_image.proofs.Images.{put_is_image, sector-put_other, sector-put_same}
-use Rattle.d64_image.specs.Images.{Image, IsImage, IsSector, Sector, put, sector}
+use Rattle.d64_image.proofs.Images.{sector-put_other}
+use Rattle.d64_image.specs.Images.{Image, IsImage, Sector, put, sector}
 use Rattle.d64_image.specs.declared.place.Place.{Place}
 use Rattle.disk_layout.proofs.Chains.{AgreeAt}
 use Rattle.disk_layout.proofs.CountWrites.{slot-byte}
 use Rattle.disk_layout.proofs.LongerDirectory.{IsRelinked}
 use Rattle.disk_layout.proofs.Once.{Contains-cases, Contains-here, Contains-nil, Contains-there, insert-in, insert-out}
-use Rattle.disk_layout.specs.Blank.{rel_entry}
 use Rattle.disk_layout.specs.Chain.{EachOnce}
 use Rattle.disk_layout.specs.Directory.{is_used, map_place, slot_in}
 use Rattle.disk_layout.specs.Layout.{Layout, file_owns, owners}

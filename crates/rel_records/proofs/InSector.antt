@@ -1,21 +1,16 @@
 -- The entry stands in a new directory sector: the write that links it makes the file.
-use Rattle.std.proofs.Common.{Bool, ◌≡◌, ◌≢◌, ℕ, zero, suc, ◌+◌, ◌*◌, ◌<◌, ◌≤◌, ◌⊎◌, inl, inr, IsTrue, true, false, List, [], ◌∷◌, ◌++◌, map, length, refl, sym, ◌∙◌, ap, arith, subst, slice_index, append_assoc, append-nil, take, drop, get_or}
-use Rattle.std.specs.Prelude.{Contains, Some, flat_map, filter, slice_range, nat_eq, not}
+use Rattle.std.proofs.Common.{◌≡◌, ◌≢◌, ℕ, ◌+◌, ◌<◌, inl, inr, IsTrue, true, false, List, [], ◌∷◌, ◌++◌, map, length, refl, sym, ◌∙◌, ap, subst, slice_index, append_assoc, append-nil, take, drop, get_or}
+use Rattle.std.specs.Prelude.{Contains, flat_map}
 use Rattle.std.specs.List.{AllByRecursion}
-use Rattle.std.proofs.lemmas.Grind.{flat_map-append, same_number_lists}
 use Rattle.std.proofs.lemmas.List.{drop-drop, get_or-drop}
 use Rattle.std.proofs.lemmas.List.Elements.{Contains-append_left, Contains-append_right, Contains-append_cases}
 use Rattle.d64_image.proofs.Images.{sector-put_other, sector-put_same}
-use Rattle.d64_image.proofs.Places.{same_or_other}
 use Rattle.d64_image.specs.Images.{Image, Sector, put, sector}
 use Rattle.d64_image.specs.declared.place.Place.{Place}
-use Rattle.disk_layout.proofs.Chains.{AgreeAt, IsChain-grow, SameLinks, chain-front, chain-last, links-agree}
+use Rattle.disk_layout.proofs.Chains.{AgreeAt, IsChain-grow, chain-front, chain-last, links-agree}
 use Rattle.disk_layout.proofs.Commit.{all-join, keeps-other}
-use Rattle.disk_layout.proofs.Counts.{range-piece}
-use Rattle.disk_layout.proofs.Faces.{SameFace}
 use Rattle.disk_layout.proofs.Layouts.{KeepsFiles, get-contains, unless-same}
 use Rattle.disk_layout.proofs.Once.{Contains-cases, Contains-here, Contains-there, Contains-nil, EachOnce-apart, EachOnce-insert, flat_map-in, insert-out}
-use Rattle.disk_layout.proofs.Pieces.{length-piece, piece, piece-byte}
 use Rattle.disk_layout.proofs.LongerDirectory.{IsRelinked, slot-relinked, used_slots-relinked}
 use Rattle.disk_layout.proofs.Recount.{filter-out}
 use Rattle.disk_layout.proofs.Agree.{owned-side}
@@ -23,11 +18,10 @@ use Rattle.disk_layout.specs.Clean.{IsCleanLayout, IsExactFile}
 use Rattle.disk_layout.specs.Map.{IsMapOf}
 use Rattle.disk_layout.specs.Side.{side_sector}
 use Rattle.byteorder.specs.Endian.{little_number}
-use Rattle.disk_layout.proofs.Recounts.{filter-map, map-map, reread, reslot, slot-of}
+use Rattle.disk_layout.proofs.Recounts.{map-map, reread, reslot, slot-of}
 use Rattle.disk_layout.specs.Chain.{EachOnce, IsChain, Names}
 use Rattle.disk_layout.specs.Directory.{IsDirectory, directory_start, is_used, map_place, slot_in, slots_in, used_slots}
-use Rattle.disk_layout.specs.Layout.{File, IsFile, IsLayout, Layout, count_field, file_owns, is_rel, is_rel_type, owners, record_length}
-use Rattle.disk_layout.specs.Rest.{header_of}
+use Rattle.disk_layout.specs.Layout.{File, IsLayout, Layout, count_field, file_owns, is_rel, is_rel_type, owners, record_length}
 use Rattle.disk_layout.specs.Same.{AddsFile}
 use Rattle.disk_layout.specs.declared.slot.Slot.{Slot}
 use Rattle.rel_records.proofs.Creating.{SameEntry, created-adds, created-layout, with_new}

@@ -1,18 +1,17 @@
 -- The entry is written into a free slot of the directory: one write makes the file.
-use Rattle.std.proofs.Common.{Bool, ◌≡◌, ◌≢◌, ℕ, zero, suc, ◌+◌, ◌<◌, ◌≤◌, ◌⊎◌, inl, inr, true, false, List, [], ◌∷◌, ◌++◌, map, length, refl, sym, ◌∙◌, ap, arith, subst, slice_index, IsTrue}
-use Rattle.std.specs.Prelude.{Contains, Some, drop, flat_map, slice_range, take}
+use Rattle.std.proofs.Common.{◌≡◌, ◌≢◌, ℕ, ◌<◌, inl, inr, true, false, List, [], ◌∷◌, ◌++◌, map, length, refl, sym, ◌∙◌, ap, subst, slice_index, IsTrue}
+use Rattle.std.specs.Prelude.{Contains, drop, flat_map, slice_range, take}
 use Rattle.std.proofs.Common.{append_assoc}
 use Rattle.std.proofs.lemmas.Grind.{flat_map-append}
 use Rattle.std.proofs.lemmas.List.Elements.{Contains-append_left, Contains-append_right}
-use Rattle.std.proofs.lemmas.Bool.{cases_eq}
 use Rattle.d64_image.proofs.Images.{sector-put_other, sector-put_same}
 use Rattle.d64_image.proofs.Places.{same_or_other}
 use Rattle.d64_image.specs.Images.{Image, Sector, put, sector}
 use Rattle.d64_image.specs.declared.place.Place.{Place}
-use Rattle.disk_layout.proofs.Agree.{IsLayout-agree, owned-side}
+use Rattle.disk_layout.proofs.Agree.{owned-side}
 use Rattle.disk_layout.proofs.Chains.{AgreeAt, IsChain-frame, SameLink, SameLinks}
 use Rattle.disk_layout.proofs.Commit.{all-join, all-left, all-right, keeps-other}
-use Rattle.disk_layout.proofs.Faces.{SameFace, with_slot}
+use Rattle.disk_layout.proofs.Faces.{with_slot}
 use Rattle.disk_layout.proofs.Layouts.{KeepsFiles, get-contains, unless-same}
 use Rattle.disk_layout.proofs.Once.{Contains-here, Contains-there, EachOnce-apart, flat_map-in}
 use Rattle.disk_layout.specs.Rest.{header_of}
@@ -23,7 +22,7 @@ use Rattle.disk_layout.specs.Clean.{IsCleanLayout, IsExactFile}
 use Rattle.disk_layout.specs.Map.{IsMapOf}
 use Rattle.std.specs.List.{AllByRecursion}
 use Rattle.disk_layout.specs.Directory.{IsDirectory, directory_start, is_used, map_place, slot_in, used_slots}
-use Rattle.disk_layout.specs.Layout.{File, IsFile, IsLayout, Layout, count_field, file_owns, is_rel, owners}
+use Rattle.disk_layout.specs.Layout.{File, IsLayout, Layout, count_field, file_owns, is_rel, owners}
 use Rattle.disk_layout.specs.Same.{AddsFile}
 use Rattle.disk_layout.specs.declared.slot.Slot.{Slot}
 use Rattle.rel_records.proofs.Creating.{SameEntry, created-adds, created-layout, map-split, with_new}

@@ -1,5 +1,5 @@
 -- What makes a new file's sectors and its entry a file, and the map with them.
-use Rattle.std.proofs.Common.{◌≡◌, ℕ, ◌+◌, ◌*◌, ◌/◌, ◌<◌, ◌≤◌, ◌⊎◌, inl, inr, IsTrue, true, List, [], ◌∷◌, ◌++◌, ap, arith, length, refl, slice_index, subst, sym, ◌∙◌}
+use Rattle.std.proofs.Common.{◌≡◌, ℕ, ◌+◌, ◌*◌, ◌/◌, ◌≤◌, inl, inr, true, List, [], ◌∷◌, ◌++◌, ap, arith, refl, slice_index, subst, sym, ◌∙◌}
 use Rattle.std.specs.Prelude.{Contains, replicate, ◌↔◌}
 use Rattle.std.proofs.lemmas.List.Elements.{Contains-append_cases, Contains-append_left, Contains-append_right}
 use Rattle.d64_image.specs.Images.{Image, IsImage, Sector, sector}

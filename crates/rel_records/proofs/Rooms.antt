@@ -1,5 +1,5 @@
 -- The directory's room for an entry: slot by slot, and sector by sector.
-use Rattle.std.proofs.Common.{ℕ, suc, ◌≡◌, ◌≢◌, ◌<◌, ◌≤◌, ◌+◌, ◌*◌, ◌++◌, ◌∷◌, [], List, Some, IsTrue, true, inl, inr, ap, arith, drop, get_or, length, sym, slice_index, subst, take, ◌∙◌}
+use Rattle.std.proofs.Common.{ℕ, suc, ◌≡◌, ◌≢◌, ◌<◌, ◌+◌, ◌*◌, ◌++◌, ◌∷◌, List, Some, IsTrue, true, inl, inr, ap, arith, drop, length, sym, slice_index, subst, take, ◌∙◌}
 use Rattle.std.proofs.lemmas.Bool.{cases_eq}
 use Rattle.std.proofs.lemmas.Bool.Decides.{nat_tests}
 use Rattle.std.proofs.lemmas.List.{drop_all, get_or-take, length-take}
@@ -10,7 +10,7 @@ use Rattle.d64_image.specs.declared.place.Place.{Place}
 use Rattle.disk_layout.proofs.CountWrites.{slot-byte}
 use Rattle.disk_layout.proofs.Recount.{around}
 use Rattle.disk_layout.specs.Directory.{is_used, slot_in, type_byte}
-use Rattle.rel_records.specs.Room.{AreFullSectors, HasNoRoom, IsFirstRoom, IsFirstSlot, IsFullSector}
+use Rattle.rel_records.specs.Room.{HasNoRoom, IsFirstRoom, IsFirstSlot, IsFullSector}
 
 slot-used : (p : Place) (bytes : Sector) (k : ℕ) → slice_index bytes (32 * k + 2) ≢ 0 → IsTrue (is_used (slot_in p bytes k))
 slot-used p bytes k h =

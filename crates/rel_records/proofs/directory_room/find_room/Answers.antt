@@ -1,5 +1,5 @@
 -- Sector by sector.
-use Rattle.std.proofs.Common.{ap, arith, length, refl, sym, subst, ◌∙◌, ◌≡◌, ◌+◌, ℕ}
+use Rattle.std.proofs.Common.{ap, arith, length, refl, subst, ◌∙◌, ◌≡◌}
 use borrow.Author.Count.{below_more}
 use Rattle.std.proofs.lemmas.Option.{slice_get_read}
 use Rattle.d64_image.proofs.Moments.{no_reads, reads_then, reads_weaker}

@@ -1,6 +1,5 @@
 -- Slot by slot.
-use Rattle.std.proofs.Common.{arith, ap, subst, ◌<◌, ◌≡◌, ◌∙◌, ◌+◌, ◌*◌, ℕ, slice_index, sym}
-use Rattle.std.proofs.lemmas.Bool.{cases_eq}
+use Rattle.std.proofs.Common.{arith}
 use Rattle.rel_records.proofs.Rooms.{first-slot, full-sector, used-more}
 use Rattle.rel_records.proofs.directory_room.free_slot.Goals as goal
 

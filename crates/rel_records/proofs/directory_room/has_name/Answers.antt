@@ -1,5 +1,5 @@
 -- Entry by entry: none bears the name yet, or this one does.
-use Rattle.std.proofs.Common.{ap, arith, length, refl, subst, sym, ◌∙◌, ◌≡◌}
+use Rattle.std.proofs.Common.{arith, length, refl, subst, sym, ◌∙◌, ◌≡◌}
 use Rattle.std.specs.Prelude.{slice_range}
 use borrow.Author.Count.{below_more}
 use Rattle.std.proofs.lemmas.Bool.{false≢true}

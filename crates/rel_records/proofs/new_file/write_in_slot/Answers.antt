@@ -1,10 +1,9 @@
 -- The sectors, then the entry.
-use Rattle.std.proofs.Common.{rules, sym, subst, ap, ◌≡◌, ◌∷◌, List}
+use Rattle.std.proofs.Common.{sym, subst, ◌∷◌}
 use Rattle.std.specs.Prelude.{Contains}
 use Rattle.d64_image.specs.Images.{Image}
 use Rattle.d64_image.specs.declared.place.Place.{Place}
 use Rattle.disk_layout.proofs.Once.{Contains-here}
-use Rattle.disk_layout.specs.Directory.{map_place}
 use Rattle.disk_layout.specs.Layout.{owners}
 use Rattle.rel_records.proofs.InFreeSlot.{entry-moments, entry-more, sectors-moments}
 use Rattle.rel_records.proofs.Sided.{counted_once, ok-then}

@@ -1,5 +1,5 @@
 -- The map, the data block, the side sector.
-use Rattle.std.proofs.Common.{rules, arith, refl, sym, ◌≡◌, ◌∷◌, [], ◌+◌, ◌≤◌, List}
+use Rattle.std.proofs.Common.{arith, ◌∷◌, [], List}
 use Rattle.d64_image.proofs.Moments.{changes_weaker}
 use Rattle.d64_image.specs.declared.place.Place.{Place}
 use Rattle.disk_layout.proofs.Once.{Contains-here, Contains-there}

@@ -1,5 +1,5 @@
 -- The file's sectors, then the directory's.
-use Rattle.std.proofs.Common.{rules, arith, ◌≡◌, ◌∷◌, [], ◌+◌, ◌≤◌, List}
+use Rattle.std.proofs.Common.{arith, ◌∷◌, [], List}
 use Rattle.d64_image.proofs.Moments.{changes_weaker}
 use Rattle.d64_image.specs.declared.place.Place.{Place}
 use Rattle.disk_layout.proofs.Once.{Contains-here}
