@@ -10,7 +10,7 @@ use Rattle.d64_image.specs.declared.place.Place.{Place}
 use Rattle.disk_layout.proofs.CountWrites.{slot-byte}
 use Rattle.disk_layout.proofs.Recount.{around}
 use Rattle.disk_layout.specs.Directory.{is_used, slot_in, type_byte}
-use Rattle.rel_records.specs.Room.{HasNoRoom, IsFirstRoom, IsFirstSlot, IsFullSector}
+use Rattle.rel_records.specs.Room.{IsFullDirectory, IsFirstRoom, IsFirstSlot, IsFullSector}
 
 slot-used : (p : Place) (bytes : Sector) (k : ℕ) → slice_index bytes (32 * k + 2) ≢ 0 → IsTrue (is_used (slot_in p bytes k))
 slot-used p bytes k h =
@@ -59,7 +59,7 @@ first-room img ps n p bytes k at full read first = record {
 }
 
 -- all are
-pub no-room : (img : Image) (ps : List Place) (n : ℕ) (p : Place) → n + 1 ≡ length ps → slice_get ps n ≡ Some p → AreFullTo img ps (length ps) → HasNoRoom img ps p
+pub no-room : (img : Image) (ps : List Place) (n : ℕ) (p : Place) → n + 1 ≡ length ps → slice_get ps n ≡ Some p → AreFullTo img ps (length ps) → IsFullDirectory img ps p
 no-room img ps n p last at full = record {
   front = take n ps;
   split = around ps n p at ∙ ap (λ xs. take n ps ++ p ∷ xs) (drop_all (suc n) ps (omega (arith, last)));

@@ -4,7 +4,7 @@ ghost use Rattle.d64_image.specs.History.{OnlyReads, TellsFailure};
 ghost use Rattle.d64_image.specs.Images.{sector};
 ghost use Rattle.d64_image.specs.declared.place.Place.{Place};
 ghost use Rattle.disk_layout.specs.declared.slot.Slot.{Slot};
-ghost use Rattle.rel_records.specs.Room.{HasNoRoom, IsFirstRoom, IsFirstSlot, IsFullSector};
+ghost use Rattle.rel_records.specs.Room.{IsFullDirectory, IsFirstRoom, IsFirstSlot, IsFullSector};
 
 use d64_image::{DeviceFault, Place, Sectors};
 use disk_layout::Slot;
@@ -34,7 +34,7 @@ fn free_slot(bytes: &[u8; 256]) -> Option<u8>
 pub(crate) fn find_room<D: Sectors>(disk: &mut D, places: &[Place]) -> Result<Room, DeviceFault>
     requires { 1 ≤ length places.now }
     ensures bytes { IfOk result (λ room. room.bytes ≡ sector (D.history.image disk.old) room.place) }
-    ensures ok { IfOk result (λ room. MatchOption room.number (HasNoRoom (D.history.image disk.old) places.now room.place) (IsFirstRoom (D.history.image disk.old) places.now room.place)) }
+    ensures ok { IfOk result (λ room. MatchOption room.number (IsFullDirectory (D.history.image disk.old) places.now room.place) (IsFirstRoom (D.history.image disk.old) places.now room.place)) }
     ensures reads { OnlyReads D.history disk.old disk.new (length places.now) }
     ensures failures { TellsFailure D.history disk.old disk.new result }
 {
