@@ -3,6 +3,9 @@
 
 mod access;
 mod counting;
+mod creation;
+#[cfg(test)]
+mod creation_tests;
 mod directory_room;
 mod faults;
 mod filling;
@@ -25,6 +28,7 @@ mod tests;
 mod writing;
 
 pub use counting::records;
+pub use creation::create;
 pub use faults::RelFault;
 pub use finding::find;
 pub use growth::grow_to;
