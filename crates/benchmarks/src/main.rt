@@ -3,6 +3,7 @@
 #![tactic(auto)]
 
 mod checks;
+mod records;
 mod sectors;
 
 use checks::count_clean;
@@ -50,12 +51,46 @@ fn time_checks(rt: &HostRuntime, rounds: u64, path: Option<String>) -> Done {
     Ok(count_clean(&mut disk, rounds))
 }
 
+/// A checksum of the bytes: each sum 31 times the one before and the byte, without what is above 64 bits.
+fn checksum(bytes: &[u8]) -> u64 {
+    let mut sum = 0u64;
+    for &byte in bytes {
+        sum = sum.wrapping_mul(31).wrapping_add(u64::from(byte));
+    }
+    sum
+}
+
+/// `growth`: STOCK grows from one block until the disk is full, so many times over; gives a checksum of the image.
+fn time_growth(rt: &HostRuntime, rounds: u64) -> Done {
+    let mut disk = MemDisk::zeroed(rt.alloc()).map_err(|_| "no memory")?;
+    for _round in 0..rounds {
+        records::grow_stock(&mut disk).map_err(|_| "STOCK can't grow")?;
+    }
+    Ok(checksum(disk.bytes()))
+}
+
+/// `reads`: so many records of a full disk are read, where each holds what was written; gives a checksum of bytes read.
+fn time_reads(rt: &HostRuntime, rounds: u64) -> Done {
+    let mut disk = MemDisk::zeroed(rt.alloc()).map_err(|_| "no memory")?;
+    records::read_full(&mut disk, rounds).map_err(|_| "the records aren't read")
+}
+
+/// `writes`: so many records of a full disk are written; gives a checksum of the image.
+fn time_writes(rt: &HostRuntime, rounds: u64) -> Done {
+    let mut disk = MemDisk::zeroed(rt.alloc()).map_err(|_| "no memory")?;
+    records::write_full(&mut disk, rounds).map_err(|_| "the records aren't written")?;
+    Ok(checksum(disk.bytes()))
+}
+
 /// The benchmark of a word. Err also where there is no such word.
 fn timed(rt: &HostRuntime, word: &str, rounds: u64, path: Option<String>) -> Done {
     match word {
         "sectors" => time_sectors(rt, rounds),
         "check" => time_checks(rt, rounds, path),
-        _ => Err("the words are sectors, check"),
+        "growth" => time_growth(rt, rounds),
+        "reads" => time_reads(rt, rounds),
+        "writes" => time_writes(rt, rounds),
+        _ => Err("the words are sectors, check, growth, reads, writes"),
     }
 }
 
@@ -68,7 +103,7 @@ fn main(rt: HostRuntime) -> io::Result<ExitCode> {
         return Ok(ExitCode::from(2));
     };
     let Some(word) = word else {
-        for word in ["sectors", "check"] {
+        for word in ["sectors", "check", "growth", "reads", "writes"] {
             match timed(&rt, word, rounds, None) {
                 Ok(number) => println!(rt; "{word} {number}")?,
                 Err(what) => println!(rt; "{word} {what}")?,

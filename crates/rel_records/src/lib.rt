@@ -12,8 +12,6 @@ mod filling;
 mod finding;
 mod gathering;
 mod growth;
-#[cfg(test)]
-mod growth_tests;
 mod lookup;
 mod new_file;
 mod next_block;
@@ -23,8 +21,6 @@ mod rel_file;
 mod sizes;
 mod step_parts;
 mod steps;
-#[cfg(test)]
-mod tests;
 mod writing;
 
 pub use counting::records;
