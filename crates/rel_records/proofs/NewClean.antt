@@ -1,6 +1,6 @@
 -- What makes a new file's sectors and its entry a file, and the map with them.
 use Rattle.std.proofs.Common.{◌≡◌, ℕ, ◌+◌, ◌*◌, ◌/◌, ◌≤◌, inl, inr, true, List, [], ◌∷◌, ◌++◌, ap, arith, refl, slice_index, subst, sym, ◌∙◌}
-use Rattle.std.specs.Prelude.{Contains, replicate, ◌↔◌}
+use Rattle.std.specs.Prelude.{Contains, Some, replicate, slice_get, ◌↔◌}
 use Rattle.std.proofs.lemmas.List.Elements.{Contains-append_cases, Contains-append_left, Contains-append_right}
 use Rattle.d64_image.specs.Images.{Image, IsImage, Sector, sector}
 use Rattle.d64_image.specs.declared.place.Place.{Place}
@@ -18,8 +18,10 @@ use Rattle.rel_records.proofs.Entered.{IsEntry}
 use Rattle.rel_records.proofs.Fulls.{full-inside}
 use Rattle.rel_records.proofs.NewFiles.{IsNewFile, new-records, new_file}
 use Rattle.rel_records.specs.Growth.{full}
-use Rattle.rel_records.specs.Made.{HasFileMore}
+use Rattle.rel_records.specs.Made.{IsNewSlot}
 use Rattle.rel_records.specs.Next.{IsFresh}
+use Rattle.rel_records.specs.Site.{HasFileAt}
+use Rattle.rel_records.specs.declared.site.Site.{Site}
 
 module _ (b : Image) (s : Slot) (name : List ℕ) (block side : Place) (L : ℕ) (e : IsEntry s name block side L) (fresh : IsFresh 0 L (sector b block)) (links : sector b side ≡ side_sector 0 (block ∷ []) (side ∷ []) L) (low : 1 ≤ L) (high : L ≤ 254) where
   pub is-new : IsNewFile b s block side (slice_index (sector b block) 1)
@@ -44,16 +46,27 @@ module _ (b : Image) (s : Slot) (name : List ℕ) (block side : Place) (L : ℕ)
       (λ j lt. here.filled j lt ∙ ap (filler (record_length s) (full (record_length s) 1)) (let z : 254 * 0 + j ≡ j = omega arith in z))
       ∙ ap (λ k. replicate (254 / k) (empty_record k)) e.size
 
-  pub file-more : (a : Image) (l m : Layout) → IsImage b → IsCleanLayout b m → AddsFile a b l m (new_file s block side (slice_index (sector b block) 1)) → HasFileMore a l name L b
-  file-more a l m w clean adds = record {
-    layout = m;
-    clean = clean;
-    file = new_file s block side (slice_index (sector b block) 1);
-    adds = adds;
-    named = (rel-here, e.named);
-    size = e.size;
-    one = refl;
-    records_are = empty-records w;
+  -- one file more, as it was chosen
+  pub file-more : (a : Image) (l m : Layout) (st : Site) (p : Place) → IsImage b → IsCleanLayout b m → AddsFile a b l m (new_file s block side (slice_index (sector b block) 1)) → IsNewSlot a l m s
+      → slice_get m.files st.entry ≡ Some (new_file s block side (slice_index (sector b block) 1)) → s.sector ≡ p → s.number ≡ st.number → side ≡ st.side → HasFileAt a l name L st p b
+  file-more a l m st p w clean adds slot there at number owns = record {
+    more = record {
+      layout = m;
+      clean = clean;
+      file = new_file s block side (slice_index (sector b block) 1);
+      adds = adds;
+      slot = slot;
+      kind = e.kind;
+      named = (rel-here, e.named);
+      size = e.size;
+      one = refl;
+      records_are = empty-records w;
+    };
+    there = there;
+    sector = at;
+    number = number;
+    sides = ap (λ q. q ∷ []) owns;
+    last = omega (arith, fresh.index);
   }
     where
       rel-here : is_rel s ≡ true

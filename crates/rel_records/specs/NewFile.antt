@@ -2,7 +2,6 @@
 use Rattle.std.specs.Prelude.{ℕ, ◌≡◌, ◌≢◌, ◌⊎◌, ◌+◌, ◌*◌, ◌<◌, ◌≤◌, ◌++◌, ◌∷◌, [], List, Contains, drop, length, slice_index, slice_range, take}
 use Rattle.d64_image.specs.Images.{Image, Sector, sector}
 use Rattle.d64_image.specs.declared.place.Place.{Place}
-use Rattle.disk_layout.specs.Blank.{rel_entry}
 use Rattle.disk_layout.specs.Chain.{Names}
 use Rattle.disk_layout.specs.Clean.{IsCleanLayout}
 use Rattle.disk_layout.specs.Directory.{map_place}
@@ -10,7 +9,6 @@ use Rattle.disk_layout.specs.Layout.{Layout, owners}
 use Rattle.disk_layout.specs.Map.{IsMapOf}
 use Rattle.disk_layout.specs.Side.{side_sector}
 use Rattle.rel_records.specs.Next.{IsFresh}
-use Rattle.rel_records.specs.Room.{IsFirstSlot}
 
 -- the map is as it was or the new one, and of the other sectors only these may differ
 pub record ChangesOnly (old : Image) (new_map : Sector) (ps : List Place) (c : Image) : Type 0 where
@@ -54,14 +52,6 @@ pub record IsTakenFor (a : Image) (l : Layout) (new_map : Sector) (block side : 
   pub header : (take 4 new_map ≡ take 4 (sector a map_place)) × (drop 144 new_map ≡ drop 144 (sector a map_place))
   pub map : IsMapOf new_map (side ∷ block ∷ map_place ∷ owners l)
 
--- these bytes are those of a directory sector with the entry of a new file in its first free slot
-pub record GoesIntoSlot (old : Image) (l : Layout) (name : List ℕ) (block side : Place) (L : ℕ) (p : Place) (bytes : Sector) : Type 0 where
-  pub number : ℕ
-  pub on : Contains l.directory p
-  pub first : IsFirstSlot p (sector old p) number
-  pub entered : IsEntered (sector old p) bytes number (rel_entry name block side L 2)
-  pub few : length name ≤ 16
-
 -- a third sector that nobody owned, on track 18, is taken for the directory
 pub record IsTakenForDirectory (a : Image) (l : Layout) (new_map : Sector) (block side fresh : Place) : Type 0 where
   pub clean : IsCleanLayout a l
@@ -74,12 +64,3 @@ pub record IsTakenForDirectory (a : Image) (l : Layout) (new_map : Sector) (bloc
   pub on_18 : fresh.track ≡ 18
   pub header : (take 4 new_map ≡ take 4 (sector a map_place)) × (drop 144 new_map ≡ drop 144 (sector a map_place))
   pub map : IsMapOf new_map (fresh ∷ side ∷ block ∷ map_place ∷ owners l)
-
--- these bytes are those of the directory's last sector with a link to the fresh one, and those of that one, with the entry of
--- a new file
-pub record GoesBehind (old : Image) (l : Layout) (name : List ℕ) (block side : Place) (L : ℕ) (fresh last : Place) (first_bytes last_bytes : Sector) : Type 0 where
-  pub front : List Place
-  pub ends : l.directory ≡ front ++ last ∷ []
-  pub linked : IsLinkedTo (sector old last) last_bytes fresh
-  pub entered : IsNewDirectory first_bytes (rel_entry name block side L 2)
-  pub few : length name ≤ 16

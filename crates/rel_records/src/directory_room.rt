@@ -1,5 +1,5 @@
 //! The directory's room for a new entry.
-ghost use Rattle.std.specs.Prelude.{◌≡◌, ◌≤◌, ◌+◌, ◌++◌, ◌∷◌, [], ◌↔◌, Contains, IfOk, IsTrue, List, MatchOption, length, slice_range};
+ghost use Rattle.std.specs.Prelude.{◌≡◌, ◌≤◌, ◌+◌, ◌++◌, ◌∷◌, [], ◌↔◌, Contains, IfOk, IsTrue, List, MatchOption, Some, length, slice_get, slice_range};
 ghost use Rattle.d64_image.specs.History.{OnlyReads, TellsFailure};
 ghost use Rattle.d64_image.specs.Images.{sector};
 ghost use Rattle.d64_image.specs.declared.place.Place.{Place};
@@ -10,11 +10,13 @@ use d64_image::{DeviceFault, Place, Sectors};
 use disk_layout::Slot;
 
 /// Where a new entry goes: the number of the first free slot of the directory, or None where all are used; and the
-/// directory sector that is written last for it, with its bytes: the one of that slot, or the directory's last.
+/// directory sector that is written last for it, with its bytes and how many sectors stand before it: the one of that slot,
+/// or the directory's last.
 #[derive(Drop)]
 pub(crate) struct Room {
     pub(crate) place: Place,
     pub(crate) bytes: [u8; 256],
+    pub(crate) before: usize,
     pub(crate) number: Option<u8>,
 }
 
@@ -30,28 +32,32 @@ fn free_slot(bytes: &[u8; 256]) -> Option<u8>
     None
 }
 
-/// The first free slot of these directory sectors, in order.
+/// The first free slot of these directory sectors, in order, of which there is one at least.
 pub(crate) fn find_room<D: Sectors>(disk: &mut D, places: &[Place]) -> Result<Room, DeviceFault>
     requires { 1 ≤ length places.now }
     ensures bytes { IfOk result (λ room. room.bytes ≡ sector (D.history.image disk.old) room.place) }
     ensures ok { IfOk result (λ room. MatchOption room.number (IsFullDirectory (D.history.image disk.old) places.now room.place) (IsFirstRoom (D.history.image disk.old) places.now room.place)) }
+    ensures before { IfOk result (λ room. slice_get places.now room.before ≡ Some room.place) }
     ensures reads { OnlyReads D.history disk.old disk.new (length places.now) }
     ensures failures { TellsFailure D.history disk.old disk.new result }
 {
     let mut bytes = [0; 256];
-    for &place in places {
+    for (before, &place) in places.iter().enumerate() {
         disk.read(place, &mut bytes)?;
         if let Some(number) = free_slot(&bytes) {
             return Ok(Room {
                 place,
                 bytes,
+                before,
                 number: Some(number),
             });
         }
     }
+    let before = places.len() - 1;
     Ok(Room {
-        place: places[places.len() - 1],
+        place: places[before],
         bytes,
+        before,
         number: None,
     })
 }

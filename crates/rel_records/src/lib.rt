@@ -18,6 +18,7 @@ mod next_block;
 mod parts;
 mod reading;
 mod rel_file;
+mod site;
 mod sizes;
 mod step_parts;
 mod steps;

@@ -25,7 +25,7 @@ returns-in_err-write-2-clause-moments g c =
 pub returns-clause-ok : goal.returns-clause-ok
 returns-clause-ok g c =
     let S = g.D.Sectors.history in
-    ok-then c.write-3.result _ _ (new-sectors (S.image c.args.disk.now) (S.image c.write.new.self) (S.image c.write-2.new.self) (S.image c.write-3.new.self) c.args.map.now.bytes c.fresh_block.result c.side_bytes.result c.map_place.result c.args.block c.args.side c.args.length
+    ok-then c.write-3.result _ _ (new-sectors (S.image c.args.disk.now) (S.image c.write.new.self) (S.image c.write-2.new.self) (S.image c.write-3.new.self) c.args.map.now.bytes c.fresh_block.result c.side_bytes.result c.map_place.result c.args.block c.args.side c.args.size
     (S.whole c.args.disk.now).size (S.whole c.write.new.self).size (S.whole c.write-2.new.self).size c.map_place.ensures c.requires.block c.requires.side c.requires.apart c.in_ok-write.ensures.ok c.in_ok-write-2.ensures.ok c.fresh_block.ensures c.side_bytes.ensures)
     c.write-3.ensures.ok
 

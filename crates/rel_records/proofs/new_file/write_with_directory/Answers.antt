@@ -15,7 +15,7 @@ returns-in_err-write_sectors-clause-moments g c =
 pub returns-clause-ok : goal.returns-clause-ok
 returns-clause-ok g c =
     let S = g.D.Sectors.history in
-    ok-then c.write.result _ _ (λ done. sectors-still (S.image c.write_sectors.new.disk) (S.image c.write.new.self) c.args.map.now.bytes c.args.bytes.now c.args.block c.args.side c.args.fresh c.args.length
+    ok-then c.write.result _ _ (λ done. sectors-still (S.image c.write_sectors.new.disk) (S.image c.write.new.self) c.args.map.now.bytes c.args.bytes.now c.args.block c.args.side c.args.fresh c.args.size
     (S.whole c.write_sectors.new.disk).size c.requires.fresh c.requires.fresh_block c.requires.fresh_side done c.in_ok-write_sectors.ensures.ok)
     c.write.ensures.ok
 
