@@ -1,6 +1,6 @@
 //! Creation of a relative file.
 ghost use Rattle.std.specs.Prelude.{◌≡◌, ◌≢◌, ◌≤◌, ◌⊎◌, ◌*◌, ◌+◌, IfErr, IfOk, MatchOption, OnOk, length};
-ghost use Rattle.d64_image.specs.History.{Changes, OnlyReads};
+ghost use Rattle.d64_image.specs.History.{Changes, OnlyReads, WritesNothing};
 ghost use Rattle.d64_image.specs.Images.{Image, sector};
 ghost use Rattle.disk_layout.specs.Clean.{IsClean, IsCleanLayout};
 ghost use Rattle.disk_layout.specs.Directory.{map_place};
@@ -69,7 +69,8 @@ fn choose_site<D: Sectors>(disk: &mut D, name: &[u8]) -> Result<Site, RelFault>
     ensures full { (l : Layout) → IsLayout (D.history.image disk.old) l → IfErr result (λ fault. fault ≡ Full → HasNoRoom (D.history.image disk.old) l × ¬ (IsTakenName l name.now)) }
     ensures fits { (l : Layout) → IsLayout (D.history.image disk.old) l → OnOk result (¬ (HasNoRoom (D.history.image disk.old) l) × ¬ (IsTakenName l name.now)) }
     ensures told { IfErr result (λ fault. (fault ≡ Exists) ⊎ ((fault ≡ Full) ⊎ (fault ≡ Device))) }
-    ensures reads { OnlyReads D.history disk.old disk.new 55 }
+    ensures refused { IfErr result (λ fault. fault ≢ Device → OnlyReads D.history disk.old disk.new 55) }
+    ensures quiet { WritesNothing D.history disk.old disk.new }
     ensures failures { TellsRelFault D.history disk.old disk.new result }
 {
     let mut used = ArrayVec::new();
@@ -81,15 +82,20 @@ fn choose_site<D: Sectors>(disk: &mut D, name: &[u8]) -> Result<Site, RelFault>
     let Ok(map) = Bam::read(disk) else {
         return Err(RelFault::Device);
     };
-    take_site(map, room).ok_or(RelFault::Full)
+    let Some(site) = take_site(map, room) else {
+        return Err(RelFault::Full);
+    };
+    Ok(site)
 }
 
-/// Where the directory of a clean disk has room for an entry.
+/// Where the directory of a sound disk has room for an entry.
 fn read_room<D: Sectors>(disk: &mut D) -> Result<Room, RelFault>
     requires sound { IsSound (D.history.image disk.old) }
     ensures ok { (l : Layout) → IsLayout (D.history.image disk.old) l → IfOk result (IsRoomOf (D.history.image disk.old) l) }
     ensures err { IfErr result (λ fault. fault ≡ Device) }
-    ensures reads { OnlyReads D.history disk.old disk.new 36 }
+    // twice the eighteen sectors of the directory
+    ensures reads { OnOk result (OnlyReads D.history disk.old disk.new 36) }
+    ensures quiet { WritesNothing D.history disk.old disk.new }
     ensures failures { TellsRelFault D.history disk.old disk.new result }
 {
     let mut places = ArrayVec::new();
@@ -102,8 +108,8 @@ fn read_room<D: Sectors>(disk: &mut D) -> Result<Room, RelFault>
     Ok(room)
 }
 
-/// Takes a new file's sectors in the map: two for the file, and where the directory is full a third for it. None where they
-/// aren't free.
+/// Takes a new file's sectors in the map of a clean disk: two for the file, and where the directory is full a third for that.
+/// None where they aren't free.
 fn take_site(mut map: Bam, room: Room) -> Option<Site>
     requires of { (img : Image) × (l : Layout) × IsCleanLayout img l × (map.bytes ≡ sector img map_place) × IsRoomOf img l room }
     ensures { (img : Image) → (l : Layout) → IsCleanLayout img l → map.bytes ≡ sector img map_place → IsRoomOf img l room → MatchOption result (HasNoRoom img l) (λ site. IsSite img l site × ¬ (HasNoRoom img l)) }
@@ -131,7 +137,9 @@ fn take_site(mut map: Bam, room: Room) -> Option<Site>
             entry: 8 * before + number as usize,
         }),
         None => {
-            let fresh = map.pick_directory()?;
+            let Some(fresh) = map.pick_directory() else {
+                return None;
+            };
             map.take(fresh);
             Some(Site {
                 map,
