@@ -1,7 +1,8 @@
 //! What the program can be asked to do, and why words ask for nothing.
 ghost use Rattle.std.specs.Prelude.{◌≡◌};
-ghost use Rattle.ledger_cli.specs.Faults.{job_number};
+ghost use Rattle.ledger_cli.specs.Faults.{job_number, job_status};
 
+use clap::error::ErrorKind;
 use thiserror::Error;
 
 /// What the words of a command line ask for.
@@ -49,6 +50,20 @@ impl JobFault {
     {
         match self {
             JobFault::Words(_) => 1,
+            JobFault::Tills => 2,
+        }
+    }
+
+    /// The exit status: 3 for want of memory, 0 where help or the version is asked for, else 2.
+    pub fn status(&self) -> u8
+        ensures { result ≡ job_status self.now }
+    {
+        match self {
+            JobFault::Words(error) => match error.kind() {
+                ErrorKind::OutOfMemory => 3,
+                ErrorKind::DisplayHelp | ErrorKind::DisplayVersion => 0,
+                _ => 2,
+            },
             JobFault::Tills => 2,
         }
     }

@@ -10,7 +10,6 @@ mod words;
 
 ghost use Rattle.ledger_cli.specs.Jobs.{HasTills};
 
-use clap::error::ErrorKind;
 use jobs::{Job, JobFault};
 pub use ledger_commands::dry;
 use ledger_commands::{OpensFile, Replaced, RunFault, read_image, read_script};
@@ -44,19 +43,19 @@ fn refuse_io(rt: &HostRuntime, error: &io::Error) -> u8 {
 
 /// Tells why the words ask for nothing, or gives the help that they ask for.
 fn refuse_words(rt: &HostRuntime, fault: &JobFault) -> u8 {
-    match fault {
-        JobFault::Words(error) if error.kind() == ErrorKind::OutOfMemory => {
-            refuse(rt, RunFault::NoMemory)
+    let status = fault.status();
+    let told = match fault {
+        // For want of memory there may be no text.
+        JobFault::Words(_) if status == RunFault::NoMemory.status() => {
+            eprintln!(rt; "{}", RunFault::NoMemory)
         }
-        JobFault::Tills => {
-            let _ = rt.eprintln("TILLS");
-            WORDS
-        }
-        JobFault::Words(error) => match error.print(rt) {
-            Err(failed) if !error.use_stderr() => refuse_io(rt, &failed),
-            _ if error.use_stderr() => WORDS,
-            _ => 0,
-        },
+        JobFault::Words(error) => error.print(rt),
+        JobFault::Tills => rt.eprintln("TILLS"),
+    };
+    match told {
+        // Help that can't be printed is an output that failed.
+        Err(error) if status == 0 => refuse_io(rt, &error),
+        _ => status,
     }
 }
 

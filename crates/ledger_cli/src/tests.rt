@@ -146,7 +146,7 @@ fn words_ask_for_a_job(rt: HostRuntime) -> Result<(), Fail> {
         assert_eq!(rt; job(rt.alloc(), words)?, wanted);
     }
     // Words, and the status that they end with.
-    let refused: [(&[&str], i32); 11] = [
+    let refused: [(&[&str], u8); 11] = [
         (&["ledger"], 2),
         (&["ledger", "dry"], 2),
         (&["ledger", "wet", "a.txt"], 2),
@@ -161,8 +161,8 @@ fn words_ask_for_a_job(rt: HostRuntime) -> Result<(), Fail> {
     ];
     for (words, status) in refused {
         match job(rt.alloc(), words) {
-            Err(JobFault::Words(error)) => assert_eq!(rt; error.exit_code(), status, "{words:?}"),
-            _ => assert!(rt; false, "{words:?}"),
+            Err(fault) => assert_eq!(rt; fault.status(), status, "{words:?}"),
+            Ok(_) => assert!(rt; false, "{words:?}"),
         }
     }
     Ok(())
@@ -173,7 +173,7 @@ fn tills_are_one_to_sixty_four(rt: HostRuntime) -> Result<(), Fail> {
     for tills in ["0", "65", "01", "x", "", "1 ", "+1", "256", "4294967297"] {
         let words = ["ledger", "format", "a.d64", "--tills", tills];
         match job(rt.alloc(), &words) {
-            Err(fault) => assert_eq!(rt; fault.number(), 2, "{tills:?}"),
+            Err(fault) => assert_eq!(rt; (fault.number(), fault.status()), (2, 2), "{tills:?}"),
             Ok(_) => assert!(rt; false, "{tills:?}"),
         }
     }

@@ -1,0 +1,14 @@
+pub mod Finds
+pub mod Given
+pub mod Kept
+pub mod Lengths
+pub mod Moves
+pub mod Openings
+pub mod Opens
+pub mod Orders
+pub mod Refusals
+pub mod Rows
+pub mod Steady
+pub mod Wishes
+pub mod Writes
+pub mod Written

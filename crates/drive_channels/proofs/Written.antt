@@ -1,0 +1,125 @@
+-- A write to the channel of a number, and what is known of the files behind it.
+use Rattle.std.proofs.Common.{ℕ, ◌≡◌, ◌≢◌, inl, inr, List, [], ◌∷◌, append-nil, arith, Option, None, Some, IfSome, Result, OnErr, Ok, Err, sym, ◌∙◌, subst, refl}
+use Rattle.std.proofs.lemmas.Option.{same_Some, none-some}
+use Rattle.d64_image.proofs.Moments.{changes_weaker, no_change}
+use Rattle.d64_image.specs.History.{Changes, History}
+use Rattle.d64_image.specs.Images.{Image}
+use Rattle.disk_layout.specs.Layout.{File, Layout}
+use Rattle.disk_layout.specs.Records.{records}
+use Rattle.rel_records.specs.File.{entry_of}
+use Rattle.rel_records.specs.Others.{HasRecords, KeepsPlaces}
+use Rattle.rel_records.specs.Written.{IsGrowingTo}
+use Rattle.drive_channels.specs.Files.{IsRelAt}
+use Rattle.drive_channels.specs.Inside.{IsFound, IsKnown, IsSpot, KeepsFound, Remembers, at_spot, channel_at, channel_of, shown}
+use Rattle.drive_channels.specs.Moments.{IsOnTheWay, IsWrittenAt, IsWrittenOn}
+use Rattle.drive_channels.specs.State.{Channel, View}
+use Rattle.drive_channels.specs.Tables.{HasOn, InFile, Writes, WritesIn}
+use Rattle.drive_channels.specs.declared.found.Found.{Found}
+use Rattle.drive_channels.specs.declared.found.Opened.{Opened}
+use Rattle.drive_channels.specs.declared.found.Spot.{Spot}
+use Rattle.drive_channels.specs.declared.known.Known.{Known}
+use Rattle.drive_channels.specs.declared.status.Status.{Status}
+
+-- a write to the open channel
+pub write-on : (img : Image) (e : Found) (s : Spot) (channel : ℕ) (known : Known) (text : List ℕ) (status : Status) (y : View)
+    → known.last ≡ Some (record { found = e; spot = Some s }) → s.channel ≡ channel
+    → InFile (at_spot img e s status known.checked) (WritesIn (at_spot img e s status known.checked) text y)
+    → Writes (shown img known status) channel text y
+write-on img e s channel known text status y is on row =
+    subst (λ (o : Option Opened). Writes (record { image = img; channel = channel_of o; status = status; checked = known.checked }) channel text y) (sym is)
+    (inr ((λ no. no (channel_at (entry_of e.file) s, (refl, on))), row))
+
+module _ {D T E : Type 0} (S : History D) (number : ℕ) (text : List ℕ) (result : Result T E) where
+  -- its moments
+  pub written-on : (old new : D) (e : Found) (s : Spot) (last : Option Opened) → last ≡ Some (record { found = e; spot = Some s }) → s.channel ≡ number
+      → ((l : Layout) (f : File) → IsRelAt (S.image old) l (entry_of e.file) f → IsWrittenAt S old new (channel_at (entry_of e.file) s) l f text result)
+      → IsWrittenOn S old new (channel_of last) number text result
+  written-on old new e s last is on at = subst (λ (o : Option Opened). IsWrittenOn S old new (channel_of o) number text result) (sym is) (record {
+    silent = λ no. absurd (no (channel_at (entry_of e.file) s, (refl, on)));
+    at = λ c l f h rel. subst (λ (c : Channel). IsRelAt (S.image old) l c.entry f → IsWrittenAt S old new c l f text result) (same_Some _ _ h.0) (at l f) rel;
+  })
+
+  -- and where the channel isn't open
+  pub not-written : (d : D) (open_one : Option Channel) → ¬ (HasOn open_one number) → IsWrittenOn S d d open_one number text result
+  not-written d open_one closed = record { silent = λ _. refl; at = λ c l f on rel. absurd (closed (c, on)) }
+
+-- a write that is done has counted what it may
+pub ok-at : {D T V E : Type 0} (S : History D) (old new : D) (c : Channel) (l : Layout) (f : File) (text : List ℕ) (x : T) (y : V)
+    → IsWrittenAt {E = E} S old new c l f text (Ok x) → IsWrittenAt {E = E} S old new c l f text (Ok y)
+ok-at S old new c l f text x y h = record { moments = h.moments; uncounted = λ _ _. tt }
+
+-- what one that failed says, any answer may
+pub any-at : {D T V E : Type 0} (S : History D) (old new : D) (c : Channel) (l : Layout) (f : File) (text : List ℕ) (e : E) (result : Result V E)
+    → IsWrittenAt {T = T} S old new c l f text (Err e) → IsWrittenAt {T = V} S old new c l f text result
+any-at S old new c l f text e result h = record { moments = h.moments; uncounted = λ le one. on-any result (h.uncounted le one) }
+  where
+    on-any : {V E P : Type 0} (r : Result V E) → P → OnErr r P
+    on-any (Ok x) p = tt
+    on-any (Err x) p = p
+
+-- another channel is open, or none
+pub other-open : (e : Found) (s : Spot) (last : Option Opened) (number : ℕ) → last ≡ Some (record { found = e; spot = Some s }) → s.channel ≢ number → ¬ (HasOn (channel_of last) number)
+other-open e s last number is other = subst (λ (o : Option Opened). ¬ (HasOn (channel_of o) number)) (sym is) (λ h. other (away h.0 h.1))
+  where
+    away : (c : Channel) → (Some (channel_at (entry_of e.file) s) ≡ Some c) × (c.number ≡ number) → s.channel ≡ number
+    away c (same, on) = subst (λ (c : Channel). c.number ≡ number) (sym (same_Some _ _ same)) on
+
+pub none-open : (e : Found) (last : Option Opened) (number : ℕ) → last ≡ Some (record { found = e; spot = None }) → ¬ (HasOn (channel_of last) number)
+none-open e last number is = subst (λ (o : Option Opened). ¬ (HasOn (channel_of o) number)) (sym is) (λ h. none-some h.0 h.1.0)
+
+pub no-file : (last : Option Opened) (number : ℕ) → last ≡ None → ¬ (HasOn (channel_of last) number)
+no-file last number is = subst (λ (o : Option Opened). ¬ (HasOn (channel_of o) number)) (sym is) (λ h. none-some h.0 h.1.0)
+
+-- what is known after a write to the file that was opened last
+pub known-written : (old new : Image) (k : Known) (o : Opened) (e : Found) (s : Spot) → k.last ≡ Some o → IsKnown old k → KeepsFound old new o.found e → IsSpot e s
+    → IsKnown new (record { last = Some (record { found = e; spot = Some s }); before = k.before; checked = k.checked })
+known-written old new k o e s is known keeps spot = record {
+  fresh = λ no. absurd (none-some o (sym (known.fresh no).0 ∙ is));
+  remembered = λ checked. let m = known.remembered checked in record {
+    clean = keeps.clean;
+    last_found = keeps.found;
+    spot = spot;
+    before_found = others k.before m.before_found (beside m);
+    apart = still k.before (beside m);
+  };
+}
+  where
+    Apart : Option Found → Type 0
+    Apart before = IfSome before (λ e. entry_of e.file ≢ entry_of o.found.file)
+
+    beside : Remembers old k.last k.before → Apart k.before
+    beside m = subst (λ (last : Option Opened). IfSome last (λ o. IfSome k.before (λ e. entry_of e.file ≢ entry_of o.found.file))) is m.apart
+
+    others : (before : Option Found) → IfSome before (IsFound old) → Apart before → IfSome before (IsFound new)
+    others None h apart = tt
+    others (Some b) h apart = keeps.others b apart h
+
+    still : (before : Option Found) → Apart before → IfSome before (λ b. entry_of b.file ≢ entry_of e.file)
+    still None apart = tt
+    still (Some b) apart = λ same. apart (same ∙ keeps.entry)
+
+-- the image that a write begins with is on its way
+pub begins : (img : Image) (text : List ℕ) (c : Channel) (l : Layout) (f : File) → IsRelAt img l c.entry f → IsOnTheWay img text c l f img
+begins img text c l f rel = by text
+  where
+    has : HasRecords img img l c.entry (records img f)
+    has = record {
+      layout = l;
+      is_layout = rel.layout;
+      others = record { directory = refl; entries = refl; files = λ k g ne h. h; bytes = λ k g ne h. refl; header = refl };
+      file = f;
+      there = rel.there;
+      records = refl;
+      places = λ g h. subst (λ (x : File). KeepsPlaces img x f (records img f)) (same_Some _ _ (sym rel.there ∙ h)) (omega arith, inl refl);
+    }
+
+    grows : IsGrowingTo img l c.entry f c.record_number img
+    grows = (0, omega arith, subst (HasRecords img img l c.entry) (sym (append-nil (records img f))) has)
+
+    by : (text : List ℕ) → IsOnTheWay img text c l f img
+    by [] = grows
+    by (t ∷ ts) = inl grows
+
+-- a drive that does nothing holds nothing else
+pub idle : {D : Type 0} (S : History D) (d : D) (n : ℕ) (P : Image → Type 0) → P (S.image d) → Changes S d d n P
+idle S d n P p = changes_weaker S d d 0 n P P (omega arith) (λ i h. h) (no_change S d P p)

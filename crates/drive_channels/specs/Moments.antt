@@ -1,0 +1,35 @@
+-- What the disk may hold during a call that writes: what it may hold during the record call in it.
+use Rattle.std.specs.Prelude.{ℕ, ◌≡◌, ◌≤◌, ◌+◌, Bool, false, true, if◌then◌else◌, List, [], ◌∷◌, OnErr, Option, Result}
+use Rattle.d64_image.specs.History.{Changes, History}
+use Rattle.d64_image.specs.Images.{Image}
+use Rattle.disk_layout.specs.Layout.{File, Layout, record_length}
+use Rattle.rel_records.specs.Growth.{added, growth_writes, records_had}
+use Rattle.rel_records.specs.Written.{IsGrowingTo, IsInOneBlock, IsWriting, touched}
+use Rattle.drive_channels.specs.Files.{IsRelAt}
+use Rattle.drive_channels.specs.State.{Channel}
+use Rattle.drive_channels.specs.Tables.{HasOn, IsOn}
+
+-- on the way of the growth, or of the writing, at the channel's place
+abbrev pub IsOnTheWay : Image → List ℕ → Channel → Layout → File → Image → Type 0
+IsOnTheWay old [] c l f img = IsGrowingTo old l c.entry f c.record_number img
+IsOnTheWay old text c l f img =
+    IsWriting old l c.entry f (added (record_length f.slot) (records_had f) c.record_number) c.record_number c.position text img
+
+abbrev pub is_nil : List ℕ → Bool
+is_nil [] = true
+is_nil (x ∷ xs) = false
+
+-- the sector writes of a write: those of the growth, and one for each block that the record's bytes from the position on touch
+abbrev pub writes_for : File → Channel → List ℕ → ℕ
+writes_for f c text = growth_writes f c.record_number + (if is_nil text then 0 else touched (record_length f.slot) c.record_number c.position)
+
+-- a write at this place of the file f: every image held and the count of writes; and a record that is there and lies in one
+-- block is written at once
+pub record IsWrittenAt {D T E : Type 0} (S : History D) (old new : D) (c : Channel) (l : Layout) (f : File) (text : List ℕ) (result : Result T E) : Type 0 where
+  pub moments : Changes S old new (writes_for f c text) (IsOnTheWay (S.image old) text c l f)
+  pub uncounted : c.record_number ≤ records_had f → IsInOneBlock (record_length f.slot) c.record_number → OnErr result (S.writes new ≡ S.writes old)
+
+-- a write to the channel of this number: so where it is open, else nothing is done to the disk
+pub record IsWrittenOn {D T E : Type 0} (S : History D) (old new : D) (open_one : Option Channel) (number : ℕ) (text : List ℕ) (result : Result T E) : Type 0 where
+  pub silent : ¬ (HasOn open_one number) → new ≡ old
+  pub at : (c : Channel) (l : Layout) (f : File) → IsOn open_one number c → IsRelAt (S.image old) l c.entry f → IsWrittenAt S old new c l f text result

@@ -1,0 +1,46 @@
+//! Closing a channel.
+ghost use Rattle.std.specs.Prelude.{◌≡◌, OnOk};
+ghost use Rattle.d64_image.specs.Images.{Image};
+ghost use Rattle.drive_channels.specs.Inside.{IsKnown, channel_of};
+ghost use Rattle.drive_channels.specs.Serving.{Serves};
+ghost use Rattle.drive_channels.specs.State.{view_of};
+ghost use Rattle.drive_channels.specs.Tables.{Closes, channel_without};
+
+use crate::drive::Drive;
+use crate::faults::Dead;
+use crate::known::Known;
+use crate::status::Status;
+use d64_image::Sectors;
+
+impl Known {
+    /// Closes the channel, where it has this number.
+    fn close(&mut self, channel: u8)
+        ensures channel { channel_of self.new.last ≡ channel_without channel (channel_of self.old.last) }
+        ensures checked { self.new.checked ≡ self.old.checked }
+        ensures known { (img : Image) → IsKnown img self.old → IsKnown img self.new }
+    {
+        if let Some(opened) = &mut self.last {
+            if let Some(spot) = opened.spot {
+                if spot.channel == channel {
+                    opened.spot = None;
+                }
+            }
+        }
+    }
+}
+
+impl<D: Sectors> Drive<D> {
+    /// Closes the channel, where it is open; the status is 00.
+    pub fn close(&mut self, channel: u8) -> Result<(), Dead>
+        ensures serves { Serves D.history self.old self.new result }
+        ensures row { OnOk result (Closes (view_of D.history self.old) channel (view_of D.history self.new)) }
+        ensures disk { self.new.disk ≡ self.old.disk }
+    {
+        if self.dead {
+            return Err(Dead);
+        }
+        self.known.close(channel);
+        self.status = Status::Ok;
+        Ok(())
+    }
+}

@@ -1,0 +1,172 @@
+//! Commands.
+ghost use Rattle.std.specs.Prelude.{◌≡◌, ◌≤◌, ◌⊎◌, ◌↔◌, Bool, IfOk, IsTrue, MatchOption, OnOk, length};
+ghost use Rattle.d64_image.specs.History.{OnlyReads, TellsFailure, WritesNothing};
+ghost use Rattle.d64_image.specs.Images.{Image};
+ghost use Rattle.disk_layout.specs.Clean.{IsClean};
+ghost use Rattle.disk_layout.specs.Layout.{IsSound};
+ghost use Rattle.drive_channels.specs.Inside.{IsFound, IsKnown, IsSpot, at_spot, shown};
+ghost use Rattle.drive_channels.specs.Serving.{Serves};
+ghost use Rattle.drive_channels.specs.Spelling.{IsInitialize, IsValidate, wanted_channel, wanted_position, wanted_record};
+ghost use Rattle.drive_channels.specs.State.{view_of};
+ghost use Rattle.drive_channels.specs.Tables.{Commands, InFile, Moves, MovesTo, ValidatesTo};
+ghost use Rattle.drive_channels.specs.declared.status.Status as statuses;
+ghost use Rattle.layout_check.specs.Repaired.{MendsFrom};
+
+use crate::drive::Drive;
+use crate::faults::Dead;
+use crate::found::{Found, Spot};
+use crate::known::Known;
+use crate::status::Status;
+use d64_image::Sectors;
+use disk_layout::Fault;
+use layout_check::repair;
+use rel_records::records;
+
+/// Whether the command asks for the disk to be mended.
+fn is_validate(text: &[u8]) -> bool
+    ensures { IsTrue result ↔ IsValidate text.now }
+{
+    text == &b"V"[..] || text == &b"V0"[..] || text == &b"VALIDATE"[..] || text == &b"VALIDATE0"[..]
+}
+
+/// Whether it asks for nothing here.
+fn is_initialize(text: &[u8]) -> bool
+    ensures { IsTrue result ↔ IsInitialize text.now }
+{
+    text == &b"I"[..]
+        || text == &b"I0"[..]
+        || text == &b"INITIALIZE"[..]
+        || text == &b"INITIALIZE0"[..]
+}
+
+/// The place that a `P` asks for, where it is as long as one.
+fn place_of(text: &[u8]) -> Option<Spot>
+    ensures { MatchOption result (¬ ((length text.now ≡ 4) ⊎ (length text.now ≡ 5))) (λ spot. ((length text.now ≡ 4) ⊎ (length text.now ≡ 5)) × (spot.channel ≡ wanted_channel text.now) × (spot.record_number ≡ wanted_record text.now) × (spot.position ≡ wanted_position text.now)) }
+{
+    if text.len() != 4 && text.len() != 5 {
+        return None;
+    }
+    let number = text[2] as u32 + 256 * text[3] as u32;
+    let position = if text.len() == 5 { text[4] } else { 1 };
+    Some(Spot {
+        channel: text[1] % 16,
+        record_number: number.max(1),
+        position: position.max(1),
+    })
+}
+
+/// Goes to a place in the file: what that comes to, and the place from then on.
+fn go_to(found: &Found, spot: Spot, wanted: Spot) -> (Status, Spot)
+    requires channel { wanted.channel ≡ spot.channel }
+    requires record_low { 1 ≤ wanted.record_number }
+    requires record_high { wanted.record_number ≤ 65535 }
+    requires position { 1 ≤ wanted.position }
+    ensures row { (img : Image) → (s : statuses.Status) → (b : Bool) → IsFound img found.now → InFile (at_spot img found.now spot s b) (MovesTo (at_spot img found.now spot s b) wanted.record_number wanted.position (at_spot img found.now result.1 result.0 b)) }
+    ensures spot { IsSpot found.now spot → IsSpot found.now result.1 }
+{
+    let length = found.file.length();
+    if wanted.position > length {
+        return (Status::Overflow, spot);
+    }
+    if (wanted.record_number * length as u32 + 253) / 254 > 720 {
+        return (Status::FileTooLarge, spot);
+    }
+    if wanted.record_number > records(&found.file) {
+        return (Status::RecordNotPresent, wanted);
+    }
+    (Status::Ok, wanted)
+}
+
+impl Known {
+    /// Places the open channel, where the `P` names it: what it comes to.
+    fn position(&mut self, text: &[u8]) -> Status
+        ensures row { (img : Image) → (s : statuses.Status) → IsKnown img self.old → Moves (shown img self.old s) text.now (shown img self.new result) }
+        ensures known { (img : Image) → IsKnown img self.old → IsKnown img self.new }
+    {
+        let Some(wanted) = place_of(text) else {
+            return Status::SyntaxError;
+        };
+        if let Some(opened) = &mut self.last {
+            if let Some(spot) = opened.spot {
+                if spot.channel == wanted.channel {
+                    let (status, next) = go_to(&opened.found, spot, wanted);
+                    opened.spot = Some(next);
+                    return status;
+                }
+            }
+        }
+        Status::NoChannel
+    }
+
+    /// Does a command that isn't for the disk: what it comes to.
+    fn command(&mut self, text: &[u8]) -> Status
+        requires other { ¬ (IsValidate text.now) }
+        ensures row { (img : Image) → (s : statuses.Status) → IsKnown img self.old → Commands (shown img self.old s) text.now (shown img self.new result) }
+        ensures known { (img : Image) → IsKnown img self.old → IsKnown img self.new }
+    {
+        if text.is_empty() {
+            return Status::SyntaxError;
+        }
+        if is_initialize(text) {
+            return Status::Ok;
+        }
+        if text[0] == b'P' {
+            return self.position(text);
+        }
+        Status::UnknownCommand
+    }
+}
+
+/// Mends the disk: what that comes to.
+fn validate<D: Sectors>(disk: &mut D) -> Result<Status, Dead>
+    ensures row { IfOk result (ValidatesTo (D.history.image disk.old) (D.history.image disk.new)) }
+    ensures moments { MendsFrom D.history disk.old disk.new 883 }
+    ensures unsound { (IsSound (D.history.image disk.old) → ⊥) → OnlyReads D.history disk.old disk.new 2114 }
+    ensures quiet { IsClean (D.history.image disk.old) → WritesNothing D.history disk.old disk.new }
+    ensures failures { TellsFailure D.history disk.old disk.new result }
+{
+    match repair(disk) {
+        Ok(_) => Ok(Status::Ok),
+        Err(fault) => match fault {
+            Fault::Device(_) => Err(Dead),
+            _ => Ok(Status::DirError),
+        },
+    }
+}
+
+impl<D: Sectors> Drive<D> {
+    /// Does a command. `V`, `V0`, `VALIDATE` and `VALIDATE0` mend the disk: 00, or 71 where it isn't sound; an open channel
+    /// keeps its place. `I`, `I0`, `INITIALIZE` and `INITIALIZE0` do nothing: 00. `P`, the channel (modulo 16), the record's
+    /// low and high byte and, if one is given, the position place the open channel: 00, or 50 where the file has no such
+    /// record yet, 51 where the position is past the record's end, 52 where the record would need more than 720 blocks, 70
+    /// where the channel isn't the open one; at 51, 52 and 70 the place stays. A command that is empty, or a `P` of another
+    /// length: 30. Any other: 31.
+    ///
+    /// At `Dead` the disk holds what it held at one of the moments of the repair.
+    pub fn command(&mut self, text: &[u8]) -> Result<(), Dead>
+        ensures serves { Serves D.history self.old self.new result }
+        ensures row { OnOk result (Commands (view_of D.history self.old) text.now (view_of D.history self.new)) }
+        // V alone reads or writes
+        ensures silent { ¬ (IsValidate text.now) → self.new.disk ≡ self.old.disk }
+        // and each image held is one of the repair
+        ensures moments { MendsFrom D.history self.old.disk self.new.disk 883 }
+        ensures unsound { (IsSound (D.history.image self.old.disk) → ⊥) → OnlyReads D.history self.old.disk self.new.disk 2114 }
+        ensures quiet { IsClean (D.history.image self.old.disk) → WritesNothing D.history self.old.disk self.new.disk }
+    {
+        if self.dead {
+            return Err(Dead);
+        }
+        if is_validate(text) {
+            match validate(&mut self.disk) {
+                Ok(status) => self.status = status,
+                Err(fault) => {
+                    self.dead = true;
+                    return Err(fault);
+                }
+            }
+            return Ok(());
+        }
+        self.status = self.known.command(text);
+        Ok(())
+    }
+}

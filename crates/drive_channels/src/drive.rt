@@ -1,0 +1,85 @@
+//! The drive over a disk.
+ghost use Rattle.std.specs.Prelude.{◌≡◌};
+
+use crate::faults::Dead;
+use crate::known::Known;
+use crate::status::Status;
+use d64_image::Sectors;
+use std::marker::Model;
+
+/// A drive with one relative channel, over a disk.
+///
+/// Each call does what the first case of its table that holds says (1541 User's Guide, relative files, command channel and
+/// error channel; `docs/DRIVE.md` has the table), and sets the status that `status` then tells. Once the device has failed,
+/// every call but `into_disk` answers `Dead` and changes nothing.
+#[derive(Drop)]
+pub struct Drive<D: Sectors> {
+    pub(crate) disk: D,
+    pub(crate) known: Known,
+    pub(crate) status: Status,
+    pub(crate) dead: bool,
+}
+
+impl<D: Sectors> Model for Drive<D> {
+    ghost use Rattle.drive_channels.specs.State.{Seen};
+
+    ghost Value = { Seen D };
+
+    ghost use Rattle.drive_channels.specs.Inside.{IsSteady, seen_of};
+
+    ghost view = { seen_of };
+
+    ghost invariant = { IsSteady D.history };
+}
+
+impl<D: Sectors> Drive<D> {
+    ghost use Rattle.std.specs.Prelude.{false, None, IfOk, OnOk};
+    ghost use Rattle.drive_channels.specs.Serving.{Serves};
+    ghost use Rattle.drive_channels.specs.State.{view_of};
+    ghost use Rattle.drive_channels.specs.Tables.{Tells};
+    ghost use Rattle.drive_channels.specs.declared.status.Status.TheVariants as statuses;
+
+    /// A drive over this disk, just switched on: no channel is open, the status is 73, and nothing was read.
+    pub fn power_on(disk: D) -> Drive<D>
+        ensures disk { result.disk ≡ disk }
+        ensures channel { result.channel ≡ None }
+        ensures status { result.status ≡ statuses.PowerOn }
+        ensures checked { result.checked ≡ false }
+        ensures alive { result.dead ≡ false }
+    {
+        Drive {
+            disk,
+            known: Known::nothing(),
+            status: Status::PowerOn,
+            dead: false,
+        }
+    }
+
+    /// The disk, also of a drive that is dead.
+    pub fn into_disk(self) -> D
+        ensures { result ≡ self.disk }
+    {
+        let Drive {
+            disk,
+            known: _,
+            status: _,
+            dead: _,
+        } = self;
+        disk
+    }
+
+    /// What the last call came to, as reading the error channel gives it; it is 00 from then on.
+    pub fn status(&mut self) -> Result<Status, Dead>
+        ensures serves { Serves D.history self.old self.new result }
+        ensures told { IfOk result (λ s. s ≡ self.old.status) }
+        ensures row { OnOk result (Tells (view_of D.history self.old) statuses.Ok (view_of D.history self.new)) }
+        ensures disk { self.new.disk ≡ self.old.disk }
+    {
+        if self.dead {
+            return Err(Dead);
+        }
+        let status = self.status;
+        self.status = Status::Ok;
+        Ok(status)
+    }
+}

@@ -1,0 +1,20 @@
+//! The drive as a program sees it: its channels, its commands and its error channel.
+#![tactic(auto)]
+
+mod closing;
+mod commands;
+mod drive;
+mod faults;
+mod found;
+mod known;
+mod opening;
+mod reading;
+mod status;
+#[cfg(test)]
+mod tests;
+mod text;
+mod writing;
+
+pub use drive::Drive;
+pub use faults::Dead;
+pub use status::Status;

@@ -1,0 +1,252 @@
+//! Opening a channel.
+ghost use Rattle.std.specs.Prelude.{◌≡◌, ◌≤◌, ◌↔◌, true, false, IfOk, IfSome, IsTrue, List, MatchOption, None, OnOk, ℕ, length};
+ghost use Rattle.d64_image.specs.History.{OnlyReads, TellsFailure};
+ghost use Rattle.d64_image.specs.Images.{Image};
+ghost use Rattle.disk_layout.specs.Clean.{IsClean};
+ghost use Rattle.disk_layout.specs.Rest.{slot_name};
+ghost use Rattle.drive_channels.specs.Files.{HasFile};
+ghost use Rattle.drive_channels.specs.Serving.{Serves};
+ghost use Rattle.drive_channels.specs.Spelling.{IsWish};
+ghost use Rattle.drive_channels.specs.State.{view_of};
+ghost use Rattle.drive_channels.specs.Tables.{Opens, OpensFile};
+ghost use Rattle.drive_channels.specs.Wishes.{wish_of};
+ghost use Rattle.rel_records.specs.File.{length_of};
+ghost use Rattle.drive_channels.specs.Inside.{HasLooked, IsFound, IsKnown, channel_of, closed_with, found_in, shown};
+ghost use Rattle.drive_channels.specs.declared.status.Status as statuses;
+
+use crate::drive::Drive;
+use crate::faults::Dead;
+use crate::found::{Found, Opened, Spot};
+use crate::known::Known;
+use crate::status::Status;
+use crate::text::{FileWish, wish};
+use d64_image::Sectors;
+use disk_layout::{Fault, padded_name};
+use layout_check::check;
+use rel_records::{RelFault, RelFile, find};
+
+/// A file under the name by which it was found.
+fn found_as(name: [u8; 16], file: RelFile) -> Found
+    ensures name { result.name ≡ name }
+    ensures file { result.file ≡ file }
+{
+    Found { name, file }
+}
+
+/// Whether the file's records have this length, if one is asked for.
+fn has_length(file: &RelFile, length: Option<u8>) -> bool
+    ensures { IsTrue result ↔ IfSome length (λ l. length_of file.now ≡ l) }
+{
+    match length {
+        Some(length) => file.length() == length,
+        None => true,
+    }
+}
+
+/// The first closed relative file of this name, where there is one.
+fn find_file<D: Sectors>(disk: &mut D, name: &[u8]) -> Result<Option<Found>, Dead>
+    requires clean { IsClean (D.history.image disk.old) }
+    requires name { length name.now ≤ 16 }
+    ensures found { IfOk result (λ o. MatchOption o (¬ (HasFile (D.history.image disk.old) name.now)) (λ e. IsFound (D.history.image disk.old) e × (e.name ≡ slot_name name.now))) }
+    ensures reads { OnlyReads D.history disk.old disk.new 702 }
+    ensures failures { TellsFailure D.history disk.old disk.new result }
+{
+    match find(disk, name) {
+        Ok(file) => Ok(Some(found_as(padded_name(name), file))),
+        Err(fault) => match fault {
+            RelFault::Device => Err(Dead),
+            _ => Ok(None),
+        },
+    }
+}
+
+impl Known {
+    /// Whether a channel is open.
+    fn is_open(&self) -> bool
+        ensures { MatchOption (channel_of self.now.last) (result ≡ false) (λ c. result ≡ true) }
+    {
+        match &self.last {
+            Some(opened) => opened.spot.is_some(),
+            None => false,
+        }
+    }
+
+    /// Whether the file opened last has this padded name.
+    fn is_last(&self, name: &[u8; 16]) -> bool
+        ensures { MatchOption self.now.last (result ≡ false) (λ o. IsTrue result ↔ (o.found.name ≡ name.now)) }
+    {
+        match &self.last {
+            Some(opened) => opened.found.name == *name,
+            None => false,
+        }
+    }
+
+    /// Whether the file opened before it has.
+    fn is_before(&self, name: &[u8; 16]) -> bool
+        ensures { MatchOption self.now.before (result ≡ false) (λ e. IsTrue result ↔ (e.name ≡ name.now)) }
+    {
+        match &self.before {
+            Some(found) => found.name == *name,
+            None => false,
+        }
+    }
+
+    /// Makes this file, or none, the one opened last, with no channel; the one before it is the one opened last until now.
+    fn put_last(&mut self, found: Option<Found>)
+        ensures last { self.new.last ≡ closed_with found }
+        ensures before { self.new.before ≡ found_in self.old.last }
+        ensures checked { self.new.checked ≡ self.old.checked }
+    {
+        let last = self.last.take();
+        self.before = match last {
+            Some(opened) => Some(opened.found),
+            None => None,
+        };
+        self.last = match found {
+            Some(found) => Some(Opened { found, spot: None }),
+            None => None,
+        };
+    }
+
+    /// Makes the file of this name the one opened last, with no channel, where there is one. Whether there is.
+    fn look_up<D: Sectors>(&mut self, disk: &mut D, name: &[u8]) -> Result<bool, Dead>
+        requires known { IsKnown (D.history.image disk.old) self.old }
+        requires checked { self.old.checked ≡ true }
+        requires closed { channel_of self.old.last ≡ None }
+        requires name { length name.now ≤ 16 }
+        ensures found { IfOk result (HasLooked (D.history.image disk.old) name.now self.new) }
+        ensures reads { OnlyReads D.history disk.old disk.new 702 }
+        ensures failures { TellsFailure D.history disk.old disk.new result }
+    {
+        let padded = padded_name(name);
+        if self.is_last(&padded) {
+            return Ok(true);
+        }
+        if self.is_before(&padded) {
+            let before = self.before.take();
+            self.put_last(before);
+            return Ok(true);
+        }
+        match find_file(disk, name)? {
+            Some(found) => {
+                self.put_last(Some(found));
+                Ok(true)
+            }
+            None => Ok(false),
+        }
+    }
+
+    /// Checks the disk, where no check has passed yet. Whether one has now.
+    fn passes_check<D: Sectors>(&mut self, disk: &mut D) -> Result<bool, Dead>
+        requires known { IsKnown (D.history.image disk.old) self.old }
+        ensures passed { IfOk result (λ passed. passed ≡ true → (self.new.checked ≡ true) × IsKnown (D.history.image disk.old) self.new) }
+        ensures refused { IfOk result (λ passed. passed ≡ false → (self.new ≡ self.old) × (self.old.checked ≡ false) × ¬ (IsClean (D.history.image disk.old))) }
+        ensures last { OnOk result (self.new.last ≡ self.old.last) }
+        ensures reads { OnlyReads D.history disk.old disk.new 2115 }
+        ensures failures { TellsFailure D.history disk.old disk.new result }
+    {
+        if self.checked {
+            return Ok(true);
+        }
+        match check(disk) {
+            Ok(_) => {
+                self.checked = true;
+                Ok(true)
+            }
+            Err(fault) => match fault {
+                Fault::Device(_) => Err(Dead),
+                _ => Ok(false),
+            },
+        }
+    }
+
+    /// Opens the file opened last at its first record, unless its records have another length than the one asked for: what
+    /// that comes to.
+    fn open_last(&mut self, channel: u8, length: Option<u8>) -> Status
+        requires low { 2 ≤ channel }
+        requires high { channel ≤ 14 }
+        ensures row { (img : Image) → (name : List ℕ) → (s : statuses.Status) → HasLooked img name self.old true → OpensFile (shown img self.old s) channel (record { name = name; length = length }) (shown img self.new result) }
+        ensures known { (img : Image) → IsKnown img self.old → IsKnown img self.new }
+    {
+        if let Some(opened) = &mut self.last {
+            if !has_length(&opened.found.file, length) {
+                return Status::RecordNotPresent;
+            }
+            opened.spot = Some(Spot::first(channel));
+            return Status::Ok;
+        }
+        Status::FileNotFound
+    }
+
+    /// Opens the file that is asked for: what that comes to.
+    fn open_file<D: Sectors>(
+        &mut self,
+        disk: &mut D,
+        channel: u8,
+        wish: FileWish<'_>,
+    ) -> Result<Status, Dead>
+        requires known { IsKnown (D.history.image disk.old) self.old }
+        requires checked { self.old.checked ≡ true }
+        requires closed { channel_of self.old.last ≡ None }
+        requires low { 2 ≤ channel }
+        requires high { channel ≤ 14 }
+        requires wish { (text : List ℕ) × IsWish text (wish_of wish) }
+        ensures row { IfOk result (λ status. (s : statuses.Status) → OpensFile (shown (D.history.image disk.old) self.old s) channel (wish_of wish.entry) (shown (D.history.image disk.new) self.new status)) }
+        ensures known { OnOk result (IsKnown (D.history.image disk.new) self.new) }
+        ensures reads { OnlyReads D.history disk.old disk.new 702 }
+        ensures failures { TellsFailure D.history disk.old disk.new result }
+    {
+        if self.look_up(disk, wish.name)? {
+            return Ok(self.open_last(channel, wish.length));
+        }
+        Ok(Status::FileNotFound)
+    }
+
+    /// Opens what the text asks for: what that comes to.
+    fn open<D: Sectors>(&mut self, disk: &mut D, channel: u8, text: &[u8]) -> Result<Status, Dead>
+        requires known { IsKnown (D.history.image disk.old) self.old }
+        ensures row { IfOk result (λ status. (s : statuses.Status) → Opens (shown (D.history.image disk.old) self.old s) channel text.now (shown (D.history.image disk.new) self.new status)) }
+        ensures known { OnOk result (IsKnown (D.history.image disk.new) self.new) }
+        ensures reads { OnlyReads D.history disk.old disk.new 2817 }
+        ensures failures { TellsFailure D.history disk.old disk.new result }
+    {
+        if channel < 2 || channel > 14 || self.is_open() {
+            return Ok(Status::NoChannel);
+        }
+        let Some(wish) = wish(text) else {
+            return Ok(Status::SyntaxError);
+        };
+        if !self.passes_check(disk)? {
+            return Ok(Status::DirError);
+        }
+        self.open_file(disk, channel, wish)
+    }
+}
+
+impl<D: Sectors> Drive<D> {
+    /// Opens a channel, from 2 to 14, on the first closed relative file of a name, at its first record: 00. The text is the
+    /// name, or the name, `,L,` and one byte, the length of the file's records. No file is made.
+    ///
+    /// A channel that is none of these, or while one is open: 70. A text that is neither: 30. A disk that no check has passed
+    /// since power-on, and that the check refuses now: 71. Without such a file: 62. With another length than the file's: 50.
+    /// In all these cases nothing is opened. Nothing is written; at most 2817 sectors are read.
+    pub fn open(&mut self, channel: u8, text: &[u8]) -> Result<(), Dead>
+        ensures serves { Serves D.history self.old self.new result }
+        ensures row { OnOk result (Opens (view_of D.history self.old) channel text.now (view_of D.history self.new)) }
+        ensures reads { OnlyReads D.history self.old.disk self.new.disk 2817 }
+    {
+        if self.dead {
+            return Err(Dead);
+        }
+        match self.known.open(&mut self.disk, channel, text) {
+            Ok(status) => {
+                self.status = status;
+                Ok(())
+            }
+            Err(fault) => {
+                self.dead = true;
+                Err(fault)
+            }
+        }
+    }
+}

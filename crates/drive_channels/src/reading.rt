@@ -1,0 +1,154 @@
+//! Reading from a channel.
+ghost use Rattle.std.specs.Prelude.{◌≡◌, ◌≢◌, ◌⊎◌, ◌<◌, ◌≤◌, ◌-◌, ℕ, Bool, IfOk, OnOk, drop, length, slice_index};
+ghost use Rattle.d64_image.specs.History.{OnlyReads, TellsFailure};
+ghost use Rattle.d64_image.specs.Images.{Image};
+ghost use Rattle.drive_channels.specs.Given.{IsGiven};
+ghost use Rattle.drive_channels.specs.Inside.{IsFound, IsKnown, IsSpot, at_spot, shown};
+ghost use Rattle.drive_channels.specs.Serving.{Serves};
+ghost use Rattle.drive_channels.specs.State.{view_of};
+ghost use Rattle.drive_channels.specs.Tables.{InFile, Reads, ReadsIn};
+ghost use Rattle.drive_channels.specs.declared.status.Status as statuses;
+
+use crate::drive::Drive;
+use crate::faults::Dead;
+use crate::found::{Found, Spot};
+use crate::known::Known;
+use crate::status::Status;
+use arrayvec::ArrayVec;
+use d64_image::Sectors;
+use rel_records::{RelFault, read_record};
+
+/// How many of the bytes there are up to the last one that isn't 00, and 1 where there is none.
+fn end_of(bytes: &[u8]) -> usize
+    requires some { 0 < length bytes.now }
+    ensures low { 1 ≤ result }
+    ensures high { result ≤ length bytes.now }
+    ensures zeros { (i : ℕ) → result ≤ i → slice_index bytes.now i ≡ 0 }
+    ensures last { (result ≡ 1) ⊎ (slice_index bytes.now (result - 1) ≢ 0) }
+{
+    let mut end = 1;
+    for i in 0..bytes.len() {
+        if bytes[i] != 0 {
+            end = i + 1;
+        }
+    }
+    end
+}
+
+/// Fills a list with these bytes.
+fn copy(from: &[u8], to: &mut ArrayVec<u8, 254>)
+    requires fits { length from.now ≤ 254 }
+    ensures { to.new.items ≡ from.now }
+{
+    to.clear();
+    for &byte in from {
+        to.push(byte);
+    }
+}
+
+/// The bytes from this index on.
+fn rest_of(bytes: &[u8], from: usize) -> &[u8]
+    requires within { from ≤ length bytes.now }
+    ensures { result.now ≡ drop from bytes.now }
+{
+    &bytes[from..]
+}
+
+/// Gives the bytes from this position on, counted from 1, up to the last one that isn't 00, or one 00 where there is none.
+fn give(bytes: &[u8], position: u8, to: &mut ArrayVec<u8, 254>)
+    requires low { 0 < position }
+    requires within { position ≤ length bytes.now }
+    requires fits { length bytes.now ≤ 254 }
+    ensures { IsGiven (drop (position - 1) bytes.now) to.new.items }
+{
+    let rest = rest_of(bytes, position as usize - 1);
+    let end = end_of(rest);
+    copy(&rest[..end], to);
+}
+
+/// Reads at a place: what it comes to, and the place from then on.
+fn read_at<D: Sectors>(
+    disk: &mut D,
+    found: &Found,
+    spot: Spot,
+    to: &mut ArrayVec<u8, 254>,
+) -> Result<(Status, Spot), Dead>
+    requires found { IsFound (D.history.image disk.old) found.now }
+    requires spot { IsSpot found.now spot }
+    ensures row { IfOk result (λ p. (s : statuses.Status) → (b : Bool) → InFile (at_spot (D.history.image disk.old) found.now spot s b) (ReadsIn (at_spot (D.history.image disk.old) found.now spot s b) to.new.items (at_spot (D.history.image disk.old) found.now p.1 p.0 b))) }
+    ensures spot { IfOk result (λ p. IsSpot found.now p.1) }
+    ensures channel { IfOk result (λ p. p.1.channel ≡ spot.channel) }
+    ensures reads { OnlyReads D.history disk.old disk.new 3 }
+    ensures failures { TellsFailure D.history disk.old disk.new result }
+{
+    let mut text = ArrayVec::new();
+    match read_record(disk, &found.file, spot.record_number, &mut text) {
+        Ok(()) => {
+            give(text.as_slice(), spot.position, to);
+            Ok((Status::Ok, spot.next()))
+        }
+        Err(fault) => match fault {
+            RelFault::Device => Err(Dead),
+            _ => {
+                to.clear();
+                Ok((Status::RecordNotPresent, spot))
+            }
+        },
+    }
+}
+
+impl Known {
+    /// Reads where the channel is the open one.
+    fn read<D: Sectors>(
+        &mut self,
+        disk: &mut D,
+        channel: u8,
+        to: &mut ArrayVec<u8, 254>,
+    ) -> Result<Status, Dead>
+        requires known { IsKnown (D.history.image disk.old) self.old }
+        ensures row { IfOk result (λ status. (s : statuses.Status) → Reads (shown (D.history.image disk.old) self.old s) channel to.new.items (shown (D.history.image disk.old) self.new status)) }
+        ensures known { OnOk result (IsKnown (D.history.image disk.old) self.new) }
+        ensures reads { OnlyReads D.history disk.old disk.new 3 }
+        ensures failures { TellsFailure D.history disk.old disk.new result }
+    {
+        to.clear();
+        if let Some(opened) = &mut self.last {
+            if let Some(spot) = opened.spot {
+                if spot.channel == channel {
+                    let (status, next) = read_at(disk, &opened.found, spot, to)?;
+                    opened.spot = Some(next);
+                    return Ok(status);
+                }
+            }
+        }
+        Ok(Status::FileNotOpen)
+    }
+}
+
+impl<D: Sectors> Drive<D> {
+    /// Reads the record at the channel's place, from the position on up to its last byte that isn't 00, or one 00 where
+    /// there is none, and goes on to the next record: 00. Where the record isn't there the place stays: 50. A channel that
+    /// isn't open: 61. Then nothing is given. At most three sectors are read.
+    ///
+    /// A drive that is dead gives nothing; where the device fails in this call, what is given is any bytes.
+    pub fn read(&mut self, channel: u8, to: &mut ArrayVec<u8, 254>) -> Result<(), Dead>
+        ensures serves { Serves D.history self.old self.new result }
+        ensures row { OnOk result (Reads (view_of D.history self.old) channel to.new.items (view_of D.history self.new)) }
+        ensures reads { OnlyReads D.history self.old.disk self.new.disk 3 }
+    {
+        if self.dead {
+            to.clear();
+            return Err(Dead);
+        }
+        match self.known.read(&mut self.disk, channel, to) {
+            Ok(status) => {
+                self.status = status;
+                Ok(())
+            }
+            Err(fault) => {
+                self.dead = true;
+                Err(fault)
+            }
+        }
+    }
+}

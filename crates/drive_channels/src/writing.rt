@@ -1,0 +1,159 @@
+//! Writing to a channel.
+ghost use Rattle.std.specs.Prelude.{◌≡◌, ◌≤◌, [], ℕ, Bool, IfOk, OnErr, OnOk, length};
+ghost use Rattle.d64_image.specs.History.{Changes, OnlyReads, TellsFailure};
+ghost use Rattle.disk_layout.specs.Clean.{IsClean};
+ghost use Rattle.disk_layout.specs.Layout.{File, Layout, record_length};
+ghost use Rattle.drive_channels.specs.Files.{IsRelAt};
+ghost use Rattle.drive_channels.specs.Inside.{IsFound, IsKnown, IsSpot, KeepsFound, at_spot, channel_at, channel_of, shown};
+ghost use Rattle.drive_channels.specs.Moments.{IsOnTheWay, IsWrittenAt, IsWrittenOn, writes_for};
+ghost use Rattle.drive_channels.specs.Serving.{Serves};
+ghost use Rattle.drive_channels.specs.State.{Channel, view_of};
+ghost use Rattle.drive_channels.specs.Tables.{HasOn, InFile, IsOn, Writes, WritesIn};
+ghost use Rattle.drive_channels.specs.declared.status.Status as statuses;
+ghost use Rattle.drive_channels.specs.declared.status.Status.TheVariants.{FileTooLarge};
+ghost use Rattle.rel_records.specs.File.{entry_of, length_of, records_in};
+ghost use Rattle.rel_records.specs.Growth.{records_had};
+ghost use Rattle.rel_records.specs.Written.{IsInOneBlock};
+
+use crate::drive::Drive;
+use crate::faults::Dead;
+use crate::found::{Found, Spot};
+use crate::known::Known;
+use crate::status::Status;
+use d64_image::Sectors;
+use rel_records::{RelFault, grow_to, write_record};
+
+/// Grows the file so that the record at a place is there: what it comes to, and the same place.
+fn grow_at<D: Sectors>(disk: &mut D, found: &mut Found, spot: Spot) -> Result<(Status, Spot), Dead>
+    requires clean { IsClean (D.history.image disk.old) }
+    requires found { IsFound (D.history.image disk.old) found.old }
+    requires spot { IsSpot found.old spot }
+    ensures row { IfOk result (λ p. (s : statuses.Status) → (b : Bool) → InFile (at_spot (D.history.image disk.old) found.old spot s b) (WritesIn (at_spot (D.history.image disk.old) found.old spot s b) [] (at_spot (D.history.image disk.new) found.new p.1 p.0 b))) }
+    ensures found { OnOk result (KeepsFound (D.history.image disk.old) (D.history.image disk.new) found.old found.new) }
+    ensures spot { IfOk result (λ p. IsSpot found.new p.1 × (p.1.channel ≡ spot.channel)) }
+    ensures writes { (l : Layout) → (f : File) → IsRelAt (D.history.image disk.old) l (entry_of found.old.file) f → IsWrittenAt D.history disk.old disk.new (channel_at (entry_of found.old.file) spot) l f [] result }
+    ensures refused { IfOk result (λ p. p.0 ≡ FileTooLarge → OnlyReads D.history disk.old disk.new 1) }
+    ensures failures { TellsFailure D.history disk.old disk.new result }
+{
+    match grow_to(disk, &mut found.file, spot.record_number) {
+        Ok(()) => Ok((Status::Ok, spot)),
+        Err(fault) => match fault {
+            RelFault::Device => Err(Dead),
+            _ => Ok((Status::FileTooLarge, spot)),
+        },
+    }
+}
+
+/// Writes a text that isn't empty at a place: what it comes to, and the place from then on.
+fn write_text<D: Sectors>(
+    disk: &mut D,
+    found: &mut Found,
+    spot: Spot,
+    text: &[u8],
+) -> Result<(Status, Spot), Dead>
+    requires some { 1 ≤ length text.now }
+    requires clean { IsClean (D.history.image disk.old) }
+    requires found { IsFound (D.history.image disk.old) found.old }
+    requires spot { IsSpot found.old spot }
+    ensures row { IfOk result (λ p. (s : statuses.Status) → (b : Bool) → InFile (at_spot (D.history.image disk.old) found.old spot s b) (WritesIn (at_spot (D.history.image disk.old) found.old spot s b) text.now (at_spot (D.history.image disk.new) found.new p.1 p.0 b))) }
+    ensures found { OnOk result (KeepsFound (D.history.image disk.old) (D.history.image disk.new) found.old found.new) }
+    ensures spot { IfOk result (λ p. IsSpot found.new p.1 × (p.1.channel ≡ spot.channel)) }
+    ensures writes { (l : Layout) → (f : File) → IsRelAt (D.history.image disk.old) l (entry_of found.old.file) f → IsWrittenAt D.history disk.old disk.new (channel_at (entry_of found.old.file) spot) l f text.now result }
+    ensures refused { IfOk result (λ p. p.0 ≡ FileTooLarge → OnlyReads D.history disk.old disk.new 1) }
+    ensures failures { TellsFailure D.history disk.old disk.new result }
+{
+    match write_record(
+        disk,
+        &mut found.file,
+        spot.record_number,
+        spot.position,
+        text,
+    ) {
+        Ok(()) => Ok((Status::Ok, spot.next())),
+        Err(fault) => match fault {
+            RelFault::Device => Err(Dead),
+            RelFault::Overflow => Ok((Status::Overflow, spot.next())),
+            _ => Ok((Status::FileTooLarge, spot)),
+        },
+    }
+}
+
+/// Writes at a place: what it comes to, and the place from then on.
+fn write_at<D: Sectors>(
+    disk: &mut D,
+    found: &mut Found,
+    spot: Spot,
+    text: &[u8],
+) -> Result<(Status, Spot), Dead>
+    requires clean { IsClean (D.history.image disk.old) }
+    requires found { IsFound (D.history.image disk.old) found.old }
+    requires spot { IsSpot found.old spot }
+    ensures row { IfOk result (λ p. (s : statuses.Status) → (b : Bool) → InFile (at_spot (D.history.image disk.old) found.old spot s b) (WritesIn (at_spot (D.history.image disk.old) found.old spot s b) text.now (at_spot (D.history.image disk.new) found.new p.1 p.0 b))) }
+    ensures found { OnOk result (KeepsFound (D.history.image disk.old) (D.history.image disk.new) found.old found.new) }
+    ensures spot { IfOk result (λ p. IsSpot found.new p.1 × (p.1.channel ≡ spot.channel)) }
+    ensures writes { (l : Layout) → (f : File) → IsRelAt (D.history.image disk.old) l (entry_of found.old.file) f → IsWrittenAt D.history disk.old disk.new (channel_at (entry_of found.old.file) spot) l f text.now result }
+    ensures refused { IfOk result (λ p. p.0 ≡ FileTooLarge → OnlyReads D.history disk.old disk.new 1) }
+    ensures failures { TellsFailure D.history disk.old disk.new result }
+{
+    if text.is_empty() {
+        return grow_at(disk, found, spot);
+    }
+    write_text(disk, found, spot, text)
+}
+
+impl Known {
+    /// Writes where the channel is the open one.
+    fn write<D: Sectors>(&mut self, disk: &mut D, channel: u8, text: &[u8]) -> Result<Status, Dead>
+        requires known { IsKnown (D.history.image disk.old) self.old }
+        ensures row { IfOk result (λ status. (s : statuses.Status) → Writes (shown (D.history.image disk.old) self.old s) channel text.now (shown (D.history.image disk.new) self.new status)) }
+        ensures known { OnOk result (IsKnown (D.history.image disk.new) self.new) }
+        ensures writes { IsWrittenOn D.history disk.old disk.new (channel_of self.old.last) channel text.now result }
+        ensures refused { IfOk result (λ status. status ≡ FileTooLarge → OnlyReads D.history disk.old disk.new 1) }
+        ensures failures { TellsFailure D.history disk.old disk.new result }
+    {
+        if let Some(opened) = &mut self.last {
+            if let Some(spot) = opened.spot {
+                if spot.channel == channel {
+                    let (status, next) = write_at(disk, &mut opened.found, spot, text)?;
+                    opened.spot = Some(next);
+                    return Ok(status);
+                }
+            }
+        }
+        Ok(Status::FileNotOpen)
+    }
+}
+
+impl<D: Sectors> Drive<D> {
+    /// Writes the record at the channel's place, from the position on, and goes on to the next record: 00, or 51 where the
+    /// text reached past the record's end and was cut. The rest of the record becomes 00; a record that isn't there is made
+    /// first, as are all before it. Where it can't be, or the disk is too full for it, nothing is written and the place
+    /// stays: 52. An empty text makes the record and writes nothing into it; the place stays. A channel that isn't open: 61.
+    ///
+    /// At `Dead` the disk holds what it held at one of the moments of the growth or of the writing.
+    pub fn write(&mut self, channel: u8, text: &[u8]) -> Result<(), Dead>
+        ensures serves { Serves D.history self.old self.new result }
+        ensures row { OnOk result (Writes (view_of D.history self.old) channel text.now (view_of D.history self.new)) }
+        // where the channel isn't open nothing is done to the disk, and where 52 is told nothing is written
+        ensures silent { ¬ (HasOn self.old.channel channel) → self.new.disk ≡ self.old.disk }
+        ensures refused { OnOk result (self.new.status ≡ FileTooLarge → OnlyReads D.history self.old.disk self.new.disk 1) }
+        // else every image held is one of the record call, and so is the count of writes
+        ensures moments { (c : Channel) (l : Layout) (f : File) → IsOn self.old.channel channel c → IsRelAt (D.history.image self.old.disk) l c.entry f → Changes D.history self.old.disk self.new.disk (writes_for f c text.now) (IsOnTheWay (D.history.image self.old.disk) text.now c l f) }
+        // a record that is there and lies in one block is written at once: an answer Dead after a counted write leaves it written
+        ensures uncounted { (c : Channel) (l : Layout) (f : File) → IsOn self.old.channel channel c → IsRelAt (D.history.image self.old.disk) l c.entry f → c.record_number ≤ records_had f → IsInOneBlock (record_length f.slot) c.record_number → OnErr result (D.history.writes self.new.disk ≡ D.history.writes self.old.disk) }
+    {
+        if self.dead {
+            return Err(Dead);
+        }
+        match self.known.write(&mut self.disk, channel, text) {
+            Ok(status) => {
+                self.status = status;
+                Ok(())
+            }
+            Err(fault) => {
+                self.dead = true;
+                Err(fault)
+            }
+        }
+    }
+}

@@ -1,0 +1,12 @@
+pub mod Lists
+pub mod Shops
+pub mod Moments
+pub mod Outcomes
+pub mod Judging
+pub mod Steps
+pub mod Layers
+pub mod Mended
+pub mod Calls
+pub mod Readings
+pub mod Search
+pub mod Examples

@@ -1,0 +1,28 @@
+-- A record of REQUESTS has 127 bytes, and all of them are judged.
+use Rattle.std.proofs.Common.{arith, ap, length, sym, ◌∙◌}
+use Rattle.std.specs.Prelude.{Some}
+use Rattle.host_session.specs.Files.{record_at}
+use Rattle.host_session.proofs.Readings.{match-some, past-last, till-read, whole-chunk}
+use Rattle.host_session.proofs.reading.read_till.Goals as goal
+
+pub unwrap-bytes-requires : goal.unwrap-bytes-requires
+unwrap-bytes-requires g c =
+    let S = g.D.Sectors.history in
+    let (f, a) = c.requires.of in
+    let is = c.in-Ok.ensures.ok a.has.layout a.has.requests_place a.has.requests_file a.requests_of in
+    let read = till-read (S.image c.args.disk.now) (S.whole c.args.disk.now) f c.args.files.now a c.from.result c.read_record.new.text.items is in
+    c.first_chunk.ensures.variant.1 (omega (arith, read.1, ap length c.as_slice.ensures.value))
+
+pub returns-in-Ok-clause-ok : goal.returns-in-Ok-clause-ok
+returns-in-Ok-clause-ok g c = λ f a.
+    let S = g.D.Sectors.history in
+    let is = c.in-Ok.ensures.ok a.has.layout a.has.requests_place a.has.requests_file a.requests_of in
+    let read = till-read (S.image c.args.disk.now) (S.whole c.args.disk.now) f c.args.files.now a c.from.result c.read_record.new.text.items is in
+    let chunk = match-some _ _ c.first_chunk.result c.unwrap-bytes.result c.unwrap-bytes.ensures c.first_chunk.ensures.cases in
+    let same = whole-chunk _ _ 127 (ap length c.as_slice.ensures.value ∙ read.1) chunk ∙ c.as_slice.ensures.value in
+    (c.unwrap-bytes.result.now, ap (λ r. record_at f.requests r) (sym c.from.ensures) ∙ read.0 ∙ ap Some (sym same), c.held_by_till.ensures)
+
+pub returns-in-NotPresent-clause-ok : goal.returns-in-NotPresent-clause-ok
+returns-in-NotPresent-clause-ok g c = λ f a.
+    let absent = c.in-Err.ensures.not_present a.has.layout a.has.requests_place a.has.requests_file a.requests_of c.in-NotPresent.is in
+    omega (arith, past-last _ f.requests c.from.result a.has.requests (omega (arith, c.requires.low, c.from.ensures)) absent, c.from.ensures)

@@ -1,0 +1,35 @@
+//! Laws of what a disk stands for, each the contract of a function that does nothing.
+
+ghost use Rattle.std.specs.Prelude.{◌≡◌, ℕ, List};
+ghost use Rattle.d64_image.specs.Images.{Image};
+ghost use Rattle.host_session.specs.Opening.{Refuses};
+ghost use Rattle.host_session.specs.Shop.{IsShop, Shop, start_of};
+ghost use Rattle.host_session.specs.declared.faults.OpenFault.{OpenFault};
+ghost use Rattle.request_cards.specs.Lines.{KeepsLastTwo};
+ghost use Rattle.request_cards.specs.Requests.{Ask};
+ghost use Rattle.request_cards.specs.Steps.{HoldsAtBothEnds, Step, after_steps};
+
+/// A disk is one shop's at most.
+pub fn one_shop()
+    ensures { (img : Image) (s t : Shop) → IsShop img s → IsShop img t → s ≡ t }
+{}
+
+/// A disk of which a fault of opening holds, other than the device's, is no shop's.
+pub fn refused_no_shop()
+    ensures { (img : Image) (fault : OpenFault) (s : Shop) → Refuses ⊥ img fault → ¬ (IsShop img s) }
+{}
+
+/// What a shop keeps of a till are the last two of all requests that the till was ever answered, with their answers:
+/// those that the disk held, and then the new ones of the requests that follow.
+pub fn last_two()
+    ensures { (img : Image) (s : Shop) → IsShop img s → (asks : List Ask) (till : ℕ)
+        → KeepsLastTwo (start_of s) asks till }
+{}
+
+/// Whatever messages to a shop and replies are lost, repeated or reordered, and wherever power fails: each till has heard
+/// its new requests with their answers, in order and each once, at most one more of its requests is new, and it was never
+/// told that it went astray.
+pub fn both_ends()
+    ensures { (s : Shop) (steps : List Step) (till : ℕ)
+        → HoldsAtBothEnds (start_of s) (after_steps (start_of s) steps) till }
+{}

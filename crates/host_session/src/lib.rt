@@ -1,0 +1,10 @@
+//! A shop on a disk: what the disk stands for at each moment, its opening, and its requests.
+#![tactic(auto)]
+
+mod faults;
+mod finding;
+mod laws;
+mod reading;
+
+pub use faults::OpenFault;
+pub use laws::{both_ends, last_two, one_shop, refused_no_shop};
