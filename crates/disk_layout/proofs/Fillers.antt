@@ -10,7 +10,7 @@ use Rattle.disk_layout.proofs.Pieces.{length-piece, length-pieces, piece, piece-
 use Rattle.disk_layout.specs.Records.{empty_record, filler, pieces}
 
 -- where a record begins
-filler-first : (L total k : ℕ) → k < total → 0 < L → filler L total (k * L) ≡ 255
+pub filler-first : (L total k : ℕ) → k < total → 0 < L → filler L total (k * L) ≡ 255
 filler-first L total k below pos =
     let z : k * L % L ≡ 0 = mul-mod_left k L in
     let lt : k * L < total * L = omega (arith, row-le k total L below) in

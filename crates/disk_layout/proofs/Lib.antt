@@ -10,6 +10,7 @@ pub mod Count
 pub mod Counts
 pub mod CountWrites
 pub mod Directories
+pub mod EmptyRecords
 pub mod Exact
 pub mod ExampleChanges
 pub mod ExampleDisk

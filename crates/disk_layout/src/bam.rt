@@ -1,5 +1,5 @@
 //! The map of free sectors: which are free, which one is next, taking and giving back.
-ghost use Rattle.std.specs.Prelude.{◌≡◌, ◌≢◌, ◌↔◌, IfOk, IsTrue, MatchOption, OnErr, length};
+ghost use Rattle.std.specs.Prelude.{◌≡◌, ◌≢◌, ◌≤◌, ◌↔◌, IfOk, IsTrue, MatchOption, OnErr, length};
 
 use crate::directory::map_place;
 use crate::views::BamView;
@@ -108,14 +108,13 @@ impl Bam {
 
     /// The lowest free sector of a track.
     fn first_on(&self, track: u8) -> Option<Place>
+        requires { track ≤ 35 }
         ensures { MatchOption result (IsFullTrack self.now.bytes track) (IsFirstOn self.now.bytes track) }
     {
-        for sector in 0..24u8 {
-            let Some(place) = Place::new(track, sector) else {
-                return None;
-            };
-            if self.is_free(place) {
-                return Some(place);
+        for eighth in 0..3u8 {
+            let bits = self.bytes[4 * track as usize + 1 + eighth as usize];
+            if bits != 0 {
+                return Place::new(track, 8 * eighth + bits.trailing_zeros() as u8);
             }
         }
         None

@@ -1,6 +1,9 @@
 //! Empty records, written into data blocks.
-ghost use Rattle.std.specs.Prelude.{◌≡◌, ℕ, ◌+◌, ◌<◌, ◌≤◌, slice_index};
+ghost use Rattle.std.specs.Prelude.{◌≡◌, ◌≢◌, ℕ, ◌+◌, ◌-◌, ◌*◌, ◌<◌, ◌≤◌, slice_index};
 ghost use Rattle.disk_layout.specs.Records.{filler};
+
+/// How many data bytes a block has.
+const DATA: u32 = 254;
 
 /// Writes empty records into a data block, from byte `from` of a file's joined data on, of which this block holds those
 /// from `at` on, 254 of them in bytes 2 to 255: FF where one of the first `total` records of `length` bytes begins, 00
@@ -13,22 +16,23 @@ pub fn fill(bytes: &mut [u8; 256], at: u32, from: u32, length: u8, total: u32)
     ensures kept { (j : ℕ) → j < 254 → at + j < from → slice_index bytes.new (2 + j) ≡ slice_index bytes.old (2 + j) }
     ensures link { (j : ℕ) → j < 2 → slice_index bytes.new j ≡ slice_index bytes.old j }
 {
-    for j in 0..254u32 {
-        if at + j >= from {
-            bytes[2 + j as usize] = filler_byte(length, total, at + j);
-        }
-    }
+    let size = length as u32;
+    let first = from.max(at).min(at + DATA);
+    bytes[2 + (first - at) as usize..].fill(0);
+    let begin = first.div_ceil(size);
+    let end = (at + DATA).div_ceil(size).min(total);
+    start_records(bytes, at, size, begin, end);
 }
 
-/// Byte `i` of so many empty records: FF where one begins, 00 elsewhere.
-fn filler_byte(length: u8, total: u32, i: u32) -> u8
-    requires total { total ≤ 1000000 }
-    requires length { 0 < length }
-    ensures { result ≡ filler length total i }
+/// Begins the records from `begin` to below `end`, counted from 0, of `size` bytes each: FF at the first byte of each.
+fn start_records(bytes: &mut [u8; 256], at: u32, size: u32, begin: u32, end: u32)
+    requires size { size ≤ 255 }
+    requires end { end ≤ 1000000 }
+    requires inside { (r : ℕ) → begin ≤ r → r < end → (at ≤ r * size) × (r * size < at + 254) }
+    ensures begun { (r : ℕ) → begin ≤ r → r < end → slice_index bytes.new (2 + (r * size - at)) ≡ 255 }
+    ensures rest { (k : ℕ) → ((r : ℕ) → begin ≤ r → r < end → k ≢ 2 + (r * size - at)) → slice_index bytes.new k ≡ slice_index bytes.old k }
 {
-    if i % length as u32 == 0 && i < total * length as u32 {
-        0xFF
-    } else {
-        0
+    for record in begin..end {
+        bytes[2 + (record * size - at) as usize] = 0xFF;
     }
 }

@@ -1,11 +1,11 @@
 //! Records read: one side sector tells the block where a record begins.
-ghost use Rattle.std.specs.Prelude.{◌+◌, ◌*◌, ◌/◌, ◌%◌, ◌++◌, length, ◌⊎◌, ℕ, ◌≡◌, ◌<◌, ◌≤◌, IfErr, IfOk, OnOk, Some, slice_get};
+ghost use Rattle.std.specs.Prelude.{◌+◌, ◌++◌, length, ◌⊎◌, ◌≡◌, ◌<◌, ◌≤◌, IfErr, OnOk, drop, take};
 ghost use Rattle.d64_image.specs.History.{OnlyReads};
 ghost use Rattle.disk_layout.specs.Layout.{File, Layout};
 ghost use Rattle.disk_layout.specs.Records as records_of;
 ghost use Rattle.rel_records.specs.Faults.{TellsRelFault};
 ghost use Rattle.rel_records.specs.File.{IsOf, OfItsFile, blocks_of, length_of, records_in};
-ghost use Rattle.rel_records.specs.Pair.{IsPair};
+ghost use Rattle.rel_records.specs.Block.{IsBlock};
 ghost use Rattle.rel_records.specs.Written.{IsAbsent, IsRecord};
 ghost use Rattle.rel_records.specs.declared.faults.RelFault.TheVariants.{Device, NotPresent};
 
@@ -18,43 +18,54 @@ use crate::rel_file::RelFile;
 use arrayvec::ArrayVec;
 use d64_image::{Place, Sectors};
 
-/// Fills `text` with the two parts.
-fn put_parts(text: &mut ArrayVec<u8, 254>, here: &[u8], there: &[u8])
-    requires { length here.now + length there.now ≤ 254 }
-    ensures { text.new.items ≡ here.now ++ there.now }
+/// Fills `text` with the record of this length that begins at data byte `start` of the block `a`, and goes on in `b`.
+fn put_record(text: &mut ArrayVec<u8, 254>, a: &[u8; 256], b: &[u8; 256], start: usize, size: usize)
+    requires start { start < 254 }
+    requires size { size ≤ 254 }
+    ensures { text.new.items ≡ take size (drop start (drop 2 a.now ++ drop 2 b.now)) }
 {
+    let (here, there) = record_parts(a, b, start, size);
     text.clear();
     text.try_extend_from_slice(here).unwrap();
     text.try_extend_from_slice(there).unwrap();
 }
 
-/// Reads the block where data byte `start` of the file lies into `a`, and into `b` the one behind it, where `size` bytes
-/// from there on reach into it.
-fn read_pair<D: Sectors>(
+/// Reads the data block of this number, from 0, as its side sector names it.
+fn read_block<D: Sectors>(
     disk: &mut D,
     file: &RelFile,
-    start: usize,
-    size: usize,
-    a: &mut [u8; 256],
-    b: &mut [u8; 256],
+    block: usize,
+    to: &mut [u8; 256],
 ) -> Result<(), RelFault>
     requires of { IsOf (D.history.image disk.old) file.now }
-    requires some { 1 ≤ size }
-    requires short { size ≤ 254 }
-    requires inside { start + size ≤ 254 * blocks_of file.now }
-    ensures ok { OfItsFile (D.history.image disk.old) file.now (λ l n f. OnOk result (IsPair (D.history.image disk.old) f.blocks (start / 254) (start % 254 + size) a.new b.new)) }
+    requires there { block < blocks_of file.now }
+    ensures ok { OfItsFile (D.history.image disk.old) file.now (λ l n f. OnOk result (IsBlock (D.history.image disk.old) f.blocks block to.new)) }
     ensures err { IfErr result (λ fault. fault ≡ Device) }
-    ensures reads { OnlyReads D.history disk.old disk.new 3 }
+    ensures reads { OnlyReads D.history disk.old disk.new 2 }
     ensures failures { TellsRelFault D.history disk.old disk.new result }
 {
-    let first = block_at(disk, file, start / DATA)?;
-    read(disk, first, a)?;
-    if start % DATA + size <= DATA {
-        return Ok(());
-    }
-    let next = Place::new(a[0], a[1]).unwrap();
-    read(disk, next, b)?;
-    Ok(())
+    let place = block_at(disk, file, block)?;
+    read(disk, place, to)
+}
+
+/// Reads the data block behind the one of this number, whose bytes name it.
+fn read_behind<D: Sectors>(
+    disk: &mut D,
+    file: &RelFile,
+    block: usize,
+    bytes: &[u8; 256],
+    to: &mut [u8; 256],
+) -> Result<(), RelFault>
+    requires of { IsOf (D.history.image disk.old) file.now }
+    requires there { block + 1 < blocks_of file.now }
+    requires here { OfItsFile (D.history.image disk.old) file.now (λ l n f. IsBlock (D.history.image disk.old) f.blocks block bytes.now) }
+    ensures ok { OfItsFile (D.history.image disk.old) file.now (λ l n f. OnOk result (IsBlock (D.history.image disk.old) f.blocks (block + 1) to.new)) }
+    ensures err { IfErr result (λ fault. fault ≡ Device) }
+    ensures reads { OnlyReads D.history disk.old disk.new 1 }
+    ensures failures { TellsRelFault D.history disk.old disk.new result }
+{
+    let next = Place::new(bytes[0], bytes[1]).unwrap();
+    read(disk, next, to)
 }
 
 /// Reads a record that is there.
@@ -76,10 +87,14 @@ fn read_there<D: Sectors>(
     let size = file.size as usize;
     let start = (number as usize - 1) * size;
     let mut a = [0; 256];
+    read_block(disk, file, start / DATA, &mut a)?;
+    if start % DATA + size <= DATA {
+        put_record(text, &a, &a, start % DATA, size);
+        return Ok(());
+    }
     let mut b = [0; 256];
-    read_pair(disk, file, start, size, &mut a, &mut b)?;
-    let (here, there) = record_parts(&a, &b, start % DATA, size);
-    put_parts(text, here, there);
+    read_behind(disk, file, start / DATA, &a, &mut b)?;
+    put_record(text, &a, &b, start % DATA, size);
     Ok(())
 }
 

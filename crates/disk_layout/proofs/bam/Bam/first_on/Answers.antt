@@ -1,10 +1,9 @@
--- The sector of the loop is the first free one, or one more that isn't.
-use Rattle.std.proofs.Common.{sym, rules}
-use Rattle.disk_layout.proofs.Picking.{found_on, one_more}
+-- The lowest 1 of the first byte that isn't 0.
+use Rattle.std.proofs.Common.{rules, ◌+◌, ◌*◌, ◌<◌, slice_index}
+use Rattle.disk_layout.proofs.Picking.{first_in}
 use Rattle.disk_layout.proofs.bam.Bam.first_on.Goals as goal
 
-pub returns-then-is_free : goal.returns-then-is_free
-returns-then-is_free c = found_on c.args.self.now.bytes c.args.track c.loop-sector.sector c.in-Some.place (sym c.in-Some.ensures.value) c.loop-sector.invariant (search rules)
-
-pub loop-sector-preserved : goal.loop-sector-preserved
-loop-sector-preserved c = one_more c.args.self.now.bytes c.args.track c.loop-sector.sector c.in-Some.place (sym c.in-Some.ensures.value) c.loop-sector.invariant (search rules)
+pub returns-then-bits-ne0 : goal.returns-then-bits-ne0
+returns-then-bits-ne0 c =
+    let fits : slice_index c.args.self.now.bytes (4 * c.args.track + 1 + c.loop-eighth.eighth) < 256 = search rules in
+    first_in c.args.self.now.bytes c.args.track c.loop-eighth.eighth c.new.result c.if-bits-ne0.true fits c.new.ensures.value c.loop-eighth.invariant

@@ -1,0 +1,39 @@
+//! The disks of the rows.
+ghost use Rattle.std.specs.Prelude.{IfOk};
+ghost use Rattle.disk_layout.specs.Clean.{IsClean};
+ghost use Rattle.rel_records.specs.File.{IsOf};
+
+use d64_image::{DeviceFault, MemDisk, Place, Sectors};
+use disk_layout::blank_image;
+use layout_check::check;
+use rel_records::{RelFile, find};
+use std::alloc::Global;
+use std::test::Fail;
+
+/// The blank disk for two tills: STOCK in 17/0 (18 bytes a record, 14 of them) with the side sector 17/1, REQUESTS in 17/2
+/// with the side sector 17/3; so 17/4 is the next free sector.
+pub(crate) fn fresh(alloc: Global) -> Result<MemDisk, Fail> {
+    let mut disk = MemDisk::zeroed(alloc)?;
+    blank_image(&mut disk, b"STOCK LEDGER", *b"01", 2)?;
+    Ok(disk)
+}
+
+/// STOCK of a clean disk.
+pub(crate) fn stock<D: Sectors>(disk: &mut D) -> Result<RelFile, Fail>
+    ensures ok { IfOk result (λ file. IsClean (D.history.image disk.new) × IsOf (D.history.image disk.new) file) }
+{
+    check(disk)?;
+    let file = find(disk, b"STOCK")?;
+    Ok(file)
+}
+
+/// A sector's bytes.
+pub(crate) fn sector<D: Sectors>(
+    disk: &mut D,
+    track: u8,
+    number: u8,
+) -> Result<[u8; 256], DeviceFault> {
+    let mut bytes = [0; 256];
+    disk.read(Place::new(track, number).ok_or(DeviceFault)?, &mut bytes)?;
+    Ok(bytes)
+}
