@@ -1,5 +1,5 @@
 -- What creation leaves: the new file as it is kept, and that of all others.
-use Rattle.std.proofs.Common.{◌≡◌, ℕ, suc, zero, ◌+◌, ◌<◌, ◌≤◌, inl, inr, IsTrue, List, [], ◌∷◌, ◌++◌, Some, ap, arith, drop, get_or, length, map, refl, subst, sym, ◌∙◌}
+use Rattle.std.proofs.Common.{◌≡◌, ℕ, suc, zero, ◌+◌, ◌<◌, inl, inr, List, [], ◌∷◌, ◌++◌, Some, ap, arith, drop, length, map, refl, subst, sym, ◌∙◌}
 use Rattle.std.specs.Prelude.{option_map, slice_get, slice_index, slice_range}
 use Rattle.std.proofs.lemmas.List.{get_or-drop, get_or-take}
 use Rattle.std.proofs.lemmas.Option.{slice_get-map}
@@ -7,7 +7,7 @@ use Rattle.d64_image.proofs.Moments.{at_end, changes_then, changes_weaker, no_wr
 use Rattle.d64_image.specs.History.{Changes, History, WritesNothing}
 use Rattle.d64_image.specs.Images.{Image}
 use Rattle.disk_layout.proofs.Lists.{made-from}
-use Rattle.disk_layout.specs.Layout.{File, IsLayout, Layout, is_rel, is_rel_type}
+use Rattle.disk_layout.specs.Layout.{File, IsLayout, Layout, is_rel_type}
 use Rattle.disk_layout.specs.Same.{Stays, stays_of}
 use Rattle.rel_records.specs.File.{IsFileOf}
 use Rattle.rel_records.specs.Made.{HasFileMore, HasFilesOf, IsCreating, IsMade, StaysOf, creation_writes}

@@ -1,5 +1,5 @@
 -- What a new file takes of a clean disk: room in the directory, and sectors that nobody owns.
-use Rattle.std.proofs.Common.{◌≡◌, ◌≢◌, ℕ, ◌+◌, ◌*◌, ◌<◌, ◌≤◌, ◌⊎◌, inl, inr, true, false, IsTrue, List, [], ◌∷◌, ◌++◌, Option, Some, None, ap, arith, drop, length, length-append, map, refl, subst, sym, take, ◌∙◌}
+use Rattle.std.proofs.Common.{◌≡◌, ◌≢◌, ℕ, ◌+◌, ◌*◌, ◌<◌, ◌≤◌, ◌⊎◌, inl, inr, List, [], ◌∷◌, ◌++◌, Option, Some, None, ap, arith, drop, length, length-append, map, refl, subst, sym, take, ◌∙◌}
 use Rattle.std.specs.Prelude.{Contains, MatchOption, slice_get, slice_range}
 use Rattle.std.specs.List.{AllByRecursion}
 use Rattle.std.proofs.lemmas.Bool.{false≢true}
@@ -26,12 +26,10 @@ use Rattle.disk_layout.specs.declared.slot.Slot.{Slot}
 use Rattle.rel_records.proofs.Found.{file-slot, slot-file}
 use Rattle.rel_records.proofs.Rooms.{contains-get}
 use Rattle.rel_records.specs.Made.{HasNoRoom, IsTakenName}
-use Rattle.rel_records.specs.NewFile.{IsTakenFor, IsTakenForDirectory}
 use Rattle.rel_records.specs.Room.{AreFullSectors, IsFirstRoom, IsFullDirectory}
 use Rattle.rel_records.specs.Site.{IsRoomOf, IsSectorSite, IsSlotSite}
 use Rattle.rel_records.specs.Steps.{TakesNext}
 use Rattle.rel_records.specs.declared.directory_room.Room.{Room}
-use Rattle.rel_records.specs.declared.site.Site.{Site}
 
 -- a directory has eighteen sectors at most
 places-on : (ps : List Place) → AllByRecursion (λ p. p.track ≡ 18) ps → ¬ (Contains ps map_place) → AllByRecursion IsDirectoryPlace ps

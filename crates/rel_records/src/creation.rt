@@ -25,13 +25,13 @@ use arrayvec::ArrayVec;
 use d64_image::{Place, Sectors};
 use disk_layout::{Bam, directory_start, padded_name, walk_chain};
 
-/// Creates a relative file of this name and record length, with one data block of empty records. Its entry goes into the
-/// first free slot of the directory, or where all slots are used into a new directory sector, the lowest free one of
-/// track 18.
+/// Creates a relative file of this name and record length, in bytes, with one data block of empty records. Its entry goes
+/// into the first free slot of the directory, or where all slots are used into a new directory sector, the lowest free one
+/// of track 18.
 ///
 /// `Exists` where an entry has the name, of whatever type. Else `Full` where fewer than two blocks are free, or the
-/// directory has neither a free slot nor a free sector. Both write nothing. The name isn't judged: whoever asks sees to it
-/// that it has no shifted space, and that the first closed relative file of it, if there is one, has another record length.
+/// directory has neither a free slot nor a free sector. Both write nothing. The name isn't judged: whoever asks sees to
+/// it that it has no shifted space, and that the first closed relative file of it, if any, has another record length.
 ///
 /// All reads come before the first write; the last write makes the file.
 pub fn create<D: Sectors>(disk: &mut D, name: &[u8], size: u8) -> Result<RelFile, RelFault>

@@ -4,8 +4,6 @@
 mod access;
 mod counting;
 mod creation;
-#[cfg(test)]
-mod creation_tests;
 mod directory_room;
 mod faults;
 mod filling;

@@ -1,5 +1,5 @@
 -- The names, the directory's room, the map.
-use Rattle.std.proofs.Common.{arith, ap, subst, sym, ◌≡◌, ◌∙◌}
+use Rattle.std.proofs.Common.{arith, ap, subst, sym, ◌∙◌}
 use Rattle.std.proofs.lemmas.Bool.{false≢true}
 use Rattle.d64_image.proofs.Moments.{no_write_then, reads_no_write, reads_then, reads_weaker}
 use Rattle.d64_image.specs.Images.{Image, sector}
@@ -48,8 +48,7 @@ pub returns-in_default-take_site-clause-full : goal.returns-in_default-take_site
 returns-in_default-take_site-clause-full g c l h e =
     let S = g.D.Sectors.history in
     let listed = c.list_slots.ensures.reads.image in
-    let P : Image → Type 0 = λ i. IsLayout i l in
-    (
+    let P : Image → Type 0 = λ i. IsLayout i l in (
       c.in_default-take_site.ensures (S.image c.args.disk.now) l (clean-at (S.image c.args.disk.now) l c.requires.clean h)
           (c.in-Ok.ensures.ok ∙ ap (λ (i : Image). sector i map_place) (c.read_room.ensures.quiet.image ∙ listed))
           (room-still _ _ l c.in_ok-room.room listed (c.in_ok-room.ensures.ok l (subst P (sym listed) h))),
@@ -79,11 +78,10 @@ pub returns-clause-fits : goal.returns-clause-fits
 returns-clause-fits g c l h =
     let S = g.D.Sectors.history in
     let listed = c.list_slots.ensures.reads.image in
-    let P : Image → Type 0 = λ i. IsLayout i l in
-    (
+    let P : Image → Type 0 = λ i. IsLayout i l in (
       (c.in-Some.ensures (S.image c.args.disk.now) l (clean-at (S.image c.args.disk.now) l c.requires.clean h)
-      (c.in-Ok.ensures.ok ∙ ap (λ (i : Image). sector i map_place) (c.read_room.ensures.quiet.image ∙ listed))
-      (room-still _ _ l c.in_ok-room.room listed (c.in_ok-room.ensures.ok l (subst P (sym listed) h)))).1,
+          (c.in-Ok.ensures.ok ∙ ap (λ (i : Image). sector i map_place) (c.read_room.ensures.quiet.image ∙ listed))
+          (room-still _ _ l c.in_ok-room.room listed (c.in_ok-room.ensures.ok l (subst P (sym listed) h)))).1,
       λ taken. false≢true (sym c.if-has_name.false ∙ c.has_name.ensures.1 (slot-taken l c.as_slice.result.now c.padded_name.result c.args.name.now (c.as_slice.ensures.value ∙ c.in_ok-list_slots.ensures.ok l h) c.padded_name.ensures taken)),
     )
 

@@ -1,8 +1,7 @@
 -- What is refused, and the file that is written.
-use Rattle.std.proofs.Common.{ap, subst, sym, ◌≡◌}
+use Rattle.std.proofs.Common.{subst, sym}
 use Rattle.std.proofs.lemmas.Result.{err_from_is_err_and}
 use Rattle.d64_image.specs.Images.{Image}
-use Rattle.disk_layout.specs.Layout.{IsLayout, Layout}
 use Rattle.rel_records.proofs.Made.{changed-others, made-file, quiet-moments, then-moments}
 use Rattle.rel_records.specs.Site.{HasFileAt, IsSite, sector_of}
 use Rattle.rel_records.proofs.creation.create.Goals as goal

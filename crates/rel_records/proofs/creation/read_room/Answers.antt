@@ -1,5 +1,5 @@
 -- The directory's sectors, and the first free slot in them.
-use Rattle.std.proofs.Common.{arith, length, subst, sym, ap, ℕ, List, ◌≡◌, ◌≤◌, ◌∙◌}
+use Rattle.std.proofs.Common.{arith, length, subst, sym, ap, ℕ, List, ◌≤◌}
 use Rattle.d64_image.proofs.Moments.{no_write_then, reads_no_write, reads_then}
 use Rattle.d64_image.specs.declared.place.Place.{Place}
 use Rattle.disk_layout.specs.Chain.{IsChain}

@@ -1,7 +1,6 @@
 -- Two sectors for the file, and the directory's room.
-use Rattle.std.proofs.Common.{arith, inl, subst, ◌≡◌, ◌<◌, ◌∙◌, ap, sym}
+use Rattle.std.proofs.Common.{arith, ap}
 use Rattle.disk_layout.specs.View.{blocks_free}
-use Rattle.d64_image.specs.Images.{Sector}
 use Rattle.rel_records.proofs.Sites.{before-few, no-sector, room-slot, sector-site, slot-site}
 use Rattle.rel_records.proofs.creation.take_site.Goals as goal
 

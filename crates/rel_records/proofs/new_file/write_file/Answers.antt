@@ -1,5 +1,5 @@
 -- Into a free slot by four writes, behind a full directory by five.
-use Rattle.std.proofs.Common.{List, ℕ, Option, subst, sym, ◌≡◌}
+use Rattle.std.proofs.Common.{List, ℕ, Option, subst, sym}
 use Rattle.std.specs.Prelude.{MatchOption}
 use Rattle.d64_image.specs.History.{Changes}
 use Rattle.d64_image.specs.declared.place.Place.{Place}
