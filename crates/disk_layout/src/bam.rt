@@ -32,6 +32,8 @@ impl Bam {
     }
 
     /// Reads 18/0.
+    // Out of line: a caller clears 256 bytes for it at its start, also where it doesn't come to read.
+    #[inline(never)]
     pub fn read<D: Sectors>(disk: &mut D) -> Result<Bam, DeviceFault>
         ensures ok { IfOk result (λ map. map.bytes ≡ sector (D.history.image disk.old) map_place) }
         ensures failures { TellsFailure D.history disk.old disk.new result }

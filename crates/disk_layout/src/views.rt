@@ -82,6 +82,8 @@ impl<'a> BamView<'a> {
     }
 
     /// The counts of all tracks but 18 together, as stored: what a directory listing ends with.
+    // Out of line: a caller sets aside room for all 35 steps at its start, also where it doesn't come to ask.
+    #[inline(never)]
     pub fn blocks_free(&self) -> u16
         ensures { result ≡ blocks_free self.now.bytes.now }
     {
