@@ -1,8 +1,15 @@
--- An opening as a whole: the check, and the look for the file.
-use Rattle.std.proofs.Common.{ℕ, ◌≡◌, ◌≤◌, ◌<◌, ◌⊎◌, inl, inr, Bool, true, false, MatchOption, List, Option, None, Some, IfOk, IsSome, Result, Ok, Err, sym, ◌∙◌, ap₂, subst, refl, arith}
+-- An opening as a whole: the check, the look for the file, its creation.
+use Rattle.std.proofs.Common.{ℕ, ◌≡◌, ◌≢◌, ◌≤◌, ◌<◌, ◌+◌, ◌⊎◌, inl, inr, Bool, true, false, MatchOption, List, Option, None, Some, IfOk, IsSome, Result, Ok, Err, OnOk, sym, ◌∙◌, ap₂, subst, refl, arith}
+use Rattle.std.proofs.lemmas.Option.{none-some, same_Some}
+use Rattle.d64_image.proofs.Moments.{changes_then, changes_weaker, reads_change, reads_then, reads_weaker}
+use Rattle.d64_image.specs.History.{Changes, History, OnlyReads}
 use Rattle.d64_image.specs.Images.{Image}
 use Rattle.disk_layout.specs.Clean.{IsClean}
+use Rattle.disk_layout.specs.Layout.{IsLayout}
+use Rattle.rel_records.specs.Made.{IsCreating}
+use Rattle.drive_channels.specs.Files.{HasFile}
 use Rattle.drive_channels.specs.Inside.{channel_of, shown}
+use Rattle.drive_channels.specs.Moments.{IsCreatingFor, IsCreatingFrom, IsOpenedBy, IsOpenedFor}
 use Rattle.drive_channels.specs.Spelling.{IsWish, Wish}
 use Rattle.drive_channels.specs.State.{Channel, View}
 use Rattle.drive_channels.specs.Tables.{Opens, OpensFile, Tells, when◌then◌otherwise◌}
@@ -22,6 +29,75 @@ same-shown img img' k k' s same closed checked closed' checked' =
 pub if-ok : {T E : Type 0} (P Q : T → Type 0) (r : Result T E) → ((x : T) → P x → Q x) → IfOk r P → IfOk r Q
 if-ok P Q (Ok x) f h = f x h
 if-ok P Q (Err e) f h = tt
+
+module _ {D E : Type 0} (S : History D) (a b c : D) where
+  -- the file is made after it was looked for
+  pub opened-made : (name : List ℕ) (length : Option ℕ) (l : ℕ) (after : Option Channel) (result : Result Status E) → OnlyReads S a b 702 → length ≡ Some l → ¬ (HasFile (S.image a) name)
+      → IfOk result (λ st. st ≢ statuses.Ok → OnlyReads S b c 55) → IfOk result (λ st. st ≡ statuses.Ok → IsSome after)
+      → Changes S b c 5 (IsCreatingFor (S.image b) (record { name = name; length = Some l }))
+      → IsOpenedFor S a c 702 (record { name = name; length = length }) after result
+  opened-made name length l after result reads given missing refused opened moments = record {
+    plain = λ none. absurd (none-some l (sym none ∙ given));
+    there = λ has. absurd (missing has);
+    refused = by result refused opened;
+    moments = changes_then S a b c 0 5 5 Held (omega arith) (reads_change S a b 702 Held reads (inl refl))
+        (changes_weaker S b c 5 5 _ Held (omega arith) (λ i x. inr (record {
+          length = l;
+          given = given;
+          layout = x.layout;
+          is_layout = subst (λ (j : Image). IsLayout j x.layout) reads.image x.is_layout;
+          creating = made i x;
+        })) moments);
+  }
+    where
+      Held : Image → Type 0
+      Held i = (i ≡ S.image a) ⊎ IsCreatingFor (S.image a) (record { name = name; length = length }) i
+
+      made : (i : Image) (x : IsCreatingFor (S.image b) (record { name = name; length = Some l }) i) → IsCreating (S.image a) x.layout name l i
+      made i x = subst (λ (m : ℕ). IsCreating (S.image a) x.layout name m i) (sym (same_Some _ _ x.given)) (subst (λ (j : Image). IsCreating j x.layout name x.length i) reads.image x.creating)
+
+      not-open : IsSome after → after ≡ None → ⊥
+      not-open some none = subst (λ (o : Option Channel). IsSome o → ⊥) (sym none) (λ h. cc) some
+
+      by : (r : Result Status E) → IfOk r (λ st. st ≢ statuses.Ok → OnlyReads S b c 55) → IfOk r (λ st. st ≡ statuses.Ok → IsSome after) → OnOk r (after ≡ None → OnlyReads S a c 757)
+      by (Ok st) refused opened = λ none. reads_then S a b c 702 55 757 (omega arith) reads (refused (λ is. not-open (opened is) none))
+      by (Err e) refused opened = tt
+
+  -- what is opened after the check
+  pub opened-by : (text : List ℕ) (w : Wish) (before after : Option Channel) (result : Result Status E) → OnlyReads S a b 2115 → IsWish text w → ((v : Wish) → IsWish text v → v ≡ w) → before ≡ None
+      → IsOpenedFor S b c 702 w after result → IsOpenedBy S a c text before after result
+  opened-by text w before after result reads is one closed opened = record {
+    plain = λ none. reads_then S a b c 2115 702 2817 (omega arith) reads (opened.plain (none w is));
+    there = λ v asked has. reads_then S a b c 2115 702 2817 (omega arith) reads
+        (opened.there (subst (λ (x : Wish). HasFile (S.image b) x.name) (one v asked) (subst (λ (i : Image). HasFile i v.name) (sym reads.image) has)));
+    refused = by result opened.refused;
+    moments = changes_then S a b c 0 5 5 (IsCreatingFrom (S.image a) text) (omega arith) (reads_change S a b 2115 (IsCreatingFrom (S.image a) text) reads (inl refl))
+        (changes_weaker S b c 5 5 _ (IsCreatingFrom (S.image a) text) (omega arith) held opened.moments);
+  }
+    where
+      held : (i : Image) → (i ≡ S.image b) ⊎ IsCreatingFor (S.image b) w i → IsCreatingFrom (S.image a) text i
+      held i h = elim h [
+        | inl same ↦ inl (same ∙ reads.image)
+        | inr x ↦ inr (w, is, subst (λ (j : Image). IsCreatingFor j w i) reads.image x)
+      ]
+
+      by : (r : Result Status E) → OnOk r (after ≡ None → OnlyReads S b c 757) → OnOk r (after ≡ before → OnlyReads S a c 2872)
+      by (Ok st) h = λ same. reads_then S a b c 2115 757 2872 (omega arith) reads (h (same ∙ closed))
+      by (Err e) h = tt
+
+-- nothing but reads
+pub read-by : {D E : Type 0} (S : History D) (a b : D) (n : ℕ) (text : List ℕ) (before after : Option Channel) (result : Result Status E) → n ≤ 2817 → OnlyReads S a b n
+    → IsOpenedBy S a b text before after result
+read-by {D} {E} S a b n text before after result few reads = record {
+  plain = λ _. reads_weaker S a b n 2817 few reads;
+  there = λ _ _ _. reads_weaker S a b n 2817 few reads;
+  refused = by result;
+  moments = changes_weaker S a b 0 5 _ _ (omega arith) (λ i h. h) (reads_change S a b n (IsCreatingFrom (S.image a) text) reads (inl refl));
+}
+  where
+    by : (r : Result Status E) → OnOk r (after ≡ before → OnlyReads S a b 2872)
+    by (Ok st) = λ _. reads_weaker S a b n 2872 (omega (arith, few)) reads
+    by (Err e) = tt
 
 -- no channel is open
 pub closed-of : (o : Option Channel) (b : Bool) → MatchOption o (b ≡ false) (λ c. b ≡ true) → b ≡ false → o ≡ None
