@@ -1,5 +1,5 @@
-//! Single sectors read and written, on a device that fails too, a slot cut out of a sector, and a block count put into it.
-use crate::{EntryView, Fault, Slot, put_count, read_sector, write_sector};
+//! Single sectors read and written, on a device that fails too, and a slot cut out of a sector.
+use crate::{Fault, Slot, read_sector, write_sector};
 use d64_image::{DeviceFault, Fuse, MemDisk, Place};
 use std::test::Fail;
 
@@ -50,18 +50,5 @@ fn slots_of_a_sector(rt: HostRuntime) -> Result<(), Fail> {
             "slot {number}"
         );
     }
-    Ok(())
-}
-
-// 720 blocks and 6 side sectors are D6 02, in the last two bytes of a slot
-#[test]
-fn a_count_low_byte_first(rt: HostRuntime) -> Result<(), Fail> {
-    let place = Place::new(18, 1).ok_or(DeviceFault)?;
-    let mut bytes = [9; 256];
-    put_count(&mut bytes, 7, 726);
-    assert_eq!(rt; &bytes[252..], [9, 9, 0xD6, 2].as_slice());
-    assert_eq!(rt; &bytes[..252], [9; 252].as_slice());
-    let slot = Slot::in_sector(&bytes, place, 7);
-    assert_eq!(rt; EntryView::new(&slot.bytes).block_count(), 726);
     Ok(())
 }

@@ -8,8 +8,6 @@ mod filling;
 mod finding;
 mod gathering;
 mod growth;
-#[cfg(test)]
-mod growth_tests;
 mod lookup;
 mod next_block;
 mod parts;
@@ -18,8 +16,6 @@ mod rel_file;
 mod sizes;
 mod step_parts;
 mod steps;
-#[cfg(test)]
-mod tests;
 mod writing;
 
 pub use counting::records;

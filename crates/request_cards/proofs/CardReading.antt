@@ -1,43 +1,23 @@
 -- A card is read where the bytes are its text, and nowhere else.
-use Rattle.std.proofs.Common.{◌≡◌, ℕ, zero, suc, ◌+◌, ◌*◌, ◌/◌, ◌%◌, ◌^◌, ◌<◌, ◌≤◌, Bool, true, false, List, [], ◌∷◌, ◌++◌, drop, take, get_or, refl, ap, ap₂, sym, subst, ◌∙◌, arith, append_assoc, pow-suc, Option, Some, None, inl, inr, ◌⊎◌}
+use Rattle.std.proofs.Common.{◌≡◌, ℕ, ◌+◌, Bool, true, false, List, [], ◌∷◌, ◌++◌, drop, get_or, refl, ap, sym, subst, ◌∙◌, arith, append_assoc, Option, Some, None, inl, inr, ◌⊎◌}
 use Rattle.std.specs.Prelude.{◌==◌, ◌&&◌, replicate, IfNone, IfSome, IsTrue, not, slice_index, unwrap_or, if◌then◌else◌, bytes_eq}
 use Rattle.std.specs.Bool.{Decides}
-use Rattle.std.specs.Char.{digit_value}
-use Rattle.std.specs.Str.Parse.{digits_value}
-use Rattle.std.proofs.lemmas.Bool.{and_parts, and_from, eqb-true, not-true}
+use Rattle.std.proofs.lemmas.Bool.{and_parts, and_from, not-true}
 use Rattle.std.proofs.lemmas.Bool.Decides.{Decides-and, Decides-eqb}
-use Rattle.std.proofs.lemmas.Int.Digits.{digits_value_push}
 use Rattle.std.proofs.lemmas.Slice.Eq.{bytes_eq-Decides}
-use Rattle.std.proofs.lemmas.Str.{digit_value_digit}
 use Rattle.request_cards.specs.declared.answer.Answer.{Answer}
 use Rattle.request_cards.specs.declared.answer.Answer.TheVariants as answers
 use Rattle.request_cards.specs.declared.kind.Kind.{Kind}
-use Rattle.request_cards.specs.declared.kind.Kind.TheVariants.{Receive, Issue, Set, Move}
+use Rattle.request_cards.specs.declared.kind.Kind.TheVariants.{Receive, Move}
 use Rattle.request_cards.specs.Requests.{Body, IsBody, is_body, may_go_to, same_kind}
 use Rattle.request_cards.specs.Ledgers.{Entry}
 use Rattle.request_cards.specs.Texts.{commas}
-use Rattle.request_cards.specs.CardTexts.{Card, IsCard, IsCardText, IsEntry, IsStock, IsStockText, Stock, answer_code, answer_quantity, answer_to_quantity, card_text, entry_fields, entry_text, fixed, goes_with, is_done, second_text, stock_text}
+use Rattle.request_cards.specs.CardTexts.{Card, IsCard, IsCardText, IsEntry, IsStock, IsStockText, Stock, answer_code, answer_quantity, answer_to_quantity, card_text, entry_fields, entry_text, goes_with, is_done, old_entry_text, second_text, stock_text}
 use Rattle.request_cards.specs.CardReading.{number_at, kind_at, answer_with, fields_at, entry_at, old_card_at, new_card_at, is_entry, is_second, is_intent, is_new_card, is_old_card, read_as, stock_at, is_stock, stock_card_of, request_card_of}
-use Rattle.request_cards.proofs.Cards.{card_cut, card_same, second_is, second_mark, second_marked}
-use Rattle.request_cards.proofs.Entries.{IsCut, body_same, code_low, entry_same, fields_cut, to_high, whole_cut}
+use Rattle.request_cards.proofs.Cards.{card_cut, card_same, second_is, second_mark, second_marked, state_of}
+use Rattle.request_cards.proofs.Entries.{IsCut, body_same, code_low, entry_same, fields_cut, goes_nowhere, kind_stands, one_quantity, to_high, whole_cut}
 use Rattle.request_cards.proofs.Fields.{Decides-leb, if_some}
-use Rattle.request_cards.proofs.Widths.{stock_cut}
-
--- the digits of a number spell it
-digits_fixed : (w n : ℕ) → n < 10 ^ w → digits_value 10 (fixed w n) ≡ n
-unfolding fixed
-digits_fixed zero n h = omega arith
-digits_fixed (suc w) n h =
-    let power : 10 ^ suc w ≡ 10 ^ w * 10 = pow-suc 10 w in
-    let front : n / 10 < 10 ^ w = omega arith in
-    let digit : digit_value (48 + n % 10) + 48 ≡ 48 + n % 10 = digit_value_digit (48 + n % 10) (omega arith, omega arith) in
-    let rest : digits_value 10 (fixed w (n / 10)) ≡ n / 10 = digits_fixed w (n / 10) front in
-    let push = digits_value_push 10 (fixed w (n / 10)) (48 + n % 10) in
-    omega (arith, push, rest, digit)
-
--- a number of this width is read where it stands
-number_reads : (bytes : List ℕ) (at w n : ℕ) → take w (drop at bytes) ≡ fixed w n → n < 10 ^ w → number_at bytes at w ≡ n
-number_reads bytes at w n e low = ap (digits_value 10) e ∙ digits_fixed w n low
+use Rattle.request_cards.proofs.Widths.{front_digits, stock_cut}
 
 -- what has its own text is read, and what is read has its text
 text_reads : {A : Type 0} (bytes : List ℕ) (x : A) (fits : Bool) (text : List ℕ) → fits ≡ true → bytes ≡ text
@@ -63,8 +43,8 @@ stock_reads : (bytes : List ℕ) (s : Stock) → IsStockText bytes s → stock_c
 unfolding stock_card_of
 stock_reads bytes s m =
     let cut = stock_cut bytes s m.1 in
-    let item = number_reads bytes 2 5 s.item cut.0 (omega (arith, m.0.item_high)) in
-    let quantity = number_reads bytes 8 9 s.quantity cut.1 (omega (arith, m.0.quantity_high)) in
+    let item = front_digits 5 s.item _ _ (omega (arith, m.0.item_high)) cut.item in
+    let quantity = front_digits 9 s.quantity _ _ (omega (arith, m.0.quantity_high)) cut.quantity in
     ap (λ (t : Stock). read_as bytes t (is_stock t) (stock_text t)) (same item quantity)
     ∙ text_reads bytes s (is_stock s) (stock_text s) ((stock_decides s).1 m.0) m.1
   where
@@ -163,15 +143,15 @@ answer_again k answers.DiskFull e = refl
 answer_again k answers.TooLarge e = refl
 
 -- the fields of an entry are read where they stand
-fields_read : (bytes : List ℕ) (at to g : ℕ) (e : Entry) (rest : List ℕ) → IsCut bytes at e rest → IsEntry e → to ≡ e.body.to
-    → g ≡ answer_to_quantity e.answer → fields_at bytes at to g ≡ e
-fields_read bytes at to g e rest cut is goes second =
-    let kind : kind_at bytes (at + 12) ≡ e.body.kind = ap (λ o. unwrap_or o Receive) (cut.kind 0) in
-    let number = number_reads bytes (at + 2) 9 e.number cut.number (omega (arith, is.number_high)) in
-    let item = number_reads bytes (at + 14) 5 e.body.item cut.item (omega (arith, is.body.item_high)) in
-    let quantity = number_reads bytes (at + 20) 9 e.body.quantity cut.quantity (omega (arith, is.body.quantity_high)) in
-    let code = number_reads bytes (at + 30) 1 _ cut.code (code_low e.answer) in
-    let first = number_reads bytes (at + 32) 9 _ cut.answer (omega (arith, is.quantity_high)) in
+fields_read : (bytes : List ℕ) (at to g : ℕ) (p : Bool) (e : Entry) (rest : List ℕ) → IsCut bytes at p e rest → IsEntry e
+    → to ≡ e.body.to → g ≡ answer_to_quantity e.answer → fields_at bytes at to g ≡ e
+fields_read bytes at to g p e rest cut is goes second =
+    let kind : kind_at bytes (at + 12) ≡ e.body.kind = ap (λ o. unwrap_or o Receive) (kind_stands bytes (at + 12) e.body.kind _ 0 cut.kind) in
+    let number = front_digits 9 e.number _ _ (omega (arith, is.number_high)) cut.number in
+    let item = front_digits 5 e.body.item _ _ (omega (arith, is.body.item_high)) cut.item in
+    let quantity = front_digits 9 e.body.quantity _ _ (omega (arith, is.body.quantity_high)) cut.quantity in
+    let code = front_digits 1 _ _ _ (code_low e.answer) cut.code in
+    let first = front_digits 9 _ _ _ (omega (arith, is.quantity_high)) cut.answer in
     let answer : answer_with (same_kind (kind_at bytes (at + 12)) Move) (number_at bytes (at + 30) 1) (number_at bytes (at + 32) 9) g ≡ e.answer =
     (λ i. answer_with (same_kind (kind i) Move) (code i) (first i) (second i)) ∙ answer_again e.body.kind e.answer is.fits in
     entry_same e _ _ _ number (body_same e.body _ _ _ to kind item quantity goes) answer
@@ -180,26 +160,9 @@ whole_reads : (bytes : List ℕ) (at : ℕ) (p : Bool) (e : Entry) (rest : List 
     → entry_at bytes at ≡ e
 whole_reads bytes at p e rest text is =
     let cut = whole_cut bytes at p e rest text in
-    fields_read bytes at _ _ e cut.more (fields_cut bytes at p e cut.more cut.fields) is
-    (number_reads bytes (at + 42) 5 e.body.to cut.to (to_high e.body is.body))
-    (number_reads bytes (at + 48) 9 _ cut.to_quantity (omega (arith, is.to_quantity_high)))
-
--- what isn't a move goes nowhere, and has one quantity in its answer
-goes_nowhere : (k : Kind) (item to : ℕ) → not (same_kind k Move) ≡ true → may_go_to k item to ≡ true → 0 ≡ to
-goes_nowhere Receive item to h g = sym (eqb-true to 0 g)
-goes_nowhere Issue item to h g = sym (eqb-true to 0 g)
-goes_nowhere Set item to h g = sym (eqb-true to 0 g)
-goes_nowhere Move item to h g = cc
-
-one_quantity : (k : Kind) (a : Answer) → not (same_kind k Move) ≡ true → goes_with k a ≡ true → 0 ≡ answer_to_quantity a
-one_quantity k (answers.Moved h g) e f =
-    (let stays : same_kind k Move ≡ false = not-true (same_kind k Move) e in let both : true ≡ false = sym f ∙ stays in cc)
-one_quantity k (answers.Done h) e f = refl
-one_quantity k (answers.Short h) e f = refl
-one_quantity k (answers.Over h) e f = refl
-one_quantity k answers.NoCard e f = refl
-one_quantity k answers.DiskFull e f = refl
-one_quantity k answers.TooLarge e f = refl
+    fields_read bytes at _ _ p e (drop (at + 41) bytes) (fields_cut bytes at p e (drop (at + 41) bytes) cut.fields) is
+    (front_digits 5 e.body.to _ _ (to_high e.body is.body) cut.to)
+    (front_digits 9 _ _ _ (omega (arith, is.to_quantity_high)) cut.to_quantity)
 
 -- a version 1 card is read
 old_text : (c : Card) → c.version ≡ 1 → card_text c ≡ commas (entry_fields c.pending c.newest []) ++ (13 ∷ replicate 85 0)
@@ -215,30 +178,53 @@ old_reads : (bytes : List ℕ) (c : Card) → IsCardText bytes c → c.version �
 old_reads bytes c m one =
     let text = m.1 ∙ old_text c one in
     let plain = m.0.old one in
-    let newest = fields_read bytes 0 0 0 c.newest _ (fields_cut bytes 0 c.pending c.newest _ text) m.0.newest
+    let newest = fields_read bytes 0 0 0 c.pending c.newest _ (fields_cut bytes 0 c.pending c.newest _ text) m.0.newest
     (goes_nowhere c.newest.body.kind _ _ plain.1 m.0.newest.body.to) (one_quantity c.newest.body.kind _ plain.1 m.0.newest.fits) in
     let state : (slice_index bytes 0 == 73) ≡ c.pending =
     ap (λ (xs : List ℕ). get_or xs 0 0 == 73) text ∙ state_mark c.pending c.newest _ in
     card_same c 1 _ _ None (sym one) state newest (sym plain.0)
 
--- a version 2 card is read
-second_reads : (bytes : List ℕ) (c : Card) → IsCardText bytes c → c.version ≡ 2
-    → (if slice_index bytes 59 == 0 then None else Some (entry_at bytes 59)) ≡ c.second
-second_reads bytes c m two =
-    let cut = card_cut bytes c m.1 two in
-    let mark = second_marked bytes c.second _ 0 cut.second in
-    by c.second (ap (λ x. x == 0) mark) (second_is c m.0) cut.second
+-- the second entry is read
+second_at : (bytes : List ℕ) (s : Option Entry) (rest : List ℕ) → IfSome s IsEntry → drop 59 bytes ≡ second_text s ++ rest
+    → (if slice_index bytes 59 == 0 then None else Some (entry_at bytes 59)) ≡ s
+second_at bytes s rest is text = by s (ap (λ x. x == 0) (second_marked bytes s rest 0 text)) is text
   where
     by : (s : Option Entry) → (slice_index bytes 59 == 0) ≡ (second_mark s == 0) → IfSome s IsEntry
-        → drop 59 bytes ≡ second_text s ++ replicate 10 0
+        → drop 59 bytes ≡ second_text s ++ rest
         → (if slice_index bytes 59 == 0 then None else Some (entry_at bytes 59)) ≡ s
     by None e is text = rw e refl
     by (Some s) e is text = rw e (ap (λ x. Some x) (whole_reads bytes 59 false s _ text is))
+
+-- a version 2 card is read
+second_reads : (bytes : List ℕ) (c : Card) → IsCardText bytes c → c.version ≡ 2
+    → (if slice_index bytes 59 == 0 then None else Some (entry_at bytes 59)) ≡ c.second
+second_reads bytes c m two = second_at bytes c.second _ (second_is c m.0) (card_cut bytes c m.1 two).second
 
 new_reads : (bytes : List ℕ) (c : Card) → IsCardText bytes c → c.version ≡ 2 → new_card_at bytes ≡ c
 new_reads bytes c m two =
     let cut = card_cut bytes c m.1 two in
     card_same c 2 _ _ _ (sym two) (cut.state 0) (whole_reads bytes 1 c.pending c.newest _ cut.newest m.0.newest) (second_reads bytes c m two)
+
+-- what was read of a card's text is that card
+pub new_same : (bytes : List ℕ) (p : Bool) (e : Entry) (s : Option Entry) → drop 1 bytes ≡ entry_text p e ++ drop 59 bytes → IsEntry e
+    → drop 59 bytes ≡ second_text s ++ drop 117 bytes → IfSome s IsEntry → (c : Card) → IsCardText bytes c → c.version ≡ 2
+    → ◌≡◌ {A = Card} (record { version = 2; pending = p; newest = e; second = s }) c
+new_same bytes p e s text is behind ranges c m two =
+    let cut = card_cut bytes c m.1 two in
+    card_same c 2 p e s (sym two) (sym (state_of bytes p e _ text) ∙ cut.state 0)
+    (sym (whole_reads bytes 1 p e _ text is) ∙ whole_reads bytes 1 c.pending c.newest _ cut.newest m.0.newest)
+    (sym (second_at bytes s _ ranges behind) ∙ second_reads bytes c m two)
+
+pub old_same : (bytes : List ℕ) (p : Bool) (e : Entry) → bytes ≡ old_entry_text p e ++ drop 42 bytes → IsEntry e
+    → (e.body.to ≡ 0) × (answer_to_quantity e.answer ≡ 0) → (c : Card) → IsCardText bytes c → c.version ≡ 1
+    → ◌≡◌ {A = Card} (record { version = 1; pending = p; newest = e; second = None }) c
+old_same bytes p e text is plain c m one =
+    let front = text ∙ append_assoc (commas (entry_fields p e [])) (13 ∷ []) (drop 42 bytes) in
+    let read = old_reads bytes c m one in
+    let state : (slice_index bytes 0 == 73) ≡ p = ap (λ (xs : List ℕ). get_or xs 0 0 == 73) front ∙ state_mark p e _ in
+    let newest = fields_read bytes 0 0 0 p e _ (fields_cut bytes 0 p e _ front) is (sym plain.0) (sym plain.1) in
+    card_same c 1 p e None (ap (λ (d : Card). d.version) read) (sym state ∙ ap (λ (d : Card). d.pending) read)
+    (sym newest ∙ ap (λ (d : Card). d.newest) read) (ap (λ (d : Card). d.second) read)
 
 -- the first byte tells the version
 old_first : (p : Bool) (e : Entry) (rest : List ℕ) → (get_or (commas (entry_fields p e []) ++ rest) 0 0 == 50) ≡ false
