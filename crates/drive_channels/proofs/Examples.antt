@@ -1,5 +1,6 @@
 -- The definitions on small values: none is empty, and each says what its comment says.
 use Rattle.std.proofs.Common.{ℕ, ◌≡◌, ◌++◌, ◌⊎◌, inl, inr, true, false, [], ◌∷◌, List, None, Some, codes, refl, arith}
+use Rattle.std.proofs.lemmas.Option.{none-some}
 use Rattle.d64_image.specs.Images.{Image}
 use Rattle.drive_channels.specs.Given.{IsGiven}
 use Rattle.drive_channels.specs.Moments.{is_nil}
@@ -14,7 +15,7 @@ name_bytes : (is_name_byte 83 ≡ true) × (is_name_byte 44 ≡ false) × (is_na
 name_bytes = (refl, refl, refl, refl)
 
 stock_is_a_name : IsName (codes "STOCK")
-stock_is_a_name = record { low = omega arith; high = omega arith; bytes = (tt, tt, tt, tt, tt, tt) }
+stock_is_a_name = record { low = omega arith; high = omega arith; bytes = (refl, (refl, (refl, (refl, (refl, tt))))) }
 
 -- STOCK asks for the file, and STOCK,L, with 18 behind it for one with records of 18 bytes
 name_alone : IsWish (codes "STOCK") (record { name = codes "STOCK"; length = None })
@@ -45,7 +46,7 @@ empty_texts : (is_nil [] ≡ true) × (is_nil (65 ∷ []) ≡ false)
 empty_texts = (refl, refl)
 
 -- channel 2 at record 15, position 4
-two : Channel
+abbrev two : Channel
 two = record { number = 2; entry = 0; record_number = 15; position = 4 }
 
 -- closing 2 closes it, closing 3 doesn't; behind it lies record 16, position 1
@@ -54,7 +55,7 @@ channels = (refl, refl, refl)
 
 module _ (img : Image) where
   -- just switched on
-  off : View
+  abbrev off : View
   off = record { image = img; channel = None; status = statuses.PowerOn; checked = false }
 
   -- with no channel open
@@ -62,7 +63,7 @@ module _ (img : Image) where
   no_channel = inl (inr (inl (omega arith)), refl)
 
   not_open : Reads off 2 [] (record off { status = statuses.FileNotOpen }) × Writes off 2 (codes "A") (record off { status = statuses.FileNotOpen })
-  not_open = (inl ((λ h. cc), refl, refl), inl ((λ h. cc), refl))
+  not_open = (inl ((λ h. none-some h.0 h.1.0), (refl, refl)), inl ((λ h. none-some h.0 h.1.0), refl))
 
   closed : Closes off 2 (record off { status = statuses.Ok })
   closed = refl
@@ -71,11 +72,11 @@ module _ (img : Image) where
   empty_command = inl (refl, refl)
 
   -- with channel 2 open no other is opened, and closing it shuts it
-  on : View
+  abbrev on : View
   on = record { image = img; channel = Some two; status = statuses.Ok; checked = true }
 
   one_at_a_time : Opens on 3 (codes "REQUESTS") (record on { status = statuses.NoChannel })
-  one_at_a_time = inl (inr (inr tt), refl)
+  one_at_a_time = inl (inr (inr refl), refl)
 
   shut : Closes on 2 (record on { channel = None; status = statuses.Ok })
   shut = refl

@@ -1,3 +1,4 @@
+pub mod Callers
 pub mod Examples
 pub mod Finds
 pub mod Given

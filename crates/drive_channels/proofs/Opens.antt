@@ -155,16 +155,7 @@ pub makes-of : (old new : Image) (l : Layout) (name : List ℕ) (L : ℕ) (v : R
 makes-of old new l name L v layout made = record {
   layout = l;
   is_layout = layout;
-  more = record {
-    layout = made.layout;
-    clean = made.clean;
-    file = made.file;
-    adds = made.adds;
-    named = made.named;
-    size = made.size;
-    one = made.one;
-    records_are = made.records_are;
-  };
+  more = made.more;
   there = made.of.there;
 }
 
@@ -175,9 +166,9 @@ pub known-made : (old new : Image) (l : Layout) (name : List ℕ) (L : ℕ) (v :
 known-made old new l name L v e s number made free file named is low high checked yes-checked = record {
   fresh = λ off. absurd (both off);
   remembered = λ _. record {
-    clean = (made.layout, made.clean);
-    last_found = found-new new e v name made.layout made.file file named
-        (first-made old new l made.layout name made.file made.adds free (entry_of v) made.of.there made.named) made.of;
+    clean = (made.more.layout, made.more.clean);
+    last_found = found-new new e v name made.more.layout made.more.file file named
+        (first-made old new l made.more.layout name made.more.file made.more.adds free (entry_of v) made.of.there made.more.named) made.of;
     spot = subst (IsSpot e) (sym is) (record { low = low; high = high; record_from = omega arith; up_to = omega arith; from = omega arith; within = e.file.size_low });
     before_found = tt;
     apart = tt;

@@ -3,15 +3,17 @@ ghost use Rattle.std.specs.Prelude.{◌≡◌, ◌≢◌, ◌≤◌, ◌↔◌, 
 ghost use Rattle.d64_image.specs.History.{Changes, OnlyReads, TellsFailure};
 ghost use Rattle.d64_image.specs.Images.{Image};
 ghost use Rattle.disk_layout.specs.Clean.{IsClean};
+ghost use Rattle.disk_layout.specs.Layout.{IsLayout, Layout};
 ghost use Rattle.disk_layout.specs.Rest.{slot_name};
 ghost use Rattle.drive_channels.specs.Files.{HasFile};
-ghost use Rattle.drive_channels.specs.Moments.{IsCreatingFor, IsCreatingFrom, IsOpenedBy, IsOpenedFor};
+ghost use Rattle.drive_channels.specs.Moments.{IsCreatingFrom, IsOpenedBy, IsOpenedFor};
 ghost use Rattle.drive_channels.specs.Serving.{Serves};
 ghost use Rattle.drive_channels.specs.Spelling.{IsWish, Wish};
 ghost use Rattle.drive_channels.specs.State.{view_of};
 ghost use Rattle.drive_channels.specs.Tables.{Opens, OpensFile};
 ghost use Rattle.drive_channels.specs.Wishes.{wish_of};
 ghost use Rattle.rel_records.specs.File.{length_of};
+ghost use Rattle.rel_records.specs.Made.{IsCreating, creation_writes};
 ghost use Rattle.drive_channels.specs.Inside.{HasLooked, IsFound, IsKnown, channel_of, closed_with, found_in, shown};
 ghost use Rattle.drive_channels.specs.declared.status.Status as statuses;
 ghost use Rattle.drive_channels.specs.declared.status.Status.TheVariants as told;
@@ -193,15 +195,14 @@ impl Known {
         requires missing { ¬ (HasFile (D.history.image disk.old) name.now) }
         requires low { 2 ≤ channel }
         requires high { channel ≤ 14 }
-        requires name_low { 1 ≤ length name.now }
-        requires name_high { length name.now ≤ 16 }
+        requires name { length name.now ≤ 16 }
         requires size_low { 1 ≤ size }
         requires size_high { size ≤ 254 }
         ensures row { IfOk result (λ status. (s : statuses.Status) → OpensFile (shown (D.history.image disk.old) self.old s) channel (record { name = name.now; length = Some size }) (shown (D.history.image disk.new) self.new status)) }
         ensures known { OnOk result (IsKnown (D.history.image disk.new) self.new) }
         ensures refused { IfOk result (λ status. status ≢ told.Ok → OnlyReads D.history disk.old disk.new 55) }
         ensures opened { IfOk result (λ status. status ≡ told.Ok → IsSome (channel_of self.new.last)) }
-        ensures moments { Changes D.history disk.old disk.new 5 (IsCreatingFor (D.history.image disk.old) (record { name = name.now; length = Some size })) }
+        ensures moments { (l : Layout) → IsLayout (D.history.image disk.old) l → Changes D.history disk.old disk.new (creation_writes l) (IsCreating (D.history.image disk.old) l name.now size) }
         ensures failures { TellsFailure D.history disk.old disk.new result }
     {
         match create(disk, name, size) {
@@ -288,8 +289,9 @@ impl<D: Sectors> Drive<D> {
         ensures plain { ((w : Wish) → IsWish text.now w → w.length ≡ None) → OnlyReads D.history self.old.disk self.new.disk 2817 }
         ensures there { (w : Wish) → IsWish text.now w → HasFile (D.history.image self.old.disk) w.name → OnlyReads D.history self.old.disk self.new.disk 2817 }
         ensures refused { OnOk result (self.new.channel ≡ self.old.channel → OnlyReads D.history self.old.disk self.new.disk 2872) }
-        // else every image held is one of the creation
-        ensures moments { Changes D.history self.old.disk self.new.disk 5 (IsCreatingFrom (D.history.image self.old.disk) text.now) }
+        // nor on a disk that isn't clean; else every image held is one of the creation, and so is the count of writes
+        ensures unclean { ¬ (IsClean (D.history.image self.old.disk)) → OnlyReads D.history self.old.disk self.new.disk 2115 }
+        ensures moments { (l : Layout) → IsLayout (D.history.image self.old.disk) l → Changes D.history self.old.disk self.new.disk (creation_writes l) (IsCreatingFrom (D.history.image self.old.disk) l text.now) }
     {
         if self.dead {
             return Err(Dead);

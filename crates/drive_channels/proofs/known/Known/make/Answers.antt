@@ -1,5 +1,4 @@
-use Rattle.std.proofs.Common.{◌≡◌, ◌⊎◌, ◌∙◌, inl, inr, None, Some, ap₂, arith, refl}
-use Rattle.d64_image.proofs.Moments.{changes_weaker}
+use Rattle.std.proofs.Common.{◌≡◌, ◌⊎◌, ◌∙◌, inl, inr, None, Some, ap₂, refl}
 use Rattle.drive_channels.proofs.Opens.{full-row, known-made, known-still, made-row, makes-of, taken-row}
 use Rattle.drive_channels.proofs.Refusals.{calm}
 use Rattle.drive_channels.proofs.known.Known.make.Goals as goal
@@ -32,15 +31,14 @@ returns-in-Ok g c =
     record {
       row = λ s. made-row (S.image c.args.disk.now) c.args.self.now c.args.name.now c.requires.missing c.args.channel s c.args.size _
           (record { last = Some (record { found = c.found_as-found.result; spot = Some c.first.result }); before = None; checked = c.args.self.now.checked }) (entry_of c.in-Ok.file)
-          (λ h. (c.in-Ok.ensures.exists h.0 h.1).1 h.2) (λ h. (c.in-Ok.ensures.full h.0 h.1).1 h.2) (makes-of _ _ clean.0 c.args.name.now c.args.size c.in-Ok.file clean.1.layout made)
+          (λ h. (c.in-Ok.ensures.fits h.0 h.1).1 h.2) (λ h. (c.in-Ok.ensures.fits h.0 h.1).0 h.2) (makes-of _ _ clean.0 c.args.name.now c.args.size c.in-Ok.file clean.1.layout made)
           (ap₂ (λ (v : RelFile) (s : Spot). Some (channel_at (entry_of v) s)) c.found_as-found.ensures.file c.first.ensures) refl;
       known = known-made _ _ clean.0 c.args.name.now c.args.size c.in-Ok.file c.found_as-found.result c.first.result c.args.channel made
-          (λ h. (c.in-Ok.ensures.exists clean.0 clean.1.layout).1 h) c.found_as-found.ensures.file name c.first.ensures
+          (c.in-Ok.ensures.fits clean.0 clean.1.layout).1 c.found_as-found.ensures.file name c.first.ensures
           c.requires.low c.requires.high c.args.self.now.checked c.requires.checked;
       refused = λ other. absurd (ok-ok other);
       opened = λ _. refl;
-      moments = changes_weaker S _ _ 5 5 _ _ (omega arith) (λ i x. record { length = c.args.size; given = refl; layout = clean.0; is_layout = clean.1.layout; creating = x })
-          (c.in-Ok.ensures.moments clean.0 clean.1.layout);
+      moments = c.in-Ok.ensures.moments;
       failures = c.in-Ok.ensures.failures;
     }
 
@@ -52,20 +50,13 @@ returns-in-Exists g c =
     let reads = c.in-Err.ensures.refused other in
     record {
       row = λ s. taken-row (S.image c.args.disk.now) c.args.self.now c.args.name.now c.requires.missing c.args.channel s c.args.size _ reads.image
-          (clean.0, clean.1.layout, (c.in-Err.ensures.exists clean.0 clean.1.layout).0 c.in-Exists.is);
+          (clean.0, clean.1.layout, c.in-Err.ensures.exists clean.0 clean.1.layout c.in-Exists.is);
       known = known-still _ _ c.args.self.now reads.image c.requires.known;
       refused = λ _. reads;
       opened = λ is. absurd (taken-ok is);
-      moments = changes_weaker S _ _ 5 5 _ _ (omega arith) (λ i x. record { length = c.args.size; given = refl; layout = clean.0; is_layout = clean.1.layout; creating = x })
-          (c.in-Err.ensures.moments clean.0 clean.1.layout);
+      moments = c.in-Err.ensures.moments;
       failures = calm RelFile S _ _ c.in-Err.fault other c.in-Err.ensures.failures;
     }
-
-pub returns-in-Device-clause-moments : goal.returns-in-Device-clause-moments
-returns-in-Device-clause-moments g c =
-    let clean = (c.requires.known.remembered c.requires.checked).clean in
-    changes_weaker g.D.Sectors.history _ _ 5 5 _ _ (omega arith) (λ i x. record { length = c.args.size; given = refl; layout = clean.0; is_layout = clean.1.layout; creating = x })
-    (c.in-Err.ensures.moments clean.0 clean.1.layout)
 
 pub returns-in_default : goal.returns-in_default
 returns-in_default g c =
@@ -75,12 +66,11 @@ returns-in_default g c =
     let full = only c.in-Err.fault c.in_default.not-Exists c.in_default.not-Device c.in-Err.ensures.told in
     record {
       row = λ s. full-row (S.image c.args.disk.now) c.args.self.now c.args.name.now c.requires.missing c.args.channel s c.args.size _ reads.image
-          (λ h. ((c.in-Err.ensures.full h.0 h.1).0 full).1 h.2) (clean.0, clean.1.layout, ((c.in-Err.ensures.full clean.0 clean.1.layout).0 full).0);
+          (λ h. (c.in-Err.ensures.full h.0 h.1 full).1 h.2) (clean.0, clean.1.layout, (c.in-Err.ensures.full clean.0 clean.1.layout full).0);
       known = known-still _ _ c.args.self.now reads.image c.requires.known;
       refused = λ _. reads;
       opened = λ is. absurd (full-ok is);
-      moments = changes_weaker S _ _ 5 5 _ _ (omega arith) (λ i x. record { length = c.args.size; given = refl; layout = clean.0; is_layout = clean.1.layout; creating = x })
-          (c.in-Err.ensures.moments clean.0 clean.1.layout);
+      moments = c.in-Err.ensures.moments;
       failures = calm RelFile S _ _ c.in-Err.fault c.in_default.not-Device c.in-Err.ensures.failures;
     }
   where

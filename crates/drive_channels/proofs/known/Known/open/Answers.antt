@@ -38,5 +38,6 @@ returns-clause-row g c =
     c.open_file.ensures.row
 
 pub returns-clause-opened : goal.returns-clause-opened
-returns-clause-opened g c = opened-by g.D.Sectors.history _ _ _ c.args.text.now (wish_of c.in-Some.wish) _ _ c.open_file.result c.passes_check.ensures.reads c.in-Some.ensures
+returns-clause-opened g c = opened-by g.D.Sectors.history _ _ _ c.args.text.now (wish_of c.in-Some.wish) _ _ c.open_file.result c.passes_check.ensures.reads
+    ((c.in_ok-passes_check.ensures.passed c.if-not-branch.false).1.remembered (c.in_ok-passes_check.ensures.passed c.if-not-branch.false).0).clean c.in-Some.ensures
     (λ v is. wish-one c.args.text.now v (wish_of c.in-Some.wish) is c.in-Some.ensures) (closed-of _ c.is_open.result c.is_open.ensures c.if-is_open.false) c.open_file.ensures.opened
