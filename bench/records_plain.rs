@@ -9,24 +9,24 @@
 use std::process::exit;
 use std::{env, fs};
 
-const SECTORS: usize = 683;
+pub const SECTORS: usize = 683;
 /// How many bytes of a block are data.
 const DATA: usize = 254;
 /// How many data blocks a side sector points to.
 const POINTERS: usize = 120;
 /// How many records STOCK has when it fills the disk.
-const RECORDS: u32 = 9256;
+pub const RECORDS: u32 = 9256;
 
-type Sector = [u8; 256];
+pub type Sector = [u8; 256];
 
 #[derive(Clone, Copy, Debug, PartialEq)]
-struct Place {
+pub struct Place {
     track: u8,
     sector: u8,
 }
 
 #[derive(Clone, Copy, Debug, PartialEq)]
-enum Fault {
+pub enum Fault {
     NotFound,
     NotPresent,
     TooLarge,
@@ -71,13 +71,13 @@ impl Place {
     }
 }
 
-trait Sectors {
+pub trait Sectors {
     fn read(&mut self, place: Place, to: &mut Sector) -> Result<(), Fault>;
     fn write(&mut self, place: Place, from: &Sector) -> Result<(), Fault>;
 }
 
-struct MemDisk {
-    sectors: Vec<Sector>,
+pub struct MemDisk {
+    pub sectors: Vec<Sector>,
 }
 
 impl Sectors for MemDisk {
@@ -189,24 +189,24 @@ fn start_records(block: &mut Sector, at: usize, from: usize, length: usize, reco
 }
 
 /// What is kept of a relative file.
-struct RelFile {
+pub struct RelFile {
     /// The directory sector, and where the slot begins in it.
     sector: Place,
     slot: usize,
-    length: usize,
+    pub length: usize,
     sides: Vec<Place>,
     blocks: usize,
     last: u8,
 }
 
 impl RelFile {
-    fn records(&self) -> u32 {
+    pub fn records(&self) -> u32 {
         ((DATA * (self.blocks - 1) + self.last.max(1) as usize - 1) / self.length) as u32
     }
 }
 
 /// Finds the first relative file of this name.
-fn find<D: Sectors>(disk: &mut D, name: &[u8]) -> Result<RelFile, Fault> {
+pub fn find<D: Sectors>(disk: &mut D, name: &[u8]) -> Result<RelFile, Fault> {
     let mut padded = [0xA0; 16];
     padded.get_mut(..name.len()).ok_or(Fault::NotFound)?.copy_from_slice(name);
     let mut bytes = [0; 256];
@@ -367,7 +367,7 @@ fn write_block<D: Sectors>(disk: &mut D, place: Place, start: usize, end: usize,
 }
 
 /// Writes the text into a record from the position on, counted from 1, and zeros behind it; the file grows where it has to.
-fn write_record<D: Sectors>(disk: &mut D, file: &mut RelFile, number: u32, position: usize, text: &[u8]) -> Result<(), Fault> {
+pub fn write_record<D: Sectors>(disk: &mut D, file: &mut RelFile, number: u32, position: usize, text: &[u8]) -> Result<(), Fault> {
     grow_to(disk, file, number)?;
     let start = (number as usize - 1) * file.length + position - 1;
     let end = number as usize * file.length;
@@ -384,14 +384,14 @@ fn write_record<D: Sectors>(disk: &mut D, file: &mut RelFile, number: u32, posit
     Ok(())
 }
 
-fn grow_stock<D: Sectors>(disk: &mut D) -> Result<RelFile, Fault> {
+pub fn grow_stock<D: Sectors>(disk: &mut D) -> Result<RelFile, Fault> {
     blank(disk)?;
     let mut file = find(disk, b"STOCK")?;
     grow_to(disk, &mut file, RECORDS)?;
     Ok(file)
 }
 
-fn next_number(number: u32) -> u32 {
+pub fn next_number(number: u32) -> u32 {
     (number + 3570) % RECORDS + 1
 }
 
@@ -417,7 +417,7 @@ fn write_spread<D: Sectors>(disk: &mut D, file: &mut RelFile, rounds: u64) -> Re
     Ok(())
 }
 
-fn checksum(disk: &MemDisk) -> u64 {
+pub fn checksum(disk: &MemDisk) -> u64 {
     let bytes = disk.sectors.as_flattened().iter();
     bytes.fold(0, |sum, &byte| sum.wrapping_mul(31).wrapping_add(u64::from(byte)))
 }

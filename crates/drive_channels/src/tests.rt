@@ -9,13 +9,15 @@ use std::alloc::Global;
 use std::process::Abort;
 use std::test::Fail;
 
-fn fresh(alloc: Global) -> Result<MemDisk, Fail> {
+/// A fresh disk for two tills.
+pub(crate) fn fresh(alloc: Global) -> Result<MemDisk, Fail> {
     let mut disk = MemDisk::zeroed(alloc)?;
     blank_image(&mut disk, b"STOCK LEDGER", *b"01", 2)?;
     Ok(disk)
 }
 
-fn change(disk: &mut MemDisk, track: u8, sector: u8, at: u8, byte: u8) -> Result<(), Fail> {
+/// Changes one byte of a sector.
+pub(crate) fn change(disk: &mut MemDisk, track: u8, sector: u8, at: u8, byte: u8) -> Result<(), Fail> {
     let place = Place::new(track, sector).ok_or(DeviceFault)?;
     let mut bytes = [0; 256];
     disk.read(place, &mut bytes)?;
@@ -25,7 +27,8 @@ fn change(disk: &mut MemDisk, track: u8, sector: u8, at: u8, byte: u8) -> Result
 }
 
 /// A call, with what it is handed; of a read, what it gives.
-enum Call<'a> {
+#[derive(Clone, Copy)]
+pub(crate) enum Call<'a> {
     Open(u8, &'a [u8]),
     Close(u8),
     Command(&'a [u8]),
@@ -34,7 +37,7 @@ enum Call<'a> {
 }
 
 /// Does the calls one after another, and compares each one's status, and what a read gives, with the ones in the table.
-fn rows<D: Sectors>(
+pub(crate) fn rows<D: Sectors>(
     rt: &impl Abort,
     drive: &mut Drive<D>,
     calls: &[(Call<'_>, u8)],
@@ -190,27 +193,6 @@ fn checks_and_repairs(rt: HostRuntime) -> Result<(), Fail> {
         &[(Call::Command(b"V0"), 71), (Call::Open(2, b"STOCK"), 71)],
     )?;
     assert_eq!(rt; drive.into_disk().writes(), 0);
-    Ok(())
-}
-
-#[test]
-fn a_full_disk(rt: HostRuntime) -> Result<(), Fail> {
-    let mut drive = Drive::power_on(Meter::new(fresh(rt.alloc())?));
-    rows(
-        &rt,
-        &mut drive,
-        &[
-            (Call::Open(2, b"STOCK"), 0),
-            // record 9256 takes every free block
-            (Call::Command(b"P\x62\x28\x24"), 50),
-            (Call::Write(2, b""), 0),
-            (Call::Command(b"P\x62\x29\x24"), 50),
-            (Call::Write(2, b"A"), 52),
-            (Call::Close(2), 0),
-            (Call::Open(2, b"NEW,L,\x50"), 72),
-            (Call::Open(2, b"NEW"), 62),
-        ],
-    )?;
     Ok(())
 }
 
