@@ -1,7 +1,7 @@
 -- The definitions on small numbers: none is empty, and each says what its comment says.
-use Rattle.std.proofs.Common.{refl, [], ◌∷◌, List, ℕ, ◌≡◌}
+use Rattle.std.proofs.Common.{refl, [], ◌∷◌, ◌≡◌}
 use Rattle.rel_records.specs.Growth.{added, blocks_for, full, needed, run_writes, side_writes}
-use Rattle.rel_records.specs.Written.{grown_by, half_written, patched, room_in_first, touched, with_written, written}
+use Rattle.rel_records.specs.Written.{grown_by, patched, room_in_first, touched, with_written, written}
 
 -- STOCK, of 18 bytes a record: record 9256 needs 656 data blocks, record 10160 is the last of 720, one block holds 14
 blocks : (blocks_for 18 9256 ≡ 656) × (blocks_for 18 10160 ≡ 720) × (blocks_for 18 10161 ≡ 721) × (full 18 1 ≡ 14) × (full 18 2 ≡ 28)
