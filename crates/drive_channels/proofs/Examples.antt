@@ -1,13 +1,13 @@
 -- The definitions on small values: none is empty, and each says what its comment says.
-use Rattle.std.proofs.Common.{ℕ, ◌≡◌, ◌++◌, ◌⊎◌, inl, inr, true, false, [], ◌∷◌, List, None, Some, codes, refl, arith}
+use Rattle.std.proofs.Common.{◌≡◌, ◌++◌, inl, inr, true, false, [], ◌∷◌, None, Some, codes, refl, arith}
 use Rattle.std.proofs.lemmas.Option.{none-some}
 use Rattle.d64_image.specs.Images.{Image}
 use Rattle.drive_channels.specs.Given.{IsGiven}
 use Rattle.drive_channels.specs.Moments.{is_nil}
-use Rattle.drive_channels.specs.Spelling.{BeginsWithP, IsInitialize, IsName, IsTail, IsValidate, IsWish, is_name_byte, wanted_channel, wanted_position, wanted_record}
+use Rattle.drive_channels.specs.Spelling.{BeginsWithP, IsInitialize, IsName, IsValidate, IsWish, is_name_byte, wanted_channel, wanted_position, wanted_record}
 use Rattle.drive_channels.specs.State.{Channel, View}
 use Rattle.drive_channels.specs.Statuses.{status_number, status_text}
-use Rattle.drive_channels.specs.Tables.{Closes, Commands, Opens, Reads, Tells, Writes, channel_without, next_place}
+use Rattle.drive_channels.specs.Tables.{Closes, Commands, Opens, Reads, Writes, channel_without, next_place}
 use Rattle.drive_channels.specs.declared.status.Status.TheVariants as statuses
 
 -- S is a byte of a name; a comma, @ and a byte past $5F aren't

@@ -1,5 +1,5 @@
 -- A file that was made is the first of its name.
-use Rattle.std.proofs.Common.{ℕ, zero, suc, ◌≡◌, ◌≢◌, ◌<◌, ◌++◌, [], ◌∷◌, List, Some, Contains, length, map, option_map, slice_get, slice_range, sym, ◌∙◌, ap, subst, refl, arith}
+use Rattle.std.proofs.Common.{ℕ, zero, suc, ◌≡◌, ◌≢◌, ◌++◌, [], ◌∷◌, List, Some, Contains, length, map, option_map, slice_get, slice_range, sym, ◌∙◌, ap, subst, refl, arith}
 use Rattle.std.proofs.lemmas.Option.{slice_get-map}
 use Rattle.d64_image.specs.Images.{Image}
 use Rattle.disk_layout.proofs.Kept.{kept-of_stays}
@@ -23,7 +23,7 @@ module _ (old new : Image) (l m : Layout) (name : List ℕ) (f : File) (adds : A
   other-name k g away at named =
       let there : slice_get (map (stays_of new) m.files) k ≡ Some (stays_of new g) = slice_get-map (stays_of new) m.files k ∙ ap (option_map (stays_of new)) at in
       let was : Contains (map (stays_of old) l.files) (stays_of new g) = subst (λ (ss : List Stays). Contains ss (stays_of new g)) (sym adds.had)
-          (elsewhere adds.before adds.after (stays_of new f) k (stays_of new g) away (subst (λ (ss : List Stays). slice_get ss k ≡ Some (stays_of new g)) adds.has there)) in
+      (elsewhere adds.before adds.after (stays_of new f) k (stays_of new g) away (subst (λ (ss : List Stays). slice_get ss k ≡ Some (stays_of new g)) adds.has there)) in
       let h = map-in (stays_of old) l.files (stays_of new g) was in
       free (h.0, h.1, ap (λ (k : Kept). k.name) (kept-of_stays old new h.0 g h.2) ∙ named)
 

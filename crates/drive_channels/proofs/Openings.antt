@@ -1,6 +1,6 @@
 -- An opening as a whole: the check, the look for the file, its creation.
-use Rattle.std.proofs.Common.{ℕ, ◌≡◌, ◌≢◌, ◌≤◌, ◌<◌, ◌+◌, ◌⊎◌, inl, inr, Bool, true, false, MatchOption, List, Option, None, Some, IfOk, IsSome, Result, Ok, Err, OnOk, sym, ◌∙◌, ap₂, subst, refl, arith}
-use Rattle.std.proofs.lemmas.Option.{none-some, same_Some}
+use Rattle.std.proofs.Common.{ℕ, ◌≡◌, ◌≢◌, ◌≤◌, ◌<◌, ◌⊎◌, inl, inr, Bool, true, false, MatchOption, List, Option, None, Some, IfOk, IsSome, Result, Ok, Err, OnOk, sym, ◌∙◌, ap₂, subst, refl, arith}
+use Rattle.std.proofs.lemmas.Option.{none-some}
 use Rattle.d64_image.proofs.Moments.{changes_then, changes_weaker, reads_change, reads_then, reads_weaker}
 use Rattle.d64_image.specs.History.{Changes, History, OnlyReads}
 use Rattle.d64_image.specs.Images.{Image}

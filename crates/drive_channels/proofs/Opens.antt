@@ -4,19 +4,17 @@ use Rattle.std.proofs.lemmas.Option.{none-some, same_Some}
 use Rattle.d64_image.specs.Images.{Image}
 use Rattle.disk_layout.proofs.Layouts.{IsLayout-one}
 use Rattle.disk_layout.proofs.Uniques.{IsFirst-one}
-use Rattle.disk_layout.specs.Clean.{IsClean}
 use Rattle.disk_layout.specs.Layout.{File, IsLayout, Layout, record_length}
 use Rattle.disk_layout.specs.Rest.{IsFirst, slot_name}
-use Rattle.rel_records.specs.File.{Shows, entry_of, length_of}
+use Rattle.rel_records.specs.File.{entry_of, length_of}
 use Rattle.rel_records.specs.Made.{IsMade, IsTakenName}
 use Rattle.rel_records.specs.declared.rel_file.RelFile.{RelFile}
 use Rattle.drive_channels.proofs.Finds.{found-file, found-named, found-new}
 use Rattle.drive_channels.proofs.Made.{first-made}
 use Rattle.drive_channels.proofs.Steady.{found-last}
 use Rattle.drive_channels.specs.Files.{HasEntry, HasFile, HasOther, IsNamedFile, IsNoRoom, Makes}
-use Rattle.drive_channels.specs.Inside.{HasLooked, IsFound, IsKnown, IsSpot, Remembers, channel_at, channel_of, first_spot, shown}
-use Rattle.drive_channels.specs.Spelling.{Wish}
-use Rattle.drive_channels.specs.State.{Channel, View}
+use Rattle.drive_channels.specs.Inside.{HasLooked, IsFound, IsKnown, IsSpot, channel_at, channel_of, first_spot, shown}
+use Rattle.drive_channels.specs.State.{Channel}
 use Rattle.drive_channels.specs.Tables.{OpensFile}
 use Rattle.drive_channels.specs.declared.found.Found.{Found}
 use Rattle.drive_channels.specs.declared.found.Opened.{Opened}

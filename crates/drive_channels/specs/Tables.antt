@@ -1,6 +1,6 @@
 -- What each call does: the rows of its table, of which the first one that holds counts.
 -- Numbers and rules of relative files are those of the 1541 User's Guide; which case tells which number is our own.
-use Rattle.std.specs.Prelude.{ℕ, ◌≡◌, ◌<◌, ◌+◌, ◌-◌, ◌⊎◌, List, [], None, Option, Some, IsNone, IsSome, drop, false, true, if◌then◌else◌, nat_eq, nat_lt, length, slice_get}
+use Rattle.std.specs.Prelude.{ℕ, ◌≡◌, ◌<◌, ◌+◌, ◌-◌, ◌⊎◌, List, [], None, Option, Some, IsNone, IsSome, drop, false, true, if◌then◌else◌, nat_eq, nat_lt, length}
 use Rattle.d64_image.specs.Images.{Image}
 use Rattle.disk_layout.specs.Clean.{IsClean}
 use Rattle.disk_layout.specs.Layout.{File, IsSound, Layout, record_length}

@@ -52,11 +52,7 @@ fn disk_of(state: State, alloc: Global) -> Result<MemDisk, Fail> {
 }
 
 /// Leads a drive that was just switched on to a state.
-fn lead_to<D: Sectors>(
-    rt: &impl Abort,
-    drive: &mut Drive<D>,
-    state: State,
-) -> Result<(), Fail> {
+fn lead_to<D: Sectors>(rt: &impl Abort, drive: &mut Drive<D>, state: State) -> Result<(), Fail> {
     let open = (Call::Open(2, b"STOCK"), 0);
     match state {
         State::Open => rows(rt, drive, &[open]),

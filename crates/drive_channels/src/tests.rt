@@ -17,7 +17,13 @@ pub(crate) fn fresh(alloc: Global) -> Result<MemDisk, Fail> {
 }
 
 /// Changes one byte of a sector.
-pub(crate) fn change(disk: &mut MemDisk, track: u8, sector: u8, at: u8, byte: u8) -> Result<(), Fail> {
+pub(crate) fn change(
+    disk: &mut MemDisk,
+    track: u8,
+    sector: u8,
+    at: u8,
+    byte: u8,
+) -> Result<(), Fail> {
     let place = Place::new(track, sector).ok_or(DeviceFault)?;
     let mut bytes = [0; 256];
     disk.read(place, &mut bytes)?;
