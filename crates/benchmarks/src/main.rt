@@ -3,12 +3,14 @@
 #![tactic(auto)]
 
 mod checks;
+mod drives;
 mod records;
 mod sectors;
 
 use checks::count_clean;
 use d64_image::MemDisk;
 use disk_layout::blank_image;
+use drive_channels::Drive;
 use std::process::ExitCode;
 use std::{env, fs, io};
 
@@ -82,6 +84,15 @@ fn time_writes(rt: &HostRuntime, rounds: u64) -> Done {
     Ok(checksum(disk.bytes()))
 }
 
+/// `drive`: so many times a record of each file of a full disk is written through a drive; gives a checksum of the image.
+fn time_drive(rt: &HostRuntime, rounds: u64) -> Done {
+    let mut disk = MemDisk::zeroed(rt.alloc()).map_err(|_| "no memory")?;
+    records::grow_stock(&mut disk).map_err(|_| "STOCK can't grow")?;
+    let mut drive = Drive::power_on(disk);
+    drives::put_by_turns(&mut drive, rounds).map_err(|_| "the drive is dead")?;
+    Ok(checksum(drive.into_disk().bytes()))
+}
+
 /// The benchmark of a word. Err also where there is no such word.
 fn timed(rt: &HostRuntime, word: &str, rounds: u64, path: Option<String>) -> Done {
     match word {
@@ -90,7 +101,8 @@ fn timed(rt: &HostRuntime, word: &str, rounds: u64, path: Option<String>) -> Don
         "growth" => time_growth(rt, rounds),
         "reads" => time_reads(rt, rounds),
         "writes" => time_writes(rt, rounds),
-        _ => Err("the words are sectors, check, growth, reads, writes"),
+        "drive" => time_drive(rt, rounds),
+        _ => Err("the words are sectors, check, growth, reads, writes, drive"),
     }
 }
 
@@ -103,7 +115,7 @@ fn main(rt: HostRuntime) -> io::Result<ExitCode> {
         return Ok(ExitCode::from(2));
     };
     let Some(word) = word else {
-        for word in ["sectors", "check", "growth", "reads", "writes"] {
+        for word in ["sectors", "check", "growth", "reads", "writes", "drive"] {
             match timed(&rt, word, rounds, None) {
                 Ok(number) => println!(rt; "{word} {number}")?,
                 Err(what) => println!(rt; "{word} {what}")?,

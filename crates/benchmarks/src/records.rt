@@ -12,7 +12,7 @@ use disk_layout::blank_image;
 use rel_records::{RelFault, RelFile, find, grow_to, read_record, write_record};
 
 /// How many records STOCK has when it fills the disk.
-const RECORDS: u32 = 9256;
+pub const RECORDS: u32 = 9256;
 
 /// Makes the disk blank, for two tills, and lets STOCK grow until no block is free.
 pub fn grow_stock<D: Sectors>(disk: &mut D) -> Result<RelFile, RelFault>
@@ -27,7 +27,7 @@ pub fn grow_stock<D: Sectors>(disk: &mut D) -> Result<RelFile, RelFault>
 }
 
 /// The number of the record that comes after this one: some 250 blocks on, and round by round all of them come.
-fn next_number(number: u32) -> u32
+pub fn next_number(number: u32) -> u32
     requires high { number ≤ 9256 }
     ensures low { 1 ≤ result }
     ensures high { result ≤ 9256 }

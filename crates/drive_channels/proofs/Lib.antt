@@ -1,7 +1,10 @@
+pub mod Callers
+pub mod Examples
 pub mod Finds
 pub mod Given
 pub mod Kept
 pub mod Lengths
+pub mod Made
 pub mod Moves
 pub mod Openings
 pub mod Opens

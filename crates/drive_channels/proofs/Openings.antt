@@ -1,8 +1,15 @@
--- An opening as a whole: the check, and the look for the file.
-use Rattle.std.proofs.Common.{ℕ, ◌≡◌, ◌≤◌, ◌<◌, ◌⊎◌, inl, inr, Bool, true, false, MatchOption, List, Option, None, Some, IfOk, IsSome, Result, Ok, Err, sym, ◌∙◌, ap₂, subst, refl, arith}
+-- An opening as a whole: the check, the look for the file, its creation.
+use Rattle.std.proofs.Common.{ℕ, ◌≡◌, ◌≢◌, ◌≤◌, ◌<◌, ◌⊎◌, inl, inr, Bool, true, false, MatchOption, List, Option, None, Some, IfOk, IsSome, Result, Ok, Err, OnOk, sym, ◌∙◌, ap₂, subst, refl, arith}
+use Rattle.std.proofs.lemmas.Option.{none-some}
+use Rattle.d64_image.proofs.Moments.{changes_then, changes_weaker, reads_change, reads_then, reads_weaker}
+use Rattle.d64_image.specs.History.{Changes, History, OnlyReads}
 use Rattle.d64_image.specs.Images.{Image}
 use Rattle.disk_layout.specs.Clean.{IsClean}
+use Rattle.disk_layout.specs.Layout.{IsLayout, Layout}
+use Rattle.rel_records.specs.Made.{IsCreating, creation_writes}
+use Rattle.drive_channels.specs.Files.{HasFile}
 use Rattle.drive_channels.specs.Inside.{channel_of, shown}
+use Rattle.drive_channels.specs.Moments.{IsCreatingFor, IsCreatingFrom, IsOpenedBy, IsOpenedFor}
 use Rattle.drive_channels.specs.Spelling.{IsWish, Wish}
 use Rattle.drive_channels.specs.State.{Channel, View}
 use Rattle.drive_channels.specs.Tables.{Opens, OpensFile, Tells, when◌then◌otherwise◌}
@@ -22,6 +29,72 @@ same-shown img img' k k' s same closed checked closed' checked' =
 pub if-ok : {T E : Type 0} (P Q : T → Type 0) (r : Result T E) → ((x : T) → P x → Q x) → IfOk r P → IfOk r Q
 if-ok P Q (Ok x) f h = f x h
 if-ok P Q (Err e) f h = tt
+
+module _ {D E : Type 0} (S : History D) (a b c : D) where
+  -- the file is made after it was looked for
+  pub opened-made : (name : List ℕ) (length : Option ℕ) (l : ℕ) (after : Option Channel) (result : Result Status E) → OnlyReads S a b 702 → length ≡ Some l → ¬ (HasFile (S.image a) name)
+      → IfOk result (λ st. st ≢ statuses.Ok → OnlyReads S b c 55) → IfOk result (λ st. st ≡ statuses.Ok → IsSome after)
+      → ((m : Layout) → IsLayout (S.image b) m → Changes S b c (creation_writes m) (IsCreating (S.image b) m name l))
+      → IsOpenedFor S a c 702 (record { name = name; length = length }) after result
+  opened-made name length l after result reads given missing refused opened moments = record {
+    plain = λ none. absurd (none-some l (sym none ∙ given));
+    there = λ has. absurd (missing has);
+    refused = by result refused opened;
+    moments = λ m is. changes_then S a b c 0 (creation_writes m) (creation_writes m) (Held m) (omega arith) (reads_change S a b 702 (Held m) reads (inl refl))
+        (changes_weaker S b c (creation_writes m) (creation_writes m) _ (Held m) (omega arith)
+        (λ i x. inr (record { length = l; given = given; creating = subst (λ (j : Image). IsCreating j m name l i) reads.image x }))
+        (moments m (subst (λ (j : Image). IsLayout j m) (sym reads.image) is)));
+  }
+    where
+      Held : Layout → Image → Type 0
+      Held m i = (i ≡ S.image a) ⊎ IsCreatingFor (S.image a) m (record { name = name; length = length }) i
+
+      not-open : IsSome after → after ≡ None → ⊥
+      not-open some none = subst (λ (o : Option Channel). IsSome o → ⊥) (sym none) (λ h. cc) some
+
+      by : (r : Result Status E) → IfOk r (λ st. st ≢ statuses.Ok → OnlyReads S b c 55) → IfOk r (λ st. st ≡ statuses.Ok → IsSome after) → OnOk r (after ≡ None → OnlyReads S a c 757)
+      by (Ok st) refused opened = λ none. reads_then S a b c 702 55 757 (omega arith) reads (refused (λ is. not-open (opened is) none))
+      by (Err e) refused opened = tt
+
+  -- what is opened after the check
+  pub opened-by : (text : List ℕ) (w : Wish) (before after : Option Channel) (result : Result Status E) → OnlyReads S a b 2115 → IsClean (S.image a) → IsWish text w → ((v : Wish) → IsWish text v → v ≡ w)
+      → before ≡ None → IsOpenedFor S b c 702 w after result → IsOpenedBy S a c text before after result
+  opened-by text w before after result reads clean is one closed opened = record {
+    plain = λ none. reads_then S a b c 2115 702 2817 (omega arith) reads (opened.plain (none w is));
+    there = λ v asked has. reads_then S a b c 2115 702 2817 (omega arith) reads
+        (opened.there (subst (λ (x : Wish). HasFile (S.image b) x.name) (one v asked) (subst (λ (i : Image). HasFile i v.name) (sym reads.image) has)));
+    refused = by result opened.refused;
+    unclean = λ other. absurd (other clean);
+    moments = λ m l. changes_then S a b c 0 (creation_writes m) (creation_writes m) (IsCreatingFrom (S.image a) m text) (omega arith)
+        (reads_change S a b 2115 (IsCreatingFrom (S.image a) m text) reads (inl refl))
+        (changes_weaker S b c (creation_writes m) (creation_writes m) _ (IsCreatingFrom (S.image a) m text) (omega arith) (held m)
+        (opened.moments m (subst (λ (j : Image). IsLayout j m) (sym reads.image) l)));
+  }
+    where
+      held : (m : Layout) (i : Image) → (i ≡ S.image b) ⊎ IsCreatingFor (S.image b) m w i → IsCreatingFrom (S.image a) m text i
+      held m i h = elim h [
+        | inl same ↦ inl (same ∙ reads.image)
+        | inr x ↦ inr (w, is, subst (λ (j : Image). IsCreatingFor j m w i) reads.image x)
+      ]
+
+      by : (r : Result Status E) → OnOk r (after ≡ None → OnlyReads S b c 757) → OnOk r (after ≡ before → OnlyReads S a c 2872)
+      by (Ok st) h = λ same. reads_then S a b c 2115 757 2872 (omega arith) reads (h (same ∙ closed))
+      by (Err e) h = tt
+
+-- nothing but reads
+pub read-by : {D E : Type 0} (S : History D) (a b : D) (n : ℕ) (text : List ℕ) (before after : Option Channel) (result : Result Status E) → n ≤ 2115 → OnlyReads S a b n
+    → IsOpenedBy S a b text before after result
+read-by {D} {E} S a b n text before after result few reads = record {
+  plain = λ _. reads_weaker S a b n 2817 (omega (arith, few)) reads;
+  there = λ _ _ _. reads_weaker S a b n 2817 (omega (arith, few)) reads;
+  refused = by result;
+  unclean = λ _. reads_weaker S a b n 2115 few reads;
+  moments = λ m _. changes_weaker S a b 0 (creation_writes m) _ _ (omega arith) (λ i h. h) (reads_change S a b n (IsCreatingFrom (S.image a) m text) reads (inl refl));
+}
+  where
+    by : (r : Result Status E) → OnOk r (after ≡ before → OnlyReads S a b 2872)
+    by (Ok st) = λ _. reads_weaker S a b n 2872 (omega (arith, few)) reads
+    by (Err e) = tt
 
 -- no channel is open
 pub closed-of : (o : Option Channel) (b : Bool) → MatchOption o (b ≡ false) (λ c. b ≡ true) → b ≡ false → o ≡ None

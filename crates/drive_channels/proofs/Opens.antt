@@ -1,18 +1,24 @@
 -- The rows of an opening, once the disk is seen to be clean.
-use Rattle.std.proofs.Common.{ℕ, ◌≡◌, ◌≢◌, ◌≤◌, inl, inr, Bool, true, List, Option, None, Some, IfSome, sym, ◌∙◌, ap, ap₂, subst, refl, arith}
+use Rattle.std.proofs.Common.{ℕ, ◌≡◌, ◌≢◌, ◌≤◌, inl, inr, Bool, true, false, List, Option, None, Some, IfSome, IsNone, sym, ◌∙◌, ap, ap₂, subst, refl, arith}
 use Rattle.std.proofs.lemmas.Option.{none-some, same_Some}
 use Rattle.d64_image.specs.Images.{Image}
 use Rattle.disk_layout.proofs.Layouts.{IsLayout-one}
 use Rattle.disk_layout.proofs.Uniques.{IsFirst-one}
-use Rattle.disk_layout.specs.Layout.{File, Layout, record_length}
+use Rattle.disk_layout.specs.Layout.{File, IsLayout, Layout, record_length}
 use Rattle.disk_layout.specs.Rest.{IsFirst, slot_name}
 use Rattle.rel_records.specs.File.{entry_of, length_of}
-use Rattle.drive_channels.proofs.Finds.{found-file, found-named}
+use Rattle.rel_records.specs.Made.{IsMade, IsTakenName}
+use Rattle.rel_records.specs.declared.rel_file.RelFile.{RelFile}
+use Rattle.drive_channels.proofs.Finds.{found-file, found-named, found-new}
+use Rattle.drive_channels.proofs.Made.{first-made}
 use Rattle.drive_channels.proofs.Steady.{found-last}
-use Rattle.drive_channels.specs.Files.{HasFile, HasOther, IsNamedFile}
-use Rattle.drive_channels.specs.Inside.{HasLooked, IsFound, IsKnown, channel_of, first_spot, shown}
+use Rattle.drive_channels.specs.Files.{HasEntry, HasFile, HasOther, IsNamedFile, IsNoRoom, Makes}
+use Rattle.drive_channels.specs.Inside.{HasLooked, IsFound, IsKnown, IsSpot, channel_at, channel_of, first_spot, shown}
+use Rattle.drive_channels.specs.State.{Channel}
 use Rattle.drive_channels.specs.Tables.{OpensFile}
+use Rattle.drive_channels.specs.declared.found.Found.{Found}
 use Rattle.drive_channels.specs.declared.found.Opened.{Opened}
+use Rattle.drive_channels.specs.declared.found.Spot.{Spot}
 use Rattle.drive_channels.specs.declared.known.Known.{Known}
 use Rattle.drive_channels.specs.declared.status.Status.{Status}
 use Rattle.drive_channels.specs.declared.status.Status.TheVariants as statuses
@@ -42,15 +48,21 @@ module _ (img : Image) (k : Known) (o : Opened) (name : List ℕ) (known : IsKno
   opened-row new length number s fits after same =
       let f = found-named img o.found name found is in
       inr (
-        (λ h. h there),
+        (λ h. h.1 there),
         inr (
           no-other img name length (entry_of o.found.file) found.file f (right length fits),
-          (
-            entry_of o.found.file,
-            found.file,
-            f,
-            refl,
-            ap₂ (λ (last : Option Opened) (checked : Bool). record { image = img; channel = channel_of last; status = statuses.Ok; checked = checked }) after same,
+          inr (
+            (λ h. h.0 there),
+            inr (
+              (λ h. h there),
+              (
+                entry_of o.found.file,
+                found.file,
+                f,
+                refl,
+                ap₂ (λ (last : Option Opened) (checked : Bool). record { image = img; channel = channel_of last; status = statuses.Ok; checked = checked }) after same,
+              ),
+            ),
           ),
         ),
       )
@@ -64,7 +76,7 @@ module _ (img : Image) (k : Known) (o : Opened) (name : List ℕ) (known : IsKno
       → new.last ≡ k.last → new.checked ≡ k.checked
       → OpensFile (shown img k s) number (record { name = name; length = length }) (shown img new statuses.RecordNotPresent)
   other-row new length number s other kept same = inr (
-    (λ h. h there),
+    (λ h. h.1 there),
     inl (
       wrong length other,
       ap₂ (λ (last : Option Opened) (checked : Bool). record { image = img; channel = channel_of last; status = statuses.RecordNotPresent; checked = checked }) kept same,
@@ -88,7 +100,82 @@ module _ (img : Image) (k : Known) (o : Opened) (name : List ℕ) (known : IsKno
     };
   }
 
+-- the file isn't there
+module _ (img : Image) (k : Known) (name : List ℕ) (missing : ¬ (HasFile img name)) (number : ℕ) (s : Status) where
+  none-other : (length : Option ℕ) → ¬ (HasOther img name length)
+  none-other None other = absurd other
+  none-other (Some l) other = missing (other.0, other.1, other.2)
+
+  pub absent-row : OpensFile (shown img k s) number (record { name = name; length = None }) (shown img k statuses.FileNotFound)
+  absent-row = inl ((refl, missing), refl)
+
+  given : (l : ℕ) → IsNone (Some l) × ¬ (HasFile img name) → ⊥
+  given l h = cc
+
+  pub taken-row : (l : ℕ) (old : Image) → old ≡ img → HasEntry img name → OpensFile (shown img k s) number (record { name = name; length = Some l }) (shown old k statuses.TypeMismatch)
+  taken-row l old same taken = inr (given l, inr (none-other (Some l), inl ((missing, taken), ap (λ (i : Image). shown i k statuses.TypeMismatch) same)))
+
+  pub full-row : (l : ℕ) (old : Image) → old ≡ img → ¬ (HasEntry img name) → IsNoRoom img → OpensFile (shown img k s) number (record { name = name; length = Some l }) (shown old k statuses.DiskFull)
+  full-row l old same free full = inr (given l, inr (none-other (Some l), inr ((λ h. free h.1), inl (missing, inl (full, ap (λ (i : Image). shown i k statuses.DiskFull) same)))))
+
+  -- it is made
+  pub made-row : (l : ℕ) (new : Image) (after : Known) (entry : ℕ) → ¬ (HasEntry img name) → ¬ (IsNoRoom img) → Makes img new name l entry
+      → channel_of after.last ≡ Some (channel_at entry (first_spot number)) → after.checked ≡ k.checked
+      → OpensFile (shown img k s) number (record { name = name; length = Some l }) (shown new after statuses.Ok)
+  made-row l new after entry free room makes open_one same = inr (
+    given l,
+    inr (
+      none-other (Some l),
+      inr (
+        (λ h. free h.1),
+        inl (
+          missing,
+          inr (
+            room,
+            (
+              entry,
+              makes,
+              ap₂ (λ (c : Option Channel) (checked : Bool). record { image = new; channel = c; status = statuses.Ok; checked = checked }) open_one same,
+            ),
+          ),
+        ),
+      ),
+    ),
+  )
+
 -- the file that is opened last is the one that was looked for
 pub looked-name : (img : Image) (name : List ℕ) (k : Known) (o : Opened) → HasLooked img name k true → k.last ≡ Some o → o.found.name ≡ slot_name name
 looked-name img name k o looked last =
     let f = looked.found refl in subst (λ (x : Opened). x.found.name ≡ slot_name name) (same_Some _ _ (sym f.1 ∙ last)) f.2
+
+-- what a creation that is done leaves
+pub makes-of : (old new : Image) (l : Layout) (name : List ℕ) (L : ℕ) (v : RelFile) → IsLayout old l → IsMade old l name L new v → Makes old new name L (entry_of v)
+makes-of old new l name L v layout made = record {
+  layout = l;
+  is_layout = layout;
+  more = made.more;
+  there = made.of.there;
+}
+
+-- and what is known after it
+pub known-made : (old new : Image) (l : Layout) (name : List ℕ) (L : ℕ) (v : RelFile) (e : Found) (s : Spot) (number : ℕ) → IsMade old l name L new v → ¬ (IsTakenName l name) → e.file ≡ v → e.name ≡ slot_name name
+    → s ≡ first_spot number → 2 ≤ number → number ≤ 14 → (checked : Bool) → checked ≡ true
+    → IsKnown new (record { last = Some (record { found = e; spot = Some s }); before = None; checked = checked })
+known-made old new l name L v e s number made free file named is low high checked yes-checked = record {
+  fresh = λ off. absurd (both off);
+  remembered = λ _. record {
+    clean = (made.more.layout, made.more.clean);
+    last_found = found-new new e v name made.more.layout made.more.file file named
+        (first-made old new l made.more.layout name made.more.file made.more.adds free (entry_of v) made.of.there made.more.named) made.of;
+    spot = subst (IsSpot e) (sym is) (record { low = low; high = high; record_from = omega arith; up_to = omega arith; from = omega arith; within = e.file.size_low });
+    before_found = tt;
+    apart = tt;
+  };
+}
+  where
+    both : checked ≡ false → ⊥
+    both off = cc
+
+-- what is known stays where the image does
+pub known-still : (old new : Image) (k : Known) → new ≡ old → IsKnown old k → IsKnown new k
+known-still old new k same h = subst (λ (i : Image). IsKnown i k) (sym same) h

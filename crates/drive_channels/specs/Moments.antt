@@ -1,11 +1,14 @@
 -- What the disk may hold during a call that writes: what it may hold during the record call in it.
-use Rattle.std.specs.Prelude.{ℕ, ◌≡◌, ◌≤◌, ◌+◌, Bool, false, true, if◌then◌else◌, List, [], ◌∷◌, OnErr, Option, Result}
-use Rattle.d64_image.specs.History.{Changes, History}
+use Rattle.std.specs.Prelude.{ℕ, ◌≡◌, ◌≤◌, ◌+◌, ◌⊎◌, Bool, false, true, if◌then◌else◌, List, [], ◌∷◌, None, OnErr, OnOk, Option, Result, Some}
+use Rattle.d64_image.specs.History.{Changes, History, OnlyReads}
 use Rattle.d64_image.specs.Images.{Image}
-use Rattle.disk_layout.specs.Layout.{File, Layout, record_length}
+use Rattle.disk_layout.specs.Clean.{IsClean}
+use Rattle.disk_layout.specs.Layout.{File, IsLayout, Layout, record_length}
 use Rattle.rel_records.specs.Growth.{added, growth_writes, records_had}
+use Rattle.rel_records.specs.Made.{IsCreating, creation_writes}
 use Rattle.rel_records.specs.Written.{IsGrowingTo, IsInOneBlock, IsWriting, touched}
-use Rattle.drive_channels.specs.Files.{IsRelAt}
+use Rattle.drive_channels.specs.Files.{HasFile, IsRelAt}
+use Rattle.drive_channels.specs.Spelling.{IsWish, Wish}
 use Rattle.drive_channels.specs.State.{Channel}
 use Rattle.drive_channels.specs.Tables.{HasOn, IsOn}
 
@@ -14,6 +17,16 @@ abbrev pub IsOnTheWay : Image → List ℕ → Channel → Layout → File → I
 IsOnTheWay old [] c l f img = IsGrowingTo old l c.entry f c.record_number img
 IsOnTheWay old text c l f img =
     IsWriting old l c.entry f (added (record_length f.slot) (records_had f) c.record_number) c.record_number c.position text img
+
+-- on the way of the creation of the file that is asked for
+pub record IsCreatingFor (old : Image) (l : Layout) (w : Wish) (img : Image) : Type 0 where
+  pub length : ℕ
+  pub given : w.length ≡ Some length
+  pub creating : IsCreating old l w.name length img
+
+-- the old image, or one on the way of the creation of the file that the text asks for
+abbrev pub IsCreatingFrom : Image → Layout → List ℕ → Image → Type 0
+IsCreatingFrom old l text img = (img ≡ old) ⊎ ((w : Wish) × IsWish text w × IsCreatingFor old l w img)
 
 abbrev pub is_nil : List ℕ → Bool
 is_nil [] = true
@@ -33,3 +46,19 @@ pub record IsWrittenAt {D T E : Type 0} (S : History D) (old new : D) (c : Chann
 pub record IsWrittenOn {D T E : Type 0} (S : History D) (old new : D) (open_one : Option Channel) (number : ℕ) (text : List ℕ) (result : Result T E) : Type 0 where
   pub silent : ¬ (HasOn open_one number) → new ≡ old
   pub at : (c : Channel) (l : Layout) (f : File) → IsOn open_one number c → IsRelAt (S.image old) l c.entry f → IsWrittenAt S old new c l f text result
+
+-- the opening of what is asked for, after at most n reads: without a length, where the file is there, and where no channel is
+-- open afterwards, nothing is written; else every image held is one of the creation, and so is the count of writes
+pub record IsOpenedFor {D T E : Type 0} (S : History D) (old new : D) (n : ℕ) (w : Wish) (after : Option Channel) (result : Result T E) : Type 0 where
+  pub plain : w.length ≡ None → OnlyReads S old new n
+  pub there : HasFile (S.image old) w.name → OnlyReads S old new n
+  pub refused : OnOk result (after ≡ None → OnlyReads S old new (n + 55))
+  pub moments : (l : Layout) → IsLayout (S.image old) l → Changes S old new (creation_writes l) (λ img. (img ≡ S.image old) ⊎ IsCreatingFor (S.image old) l w img)
+
+-- the opening that a text asks for: the check, the look for the file, and its creation
+pub record IsOpenedBy {D T E : Type 0} (S : History D) (old new : D) (text : List ℕ) (before after : Option Channel) (result : Result T E) : Type 0 where
+  pub plain : ((w : Wish) → IsWish text w → w.length ≡ None) → OnlyReads S old new 2817
+  pub there : (w : Wish) → IsWish text w → HasFile (S.image old) w.name → OnlyReads S old new 2817
+  pub refused : OnOk result (after ≡ before → OnlyReads S old new 2872)
+  pub unclean : ¬ (IsClean (S.image old)) → OnlyReads S old new 2115
+  pub moments : (l : Layout) → IsLayout (S.image old) l → Changes S old new (creation_writes l) (IsCreatingFrom (S.image old) l text)

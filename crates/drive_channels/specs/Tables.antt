@@ -1,6 +1,6 @@
 -- What each call does: the rows of its table, of which the first one that holds counts.
 -- Numbers and rules of relative files are those of the 1541 User's Guide; which case tells which number is our own.
-use Rattle.std.specs.Prelude.{ℕ, ◌≡◌, ◌<◌, ◌+◌, ◌-◌, ◌⊎◌, List, [], None, Option, Some, IsSome, drop, false, true, if◌then◌else◌, nat_eq, nat_lt, length}
+use Rattle.std.specs.Prelude.{ℕ, ◌≡◌, ◌<◌, ◌+◌, ◌-◌, ◌⊎◌, List, [], None, Option, Some, IsNone, IsSome, drop, false, true, if◌then◌else◌, nat_eq, nat_lt, length}
 use Rattle.d64_image.specs.Images.{Image}
 use Rattle.disk_layout.specs.Clean.{IsClean}
 use Rattle.disk_layout.specs.Layout.{File, IsSound, Layout, record_length}
@@ -10,12 +10,12 @@ use Rattle.layout_check.specs.declared.outcome.Survey.{Survey}
 use Rattle.rel_records.specs.Growth.{IsFull, IsTooLarge, blocks_for, records_had}
 use Rattle.rel_records.specs.Others.{HasRecords}
 use Rattle.rel_records.specs.Written.{IsRecord, grown_to, with_written}
-use Rattle.drive_channels.specs.Files.{HasFile, HasOther, IsNamedFile, IsRelAt}
+use Rattle.drive_channels.specs.Files.{HasEntry, HasFile, HasOther, IsNamedFile, IsNoRoom, IsRelAt, Makes}
 use Rattle.drive_channels.specs.Given.{IsGiven}
 use Rattle.drive_channels.specs.Spelling.{BeginsWithP, IsInitialize, IsValidate, IsWish, Wish, wanted_channel, wanted_position, wanted_record}
 use Rattle.drive_channels.specs.State.{Channel, View}
 use Rattle.drive_channels.specs.declared.status.Status.{Status}
-use Rattle.drive_channels.specs.declared.status.Status.TheVariants.{DirError, FileNotFound, FileNotOpen, FileTooLarge, NoChannel, Ok, Overflow, RecordNotPresent, SyntaxError, UnknownCommand}
+use Rattle.drive_channels.specs.declared.status.Status.TheVariants.{DirError, DiskFull, FileNotFound, FileNotOpen, FileTooLarge, NoChannel, Ok, Overflow, RecordNotPresent, SyntaxError, TypeMismatch, UnknownCommand}
 
 -- where the condition holds, this; otherwise what the further rows say
 infix 1 when◌then◌otherwise◌
@@ -34,11 +34,20 @@ OpensAt x number entry y = y ≡ record x {
   status = Ok;
 }
 
--- open, once the channel, the text and the disk are seen to be good; no file is made
+-- with a length, where there is no file of the name
+abbrev pub Creates : View → ℕ → List ℕ → Option ℕ → View → Type 0
+Creates x number name None y = ⊥
+Creates x number name (Some L) y =
+    when IsNoRoom x.image then Tells x DiskFull y otherwise
+    ((entry : ℕ) × Makes x.image y.image name L entry × OpensAt x number entry y)
+
+-- open, once the channel, the text and the disk are seen to be good
 abbrev pub OpensFile : View → ℕ → Wish → View → Type 0
 OpensFile x number w y =
-    when ¬ (HasFile x.image w.name) then Tells x FileNotFound y otherwise
+    when IsNone w.length × ¬ (HasFile x.image w.name) then Tells x FileNotFound y otherwise
     when HasOther x.image w.name w.length then Tells x RecordNotPresent y otherwise
+    when ¬ (HasFile x.image w.name) × HasEntry x.image w.name then Tells x TypeMismatch y otherwise
+    when ¬ (HasFile x.image w.name) then Creates x number w.name w.length y otherwise
     ((entry : ℕ) × (f : File) × IsNamedFile x.image w.name entry f × (y.image ≡ x.image) × OpensAt x number entry y)
 
 -- open

@@ -11,6 +11,8 @@ mod opening;
 mod reading;
 mod status;
 #[cfg(test)]
+mod table_rows;
+#[cfg(test)]
 mod tests;
 mod text;
 mod writing;

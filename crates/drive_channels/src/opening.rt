@@ -1,18 +1,22 @@
 //! Opening a channel.
-ghost use Rattle.std.specs.Prelude.{◌≡◌, ◌≤◌, ◌↔◌, true, false, IfOk, IfSome, IsTrue, List, MatchOption, None, OnOk, ℕ, length};
-ghost use Rattle.d64_image.specs.History.{OnlyReads, TellsFailure};
+ghost use Rattle.std.specs.Prelude.{◌≡◌, ◌≢◌, ◌≤◌, ◌↔◌, ◌⊎◌, true, false, IfOk, IfSome, IsSome, IsTrue, List, MatchOption, None, OnOk, Option, Some, option_map, ℕ, length};
+ghost use Rattle.d64_image.specs.History.{Changes, OnlyReads, TellsFailure};
 ghost use Rattle.d64_image.specs.Images.{Image};
 ghost use Rattle.disk_layout.specs.Clean.{IsClean};
+ghost use Rattle.disk_layout.specs.Layout.{IsLayout, Layout};
 ghost use Rattle.disk_layout.specs.Rest.{slot_name};
 ghost use Rattle.drive_channels.specs.Files.{HasFile};
+ghost use Rattle.drive_channels.specs.Moments.{IsCreatingFrom, IsOpenedBy, IsOpenedFor};
 ghost use Rattle.drive_channels.specs.Serving.{Serves};
-ghost use Rattle.drive_channels.specs.Spelling.{IsWish};
+ghost use Rattle.drive_channels.specs.Spelling.{IsWish, Wish};
 ghost use Rattle.drive_channels.specs.State.{view_of};
 ghost use Rattle.drive_channels.specs.Tables.{Opens, OpensFile};
 ghost use Rattle.drive_channels.specs.Wishes.{wish_of};
 ghost use Rattle.rel_records.specs.File.{length_of};
+ghost use Rattle.rel_records.specs.Made.{IsCreating, creation_writes};
 ghost use Rattle.drive_channels.specs.Inside.{HasLooked, IsFound, IsKnown, channel_of, closed_with, found_in, shown};
 ghost use Rattle.drive_channels.specs.declared.status.Status as statuses;
+ghost use Rattle.drive_channels.specs.declared.status.Status.TheVariants as told;
 
 use crate::drive::Drive;
 use crate::faults::Dead;
@@ -23,7 +27,7 @@ use crate::text::{FileWish, wish};
 use d64_image::Sectors;
 use disk_layout::{Fault, padded_name};
 use layout_check::check;
-use rel_records::{RelFault, RelFile, find};
+use rel_records::{RelFault, RelFile, create, find};
 
 /// A file under the name by which it was found.
 fn found_as(name: [u8; 16], file: RelFile) -> Found
@@ -178,7 +182,48 @@ impl Known {
         Status::FileNotFound
     }
 
-    /// Opens the file that is asked for: what that comes to.
+    /// Makes a file that isn't there, and opens it: what that comes to.
+    fn make<D: Sectors>(
+        &mut self,
+        disk: &mut D,
+        channel: u8,
+        name: &[u8],
+        size: u8,
+    ) -> Result<Status, Dead>
+        requires known { IsKnown (D.history.image disk.old) self.old }
+        requires checked { self.old.checked ≡ true }
+        requires missing { ¬ (HasFile (D.history.image disk.old) name.now) }
+        requires low { 2 ≤ channel }
+        requires high { channel ≤ 14 }
+        requires name { length name.now ≤ 16 }
+        requires size_low { 1 ≤ size }
+        requires size_high { size ≤ 254 }
+        ensures row { IfOk result (λ status. (s : statuses.Status) → OpensFile (shown (D.history.image disk.old) self.old s) channel (record { name = name.now; length = Some size }) (shown (D.history.image disk.new) self.new status)) }
+        ensures known { OnOk result (IsKnown (D.history.image disk.new) self.new) }
+        ensures refused { IfOk result (λ status. status ≢ told.Ok → OnlyReads D.history disk.old disk.new 55) }
+        ensures opened { IfOk result (λ status. status ≡ told.Ok → IsSome (channel_of self.new.last)) }
+        ensures moments { (l : Layout) → IsLayout (D.history.image disk.old) l → Changes D.history disk.old disk.new (creation_writes l) (IsCreating (D.history.image disk.old) l name.now size) }
+        ensures failures { TellsFailure D.history disk.old disk.new result }
+    {
+        match create(disk, name, size) {
+            Ok(file) => {
+                let found = found_as(padded_name(name), file);
+                self.before = None;
+                self.last = Some(Opened {
+                    found,
+                    spot: Some(Spot::first(channel)),
+                });
+                Ok(Status::Ok)
+            }
+            Err(fault) => match fault {
+                RelFault::Device => Err(Dead),
+                RelFault::Exists => Ok(Status::TypeMismatch),
+                _ => Ok(Status::DiskFull),
+            },
+        }
+    }
+
+    /// Opens the file that is asked for, or makes it: what that comes to.
     fn open_file<D: Sectors>(
         &mut self,
         disk: &mut D,
@@ -193,13 +238,16 @@ impl Known {
         requires wish { (text : List ℕ) × IsWish text (wish_of wish) }
         ensures row { IfOk result (λ status. (s : statuses.Status) → OpensFile (shown (D.history.image disk.old) self.old s) channel (wish_of wish.entry) (shown (D.history.image disk.new) self.new status)) }
         ensures known { OnOk result (IsKnown (D.history.image disk.new) self.new) }
-        ensures reads { OnlyReads D.history disk.old disk.new 702 }
+        ensures opened { IsOpenedFor D.history disk.old disk.new 702 (wish_of wish.entry) (channel_of self.new.last) result }
         ensures failures { TellsFailure D.history disk.old disk.new result }
     {
         if self.look_up(disk, wish.name)? {
             return Ok(self.open_last(channel, wish.length));
         }
-        Ok(Status::FileNotFound)
+        match wish.length {
+            Some(length) => self.make(disk, channel, wish.name, length),
+            None => Ok(Status::FileNotFound),
+        }
     }
 
     /// Opens what the text asks for: what that comes to.
@@ -207,7 +255,7 @@ impl Known {
         requires known { IsKnown (D.history.image disk.old) self.old }
         ensures row { IfOk result (λ status. (s : statuses.Status) → Opens (shown (D.history.image disk.old) self.old s) channel text.now (shown (D.history.image disk.new) self.new status)) }
         ensures known { OnOk result (IsKnown (D.history.image disk.new) self.new) }
-        ensures reads { OnlyReads D.history disk.old disk.new 2817 }
+        ensures opened { IsOpenedBy D.history disk.old disk.new text.now (channel_of self.old.last) (channel_of self.new.last) result }
         ensures failures { TellsFailure D.history disk.old disk.new result }
     {
         if channel < 2 || channel > 14 || self.is_open() {
@@ -225,15 +273,25 @@ impl Known {
 
 impl<D: Sectors> Drive<D> {
     /// Opens a channel, from 2 to 14, on the first closed relative file of a name, at its first record: 00. The text is the
-    /// name, or the name, `,L,` and one byte, the length of the file's records. No file is made.
+    /// name, or the name, `,L,` and one byte, the length of the file's records. With a length the file is made where it isn't
+    /// there.
     ///
     /// A channel that is none of these, or while one is open: 70. A text that is neither: 30. A disk that no check has passed
-    /// since power-on, and that the check refuses now: 71. Without such a file: 62. With another length than the file's: 50.
-    /// In all these cases nothing is opened. Nothing is written; at most 2817 sectors are read.
+    /// since power-on, and that the check refuses now: 71. Without a length and without such a file: 62. With another length
+    /// than the file's: 50. With a length, where the name belongs to a file of another type alone: 64. Where there is no room
+    /// for the new file: 72. In all these cases nothing is opened and nothing is written.
+    ///
+    /// At `Dead` the disk holds what it held at one of the moments of the creation.
     pub fn open(&mut self, channel: u8, text: &[u8]) -> Result<(), Dead>
         ensures serves { Serves D.history self.old self.new result }
         ensures row { OnOk result (Opens (view_of D.history self.old) channel text.now (view_of D.history self.new)) }
-        ensures reads { OnlyReads D.history self.old.disk self.new.disk 2817 }
+        // without a length, or where the file is there, nothing is written; nor where the channel isn't opened
+        ensures plain { ((w : Wish) → IsWish text.now w → w.length ≡ None) → OnlyReads D.history self.old.disk self.new.disk 2817 }
+        ensures there { (w : Wish) → IsWish text.now w → HasFile (D.history.image self.old.disk) w.name → OnlyReads D.history self.old.disk self.new.disk 2817 }
+        ensures refused { OnOk result (self.new.channel ≡ self.old.channel → OnlyReads D.history self.old.disk self.new.disk 2872) }
+        // nor on a disk that isn't clean; else every image held is one of the creation, and so is the count of writes
+        ensures unclean { ¬ (IsClean (D.history.image self.old.disk)) → OnlyReads D.history self.old.disk self.new.disk 2115 }
+        ensures moments { (l : Layout) → IsLayout (D.history.image self.old.disk) l → Changes D.history self.old.disk self.new.disk (creation_writes l) (IsCreatingFrom (D.history.image self.old.disk) l text.now) }
     {
         if self.dead {
             return Err(Dead);

@@ -9,13 +9,21 @@ use std::alloc::Global;
 use std::process::Abort;
 use std::test::Fail;
 
-fn fresh(alloc: Global) -> Result<MemDisk, Fail> {
+/// A fresh disk for two tills.
+pub(crate) fn fresh(alloc: Global) -> Result<MemDisk, Fail> {
     let mut disk = MemDisk::zeroed(alloc)?;
     blank_image(&mut disk, b"STOCK LEDGER", *b"01", 2)?;
     Ok(disk)
 }
 
-fn change(disk: &mut MemDisk, track: u8, sector: u8, at: u8, byte: u8) -> Result<(), Fail> {
+/// Changes one byte of a sector.
+pub(crate) fn change(
+    disk: &mut MemDisk,
+    track: u8,
+    sector: u8,
+    at: u8,
+    byte: u8,
+) -> Result<(), Fail> {
     let place = Place::new(track, sector).ok_or(DeviceFault)?;
     let mut bytes = [0; 256];
     disk.read(place, &mut bytes)?;
@@ -25,7 +33,8 @@ fn change(disk: &mut MemDisk, track: u8, sector: u8, at: u8, byte: u8) -> Result
 }
 
 /// A call, with what it is handed; of a read, what it gives.
-enum Call<'a> {
+#[derive(Clone, Copy)]
+pub(crate) enum Call<'a> {
     Open(u8, &'a [u8]),
     Close(u8),
     Command(&'a [u8]),
@@ -34,7 +43,7 @@ enum Call<'a> {
 }
 
 /// Does the calls one after another, and compares each one's status, and what a read gives, with the ones in the table.
-fn rows<D: Sectors>(
+pub(crate) fn rows<D: Sectors>(
     rt: &impl Abort,
     drive: &mut Drive<D>,
     calls: &[(Call<'_>, u8)],
@@ -59,7 +68,7 @@ fn rows<D: Sectors>(
     Ok(())
 }
 
-/// A text of 19 letters is cut; records up to 10160 fit a file of 720 blocks of 18 bytes each.
+/// A text of 19 letters is cut; records up to 10160 fit a file of 720 blocks of 18 bytes each; a file is made.
 #[test]
 fn a_session_at_the_drive(rt: HostRuntime) -> Result<(), Fail> {
     let mut drive = Drive::power_on(Meter::new(fresh(rt.alloc())?));
@@ -93,14 +102,17 @@ fn a_session_at_the_drive(rt: HostRuntime) -> Result<(), Fail> {
             (Call::Close(2), 0),
             (Call::Open(2, b"STOCK,L,\x0D"), 50),
             (Call::Open(2, b"NONE"), 62),
+            (Call::Open(2, b"NEW,L,\x50"), 0),
             (Call::Command(b"U1"), 31),
             (Call::Command(b"V"), 0),
+            (Call::Command(b"P\x62\x03\x00"), 0),
+            (Call::Command(b"P\x62\x04\x00"), 50),
         ],
     )?;
     let disk = drive.into_disk();
-    // 7 for record 15 and the block before it
-    assert_eq!(rt; disk.writes(), 7);
-    assert_eq!(rt; check(&mut disk.into_inner()).map(|s| s.entries()), Ok(2));
+    // 7 for record 15 and the block before it, 4 for the new file
+    assert_eq!(rt; disk.writes(), 11);
+    assert_eq!(rt; check(&mut disk.into_inner()).map(|s| s.entries()), Ok(3));
     Ok(())
 }
 
@@ -168,7 +180,14 @@ fn checks_and_repairs(rt: HostRuntime) -> Result<(), Fail> {
     change(&mut disk, 18, 1, 2, 0x82)?;
     repair(&mut disk).ok();
     let mut drive = Drive::power_on(Meter::new(disk));
-    rows(&rt, &mut drive, &[(Call::Open(2, b"STOCK"), 62)])?;
+    rows(
+        &rt,
+        &mut drive,
+        &[
+            (Call::Open(2, b"STOCK,L,\x0C"), 64),
+            (Call::Open(2, b"STOCK"), 62),
+        ],
+    )?;
     assert_eq!(rt; drive.into_disk().writes(), 0);
     // a chain that leaves the disk
     let mut disk = fresh(rt.alloc())?;
@@ -180,26 +199,6 @@ fn checks_and_repairs(rt: HostRuntime) -> Result<(), Fail> {
         &[(Call::Command(b"V0"), 71), (Call::Open(2, b"STOCK"), 71)],
     )?;
     assert_eq!(rt; drive.into_disk().writes(), 0);
-    Ok(())
-}
-
-#[test]
-fn a_full_disk(rt: HostRuntime) -> Result<(), Fail> {
-    let mut drive = Drive::power_on(Meter::new(fresh(rt.alloc())?));
-    rows(
-        &rt,
-        &mut drive,
-        &[
-            (Call::Open(2, b"STOCK"), 0),
-            // record 9256 takes every free block
-            (Call::Command(b"P\x62\x28\x24"), 50),
-            (Call::Write(2, b""), 0),
-            (Call::Command(b"P\x62\x29\x24"), 50),
-            (Call::Write(2, b"A"), 52),
-            (Call::Close(2), 0),
-            (Call::Open(2, b"NEW"), 62),
-        ],
-    )?;
     Ok(())
 }
 
@@ -219,6 +218,30 @@ fn a_dead_drive(rt: HostRuntime) -> Result<(), Fail> {
     let mut disk = drive.into_disk().into_inner();
     let mut other = fresh(rt.alloc())?;
     assert_eq!(rt; disk.bytes() == other.bytes(), true);
+    Ok(())
+}
+
+/// With records of one byte going on from record 65535 comes to one that is there.
+#[test]
+fn records_of_one_byte(rt: HostRuntime) -> Result<(), Fail> {
+    let mut drive = Drive::power_on(fresh(rt.alloc())?);
+    rows(
+        &rt,
+        &mut drive,
+        &[
+            (Call::Open(2, b"ONE,L,\x01"), 0),
+            (Call::Command(b"P\x62\xFF\xFF\x01"), 50),
+            (Call::Write(2, b"Z"), 0),
+            // 259 blocks have 65,786 records
+            (Call::Read(2, b"\xFF"), 0),
+            (Call::Write(2, b"YX"), 51),
+            (Call::Command(b"P\x62\xFF\xFF\x01"), 0),
+            (Call::Read(2, b"Z"), 0),
+            (Call::Read(2, b"\xFF"), 0),
+            (Call::Read(2, b"Y"), 0),
+            (Call::Command(b"P\x62\xFF\xFF\x02"), 51),
+        ],
+    )?;
     Ok(())
 }
 

@@ -1,7 +1,6 @@
 use Rattle.std.proofs.Common.{true, inl, inr, ap₂, arith, subst}
-use Rattle.d64_image.proofs.Moments.{reads_then}
 use Rattle.d64_image.specs.Images.{Image}
-use Rattle.drive_channels.proofs.Openings.{checked-shown, closed-of, if-ok, past}
+use Rattle.drive_channels.proofs.Openings.{checked-shown, closed-of, if-ok, opened-by, past}
 use Rattle.drive_channels.proofs.Wishes.{wish-one}
 use Rattle.drive_channels.proofs.known.Known.open.Goals as goal
 use Rattle.drive_channels.specs.Inside.{shown}
@@ -38,5 +37,7 @@ returns-clause-row g c =
     )))
     c.open_file.ensures.row
 
-pub returns-clause-reads : goal.returns-clause-reads
-returns-clause-reads g c = reads_then g.D.Sectors.history _ _ _ 2115 702 2817 (omega arith) c.passes_check.ensures.reads c.open_file.ensures.reads
+pub returns-clause-opened : goal.returns-clause-opened
+returns-clause-opened g c = opened-by g.D.Sectors.history _ _ _ c.args.text.now (wish_of c.in-Some.wish) _ _ c.open_file.result c.passes_check.ensures.reads
+    ((c.in_ok-passes_check.ensures.passed c.if-not-branch.false).1.remembered (c.in_ok-passes_check.ensures.passed c.if-not-branch.false).0).clean c.in-Some.ensures
+    (λ v is. wish-one c.args.text.now v (wish_of c.in-Some.wish) is c.in-Some.ensures) (closed-of _ c.is_open.result c.is_open.ensures c.if-is_open.false) c.open_file.ensures.opened
