@@ -25,9 +25,9 @@ use arrayvec::ArrayVec;
 use d64_image::{Place, Sectors};
 use disk_layout::{Bam, directory_start, padded_name, walk_chain};
 
-/// Creates a relative file of this name and record length, in bytes, with one data block of empty records. Its entry goes
-/// into the first free slot of the directory, or where all slots are used into a new directory sector, the lowest free one
-/// of track 18.
+/// Creates a relative file of this name and record length, in bytes, with one data block of empty records. Its entry
+/// goes into the first free slot of the directory, or where all slots are used into a new directory sector, the lowest
+/// free one of track 18.
 ///
 /// `Exists` where an entry has the name, of whatever type. Else `Full` where fewer than two blocks are free, or the
 /// directory has neither a free slot nor a free sector. Both write nothing. The name isn't judged: whoever asks sees to
@@ -108,8 +108,8 @@ fn read_room<D: Sectors>(disk: &mut D) -> Result<Room, RelFault>
     Ok(room)
 }
 
-/// Takes a new file's sectors in the map of a clean disk: two for the file, and where the directory is full a third for that.
-/// None where they aren't free.
+/// Takes a new file's sectors in the map of a clean disk: two for the file, and where the directory is full a third for
+/// that. None where they aren't free.
 fn take_site(mut map: Bam, room: Room) -> Option<Site>
     requires of { (img : Image) × (l : Layout) × IsCleanLayout img l × (map.bytes ≡ sector img map_place) × IsRoomOf img l room }
     ensures { (img : Image) → (l : Layout) → IsCleanLayout img l → map.bytes ≡ sector img map_place → IsRoomOf img l room → MatchOption result (HasNoRoom img l) (λ site. IsSite img l site × ¬ (HasNoRoom img l)) }

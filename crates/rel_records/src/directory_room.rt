@@ -10,8 +10,8 @@ use d64_image::{DeviceFault, Place, Sectors};
 use disk_layout::Slot;
 
 /// Where a new entry goes: the number of the first free slot of the directory, or None where all are used; and the
-/// directory sector that is written last for it, with its bytes and how many sectors stand before it: the one of that slot,
-/// or the directory's last.
+/// directory sector that is written last for it, with its bytes and how many sectors stand before it: the one of that
+/// slot, or the directory's last.
 #[derive(Drop)]
 pub(crate) struct Room {
     pub(crate) place: Place,

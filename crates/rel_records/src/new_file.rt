@@ -92,7 +92,8 @@ fn link_to(bytes: &mut [u8; 256], place: Place)
     bytes[1] = place.sector();
 }
 
-/// Writes a new file's sectors, and then the directory sector whose free slot got its entry: this last write makes the file.
+/// Writes a new file's sectors, and then the directory sector whose free slot got its entry: this last write makes the
+/// file.
 fn write_in_slot<D: Sectors>(
     disk: &mut D,
     site: &Site,
@@ -110,8 +111,8 @@ fn write_in_slot<D: Sectors>(
     disk.write(site.place, bytes)
 }
 
-/// Writes a new file's sectors and a new directory sector with its entry, and then the directory's last sector, which got the
-/// link to that: this last write makes the file.
+/// Writes a new file's sectors and a new directory sector with its entry, and then the directory's last sector, which got
+/// the link to that: this last write makes the file.
 fn write_behind<D: Sectors>(
     disk: &mut D,
     site: &Site,

@@ -8,8 +8,8 @@ pub(crate) struct Site {
     pub(crate) map: Bam,
     pub(crate) block: Place,
     pub(crate) side: Place,
-    /// The directory sector that is written last, and its bytes as they are: the one with the first free slot, or where all
-    /// slots are used the directory's last.
+    /// The directory sector that is written last, and its bytes as they are: the one with the first free slot, or where
+    /// all slots are used the directory's last.
     pub(crate) place: Place,
     pub(crate) bytes: [u8; 256],
     /// The new directory sector that the entry goes into, where all slots are used.
