@@ -1,4 +1,5 @@
 pub mod Faults
 pub mod Images
+pub mod Shows
 pub mod Tables
 pub mod Texts

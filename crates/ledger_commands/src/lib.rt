@@ -15,6 +15,7 @@ mod judging;
 mod listing;
 mod reading;
 mod replaced;
+mod shows;
 mod table;
 #[cfg(test)]
 mod tests;
