@@ -1,5 +1,5 @@
 -- What a run of the program ends with, and what it leaves of the output. All of it is our own.
-use Rattle.std.specs.Prelude.{◌≡◌, ◌≢◌, ◌↔◌, ◌⊎◌, ℕ, List, Option, None, Some, IsSome, codes, length}
+use Rattle.std.specs.Prelude.{◌≡◌, ◌≢◌, ◌↔◌, ◌⊎◌, ⊤, ℕ, List, Option, None, Some, IsSome, codes, length}
 use Rattle.std.specs.Io.KnownBytes.{Appends}
 use Rattle.d64_image.specs.Memory.{sectors_in}
 use Rattle.disk_layout.specs.Clean.{IsClean}
@@ -66,6 +66,8 @@ abbrev pub IsRun : {F W : Type 0} → (F → Option (List ℕ)) → (W → Optio
 IsRun into contents (jobs.Format path tills) image script file old new status = IsFormatRun into contents tills file old new status
 IsRun into contents (jobs.List path) image script file old new status = IsListRun contents image old new status
 IsRun into contents (jobs.Check path) image script file old new status = IsCheckRun contents image old new status
+IsRun into contents (jobs.Show path) image script file old new status = ⊤
+IsRun into contents (jobs.Play path script_path) image script file old new status = ⊤
 IsRun into contents (jobs.Dry path) image script file old new status = IsDryRun contents script old new status
 
 -- where nothing is told: at status 0, and where what is wrong with a disk's layout is what was asked for

@@ -109,7 +109,14 @@ fn do_job(rt: &HostRuntime, job: &Job<'_>) -> io::Result<u8>
             image: path,
             tills: _,
         } => file = Some(Replaced::new(AtPath { rt, path })),
-        Job::List { image: path } | Job::Check { image: path } => image = image_at(rt, path)?,
+        Job::List { image: path } | Job::Check { image: path } | Job::Show { image: path } => image = image_at(rt, path)?,
+        Job::Play {
+            image: path,
+            script: script_path,
+        } => {
+            image = image_at(rt, path)?;
+            script = script_at(rt, script_path)?;
+        }
         Job::Dry { script: path } => script = script_at(rt, path)?,
     }
     let mut out = BufWriter::with_capacity(rt.alloc(), OUTPUT_ROOM, io::writer(rt))?;

@@ -85,6 +85,7 @@ pub fn run<F: Write + Seek + Drop, W: Write, E: Write>(
         Job::Format { image: _, tills } => status_after(format_file(alloc, *tills, file, out), err),
         Job::List { image: _ } => status_after(list_image(alloc, image, out), err),
         Job::Check { image: _ } => judged(check_image(alloc, image, out), err),
+        Job::Show { image: _ } | Job::Play { image: _, script: _ } => status_after(Err(RunFault::Device), err),
         Job::Dry { script: _ } => match play_whole(script, out) {
             Ok(()) => 0,
             Err(fault) => {
