@@ -1,5 +1,5 @@
 -- A record across two blocks, by its number: what each of the two writes leaves, and what is held.
-use Rattle.std.proofs.Common.{List, [], Some, ap, ap₂, arith, drop, get_or, length, length-drop, refl, set, slice_index, subst, sym, take, ℕ, ◌%◌, ◌*◌, ◌++◌, ◌+◌, ◌-◌, ◌<◌, ◌∙◌, ◌≡◌, ◌≤◌}
+use Rattle.std.proofs.Common.{List, [], Some, ap, ap₂, arith, drop, get_or, length, length-drop, set, slice_index, subst, sym, take, ℕ, ◌*◌, ◌++◌, ◌+◌, ◌-◌, ◌<◌, ◌∙◌, ◌≡◌, ◌≤◌}
 use Rattle.std.proofs.lemmas.List.{get_or-drop, take_all}
 use Rattle.std.specs.Prelude.{min, slice_get}
 use Rattle.d64_image.proofs.Moments.{changes_weaker, one_write_more, write_change}

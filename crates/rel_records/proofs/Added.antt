@@ -1,16 +1,16 @@
 -- What a disk holds while a file takes its next data block, write by write.
-use Rattle.std.proofs.Common.{◌≡◌, ◌≢◌, ℕ, ◌+◌, ◌-◌, ◌*◌, ◌%◌, ◌<◌, ◌≤◌, ◌⊎◌, inl, inr, Bool, true, false, List, [], ◌∷◌, ◌++◌, length, slice_index, refl, sym, ◌∙◌, ap, arith, subst, length-append}
+use Rattle.std.proofs.Common.{◌≡◌, ◌≢◌, ℕ, ◌+◌, ◌-◌, ◌%◌, ◌<◌, ◌≤◌, inl, inr, Bool, true, false, List, [], ◌∷◌, ◌++◌, length, slice_index, refl, sym, ◌∙◌, ap, arith, subst, length-append}
 use Rattle.std.specs.Prelude.{Some, get_or, if◌then◌else◌, nat_eq, slice_get}
 use Rattle.std.proofs.lemmas.Bool.Decides.{nat_tests}
 use Rattle.d64_image.proofs.Moments.{at_end, changes_weaker, one_write_more}
 use Rattle.d64_image.specs.History.{Changes, HeldOnly, History, OldOr}
-use Rattle.d64_image.specs.Images.{Image, IsSector, Sector, put, sector}
+use Rattle.d64_image.specs.Images.{Image, IsSector, Sector, put}
 use Rattle.d64_image.specs.declared.place.Place.{Place}
 use Rattle.disk_layout.proofs.Commit.{grown}
 use Rattle.disk_layout.proofs.GrowthRecords.{get-seam}
 use Rattle.disk_layout.specs.Directory.{map_place}
 use Rattle.disk_layout.specs.Layout.{File, Layout, record_length, sides_for}
-use Rattle.rel_records.proofs.Adding.{IsRewritten, before-adds, block-more, counted-adds, few-sides, linked-adds, next, prepared, some-sides}
+use Rattle.rel_records.proofs.Adding.{IsRewritten, before-adds, block-more, counted-adds, linked-adds, next, prepared, some-sides}
 use Rattle.rel_records.proofs.Sided.{read-there}
 use Rattle.rel_records.specs.Growth.{full}
 use Rattle.rel_records.specs.Next.{IsLaidOut}

@@ -1,5 +1,5 @@
 -- A file takes its next data block: from what is laid out in memory to what the disk holds at each moment.
-use Rattle.std.proofs.Common.{◌≡◌, ◌≢◌, ℕ, zero, suc, ◌+◌, ◌-◌, ◌*◌, ◌%◌, ◌<◌, ◌≤◌, ◌⊎◌, inl, inr, List, [], ◌∷◌, ◌++◌, length, refl, sym, ◌∙◌, ap, arith, subst, IsTrue, length-append, slice_index, take, drop}
+use Rattle.std.proofs.Common.{◌≡◌, ◌≢◌, ℕ, suc, ◌+◌, ◌-◌, ◌*◌, ◌%◌, ◌<◌, ◌≤◌, ◌⊎◌, inl, inr, List, [], ◌∷◌, ◌++◌, length, refl, sym, ◌∙◌, ap, arith, subst, IsTrue, length-append, slice_index, take, drop}
 use Rattle.std.specs.Prelude.{Bool, Contains, Some, nat_eq, slice_get, ◌||◌}
 use Rattle.std.specs.List.{AllByRecursion}
 use Rattle.std.proofs.lemmas.List.{length-take}
@@ -17,8 +17,8 @@ use Rattle.disk_layout.proofs.Once.{Contains-here, EachOnce-apart, EachOnce-left
 use Rattle.std.proofs.lemmas.List.Elements.{Contains-append_left, Contains-append_right}
 use Rattle.disk_layout.proofs.Recount.{around}
 use Rattle.disk_layout.proofs.SideWrites.{file-there}
-use Rattle.disk_layout.specs.Chain.{EachOnce, byte}
-use Rattle.disk_layout.specs.Clean.{IsCleanLayout, IsExactFile}
+use Rattle.disk_layout.specs.Chain.{EachOnce}
+use Rattle.disk_layout.specs.Clean.{IsExactFile}
 use Rattle.disk_layout.specs.Directory.{map_place, slot_in}
 use Rattle.disk_layout.specs.Entries.{IsRecounted, uncounted}
 use Rattle.disk_layout.specs.Layout.{File, IsRelFile, Layout, count_field, exchanged, file_owns, is_rel, owners, record_length, sides_for}
@@ -28,7 +28,7 @@ use Rattle.disk_layout.specs.Side.{side_sector}
 use Rattle.disk_layout.specs.View.{blocks_free}
 use Rattle.disk_layout.specs.declared.slot.Slot.{Slot}
 use Rattle.rel_records.proofs.Before.{before-grows, prepared-of}
-use Rattle.rel_records.proofs.Committing.{after-same, before-same, clean-again, committed-has, counted-has, entry-unowned, g-owned, header-same, last-not_entry, map-now, records-longer, same-entry, slot-records}
+use Rattle.rel_records.proofs.Committing.{after-same, before-same, clean-again, committed-has, counted-has, entry-unowned, g-owned, header-same, map-now, records-longer, same-entry, slot-records}
 use Rattle.rel_records.proofs.Others.{others-kept, places-more}
 use Rattle.rel_records.proofs.FullSides.{side_sector-full}
 use Rattle.rel_records.proofs.Fulls.{full-inside, full-last, full-more}

@@ -1,20 +1,19 @@
 -- The write that makes a file longer, and the block count behind it: from a clean image to a clean image.
-use Rattle.std.proofs.Common.{◌≡◌, ◌≢◌, ℕ, zero, suc, ◌+◌, ◌*◌, ◌<◌, ◌≤◌, ◌⊎◌, inl, inr, List, [], ◌∷◌, ◌++◌, map, length, refl, sym, ◌∙◌, ap, arith, subst, IsTrue, length-append, slice_index}
+use Rattle.std.proofs.Common.{◌≡◌, ◌≢◌, ℕ, ◌+◌, ◌<◌, ◌≤◌, List, [], ◌∷◌, ◌++◌, map, length, refl, sym, ◌∙◌, ap, arith, subst, IsTrue, length-append, slice_index}
 use Rattle.std.specs.Prelude.{Contains, slice_get, Some, flat_map, replicate, take, drop}
 use Rattle.std.specs.List.{AllByRecursion}
 use Rattle.std.proofs.lemmas.Grind.{flat_map-append}
 use Rattle.std.proofs.lemmas.List.Elements.{Contains-append_left, Contains-append_right}
-use Rattle.d64_image.proofs.Images.{length-put, put_is_image, sector-put_other, sector-put_same}
+use Rattle.d64_image.proofs.Images.{length-put, put_is_image, sector-put_other}
 use Rattle.d64_image.specs.Images.{Image, IsImage, IsSector, Sector, put, sector}
 use Rattle.d64_image.specs.declared.place.Place.{Place}
 use Rattle.disk_layout.proofs.Agree.{owned-block, records-agree}
 use Rattle.disk_layout.proofs.Chains.{AgreeAt}
 use Rattle.disk_layout.proofs.Commit.{IsReady, all-join, all-left, all-right, alone, commit, grown, own-once}
-use Rattle.disk_layout.proofs.Counts.{IsLayout-recount, kept-slot, new-slot, uncounted-face}
+use Rattle.disk_layout.proofs.Counts.{IsLayout-recount, new-slot, uncounted-face}
 use Rattle.disk_layout.proofs.Exact.{exact-side}
 use Rattle.disk_layout.proofs.Faces.{with_slot}
-use Rattle.disk_layout.proofs.GrowthRecords.{around-kept, files-kept, records-grown}
-use Rattle.disk_layout.proofs.Joined.{records-kept}
+use Rattle.disk_layout.proofs.GrowthRecords.{records-grown}
 use Rattle.disk_layout.proofs.Layouts.{get-contains}
 use Rattle.disk_layout.proofs.Once.{Contains-here, Contains-there, EachOnce-apart, EachOnce-left, flat_map-in}
 use Rattle.disk_layout.proofs.Recount.{slot-there}
@@ -23,14 +22,13 @@ use Rattle.disk_layout.specs.Chain.{EachOnce, Names}
 use Rattle.disk_layout.specs.Clean.{IsCleanLayout, IsExactFile}
 use Rattle.disk_layout.specs.Directory.{map_place, slot_in}
 use Rattle.disk_layout.specs.Entries.{IsRecounted, uncounted}
-use Rattle.disk_layout.specs.Growth.{IsGrowing}
 use Rattle.disk_layout.specs.Layout.{File, IsLayout, IsRelFile, Layout, count_field, exchanged, file_owns, is_rel, owners, record_length, sides_for}
 use Rattle.disk_layout.specs.Map.{IsMapOf}
 use Rattle.disk_layout.specs.Records.{IsFilled, empty_record, joined, pieces, record_count, records}
-use Rattle.disk_layout.specs.Rest.{header_of, kept_of}
+use Rattle.disk_layout.specs.Rest.{header_of}
 use Rattle.disk_layout.specs.Side.{side_sector}
 use Rattle.disk_layout.specs.declared.slot.Slot.{Slot}
-use Rattle.rel_records.proofs.Preparing.{after-stays, before-stays, blocks-stay, directory-stays, file-in, in-after, in-before, preparing-after, preparing-before, preparing-layout, preparing-records}
+use Rattle.rel_records.proofs.Preparing.{after-stays, before-stays, blocks-stay, directory-stays, file-in, preparing-layout, preparing-records}
 use Rattle.rel_records.proofs.Others.{has-records, places-more}
 use Rattle.rel_records.specs.Others.{HasRecords}
 use Rattle.rel_records.specs.Preparing.{IsPrepared}

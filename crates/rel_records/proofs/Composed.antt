@@ -1,5 +1,5 @@
 -- Calls one after another: what was held over both.
-use Rattle.std.proofs.Common.{arith, subst, sym, ℕ, ◌+◌, ◌≡◌, ◌≤◌}
+use Rattle.std.proofs.Common.{arith, subst, ℕ, ◌≤◌}
 use Rattle.d64_image.proofs.Moments.{changes_then, changes_weaker, reads_change}
 use Rattle.d64_image.specs.History.{Changes, History, OnlyReads}
 use Rattle.d64_image.specs.Images.{Image}

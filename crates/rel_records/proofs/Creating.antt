@@ -1,26 +1,22 @@
 -- A new file: before its entry is written, and after.
-use Rattle.std.proofs.Common.{Bool, ◌≡◌, ◌≢◌, ℕ, zero, suc, ◌+◌, ◌<◌, ◌≤◌, ◌⊎◌, inl, inr, true, false, List, [], ◌∷◌, ◌++◌, map, length, refl, sym, ◌∙◌, ap, arith, subst, append_assoc, slice_index, take, drop}
-use Rattle.std.specs.Prelude.{Contains, Some, cond, filter, flat_map, nat_eq, not, slice_range}
+use Rattle.std.proofs.Common.{◌≡◌, List, [], ◌∷◌, ◌++◌, map, refl, sym, ◌∙◌, ap, subst}
+use Rattle.std.specs.Prelude.{Contains, slice_range}
 use Rattle.std.specs.List.{AllByRecursion}
-use Rattle.std.proofs.lemmas.Grind.{flat_map-append}
-use Rattle.std.proofs.lemmas.List.Elements.{Contains-append_left, Contains-append_right, filter-append}
-use Rattle.d64_image.proofs.Images.{sector-put_other, sector-put_same}
-use Rattle.d64_image.proofs.Places.{same_or_other}
-use Rattle.d64_image.specs.Images.{Image, Sector, put, sector}
+use Rattle.std.proofs.lemmas.List.Elements.{Contains-append_left, Contains-append_right}
+use Rattle.d64_image.specs.Images.{Image, sector}
 use Rattle.d64_image.specs.declared.place.Place.{Place}
 use Rattle.disk_layout.proofs.Agree.{IsLayout-agree, owned-block, stays-agree}
 use Rattle.disk_layout.proofs.Chains.{AgreeAt}
 use Rattle.disk_layout.proofs.Commit.{all-join, all-left, all-right}
 use Rattle.disk_layout.proofs.Faces.{IsFile-slot, SameFace, with_slot}
-use Rattle.disk_layout.proofs.Layouts.{KeepsFiles, all_blocks, files-frame, unless-same, used_slots-frame}
-use Rattle.disk_layout.proofs.Once.{Contains-here, Contains-there, EachOnce-apart, EachOnce-right, flat_map-in}
-use Rattle.disk_layout.proofs.Recount.{around, slot-get, slot-there, split-at}
-use Rattle.disk_layout.proofs.Recounts.{map-map, map-same_on, reread, reslot, slot-of}
+use Rattle.disk_layout.proofs.Layouts.{KeepsFiles, files-frame}
+use Rattle.disk_layout.proofs.Once.{Contains-here, Contains-there}
+use Rattle.disk_layout.proofs.Recounts.{map-map, map-same_on, reread, reslot}
 use Rattle.disk_layout.specs.Chain.{EachOnce}
-use Rattle.disk_layout.specs.Directory.{IsDirectory, is_used, map_place, slot_in, slots_in, used_slots}
-use Rattle.disk_layout.specs.Layout.{File, IsFile, IsLayout, Layout, file_owns, owners}
+use Rattle.disk_layout.specs.Directory.{IsDirectory, map_place}
+use Rattle.disk_layout.specs.Layout.{File, IsFile, IsLayout, Layout, owners}
 use Rattle.disk_layout.specs.Rest.{header_of}
-use Rattle.disk_layout.specs.Same.{AddsFile, Stays, stays_of}
+use Rattle.disk_layout.specs.Same.{AddsFile, stays_of}
 use Rattle.disk_layout.specs.declared.slot.Slot.{Slot}
 use Rattle.rel_records.specs.Made.{HasFilesOf}
 

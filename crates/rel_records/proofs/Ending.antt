@@ -1,5 +1,5 @@
 -- The room in a file's last blocks is filled: the tail of a block, and then the last block with another last index.
-use Rattle.std.proofs.Common.{◌≡◌, ◌≢◌, ℕ, inl, ◌+◌, ◌*◌, ◌<◌, ◌≤◌, List, [], ◌∷◌, ◌++◌, length, refl, sym, ◌∙◌, ap, subst, slice_index, IsTrue, take, drop}
+use Rattle.std.proofs.Common.{◌≡◌, ℕ, inl, ◌+◌, ◌*◌, ◌<◌, ◌≤◌, List, ◌∷◌, ◌++◌, length, refl, sym, ◌∙◌, ap, subst, slice_index, IsTrue, take, drop}
 use Rattle.std.specs.Prelude.{Contains, Some, flat_map, slice_get}
 use Rattle.std.specs.List.{AllByRecursion}
 use Rattle.std.proofs.lemmas.List.Elements.{Contains-append_left}
@@ -7,12 +7,12 @@ use Rattle.d64_image.proofs.Images.{sector-put_other}
 use Rattle.d64_image.specs.Images.{Image, IsImage, Sector, put, sector}
 use Rattle.d64_image.specs.declared.place.Place.{Place}
 use Rattle.disk_layout.proofs.Agree.{owned-block}
-use Rattle.disk_layout.proofs.Chains.{AgreeAt, chain-last}
+use Rattle.disk_layout.proofs.Chains.{AgreeAt}
 use Rattle.disk_layout.proofs.Commit.{all-join, all-left, all-right, alone, own-once}
-use Rattle.disk_layout.proofs.Layouts.{IsLayout-put_block, all_blocks, get-contains, unless-same}
+use Rattle.disk_layout.proofs.Layouts.{IsLayout-put_block, get-contains, unless-same}
 use Rattle.disk_layout.proofs.Once.{EachOnce-apart, EachOnce-left, flat_map-in}
 use Rattle.disk_layout.proofs.Refills.{IsLayout-ended, ended, owners-same, records-past}
-use Rattle.disk_layout.proofs.SideWrites.{file-there, same-layout}
+use Rattle.disk_layout.proofs.SideWrites.{same-layout}
 use Rattle.disk_layout.specs.Chain.{EachOnce, byte}
 use Rattle.disk_layout.specs.Clean.{IsCleanLayout, IsExactFile}
 use Rattle.disk_layout.specs.Directory.{map_place}

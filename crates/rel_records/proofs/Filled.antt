@@ -1,18 +1,18 @@
 -- The room in a file's last blocks is filled: the block before the last, where the first new record begins there, then the last.
-use Rattle.std.proofs.Common.{◌≡◌, ◌≢◌, ℕ, zero, suc, ◌+◌, ◌-◌, ◌*◌, ◌<◌, ◌≤◌, ◌⊎◌, inl, inr, List, [], ◌∷◌, ◌++◌, get_or, length, refl, sym, ◌∙◌, ap, ap₂, arith, subst, IsTrue, append-nil, length-append, slice_index, take, drop}
+use Rattle.std.proofs.Common.{◌≡◌, ◌≢◌, ℕ, suc, ◌+◌, ◌-◌, ◌*◌, ◌<◌, ◌≤◌, ◌⊎◌, inl, inr, List, ◌∷◌, ◌++◌, get_or, length, refl, sym, ◌∙◌, ap, ap₂, arith, subst, append-nil, length-append, slice_index, take, drop}
 use Rattle.std.specs.Prelude.{Contains, Some, replicate, slice_get}
 use Rattle.std.proofs.lemmas.Bool.{cases_lt}
-use Rattle.d64_image.proofs.Images.{is_sector, put_is_image, sector-put_other, sector-put_same}
+use Rattle.d64_image.proofs.Images.{put_is_image, sector-put_other, sector-put_same}
 use Rattle.d64_image.specs.Images.{Image, IsImage, IsSector, Sector, put, sector}
 use Rattle.d64_image.specs.declared.place.Place.{Place}
 use Rattle.disk_layout.proofs.Agree.{IsCleanLayout-put_block, owned-block}
 use Rattle.disk_layout.proofs.Commit.{alone}
 use Rattle.disk_layout.proofs.GrowthRecords.{count-full, get-seam}
-use Rattle.disk_layout.proofs.Layouts.{all_blocks, get-contains}
+use Rattle.disk_layout.proofs.Layouts.{get-contains}
 use Rattle.disk_layout.proofs.Once.{flat_map-in}
 use Rattle.disk_layout.proofs.Refills.{ended, records-more, records-past}
 use Rattle.disk_layout.proofs.SideWrites.{same-layout}
-use Rattle.disk_layout.specs.Chain.{EachOnce, byte}
+use Rattle.disk_layout.specs.Chain.{EachOnce}
 use Rattle.disk_layout.specs.Directory.{map_place}
 use Rattle.disk_layout.specs.Layout.{File, Layout, exchanged, file_owns, owners, record_length}
 use Rattle.disk_layout.specs.Records.{empty_record, filler, joined, record_count, records}
@@ -26,7 +26,7 @@ use Rattle.rel_records.proofs.Standing.{blocks-once, blocks-some, entry-in, file
 use Rattle.rel_records.proofs.Tails.{tail-before, tail-new, tail-other}
 use Rattle.rel_records.specs.Growth.{full, records_had}
 use Rattle.rel_records.specs.Others.{HasRecords, KeepsOthers, KeepsPlaces}
-use Rattle.rel_records.specs.Steps.{FillsBefore, HasFilled, IsAt, IsEnd, IsFilledUp, IsTailOf}
+use Rattle.rel_records.specs.Steps.{FillsBefore, HasFilled, IsAt, IsEnd, IsTailOf}
 use Rattle.rel_records.specs.Written.{IsGrowingBy, grown_by}
 use Rattle.rel_records.specs.declared.step_parts.Parts.{Parts}
 

@@ -1,17 +1,17 @@
 -- What a disk holds while a file's last blocks are filled, write by write.
-use Rattle.std.proofs.Common.{◌≡◌, ◌≢◌, ℕ, ◌+◌, ◌-◌, ◌*◌, ◌<◌, ◌≤◌, ◌⊎◌, inl, inr, Bool, true, false, Result, OnOk, length, refl, sym, ◌∙◌, ap, arith, subst, slice_index}
+use Rattle.std.proofs.Common.{◌≡◌, ◌≢◌, ℕ, ◌+◌, ◌-◌, ◌*◌, ◌≤◌, ◌⊎◌, inl, inr, Bool, true, false, Result, OnOk, length, refl, sym, ◌∙◌, ap, arith, subst, slice_index}
 use Rattle.std.specs.Prelude.{if◌then◌else◌, nat_eq, nat_lt}
 use Rattle.std.proofs.lemmas.Bool.Decides.{nat_tests}
-use Rattle.d64_image.proofs.Moments.{at_end, changes_weaker, one_write_more, no_change}
+use Rattle.d64_image.proofs.Moments.{at_end, changes_weaker, one_write_more}
 use Rattle.d64_image.specs.History.{Changes, HeldOnly, History, OldOr}
 use Rattle.d64_image.specs.Images.{Image, IsSector, Sector, put, sector}
 use Rattle.d64_image.specs.declared.place.Place.{Place}
 use Rattle.disk_layout.specs.Layout.{File, Layout, record_length}
 use Rattle.disk_layout.specs.Records.{record_count}
-use Rattle.rel_records.proofs.Filled.{IsReadyToEnd, filled-already, filled-has, filled-up, had-is, old-grows, ready-grows, ready-then}
+use Rattle.rel_records.proofs.Filled.{IsReadyToEnd, filled-has, filled-up, had-is, old-grows, ready-grows, ready-then}
 use Rattle.rel_records.proofs.Committing.{snoc-last}
 use Rattle.rel_records.proofs.Sided.{ok-then}
-use Rattle.rel_records.proofs.Standing.{file-rel, had-fit, had-full, had-low}
+use Rattle.rel_records.proofs.Standing.{file-rel, had-low}
 use Rattle.rel_records.specs.Growth.{fill_writes, full, records_had}
 use Rattle.rel_records.specs.Steps.{FillsBefore, HasFilled, IsAt, IsEnd}
 use Rattle.rel_records.specs.Written.{IsGrowingBy}

@@ -1,6 +1,6 @@
 -- A relative file found by its name: what a sound disk excludes, and what the slot says of its file.
 use Rattle.std.proofs.lemmas.Bool.{false≢true}
-use Rattle.std.proofs.Common.{[], ◌∷◌, Bool, IsTrue, List, None, ap₂, false, get_or, take, ◌++◌, Option, Some, IsSome, ap, arith, inl, inr, length, length-append, map, refl, subst, sym, ℕ, ◌+◌, ◌*◌, ◌<◌, ◌∙◌, ◌≡◌, ◌≤◌}
+use Rattle.std.proofs.Common.{[], ◌∷◌, Bool, IsTrue, List, ap₂, false, get_or, take, ◌++◌, Option, Some, IsSome, ap, arith, inl, inr, length, length-append, map, refl, subst, sym, ℕ, ◌+◌, ◌*◌, ◌<◌, ◌∙◌, ◌≡◌, ◌≤◌}
 use Rattle.std.proofs.lemmas.List.{take_more}
 use Rattle.std.proofs.lemmas.Option.{slice_get-get_or, slice_get-map, slice_get_read, slice_get_within}
 use Rattle.std.specs.Prelude.{Err, IfOk, Ok, Result, option_map, slice_get, slice_index}
@@ -114,7 +114,7 @@ walk-failed T S a b failed_at img s o first fault (f, of) named is h tells =
 pub slot-file : (l : Layout) (slots : List Slot) (n : ℕ) (s : Slot) → slots ≡ map (λ (f : File). f.slot) l.files → slice_get slots n ≡ Some s → (f : File) × (slice_get l.files n ≡ Some f) × (f.slot ≡ s)
 slot-file l slots n s e at = made-from (λ (f : File). f.slot) (slice_get l.files n) s (sym (slice_get-map (λ (f : File). f.slot) l.files n) ∙ ap (λ (xs : List Slot). slice_get xs n) (sym e) ∙ at)
 
-file-slot : (l : Layout) (slots : List Slot) (n : ℕ) (f : File) → slots ≡ map (λ (f : File). f.slot) l.files → slice_get l.files n ≡ Some f → slice_get slots n ≡ Some f.slot
+pub file-slot : (l : Layout) (slots : List Slot) (n : ℕ) (f : File) → slots ≡ map (λ (f : File). f.slot) l.files → slice_get l.files n ≡ Some f → slice_get slots n ≡ Some f.slot
 file-slot l slots n f e at = ap (λ (xs : List Slot). slice_get xs n) e ∙ slice_get-map (λ (f : File). f.slot) l.files n ∙ ap (option_map (λ (f : File). f.slot)) at
 
 -- the first slot of a name is that of the first file of it

@@ -13,7 +13,7 @@ use Rattle.disk_layout.specs.Chain.{named_at}
 use Rattle.disk_layout.specs.Layout.{File, Layout}
 use Rattle.rel_records.proofs.Opened.{file-in, file-rel}
 use Rattle.rel_records.proofs.Sided.{get-there}
-use Rattle.rel_records.specs.File.{IsFileOf, IsOf}
+use Rattle.rel_records.specs.File.{IsFileOf}
 use Rattle.rel_records.specs.Sides.{NamesEach}
 use Rattle.rel_records.specs.declared.rel_file.RelFile.{RelFile}
 

@@ -1,7 +1,7 @@
 -- What is read of a file is what growth keeps of it.
-use Rattle.std.proofs.Common.{◌≡◌, ℕ, ◌+◌, List, [], ◌∷◌, ◌++◌, Some, length, refl, sym, ◌∙◌, ap, arith, subst, length-append}
-use Rattle.std.specs.Prelude.{get_or, slice_get}
-use Rattle.d64_image.specs.Images.{Image, Sector, sector}
+use Rattle.std.proofs.Common.{◌≡◌, ℕ, ◌+◌, length, ◌∙◌, ap, subst}
+use Rattle.std.specs.Prelude.{get_or}
+use Rattle.d64_image.specs.Images.{Image, sector}
 use Rattle.d64_image.specs.declared.place.Place.{Place}
 use Rattle.disk_layout.proofs.Layouts.{IsLayout-one}
 use Rattle.disk_layout.specs.Clean.{IsClean, IsCleanLayout}

@@ -1,5 +1,5 @@
 -- A record is written after growth: what is left of both, and what was held.
-use Rattle.std.proofs.Common.{List, [], ap₂, append-nil, arith, inl, inr, subst, sym, ℕ, suc, zero, ◌*◌, ◌+◌, ◌∙◌, ◌≡◌, ◌≤◌}
+use Rattle.std.proofs.Common.{List, ap₂, append-nil, arith, inl, inr, subst, sym, ℕ, ◌+◌, ◌∙◌, ◌≡◌}
 use Rattle.d64_image.proofs.Moments.{changes_then, changes_weaker}
 use Rattle.d64_image.specs.History.{Changes, History}
 use Rattle.d64_image.specs.Images.{Image}

@@ -1,13 +1,13 @@
 -- Growth to a record: what its refusals and its result mean for that record.
-use Rattle.std.proofs.Common.{◌≡◌, ◌≢◌, ℕ, ◌+◌, ◌-◌, ◌*◌, ◌/◌, ◌<◌, ◌≤◌, ◌⊎◌, inl, inr, Bool, true, false, List, Some, length, refl, sym, ◌∙◌, ap, arith, subst, append-nil}
-use Rattle.std.specs.Prelude.{if◌then◌else◌, nat_le, slice_get}
+use Rattle.std.proofs.Common.{◌≡◌, ℕ, ◌+◌, ◌-◌, ◌*◌, ◌<◌, ◌≤◌, ◌⊎◌, inl, inr, Bool, true, false, List, Some, length, refl, sym, ◌∙◌, ap, arith, subst, append-nil}
+use Rattle.std.specs.Prelude.{if◌then◌else◌, nat_le}
 use Rattle.std.proofs.lemmas.Bool.Decides.{nat_tests}
 use Rattle.std.proofs.lemmas.Nat.{le-div}
 use Rattle.d64_image.specs.Images.{Image, sector}
 use Rattle.disk_layout.proofs.Pieces.{row-le}
 use Rattle.disk_layout.specs.Directory.{map_place}
-use Rattle.disk_layout.specs.Layout.{File, Layout, record_length, sides_for}
-use Rattle.disk_layout.specs.Records.{record_count, records}
+use Rattle.disk_layout.specs.Layout.{File, Layout, record_length}
+use Rattle.disk_layout.specs.Records.{records}
 use Rattle.disk_layout.specs.View.{blocks_free}
 use Rattle.disk_layout.specs.Clean.{IsClean}
 use Rattle.rel_records.proofs.Filled.{last-index}
@@ -22,7 +22,7 @@ use Rattle.rel_records.proofs.Standing.{count-low}
 use Rattle.rel_records.specs.File.{IsFileOf, blocks_of, length_of, records_in}
 use Rattle.rel_records.specs.Growth.{IsFull, IsTooLarge, added, blocks_for, fill_writes, full, growth_writes, needed, records_had, run_writes}
 use Rattle.rel_records.specs.Others.{KeepsPlaces, KeepsRelFiles, LeavesRecords}
-use Rattle.rel_records.specs.Steps.{HasRun, IsAt, IsFilledUp, IsKeptOf}
+use Rattle.rel_records.specs.Steps.{HasRun, IsAt}
 use Rattle.rel_records.specs.Written.{IsGrowingBy, grown_by, grown_to}
 use Rattle.rel_records.specs.declared.rel_file.RelFile.{RelFile}
 

@@ -1,16 +1,16 @@
 -- Growth as a whole: what is read, then the last blocks filled, then blocks one after another.
-use Rattle.std.proofs.Common.{◌≡◌, ◌≢◌, ℕ, ◌+◌, ◌-◌, ◌*◌, ◌<◌, ◌≤◌, length, refl, sym, ◌∙◌, ap, arith, subst, slice_index}
+use Rattle.std.proofs.Common.{◌≡◌, ℕ, ◌+◌, ◌-◌, ◌≤◌, length, sym, ◌∙◌, ap, arith, subst}
 use Rattle.d64_image.proofs.Moments.{changes_then, changes_weaker, reads_change}
 use Rattle.d64_image.specs.History.{Changes, History, OnlyReads}
 use Rattle.d64_image.specs.Images.{Image}
 use Rattle.disk_layout.specs.Layout.{File, Layout, record_length, sides_for}
 use Rattle.disk_layout.specs.Records.{record_count}
 use Rattle.disk_layout.specs.View.{blocks_free}
-use Rattle.rel_records.proofs.Filled.{had-is, old-grows}
+use Rattle.rel_records.proofs.Filled.{old-grows}
 use Rattle.rel_records.proofs.Running.{full-mono, growing-more, run-filled, run-held, run-run}
 use Rattle.rel_records.proofs.Opened.{rel-of}
 use Rattle.rel_records.proofs.Standing.{blocks-some, had-full, pos}
-use Rattle.rel_records.specs.File.{IsFileOf, blocks_of, records_in}
+use Rattle.rel_records.specs.File.{IsFileOf, records_in}
 use Rattle.rel_records.specs.Growth.{fill_writes, full, needed, records_had, run_writes}
 use Rattle.rel_records.specs.Steps.{HasFilled, HasRun, IsAt, IsKeptOf, IsRunTo, StandsFilled}
 use Rattle.rel_records.specs.Written.{IsGrowingBy}

@@ -1,72 +1,37 @@
 -- The entry stands in a new directory sector: the write that links it makes the file.
-use Rattle.std.proofs.Common.{Bool, ◌≡◌, ◌≢◌, ℕ, zero, suc, ◌+◌, ◌*◌, ◌<◌, ◌≤◌, ◌⊎◌, inl, inr, true, false, List, [], ◌∷◌, ◌++◌, map, length, refl, sym, ◌∙◌, ap, arith, subst, slice_index, append_assoc, append-nil, take, drop, get_or}
-use Rattle.std.specs.Prelude.{Contains, Some, flat_map, filter, slice_range, nat_eq, not}
+use Rattle.std.proofs.Common.{◌≡◌, ◌≢◌, ℕ, ◌+◌, ◌<◌, inl, inr, IsTrue, true, false, List, [], ◌∷◌, ◌++◌, map, length, refl, sym, ◌∙◌, ap, subst, slice_index, append_assoc, append-nil, take, drop, get_or}
+use Rattle.std.specs.Prelude.{Contains, flat_map}
 use Rattle.std.specs.List.{AllByRecursion}
-use Rattle.std.proofs.lemmas.Grind.{flat_map-append, same_number_lists}
-use Rattle.std.proofs.lemmas.List.{get_or-drop, length-drop}
+use Rattle.std.proofs.lemmas.List.{drop-drop, get_or-drop}
 use Rattle.std.proofs.lemmas.List.Elements.{Contains-append_left, Contains-append_right, Contains-append_cases}
 use Rattle.d64_image.proofs.Images.{sector-put_other, sector-put_same}
-use Rattle.d64_image.proofs.Places.{same_or_other}
 use Rattle.d64_image.specs.Images.{Image, Sector, put, sector}
 use Rattle.d64_image.specs.declared.place.Place.{Place}
-use Rattle.disk_layout.proofs.Chains.{AgreeAt, IsChain-grow, SameLinks, chain-front, chain-last, links-agree}
+use Rattle.disk_layout.proofs.Chains.{AgreeAt, IsChain-grow, chain-front, chain-last, links-agree}
 use Rattle.disk_layout.proofs.Commit.{all-join, keeps-other}
-use Rattle.disk_layout.proofs.Counts.{range-piece}
-use Rattle.disk_layout.proofs.Faces.{SameFace}
-use Rattle.disk_layout.proofs.Layouts.{KeepsFiles, unless-same}
-use Rattle.disk_layout.proofs.Once.{Contains-cases, Contains-here, Contains-nil, EachOnce-apart, EachOnce-insert, flat_map-in, insert-out}
-use Rattle.disk_layout.proofs.Pieces.{length-piece, piece, piece-byte}
-use Rattle.disk_layout.proofs.Recount.{filter-out, flat_map-out, slot-number}
-use Rattle.disk_layout.proofs.Recounts.{filter-map, map-map, reread, reslot, slot-of}
+use Rattle.disk_layout.proofs.Layouts.{KeepsFiles, get-contains, unless-same}
+use Rattle.disk_layout.proofs.Once.{Contains-cases, Contains-here, Contains-there, Contains-nil, EachOnce-apart, EachOnce-insert, flat_map-in, insert-out}
+use Rattle.disk_layout.proofs.LongerDirectory.{IsRelinked, slot-relinked, used_slots-relinked}
+use Rattle.disk_layout.proofs.Recount.{filter-out}
+use Rattle.disk_layout.proofs.Agree.{owned-side}
+use Rattle.disk_layout.specs.Clean.{IsCleanLayout, IsExactFile}
+use Rattle.disk_layout.specs.Map.{IsMapOf}
+use Rattle.disk_layout.specs.Side.{side_sector}
+use Rattle.byteorder.specs.Endian.{little_number}
+use Rattle.disk_layout.proofs.Recounts.{map-map, reread, reslot, slot-of}
 use Rattle.disk_layout.specs.Chain.{EachOnce, IsChain, Names}
 use Rattle.disk_layout.specs.Directory.{IsDirectory, directory_start, is_used, map_place, slot_in, slots_in, used_slots}
-use Rattle.disk_layout.specs.Layout.{File, IsFile, IsLayout, Layout, file_owns, owners}
-use Rattle.disk_layout.specs.Rest.{header_of}
+use Rattle.disk_layout.specs.Layout.{File, IsLayout, Layout, count_field, file_owns, is_rel, is_rel_type, owners, record_length}
 use Rattle.disk_layout.specs.Same.{AddsFile}
 use Rattle.disk_layout.specs.declared.slot.Slot.{Slot}
 use Rattle.rel_records.proofs.Creating.{SameEntry, created-adds, created-layout, with_new}
-use Rattle.rel_records.proofs.NewFiles.{IsNewFile, new-is_file, new_file, once-new, owners-new}
+use Rattle.rel_records.proofs.NewFiles.{IsNewFile, new-exact, new-is_file, new_file, once-new, owners-new}
 use Rattle.rel_records.proofs.NewSlots.{used_slots-sector}
 use Rattle.rel_records.specs.Made.{HasFilesOf}
 
 map-join : {X Y : Type 0} (f : X → Y) (xs ys : List X) → map f (xs ++ ys) ≡ map f xs ++ map f ys
 map-join f [] ys = refl
 map-join f (x ∷ xs) ys = ap (λ zs. f x ∷ zs) (map-join f xs ys)
-
--- as in Recounts, where they are private
-slots-reslot : (a b : Image) (p : Place) → slots_in p (sector b p) ≡ map (reslot b) (slots_in p (sector a p))
-unfolding slots_in
-slots-reslot a b p = refl
-
-all_slots-reslot : (a b : Image) (ps : List Place) → flat_map (λ p. slots_in p (sector b p)) ps ≡ map (reslot b) (flat_map (λ p. slots_in p (sector a p)) ps)
-all_slots-reslot a b [] = refl
-all_slots-reslot a b (p ∷ ps) =
-    let here = slots-reslot a b p in
-    let rest = all_slots-reslot a b ps in
-    cc (here, rest, map-join (reslot b) (slots_in p (sector a p)) (flat_map (λ q. slots_in q (sector a q)) ps))
-
-slot-any : (a : Image) (ps : List Place) (s : Slot) → Contains (flat_map (λ p. slots_in p (sector a p)) ps) s → Contains ps s.sector × (s.number < 8) × (s ≡ slot_in s.sector (sector a s.sector) s.number)
-slot-any a ps s d =
-    let (p, on, e) = flat_map-out (λ p. slots_in p (sector a p)) ps s d in
-    let (low, same) = slot-number p (sector a p) s e in
-    let one : s.sector ≡ p = ap (λ x. x.sector) same in
-    (rw one on, low, same ∙ ap (λ x. slot_in x (sector a x) s.number) (sym one))
-
--- the bytes of a directory sector differ in its link alone
-pub record IsRelinked (x y : Sector) : Type 0 where
-  pub old_long : length x ≡ 256
-  pub long : length y ≡ 256
-  pub same : (i : ℕ) → 2 ≤ i → slice_index y i ≡ slice_index x i
-
-slot-tail : (x y : Sector) (n : ℕ) → IsRelinked x y → n < 8 → drop 2 (slice_range y (32 * n) (32 * n + 32)) ≡ drop 2 (slice_range x (32 * n) (32 * n + 32))
-slot-tail x y n h low =
-    let lx = length-piece 32 n x (omega (arith, h.old_long)) in
-    let ly = length-piece 32 n y (omega (arith, h.long)) in
-    ap (drop 2) (range-piece y n)
-    ∙ same_number_lists (drop 2 (piece 32 n y)) (drop 2 (piece 32 n x)) (length-drop 2 (piece 32 n y) ∙ cc (lx, ly) ∙ sym (length-drop 2 (piece 32 n x)))
-    (λ j d. let below : j < 30 = omega (arith, length-drop 2 (piece 32 n y), ly, d) in
-    get_or-drop 2 (piece 32 n y) j 0 ∙ piece-byte 32 n y (2 + j) (omega arith) ∙ h.same (n * 32 + (2 + j)) (omega arith) ∙ sym (get_or-drop 2 (piece 32 n x) j 0 ∙ piece-byte 32 n x (2 + j) (omega arith)))
-    ∙ sym (ap (drop 2) (range-piece x n))
 
 tail-entry : (s t : Slot) → t.sector ≡ s.sector → t.number ≡ s.number → drop 2 t.bytes ≡ drop 2 s.bytes → SameEntry s t
 tail-entry s t one two e = record {
@@ -84,25 +49,13 @@ module _ (c : Image) (l : Layout) (p : Place) (bytes : Sector) (full : length c 
   there = sector-put_same c p bytes full
 
   entry-any : (ps : List Place) (s : Slot) → Contains (flat_map (λ q. slots_in q (sector c q)) ps) s → SameEntry s (reslot (put c p bytes) s)
-  entry-any ps s d =
-      let (on, low, e) = slot-any c ps s d in
-      tail-entry s (reslot (put c p bytes) s) refl refl (tail s.sector s.number low ∙ ap (λ x. drop 2 x.bytes) (sym e))
-    where
-      tail : (q : Place) (n : ℕ) → n < 8 → drop 2 (slice_range (sector (put c p bytes) q) (32 * n) (32 * n + 32)) ≡ drop 2 (slice_range (sector c q) (32 * n) (32 * n + 32))
-      tail q n low = elim (same_or_other p q) [
-        | inl one ↦
-            let P : Place → Type 0 = λ x. drop 2 (slice_range (sector (put c p bytes) x) (32 * n) (32 * n + 32)) ≡ drop 2 (slice_range (sector c x) (32 * n) (32 * n + 32)) in
-            subst P one (ap (λ x. drop 2 (slice_range x (32 * n) (32 * n + 32))) there ∙ slot-tail (sector c p) bytes n relinked low)
-        | inr off ↦ ap (λ x. drop 2 (slice_range x (32 * n) (32 * n + 32))) (sector-put_other c p q bytes off)
-      ]
+  entry-any ps s d = tail-entry s (reslot (put c p bytes) s) refl refl (slot-relinked c p bytes full relinked ps s d)
 
-  used-any : (ps : List Place) (s : Slot) → Contains (flat_map (λ q. slots_in q (sector c q)) ps) s → is_used (reslot (put c p bytes) s) ≡ is_used s
-  used-any ps s d = ap (λ n. not (nat_eq n 0)) (sym (entry-any ps s d).face.kind)
-
-  -- the used slots are those of before, as the new image has them
-  pub relinked-slots : (ps : List Place) → used_slots (put c p bytes) ps ≡ map (reslot (put c p bytes)) (used_slots c ps)
-  unfolding used_slots
-  relinked-slots ps = ap (filter is_used) (all_slots-reslot c (put c p bytes) ps) ∙ filter-map is_used (reslot (put c p bytes)) (flat_map (λ q. slots_in q (sector c q)) ps) (used-any ps)
+  count-any : (ps : List Place) (s : Slot) → Contains (flat_map (λ q. slots_in q (sector c q)) ps) s → count_field (reslot (put c p bytes) s) ≡ count_field s
+  count-any ps s d =
+      let e = slot-relinked c p bytes full relinked ps s d in
+      let t : List ℕ = (reslot (put c p bytes) s).bytes in
+      ap (λ (xs : List ℕ). little_number 2 (take 2 xs)) (sym (drop-drop 28 2 t) ∙ ap (drop 28) e ∙ drop-drop 28 2 s.bytes)
 
   -- the new sector stands behind the old last one, and holds the entry in its first slot
   module _ (a : Image) (h : IsLayout c l) (was : HasFilesOf a l c) (is_last : h.directory.chain.last ≡ p) (fresh block side : Place) (u : ℕ)
@@ -138,12 +91,12 @@ module _ (c : Image) (l : Layout) (p : Place) (bytes : Sector) (full : length c 
         (ap (λ s. slice_index s 0) fresh-stays ∙ ends, ap (λ s. slice_index s 1) fresh-stays)
         out-dir
 
-    entries : (f : File) → Contains l.files f → SameEntry f.slot (reslot (put c p bytes) f.slot)
+    raw : (s : Slot) → Contains (used_slots c l.directory) s → Contains (flat_map (λ q. slots_in q (sector c q)) l.directory) s
     unfolding used_slots
+    raw s e = (filter-out is_used (flat_map (λ q. slots_in q (sector c q)) l.directory) s e).0
+
+    entries : (f : File) → Contains l.files f → SameEntry f.slot (reslot (put c p bytes) f.slot)
     entries f d = entry-any l.directory f.slot (raw f.slot (slot-of c l f h d))
-      where
-        raw : (s : Slot) → Contains (used_slots c l.directory) s → Contains (flat_map (λ q. slots_in q (sector c q)) l.directory) s
-        raw s e = (filter-out is_used (flat_map (λ q. slots_in q (sector c q)) l.directory) s e).0
 
     all-slots : (xs : List File) → map (λ f. f.slot) (xs ++ k ∷ []) ≡ map (λ f. f.slot) xs ++ slot_in fresh (sector c fresh) 0 ∷ []
     all-slots [] = refl
@@ -152,7 +105,7 @@ module _ (c : Image) (l : Layout) (p : Place) (bytes : Sector) (full : length c 
     slots : map (λ f. f.slot) (with_new (put c p bytes) l.files [] k) ≡ used_slots (put c p bytes) (l.directory ++ fresh ∷ [])
     slots =
         all-slots (map (reread (put c p bytes)) l.files)
-        ∙ ap (λ xs. xs ++ slot_in fresh (sector c fresh) 0 ∷ []) (map-map (λ f. f.slot) (reread (put c p bytes)) l.files ∙ sym (map-map (reslot (put c p bytes)) (λ f. f.slot) l.files) ∙ ap (map (reslot (put c p bytes))) h.directory.slots ∙ sym (relinked-slots l.directory))
+        ∙ ap (λ xs. xs ++ slot_in fresh (sector c fresh) 0 ∷ []) (map-map (λ f. f.slot) (reread (put c p bytes)) l.files ∙ sym (map-map (reslot (put c p bytes)) (λ f. f.slot) l.files) ∙ ap (map (reslot (put c p bytes))) h.directory.slots ∙ sym (used_slots-relinked c p bytes full relinked l.directory))
         ∙ ap (λ x. used_slots (put c p bytes) l.directory ++ slot_in fresh x 0 ∷ []) (sym fresh-stays)
         ∙ sym (used_slots-sector (put c p bytes) l.directory fresh (ap (λ x. is_used (slot_in fresh x 0)) fresh-stays ∙ used) (λ n pos low. ap (λ x. is_used (slot_in fresh x n)) fresh-stays ∙ free n pos low))
 
@@ -181,6 +134,38 @@ module _ (c : Image) (l : Layout) (p : Place) (bytes : Sector) (full : length c 
     linked-adds = created-adds c (put c p bytes) l l.files [] k (l.directory ++ fresh ∷ []) h (sym (append-nil l.files)) keeps entries directory (new-is_file (put c p bytes) (slot_in fresh (sector c fresh) 0) block side u new) a was
         (λ f d q e. unless-same c p q bytes (λ one. not_file (let P : Place → Type 0 = Contains (flat_map file_owns l.files) in subst P (sym one) (flat_map-in file_owns l.files f q d (Contains-append_left f.blocks f.sides q e)))))
         (ap (λ s. take 4 s ++ drop 144 s) (sector-put_other c p map_place bytes (λ e. h.directory.not_map (let P : Place → Type 0 = Contains l.directory in subst P e on))))
+
+    -- and where the image at the start was clean, and the map is that of the new owners, it is clean
+    module _ (clean : IsCleanLayout a l) (same : AgreeAt a c (owners l)) (two : count_field (slot_in fresh (sector c fresh) 0) ≡ 2)
+        (right : IsMapOf (sector c map_place) (map_place ∷ owners (record { directory = l.directory ++ fresh ∷ []; files = with_new (put c p bytes) l.files [] (new_file (slot_in fresh (sector c fresh) 0) block side u) }))) where
+      exact-still : (f : File) → Contains l.files f → (IsTrue (is_rel f.slot) → IsExactFile a f) → IsTrue (is_rel (reslot (put c p bytes) f.slot)) → IsExactFile (put c p bytes) (reread (put c p bytes) f)
+      exact-still f d exact t =
+          let kind = (entries f d).face.kind in
+          let was_rel : IsTrue (is_rel f.slot) = ap is_rel_type kind ∙ t in
+          let old = exact was_rel in
+          let size : record_length (reslot (put c p bytes) f.slot) ≡ record_length f.slot = sym (entries f d).face.length in
+          record {
+            sides = λ j q at.
+                let own = get-contains f.sides j q at in
+                let apart-p : p ≢ q = λ one. not_file (let Q : Place → Type 0 = Contains (flat_map file_owns l.files) in subst Q (sym one) (flat_map-in file_owns l.files f q d (Contains-append_right f.blocks f.sides q own))) in
+                sector-put_other c p q bytes apart-p ∙ sym (same q (owned-side l f q d own)) ∙ old.sides j q at ∙ ap (side_sector j f.blocks f.sides) (sym size);
+            count = count-any l.directory f.slot (raw f.slot (slot-of c l f h d)) ∙ old.count;
+          }
+
+      exact-all : (fs : List File) → ((f : File) → Contains fs f → Contains l.files f) → AllByRecursion (λ f. IsTrue (is_rel f.slot) → IsExactFile a f) fs → AllByRecursion (λ f. IsTrue (is_rel f.slot) → IsExactFile (put c p bytes) f) (map (reread (put c p bytes)) fs)
+      exact-all [] sub all = tt
+      exact-all (f ∷ fs) sub all = (exact-still f (sub f (Contains-here f fs)) all.0, exact-all fs (λ g e. sub g (Contains-there g f fs e)) all.1)
+
+      pub linked-clean : IsCleanLayout (put c p bytes) (record { directory = l.directory ++ fresh ∷ []; files = with_new (put c p bytes) l.files [] (new_file (slot_in fresh (sector c fresh) 0) block side u) })
+      linked-clean = record {
+        layout = linked-layout;
+        files = all-join (λ f. IsTrue (is_rel f.slot) → IsExactFile (put c p bytes) f) (map (reread (put c p bytes)) l.files) (k ∷ [])
+            (exact-all l.files (λ f d. d) clean.files)
+            (λ t. new-exact (put c p bytes) (slot_in fresh (sector c fresh) 0) block side u new two, tt);
+        map =
+            let P : Sector → Type 0 = λ x. IsMapOf x (map_place ∷ owners (record { directory = l.directory ++ fresh ∷ []; files = with_new (put c p bytes) l.files [] k })) in
+            subst P (sym (sector-put_other c p map_place bytes (λ e. h.directory.not_map (let Q : Place → Type 0 = Contains l.directory in subst Q e on)))) right;
+      }
 
 -- a new directory sector, a data block and a side sector that nobody owned: each place still has one owner
 pub once-linked : (b : Image) (l : Layout) (fresh block side : Place) (s : Slot) (u : ℕ) → EachOnce (map_place ∷ owners l) → ¬ (Contains (map_place ∷ owners l) fresh) → ¬ (Contains (map_place ∷ owners l) block) → ¬ (Contains (map_place ∷ owners l) side) → fresh ≢ block → fresh ≢ side → side ≢ block → EachOnce (map_place ∷ owners (record { directory = l.directory ++ fresh ∷ []; files = with_new b l.files [] (new_file s block side u) }))

@@ -1,18 +1,18 @@
 -- The entry is written into a free slot of the directory: one write makes the file.
-use Rattle.std.proofs.Common.{Bool, ◌≡◌, ◌≢◌, ℕ, zero, suc, ◌+◌, ◌<◌, ◌≤◌, ◌⊎◌, inl, inr, true, false, List, [], ◌∷◌, ◌++◌, map, length, refl, sym, ◌∙◌, ap, arith, subst, slice_index, IsTrue}
-use Rattle.std.specs.Prelude.{Contains, Some, drop, flat_map, slice_range, take}
+use Rattle.std.proofs.Common.{◌≡◌, ◌≢◌, ℕ, ◌<◌, inl, inr, true, false, List, [], ◌∷◌, ◌++◌, map, length, refl, sym, ◌∙◌, ap, subst, slice_index, IsTrue}
+use Rattle.std.specs.Prelude.{Contains, drop, flat_map, slice_range, take}
 use Rattle.std.proofs.Common.{append_assoc}
 use Rattle.std.proofs.lemmas.Grind.{flat_map-append}
+use Rattle.std.proofs.lemmas.List.{length-map}
 use Rattle.std.proofs.lemmas.List.Elements.{Contains-append_left, Contains-append_right}
-use Rattle.std.proofs.lemmas.Bool.{cases_eq}
 use Rattle.d64_image.proofs.Images.{sector-put_other, sector-put_same}
 use Rattle.d64_image.proofs.Places.{same_or_other}
 use Rattle.d64_image.specs.Images.{Image, Sector, put, sector}
 use Rattle.d64_image.specs.declared.place.Place.{Place}
-use Rattle.disk_layout.proofs.Agree.{IsLayout-agree, owned-side}
+use Rattle.disk_layout.proofs.Agree.{owned-side}
 use Rattle.disk_layout.proofs.Chains.{AgreeAt, IsChain-frame, SameLink, SameLinks}
 use Rattle.disk_layout.proofs.Commit.{all-join, all-left, all-right, keeps-other}
-use Rattle.disk_layout.proofs.Faces.{SameFace, with_slot}
+use Rattle.disk_layout.proofs.Faces.{with_slot}
 use Rattle.disk_layout.proofs.Layouts.{KeepsFiles, get-contains, unless-same}
 use Rattle.disk_layout.proofs.Once.{Contains-here, Contains-there, EachOnce-apart, flat_map-in}
 use Rattle.disk_layout.specs.Rest.{header_of}
@@ -23,12 +23,12 @@ use Rattle.disk_layout.specs.Clean.{IsCleanLayout, IsExactFile}
 use Rattle.disk_layout.specs.Map.{IsMapOf}
 use Rattle.std.specs.List.{AllByRecursion}
 use Rattle.disk_layout.specs.Directory.{IsDirectory, directory_start, is_used, map_place, slot_in, used_slots}
-use Rattle.disk_layout.specs.Layout.{File, IsFile, IsLayout, Layout, count_field, file_owns, is_rel, owners}
+use Rattle.disk_layout.specs.Layout.{File, IsLayout, Layout, count_field, file_owns, is_rel, owners}
 use Rattle.disk_layout.specs.Same.{AddsFile}
 use Rattle.disk_layout.specs.declared.slot.Slot.{Slot}
 use Rattle.rel_records.proofs.Creating.{SameEntry, created-adds, created-layout, map-split, with_new}
 use Rattle.rel_records.proofs.NewFiles.{IsNewFile, new-exact, new-is_file, new_file, once-new, owners-new}
-use Rattle.rel_records.proofs.NewSlots.{used_slots-new}
+use Rattle.rel_records.proofs.NewSlots.{used_before, used_behind, used_slots-free, used_slots-new}
 use Rattle.rel_records.specs.Made.{HasFilesOf}
 
 same-entry : (s t : Slot) → t ≡ s → SameEntry s t
@@ -40,8 +40,8 @@ same-entry s t e = record {
 }
 
 -- c is the image before the write, a the one at the start
-module _ (a c : Image) (l : Layout) (p : Place) (n : ℕ) (bytes : Sector) (block side : Place) (u : ℕ)
-    (full : length c ≡ 683) (h : IsLayout c l) (was : HasFilesOf a l c) (on : Contains l.directory p) (low : n < 8)
+module _ (a c : Image) (l : Layout) (front back : List Place) (p : Place) (n : ℕ) (bytes : Sector) (block side : Place) (u : ℕ)
+    (full : length c ≡ 683) (h : IsLayout c l) (was : HasFilesOf a l c) (sectors : l.directory ≡ front ++ p ∷ back) (low : n < 8)
     (apart : (k : ℕ) → k < 8 → k ≢ n → slot_in p (sector c p) k ≡ slot_in p bytes k)
     (links : (slice_index (sector c p) 0 ≡ slice_index bytes 0) × (slice_index (sector c p) 1 ≡ slice_index bytes 1))
     (free : is_used (slot_in p (sector c p) n) ≡ false) (used : is_used (slot_in p bytes n) ≡ true)
@@ -49,6 +49,9 @@ module _ (a c : Image) (l : Layout) (p : Place) (n : ℕ) (bytes : Sector) (bloc
     (new : IsNewFile (put c p bytes) (slot_in p bytes n) block side u) where
   abbrev b : Image
   b = put c p bytes
+
+  on : Contains l.directory p
+  on = let P : List Place → Type 0 = λ ps. Contains ps p in subst P (sym sectors) (Contains-append_right front (p ∷ back) p (Contains-here p back))
 
   there : sector (put c p bytes) p ≡ bytes
   there = sector-put_same c p bytes full
@@ -90,17 +93,19 @@ module _ (a c : Image) (l : Layout) (p : Place) (n : ℕ) (bytes : Sector) (bloc
     pub before : List File
     pub after : List File
     pub split : l.files ≡ before ++ after
+    pub count : length before ≡ length (used_before c front p n)
     pub layout : IsLayout (put c p bytes) (record { directory = l.directory; files = with_new (put c p bytes) before after (new_file (slot_in p bytes n) block side u) })
     pub adds : AddsFile a (put c p bytes) l (record { directory = l.directory; files = with_new (put c p bytes) before after (new_file (slot_in p bytes n) block side u) }) (new_file (slot_in p bytes n) block side u)
     pub had : owners l ≡ (l.directory ++ flat_map file_owns before) ++ flat_map file_owns after
     pub has : owners (record { directory = l.directory; files = with_new (put c p bytes) before after (new_file (slot_in p bytes n) block side u) }) ≡ (l.directory ++ flat_map file_owns before) ++ block ∷ (side ∷ flat_map file_owns after)
 
-  made-of : (fs gs : List File) → l.files ≡ fs ++ gs → map (λ f. f.slot) fs ++ slot_in p bytes n ∷ map (λ f. f.slot) gs ≡ used_slots (put c p bytes) l.directory → Made
+  made-of : (fs gs : List File) → l.files ≡ fs ++ gs → length fs ≡ length (used_before c front p n) → map (λ f. f.slot) fs ++ slot_in p bytes n ∷ map (λ f. f.slot) gs ≡ used_slots (put c p bytes) l.directory → Made
   unfolding owners
-  made-of fs gs split slots = record {
+  made-of fs gs split count slots = record {
     before = fs;
     after = gs;
     split = split;
+    count = count;
     layout = created-layout c (put c p bytes) l fs gs k l.directory h split keeps entry-stays directory (new-is_file (put c p bytes) (slot_in p bytes n) block side u new) once;
     adds = created-adds c (put c p bytes) l fs gs k l.directory h split keeps entry-stays directory (new-is_file (put c p bytes) (slot_in p bytes n) block side u new) a was blocks-stay header;
     had = old-owners;
@@ -157,9 +162,11 @@ module _ (a c : Image) (l : Layout) (p : Place) (n : ℕ) (bytes : Sector) (bloc
 
   pub made : Made
   made =
-      let (xs, ys, old, now) = used_slots-new c l.directory p n bytes full h.directory.chain.once on low apart free used in
-      let (fs, gs, split, one, two) = map-split (λ f. f.slot) l.files xs ys (h.directory.slots ∙ old) in
-      made-of fs gs split (cc (one, two, now))
+      let P : List Place → Type 0 = EachOnce in
+      let old = ap (used_slots c) sectors ∙ used_slots-free c front back p n low free in
+      let now = ap (used_slots (put c p bytes)) sectors ∙ used_slots-new c front back p n bytes full (subst P sectors h.directory.chain.once) low apart used in
+      let (fs, gs, split, one, two) = map-split (λ f. f.slot) l.files (used_before c front p n) (used_behind c p n back) (h.directory.slots ∙ old) in
+      made-of fs gs split (sym (length-map fs (λ (f : File). f.slot)) ∙ ap length one) (cc (one, two, now))
 
   -- and where the image at the start was clean, and the map is that of the new owners, it is clean
   module _ (clean : IsCleanLayout a l) (same : AgreeAt a c (owners l)) (two : count_field (slot_in p bytes n) ≡ 2)

@@ -1,18 +1,18 @@
 -- The new file itself: one block, one side sector, empty records; and who owns what then.
-use Rattle.std.proofs.Common.{◌≡◌, ◌≢◌, ℕ, zero, suc, ◌+◌, ◌*◌, ◌<◌, ◌≤◌, ◌⊎◌, inl, inr, true, false, List, [], ◌∷◌, ◌++◌, map, length, refl, sym, ◌∙◌, ap, arith, subst, append_assoc, slice_index, get_or, IsTrue, IsFalse}
+use Rattle.std.proofs.Common.{◌≡◌, ◌≢◌, ℕ, zero, suc, ◌+◌, ◌*◌, ◌<◌, ◌≤◌, inl, inr, true, false, List, [], ◌∷◌, ◌++◌, map, refl, sym, ◌∙◌, ap, arith, subst, append_assoc, slice_index, get_or, IsFalse}
 use Rattle.std.specs.Prelude.{Contains, Some, flat_map, replicate, slice_get}
 use Rattle.std.proofs.lemmas.Grind.{flat_map-append}
-use Rattle.d64_image.specs.Images.{Image, IsImage, Sector, sector}
+use Rattle.d64_image.specs.Images.{Image, IsImage, sector}
 use Rattle.d64_image.specs.declared.place.Place.{Place}
 use Rattle.disk_layout.proofs.Exact.{exact-side}
 use Rattle.disk_layout.proofs.Fillers.{pieces-fill}
 use Rattle.disk_layout.proofs.Joined.{joined-at, length-joined}
-use Rattle.disk_layout.proofs.Once.{Contains-here, Contains-nil, EachOnce-insert, insert-out}
+use Rattle.disk_layout.proofs.Once.{Contains-nil, EachOnce-insert, insert-out}
 use Rattle.disk_layout.proofs.Recounts.{reread}
 use Rattle.disk_layout.specs.Chain.{EachOnce, Names}
 use Rattle.disk_layout.specs.Clean.{IsExactFile}
 use Rattle.disk_layout.specs.Directory.{map_place, type_byte}
-use Rattle.disk_layout.specs.Layout.{File, IsFile, IsRelFile, Layout, count_field, file_owns, is_rel, owners, record_length}
+use Rattle.disk_layout.specs.Layout.{File, IsFile, IsRelFile, count_field, file_owns, is_rel, owners, record_length}
 use Rattle.disk_layout.specs.Records.{empty_record, filler, joined, pieces, record_count, records}
 use Rattle.disk_layout.specs.Side.{side_sector}
 use Rattle.disk_layout.specs.declared.slot.Slot.{Slot}

@@ -1,10 +1,9 @@
 -- All files but one stay, and that one keeps its entry, its block count aside.
-use Rattle.std.proofs.Common.{◌≡◌, ◌≢◌, ℕ, zero, suc, ◌+◌, ◌<◌, ◌≤◌, inl, inr, ◌⊎◌, List, [], ◌∷◌, ◌++◌, map, length, refl, sym, ◌∙◌, ap, arith, subst, length-append}
+use Rattle.std.proofs.Common.{◌≡◌, ◌≢◌, ℕ, zero, suc, ◌<◌, inl, inr, ◌⊎◌, List, [], ◌∷◌, ◌++◌, map, length, refl, sym, ◌∙◌, ap, arith, subst, length-append}
 use Rattle.std.specs.Prelude.{Contains, slice_get, Some, flat_map, replicate}
 use Rattle.std.proofs.lemmas.List.{length-replicate}
 use Rattle.std.proofs.lemmas.List.Elements.{Contains-append_left}
-use Rattle.d64_image.specs.Images.{Image, sector}
-use Rattle.d64_image.specs.declared.place.Place.{Place}
+use Rattle.d64_image.specs.Images.{Image}
 use Rattle.disk_layout.proofs.Agree.{sectors-agree}
 use Rattle.disk_layout.proofs.Chains.{AgreeAt}
 use Rattle.disk_layout.proofs.GrowthRecords.{get-seam}

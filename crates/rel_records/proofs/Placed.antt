@@ -1,5 +1,5 @@
 -- A record that is there needs no more data blocks than a file may have.
-use Rattle.std.proofs.Common.{[], ◌∷◌, List, Some, IsTrue, ap, arith, length, length-append, ℕ, ◌*◌, ◌-◌, ◌<◌, ◌≡◌, ◌≤◌}
+use Rattle.std.proofs.Common.{[], ◌∷◌, List, Some, IsTrue, ap, arith, length, length-append, ℕ, ◌*◌, ◌-◌, ◌≡◌, ◌≤◌}
 use Rattle.std.specs.Prelude.{slice_get}
 use Rattle.d64_image.proofs.Images.{is_sector}
 use Rattle.d64_image.specs.Images.{Image, IsImage}

@@ -1,7 +1,6 @@
 -- Before the write that makes a file longer the disk has the layout and the records that it had.
-use Rattle.std.proofs.Common.{◌≡◌, ℕ, ◌≤◌, ◌⊎◌, inl, inr, true, false, List, [], ◌∷◌, ◌++◌, map, length, refl, sym, ◌∙◌, ap, subst, IsTrue, IsFalse}
+use Rattle.std.proofs.Common.{◌≡◌, ℕ, ◌≤◌, inl, inr, true, false, List, [], ◌∷◌, ◌++◌, map, length, refl, sym, ◌∙◌, subst, IsTrue, IsFalse}
 use Rattle.std.specs.Prelude.{Contains, slice_get, Some, flat_map}
-use Rattle.std.specs.List.{AllByRecursion}
 use Rattle.std.proofs.lemmas.Grind.{flat_map-append}
 use Rattle.std.proofs.lemmas.List.Elements.{Contains-append_left, Contains-append_right}
 use Rattle.d64_image.specs.Images.{Image, sector}
@@ -21,7 +20,7 @@ use Rattle.disk_layout.specs.Records.{records}
 use Rattle.disk_layout.specs.Rest.{kept_of}
 use Rattle.rel_records.proofs.Others.{has-records, places-same}
 use Rattle.rel_records.specs.Others.{HasRecords}
-use Rattle.rel_records.specs.Preparing.{IsPreparing, IsSideFor}
+use Rattle.rel_records.specs.Preparing.{IsPreparing}
 
 -- files whose blocks agree keep all that is asked to stay
 pub kept-all : (a b : Image) (fs : List File) → ((f : File) → Contains fs f → AgreeAt a b f.blocks) → map (kept_of b) fs ≡ map (kept_of a) fs

@@ -1,23 +1,20 @@
 -- Growth block by block: what its steps leave together.
-use Rattle.std.proofs.Common.{◌≡◌, ◌≢◌, ℕ, zero, suc, ◌+◌, ◌-◌, ◌*◌, ◌/◌, ◌%◌, ◌<◌, ◌≤◌, ◌⊎◌, inl, inr, Bool, true, false, List, [], ◌∷◌, ◌++◌, length, refl, sym, ◌∙◌, ap, arith, subst, append_assoc, ap₂, length-append}
+use Rattle.std.proofs.Common.{◌≡◌, ◌≢◌, ℕ, zero, suc, ◌+◌, ◌-◌, ◌*◌, ◌/◌, ◌%◌, ◌<◌, ◌≤◌, Bool, true, false, List, ◌++◌, length, refl, sym, ◌∙◌, ap, arith, subst, append_assoc, ap₂}
 use Rattle.std.specs.Prelude.{Some, if◌then◌else◌, nat_eq, replicate, slice_get}
 use Rattle.std.proofs.lemmas.Bool.Decides.{nat_tests}
-use Rattle.std.proofs.lemmas.List.{length-replicate}
 use Rattle.std.proofs.lemmas.Nat.{le-div}
 use Rattle.std.proofs.Math.Nat.{add-mul-div_left}
-use Rattle.d64_image.proofs.Moments.{at_end, changes_then, changes_weaker}
+use Rattle.d64_image.proofs.Moments.{changes_then, changes_weaker}
 use Rattle.d64_image.specs.History.{Changes, History}
-use Rattle.d64_image.specs.Images.{Image, IsImage, sector}
+use Rattle.d64_image.specs.Images.{Image, IsImage}
 use Rattle.disk_layout.proofs.Runs.{replicate-add}
 use Rattle.disk_layout.specs.Layout.{File, Layout, record_length, sides_for}
 use Rattle.disk_layout.specs.Records.{empty_record, records}
-use Rattle.disk_layout.specs.View.{blocks_free}
 use Rattle.rel_records.proofs.Filled.{filled-already}
 use Rattle.rel_records.proofs.Fulls.{full-inside}
 use Rattle.rel_records.proofs.Kept.{has_then, keeps_then, places-then}
-use Rattle.rel_records.proofs.Standing.{had-full}
-use Rattle.rel_records.specs.Growth.{fill_writes, full, needed, records_had, run_writes, side_writes}
-use Rattle.rel_records.specs.Others.{HasRecords, KeepsOthers, KeepsPlaces}
+use Rattle.rel_records.specs.Growth.{full, needed, records_had, run_writes, side_writes}
+use Rattle.rel_records.specs.Others.{HasRecords, KeepsPlaces}
 use Rattle.rel_records.specs.Steps.{HasBlockMore, HasFilled, IsAt, IsFilledUp, IsRunTo, step_writes, taken_next}
 use Rattle.rel_records.specs.Written.{IsGrowingBy, grown_by}
 use Rattle.rel_records.specs.declared.step_parts.Parts.{Parts}

@@ -1,19 +1,16 @@
 -- What is known of a file that is kept in memory while it grows.
-use Rattle.std.proofs.Common.{◌≡◌, ◌≢◌, ℕ, zero, suc, ◌+◌, ◌-◌, ◌*◌, ◌/◌, ◌<◌, ◌≤◌, List, [], ◌∷◌, ◌++◌, length, max, refl, sym, ◌∙◌, ap, arith, subst, IsTrue, length-append, take, drop}
+use Rattle.std.proofs.Common.{◌≡◌, ℕ, suc, ◌+◌, ◌-◌, ◌*◌, ◌/◌, ◌<◌, ◌≤◌, [], ◌∷◌, ◌++◌, length, max, sym, ◌∙◌, ap, arith, length-append, take, drop}
 use Rattle.std.specs.Prelude.{Contains, Some, slice_get}
 use Rattle.std.proofs.Math.Nat.{lt-div-mul-add}
 use Rattle.std.proofs.lemmas.Bool.Decides.{nat_tests}
 use Rattle.std.proofs.lemmas.List.{length-take}
-use Rattle.std.proofs.lemmas.List.Elements.{Contains-append_right}
 use Rattle.std.proofs.lemmas.Nat.{le-div}
 use Rattle.std.proofs.lemmas.Option.{slice_get_within}
 use Rattle.d64_image.proofs.Images.{is_sector}
-use Rattle.d64_image.specs.Images.{Image, IsImage, sector}
-use Rattle.d64_image.specs.declared.place.Place.{Place}
+use Rattle.d64_image.specs.Images.{Image, IsImage}
 use Rattle.disk_layout.proofs.GrowthRecords.{get-seam}
 use Rattle.disk_layout.proofs.Joined.{record_count-fit}
 use Rattle.disk_layout.proofs.Layouts.{get-contains}
-use Rattle.disk_layout.proofs.Once.{Contains-here}
 use Rattle.disk_layout.proofs.Recount.{around, slot-there}
 use Rattle.disk_layout.proofs.Recounts.{slot-of}
 use Rattle.disk_layout.specs.Chain.{EachOnce}

@@ -1,10 +1,10 @@
 -- A data block whose bytes behind the records become empty records: the joined data of the file.
-use Rattle.std.proofs.Common.{◌≡◌, ℕ, ◌+◌, ◌-◌, ◌*◌, ◌<◌, ◌≤◌, ◌⊎◌, inl, inr, List, get_or, length, slice_index, refl, sym, ◌∙◌, ap, arith, subst}
+use Rattle.std.proofs.Common.{◌≡◌, ℕ, ◌+◌, ◌-◌, ◌*◌, ◌<◌, ◌≤◌, ◌⊎◌, inl, inr, List, get_or, length, slice_index, sym, ◌∙◌, ap, arith, subst}
 use Rattle.std.specs.Prelude.{Bool, Some, false, if◌then◌else◌, nat_eq, nat_lt, slice_get, true, ◌%◌, ◌&&◌}
 use Rattle.std.proofs.lemmas.Bool.{cases_lt}
 use Rattle.std.proofs.lemmas.List.{get_or_past}
 use Rattle.d64_image.proofs.Images.{sector-put_same}
-use Rattle.d64_image.specs.Images.{Image, IsImage, IsSector, Sector, put, sector}
+use Rattle.d64_image.specs.Images.{Image, IsImage, IsSector, Sector, put}
 use Rattle.d64_image.specs.declared.place.Place.{Place}
 use Rattle.disk_layout.proofs.Joined.{joined-at, joined-block}
 use Rattle.disk_layout.specs.Chain.{EachOnce, byte}

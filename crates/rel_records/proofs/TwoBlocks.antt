@@ -1,16 +1,16 @@
 -- A record that goes on in the next block is written: its first part, then the second.
-use Rattle.std.proofs.Common.{List, [], Some, ap, arith, drop, get_or, inl, inr, length, length-append, length-drop, refl, set, slice_index, subst, sym, take, ℕ, ◌%◌, ◌*◌, ◌++◌, ◌+◌, ◌-◌, ◌<◌, ◌∙◌, ◌≡◌, ◌≢◌, ◌≤◌}
+use Rattle.std.proofs.Common.{List, Some, ap, arith, drop, get_or, inl, inr, length, length-append, length-drop, set, slice_index, subst, sym, take, ℕ, ◌*◌, ◌++◌, ◌+◌, ◌-◌, ◌<◌, ◌∙◌, ◌≡◌, ◌≤◌}
 use Rattle.std.proofs.Math.ListN.{get_or-append}
 use Rattle.std.proofs.lemmas.Bool.{cases_lt}
 use Rattle.std.proofs.lemmas.List.{get_or-append_right, get_or-drop, get_or-take, get_or_past, length-set, length-take-le, set-set}
 use Rattle.std.specs.Prelude.{min, slice_get}
-use Rattle.d64_image.proofs.Images.{is_sector, put_is_image, sector-put_other}
-use Rattle.d64_image.specs.Images.{Image, IsImage, Sector, put, sector}
+use Rattle.d64_image.proofs.Images.{is_sector, put_is_image}
+use Rattle.d64_image.specs.Images.{Image, IsImage, put, sector}
 use Rattle.d64_image.specs.declared.place.Place.{Place}
 use Rattle.disk_layout.proofs.Joined.{length-joined, records-write, sector-long}
 use Rattle.disk_layout.proofs.Layouts.{get-contains}
 use Rattle.disk_layout.proofs.Pieces.{length-piece, piece, piece-byte, row-le}
-use Rattle.disk_layout.proofs.RecordWrites.{ChangesRecord, record-at}
+use Rattle.disk_layout.proofs.RecordWrites.{ChangesRecord}
 use Rattle.disk_layout.specs.Chain.{EachOnce}
 use Rattle.disk_layout.specs.Clean.{IsCleanLayout}
 use Rattle.disk_layout.specs.Layout.{File, Layout, record_length}
@@ -19,12 +19,12 @@ use Rattle.rel_records.proofs.Bytes.{length-written, patched-low, written-in, wr
 use Rattle.rel_records.proofs.Kept.{keeps_then, places-stay}
 use Rattle.rel_records.proofs.Lent.{same_bytes}
 use Rattle.rel_records.proofs.OneBlock.{patched-sector}
-use Rattle.rel_records.proofs.Opened.{block-in, blocks-once, file-rel, records-fit}
+use Rattle.rel_records.proofs.Opened.{blocks-once, file-rel, records-fit}
 use Rattle.rel_records.proofs.Patches.{joined-inside, joined-outside, patched-changes}
 use Rattle.rel_records.proofs.Writings.{clean-block, keeps-block, leaves-block}
 use Rattle.rel_records.specs.File.{IsFileOf}
 use Rattle.rel_records.specs.Others.{LeavesRecords}
-use Rattle.rel_records.specs.Written.{half_written, patched, with_half, with_written, written}
+use Rattle.rel_records.specs.Written.{patched, written}
 use Rattle.rel_records.specs.declared.rel_file.RelFile.{RelFile}
 
 -- what is left of a text behind its first bytes, of which there may be fewer

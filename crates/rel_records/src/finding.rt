@@ -43,7 +43,10 @@ fn first_named(slots: &[Slot], name: &[u8]) -> Option<usize>
 }
 
 /// Lists the used slots of the directory of a sound disk.
-fn list_slots<D: Sectors>(disk: &mut D, slots: &mut ArrayVec<Slot, 144>) -> Result<(), RelFault>
+pub(crate) fn list_slots<D: Sectors>(
+    disk: &mut D,
+    slots: &mut ArrayVec<Slot, 144>,
+) -> Result<(), RelFault>
     requires sound { IsSound (D.history.image disk.old) }
     ensures ok { (l : Layout) → IsLayout (D.history.image disk.old) l → OnOk result (slots.new.items ≡ map (λ f. f.slot) l.files) }
     ensures err { IfErr result (λ fault. fault ≡ Device) }

@@ -3,22 +3,27 @@
 
 mod access;
 mod counting;
+mod creation;
+mod directory_room;
 mod faults;
 mod filling;
 mod finding;
 mod gathering;
 mod growth;
 mod lookup;
+mod new_file;
 mod next_block;
 mod parts;
 mod reading;
 mod rel_file;
+mod site;
 mod sizes;
 mod step_parts;
 mod steps;
 mod writing;
 
 pub use counting::records;
+pub use creation::create;
 pub use faults::RelFault;
 pub use finding::find;
 pub use growth::grow_to;

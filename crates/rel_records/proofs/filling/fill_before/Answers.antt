@@ -1,12 +1,11 @@
 -- The tail of the block before the last.
-use Rattle.std.proofs.Common.{arith, refl, sym, ap, inl, inr, length, ◌≡◌, ◌≤◌, ◌<◌, ◌∙◌, ◌+◌, ◌-◌, ◌*◌, ℕ}
+use Rattle.std.proofs.Common.{arith, refl, sym, ap, inl, inr, length, ◌≡◌, ◌≤◌, ◌<◌, ◌∙◌, ◌+◌, ◌-◌, ◌*◌}
 use Rattle.std.specs.Prelude.{Some, if◌then◌else◌, nat_lt, slice_get}
 use Rattle.std.proofs.lemmas.Bool.Decides.{nat_tests}
 use Rattle.d64_image.proofs.Moments.{changes_then, reads_change, write_change}
-use Rattle.d64_image.specs.Images.{Image, IsSector, put}
+use Rattle.d64_image.specs.Images.{put}
 use Rattle.rel_records.proofs.Filled.{tail-of}
 use Rattle.rel_records.proofs.Sided.{counted_once, ok-then, read-there}
-use Rattle.rel_records.specs.Steps.{FillsBefore, IsTailOf}
 use Rattle.rel_records.proofs.filling.fill_before.Goals as goal
 
 pub returns-clause-ok : goal.returns-clause-ok

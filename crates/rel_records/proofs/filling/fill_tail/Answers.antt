@@ -1,5 +1,4 @@
 -- What was read is of bytes, and so is what is filled in.
-use Rattle.std.proofs.Common.{arith}
 use Rattle.rel_records.proofs.Tails.{filled-sector}
 use Rattle.rel_records.proofs.filling.fill_tail.Goals as goal
 

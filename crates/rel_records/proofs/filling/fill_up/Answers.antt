@@ -1,14 +1,13 @@
 -- The block before the last, then the last.
-use Rattle.std.proofs.Common.{arith, refl, sym, ap, length, subst, ◌≡◌, ◌≢◌, ◌≤◌, ◌<◌, ◌∙◌, ◌+◌, ◌-◌, ◌*◌, ℕ}
+use Rattle.std.proofs.Common.{arith, refl, sym, ap, length, subst, ◌≡◌, ◌∙◌, ◌*◌, ℕ}
 use Rattle.d64_image.proofs.Moments.{no_change, changes_weaker}
-use Rattle.d64_image.specs.Images.{Image}
 use Rattle.rel_records.proofs.Filled.{filled-already, had-is, old-grows}
-use Rattle.rel_records.proofs.FilledMoments.{IsFillOf, filled-end, filled-moments, filling-moments, from-low}
+use Rattle.rel_records.proofs.FilledMoments.{filled-end, filled-moments, filling-moments, from-low}
 use Rattle.rel_records.proofs.Sided.{counted_once}
 use Rattle.disk_layout.specs.Layout.{record_length}
 use Rattle.rel_records.proofs.Standing.{had-fit}
 use Rattle.rel_records.specs.Growth.{full, records_had}
-use Rattle.rel_records.specs.Steps.{IsAt, IsEnd}
+use Rattle.rel_records.specs.Steps.{IsEnd}
 use Rattle.rel_records.proofs.filling.fill_up.Goals as goal
 
 pub returns-then-had-total-clause-ok : goal.returns-then-had-total-clause-ok

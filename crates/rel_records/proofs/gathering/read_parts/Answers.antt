@@ -1,7 +1,6 @@
 -- The places, the directory sector, the last block.
-use Rattle.std.proofs.Common.{arith, ap, subst, ◌∙◌, sym, refl, ◌≡◌, ◌+◌, ◌<◌, ◌≤◌, List, length, []}
-use Rattle.d64_image.proofs.Moments.{reads_then, reads_weaker}
-use Rattle.d64_image.specs.History.{OnlyReads}
+use Rattle.std.proofs.Common.{arith, ap, ◌∙◌, refl, length}
+use Rattle.d64_image.proofs.Moments.{reads_then}
 use Rattle.d64_image.specs.Images.{sector}
 use Rattle.rel_records.proofs.Gathered.{number-low}
 use Rattle.rel_records.proofs.Gathers.{is-at}

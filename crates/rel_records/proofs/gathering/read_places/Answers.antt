@@ -1,9 +1,8 @@
 -- Side sector by side sector.
-use Rattle.std.proofs.Common.{arith, ap, ◌∙◌, sym, ◌≡◌, ◌+◌, ◌*◌, ◌<◌, ◌∷◌, [], ◌++◌, List, Some, length, take, drop, min}
+use Rattle.std.proofs.Common.{arith, ap, ◌∙◌, sym, ◌≡◌, ◌+◌, ◌*◌, ◌<◌, ◌∷◌, [], ◌++◌, Some, length, take, drop}
 use Rattle.std.specs.Prelude.{slice_get}
 use Rattle.d64_image.proofs.Moments.{reads_then}
 use Rattle.d64_image.specs.Images.{sector}
-use Rattle.d64_image.specs.declared.place.Place.{Place}
 use Rattle.rel_records.proofs.Gathered.{all-listed, len-low, piece-joined, piece-long, piece-named, take-one}
 use Rattle.rel_records.proofs.Sided.{read-there}
 use Rattle.rel_records.proofs.gathering.read_places.Goals as goal

@@ -1,4 +1,4 @@
-use Rattle.std.proofs.Common.{◌≡◌, ◌*◌, ℕ, List, take}
+use Rattle.std.proofs.Common.{◌≡◌, ◌*◌, ℕ, take}
 use Rattle.d64_image.specs.History.{OnlyReads}
 use Rattle.disk_layout.specs.Layout.{File, Layout}
 use Rattle.rel_records.specs.File.{IsFileOf}

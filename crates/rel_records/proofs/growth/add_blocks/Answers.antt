@@ -1,13 +1,12 @@
 -- Block by block.
-use Rattle.std.proofs.Common.{arith, refl, sym, ap, subst, ◌∙◌, ◌≡◌, ◌≤◌, ◌<◌, ◌+◌, ◌-◌, ℕ, length}
+use Rattle.std.proofs.Common.{arith, refl, sym, ap, subst, ◌∙◌, ◌≡◌, ◌≤◌, ◌+◌, ℕ, length}
 use Rattle.d64_image.proofs.Moments.{changes_weaker, no_change}
-use Rattle.disk_layout.specs.Layout.{File, Layout, record_length}
 use Rattle.disk_layout.specs.View.{blocks_free}
 use Rattle.rel_records.proofs.Filled.{old-grows}
 use Rattle.rel_records.proofs.Running.{block-then, low-full, room-next, room-step, run-block, run-here, run-mono, run-run}
 use Rattle.rel_records.proofs.Standing.{pos}
-use Rattle.rel_records.specs.Growth.{full, records_had, run_writes}
-use Rattle.rel_records.specs.Steps.{IsAt, IsFilledUp, IsRunTo, taken_next}
+use Rattle.rel_records.specs.Growth.{run_writes}
+use Rattle.rel_records.specs.Steps.{IsRunTo, taken_next}
 use Rattle.rel_records.proofs.growth.add_blocks.Goals as goal
 
 pub loop-count-init : goal.loop-count-init

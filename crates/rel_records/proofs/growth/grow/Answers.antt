@@ -1,13 +1,11 @@
 -- What is read, the last blocks filled, blocks one after another.
-use Rattle.std.proofs.Common.{arith, refl, sym, ap, subst, ◌∙◌, ◌≡◌, ◌≤◌, ◌+◌, ℕ, length}
+use Rattle.std.proofs.Common.{arith, sym, ap, ◌∙◌, ◌≤◌, length}
 use Rattle.d64_image.proofs.Moments.{changes_weaker, reads_change}
 use Rattle.disk_layout.specs.View.{blocks_free}
 use Rattle.rel_records.proofs.Filled.{had-is}
-use Rattle.rel_records.proofs.Grows.{at-now, at-sides, at-some, fill-moments, had-of, has-run, long, read-moments, room, run, run-moments, standing}
+use Rattle.rel_records.proofs.Grows.{at-now, at-sides, at-some, fill-moments, had-of, has-run, long, room, run, run-moments, standing}
 use Rattle.rel_records.proofs.Kept.{growing_same}
-use Rattle.rel_records.specs.File.{IsFileOf}
 use Rattle.rel_records.specs.Growth.{needed}
-use Rattle.rel_records.specs.Steps.{IsAt}
 use Rattle.rel_records.proofs.growth.grow.Goals as goal
 
 pub returns-in_err-parts-clause-moments : goal.returns-in_err-parts-clause-moments

@@ -1,9 +1,9 @@
 -- What is refused, what is there, and growth.
-use Rattle.std.proofs.Common.{arith, refl, sym, ap, ◌∙◌, ◌≡◌, ◌≤◌, ◌<◌}
+use Rattle.std.proofs.Common.{arith, refl, ap, ◌<◌}
 use Rattle.d64_image.proofs.Moments.{changes_weaker, no_change, no_reads}
 use Rattle.rel_records.proofs.GrownTo.{blocks-more, grow-leaves, grow-moments, grow-others, leaves-here, of-now, read-moments, read-others, size-now, there-now}
 use Rattle.rel_records.proofs.Kept.{growing_same}
-use Rattle.rel_records.specs.File.{length_of, records_in}
+use Rattle.rel_records.specs.File.{records_in}
 use Rattle.rel_records.specs.Growth.{blocks_for}
 use Rattle.rel_records.proofs.growth.grow_to.Goals as goal
 

@@ -1,5 +1,4 @@
 -- The first free sector.
-use Rattle.std.proofs.Common.{rules}
 use Rattle.rel_records.proofs.Taking.{pick-some, picked, takes-next}
 use Rattle.rel_records.proofs.next_block.take_next.Goals as goal
 

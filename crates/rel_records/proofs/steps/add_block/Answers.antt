@@ -1,12 +1,9 @@
 -- One write after another.
-use Rattle.std.proofs.Common.{arith, refl, sym, ◌∙◌, ap, ◌≡◌, ◌+◌, ◌<◌, ◌%◌, ◌∷◌, [], length, length-append, ℕ, subst}
+use Rattle.std.proofs.Common.{arith, refl, ◌∙◌, ap, ◌<◌, ◌%◌, length}
 use Rattle.std.specs.Prelude.{nat_eq}
-use Rattle.d64_image.specs.declared.place.Place.{Place}
-use Rattle.disk_layout.specs.Layout.{File, Layout}
 use Rattle.rel_records.proofs.Added.{added, counting-moments, linking-moments, prepared-moments}
 use Rattle.rel_records.proofs.Adding.{few-sides, sides-once, some-sides}
 use Rattle.rel_records.proofs.Sided.{counted_once}
-use Rattle.rel_records.specs.Steps.{IsAt}
 use Rattle.rel_records.proofs.steps.add_block.Goals as goal
 
 pub prepare-requires-clause-some : goal.prepare-requires-clause-some

@@ -1,12 +1,12 @@
 -- The map, the fresh block, the side sectors.
-use Rattle.std.proofs.Common.{rules, arith, refl, sym, subst, ap, length, ◌≡◌, ◌∙◌, ◌+◌, ◌≤◌, ℕ, List}
+use Rattle.std.proofs.Common.{arith, subst, ap, ◌≡◌, ◌∙◌}
 use Rattle.d64_image.proofs.Moments.{at_end, changes_weaker}
 use Rattle.d64_image.specs.Images.{Image, put}
 use Rattle.d64_image.specs.declared.place.Place.{Place}
 use Rattle.disk_layout.specs.Directory.{map_place}
 use Rattle.rel_records.proofs.Sided.{ok-then}
-use Rattle.rel_records.proofs.Sided.{before_sides, before_two, counted_once}
-use Rattle.rel_records.specs.Steps.{AreSidedFrom, IsSided}
+use Rattle.rel_records.proofs.Sided.{before_sides, before_two}
+use Rattle.rel_records.specs.Steps.{IsSided}
 use Rattle.rel_records.proofs.steps.prepare.Goals as goal
 
 pub returns-in_err-write-2-clause-moments : goal.returns-in_err-write-2-clause-moments

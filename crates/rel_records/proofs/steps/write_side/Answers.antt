@@ -1,10 +1,7 @@
 -- One side sector is written.
-use Rattle.std.proofs.Common.{rules, sym, subst, ap, ◌≡◌, ◌∙◌}
-use Rattle.std.specs.Prelude.{Some, slice_get, get_or}
-use Rattle.std.proofs.lemmas.Option.{slice_get_within}
+use Rattle.std.proofs.Common.{sym, subst}
 use Rattle.d64_image.proofs.Moments.{write_change}
-use Rattle.d64_image.specs.declared.place.Place.{Place}
-use Rattle.d64_image.specs.Images.{Image, Sector, put}
+use Rattle.d64_image.specs.Images.{Sector, put}
 use Rattle.rel_records.proofs.Sided.{read-there}
 use Rattle.rel_records.specs.Steps.{IsSided}
 use Rattle.rel_records.proofs.Sided.{counted_once, sided-none, sided-put}

@@ -1,5 +1,5 @@
 -- The last side sector, and then the older ones.
-use Rattle.std.proofs.Common.{rules, arith, sym, subst, length, ◌≡◌, ◌∙◌, ◌+◌, ◌-◌, ◌≤◌, ℕ, Bool, if◌then◌else◌}
+use Rattle.std.proofs.Common.{arith, sym, subst, length, ◌+◌, ◌-◌, ◌≤◌, Bool, if◌then◌else◌}
 use Rattle.d64_image.proofs.Moments.{at_end}
 use Rattle.rel_records.proofs.Sided.{ok-then}
 use Rattle.rel_records.proofs.Sided.{sided-last, sides_then}

@@ -1,13 +1,11 @@
 -- The file grows where it has to, and then the record is written.
-use Rattle.std.proofs.Common.{Err, IfErr, Result, ap, arith, subst, sym, ℕ, ◌+◌, ◌∙◌, ◌≡◌, ◌↔◌}
+use Rattle.std.proofs.Common.{Err, IfErr, Result, ap, subst, sym, ℕ, ◌∙◌, ◌≡◌, ◌↔◌}
 use Rattle.std.proofs.lemmas.Result.{err_from_is_err_and}
 use Rattle.d64_image.proofs.Moments.{at_end}
 use Rattle.d64_image.specs.History.{Changes}
-use Rattle.d64_image.specs.Images.{Image}
 use Rattle.disk_layout.specs.Layout.{record_length}
 use Rattle.rel_records.proofs.Grown.{changes-growing, changes-grown, size-kept, written-then, writing-others}
 use Rattle.rel_records.proofs.Readings.{placed}
-use Rattle.rel_records.specs.File.{length_of}
 use Rattle.rel_records.specs.Growth.{IsFull, IsTooLarge, added, growth_writes, records_had}
 use Rattle.rel_records.specs.Written.{IsWriting, touched}
 use Rattle.rel_records.specs.declared.faults.RelFault.{RelFault}

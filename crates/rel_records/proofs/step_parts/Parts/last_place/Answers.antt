@@ -1,5 +1,5 @@
 -- The element at the end.
-use Rattle.std.proofs.Common.{arith, ap, ◌∷◌, [], ◌+◌, length, length-append}
+use Rattle.std.proofs.Common.{arith}
 use Rattle.rel_records.proofs.Added.{last-read}
 use Rattle.rel_records.proofs.step_parts.Parts.last_place.Goals as goal
 

@@ -1,0 +1,178 @@
+//! Creation of a relative file.
+ghost use Rattle.std.specs.Prelude.{◌≡◌, ◌≢◌, ◌≤◌, ◌⊎◌, ◌*◌, ◌+◌, IfErr, IfOk, MatchOption, OnOk, length};
+ghost use Rattle.d64_image.specs.History.{Changes, OnlyReads, WritesNothing};
+ghost use Rattle.d64_image.specs.Images.{Image, sector};
+ghost use Rattle.disk_layout.specs.Clean.{IsClean, IsCleanLayout};
+ghost use Rattle.disk_layout.specs.Directory.{map_place};
+ghost use Rattle.disk_layout.specs.Layout.{File, IsLayout, IsSound, Layout};
+ghost use Rattle.rel_records.specs.Faults.{TellsRelFault};
+ghost use Rattle.rel_records.specs.File.{OfItsFile};
+ghost use Rattle.rel_records.specs.Growth.{full};
+ghost use Rattle.rel_records.specs.Made.{HasNoRoom, IsCreating, IsMade, IsTakenName, StaysOf, creation_writes};
+ghost use Rattle.rel_records.specs.Site.{IsFileAt, IsRoomOf, IsSite, sector_of};
+ghost use Rattle.rel_records.specs.declared.faults.RelFault.TheVariants.{Device, Exists, Full};
+ghost use Rattle.rel_records.specs.declared.rel_file.RelFile.{RelFile};
+
+use crate::directory_room::{Room, find_room, has_name};
+use crate::faults::RelFault;
+use crate::finding::list_slots;
+use crate::new_file::write_file;
+use crate::next_block::take_next;
+use crate::rel_file::RelFile;
+use crate::site::Site;
+use crate::sizes::last_index;
+use arrayvec::ArrayVec;
+use d64_image::{Place, Sectors};
+use disk_layout::{Bam, directory_start, padded_name, walk_chain};
+
+/// Creates a relative file of this name and record length, in bytes, with one data block of empty records. Its entry
+/// goes into the first free slot of the directory, or where all slots are used into a new directory sector, the lowest
+/// free one of track 18.
+///
+/// `Exists` where an entry has the name, of whatever type. Else `Full` where fewer than two blocks are free, or the
+/// directory has neither a free slot nor a free sector. Both write nothing. The name isn't judged: whoever asks sees to
+/// it that it has no shifted space, and that the first closed relative file of it, if any, has another record length.
+///
+/// All reads come before the first write; the last write makes the file.
+pub fn create<D: Sectors>(disk: &mut D, name: &[u8], size: u8) -> Result<RelFile, RelFault>
+    requires clean { IsClean (D.history.image disk.old) }
+    requires name { length name.now ≤ 16 }
+    requires low { 1 ≤ size }
+    requires high { size ≤ 254 }
+    ensures ok { (l : Layout) → IsLayout (D.history.image disk.old) l → IfOk result (IsMade (D.history.image disk.old) l name.now size (D.history.image disk.new)) }
+    // each refusal, exactly
+    ensures exists { (l : Layout) → IsLayout (D.history.image disk.old) l → IfErr result (λ fault. fault ≡ Exists → IsTakenName l name.now) }
+    ensures full { (l : Layout) → IsLayout (D.history.image disk.old) l → IfErr result (λ fault. fault ≡ Full → HasNoRoom (D.history.image disk.old) l × ¬ (IsTakenName l name.now)) }
+    ensures fits { (l : Layout) → IsLayout (D.history.image disk.old) l → OnOk result (¬ (HasNoRoom (D.history.image disk.old) l) × ¬ (IsTakenName l name.now)) }
+    ensures told { IfErr result (λ fault. (fault ≡ Exists) ⊎ ((fault ≡ Full) ⊎ (fault ≡ Device))) }
+    // three times the eighteen sectors of the directory, and the map
+    ensures refused { IfErr result (λ fault. fault ≢ Device → OnlyReads D.history disk.old disk.new 55) }
+    // every image held, and the writes
+    ensures moments { (l : Layout) → IsLayout (D.history.image disk.old) l → Changes D.history disk.old disk.new (creation_writes l) (IsCreating (D.history.image disk.old) l name.now size) }
+    // what is kept of any file stays of it
+    ensures others { (v : RelFile) → OfItsFile (D.history.image disk.old) v (λ l n f. StaysOf (D.history.image disk.old) (D.history.image disk.new) f v) }
+    ensures failures { TellsRelFault D.history disk.old disk.new result }
+{
+    let site = choose_site(disk, name)?;
+    let Ok(()) = write_file(disk, &site, name, size) else {
+        return Err(RelFault::Device);
+    };
+    Ok(file_at(&site, size))
+}
+
+/// Chooses what a new file of this name takes, or refuses it; nothing is written.
+fn choose_site<D: Sectors>(disk: &mut D, name: &[u8]) -> Result<Site, RelFault>
+    requires clean { IsClean (D.history.image disk.old) }
+    requires name { length name.now ≤ 16 }
+    ensures ok { (l : Layout) → IsLayout (D.history.image disk.old) l → IfOk result (IsSite (D.history.image disk.old) l) }
+    ensures exists { (l : Layout) → IsLayout (D.history.image disk.old) l → IfErr result (λ fault. fault ≡ Exists → IsTakenName l name.now) }
+    ensures full { (l : Layout) → IsLayout (D.history.image disk.old) l → IfErr result (λ fault. fault ≡ Full → HasNoRoom (D.history.image disk.old) l × ¬ (IsTakenName l name.now)) }
+    ensures fits { (l : Layout) → IsLayout (D.history.image disk.old) l → OnOk result (¬ (HasNoRoom (D.history.image disk.old) l) × ¬ (IsTakenName l name.now)) }
+    ensures told { IfErr result (λ fault. (fault ≡ Exists) ⊎ ((fault ≡ Full) ⊎ (fault ≡ Device))) }
+    ensures refused { IfErr result (λ fault. fault ≢ Device → OnlyReads D.history disk.old disk.new 55) }
+    ensures quiet { WritesNothing D.history disk.old disk.new }
+    ensures failures { TellsRelFault D.history disk.old disk.new result }
+{
+    let mut used = ArrayVec::new();
+    list_slots(disk, &mut used)?;
+    if has_name(used.as_slice(), &padded_name(name)) {
+        return Err(RelFault::Exists);
+    }
+    let room = read_room(disk)?;
+    let Ok(map) = Bam::read(disk) else {
+        return Err(RelFault::Device);
+    };
+    let Some(site) = take_site(map, room) else {
+        return Err(RelFault::Full);
+    };
+    Ok(site)
+}
+
+/// Where the directory of a sound disk has room for an entry.
+fn read_room<D: Sectors>(disk: &mut D) -> Result<Room, RelFault>
+    requires sound { IsSound (D.history.image disk.old) }
+    ensures ok { (l : Layout) → IsLayout (D.history.image disk.old) l → IfOk result (IsRoomOf (D.history.image disk.old) l) }
+    ensures err { IfErr result (λ fault. fault ≡ Device) }
+    // twice the eighteen sectors of the directory
+    ensures reads { OnOk result (OnlyReads D.history disk.old disk.new 36) }
+    ensures quiet { WritesNothing D.history disk.old disk.new }
+    ensures failures { TellsRelFault D.history disk.old disk.new result }
+{
+    let mut places = ArrayVec::new();
+    let Ok(_) = walk_chain(disk, directory_start(), &mut places) else {
+        return Err(RelFault::Device);
+    };
+    let Ok(room) = find_room(disk, places.as_slice()) else {
+        return Err(RelFault::Device);
+    };
+    Ok(room)
+}
+
+/// Takes a new file's sectors in the map of a clean disk: two for the file, and where the directory is full a third for
+/// that. None where they aren't free.
+fn take_site(mut map: Bam, room: Room) -> Option<Site>
+    requires of { (img : Image) × (l : Layout) × IsCleanLayout img l × (map.bytes ≡ sector img map_place) × IsRoomOf img l room }
+    ensures { (img : Image) → (l : Layout) → IsCleanLayout img l → map.bytes ≡ sector img map_place → IsRoomOf img l room → MatchOption result (HasNoRoom img l) (λ site. IsSite img l site × ¬ (HasNoRoom img l)) }
+{
+    if map.view().blocks_free() < 2 {
+        return None;
+    }
+    let block = take_next(&mut map);
+    let side = take_next(&mut map);
+    let Room {
+        place,
+        bytes,
+        before,
+        number,
+    } = room;
+    match number {
+        Some(number) => Some(Site {
+            map,
+            block,
+            side,
+            place,
+            bytes,
+            fresh: None,
+            number,
+            entry: 8 * before + number as usize,
+        }),
+        None => {
+            let Some(fresh) = map.pick_directory() else {
+                return None;
+            };
+            map.take(fresh);
+            Some(Site {
+                map,
+                block,
+                side,
+                place,
+                bytes,
+                fresh: Some(fresh),
+                number: 0,
+                entry: 8 * (before + 1),
+            })
+        }
+    }
+}
+
+/// The new file, as it stands at its site.
+fn file_at(site: &Site, size: u8) -> RelFile
+    requires low { 1 ≤ size }
+    requires high { size ≤ 254 }
+    ensures { IsFileAt size site.now result }
+{
+    let mut sides = ArrayVec::new();
+    sides.push(site.side);
+    RelFile {
+        entry: site.entry,
+        sector: match site.fresh {
+            Some(fresh) => fresh,
+            None => site.place,
+        },
+        number: site.number,
+        size,
+        sides,
+        blocks: 1,
+        last: last_index(1, size),
+    }
+}

@@ -1,0 +1,162 @@
+//! A new file's sectors, and its entry.
+ghost use Rattle.std.specs.Prelude.{◌≡◌, ◌≢◌, ◌≤◌, ◌<◌, ◌∷◌, [], List, OnOk, length, ℕ};
+ghost use Rattle.d64_image.specs.History.{Changes, TellsFailure};
+ghost use Rattle.d64_image.specs.Images.{sector};
+ghost use Rattle.disk_layout.specs.Directory.{map_place};
+ghost use Rattle.disk_layout.specs.Layout.{Layout};
+ghost use Rattle.rel_records.specs.Made.{IsCreating, creation_writes};
+ghost use Rattle.rel_records.specs.NewFile.{ChangesOnly, HasNewSectors, IsEntered, IsLinkedTo, IsNewDirectory};
+ghost use Rattle.rel_records.specs.Site.{HasFileAt, IsSectorEntry, IsSectorSite, IsSite, IsSlotEntry, IsSlotSite, sector_of};
+
+use crate::next_block::fresh_block;
+use crate::site::Site;
+use d64_image::{DeviceFault, Place, Sectors};
+use disk_layout::{Bam, map_place, relative_entry, side_bytes};
+
+/// Writes what nobody owns yet: the map, the data block and the side sector.
+fn write_sectors<D: Sectors>(
+    disk: &mut D,
+    map: &Bam,
+    block: Place,
+    side: Place,
+    size: u8,
+) -> Result<(), DeviceFault>
+    requires low { 1 ≤ size }
+    requires high { size ≤ 254 }
+    requires block { block ≢ map_place }
+    requires side { side ≢ map_place }
+    requires apart { block ≢ side }
+    ensures ok { OnOk result (HasNewSectors map.now.bytes block side size (D.history.image disk.new)) }
+    ensures moments { Changes D.history disk.old disk.new 3 (ChangesOnly (D.history.image disk.old) map.now.bytes (block ∷ side ∷ [])) }
+    ensures failures { TellsFailure D.history disk.old disk.new result }
+{
+    disk.write(map_place(), &map.bytes)?;
+    disk.write(block, &fresh_block(0, size))?;
+    disk.write(side, &side_bytes(0, &[block], &[side], size))
+}
+
+/// Writes a new file's sectors and a new directory sector: still what nobody owns.
+fn write_with_directory<D: Sectors>(
+    disk: &mut D,
+    map: &Bam,
+    block: Place,
+    side: Place,
+    size: u8,
+    fresh: Place,
+    bytes: &[u8; 256],
+) -> Result<(), DeviceFault>
+    requires low { 1 ≤ size }
+    requires high { size ≤ 254 }
+    requires block { block ≢ map_place }
+    requires side { side ≢ map_place }
+    requires apart { block ≢ side }
+    requires fresh { fresh ≢ map_place }
+    requires fresh_block { fresh ≢ block }
+    requires fresh_side { fresh ≢ side }
+    ensures ok { OnOk result (HasNewSectors map.now.bytes block side size (D.history.image disk.new) × (sector (D.history.image disk.new) fresh ≡ bytes.now)) }
+    ensures moments { Changes D.history disk.old disk.new 4 (ChangesOnly (D.history.image disk.old) map.now.bytes (fresh ∷ block ∷ side ∷ [])) }
+    ensures failures { TellsFailure D.history disk.old disk.new result }
+{
+    write_sectors(disk, map, block, side, size)?;
+    disk.write(fresh, bytes)
+}
+
+/// Puts the entry into a slot of a directory sector; the first slot keeps the sector's link.
+fn put_entry(bytes: &mut [u8; 256], number: u8, entry: &[u8; 30])
+    requires { number < 8 }
+    ensures { IsEntered bytes.old bytes.new number entry.now }
+{
+    let at = 32 * number as usize;
+    if number > 0 {
+        bytes[at] = 0;
+        bytes[at + 1] = 0;
+    }
+    bytes[at + 2..at + 32].copy_from_slice(entry);
+}
+
+/// A new directory sector behind the directory's last, with the entry in its first slot.
+fn directory_with(entry: &[u8; 30]) -> [u8; 256]
+    ensures { IsNewDirectory result entry.now }
+{
+    let mut bytes = [0; 256];
+    bytes[1] = 0xFF;
+    put_entry(&mut bytes, 0, entry);
+    bytes
+}
+
+/// Links a directory sector to another.
+fn link_to(bytes: &mut [u8; 256], place: Place)
+    ensures { IsLinkedTo bytes.old bytes.new place }
+{
+    bytes[0] = place.track();
+    bytes[1] = place.sector();
+}
+
+/// Writes a new file's sectors, and then the directory sector whose free slot got its entry: this last write makes the
+/// file.
+fn write_in_slot<D: Sectors>(
+    disk: &mut D,
+    site: &Site,
+    bytes: &[u8; 256],
+    size: u8,
+) -> Result<(), DeviceFault>
+    requires low { 1 ≤ size }
+    requires high { size ≤ 254 }
+    requires site { (l : Layout) × IsSlotSite (D.history.image disk.old) l site.now }
+    ensures ok { (l : Layout) → (name : List ℕ) → IsSlotSite (D.history.image disk.old) l site.now → IsSlotEntry name size site.now bytes.now → OnOk result (HasFileAt (D.history.image disk.old) l name size site.now site.now.place (D.history.image disk.new)) }
+    ensures moments { (l : Layout) → (name : List ℕ) → IsSlotSite (D.history.image disk.old) l site.now → IsSlotEntry name size site.now bytes.now → Changes D.history disk.old disk.new 4 (IsCreating (D.history.image disk.old) l name size) }
+    ensures failures { TellsFailure D.history disk.old disk.new result }
+{
+    write_sectors(disk, &site.map, site.block, site.side, size)?;
+    disk.write(site.place, bytes)
+}
+
+/// Writes a new file's sectors and a new directory sector with its entry, and then the directory's last sector, which got
+/// the link to that: this last write makes the file.
+fn write_behind<D: Sectors>(
+    disk: &mut D,
+    site: &Site,
+    fresh: Place,
+    first: &[u8; 256],
+    last: &[u8; 256],
+    size: u8,
+) -> Result<(), DeviceFault>
+    requires low { 1 ≤ size }
+    requires high { size ≤ 254 }
+    requires site { (l : Layout) × IsSectorSite (D.history.image disk.old) l site.now fresh }
+    ensures ok { (l : Layout) → (name : List ℕ) → IsSectorSite (D.history.image disk.old) l site.now fresh → IsSectorEntry name size site.now fresh first.now last.now → OnOk result (HasFileAt (D.history.image disk.old) l name size site.now fresh (D.history.image disk.new)) }
+    ensures moments { (l : Layout) → (name : List ℕ) → IsSectorSite (D.history.image disk.old) l site.now fresh → IsSectorEntry name size site.now fresh first.now last.now → Changes D.history disk.old disk.new 5 (IsCreating (D.history.image disk.old) l name size) }
+    ensures failures { TellsFailure D.history disk.old disk.new result }
+{
+    write_with_directory(disk, &site.map, site.block, site.side, size, fresh, first)?;
+    disk.write(site.place, last)
+}
+
+/// Writes a new file with its entry. The last write makes the file.
+pub(crate) fn write_file<D: Sectors>(
+    disk: &mut D,
+    site: &Site,
+    name: &[u8],
+    size: u8,
+) -> Result<(), DeviceFault>
+    requires name { length name.now ≤ 16 }
+    requires low { 1 ≤ size }
+    requires high { size ≤ 254 }
+    requires site { (l : Layout) × IsSite (D.history.image disk.old) l site.now }
+    ensures ok { (l : Layout) → IsSite (D.history.image disk.old) l site.now → OnOk result (HasFileAt (D.history.image disk.old) l name.now size site.now (sector_of site.now) (D.history.image disk.new)) }
+    ensures moments { (l : Layout) → IsSite (D.history.image disk.old) l site.now → Changes D.history disk.old disk.new (creation_writes l) (IsCreating (D.history.image disk.old) l name.now size) }
+    ensures failures { TellsFailure D.history disk.old disk.new result }
+{
+    let entry = relative_entry(name, site.block, site.side, size, 2);
+    let mut last = site.bytes;
+    match site.fresh {
+        Some(fresh) => {
+            link_to(&mut last, fresh);
+            write_behind(disk, site, fresh, &directory_with(&entry), &last, size)
+        }
+        None => {
+            put_entry(&mut last, site.number, &entry);
+            write_in_slot(disk, site, &last, size)
+        }
+    }
+}
