@@ -8,5 +8,9 @@ pub mod Layers
 pub mod Mended
 pub mod Calls
 pub mod Readings
+pub mod Selection
+pub mod Records
+pub mod Tables
+pub mod Completions
 pub mod Search
 pub mod Examples

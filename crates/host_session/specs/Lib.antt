@@ -5,3 +5,5 @@ pub mod Handling
 pub mod Standing
 pub mod Putting
 pub mod Found
+pub mod Selecting
+pub mod Completing

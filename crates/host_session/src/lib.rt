@@ -1,10 +1,14 @@
 //! A shop on a disk: what the disk stands for at each moment, its opening, and its requests.
 #![tactic(auto)]
 
+mod completing;
 mod faults;
 mod finding;
 mod laws;
+mod putting;
 mod reading;
+mod session;
 
 pub use faults::OpenFault;
 pub use laws::{both_ends, last_two, one_shop, refused_no_shop};
+pub use session::Session;
