@@ -11,6 +11,5 @@ pub mod Readings
 pub mod Selection
 pub mod Records
 pub mod Tables
-pub mod Completions
 pub mod Search
 pub mod Examples

@@ -6,4 +6,3 @@ pub mod Standing
 pub mod Putting
 pub mod Found
 pub mod Selecting
-pub mod Completing

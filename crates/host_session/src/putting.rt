@@ -12,8 +12,8 @@ ghost use Rattle.rel_records.specs.Written.{IsInOneBlock, IsWriting, touched, wi
 ghost use Rattle.host_session.specs.Putting.{HasAnswer, HasCard, IsPuttingAnswer, IsPuttingCard};
 ghost use Rattle.host_session.specs.Files.{Files, HasFiles};
 
-use drive_channels::{Dead, Drive};
 use d64_image::Sectors;
+use drive_channels::{Dead, Drive};
 
 /// The command that places channel 2 at the start of a record.
 fn placing(number: u16) -> [u8; 5]

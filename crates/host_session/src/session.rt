@@ -5,8 +5,8 @@ ghost use Rattle.host_session.specs.Selecting.{IsReady};
 ghost use Rattle.host_session.specs.Shop.{IsSettled, IsShop, Shop};
 ghost use Rattle.host_session.specs.Standing.{IsStanding, View, nth, state_in, view_code};
 
-use drive_channels::{Dead, Drive};
 use d64_image::Sectors;
+use drive_channels::{Dead, Drive};
 use request_cards::{Answer, Request, RequestCard};
 use std::marker::Model;
 
