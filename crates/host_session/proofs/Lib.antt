@@ -13,3 +13,4 @@ pub mod Records
 pub mod Tables
 pub mod Search
 pub mod Examples
+pub mod Completions

@@ -6,3 +6,4 @@ pub mod Standing
 pub mod Putting
 pub mod Found
 pub mod Selecting
+pub mod Completing
