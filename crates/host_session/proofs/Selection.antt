@@ -28,7 +28,7 @@ use Rattle.drive_channels.specs.Tables.{Closes, Commands, IsOn, Moves, MovesTo, 
 use Rattle.rel_records.specs.Growth.{added, blocks_for, fill_writes, full, growth_writes, records_had, run_writes}
 use Rattle.rel_records.specs.Others.{HasRecords}
 use Rattle.rel_records.specs.Written.{IsGrowingBy, IsWriting, grown_by, touched, with_half, with_written}
-use Rattle.host_session.specs.Putting.{IsPlaced}
+use Rattle.host_session.specs.Putting.{IsInReach, IsPlaced}
 use Rattle.host_session.specs.Selecting.{IsAt, IsReady, channel_at, place_text}
 
 -- no channel but 2 was open: none is once it is closed
@@ -134,6 +134,15 @@ placed-fits img name r l n f w p =
     let up : r * record_length f.slot ≤ records_had f * record_length f.slot = mul-le-mul_right (record_length f.slot) (placed-count img name r l n f p) in
     (rel.length_low, omega (arith, few, all, up))
 
+-- so such a record is in reach
+pub placed-reach : {D : Type 0} {name : List ℕ} {r : ℕ} {l : Layout} {n : ℕ} {f : File} (S : History D) (d : D) → IsPlaced (S.image d) name r l n f → IsInReach (S.image d) name r l n f
+placed-reach {D} {name} {r} {l} {n} {f} S d p =
+    let fits = placed-fits (S.image d) name r l n f (S.whole d) p in
+    record { layout = p.layout; first = p.first; low = p.low; some = fits.0; few = fits.1 }
+
+pub reach-rel : (img : Image) (name : List ℕ) (r : ℕ) (l : Layout) (n : ℕ) (f : File) → IsInReach img name r l n f → IsRelAt img l n f
+reach-rel img name r l n f p = record { layout = p.layout; there = p.first.file; rel = p.first.named.0 }
+
 -- a call that answers Ok leaves the drive alive
 pub alive-of : {D T E : Type 0} (S : History D) (old new : Seen D) (x : T) → Serves {E = E} S old new (Ok x) → new.dead ≡ false
 alive-of {D} {T} {E} S old new x h = by new.dead refl
@@ -145,7 +154,7 @@ alive-of {D} {T} {E} S old new x h = by new.dead refl
 -- close, open and P, one after another
 pub selected : {D T E : Type 0} (S : History D) (d0 d1 d2 d3 : Seen D) (r : Result T E) (name text : List ℕ) (number : ℕ) (l : Layout) (n : ℕ) (f : File)
     → IsReady S d0 → IsName name → Closes (view_of S d0) 2 (view_of S d1) → Opens (view_of S d1) 2 name (view_of S d2) → Serves S d2 d3 r
-    → OnOk r (Commands (view_of S d2) text (view_of S d3)) → text ≡ place_text number → IsPlaced (S.image d0.disk) name number l n f → OnOk r (IsAt d3 n number)
+    → OnOk r (Commands (view_of S d2) text (view_of S d3)) → text ≡ place_text number → IsInReach (S.image d0.disk) name number l n f → OnOk r (IsAt d3 n number)
 selected S d0 d1 d2 d3 (Err e) name text number l n f ready h closes opens serves row is p = tt
 selected S d0 d1 d2 d3 (Ok x) name text number l n f ready h closes opens serves row is p =
     let same : S.image d1.disk ≡ S.image d0.disk = ap (λ (v : View). v.image) closes in
@@ -153,9 +162,8 @@ selected S d0 d1 d2 d3 (Ok x) name text number l n f ready h closes opens serves
     let clean : IsClean (S.image d1.disk) = subst (λ (i : Image). IsClean i) (sym same) ready.clean in
     let layout : IsLayout (S.image d1.disk) l = subst (λ (i : Image). IsLayout i l) (sym same) p.layout in
     let o = opened (view_of S d1) (view_of S d2) name l n f free clean h layout p.first opens in
-    let q : IsPlaced (S.image d2.disk) name number l n f = subst (λ (i : Image). IsPlaced i name number l n f) (sym (o.0 ∙ same)) p in
-    let fits = placed-fits (S.image d2.disk) name number l n f (S.whole d2.disk) q in
-    let m = moved (view_of S d2) (view_of S d3) l n number 1 f o.1 (placed-rel (S.image d2.disk) name number l n f q) p.low fits.0 fits.1
+    let q : IsInReach (S.image d2.disk) name number l n f = subst (λ (i : Image). IsInReach i name number l n f) (sym (o.0 ∙ same)) p in
+    let m = moved (view_of S d2) (view_of S d3) l n number 1 f o.1 (reach-rel (S.image d2.disk) name number l n f q) p.low p.some p.few
     (subst (λ (t : List ℕ). Commands (view_of S d2) t (view_of S d3)) is row) in
     record { alive = alive-of S d2 d3 x serves; checked = m.2 ∙ o.2; on = m.1 }
 
