@@ -4,5 +4,6 @@ pub mod Opening
 pub mod Handling
 pub mod Standing
 pub mod Putting
+pub mod Growing
 pub mod Found
 pub mod Selecting

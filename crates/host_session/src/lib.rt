@@ -3,6 +3,7 @@
 
 mod faults;
 mod finding;
+mod growing;
 mod laws;
 mod putting;
 mod reading;
