@@ -10,6 +10,7 @@ pub mod Calls
 pub mod Readings
 pub mod Selection
 pub mod Records
+pub mod GrownStock
 pub mod Tables
 pub mod Search
 pub mod Examples

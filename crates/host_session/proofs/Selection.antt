@@ -119,7 +119,7 @@ placed-rel img name r l n f p = record { layout = p.layout; there = p.first.file
 pub placed-count : (img : Image) (name : List ℕ) (r : ℕ) (l : Layout) (n : ℕ) (f : File) → IsPlaced img name r l n f → r ≤ records_had f
 placed-count img name r l n f p = omega (arith, p.there, count-is img f)
 
-rel-file : (img : Image) (l : Layout) (n : ℕ) (f : File) → IsRelAt img l n f → IsRelFile img f
+pub rel-file : (img : Image) (l : Layout) (n : ℕ) (f : File) → IsRelAt img l n f → IsRelFile img f
 rel-file img l n f h = let file : IsFile img f = all-in (IsFile img) l.files f h.layout.files (get-contains l.files n f h.there) in file.rel h.rel
 
 pub placed-fits : (img : Image) (name : List ℕ) (r : ℕ) (l : Layout) (n : ℕ) (f : File) → IsImage img → IsPlaced img name r l n f
