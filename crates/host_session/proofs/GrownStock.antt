@@ -14,7 +14,7 @@ use Rattle.disk_layout.proofs.Pieces.{row-le}
 use Rattle.disk_layout.proofs.Tops.{Fits-below}
 use Rattle.disk_layout.specs.Clean.{IsClean, IsCleanLayout}
 use Rattle.disk_layout.specs.Directory.{map_place}
-use Rattle.disk_layout.specs.Layout.{File, IsLayout, Layout, record_length, sides_for}
+use Rattle.disk_layout.specs.Layout.{File, Layout, record_length, sides_for}
 use Rattle.disk_layout.specs.Records.{empty_record, records}
 use Rattle.disk_layout.specs.View.{blocks_free}
 use Rattle.drive_channels.proofs.Lengths.{count-is}

@@ -1,10 +1,9 @@
 -- What the calls of a session on the drive come to, from the rows of the drive's tables.
-use Rattle.std.proofs.Common.{◌≡◌, ◌≢◌, ◌≤◌, ◌<◌, ◌+◌, ◌-◌, ◌*◌, ◌/◌, ◌%◌, ◌⊎◌, ℕ, zero, suc, inl, inr, Bool, true, false, Option, None, Some, Result, Ok, Err, List, [], ◌∷◌, ◌++◌, IsTrue, length, slice_get, refl, sym, ◌∙◌, ap, subst, arith, mul-le-mul_right}
-use Rattle.std.specs.Prelude.{OnOk, OnErr, IsErr, IsSome, codes, if◌then◌else◌, max, nat_eq, nat_le, nat_lt, slice_index, slice_index_or, get_or, set}
-use Rattle.std.specs.List.{AllByRecursion}
+use Rattle.std.proofs.Common.{◌≡◌, ◌≤◌, ◌<◌, ◌+◌, ◌-◌, ◌*◌, ◌/◌, ◌%◌, ◌⊎◌, ℕ, inl, inr, Bool, true, false, Option, None, Some, Result, Ok, Err, List, [], ◌∷◌, length, refl, sym, ◌∙◌, ap, subst, arith, mul-le-mul_right}
+use Rattle.std.specs.Prelude.{OnOk, OnErr, IsSome, if◌then◌else◌, nat_eq, slice_index}
 use Rattle.std.proofs.lemmas.Bool.{false≢true, le-leb}
-use Rattle.std.proofs.lemmas.List.{append_assoc, append-nil, length-append}
-use Rattle.std.proofs.lemmas.Option.{none-some, same_Some}
+use Rattle.std.proofs.lemmas.List.{append-nil, length-append}
+use Rattle.std.proofs.lemmas.Option.{same_Some}
 use Rattle.d64_image.specs.History.{Changes, History, OnlyReads, TellsFailure}
 use Rattle.d64_image.specs.Images.{Image, IsImage}
 use Rattle.d64_image.proofs.Images.{is_sector}
@@ -15,19 +14,19 @@ use Rattle.disk_layout.proofs.Layouts.{IsLayout-one, get-contains}
 use Rattle.disk_layout.proofs.Once.{all-in}
 use Rattle.disk_layout.proofs.Uniques.{IsFirst-one}
 use Rattle.disk_layout.specs.Clean.{IsClean}
-use Rattle.disk_layout.specs.Layout.{File, IsFile, IsLayout, IsRelFile, Layout, file_owns, is_rel, record_length}
-use Rattle.disk_layout.specs.Records.{record_count, records}
+use Rattle.disk_layout.specs.Layout.{File, IsFile, IsLayout, IsRelFile, Layout, file_owns, record_length}
+use Rattle.disk_layout.specs.Records.{records}
 use Rattle.disk_layout.specs.Rest.{IsFirst}
 use Rattle.drive_channels.proofs.Lengths.{count-is}
 use Rattle.drive_channels.specs.Files.{HasFile, IsNamedFile, IsRelAt}
 use Rattle.drive_channels.specs.Moments.{IsOnTheWay, is_nil, writes_for}
 use Rattle.drive_channels.specs.Serving.{Serves}
-use Rattle.drive_channels.specs.Spelling.{IsInitialize, IsName, IsValidate, IsWish, Wish, wanted_position, wanted_record}
+use Rattle.drive_channels.specs.Spelling.{IsInitialize, IsName, IsValidate, wanted_position, wanted_record}
 use Rattle.drive_channels.specs.State.{Channel, Seen, View, view_of}
 use Rattle.drive_channels.specs.Tables.{Closes, Commands, IsOn, Moves, MovesTo, Opens, OpensAt, OpensFile, Writes, WritesIn, channel_without}
 use Rattle.rel_records.specs.Growth.{added, blocks_for, fill_writes, full, growth_writes, records_had, run_writes}
 use Rattle.rel_records.specs.Others.{HasRecords}
-use Rattle.rel_records.specs.Written.{IsGrowingBy, IsWriting, grown_by, touched, with_half, with_written}
+use Rattle.rel_records.specs.Written.{IsWriting, grown_by, touched, with_written}
 use Rattle.host_session.specs.Putting.{IsInReach, IsPlaced}
 use Rattle.host_session.specs.Selecting.{IsAt, IsReady, channel_at, place_text}
 
