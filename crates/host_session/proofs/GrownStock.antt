@@ -3,7 +3,7 @@
 use Rattle.std.proofs.Common.{◌≡◌, ℕ, ◌≤◌, ◌<◌, ◌+◌, ◌-◌, ◌*◌, ◌/◌, ◌⊎◌, inl, inr, Bool, true, false, List, [], ◌∷◌, ◌++◌, length, replicate, Some, Result, Ok, Err, refl, sym, ◌∙◌, ap, subst, arith}
 use Rattle.std.specs.Prelude.{OnOk, codes, if◌then◌else◌, nat_le}
 use Rattle.std.proofs.lemmas.Bool.Decides.{nat_tests}
-use Rattle.std.proofs.lemmas.List.{append-nil, length-append}
+use Rattle.std.proofs.lemmas.List.{append-nil, length-append, length-replicate}
 use Rattle.std.proofs.lemmas.Option.{same_Some}
 use Rattle.d64_image.specs.History.{Changes, History, OnlyReads}
 use Rattle.d64_image.specs.Images.{Image, sector}
@@ -30,9 +30,12 @@ use Rattle.rel_records.specs.Written.{IsGrowingTo, grown_by, grown_to}
 use Rattle.host_session.specs.Files.{Files, HasFiles}
 use Rattle.host_session.specs.Growing.{HasGrown, HasGrownTo, grown}
 use Rattle.host_session.specs.Putting.{IsInReach}
+use Rattle.host_session.specs.Shop.{AreLedgerRecords, IsShop, shop_of}
 use Rattle.host_session.specs.Selecting.{IsAt, IsReady, channel_at}
 use Rattle.host_session.proofs.Layers.{on-stock}
+use Rattle.host_session.proofs.Moments.{grown-cards, grown-state}
 use Rattle.host_session.proofs.Selection.{alive-of, rel-file}
+use Rattle.host_session.proofs.Steps.{blank-record, step-grown}
 use Rattle.host_session.proofs.Shops.{HasFiles-one}
 
 -- what is free and the file's own suffice for w blocks and their side sectors: so what is free suffices for those that it lacks
@@ -41,6 +44,11 @@ needed-free n w free sides le e room = omega (arith, le, e, room)
 
 stock-rel : (img : Image) (f : Files) (h : HasFiles img f) → IsRelAt img h.layout h.stock_place h.stock_file
 stock-rel img f h = record { layout = h.is_layout; there = h.stock_first.file; rel = h.stock_first.named.0 }
+
+pub some-blocks : (img : Image) (f : Files) (h : HasFiles img f) → 0 < length h.stock_file.blocks
+some-blocks img f h =
+    let chain = (rel-file img h.layout h.stock_place h.stock_file (stock-rel img f h)).chain.2 in
+    omega (arith, ap length chain.places, length-append chain.front (chain.last ∷ []))
 
 -- STOCK, and an item up to the top
 module _ (img : Image) (f : Files) (h : HasFiles img f) (r : ℕ) (le : r ≤ f.top) where
@@ -51,14 +59,12 @@ module _ (img : Image) (f : Files) (h : HasFiles img f) (r : ℕ) (le : r ≤ f.
   stock-reach low = record { layout = h.is_layout; first = h.stock_first; low = low; some = omega (arith, h.stock_length); few = few }
 
   -- a record that isn't there lies in a block behind the last one, or in it
-  more : records_had h.stock_file < r → length h.stock_file.blocks ≤ blocks_for (record_length h.stock_file.slot) r
+  pub more : records_had h.stock_file < r → length h.stock_file.blocks ≤ blocks_for (record_length h.stock_file.slot) r
   more lt =
       let rel = rel-file img h.layout h.stock_place h.stock_file (stock-rel img f h) in
-      let chain = rel.chain.2 in
-      let some : 0 < length h.stock_file.blocks = omega (arith, ap length chain.places, length-append chain.front (chain.last ∷ [])) in
       let low = count-low (length h.stock_file.blocks) h.stock_file.last (record_length h.stock_file.slot) (omega (arith, rel.length_low)) in
       let row = row-le (records_had h.stock_file) r (record_length h.stock_file.slot) lt in
-      omega (arith, low, row, some)
+      omega (arith, low, row, some-blocks img f h)
 
   not-large : ¬ (IsTooLarge h.stock_file r)
   not-large (lt, inl x) = omega (arith, x, few)
@@ -183,3 +189,20 @@ grown-moments S d0 d1 d2 k f h r reads at change =
 
     none-behind : (t : ℕ) → t + 0 ≤ t
     none-behind t = omega arith
+
+-- The files with empty records more are the same shop's.
+pub grown-ledger : (f : Files) (m b : ℕ) → AreLedgerRecords f.stock f.requests → AreLedgerRecords (grown f m b).stock (grown f m b).requests
+grown-ledger f m b all = grown-cards f.stock f.requests m blank-record all
+
+pub grown-same : (f : Files) (m b : ℕ) → shop_of (grown f m b) ≡ shop_of f
+grown-same f m b = λ i. record (shop_of f) { state = grown-state f.stock f.requests m blank-record i }
+
+pub grown-shop : (img : Image) (f : Files) → AreLedgerRecords f.stock f.requests → HasGrown f img → IsShop img (shop_of f)
+grown-shop img f all g = step-grown img f all g.1 g.0 g.2
+
+pub grown-shop_moments : {D : Type 0} (S : History D) (a b : D) (f : Files) (n : ℕ) → AreLedgerRecords f.stock f.requests → Changes S a b n (HasGrown f) → Changes S a b n (λ i. IsShop i (shop_of f))
+grown-shop_moments S a b f n all x = changes_weaker S a b n n (HasGrown f) (λ i. IsShop i (shop_of f)) (omega arith) (λ i g. grown-shop i f all g) x
+
+-- and record r is among those of STOCK
+pub grown-long : (f : Files) (m b r : ℕ) → r ≤ length f.stock + m → r ≤ length (grown f m b).stock
+grown-long f m b r far = omega (arith, far, length-append f.stock (replicate m (empty_record 18)), length-replicate m (empty_record 18))

@@ -11,6 +11,7 @@ pub mod Readings
 pub mod Selection
 pub mod Records
 pub mod GrownStock
+pub mod GrowthCounts
 pub mod Tables
 pub mod Search
 pub mod Examples

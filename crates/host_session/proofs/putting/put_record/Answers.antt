@@ -1,6 +1,5 @@
-use Rattle.std.proofs.Common.{ℕ, ◌≡◌, ◌∙◌, refl, sym, ap, arith}
+use Rattle.std.proofs.Common.{refl, arith}
 use Rattle.d64_image.proofs.Moments.{changes_weaker, reads_change}
-use Rattle.disk_layout.specs.Layout.{record_length}
 use Rattle.rel_records.specs.Written.{IsWriting}
 use Rattle.host_session.proofs.Selection.{moved-to, ok-clean, ok-ready, ok-records, placed-count, placed-reach, placed-rel, told-after, uncounted-after, writing-same, written-moments, written-ok}
 use Rattle.host_session.specs.Selecting.{channel_at}
