@@ -4,6 +4,7 @@
 mod completing;
 mod faults;
 mod finding;
+mod growing;
 mod laws;
 mod putting;
 mod reading;
