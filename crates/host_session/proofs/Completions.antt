@@ -129,6 +129,19 @@ module _ (f : Files) (till : ℕ) (c : Card) (x : HasIntent f till c) (item q : 
         );
       }
 
+-- the card of an intent once it is answered is a card, and its text is read as that
+answered-fits : (c : Card) → IsCard c → IsCard (answered_card c)
+answered-fits c h = record {
+  version = inr refl;
+  old = λ e. absurd (omega (arith, e));
+  newest = h.newest;
+  intent = λ e. absurd (false≢true e);
+  second = h.second;
+}
+
+pub answered-read : (c : Card) → IsCard c → request_card_of (card_text (answered_card c)) ≡ Some (answered_card c)
+answered-read c h = (card_is (card_text (answered_card c)) (answered_card c)).1 (answered-fits c h, refl)
+
 -- the answer: no intent is open any more, and it is the same shop
 pub completed : (f : Files) (till : ℕ) (c : Card) (x : HasIntent f till c) → IsCard c → (mid : Image) (r : HasResults f c mid) (img : Image)
     → HasAnswer (record f { stock = r.stock; blocks = r.blocks }) till (card_text (answered_card c)) img → IsCompleted f till c img
@@ -141,18 +154,6 @@ completed f till c x fits mid r img has =
       same = answered-state r.stock f.requests till x.was (card_text (answered_card c)) c (answered_card c) x.high x.here x.reads reads x.is_open refl refl refl r.records r.written ∙ r.same;
       no_intent = answered-intents r.stock f.requests till x.was (card_text (answered_card c)) c (answered_card c) x.high x.here x.reads reads x.is_open refl refl refl r.records r.written;
     }
-  where
-    answered-fits : (c : Card) → IsCard c → IsCard (answered_card c)
-    answered-fits c h = record {
-      version = inr refl;
-      old = λ e. absurd (omega (arith, e));
-      newest = h.newest;
-      intent = λ e. absurd (false≢true e);
-      second = h.second;
-    }
-
-    answered-read : (c : Card) → IsCard c → request_card_of (card_text (answered_card c)) ≡ Some (answered_card c)
-    answered-read c h = (card_is (card_text (answered_card c)) (answered_card c)).1 (answered-fits c h, refl)
 
 -- it is the same shop
 pub completed-shop : (f : Files) (till : ℕ) (c : Card) (img : Image) → IsCompleted f till c img → IsShop img (shop_of f)

@@ -16,3 +16,4 @@ pub mod Tables
 pub mod Search
 pub mod Examples
 pub mod Completions
+pub mod Keepings

@@ -8,3 +8,4 @@ pub mod Growing
 pub mod Found
 pub mod Selecting
 pub mod Completing
+pub mod Keeping

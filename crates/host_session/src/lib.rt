@@ -2,6 +2,7 @@
 #![tactic(auto)]
 
 mod completing;
+mod doing;
 mod faults;
 mod finding;
 mod growing;
