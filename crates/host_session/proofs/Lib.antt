@@ -13,5 +13,6 @@ pub mod Records
 pub mod GrownStock
 pub mod GrowthCounts
 pub mod Tables
+pub mod Decisions
 pub mod Search
 pub mod Examples

@@ -5,5 +5,6 @@ pub mod Handling
 pub mod Standing
 pub mod Putting
 pub mod Growing
+pub mod Deciding
 pub mod Found
 pub mod Selecting

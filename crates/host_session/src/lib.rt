@@ -1,6 +1,7 @@
 //! A shop on a disk: what the disk stands for at each moment, its opening, and its requests.
 #![tactic(auto)]
 
+mod deciding;
 mod faults;
 mod finding;
 mod growing;
