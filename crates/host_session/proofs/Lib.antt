@@ -16,3 +16,5 @@ pub mod Tables
 pub mod Decisions
 pub mod Search
 pub mod Examples
+pub mod Completions
+pub mod Keepings

@@ -8,3 +8,5 @@ pub mod Growing
 pub mod Deciding
 pub mod Found
 pub mod Selecting
+pub mod Completing
+pub mod Keeping

@@ -1,7 +1,9 @@
 //! A shop on a disk: what the disk stands for at each moment, its opening, and its requests.
 #![tactic(auto)]
 
+mod completing;
 mod deciding;
+mod doing;
 mod faults;
 mod finding;
 mod growing;
