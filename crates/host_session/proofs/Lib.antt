@@ -13,6 +13,7 @@ pub mod Records
 pub mod GrownStock
 pub mod GrowthCounts
 pub mod Tables
+pub mod Decisions
 pub mod Search
 pub mod Examples
 pub mod Completions

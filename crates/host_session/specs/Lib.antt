@@ -5,6 +5,7 @@ pub mod Handling
 pub mod Standing
 pub mod Putting
 pub mod Growing
+pub mod Deciding
 pub mod Found
 pub mod Selecting
 pub mod Completing

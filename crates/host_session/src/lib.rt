@@ -2,6 +2,7 @@
 #![tactic(auto)]
 
 mod completing;
+mod deciding;
 mod doing;
 mod faults;
 mod finding;

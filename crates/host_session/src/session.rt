@@ -1,5 +1,6 @@
 //! An open session: the drive over a shop's disk, and what was read of it.
 ghost use Rattle.std.specs.Prelude.{◌≡◌, ◌≤◌, ◌↔◌, IfOk, IfSome, IsErr, Some, false, option_map, true};
+ghost use Rattle.host_session.specs.Deciding.{IsInTable};
 ghost use Rattle.host_session.specs.Handling.{told_of};
 ghost use Rattle.host_session.specs.Selecting.{IsReady};
 ghost use Rattle.host_session.specs.Shop.{IsSettled, IsShop, Shop};
@@ -79,8 +80,9 @@ impl<D: Sectors> Session<D> {
 }
 
 /// The quantity that a table of cards holds for an item.
-fn on_hand(cards: &[Option<u32>; 10160], item: u16) -> Option<u32>
-    ensures { result ≡ nth cards.now item }
+pub(crate) fn on_hand(cards: &[Option<u32>; 10160], item: u16) -> Option<u32>
+    ensures value { result ≡ nth cards.now item }
+    ensures within { IfSome result (λ _. IsInTable item) }
 {
     if item == 0 {
         return None;
@@ -90,7 +92,7 @@ fn on_hand(cards: &[Option<u32>; 10160], item: u16) -> Option<u32>
 }
 
 /// The card that a table of request cards holds for a till.
-fn card_of(requests: &[Option<RequestCard>; 64], till: u8) -> Option<RequestCard>
+pub(crate) fn card_of(requests: &[Option<RequestCard>; 64], till: u8) -> Option<RequestCard>
     ensures value { result ≡ nth requests.now till }
     ensures within { IfSome result (λ _. (1 ≤ till) × (till ≤ 64)) }
 {
@@ -102,7 +104,7 @@ fn card_of(requests: &[Option<RequestCard>; 64], till: u8) -> Option<RequestCard
 }
 
 /// The newest request of a card with its answer, as that of this till.
-fn newest_of(card: &RequestCard, till: u8) -> Option<(Request, Answer)>
+pub(crate) fn newest_of(card: &RequestCard, till: u8) -> Option<(Request, Answer)>
     requires low { 1 ≤ till }
     requires high { till ≤ 64 }
     ensures { result ≡ Some (told_of till card.now.newest) }
