@@ -15,6 +15,7 @@ use Rattle.request_cards.proofs.CardReading.{card_is}
 use Rattle.request_cards.specs.CardReading.{request_card_of}
 use Rattle.request_cards.specs.declared.answer.Answer.{Answer}
 use Rattle.request_cards.specs.declared.answer.Answer.TheVariants as answers
+use Rattle.request_cards.specs.declared.kind.Kind.TheVariants.{Set}
 use Rattle.request_cards.specs.CardTexts.{Card, card_text, is_done}
 use Rattle.request_cards.specs.Ledgers.{Entry, State, applied}
 use Rattle.request_cards.specs.Requests.{Ask, Body}
@@ -183,6 +184,12 @@ module _ (f : Files) (a : Ask) (c : Card) (k : IsKeeping f a c) where
   first-set e none = elim (outcome-there (shop_of f).state.ledger.cards f.top a.body a.body.item (done-item a.body (answer_of (shop_of f) a) (is-done e))) [
     | inl x ↦ absurd (none-not ((shop_of f).state.ledger.cards a.body.item) none x)
     | inr x ↦ (item-low, x.2)
+  ]
+
+  pub first-kind : c.pending ≡ true → is_none ((shop_of f).state.ledger.cards a.body.item) ≡ true → (a.body.kind ≡ Set) × (a.body.item ≤ f.top)
+  first-kind e none = elim (outcome-there (shop_of f).state.ledger.cards f.top a.body a.body.item (done-item a.body (answer_of (shop_of f) a) (is-done e))) [
+    | inl x ↦ absurd (none-not ((shop_of f).state.ledger.cards a.body.item) none x)
+    | inr x ↦ (x.0, x.2)
   ]
 
   -- once STOCK has grown

@@ -18,3 +18,6 @@ pub mod Search
 pub mod Examples
 pub mod Completions
 pub mod Keepings
+pub mod Replies
+pub mod Standings
+pub mod Settled
