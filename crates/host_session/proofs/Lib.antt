@@ -18,3 +18,4 @@ pub mod Search
 pub mod Examples
 pub mod Completions
 pub mod Keepings
+pub mod NextCards
