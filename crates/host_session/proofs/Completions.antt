@@ -156,7 +156,7 @@ completed f till c x fits mid r img has =
     }
 
 -- it is the same shop
-pub completed-shop : (f : Files) (till : ℕ) (c : Card) (img : Image) → IsCompleted f till c img → IsShop img (shop_of f)
+unfoldable pub completed-shop : (f : Files) (till : ℕ) (c : Card) (img : Image) → IsCompleted f till c img → IsShop img (shop_of f)
 completed-shop f till c img k = record {
   files = record f { stock = k.stock; requests = with_record f.requests till (card_text (answered_card c)); blocks = k.blocks };
   has = k.has;

@@ -16,7 +16,7 @@ use Rattle.request_cards.specs.CardReading.{request_card_of}
 use Rattle.request_cards.specs.declared.answer.Answer.{Answer}
 use Rattle.request_cards.specs.declared.answer.Answer.TheVariants as answers
 use Rattle.request_cards.specs.CardTexts.{Card, card_text, is_done}
-use Rattle.request_cards.specs.Ledgers.{Entry, State}
+use Rattle.request_cards.specs.Ledgers.{Entry, State, applied}
 use Rattle.request_cards.specs.Requests.{Ask, Body}
 use Rattle.host_session.specs.Completing.{HasIntent, IsCompleted, answered_card}
 use Rattle.host_session.specs.Files.{Files, HasFiles, record_at, with_record}
@@ -31,7 +31,7 @@ use Rattle.host_session.specs.Selecting.{IsReady}
 use Rattle.host_session.proofs.GrownStock.{grown-ledger, grown-same, grown-shop_moments}
 use Rattle.host_session.proofs.Shops.{HasFiles-one}
 use Rattle.host_session.proofs.Lists.{open_in-answered, open_in-pending, record_at-append, record_at-with_same}
-use Rattle.host_session.proofs.Moments.{card-cards, card-list, card-state, cards-with}
+use Rattle.host_session.proofs.Moments.{card-cards, card-list, card-state, cards-with, with_card}
 use Rattle.host_session.proofs.Outcomes.{card-applied, outcome-there, results-refused}
 use Rattle.host_session.proofs.Steps.{card-record, old-with, step-card_settled, step-request, tills-same}
 
@@ -103,7 +103,7 @@ module _ (f : Files) (a : Ask) (c : Card) (k : IsKeeping f a c) where
   pub open-items : c.pending ≡ true → HasItems f c → HasOpenItems
   open-items e all r d = all r (subst (λ (qs : List (ℕ × ℕ)). Contains (items qs) r) (ap results (open_in-pending c e) ∙ append-nil (results_of c.newest)) d)
 
-  applied-is : _
+  applied-is : with_card (shop_of f).state a.till c (overlaid (results (open_in (Some c))) (shop_of f).state.ledger.cards) ≡ applied f.top (shop_of f).state a
   applied-is = card-applied f.top (shop_of f).state a c k.newest k.second k.pending
 
   -- once the card is written it is the shop after the request

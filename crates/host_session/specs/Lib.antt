@@ -10,3 +10,4 @@ pub mod Found
 pub mod Selecting
 pub mod Completing
 pub mod Keeping
+pub mod Answering

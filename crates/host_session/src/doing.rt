@@ -16,7 +16,11 @@ use drive_channels::{Dead, Drive};
 use request_cards::{Request, RequestCard};
 
 /// Writes the card of an answer that changes no quantity.
-fn put_refusal<D: Sectors>(drive: &mut Drive<D>, request: &Request, card: &RequestCard) -> Result<(), Dead>
+fn put_refusal<D: Sectors>(
+    drive: &mut Drive<D>,
+    request: &Request,
+    card: &RequestCard,
+) -> Result<(), Dead>
     requires ready { IsReady D.history drive.old }
     requires keeping { (f : Files) × HasFiles (D.history.image drive.old.disk) f × IsKeeping f request.now card.now }
     requires refused { card.now.pending ≡ false }
@@ -31,7 +35,11 @@ fn put_refusal<D: Sectors>(drive: &mut Drive<D>, request: &Request, card: &Reque
 }
 
 /// Writes a request's intent, and completes it. The records of its items are there.
-fn put_intent<D: Sectors>(drive: &mut Drive<D>, request: &Request, card: &RequestCard) -> Result<(), Dead>
+fn put_intent<D: Sectors>(
+    drive: &mut Drive<D>,
+    request: &Request,
+    card: &RequestCard,
+) -> Result<(), Dead>
     requires ready { IsReady D.history drive.old }
     requires keeping { (f : Files) × HasFiles (D.history.image drive.old.disk) f × IsKeeping f request.now card.now × HasItems f card.now }
     requires intent { card.now.pending ≡ true }
@@ -48,7 +56,11 @@ fn put_intent<D: Sectors>(drive: &mut Drive<D>, request: &Request, card: &Reques
 }
 
 /// Grows STOCK for the item of a first set, then writes the intent and completes it.
-fn put_first_set<D: Sectors>(drive: &mut Drive<D>, request: &Request, card: &RequestCard) -> Result<(), Dead>
+fn put_first_set<D: Sectors>(
+    drive: &mut Drive<D>,
+    request: &Request,
+    card: &RequestCard,
+) -> Result<(), Dead>
     requires ready { IsReady D.history drive.old }
     requires keeping { (f : Files) × HasFiles (D.history.image drive.old.disk) f × IsKeeping f request.now card.now × (is_none ((shop_of f).state.ledger.cards request.now.body.item) ≡ true) }
     requires intent { card.now.pending ≡ true }

@@ -7,6 +7,7 @@ mod doing;
 mod faults;
 mod finding;
 mod growing;
+mod handling;
 mod laws;
 mod putting;
 mod reading;

@@ -19,9 +19,12 @@ returns-in_err-grow_stock-clause-moments g c = λ f h k.
 pub put_intent-requires-clause-keeping : goal.put_intent-requires-clause-keeping
 put_intent-requires-clause-keeping g c =
     let (f, h, k, none) = c.requires.keeping in
-    let (m, b, has, far) = c.in_ok-grow_stock.ensures.ok f h in
-    (_, has, keeping-grown f c.args.request.now c.args.card.now k m b,
-        grown-items f c.args.request.now c.args.card.now k m b (omega (arith, grown-long f m b c.item.result far, c.item.ensures.value)))
+    let (m, b, has, far) = c.in_ok-grow_stock.ensures.ok f h in (
+      _,
+      has,
+      keeping-grown f c.args.request.now c.args.card.now k m b,
+      grown-items f c.args.request.now c.args.card.now k m b (omega (arith, grown-long f m b c.item.result far, c.item.ensures.value)),
+    )
 
 pub returns-clause-ok : goal.returns-clause-ok
 returns-clause-ok g c = λ f h k.
