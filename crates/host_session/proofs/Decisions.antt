@@ -83,9 +83,10 @@ few-on_card stock k = at (record_at stock k)
     at None = tt
     at (Some bytes) = card bytes (stock_card_of bytes) refl
 
+-- the cards of a shop at rest are those that STOCK holds
+pub settled-cards : (img : Image) (s : Shop) (x : IsSettled img s) → s.state.ledger.cards ≡ quantities x.shop.files.stock
+settled-cards img s x =
+    sym (ap (λ (y : Shop). y.state.ledger.cards) x.shop.is) ∙ ap (λ (cs : List Card). overlaid (results cs) (quantities x.shop.files.stock)) x.no_intent
+
 pub settled-few : (img : Image) (s : Shop) → IsSettled img s → (k : ℕ) → IfSome (s.state.ledger.cards k) (λ q. q ≤ 999999999)
-settled-few img s x k =
-    let f = x.shop.files in
-    let is : s.state.ledger.cards ≡ quantities f.stock
-    = sym (ap (λ (y : Shop). y.state.ledger.cards) x.shop.is) ∙ ap (λ (cs : List Card). overlaid (results cs) (quantities f.stock)) x.no_intent in
-    subst (λ (cards : Cards). IfSome (cards k) (λ q. q ≤ 999999999)) (sym is) (few-on_card f.stock k)
+settled-few img s x k = subst (λ (cards : Cards). IfSome (cards k) (λ q. q ≤ 999999999)) (sym (settled-cards img s x)) (few-on_card x.shop.files.stock k)

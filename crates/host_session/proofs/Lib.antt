@@ -21,3 +21,4 @@ pub mod Keepings
 pub mod Replies
 pub mod Standings
 pub mod Settled
+pub mod NextCards
