@@ -1,7 +1,7 @@
 -- What the writes of a till's next request make of the shop: the one before it, or the one after.
 use Rattle.std.proofs.Common.{ℕ, zero, suc, ◌≡◌, ◌≤◌, ◌<◌, ◌⊎◌, ◌+◌, inl, inr, true, false, Bool, List, [], ◌∷◌, ◌++◌, Ok, Err, Result, Some, length, replicate, refl, sym, ◌∙◌, ap, subst, arith}
 use Rattle.std.specs.Prelude.{Contains, IsSome, OnErr, OnOk, Option, None, slice_get, is_none, is_some, ◌==◌}
-use Rattle.std.proofs.lemmas.Bool.{false≢true}
+use Rattle.std.proofs.lemmas.Bool.{cases_Bool, false≢true}
 use Rattle.std.proofs.lemmas.List.{append-nil}
 use Rattle.d64_image.specs.History.{Changes, History, IfCounted}
 use Rattle.d64_image.specs.Images.{Image}
@@ -26,7 +26,8 @@ use Rattle.host_session.specs.Handling.{card_writes, kept_writes}
 use Rattle.host_session.specs.Keeping.{HasItems, IsEither, IsKeeping, answer_of, shop_after}
 use Rattle.host_session.specs.Putting.{HasAnswer, IsPuttingAnswer}
 use Rattle.host_session.specs.Shop.{IsSettled, IsShop, Shop, any_old, cards_in, items, open_in, overlaid, quantities, results, results_in, results_of, shop_of, with_state}
-use Rattle.host_session.proofs.Completions.{answered-read, completed-shop}
+use Rattle.host_session.proofs.Completions.{answered-read, completed-shop, record-within}
+use Rattle.host_session.proofs.GrowthCounts.{kept-most}
 use Rattle.drive_channels.specs.State.{Seen}
 use Rattle.host_session.specs.Selecting.{IsReady}
 use Rattle.host_session.proofs.GrownStock.{grown-ledger, grown-same, grown-shop_moments}
@@ -218,10 +219,11 @@ module _ (f : Files) (a : Ask) (c : Card) (k : IsKeeping f a c) where
   ]
 
   -- how many sectors are written at most
+  no-results : c.pending ≡ false → results_of c.newest ≡ []
+  no-results e = ap (λ (x : Entry). results_of x) k.newest ∙ results-refused a.body (answer_of (shop_of f) a) (sym k.pending ∙ e)
+
   pub refused-writes : c.pending ≡ false → (stock : File) → 1 ≤ kept_writes stock a.body.item (results_of c.newest)
-  refused-writes e stock =
-      let none : results_of c.newest ≡ [] = ap (λ (x : Entry). results_of x) k.newest ∙ results-refused a.body (answer_of (shop_of f) a) (sym k.pending ∙ e) in
-      omega (arith, ap (kept_writes stock a.body.item) none)
+  refused-writes e stock = omega (arith, ap (kept_writes stock a.body.item) (no-results e))
 
   pub intent-writes : c.pending ≡ true → (stock : File) → growth_writes stock a.body.item + 2 + card_writes (results_of c.newest) ≤ kept_writes stock a.body.item (results_of c.newest)
   intent-writes e stock = omega (
@@ -230,6 +232,20 @@ module _ (f : Files) (a : Ask) (c : Card) (k : IsKeeping f a c) where
     ap (λ (x : Entry). kept_writes stock a.body.item (results_of x)) k.newest,
     done-writes stock a.body.item a.body (answer_of (shop_of f) a) (is-done e),
   )
+
+  -- the item of what is done is up to the top, or its record is there
+  pub item-place : c.pending ≡ true → (a.body.item ≤ f.top) ⊎ (a.body.item ≤ length f.stock)
+  item-place e = elim (outcome-there (shop_of f).state.ledger.cards f.top a.body a.body.item (done-item a.body (answer_of (shop_of f) a) (is-done e))) [
+    | inl x ↦ inr (record-within f.stock a.body.item (card-there a.body.item x)).1
+    | inr x ↦ inl x.2
+  ]
+
+  pub kept-within : (img : Image) (h : HasFiles img f) → kept_writes h.stock_file a.body.item (results_of c.newest) ≤ 7196
+  kept-within img h = elim (cases_Bool c.pending) [
+    | inl e ↦ omega (arith, ap (λ (x : Entry). kept_writes h.stock_file a.body.item (results_of x)) k.newest,
+        kept-most img f h a.body.item a.body (answer_of (shop_of f) a) (item-place e))
+    | inr e ↦ omega (arith, ap (kept_writes h.stock_file a.body.item) (no-results e))
+  ]
 
 -- the till and the text of the card, as they stand in a call
 module _ (f : Files) (a : Ask) (c : Card) (t : ℕ) (text : List ℕ) (at : t ≡ a.till) (is : text ≡ card_text c) where

@@ -22,3 +22,4 @@ pub mod Replies
 pub mod Standings
 pub mod Settled
 pub mod NextCards
+pub mod Answered

@@ -21,7 +21,7 @@ use Rattle.host_session.specs.Handling.{MayGrow, is_first_set, kept_writes, most
 use Rattle.host_session.specs.Keeping.{IsEither, IsKeeping, answer_of, shop_after}
 use Rattle.host_session.specs.Shop.{IsSettled, IsShop, Shop, results_in, results_of, shop_of, start_of, with_state}
 use Rattle.host_session.specs.Standing.{IsStanding, View}
-use Rattle.host_session.proofs.Keepings.{first-kind}
+use Rattle.host_session.proofs.Keepings.{first-kind, kept-within}
 use Rattle.host_session.proofs.Shops.{HasFiles-one, IsShop-one}
 
 -- a kept answer is another word than MEDIA
@@ -95,24 +95,21 @@ pub record IsKept {D E : Type 0} (S : History D) (old new : D) (f : Files) (a : 
   pub refused : c.pending ≡ false → IfCounted S old new (λ i. IsShop i (shop_after (shop_of f) a))
   pub failures : TellsFailure S old new res
 
-module _ {D E : Type 0} (S : History D) (x y : View D) (f : Files) (h : HasFiles (S.image x.disk) f) (a : Ask) (fresh : Bool) (c : Card) (k : IsKeeping f a c)
+module _ {D : Type 0} (S : History D) (x y : View D) (f : Files) (h : HasFiles (S.image x.disk) f) (a : Ask) (fresh : Bool) (c : Card) (k : IsKeeping f a c)
     (is : fresh ≡ is_none ((shop_of f).state.ledger.cards a.body.item)) (next : next_in (start_of (shop_of f)) (shop_of f).state a ≡ true) where
-  s : Shop
-  s = shop_of f
-
   here : IsShop (S.image x.disk) (shop_of f)
   here = record { files = f; has = h; records = k.records; is = refl }
 
   ends : shop_after (shop_of f) a ≡ after_ask (shop_of f) a
   ends = after-next (shop_of f) a next
 
-  told-moments : {res : Result (Unit {0}) E} → IsKept S x.disk y.disk f a fresh c res → kept_writes h.stock_file a.body.item (results_of c.newest) ≤ 7196
+  told-moments : {E : Type 0} {res : Result (Unit {0}) E} → IsKept S x.disk y.disk f a fresh c res
       → (t : Shop) → IsShop (S.image x.disk) t → Changes S x.disk y.disk 7196 (λ i. IsShop i t ⊎ IsShop i (after_ask t a))
-  told-moments w few = of-shop (S.image x.disk) (shop_of f) (λ (t : Shop). Changes S x.disk y.disk 7196 (λ i. IsShop i t ⊎ IsShop i (after_ask t a))) here
-      (changes_weaker S x.disk y.disk _ 7196 (IsEither (shop_of f) a) (λ i. IsShop i (shop_of f) ⊎ IsShop i (after_ask (shop_of f) a)) few
+  told-moments w = of-shop (S.image x.disk) (shop_of f) (λ (t : Shop). Changes S x.disk y.disk 7196 (λ i. IsShop i t ⊎ IsShop i (after_ask t a))) here
+      (changes_weaker S x.disk y.disk _ 7196 (IsEither (shop_of f) a) (λ i. IsShop i (shop_of f) ⊎ IsShop i (after_ask (shop_of f) a)) (kept-within f a c k (S.image x.disk) h)
       (λ i e. subst (λ (u : Shop). IsShop i (shop_of f) ⊎ IsShop i u) ends e) (w.moments h))
 
-  told-writes : {res : Result (Unit {0}) E} → ((g : Files) (h' : HasFiles (S.image x.disk) g) → IsKeeping g a c → Changes S x.disk y.disk (kept_writes h'.stock_file a.body.item (results_of c.newest)) (IsEither (shop_of g) a))
+  told-writes : ((g : Files) (h' : HasFiles (S.image x.disk) g) → IsKeeping g a c → Changes S x.disk y.disk (kept_writes h'.stock_file a.body.item (results_of c.newest)) (IsEither (shop_of g) a))
       → (g : Files) → (h' : HasFiles (S.image x.disk) g) → S.writes y.disk ≤ S.writes x.disk + most_writes (shop_of g) h'.stock_file (Some a)
   told-writes all g h' =
       let same : f ≡ g = HasFiles-one (S.image x.disk) f g h h' in
@@ -124,26 +121,26 @@ module _ {D E : Type 0} (S : History D) (x y : View D) (f : Files) (h : HasFiles
       omega (arith, (all g h' k').writes, most)
 
   grows : c.pending ≡ true → fresh ≡ true → MayGrow (shop_of f) (Some a)
-  grows open new =
-      let kind = first-kind f a c k open (sym is ∙ new) in
+  grows intent new =
+      let kind = first-kind f a c k intent (sym is ∙ new) in
       and_from (same_kind a.body.kind Set) _ (ap (λ (z : Kind). same_kind z Set) kind.0)
       (and_from (nat_le a.body.item f.top) _ (le-leb a.body.item f.top kind.1) (sym is ∙ new))
 
-  told-counted : {res : Result (Unit {0}) E} → IsKept S x.disk y.disk f a fresh c res → (t : Shop) → IsShop (S.image x.disk) t → S.writes x.disk < S.writes y.disk
+  told-counted : {E : Type 0} {res : Result (Unit {0}) E} → IsKept S x.disk y.disk f a fresh c res → (t : Shop) → IsShop (S.image x.disk) t → S.writes x.disk < S.writes y.disk
       → MayGrow t (Some a) ⊎ IsShop (S.image y.disk) (after_ask t a)
   told-counted w = of-shop (S.image x.disk) (shop_of f) (λ (t : Shop). S.writes x.disk < S.writes y.disk → MayGrow t (Some a) ⊎ IsShop (S.image y.disk) (after_ask t a)) here
       (λ lt. subst (λ (u : Shop). MayGrow (shop_of f) (Some a) ⊎ IsShop (S.image y.disk) u) ends (by lt (cases_Bool c.pending) (cases_Bool fresh)))
     where
       by : S.writes x.disk < S.writes y.disk → (c.pending ≡ true) ⊎ (c.pending ≡ false) → (fresh ≡ true) ⊎ (fresh ≡ false) → MayGrow (shop_of f) (Some a) ⊎ IsShop (S.image y.disk) (shop_after (shop_of f) a)
       by lt (inr closed) n = inr (w.refused closed lt)
-      by lt (inl open) (inr old) = inr (w.counted old lt)
-      by lt (inl open) (inl new) = inl (grows open new)
+      by lt (inl intent) (inr old) = inr (w.counted old lt)
+      by lt (inl intent) (inl new) = inl (grows intent new)
 
   -- the two ends of it
-  pub told-ok : (w : IsKept S x.disk y.disk f a fresh c (Ok tt)) → kept_writes h.stock_file a.body.item (results_of c.newest) ≤ 7196
+  pub told-ok : {E : Type 0} (u : Unit {0}) (w : IsKept {E = E} S x.disk y.disk f a fresh c (Ok u))
       → ((g : Files) (h' : HasFiles (S.image x.disk) g) → IsKeeping g a c → Changes S x.disk y.disk (kept_writes h'.stock_file a.body.item (results_of c.newest)) (IsEither (shop_of g) a))
       → y.dead ≡ false → (answer : Answer) → answer ≡ answer_of (shop_of f) a → IsAnswered S x y a (words.Kept answer)
-  told-ok w few all alive answer is_answer = record {
+  told-ok u w all alive answer is_answer = record {
     reply = λ t it other. of-shop (S.image x.disk) (shop_of f)
         (λ (u : Shop). (words.Kept answer ≡ word_in (start_of u) u.state a) × IsSettled (S.image y.disk) (after_ask u a) × (y.dead ≡ false)) here
         (
@@ -151,18 +148,18 @@ module _ {D E : Type 0} (S : History D) (x y : View D) (f : Files) (h : HasFiles
           subst (λ (u : Shop). IsSettled (S.image y.disk) u) ends w.ok,
           alive,
         ) t it;
-    moments = told-moments w few;
+    moments = told-moments w;
     writes = told-writes all;
     counted = told-counted w;
     failures = inr (kept-other answer, w.failures);
   }
 
-  pub told-dead : (fault : E) (w : IsKept S x.disk y.disk f a fresh c (Err fault)) → kept_writes h.stock_file a.body.item (results_of c.newest) ≤ 7196
+  pub told-dead : {E : Type 0} (fault : E) (w : IsKept S x.disk y.disk f a fresh c (Err fault))
       → ((g : Files) (h' : HasFiles (S.image x.disk) g) → IsKeeping g a c → Changes S x.disk y.disk (kept_writes h'.stock_file a.body.item (results_of c.newest)) (IsEither (shop_of g) a))
       → y.dead ≡ true → IsAnswered S x y a words.Media
-  told-dead fault w few all dead = record {
+  told-dead fault w all dead = record {
     reply = λ t it other. absurd (other refl);
-    moments = told-moments w few;
+    moments = told-moments w;
     writes = told-writes all;
     counted = told-counted w;
     failures = inl (refl, dead, w.failures);

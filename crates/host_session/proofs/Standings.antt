@@ -30,7 +30,7 @@ module _ (img : Image) (dead : Bool) (top tills : ℕ) (cards : List (Option ℕ
     standing-answer o is = ap (λ (x : Outcome). x.answer) is ∙ (λ i. (traded ((state i).ledger.cards) (v.top_is i) a.body).answer)
 
     pub standing-entry : (o : Outcome) → o ≡ traded (nth cards) top a.body → IsEntry (entry_of (a, o.answer))
-    standing-entry o is = subst (λ (x : Answer). IsEntry (entry_of (a, x))) (sym (standing-answer o is)) (next-entry img v.shop (v.settled alive) a ask next)
+    standing-entry o is = subst (λ (x : Answer). IsEntry (entry_of (a, x))) (sym (standing-answer o is)) (next-entry img v.shop (v.settled alive) a ask)
 
     -- the till's next card is to be kept
     pub standing-keeping : (o : Outcome) → o ≡ traded (nth cards) top a.body → (c : Card) → c ≡ card_with (nth requests a.till) a o.answer

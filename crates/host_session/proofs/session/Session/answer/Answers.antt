@@ -1,41 +1,67 @@
-use Rattle.std.proofs.Common.{rules, ◌≡◌, ◌<◌, ◌≤◌, ◌+◌, ◌⊎◌, None, false, option_to_list, true, ℕ, ◌-◌, ◌*◌, length, ◌/◌, ◌%◌, Bool, nat_eq, nat_lt, List, [], ◌∷◌, ◌++◌, slice_index_or, slice_set, bit_and, bit_or, Fits, w8, w32, w64, Bor, MutBor}
-use Rattle.d64_image.specs.History.{Changes, Failed}
-use Rattle.host_session.specs.Answering.{IsAnswered}
-use Rattle.host_session.specs.Files.{Files, HasFiles}
-use Rattle.host_session.specs.Handling.{IsBeforeOrAfter, IsMedia, MayGrow, after_of, is_next_request, media, most_writes}
-use Rattle.host_session.specs.Shop.{IsSettled, IsShop, Shop, shop_of, start_of}
-use Rattle.request_cards.specs.Ledgers.{next_in, reply_in, word_in}
-use Rattle.request_cards.specs.Reading.{request_of}
-use Rattle.request_cards.specs.Sums.{SumsAgree}
-use Rattle.request_cards.specs.Requests.{IsAsk}
-use Rattle.request_cards.specs.declared.reply.Reply.TheVariants.{Syntax}
-use Rattle.request_cards.specs.declared.reply.Word.TheVariants.{Media}
+-- The tables stand for the shop: so the card is the till's next one, and the tables after it stand for the shop after it.
+use Rattle.std.proofs.Common.{ap, refl, sym, ◌∙◌, false, true}
+use Rattle.std.proofs.lemmas.Bool.{false≢true}
+use Rattle.host_session.specs.Standing.{nth}
+use Rattle.host_session.proofs.Answered.{answers-after, answers-dead, asked-none, known-entry, known-keeping, known-number, ready-after, stands-after, stands-dead}
 use Rattle.host_session.proofs.session.Session.answer.Goals as goal
 
--- src/handling.rt:93:20
 pub next_card-card-requires-clause-entry : goal.next_card-card-requires-clause-entry
-next_card-card-requires-clause-entry g c = ?
+next_card-card-requires-clause-entry g c =
+    known-entry g.D.Sectors.history c.self.inside.drive.disk c.args.self.now c.self.inside.dead c.self.inside.top c.self.inside.tills c.self.inside.cards c.self.inside.requests
+    c.self.view_is c.self.invariant.0 c.args.request.now c.requires.ask c.requires.alive c.requires.next c.decided-outcome.result c.decided-outcome.ensures.rule
 
--- src/handling.rt:93:20
 pub next_card-card-requires-clause-next : goal.next_card-card-requires-clause-next
-next_card-card-requires-clause-next g c = ?
+next_card-card-requires-clause-next g c =
+    known-number g.D.Sectors.history c.self.inside.drive.disk c.args.self.now c.self.inside.dead c.self.inside.top c.self.inside.tills c.self.inside.cards c.self.inside.requests
+    c.self.view_is c.self.invariant.0 c.args.request.now c.requires.ask c.requires.alive c.requires.next
 
--- src/handling.rt:95:22
 pub keep-requires-clause-keeping : goal.keep-requires-clause-keeping
-keep-requires-clause-keeping g c = ?
+keep-requires-clause-keeping g c =
+    known-keeping g.D.Sectors.history c.self.inside.drive.disk c.args.self.now c.self.inside.dead c.self.inside.top c.self.inside.tills c.self.inside.cards c.self.inside.requests
+    c.self.view_is c.self.invariant.0 c.args.request.now c.requires.ask c.requires.alive c.requires.next c.decided-outcome.result c.decided-outcome.ensures.rule
+    c.next_card-card.result c.next_card-card.ensures c.is_none-is_new.result
+    (asked-none c.on_hand.result _ c.is_none-is_new.result (c.on_hand.ensures.value ∙ ap (nth c.self.inside.cards) c.item.ensures.value) c.is_none-is_new.ensures)
 
--- src/handling.rt:97:13
 pub invariant_of-self : goal.invariant_of-self
-invariant_of-self g c = ?
+invariant_of-self g c = (
+  stands-dead g.D.Sectors.history c.self.inside.drive.disk c.args.self.now c.self.inside.dead c.self.inside.top c.self.inside.tills c.self.inside.cards c.self.inside.requests
+  c.self.view_is c.self.invariant.0 c.args.request.now c.requires.ask c.requires.alive c.requires.next c.decided-outcome.result c.decided-outcome.ensures.rule
+  c.next_card-card.result c.next_card-card.ensures c.is_none-is_new.result
+  (asked-none c.on_hand.result _ c.is_none-is_new.result (c.on_hand.ensures.value ∙ ap (nth c.self.inside.cards) c.item.ensures.value) c.is_none-is_new.ensures)
+  c.keep.new.drive c.keep.result c.keep.ensures.ready c.keep.ensures.ok c.keep.ensures.moments c.keep.ensures.counted c.keep.ensures.refused c.keep.ensures.failures _,
+  λ e. absurd (false≢true (sym e)),
+)
 
--- src/handling.rt:97:13
 pub returns-in_default : goal.returns-in_default
-returns-in_default g c = ?
+returns-in_default g c =
+    answers-dead g.D.Sectors.history c.self.inside.drive.disk c.args.self.now c.self.inside.dead c.self.inside.top c.self.inside.tills c.self.inside.cards c.self.inside.requests
+    c.self.view_is c.self.invariant.0 c.args.request.now c.requires.ask c.requires.alive c.requires.next c.decided-outcome.result c.decided-outcome.ensures.rule
+    c.next_card-card.result c.next_card-card.ensures c.is_none-is_new.result
+    (asked-none c.on_hand.result _ c.is_none-is_new.result (c.on_hand.ensures.value ∙ ap (nth c.self.inside.cards) c.item.ensures.value) c.is_none-is_new.ensures)
+    c.keep.new.drive c.keep.result c.keep.ensures.ready c.keep.ensures.ok c.keep.ensures.moments c.keep.ensures.counted c.keep.ensures.refused c.keep.ensures.failures
+    c.in_default.field-0 c.in_default.is
 
--- src/handling.rt:86:5
 pub invariant_of-self-2 : goal.invariant_of-self-2
-invariant_of-self-2 g c = ?
+invariant_of-self-2 g c = (
+  stands-after g.D.Sectors.history c.self.inside.drive.disk c.args.self.now c.self.inside.dead c.self.inside.top c.self.inside.tills c.self.inside.cards c.self.inside.requests
+  c.self.view_is c.self.invariant.0 c.args.request.now c.requires.ask c.requires.alive c.requires.next c.decided-outcome.result c.decided-outcome.ensures.rule
+  c.next_card-card.result c.next_card-card.ensures c.is_none-is_new.result
+  (asked-none c.on_hand.result _ c.is_none-is_new.result (c.on_hand.ensures.value ∙ ap (nth c.self.inside.cards) c.item.ensures.value) c.is_none-is_new.ensures)
+  c.keep.new.drive c.keep.result c.keep.ensures.ready c.keep.ensures.ok c.keep.ensures.moments c.keep.ensures.counted c.keep.ensures.refused c.keep.ensures.failures
+  c.in-Ok.field-0 c.in-Ok.is c.answered.result c.answered.ensures _ _ c.renew.ensures,
+  λ _. ready-after g.D.Sectors.history c.self.inside.drive.disk c.args.self.now c.self.inside.dead c.self.inside.top c.self.inside.tills c.self.inside.cards c.self.inside.requests
+      c.self.view_is c.self.invariant.0 c.args.request.now c.requires.ask c.requires.alive c.requires.next c.decided-outcome.result c.decided-outcome.ensures.rule
+      c.next_card-card.result c.next_card-card.ensures c.is_none-is_new.result
+      (asked-none c.on_hand.result _ c.is_none-is_new.result (c.on_hand.ensures.value ∙ ap (nth c.self.inside.cards) c.item.ensures.value) c.is_none-is_new.ensures)
+      c.keep.new.drive c.keep.result c.keep.ensures.ready c.keep.ensures.ok c.keep.ensures.moments c.keep.ensures.counted c.keep.ensures.refused c.keep.ensures.failures
+      c.in-Ok.field-0 c.in-Ok.is,
+)
 
--- src/handling.rt:86:5
 pub returns : goal.returns
-returns g c = ?
+returns g c =
+    answers-after g.D.Sectors.history c.self.inside.drive.disk c.args.self.now c.self.inside.dead c.self.inside.top c.self.inside.tills c.self.inside.cards c.self.inside.requests
+    c.self.view_is c.self.invariant.0 c.args.request.now c.requires.ask c.requires.alive c.requires.next c.decided-outcome.result c.decided-outcome.ensures.rule
+    c.next_card-card.result c.next_card-card.ensures c.is_none-is_new.result
+    (asked-none c.on_hand.result _ c.is_none-is_new.result (c.on_hand.ensures.value ∙ ap (nth c.self.inside.cards) c.item.ensures.value) c.is_none-is_new.ensures)
+    c.keep.new.drive c.keep.result c.keep.ensures.ready c.keep.ensures.ok c.keep.ensures.moments c.keep.ensures.counted c.keep.ensures.refused c.keep.ensures.failures
+    c.in-Ok.field-0 c.in-Ok.is
