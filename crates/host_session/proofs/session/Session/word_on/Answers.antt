@@ -13,7 +13,7 @@ answer-requires-clause-next g c =
 pub returns-in-Settled-clause-quiet : goal.returns-in-Settled-clause-quiet
 returns-in-Settled-clause-quiet g c = λ s h alive other. (
   told-word g.D.Sectors.history c.args.self.now _ (sym (ap (λ (v : View _). g.D.Sectors.history.image v.disk) c.self.view_is)) c.self.inside.dead c.self.inside.top c.self.inside.tills
-  c.self.inside.cards c.self.inside.requests c.self.invariant.0 c.if-self.false c.args.request.now c.in-Settled.word (sym c.standing_by.ensures ∙ c.in-Settled.is) s h,
+      c.self.inside.cards c.self.inside.requests c.self.invariant.0 c.if-self.false c.args.request.now c.in-Settled.word (sym c.standing_by.ensures ∙ c.in-Settled.is) s h,
   refl,
 )
 
