@@ -1,5 +1,5 @@
 -- A session answers its till's next request: what its tables know of it, and what it stands on once the drive has kept it.
-use Rattle.std.proofs.Common.{ℕ, ◌≡◌, ◌≤◌, ◌⊎◌, ◌+◌, inl, inr, true, false, Bool, List, None, Option, Some, Ok, Err, Result, refl, sym, ◌∙◌, ap, subst, arith}
+use Rattle.std.proofs.Common.{ℕ, ◌≡◌, ◌+◌, true, false, Bool, List, None, Option, Some, Ok, Err, Result, refl, sym, ◌∙◌, ap, subst}
 use Rattle.std.specs.Prelude.{OnOk, is_none, is_some, nat_le, not, ◌==◌}
 use Rattle.std.proofs.lemmas.Bool.{and_parts, eqb-true, false≢true}
 use Rattle.d64_image.specs.History.{Changes, History, IfCounted, TellsFailure}

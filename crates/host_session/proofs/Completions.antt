@@ -1,5 +1,5 @@
 -- What the writes of a completed intent make of the files: the same shop at each moment.
-use Rattle.std.proofs.Common.{ℕ, zero, suc, ◌≡◌, ◌≢◌, ◌≤◌, ◌⊎◌, ◌+◌, inl, inr, true, false, List, [], ◌∷◌, Ok, Err, Result, Some, length, refl, sym, ◌∙◌, ap, subst, arith}
+use Rattle.std.proofs.Common.{ℕ, zero, suc, ◌≡◌, ◌≢◌, ◌≤◌, ◌+◌, inl, inr, false, List, [], ◌∷◌, Ok, Err, Result, Some, length, refl, sym, ◌∙◌, ap, subst, arith}
 use Rattle.std.specs.Prelude.{Bool, Contains, IfSome, IsSome, IsTrue, OnOk, Option, None, slice_get, is_some, nat_le, not, ◌==◌, ◌&&◌, if◌then◌else◌}
 use Rattle.std.specs.List.{AllByRecursion}
 use Rattle.std.proofs.lemmas.Bool.{and_parts, eqb-false, false≢true, leb-true, not-true}
@@ -20,9 +20,9 @@ use Rattle.request_cards.specs.Requests.{may_go_to, same_kind, to_of}
 use Rattle.request_cards.specs.CardTexts.{Card, IsCard, IsEntry, IsStock, Stock, answer_quantity, answer_to_quantity, card_text, goes_with, is_done, stock_text}
 use Rattle.host_session.specs.Handling.{card_writes}
 use Rattle.host_session.specs.Completing.{HasIntent, HasResults, IsCompleted, answered_card}
-use Rattle.host_session.specs.Files.{Files, HasFiles, record_at, with_record}
+use Rattle.host_session.specs.Files.{Files, record_at, with_record}
 use Rattle.host_session.specs.Putting.{HasAnswer, HasCard, IsPuttingAnswer, IsPuttingCard, with_card}
-use Rattle.host_session.specs.Shop.{AreLedgerRecords, IsIntended, IsShop, Shop, cards_in, intents, items, open_in, quantities, results, results_in, results_of, shop_of, state_of}
+use Rattle.host_session.specs.Shop.{IsIntended, IsShop, Shop, cards_in, intents, items, open_in, quantities, results, results_in, results_of, shop_of}
 use Rattle.host_session.proofs.Lists.{intents-open, length-with, open_in-pending, record_at-map_take, record_at-with_some}
 use Rattle.host_session.proofs.Moments.{answered-cards, answered-intents, answered-state, excused-cards, excused-state}
 use Rattle.host_session.proofs.Steps.{quantity-other, quantity-written, step-excused, tills-same}

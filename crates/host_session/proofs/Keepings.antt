@@ -1,6 +1,6 @@
 -- What the writes of a till's next request make of the shop: the one before it, or the one after.
-use Rattle.std.proofs.Common.{ℕ, zero, suc, ◌≡◌, ◌≤◌, ◌<◌, ◌⊎◌, ◌+◌, inl, inr, true, false, Bool, List, [], ◌∷◌, ◌++◌, Ok, Err, Result, Some, length, replicate, refl, sym, ◌∙◌, ap, subst, arith}
-use Rattle.std.specs.Prelude.{Contains, IsSome, OnErr, OnOk, Option, None, slice_get, is_none, is_some, ◌==◌}
+use Rattle.std.proofs.Common.{ℕ, zero, suc, ◌≡◌, ◌≤◌, ◌⊎◌, ◌+◌, inl, inr, true, false, List, [], ◌∷◌, ◌++◌, Ok, Err, Result, Some, length, replicate, refl, sym, ◌∙◌, ap, subst, arith}
+use Rattle.std.specs.Prelude.{Contains, IsSome, OnErr, OnOk, Option, None, is_none, is_some, ◌==◌}
 use Rattle.std.proofs.lemmas.Bool.{cases_Bool, false≢true}
 use Rattle.std.proofs.lemmas.List.{append-nil}
 use Rattle.d64_image.specs.History.{Changes, History, IfCounted}
@@ -242,8 +242,11 @@ module _ (f : Files) (a : Ask) (c : Card) (k : IsKeeping f a c) where
 
   pub kept-within : (img : Image) (h : HasFiles img f) → kept_writes h.stock_file a.body.item (results_of c.newest) ≤ 7196
   kept-within img h = elim (cases_Bool c.pending) [
-    | inl e ↦ omega (arith, ap (λ (x : Entry). kept_writes h.stock_file a.body.item (results_of x)) k.newest,
-        kept-most img f h a.body.item a.body (answer_of (shop_of f) a) (item-place e))
+    | inl e ↦ omega (
+      arith,
+      ap (λ (x : Entry). kept_writes h.stock_file a.body.item (results_of x)) k.newest,
+      kept-most img f h a.body.item a.body (answer_of (shop_of f) a) (item-place e),
+    )
     | inr e ↦ omega (arith, ap (kept_writes h.stock_file a.body.item) (no-results e))
   ]
 

@@ -1,26 +1,25 @@
 -- What a session that isn't dead has told of a request, once the drive has kept it or failed.
-use Rattle.std.proofs.Common.{ℕ, ◌≡◌, ◌≢◌, ◌≤◌, ◌<◌, ◌⊎◌, ◌+◌, inl, inr, true, false, Bool, List, [], Ok, Err, Result, Some, refl, sym, ◌∙◌, ap, subst, arith}
-use Rattle.std.specs.Prelude.{IsSome, OnErr, OnOk, None, Option, is_none, nat_le, nat_lt, ◌&&◌, ◌==◌, if◌then◌else◌}
+use Rattle.std.proofs.Common.{◌≡◌, ◌≢◌, ◌≤◌, ◌<◌, ◌⊎◌, ◌+◌, inl, inr, true, false, Bool, Ok, Err, Result, Some, refl, sym, ◌∙◌, ap, subst, arith}
+use Rattle.std.specs.Prelude.{OnOk, None, Option, is_none, nat_le, nat_lt, ◌==◌, if◌then◌else◌}
 use Rattle.std.proofs.lemmas.Bool.{and_from, and_parts, cases_Bool, eq-eqb, eqb-false, eqb-true, false≢true, le-leb, le-ltb, leb-true, ltb-false, ne_eqb}
-use Rattle.d64_image.specs.History.{Changes, Failed, History, IfCounted, TellsFailure}
+use Rattle.d64_image.specs.History.{Changes, History, IfCounted, TellsFailure}
 use Rattle.d64_image.specs.Images.{Image}
-use Rattle.d64_image.proofs.Moments.{at_end, changes_weaker}
+use Rattle.d64_image.proofs.Moments.{changes_weaker}
 use Rattle.request_cards.specs.declared.answer.Answer.{Answer}
 use Rattle.request_cards.specs.declared.kind.Kind.{Kind}
 use Rattle.request_cards.specs.declared.kind.Kind.TheVariants.{Set}
 use Rattle.request_cards.specs.declared.reply.Word.{Word}
 use Rattle.request_cards.specs.declared.reply.Word.TheVariants as words
 use Rattle.request_cards.specs.CardTexts.{Card}
-use Rattle.request_cards.specs.declared.standing.Standing.{Standing}
 use Rattle.request_cards.specs.declared.standing.Standing.TheVariants.{New, Settled}
-use Rattle.request_cards.specs.Ledgers.{Entry, Start, State, after, applied, is_new, next_in, number_of, standing, standing_at, told_again, told_late, word_in, word_on}
+use Rattle.request_cards.specs.Ledgers.{Entry, Start, State, applied, is_new, next_in, number_of, standing, standing_at, told_again, told_late, word_in, word_on}
 use Rattle.request_cards.specs.Requests.{Ask, same_kind}
 use Rattle.host_session.specs.Answering.{IsAnswered, after_ask}
 use Rattle.host_session.specs.Files.{Files, HasFiles}
-use Rattle.host_session.specs.Handling.{MayGrow, is_first_set, kept_writes, most_writes}
+use Rattle.host_session.specs.Handling.{MayGrow, kept_writes, most_writes}
 use Rattle.host_session.specs.Keeping.{IsEither, IsKeeping, answer_of, shop_after}
 use Rattle.host_session.specs.Shop.{IsSettled, IsShop, Shop, results_in, results_of, shop_of, start_of, with_state}
-use Rattle.host_session.specs.Standing.{IsStanding, View}
+use Rattle.host_session.specs.Standing.{View}
 use Rattle.host_session.proofs.Keepings.{first-kind, kept-within}
 use Rattle.host_session.proofs.Shops.{HasFiles-one, IsShop-one}
 
@@ -142,8 +141,7 @@ module _ {D : Type 0} (S : History D) (x y : View D) (f : Files) (h : HasFiles (
       → y.dead ≡ false → (answer : Answer) → answer ≡ answer_of (shop_of f) a → IsAnswered S x y a (words.Kept answer)
   told-ok u w all alive answer is_answer = record {
     reply = λ t it other. of-shop (S.image x.disk) (shop_of f)
-        (λ (u : Shop). (words.Kept answer ≡ word_in (start_of u) u.state a) × IsSettled (S.image y.disk) (after_ask u a) × (y.dead ≡ false)) here
-        (
+        (λ (u : Shop). (words.Kept answer ≡ word_in (start_of u) u.state a) × IsSettled (S.image y.disk) (after_ask u a) × (y.dead ≡ false)) here (
           ap words.Kept is_answer ∙ sym (ap (λ st. word_on st (answer_of (shop_of f) a)) (next-new (start_of (shop_of f)) (shop_of f).state a next)),
           subst (λ (u : Shop). IsSettled (S.image y.disk) u) ends w.ok,
           alive,

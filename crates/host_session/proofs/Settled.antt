@@ -2,24 +2,20 @@
 use Rattle.std.proofs.Common.{ℕ, ◌≡◌, ◌≢◌, ◌≤◌, ◌⊎◌, ◌+◌, inl, inr, true, false, Bool, List, None, Option, Some, refl, sym, ◌∙◌, ap, subst, arith}
 use Rattle.std.specs.Prelude.{nat_lt, ◌==◌, if◌then◌else◌}
 use Rattle.std.proofs.lemmas.Bool.{cases_Bool, cond_both, false≢true}
-use Rattle.d64_image.specs.History.{Changes, History}
+use Rattle.d64_image.specs.History.{History}
 use Rattle.d64_image.specs.Images.{Image}
 use Rattle.d64_image.proofs.Moments.{changes_weaker, no_change}
-use Rattle.request_cards.specs.declared.answer.Answer.{Answer}
 use Rattle.request_cards.specs.declared.reply.Word.{Word}
 use Rattle.request_cards.specs.declared.reply.Word.TheVariants as words
 use Rattle.request_cards.specs.declared.standing.Standing.{Standing}
 use Rattle.request_cards.specs.declared.standing.Standing.TheVariants.{New, Settled}
 use Rattle.request_cards.specs.CardTexts.{Card}
-use Rattle.request_cards.specs.Ledgers.{Entry, Start, State, after, applied, next_in, number_of, standing, standing_at, told_again, told_late, word_in, word_on}
+use Rattle.request_cards.specs.Ledgers.{Entry, Start, State, applied, next_in, standing, standing_at, told_again, told_late, word_in, word_on}
 use Rattle.request_cards.specs.Requests.{Ask, same_body}
 use Rattle.request_cards.specs.Trade.{outcome}
 use Rattle.host_session.specs.Answering.{IsAnswered, after_ask}
 use Rattle.host_session.specs.Deciding.{newest_in, second_in}
-use Rattle.host_session.specs.Files.{Files, HasFiles}
-use Rattle.host_session.specs.Handling.{MayGrow, most_writes}
-use Rattle.host_session.specs.Keeping.{shop_after}
-use Rattle.host_session.specs.Shop.{IsSettled, IsShop, Shop, shop_of, start_of, with_state}
+use Rattle.host_session.specs.Shop.{IsSettled, IsShop, Shop, start_of, with_state}
 use Rattle.host_session.specs.Standing.{IsStanding, View, nth, state_in}
 use Rattle.host_session.proofs.Replies.{new-next, next-new}
 use Rattle.host_session.proofs.Shops.{standing-settled, standing-state, standing-tills}

@@ -1,16 +1,16 @@
 -- What a session knows of its till's next request, and what it stands on once that is answered.
-use Rattle.std.proofs.Common.{ℕ, ◌≡◌, ◌≤◌, ◌⊎◌, inl, inr, true, false, Bool, List, Option, refl, sym, ◌∙◌, ap, subst, arith}
+use Rattle.std.proofs.Common.{ℕ, ◌≡◌, ◌≤◌, inl, inr, true, false, Bool, List, Option, sym, ◌∙◌, ap, subst, arith}
 use Rattle.std.proofs.lemmas.Bool.{false≢true}
 use Rattle.d64_image.specs.Images.{Image}
 use Rattle.request_cards.specs.declared.answer.Answer.{Answer}
 use Rattle.request_cards.specs.declared.decision.Outcome.{Outcome}
 use Rattle.request_cards.specs.CardTexts.{Card, IsEntry, is_done}
-use Rattle.request_cards.specs.Ledgers.{State, applied, entry_of, next_in, number_of}
+use Rattle.request_cards.specs.Ledgers.{State, applied, entry_of, next_in}
 use Rattle.request_cards.specs.Requests.{Ask, IsAsk}
-use Rattle.host_session.specs.Deciding.{card_with, newest_in, renewed, traded}
+use Rattle.host_session.specs.Deciding.{card_with, renewed, traded}
 use Rattle.host_session.specs.Files.{Files, HasFiles}
 use Rattle.host_session.specs.Keeping.{IsEither, IsKeeping, answer_of, shop_after}
-use Rattle.host_session.specs.Shop.{IsSettled, IsShop, Shop, shop_of, start_of}
+use Rattle.host_session.specs.Shop.{IsSettled, Shop, shop_of, start_of}
 use Rattle.host_session.specs.Standing.{IsStanding, nth, state_in}
 use Rattle.host_session.proofs.Decisions.{renewed-applied, top-in_table}
 use Rattle.host_session.proofs.NextCards.{keeping-next, next-entry}

@@ -1,5 +1,5 @@
 -- A till's next request, as it is kept on the disk. All of it is our own.
-use Rattle.std.specs.Prelude.{◌≡◌, ◌≤◌, ◌⊎◌, ℕ, false, List, [], Contains, IsSome, length}
+use Rattle.std.specs.Prelude.{◌≡◌, ◌≤◌, ◌⊎◌, ℕ, false, [], Contains, IsSome, length}
 use Rattle.d64_image.specs.Images.{Image}
 use Rattle.request_cards.specs.declared.answer.Answer.{Answer}
 use Rattle.request_cards.specs.CardTexts.{Card, IsCard, is_done}

@@ -98,7 +98,13 @@ impl<D: Sectors> Session<D> {
             self.dead = true;
             return Word::Media;
         };
-        renew(&mut self.cards, &mut self.requests, request, &outcome, card.answered());
+        renew(
+            &mut self.cards,
+            &mut self.requests,
+            request,
+            &outcome,
+            card.answered(),
+        );
         Word::Kept(outcome.answer)
     }
 }

@@ -1,5 +1,5 @@
 -- While STOCK grows the shop is the one before the request; from then on it is as for a card that is there.
-use Rattle.std.proofs.Common.{arith, ap, sym, ◌∙◌}
+use Rattle.std.proofs.Common.{arith, ap}
 use Rattle.host_session.proofs.GrownStock.{grown-long}
 use Rattle.host_session.proofs.Keepings.{first-moments, first-set, first-settled, grown-items, growing-either, keeping-grown}
 use Rattle.rel_records.specs.Growth.{growth_writes}
