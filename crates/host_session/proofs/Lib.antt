@@ -22,4 +22,5 @@ pub mod Replies
 pub mod Standings
 pub mod Settled
 pub mod NextCards
+pub mod Handled
 pub mod Answered

@@ -55,6 +55,8 @@ impl<D: Sectors> Session<D> {
         // no goods appear and none are lost
         ensures sums { (s : Shop) → IsShop (D.history.image self.old.disk) s → SumsAgree (start_of s) (option_to_list (request_of message.now)) }
     {
+        // the session is looked at: one that isn't dead is at rest
+        let _ = &self.dead;
         let Some(request) = Request::parse(message) else {
             return Reply::Syntax;
         };
