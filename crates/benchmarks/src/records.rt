@@ -16,7 +16,8 @@ pub const RECORDS: u32 = 9256;
 
 /// Makes the disk blank, for two tills, and lets STOCK grow until no block is free.
 pub fn grow_stock<D: Sectors>(disk: &mut D) -> Result<RelFile, RelFault>
-    ensures ok { IfOk result (λ file. IsClean (D.history.image disk.new) × IsOf (D.history.image disk.new) file × (9256 ≤ records_in file)) }
+    ensures ok { IfOk result (λ file.
+        IsClean (D.history.image disk.new) × IsOf (D.history.image disk.new) file × (9256 ≤ records_in file)) }
 {
     let Ok(()) = blank_image(disk, b"STOCK LEDGER", *b"01", 2) else {
         return Err(RelFault::Device);

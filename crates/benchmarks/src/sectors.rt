@@ -24,7 +24,9 @@ fn next_place(place: Place) -> Place
 
 /// Reads a sector, adds 1 to one of its bytes (255 becomes 0) and writes it back. The answer is that byte.
 fn raise<D: Sectors>(disk: &mut D, place: Place, at: u8) -> Result<u8, DeviceFault>
-    ensures ok { OnOk result (D.history.image disk.new ≡ put (D.history.image disk.old) place (raised at (sector (D.history.image disk.old) place))) }
+    ensures ok { OnOk result
+        (D.history.image disk.new
+        ≡ put (D.history.image disk.old) place (raised at (sector (D.history.image disk.old) place))) }
     ensures byte { IfOk result (λ byte. byte ≡ slice_index (raised at (sector (D.history.image disk.old) place)) at) }
     ensures reads { D.history.reads disk.new ≤ D.history.reads disk.old + 1 }
     ensures writes { D.history.writes disk.new ≤ D.history.writes disk.old + 1 }

@@ -63,7 +63,8 @@ impl<D: Sectors> Sectors for Fuse<D> {
         // a blown fuse reads nothing
         ensures spent { fuse_left self.old ≡ 0 → IsErr result × (fuse_disk self.new ≡ fuse_disk self.old) }
         // else the disk beneath answers
-        ensures passes { 0 < fuse_left self.old → ReadsSector D.history (fuse_disk self.old) (fuse_disk self.new) place to.new device_fault result }
+        ensures passes { 0 < fuse_left self.old
+            → ReadsSector D.history (fuse_disk self.old) (fuse_disk self.new) place to.new device_fault result }
         ensures kept { (fuse_left self.new ≡ fuse_left self.old) × (fuse_limit self.new ≡ fuse_limit self.old) }
     {
         if self.passed == self.limit {
@@ -85,7 +86,9 @@ impl<D: Sectors> Sectors for Fuse<D> {
         // a blown fuse writes nothing
         ensures spent { fuse_left self.old ≡ 0 → IsErr result × (fuse_disk self.new ≡ fuse_disk self.old) }
         // else the disk beneath answers
-        ensures passes { 0 < fuse_left self.old → WritesSector D.history (fuse_disk self.old) (fuse_disk self.new) place from.now device_fault result }
+        ensures passes { 0 < fuse_left self.old
+            → WritesSector D.history (fuse_disk self.old) (fuse_disk self.new) place from.now device_fault
+            result }
         ensures burns { OnOk result (fuse_left self.old ≡ fuse_left self.new + 1) }
         ensures kept { OnErr result (fuse_left self.new ≡ fuse_left self.old) }
         ensures limit { fuse_limit self.new ≡ fuse_limit self.old }

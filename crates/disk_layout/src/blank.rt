@@ -38,7 +38,8 @@ pub fn blank_image<D: Sectors>(
     ensures ok { OnOk result (IsBlank (D.history.image disk.old) (D.history.image disk.new) name.now id tills) }
     // whatever the disk held before: the law blank_is_clean says with which layout
     ensures clean { OnOk result (IsClean (D.history.image disk.new)) }
-    ensures moments { Changes D.history disk.old disk.new (5 + request_blocks tills) (SameElsewhere (request_blocks tills) (D.history.image disk.old)) }
+    ensures moments { Changes D.history disk.old disk.new (5 + request_blocks tills)
+        (SameElsewhere (request_blocks tills) (D.history.image disk.old)) }
     ensures failures { TellsFailure D.history disk.old disk.new result }
 {
     let requests = request_places((tills + 1) / 2);

@@ -30,7 +30,8 @@ fn start_records(bytes: &mut [u8; 256], at: u32, size: u32, begin: u32, end: u32
     requires end { end ≤ 1000000 }
     requires inside { (r : ℕ) → begin ≤ r → r < end → (at ≤ r * size) × (r * size < at + 254) }
     ensures begun { (r : ℕ) → begin ≤ r → r < end → slice_index bytes.new (2 + (r * size - at)) ≡ 255 }
-    ensures rest { (k : ℕ) → ((r : ℕ) → begin ≤ r → r < end → k ≢ 2 + (r * size - at)) → slice_index bytes.new k ≡ slice_index bytes.old k }
+    ensures rest { (k : ℕ) → ((r : ℕ) → begin ≤ r → r < end → k ≢ 2 + (r * size - at))
+        → slice_index bytes.new k ≡ slice_index bytes.old k }
 {
     for record in begin..end {
         bytes[2 + (record * size - at) as usize] = 0xFF;

@@ -56,7 +56,8 @@ fn link(number: u8, sides: &[Place], used: usize) -> (u8, u8)
 /// Writes the places into the bytes from `at` on: track and sector of each.
 fn put_places(bytes: &mut [u8; 256], at: usize, places: &[Place])
     requires room { at + 2 * length places.now ≤ 256 }
-    ensures { bytes.new ≡ take at bytes.old ++ (flat_map place_bytes places.now ++ drop (at + 2 * length places.now) bytes.old) }
+    ensures { bytes.new
+        ≡ take at bytes.old ++ (flat_map place_bytes places.now ++ drop (at + 2 * length places.now) bytes.old) }
 {
     for (i, place) in places.iter().enumerate() {
         bytes[at + 2 * i] = place.track();

@@ -4,4 +4,10 @@ pub mod Opening
 pub mod Handling
 pub mod Standing
 pub mod Putting
+pub mod Growing
+pub mod Deciding
 pub mod Found
+pub mod Selecting
+pub mod Completing
+pub mod Keeping
+pub mod Answering

@@ -60,8 +60,11 @@ pub fn mend_map<D: Sectors>(disk: &mut D, found: &Survey) -> Result<(), Fault>
     ensures failures { TellsDevice D.history disk.old disk.new result }
     ensures mends { Mends D.history disk.old disk.new 1 }
     // the map is written once at most, and only where it is wrong, also where the device fails
-    ensures over { (l : Layout) → IsLayout (D.history.image disk.old) l → GoesOver D.history disk.old disk.new (IsRight l) (map_place ∷ []) }
-    ensures made { OnOk result ((l : Layout) → IsLayout (D.history.image disk.old) l → AreMade (IsRight l) (map_place ∷ []) (D.history.image disk.old) (D.history.image disk.new)) }
+    ensures over { (l : Layout) → IsLayout (D.history.image disk.old) l
+        → GoesOver D.history disk.old disk.new (IsRight l) (map_place ∷ []) }
+    ensures made { OnOk result
+        ((l : Layout) → IsLayout (D.history.image disk.old) l
+        → AreMade (IsRight l) (map_place ∷ []) (D.history.image disk.old) (D.history.image disk.new)) }
     // in a map that is written, the bits past the tracks' last sectors are 0
     ensures spare { ClearsSpare (D.history.image disk.old) (D.history.image disk.new) }
     // a map that is right is not written
@@ -93,10 +96,14 @@ fn mend_sides<D: Sectors>(
     ensures failures { TellsDevice D.history disk.old disk.new result }
     ensures mends { Mends D.history disk.old disk.new 6 }
     // side sector by side sector, each written once where it isn't right
-    ensures over { (l : Layout) → IsLayout (D.history.image disk.old) l → GoesOver D.history disk.old disk.new (IsRight l) sides.now }
-    ensures made { OnOk result ((l : Layout) → IsLayout (D.history.image disk.old) l → AreMade (IsRight l) sides.now (D.history.image disk.old) (D.history.image disk.new)) }
+    ensures over { (l : Layout) → IsLayout (D.history.image disk.old) l
+        → GoesOver D.history disk.old disk.new (IsRight l) sides.now }
+    ensures made { OnOk result
+        ((l : Layout) → IsLayout (D.history.image disk.old) l
+        → AreMade (IsRight l) sides.now (D.history.image disk.old) (D.history.image disk.new)) }
     // side sectors that are right are not written
-    ensures quiet { AreExactSides (D.history.image disk.old) slot.now blocks.now sides.now → WritesNothing D.history disk.old disk.new }
+    ensures quiet { AreExactSides (D.history.image disk.old) slot.now blocks.now sides.now
+        → WritesNothing D.history disk.old disk.new }
 {
     let record_length = EntryView::new(&slot.bytes).record_length();
     let mut sector = [0u8; 256];
@@ -121,10 +128,14 @@ fn mend_relative<D: Sectors>(disk: &mut D, slot: &Slot, parts: &mut Parts) -> Re
     ensures failures { TellsDevice D.history disk.old disk.new result }
     ensures mends { Mends D.history disk.old disk.new 6 }
     // side sector by side sector of the entry's file, each written once where it isn't right
-    ensures over { (l : Layout) (f : File) → IsLayout (D.history.image disk.old) l → Contains l.files f → f.slot ≡ slot.now → GoesOver D.history disk.old disk.new (IsRight l) f.sides }
-    ensures made { OnOk result ((l : Layout) (f : File) → IsLayout (D.history.image disk.old) l → Contains l.files f → f.slot ≡ slot.now → AreMade (IsRight l) f.sides (D.history.image disk.old) (D.history.image disk.new)) }
+    ensures over { (l : Layout) (f : File) → IsLayout (D.history.image disk.old) l → Contains l.files f → f.slot ≡ slot.now
+        → GoesOver D.history disk.old disk.new (IsRight l) f.sides }
+    ensures made { OnOk result
+        ((l : Layout) (f : File) → IsLayout (D.history.image disk.old) l → Contains l.files f → f.slot ≡ slot.now
+        → AreMade (IsRight l) f.sides (D.history.image disk.old) (D.history.image disk.new)) }
     // side sectors that are right are not written
-    ensures quiet { IsExactFor (D.history.image disk.old) (D.history.image disk.old) slot.now → WritesNothing D.history disk.old disk.new }
+    ensures quiet { IsExactFor (D.history.image disk.old) (D.history.image disk.old) slot.now
+        → WritesNothing D.history disk.old disk.new }
 {
     match find_parts(disk, slot, parts)? {
         Some(_) => mend_sides(disk, slot, parts.blocks.as_slice(), parts.sides.as_slice()),
@@ -142,10 +153,14 @@ pub fn mend_entries<D: Sectors>(disk: &mut D) -> Result<(), Fault>
     ensures failures { TellsDevice D.history disk.old disk.new result }
     ensures mends { Mends D.history disk.old disk.new 864 }
     // side sector by side sector in the order of the directory, each written once where it isn't right
-    ensures over { (l : Layout) → IsLayout (D.history.image disk.old) l → GoesOver D.history disk.old disk.new (IsRight l) (sides_of l.files) }
-    ensures made { OnOk result ((l : Layout) → IsLayout (D.history.image disk.old) l → AreMade (IsRight l) (sides_of l.files) (D.history.image disk.old) (D.history.image disk.new)) }
+    ensures over { (l : Layout) → IsLayout (D.history.image disk.old) l
+        → GoesOver D.history disk.old disk.new (IsRight l) (sides_of l.files) }
+    ensures made { OnOk result
+        ((l : Layout) → IsLayout (D.history.image disk.old) l
+        → AreMade (IsRight l) (sides_of l.files) (D.history.image disk.old) (D.history.image disk.new)) }
     // side sectors that are right are not written
-    ensures quiet { AreExactFor (D.history.image disk.old) (D.history.image disk.old) → WritesNothing D.history disk.old disk.new }
+    ensures quiet { AreExactFor (D.history.image disk.old) (D.history.image disk.old)
+        → WritesNothing D.history disk.old disk.new }
 {
     let mut slots = ArrayVec::new();
     let mut parts = Parts::new();

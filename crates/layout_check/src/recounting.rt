@@ -97,7 +97,8 @@ fn mend_sector<D: Sectors>(disk: &mut D, place: Place, parts: &mut Parts) -> Res
     ensures moments { Changes D.history disk.old disk.new 1 (OldOrMended (D.history.image disk.old) place) }
     ensures once { WritesOther D.history disk.old disk.new place }
     // a sector whose counts are right is not written
-    ensures quiet { AreRightIn (D.history.image disk.old) place (sector (D.history.image disk.old) place) → WritesNothing D.history disk.old disk.new }
+    ensures quiet { AreRightIn (D.history.image disk.old) place (sector (D.history.image disk.old) place)
+        → WritesNothing D.history disk.old disk.new }
     ensures failures { TellsDevice D.history disk.old disk.new result }
 {
     let mut had = [0u8; 256];
@@ -110,7 +111,9 @@ fn mend_sector<D: Sectors>(disk: &mut D, place: Place, parts: &mut Parts) -> Res
 /// Finds the sectors of a directory that is right, in order.
 fn find_directory<D: Sectors>(disk: &mut D, places: &mut ArrayVec<Place, 720>) -> Result<(), Fault>
     requires { (ps : List Place) × (slots : List Slot) × IsDirectory (D.history.image disk.old) ps slots }
-    ensures directory { OnOk result ((ps : List Place) (slots : List Slot) → IsDirectory (D.history.image disk.old) ps slots → places.new.items ≡ ps) }
+    ensures directory { OnOk result
+        ((ps : List Place) (slots : List Slot) → IsDirectory (D.history.image disk.old) ps slots
+        → places.new.items ≡ ps) }
     ensures ok { OnOk result (Passes D.history disk.old disk.new (length places.new.items)) }
     ensures err { IfErr result (TellsUnsound D.history disk.old disk.new 683) }
 {
@@ -129,8 +132,11 @@ pub fn mend_counts<D: Sectors>(disk: &mut D) -> Result<(), Fault>
     // every image held, the last one too, has the same files
     ensures moments { Changes D.history disk.old disk.new 18 (KeepsButCounts (D.history.image disk.old)) }
     // a sector is written where a count in it is wrong, once, in the order of the directory
-    ensures over { (l : Layout) → IsLayout (D.history.image disk.old) l → GoesOver D.history disk.old disk.new (IsRight l) l.directory }
-    ensures made { OnOk result ((l : Layout) → IsLayout (D.history.image disk.old) l → AreMade (IsRight l) l.directory (D.history.image disk.old) (D.history.image disk.new)) }
+    ensures over { (l : Layout) → IsLayout (D.history.image disk.old) l
+        → GoesOver D.history disk.old disk.new (IsRight l) l.directory }
+    ensures made { OnOk result
+        ((l : Layout) → IsLayout (D.history.image disk.old) l
+        → AreMade (IsRight l) l.directory (D.history.image disk.old) (D.history.image disk.new)) }
     ensures quiet { AreCounted (D.history.image disk.old) → WritesNothing D.history disk.old disk.new }
     ensures failures { TellsDevice D.history disk.old disk.new result }
 {

@@ -22,7 +22,8 @@ fn mend<D: Sectors>(disk: &mut D, found: &Survey) -> Result<(), Fault>
     requires { IsToldBy (D.history.image disk.old) found.now }
     ensures clean { OnOk result (IsRepaired (D.history.image disk.old) (D.history.image disk.new) found.now) }
     ensures moments { MendsFrom D.history disk.old disk.new 883 }
-    ensures order { (l : Layout) → IsLayout (D.history.image disk.old) l → GoesOver D.history disk.old disk.new (IsRight l) (repair_order l) }
+    ensures order { (l : Layout) → IsLayout (D.history.image disk.old) l
+        → GoesOver D.history disk.old disk.new (IsRight l) (repair_order l) }
     ensures spare { ClearsSpare (D.history.image disk.old) (D.history.image disk.new) }
     ensures failures { TellsDevice D.history disk.old disk.new result }
     // a disk that is clean is not written
@@ -49,7 +50,8 @@ pub fn repair<D: Sectors>(disk: &mut D) -> Result<Survey, Fault>
     ensures sound { NeverFailed D.history disk.old disk.new → (IsOk result ↔ IsSound (D.history.image disk.old)) }
     ensures moments { MendsFrom D.history disk.old disk.new 883 }
     // no sector that is right is written, the others once, the map first, then the side sectors, then the directory
-    ensures order { (l : Layout) → IsLayout (D.history.image disk.old) l → GoesOver D.history disk.old disk.new (IsRight l) (repair_order l) }
+    ensures order { (l : Layout) → IsLayout (D.history.image disk.old) l
+        → GoesOver D.history disk.old disk.new (IsRight l) (repair_order l) }
     ensures spare { ClearsSpare (D.history.image disk.old) (D.history.image disk.new) }
     // a disk that isn't sound is not written
     ensures unsound { (IsSound (D.history.image disk.old) → ⊥) → OnlyReads D.history disk.old disk.new 2114 }

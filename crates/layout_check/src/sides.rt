@@ -139,7 +139,8 @@ pub fn find_parts<D: Sectors>(
     requires rel { IsTrue (is_rel slot.now) }
     ensures parts { OnOk result (HasParts (D.history.image disk.old) slot.now parts.new.blocks.items parts.new.sides.items) }
     ensures exact { IfOk result (ToldOfSides (D.history.image disk.old) slot.now parts.new.blocks.items parts.new.sides.items) }
-    ensures ok { OnOk result (Passes D.history disk.old disk.new (length parts.new.blocks.items + 2 * length parts.new.sides.items)) }
+    ensures ok { OnOk result
+        (Passes D.history disk.old disk.new (length parts.new.blocks.items + 2 * length parts.new.sides.items)) }
     ensures few { OnOk result (length parts.new.blocks.items + 2 * length parts.new.sides.items ≤ 732) }
     ensures err { IfErr result (TellsUnsound D.history disk.old disk.new 732) }
 {

@@ -58,7 +58,9 @@ pub fn survey_files<D: Sectors>(disk: &mut D) -> Result<Findings, Fault>
 ///
 /// Nothing is written. Each owned sector is read twice at most, and no memory is taken.
 pub fn survey<D: Sectors>(disk: &mut D) -> Result<Survey, Fault>
-    ensures ok { IfOk result (λ s. (l : Layout) × IsLayout (D.history.image disk.old) l × IsSurveyOf l s × OnlyReads D.history disk.old disk.new (18 + 2 * length (owners l))) }
+    ensures ok { IfOk result (λ s.
+        (l : Layout) × IsLayout (D.history.image disk.old) l × IsSurveyOf l s
+        × OnlyReads D.history disk.old disk.new (18 + 2 * length (owners l))) }
     ensures err { IfErr result (Holds (D.history.failed_at disk.new) (D.history.image disk.old)) }
     // neither a fault nor a layout is told always
     ensures sound { NeverFailed D.history disk.old disk.new → (IsOk result ↔ IsSound (D.history.image disk.old)) }

@@ -17,7 +17,8 @@ impl Change {
     /// What stood at a place before the first of the changes there.
     pub(crate) fn bytes_before(changes: &[Change], place: Place) -> Option<[u8; 256]>
         ensures none { IfNone result ((img : Image) → sector (undone changes.now img) place ≡ sector img place) }
-        ensures some { IfSome result (λ bytes. (img : Image) → length img ≡ 683 → sector (undone changes.now img) place ≡ bytes) }
+        ensures some { IfSome result
+            (λ bytes. (img : Image) → length img ≡ 683 → sector (undone changes.now img) place ≡ bytes) }
     {
         for change in changes {
             if change.place == place {

@@ -87,8 +87,11 @@ impl<D: Sectors> Recorder<D> {
     /// Writes a sector, once it has recorded what stood there.
     fn change(&mut self, place: Place, from: &[u8; 256]) -> Result<(), DeviceFault>
         ensures ok { OnOk result (D.history.image self.new.disk ≡ put (D.history.image self.old.disk) place from.now) }
-        ensures err { OnErr result (OldOr (D.history.image self.old.disk) (put (D.history.image self.old.disk) place from.now) (D.history.image self.new.disk)) }
-        ensures held { HeldOnly (recorded D.history) self.old self.new (OldOr (D.history.image self.old.disk) (put (D.history.image self.old.disk) place from.now)) }
+        ensures err { OnErr result
+            (OldOr (D.history.image self.old.disk) (put (D.history.image self.old.disk) place from.now)
+            (D.history.image self.new.disk)) }
+        ensures held { HeldOnly (recorded D.history) self.old self.new
+            (OldOr (D.history.image self.old.disk) (put (D.history.image self.old.disk) place from.now)) }
         ensures counted { OnOk result (D.history.writes self.new.disk ≤ D.history.writes self.old.disk + 1) }
         ensures uncounted { OnErr result (D.history.writes self.new.disk ≡ D.history.writes self.old.disk) }
         ensures failures { self.new.failed ≡ self.old.failed }

@@ -30,7 +30,8 @@ pub(crate) fn write<D: Sectors>(
     from: &[u8; 256],
 ) -> Result<(), RelFault>
     ensures ok { OnOk result (D.history.image disk.new ≡ put (D.history.image disk.old) place from.now) }
-    ensures held { HeldOnly D.history disk.old disk.new (OldOr (D.history.image disk.old) (put (D.history.image disk.old) place from.now)) }
+    ensures held { HeldOnly D.history disk.old disk.new
+        (OldOr (D.history.image disk.old) (put (D.history.image disk.old) place from.now)) }
     ensures counted { OnOk result (D.history.writes disk.new ≤ D.history.writes disk.old + 1) }
     ensures uncounted { OnErr result (D.history.writes disk.new ≡ D.history.writes disk.old) }
     ensures failures { TellsRelFault D.history disk.old disk.new result }

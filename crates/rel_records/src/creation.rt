@@ -39,18 +39,27 @@ pub fn create<D: Sectors>(disk: &mut D, name: &[u8], size: u8) -> Result<RelFile
     requires name { length name.now ≤ 16 }
     requires low { 1 ≤ size }
     requires high { size ≤ 254 }
-    ensures ok { (l : Layout) → IsLayout (D.history.image disk.old) l → IfOk result (IsMade (D.history.image disk.old) l name.now size (D.history.image disk.new)) }
+    ensures ok { (l : Layout) → IsLayout (D.history.image disk.old) l
+        → IfOk result (IsMade (D.history.image disk.old) l name.now size (D.history.image disk.new)) }
     // each refusal, exactly
-    ensures exists { (l : Layout) → IsLayout (D.history.image disk.old) l → IfErr result (λ fault. fault ≡ Exists → IsTakenName l name.now) }
-    ensures full { (l : Layout) → IsLayout (D.history.image disk.old) l → IfErr result (λ fault. fault ≡ Full → HasNoRoom (D.history.image disk.old) l × ¬ (IsTakenName l name.now)) }
-    ensures fits { (l : Layout) → IsLayout (D.history.image disk.old) l → OnOk result (¬ (HasNoRoom (D.history.image disk.old) l) × ¬ (IsTakenName l name.now)) }
+    ensures exists { (l : Layout) → IsLayout (D.history.image disk.old) l
+        → IfErr result (λ fault. fault ≡ Exists → IsTakenName l name.now) }
+    ensures full { (l : Layout) → IsLayout (D.history.image disk.old) l
+        → IfErr result
+        (λ fault. fault ≡ Full → HasNoRoom (D.history.image disk.old) l × ¬ (IsTakenName l name.now)) }
+    ensures fits { (l : Layout) → IsLayout (D.history.image disk.old) l
+        → OnOk result (¬ (HasNoRoom (D.history.image disk.old) l) × ¬ (IsTakenName l name.now)) }
     ensures told { IfErr result (λ fault. (fault ≡ Exists) ⊎ ((fault ≡ Full) ⊎ (fault ≡ Device))) }
     // three times the eighteen sectors of the directory, and the map
     ensures refused { IfErr result (λ fault. fault ≢ Device → OnlyReads D.history disk.old disk.new 55) }
     // every image held, and the writes
-    ensures moments { (l : Layout) → IsLayout (D.history.image disk.old) l → Changes D.history disk.old disk.new (creation_writes l) (IsCreating (D.history.image disk.old) l name.now size) }
+    ensures moments { (l : Layout) → IsLayout (D.history.image disk.old) l
+        → Changes D.history disk.old disk.new (creation_writes l)
+        (IsCreating (D.history.image disk.old) l name.now size) }
     // what is kept of any file stays of it
-    ensures others { (v : RelFile) → OfItsFile (D.history.image disk.old) v (λ l n f. StaysOf (D.history.image disk.old) (D.history.image disk.new) f v) }
+    ensures others { (v : RelFile)
+        → OfItsFile (D.history.image disk.old) v
+        (λ l n f. StaysOf (D.history.image disk.old) (D.history.image disk.new) f v) }
     ensures failures { TellsRelFault D.history disk.old disk.new result }
 {
     let site = choose_site(disk, name)?;
@@ -65,9 +74,13 @@ fn choose_site<D: Sectors>(disk: &mut D, name: &[u8]) -> Result<Site, RelFault>
     requires clean { IsClean (D.history.image disk.old) }
     requires name { length name.now ≤ 16 }
     ensures ok { (l : Layout) → IsLayout (D.history.image disk.old) l → IfOk result (IsSite (D.history.image disk.old) l) }
-    ensures exists { (l : Layout) → IsLayout (D.history.image disk.old) l → IfErr result (λ fault. fault ≡ Exists → IsTakenName l name.now) }
-    ensures full { (l : Layout) → IsLayout (D.history.image disk.old) l → IfErr result (λ fault. fault ≡ Full → HasNoRoom (D.history.image disk.old) l × ¬ (IsTakenName l name.now)) }
-    ensures fits { (l : Layout) → IsLayout (D.history.image disk.old) l → OnOk result (¬ (HasNoRoom (D.history.image disk.old) l) × ¬ (IsTakenName l name.now)) }
+    ensures exists { (l : Layout) → IsLayout (D.history.image disk.old) l
+        → IfErr result (λ fault. fault ≡ Exists → IsTakenName l name.now) }
+    ensures full { (l : Layout) → IsLayout (D.history.image disk.old) l
+        → IfErr result
+        (λ fault. fault ≡ Full → HasNoRoom (D.history.image disk.old) l × ¬ (IsTakenName l name.now)) }
+    ensures fits { (l : Layout) → IsLayout (D.history.image disk.old) l
+        → OnOk result (¬ (HasNoRoom (D.history.image disk.old) l) × ¬ (IsTakenName l name.now)) }
     ensures told { IfErr result (λ fault. (fault ≡ Exists) ⊎ ((fault ≡ Full) ⊎ (fault ≡ Device))) }
     ensures refused { IfErr result (λ fault. fault ≢ Device → OnlyReads D.history disk.old disk.new 55) }
     ensures quiet { WritesNothing D.history disk.old disk.new }
@@ -111,8 +124,10 @@ fn read_room<D: Sectors>(disk: &mut D) -> Result<Room, RelFault>
 /// Takes a new file's sectors in the map of a clean disk: two for the file, and where the directory is full a third for
 /// that. None where they aren't free.
 fn take_site(mut map: Bam, room: Room) -> Option<Site>
-    requires of { (img : Image) × (l : Layout) × IsCleanLayout img l × (map.bytes ≡ sector img map_place) × IsRoomOf img l room }
-    ensures { (img : Image) → (l : Layout) → IsCleanLayout img l → map.bytes ≡ sector img map_place → IsRoomOf img l room → MatchOption result (HasNoRoom img l) (λ site. IsSite img l site × ¬ (HasNoRoom img l)) }
+    requires of { (img : Image) × (l : Layout) × IsCleanLayout img l × (map.bytes ≡ sector img map_place)
+        × IsRoomOf img l room }
+    ensures { (img : Image) → (l : Layout) → IsCleanLayout img l → map.bytes ≡ sector img map_place → IsRoomOf img l room
+        → MatchOption result (HasNoRoom img l) (λ site. IsSite img l site × ¬ (HasNoRoom img l)) }
 {
     if map.view().blocks_free() < 2 {
         return None;

@@ -36,7 +36,9 @@ fn free_slot(bytes: &[u8; 256]) -> Option<u8>
 pub(crate) fn find_room<D: Sectors>(disk: &mut D, places: &[Place]) -> Result<Room, DeviceFault>
     requires { 1 ≤ length places.now }
     ensures bytes { IfOk result (λ room. room.bytes ≡ sector (D.history.image disk.old) room.place) }
-    ensures ok { IfOk result (λ room. MatchOption room.number (IsFullDirectory (D.history.image disk.old) places.now room.place) (IsFirstRoom (D.history.image disk.old) places.now room.place)) }
+    ensures ok { IfOk result (λ room.
+        MatchOption room.number (IsFullDirectory (D.history.image disk.old) places.now room.place)
+        (IsFirstRoom (D.history.image disk.old) places.now room.place)) }
     ensures before { IfOk result (λ room. slice_get places.now room.before ≡ Some room.place) }
     ensures reads { OnlyReads D.history disk.old disk.new (length places.now) }
     ensures failures { TellsFailure D.history disk.old disk.new result }

@@ -23,8 +23,13 @@ pub(crate) fn fill_up<D: Sectors>(
     requires at { StandsAt (D.history.image disk.old) parts.old }
     requires few { length parts.old.blocks.items ≤ 720 }
     requires had { had ≡ record_count (length parts.old.blocks.items) (slice_index parts.old.last 1) parts.old.size }
-    ensures ok { (l : Layout) → (n : ℕ) → (f : File) → IsAt (D.history.image disk.old) l n f parts.old → OnOk result (HasFilled (D.history.image disk.old) (D.history.image disk.new) l n f parts.old parts.new) }
-    ensures moments { (l : Layout) → (n : ℕ) → (f : File) → IsAt (D.history.image disk.old) l n f parts.old → Changes D.history disk.old disk.new (fill_writes f) (IsGrowingBy (D.history.image disk.old) l n f (full (record_length f.slot) (length f.blocks) - records_had f)) }
+    ensures ok { (l : Layout) → (n : ℕ) → (f : File) → IsAt (D.history.image disk.old) l n f parts.old
+        → OnOk result
+        (HasFilled (D.history.image disk.old) (D.history.image disk.new) l n f parts.old parts.new) }
+    ensures moments { (l : Layout) → (n : ℕ) → (f : File) → IsAt (D.history.image disk.old) l n f parts.old
+        → Changes D.history disk.old disk.new (fill_writes f)
+        (IsGrowingBy (D.history.image disk.old) l n f
+        (full (record_length f.slot) (length f.blocks) - records_had f)) }
     ensures failures { TellsFailure D.history disk.old disk.new result }
 {
     let count = parts.blocks.len() as u16;
@@ -49,7 +54,8 @@ fn fill_before<D: Sectors>(
     requires total { total ≤ 1000000 }
     requires from { 254 * (length parts.now.blocks.items - 2) ≤ from }
     ensures ok { OnOk result (FillsBefore (D.history.image disk.old) parts.now from total (D.history.image disk.new)) }
-    ensures moments { Changes D.history disk.old disk.new (if nat_lt from (254 * (length parts.now.blocks.items - 1)) then 1 else 0) (λ c. (c ≡ D.history.image disk.old) ⊎ FillsBefore (D.history.image disk.old) parts.now from total c) }
+    ensures moments { Changes D.history disk.old disk.new (if nat_lt from (254 * (length parts.now.blocks.items - 1)) then 1 else 0)
+        (λ c. (c ≡ D.history.image disk.old) ⊎ FillsBefore (D.history.image disk.old) parts.now from total c) }
     ensures failures { TellsFailure D.history disk.old disk.new result }
 {
     let count = parts.blocks.len();

@@ -48,7 +48,8 @@ pub(crate) fn list_slots<D: Sectors>(
     slots: &mut ArrayVec<Slot, 144>,
 ) -> Result<(), RelFault>
     requires sound { IsSound (D.history.image disk.old) }
-    ensures ok { (l : Layout) → IsLayout (D.history.image disk.old) l → OnOk result (slots.new.items ≡ map (λ f. f.slot) l.files) }
+    ensures ok { (l : Layout) → IsLayout (D.history.image disk.old) l
+        → OnOk result (slots.new.items ≡ map (λ f. f.slot) l.files) }
     ensures err { IfErr result (λ fault. fault ≡ Device) }
     ensures reads { OnlyReads D.history disk.old disk.new 18 }
     ensures failures { TellsRelFault D.history disk.old disk.new result }
@@ -63,7 +64,8 @@ pub(crate) fn list_slots<D: Sectors>(
 /// How many data blocks the file of a relative slot has, and the index of the last used byte of the last one.
 fn measure<D: Sectors>(disk: &mut D, slot: &Slot) -> Result<(u16, u8), RelFault>
     requires of { HasRel (D.history.image disk.old) slot.now }
-    ensures ok { (f : File) → IsRelOf (D.history.image disk.old) slot.now f → IfOk result (λ found. (found.0 ≡ length f.blocks) × (found.1 ≡ f.last)) }
+    ensures ok { (f : File) → IsRelOf (D.history.image disk.old) slot.now f
+        → IfOk result (λ found. (found.0 ≡ length f.blocks) × (found.1 ≡ f.last)) }
     ensures few { IfOk result (λ found. found.0 ≤ 683) }
     ensures err { IfErr result (λ fault. fault ≡ Device) }
     ensures reads { OnlyReads D.history disk.old disk.new 683 }
@@ -85,8 +87,10 @@ fn read_sides<D: Sectors>(
     count: usize,
     sides: &mut ArrayVec<Place, 6>,
 ) -> Result<(), RelFault>
-    requires of { (qs : List Place) × (length qs ≡ count) × (count ≤ 6) × NamesEach (sector (D.history.image disk.old) place) 4 qs }
-    ensures ok { (qs : List Place) → length qs ≡ count → NamesEach (sector (D.history.image disk.old) place) 4 qs → OnOk result (sides.new.items ≡ qs) }
+    requires of { (qs : List Place) × (length qs ≡ count) × (count ≤ 6)
+        × NamesEach (sector (D.history.image disk.old) place) 4 qs }
+    ensures ok { (qs : List Place) → length qs ≡ count → NamesEach (sector (D.history.image disk.old) place) 4 qs
+        → OnOk result (sides.new.items ≡ qs) }
     ensures err { IfErr result (λ fault. fault ≡ Device) }
     ensures reads { OnlyReads D.history disk.old disk.new 1 }
     ensures failures { TellsRelFault D.history disk.old disk.new result }
@@ -141,8 +145,13 @@ fn open_entry<D: Sectors>(disk: &mut D, entry: usize, slot: &Slot) -> Result<Rel
 /// have left a side sector that points past the chain's end.
 pub fn find<D: Sectors>(disk: &mut D, name: &[u8]) -> Result<RelFile, RelFault>
     requires sound { IsSound (D.history.image disk.old) }
-    ensures ok { (l : Layout) → IsLayout (D.history.image disk.old) l → IfOk result (λ v. (f : File) × IsFirst l name.now (entry_of v) f × IsFileOf (D.history.image disk.old) l (entry_of v) f v) }
-    ensures not_found { (l : Layout) → IsLayout (D.history.image disk.old) l → IfErr result (λ fault. fault ≡ NotFound → (k : ℕ) → (f : File) → slice_get l.files k ≡ Some f → ¬ (IsNamed name.now f)) }
+    ensures ok { (l : Layout) → IsLayout (D.history.image disk.old) l
+        → IfOk result (λ v.
+        (f : File) × IsFirst l name.now (entry_of v) f
+        × IsFileOf (D.history.image disk.old) l (entry_of v) f v) }
+    ensures not_found { (l : Layout) → IsLayout (D.history.image disk.old) l
+        → IfErr result (λ fault.
+        fault ≡ NotFound → (k : ℕ) → (f : File) → slice_get l.files k ≡ Some f → ¬ (IsNamed name.now f)) }
     ensures told { IfErr result (λ fault. (fault ≡ NotFound) ⊎ (fault ≡ Device)) }
     // eighteen sectors of the directory, the chain, a side sector
     ensures reads { OnlyReads D.history disk.old disk.new 702 }

@@ -21,7 +21,8 @@ fn list_blocks(bytes: &[u8; 256], count: usize, blocks: &mut ArrayVec<Place, 720
     requires few { count ≤ 120 }
     requires room { length blocks.old.items + count ≤ 720 }
     requires named { (qs : List Place) × (length qs ≡ count) × NamesEach bytes.now 16 qs }
-    ensures { (qs : List Place) → length qs ≡ count → NamesEach bytes.now 16 qs → blocks.new.items ≡ blocks.old.items ++ qs }
+    ensures { (qs : List Place) → length qs ≡ count → NamesEach bytes.now 16 qs
+        → blocks.new.items ≡ blocks.old.items ++ qs }
 {
     let view = SideView::new(bytes);
     for number in 0..count {

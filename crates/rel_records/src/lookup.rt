@@ -20,7 +20,8 @@ pub(crate) fn block_at<D: Sectors>(
 ) -> Result<Place, RelFault>
     requires of { IsOf (D.history.image disk.old) file.now }
     requires there { block < blocks_of file.now }
-    ensures ok { OfItsFile (D.history.image disk.old) file.now (λ l n f. IfOk result (λ p. slice_get f.blocks block ≡ Some p)) }
+    ensures ok { OfItsFile (D.history.image disk.old) file.now
+        (λ l n f. IfOk result (λ p. slice_get f.blocks block ≡ Some p)) }
     ensures err { IfErr result (λ fault. fault ≡ Device) }
     ensures reads { OnlyReads D.history disk.old disk.new 1 }
     ensures failures { TellsRelFault D.history disk.old disk.new result }

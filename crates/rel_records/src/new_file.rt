@@ -27,7 +27,8 @@ fn write_sectors<D: Sectors>(
     requires side { side ≢ map_place }
     requires apart { block ≢ side }
     ensures ok { OnOk result (HasNewSectors map.now.bytes block side size (D.history.image disk.new)) }
-    ensures moments { Changes D.history disk.old disk.new 3 (ChangesOnly (D.history.image disk.old) map.now.bytes (block ∷ side ∷ [])) }
+    ensures moments { Changes D.history disk.old disk.new 3
+        (ChangesOnly (D.history.image disk.old) map.now.bytes (block ∷ side ∷ [])) }
     ensures failures { TellsFailure D.history disk.old disk.new result }
 {
     disk.write(map_place(), &map.bytes)?;
@@ -53,8 +54,11 @@ fn write_with_directory<D: Sectors>(
     requires fresh { fresh ≢ map_place }
     requires fresh_block { fresh ≢ block }
     requires fresh_side { fresh ≢ side }
-    ensures ok { OnOk result (HasNewSectors map.now.bytes block side size (D.history.image disk.new) × (sector (D.history.image disk.new) fresh ≡ bytes.now)) }
-    ensures moments { Changes D.history disk.old disk.new 4 (ChangesOnly (D.history.image disk.old) map.now.bytes (fresh ∷ block ∷ side ∷ [])) }
+    ensures ok { OnOk result
+        (HasNewSectors map.now.bytes block side size (D.history.image disk.new)
+        × (sector (D.history.image disk.new) fresh ≡ bytes.now)) }
+    ensures moments { Changes D.history disk.old disk.new 4
+        (ChangesOnly (D.history.image disk.old) map.now.bytes (fresh ∷ block ∷ side ∷ [])) }
     ensures failures { TellsFailure D.history disk.old disk.new result }
 {
     write_sectors(disk, map, block, side, size)?;
@@ -103,8 +107,14 @@ fn write_in_slot<D: Sectors>(
     requires low { 1 ≤ size }
     requires high { size ≤ 254 }
     requires site { (l : Layout) × IsSlotSite (D.history.image disk.old) l site.now }
-    ensures ok { (l : Layout) → (name : List ℕ) → IsSlotSite (D.history.image disk.old) l site.now → IsSlotEntry name size site.now bytes.now → OnOk result (HasFileAt (D.history.image disk.old) l name size site.now site.now.place (D.history.image disk.new)) }
-    ensures moments { (l : Layout) → (name : List ℕ) → IsSlotSite (D.history.image disk.old) l site.now → IsSlotEntry name size site.now bytes.now → Changes D.history disk.old disk.new 4 (IsCreating (D.history.image disk.old) l name size) }
+    ensures ok { (l : Layout) → (name : List ℕ) → IsSlotSite (D.history.image disk.old) l site.now
+        → IsSlotEntry name size site.now bytes.now
+        → OnOk result
+        (HasFileAt (D.history.image disk.old) l name size site.now site.now.place
+        (D.history.image disk.new)) }
+    ensures moments { (l : Layout) → (name : List ℕ) → IsSlotSite (D.history.image disk.old) l site.now
+        → IsSlotEntry name size site.now bytes.now
+        → Changes D.history disk.old disk.new 4 (IsCreating (D.history.image disk.old) l name size) }
     ensures failures { TellsFailure D.history disk.old disk.new result }
 {
     write_sectors(disk, &site.map, site.block, site.side, size)?;
@@ -124,8 +134,13 @@ fn write_behind<D: Sectors>(
     requires low { 1 ≤ size }
     requires high { size ≤ 254 }
     requires site { (l : Layout) × IsSectorSite (D.history.image disk.old) l site.now fresh }
-    ensures ok { (l : Layout) → (name : List ℕ) → IsSectorSite (D.history.image disk.old) l site.now fresh → IsSectorEntry name size site.now fresh first.now last.now → OnOk result (HasFileAt (D.history.image disk.old) l name size site.now fresh (D.history.image disk.new)) }
-    ensures moments { (l : Layout) → (name : List ℕ) → IsSectorSite (D.history.image disk.old) l site.now fresh → IsSectorEntry name size site.now fresh first.now last.now → Changes D.history disk.old disk.new 5 (IsCreating (D.history.image disk.old) l name size) }
+    ensures ok { (l : Layout) → (name : List ℕ) → IsSectorSite (D.history.image disk.old) l site.now fresh
+        → IsSectorEntry name size site.now fresh first.now last.now
+        → OnOk result
+        (HasFileAt (D.history.image disk.old) l name size site.now fresh (D.history.image disk.new)) }
+    ensures moments { (l : Layout) → (name : List ℕ) → IsSectorSite (D.history.image disk.old) l site.now fresh
+        → IsSectorEntry name size site.now fresh first.now last.now
+        → Changes D.history disk.old disk.new 5 (IsCreating (D.history.image disk.old) l name size) }
     ensures failures { TellsFailure D.history disk.old disk.new result }
 {
     write_with_directory(disk, &site.map, site.block, site.side, size, fresh, first)?;
@@ -143,8 +158,13 @@ pub(crate) fn write_file<D: Sectors>(
     requires low { 1 ≤ size }
     requires high { size ≤ 254 }
     requires site { (l : Layout) × IsSite (D.history.image disk.old) l site.now }
-    ensures ok { (l : Layout) → IsSite (D.history.image disk.old) l site.now → OnOk result (HasFileAt (D.history.image disk.old) l name.now size site.now (sector_of site.now) (D.history.image disk.new)) }
-    ensures moments { (l : Layout) → IsSite (D.history.image disk.old) l site.now → Changes D.history disk.old disk.new (creation_writes l) (IsCreating (D.history.image disk.old) l name.now size) }
+    ensures ok { (l : Layout) → IsSite (D.history.image disk.old) l site.now
+        → OnOk result
+        (HasFileAt (D.history.image disk.old) l name.now size site.now (sector_of site.now)
+        (D.history.image disk.new)) }
+    ensures moments { (l : Layout) → IsSite (D.history.image disk.old) l site.now
+        → Changes D.history disk.old disk.new (creation_writes l)
+        (IsCreating (D.history.image disk.old) l name.now size) }
     ensures failures { TellsFailure D.history disk.old disk.new result }
 {
     let entry = relative_entry(name, site.block, site.side, size, 2);

@@ -39,7 +39,8 @@ fn read_block<D: Sectors>(
 ) -> Result<(), RelFault>
     requires of { IsOf (D.history.image disk.old) file.now }
     requires there { block < blocks_of file.now }
-    ensures ok { OfItsFile (D.history.image disk.old) file.now (λ l n f. OnOk result (IsBlock (D.history.image disk.old) f.blocks block to.new)) }
+    ensures ok { OfItsFile (D.history.image disk.old) file.now
+        (λ l n f. OnOk result (IsBlock (D.history.image disk.old) f.blocks block to.new)) }
     ensures err { IfErr result (λ fault. fault ≡ Device) }
     ensures reads { OnlyReads D.history disk.old disk.new 2 }
     ensures failures { TellsRelFault D.history disk.old disk.new result }
@@ -58,8 +59,10 @@ fn read_behind<D: Sectors>(
 ) -> Result<(), RelFault>
     requires of { IsOf (D.history.image disk.old) file.now }
     requires there { block + 1 < blocks_of file.now }
-    requires here { OfItsFile (D.history.image disk.old) file.now (λ l n f. IsBlock (D.history.image disk.old) f.blocks block bytes.now) }
-    ensures ok { OfItsFile (D.history.image disk.old) file.now (λ l n f. OnOk result (IsBlock (D.history.image disk.old) f.blocks (block + 1) to.new)) }
+    requires here { OfItsFile (D.history.image disk.old) file.now
+        (λ l n f. IsBlock (D.history.image disk.old) f.blocks block bytes.now) }
+    ensures ok { OfItsFile (D.history.image disk.old) file.now
+        (λ l n f. OnOk result (IsBlock (D.history.image disk.old) f.blocks (block + 1) to.new)) }
     ensures err { IfErr result (λ fault. fault ≡ Device) }
     ensures reads { OnlyReads D.history disk.old disk.new 1 }
     ensures failures { TellsRelFault D.history disk.old disk.new result }
@@ -78,7 +81,8 @@ fn read_there<D: Sectors>(
     requires of { IsOf (D.history.image disk.old) file.now }
     requires low { 1 ≤ number }
     requires high { number ≤ records_in file.now }
-    ensures ok { OfItsFile (D.history.image disk.old) file.now (λ l n f. OnOk result (IsRecord (records_of.records (D.history.image disk.old) f) number text.new.items)) }
+    ensures ok { OfItsFile (D.history.image disk.old) file.now (λ l n f.
+        OnOk result (IsRecord (records_of.records (D.history.image disk.old) f) number text.new.items)) }
     ensures size { OnOk result (length text.new.items ≡ length_of file.now) }
     ensures err { IfErr result (λ fault. fault ≡ Device) }
     ensures reads { OnlyReads D.history disk.old disk.new 3 }
@@ -107,10 +111,13 @@ pub fn read_record<D: Sectors>(
     text: &mut ArrayVec<u8, 254>,
 ) -> Result<(), RelFault>
     requires of { IsOf (D.history.image disk.old) file.now }
-    ensures ok { OfItsFile (D.history.image disk.old) file.now (λ l n f. OnOk result (IsRecord (records_of.records (D.history.image disk.old) f) number text.new.items)) }
+    ensures ok { OfItsFile (D.history.image disk.old) file.now (λ l n f.
+        OnOk result (IsRecord (records_of.records (D.history.image disk.old) f) number text.new.items)) }
     ensures size { OnOk result (length text.new.items ≡ length_of file.now) }
     ensures bound { OnOk result (number ≤ 182880) }
-    ensures not_present { OfItsFile (D.history.image disk.old) file.now (λ l n f. IfErr result (λ fault. fault ≡ NotPresent → IsAbsent (records_of.records (D.history.image disk.old) f) number)) }
+    ensures not_present { OfItsFile (D.history.image disk.old) file.now (λ l n f.
+        IfErr result
+        (λ fault. fault ≡ NotPresent → IsAbsent (records_of.records (D.history.image disk.old) f) number)) }
     ensures told { IfErr result (λ fault. (fault ≡ NotPresent) ⊎ (fault ≡ Device)) }
     // its side sector, and the one or two blocks where it lies
     ensures reads { OnlyReads D.history disk.old disk.new 3 }

@@ -36,7 +36,8 @@ pub(crate) fn side_count(blocks: u16) -> u16
 
 /// The data blocks that a file needs for its record `number`, None where no file can have them.
 pub(crate) fn blocks_for(number: u32, length: u8) -> Option<u16>
-    ensures { MatchOption result ((65535 < number) ⊎ (720 < growth.blocks_for length number)) (λ n. (n ≡ growth.blocks_for length number) × (n ≤ 720) × (number ≤ 65535)) }
+    ensures { MatchOption result ((65535 < number) ⊎ (720 < growth.blocks_for length number))
+        (λ n. (n ≡ growth.blocks_for length number) × (n ≤ 720) × (number ≤ 65535)) }
 {
     if number > 65535 {
         return None;

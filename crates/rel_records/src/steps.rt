@@ -26,7 +26,10 @@ fn write_side<D: Sectors>(
     size: u8,
 ) -> Result<(), DeviceFault>
     requires { number < length sides.now }
-    ensures ok { (q : Place) → slice_get sides.now number ≡ Some q → OnOk result (D.history.image disk.new ≡ put (D.history.image disk.old) q (side_sector number blocks.now sides.now size)) }
+    ensures ok { (q : Place) → slice_get sides.now number ≡ Some q
+        → OnOk result
+        (D.history.image disk.new
+        ≡ put (D.history.image disk.old) q (side_sector number blocks.now sides.now size)) }
     ensures moments { Changes D.history disk.old disk.new 1 (IsSided (D.history.image disk.old) blocks.now sides.now size) }
     ensures failures { TellsFailure D.history disk.old disk.new result }
 {
@@ -44,7 +47,9 @@ fn write_older<D: Sectors>(
 ) -> Result<(), DeviceFault>
     requires below { below < length sides.now }
     requires once { EachOnce sides.now }
-    ensures ok { OnOk result (AreSidedFrom below (D.history.image disk.old) blocks.now sides.now size → AreSidedFrom 0 (D.history.image disk.new) blocks.now sides.now size) }
+    ensures ok { OnOk result
+        (AreSidedFrom below (D.history.image disk.old) blocks.now sides.now size
+        → AreSidedFrom 0 (D.history.image disk.new) blocks.now sides.now size) }
     ensures moments { Changes D.history disk.old disk.new below (IsSided (D.history.image disk.old) blocks.now sides.now size) }
     ensures failures { TellsFailure D.history disk.old disk.new result }
 {
@@ -65,8 +70,11 @@ fn write_sides<D: Sectors>(
     requires some { 1 ≤ length sides.now }
     requires few { length sides.now ≤ 6 }
     requires once { EachOnce sides.now }
-    ensures ok { OnOk result (AreSidedFrom (if new then 0 else (length sides.now - 1)) (D.history.image disk.new) blocks.now sides.now size) }
-    ensures moments { Changes D.history disk.old disk.new (if new then (length sides.now) else 1) (IsSided (D.history.image disk.old) blocks.now sides.now size) }
+    ensures ok { OnOk result
+        (AreSidedFrom (if new then 0 else (length sides.now - 1)) (D.history.image disk.new) blocks.now sides.now
+        size) }
+    ensures moments { Changes D.history disk.old disk.new (if new then (length sides.now) else 1)
+        (IsSided (D.history.image disk.old) blocks.now sides.now size) }
     ensures failures { TellsFailure D.history disk.old disk.new result }
 {
     let last = sides.len() as u8 - 1;
@@ -89,8 +97,13 @@ fn prepare<D: Sectors>(
     requires some { 1 ≤ length parts.now.sides.items }
     requires few { length parts.now.sides.items ≤ 6 }
     requires once { EachOnce parts.now.sides.items }
-    ensures ok { OnOk result (AreSidedFrom (if new then 0 else (length parts.now.sides.items - 1)) (D.history.image disk.new) parts.now.blocks.items parts.now.sides.items parts.now.size × IsSided (put (put (D.history.image disk.old) map_place parts.now.map.bytes) fresh block.now) parts.now.blocks.items parts.now.sides.items parts.now.size (D.history.image disk.new)) }
-    ensures moments { Changes D.history disk.old disk.new (2 + (if new then (length parts.now.sides.items) else 1)) (IsBefore (D.history.image disk.old) parts.now fresh block.now) }
+    ensures ok { OnOk result
+        (AreSidedFrom (if new then 0 else (length parts.now.sides.items - 1)) (D.history.image disk.new)
+        parts.now.blocks.items parts.now.sides.items parts.now.size
+        × IsSided (put (put (D.history.image disk.old) map_place parts.now.map.bytes) fresh block.now)
+        parts.now.blocks.items parts.now.sides.items parts.now.size (D.history.image disk.new)) }
+    ensures moments { Changes D.history disk.old disk.new (2 + (if new then (length parts.now.sides.items) else 1))
+        (IsBefore (D.history.image disk.old) parts.now fresh block.now) }
     ensures failures { TellsFailure D.history disk.old disk.new result }
 {
     disk.write(map_place(), &parts.map.bytes)?;
@@ -110,8 +123,14 @@ pub(crate) fn add_block<D: Sectors>(disk: &mut D, parts: &mut Parts) -> Result<(
     requires at { StandsAt (D.history.image disk.old) parts.old }
     requires few { length parts.old.blocks.items < 720 }
     requires room { taken_next (length parts.old.blocks.items) ≤ blocks_free parts.old.map.bytes }
-    ensures ok { (l : Layout) → (n : ℕ) → (f : File) → IsAt (D.history.image disk.old) l n f parts.old → IsFilledUp f → OnOk result (HasBlockMore (D.history.image disk.old) (D.history.image disk.new) l n f parts.old parts.new) }
-    ensures moments { (l : Layout) → (n : ℕ) → (f : File) → IsAt (D.history.image disk.old) l n f parts.old → IsFilledUp f → Changes D.history disk.old disk.new (step_writes (length f.blocks)) (IsGrowingBy (D.history.image disk.old) l n f (full (record_length f.slot) (length f.blocks + 1) - full (record_length f.slot) (length f.blocks))) }
+    ensures ok { (l : Layout) → (n : ℕ) → (f : File) → IsAt (D.history.image disk.old) l n f parts.old → IsFilledUp f
+        → OnOk result
+        (HasBlockMore (D.history.image disk.old) (D.history.image disk.new) l n f parts.old parts.new) }
+    ensures moments { (l : Layout) → (n : ℕ) → (f : File) → IsAt (D.history.image disk.old) l n f parts.old → IsFilledUp f
+        → Changes D.history disk.old disk.new (step_writes (length f.blocks))
+        (IsGrowingBy (D.history.image disk.old) l n f
+        (full (record_length f.slot) (length f.blocks + 1) - full (record_length f.slot)
+        (length f.blocks))) }
     ensures failures { TellsFailure D.history disk.old disk.new result }
 {
     let count = parts.blocks.len();

@@ -32,10 +32,16 @@ fn write_block<D: Sectors>(
 ) -> Result<Option<Place>, RelFault>
     requires order { start ≤ end }
     requires inside { end ≤ 254 }
-    ensures ok { OnOk result (D.history.image disk.new ≡ put (D.history.image disk.old) place (patched start end text.now (sector (D.history.image disk.old) place))) }
+    ensures ok { OnOk result
+        (D.history.image disk.new
+        ≡ put (D.history.image disk.old) place
+        (patched start end text.now (sector (D.history.image disk.old) place))) }
     ensures next { IfOk result (λ next. next ≡ named_at (sector (D.history.image disk.old) place) 0) }
     ensures err { IfErr result (λ fault. fault ≡ Device) }
-    ensures held { HeldOnly D.history disk.old disk.new (OldOr (D.history.image disk.old) (put (D.history.image disk.old) place (patched start end text.now (sector (D.history.image disk.old) place)))) }
+    ensures held { HeldOnly D.history disk.old disk.new
+        (OldOr (D.history.image disk.old)
+        (put (D.history.image disk.old) place
+        (patched start end text.now (sector (D.history.image disk.old) place)))) }
     ensures writes { D.history.writes disk.new ≤ D.history.writes disk.old + 1 }
     ensures uncounted { OnErr result (D.history.writes disk.new ≡ D.history.writes disk.old) }
     ensures failures { TellsRelFault D.history disk.old disk.new result }
@@ -68,9 +74,16 @@ fn write_in_block<D: Sectors>(
     requires to { number * length_of file.now ≤ 254 * block + 254 }
     requires few { block < 720 }
     requires large { number * length_of file.now ≤ 182880 }
-    ensures ok { OfItsFile (D.history.image disk.old) file.now (λ l n f. OnOk result (LeavesRecords (D.history.image disk.old) (D.history.image disk.new) l n (with_written (record_length f.slot) number position text.now (records_of.records (D.history.image disk.old) f)) file.now)) }
+    ensures ok { OfItsFile (D.history.image disk.old) file.now (λ l n f.
+        OnOk result
+        (LeavesRecords (D.history.image disk.old) (D.history.image disk.new) l n
+        (with_written (record_length f.slot) number position text.now
+        (records_of.records (D.history.image disk.old) f))
+        file.now)) }
     ensures err { IfErr result (λ fault. fault ≡ Device) }
-    ensures moments { OfItsFile (D.history.image disk.old) file.now (λ l n f. Changes D.history disk.old disk.new 1 (IsWriting (D.history.image disk.old) l n f 0 number position text.now)) }
+    ensures moments { OfItsFile (D.history.image disk.old) file.now (λ l n f.
+        Changes D.history disk.old disk.new 1
+        (IsWriting (D.history.image disk.old) l n f 0 number position text.now)) }
     ensures uncounted { OnErr result (D.history.writes disk.new ≡ D.history.writes disk.old) }
     ensures failures { TellsRelFault D.history disk.old disk.new result }
 {
@@ -104,9 +117,16 @@ fn write_across<D: Sectors>(
     requires over { 254 * block + 254 < number * length_of file.now }
     requires few { block < 720 }
     requires large { number * length_of file.now ≤ 182880 }
-    ensures ok { OfItsFile (D.history.image disk.old) file.now (λ l n f. OnOk result (LeavesRecords (D.history.image disk.old) (D.history.image disk.new) l n (with_written (record_length f.slot) number position text.now (records_of.records (D.history.image disk.old) f)) file.now)) }
+    ensures ok { OfItsFile (D.history.image disk.old) file.now (λ l n f.
+        OnOk result
+        (LeavesRecords (D.history.image disk.old) (D.history.image disk.new) l n
+        (with_written (record_length f.slot) number position text.now
+        (records_of.records (D.history.image disk.old) f))
+        file.now)) }
     ensures err { IfErr result (λ fault. fault ≡ Device) }
-    ensures moments { OfItsFile (D.history.image disk.old) file.now (λ l n f. Changes D.history disk.old disk.new 2 (IsWriting (D.history.image disk.old) l n f 0 number position text.now)) }
+    ensures moments { OfItsFile (D.history.image disk.old) file.now (λ l n f.
+        Changes D.history disk.old disk.new 2
+        (IsWriting (D.history.image disk.old) l n f 0 number position text.now)) }
     ensures failures { TellsRelFault D.history disk.old disk.new result }
 {
     let size = file.size as usize;
@@ -133,11 +153,19 @@ fn write_there<D: Sectors>(
     requires high { number ≤ records_in file.now }
     requires position_low { 1 ≤ position }
     requires position_high { position ≤ length_of file.now }
-    ensures ok { OfItsFile (D.history.image disk.old) file.now (λ l n f. OnOk result (LeavesRecords (D.history.image disk.old) (D.history.image disk.new) l n (with_written (record_length f.slot) number position text.now (records_of.records (D.history.image disk.old) f)) file.now)) }
+    ensures ok { OfItsFile (D.history.image disk.old) file.now (λ l n f.
+        OnOk result
+        (LeavesRecords (D.history.image disk.old) (D.history.image disk.new) l n
+        (with_written (record_length f.slot) number position text.now
+        (records_of.records (D.history.image disk.old) f))
+        file.now)) }
     ensures err { IfErr result (λ fault. fault ≡ Device) }
-    ensures moments { OfItsFile (D.history.image disk.old) file.now (λ l n f. Changes D.history disk.old disk.new (touched (length_of file.now) number position) (IsWriting (D.history.image disk.old) l n f 0 number position text.now)) }
+    ensures moments { OfItsFile (D.history.image disk.old) file.now (λ l n f.
+        Changes D.history disk.old disk.new (touched (length_of file.now) number position)
+        (IsWriting (D.history.image disk.old) l n f 0 number position text.now)) }
     // a record in one block is written at once
-    ensures uncounted { IsInOneBlock (length_of file.now) number → OnErr result (D.history.writes disk.new ≡ D.history.writes disk.old) }
+    ensures uncounted { IsInOneBlock (length_of file.now) number
+        → OnErr result (D.history.writes disk.new ≡ D.history.writes disk.old) }
     ensures failures { TellsRelFault D.history disk.old disk.new result }
 {
     let size = file.size as usize;
@@ -169,7 +197,12 @@ pub fn write_record<D: Sectors>(
     requires position_low { 1 ≤ position }
     requires position_high { position ≤ length_of file.old }
     // the record is written, whole or cut
-    ensures done { OfItsFile (D.history.image disk.old) file.old (λ l n f. IsDone result → LeavesRecords (D.history.image disk.old) (D.history.image disk.new) l n (with_written (record_length f.slot) number position text.now (grown_to (D.history.image disk.old) f number)) file.new) }
+    ensures done { OfItsFile (D.history.image disk.old) file.old (λ l n f.
+        IsDone result
+        → LeavesRecords (D.history.image disk.old) (D.history.image disk.new) l n
+        (with_written (record_length f.slot) number position text.now
+        (grown_to (D.history.image disk.old) f number))
+        file.new) }
     ensures ok { OnOk result (length text.now + position ≤ length_of file.old + 1) }
     ensures overflow { IfErr result (λ fault. fault ≡ Overflow → length_of file.old + 1 < length text.now + position) }
     ensures there { IsDone result → (number ≤ records_in file.new) × (number ≤ 182880) }
@@ -177,14 +210,23 @@ pub fn write_record<D: Sectors>(
     // refusals of growth, and no other
     ensures told { IfErr result (λ fault. (fault ≡ Overflow) ⊎ ((fault ≡ TooLarge) ⊎ ((fault ≡ Full) ⊎ (fault ≡ Device)))) }
     ensures too_large { OfItsFile (D.history.image disk.old) file.old (λ l n f. (result ≡ Err TooLarge) ↔ IsTooLarge f number) }
-    ensures full { OfItsFile (D.history.image disk.old) file.old (λ l n f. IfErr result (λ fault. fault ≡ Full → IsFull (D.history.image disk.old) f number)) }
-    ensures fits { OfItsFile (D.history.image disk.old) file.old (λ l n f. IsDone result → ¬ (IsFull (D.history.image disk.old) f number)) }
-    ensures refused { IfErr result (λ fault. fault ≢ Device → fault ≢ Overflow → (file.new ≡ file.old) × OnlyReads D.history disk.old disk.new 1) }
+    ensures full { OfItsFile (D.history.image disk.old) file.old
+        (λ l n f. IfErr result (λ fault. fault ≡ Full → IsFull (D.history.image disk.old) f number)) }
+    ensures fits { OfItsFile (D.history.image disk.old) file.old
+        (λ l n f. IsDone result → ¬ (IsFull (D.history.image disk.old) f number)) }
+    ensures refused { IfErr result (λ fault.
+        fault ≢ Device → fault ≢ Overflow → (file.new ≡ file.old) × OnlyReads D.history disk.old disk.new 1) }
     // every image held
-    ensures moments { OfItsFile (D.history.image disk.old) file.old (λ l n f. Changes D.history disk.old disk.new (growth_writes f number + touched (record_length f.slot) number position) (IsWriting (D.history.image disk.old) l n f (added (record_length f.slot) (records_had f) number) number position text.now)) }
-    ensures others { OfItsFile (D.history.image disk.old) file.old (λ l n f. KeepsRelFiles (D.history.image disk.old) (D.history.image disk.new) l n) }
+    ensures moments { OfItsFile (D.history.image disk.old) file.old (λ l n f.
+        Changes D.history disk.old disk.new
+        (growth_writes f number + touched (record_length f.slot) number position)
+        (IsWriting (D.history.image disk.old) l n f (added (record_length f.slot) (records_had f) number)
+        number position text.now)) }
+    ensures others { OfItsFile (D.history.image disk.old) file.old
+        (λ l n f. KeepsRelFiles (D.history.image disk.old) (D.history.image disk.new) l n) }
     // a record that is there and lies in one block is written at once: a write that was counted is the whole one
-    ensures uncounted { number ≤ records_in file.old → IsInOneBlock (length_of file.old) number → IfErr result (λ fault. fault ≢ Overflow → D.history.writes disk.new ≡ D.history.writes disk.old) }
+    ensures uncounted { number ≤ records_in file.old → IsInOneBlock (length_of file.old) number
+        → IfErr result (λ fault. fault ≢ Overflow → D.history.writes disk.new ≡ D.history.writes disk.old) }
     ensures entry { entry_of file.new ≡ entry_of file.old }
     ensures failures { TellsRelFault D.history disk.old disk.new result }
 {

@@ -1,7 +1,7 @@
 //! The disks of the rows.
-ghost use Rattle.std.specs.Prelude.{IfOk};
+ghost use Rattle.std.specs.Prelude.{IfOk, ◌≡◌};
 ghost use Rattle.disk_layout.specs.Clean.{IsClean};
-ghost use Rattle.rel_records.specs.File.{IsOf};
+ghost use Rattle.rel_records.specs.File.{IsOf, length_of};
 
 use d64_image::{DeviceFault, MemDisk, Place, Sectors};
 use disk_layout::blank_image;
@@ -18,12 +18,15 @@ pub(crate) fn fresh(alloc: Global) -> Result<MemDisk, Fail> {
     Ok(disk)
 }
 
-/// STOCK of a clean disk.
+/// STOCK of a clean disk, whose records have 18 bytes.
 pub(crate) fn stock<D: Sectors>(disk: &mut D) -> Result<RelFile, Fail>
-    ensures ok { IfOk result (λ file. IsClean (D.history.image disk.new) × IsOf (D.history.image disk.new) file) }
+    ensures ok { IfOk result (λ file. IsClean (D.history.image disk.new) × IsOf (D.history.image disk.new) file × (length_of file ≡ 18)) }
 {
     check(disk)?;
     let file = find(disk, b"STOCK")?;
+    if file.length() != 18 {
+        return Err(Fail::new("the records of STOCK have another length"));
+    }
     Ok(file)
 }
 

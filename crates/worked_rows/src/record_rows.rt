@@ -1,41 +1,96 @@
 //! Records written past the end, and read on a full disk.
-use crate::disks::{fresh, stock};
+ghost use Rattle.std.specs.Prelude.{◌≤◌};
+
+use crate::disks::{fresh, sector, stock};
 use arrayvec::ArrayVec;
-use d64_image::Meter;
-use rel_records::{grow_to, read_record, records, write_record};
+use d64_image::{MemDisk, Meter, Place, Sectors};
+use rel_records::{RelFault, grow_to, read_record, records, write_record};
 use std::test::Fail;
 
-// Record 15 needs a block, and lies in two: five writes and two. Then its second part alone is written.
+/// What a write of a record did: its answer, how many sectors it wrote, and how many records the file has then.
+type Written = (Result<(), RelFault>, u64, u32);
+
+/// Writes a text into a record of STOCK, and reads the record back on the disk as it is found again.
+fn write(
+    disk: MemDisk,
+    number: u32,
+    position: u8,
+    text: &[u8],
+    record: &mut ArrayVec<u8, 254>,
+) -> Result<(MemDisk, Written), Fail>
+    requires number { 1 ≤ number }
+    requires position_low { 1 ≤ position }
+    requires position_high { position ≤ 18 }
+{
+    let mut disk = Meter::new(disk);
+    let mut file = stock(&mut disk)?;
+    let answer = write_record(&mut disk, &mut file, number, position, text);
+    let writes = disk.writes();
+    let again = stock(&mut disk)?;
+    read_record(&mut disk, &again, number, record)?;
+    Ok((disk.into_inner(), (answer, writes, records(&again))))
+}
+
+// On the blank disk, one after another. Record 15 needs a block, and lies in two: five writes and two. Then its second
+// part alone is written. A text that is too long is cut.
 #[test]
-fn a_record_is_written_past_the_end(rt: HostRuntime) -> Result<(), Fail> {
-    let mut disk = Meter::new(fresh(rt.alloc())?);
-    let mut text = ArrayVec::new();
-    let rows = [
+fn a_record_is_written(rt: HostRuntime) -> Result<(), Fail> {
+    let mut disk = fresh(rt.alloc())?;
+    let mut record = ArrayVec::new();
+    for (number, position, text, written, bytes) in [
         (
+            15,
             1,
             b"K,00015,000000007\r".as_slice(),
-            7,
+            (Ok(()), 7u64, 28u32),
             b"K,00015,000000007\r",
         ),
         (
+            15,
             3,
             b"X".as_slice(),
-            8,
+            (Ok(()), 1, 28),
             b"K,X\0\0\0\0\0\0\0\0\0\0\0\0\0\0\0",
         ),
-    ];
-    for (position, written, writes, bytes) in rows {
-        let mut file = stock(&mut disk)?;
-        write_record(&mut disk, &mut file, 15, position, written)?;
-        assert_eq!(rt; (disk.writes(), records(&file)), (writes, 28));
-        // the disk is clean, and found again it has that record
-        let again = stock(&mut disk)?;
-        read_record(&mut disk, &again, 15, &mut text)?;
-        assert!(rt;
-            text.as_slice() == bytes.as_slice(),
-            "from position {position}"
+        (
+            1,
+            17,
+            b"ABC".as_slice(),
+            (Err(RelFault::Overflow), 1, 28),
+            b"\xFF\0\0\0\0\0\0\0\0\0\0\0\0\0\0\0AB",
+        ),
+    ] {
+        let (after, got) = write(disk, number, position, text, &mut record)?;
+        assert_eq!(rt; got, written, "record {number} from position {position}");
+        assert_eq!(rt;
+            record.as_slice(),
+            bytes.as_slice(),
+            "record {number} from position {position}"
         );
+        disk = after;
     }
+    Ok(())
+}
+
+// Its last index at 13, STOCK has one record; record 2 is made with all others that fit.
+#[test]
+fn a_short_file_is_filled(rt: HostRuntime) -> Result<(), Fail> {
+    let mut disk = fresh(rt.alloc())?;
+    let mut bytes = sector(&mut disk, 17, 0)?;
+    bytes[1] = 19;
+    disk.write(Place::new(17, 0).unwrap(), &bytes)?;
+    let file = stock(&mut disk)?;
+    let mut record = ArrayVec::new();
+    assert_eq!(rt; records(&file), 1);
+    let missing = read_record(&mut disk, &file, 2, &mut record);
+    assert_eq!(rt; missing, Err(RelFault::NotPresent));
+    let (mut disk, got) = write(disk, 2, 1, b"A", &mut record)?;
+    assert_eq!(rt; got, (Ok(()), 2, 14));
+    assert_eq!(rt;
+        record.as_slice(),
+        b"A\0\0\0\0\0\0\0\0\0\0\0\0\0\0\0\0\0".as_slice()
+    );
+    assert_eq!(rt; sector(&mut disk, 17, 0)?[1], 0xFD);
     Ok(())
 }
 
@@ -50,7 +105,7 @@ fn three_sectors_are_read(rt: HostRuntime) -> Result<(), Fail> {
         let file = stock(&mut disk)?;
         let before = disk.reads();
         read_record(&mut disk, &file, number, &mut text)?;
-        assert_eq!(rt; disk.reads(), before + reads, "record {number}");
+        assert_eq!(rt; disk.reads().wrapping_sub(before), reads, "record {number}");
     }
     Ok(())
 }

@@ -1,5 +1,5 @@
 -- A clean disk is sound, and reads leave it.
-use Rattle.std.proofs.Common.{◌∙◌, sym, subst}
+use Rattle.std.proofs.Common.{◌∙◌, arith, sym, subst}
 use Rattle.d64_image.specs.Images.{Image}
 use Rattle.disk_layout.specs.Clean.{IsClean}
 use Rattle.disk_layout.specs.Layout.{IsSound}
@@ -19,4 +19,4 @@ returns g c =
     let (m, layout) = subst IsSound (sym c.in_ok-check.ensures.reads.image) (l, clean.layout) in
     let (f, first, of) = c.in_ok-file.ensures.ok m layout in
     let P : Image → Type 0 = λ img. IsOf img v in
-    record { ok = (subst IsClean (sym same) (l, clean), subst P (sym c.in_ok-file.ensures.reads.image) (m, entry_of v, f, of)) }
+    record { ok = (subst IsClean (sym same) (l, clean), subst P (sym c.in_ok-file.ensures.reads.image) (m, entry_of v, f, of), omega arith) }

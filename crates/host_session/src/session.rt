@@ -1,0 +1,155 @@
+//! An open session: the drive over a shop's disk, and what was read of it.
+ghost use Rattle.std.specs.Prelude.{◌≡◌, ◌≤◌, ◌↔◌, IfOk, IfSome, IsErr, Some, false, option_map, true};
+ghost use Rattle.host_session.specs.Deciding.{IsInTable};
+ghost use Rattle.host_session.specs.Handling.{told_of};
+ghost use Rattle.host_session.specs.Selecting.{IsReady};
+ghost use Rattle.host_session.specs.Shop.{IsSettled, IsShop, Shop};
+ghost use Rattle.host_session.specs.Standing.{IsStanding, View, nth, state_in, view_code};
+
+use d64_image::Sectors;
+use drive_channels::{Dead, Drive};
+use request_cards::{Answer, Request, RequestCard};
+use std::marker::Model;
+
+/// An open ledger: a shop on a disk.
+///
+/// What the disk holds is kept here as well, so that a repeat, a refused request and a decision read no sector. Once the
+/// device has failed the session is dead: nothing is written any more, and the disk is to be opened again.
+pub struct Session<D: Sectors> {
+    pub(crate) drive: Drive<D>,
+    /// Whether the device failed.
+    pub(crate) dead: bool,
+    /// The last item that a new card may have.
+    pub(crate) top: u16,
+    /// How many tills the disk has.
+    pub(crate) tills: u8,
+    /// The quantity on hand of each item, from item 1 on; as many as the largest file has records.
+    pub(crate) cards: [Option<u32>; 10160],
+    /// The card of each till, from till 1 on.
+    pub(crate) requests: [Option<RequestCard>; 64],
+}
+
+impl<D: Sectors> Model for Session<D> {
+    ghost Value = { View D };
+
+    ghost coded = { view_code D.code };
+
+    ghost view = { λ s. record { disk = s.drive.disk; dead = s.dead } };
+
+    ghost invariant = { λ s. IsStanding (D.history.image s.drive.disk) s.dead s.top s.tills (state_in s.cards s.requests) × (s.dead ≡ false → IsReady D.history s.drive) };
+}
+
+impl<D: Sectors> Session<D> {
+    /// Whether the device failed: a message got MEDIA.
+    pub fn is_dead(&self) -> bool
+        ensures value { result ≡ self.now.dead }
+        // else the disk is at rest
+        ensures settled { result ≡ false → (s : Shop) → IsShop (D.history.image self.now.disk) s → IsSettled (D.history.image self.now.disk) s }
+    {
+        self.dead
+    }
+
+    /// The greatest item that a new card may have.
+    pub fn top(&self) -> u16
+        ensures { (s : Shop) → IsShop (D.history.image self.now.disk) s → result ≡ s.top }
+    {
+        self.top
+    }
+
+    /// How many tills the disk has: 0 to 64.
+    pub fn tills(&self) -> u8
+        ensures { (s : Shop) → IsShop (D.history.image self.now.disk) s → result ≡ s.tills }
+    {
+        self.tills
+    }
+
+    /// The disk.
+    pub fn close(self) -> D
+        ensures { result ≡ self.disk }
+    {
+        let Session {
+            drive,
+            dead: _,
+            top: _,
+            tills: _,
+            cards: _,
+            requests: _,
+        } = self;
+        drive.into_disk()
+    }
+}
+
+/// The quantity that a table of cards holds for an item.
+pub(crate) fn on_hand(cards: &[Option<u32>; 10160], item: u16) -> Option<u32>
+    ensures value { result ≡ nth cards.now item }
+    ensures within { IfSome result (λ _. IsInTable item) }
+{
+    if item == 0 {
+        return None;
+    }
+    let place = usize::from(item) - 1;
+    if place < 10160 { cards[place] } else { None }
+}
+
+/// The card that a table of request cards holds for a till.
+pub(crate) fn card_of(requests: &[Option<RequestCard>; 64], till: u8) -> Option<RequestCard>
+    ensures value { result ≡ nth requests.now till }
+    ensures within { IfSome result (λ _. (1 ≤ till) × (till ≤ 64)) }
+{
+    if till == 0 {
+        return None;
+    }
+    let place = usize::from(till) - 1;
+    if place < 64 { requests[place] } else { None }
+}
+
+/// The newest request of a card with its answer, as that of this till.
+pub(crate) fn newest_of(card: &RequestCard, till: u8) -> Option<(Request, Answer)>
+    requires low { 1 ≤ till }
+    requires high { till ≤ 64 }
+    ensures { result ≡ Some (told_of till card.now.newest) }
+{
+    let request = card.request(till)?;
+    Some((request, card.answer()))
+}
+
+impl<D: Sectors> Session<D> {
+    /// The quantity on hand of an item, where it has a card. Err where the session is dead.
+    pub fn card(&self, item: u16) -> Result<Option<u32>, Dead>
+        ensures ok { (s : Shop) → IsShop (D.history.image self.now.disk) s → IfOk result (λ q. q ≡ s.state.ledger.cards item) }
+        ensures dead { IsErr result ↔ (self.now.dead ≡ true) }
+    {
+        if self.dead {
+            return Err(Dead);
+        }
+        Ok(on_hand(&self.cards, item))
+    }
+
+    /// The last request of a till with its answer, where the till has one. Err where the session is dead.
+    pub fn kept(&self, till: u8) -> Result<Option<(Request, Answer)>, Dead>
+        ensures ok { (s : Shop) → IsShop (D.history.image self.now.disk) s → IfOk result (λ e. e ≡ option_map (told_of till) (s.state.ledger.kept till)) }
+        ensures dead { IsErr result ↔ (self.now.dead ≡ true) }
+    {
+        if self.dead {
+            return Err(Dead);
+        }
+        let Some(card) = card_of(&self.requests, till) else {
+            return Ok(None);
+        };
+        Ok(newest_of(&card, till))
+    }
+
+    /// The request of a till before its last one with its answer, where the disk has it. Err where the session is dead.
+    pub fn prior(&self, till: u8) -> Result<Option<(Request, Answer)>, Dead>
+        ensures ok { (s : Shop) → IsShop (D.history.image self.now.disk) s → IfOk result (λ e. e ≡ option_map (told_of till) (s.state.prior till)) }
+        ensures dead { IsErr result ↔ (self.now.dead ≡ true) }
+    {
+        if self.dead {
+            return Err(Dead);
+        }
+        let Some(card) = card_of(&self.requests, till) else {
+            return Ok(None);
+        };
+        Ok(card.prior(till))
+    }
+}
