@@ -15,6 +15,7 @@ mod judging;
 mod listing;
 mod reading;
 mod replaced;
+mod showing;
 mod shows;
 mod table;
 #[cfg(test)]
