@@ -71,7 +71,11 @@ fn script_of<'a>(alloc: Global) -> Arg<'a>
     ensures rule { rule_of result ≡ grammar.required (codes "SCRIPT") }
     ensures local { result.global ≡ false }
 {
-    required(alloc, "SCRIPT", "The script, a message a line; /dev/stdin is standard input")
+    required(
+        alloc,
+        "SCRIPT",
+        "The script, a message a line; /dev/stdin is standard input",
+    )
 }
 
 /// `show IMAGE`

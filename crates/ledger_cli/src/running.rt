@@ -10,7 +10,9 @@ ghost use Rattle.ledger_commands.specs.Tables.{dry_report};
 
 use crate::jobs::Job;
 use disk_layout::Fault;
-use ledger_commands::{DryFault, RunFault, check_image, dry, format_file, list_image};
+use ledger_commands::{
+    DryFault, RunFault, check_image, dry, format_file, list_image, play_image, show_image,
+};
 use std::alloc::Global;
 use std::fmt::Display;
 use std::io::{Seek, Write};
@@ -85,7 +87,11 @@ pub fn run<F: Write + Seek + Drop, W: Write, E: Write>(
         Job::Format { image: _, tills } => status_after(format_file(alloc, *tills, file, out), err),
         Job::List { image: _ } => status_after(list_image(alloc, image, out), err),
         Job::Check { image: _ } => judged(check_image(alloc, image, out), err),
-        Job::Show { image: _ } | Job::Play { image: _, script: _ } => status_after(Err(RunFault::Device), err),
+        Job::Show { image: _ } => status_after(show_image(alloc, image, out), err),
+        Job::Play {
+            image: _,
+            script: _,
+        } => status_after(play_image(alloc, image, script, file, out), err),
         Job::Dry { script: _ } => match play_whole(script, out) {
             Ok(()) => 0,
             Err(fault) => {

@@ -2,6 +2,10 @@
 use Rattle.std.specs.Prelude.{◌≡◌, ℕ, Option, Some, None}
 use Rattle.std.specs.declared.io.ErrorKind.{ErrorKind}
 use Rattle.std.specs.declared.io.ErrorKind.TheVariants as kinds
+use Rattle.host_session.specs.declared.faults.OpenFault.{OpenFault}
+use Rattle.host_session.specs.declared.faults.OpenFault.TheVariants as opening
+use Rattle.host_session.specs.declared.running.ScriptFault.{ScriptFault}
+use Rattle.host_session.specs.declared.running.ScriptFault.TheVariants as script
 use Rattle.ledger_commands.specs.declared.dry_run.DryFault.{DryFault}
 use Rattle.ledger_commands.specs.declared.dry_run.DryFault.TheVariants as dry
 use Rattle.ledger_commands.specs.declared.faults.RunFault.{RunFault}
@@ -41,3 +45,20 @@ run_status run.Device = 3
 abbrev pub io_fault : ErrorKind → RunFault
 io_fault kinds.OutOfMemory = run.NoMemory
 io_fault _ = run.File
+
+-- what is told where a shop's disk isn't opened for this fault
+abbrev pub opening_fault : OpenFault → RunFault
+opening_fault (opening.Layout fault) = run.Layout fault
+opening_fault opening.NoStock = run.NoStock
+opening_fault opening.NoRequests = run.NoRequests
+opening_fault (opening.BadCard item) = run.BadCard item
+opening_fault (opening.BadRequestCard till) = run.BadRequestCard till
+opening_fault opening.TwoIntents = run.TwoIntents
+opening_fault opening.Device = run.Device
+
+-- what is told where a script isn't played to its end for this fault
+abbrev pub script_fault : ScriptFault → RunFault
+script_fault (script.Open fault) = opening_fault fault
+script_fault (script.BadLine line) = run.BadLine line
+script_fault script.Output = run.File
+script_fault script.Device = run.Device

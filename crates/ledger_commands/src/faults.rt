@@ -1,11 +1,12 @@
 //! Why a job over an image isn't done.
 ghost use Rattle.std.specs.Prelude.{◌≡◌, Some};
 ghost use Rattle.std.specs.IoError.{error_kind};
-ghost use Rattle.ledger_commands.specs.Faults.{io_fault, run_status};
+ghost use Rattle.ledger_commands.specs.Faults.{io_fault, opening_fault, run_status, script_fault};
 ghost use Rattle.ledger_commands.specs.Texts.{refusal_text};
 
 use crate::texts::FaultText;
 use disk_layout::Fault;
+use host_session::{OpenFault, ScriptFault};
 use std::error::Error;
 use std::fmt::{self, Display, Formatter};
 use std::io;
@@ -54,6 +55,33 @@ impl RunFault {
             | RunFault::TwoIntents
             | RunFault::BadLine(_) => 1,
             RunFault::File | RunFault::NoMemory | RunFault::Device => 3,
+        }
+    }
+
+    /// What is told where a shop's disk isn't opened for this fault.
+    pub fn of_opening(fault: OpenFault) -> RunFault
+        ensures { result ≡ opening_fault fault }
+    {
+        match fault {
+            OpenFault::Layout(fault) => RunFault::Layout(fault),
+            OpenFault::NoStock => RunFault::NoStock,
+            OpenFault::NoRequests => RunFault::NoRequests,
+            OpenFault::BadCard(record) => RunFault::BadCard(record),
+            OpenFault::BadRequestCard(till) => RunFault::BadRequestCard(till),
+            OpenFault::TwoIntents => RunFault::TwoIntents,
+            OpenFault::Device => RunFault::Device,
+        }
+    }
+
+    /// What is told where a script isn't played to its end for this fault.
+    pub fn of_script(fault: ScriptFault) -> RunFault
+        ensures { result ≡ script_fault fault }
+    {
+        match fault {
+            ScriptFault::Open(fault) => RunFault::of_opening(fault),
+            ScriptFault::BadLine(line) => RunFault::BadLine(line),
+            ScriptFault::Output => RunFault::File,
+            ScriptFault::Device => RunFault::Device,
         }
     }
 
