@@ -13,7 +13,7 @@ use Rattle.request_cards.specs.declared.kind.Kind.TheVariants.{Issue, Move}
 use Rattle.request_cards.specs.Ledgers.{State}
 use Rattle.request_cards.specs.Trade.{put}
 use Rattle.ledger_commands.specs.Faults.{run_status}
-use Rattle.ledger_commands.specs.Shows.{shown_shop, told_part}
+use Rattle.ledger_commands.specs.Shows.{shown_shop, told_part, up_to}
 use Rattle.ledger_commands.specs.Texts.{disk_text, dry_text, entry_text, listing, quoted, refusal_text, type_text, verdict_text}
 use Rattle.ledger_commands.specs.declared.dry_run.DryFault.TheVariants as dry
 use Rattle.ledger_commands.specs.declared.faults.RunFault.TheVariants as run
@@ -95,5 +95,5 @@ shop = record {
 
 pub a_shop_is_shown_so :
     shown_shop 9256 shop ≡ codes "TOP 9256\nCARD 42,100\nTILL 1,4,I,42,20,DONE,100\nPRIOR 1,3,I,42,5,DONE,120\n"
-unfolding shown_shop digits
+unfolding shown_shop up_to digits
 a_shop_is_shown_so = refl

@@ -1,4 +1,5 @@
 pub mod Examples
+pub mod Lines
 pub mod Listings
 pub mod Replies
 pub mod Tables

@@ -6,7 +6,7 @@ use Rattle.request_cards.specs.Requests.{Ask}
 use Rattle.request_cards.specs.Texts.{answer_text, message_text}
 
 -- the lines of 1, 2 and so on up to n
-abbrev pub up_to : ℕ → (ℕ → List ℕ) → List ℕ
+unfoldable pub up_to : ℕ → (ℕ → List ℕ) → List ℕ
 up_to zero line = []
 up_to (suc n) line = up_to n line ++ line (suc n)
 

@@ -85,7 +85,11 @@ pub fn show_image<W: Write>(alloc: Global, image: &[u8], out: &mut W) -> Result<
 {
     let disk = load(alloc, image)?;
     match Session::open(disk) {
-        Ok(session) => put_shop(&session, out),
+        Ok(session) => {
+            let shown = put_shop(&session, out);
+            let _ = session.close();
+            shown
+        }
         Err((fault, _)) => Err(RunFault::of_opening(fault)),
     }
 }
