@@ -1,5 +1,6 @@
 -- Worked examples of this crate's definitions, each named by what it shows. The numbers are those of the D64 layout.
-use Rattle.std.proofs.Common.{◌+◌, ◌≡◌, ◌<◌, ◌≤◌, ◌≢◌, [], ◌∷◌, Some, None, Err, inl, refl, lit<, lit≤, ⊎_elim, arith}
+use Rattle.std.proofs.Common.{ℕ, ◌+◌, ◌≡◌, ◌<◌, ◌≤◌, ◌≢◌, List, [], ◌∷◌, Option, Some, None, Err, true, inl, refl, sym, ◌∙◌, lit<, lit≤, ⊎_elim, arith}
+use Rattle.std.proofs.lemmas.Option.{none-some, same_Some}
 use Rattle.d64_image.specs.declared.place.Place.{Place}
 use Rattle.d64_image.specs.Geometry.{sectors_on, sectors_below}
 use Rattle.d64_image.specs.Places.{index_of, place_at, first_place}
@@ -9,8 +10,12 @@ use Rattle.d64_image.specs.Faults.{device_fault}
 use Rattle.d64_image.specs.Fuses.{fuse, fuse_left}
 use Rattle.d64_image.specs.History.{History, HeldOnly, Failed, IfCounted, OnlyReads, OldOr, WritesNothing}
 use Rattle.d64_image.specs.Memory.{memory}
+use Rattle.d64_image.specs.Mirrors.{IsHanded, IsSought, mirror, offset_of, overwritten}
+use Rattle.d64_image.specs.OneFaults.{calls_left, fault_place, is_due, one_fault}
 use Rattle.d64_image.specs.declared.fuse.Fuse.{Fuse}
 use Rattle.d64_image.specs.declared.mem_disk.MemDisk.{MemDisk}
+use Rattle.d64_image.specs.declared.mirror.Mirror.{Mirror}
+use Rattle.d64_image.specs.declared.one_fault.OneFault.{OneFault}
 use Rattle.d64_image.proofs.Places.{place_at-none, place_at-self}
 
 -- the map's sector, and the last sector of the disk
@@ -110,3 +115,39 @@ blown_fuse_fails_everywhere h f p blown = inl blown
 
 pub whole_fuse_fails_beneath : (f : Fuse MemDisk) (p : Place) → fuse_left f ≡ 1 → ¬ ((fuse memory).failed_at f p)
 whole_fuse_fails_beneath f p left = ⊎_elim (λ blown. omega (arith, left, blown)) (λ never. never)
+
+-- 18/0 begins at $16500 of the file, where 17/20 ends
+pub map_is_at_16500_of_the_file : offset_of map_sector ≡ 91392
+unfolding index_of sectors_below
+map_is_at_16500_of_the_file = refl
+
+pub two_bytes_are_overwritten : overwritten (1 ∷ 2 ∷ 3 ∷ 4 ∷ []) 1 (5 ∷ 6 ∷ []) ≡ 1 ∷ 5 ∷ 6 ∷ 4 ∷ []
+two_bytes_are_overwritten = refl
+
+-- a file that stands elsewhere isn't handed a sector without a seek
+pub file_that_stands_elsewhere_is_sought : {F : Type 0} (position : F → Option ℕ) (bytes contents : F → Option (List ℕ)) (old new : F) (handed : List ℕ)
+    → (x : IsHanded position bytes contents (Some 512) old new 256 handed) → IsSought position bytes old x.ready 256
+file_that_stands_elsewhere_is_sought position bytes contents old new handed x = ⊎_elim
+    (λ there. absurd (omega (arith, same_Some 512 256 there.0)))
+    (λ sought. sought.1)
+    x.there
+
+-- and one that stands there is handed it without one
+pub file_that_stands_there_is_not_sought : {F : Type 0} (position : F → Option ℕ) (bytes contents : F → Option (List ℕ)) (old new : F) (handed : List ℕ)
+    → (x : IsHanded position bytes contents (Some 256) old new 256 handed) → x.ready ≡ old
+file_that_stands_there_is_not_sought position bytes contents old new handed x = ⊎_elim (λ there. there.1) (λ sought. absurd (sought.0 refl)) x.there
+
+-- a mirror whose file failed fails everywhere
+pub broken_mirror_fails_everywhere : {F : Type 0} (m : Mirror F) (p : Place) → m.broken ≡ true → mirror.failed_at m p
+broken_mirror_fails_everywhere m p broken = broken
+
+-- a fault that comes at the next call but one isn't due, and neither is one that is past
+pub fault_after_one_call_is_not_due : {D : Type 0} (f : OneFault D) → calls_left f ≡ 1 → ¬ (is_due f)
+fault_after_one_call_is_not_due f one due = omega (arith, one, due.1)
+
+pub past_fault_is_not_due : {D : Type 0} (f : OneFault D) (p : Place) → fault_place f ≡ Some p → ¬ (is_due f)
+past_fault_is_not_due f p past due = none-some p (sym due.0 ∙ past)
+
+-- over memory it fails at one place alone
+pub one_fault_fails_at_one_place : (f : OneFault MemDisk) (p q : Place) → fault_place f ≡ Some p → (one_fault memory).failed_at f q → q ≡ p
+one_fault_fails_at_one_place f p q past = ⊎_elim (λ there. same_Some q p (sym there ∙ past)) (λ never. absurd never)

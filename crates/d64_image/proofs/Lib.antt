@@ -2,6 +2,8 @@ pub mod Chunks
 pub mod Examples
 pub mod Fused
 pub mod Images
+pub mod Mirrored
 pub mod Moments
+pub mod Once
 pub mod Places
 pub mod Rows

@@ -6,4 +6,6 @@ pub mod History
 pub mod Images
 pub mod Memory
 pub mod Meters
+pub mod Mirrors
+pub mod OneFaults
 pub mod Places

@@ -2,10 +2,14 @@
 #![tactic(auto)]
 
 mod count;
+#[cfg(test)]
+mod fault_tests;
 mod faults;
 mod fuse;
 mod mem_disk;
 mod meter;
+mod mirror;
+mod one_fault;
 mod place;
 mod sectors;
 #[cfg(test)]
@@ -15,5 +19,7 @@ pub use faults::{DeviceFault, ImageFault};
 pub use fuse::Fuse;
 pub use mem_disk::MemDisk;
 pub use meter::Meter;
+pub use mirror::Mirror;
+pub use one_fault::OneFault;
 pub use place::Place;
 pub use sectors::Sectors;

@@ -4,7 +4,7 @@ use std::alloc::Global;
 use std::test::Fail;
 
 /// The place, where the disk has it.
-fn place(track: u8, sector: u8) -> Result<Place, Fail> {
+pub(crate) fn place(track: u8, sector: u8) -> Result<Place, Fail> {
     Ok(Place::new(track, sector).ok_or(DeviceFault)?)
 }
 
