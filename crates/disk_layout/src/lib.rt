@@ -35,6 +35,6 @@ pub use entries::{padded_name, put_count, relative_entry};
 pub use faults::Fault;
 pub use filling::fill;
 pub use laws::{blank_has_top, blank_is_clean};
-pub use side::{SideView, side_bytes};
+pub use side::{POINTERS, SideView, side_bytes};
 pub use slot::Slot;
 pub use views::{BamView, DirView, EntryView};

@@ -6,7 +6,7 @@ ghost use Rattle.disk_layout.specs.Side.{link_bytes, place_bytes, pointers_of, s
 use d64_image::Place;
 
 /// How many data blocks a side sector points to at most.
-const POINTERS: usize = 120;
+pub const POINTERS: usize = 120;
 
 /// How many side sectors a side sector lists at most: a file has six or fewer.
 const LISTED: usize = 6;

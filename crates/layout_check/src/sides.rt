@@ -10,10 +10,7 @@ use crate::blocks::survey_blocks;
 use crate::parts::Parts;
 use arrayvec::ArrayVec;
 use d64_image::{Place, Sectors};
-use disk_layout::{EntryView, Fault, SideView, Slot, read_sector, side_bytes};
-
-/// How many data blocks a side sector points to.
-const POINTERS: usize = 120;
+use disk_layout::{EntryView, Fault, POINTERS, SideView, Slot, read_sector, side_bytes};
 
 /// Where in a side sector the places of all side sectors stand.
 const LIST_AT: usize = 4;

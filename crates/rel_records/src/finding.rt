@@ -14,12 +14,10 @@ ghost use Rattle.rel_records.specs.declared.faults.RelFault.TheVariants.{Device,
 use crate::access::read;
 use crate::faults::RelFault;
 use crate::rel_file::RelFile;
+use crate::sizes::side_count;
 use arrayvec::ArrayVec;
 use d64_image::{Place, Sectors};
 use disk_layout::{EntryView, SideView, Slot, padded_name, read_directory, walk_chain};
-
-/// How many data blocks a side sector points to.
-const POINTERS: u16 = 120;
 
 /// Whether the slot is that of a closed relative file of this name, locked or not.
 fn is_named(slot: &Slot, name: &[u8]) -> bool
@@ -121,8 +119,7 @@ fn open_entry<D: Sectors>(disk: &mut D, entry: usize, slot: &Slot) -> Result<Rel
     let first = view.first_side().unwrap();
     let (blocks, last) = measure(disk, slot)?;
     let mut sides = ArrayVec::new();
-    let count = (blocks + POINTERS - 1) / POINTERS;
-    read_sides(disk, first, count as usize, &mut sides)?;
+    read_sides(disk, first, side_count(blocks) as usize, &mut sides)?;
     Ok(RelFile {
         entry,
         sector: slot.sector,

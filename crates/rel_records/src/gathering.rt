@@ -11,11 +11,10 @@ ghost use Rattle.rel_records.specs.Sides.{NamesEach};
 ghost use Rattle.rel_records.specs.Steps.{IsAt};
 
 use crate::rel_file::RelFile;
-use crate::sizes::POINTERS;
 use crate::step_parts::Parts;
 use arrayvec::ArrayVec;
 use d64_image::{DeviceFault, Place, Sectors};
-use disk_layout::{Bam, SideView};
+use disk_layout::{Bam, POINTERS, SideView};
 
 /// Lists behind the others the first `count` data blocks that a side sector points to.
 fn list_blocks(bytes: &[u8; 256], count: usize, blocks: &mut ArrayVec<Place, 720>)

@@ -10,10 +10,7 @@ use crate::access::read;
 use crate::faults::RelFault;
 use crate::rel_file::RelFile;
 use d64_image::{Place, Sectors};
-use disk_layout::SideView;
-
-/// How many data blocks a side sector points to.
-const POINTERS: usize = 120;
+use disk_layout::{POINTERS, SideView};
 
 /// The data block of this number, from 0, as its side sector names it.
 pub(crate) fn block_at<D: Sectors>(

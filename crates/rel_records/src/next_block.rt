@@ -9,10 +9,10 @@ ghost use Rattle.disk_layout.specs.View.{blocks_free};
 ghost use Rattle.rel_records.specs.Next.{IsFresh, IsLaidOut, IsLinked, TakesPlaces};
 ghost use Rattle.rel_records.specs.Steps.{TakesNext, taken_next};
 
-use crate::sizes::{BLOCK, POINTERS, full_records, last_index};
+use crate::sizes::{BLOCK, full_records, last_index};
 use crate::step_parts::Parts;
 use d64_image::Place;
-use disk_layout::{Bam, fill, put_count};
+use disk_layout::{Bam, POINTERS, fill, put_count};
 
 /// Takes the next free sector for data.
 pub(crate) fn take_next(map: &mut Bam) -> Place

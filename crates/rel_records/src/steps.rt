@@ -13,10 +13,9 @@ ghost use Rattle.rel_records.specs.Steps.{AreSidedFrom, HasBlockMore, IsAt, IsBe
 ghost use Rattle.rel_records.specs.Written.{IsGrowingBy};
 
 use crate::next_block::lay_out;
-use crate::sizes::POINTERS;
 use crate::step_parts::Parts;
 use d64_image::{DeviceFault, Place, Sectors};
-use disk_layout::{map_place, side_bytes};
+use disk_layout::{POINTERS, map_place, side_bytes};
 
 /// Writes the side sector of that number with its exact bytes.
 fn write_side<D: Sectors>(
