@@ -12,5 +12,8 @@ pub mod Selection
 pub mod Records
 pub mod Tables
 pub mod Completions
+pub mod TillTables
+pub mod NewResults
+pub mod Judgments
 pub mod Search
 pub mod Examples

@@ -7,3 +7,4 @@ pub mod Putting
 pub mod Found
 pub mod Selecting
 pub mod Completing
+pub mod Judged

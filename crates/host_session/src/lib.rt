@@ -4,6 +4,8 @@
 mod completing;
 mod faults;
 mod finding;
+mod intents;
+mod judgment;
 mod laws;
 mod putting;
 mod reading;

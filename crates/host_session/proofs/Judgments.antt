@@ -1,0 +1,42 @@
+-- What a call that judges tells of the disk, through calls that only read.
+use Rattle.std.proofs.Common.{ℕ, ◌≡◌, ◌⊎◌, ⊎_elim, ◌+◌, Err, Ok, Result, ap, subst, sym, ◌∙◌, length}
+use Rattle.d64_image.proofs.Moments.{failed_later}
+use Rattle.d64_image.specs.History.{Failed, History}
+use Rattle.d64_image.specs.Images.{Image}
+use Rattle.host_session.specs.Files.{Files, HasFiles}
+use Rattle.host_session.specs.Found.{AreFilesOf}
+use Rattle.host_session.specs.Judged.{IsReadTo}
+use Rattle.host_session.specs.Opening.{IsBadTill, Refuses, TellsJudging}
+use Rattle.host_session.specs.declared.faults.OpenFault.{OpenFault}
+use Rattle.host_session.specs.declared.faults.OpenFault.TheVariants as faults
+use Rattle.host_session.specs.declared.finding.LedgerFiles.{LedgerFiles}
+use Rattle.host_session.proofs.TillTables.{till-lowest}
+use Rattle.request_cards.specs.CardTexts.{Card}
+use Rattle.std.specs.Prelude.{List, Option, ◌≤◌}
+
+-- the two files are there as long as nothing is written
+pub files-still : (a b : Image) (f : Files) (x : LedgerFiles) → b ≡ a → AreFilesOf a f x → AreFilesOf b f x
+files-still a b f x same h = subst (λ (i : Image). AreFilesOf i f x) (sym same) h
+
+-- calls that met no failure come before one that judges
+pub judged-later : {D T : Type 0} (S : History D) (a b c : D) (result : Result T OpenFault) → S.failures b ≡ S.failures a → TellsJudging S b c result → TellsJudging S a c result
+judged-later S a b c (Ok x) same told = told ∙ same
+judged-later S a b c (Err (faults.Layout f)) same told = told ∙ same
+judged-later S a b c (Err faults.NoStock) same told = told ∙ same
+judged-later S a b c (Err faults.NoRequests) same told = told ∙ same
+judged-later S a b c (Err (faults.BadCard r)) same told = told ∙ same
+judged-later S a b c (Err (faults.BadRequestCard t)) same told = told ∙ same
+judged-later S a b c (Err faults.TwoIntents) same told = told ∙ same
+judged-later S a b c (Err faults.Device) same told = failed_later S a b c same told
+
+-- Device is told where the device failed
+pub judged-device : {D : Type 0} (T : Type 0) (S : History D) (a b : D) (fault : OpenFault) → TellsJudging {T = T} S a b (Err fault) → fault ≡ faults.Device → Failed S a b
+judged-device T S a b fault told e = subst (λ (x : OpenFault). TellsJudging {T = T} S a b (Err x)) e told
+
+-- a fault of the record behind those that were read is the first
+pub till-refused : (failed : Type 0) (img : Image) (f : Files) (n : ℕ) (table : List (Option Card)) → n ≤ 64 → HasFiles img f → IsReadTo f n table → (fault : OpenFault) → (fault ≡ faults.Device → failed)
+    → (fault ≡ faults.Device) ⊎ ((fault ≡ faults.BadRequestCard (n + 1)) × IsBadTill f (n + 1)) → Refuses failed img fault
+till-refused failed img f n table few has h fault device found = ⊎_elim
+    (λ e. subst (Refuses failed img) (sym e) (device e))
+    (λ (e, bad). subst (Refuses failed img) (sym e) (f, has, till-lowest f n table few h bad))
+    found
