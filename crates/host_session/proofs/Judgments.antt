@@ -5,11 +5,13 @@ use Rattle.d64_image.specs.History.{Failed, History}
 use Rattle.d64_image.specs.Images.{Image}
 use Rattle.host_session.specs.Files.{Files, HasFiles}
 use Rattle.host_session.specs.Found.{AreFilesOf}
-use Rattle.host_session.specs.Judged.{IsReadTo}
-use Rattle.host_session.specs.Opening.{IsBadTill, Refuses, TellsJudging}
+use Rattle.host_session.specs.Judged.{HasJudgedTills, IsCountedTo, IsReadTo}
+use Rattle.host_session.specs.Opening.{IsBadCard, IsBadTill, Refuses, TellsJudging}
 use Rattle.host_session.specs.declared.faults.OpenFault.{OpenFault}
 use Rattle.host_session.specs.declared.faults.OpenFault.TheVariants as faults
 use Rattle.host_session.specs.declared.finding.LedgerFiles.{LedgerFiles}
+use Rattle.host_session.specs.declared.intents.NewQuantities.{NewQuantities}
+use Rattle.host_session.proofs.StockTables.{card-lowest}
 use Rattle.host_session.proofs.TillTables.{till-lowest}
 use Rattle.request_cards.specs.CardTexts.{Card}
 use Rattle.std.specs.Prelude.{List, Option, ◌≤◌}
@@ -29,6 +31,21 @@ judged-later S a b c (Err (faults.BadRequestCard t)) same told = told ∙ same
 judged-later S a b c (Err faults.TwoIntents) same told = told ∙ same
 judged-later S a b c (Err faults.Device) same told = failed_later S a b c same told
 
+-- and an error is handed on
+pub judged-error : {D B : Type 0} (A : Type 0) (S : History D) (a b c : D) (fault : OpenFault) (result : Result B OpenFault) → result ≡ Err fault → S.failures b ≡ S.failures a
+    → TellsJudging {T = A} S b c (Err fault) → TellsJudging S a c result
+judged-error {B = B} A S a b c fault result e same told =
+    subst (λ (r : Result B OpenFault). TellsJudging S a c r) (sym e) (judged-later {T = B} S a b c (Err fault) same (other fault told))
+  where
+    other : (x : OpenFault) → TellsJudging {T = A} S b c (Err x) → TellsJudging {T = B} S b c (Err x)
+    other (faults.Layout f) told = told
+    other faults.NoStock told = told
+    other faults.NoRequests told = told
+    other (faults.BadCard r) told = told
+    other (faults.BadRequestCard t) told = told
+    other faults.TwoIntents told = told
+    other faults.Device told = told
+
 -- Device is told where the device failed
 pub judged-device : {D : Type 0} (T : Type 0) (S : History D) (a b : D) (fault : OpenFault) → TellsJudging {T = T} S a b (Err fault) → fault ≡ faults.Device → Failed S a b
 judged-device T S a b fault told e = subst (λ (x : OpenFault). TellsJudging {T = T} S a b (Err x)) e told
@@ -39,4 +56,11 @@ pub till-refused : (failed : Type 0) (img : Image) (f : Files) (n : ℕ) (table 
 till-refused failed img f n table few has h fault device found = ⊎_elim
     (λ e. subst (Refuses failed img) (sym e) (device e))
     (λ (e, bad). subst (Refuses failed img) (sym e) (f, has, till-lowest f n table few h bad))
+    found
+
+pub card-refused : (failed : Type 0) (img : Image) (f : Files) (x : NewQuantities) (h : HasJudgedTills f x) (n : ℕ) (table : List (Option ℕ)) → n ≤ 10160 → HasFiles img f → IsCountedTo f n table → (fault : OpenFault) → (fault ≡ faults.Device → failed)
+    → (fault ≡ faults.Device) ⊎ ((fault ≡ faults.BadCard (n + 1)) × IsBadCard f (n + 1)) → Refuses failed img fault
+card-refused failed img f x h n table few has c fault device found = ⊎_elim
+    (λ e. subst (Refuses failed img) (sym e) (device e))
+    (λ (e, bad). subst (Refuses failed img) (sym e) (f, has, h.no_bad_till, h.few, card-lowest f x h n table few c bad))
     found

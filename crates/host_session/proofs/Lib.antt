@@ -14,6 +14,7 @@ pub mod Tables
 pub mod Completions
 pub mod TillTables
 pub mod NewResults
+pub mod StockTables
 pub mod Judgments
 pub mod Search
 pub mod Examples

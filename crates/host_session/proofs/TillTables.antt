@@ -40,14 +40,14 @@ nth-set_other xs k (suc n) x ne =
     ap (nth (set xs k x)) (sym up) ∙ nth-at (set xs k x) n ∙ get_or-set_other xs k n x None (λ e. ne (sym up ∙ ap (λ j. j + 1) e)) ∙ sym (nth-at xs n) ∙ ap (nth xs) up
 
 -- a table in which nothing stands
-pub nth-none : {X : Type 0} (n t : ℕ) → nth {X} (replicate n None) t ≡ None
-nth-none n zero = refl
-nth-none {X} n (suc t) = ap (nth {X} (replicate n None)) (sym (add-one t)) ∙ nth-at {X} (replicate n None) t ∙ blank n t
+pub nth-none : (X : Type 0) (n t : ℕ) → nth {X = X} (replicate n None) t ≡ None
+nth-none X n zero = refl
+nth-none X n (suc t) = ap (nth {X = X} (replicate n None)) (sym (add-one t)) ∙ nth-at {X = X} (replicate n None) t ∙ blank X n t
   where
-    blank : (n t : ℕ) → get_or {A = Option X} (replicate n None) t None ≡ None
-    blank zero t = refl
-    blank (suc n) zero = refl
-    blank (suc n) (suc t) = blank n t
+    blank : (X : Type 0) (n t : ℕ) → get_or {A = Option X} (replicate n None) t None ≡ None
+    blank X zero t = refl
+    blank X (suc n) zero = refl
+    blank X (suc n) (suc t) = blank X n t
 
 -- a record past the last one
 pub record_at-past : {X : Type 0} (xs : List X) (r : ℕ) → length xs < r → record_at xs r ≡ None
@@ -179,20 +179,17 @@ till-start f = record {
   long = refl;
   there = omega arith;
   below = λ t le. none t le;
-  above = λ t lt. blank t;
+  above = λ t lt. nth-none Card 64 t;
   records = λ t bytes le here. absurd (no_record t bytes le here);
 }
   where
-    none : (t : ℕ) → t ≤ 0 → nth (replicate 64 None) t ≡ card_at (cards_in f.requests) t
+    none : (t : ℕ) → t ≤ 0 → nth {X = Card} (replicate 64 None) t ≡ card_at (cards_in f.requests) t
     none zero le = refl
     none (suc t) le = absurd (omega (arith, le))
 
     no_record : (t : ℕ) (bytes : List ℕ) → t ≤ 0 → record_at f.requests t ≡ Some bytes → ⊥
     no_record zero bytes le here = none-some bytes here
     no_record (suc t) bytes le here = omega (arith, le)
-
-    blank : (t : ℕ) → nth (replicate 64 None) t ≡ None
-    blank t = nth-none 64 t
 
 -- one till more
 module _ (f : Files) (n : ℕ) (table : List (Option Card)) (few : n ≤ 64) (h : IsReadTo f n table) where
