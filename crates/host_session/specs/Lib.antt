@@ -8,3 +8,4 @@ pub mod Found
 pub mod Selecting
 pub mod Completing
 pub mod Judged
+pub mod Settling
