@@ -10,6 +10,8 @@ pub mod Calls
 pub mod Readings
 pub mod Selection
 pub mod Records
+pub mod GrownStock
+pub mod GrowthCounts
 pub mod Tables
 pub mod Completions
 pub mod TillTables

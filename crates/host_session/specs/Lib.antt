@@ -4,6 +4,7 @@ pub mod Opening
 pub mod Handling
 pub mod Standing
 pub mod Putting
+pub mod Growing
 pub mod Found
 pub mod Selecting
 pub mod Completing

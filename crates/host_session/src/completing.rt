@@ -8,15 +8,16 @@ ghost use Rattle.host_session.specs.Putting.{HasCard, IsPuttingCard};
 ghost use Rattle.host_session.specs.Selecting.{IsReady};
 ghost use Rattle.host_session.specs.Shop.{IsShop, results_of, shop_of};
 ghost use Rattle.rel_records.specs.Written.{touched};
-ghost use Rattle.request_cards.specs.CardTexts.{IsStock, stock_text};
+ghost use Rattle.request_cards.specs.CardTexts.{IsCard, IsStock, stock_text};
 
 use crate::putting::{put_answer, put_card};
-use drive_channels::{Dead, Drive};
 use d64_image::Sectors;
+use drive_channels::{Dead, Drive};
 use request_cards::{Answer, RequestCard, StockCard};
 
 /// The card of an intent once it is answered, in version 2.
-fn answered(card: &RequestCard) -> RequestCard
+pub(crate) fn answered(card: &RequestCard) -> RequestCard
+    requires fits { IsCard card.now }
     ensures { result ≡ answered_card card.now }
 {
     if card.version() == 1 {

@@ -4,12 +4,18 @@
 mod completing;
 mod faults;
 mod finding;
+mod growing;
 mod intents;
 mod judgment;
 mod laws;
+mod migrating;
+mod opening;
 mod putting;
 mod reading;
+mod recovery;
 mod session;
+mod settling;
+mod starting;
 
 pub use faults::OpenFault;
 pub use laws::{both_ends, last_two, one_shop, refused_no_shop};

@@ -5,8 +5,8 @@ ghost use Rattle.host_session.specs.Selecting.{IsReady};
 ghost use Rattle.host_session.specs.Shop.{IsSettled, IsShop, Shop};
 ghost use Rattle.host_session.specs.Standing.{IsStanding, View, nth, state_in, view_code};
 
-use drive_channels::{Dead, Drive};
 use d64_image::Sectors;
+use drive_channels::{Dead, Drive};
 use request_cards::{Answer, Request, RequestCard};
 use std::marker::Model;
 
@@ -15,17 +15,17 @@ use std::marker::Model;
 /// What the disk holds is kept here as well, so that a repeat, a refused request and a decision read no sector. Once the
 /// device has failed the session is dead: nothing is written any more, and the disk is to be opened again.
 pub struct Session<D: Sectors> {
-    drive: Drive<D>,
+    pub(crate) drive: Drive<D>,
     /// Whether the device failed.
-    dead: bool,
+    pub(crate) dead: bool,
     /// The last item that a new card may have.
-    top: u16,
+    pub(crate) top: u16,
     /// How many tills the disk has.
-    tills: u8,
+    pub(crate) tills: u8,
     /// The quantity on hand of each item, from item 1 on; as many as the largest file has records.
-    cards: [Option<u32>; 10160],
+    pub(crate) cards: [Option<u32>; 10160],
     /// The card of each till, from till 1 on.
-    requests: [Option<RequestCard>; 64],
+    pub(crate) requests: [Option<RequestCard>; 64],
 }
 
 impl<D: Sectors> Model for Session<D> {
