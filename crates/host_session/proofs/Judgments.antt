@@ -14,7 +14,7 @@ use Rattle.host_session.specs.declared.intents.NewQuantities.{NewQuantities}
 use Rattle.host_session.proofs.StockTables.{card-lowest}
 use Rattle.host_session.proofs.TillTables.{till-lowest}
 use Rattle.request_cards.specs.CardTexts.{Card}
-use Rattle.std.specs.Prelude.{List, Option, ◌≤◌}
+use Rattle.std.specs.Prelude.{IfErr, List, Option, ◌≤◌}
 
 -- the two files are there as long as nothing is written
 pub files-still : (a b : Image) (f : Files) (x : LedgerFiles) → b ≡ a → AreFilesOf a f x → AreFilesOf b f x
@@ -45,6 +45,22 @@ judged-error {B = B} A S a b c fault result e same told =
     other (faults.BadRequestCard t) told = told
     other faults.TwoIntents told = told
     other faults.Device told = told
+
+-- what is refused after calls that only read is refused of the disk that they read
+pub refused-error : {D B : Type 0} (S : History D) (a b c : D) (fault : OpenFault) (result : Result B OpenFault) → result ≡ Err fault → S.image b ≡ S.image a → S.failures b ≡ S.failures a
+    → Refuses (Failed S b c) (S.image b) fault → IfErr result (Refuses (Failed S a c) (S.image a))
+refused-error {B = B} S a b c fault result e image same refused =
+    let here : Refuses (Failed S b c) (S.image a) fault = subst (λ (i : Image). Refuses (Failed S b c) i fault) image refused in
+    subst (λ (r : Result B OpenFault). IfErr r (Refuses (Failed S a c) (S.image a))) (sym e) (by fault here)
+  where
+    by : (x : OpenFault) → Refuses (Failed S b c) (S.image a) x → Refuses (Failed S a c) (S.image a) x
+    by (faults.Layout f) h = h
+    by faults.NoStock h = h
+    by faults.NoRequests h = h
+    by (faults.BadCard r) h = h
+    by (faults.BadRequestCard t) h = h
+    by faults.TwoIntents h = h
+    by faults.Device h = failed_later S a b c same h
 
 -- Device is told where the device failed
 pub judged-device : {D : Type 0} (T : Type 0) (S : History D) (a b : D) (fault : OpenFault) → TellsJudging {T = T} S a b (Err fault) → fault ≡ faults.Device → Failed S a b

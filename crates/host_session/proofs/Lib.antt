@@ -17,6 +17,7 @@ pub mod Completions
 pub mod TillTables
 pub mod NewResults
 pub mod StockTables
+pub mod JudgedTills
 pub mod Judgments
 pub mod Search
 pub mod Examples

@@ -173,11 +173,12 @@ pub(crate) fn judge<D: Sectors>(disk: &mut D) -> Result<Judged, OpenFault>
     let files = find_files(disk)?;
     let (tills, intent) = judge_tills(disk, &files)?;
     let cards = read_stock(disk, &files, &given_by(&intent))?;
+    let Tills { count, requests } = tills;
     Ok(Judged {
         top: files.top,
-        tills: tills.count,
+        tills: count,
         cards,
-        requests: tills.requests,
+        requests,
         intent,
     })
 }
