@@ -19,5 +19,7 @@ pub mod NewResults
 pub mod StockTables
 pub mod JudgedTills
 pub mod Judgments
+pub mod Starts
+pub mod Settled
 pub mod Search
 pub mod Examples

@@ -80,7 +80,7 @@ module _ (table : List (Option Card)) (k : ℕ) (d : Option Card) (lt : k < 64) 
   at-place : (o : Option Card) → get_or table k d ≡ o → slice_get table k ≡ Some o
   at-place o e = got table k d o (omega (arith, lt, long)) e
 
-  in-place : (o : Option Card) → get_or table k d ≡ o → nth table (k + 1) ≡ o
+  pub in-place : (o : Option Card) → get_or table k d ≡ o → nth table (k + 1) ≡ o
   in-place o e = nth-at table k ∙ get_or_from_slice_get table k o None (at-place o e)
 
   -- a card that isn't an open intent

@@ -29,13 +29,15 @@ fn migrate_till<D: Sectors>(
     ensures dies { IsErr result → drive.new.dead ≡ true }
 {
     let place = usize::from(till) - 1;
-    if let Some(card) = requests[place]
-        && card.version() == 1
-    {
-        let new = card.to_v2();
-        put_answer(drive, till, &new.print())?;
-        requests[place] = Some(new);
+    let Some(card) = requests[place] else {
+        return Ok(());
+    };
+    if card.version() != 1 {
+        return Ok(());
     }
+    let new = card.to_v2();
+    put_answer(drive, till, &new.print())?;
+    requests[place] = Some(new);
     Ok(())
 }
 

@@ -32,7 +32,7 @@ read_stock-requires g c =
     let one = files-still (S.image c.args.disk.now) (S.image c.find_files.new.disk) f c.in_ok-files.files c.find_files.ensures.reads.image a in
     let two = files-still (S.image c.find_files.new.disk) (S.image c.judge_tills.new.disk) f c.in_ok-files.files c.judge_tills.ensures.reads.image one in
     let (tills, intent) = c.in_ok-tills.ensures.ok f one in
-    (f, two, judged-tills f c.in_ok-tills.tills tills c.in_ok-tills.intent intent c.given_by.result c.given_by.ensures)
+    record { of = (f, two, judged-tills f c.in_ok-tills.tills tills c.in_ok-tills.intent intent c.given_by.result c.given_by.ensures) }
 
 pub returns-in_err-cards-clause-err : goal.returns-in_err-cards-clause-err
 returns-in_err-cards-clause-err g c =
