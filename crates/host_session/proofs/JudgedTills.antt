@@ -28,7 +28,7 @@ intents-same (x ∷ xs) [] h = (λ i. open_in (h 0 i) ++ intents-same xs [] (λ 
 intents-same (x ∷ xs) (y ∷ ys) h = λ i. open_in (h 0 i) ++ intents-same xs ys (λ k. h (suc k)) i
 
 -- the card at a place of a list of cards
-card_at-get : (cs : List (Option Card)) (k : ℕ) → card_at cs (suc k) ≡ get_or cs k None
+pub card_at-get : (cs : List (Option Card)) (k : ℕ) → card_at cs (suc k) ≡ get_or cs k None
 card_at-get [] k = refl
 card_at-get (x ∷ cs) zero = refl
 card_at-get (x ∷ cs) (suc k) = card_at-get cs k

@@ -2,7 +2,8 @@
 use Rattle.std.proofs.Common.{ℕ, zero, suc, ◌≡◌, ◌≢◌, ◌<◌, ◌≤◌, ◌+◌, ◌-◌, ◌⊎◌, inl, inr, List, [], ◌∷◌, None, Option, Some, Bool, true, false, add-one, ap, arith, get_or, length, refl, set, subst, sym, ◌∙◌, ◌==◌}
 use Rattle.std.specs.Prelude.{cond, is_some, option_map, slice_get}
 use Rattle.std.specs.Option.{option_and_then}
-use Rattle.std.proofs.lemmas.Bool.{cases_eq, eq-eqb, false≢true, ne_eqb, or_from, or_parts}
+use Rattle.std.proofs.lemmas.Bool.{cases_eq, cases_lt, eq-eqb, false≢true, ne_eqb, or_from, or_parts}
+use Rattle.std.proofs.lemmas.List.{get_or_past}
 use Rattle.std.proofs.lemmas.Option.{none-some}
 use Rattle.d64_image.proofs.Moments.{changes_weaker}
 use Rattle.d64_image.specs.History.{Changes, History}
@@ -27,13 +28,13 @@ use Rattle.host_session.specs.Standing.{nth, state_in}
 use Rattle.host_session.specs.declared.intents.Intent.{Intent}
 use Rattle.host_session.specs.declared.judgment.Judged.{Judged}
 use Rattle.host_session.proofs.Completions.{record-within}
-use Rattle.host_session.proofs.JudgedTills.{card-record_at, intents-same, table-intents}
+use Rattle.host_session.proofs.JudgedTills.{card-record_at, card_at-get, table-intents}
 use Rattle.host_session.proofs.Lists.{nil_parts, open_in-answered, record_at-map_take, record_at-with_other, record_at-with_same}
 use Rattle.host_session.proofs.Moments.{card-intents_now, cards-with}
 use Rattle.host_session.proofs.Shops.{HasFiles-one}
 use Rattle.host_session.proofs.Calls.{card-touched}
 use Rattle.host_session.proofs.Steps.{step-migrated, tills-same}
-use Rattle.host_session.proofs.TillTables.{nth-at, nth-set_other, nth-set_same}
+use Rattle.host_session.proofs.TillTables.{in-place, nth-at, nth-set_other, nth-set_same}
 
 -- a till's card written, in its record and in the table
 pub table-with : (requests : List (List ℕ)) (table : List (Option Card)) (k : ℕ) (was bytes : List ℕ) (o : Option Card) → k < 64 → length table ≡ 64 → record_at requests (k + 1) ≡ Some was → request_card_of bytes ≡ o
@@ -199,6 +200,25 @@ module _ (img : Image) (s : Shop) (table : List (Option Card)) (k : ℕ) (lt : k
         ];
       }
 
+  -- in the words of the call that writes
+  module _ (till : ℕ) (up : k + 1 ≡ till) (bytes : List ℕ) (same : bytes ≡ text) where
+    pub renewed-moments : {D : Type 0} (S : History D) (a b : D) → Changes S a b 1 (IsPuttingAnswer f till bytes) → Changes S a b 1 (λ i. IsShop i s)
+    renewed-moments S a b changes = changes_weaker S a b 1 1 (IsPuttingAnswer f till bytes) (λ i. IsShop i s) (omega arith)
+        (λ i x. renewed-shop i (subst (λ (n : ℕ). IsPuttingAnswer f n text i) (sym up) (subst (λ (y : List ℕ). IsPuttingAnswer f till y i) same x))) changes
+
+    pub renewed-ok : (n : Card) → n ≡ renewed c → (new : Image) → HasAnswer f till bytes new → HasNewTable new s (set table k (Some n)) till
+    renewed-ok n e new has =
+        let here : HasAnswer f (k + 1) text new = subst (λ (m : ℕ). HasAnswer f m text new) (sym up) (subst (λ (y : List ℕ). HasAnswer f till y new) same has) in
+        subst (λ (m : ℕ). HasNewTable new s (set table k (Some n)) m) up (subst (λ (x : Card). HasNewTable new s (set table k (Some x)) (k + 1)) (sym e) (renewed-table new here))
+
+-- what was read at a till's place of a table
+module _ (table : List (Option Card)) (k till : ℕ) (d : Option Card) (up : k + 1 ≡ till) (lt : k < 64) (long : length table ≡ 64) where
+  pub young-at : is_old (get_or table k d) ≡ false → is_old (nth table till) ≡ false
+  young-at young = ap (λ n. is_old (nth table n)) (sym up) ∙ ap is_old (in-place table k d lt long (get_or table k d) refl) ∙ young
+
+  pub card-at : (c : Card) → get_or table k d ≡ Some c → nth table till ≡ Some c
+  card-at c e = ap (nth table) (sym up) ∙ in-place table k d lt long (Some c) e
+
 -- a till whose card isn't of version 1 stays
 pub table-more : (img : Image) (s : Shop) (table : List (Option Card)) (k till : ℕ) → k + 1 ≡ till → HasNewTable img s table k → is_old (nth table till) ≡ false → HasNewTable img s table till
 table-more img s table k till up h young = record {
@@ -224,3 +244,35 @@ table-start img s table h = record { closed = h; no_old_card = λ t le. first t 
     first : (t : ℕ) → t ≤ 0 → is_old (nth table t) ≡ false
     first zero le = refl
     first (suc t) le = absurd (omega (arith, le))
+
+-- none of the first cards being old, none of all is
+pub all-new : (img : Image) (s : Shop) (table : List (Option Card)) (h : HasNewTable img s table 64) → length table ≡ 64 → any_old (cards_in h.closed.has.shop.files.requests) ≡ false
+all-new img s table h long =
+    let f = h.closed.has.shop.files in
+    any-none (cards_in f.requests) (λ k. sym (ap is_old (card_at-get (cards_in f.requests) k)) ∙ ap is_old (sym (h.closed.has.tills (suc k))) ∙ young k)
+  where
+    beyond : (k : ℕ) → 64 ≤ k → nth table (k + 1) ≡ None
+    beyond k le = nth-at table k ∙ get_or_past table k None (omega (arith, le, long))
+
+    young : (k : ℕ) → is_old (nth table (suc k)) ≡ false
+    young k = elim (cases_lt k 64) [
+      | inl lt ↦ h.no_old_card (suc k) (omega (arith, lt))
+      | inr le ↦ ap (λ n. is_old (nth table n)) (sym (add-one k)) ∙ ap is_old (beyond k le)
+    ]
+
+-- the disk at rest, in the words of the shop
+pub at-rest : (img : Image) (s : Shop) (table : List (Option Card)) (h : HasNewTable img s table 64) → length table ≡ 64 → IsClean img → IsSettled img s
+at-rest img s table h long clean = record {
+  shop = h.closed.has.shop;
+  clean = clean;
+  no_intent = sym (table-intents h.closed.has.shop.files table h.closed.has.tills) ∙ h.closed.no_intent;
+  no_old_card = all-new img s table h long;
+}
+
+-- and what the session's tables hold is its state
+pub tables-state : (img : Image) (s : Shop) (cards : List (Option ℕ)) (table : List (Option Card)) (h : HasTable img s table) → ((item : ℕ) → nth cards item ≡ s.state.ledger.cards item) → state_in cards table ≡ s.state
+tables-state img s cards table h quantities =
+    let f = h.shop.files in
+    let kept : (t : ℕ) → option_map (λ (c : Card). c.newest) (nth table t) ≡ s.state.ledger.kept t = λ t. ap (option_map (λ (c : Card). c.newest)) (h.tills t) ∙ ap (λ (u : Shop). u.state.ledger.kept t) h.shop.is in
+    let prior : (t : ℕ) → option_and_then (λ (c : Card). c.second) (nth table t) ≡ s.state.prior t = λ t. ap (option_and_then (λ (c : Card). c.second)) (h.tills t) ∙ ap (λ (u : Shop). u.state.prior t) h.shop.is in
+    λ i. record { ledger = record { cards = λ item. quantities item i; kept = λ t. kept t i }; prior = λ t. prior t i }

@@ -1,5 +1,5 @@
 //! Cards of version 1, written again as version 2.
-ghost use Rattle.std.specs.Prelude.{ℕ, ◌≡◌, ◌≤◌, IsErr, OnOk, false, true};
+ghost use Rattle.std.specs.Prelude.{◌≡◌, ◌≤◌, ◌-◌, IsErr, OnOk, false, true};
 ghost use Rattle.d64_image.specs.History.{Changes, TellsFailure};
 ghost use Rattle.host_session.specs.Selecting.{IsReady};
 ghost use Rattle.host_session.specs.Settling.{HasClosedTable, HasNewTable};
