@@ -1,6 +1,6 @@
 -- The table of the tills' cards while a shop's disk is brought to rest.
 use Rattle.std.proofs.Common.{ℕ, zero, suc, ◌≡◌, ◌≢◌, ◌<◌, ◌≤◌, ◌+◌, ◌-◌, ◌⊎◌, inl, inr, List, [], ◌∷◌, None, Option, Some, Bool, true, false, add-one, ap, arith, get_or, length, refl, set, subst, sym, ◌∙◌, ◌==◌}
-use Rattle.std.specs.Prelude.{cond, is_some, option_map, slice_get}
+use Rattle.std.specs.Prelude.{IfNone, cond, is_some, option_map, ◌||◌}
 use Rattle.std.specs.Option.{option_and_then}
 use Rattle.std.proofs.lemmas.Bool.{cases_eq, cases_lt, eq-eqb, false≢true, ne_eqb, or_from, or_parts}
 use Rattle.std.proofs.lemmas.List.{get_or_past}
@@ -24,7 +24,7 @@ use Rattle.host_session.specs.Judged.{HasTills, IsIntentOf, IsJudged, IsOnlyInte
 use Rattle.host_session.specs.Putting.{HasAnswer, IsPuttingAnswer}
 use Rattle.host_session.specs.Settling.{HasClosedTable, HasNewTable, HasTable}
 use Rattle.host_session.specs.Shop.{IsSettled, IsShop, Shop, any_old, card_at, cards_in, intents, is_old, open_in, results_in, results_of, shop_of, state_of}
-use Rattle.host_session.specs.Standing.{nth, state_in}
+use Rattle.host_session.specs.Standing.{IsStanding, nth, state_in}
 use Rattle.host_session.specs.declared.intents.Intent.{Intent}
 use Rattle.host_session.specs.declared.judgment.Judged.{Judged}
 use Rattle.host_session.proofs.Completions.{record-within}
@@ -276,3 +276,50 @@ tables-state img s cards table h quantities =
     let kept : (t : ℕ) → option_map (λ (c : Card). c.newest) (nth table t) ≡ s.state.ledger.kept t = λ t. ap (option_map (λ (c : Card). c.newest)) (h.tills t) ∙ ap (λ (u : Shop). u.state.ledger.kept t) h.shop.is in
     let prior : (t : ℕ) → option_and_then (λ (c : Card). c.second) (nth table t) ≡ s.state.prior t = λ t. ap (option_and_then (λ (c : Card). c.second)) (h.tills t) ∙ ap (λ (u : Shop). u.state.prior t) h.shop.is in
     λ i. record { ledger = record { cards = λ item. quantities item i; kept = λ t. kept t i }; prior = λ t. prior t i }
+
+-- what holds where there is no intent
+pub none-weaker : (A B : Type 0) (o : Option Intent) → (A → B) → IfNone o A → IfNone o B
+none-weaker A B None f h = f h
+none-weaker A B (Some x) f h = tt
+
+-- a disk that was judged, as it is once it is mended
+pub judged-table : (img : Image) (f : Files) (x : Judged) → HasFiles img f → IsJudged f x → HasTable img (shop_of f) x.requests
+judged-table img f x has j = record { shop = record { files = f; has = has; records = j.records; is = refl }; tills = j.requests }
+
+-- what a session holds once its shop's disk is at rest
+pub standing : (img : Image) (f : Files) (x : Judged) → IsJudged f x → (table : List (Option Card)) → HasNewTable img (shop_of f) table 64 → length table ≡ 64 → IsClean img
+    → IsStanding img false x.top x.tills (state_in x.cards table)
+standing img f x j table h long clean = record {
+  shop = shop_of f;
+  is_shop = h.closed.has.shop;
+  top_is = j.top;
+  tills_is = j.tills;
+  settled = λ _. at-rest img (shop_of f) table h long clean;
+  state_is = λ _. tables-state img (shop_of f) x.cards table h.closed.has j.cards;
+}
+
+-- a settled disk has nothing to complete and nothing to migrate
+module _ (img : Image) (s : Shop) (r : IsSettled img s) (f : Files) (has : HasFiles img f) (x : Judged) (j : IsJudged f x) where
+  same-files : r.shop.files ≡ f
+  same-files = HasFiles-one img r.shop.files f r.shop.has has
+
+  pub rest-intent : x.intent ≡ None
+  rest-intent = by x.intent j.intent
+    where
+      none : intents x.requests ≡ []
+      none = table-intents f x.requests j.requests ∙ ap (λ (g : Files). intents (cards_in g.requests)) (sym same-files) ∙ r.no_intent
+
+      by : (o : Option Intent) → IsIntentOf x.requests o → o ≡ None
+      by None h = refl
+      by (Some y) h = absurd (omega (arith, ap length (sym none ∙ h.only)))
+
+  pub rest-cards : any_old x.requests ≡ false
+  rest-cards =
+      any-same x.requests (cards_in f.requests) (λ k. sym (nth-at x.requests k) ∙ j.requests (k + 1) ∙ ap (card_at (cards_in f.requests)) (add-one k) ∙ card_at-get (cards_in f.requests) k)
+      ∙ ap (λ (g : Files). any_old (cards_in g.requests)) (sym same-files) ∙ r.no_old_card
+    where
+      any-same : (xs ys : List (Option Card)) → ((k : ℕ) → get_or xs k None ≡ get_or ys k None) → any_old xs ≡ any_old ys
+      any-same [] [] h = refl
+      any-same [] (y ∷ ys) h = λ i. is_old (h 0 i) || any-same [] ys (λ k. h (suc k)) i
+      any-same (y ∷ xs) [] h = λ i. is_old (h 0 i) || any-same xs [] (λ k. h (suc k)) i
+      any-same (x ∷ xs) (y ∷ ys) h = λ i. is_old (h 0 i) || any-same xs ys (λ k. h (suc k)) i

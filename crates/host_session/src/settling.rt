@@ -52,14 +52,20 @@ pub(crate) fn settle<D: Sectors>(
     ensures failures { TellsOpening (λ x. x.disk) D.history disk result }
 {
     let mut drive = start(disk)?;
-    let mut requests = found.requests;
-    match bring_to_rest(&mut drive, &found.intent, &mut requests) {
+    let Judged {
+        top,
+        tills,
+        cards,
+        mut requests,
+        intent,
+    } = found;
+    match bring_to_rest(&mut drive, &intent, &mut requests) {
         Ok(()) => Ok(Session {
             drive,
             dead: false,
-            top: found.top,
-            tills: found.tills,
-            cards: found.cards,
+            top,
+            tills,
+            cards,
             requests,
         }),
         Err(Dead) => Err((OpenFault::Device, drive.into_disk())),
