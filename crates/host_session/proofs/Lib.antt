@@ -21,5 +21,6 @@ pub mod JudgedTills
 pub mod Judgments
 pub mod Starts
 pub mod Settled
+pub mod Opens
 pub mod Search
 pub mod Examples

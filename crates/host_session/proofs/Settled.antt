@@ -1,9 +1,9 @@
 -- The table of the tills' cards while a shop's disk is brought to rest.
-use Rattle.std.proofs.Common.{ℕ, zero, suc, ◌≡◌, ◌≢◌, ◌<◌, ◌≤◌, ◌+◌, ◌-◌, ◌⊎◌, inl, inr, List, [], ◌∷◌, None, Option, Some, Bool, true, false, add-one, ap, arith, get_or, length, refl, set, subst, sym, ◌∙◌, ◌==◌}
+use Rattle.std.proofs.Common.{ℕ, zero, suc, ◌≡◌, ◌≢◌, ◌<◌, ◌≤◌, ◌+◌, ◌-◌, ◌⊎◌, inl, inr, List, [], ◌∷◌, None, Option, Some, Bool, true, false, add-one, ap, arith, get_or, length, min, refl, set, take, subst, sym, ◌∙◌, ◌==◌}
 use Rattle.std.specs.Prelude.{IfNone, cond, is_some, option_map, ◌||◌}
 use Rattle.std.specs.Option.{option_and_then}
 use Rattle.std.proofs.lemmas.Bool.{cases_eq, cases_lt, eq-eqb, false≢true, ne_eqb, or_from, or_parts}
-use Rattle.std.proofs.lemmas.List.{get_or_past}
+use Rattle.std.proofs.lemmas.List.{get_or_past, length-map, length-take}
 use Rattle.std.proofs.lemmas.Option.{none-some}
 use Rattle.d64_image.proofs.Moments.{changes_weaker}
 use Rattle.d64_image.specs.History.{Changes, History}
@@ -246,27 +246,25 @@ table-start img s table h = record { closed = h; no_old_card = λ t le. first t 
     first (suc t) le = absurd (omega (arith, le))
 
 -- none of the first cards being old, none of all is
-pub all-new : (img : Image) (s : Shop) (table : List (Option Card)) (h : HasNewTable img s table 64) → length table ≡ 64 → any_old (cards_in h.closed.has.shop.files.requests) ≡ false
-all-new img s table h long =
-    let f = h.closed.has.shop.files in
-    any-none (cards_in f.requests) (λ k. sym (ap is_old (card_at-get (cards_in f.requests) k)) ∙ ap is_old (sym (h.closed.has.tills (suc k))) ∙ young k)
+pub all-new : (img : Image) (s : Shop) (table : List (Option Card)) (h : HasNewTable img s table 64) → any_old (cards_in h.closed.has.shop.files.requests) ≡ false
+all-new img s table h = any-none (cards_in h.closed.has.shop.files.requests) young
   where
-    beyond : (k : ℕ) → 64 ≤ k → nth table (k + 1) ≡ None
-    beyond k le = nth-at table k ∙ get_or_past table k None (omega (arith, le, long))
-
-    young : (k : ℕ) → is_old (nth table (suc k)) ≡ false
-    young k = elim (cases_lt k 64) [
-      | inl lt ↦ h.no_old_card (suc k) (omega (arith, lt))
-      | inr le ↦ ap (λ n. is_old (nth table n)) (sym (add-one k)) ∙ ap is_old (beyond k le)
-    ]
+    young : (k : ℕ) → is_old (get_or (cards_in h.closed.has.shop.files.requests) k None) ≡ false
+    young k =
+        let rs = h.closed.has.shop.files.requests in
+        let few : length (cards_in rs) ≡ min 64 (length rs) = length-map (take 64 rs) request_card_of ∙ length-take 64 rs in
+        elim (cases_lt k 64) [
+          | inl lt ↦ sym (ap is_old (card_at-get (cards_in rs) k)) ∙ ap is_old (sym (h.closed.has.tills (suc k))) ∙ h.no_old_card (suc k) (omega (arith, lt))
+          | inr le ↦ ap is_old (get_or_past (cards_in rs) k None (omega (arith, le, few)))
+        ]
 
 -- the disk at rest, in the words of the shop
-pub at-rest : (img : Image) (s : Shop) (table : List (Option Card)) (h : HasNewTable img s table 64) → length table ≡ 64 → IsClean img → IsSettled img s
-at-rest img s table h long clean = record {
+pub at-rest : (img : Image) (s : Shop) (table : List (Option Card)) (h : HasNewTable img s table 64) → IsClean img → IsSettled img s
+at-rest img s table h clean = record {
   shop = h.closed.has.shop;
   clean = clean;
   no_intent = sym (table-intents h.closed.has.shop.files table h.closed.has.tills) ∙ h.closed.no_intent;
-  no_old_card = all-new img s table h long;
+  no_old_card = all-new img s table h;
 }
 
 -- and what the session's tables hold is its state
@@ -287,14 +285,14 @@ pub judged-table : (img : Image) (f : Files) (x : Judged) → HasFiles img f →
 judged-table img f x has j = record { shop = record { files = f; has = has; records = j.records; is = refl }; tills = j.requests }
 
 -- what a session holds once its shop's disk is at rest
-pub standing : (img : Image) (f : Files) (x : Judged) → IsJudged f x → (table : List (Option Card)) → HasNewTable img (shop_of f) table 64 → length table ≡ 64 → IsClean img
+pub standing : (img : Image) (f : Files) (x : Judged) → IsJudged f x → (table : List (Option Card)) → HasNewTable img (shop_of f) table 64 → IsClean img
     → IsStanding img false x.top x.tills (state_in x.cards table)
-standing img f x j table h long clean = record {
+standing img f x j table h clean = record {
   shop = shop_of f;
   is_shop = h.closed.has.shop;
   top_is = j.top;
   tills_is = j.tills;
-  settled = λ _. at-rest img (shop_of f) table h long clean;
+  settled = λ _. at-rest img (shop_of f) table h clean;
   state_is = λ _. tables-state img (shop_of f) x.cards table h.closed.has j.cards;
 }
 
