@@ -47,14 +47,15 @@ module _ {T D : Type 0} (S : History D) (f : T → D) (a b : D) (same : S.failur
       by (Err e) (inr (other, none)) device never = absurd (other device)
 
 -- a fault that was judged
-pub judged-opening : {T D : Type 0} (U : Type 0) (S : History D) (f : T → D) (a b : D) (fault : OpenFault) → TellsJudging {T = U} S a b (Err fault) → TellsOpening f S a (Err (fault, b))
-judged-opening U S f a b (faults.Layout x) told = inr (λ e. omega (arith, ap number_of e), told)
-judged-opening U S f a b faults.NoStock told = inr (λ e. omega (arith, ap number_of e), told)
-judged-opening U S f a b faults.NoRequests told = inr (λ e. omega (arith, ap number_of e), told)
-judged-opening U S f a b (faults.BadCard r) told = inr (λ e. omega (arith, ap number_of e), told)
-judged-opening U S f a b (faults.BadRequestCard t) told = inr (λ e. omega (arith, ap number_of e), told)
-judged-opening U S f a b faults.TwoIntents told = inr (λ e. omega (arith, ap number_of e), told)
-judged-opening U S f a b faults.Device told = inl (refl, told)
+pub judged-opening : {D : Type 0} (U : Type 0) (S : History D) (a b : D) (fault : OpenFault) → TellsJudging {T = U} S a b (Err fault)
+    → ((fault ≡ faults.Device) × Failed S a b) ⊎ ((fault ≢ faults.Device) × (S.failures b ≡ S.failures a))
+judged-opening U S a b (faults.Layout x) told = inr (λ e. omega (arith, ap number_of e), told)
+judged-opening U S a b faults.NoStock told = inr (λ e. omega (arith, ap number_of e), told)
+judged-opening U S a b faults.NoRequests told = inr (λ e. omega (arith, ap number_of e), told)
+judged-opening U S a b (faults.BadCard r) told = inr (λ e. omega (arith, ap number_of e), told)
+judged-opening U S a b (faults.BadRequestCard t) told = inr (λ e. omega (arith, ap number_of e), told)
+judged-opening U S a b faults.TwoIntents told = inr (λ e. omega (arith, ap number_of e), told)
+judged-opening U S a b faults.Device told = inl (refl, told)
 
 -- what is refused is no shop's, where the device doesn't fail
 pub refused-no : {D : Type 0} (S : History D) (a b : D) (fault : OpenFault) → NeverFailed S a b → Refuses (Failed S a b) (S.image a) fault → ¬ (IsAShop (S.image a))

@@ -80,4 +80,4 @@ returns-in-Err-clause-quiet g c = λ s r.
     reads_change S c.args.disk c.judge.new.disk 34190 (λ i. i ≡ S.image c.args.disk) c.judge.ensures.reads refl
 
 pub returns-in-Err-clause-failures : goal.returns-in-Err-clause-failures
-returns-in-Err-clause-failures g c = judged-opening Judged g.D.Sectors.history _ c.args.disk c.judge.new.disk c.in-Err.fault c.in-Err.ensures.failures
+returns-in-Err-clause-failures g c = judged-opening Judged g.D.Sectors.history c.args.disk c.judge.new.disk c.in-Err.fault c.in-Err.ensures.failures
