@@ -71,13 +71,16 @@ intent-card img s table h x only =
     ((card_is bytes x.card).0 reads).0
 
 answered-read : (c : Card) → IsCard c → request_card_of (card_text (answered_card c)) ≡ Some (answered_card c)
-answered-read c h = (card_is (card_text (answered_card c)) (answered_card c)).1 (record {
-  version = inr refl;
-  old = λ e. absurd (omega (arith, e));
-  newest = h.newest;
-  intent = λ e. absurd (false≢true e);
-  second = h.second;
-}, refl)
+answered-read c h = (card_is (card_text (answered_card c)) (answered_card c)).1 (
+  record {
+    version = inr refl;
+    old = λ e. absurd (omega (arith, e));
+    newest = h.newest;
+    intent = λ e. absurd (false≢true e);
+    second = h.second;
+  },
+  refl,
+)
 
 -- once it is completed none is open, and it is the same shop's
 pub completed-table : (img : Image) (s : Shop) (table : List (Option Card)) (h : HasTable img s table) (x : Intent) (k : ℕ) → k + 1 ≡ x.till → length table ≡ 64 → IsOnlyIntent table (intents table) x → (new : Image)

@@ -88,9 +88,7 @@ pub(crate) fn new_quantity(new: &NewQuantities, item: u16) -> Option<u32>
 }
 
 /// The one open intent of the tills' cards, if one is open. Two are refused.
-pub(crate) fn open_intent(
-    requests: &[Option<RequestCard>; 64],
-) -> Result<Option<Intent>, OpenFault>
+pub(crate) fn open_intent(requests: &[Option<RequestCard>; 64]) -> Result<Option<Intent>, OpenFault>
     ensures ok { IfOk result (IsIntentOf requests.now) }
     ensures err { IfErr result (λ fault. (fault ≡ TwoIntents) × (2 ≤ length (intents requests.now))) }
 {

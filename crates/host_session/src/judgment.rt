@@ -9,7 +9,9 @@ ghost use Rattle.host_session.specs.declared.faults.OpenFault.TheVariants.{BadCa
 
 use crate::faults::OpenFault;
 use crate::finding::{LedgerFiles, find_files};
-use crate::intents::{Intent, NewQuantities, given_by, new_quantities, new_quantity, open_intent, passes};
+use crate::intents::{
+    Intent, NewQuantities, given_by, new_quantities, new_quantity, open_intent, passes,
+};
 use crate::reading::{Held, read_item, read_till};
 use d64_image::Sectors;
 use rel_records::records;

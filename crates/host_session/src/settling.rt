@@ -40,10 +40,7 @@ fn bring_to_rest<D: Sectors>(
 }
 
 /// Mends a shop's disk that was judged, and brings it to rest.
-pub(crate) fn settle<D: Sectors>(
-    disk: D,
-    found: Judged,
-) -> Result<Session<D>, (OpenFault, D)>
+pub(crate) fn settle<D: Sectors>(disk: D, found: Judged) -> Result<Session<D>, (OpenFault, D)>
     requires judged { (f : Files) × HasFiles (D.history.image disk) f × IsJudged f found }
     ensures ok { (s : Shop) → IsShop (D.history.image disk) s → IfOk result (λ x. IsSettled (D.history.image x.disk) s × (x.dead ≡ false)) }
     ensures err { IfErr result (λ e. e.0 ≡ Device) }

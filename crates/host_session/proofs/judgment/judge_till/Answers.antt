@@ -24,8 +24,11 @@ returns-then-passes-clause-err g c = λ f a.
     let (bytes, here, told) = told-some request_card_of 127 f.requests c.args.till c.in_ok-held.field-0 c.in-Some.held c.in-Some.is (c.in_ok-held.ensures.ok f a) in
     let reads = subst (Tells request_card_of 127 bytes) c.in-Card.is told in
     let many = c.records.ensures.exact img a.has.layout a.has.stock_place a.has.stock_file a.stock_of ∙ ap length (sym a.has.stock) in
-    inr (refl, bad-intent f c.args.till bytes here c.requires.high c.in-Card.card reads
-        (lacks-some f.stock c.in-Card.card (sym c.pending.ensures ∙ c.if-pending.true) c.new_quantities.result c.new_quantities.ensures.value c.records.result many (c.passes.ensures.0 c.if-passes.true)))
+    inr (
+      refl,
+      bad-intent f c.args.till bytes here c.requires.high c.in-Card.card reads
+          (lacks-some f.stock c.in-Card.card (sym c.pending.ensures ∙ c.if-pending.true) c.new_quantities.result c.new_quantities.ensures.value c.records.result many (c.passes.ensures.0 c.if-passes.true)),
+    )
 
 pub returns-in-Empty-clause-ok : goal.returns-in-Empty-clause-ok
 returns-in-Empty-clause-ok g c = λ f a.
@@ -41,7 +44,7 @@ returns-else-pending-clause-ok g c = λ f a.
       | else-pending-via-then-pending+else-passes w ↦
           let many = w.records.ensures.exact img a.has.layout a.has.stock_place a.has.stock_file a.stock_of ∙ ap length (sym a.has.stock) in
           lacks-none f.stock c.in-Card.card (sym c.pending.ensures ∙ w.if-pending.true) w.new_quantities.result w.new_quantities.ensures.value w.records.result many
-              w.new_quantities.ensures.low (λ p. false≢true (sym w.if-passes.false ∙ w.passes.ensures.1 p))
+          w.new_quantities.ensures.low (λ p. false≢true (sym w.if-passes.false ∙ w.passes.ensures.1 p))
       | else-pending-via-else-pending w ↦ lacks-answered f.stock c.in-Card.card (sym c.pending.ensures ∙ w.if-pending.false)
     ])
 

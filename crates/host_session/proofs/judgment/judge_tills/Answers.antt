@@ -19,7 +19,7 @@ returns-in_err-intent-clause-err g c =
     let p = err_from_is_err_and c.from_residual-in_err-intent.result c.from_residual-in_err-intent.ensures.1 in
     let (e, two) = c.in_err-intent.ensures.err in
     subst (λ (r : Result (Tills × Option Intent) OpenFault). IfErr r (Refuses (Failed S c.args.disk.now c.read_tills.new.disk) old)) (sym (p.1 ∙ ap Err (p.2 ∙ e)))
-        (f, a.has, no-bad_till f c.in_ok-tills.tills tills, two-open f c.in_ok-tills.tills tills two)
+    (f, a.has, no-bad_till f c.in_ok-tills.tills tills, two-open f c.in_ok-tills.tills tills two)
 
 pub returns-in_err-intent-clause-failures : goal.returns-in_err-intent-clause-failures
 returns-in_err-intent-clause-failures g c =

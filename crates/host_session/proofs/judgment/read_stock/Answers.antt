@@ -28,8 +28,8 @@ returns-in_err-quantity-clause-err g c =
     let now = files-still old (S.image c.loop-place.disk) f c.args.files.now inv.reads.image a in
     let p = err_from_is_err_and c.from_residual.result c.from_residual.ensures.1 in
     let refused = card-refused (Failed S c.args.disk.now c.judge_item.new.disk) old f c.args.new.now h c.loop-place.place c.loop-place.cards inv.few a.has (inv.so_far f a h) c.in_err-quantity.field-0.0
-        (λ e. failed_later S c.args.disk.now c.loop-place.disk c.judge_item.new.disk inv.failures (judged-device (Option (Option ℕ)) S c.loop-place.disk c.judge_item.new.disk c.in_err-quantity.field-0.0 c.in_err-quantity.ensures.failures e))
-        (c.in_err-quantity.ensures.err f now h) in
+    (λ e. failed_later S c.args.disk.now c.loop-place.disk c.judge_item.new.disk inv.failures (judged-device (Option (Option ℕ)) S c.loop-place.disk c.judge_item.new.disk c.in_err-quantity.field-0.0 c.in_err-quantity.ensures.failures e))
+    (c.in_err-quantity.ensures.err f now h) in
     subst (λ (r : Result (List (Option ℕ)) OpenFault). IfErr r (Refuses (Failed S c.args.disk.now c.judge_item.new.disk) old)) (sym (p.1 ∙ ap Err p.2)) refused
 
 pub returns-in_err-quantity-clause-reads : goal.returns-in_err-quantity-clause-reads

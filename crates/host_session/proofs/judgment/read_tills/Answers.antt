@@ -30,8 +30,8 @@ returns-in_err-card-clause-err g c =
     let now = files-still old (S.image c.loop-place.disk) f c.args.files.now inv.reads.image a in
     let p = err_from_is_err_and c.from_residual.result c.from_residual.ensures.1 in
     let refused = till-refused (Failed S c.args.disk.now c.judge_till.new.disk) old f c.loop-place.place c.loop-place.requests inv.few a.has (inv.so_far f a) c.in_err-card.field-0.0
-        (λ e. failed_later S c.args.disk.now c.loop-place.disk c.judge_till.new.disk inv.failures (judged-device (Option (Option Card)) S c.loop-place.disk c.judge_till.new.disk c.in_err-card.field-0.0 c.in_err-card.ensures.failures e))
-        (c.in_err-card.ensures.err f now) in
+    (λ e. failed_later S c.args.disk.now c.loop-place.disk c.judge_till.new.disk inv.failures (judged-device (Option (Option Card)) S c.loop-place.disk c.judge_till.new.disk c.in_err-card.field-0.0 c.in_err-card.ensures.failures e))
+    (c.in_err-card.ensures.err f now) in
     subst (λ (r : Result Tills OpenFault). IfErr r (Refuses (Failed S c.args.disk.now c.judge_till.new.disk) old)) (sym (p.1 ∙ ap Err p.2)) refused
 
 pub returns-in_err-card-clause-reads : goal.returns-in_err-card-clause-reads

@@ -46,7 +46,7 @@ returns-in_err-migrate_till-clause-failures g c =
     let S = g.D.Sectors.history in
     let p = err_from_is_err_and c.from_residual.result c.from_residual.ensures.1 in
     subst (λ (r : Result (Unit {0}) Dead). TellsFailure S c.args.drive.now.disk c.migrate_till.new.drive.disk r) (sym (p.1 ∙ ap Err p.2))
-        (failed_later S c.args.drive.now.disk c.loop-place.drive.disk c.migrate_till.new.drive.disk c.loop-place.invariant.failures c.in_err-migrate_till.ensures.failures)
+    (failed_later S c.args.drive.now.disk c.loop-place.drive.disk c.migrate_till.new.drive.disk c.loop-place.invariant.failures c.in_err-migrate_till.ensures.failures)
 
 pub loop-place-preserved : goal.loop-place-preserved
 loop-place-preserved g c =

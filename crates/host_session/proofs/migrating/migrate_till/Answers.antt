@@ -31,7 +31,7 @@ returns-then-version-ne1-clause-ok g c = λ s h.
     let table = c.args.requests.now in
     let img = g.D.Sectors.history.image c.args.drive.now.disk in
     table-more img s table k c.args.till up (subst (HasNewTable img s table) down h)
-        (young-at table k c.args.till _ up (omega (arith, up, c.requires.high)) c.told-requests (new-young _ c.in-Some.card c.in-Some.is (λ e. c.if-version-ne1.true (c.version.ensures ∙ e))))
+    (young-at table k c.args.till _ up (omega (arith, up, c.requires.high)) c.told-requests (new-young _ c.in-Some.card c.in-Some.is (λ e. c.if-version-ne1.true (c.version.ensures ∙ e))))
 
 pub returns-then-version-ne1-clause-moments : goal.returns-then-version-ne1-clause-moments
 returns-then-version-ne1-clause-moments g c = λ s h.
@@ -65,7 +65,7 @@ returns-in_err-put_answer-clause-moments g c = λ s h.
     let one = sym c.version.ensures ∙ c.if-version-ne1.false in
     let h2 = subst (HasNewTable img s table) down h in
     renewed-moments img s table k lt c.told-requests h2 c.in-Some.card (ap (nth table) up ∙ card-at table k c.args.till _ up lt c.told-requests c.in-Some.card c.in-Some.is) one
-        c.args.till up c.print.result (c.print.ensures ∙ ap card_text c.to_v2-new.ensures) S c.args.drive.now.disk c.put_answer.new.drive.disk (c.put_answer.ensures.moments h2.closed.has.shop.files h2.closed.has.shop.has)
+    c.args.till up c.print.result (c.print.ensures ∙ ap card_text c.to_v2-new.ensures) S c.args.drive.now.disk c.put_answer.new.drive.disk (c.put_answer.ensures.moments h2.closed.has.shop.files h2.closed.has.shop.has)
 
 pub returns-in_err-put_answer-clause-quiet : goal.returns-in_err-put_answer-clause-quiet
 returns-in_err-put_answer-clause-quiet g c = λ young.
@@ -86,7 +86,7 @@ returns-clause-ok g c = λ s h.
     let one = sym c.version.ensures ∙ c.if-version-ne1.false in
     let h2 = subst (HasNewTable img s table) down h in
     renewed-ok img s table k lt c.told-requests h2 c.in-Some.card (ap (nth table) up ∙ card-at table k c.args.till _ up lt c.told-requests c.in-Some.card c.in-Some.is) one
-        c.args.till up c.print.result (c.print.ensures ∙ ap card_text c.to_v2-new.ensures) c.to_v2-new.result c.to_v2-new.ensures (S.image c.put_answer.new.drive.disk) (c.in_ok-put_answer.ensures.ok h2.closed.has.shop.files h2.closed.has.shop.has)
+    c.args.till up c.print.result (c.print.ensures ∙ ap card_text c.to_v2-new.ensures) c.to_v2-new.result c.to_v2-new.ensures (S.image c.put_answer.new.drive.disk) (c.in_ok-put_answer.ensures.ok h2.closed.has.shop.files h2.closed.has.shop.has)
 
 pub returns-clause-moments : goal.returns-clause-moments
 returns-clause-moments g c = λ s h.
@@ -100,7 +100,7 @@ returns-clause-moments g c = λ s h.
     let one = sym c.version.ensures ∙ c.if-version-ne1.false in
     let h2 = subst (HasNewTable img s table) down h in
     renewed-moments img s table k lt c.told-requests h2 c.in-Some.card (ap (nth table) up ∙ card-at table k c.args.till _ up lt c.told-requests c.in-Some.card c.in-Some.is) one
-        c.args.till up c.print.result (c.print.ensures ∙ ap card_text c.to_v2-new.ensures) S c.args.drive.now.disk c.put_answer.new.drive.disk (c.put_answer.ensures.moments h2.closed.has.shop.files h2.closed.has.shop.has)
+    c.args.till up c.print.result (c.print.ensures ∙ ap card_text c.to_v2-new.ensures) S c.args.drive.now.disk c.put_answer.new.drive.disk (c.put_answer.ensures.moments h2.closed.has.shop.files h2.closed.has.shop.has)
 
 pub returns-clause-quiet : goal.returns-clause-quiet
 returns-clause-quiet g c = λ young.

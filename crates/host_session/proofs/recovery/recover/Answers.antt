@@ -25,7 +25,7 @@ returns-in_err-complete-clause-moments g c = λ s h is.
     let img = S.image c.args.drive.now.disk in
     let only = subst (IsIntentOf c.args.requests.now) c.in-Some.is is in
     completed-changes S c.args.drive.now.disk c.complete.new.drive.disk img s h.shop c.in-Some.open.card
-        (c.complete.ensures.moments h.shop.files h.shop.has (has-intent img s c.args.requests.now h c.in-Some.open only))
+    (c.complete.ensures.moments h.shop.files h.shop.has (has-intent img s c.args.requests.now h c.in-Some.open only))
 
 pub answered-requires : goal.answered-requires
 answered-requires g c =
@@ -50,4 +50,4 @@ returns-clause-moments g c = λ s h is.
     let img = S.image c.args.drive.now.disk in
     let only = subst (IsIntentOf c.args.requests.now) c.in-Some.is is in
     completed-changes S c.args.drive.now.disk c.complete.new.drive.disk img s h.shop c.in-Some.open.card
-        (c.complete.ensures.moments h.shop.files h.shop.has (has-intent img s c.args.requests.now h c.in-Some.open only))
+    (c.complete.ensures.moments h.shop.files h.shop.has (has-intent img s c.args.requests.now h c.in-Some.open only))

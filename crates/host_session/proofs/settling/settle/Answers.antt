@@ -46,7 +46,7 @@ returns-in-Ok-clause-moments g c = λ s h.
     let table = judged-table (S.image c.in_ok-drive.drive.disk) f c.args.found (c.in_ok-drive.ensures.files f has) j in
     let same = IsShop-one (S.image c.args.disk) (shop_of f) s (record { files = f; has = has; records = j.records; is = refl }) h in
     changes_then S c.args.disk c.in_ok-drive.drive.disk c.bring_to_rest.new.drive.disk 883 69 952 (λ i. IsShop i s) (omega arith) (c.in_ok-drive.ensures.moments s h)
-        (subst (λ t. Changes S c.in_ok-drive.drive.disk c.bring_to_rest.new.drive.disk 69 (λ i. IsShop i t)) same (c.bring_to_rest.ensures.moments (shop_of f) table j.intent))
+    (subst (λ t. Changes S c.in_ok-drive.drive.disk c.bring_to_rest.new.drive.disk 69 (λ i. IsShop i t)) same (c.bring_to_rest.ensures.moments (shop_of f) table j.intent))
 
 pub returns-in-Ok-clause-quiet : goal.returns-in-Ok-clause-quiet
 returns-in-Ok-clause-quiet g c = λ s r.
@@ -64,7 +64,7 @@ returns-in-Err-clause-moments g c = λ s h.
     let same = IsShop-one (S.image c.args.disk) (shop_of f) s (record { files = f; has = has; records = j.records; is = refl }) h in
     subst (λ d. Changes S c.args.disk d 952 (λ i. IsShop i s)) (sym c.into_disk.ensures)
     (changes_then S c.args.disk c.in_ok-drive.drive.disk c.bring_to_rest.new.drive.disk 883 69 952 (λ i. IsShop i s) (omega arith) (c.in_ok-drive.ensures.moments s h)
-        (subst (λ t. Changes S c.in_ok-drive.drive.disk c.bring_to_rest.new.drive.disk 69 (λ i. IsShop i t)) same (c.bring_to_rest.ensures.moments (shop_of f) table j.intent)))
+    (subst (λ t. Changes S c.in_ok-drive.drive.disk c.bring_to_rest.new.drive.disk 69 (λ i. IsShop i t)) same (c.bring_to_rest.ensures.moments (shop_of f) table j.intent)))
 
 pub returns-in-Err-clause-quiet : goal.returns-in-Err-clause-quiet
 returns-in-Err-clause-quiet g c = λ s r.

@@ -53,7 +53,7 @@ returns-in-Ok-clause-quiet g c = λ s r.
     let same = c.judge.ensures.reads.image in
     let now : IsSettled (S.image c.judge.new.disk) s = subst (λ i. IsSettled i s) (sym same) r in
     changes_then S c.args.disk c.judge.new.disk _ 0 0 0 (λ i. i ≡ S.image c.args.disk) (omega arith) (reads_change S c.args.disk c.judge.new.disk 34190 (λ i. i ≡ S.image c.args.disk) c.judge.ensures.reads refl)
-        (changes_weaker S c.judge.new.disk _ 0 0 (λ i. i ≡ S.image c.judge.new.disk) (λ i. i ≡ S.image c.args.disk) (omega arith) (λ i e. e ∙ same) (c.settle.ensures.quiet s now))
+    (changes_weaker S c.judge.new.disk _ 0 0 (λ i. i ≡ S.image c.judge.new.disk) (λ i. i ≡ S.image c.args.disk) (omega arith) (λ i e. e ∙ same) (c.settle.ensures.quiet s now))
 
 pub returns-in-Ok-clause-failures : goal.returns-in-Ok-clause-failures
 returns-in-Ok-clause-failures g c =
