@@ -15,7 +15,6 @@ pub mod GrowthCounts
 pub mod Tables
 pub mod Decisions
 pub mod Search
-pub mod Examples
 pub mod Completions
 pub mod Keepings
 pub mod Replies
@@ -24,3 +23,12 @@ pub mod Settled
 pub mod NextCards
 pub mod Handled
 pub mod Answered
+pub mod TillTables
+pub mod NewResults
+pub mod StockTables
+pub mod JudgedTills
+pub mod Judgments
+pub mod Starts
+pub mod AtRest
+pub mod Opens
+pub mod Examples

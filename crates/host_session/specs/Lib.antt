@@ -11,3 +11,5 @@ pub mod Selecting
 pub mod Completing
 pub mod Keeping
 pub mod Answering
+pub mod Judged
+pub mod Settling

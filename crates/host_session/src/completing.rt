@@ -16,7 +16,7 @@ use drive_channels::{Dead, Drive};
 use request_cards::{Answer, RequestCard, StockCard};
 
 /// The card of an intent once it is answered, in version 2.
-fn answered(card: &RequestCard) -> RequestCard
+pub(crate) fn answered(card: &RequestCard) -> RequestCard
     requires fits { IsCard card.now }
     ensures { result ≡ answered_card card.now }
 {

@@ -8,10 +8,17 @@ mod faults;
 mod finding;
 mod growing;
 mod handling;
+mod intents;
+mod judgment;
 mod laws;
+mod migrating;
+mod opening;
 mod putting;
 mod reading;
+mod recovery;
 mod session;
+mod settling;
+mod starting;
 
 pub use faults::OpenFault;
 pub use laws::{both_ends, last_two, one_shop, refused_no_shop};
