@@ -10,3 +10,12 @@ pub mod Calls
 pub mod Readings
 pub mod Search
 pub mod Examples
+pub mod Parts
+pub mod Cuts
+pub mod Answered
+pub mod Totals
+pub mod Runs
+pub mod RunOpenings
+pub mod Reports
+pub mod PlainRuns
+pub mod RunExamples

@@ -5,3 +5,8 @@ pub mod Handling
 pub mod Standing
 pub mod Putting
 pub mod Found
+pub mod Events
+pub mod Counted
+pub mod OneEvent
+pub mod Runs
+pub mod Faults

@@ -1,10 +1,18 @@
 //! A shop on a disk: what the disk stands for at each moment, its opening, and its requests.
 #![tactic(auto)]
 
+mod cutting;
 mod faults;
 mod finding;
 mod laws;
+mod playing;
 mod reading;
+mod running;
+mod session;
 
 pub use faults::OpenFault;
 pub use laws::{both_ends, last_two, one_shop, refused_no_shop};
+pub use playing::{PlayFault, play};
+pub use running::{ScriptFault, run_script};
+pub use script_lines::{Cut, Event};
+pub use session::Session;
