@@ -8,6 +8,9 @@ pub mod Layers
 pub mod Mended
 pub mod Calls
 pub mod Readings
+pub mod Selection
+pub mod Records
+pub mod Tables
 pub mod Search
 pub mod Examples
 pub mod Parts

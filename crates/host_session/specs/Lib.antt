@@ -5,6 +5,7 @@ pub mod Handling
 pub mod Standing
 pub mod Putting
 pub mod Found
+pub mod Selecting
 pub mod Events
 pub mod Counted
 pub mod OneEvent

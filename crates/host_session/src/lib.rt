@@ -1,11 +1,14 @@
-//! A shop on a disk: what the disk stands for at each moment, its opening, and its requests.
+//! A shop on a disk: what the disk stands for at each moment, its opening, its requests, and runs of them with resets.
 #![tactic(auto)]
 
 mod cutting;
 mod faults;
 mod finding;
+mod handling;
 mod laws;
+mod opening;
 mod playing;
+mod putting;
 mod reading;
 mod running;
 mod session;

@@ -1,44 +1,84 @@
-//! STUB: the contracts of a session's calls, until the session itself takes this file's place.
-ghost use Rattle.std.specs.Prelude.{◌≡◌, ◌<◌, ◌⊎◌, IfErr, IfOk, None, false, true};
+//! An open session: the drive over a shop's disk, and what was read of it.
+ghost use Rattle.std.specs.Prelude.{◌≡◌, ◌≤◌, ◌↔◌, IfOk, IfSome, IsErr, Some, false, option_map, true};
 ghost use Rattle.d64_image.specs.Fuses.{fuse, fuse_disk, fuse_left, fuse_limit};
-ghost use Rattle.d64_image.specs.History.{Changes, Failed};
-ghost use Rattle.host_session.specs.Handling.{IsBeforeOrAfter, IsMedia, MayGrow, after_of, media};
-ghost use Rattle.host_session.specs.Opening.{IsAShop, Refuses, TellsOpening, Untouched, disk_of};
-ghost use Rattle.host_session.specs.Shop.{IsSettled, IsShop, Shop, start_of};
-ghost use Rattle.request_cards.specs.Ledgers.{reply_in};
-ghost use Rattle.request_cards.specs.Reading.{request_of};
+ghost use Rattle.host_session.specs.Handling.{told_of};
+ghost use Rattle.host_session.specs.Selecting.{IsReady};
+ghost use Rattle.host_session.specs.Shop.{IsSettled, IsShop, Shop};
+ghost use Rattle.host_session.specs.Standing.{IsStanding, View, nth, state_in, view_code};
 
-use crate::faults::OpenFault;
 use d64_image::{Fuse, Sectors};
-use request_cards::Reply;
+use drive_channels::{Dead, Drive};
+use request_cards::{Answer, Request, RequestCard};
 use std::marker::Model;
 
 /// An open ledger: a shop on a disk.
+///
+/// What the disk holds is kept here as well, so that a repeat, a refused request and a decision read no sector. Once the
+/// device has failed the session is dead: nothing is written any more, and the disk is to be opened again.
 pub struct Session<D: Sectors> {
-    disk: D,
+    drive: Drive<D>,
+    /// Whether the device failed.
     dead: bool,
+    /// The last item that a new card may have.
+    top: u16,
+    /// How many tills the disk has.
+    tills: u8,
+    /// The quantity on hand of each item, from item 1 on; as many as the largest file has records.
+    cards: [Option<u32>; 10160],
+    /// The card of each till, from till 1 on.
+    requests: [Option<RequestCard>; 64],
 }
 
 impl<D: Sectors> Model for Session<D> {
-    ghost use Rattle.host_session.specs.Standing.{View, view_code};
-
     ghost Value = { View D };
 
     ghost coded = { view_code D.code };
 
-    ghost view = { λ s. record { disk = s.disk; dead = s.dead } };
+    ghost view = { λ s. record { disk = s.drive.disk; dead = s.dead } };
+
+    ghost invariant = { λ s. IsStanding (D.history.image s.drive.disk) s.dead s.top s.tills (state_in s.cards s.requests) × (s.dead ≡ false → IsReady D.history s.drive) };
 }
 
 impl<D: Sectors> Session<D> {
+    /// Whether the device failed: a message got MEDIA.
+    pub fn is_dead(&self) -> bool
+        ensures value { result ≡ self.now.dead }
+        // else the disk is at rest
+        ensures settled { result ≡ false → (s : Shop) → IsShop (D.history.image self.now.disk) s → IsSettled (D.history.image self.now.disk) s }
+    {
+        self.dead
+    }
+
+    /// The greatest item that a new card may have.
+    pub fn top(&self) -> u16
+        ensures { (s : Shop) → IsShop (D.history.image self.now.disk) s → result ≡ s.top }
+    {
+        self.top
+    }
+
+    /// How many tills the disk has: 0 to 64.
+    pub fn tills(&self) -> u8
+        ensures { (s : Shop) → IsShop (D.history.image self.now.disk) s → result ≡ s.tills }
+    {
+        self.tills
+    }
+
     /// The disk.
     pub fn close(self) -> D
         ensures { result ≡ self.disk }
     {
-        let Session { disk, dead: _ } = self;
-        disk
+        let Session {
+            drive,
+            dead: _,
+            top: _,
+            tills: _,
+            cards: _,
+            requests: _,
+        } = self;
+        drive.into_disk()
     }
 
-    /// The session on a disk whose power fails after so many writes.
+    /// The same session on a disk whose power goes after so many sector writes.
     pub(crate) fn fused(self, writes: u32) -> Session<Fuse<D>>
         ensures disk { fuse_disk result.disk ≡ self.disk }
         ensures limit { fuse_limit result.disk ≡ writes }
@@ -46,39 +86,95 @@ impl<D: Sectors> Session<D> {
         ensures failures { (fuse D.history).failures result.disk ≡ 0 }
         ensures dead { result.dead ≡ self.dead }
     {
-        let Session { disk, dead } = self;
-        Session {
-            disk: Fuse::new(disk, writes),
+        let Session {
+            drive,
             dead,
+            top,
+            tills,
+            cards,
+            requests,
+        } = self;
+        Session {
+            drive: Drive::power_on(Fuse::new(drive.into_disk(), writes)),
+            dead,
+            top,
+            tills,
+            cards,
+            requests,
         }
     }
+}
 
-    /// Opens a disk.
-    #[tactic(none)]
-    pub fn open(disk: D) -> Result<Session<D>, (OpenFault, D)>
-        ensures ok { IfOk result (λ x. (s : Shop) × IsShop (D.history.image disk) s × IsSettled (D.history.image x.disk) s × (x.dead ≡ false)) }
-        ensures err { IfErr result (λ e. Refuses (Failed D.history disk e.1) (D.history.image disk) e.0) }
-        ensures moments { (s : Shop) → IsShop (D.history.image disk) s → Changes D.history disk (disk_of (λ x. x.disk) result) 952 (λ c. IsShop c s) }
-        ensures unfit { (IsAShop (D.history.image disk) → ⊥) → Untouched D.history disk (disk_of (λ x. x.disk) result) }
-        ensures quiet { (s : Shop) → IsSettled (D.history.image disk) s → Untouched D.history disk (disk_of (λ x. x.disk) result) }
-        ensures failures { TellsOpening (λ x. x.disk) D.history disk result }
+/// The quantity that a table of cards holds for an item.
+fn on_hand(cards: &[Option<u32>; 10160], item: u16) -> Option<u32>
+    ensures { result ≡ nth cards.now item }
+{
+    if item == 0 {
+        return None;
+    }
+    let place = usize::from(item) - 1;
+    if place < 10160 { cards[place] } else { None }
+}
+
+/// The card that a table of request cards holds for a till.
+fn card_of(requests: &[Option<RequestCard>; 64], till: u8) -> Option<RequestCard>
+    ensures value { result ≡ nth requests.now till }
+    ensures within { IfSome result (λ _. (1 ≤ till) × (till ≤ 64)) }
+{
+    if till == 0 {
+        return None;
+    }
+    let place = usize::from(till) - 1;
+    if place < 64 { requests[place] } else { None }
+}
+
+/// The newest request of a card with its answer, as that of this till.
+fn newest_of(card: &RequestCard, till: u8) -> Option<(Request, Answer)>
+    requires low { 1 ≤ till }
+    requires high { till ≤ 64 }
+    ensures { result ≡ Some (told_of till card.now.newest) }
+{
+    let request = card.request(till)?;
+    Some((request, card.answer()))
+}
+
+impl<D: Sectors> Session<D> {
+    /// The quantity on hand of an item, where it has a card. Err where the session is dead.
+    pub fn card(&self, item: u16) -> Result<Option<u32>, Dead>
+        ensures ok { (s : Shop) → IsShop (D.history.image self.now.disk) s → IfOk result (λ q. q ≡ s.state.ledger.cards item) }
+        ensures dead { IsErr result ↔ (self.now.dead ≡ true) }
     {
-        Err((OpenFault::NoStock, disk))
+        if self.dead {
+            return Err(Dead);
+        }
+        Ok(on_hand(&self.cards, item))
     }
 
-    /// Serves a message.
-    #[tactic(none)]
-    pub fn handle(&mut self, message: &[u8]) -> Reply
-        ensures syntax { request_of message.now ≡ None → (result ≡ Reply.Syntax) × (self.new ≡ self.old) }
-        ensures reply { (s : Shop) → IsShop (D.history.image self.old.disk) s → self.old.dead ≡ false → ¬ (IsMedia result)
-            → (result ≡ reply_in (start_of s) s.state (request_of message.now)) × IsSettled (D.history.image self.new.disk) (after_of s message.now) × (self.new.dead ≡ false) }
-        ensures moments { (s : Shop) → IsShop (D.history.image self.old.disk) s → Changes D.history self.old.disk self.new.disk 7196 (IsBeforeOrAfter s message.now) }
-        ensures counted { (s : Shop) → IsShop (D.history.image self.old.disk) s → D.history.writes self.old.disk < D.history.writes self.new.disk
-            → MayGrow s (request_of message.now) ⊎ IsShop (D.history.image self.new.disk) (after_of s message.now) }
-        ensures media { IsMedia result → result ≡ media (request_of message.now) }
-        ensures failures { (IsMedia result × ((self.old.dead ≡ true) ⊎ Failed D.history self.old.disk self.new.disk))
-            ⊎ (¬ (IsMedia result) × (D.history.failures self.new.disk ≡ D.history.failures self.old.disk)) }
+    /// The last request of a till with its answer, where the till has one. Err where the session is dead.
+    pub fn kept(&self, till: u8) -> Result<Option<(Request, Answer)>, Dead>
+        ensures ok { (s : Shop) → IsShop (D.history.image self.now.disk) s → IfOk result (λ e. e ≡ option_map (told_of till) (s.state.ledger.kept till)) }
+        ensures dead { IsErr result ↔ (self.now.dead ≡ true) }
     {
-        Reply::Syntax
+        if self.dead {
+            return Err(Dead);
+        }
+        let Some(card) = card_of(&self.requests, till) else {
+            return Ok(None);
+        };
+        Ok(newest_of(&card, till))
+    }
+
+    /// The request of a till before its last one with its answer, where the disk has it. Err where the session is dead.
+    pub fn prior(&self, till: u8) -> Result<Option<(Request, Answer)>, Dead>
+        ensures ok { (s : Shop) → IsShop (D.history.image self.now.disk) s → IfOk result (λ e. e ≡ option_map (told_of till) (s.state.prior till)) }
+        ensures dead { IsErr result ↔ (self.now.dead ≡ true) }
+    {
+        if self.dead {
+            return Err(Dead);
+        }
+        let Some(card) = card_of(&self.requests, till) else {
+            return Ok(None);
+        };
+        Ok(card.prior(till))
     }
 }
