@@ -12,13 +12,10 @@ use Rattle.request_cards.specs.Ledgers.{State}
 use Rattle.request_cards.specs.Reading.{request_of}
 use Rattle.host_session.proofs.Parts.{after_whole, counted_either, counts_failed, failed_out, first_set_out, none_counts, whole_counts}
 use Rattle.host_session.specs.Counted.{MayCount, after_all}
-use Rattle.host_session.specs.Events.{Message}
+use Rattle.host_session.specs.Events.{Message, cut_at}
 use Rattle.host_session.specs.Handling.{IsBeforeOrAfter, MayGrow, after_of}
 use Rattle.host_session.specs.OneEvent.{IsEvent, IsInEvent, Leaves}
 use Rattle.host_session.specs.Shop.{IsShop, Shop, start_of, with_state}
-
-abbrev pub cut_at : List ℕ → ℕ → Message
-cut_at bytes after = record { bytes = bytes; cut_after = Some after }
 
 positive : (n : ℕ) → 0 < n → Some n ≢ Some 0
 positive zero low e = omega (arith, low)
@@ -142,6 +139,21 @@ module _ {D : Type 0} (h : History D) where
       let x = changes.held.reached in
       subst (λ (y : D). h.writes y ≤ h.writes d + n) (sym ends)
       (subst (λ (y : D). h.writes (fuse_disk b) ≤ h.writes y + n) is (omega (arith, x.writes, x.limit, limit, b.within)))
+
+  -- an opening over a fuse holds the shop beneath it
+  pub cut_moments : (s : Shop) (k : ℕ) (d r : D) (a b : Fuse D) → fuse_disk a ≡ d → r ≡ fuse_disk b → IsShop (h.image d) s
+      → (IsShop (h.image (fuse_disk a)) s → Changes (fuse h) a b k (λ i. IsShop i s)) → HeldOnly h d r (λ i. IsShop i s)
+  cut_moments s k d r a b is ends shop changes =
+      subst (λ (x : D). HeldOnly h x r (λ i. IsShop i s)) is
+      (subst (λ (x : D). HeldOnly h (fuse_disk a) x (λ i. IsShop i s)) (sym ends)
+      (held_beneath h a b (λ i. IsShop i s) (changes (subst (λ (x : D). IsShop (h.image x) s) (sym is) shop)).held))
+
+  pub cut_later : (s : Shop) (k : ℕ) (d r : D) (a b : Fuse D) → fuse_disk a ≡ d → r ≡ fuse_disk b → IsShop (h.image d) s
+      → (IsShop (h.image (fuse_disk a)) s → Changes (fuse h) a b k (λ i. IsShop i s)) → h.failures d ≤ h.failures r
+  cut_later s k d r a b is ends shop changes =
+      subst (λ (x : D). h.failures x ≤ h.failures r) is
+      (subst (λ (x : D). h.failures (fuse_disk a) ≤ h.failures x) (sym ends)
+      (changes (subst (λ (x : D). IsShop (h.image x) s) (sym is) shop)).held.reached.failures)
 
   -- the shop that an event leaves is one on its way
   counted_way : (s : Shop) (m : Message) (failed : Bool) (counted : List Ask) (i : Image) → MayCount s.top s.state (request_of m.bytes) m.cut_after failed counted

@@ -18,6 +18,7 @@ pub mod Cuts
 pub mod Answered
 pub mod Totals
 pub mod Runs
+pub mod EventRuns
 pub mod RunOpenings
 pub mod Reports
 pub mod PlainRuns

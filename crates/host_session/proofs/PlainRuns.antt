@@ -6,12 +6,8 @@ use Rattle.request_cards.specs.Requests.{Ask}
 use Rattle.request_cards.specs.Ledgers.{Start, State, plain, reply_in, replies}
 use Rattle.request_cards.specs.Reading.{request_of}
 use Rattle.host_session.specs.Counted.{IsCounted, MayCount, NoneGotMedia, all_of, answer, answers}
-use Rattle.host_session.specs.Events.{Message, messages_of}
+use Rattle.host_session.specs.Events.{messages_of, uncut}
 use Rattle.script_lines.specs.Resets.{line_of}
-
--- a message without a reset
-abbrev pub uncut : List ℕ → Message
-uncut bytes = record { bytes = bytes; cut_after = None }
 
 part_whole : (top : ℕ) (state : State) (o : Option Ask) (f : Bool) (c : List Ask) → f ≡ false → MayCount top state o None f c → c ≡ option_to_list o
 part_whole top state None f c e h = h

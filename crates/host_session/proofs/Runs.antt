@@ -1,5 +1,5 @@
 -- A run, event by event.
-use Rattle.std.proofs.Common.{◌≡◌, ◌≤◌, ◌+◌, ⊎_elim, ℕ, Bool, true, false, List, [], ◌∷◌, ◌++◌, Option, Some, None, refl, sym, subst, ◌∙◌, ap, arith, append_assoc, append-nil}
+use Rattle.std.proofs.Common.{◌≡◌, ◌≢◌, ◌≤◌, ◌+◌, ⊎_elim, ℕ, Bool, true, false, List, [], ◌∷◌, ◌++◌, Option, Some, None, refl, sym, subst, ◌∙◌, ap, arith, append_assoc, append-nil}
 use Rattle.std.specs.Prelude.{option_to_list, if◌then◌else◌, is_some}
 use Rattle.std.proofs.lemmas.Grind.{flat_map-append}
 use Rattle.d64_image.specs.Images.{Image}
@@ -17,7 +17,7 @@ use Rattle.host_session.specs.Counted.{FailsAtLast, IsCounted, MayCount, NoneGot
 use Rattle.host_session.specs.Events.{Message}
 use Rattle.host_session.specs.Handling.{media}
 use Rattle.host_session.specs.OneEvent.{EndsFailed, GoesOn, IsEvent, IsInEvent}
-use Rattle.host_session.specs.Runs.{HeldBeginnings, IsBlamed, IsPlayed, IsPlayedWhole, IsSomeBeginning, blamed}
+use Rattle.host_session.specs.Runs.{HeldBeginnings, IsBlamed, IsPlayedWhole, IsSomeBeginning, StoppedByDevice, StoppedByOutput, blamed}
 use Rattle.host_session.specs.Shop.{IsSettled, IsShop, Shop, start_of, with_state}
 
 -- what one more message counts goes to the end
@@ -87,6 +87,16 @@ replies_on s state m f = pick (request_of m.bytes)
     pick None = refl
     pick (Some a) = refl
 
+-- what was told, with the reply to one message more
+told_more : (s : Shop) (ms : List Message) (m : Message) (told : List Reply) (reply : Reply) (f : Bool) (c : List Ask) (fs : List Bool) (cs : List (List Ask))
+    → told ≡ answers (start_of s) [] ms fs cs → IsCounted (start_of s) [] ms fs cs
+    → reply ≡ answer (start_of (with_state s (plain (start_of s) (all_of cs)))) (plain (start_of s) (all_of cs)) m f
+    → told ++ reply ∷ [] ≡ answers (start_of s) [] (ms ++ m ∷ []) (fs ++ f ∷ []) (cs ++ c ∷ [])
+told_more s ms m told reply f c fs cs is counted so =
+    ap (λ (rs : List Reply). rs ++ reply ∷ []) is
+    ∙ ap (λ r. answers (start_of s) [] ms fs cs ++ r ∷ []) (so ∙ replies_on s (plain (start_of s) (all_of cs)) m f)
+    ∙ sym (answers_more (start_of s) [] ms fs cs m f c counted)
+
 module _ {D : Type 0} (h : History D) where
   -- blame for earlier failures stands
   blame_later : (old mid new : D) (fs : List Bool) → IsBlamed h old mid fs → h.failures mid ≤ h.failures new → IsBlamed h old new fs
@@ -145,111 +155,15 @@ module _ {D : Type 0} (h : History D) where
             after.1;
       })
 
-  -- nothing has been played
-  pub none_played : (s : Shop) (old new : D) → HeldOnly h old new (λ i. IsShop i s) → h.failures old ≤ h.failures new → IsSettled (h.image new) s
-      → IsPlayedWhole h s [] old new [] × HeldBeginnings h s [] old new
-  none_played s old new held later settled =
-      (record {
-        fails = [];
-        counted = [];
-        is = tt;
-        whole = tt;
-        blame = λ lt. omega (arith, later);
-        told_is = refl;
-        sums = sums_counted (start_of s) [] [] [] tt;
-        ends = subst (λ state. IsSettled (h.image new) (with_state s state)) (sym (plain_nil (start_of s))) settled;
-      },
-      weaker h old new (λ i. IsShop i s) (IsSomeBeginning s [] (IsBlamed h old new)) (λ i x. record {
-        begun = [];
-        rest = [];
-        parts = refl;
-        fails = [];
-        counted = [];
-        is = tt;
-        whole = tt;
-        blame = λ lt. omega (arith, later);
-        shop = subst (λ state. IsShop i (with_state s state)) (sym (plain_nil (start_of s))) x;
-      }) held)
+  -- these messages were played whole, with every moment of it
+  abbrev pub HasPlayed : Shop → List Message → D → D → List Reply → Type 0
+  HasPlayed s ms old new told = IsPlayedWhole h s ms old new told × HeldBeginnings h s ms old new
 
-  -- the moments, with those of one event more
-  moments_more : (s : Shop) (ms : List Message) (m : Message) (old mid new : D) (told : List Reply) → h.failures mid ≤ h.failures new
-      → (p : IsPlayedWhole h s ms old mid told) → HeldBeginnings h s ms old mid
-      → HeldOnly h mid new (IsInEvent (with_state s (plain (start_of s) (all_of p.counted))) m) → HeldBeginnings h s (ms ++ m ∷ []) old new
-  moments_more s ms m old mid new told later p first second =
-      (then) h old mid new (IsSomeBeginning s (ms ++ m ∷ []) (IsBlamed h old new))
-      (weaker h old mid (IsSomeBeginning s ms (IsBlamed h old mid)) (IsSomeBeginning s (ms ++ m ∷ []) (IsBlamed h old new))
-        (λ i x. begins_more s ms m old mid new i later x) first)
-      (weaker h mid new (IsInEvent (with_state s (plain (start_of s) (all_of p.counted))) m) (IsSomeBeginning s (ms ++ m ∷ []) (IsBlamed h old new))
-        (λ i x. way_begins s ms m old mid new told i later p x) second)
+  -- the shop on which the next message finds itself
+  abbrev pub now_of : (s : Shop) (ms : List Message) (old new : D) (told : List Reply) → HasPlayed s ms old new told → Shop
+  now_of s ms old new told p = with_state s (plain (start_of s) (all_of p.0.counted))
 
-  -- one event more
-  pub one_played : (s : Shop) (ms : List Message) (m : Message) (old mid new : D) (told : List Reply) (reply : Reply)
-      → (p : IsPlayedWhole h s ms old mid told) → HeldBeginnings h s ms old mid
-      → IsEvent h (with_state s (plain (start_of s) (all_of p.counted))) m mid new (GoesOn h (with_state s (plain (start_of s) (all_of p.counted))) m reply new)
-      → IsPlayedWhole h s (ms ++ m ∷ []) old new (told ++ reply ∷ []) × HeldBeginnings h s (ms ++ m ∷ []) old new
-  one_played s ms m old mid new told reply p moments e =
-      let state = plain (start_of s) (all_of p.counted) in
-      (record {
-        fails = p.fails ++ e.failed ∷ [];
-        counted = p.counted ++ e.counted ∷ [];
-        is = counted_more (start_of s) [] ms p.fails p.counted m e.failed e.counted p.is e.is;
-        whole = answered_more ms p.fails m e.failed p.whole e.ends.answered;
-        blame = blame_more old mid new p.fails e.failed p.blame e.later e.blame;
-        sums = sums_counted (start_of s) (ms ++ m ∷ []) (p.fails ++ e.failed ∷ []) (p.counted ++ e.counted ∷ [])
-            (counted_more (start_of s) [] ms p.fails p.counted m e.failed e.counted p.is e.is);
-        told_is = ap (λ (rs : List Reply). rs ++ reply ∷ []) p.told_is
-            ∙ ap (λ r. answers (start_of s) [] ms p.fails p.counted ++ r ∷ []) (e.ends.told ∙ replies_on s state m e.failed)
-            ∙ sym (answers_more (start_of s) [] ms p.fails p.counted m e.failed e.counted p.is);
-        ends = subst (λ x. IsSettled (h.image new) (with_state s x)) (sym (state_more (start_of s) p.counted e.counted)) e.ends.settled;
-      },
-      moments_more s ms m old mid new told e.later p moments e.moments)
-
-  -- the last event, in which the device failed
-  pub last_played : (s : Shop) (ms : List Message) (m : Message) (old mid new : D) (told : List Reply) (reply : Reply)
-      → (p : IsPlayedWhole h s ms old mid told) → HeldBeginnings h s ms old mid
-      → IsEvent h (with_state s (plain (start_of s) (all_of p.counted))) m mid new (EndsFailed h (with_state s (plain (start_of s) (all_of p.counted))) m reply new)
-      → IsPlayed h s (ms ++ m ∷ []) old new (told ++ reply ∷ []) FailsAtLast (λ state. IsShop (h.image new) (with_state s state)) × HeldBeginnings h s (ms ++ m ∷ []) old new
-  last_played s ms m old mid new told reply p moments e =
-      let state = plain (start_of s) (all_of p.counted) in
-      (record {
-        fails = p.fails ++ e.failed ∷ [];
-        counted = p.counted ++ e.counted ∷ [];
-        is = counted_more (start_of s) [] ms p.fails p.counted m e.failed e.counted p.is e.is;
-        whole = record {
-          before = ms;
-          last = m;
-          answered = p.fails;
-          messages_are = refl;
-          fails_are = ap (λ f. p.fails ++ f ∷ []) e.ends.is_failed;
-          whole = p.whole;
-          asked = e.ends.asked;
-        };
-        blame = blame_more old mid new p.fails e.failed p.blame e.later e.blame;
-        sums = sums_counted (start_of s) (ms ++ m ∷ []) (p.fails ++ e.failed ∷ []) (p.counted ++ e.counted ∷ [])
-            (counted_more (start_of s) [] ms p.fails p.counted m e.failed e.counted p.is e.is);
-        told_is = ap (λ (rs : List Reply). rs ++ reply ∷ []) p.told_is
-            ∙ ap (λ r. answers (start_of s) [] ms p.fails p.counted ++ r ∷ []) (e.ends.told ∙ replies_on s state m e.failed)
-            ∙ sym (answers_more (start_of s) [] ms p.fails p.counted m e.failed e.counted p.is);
-        ends = subst (λ x. IsShop (h.image new) (with_state s x)) (sym (state_more (start_of s) p.counted e.counted)) e.ends.shop;
-      },
-      moments_more s ms m old mid new told e.later p moments e.moments)
-
-  -- moments of a beginning are moments of the whole
-  pub held_of_more : (s : Shop) (ms rest all : List Message) (old new : D) → ms ++ rest ≡ all → HeldBeginnings h s ms old new → HeldBeginnings h s all old new
-  held_of_more s ms rest all old new is held = weaker h old new (IsSomeBeginning s ms (IsBlamed h old new)) (IsSomeBeginning s all (IsBlamed h old new))
-      (λ i x. record {
-        begun = x.begun;
-        rest = x.rest ++ rest;
-        parts = sym (append_assoc x.begun x.rest rest) ∙ ap (λ xs. xs ++ rest) x.parts ∙ is;
-        fails = x.fails;
-        counted = x.counted;
-        is = x.is;
-        whole = x.whole;
-        blame = x.blame;
-        shop = x.shop;
-      }) held
-
-  -- before the first event
+  -- before the first message
   pub held_none : (s : Shop) (messages : List Message) (old new : D) → HeldOnly h old new (λ i. IsShop i s) → h.failures old ≤ h.failures new
       → HeldBeginnings h s messages old new
   held_none s messages old new held later = weaker h old new (λ i. IsShop i s) (IsSomeBeginning s messages (IsBlamed h old new)) (λ i x. record {
@@ -263,3 +177,102 @@ module _ {D : Type 0} (h : History D) where
         blame = λ lt. omega (arith, later);
         shop = subst (λ state. IsShop i (with_state s state)) (sym (plain_nil (start_of s))) x;
       }) held
+
+  -- nothing has been played
+  pub none_played : (s : Shop) (old new : D) → HeldOnly h old new (λ i. IsShop i s) → h.failures old ≤ h.failures new → IsSettled (h.image new) s
+      → HasPlayed s [] old new []
+  none_played s old new held later settled =
+      (record {
+        fails = [];
+        counted = [];
+        is = tt;
+        whole = tt;
+        blame = λ lt. omega (arith, later);
+        told_is = refl;
+        sums = sums_counted (start_of s) [] [] [] tt;
+        ends = subst (λ state. IsSettled (h.image new) (with_state s state)) (sym (plain_nil (start_of s))) settled;
+      },
+      held_none s [] old new held later)
+
+  -- the moments, with those of one message more
+  moments_more : (s : Shop) (ms : List Message) (m : Message) (old mid new : D) (told : List Reply) → h.failures mid ≤ h.failures new
+      → (p : HasPlayed s ms old mid told) → HeldOnly h mid new (IsInEvent (now_of s ms old mid told p) m) → HeldBeginnings h s (ms ++ m ∷ []) old new
+  moments_more s ms m old mid new told later p held =
+      (then) h old mid new (IsSomeBeginning s (ms ++ m ∷ []) (IsBlamed h old new))
+      (weaker h old mid (IsSomeBeginning s ms (IsBlamed h old mid)) (IsSomeBeginning s (ms ++ m ∷ []) (IsBlamed h old new))
+        (λ i x. begins_more s ms m old mid new i later x) p.1)
+      (weaker h mid new (IsInEvent (now_of s ms old mid told p) m) (IsSomeBeginning s (ms ++ m ∷ []) (IsBlamed h old new))
+        (λ i x. way_begins s ms m old mid new told i later p.0 x) held)
+
+  -- one message more
+  pub one_played : (s : Shop) (ms : List Message) (m : Message) (old mid new : D) (told : List Reply) (reply : Reply)
+      → (p : HasPlayed s ms old mid told) → IsEvent h (now_of s ms old mid told p) m mid new (GoesOn h (now_of s ms old mid told p) m reply new)
+      → HasPlayed s (ms ++ m ∷ []) old new (told ++ reply ∷ [])
+  one_played s ms m old mid new told reply p e =
+      let w = p.0 in
+      let is = counted_more (start_of s) [] ms w.fails w.counted m e.failed e.counted w.is e.is in
+      (record {
+        fails = w.fails ++ e.failed ∷ [];
+        counted = w.counted ++ e.counted ∷ [];
+        is = is;
+        whole = answered_more ms w.fails m e.failed w.whole e.ends.answered;
+        blame = blame_more old mid new w.fails e.failed w.blame e.later e.blame;
+        sums = sums_counted (start_of s) (ms ++ m ∷ []) (w.fails ++ e.failed ∷ []) (w.counted ++ e.counted ∷ []) is;
+        told_is = told_more s ms m told reply e.failed e.counted w.fails w.counted w.told_is w.is e.ends.told;
+        ends = subst (λ x. IsSettled (h.image new) (with_state s x)) (sym (state_more (start_of s) w.counted e.counted)) e.ends.settled;
+      },
+      moments_more s ms m old mid new told e.later p e.moments)
+
+  -- moments of a beginning are moments of the whole
+  held_of_more : (s : Shop) (ms rest all : List Message) (old new : D) → ms ++ rest ≡ all → HeldBeginnings h s ms old new → HeldBeginnings h s all old new
+  held_of_more s ms rest all old new is held = weaker h old new (IsSomeBeginning s ms (IsBlamed h old new)) (IsSomeBeginning s all (IsBlamed h old new))
+      (λ i x. record {
+        begun = x.begun;
+        rest = x.rest ++ rest;
+        parts = sym (append_assoc x.begun x.rest rest) ∙ ap (λ xs. xs ++ rest) x.parts ∙ is;
+        fails = x.fails;
+        counted = x.counted;
+        is = x.is;
+        whole = x.whole;
+        blame = x.blame;
+        shop = x.shop;
+      }) held
+
+  -- one message more of all of them, and it was the last that could be
+  pub and_no_more : (s : Shop) (ms rest all : List Message) (old new : D) (told : List Reply) → ms ++ rest ≡ all → ms ≢ [] → HasPlayed s ms old new told
+      → StoppedByOutput h s all old new told × HeldBeginnings h s all old new
+  and_no_more s ms rest all old new told parts some p =
+      (record { begun = ms; rest = rest; parts = parts; some = some; played = p.0 }, held_of_more s ms rest all old new parts p.1)
+
+  -- one message more of all of them, in which the device failed
+  pub stopped : (s : Shop) (ms rest all : List Message) (m : Message) (old mid new : D) (told : List Reply) (reply : Reply)
+      → (p : HasPlayed s ms old mid told) → (ms ++ m ∷ []) ++ rest ≡ all
+      → IsEvent h (now_of s ms old mid told p) m mid new (EndsFailed h (now_of s ms old mid told p) m reply new)
+      → StoppedByDevice h s all old new (told ++ reply ∷ []) × HeldBeginnings h s all old new
+  stopped s ms rest all m old mid new told reply p parts e =
+      let w = p.0 in
+      let is = counted_more (start_of s) [] ms w.fails w.counted m e.failed e.counted w.is e.is in
+      (record {
+        begun = ms ++ m ∷ [];
+        rest = rest;
+        parts = parts;
+        played = record {
+          fails = w.fails ++ e.failed ∷ [];
+          counted = w.counted ++ e.counted ∷ [];
+          is = is;
+          whole = record {
+            before = ms;
+            last = m;
+            answered = w.fails;
+            messages_are = refl;
+            fails_are = ap (λ f. w.fails ++ f ∷ []) e.ends.is_failed;
+            whole = w.whole;
+            asked = e.ends.asked;
+          };
+          blame = blame_more old mid new w.fails e.failed w.blame e.later e.blame;
+          sums = sums_counted (start_of s) (ms ++ m ∷ []) (w.fails ++ e.failed ∷ []) (w.counted ++ e.counted ∷ []) is;
+          told_is = told_more s ms m told reply e.failed e.counted w.fails w.counted w.told_is w.is e.ends.told;
+          ends = subst (λ x. IsShop (h.image new) (with_state s x)) (sym (state_more (start_of s) w.counted e.counted)) e.ends.shop;
+        };
+      },
+      held_of_more s (ms ++ m ∷ []) rest all old new parts (moments_more s ms m old mid new told e.later p e.moments))

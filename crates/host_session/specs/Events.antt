@@ -1,5 +1,5 @@
 -- What a run is played over: messages, and where power goes in them. All of it is our own.
-use Rattle.std.specs.Prelude.{◌≢◌, ℕ, List, Option, flat_map, option_map, option_to_list, slice_index}
+use Rattle.std.specs.Prelude.{◌≢◌, ℕ, List, None, Option, Some, flat_map, option_map, option_to_list, slice_index}
 use Rattle.std.specs.List.{AllByRecursion}
 use Rattle.request_cards.specs.Reading.{request_of}
 use Rattle.request_cards.specs.Requests.{Ask}
@@ -11,6 +11,14 @@ use Rattle.script_lines.specs.declared.events.Event.{Event}
 pub record Message : Type 0 where
   pub bytes : List ℕ
   pub cut_after : Option ℕ
+
+-- a message that is played whole
+abbrev pub uncut : List ℕ → Message
+uncut bytes = record { bytes = bytes; cut_after = None }
+
+-- a message in which power goes
+abbrev pub cut_at : List ℕ → ℕ → Message
+cut_at bytes after = record { bytes = bytes; cut_after = Some after }
 
 -- the message of an event
 abbrev pub message_of : Event → Message

@@ -1,7 +1,7 @@
-//! One event of a run: a message, or one in which power goes, with the openings after it.
-ghost use Rattle.std.specs.Prelude.{◌≡◌, ◌≤◌, ◌+◌, ◌↔◌, IfErr, IfOk, IsTrue, Some, false};
+//! One event of a run: a message, or one in which power goes and the openings after it.
+ghost use Rattle.std.specs.Prelude.{◌≡◌, ◌≤◌, ◌+◌, ◌↔◌, IfErr, IfOk, IsTrue, false};
 ghost use Rattle.d64_image.specs.History.{HeldOnly};
-ghost use Rattle.host_session.specs.Events.{message_of};
+ghost use Rattle.host_session.specs.Events.{cut_at, uncut};
 ghost use Rattle.host_session.specs.Handling.{IsMedia};
 ghost use Rattle.host_session.specs.OneEvent.{EndsFailed, GoesOn, IsEvent, Leaves};
 ghost use Rattle.host_session.specs.Shop.{IsSettled, IsShop, Shop};
@@ -9,13 +9,13 @@ ghost use Rattle.host_session.specs.Shop.{IsSettled, IsShop, Shop};
 use crate::session::Session;
 use d64_image::{Fuse, Sectors};
 use request_cards::{Reply, Word};
-use script_lines::{Cut, Event};
+use script_lines::Cut;
 
 /// Hands a message to a session whose power goes after so many writes, and takes the disk back.
 fn cut_message<D: Sectors>(session: Session<D>, message: &[u8], after: u32) -> D
     ensures writes { (s : Shop) → IsSettled (D.history.image session.disk) s → D.history.writes result ≤ D.history.writes session.disk + after }
     ensures event { (s : Shop) → IsSettled (D.history.image session.disk) s → session.dead ≡ false
-        → IsEvent D.history s (record { bytes = message.now; cut_after = Some after }) session.disk result (Leaves D.history s result) }
+        → IsEvent D.history s (cut_at message.now after) session.disk result (Leaves D.history s result) }
 {
     let mut cut = session.fused(after);
     let _ = cut.handle(message);
@@ -47,13 +47,13 @@ fn cut_openings<D: Sectors>(disk: D, recoveries: &[u32]) -> D
 }
 
 /// A message in which power goes, the listed recoveries, and a whole one. Err has the disk where the whole one failed.
-fn cut_event<D: Sectors>(session: Session<D>, message: &[u8], cut: &Cut) -> Result<Session<D>, D>
+pub(crate) fn cut_event<D: Sectors>(session: Session<D>, message: &[u8], cut: &Cut) -> Result<Session<D>, D>
     ensures done { (s : Shop) → IsSettled (D.history.image session.disk) s → session.dead ≡ false
-        → IfOk result (λ x. (x.dead ≡ false) × IsEvent D.history s (record { bytes = message.now; cut_after = Some cut.now.after }) session.disk x.disk
-            (GoesOn D.history s (record { bytes = message.now; cut_after = Some cut.now.after }) Reply.Cut x.disk)) }
+        → IfOk result (λ x. (x.dead ≡ false) × IsEvent D.history s (cut_at message.now cut.now.after) session.disk x.disk
+            (GoesOn D.history s (cut_at message.now cut.now.after) Reply.Cut x.disk)) }
     ensures stopped { (s : Shop) → IsSettled (D.history.image session.disk) s → session.dead ≡ false
-        → IfErr result (λ d. IsEvent D.history s (record { bytes = message.now; cut_after = Some cut.now.after }) session.disk d
-            (EndsFailed D.history s (record { bytes = message.now; cut_after = Some cut.now.after }) Reply.Cut d)) }
+        → IfErr result (λ d. IsEvent D.history s (cut_at message.now cut.now.after) session.disk d
+            (EndsFailed D.history s (cut_at message.now cut.now.after) Reply.Cut d)) }
 {
     let cut_disk = cut_message(session, message, cut.after);
     let disk = cut_openings(cut_disk, cut.recoveries.as_slice());
@@ -64,7 +64,7 @@ fn cut_event<D: Sectors>(session: Session<D>, message: &[u8], cut: &Cut) -> Resu
 }
 
 /// Whether the device failed.
-fn is_media(reply: Reply) -> bool
+pub(crate) fn is_media(reply: Reply) -> bool
     ensures { IsTrue result ↔ IsMedia reply }
 {
     matches!(
@@ -76,26 +76,14 @@ fn is_media(reply: Reply) -> bool
     )
 }
 
-/// One event of a run: the reply, and the session that goes on, or the disk where the device failed.
-pub(crate) fn step<D: Sectors>(
-    session: Session<D>,
-    event: &Event<'_>,
-) -> (Reply, Result<Session<D>, D>)
-    ensures done { (s : Shop) → IsSettled (D.history.image session.disk) s → session.dead ≡ false
-        → IfOk result.1 (λ x. (x.dead ≡ false) × IsEvent D.history s (message_of event.now) session.disk x.disk (GoesOn D.history s (message_of event.now) result.0 x.disk)) }
-    ensures stopped { (s : Shop) → IsSettled (D.history.image session.disk) s → session.dead ≡ false
-        → IfErr result.1 (λ d. IsEvent D.history s (message_of event.now) session.disk d (EndsFailed D.history s (message_of event.now) result.0 d)) }
+/// A message without a reset, handled in place: MEDIA where the device failed.
+pub(crate) fn whole_message<D: Sectors>(session: &mut Session<D>, message: &[u8]) -> Reply
+    ensures done { (s : Shop) → IsSettled (D.history.image session.old.disk) s → session.old.dead ≡ false → ¬ (IsMedia result)
+        → (session.new.dead ≡ false) × IsEvent D.history s (uncut message.now) session.old.disk session.new.disk
+            (GoesOn D.history s (uncut message.now) result session.new.disk) }
+    ensures stopped { (s : Shop) → IsSettled (D.history.image session.old.disk) s → session.old.dead ≡ false → IsMedia result
+        → IsEvent D.history s (uncut message.now) session.old.disk session.new.disk
+            (EndsFailed D.history s (uncut message.now) result session.new.disk) }
 {
-    match &event.cut {
-        Some(cut) => (Reply::Cut, cut_event(session, event.message, cut)),
-        None => {
-            let mut session = session;
-            let reply = session.handle(event.message);
-            if is_media(reply) {
-                (reply, Err(session.close()))
-            } else {
-                (reply, Ok(session))
-            }
-        }
-    }
+    session.handle(message)
 }

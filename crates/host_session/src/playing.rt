@@ -9,7 +9,7 @@ ghost use Rattle.host_session.specs.Shop.{IsShop, Shop};
 ghost use Rattle.host_session.specs.declared.faults.OpenFault.{OpenFault};
 ghost use Rattle.request_cards.specs.declared.reply.Reply.{Reply};
 
-use crate::cutting::step;
+use crate::cutting::{cut_event, is_media, whole_message};
 use crate::faults::OpenFault;
 use crate::session::Session;
 use d64_image::Sectors;
@@ -86,12 +86,23 @@ pub fn play<D: Sectors>(
         Err((fault, disk)) => return Err((PlayFault::Open(fault), disk)),
     };
     for event in events {
-        let (reply, next) = step(session, event);
-        replies.push_reserved(reply);
-        session = match next {
-            Ok(next) => next,
-            Err(disk) => return Err((PlayFault::Device, disk)),
-        };
+        match &event.cut {
+            None => {
+                let reply = whole_message(&mut session, event.message);
+                replies.push_reserved(reply);
+                if is_media(reply) {
+                    return Err((PlayFault::Device, session.close()));
+                }
+            }
+            Some(cut) => {
+                let next = cut_event(session, event.message, cut);
+                replies.push_reserved(Reply::Cut);
+                session = match next {
+                    Ok(next) => next,
+                    Err(disk) => return Err((PlayFault::Device, disk)),
+                };
+            }
+        }
     }
     Ok(session.close())
 }

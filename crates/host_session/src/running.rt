@@ -14,7 +14,7 @@ ghost use Rattle.request_cards.specs.declared.reply.Reply.{Reply};
 ghost use Rattle.script_lines.specs.Lines.{lines};
 ghost use Rattle.script_lines.specs.Resets.{first_bad};
 
-use crate::cutting::step;
+use crate::cutting::{cut_event, is_media, whole_message};
 use crate::faults::OpenFault;
 use crate::session::Session;
 use d64_image::Sectors;
@@ -116,15 +116,30 @@ pub fn run_script<D: Sectors, W: Write>(
     let mut rest = script;
     while let Some((line, more)) = next_line(rest) {
         if let Some(event) = event_at(line) {
-            let (reply, next) = step(session, &event);
-            let written = put_line(out, reply);
-            session = match next {
-                Ok(next) => next,
-                Err(disk) => return Err((ScriptFault::Device, disk)),
-            };
-            match written {
-                Ok(()) => {}
-                Err(()) => return Err((ScriptFault::Output, session.close())),
+            match &event.cut {
+                None => {
+                    let reply = whole_message(&mut session, event.message);
+                    let written = put_line(out, reply);
+                    if is_media(reply) {
+                        return Err((ScriptFault::Device, session.close()));
+                    }
+                    match written {
+                        Ok(()) => {}
+                        Err(()) => return Err((ScriptFault::Output, session.close())),
+                    }
+                }
+                Some(cut) => {
+                    let next = cut_event(session, event.message, cut);
+                    let written = put_line(out, Reply::Cut);
+                    session = match next {
+                        Ok(next) => next,
+                        Err(disk) => return Err((ScriptFault::Device, disk)),
+                    };
+                    match written {
+                        Ok(()) => {}
+                        Err(()) => return Err((ScriptFault::Output, session.close())),
+                    }
+                }
             }
         }
         rest = more;

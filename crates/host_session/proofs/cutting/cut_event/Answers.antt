@@ -2,10 +2,11 @@
 use Rattle.std.proofs.Common.{◌≡◌, ⊎_elim, refl, subst, arith, None}
 use Rattle.d64_image.specs.History.{Failed}
 use Rattle.d64_image.proofs.Moments.{then, at_end}
-use Rattle.host_session.proofs.Cuts.{cut_at, event_failed, event_then}
+use Rattle.host_session.proofs.Cuts.{event_failed, event_then}
 use Rattle.host_session.proofs.RunOpenings.{refused_none}
 use Rattle.host_session.proofs.Shops.{IsShop-one}
 use Rattle.host_session.specs.Counted.{after_all}
+use Rattle.host_session.specs.Events.{cut_at}
 use Rattle.host_session.specs.OneEvent.{EndsFailed, GoesOn, Leaves}
 use Rattle.host_session.specs.Shop.{IsSettled, IsShop, Shop, start_of, with_state}
 use Rattle.request_cards.specs.declared.reply.Reply.TheVariants.{Cut}

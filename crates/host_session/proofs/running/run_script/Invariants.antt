@@ -5,7 +5,7 @@ use Rattle.request_cards.specs.Ledgers.{report}
 use Rattle.request_cards.specs.declared.reply.Reply.{Reply}
 use Rattle.host_session.specs.Events.{Message, messages_of}
 use Rattle.host_session.specs.Opening.{IsAShop}
-use Rattle.host_session.specs.Runs.{HeldBeginnings, IsPlayedWhole}
+use Rattle.host_session.proofs.Runs.{HasPlayed}
 use Rattle.host_session.specs.Shop.{IsShop, Shop}
 use Rattle.script_lines.specs.Lines.{lines}
 use Rattle.host_session.proofs.running.run_script.Given as goal
@@ -20,8 +20,7 @@ invariant-loop-line g l =
       played : (s : Shop) → IsShop (h.image l.fn.disk) s → (begun : List Message) × (told : List Reply)
           × (begun ++ messages_of (lines l.rest) ≡ messages_of (lines l.script))
           × Appends (g.W.Write.contents l.fn.out) (g.W.Write.contents l.out) (report told)
-          × IsPlayedWhole h s begun l.fn.disk l.session.disk told
-          × HeldBeginnings h s begun l.fn.disk l.session.disk;
+          × HasPlayed h s begun l.fn.disk l.session.disk told;
     }
 
 abbrev pub decreases-loop-line : goal.decreases-loop-line
