@@ -69,7 +69,7 @@ module _ {D : Type 0} (h : History D) where
       → IsEvent h s (cut_at bytes n) a b (Leaves h s b)
   failed_within s bytes n a b low failed held = ⊎_elim
       (λ before. counted_not s bytes n true a b failed.later (λ _. failed)
-        (failed_out s.top s.state (request_of bytes) (Some n)) held before)
+      (failed_out s.top s.state (request_of bytes) (Some n)) held before)
       (λ after. counted_whole s bytes n a b low failed.later held after)
 
   first_out : (s : Shop) (o : Option Ask) (n : ℕ) → MayGrow s o → n < 7206 → MayCount s.top s.state o (Some n) false []
@@ -98,20 +98,20 @@ module _ {D : Type 0} (h : History D) where
   over_fuse s bytes n a b low left limit fresh changes grows =
       let P : Image → Type 0 = IsBeforeOrAfter s bytes in
       let moments : HeldOnly h (fuse_disk a) (fuse_disk b) (IsInEvent s (cut_at bytes n))
-        = weaker h (fuse_disk a) (fuse_disk b) P (IsInEvent s (cut_at bytes n)) (λ i x. way s bytes n i low x) (held_beneath h a b P changes.held) in
+      = weaker h (fuse_disk a) (fuse_disk b) P (IsInEvent s (cut_at bytes n)) (λ i x. way s bytes n i low x) (held_beneath h a b P changes.held) in
       let later : h.failures (fuse_disk a) ≤ h.failures (fuse_disk b) = changes.held.reached.failures in
       let ends : P (h.image (fuse_disk b)) = at_end (fuse h) a b P changes.held in
       let none : fuse_passed a ≡ 0 = omega (arith, left, limit, low, a.within) in
       ⊎_elim
       (λ (failed : Failed (fuse h) a b). ⊎_elim
-        (λ (blown : fuse_left b ≡ 0).
-          let spent : fuse_passed b ≡ n = omega (arith, blown, changes.held.reached.limit, limit, b.within) in
-          ⊎_elim
-          (λ grow. grown_within s bytes n (fuse_disk a) (fuse_disk b) low (omega (arith, changes.writes, spent, none)) later grow moments ends)
-          (λ after. counted_whole s bytes n (fuse_disk a) (fuse_disk b) low later moments after)
-          (grows (omega (arith, spent, none, low))))
-        (λ (beneath : Failed h (fuse_disk a) (fuse_disk b)). failed_within s bytes n (fuse_disk a) (fuse_disk b) low beneath moments ends)
-        (cause_beneath h a b P changes.held (omega (arith, fresh)) failed))
+      (λ (blown : fuse_left b ≡ 0).
+      let spent : fuse_passed b ≡ n = omega (arith, blown, changes.held.reached.limit, limit, b.within) in
+      ⊎_elim
+      (λ grow. grown_within s bytes n (fuse_disk a) (fuse_disk b) low (omega (arith, changes.writes, spent, none)) later grow moments ends)
+      (λ after. counted_whole s bytes n (fuse_disk a) (fuse_disk b) low later moments after)
+      (grows (omega (arith, spent, none, low))))
+      (λ (beneath : Failed h (fuse_disk a) (fuse_disk b)). failed_within s bytes n (fuse_disk a) (fuse_disk b) low beneath moments ends)
+      (cause_beneath h a b P changes.held (omega (arith, fresh)) failed))
       (λ after. counted_whole s bytes n (fuse_disk a) (fuse_disk b) low later moments after)
 
   -- the same for any number of writes; with none nothing passes
@@ -160,8 +160,11 @@ module _ {D : Type 0} (h : History D) where
       → IsShop i (with_state s (after_all (start_of s) s.state counted)) → IsInEvent s m i
   counted_way s m failed counted i is shop = ⊎_elim
       (λ none. inl (subst (λ (c : List Ask). IsShop i (with_state s (after_all (start_of s) s.state c))) none shop))
-      (λ whole. inr (whole.0, subst (λ state. IsShop i (with_state s state)) (after_whole (start_of s) s.state (request_of m.bytes))
-        (subst (λ (c : List Ask). IsShop i (with_state s (after_all (start_of s) s.state c))) whole.1 shop)))
+      (λ whole. inr (
+        whole.0,
+        subst (λ state. IsShop i (with_state s state)) (after_whole (start_of s) s.state (request_of m.bytes))
+            (subst (λ (c : List Ask). IsShop i (with_state s (after_all (start_of s) s.state c))) whole.1 shop),
+      ))
       (counted_either s.top s.state (request_of m.bytes) m.cut_after failed counted is)
 
   -- the moments of an event, and of openings after it

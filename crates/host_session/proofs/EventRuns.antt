@@ -31,11 +31,14 @@ module _ {D : Type 0} (h : History D) (all : List Message) (old : D) where
         → A × (h.failures old ≤ h.failures new) × PlayedBut rest new Now
     more A event =
         let p = played shop.0 shop.1 in
-        let x = event (now_of h shop.0 p.0 old mid p.1 p.4) p.4.0.ends in
-        (x.0, omega (arith, later, x.1.later), λ s here.
-            let q = played s here in
-            let y = event (now_of h s q.0 old mid q.1 q.4) q.4.0.ends in
-            (q.0 ++ m ∷ [], q.1 ++ reply ∷ [], parts_more q.0 left rest m is q.2, kept q.1 q.3, one_played h s q.0 m old mid new q.1 reply q.4 y.1))
+        let x = event (now_of h shop.0 p.0 old mid p.1 p.4) p.4.0.ends in (
+          x.0,
+          omega (arith, later, x.1.later),
+          λ s here.
+              let q = played s here in
+              let y = event (now_of h s q.0 old mid q.1 q.4) q.4.0.ends in
+              (q.0 ++ m ∷ [], q.1 ++ reply ∷ [], parts_more q.0 left rest m is q.2, kept q.1 q.3, one_played h s q.0 m old mid new q.1 reply q.4 y.1),
+        )
 
     -- the next event, whose reply the output didn't take
     pub unwritten : (A : Type 0) → ((t : Shop) → IsSettled (h.image mid) t → A × IsEvent h t m mid new (GoesOn h t m reply new))
@@ -44,7 +47,7 @@ module _ {D : Type 0} (h : History D) (all : List Message) (old : D) where
         let q = played s here in
         let y = event (now_of h s q.0 old mid q.1 q.4) q.4.0.ends in
         let x = and_no_more h s (q.0 ++ m ∷ []) rest all old new (q.1 ++ reply ∷ []) (parts_more q.0 left rest m is q.2) (some_last q.0 m)
-            (one_played h s q.0 m old mid new q.1 reply q.4 y.1) in
+        (one_played h s q.0 m old mid new q.1 reply q.4 y.1) in
         (q.1 ++ reply ∷ [], x.0, x.1)
 
     -- the next event, in which the device failed

@@ -78,4 +78,3 @@ answered_may_not_drop_out x = let e : [] ≡ receive 5 ∷ [] = x.0 in cc
 pub any_message_may_be_cut : told (codes "@3 x\n@9 \n") (false ∷ false ∷ []) ([] ∷ [] ∷ []) ≡ codes "CUT\nCUT\n"
 unfolding reset_of request_of number_before kind_before number_in amounts kind_of plain digits
 any_message_may_be_cut = refl
-

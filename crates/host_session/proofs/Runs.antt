@@ -39,7 +39,7 @@ answers_more : (start : Start) (before : List Ask) (ms : List Message) (fs : Lis
 answers_more start before [] [] [] m f c h = ap (λ b. answer start (plain start b) m f ∷ []) (sym (append-nil before))
 answers_more start before (n ∷ ms) (g ∷ fs) (d ∷ cs) m f c h =
     ap (λ rs. answer start (plain start before) n g ∷ rs) (answers_more start (before ++ d) ms fs cs m f c h.1
-      ∙ ap (λ b. answers start (before ++ d) ms fs cs ++ answer start (plain start b) m f ∷ []) (append_assoc before d (all_of cs)))
+    ∙ ap (λ b. answers start (before ++ d) ms fs cs ++ answer start (plain start b) m f ∷ []) (append_assoc before d (all_of cs)))
 answers_more start before [] [] (d ∷ cs) m f c h = absurd h
 answers_more start before [] (g ∷ fs) cs m f c h = absurd h
 answers_more start before (n ∷ ms) [] cs m f c h = absurd h
@@ -150,8 +150,8 @@ module _ {D : Type 0} (h : History D) where
         blame = blame_more old mid new p.fails false p.blame later (λ e. cc);
         shop = subst (λ state. IsShop i (with_state s state))
             (sym (state_more (start_of s) p.counted (option_to_list (request_of m.bytes))
-              ∙ after_whole (start_of s) (plain (start_of s) (all_of p.counted)) (request_of m.bytes)
-              ∙ sym (goes_on s (plain (start_of s) (all_of p.counted)) (request_of m.bytes))))
+            ∙ after_whole (start_of s) (plain (start_of s) (all_of p.counted)) (request_of m.bytes)
+            ∙ sym (goes_on s (plain (start_of s) (all_of p.counted)) (request_of m.bytes))))
             after.1;
       })
 
@@ -167,32 +167,33 @@ module _ {D : Type 0} (h : History D) where
   pub held_none : (s : Shop) (messages : List Message) (old new : D) → HeldOnly h old new (λ i. IsShop i s) → h.failures old ≤ h.failures new
       → HeldBeginnings h s messages old new
   held_none s messages old new held later = weaker h old new (λ i. IsShop i s) (IsSomeBeginning s messages (IsBlamed h old new)) (λ i x. record {
-        begun = [];
-        rest = messages;
-        parts = refl;
-        fails = [];
-        counted = [];
-        is = tt;
-        whole = tt;
-        blame = λ lt. omega (arith, later);
-        shop = subst (λ state. IsShop i (with_state s state)) (sym (plain_nil (start_of s))) x;
-      }) held
+    begun = [];
+    rest = messages;
+    parts = refl;
+    fails = [];
+    counted = [];
+    is = tt;
+    whole = tt;
+    blame = λ lt. omega (arith, later);
+    shop = subst (λ state. IsShop i (with_state s state)) (sym (plain_nil (start_of s))) x;
+  }) held
 
   -- nothing has been played
   pub none_played : (s : Shop) (old new : D) → HeldOnly h old new (λ i. IsShop i s) → h.failures old ≤ h.failures new → IsSettled (h.image new) s
       → HasPlayed s [] old new []
-  none_played s old new held later settled =
-      (record {
-        fails = [];
-        counted = [];
-        is = tt;
-        whole = tt;
-        blame = λ lt. omega (arith, later);
-        told_is = refl;
-        sums = sums_counted (start_of s) [] [] [] tt;
-        ends = subst (λ state. IsSettled (h.image new) (with_state s state)) (sym (plain_nil (start_of s))) settled;
-      },
-      held_none s [] old new held later)
+  none_played s old new held later settled = (
+    record {
+      fails = [];
+      counted = [];
+      is = tt;
+      whole = tt;
+      blame = λ lt. omega (arith, later);
+      told_is = refl;
+      sums = sums_counted (start_of s) [] [] [] tt;
+      ends = subst (λ state. IsSettled (h.image new) (with_state s state)) (sym (plain_nil (start_of s))) settled;
+    },
+    held_none s [] old new held later,
+  )
 
   -- the moments, with those of one message more
   moments_more : (s : Shop) (ms : List Message) (m : Message) (old mid new : D) (told : List Reply) → h.failures mid ≤ h.failures new
@@ -200,9 +201,9 @@ module _ {D : Type 0} (h : History D) where
   moments_more s ms m old mid new told later p held =
       (then) h old mid new (IsSomeBeginning s (ms ++ m ∷ []) (IsBlamed h old new))
       (weaker h old mid (IsSomeBeginning s ms (IsBlamed h old mid)) (IsSomeBeginning s (ms ++ m ∷ []) (IsBlamed h old new))
-        (λ i x. begins_more s ms m old mid new i later x) p.1)
+      (λ i x. begins_more s ms m old mid new i later x) p.1)
       (weaker h mid new (IsInEvent (now_of s ms old mid told p) m) (IsSomeBeginning s (ms ++ m ∷ []) (IsBlamed h old new))
-        (λ i x. way_begins s ms m old mid new told i later p.0 x) held)
+      (λ i x. way_begins s ms m old mid new told i later p.0 x) held)
 
   -- one message more
   pub one_played : (s : Shop) (ms : List Message) (m : Message) (old mid new : D) (told : List Reply) (reply : Reply)
@@ -210,18 +211,19 @@ module _ {D : Type 0} (h : History D) where
       → HasPlayed s (ms ++ m ∷ []) old new (told ++ reply ∷ [])
   one_played s ms m old mid new told reply p e =
       let w = p.0 in
-      let is = counted_more (start_of s) [] ms w.fails w.counted m e.failed e.counted w.is e.is in
-      (record {
-        fails = w.fails ++ e.failed ∷ [];
-        counted = w.counted ++ e.counted ∷ [];
-        is = is;
-        whole = answered_more ms w.fails m e.failed w.whole e.ends.answered;
-        blame = blame_more old mid new w.fails e.failed w.blame e.later e.blame;
-        sums = sums_counted (start_of s) (ms ++ m ∷ []) (w.fails ++ e.failed ∷ []) (w.counted ++ e.counted ∷ []) is;
-        told_is = told_more s ms m told reply e.failed e.counted w.fails w.counted w.told_is w.is e.ends.told;
-        ends = subst (λ x. IsSettled (h.image new) (with_state s x)) (sym (state_more (start_of s) w.counted e.counted)) e.ends.settled;
-      },
-      moments_more s ms m old mid new told e.later p e.moments)
+      let is = counted_more (start_of s) [] ms w.fails w.counted m e.failed e.counted w.is e.is in (
+        record {
+          fails = w.fails ++ e.failed ∷ [];
+          counted = w.counted ++ e.counted ∷ [];
+          is = is;
+          whole = answered_more ms w.fails m e.failed w.whole e.ends.answered;
+          blame = blame_more old mid new w.fails e.failed w.blame e.later e.blame;
+          sums = sums_counted (start_of s) (ms ++ m ∷ []) (w.fails ++ e.failed ∷ []) (w.counted ++ e.counted ∷ []) is;
+          told_is = told_more s ms m told reply e.failed e.counted w.fails w.counted w.told_is w.is e.ends.told;
+          ends = subst (λ x. IsSettled (h.image new) (with_state s x)) (sym (state_more (start_of s) w.counted e.counted)) e.ends.settled;
+        },
+        moments_more s ms m old mid new told e.later p e.moments,
+      )
 
   -- moments of a beginning are moments of the whole
   held_of_more : (s : Shop) (ms rest all : List Message) (old new : D) → ms ++ rest ≡ all → HeldBeginnings h s ms old new → HeldBeginnings h s all old new
@@ -251,28 +253,29 @@ module _ {D : Type 0} (h : History D) where
       → StoppedByDevice h s all old new (told ++ reply ∷ []) × HeldBeginnings h s all old new
   stopped s ms rest all m old mid new told reply p parts e =
       let w = p.0 in
-      let is = counted_more (start_of s) [] ms w.fails w.counted m e.failed e.counted w.is e.is in
-      (record {
-        begun = ms ++ m ∷ [];
-        rest = rest;
-        parts = parts;
-        played = record {
-          fails = w.fails ++ e.failed ∷ [];
-          counted = w.counted ++ e.counted ∷ [];
-          is = is;
-          whole = record {
-            before = ms;
-            last = m;
-            answered = w.fails;
-            messages_are = refl;
-            fails_are = ap (λ f. w.fails ++ f ∷ []) e.ends.is_failed;
-            whole = w.whole;
-            asked = e.ends.asked;
+      let is = counted_more (start_of s) [] ms w.fails w.counted m e.failed e.counted w.is e.is in (
+        record {
+          begun = ms ++ m ∷ [];
+          rest = rest;
+          parts = parts;
+          played = record {
+            fails = w.fails ++ e.failed ∷ [];
+            counted = w.counted ++ e.counted ∷ [];
+            is = is;
+            whole = record {
+              before = ms;
+              last = m;
+              answered = w.fails;
+              messages_are = refl;
+              fails_are = ap (λ f. w.fails ++ f ∷ []) e.ends.is_failed;
+              whole = w.whole;
+              asked = e.ends.asked;
+            };
+            blame = blame_more old mid new w.fails e.failed w.blame e.later e.blame;
+            sums = sums_counted (start_of s) (ms ++ m ∷ []) (w.fails ++ e.failed ∷ []) (w.counted ++ e.counted ∷ []) is;
+            told_is = told_more s ms m told reply e.failed e.counted w.fails w.counted w.told_is w.is e.ends.told;
+            ends = subst (λ x. IsShop (h.image new) (with_state s x)) (sym (state_more (start_of s) w.counted e.counted)) e.ends.shop;
           };
-          blame = blame_more old mid new w.fails e.failed w.blame e.later e.blame;
-          sums = sums_counted (start_of s) (ms ++ m ∷ []) (w.fails ++ e.failed ∷ []) (w.counted ++ e.counted ∷ []) is;
-          told_is = told_more s ms m told reply e.failed e.counted w.fails w.counted w.told_is w.is e.ends.told;
-          ends = subst (λ x. IsShop (h.image new) (with_state s x)) (sym (state_more (start_of s) w.counted e.counted)) e.ends.shop;
-        };
-      },
-      held_of_more s (ms ++ m ∷ []) rest all old new parts (moments_more s ms m old mid new told e.later p e.moments))
+        },
+        held_of_more s (ms ++ m ∷ []) rest all old new parts (moments_more s ms m old mid new told e.later p e.moments),
+      )

@@ -23,9 +23,9 @@ pub counted_asks : (start : Start) (before : List Ask) (ms : List Message) (fs :
 counted_asks start before [] [] [] h = All-nil IsAsk
 counted_asks start before (m ∷ ms) (f ∷ fs) (c ∷ cs) h =
     let own : All IsAsk c = ⊎_elim
-        (λ none. subst (λ (x : List Ask). All IsAsk x) (sym none) (All-nil IsAsk))
-        (λ whole. subst (λ (x : List Ask). All IsAsk x) (sym whole.1) (asked m.bytes (request_of m.bytes) refl))
-        (counted_either start.top (plain start before) (request_of m.bytes) m.cut_after f c h.0) in
+    (λ none. subst (λ (x : List Ask). All IsAsk x) (sym none) (All-nil IsAsk))
+    (λ whole. subst (λ (x : List Ask). All IsAsk x) (sym whole.1) (asked m.bytes (request_of m.bytes) refl))
+    (counted_either start.top (plain start before) (request_of m.bytes) m.cut_after f c h.0) in
     All-append IsAsk c (all_of cs) own (counted_asks start (before ++ c) ms fs cs h.1)
 counted_asks start before [] [] (c ∷ cs) h = absurd h
 counted_asks start before [] (f ∷ fs) cs h = absurd h

@@ -47,13 +47,17 @@ fn cut_openings<D: Sectors>(disk: D, recoveries: &[u32]) -> D
 }
 
 /// A message in which power goes, the listed recoveries, and a whole one. Err has the disk where the whole one failed.
-pub(crate) fn cut_event<D: Sectors>(session: Session<D>, message: &[u8], cut: &Cut) -> Result<Session<D>, D>
+pub(crate) fn cut_event<D: Sectors>(
+    session: Session<D>,
+    message: &[u8],
+    cut: &Cut,
+) -> Result<Session<D>, D>
     ensures done { (s : Shop) → IsSettled (D.history.image session.disk) s → session.dead ≡ false
         → IfOk result (λ x. (x.dead ≡ false) × IsEvent D.history s (cut_at message.now cut.now.after) session.disk x.disk
-            (GoesOn D.history s (cut_at message.now cut.now.after) Reply.Cut x.disk)) }
+        (GoesOn D.history s (cut_at message.now cut.now.after) Reply.Cut x.disk)) }
     ensures stopped { (s : Shop) → IsSettled (D.history.image session.disk) s → session.dead ≡ false
         → IfErr result (λ d. IsEvent D.history s (cut_at message.now cut.now.after) session.disk d
-            (EndsFailed D.history s (cut_at message.now cut.now.after) Reply.Cut d)) }
+        (EndsFailed D.history s (cut_at message.now cut.now.after) Reply.Cut d)) }
 {
     let cut_disk = cut_message(session, message, cut.after);
     let disk = cut_openings(cut_disk, cut.recoveries.as_slice());
@@ -80,10 +84,10 @@ pub(crate) fn is_media(reply: Reply) -> bool
 pub(crate) fn whole_message<D: Sectors>(session: &mut Session<D>, message: &[u8]) -> Reply
     ensures done { (s : Shop) → IsSettled (D.history.image session.old.disk) s → session.old.dead ≡ false → ¬ (IsMedia result)
         → (session.new.dead ≡ false) × IsEvent D.history s (uncut message.now) session.old.disk session.new.disk
-            (GoesOn D.history s (uncut message.now) result session.new.disk) }
+        (GoesOn D.history s (uncut message.now) result session.new.disk) }
     ensures stopped { (s : Shop) → IsSettled (D.history.image session.old.disk) s → session.old.dead ≡ false → IsMedia result
         → IsEvent D.history s (uncut message.now) session.old.disk session.new.disk
-            (EndsFailed D.history s (uncut message.now) result session.new.disk) }
+        (EndsFailed D.history s (uncut message.now) result session.new.disk) }
 {
     session.handle(message)
 }

@@ -115,32 +115,30 @@ pub fn run_script<D: Sectors, W: Write>(
     };
     let mut rest = script;
     while let Some((line, more)) = next_line(rest) {
-        if let Some(event) = event_at(line) {
-            match &event.cut {
-                None => {
-                    let reply = whole_message(&mut session, event.message);
-                    let written = put_line(out, reply);
-                    if is_media(reply) {
-                        return Err((ScriptFault::Device, session.close()));
-                    }
-                    match written {
-                        Ok(()) => {}
-                        Err(()) => return Err((ScriptFault::Output, session.close())),
-                    }
+        // no line is bad
+        let event = event_at(line).unwrap();
+        let written = match &event.cut {
+            None => {
+                let reply = whole_message(&mut session, event.message);
+                let written = put_line(out, reply);
+                if is_media(reply) {
+                    return Err((ScriptFault::Device, session.close()));
                 }
-                Some(cut) => {
-                    let next = cut_event(session, event.message, cut);
-                    let written = put_line(out, Reply::Cut);
-                    session = match next {
-                        Ok(next) => next,
-                        Err(disk) => return Err((ScriptFault::Device, disk)),
-                    };
-                    match written {
-                        Ok(()) => {}
-                        Err(()) => return Err((ScriptFault::Output, session.close())),
-                    }
-                }
+                written
             }
+            Some(cut) => {
+                let next = cut_event(session, event.message, cut);
+                let written = put_line(out, Reply::Cut);
+                session = match next {
+                    Ok(next) => next,
+                    Err(disk) => return Err((ScriptFault::Device, disk)),
+                };
+                written
+            }
+        };
+        match written {
+            Ok(()) => {}
+            Err(()) => return Err((ScriptFault::Output, session.close())),
         }
         rest = more;
     }

@@ -21,14 +21,16 @@ returns-in-Ok-clause-done g c = λ s settled alive.
     let there = at_end h _ _ (λ i. IsShop i t) listed in
     let last = c.in-Ok.ensures.moments t there in
     let ok = c.in-Ok.ensures.ok in
-    let m = cut_at c.args.message.now c.args.cut.now.after in
-    (ok.3, event_then h s m _ _ _ (Leaves h s c.cut_message-cut_disk.result) (GoesOn h s m Cut c.in-Ok.session.disk) x
-      (then h _ _ _ (λ i. IsShop i t) listed last.held) (omega (arith, c.cut_openings-disk.ensures.later t x.ends, c.in-Ok.ensures.failures))
-      (record {
-        told = refl;
-        answered = λ (e : m.cut_after ≡ None). cc;
-        settled = subst (IsSettled (h.image c.in-Ok.session.disk)) (IsShop-one _ _ t ok.1 there) ok.2;
-      }))
+    let m = cut_at c.args.message.now c.args.cut.now.after in (
+      ok.3,
+      event_then h s m _ _ _ (Leaves h s c.cut_message-cut_disk.result) (GoesOn h s m Cut c.in-Ok.session.disk) x
+          (then h _ _ _ (λ i. IsShop i t) listed last.held) (omega (arith, c.cut_openings-disk.ensures.later t x.ends, c.in-Ok.ensures.failures))
+          (record {
+            told = refl;
+            answered = λ (e : m.cut_after ≡ None). cc;
+            settled = subst (IsSettled (h.image c.in-Ok.session.disk)) (IsShop-one _ _ t ok.1 there) ok.2;
+          }),
+    )
 
 pub returns-in-Err-clause-stopped : goal.returns-in-Err-clause-stopped
 returns-in-Err-clause-stopped g c = λ s settled alive.
@@ -42,10 +44,10 @@ returns-in-Err-clause-stopped g c = λ s settled alive.
     let m = cut_at c.args.message.now c.args.cut.now.after in
     let failed : Failed h c.cut_openings-disk.result c.in-Err.disk = ⊎_elim (λ f. f.1) (λ f. absurd (refused_none _ _ t c.in-Err.field-0-0 c.in-Err.ensures.err f.0 there)) c.in-Err.ensures.failures in
     event_failed h s m _ _ _ _ (Leaves h s c.cut_message-cut_disk.result) (EndsFailed h s m Cut c.in-Err.disk) x
-      held (c.cut_openings-disk.ensures.later t x.ends) failed
-      (record {
-        told = refl;
-        asked = λ (e : m.cut_after ≡ None). cc;
-        is_failed = refl;
-        shop = at_end h _ _ (λ i. IsShop i t) held;
-      })
+    held (c.cut_openings-disk.ensures.later t x.ends) failed
+    (record {
+      told = refl;
+      asked = λ (e : m.cut_after ≡ None). cc;
+      is_failed = refl;
+      shop = at_end h _ _ (λ i. IsShop i t) held;
+    })

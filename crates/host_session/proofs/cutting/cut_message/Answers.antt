@@ -21,6 +21,6 @@ returns-clause-event g c = λ s settled alive.
     (λ x. c.handle.ensures.moments s x)
     (λ x. c.handle.ensures.counted s x)
     (λ x. ⊎_elim
-      (λ m. ⊎_elim (λ dead. absurd (let e = sym dead ∙ lives in cc)) (λ failed. inl failed) m.2)
-      (λ n. inr ((c.handle.ensures.reply s x lives n.0).1.shop))
-      c.handle.ensures.failures)
+    (λ m. ⊎_elim (λ dead. absurd (let e = sym dead ∙ lives in cc)) (λ failed. inl failed) m.2)
+    (λ n. inr ((c.handle.ensures.reply s x lives n.0).1.shop))
+    c.handle.ensures.failures)

@@ -50,22 +50,27 @@ loop-event-init g c =
       alive = ok.3;
       later = later;
       room = omega (arith, c.in-Ok.ensures.ok);
-      played = λ s shop. ([], [], refl, c.in-Ok.ensures.items ∙ sym (append-nil c.args.replies.now.items),
-          none_played h s c.args.disk c.in-Ok-open.session.disk (c.in-Ok-open.ensures.moments s shop).held later
-            (subst (IsSettled (h.image c.in-Ok-open.session.disk)) (IsShop-one _ _ s ok.1 shop) ok.2));
+      played = λ s shop. (
+        [],
+        [],
+        refl,
+        c.in-Ok.ensures.items ∙ sym (append-nil c.args.replies.now.items),
+        none_played h s c.args.disk c.in-Ok-open.session.disk (c.in-Ok-open.ensures.moments s shop).held later
+            (subst (IsSettled (h.image c.in-Ok-open.session.disk)) (IsShop-one _ _ s ok.1 shop) ok.2),
+      );
     }
 
 -- a message that was told MEDIA
 told_media : (g : Over) (c : goal.After-close g) (t : Shop) → IsSettled (g.D.Sectors.history.image c.loop-event.session.disk) t
     → IsEvent g.D.Sectors.history t (message_of c.event-item.result) c.loop-event.session.disk c.close.result
-      (EndsFailed g.D.Sectors.history t (message_of c.event-item.result) c.whole_message-reply.result c.close.result)
+    (EndsFailed g.D.Sectors.history t (message_of c.event-item.result) c.whole_message-reply.result c.close.result)
 told_media g c t settled =
     let h = g.D.Sectors.history in
     let reply = c.whole_message-reply.result in
     subst (λ d. IsEvent h t (message_of c.event-item.result) c.loop-event.session.disk d (EndsFailed h t (message_of c.event-item.result) reply d)) (sym c.close.ensures)
     (subst (λ m. IsEvent h t m c.loop-event.session.disk c.whole_message-reply.new.session.disk (EndsFailed h t m reply c.whole_message-reply.new.session.disk))
-      (is_uncut c.event-item.result c.in-None.is)
-      (c.whole_message-reply.ensures.stopped t settled c.loop-event.invariant.alive (c.is_media.ensures.0 c.if-is_media.true)))
+    (is_uncut c.event-item.result c.in-None.is)
+    (c.whole_message-reply.ensures.stopped t settled c.loop-event.invariant.alive (c.is_media.ensures.0 c.if-is_media.true)))
 
 media_ends : (g : Over) (c : goal.After-close g) (s : Shop) → IsShop (g.D.Sectors.history.image c.args.disk) s
     → (told : List Reply) × (c.push_reserved.new.self.items ≡ c.args.replies.now.items ++ told)
@@ -107,7 +112,7 @@ returns-then-is_media-clause-cause g c = λ is. (c.loop-event.invariant.shop, me
 -- the whole recovery after a cut message failed
 recovery_failed : (g : Over) (c : goal.In-Err-next g) (t : Shop) → IsSettled (g.D.Sectors.history.image c.loop-event.session.disk) t
     → IsEvent g.D.Sectors.history t (message_of c.event-item.result) c.loop-event.session.disk c.in-Err-next.disk
-      (EndsFailed g.D.Sectors.history t (message_of c.event-item.result) Cut c.in-Err-next.disk)
+    (EndsFailed g.D.Sectors.history t (message_of c.event-item.result) Cut c.in-Err-next.disk)
 recovery_failed g c t settled =
     let h = g.D.Sectors.history in
     subst (λ m. IsEvent h t m c.loop-event.session.disk c.in-Err-next.disk (EndsFailed h t m Cut c.in-Err-next.disk)) (is_cut c.event-item.result c.in-Some.cut c.in-Some.is)
@@ -154,7 +159,7 @@ returns-in-Err-next-clause-cause g c = λ is. (c.loop-event.invariant.shop, whol
 went_on : (g : Over) (c : goal.Joined-event g)
     → (c.match-event.session.dead ≡ false) × (g.D.Sectors.history.failures c.args.disk ≤ g.D.Sectors.history.failures c.match-event.session.disk)
     × PlayedBut g.D.Sectors.history (map message_of c.args.events.now) c.args.disk (map message_of (drop (c.loop-event.event-index + 1) c.args.events.now))
-      c.match-event.session.disk (λ told. c.match-event.replies.items ≡ c.args.replies.now.items ++ told)
+    c.match-event.session.disk (λ told. c.match-event.replies.items ≡ c.args.replies.now.items ++ told)
 went_on g c =
     let h = g.D.Sectors.history in
     let k = c.loop-event.invariant in
@@ -173,20 +178,22 @@ went_on g c =
           more h (map message_of c.args.events.now) c.args.disk left rest m next a b Kept Now reply k.shop k.later
           (told_behind c.args.replies.now.items c.loop-event.replies.items c.match-event.replies.items reply (ap (λ v. v.items) w.replies-is ∙ w.push_reserved.ensures.items))
           k.played (c.match-event.session.dead ≡ false) (λ t settled.
-            let x = w.whole_message-reply.ensures.done t settled k.alive (λ is. false≢true (sym w.if-is_media.false ∙ w.is_media.ensures.1 is)) in
-            (ap (λ (v : View _). v.dead) w.session-is ∙ x.0,
-              subst (λ n. IsEvent h t n a b (GoesOn h t n reply b)) (is_uncut c.event-item.result w.in-None.is)
+          let x = w.whole_message-reply.ensures.done t settled k.alive (λ is. false≢true (sym w.if-is_media.false ∙ w.is_media.ensures.1 is)) in (
+            ap (λ (v : View _). v.dead) w.session-is ∙ x.0,
+            subst (λ n. IsEvent h t n a b (GoesOn h t n reply b)) (is_uncut c.event-item.result w.in-None.is)
                 (subst (λ d. IsEvent h t (uncut c.event-item.result.message.now) a d (GoesOn h t (uncut c.event-item.result.message.now) reply d))
-                  (sym (ap (λ (v : View _). v.disk) w.session-is)) x.1)))
+                (sym (ap (λ (v : View _). v.disk) w.session-is)) x.1),
+          ))
       | in-Some+in-Ok-next w ↦
           more h (map message_of c.args.events.now) c.args.disk left rest m next a b Kept Now Cut k.shop k.later
           (told_behind c.args.replies.now.items c.loop-event.replies.items c.match-event.replies.items Cut (ap (λ v. v.items) w.replies-is ∙ w.push_reserved-in-Some.ensures.items))
           k.played (c.match-event.session.dead ≡ false) (λ t settled.
-            let x = w.in-Ok-next.ensures.done t settled k.alive in
-            (ap (λ (v : View _). v.dead) w.session-is ∙ x.0,
-              subst (λ n. IsEvent h t n a b (GoesOn h t n Cut b)) (is_cut c.event-item.result w.in-Some.cut w.in-Some.is)
+          let x = w.in-Ok-next.ensures.done t settled k.alive in (
+            ap (λ (v : View _). v.dead) w.session-is ∙ x.0,
+            subst (λ n. IsEvent h t n a b (GoesOn h t n Cut b)) (is_cut c.event-item.result w.in-Some.cut w.in-Some.is)
                 (subst (λ d. IsEvent h t (cut_at c.event-item.result.message.now w.in-Some.cut.after) a d (GoesOn h t (cut_at c.event-item.result.message.now w.in-Some.cut.after) Cut d))
-                  (sym (ap (λ (v : View _). v.disk) w.session-is)) x.1)))
+                (sym (ap (λ (v : View _). v.disk) w.session-is)) x.1),
+          ))
     ]
 
 -- and there is room for the replies that are left
@@ -219,7 +226,7 @@ all_left g c =
     all_played g.D.Sectors.history (map message_of c.args.events.now) c.args.disk c.loop-event.session.disk
     (λ told. c.loop-event.replies.items ≡ c.args.replies.now.items ++ told)
     (subst (λ left. PlayedBut g.D.Sectors.history (map message_of c.args.events.now) c.args.disk left c.loop-event.session.disk
-      (λ told. c.loop-event.replies.items ≡ c.args.replies.now.items ++ told)) (ap (map message_of) (drop_all c.loop-event.event-index c.args.events.now over)) c.loop-event.invariant.played)
+    (λ told. c.loop-event.replies.items ≡ c.args.replies.now.items ++ told)) (ap (map message_of) (drop_all c.loop-event.event-index c.args.events.now over)) c.loop-event.invariant.played)
 
 pub returns-clause-ok : goal.returns-clause-ok
 returns-clause-ok g c = λ s shop.
