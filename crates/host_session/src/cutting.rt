@@ -13,7 +13,8 @@ use script_lines::Cut;
 
 /// Hands a message to a session whose power goes after so many writes, and takes the disk back.
 fn cut_message<D: Sectors>(session: Session<D>, message: &[u8], after: u32) -> D
-    ensures writes { (s : Shop) → IsSettled (D.history.image session.disk) s → D.history.writes result ≤ D.history.writes session.disk + after }
+    ensures writes { (s : Shop) → IsSettled (D.history.image session.disk) s
+        → D.history.writes result ≤ D.history.writes session.disk + after }
     ensures event { (s : Shop) → IsSettled (D.history.image session.disk) s → session.dead ≡ false
         → IsEvent D.history s (cut_at message.now after) session.disk result (Leaves D.history s result) }
 {

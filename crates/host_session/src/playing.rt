@@ -73,7 +73,9 @@ pub fn play<D: Sectors>(
     ensures open { IfErr result (λ e. (f : OpenFault) → e.0 ≡ PlayFault.Open f → IsRefused D.history disk f e.1) }
     ensures cause { IfErr result (λ e. e.0 ≡ PlayFault.Device → IsAShop (D.history.image disk) × Failed D.history disk e.1) }
     // Memory runs out before anything is done, and only where the list had to grow.
-    ensures memory { IfErr result (λ e. e.0 ≡ PlayFault.NoMemory → (e.1 ≡ disk) × (vec_capacity replies.old < length replies.old.items + length events.now)) }
+    ensures memory { IfErr result (λ e.
+        e.0 ≡ PlayFault.NoMemory
+        → (e.1 ≡ disk) × (vec_capacity replies.old < length replies.old.items + length events.now)) }
     // Whatever stops it before the first event tells nothing.
     ensures silent { IfErr result (λ e. e.0 ≢ PlayFault.Device → replies.new.items ≡ replies.old.items) }
 {

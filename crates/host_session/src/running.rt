@@ -78,7 +78,8 @@ pub fn run_script<D: Sectors, W: Write>(
     out: &mut W,
 ) -> Result<D, (ScriptFault, D)>
     // A bad line is told exactly where there is one, it is the first, and then nothing was done.
-    ensures bad_line { (n : ℕ) → first_bad (lines script.now) ≡ Some n → (result ≡ Err (ScriptFault.BadLine n, disk)) × (out.new ≡ out.old) }
+    ensures bad_line { (n : ℕ) → first_bad (lines script.now) ≡ Some n
+        → (result ≡ Err (ScriptFault.BadLine n, disk)) × (out.new ≡ out.old) }
     ensures good { IfErr result (λ e. (n : ℕ) → e.0 ≡ ScriptFault.BadLine n → first_bad (lines script.now) ≡ Some n) }
     // A shop alone is played.
     ensures shop { IfOk result (λ _. IsAShop (D.history.image disk)) }
@@ -102,7 +103,8 @@ pub fn run_script<D: Sectors, W: Write>(
     ensures plays { IsAShop (D.history.image disk) → NeverFailed D.history disk (disk_of (λ d. d) result)
         → IfErr result (λ e. ((n : ℕ) × (e.0 ≡ ScriptFault.BadLine n)) ⊎ (e.0 ≡ ScriptFault.Output)) }
     // What an opening refuses is handed on; the device and the output are told of on a shop alone, and the device where it failed.
-    ensures open { IfErr result (λ e. (f : OpenFault) → e.0 ≡ ScriptFault.Open f → IsRefused D.history disk f e.1 × (out.new ≡ out.old)) }
+    ensures open { IfErr result
+        (λ e. (f : OpenFault) → e.0 ≡ ScriptFault.Open f → IsRefused D.history disk f e.1 × (out.new ≡ out.old)) }
     ensures cause { IfErr result (λ e. e.0 ≡ ScriptFault.Device → IsAShop (D.history.image disk) × Failed D.history disk e.1) }
     ensures after { IfErr result (λ e. e.0 ≡ ScriptFault.Output → IsAShop (D.history.image disk)) }
 {

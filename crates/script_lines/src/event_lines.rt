@@ -56,8 +56,8 @@ fn reset_at(bytes: &[u8]) -> Option<Event<'_>>
     })
 }
 
-/// The event of a line, as `next_line` gives it. None where the line is bad: where it begins with `@` and hasn't the form
-/// of a reset, with numbers up to 99999 without leading zeros.
+/// The event of a line, as `next_line` gives it. None where the line is bad: where it begins with `@` and hasn't the
+/// form of a reset, with numbers up to 99999 without leading zeros.
 pub fn event_at(line: &[u8]) -> Option<Event<'_>>
     ensures { option_map line_in result ≡ line_of line.now }
 {
