@@ -1,5 +1,5 @@
 -- The opening of a run.
-use Rattle.std.proofs.Common.{◌≡◌, ◌≢◌, ◌≤◌, ◌+◌, ◌++◌, ◌⊎◌, ⊎_elim, ℕ, List, [], ◌∷◌, refl, sym, ◌∙◌, ap, arith, get_or, length, drop, ◌<◌, append_assoc}
+use Rattle.std.proofs.Common.{◌≡◌, ◌≢◌, ◌≤◌, ◌+◌, ◌++◌, ◌⊎◌, ⊎_elim, ℕ, List, [], ◌∷◌, refl, sym, ◌∙◌, ap, arith, get_or, length, drop, ◌<◌, append-nil, append_assoc}
 use Rattle.std.specs.Prelude.{Option, Some, None, map, option_map}
 use Rattle.std.proofs.lemmas.List.{drop_more}
 use Rattle.request_cards.specs.declared.reply.Reply.{Reply}
@@ -39,6 +39,10 @@ is_cut e c is = ap (λ (c : Option Cut). record { bytes = e.message.now; cut_aft
 pub next_message : (es : List Event) (i : ℕ) (e : Event) → i < length es → e ≡ get_or es i e
     → map message_of (drop i es) ≡ message_of e ∷ map message_of (drop (i + 1) es)
 next_message es i e below is = ap (map message_of) (drop_more es i e below) ∙ ap (λ x. message_of x ∷ map message_of (drop (i + 1) es)) (sym is)
+
+-- none is told yet
+pub told_none : (items now : List Reply) → now ≡ items → now ≡ items ++ []
+told_none items now is = is ∙ sym (append-nil items)
 
 -- a reply more behind those that the list had
 pub told_behind : (first items now : List Reply) (reply : Reply) → now ≡ items ++ reply ∷ [] → (told : List Reply) → items ≡ first ++ told

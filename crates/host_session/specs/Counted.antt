@@ -17,9 +17,9 @@ IsIn a counted = counted ≡ a ∷ []
 abbrev pub MayBeIn : Ask → List Ask → Type 0
 MayBeIn a counted = IsIn a counted ⊎ (counted ≡ [])
 
--- What a request counts as: it counts where it was answered; it doesn't where power went before its first write; it does where
--- power went later, but a first set may be in or out up to the last write that it can make; and where the device failed in
--- it, it may be in or out. 7206 is past all writes of a message: 2 + 10 * 720 for growth by 720 blocks, and 4.
+-- What a request counts as: it counts where it was answered; it doesn't where power went before its first write; it does
+-- where power went later, but a first set may be in or out up to the last write that it can make; and where the device
+-- failed in it, it may be in or out. 7206 is past all writes of a message: 2 + 10 * 720 for growth by 720 blocks, and 4.
 abbrev pub Counts : ℕ → State → Ask → Option ℕ → Bool → List Ask → Type 0
 Counts top state a None false counted = IsIn a counted
 Counts top state a None true counted = MayBeIn a counted
@@ -33,12 +33,13 @@ abbrev pub MayCount : ℕ → State → Option Ask → Option ℕ → Bool → L
 MayCount top state None cut_after failed counted = counted ≡ []
 MayCount top state (Some a) cut_after failed counted = Counts top state a cut_after failed counted
 
--- Each of these parts is what its message may count, over the requests counted before it. Beside the parts stands for each
--- message whether the device failed in it.
+-- Each of these parts is what its message may count, over the requests counted before it. Beside the parts stands for
+-- each message whether the device failed in it.
 abbrev pub IsCounted : Start → List Ask → List Message → List Bool → List (List Ask) → Type 0
 IsCounted start before [] [] [] = Unit {0}
 IsCounted start before (m ∷ ms) (f ∷ fs) (c ∷ cs) =
-    MayCount start.top (plain start before) (request_of m.bytes) m.cut_after f c × IsCounted start (before ++ c) ms fs cs
+    MayCount start.top (plain start before) (request_of m.bytes) m.cut_after f c
+    × IsCounted start (before ++ c) ms fs cs
 IsCounted start before _ _ _ = ⊥
 
 -- the requests counted, in order
@@ -68,8 +69,8 @@ NoneGotMedia [] [] = Unit {0}
 NoneGotMedia (m ∷ ms) (f ∷ fs) = (m.cut_after ≡ None → f ≡ false) × NoneGotMedia ms fs
 NoneGotMedia _ _ = ⊥
 
--- In the last of these messages the device failed: it was told MEDIA, or power went in it. Each one before it without a reset
--- was answered.
+-- In the last of these messages the device failed: it was told MEDIA, or power went in it. Each one before it without a
+-- reset was answered.
 pub record FailsAtLast (messages : List Message) (fails : List Bool) : Type 0 where
   pub before : List Message
   pub last : Message

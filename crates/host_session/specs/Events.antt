@@ -6,8 +6,8 @@ use Rattle.request_cards.specs.Requests.{Ask}
 use Rattle.script_lines.specs.Resets.{Line, line_of}
 use Rattle.script_lines.specs.declared.events.Event.{Event}
 
--- A message and, where power goes in it, the number of its sector writes after which it goes. Listed recoveries are no part
--- of it: they change neither what counts nor a reply.
+-- A message and, where power goes in it, the number of its sector writes after which it goes. Listed recoveries are no
+-- part of it: they change neither what counts nor a reply.
 pub record Message : Type 0 where
   pub bytes : List ℕ
   pub cut_after : Option ℕ

@@ -15,8 +15,9 @@ use Rattle.host_session.specs.Shop.{IsSettled, IsShop, Shop, start_of, with_stat
 abbrev pub IsInEvent : Shop → Message → Image → Type 0
 IsInEvent s m image = IsShop image s ⊎ ((m.cut_after ≢ Some 0) × IsShop image (after_of s m.bytes))
 
--- An event from the shop s on: whether the device failed in it, what its message counts, and what then holds of the end.
-pub record IsEvent {D : Type 0} (h : History D) (s : Shop) (m : Message) (old new : D) (Ends : Bool → State → Type 0) : Type 0 where
+-- An event from the shop s on: whether the device failed in it, what its message counts, and what holds of the end.
+pub record IsEvent {D : Type 0} (h : History D) (s : Shop) (m : Message) (old new : D)
+    (Ends : Bool → State → Type 0) : Type 0 where
   pub failed : Bool
   pub counted : List Ask
   pub is : MayCount s.top s.state (request_of m.bytes) m.cut_after failed counted
@@ -30,13 +31,15 @@ abbrev pub Leaves : {D : Type 0} → History D → Shop → D → Bool → State
 Leaves h s new failed state = IsShop (h.image new) (with_state s state)
 
 -- The run goes on after the event: it was replied to so, and the shop is settled.
-pub record GoesOn {D : Type 0} (h : History D) (s : Shop) (m : Message) (reply : Reply) (new : D) (failed : Bool) (state : State) : Type 0 where
+pub record GoesOn {D : Type 0} (h : History D) (s : Shop) (m : Message) (reply : Reply) (new : D)
+    (failed : Bool) (state : State) : Type 0 where
   pub told : reply ≡ answer (start_of s) s.state m failed
   pub answered : m.cut_after ≡ None → failed ≡ false
   pub settled : IsSettled (h.image new) (with_state s state)
 
 -- The run ends with the event, in which the device failed.
-pub record EndsFailed {D : Type 0} (h : History D) (s : Shop) (m : Message) (reply : Reply) (new : D) (failed : Bool) (state : State) : Type 0 where
+pub record EndsFailed {D : Type 0} (h : History D) (s : Shop) (m : Message) (reply : Reply) (new : D)
+    (failed : Bool) (state : State) : Type 0 where
   pub told : reply ≡ answer (start_of s) s.state m failed
   pub asked : m.cut_after ≡ None → IsSome (request_of m.bytes)
   pub is_failed : failed ≡ true

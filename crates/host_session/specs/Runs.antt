@@ -22,8 +22,10 @@ blamed (f ∷ fs) = (if f then 1 else 0) + blamed fs
 abbrev pub IsBlamed : {D : Type 0} → History D → D → D → List Bool → Type 0
 IsBlamed h old new fails = h.failures new < h.last → h.failures old + blamed fails ≤ h.failures new
 
--- The image is the shop's after a counted list of some beginning of the messages; each of these without a reset was answered.
-pub record IsSomeBeginning (s : Shop) (messages : List Message) (Blamed : List Bool → Type 0) (image : Image) : Type 0 where
+-- The image is the shop's after a counted list of some beginning of the messages; each of these without a reset was
+-- answered.
+pub record IsSomeBeginning (s : Shop) (messages : List Message) (Blamed : List Bool → Type 0)
+    (image : Image) : Type 0 where
   pub begun : List Message
   pub rest : List Message
   pub parts : begun ++ rest ≡ messages
@@ -53,14 +55,16 @@ IsPlayedWhole h s messages old new told =
     IsPlayed h s messages old new told NoneGotMedia (λ state. IsSettled (h.image new) (with_state s state))
 
 -- A beginning of the messages was played, in the last of which the device failed.
-pub record StoppedByDevice {D : Type 0} (h : History D) (s : Shop) (messages : List Message) (old new : D) (told : List Reply) : Type 0 where
+pub record StoppedByDevice {D : Type 0} (h : History D) (s : Shop) (messages : List Message) (old new : D)
+    (told : List Reply) : Type 0 where
   pub begun : List Message
   pub rest : List Message
   pub parts : begun ++ rest ≡ messages
   pub played : IsPlayed h s begun old new told FailsAtLast (λ state. IsShop (h.image new) (with_state s state))
 
 -- A beginning of the messages was played, whose last reply the output failed to take.
-pub record StoppedByOutput {D : Type 0} (h : History D) (s : Shop) (messages : List Message) (old new : D) (told : List Reply) : Type 0 where
+pub record StoppedByOutput {D : Type 0} (h : History D) (s : Shop) (messages : List Message) (old new : D)
+    (told : List Reply) : Type 0 where
   pub begun : List Message
   pub rest : List Message
   pub parts : begun ++ rest ≡ messages

@@ -54,7 +54,8 @@ pub(crate) fn cut_event<D: Sectors>(
     cut: &Cut,
 ) -> Result<Session<D>, D>
     ensures done { (s : Shop) → IsSettled (D.history.image session.disk) s → session.dead ≡ false
-        → IfOk result (λ x. (x.dead ≡ false) × IsEvent D.history s (cut_at message.now cut.now.after) session.disk x.disk
+        → IfOk result (λ x. (x.dead ≡ false)
+        × IsEvent D.history s (cut_at message.now cut.now.after) session.disk x.disk
         (GoesOn D.history s (cut_at message.now cut.now.after) Reply.Cut x.disk)) }
     ensures stopped { (s : Shop) → IsSettled (D.history.image session.disk) s → session.dead ≡ false
         → IfErr result (λ d. IsEvent D.history s (cut_at message.now cut.now.after) session.disk d
@@ -83,11 +84,11 @@ pub(crate) fn is_media(reply: Reply) -> bool
 
 /// A message without a reset, handled in place: MEDIA where the device failed.
 pub(crate) fn whole_message<D: Sectors>(session: &mut Session<D>, message: &[u8]) -> Reply
-    ensures done { (s : Shop) → IsSettled (D.history.image session.old.disk) s → session.old.dead ≡ false → ¬ (IsMedia result)
-        → (session.new.dead ≡ false) × IsEvent D.history s (uncut message.now) session.old.disk session.new.disk
+    ensures done { (s : Shop) → IsSettled (D.history.image session.old.disk) s → session.old.dead ≡ false
+        → ¬ (IsMedia result) → (session.new.dead ≡ false) × IsEvent D.history s (uncut message.now) session.old.disk session.new.disk
         (GoesOn D.history s (uncut message.now) result session.new.disk) }
-    ensures stopped { (s : Shop) → IsSettled (D.history.image session.old.disk) s → session.old.dead ≡ false → IsMedia result
-        → IsEvent D.history s (uncut message.now) session.old.disk session.new.disk
+    ensures stopped { (s : Shop) → IsSettled (D.history.image session.old.disk) s → session.old.dead ≡ false
+        → IsMedia result → IsEvent D.history s (uncut message.now) session.old.disk session.new.disk
         (EndsFailed D.history s (uncut message.now) result session.new.disk) }
 {
     session.handle(message)

@@ -46,10 +46,10 @@ impl PlayFault {
 
 /// Plays the events one after another, on a disk that is opened first.
 ///
-/// A message without a reset is handled, and its reply is the session's. In a message with one, power goes after so many of
-/// its sector writes; then each listed recovery is stopped after its writes, a whole one follows, and the reply is `Cut`.
-/// The replies go behind those that the list has. It stops after a message that was told MEDIA, and where a whole recovery
-/// failed; both have their replies in the list.
+/// A message without a reset is handled, and its reply is the session's. In a message with one, power goes after so many
+/// of its sector writes; then each listed recovery is stopped after its writes, a whole one follows, and the reply is
+/// `Cut`. The replies go behind those that the list has. It stops after a message that was told MEDIA, and where a whole
+/// recovery failed; both have their replies in the list.
 pub fn play<D: Sectors>(
     disk: D,
     events: &[Event<'_>],
@@ -59,10 +59,12 @@ pub fn play<D: Sectors>(
     ensures shop { IfOk result (λ _. IsAShop (D.history.image disk)) }
     // At Ok each event has its reply, over what counted before it, and the shop is settled.
     ensures ok { (s : Shop) → IsShop (D.history.image disk) s → IfOk result (λ d.
-        (told : List Reply) × (replies.new.items ≡ replies.old.items ++ told) × IsPlayedWhole D.history s (map message_of events.now) disk d told) }
+        (told : List Reply) × (replies.new.items ≡ replies.old.items ++ told)
+        × IsPlayedWhole D.history s (map message_of events.now) disk d told) }
     // The device failed: this holds of the events replied to, and it failed in the last of them.
     ensures device { (s : Shop) → IsShop (D.history.image disk) s → IfErr result (λ e. e.0 ≡ PlayFault.Device
-        → (told : List Reply) × (replies.new.items ≡ replies.old.items ++ told) × StoppedByDevice D.history s (map message_of events.now) disk e.1 told) }
+        → (told : List Reply) × (replies.new.items ≡ replies.old.items ++ told)
+        × StoppedByDevice D.history s (map message_of events.now) disk e.1 told) }
     // At each moment the shop is that of a counted list of some beginning of the events.
     ensures moments { (s : Shop) → IsShop (D.history.image disk) s
         → HeldBeginnings D.history s (map message_of events.now) disk (disk_of (λ d. d) result) }

@@ -66,11 +66,11 @@ fn put_line<W: Write>(out: &mut W, reply: Reply) -> Result<(), ()>
     Ok(())
 }
 
-/// Plays the lines of a script one after another, as `play` plays events, and writes each reply on a line of its own before
-/// the next line is played.
+/// Plays the lines of a script one after another, as `play` plays events, and writes each reply on a line of its own
+/// before the next line is played.
 ///
-/// All lines are judged before anything else is done. It takes no memory. After `Output` the lines handled stand, the one
-/// whose reply couldn't be written among them. Where the device failed, the last reply is handed to the output before
+/// All lines are judged before anything else is done. It takes no memory. After `Output` the lines handled stand, the
+/// one whose reply couldn't be written among them. Where the device failed, the last reply is handed to the output before
 /// `Device` is told, and whether that took it isn't.
 pub fn run_script<D: Sectors, W: Write>(
     disk: D,
@@ -85,7 +85,8 @@ pub fn run_script<D: Sectors, W: Write>(
     ensures shop { IfOk result (λ _. IsAShop (D.history.image disk)) }
     // At Ok each line has its reply, over what counted before it, the shop is settled, and the replies were written.
     ensures ok { (s : Shop) → IsShop (D.history.image disk) s → IfOk result (λ d.
-        (told : List Reply) × Appends (W.contents out.old) (W.contents out.new) (report told) × IsPlayedWhole D.history s (messages_of (lines script.now)) disk d told) }
+        (told : List Reply) × Appends (W.contents out.old) (W.contents out.new) (report told)
+        × IsPlayedWhole D.history s (messages_of (lines script.now)) disk d told) }
     // Where no line begins with @, each line has its reply over the lines before it, and each counts.
     ensures without_resets { (s : Shop) → IsShop (D.history.image disk) s → HasNoReset (lines script.now) → IfOk result (λ d.
         Appends (W.contents out.old) (W.contents out.new) (report (replies (start_of s) [] (lines script.now)))
@@ -102,7 +103,8 @@ pub fn run_script<D: Sectors, W: Write>(
     // On a shop whose device doesn't fail it answers Ok, unless a line is bad or the output fails.
     ensures plays { IsAShop (D.history.image disk) → NeverFailed D.history disk (disk_of (λ d. d) result)
         → IfErr result (λ e. ((n : ℕ) × (e.0 ≡ ScriptFault.BadLine n)) ⊎ (e.0 ≡ ScriptFault.Output)) }
-    // What an opening refuses is handed on; the device and the output are told of on a shop alone, and the device where it failed.
+    // What an opening refuses is handed on; the device and the output are told of on a shop alone, and the device where
+    // it failed.
     ensures open { IfErr result
         (λ e. (f : OpenFault) → e.0 ≡ ScriptFault.Open f → IsRefused D.history disk f e.1 × (out.new ≡ out.old)) }
     ensures cause { IfErr result (λ e. e.0 ≡ ScriptFault.Device → IsAShop (D.history.image disk) × Failed D.history disk e.1) }

@@ -8,7 +8,7 @@ use Rattle.d64_image.specs.History.{Failed}
 use Rattle.request_cards.specs.declared.reply.Reply.{Reply}
 use Rattle.request_cards.specs.declared.reply.Reply.TheVariants.{Cut}
 use Rattle.host_session.proofs.EventRuns.{PlayedBut, all_played, failed, last, more}
-use Rattle.host_session.proofs.RunOpenings.{is_cut, is_uncut, next_message, opening_failed, opening_later, opening_refused, same_fault, told_behind}
+use Rattle.host_session.proofs.RunOpenings.{is_cut, is_uncut, next_message, opening_failed, opening_later, opening_refused, same_fault, told_behind, told_none}
 use Rattle.host_session.proofs.Runs.{HasPlayed, held_none, none_played}
 use Rattle.host_session.proofs.Shops.{IsShop-one}
 use Rattle.host_session.specs.Events.{cut_at, message_of, uncut}
@@ -54,7 +54,7 @@ loop-event-init g c =
         [],
         [],
         refl,
-        c.in-Ok.ensures.items ∙ sym (append-nil c.args.replies.now.items),
+        told_none c.args.replies.now.items c.try_reserve.new.self.items c.in-Ok.ensures.items,
         none_played h s c.args.disk c.in-Ok-open.session.disk (c.in-Ok-open.ensures.moments s shop).held later
             (subst (IsSettled (h.image c.in-Ok-open.session.disk)) (IsShop-one _ _ s ok.1 shop) ok.2),
       );
