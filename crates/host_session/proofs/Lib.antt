@@ -15,7 +15,7 @@ pub mod Search
 pub mod Examples
 pub mod Parts
 pub mod Cuts
-pub mod Answered
+pub mod WholeMessages
 pub mod Totals
 pub mod Runs
 pub mod EventRuns

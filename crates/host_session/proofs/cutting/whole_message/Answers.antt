@@ -1,6 +1,6 @@
 -- A message without a reset.
 use Rattle.std.proofs.Common.{⊎_elim, sym, ◌∙◌, refl}
-use Rattle.host_session.proofs.Answered.{answered, told_media}
+use Rattle.host_session.proofs.WholeMessages.{answered, told_media}
 use Rattle.host_session.specs.Events.{uncut}
 use Rattle.host_session.proofs.cutting.whole_message.Goals as goal
 
