@@ -1,5 +1,5 @@
 -- A record that is written, from the words of a record to those of the two files.
-use Rattle.std.proofs.Common.{◌≡◌, ◌⊎◌, ⊎_elim, ℕ, zero, suc, ◌≤◌, inl, inr, List, length, Result, Ok, Err, refl, sym, ◌∙◌, ap, subst, arith}
+use Rattle.std.proofs.Common.{◌≡◌, ℕ, zero, suc, ◌≤◌, List, length, Result, Ok, Err, sym, subst, arith}
 use Rattle.std.specs.Prelude.{OnOk, OnErr, codes}
 use Rattle.d64_image.specs.History.{Changes, History}
 use Rattle.d64_image.specs.Images.{Image}

@@ -1,10 +1,9 @@
 -- What the calls of a session on the drive come to, from the rows of the drive's tables.
-use Rattle.std.proofs.Common.{◌≡◌, ◌≢◌, ◌≤◌, ◌<◌, ◌+◌, ◌-◌, ◌*◌, ◌/◌, ◌%◌, ◌⊎◌, ℕ, zero, suc, inl, inr, Bool, true, false, Option, None, Some, Result, Ok, Err, List, [], ◌∷◌, ◌++◌, IsTrue, length, slice_get, refl, sym, ◌∙◌, ap, subst, arith, mul-le-mul_right}
-use Rattle.std.specs.Prelude.{OnOk, OnErr, IsErr, IsSome, codes, if◌then◌else◌, max, nat_eq, nat_le, nat_lt, slice_index, slice_index_or, get_or, set}
-use Rattle.std.specs.List.{AllByRecursion}
+use Rattle.std.proofs.Common.{◌≡◌, ◌≤◌, ◌<◌, ◌+◌, ◌-◌, ◌*◌, ◌/◌, ◌%◌, ◌⊎◌, ℕ, inl, inr, Bool, true, false, Option, None, Some, Result, Ok, Err, List, [], ◌∷◌, length, refl, sym, ◌∙◌, ap, subst, arith, mul-le-mul_right}
+use Rattle.std.specs.Prelude.{OnOk, OnErr, IsSome, if◌then◌else◌, nat_eq, slice_index}
 use Rattle.std.proofs.lemmas.Bool.{false≢true, le-leb}
-use Rattle.std.proofs.lemmas.List.{append_assoc, append-nil, length-append}
-use Rattle.std.proofs.lemmas.Option.{none-some, same_Some}
+use Rattle.std.proofs.lemmas.List.{append-nil, length-append}
+use Rattle.std.proofs.lemmas.Option.{same_Some}
 use Rattle.d64_image.specs.History.{Changes, History, OnlyReads, TellsFailure}
 use Rattle.d64_image.specs.Images.{Image, IsImage}
 use Rattle.d64_image.proofs.Images.{is_sector}
@@ -15,20 +14,20 @@ use Rattle.disk_layout.proofs.Layouts.{IsLayout-one, get-contains}
 use Rattle.disk_layout.proofs.Once.{all-in}
 use Rattle.disk_layout.proofs.Uniques.{IsFirst-one}
 use Rattle.disk_layout.specs.Clean.{IsClean}
-use Rattle.disk_layout.specs.Layout.{File, IsFile, IsLayout, IsRelFile, Layout, file_owns, is_rel, record_length}
-use Rattle.disk_layout.specs.Records.{record_count, records}
+use Rattle.disk_layout.specs.Layout.{File, IsFile, IsLayout, IsRelFile, Layout, file_owns, record_length}
+use Rattle.disk_layout.specs.Records.{records}
 use Rattle.disk_layout.specs.Rest.{IsFirst}
 use Rattle.drive_channels.proofs.Lengths.{count-is}
 use Rattle.drive_channels.specs.Files.{HasFile, IsNamedFile, IsRelAt}
 use Rattle.drive_channels.specs.Moments.{IsOnTheWay, is_nil, writes_for}
 use Rattle.drive_channels.specs.Serving.{Serves}
-use Rattle.drive_channels.specs.Spelling.{IsInitialize, IsName, IsValidate, IsWish, Wish, wanted_position, wanted_record}
+use Rattle.drive_channels.specs.Spelling.{IsInitialize, IsName, IsValidate, wanted_position, wanted_record}
 use Rattle.drive_channels.specs.State.{Channel, Seen, View, view_of}
 use Rattle.drive_channels.specs.Tables.{Closes, Commands, IsOn, Moves, MovesTo, Opens, OpensAt, OpensFile, Writes, WritesIn, channel_without}
 use Rattle.rel_records.specs.Growth.{added, blocks_for, fill_writes, full, growth_writes, records_had, run_writes}
 use Rattle.rel_records.specs.Others.{HasRecords}
-use Rattle.rel_records.specs.Written.{IsGrowingBy, IsWriting, grown_by, touched, with_half, with_written}
-use Rattle.host_session.specs.Putting.{IsPlaced}
+use Rattle.rel_records.specs.Written.{IsWriting, grown_by, touched, with_written}
+use Rattle.host_session.specs.Putting.{IsInReach, IsPlaced}
 use Rattle.host_session.specs.Selecting.{IsAt, IsReady, channel_at, place_text}
 
 -- no channel but 2 was open: none is once it is closed
@@ -119,7 +118,7 @@ placed-rel img name r l n f p = record { layout = p.layout; there = p.first.file
 pub placed-count : (img : Image) (name : List ℕ) (r : ℕ) (l : Layout) (n : ℕ) (f : File) → IsPlaced img name r l n f → r ≤ records_had f
 placed-count img name r l n f p = omega (arith, p.there, count-is img f)
 
-rel-file : (img : Image) (l : Layout) (n : ℕ) (f : File) → IsRelAt img l n f → IsRelFile img f
+pub rel-file : (img : Image) (l : Layout) (n : ℕ) (f : File) → IsRelAt img l n f → IsRelFile img f
 rel-file img l n f h = let file : IsFile img f = all-in (IsFile img) l.files f h.layout.files (get-contains l.files n f h.there) in file.rel h.rel
 
 pub placed-fits : (img : Image) (name : List ℕ) (r : ℕ) (l : Layout) (n : ℕ) (f : File) → IsImage img → IsPlaced img name r l n f
@@ -134,6 +133,15 @@ placed-fits img name r l n f w p =
     let up : r * record_length f.slot ≤ records_had f * record_length f.slot = mul-le-mul_right (record_length f.slot) (placed-count img name r l n f p) in
     (rel.length_low, omega (arith, few, all, up))
 
+-- so such a record is in reach
+pub placed-reach : {D : Type 0} {name : List ℕ} {r : ℕ} {l : Layout} {n : ℕ} {f : File} (S : History D) (d : D) → IsPlaced (S.image d) name r l n f → IsInReach (S.image d) name r l n f
+placed-reach {D} {name} {r} {l} {n} {f} S d p =
+    let fits = placed-fits (S.image d) name r l n f (S.whole d) p in
+    record { layout = p.layout; first = p.first; low = p.low; some = fits.0; few = fits.1 }
+
+pub reach-rel : (img : Image) (name : List ℕ) (r : ℕ) (l : Layout) (n : ℕ) (f : File) → IsInReach img name r l n f → IsRelAt img l n f
+reach-rel img name r l n f p = record { layout = p.layout; there = p.first.file; rel = p.first.named.0 }
+
 -- a call that answers Ok leaves the drive alive
 pub alive-of : {D T E : Type 0} (S : History D) (old new : Seen D) (x : T) → Serves {E = E} S old new (Ok x) → new.dead ≡ false
 alive-of {D} {T} {E} S old new x h = by new.dead refl
@@ -145,7 +153,7 @@ alive-of {D} {T} {E} S old new x h = by new.dead refl
 -- close, open and P, one after another
 pub selected : {D T E : Type 0} (S : History D) (d0 d1 d2 d3 : Seen D) (r : Result T E) (name text : List ℕ) (number : ℕ) (l : Layout) (n : ℕ) (f : File)
     → IsReady S d0 → IsName name → Closes (view_of S d0) 2 (view_of S d1) → Opens (view_of S d1) 2 name (view_of S d2) → Serves S d2 d3 r
-    → OnOk r (Commands (view_of S d2) text (view_of S d3)) → text ≡ place_text number → IsPlaced (S.image d0.disk) name number l n f → OnOk r (IsAt d3 n number)
+    → OnOk r (Commands (view_of S d2) text (view_of S d3)) → text ≡ place_text number → IsInReach (S.image d0.disk) name number l n f → OnOk r (IsAt d3 n number)
 selected S d0 d1 d2 d3 (Err e) name text number l n f ready h closes opens serves row is p = tt
 selected S d0 d1 d2 d3 (Ok x) name text number l n f ready h closes opens serves row is p =
     let same : S.image d1.disk ≡ S.image d0.disk = ap (λ (v : View). v.image) closes in
@@ -153,9 +161,8 @@ selected S d0 d1 d2 d3 (Ok x) name text number l n f ready h closes opens serves
     let clean : IsClean (S.image d1.disk) = subst (λ (i : Image). IsClean i) (sym same) ready.clean in
     let layout : IsLayout (S.image d1.disk) l = subst (λ (i : Image). IsLayout i l) (sym same) p.layout in
     let o = opened (view_of S d1) (view_of S d2) name l n f free clean h layout p.first opens in
-    let q : IsPlaced (S.image d2.disk) name number l n f = subst (λ (i : Image). IsPlaced i name number l n f) (sym (o.0 ∙ same)) p in
-    let fits = placed-fits (S.image d2.disk) name number l n f (S.whole d2.disk) q in
-    let m = moved (view_of S d2) (view_of S d3) l n number 1 f o.1 (placed-rel (S.image d2.disk) name number l n f q) p.low fits.0 fits.1
+    let q : IsInReach (S.image d2.disk) name number l n f = subst (λ (i : Image). IsInReach i name number l n f) (sym (o.0 ∙ same)) p in
+    let m = moved (view_of S d2) (view_of S d3) l n number 1 f o.1 (reach-rel (S.image d2.disk) name number l n f q) p.low p.some p.few
     (subst (λ (t : List ℕ). Commands (view_of S d2) t (view_of S d3)) is row) in
     record { alive = alive-of S d2 d3 x serves; checked = m.2 ∙ o.2; on = m.1 }
 

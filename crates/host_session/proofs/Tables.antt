@@ -1,5 +1,5 @@
 -- What a session's tables hold of a till, as it is handed out.
-use Rattle.std.proofs.Common.{ℕ, ◌≡◌, ◌≤◌, List, None, Option, Some, ap, refl, sym, ◌∙◌}
+use Rattle.std.proofs.Common.{ℕ, ◌≡◌, ◌≤◌, List, None, Option, Some, ap, sym, ◌∙◌}
 use Rattle.std.specs.Prelude.{IfNone, IfSome, option_map}
 use Rattle.std.specs.Option.{option_and_then}
 use Rattle.request_cards.specs.declared.answer.Answer.{Answer}

@@ -4,8 +4,13 @@ pub mod Opening
 pub mod Handling
 pub mod Standing
 pub mod Putting
+pub mod Growing
+pub mod Deciding
 pub mod Found
 pub mod Selecting
+pub mod Completing
+pub mod Keeping
+pub mod Answering
 pub mod Events
 pub mod Counted
 pub mod OneEvent

@@ -1,9 +1,10 @@
 -- What the disk may hold while one record of the two files is written. All of it is our own.
 use Rattle.std.specs.Prelude.{ℕ, ◌≤◌, ◌-◌, ◌⊎◌, List, [], get_or, length}
 use Rattle.d64_image.specs.Images.{Image}
-use Rattle.disk_layout.specs.Layout.{File, IsLayout, Layout}
+use Rattle.disk_layout.specs.Layout.{File, IsLayout, Layout, record_length}
 use Rattle.disk_layout.specs.Records.{records}
 use Rattle.disk_layout.specs.Rest.{IsFirst}
+use Rattle.rel_records.specs.Growth.{blocks_for}
 use Rattle.rel_records.specs.Written.{half_written}
 use Rattle.host_session.specs.Files.{Files, HasFiles, with_record}
 
@@ -13,6 +14,15 @@ pub record IsPlaced (img : Image) (name : List ℕ) (r : ℕ) (l : Layout) (n : 
   pub first : IsFirst l name n f
   pub low : 1 ≤ r
   pub there : r ≤ length (records img f)
+
+-- f, at place n of the layout l, is the first closed relative file of the name, and a record r of its length ends within the
+-- 720 blocks of the longest file
+pub record IsInReach (img : Image) (name : List ℕ) (r : ℕ) (l : Layout) (n : ℕ) (f : File) : Type 0 where
+  pub layout : IsLayout img l
+  pub first : IsFirst l name n f
+  pub low : 1 ≤ r
+  pub some : 1 ≤ record_length f.slot
+  pub few : blocks_for (record_length f.slot) r ≤ 720
 
 -- the files with these bytes in a record of STOCK, which may then have so many blocks
 abbrev pub with_card : Files → ℕ → List ℕ → ℕ → Files

@@ -1,17 +1,22 @@
-//! STUB: the contract of `handle` alone. A message of a till, answered.
+//! A message of a till, answered.
 ghost use Rattle.std.specs.Prelude.{◌≡◌, ◌<◌, ◌≤◌, ◌+◌, ◌⊎◌, None, false, option_to_list, true};
 ghost use Rattle.d64_image.specs.History.{Changes, Failed};
+ghost use Rattle.host_session.specs.Answering.{IsAnswered};
 ghost use Rattle.host_session.specs.Files.{Files, HasFiles};
 ghost use Rattle.host_session.specs.Handling.{IsBeforeOrAfter, IsMedia, MayGrow, after_of, is_next_request, media, most_writes};
 ghost use Rattle.host_session.specs.Shop.{IsSettled, IsShop, Shop, shop_of, start_of};
-ghost use Rattle.request_cards.specs.Ledgers.{reply_in};
+ghost use Rattle.request_cards.specs.Ledgers.{next_in, reply_in, word_in};
 ghost use Rattle.request_cards.specs.Reading.{request_of};
 ghost use Rattle.request_cards.specs.Sums.{SumsAgree};
+ghost use Rattle.request_cards.specs.Requests.{IsAsk};
 ghost use Rattle.request_cards.specs.declared.reply.Reply.TheVariants.{Syntax};
+ghost use Rattle.request_cards.specs.declared.reply.Word.TheVariants.{Media};
 
-use crate::session::Session;
+use crate::deciding::{decided, next_card, renew, standing_by};
+use crate::doing::keep;
+use crate::session::{Session, on_hand};
 use d64_image::Sectors;
-use request_cards::Reply;
+use request_cards::{Reply, Request, Standing, Word};
 
 impl<D: Sectors> Session<D> {
     /// Answers a message of a till.
@@ -22,7 +27,6 @@ impl<D: Sectors> Session<D> {
     /// new card may take, the request's intent, its card or both cards, and its answer. Where the device fails, now or in an
     /// earlier message, the reply is `MEDIA`, and the session is dead; the shop is then the one before the message or the
     /// one after it.
-    #[tactic(none)]
     pub fn handle(&mut self, message: &[u8]) -> Reply
         // what lies outside the grammar changes nothing
         ensures syntax { request_of message.now ≡ None → (result ≡ Syntax) × (self.new ≡ self.old) }
@@ -51,6 +55,54 @@ impl<D: Sectors> Session<D> {
         // no goods appear and none are lost
         ensures sums { (s : Shop) → IsShop (D.history.image self.old.disk) s → SumsAgree (start_of s) (option_to_list (request_of message.now)) }
     {
-        Reply::Syntax
+        let Some(request) = Request::parse(message) else {
+            return Reply::Syntax;
+        };
+        Reply::Told {
+            till: request.till(),
+            number: request.number(),
+            word: self.word_on(&request),
+        }
+    }
+
+    /// What a till is told of its request.
+    fn word_on(&mut self, request: &Request) -> Word
+        requires ask { IsAsk request.now }
+        ensures dead { self.old.dead ≡ true → (result ≡ Media) × (self.new ≡ self.old) }
+        ensures quiet { (s : Shop) → IsShop (D.history.image self.old.disk) s → self.old.dead ≡ false → next_in (start_of s) s.state request.now ≡ false
+            → (result ≡ word_in (start_of s) s.state request.now) × (self.new ≡ self.old) }
+        ensures answered { self.old.dead ≡ false → IsAnswered D.history self.old self.new request.now result }
+    {
+        if self.dead {
+            return Word::Media;
+        }
+        match standing_by(&self.requests, self.tills, request) {
+            Standing::Settled(word) => word,
+            Standing::New => self.answer(request),
+        }
+    }
+
+    /// Answers its till's next request: decides it by the tables, keeps it on the disk, and renews the tables.
+    fn answer(&mut self, request: &Request) -> Word
+        requires ask { IsAsk request.now }
+        requires alive { self.old.dead ≡ false }
+        requires next { (s : Shop) → IsShop (D.history.image self.old.disk) s → next_in (start_of s) s.state request.now ≡ true }
+        ensures { IsAnswered D.history self.old self.new request.now result }
+    {
+        let outcome = decided(&self.cards, self.top, request);
+        let card = next_card(&self.requests, request, outcome.answer);
+        let is_new = on_hand(&self.cards, request.item()).is_none();
+        let Ok(()) = keep(&mut self.drive, request, &card, is_new) else {
+            self.dead = true;
+            return Word::Media;
+        };
+        renew(
+            &mut self.cards,
+            &mut self.requests,
+            request,
+            &outcome,
+            card.answered(),
+        );
+        Word::Kept(outcome.answer)
     }
 }

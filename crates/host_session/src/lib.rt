@@ -1,9 +1,13 @@
 //! A shop on a disk: what the disk stands for at each moment, its opening, its requests, and runs of them with resets.
 #![tactic(auto)]
 
+mod completing;
 mod cutting;
+mod deciding;
+mod doing;
 mod faults;
 mod finding;
+mod growing;
 mod handling;
 mod laws;
 mod opening;

@@ -5,7 +5,7 @@ ghost use Rattle.disk_layout.specs.Clean.{IsClean};
 ghost use Rattle.disk_layout.specs.Layout.{File, Layout, record_length};
 ghost use Rattle.disk_layout.specs.Records as records_of;
 ghost use Rattle.drive_channels.specs.Spelling.{IsName};
-ghost use Rattle.host_session.specs.Putting.{IsPlaced};
+ghost use Rattle.host_session.specs.Putting.{IsInReach, IsPlaced};
 ghost use Rattle.host_session.specs.Selecting.{IsAt, IsReady, place_text};
 ghost use Rattle.rel_records.specs.Others.{HasRecords};
 ghost use Rattle.rel_records.specs.Written.{IsInOneBlock, IsWriting, touched, with_written};
@@ -22,12 +22,12 @@ fn placing(number: u16) -> [u8; 5]
     [b'P', 2, (number % 256) as u8, (number / 256) as u8, 1]
 }
 
-/// Places channel 2 at the start of a record that is there.
-fn select<D: Sectors>(drive: &mut Drive<D>, name: &[u8], number: u16) -> Result<(), Dead>
+/// Places channel 2 at the start of a record, which is there or which the file can grow to.
+pub(crate) fn select<D: Sectors>(drive: &mut Drive<D>, name: &[u8], number: u16) -> Result<(), Dead>
     requires ready { IsReady D.history drive.old }
     requires name { IsName name.now }
-    requires placed { (l : Layout) × (n : ℕ) × (f : File) × IsPlaced (D.history.image drive.old.disk) name.now number l n f }
-    ensures at { (l : Layout) (n : ℕ) (f : File) → IsPlaced (D.history.image drive.old.disk) name.now number l n f → OnOk result (IsAt drive.new n number) }
+    requires reach { (l : Layout) × (n : ℕ) × (f : File) × IsInReach (D.history.image drive.old.disk) name.now number l n f }
+    ensures at { (l : Layout) (n : ℕ) (f : File) → IsInReach (D.history.image drive.old.disk) name.now number l n f → OnOk result (IsAt drive.new n number) }
     ensures reads { OnlyReads D.history drive.old.disk drive.new.disk 2817 }
     ensures failures { TellsFailure D.history drive.old.disk drive.new.disk result }
     ensures dies { IsErr result → drive.new.dead ≡ true }

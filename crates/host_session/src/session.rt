@@ -1,6 +1,7 @@
 //! An open session: the drive over a shop's disk, and what was read of it.
 ghost use Rattle.std.specs.Prelude.{◌≡◌, ◌≤◌, ◌↔◌, IfOk, IfSome, IsErr, Some, false, option_map, true};
 ghost use Rattle.d64_image.specs.Fuses.{fuse, fuse_disk, fuse_left, fuse_limit};
+ghost use Rattle.host_session.specs.Deciding.{IsInTable};
 ghost use Rattle.host_session.specs.Handling.{told_of};
 ghost use Rattle.host_session.specs.Selecting.{IsReady};
 ghost use Rattle.host_session.specs.Shop.{IsSettled, IsShop, Shop};
@@ -16,17 +17,17 @@ use std::marker::Model;
 /// What the disk holds is kept here as well, so that a repeat, a refused request and a decision read no sector. Once the
 /// device has failed the session is dead: nothing is written any more, and the disk is to be opened again.
 pub struct Session<D: Sectors> {
-    drive: Drive<D>,
+    pub(crate) drive: Drive<D>,
     /// Whether the device failed.
-    dead: bool,
+    pub(crate) dead: bool,
     /// The last item that a new card may have.
-    top: u16,
+    pub(crate) top: u16,
     /// How many tills the disk has.
-    tills: u8,
+    pub(crate) tills: u8,
     /// The quantity on hand of each item, from item 1 on; as many as the largest file has records.
-    cards: [Option<u32>; 10160],
+    pub(crate) cards: [Option<u32>; 10160],
     /// The card of each till, from till 1 on.
-    requests: [Option<RequestCard>; 64],
+    pub(crate) requests: [Option<RequestCard>; 64],
 }
 
 impl<D: Sectors> Model for Session<D> {
@@ -106,8 +107,9 @@ impl<D: Sectors> Session<D> {
 }
 
 /// The quantity that a table of cards holds for an item.
-fn on_hand(cards: &[Option<u32>; 10160], item: u16) -> Option<u32>
-    ensures { result ≡ nth cards.now item }
+pub(crate) fn on_hand(cards: &[Option<u32>; 10160], item: u16) -> Option<u32>
+    ensures value { result ≡ nth cards.now item }
+    ensures within { IfSome result (λ _. IsInTable item) }
 {
     if item == 0 {
         return None;
@@ -117,7 +119,7 @@ fn on_hand(cards: &[Option<u32>; 10160], item: u16) -> Option<u32>
 }
 
 /// The card that a table of request cards holds for a till.
-fn card_of(requests: &[Option<RequestCard>; 64], till: u8) -> Option<RequestCard>
+pub(crate) fn card_of(requests: &[Option<RequestCard>; 64], till: u8) -> Option<RequestCard>
     ensures value { result ≡ nth requests.now till }
     ensures within { IfSome result (λ _. (1 ≤ till) × (till ≤ 64)) }
 {
@@ -129,7 +131,7 @@ fn card_of(requests: &[Option<RequestCard>; 64], till: u8) -> Option<RequestCard
 }
 
 /// The newest request of a card with its answer, as that of this till.
-fn newest_of(card: &RequestCard, till: u8) -> Option<(Request, Answer)>
+pub(crate) fn newest_of(card: &RequestCard, till: u8) -> Option<(Request, Answer)>
     requires low { 1 ≤ till }
     requires high { till ≤ 64 }
     ensures { result ≡ Some (told_of till card.now.newest) }

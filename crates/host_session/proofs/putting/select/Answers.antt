@@ -1,5 +1,4 @@
-use Rattle.std.proofs.Common.{◌≡◌, ◌∙◌, refl, sym, ap}
-use Rattle.drive_channels.specs.State.{Seen}
+use Rattle.std.proofs.Common.{◌∙◌, refl, ap}
 use Rattle.host_session.proofs.Selection.{alive-of, nothing-read, place-silent, reads-between, selected, told-after}
 use Rattle.host_session.proofs.putting.select.Goals as goal
 

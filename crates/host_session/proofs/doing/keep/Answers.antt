@@ -1,0 +1,25 @@
+-- The writes of each case are within those of the answer.
+use Rattle.std.proofs.Common.{arith, sym, ◌∙◌}
+use Rattle.d64_image.proofs.Moments.{changes_weaker}
+use Rattle.host_session.proofs.Keepings.{intent-writes, known-items, none-or, refused-writes}
+use Rattle.host_session.proofs.doing.keep.Goals as goal
+
+pub returns-then-not-pending-clause-moments : goal.returns-then-not-pending-clause-moments
+returns-then-not-pending-clause-moments g c = λ f h k.
+    changes_weaker g.D.Sectors.history c.args.drive.now.disk c.put_refusal.new.drive.disk 1 _ _ _
+    (refused-writes f c.args.request.now c.args.card.now k (sym c.pending.ensures ∙ c.if-not-pending.true) h.stock_file) (λ i x. x) (c.put_refusal.ensures.moments f h k)
+
+pub returns-then-is_new-clause-moments : goal.returns-then-is_new-clause-moments
+returns-then-is_new-clause-moments g c = λ f h k.
+    changes_weaker g.D.Sectors.history c.args.drive.now.disk c.put_first_set.new.drive.disk _ _ _ _
+    (intent-writes f c.args.request.now c.args.card.now k (sym c.pending.ensures ∙ c.if-not-pending.false) h.stock_file) (λ i x. x) (c.put_first_set.ensures.moments f h k)
+
+pub put_intent-requires-clause-keeping : goal.put_intent-requires-clause-keeping
+put_intent-requires-clause-keeping g c =
+    let (f, h, k, e) = c.requires.keeping in
+    (f, h, k, known-items f c.args.request.now c.args.card.now k (none-or _ (sym e ∙ c.if-is_new.false)))
+
+pub returns-clause-moments : goal.returns-clause-moments
+returns-clause-moments g c = λ f h k.
+    changes_weaker g.D.Sectors.history c.args.drive.now.disk c.put_intent.new.drive.disk _ _ _ _
+    (omega (arith, intent-writes f c.args.request.now c.args.card.now k (sym c.pending.ensures ∙ c.if-not-pending.false) h.stock_file)) (λ i x. x) (c.put_intent.ensures.moments f h k)

@@ -1,0 +1,85 @@
+//! An open intent completed: its cards whole, and then its answer.
+ghost use Rattle.std.specs.Prelude.{ℕ, ◌≡◌, ◌≤◌, ◌+◌, IsErr, OnOk, length, true};
+ghost use Rattle.d64_image.specs.History.{Changes, TellsFailure};
+ghost use Rattle.host_session.specs.Completing.{HasIntent, HasResults, IsCompleted, answered_card};
+ghost use Rattle.host_session.specs.Files.{Files, HasFiles};
+ghost use Rattle.host_session.specs.Handling.{card_writes};
+ghost use Rattle.host_session.specs.Putting.{HasCard, IsPuttingCard};
+ghost use Rattle.host_session.specs.Selecting.{IsReady};
+ghost use Rattle.host_session.specs.Shop.{IsShop, results_of, shop_of};
+ghost use Rattle.rel_records.specs.Written.{touched};
+ghost use Rattle.request_cards.specs.CardTexts.{IsCard, IsStock, stock_text};
+
+use crate::putting::{put_answer, put_card};
+use d64_image::Sectors;
+use drive_channels::{Dead, Drive};
+use request_cards::{Answer, RequestCard, StockCard};
+
+/// The card of an intent once it is answered, in version 2.
+fn answered(card: &RequestCard) -> RequestCard
+    requires fits { IsCard card.now }
+    ensures { result ≡ answered_card card.now }
+{
+    if card.version() == 1 {
+        card.to_v2().answered()
+    } else {
+        card.answered()
+    }
+}
+
+/// Writes the quantity on hand of an item whose record is there.
+fn put_quantity<D: Sectors>(drive: &mut Drive<D>, item: u16, quantity: u32) -> Result<(), Dead>
+    requires ready { IsReady D.history drive.old }
+    requires there { (f : Files) × HasFiles (D.history.image drive.old.disk) f × (item ≤ length f.stock) }
+    requires fits { IsStock (record { item = item; quantity = quantity }) }
+    ensures ready { OnOk result (IsReady D.history drive.new) }
+    ensures ok { (f : Files) → HasFiles (D.history.image drive.old.disk) f → OnOk result (HasCard f item (stock_text (record { item = item; quantity = quantity })) (D.history.image drive.new.disk)) }
+    ensures moments { (f : Files) → HasFiles (D.history.image drive.old.disk) f → Changes D.history drive.old.disk drive.new.disk (touched 18 item 1) (IsPuttingCard f item (stock_text (record { item = item; quantity = quantity }))) }
+    ensures failures { TellsFailure D.history drive.old.disk drive.new.disk result }
+    ensures dies { IsErr result → drive.new.dead ≡ true }
+{
+    let card = StockCard::new(item, quantity).unwrap();
+    put_card(drive, item, &card.print())
+}
+
+/// Writes the cards of an open intent's results, whole, whatever their records hold.
+fn put_results<D: Sectors>(drive: &mut Drive<D>, till: u8, card: &RequestCard) -> Result<(), Dead>
+    requires ready { IsReady D.history drive.old }
+    requires intent { (f : Files) × HasFiles (D.history.image drive.old.disk) f × HasIntent f till card.now }
+    ensures ready { OnOk result (IsReady D.history drive.new) }
+    ensures ok { (f : Files) → HasFiles (D.history.image drive.old.disk) f → HasIntent f till card.now → OnOk result (HasResults f card.now (D.history.image drive.new.disk)) }
+    // every image held is the same shop's
+    ensures moments { (f : Files) → HasFiles (D.history.image drive.old.disk) f → HasIntent f till card.now → Changes D.history drive.old.disk drive.new.disk (card_writes (results_of card.now.newest)) (λ i. IsShop i (shop_of f)) }
+    ensures failures { TellsFailure D.history drive.old.disk drive.new.disk result }
+    ensures dies { IsErr result → drive.new.dead ≡ true }
+{
+    let request = card.request(till).unwrap();
+    match card.answer() {
+        Answer::Done(quantity) => put_quantity(drive, request.item(), quantity),
+        Answer::Moved(quantity, to_quantity) => {
+            put_quantity(drive, request.item(), quantity)?;
+            put_quantity(drive, request.to().unwrap(), to_quantity)
+        }
+        // what isn't done is no open intent
+        _ => Ok(()),
+    }
+}
+
+/// Completes an open intent: writes the cards of its results, and then its answer.
+pub(crate) fn complete<D: Sectors>(
+    drive: &mut Drive<D>,
+    till: u8,
+    card: &RequestCard,
+) -> Result<(), Dead>
+    requires ready { IsReady D.history drive.old }
+    requires intent { (f : Files) × HasFiles (D.history.image drive.old.disk) f × HasIntent f till card.now }
+    ensures ready { OnOk result (IsReady D.history drive.new) }
+    ensures ok { (f : Files) → HasFiles (D.history.image drive.old.disk) f → HasIntent f till card.now → OnOk result (IsCompleted f till card.now (D.history.image drive.new.disk)) }
+    // every image held is the same shop's
+    ensures moments { (f : Files) → HasFiles (D.history.image drive.old.disk) f → HasIntent f till card.now → Changes D.history drive.old.disk drive.new.disk (card_writes (results_of card.now.newest) + 1) (λ i. IsShop i (shop_of f)) }
+    ensures failures { TellsFailure D.history drive.old.disk drive.new.disk result }
+    ensures dies { IsErr result → drive.new.dead ≡ true }
+{
+    put_results(drive, till, card)?;
+    put_answer(drive, till, &answered(card).print())
+}

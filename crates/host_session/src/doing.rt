@@ -1,0 +1,103 @@
+//! A till's next request, kept on the disk.
+ghost use Rattle.std.specs.Prelude.{ℕ, ◌≡◌, ◌≤◌, ◌<◌, ◌+◌, IsErr, OnOk, false, is_none, true};
+ghost use Rattle.d64_image.specs.History.{Changes, IfCounted, TellsFailure};
+ghost use Rattle.host_session.specs.Files.{Files, HasFiles};
+ghost use Rattle.host_session.specs.Handling.{card_writes, kept_writes};
+ghost use Rattle.host_session.specs.Keeping.{HasItems, IsEither, IsKeeping, shop_after};
+ghost use Rattle.host_session.specs.Selecting.{IsReady};
+ghost use Rattle.host_session.specs.Shop.{IsSettled, IsShop, results_of, shop_of};
+ghost use Rattle.rel_records.specs.Growth.{growth_writes};
+
+use crate::completing::complete;
+use crate::growing::grow_stock;
+use crate::putting::put_answer;
+use d64_image::Sectors;
+use drive_channels::{Dead, Drive};
+use request_cards::{Request, RequestCard};
+
+/// Writes the card of an answer that changes no quantity.
+fn put_refusal<D: Sectors>(
+    drive: &mut Drive<D>,
+    request: &Request,
+    card: &RequestCard,
+) -> Result<(), Dead>
+    requires ready { IsReady D.history drive.old }
+    requires keeping { (f : Files) × HasFiles (D.history.image drive.old.disk) f × IsKeeping f request.now card.now }
+    requires refused { card.now.pending ≡ false }
+    ensures ready { OnOk result (IsReady D.history drive.new) }
+    ensures ok { (f : Files) → HasFiles (D.history.image drive.old.disk) f → IsKeeping f request.now card.now → OnOk result (IsSettled (D.history.image drive.new.disk) (shop_after (shop_of f) request.now)) }
+    ensures moments { (f : Files) → HasFiles (D.history.image drive.old.disk) f → IsKeeping f request.now card.now → Changes D.history drive.old.disk drive.new.disk 1 (IsEither (shop_of f) request.now) }
+    ensures counted { (f : Files) → HasFiles (D.history.image drive.old.disk) f → IsKeeping f request.now card.now → IfCounted D.history drive.old.disk drive.new.disk (λ i. IsShop i (shop_after (shop_of f) request.now)) }
+    ensures failures { TellsFailure D.history drive.old.disk drive.new.disk result }
+    ensures dies { IsErr result → drive.new.dead ≡ true }
+{
+    put_answer(drive, request.till(), &card.print())
+}
+
+/// Writes a request's intent, and completes it. The records of its items are there.
+fn put_intent<D: Sectors>(
+    drive: &mut Drive<D>,
+    request: &Request,
+    card: &RequestCard,
+) -> Result<(), Dead>
+    requires ready { IsReady D.history drive.old }
+    requires keeping { (f : Files) × HasFiles (D.history.image drive.old.disk) f × IsKeeping f request.now card.now × HasItems f card.now }
+    requires intent { card.now.pending ≡ true }
+    ensures ready { OnOk result (IsReady D.history drive.new) }
+    ensures ok { (f : Files) → HasFiles (D.history.image drive.old.disk) f → IsKeeping f request.now card.now → OnOk result (IsSettled (D.history.image drive.new.disk) (shop_after (shop_of f) request.now)) }
+    ensures moments { (f : Files) → HasFiles (D.history.image drive.old.disk) f → IsKeeping f request.now card.now → Changes D.history drive.old.disk drive.new.disk (2 + card_writes (results_of card.now.newest)) (IsEither (shop_of f) request.now) }
+    ensures counted { (f : Files) → HasFiles (D.history.image drive.old.disk) f → IsKeeping f request.now card.now → IfCounted D.history drive.old.disk drive.new.disk (λ i. IsShop i (shop_after (shop_of f) request.now)) }
+    ensures failures { TellsFailure D.history drive.old.disk drive.new.disk result }
+    ensures dies { IsErr result → drive.new.dead ≡ true }
+{
+    let till = request.till();
+    put_answer(drive, till, &card.print())?;
+    complete(drive, till, card)
+}
+
+/// Grows STOCK for the item of a first set, then writes the intent and completes it.
+fn put_first_set<D: Sectors>(
+    drive: &mut Drive<D>,
+    request: &Request,
+    card: &RequestCard,
+) -> Result<(), Dead>
+    requires ready { IsReady D.history drive.old }
+    requires keeping { (f : Files) × HasFiles (D.history.image drive.old.disk) f × IsKeeping f request.now card.now × (is_none ((shop_of f).state.ledger.cards request.now.body.item) ≡ true) }
+    requires intent { card.now.pending ≡ true }
+    ensures ready { OnOk result (IsReady D.history drive.new) }
+    ensures ok { (f : Files) → HasFiles (D.history.image drive.old.disk) f → IsKeeping f request.now card.now → OnOk result (IsSettled (D.history.image drive.new.disk) (shop_after (shop_of f) request.now)) }
+    ensures moments { (f : Files) → (h : HasFiles (D.history.image drive.old.disk) f) → IsKeeping f request.now card.now → Changes D.history drive.old.disk drive.new.disk (growth_writes h.stock_file request.now.body.item + 2 + card_writes (results_of card.now.newest)) (IsEither (shop_of f) request.now) }
+    ensures failures { TellsFailure D.history drive.old.disk drive.new.disk result }
+    ensures dies { IsErr result → drive.new.dead ≡ true }
+{
+    grow_stock(drive, request.item())?;
+    put_intent(drive, request, card)
+}
+
+/// Keeps a till's next request with its answer: the card alone where it changes no quantity; else, after the growth of STOCK
+/// for an item that has no card, its intent, the item's card or both cards, and its answer.
+pub(crate) fn keep<D: Sectors>(
+    drive: &mut Drive<D>,
+    request: &Request,
+    card: &RequestCard,
+    is_new: bool,
+) -> Result<(), Dead>
+    requires ready { IsReady D.history drive.old }
+    requires keeping { (f : Files) × HasFiles (D.history.image drive.old.disk) f × IsKeeping f request.now card.now × (is_new ≡ is_none ((shop_of f).state.ledger.cards request.now.body.item)) }
+    ensures ready { OnOk result (IsReady D.history drive.new) }
+    ensures ok { (f : Files) → HasFiles (D.history.image drive.old.disk) f → IsKeeping f request.now card.now → OnOk result (IsSettled (D.history.image drive.new.disk) (shop_after (shop_of f) request.now)) }
+    ensures moments { (f : Files) → (h : HasFiles (D.history.image drive.old.disk) f) → IsKeeping f request.now card.now → Changes D.history drive.old.disk drive.new.disk (kept_writes h.stock_file request.now.body.item (results_of card.now.newest)) (IsEither (shop_of f) request.now) }
+    // but for a set of an item without a card, the shop is the one after once a write was counted
+    ensures counted { is_new ≡ false → (f : Files) → HasFiles (D.history.image drive.old.disk) f → IsKeeping f request.now card.now → IfCounted D.history drive.old.disk drive.new.disk (λ i. IsShop i (shop_after (shop_of f) request.now)) }
+    ensures refused { card.now.pending ≡ false → (f : Files) → HasFiles (D.history.image drive.old.disk) f → IsKeeping f request.now card.now → IfCounted D.history drive.old.disk drive.new.disk (λ i. IsShop i (shop_after (shop_of f) request.now)) }
+    ensures failures { TellsFailure D.history drive.old.disk drive.new.disk result }
+    ensures dies { IsErr result → drive.new.dead ≡ true }
+{
+    if !card.pending() {
+        return put_refusal(drive, request, card);
+    }
+    if is_new {
+        return put_first_set(drive, request, card);
+    }
+    put_intent(drive, request, card)
+}
