@@ -32,3 +32,13 @@ pub mod Starts
 pub mod AtRest
 pub mod Opens
 pub mod Examples
+pub mod Parts
+pub mod Cuts
+pub mod WholeMessages
+pub mod Totals
+pub mod Runs
+pub mod EventRuns
+pub mod RunOpenings
+pub mod Reports
+pub mod PlainRuns
+pub mod RunExamples

@@ -13,3 +13,8 @@ pub mod Keeping
 pub mod Answering
 pub mod Judged
 pub mod Settling
+pub mod Events
+pub mod Counted
+pub mod OneEvent
+pub mod Runs
+pub mod Faults

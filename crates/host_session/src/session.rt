@@ -1,12 +1,13 @@
 //! An open session: the drive over a shop's disk, and what was read of it.
 ghost use Rattle.std.specs.Prelude.{◌≡◌, ◌≤◌, ◌↔◌, IfOk, IfSome, IsErr, Some, false, option_map, true};
+ghost use Rattle.d64_image.specs.Fuses.{fuse, fuse_disk, fuse_left, fuse_limit};
 ghost use Rattle.host_session.specs.Deciding.{IsInTable};
 ghost use Rattle.host_session.specs.Handling.{told_of};
 ghost use Rattle.host_session.specs.Selecting.{IsReady};
 ghost use Rattle.host_session.specs.Shop.{IsSettled, IsShop, Shop};
 ghost use Rattle.host_session.specs.Standing.{IsStanding, View, nth, state_in, view_code};
 
-use d64_image::Sectors;
+use d64_image::{Fuse, Sectors};
 use drive_channels::{Dead, Drive};
 use request_cards::{Answer, Request, RequestCard};
 use std::marker::Model;
@@ -76,6 +77,32 @@ impl<D: Sectors> Session<D> {
             requests: _,
         } = self;
         drive.into_disk()
+    }
+
+    /// The same session on a disk whose power goes after so many sector writes.
+    pub(crate) fn fused(self, writes: u32) -> Session<Fuse<D>>
+        ensures disk { fuse_disk result.disk ≡ self.disk }
+        ensures limit { fuse_limit result.disk ≡ writes }
+        ensures left { fuse_left result.disk ≡ writes }
+        ensures failures { (fuse D.history).failures result.disk ≡ 0 }
+        ensures dead { result.dead ≡ self.dead }
+    {
+        let Session {
+            drive,
+            dead,
+            top,
+            tills,
+            cards,
+            requests,
+        } = self;
+        Session {
+            drive: Drive::power_on(Fuse::new(drive.into_disk(), writes)),
+            dead,
+            top,
+            tills,
+            cards,
+            requests,
+        }
     }
 }
 
