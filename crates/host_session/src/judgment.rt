@@ -49,7 +49,8 @@ fn judge_till<D: Sectors>(
     requires low { 1 ≤ till }
     requires high { till ≤ 64 }
     ensures ok { (f : Files) → AreFilesOf (D.history.image disk.old) f files.now → IfOk result (IsJudgedTill f till) }
-    ensures err { (f : Files) → AreFilesOf (D.history.image disk.old) f files.now → IfErr result (λ fault. (fault ≡ Device) ⊎ ((fault ≡ BadRequestCard till) × IsBadTill f till)) }
+    ensures err { (f : Files) → AreFilesOf (D.history.image disk.old) f files.now
+        → IfErr result (λ fault. (fault ≡ Device) ⊎ ((fault ≡ BadRequestCard till) × IsBadTill f till)) }
     ensures reads { OnlyReads D.history disk.old disk.new 3 }
     ensures failures { TellsJudging D.history disk.old disk.new result }
 {
@@ -103,8 +104,10 @@ fn judge_item<D: Sectors>(
 ) -> Result<Option<Option<u32>>, OpenFault>
     requires of { (f : Files) × AreFilesOf (D.history.image disk.old) f files.now }
     requires low { 1 ≤ item }
-    ensures ok { (f : Files) → AreFilesOf (D.history.image disk.old) f files.now → HasJudgedTills f new.now → IfOk result (IsJudgedItem f item) }
-    ensures err { (f : Files) → AreFilesOf (D.history.image disk.old) f files.now → HasJudgedTills f new.now → IfErr result (λ fault. (fault ≡ Device) ⊎ ((fault ≡ BadCard item) × IsBadCard f item)) }
+    ensures ok { (f : Files) → AreFilesOf (D.history.image disk.old) f files.now → HasJudgedTills f new.now
+        → IfOk result (IsJudgedItem f item) }
+    ensures err { (f : Files) → AreFilesOf (D.history.image disk.old) f files.now → HasJudgedTills f new.now
+        → IfErr result (λ fault. (fault ≡ Device) ⊎ ((fault ≡ BadCard item) × IsBadCard f item)) }
     ensures reads { OnlyReads D.history disk.old disk.new 3 }
     ensures failures { TellsJudging D.history disk.old disk.new result }
 {
@@ -134,7 +137,8 @@ fn read_stock<D: Sectors>(
     new: &NewQuantities,
 ) -> Result<[Option<u32>; 10160], OpenFault>
     requires of { (f : Files) × AreFilesOf (D.history.image disk.old) f files.now × HasJudgedTills f new.now }
-    ensures ok { (f : Files) → AreFilesOf (D.history.image disk.old) f files.now → HasJudgedTills f new.now → IfOk result (AreCards f) }
+    ensures ok { (f : Files) → AreFilesOf (D.history.image disk.old) f files.now → HasJudgedTills f new.now
+        → IfOk result (AreCards f) }
     ensures err { IfErr result (Refuses (Failed D.history disk.old disk.new) (D.history.image disk.old)) }
     ensures reads { OnlyReads D.history disk.old disk.new 30480 }
     ensures failures { TellsJudging D.history disk.old disk.new result }
@@ -155,7 +159,8 @@ fn judge_tills<D: Sectors>(
     files: &LedgerFiles,
 ) -> Result<(Tills, Option<Intent>), OpenFault>
     requires of { (f : Files) × AreFilesOf (D.history.image disk.old) f files.now }
-    ensures ok { (f : Files) → AreFilesOf (D.history.image disk.old) f files.now → IfOk result (λ p. AreTills f p.0 × IsIntentOf p.0.requests p.1) }
+    ensures ok { (f : Files) → AreFilesOf (D.history.image disk.old) f files.now
+        → IfOk result (λ p. AreTills f p.0 × IsIntentOf p.0.requests p.1) }
     ensures err { IfErr result (Refuses (Failed D.history disk.old disk.new) (D.history.image disk.old)) }
     ensures reads { OnlyReads D.history disk.old disk.new 192 }
     ensures failures { TellsJudging D.history disk.old disk.new result }

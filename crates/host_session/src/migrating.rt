@@ -22,8 +22,10 @@ fn migrate_till<D: Sectors>(
     requires high { till ≤ 64 }
     requires table { (s : Shop) × HasNewTable (D.history.image drive.old.disk) s requests.old (till - 1) }
     ensures ready { OnOk result (IsReady D.history drive.new) }
-    ensures ok { (s : Shop) → HasNewTable (D.history.image drive.old.disk) s requests.old (till - 1) → OnOk result (HasNewTable (D.history.image drive.new.disk) s requests.new till) }
-    ensures moments { (s : Shop) → HasNewTable (D.history.image drive.old.disk) s requests.old (till - 1) → Changes D.history drive.old.disk drive.new.disk 1 (λ c. IsShop c s) }
+    ensures ok { (s : Shop) → HasNewTable (D.history.image drive.old.disk) s requests.old (till - 1)
+        → OnOk result (HasNewTable (D.history.image drive.new.disk) s requests.new till) }
+    ensures moments { (s : Shop) → HasNewTable (D.history.image drive.old.disk) s requests.old (till - 1)
+        → Changes D.history drive.old.disk drive.new.disk 1 (λ c. IsShop c s) }
     ensures quiet { is_old (nth requests.old till) ≡ false → (drive.new ≡ drive.old) × (requests.new ≡ requests.old) }
     ensures failures { TellsFailure D.history drive.old.disk drive.new.disk result }
     ensures dies { IsErr result → drive.new.dead ≡ true }
@@ -49,8 +51,10 @@ pub(crate) fn migrate<D: Sectors>(
     requires ready { IsReady D.history drive.old }
     requires table { (s : Shop) × HasClosedTable (D.history.image drive.old.disk) s requests.old }
     ensures ready { OnOk result (IsReady D.history drive.new) }
-    ensures ok { (s : Shop) → HasClosedTable (D.history.image drive.old.disk) s requests.old → OnOk result (HasNewTable (D.history.image drive.new.disk) s requests.new 64) }
-    ensures moments { (s : Shop) → HasClosedTable (D.history.image drive.old.disk) s requests.old → Changes D.history drive.old.disk drive.new.disk 64 (λ c. IsShop c s) }
+    ensures ok { (s : Shop) → HasClosedTable (D.history.image drive.old.disk) s requests.old
+        → OnOk result (HasNewTable (D.history.image drive.new.disk) s requests.new 64) }
+    ensures moments { (s : Shop) → HasClosedTable (D.history.image drive.old.disk) s requests.old
+        → Changes D.history drive.old.disk drive.new.disk 64 (λ c. IsShop c s) }
     ensures quiet { any_old requests.old ≡ false → (drive.new ≡ drive.old) × (requests.new ≡ requests.old) }
     ensures failures { TellsFailure D.history drive.old.disk drive.new.disk result }
     ensures dies { IsErr result → drive.new.dead ≡ true }

@@ -21,16 +21,21 @@ impl<D: Sectors> Session<D> {
     /// `Device` is told where the device failed, also after writes.
     pub fn open(disk: D) -> Result<Session<D>, (OpenFault, D)>
         // the disk was a shop's, and is the same shop's now, at rest
-        ensures ok { IfOk result (λ x. (s : Shop) × IsShop (D.history.image disk) s × IsSettled (D.history.image x.disk) s × (x.dead ≡ false)) }
+        ensures ok { IfOk result (λ x.
+            (s : Shop) × IsShop (D.history.image disk) s × IsSettled (D.history.image x.disk) s
+            × (x.dead ≡ false)) }
         // the fault holds, and none that is judged before it
         ensures err { IfErr result (λ e. Refuses (Failed D.history disk e.1) (D.history.image disk) e.0) }
         // where the device doesn't fail, Ok comes exactly on a shop
-        ensures opens { NeverFailed D.history disk (disk_of (λ x. x.disk) result) → (IsOk result ↔ IsAShop (D.history.image disk)) }
+        ensures opens { NeverFailed D.history disk (disk_of (λ x. x.disk) result)
+            → (IsOk result ↔ IsAShop (D.history.image disk)) }
         // each image held is the same shop's; at most 883 sectors are written by the repair, 5 for the intent, 64 for old cards
-        ensures moments { (s : Shop) → IsShop (D.history.image disk) s → Changes D.history disk (disk_of (λ x. x.disk) result) 952 (λ c. IsShop c s) }
+        ensures moments { (s : Shop) → IsShop (D.history.image disk) s
+            → Changes D.history disk (disk_of (λ x. x.disk) result) 952 (λ c. IsShop c s) }
         // what is no shop's isn't written, and neither is a disk at rest
         ensures unfit { (IsAShop (D.history.image disk) → ⊥) → Untouched D.history disk (disk_of (λ x. x.disk) result) }
-        ensures quiet { (s : Shop) → IsSettled (D.history.image disk) s → Untouched D.history disk (disk_of (λ x. x.disk) result) }
+        ensures quiet { (s : Shop) → IsSettled (D.history.image disk) s
+            → Untouched D.history disk (disk_of (λ x. x.disk) result) }
         ensures failures { TellsOpening (λ x. x.disk) D.history disk result }
     {
         let mut disk = disk;

@@ -45,7 +45,8 @@ impl<D: Sectors> Session<D> {
     pub fn is_dead(&self) -> bool
         ensures value { result ≡ self.now.dead }
         // else the disk is at rest
-        ensures settled { result ≡ false → (s : Shop) → IsShop (D.history.image self.now.disk) s → IsSettled (D.history.image self.now.disk) s }
+        ensures settled { result ≡ false → (s : Shop) → IsShop (D.history.image self.now.disk) s
+            → IsSettled (D.history.image self.now.disk) s }
     {
         self.dead
     }
@@ -154,7 +155,8 @@ impl<D: Sectors> Session<D> {
 
     /// The last request of a till with its answer, where the till has one. Err where the session is dead.
     pub fn kept(&self, till: u8) -> Result<Option<(Request, Answer)>, Dead>
-        ensures ok { (s : Shop) → IsShop (D.history.image self.now.disk) s → IfOk result (λ e. e ≡ option_map (told_of till) (s.state.ledger.kept till)) }
+        ensures ok { (s : Shop) → IsShop (D.history.image self.now.disk) s
+            → IfOk result (λ e. e ≡ option_map (told_of till) (s.state.ledger.kept till)) }
         ensures dead { IsErr result ↔ (self.now.dead ≡ true) }
     {
         if self.dead {
@@ -168,7 +170,8 @@ impl<D: Sectors> Session<D> {
 
     /// The request of a till before its last one with its answer, where the disk has it. Err where the session is dead.
     pub fn prior(&self, till: u8) -> Result<Option<(Request, Answer)>, Dead>
-        ensures ok { (s : Shop) → IsShop (D.history.image self.now.disk) s → IfOk result (λ e. e ≡ option_map (told_of till) (s.state.prior till)) }
+        ensures ok { (s : Shop) → IsShop (D.history.image self.now.disk) s
+            → IfOk result (λ e. e ≡ option_map (told_of till) (s.state.prior till)) }
         ensures dead { IsErr result ↔ (self.now.dead ≡ true) }
     {
         if self.dead {

@@ -29,8 +29,10 @@ fn bring_to_rest<D: Sectors>(
     requires ready { IsReady D.history drive.old }
     requires table { (s : Shop) × HasTable (D.history.image drive.old.disk) s requests.old × IsIntentOf requests.old intent.now }
     ensures ready { OnOk result (IsReady D.history drive.new) }
-    ensures ok { (s : Shop) → HasTable (D.history.image drive.old.disk) s requests.old → IsIntentOf requests.old intent.now → OnOk result (HasNewTable (D.history.image drive.new.disk) s requests.new 64) }
-    ensures moments { (s : Shop) → HasTable (D.history.image drive.old.disk) s requests.old → IsIntentOf requests.old intent.now → Changes D.history drive.old.disk drive.new.disk 69 (λ c. IsShop c s) }
+    ensures ok { (s : Shop) → HasTable (D.history.image drive.old.disk) s requests.old → IsIntentOf requests.old intent.now
+        → OnOk result (HasNewTable (D.history.image drive.new.disk) s requests.new 64) }
+    ensures moments { (s : Shop) → HasTable (D.history.image drive.old.disk) s requests.old → IsIntentOf requests.old intent.now
+        → Changes D.history drive.old.disk drive.new.disk 69 (λ c. IsShop c s) }
     ensures quiet { IfNone intent.now (any_old requests.old ≡ false → drive.new ≡ drive.old) }
     ensures failures { TellsFailure D.history drive.old.disk drive.new.disk result }
     ensures dies { IsErr result → drive.new.dead ≡ true }
@@ -42,9 +44,11 @@ fn bring_to_rest<D: Sectors>(
 /// Mends a shop's disk that was judged, and brings it to rest.
 pub(crate) fn settle<D: Sectors>(disk: D, found: Judged) -> Result<Session<D>, (OpenFault, D)>
     requires judged { (f : Files) × HasFiles (D.history.image disk) f × IsJudged f found }
-    ensures ok { (s : Shop) → IsShop (D.history.image disk) s → IfOk result (λ x. IsSettled (D.history.image x.disk) s × (x.dead ≡ false)) }
+    ensures ok { (s : Shop) → IsShop (D.history.image disk) s
+        → IfOk result (λ x. IsSettled (D.history.image x.disk) s × (x.dead ≡ false)) }
     ensures err { IfErr result (λ e. e.0 ≡ Device) }
-    ensures moments { (s : Shop) → IsShop (D.history.image disk) s → Changes D.history disk (disk_of (λ x. x.disk) result) 952 (λ c. IsShop c s) }
+    ensures moments { (s : Shop) → IsShop (D.history.image disk) s
+        → Changes D.history disk (disk_of (λ x. x.disk) result) 952 (λ c. IsShop c s) }
     ensures quiet { (s : Shop) → IsSettled (D.history.image disk) s → Untouched D.history disk (disk_of (λ x. x.disk) result) }
     ensures failures { TellsOpening (λ x. x.disk) D.history disk result }
 {
