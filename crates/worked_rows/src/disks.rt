@@ -1,5 +1,5 @@
 //! The disks of the rows.
-ghost use Rattle.std.specs.Prelude.{IfOk, ◌≡◌};
+ghost use Rattle.std.specs.Prelude.{IfOk, OnOk, ◌≡◌};
 ghost use Rattle.disk_layout.specs.Clean.{IsClean};
 ghost use Rattle.rel_records.specs.File.{IsOf, length_of};
 
@@ -16,6 +16,14 @@ pub(crate) fn fresh(alloc: Global) -> Result<MemDisk, Fail> {
     let mut disk = MemDisk::zeroed(alloc)?;
     blank_image(&mut disk, b"STOCK LEDGER", *b"01", 2)?;
     Ok(disk)
+}
+
+/// Sees that the disk is clean.
+pub(crate) fn clean<D: Sectors>(disk: &mut D) -> Result<(), Fail>
+    ensures ok { OnOk result (IsClean (D.history.image disk.new)) }
+{
+    check(disk)?;
+    Ok(())
 }
 
 /// STOCK of a clean disk, whose records have 18 bytes.

@@ -19,7 +19,7 @@ fn cut(alloc: Global, image: &[u8], writes: u32) -> Result<(bool, MemDisk), Fail
 
 /// Repairs a copy of the image, in which power fails after so many writes, then repairs that. Tells how many writes the
 /// second repair made, and how many records STOCK has. Err where the disk between isn't sound, or the last one isn't clean.
-fn mended(alloc: Global, image: &[u8], cut: u32) -> Result<(u64, u32), Fail> {
+pub(crate) fn mended(alloc: Global, image: &[u8], cut: u32) -> Result<(u64, u32), Fail> {
     let mut fuse = Fuse::new(MemDisk::load(alloc, image)?, cut);
     let _ = repair(&mut fuse);
     let mut disk = Meter::new(fuse.into_inner());
