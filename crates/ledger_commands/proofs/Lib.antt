@@ -2,4 +2,5 @@ pub mod Examples
 pub mod Lines
 pub mod Listings
 pub mod Replies
+mod Showings
 pub mod Tables
