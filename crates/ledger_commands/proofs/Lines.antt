@@ -1,5 +1,5 @@
 -- The lines of 1 to n, one more.
-use Rattle.std.proofs.Common.{◌≡◌, ℕ, suc, List, Option, [], ◌+◌, ◌++◌, subst, sym, arith}
+use Rattle.std.proofs.Common.{◌≡◌, ℕ, suc, List, Option, ◌+◌, subst, sym, arith}
 use Rattle.std.specs.Io.KnownBytes.{Appends}
 use Rattle.std.proofs.KnownBytes.{Appends-nil, Appends-trans}
 use Rattle.ledger_commands.specs.Shows.{up_to}

@@ -8,7 +8,7 @@ use Rattle.d64_image.specs.declared.mirror.Mirror.{Mirror}
 use Rattle.host_session.specs.Events.{HasNoReset, messages_of, requests_of}
 use Rattle.host_session.specs.Runs.{HeldBeginnings, IsPlayedWhole, IsRefused, StoppedByDevice, StoppedByOutput}
 use Rattle.host_session.specs.Shop.{IsSettled, IsShop, Shop, start_of, with_state}
-use Rattle.host_session.specs.declared.faults.OpenFault.TheVariants as opening
+use Rattle.host_session.specs.declared.faults.OpenFault.{OpenFault}
 use Rattle.request_cards.specs.Ledgers.{plain, replies, report}
 use Rattle.request_cards.specs.declared.reply.Reply.{Reply}
 use Rattle.script_lines.specs.Lines.{lines}
@@ -104,7 +104,8 @@ pub record IsStopped {F W : Type 0} (k : Known F W) (script : List ℕ) (device 
 
 -- The file failed while the image was opened; nothing was printed.
 pub record IsUnopened {F W : Type 0} (k : Known F W) (old new : W) (device after : Mirror F) : Type 0 where
-  pub refused : IsRefused (history_of k) device opening.Device after
+  pub fault : OpenFault
+  pub refused : IsRefused (history_of k) device fault after
   pub failed : is_broken after
   pub silent : new ≡ old
 
@@ -132,6 +133,6 @@ IsScriptPlayed k image script file new_file old new =
     IsTakenUp image script file new_file (λ device after. IsRun k image script device after (IsDone k script old new device after))
 
 -- what comes of a script that is played on an image, where the file that holds it becomes `new_file`
-abbrev pub IsPlayRun : {F W : Type 0} → Known F W → (image script : List ℕ) → F → F → W → W → Result Unit RunFault → Type 0
-IsPlayRun k image script file new_file old new (Ok _) = IsScriptPlayed k image script file new_file old new
-IsPlayRun k image script file new_file old new (Err fault) = IsPlayFault k image script file new_file old new fault
+abbrev pub IsPlayEnd : {F W : Type 0} → Known F W → (image script : List ℕ) → F → F → W → W → Result Unit RunFault → Type 0
+IsPlayEnd k image script file new_file old new (Ok _) = IsScriptPlayed k image script file new_file old new
+IsPlayEnd k image script file new_file old new (Err fault) = IsPlayFault k image script file new_file old new fault

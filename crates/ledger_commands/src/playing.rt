@@ -2,7 +2,7 @@
 ghost use Rattle.std.specs.Prelude.{◌≡◌, ◌≢◌, ◌⊎◌, Err, IfErr, IfOk, IsOk, None, Some};
 ghost use Rattle.d64_image.specs.Mirrors.{is_broken, mirror_file};
 ghost use Rattle.ledger_commands.specs.Faults.{script_fault};
-ghost use Rattle.ledger_commands.specs.Plays.{IsPlayFault, IsPlayRun, IsScriptPlayed, known};
+ghost use Rattle.ledger_commands.specs.Plays.{IsPlayFault, IsPlayEnd, IsScriptPlayed, known};
 ghost use Rattle.ledger_commands.specs.declared.faults.RunFault.TheVariants as faults;
 
 use crate::bytes::{flush, load};
@@ -86,7 +86,7 @@ pub fn play_file<F: Write + Seek + Drop, W: Write>(
 ) -> Result<(), RunFault>
     ensures no_file { file ≡ None → (result ≡ Err faults.File) × (out.new ≡ out.old) }
     ensures run { (before : F) → file ≡ Some before → (after : F)
-        × IsPlayRun (known F.stream_position F.stream_bytes F.contents W.contents)
+        × IsPlayEnd (known F.stream_position F.stream_bytes F.contents W.contents)
         image.now script.now before after out.old out.new result }
 {
     let Some(file) = file else {

@@ -1,5 +1,5 @@
 -- The shop that is shown is the image's, and a fault of its opening is one of the image.
-use Rattle.std.proofs.Common.{◌≡◌, ◌≢◌, List, ℕ, length, subst, sym}
+use Rattle.std.proofs.Common.{subst, sym}
 use Rattle.std.proofs.lemmas.Result.{IfErr-weaker, on_ok_weaker}
 use Rattle.d64_image.specs.Images.{Image}
 use Rattle.d64_image.specs.History.{Failed}
