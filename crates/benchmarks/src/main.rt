@@ -5,12 +5,15 @@
 mod checks;
 mod drives;
 mod records;
+mod requests;
 mod sectors;
 
 use checks::count_clean;
 use d64_image::MemDisk;
 use disk_layout::blank_image;
 use drive_channels::Drive;
+use host_session::Session;
+use request_cards::Till;
 use std::process::ExitCode;
 use std::{env, fs, io};
 
@@ -93,6 +96,21 @@ fn time_drive(rt: &HostRuntime, rounds: u64) -> Done {
     Ok(checksum(drive.into_disk().bytes()))
 }
 
+/// `requests`: so many messages of 64 tills are handled, half of them repeats, by a session on a disk that was blank; gives a
+/// checksum of the replies and of the image.
+fn time_requests(rt: &HostRuntime, rounds: u64) -> Done {
+    let mut disk = MemDisk::zeroed(rt.alloc()).map_err(|_| "no memory")?;
+    blank_image(&mut disk, b"STOCK LEDGER", *b"01", requests::TILLS).map_err(|_| "no blank image")?;
+    let mut tills = Vec::new(rt.alloc());
+    for till in 0..requests::TILLS {
+        tills.push(Till::new(till + 1, 0)).map_err(|_| "no memory")?;
+    }
+    let mut session = Session::open(disk).map_err(|_| "the disk is no shop's")?;
+    let replies = requests::ask_by_turns(&mut session, tills.as_mut_slice(), rounds);
+    let image = checksum(session.close().bytes());
+    Ok(replies.wrapping_mul(31).wrapping_add(image))
+}
+
 /// The benchmark of a word. Err also where there is no such word.
 fn timed(rt: &HostRuntime, word: &str, rounds: u64, path: Option<String>) -> Done {
     match word {
@@ -102,7 +120,8 @@ fn timed(rt: &HostRuntime, word: &str, rounds: u64, path: Option<String>) -> Don
         "reads" => time_reads(rt, rounds),
         "writes" => time_writes(rt, rounds),
         "drive" => time_drive(rt, rounds),
-        _ => Err("the words are sectors, check, growth, reads, writes, drive"),
+        "requests" => time_requests(rt, rounds),
+        _ => Err("the words are sectors, check, growth, reads, writes, drive, requests"),
     }
 }
 
@@ -115,7 +134,9 @@ fn main(rt: HostRuntime) -> io::Result<ExitCode> {
         return Ok(ExitCode::from(2));
     };
     let Some(word) = word else {
-        for word in ["sectors", "check", "growth", "reads", "writes", "drive"] {
+        for word in [
+            "sectors", "check", "growth", "reads", "writes", "drive", "requests",
+        ] {
             match timed(&rt, word, rounds, None) {
                 Ok(number) => println!(rt; "{word} {number}")?,
                 Err(what) => println!(rt; "{word} {what}")?,
