@@ -12,8 +12,6 @@ use checks::count_clean;
 use d64_image::MemDisk;
 use disk_layout::blank_image;
 use drive_channels::Drive;
-use host_session::Session;
-use request_cards::Till;
 use std::process::ExitCode;
 use std::{env, fs, io};
 
@@ -101,14 +99,15 @@ fn time_drive(rt: &HostRuntime, rounds: u64) -> Done {
 fn time_requests(rt: &HostRuntime, rounds: u64) -> Done {
     let mut disk = MemDisk::zeroed(rt.alloc()).map_err(|_| "no memory")?;
     blank_image(&mut disk, b"STOCK LEDGER", *b"01", requests::TILLS).map_err(|_| "no blank image")?;
-    let mut tills = Vec::new(rt.alloc());
-    for till in 0..requests::TILLS {
-        tills.push(Till::new(till + 1, 0)).map_err(|_| "no memory")?;
-    }
-    let mut session = Session::open(disk).map_err(|_| "the disk is no shop's")?;
-    let replies = requests::ask_by_turns(&mut session, tills.as_mut_slice(), rounds);
-    let image = checksum(session.close().bytes());
-    Ok(replies.wrapping_mul(31).wrapping_add(image))
+    let mut tills = requests::all_tills(rt.alloc()).map_err(|_| "no memory")?;
+    let (replies, disk) = requests::run(disk, tills.as_mut_slice(), rounds).map_err(
+        |_| "the disk is no shop's",
+    )?;
+    Ok(
+        replies
+            .wrapping_mul(31)
+            .wrapping_add(checksum(disk.bytes())),
+    )
 }
 
 /// The benchmark of a word. Err also where there is no such word.

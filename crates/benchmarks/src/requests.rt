@@ -1,10 +1,12 @@
 //! Tills that ask a shop on a disk in turns, and lose the first reply to each request: so every second message is a repeat.
-ghost use Rattle.std.specs.Prelude.{◌≡◌, ◌≤◌, length, false};
-ghost use Rattle.d64_image.specs.History.{NeverFailed};
+ghost use Rattle.std.specs.Prelude.{◌≡◌, IfOk, length};
+ghost use Rattle.host_session.specs.Opening.{IsAShop};
+ghost use Rattle.benchmarks.specs.Asked.{StaysOpen};
 
 use d64_image::Sectors;
-use host_session::Session;
+use host_session::{OpenFault, Session};
 use request_cards::{Answer, Kind, Reply, Till, Wish, Word};
+use std::alloc::{AllocError, Global};
 
 /// How many tills ask.
 pub const TILLS: u8 = 64;
@@ -49,8 +51,8 @@ fn reply_number(reply: &Reply) -> u64 {
 
 /// Hands the message of the till's open wish to the session, where there is one; the number of the reply.
 fn ask<D: Sectors>(session: &mut Session<D>, till: &mut Till, is_heard: bool) -> u64
-    ensures alive { NeverFailed D.history session.old.disk session.new.disk → session.old.dead ≡ false
-        → session.new.dead ≡ false }
+    requires shop { IsAShop (D.history.image session.old.disk) }
+    ensures stays { StaysOpen D.history session.old session.new }
 {
     let Some(message) = till.ask() else {
         return 0;
@@ -64,10 +66,10 @@ fn ask<D: Sectors>(session: &mut Session<D>, till: &mut Till, is_heard: bool) ->
 
 /// So many messages of the tills, by turns, each request twice, since the first reply to it is lost. Sums up the numbers of
 /// the replies, each sum 31 times the one before and the number, without what is above 64 bits.
-pub fn ask_by_turns<D: Sectors>(session: &mut Session<D>, tills: &mut [Till], rounds: u64) -> u64
+fn ask_by_turns<D: Sectors>(session: &mut Session<D>, tills: &mut [Till], rounds: u64) -> u64
+    requires shop { IsAShop (D.history.image session.old.disk) }
     requires tills { length tills.old ≡ 64 }
-    ensures alive { NeverFailed D.history session.old.disk session.new.disk → session.old.dead ≡ false
-        → session.new.dead ≡ false }
+    ensures stays { StaysOpen D.history session.old session.new }
 {
     let mut sum = 0u64;
     for round in 0..rounds {
@@ -81,4 +83,25 @@ pub fn ask_by_turns<D: Sectors>(session: &mut Session<D>, tills: &mut [Till], ro
             .wrapping_add(ask(session, till, !is_first));
     }
     sum
+}
+
+/// Opens a shop's disk, and hands it so many messages of the tills: the sum of the replies, and the disk.
+pub fn run<D: Sectors>(disk: D, tills: &mut [Till], rounds: u64) -> Result<(u64, D), (OpenFault, D)>
+    requires tills { length tills.old ≡ 64 }
+    ensures shop { IfOk result (λ told. IsAShop (D.history.image told.1)) }
+{
+    let mut session = Session::open(disk)?;
+    let sum = ask_by_turns(&mut session, tills, rounds);
+    Ok((sum, session.close()))
+}
+
+/// The 64 tills, none of which has asked yet.
+pub fn all_tills(alloc: Global) -> Result<Vec<Till>, AllocError>
+    ensures { IfOk result (λ tills. length tills.items ≡ 64) }
+{
+    let mut tills = Vec::new(alloc);
+    for below in 0..TILLS {
+        tills.push(Till::new(below + 1, 0))?;
+    }
+    Ok(tills)
 }
