@@ -1,2 +1,3 @@
+pub mod Asked
 pub mod Tallies
 pub mod Walks

@@ -5,6 +5,7 @@
 mod checks;
 mod drives;
 mod records;
+mod requests;
 mod sectors;
 
 use checks::count_clean;
@@ -93,6 +94,22 @@ fn time_drive(rt: &HostRuntime, rounds: u64) -> Done {
     Ok(checksum(drive.into_disk().bytes()))
 }
 
+/// `requests`: so many messages of 64 tills are handled, half of them repeats, by a session on a disk that was blank; gives a
+/// checksum of the replies and of the image.
+fn time_requests(rt: &HostRuntime, rounds: u64) -> Done {
+    let mut disk = MemDisk::zeroed(rt.alloc()).map_err(|_| "no memory")?;
+    blank_image(&mut disk, b"STOCK LEDGER", *b"01", requests::TILLS).map_err(|_| "no blank image")?;
+    let mut tills = requests::all_tills(rt.alloc()).map_err(|_| "no memory")?;
+    let (replies, disk) = requests::run(disk, tills.as_mut_slice(), rounds).map_err(
+        |_| "the disk is no shop's",
+    )?;
+    Ok(
+        replies
+            .wrapping_mul(31)
+            .wrapping_add(checksum(disk.bytes())),
+    )
+}
+
 /// The benchmark of a word. Err also where there is no such word.
 fn timed(rt: &HostRuntime, word: &str, rounds: u64, path: Option<String>) -> Done {
     match word {
@@ -102,7 +119,8 @@ fn timed(rt: &HostRuntime, word: &str, rounds: u64, path: Option<String>) -> Don
         "reads" => time_reads(rt, rounds),
         "writes" => time_writes(rt, rounds),
         "drive" => time_drive(rt, rounds),
-        _ => Err("the words are sectors, check, growth, reads, writes, drive"),
+        "requests" => time_requests(rt, rounds),
+        _ => Err("the words are sectors, check, growth, reads, writes, drive, requests"),
     }
 }
 
@@ -115,7 +133,9 @@ fn main(rt: HostRuntime) -> io::Result<ExitCode> {
         return Ok(ExitCode::from(2));
     };
     let Some(word) = word else {
-        for word in ["sectors", "check", "growth", "reads", "writes", "drive"] {
+        for word in [
+            "sectors", "check", "growth", "reads", "writes", "drive", "requests",
+        ] {
             match timed(&rt, word, rounds, None) {
                 Ok(number) => println!(rt; "{word} {number}")?,
                 Err(what) => println!(rt; "{word} {what}")?,
