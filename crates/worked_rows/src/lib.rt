@@ -10,3 +10,5 @@ mod disks;
 mod growth_rows;
 #[cfg(test)]
 mod record_rows;
+#[cfg(test)]
+mod session_rows;
