@@ -60,7 +60,9 @@ impl Draw {
     }
 
     /// An item: those that are drawn reach further as the day goes on, and a few lie past each disk's room.
-    fn item(&mut self) -> u32 {
+    fn item(&mut self) -> u32
+        ensures { result ≤ 60001 }
+    {
         if self.dice.below(24) == 0 {
             return 9000 + self.dice.below(3000);
         }
@@ -68,6 +70,17 @@ impl Draw {
         let of = u64::from(self.of) + 4;
         let reach = (u64::from(self.items) * drawn / of).min(60_000) as u32;
         1 + self.dice.below(reach)
+    }
+
+    /// An item that has a card, where one stands close behind the item that is drawn; else that one.
+    fn item_with_card(&mut self, ledger: &Ledger) -> u32 {
+        let first = self.item();
+        for item in first..first + 40 {
+            if ledger.card(item as u16).is_some() {
+                return item;
+            }
+        }
+        first
     }
 
     /// A quantity, now and then a very large one.
@@ -79,16 +92,26 @@ impl Draw {
     }
 
     /// A new request with this number.
-    fn new_request(&mut self, alloc: Global, till: u8, number: u32) -> Result<String, AllocError> {
+    fn new_request(
+        &mut self,
+        alloc: Global,
+        ledger: &Ledger,
+        till: u8,
+        number: u32,
+    ) -> Result<String, AllocError> {
         let kind = self.dice.below(10);
-        let item = self.item();
         let quantity = self.quantity();
+        let item = if kind <= 3 {
+            self.item()
+        } else {
+            self.item_with_card(ledger)
+        };
         match kind {
             0..=3 => format!(in alloc; "{till},{number},S,{item},{quantity}"),
             4..=5 => format!(in alloc; "{till},{number},R,{item},{quantity}"),
             6..=7 => format!(in alloc; "{till},{number},I,{item},{quantity}"),
             _ => {
-                let to = self.item();
+                let to = self.item_with_card(ledger);
                 format!(in alloc; "{till},{number},M,{item},{quantity},{to}")
             }
         }
@@ -124,12 +147,12 @@ impl Draw {
         match self.dice.below(32) {
             0..=2 => self.again(alloc, ledger.kept(till)),
             3..=4 => self.again(alloc, ledger.prior(till)),
-            5 => self.new_request(alloc, till, last),
-            6 => self.new_request(alloc, till, last.saturating_sub(1)),
-            7 => self.new_request(alloc, till, last.saturating_add(2)),
-            8 => self.new_request(alloc, ledger.tills().saturating_add(1), 1),
+            5 => self.new_request(alloc, ledger, till, last),
+            6 => self.new_request(alloc, ledger, till, last.saturating_sub(1)),
+            7 => self.new_request(alloc, ledger, till, last.saturating_add(2)),
+            8 => self.new_request(alloc, ledger, ledger.tills().saturating_add(1), 1),
             9 => self.other(alloc),
-            _ => self.new_request(alloc, till, last.saturating_add(1)),
+            _ => self.new_request(alloc, ledger, till, last.saturating_add(1)),
         }
     }
 }

@@ -1,6 +1,7 @@
 //! Plays a day of messages on a disk, and tries each moment of it: `every_cut MESSAGES SEED ITEMS IMAGE`.
 #![tactic(auto)]
 
+mod bits;
 mod cuts;
 mod day;
 mod draw;
@@ -10,6 +11,7 @@ mod others;
 mod tape;
 mod tried;
 
+use bits::turn_each_bit;
 use cuts::{Asked, Found, close, open, reopen};
 use d64_image::MemDisk;
 use day::{DEEP, Shop, play_day};
@@ -84,9 +86,13 @@ fn other_shop(alloc: Global, bytes: &[u8], tried: &mut Tried) -> Found<Shop> {
 fn run(rt: &HostRuntime, tried: &mut Tried) -> Found<()> {
     let mut words = env::args(rt).map_err(|_| "no words")?;
     words.next();
-    let messages = number(words.next(), 60)?;
+    let word = words.next();
+    if word.is_none() {
+        turn_each_bit(rt.alloc(), tried)?;
+    }
+    let messages = number(word, 300)?;
     let seed = number(words.next(), 1)?;
-    let items = number(words.next(), 60)?;
+    let items = number(words.next(), 150)?;
     let mut shop = match words.next() {
         None => old_shop(rt.alloc(), tried)?,
         Some(path) => {
@@ -98,14 +104,21 @@ fn run(rt: &HostRuntime, tried: &mut Tried) -> Found<()> {
     play_day(rt.alloc(), &mut shop, &mut draw, messages, tried)
 }
 
-fn main(rt: HostRuntime) -> io::Result<ExitCode> {
-    let mut tried = Tried::nothing();
-    let result = run(&rt, &mut tried);
+/// Prints how much was tried.
+fn tell(rt: &HostRuntime, tried: &Tried) -> io::Result<()> {
     println!(rt; "messages {}", tried.messages)?;
     println!(rt; "writes {}", tried.writes)?;
     println!(rt; "images {}", tried.images)?;
     println!(rt; "openings {}", tried.openings)?;
     println!(rt; "repeats {}", tried.repeats)?;
+    println!(rt; "images with one bit turned {}", tried.turned)?;
+    println!(rt; "of them opened {}", tried.opened)
+}
+
+fn main(rt: HostRuntime) -> io::Result<ExitCode> {
+    let mut tried = Tried::nothing();
+    let result = run(&rt, &mut tried);
+    tell(&rt, &tried)?;
     match result {
         Ok(()) => {
             println!(rt; "no difference")?;

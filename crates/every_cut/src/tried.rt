@@ -13,6 +13,10 @@ pub struct Tried {
     pub openings: u64,
     /// The messages that were sent again.
     pub repeats: u64,
+    /// The images with one bit turned.
+    pub turned: u64,
+    /// Those of them that were opened.
+    pub opened: u64,
 }
 
 /// One more.
@@ -29,6 +33,8 @@ impl Tried {
             images: 0,
             openings: 0,
             repeats: 0,
+            turned: 0,
+            opened: 0,
         }
     }
 }

@@ -1,6 +1,6 @@
 //! Hostile use: images that no shop left, each call on a device failing in turn, and outputs that stop in the middle.
 use crate::disks::{Change, changed, fresh};
-use d64_image::{MemDisk, Meter, Mirror, OneFault, Place};
+use d64_image::{MemDisk, Meter, Mirror, OneFault};
 use host_session::{Event, OpenFault, PlayFault, ScriptFault, Session, play, run_script};
 use layout_check::check;
 use request_cards::{Reply, Word};
@@ -411,48 +411,4 @@ fn an_output_takes_13_bytes(rt: HostRuntime) -> Result<(), Fail> {
     assert!(rt; says(reply, b"2,1,DONE,125"));
     assert_eq!(rt; (recovery, writes), (0, 0));
     Ok(())
-}
-
-/// Opens an image: where it is opened, it is clean then, and where it isn't, it stays.
-fn opens_clean(disk: MemDisk, image: &[u8]) -> Result<bool, Fail> {
-    match Session::open(disk) {
-        Ok(session) => {
-            check(&mut session.close())?;
-            Ok(true)
-        }
-        Err((_, left)) if left.bytes() == image => Ok(false),
-        Err(_) => Err(Fail::new("an image that isn't opened is changed")),
-    }
-}
-
-// Each of the 12,288 images that differ from a blank one in one bit of the map, the directory or a sector of a file.
-#[test]
-fn each_bit_is_turned(rt: HostRuntime) -> Result<(), Fail> {
-    let disk = fresh(rt.alloc())?;
-    let mut image = Vec::from_slice(rt.alloc(), disk.bytes())?;
-    let (mut opened, mut left) = (0u32, 0u32);
-    for (track, number) in [(18, 0), (18, 1), (17, 0), (17, 1), (17, 2), (17, 3)] {
-        let start = 256 * Place::new(track, number).ok_or("no place")?.index();
-        for at in start..start + 256 {
-            for bit in 0..8u32 {
-                turn(image.as_mut_slice(), at, bit);
-                let disk = MemDisk::load(rt.alloc(), image.as_slice())?;
-                if opens_clean(disk, image.as_slice())? {
-                    opened += 1;
-                } else {
-                    left += 1;
-                }
-                turn(image.as_mut_slice(), at, bit);
-            }
-        }
-    }
-    assert_eq!(rt; opened + left, 12_288);
-    Ok(())
-}
-
-/// Turns a bit of an image.
-fn turn(image: &mut [u8], at: usize, bit: u32) {
-    if let Some(byte) = image.get_mut(at) {
-        *byte ^= 1u8.wrapping_shl(bit);
-    }
 }
