@@ -69,11 +69,11 @@ fn other_shop(alloc: Global, bytes: &[u8], tried: &mut Tried) -> Found<Shop> {
     )?;
     let others = Others::of(&mut disk)?;
     let session = open(alloc, &disk, tried)?;
-    let ledger = Ledger::new(session.tills(), session.top());
+    let ledger = Ledger::new(session.tills(), others.top());
     let is_empty = ledger.is_in(&session);
     let (disk, _) = close(session, &others)?;
     if !is_empty {
-        return Err("the image holds cards or requests");
+        return Err("the image holds cards or requests, or has another top");
     }
     Ok(Shop {
         disk,
