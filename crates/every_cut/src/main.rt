@@ -84,7 +84,7 @@ fn other_shop(alloc: Global, bytes: &[u8], tried: &mut Tried) -> Found<Shop> {
 
 /// Plays the day that the words name, and tells how much was tried.
 fn run(rt: &HostRuntime, tried: &mut Tried) -> Found<()> {
-    let mut words = env::args(rt).map_err(|_| "no words")?;
+    let mut words = env::args(rt).map_err(|_| "no memory for the words")?;
     words.next();
     let word = words.next();
     if word.is_none() {

@@ -5,8 +5,15 @@ use host_session::{Event, OpenFault, PlayFault, ScriptFault, Session, play, run_
 use layout_check::check;
 use request_cards::{Reply, Word};
 use std::alloc::Global;
+use std::fmt::Debug;
 use std::io::{self, Cursor, Write};
+use std::process::Abort;
 use std::test::Fail;
+
+/// Sees that a row gives what it is to give.
+fn same_at<T: PartialEq + Debug + Drop, L: Debug + Drop>(rt: &impl Abort, got: T, want: T, row: L) {
+    assert_eq!(rt; got, want, "{row:?}");
+}
 
 /// Cards of version 1 as power may have left them: open intents of a set of item 1, 2 and 15, two cards that are none, and
 /// a stock card in the wrong record.
@@ -116,8 +123,9 @@ fn malicious_images_are_refused(rt: HostRuntime) -> Result<(), Fail> {
     for (script, changes, told) in REFUSED {
         let disk = changed(rt.alloc(), &played(rt.alloc(), script)?, changes)?;
         let fault = refused(rt.alloc(), &disk)?;
-        assert_eq!(rt; fault.to_string(rt.alloc())?.as_bytes(), told);
-        assert_eq!(rt; refused_mirror(rt.alloc(), &disk)?, fault);
+        let text = fault.to_string(rt.alloc())?;
+        same_at(&rt, text.as_bytes(), told, told);
+        same_at(&rt, refused_mirror(rt.alloc(), &disk)?, fault, told);
     }
     Ok(())
 }
@@ -192,8 +200,8 @@ fn odd_images_are_opened(rt: HostRuntime) -> Result<(), Fail> {
     for (changes, recovery, message, told, writes, top) in OPENED {
         let disk = changed(rt.alloc(), &fresh(rt.alloc())?, changes)?;
         let (reply, last, first, second) = handled(rt.alloc(), &disk, message)?;
-        assert!(rt; says(reply, told), "{reply:?}");
-        assert_eq!(rt; (last, first, second), (top, recovery, writes), "{reply:?}");
+        same_at(&rt, (last, first, second), (top, recovery, writes), reply);
+        same_at(&rt, says(reply, told), true, reply);
     }
     Ok(())
 }
@@ -236,11 +244,15 @@ fn each_call_of_an_opening_fails(rt: HostRuntime) -> Result<(), Fail> {
             let Some((number, reply)) = opening_fails(rt.alloc(), &disk, at, done)? else {
                 break;
             };
-            assert_eq!(rt; number, 7, "call {at}, {done}");
-            assert!(rt; says(reply, b"1,1,DONE,5"), "call {at}, {done}");
+            same_at(
+                &rt,
+                (number, says(reply, b"1,1,DONE,5")),
+                (7, true),
+                (at, done),
+            );
             calls = at + 1;
         }
-        assert!(rt; calls > 2 && calls < 1000, "{calls} calls");
+        same_at(&rt, calls > 2 && calls < 1000, true, calls);
     }
     Ok(())
 }
@@ -298,16 +310,14 @@ fn goes_on(left: MemDisk) -> Result<(), Fail> {
 #[test]
 fn each_call_of_a_request_fails(rt: HostRuntime) -> Result<(), Fail> {
     let (before, all) = calls(rt.alloc())?;
-    assert!(rt; before < all && all < 1000, "{before} and {all} calls");
+    same_at(&rt, before < all && all < 1000, true, all);
     for done in [false, true] {
         for at in before..all {
             let (once, left) = sent(rt.alloc(), at, done, 1)?;
             let (twice, again) = sent(rt.alloc(), at, done, 2)?;
-            assert!(rt;
-                says(once, b"1,1,MEDIA") && says(twice, b"1,1,MEDIA"),
-                "call {at}"
-            );
-            assert_eq!(rt; left.bytes(), again.bytes(), "call {at}");
+            let told = (says(once, b"1,1,MEDIA"), says(twice, b"1,1,MEDIA"));
+            let same = left.bytes() == again.bytes();
+            same_at(&rt, (told, same), ((true, true), true), (at, done));
             goes_on(left)?;
         }
     }
@@ -404,11 +414,20 @@ fn an_output_takes_13_bytes(rt: HostRuntime) -> Result<(), Fail> {
     else {
         return Err(Fail::new("the script is played"));
     };
-    assert_eq!(rt; fault, ScriptFault::Output);
-    assert_eq!(rt; fault.number(), 3);
-    assert_eq!(rt; out.taken.as_slice(), b"1,1,DONE,120\n".as_slice());
+    let taken = out.taken.as_slice() == b"1,1,DONE,120\n".as_slice();
+    same_at(
+        &rt,
+        (fault, fault.number(), taken),
+        (ScriptFault::Output, 3, true),
+        "fault",
+    );
     let (reply, _, recovery, writes) = handled(rt.alloc(), &left, b"2,1,R,42,5")?;
-    assert!(rt; says(reply, b"2,1,DONE,125"));
-    assert_eq!(rt; (recovery, writes), (0, 0));
+    let answered = says(reply, b"2,1,DONE,125");
+    same_at(
+        &rt,
+        (answered, recovery, writes),
+        (true, 0, 0),
+        "sent again",
+    );
     Ok(())
 }
