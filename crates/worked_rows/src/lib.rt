@@ -9,4 +9,8 @@ mod disks;
 #[cfg(test)]
 mod growth_rows;
 #[cfg(test)]
+mod hostile_rows;
+#[cfg(test)]
 mod record_rows;
+#[cfg(test)]
+mod session_rows;
