@@ -1,3 +1,4 @@
+pub mod Printed
 pub mod Rounds
 pub mod Tallies
 pub mod Walks
