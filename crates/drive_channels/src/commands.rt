@@ -41,7 +41,9 @@ fn is_initialize(text: &[u8]) -> bool
 
 /// The place that a `P` asks for, where it is as long as one.
 fn place_of(text: &[u8]) -> Option<Spot>
-    ensures { MatchOption result (¬ ((length text.now ≡ 4) ⊎ (length text.now ≡ 5))) (λ spot. ((length text.now ≡ 4) ⊎ (length text.now ≡ 5)) × (spot.channel ≡ wanted_channel text.now) × (spot.record_number ≡ wanted_record text.now) × (spot.position ≡ wanted_position text.now)) }
+    ensures { MatchOption result (¬ ((length text.now ≡ 4) ⊎ (length text.now ≡ 5))) (λ spot.
+        ((length text.now ≡ 4) ⊎ (length text.now ≡ 5)) × (spot.channel ≡ wanted_channel text.now)
+        × (spot.record_number ≡ wanted_record text.now) × (spot.position ≡ wanted_position text.now)) }
 {
     if text.len() != 4 && text.len() != 5 {
         return None;
@@ -61,7 +63,10 @@ fn go_to(found: &Found, spot: Spot, wanted: Spot) -> (Status, Spot)
     requires record_low { 1 ≤ wanted.record_number }
     requires record_high { wanted.record_number ≤ 65535 }
     requires position { 1 ≤ wanted.position }
-    ensures row { (img : Image) → (s : statuses.Status) → (b : Bool) → IsFound img found.now → InFile (at_spot img found.now spot s b) (MovesTo (at_spot img found.now spot s b) wanted.record_number wanted.position (at_spot img found.now result.1 result.0 b)) }
+    ensures row { (img : Image) → (s : statuses.Status) → (b : Bool) → IsFound img found.now
+        → InFile (at_spot img found.now spot s b)
+        (MovesTo (at_spot img found.now spot s b) wanted.record_number wanted.position
+        (at_spot img found.now result.1 result.0 b)) }
     ensures spot { IsSpot found.now spot → IsSpot found.now result.1 }
 {
     let length = found.file.length();
@@ -80,7 +85,8 @@ fn go_to(found: &Found, spot: Spot, wanted: Spot) -> (Status, Spot)
 impl Known {
     /// Places the open channel, where the `P` names it: what it comes to.
     fn position(&mut self, text: &[u8]) -> Status
-        ensures row { (img : Image) → (s : statuses.Status) → IsKnown img self.old → Moves (shown img self.old s) text.now (shown img self.new result) }
+        ensures row { (img : Image) → (s : statuses.Status) → IsKnown img self.old
+            → Moves (shown img self.old s) text.now (shown img self.new result) }
         ensures known { (img : Image) → IsKnown img self.old → IsKnown img self.new }
     {
         let Some(wanted) = place_of(text) else {
@@ -101,7 +107,8 @@ impl Known {
     /// Does a command that isn't for the disk: what it comes to.
     fn command(&mut self, text: &[u8]) -> Status
         requires other { ¬ (IsValidate text.now) }
-        ensures row { (img : Image) → (s : statuses.Status) → IsKnown img self.old → Commands (shown img self.old s) text.now (shown img self.new result) }
+        ensures row { (img : Image) → (s : statuses.Status) → IsKnown img self.old
+            → Commands (shown img self.old s) text.now (shown img self.new result) }
         ensures known { (img : Image) → IsKnown img self.old → IsKnown img self.new }
     {
         if text.is_empty() {

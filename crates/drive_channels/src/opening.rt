@@ -51,7 +51,9 @@ fn has_length(file: &RelFile, length: Option<u8>) -> bool
 fn find_file<D: Sectors>(disk: &mut D, name: &[u8]) -> Result<Option<Found>, Dead>
     requires clean { IsClean (D.history.image disk.old) }
     requires name { length name.now ≤ 16 }
-    ensures found { IfOk result (λ o. MatchOption o (¬ (HasFile (D.history.image disk.old) name.now)) (λ e. IsFound (D.history.image disk.old) e × (e.name ≡ slot_name name.now))) }
+    ensures found { IfOk result (λ o.
+        MatchOption o (¬ (HasFile (D.history.image disk.old) name.now))
+        (λ e. IsFound (D.history.image disk.old) e × (e.name ≡ slot_name name.now))) }
     ensures reads { OnlyReads D.history disk.old disk.new 702 }
     ensures failures { TellsFailure D.history disk.old disk.new result }
 {
@@ -143,8 +145,11 @@ impl Known {
     /// Checks the disk, where no check has passed yet. Whether one has now.
     fn passes_check<D: Sectors>(&mut self, disk: &mut D) -> Result<bool, Dead>
         requires known { IsKnown (D.history.image disk.old) self.old }
-        ensures passed { IfOk result (λ passed. passed ≡ true → (self.new.checked ≡ true) × IsKnown (D.history.image disk.old) self.new) }
-        ensures refused { IfOk result (λ passed. passed ≡ false → (self.new ≡ self.old) × (self.old.checked ≡ false) × ¬ (IsClean (D.history.image disk.old))) }
+        ensures passed { IfOk result
+            (λ passed. passed ≡ true → (self.new.checked ≡ true) × IsKnown (D.history.image disk.old) self.new) }
+        ensures refused { IfOk result (λ passed.
+            passed ≡ false
+            → (self.new ≡ self.old) × (self.old.checked ≡ false) × ¬ (IsClean (D.history.image disk.old))) }
         ensures last { OnOk result (self.new.last ≡ self.old.last) }
         ensures reads { OnlyReads D.history disk.old disk.new 2115 }
         ensures failures { TellsFailure D.history disk.old disk.new result }
@@ -169,7 +174,9 @@ impl Known {
     fn open_last(&mut self, channel: u8, length: Option<u8>) -> Status
         requires low { 2 ≤ channel }
         requires high { channel ≤ 14 }
-        ensures row { (img : Image) → (name : List ℕ) → (s : statuses.Status) → HasLooked img name self.old true → OpensFile (shown img self.old s) channel (record { name = name; length = length }) (shown img self.new result) }
+        ensures row { (img : Image) → (name : List ℕ) → (s : statuses.Status) → HasLooked img name self.old true
+            → OpensFile (shown img self.old s) channel (record { name = name; length = length })
+            (shown img self.new result) }
         ensures known { (img : Image) → IsKnown img self.old → IsKnown img self.new }
     {
         if let Some(opened) = &mut self.last {
@@ -198,11 +205,17 @@ impl Known {
         requires name { length name.now ≤ 16 }
         requires size_low { 1 ≤ size }
         requires size_high { size ≤ 254 }
-        ensures row { IfOk result (λ status. (s : statuses.Status) → OpensFile (shown (D.history.image disk.old) self.old s) channel (record { name = name.now; length = Some size }) (shown (D.history.image disk.new) self.new status)) }
+        ensures row { IfOk result (λ status.
+            (s : statuses.Status)
+            → OpensFile (shown (D.history.image disk.old) self.old s) channel
+            (record { name = name.now; length = Some size })
+            (shown (D.history.image disk.new) self.new status)) }
         ensures known { OnOk result (IsKnown (D.history.image disk.new) self.new) }
         ensures refused { IfOk result (λ status. status ≢ told.Ok → OnlyReads D.history disk.old disk.new 55) }
         ensures opened { IfOk result (λ status. status ≡ told.Ok → IsSome (channel_of self.new.last)) }
-        ensures moments { (l : Layout) → IsLayout (D.history.image disk.old) l → Changes D.history disk.old disk.new (creation_writes l) (IsCreating (D.history.image disk.old) l name.now size) }
+        ensures moments { (l : Layout) → IsLayout (D.history.image disk.old) l
+            → Changes D.history disk.old disk.new (creation_writes l)
+            (IsCreating (D.history.image disk.old) l name.now size) }
         ensures failures { TellsFailure D.history disk.old disk.new result }
     {
         match create(disk, name, size) {
@@ -236,7 +249,10 @@ impl Known {
         requires low { 2 ≤ channel }
         requires high { channel ≤ 14 }
         requires wish { (text : List ℕ) × IsWish text (wish_of wish) }
-        ensures row { IfOk result (λ status. (s : statuses.Status) → OpensFile (shown (D.history.image disk.old) self.old s) channel (wish_of wish.entry) (shown (D.history.image disk.new) self.new status)) }
+        ensures row { IfOk result (λ status.
+            (s : statuses.Status)
+            → OpensFile (shown (D.history.image disk.old) self.old s) channel (wish_of wish.entry)
+            (shown (D.history.image disk.new) self.new status)) }
         ensures known { OnOk result (IsKnown (D.history.image disk.new) self.new) }
         ensures opened { IsOpenedFor D.history disk.old disk.new 702 (wish_of wish.entry) (channel_of self.new.last) result }
         ensures failures { TellsFailure D.history disk.old disk.new result }
@@ -253,9 +269,13 @@ impl Known {
     /// Opens what the text asks for: what that comes to.
     fn open<D: Sectors>(&mut self, disk: &mut D, channel: u8, text: &[u8]) -> Result<Status, Dead>
         requires known { IsKnown (D.history.image disk.old) self.old }
-        ensures row { IfOk result (λ status. (s : statuses.Status) → Opens (shown (D.history.image disk.old) self.old s) channel text.now (shown (D.history.image disk.new) self.new status)) }
+        ensures row { IfOk result (λ status.
+            (s : statuses.Status)
+            → Opens (shown (D.history.image disk.old) self.old s) channel text.now
+            (shown (D.history.image disk.new) self.new status)) }
         ensures known { OnOk result (IsKnown (D.history.image disk.new) self.new) }
-        ensures opened { IsOpenedBy D.history disk.old disk.new text.now (channel_of self.old.last) (channel_of self.new.last) result }
+        ensures opened { IsOpenedBy D.history disk.old disk.new text.now (channel_of self.old.last) (channel_of self.new.last)
+            result }
         ensures failures { TellsFailure D.history disk.old disk.new result }
     {
         if channel < 2 || channel > 14 || self.is_open() {
@@ -286,12 +306,16 @@ impl<D: Sectors> Drive<D> {
         ensures serves { Serves D.history self.old self.new result }
         ensures row { OnOk result (Opens (view_of D.history self.old) channel text.now (view_of D.history self.new)) }
         // without a length, or where the file is there, nothing is written; nor where the channel isn't opened
-        ensures plain { ((w : Wish) → IsWish text.now w → w.length ≡ None) → OnlyReads D.history self.old.disk self.new.disk 2817 }
-        ensures there { (w : Wish) → IsWish text.now w → HasFile (D.history.image self.old.disk) w.name → OnlyReads D.history self.old.disk self.new.disk 2817 }
+        ensures plain { ((w : Wish) → IsWish text.now w → w.length ≡ None)
+            → OnlyReads D.history self.old.disk self.new.disk 2817 }
+        ensures there { (w : Wish) → IsWish text.now w → HasFile (D.history.image self.old.disk) w.name
+            → OnlyReads D.history self.old.disk self.new.disk 2817 }
         ensures refused { OnOk result (self.new.channel ≡ self.old.channel → OnlyReads D.history self.old.disk self.new.disk 2872) }
         // nor on a disk that isn't clean; else every image held is one of the creation, and so is the count of writes
         ensures unclean { ¬ (IsClean (D.history.image self.old.disk)) → OnlyReads D.history self.old.disk self.new.disk 2115 }
-        ensures moments { (l : Layout) → IsLayout (D.history.image self.old.disk) l → Changes D.history self.old.disk self.new.disk (creation_writes l) (IsCreatingFrom (D.history.image self.old.disk) l text.now) }
+        ensures moments { (l : Layout) → IsLayout (D.history.image self.old.disk) l
+            → Changes D.history self.old.disk self.new.disk (creation_writes l)
+            (IsCreatingFrom (D.history.image self.old.disk) l text.now) }
     {
         if self.dead {
             return Err(Dead);

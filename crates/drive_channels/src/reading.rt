@@ -75,7 +75,11 @@ fn read_at<D: Sectors>(
 ) -> Result<(Status, Spot), Dead>
     requires found { IsFound (D.history.image disk.old) found.now }
     requires spot { IsSpot found.now spot }
-    ensures row { IfOk result (λ p. (s : statuses.Status) → (b : Bool) → InFile (at_spot (D.history.image disk.old) found.now spot s b) (ReadsIn (at_spot (D.history.image disk.old) found.now spot s b) to.new.items (at_spot (D.history.image disk.old) found.now p.1 p.0 b))) }
+    ensures row { IfOk result (λ p.
+        (s : statuses.Status) → (b : Bool)
+        → InFile (at_spot (D.history.image disk.old) found.now spot s b)
+        (ReadsIn (at_spot (D.history.image disk.old) found.now spot s b) to.new.items
+        (at_spot (D.history.image disk.old) found.now p.1 p.0 b))) }
     ensures spot { IfOk result (λ p. IsSpot found.now p.1) }
     ensures channel { IfOk result (λ p. p.1.channel ≡ spot.channel) }
     ensures reads { OnlyReads D.history disk.old disk.new 3 }
@@ -106,7 +110,10 @@ impl Known {
         to: &mut ArrayVec<u8, 254>,
     ) -> Result<Status, Dead>
         requires known { IsKnown (D.history.image disk.old) self.old }
-        ensures row { IfOk result (λ status. (s : statuses.Status) → Reads (shown (D.history.image disk.old) self.old s) channel to.new.items (shown (D.history.image disk.old) self.new status)) }
+        ensures row { IfOk result (λ status.
+            (s : statuses.Status)
+            → Reads (shown (D.history.image disk.old) self.old s) channel to.new.items
+            (shown (D.history.image disk.old) self.new status)) }
         ensures known { OnOk result (IsKnown (D.history.image disk.old) self.new) }
         ensures reads { OnlyReads D.history disk.old disk.new 3 }
         ensures failures { TellsFailure D.history disk.old disk.new result }

@@ -28,10 +28,15 @@ fn grow_at<D: Sectors>(disk: &mut D, found: &mut Found, spot: Spot) -> Result<(S
     requires clean { IsClean (D.history.image disk.old) }
     requires found { IsFound (D.history.image disk.old) found.old }
     requires spot { IsSpot found.old spot }
-    ensures row { IfOk result (λ p. (s : statuses.Status) → (b : Bool) → InFile (at_spot (D.history.image disk.old) found.old spot s b) (WritesIn (at_spot (D.history.image disk.old) found.old spot s b) [] (at_spot (D.history.image disk.new) found.new p.1 p.0 b))) }
+    ensures row { IfOk result (λ p.
+        (s : statuses.Status) → (b : Bool)
+        → InFile (at_spot (D.history.image disk.old) found.old spot s b)
+        (WritesIn (at_spot (D.history.image disk.old) found.old spot s b) []
+        (at_spot (D.history.image disk.new) found.new p.1 p.0 b))) }
     ensures found { OnOk result (KeepsFound (D.history.image disk.old) (D.history.image disk.new) found.old found.new) }
     ensures spot { IfOk result (λ p. IsSpot found.new p.1 × (p.1.channel ≡ spot.channel)) }
-    ensures writes { (l : Layout) → (f : File) → IsRelAt (D.history.image disk.old) l (entry_of found.old.file) f → IsWrittenAt D.history disk.old disk.new (channel_at (entry_of found.old.file) spot) l f [] result }
+    ensures writes { (l : Layout) → (f : File) → IsRelAt (D.history.image disk.old) l (entry_of found.old.file) f
+        → IsWrittenAt D.history disk.old disk.new (channel_at (entry_of found.old.file) spot) l f [] result }
     ensures refused { IfOk result (λ p. p.0 ≡ FileTooLarge → OnlyReads D.history disk.old disk.new 1) }
     ensures failures { TellsFailure D.history disk.old disk.new result }
 {
@@ -55,10 +60,16 @@ fn write_text<D: Sectors>(
     requires clean { IsClean (D.history.image disk.old) }
     requires found { IsFound (D.history.image disk.old) found.old }
     requires spot { IsSpot found.old spot }
-    ensures row { IfOk result (λ p. (s : statuses.Status) → (b : Bool) → InFile (at_spot (D.history.image disk.old) found.old spot s b) (WritesIn (at_spot (D.history.image disk.old) found.old spot s b) text.now (at_spot (D.history.image disk.new) found.new p.1 p.0 b))) }
+    ensures row { IfOk result (λ p.
+        (s : statuses.Status) → (b : Bool)
+        → InFile (at_spot (D.history.image disk.old) found.old spot s b)
+        (WritesIn (at_spot (D.history.image disk.old) found.old spot s b) text.now
+        (at_spot (D.history.image disk.new) found.new p.1 p.0 b))) }
     ensures found { OnOk result (KeepsFound (D.history.image disk.old) (D.history.image disk.new) found.old found.new) }
     ensures spot { IfOk result (λ p. IsSpot found.new p.1 × (p.1.channel ≡ spot.channel)) }
-    ensures writes { (l : Layout) → (f : File) → IsRelAt (D.history.image disk.old) l (entry_of found.old.file) f → IsWrittenAt D.history disk.old disk.new (channel_at (entry_of found.old.file) spot) l f text.now result }
+    ensures writes { (l : Layout) → (f : File) → IsRelAt (D.history.image disk.old) l (entry_of found.old.file) f
+        → IsWrittenAt D.history disk.old disk.new (channel_at (entry_of found.old.file) spot) l f text.now
+        result }
     ensures refused { IfOk result (λ p. p.0 ≡ FileTooLarge → OnlyReads D.history disk.old disk.new 1) }
     ensures failures { TellsFailure D.history disk.old disk.new result }
 {
@@ -88,10 +99,16 @@ fn write_at<D: Sectors>(
     requires clean { IsClean (D.history.image disk.old) }
     requires found { IsFound (D.history.image disk.old) found.old }
     requires spot { IsSpot found.old spot }
-    ensures row { IfOk result (λ p. (s : statuses.Status) → (b : Bool) → InFile (at_spot (D.history.image disk.old) found.old spot s b) (WritesIn (at_spot (D.history.image disk.old) found.old spot s b) text.now (at_spot (D.history.image disk.new) found.new p.1 p.0 b))) }
+    ensures row { IfOk result (λ p.
+        (s : statuses.Status) → (b : Bool)
+        → InFile (at_spot (D.history.image disk.old) found.old spot s b)
+        (WritesIn (at_spot (D.history.image disk.old) found.old spot s b) text.now
+        (at_spot (D.history.image disk.new) found.new p.1 p.0 b))) }
     ensures found { OnOk result (KeepsFound (D.history.image disk.old) (D.history.image disk.new) found.old found.new) }
     ensures spot { IfOk result (λ p. IsSpot found.new p.1 × (p.1.channel ≡ spot.channel)) }
-    ensures writes { (l : Layout) → (f : File) → IsRelAt (D.history.image disk.old) l (entry_of found.old.file) f → IsWrittenAt D.history disk.old disk.new (channel_at (entry_of found.old.file) spot) l f text.now result }
+    ensures writes { (l : Layout) → (f : File) → IsRelAt (D.history.image disk.old) l (entry_of found.old.file) f
+        → IsWrittenAt D.history disk.old disk.new (channel_at (entry_of found.old.file) spot) l f text.now
+        result }
     ensures refused { IfOk result (λ p. p.0 ≡ FileTooLarge → OnlyReads D.history disk.old disk.new 1) }
     ensures failures { TellsFailure D.history disk.old disk.new result }
 {
@@ -105,7 +122,10 @@ impl Known {
     /// Writes where the channel is the open one.
     fn write<D: Sectors>(&mut self, disk: &mut D, channel: u8, text: &[u8]) -> Result<Status, Dead>
         requires known { IsKnown (D.history.image disk.old) self.old }
-        ensures row { IfOk result (λ status. (s : statuses.Status) → Writes (shown (D.history.image disk.old) self.old s) channel text.now (shown (D.history.image disk.new) self.new status)) }
+        ensures row { IfOk result (λ status.
+            (s : statuses.Status)
+            → Writes (shown (D.history.image disk.old) self.old s) channel text.now
+            (shown (D.history.image disk.new) self.new status)) }
         ensures known { OnOk result (IsKnown (D.history.image disk.new) self.new) }
         ensures writes { IsWrittenOn D.history disk.old disk.new (channel_of self.old.last) channel text.now result }
         ensures refused { IfOk result (λ status. status ≡ FileTooLarge → OnlyReads D.history disk.old disk.new 1) }
@@ -138,9 +158,15 @@ impl<D: Sectors> Drive<D> {
         ensures silent { ¬ (HasOn self.old.channel channel) → self.new.disk ≡ self.old.disk }
         ensures refused { OnOk result (self.new.status ≡ FileTooLarge → OnlyReads D.history self.old.disk self.new.disk 1) }
         // else every image held is one of the record call, and so is the count of writes
-        ensures moments { (c : Channel) (l : Layout) (f : File) → IsOn self.old.channel channel c → IsRelAt (D.history.image self.old.disk) l c.entry f → Changes D.history self.old.disk self.new.disk (writes_for f c text.now) (IsOnTheWay (D.history.image self.old.disk) text.now c l f) }
+        ensures moments { (c : Channel) (l : Layout) (f : File) → IsOn self.old.channel channel c
+            → IsRelAt (D.history.image self.old.disk) l c.entry f
+            → Changes D.history self.old.disk self.new.disk (writes_for f c text.now)
+            (IsOnTheWay (D.history.image self.old.disk) text.now c l f) }
         // a record that is there and lies in one block is written at once: an answer Dead after a counted write leaves it written
-        ensures uncounted { (c : Channel) (l : Layout) (f : File) → IsOn self.old.channel channel c → IsRelAt (D.history.image self.old.disk) l c.entry f → c.record_number ≤ records_had f → IsInOneBlock (record_length f.slot) c.record_number → OnErr result (D.history.writes self.new.disk ≡ D.history.writes self.old.disk) }
+        ensures uncounted { (c : Channel) (l : Layout) (f : File) → IsOn self.old.channel channel c
+            → IsRelAt (D.history.image self.old.disk) l c.entry f → c.record_number ≤ records_had f
+            → IsInOneBlock (record_length f.slot) c.record_number
+            → OnErr result (D.history.writes self.new.disk ≡ D.history.writes self.old.disk) }
     {
         if self.dead {
             return Err(Dead);

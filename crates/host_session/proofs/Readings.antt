@@ -18,7 +18,7 @@ use Rattle.host_session.specs.Files.{Files, record_at}
 use Rattle.host_session.specs.Found.{AreFilesOf}
 use Rattle.host_session.specs.declared.finding.LedgerFiles.{LedgerFiles}
 
-length-records : (img : Image) (f : File) → length (records img f) ≡ record_count (length f.blocks) f.last (record_length f.slot)
+pub length-records : (img : Image) (f : File) → length (records img f) ≡ record_count (length f.blocks) f.last (record_length f.slot)
 unfolding records
 length-records img f = length-pieces (record_length f.slot) (record_count (length f.blocks) f.last (record_length f.slot)) (joined img f.blocks)
 

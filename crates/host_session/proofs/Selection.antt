@@ -49,9 +49,11 @@ opened-file x y name l n f is first row = past row
         (same, ap (λ (v : View). v.channel) e ∙ ap (λ (j : ℕ). Some (channel_at j 1)) one, ap (λ (v : View). v.checked) e)
 
     past : OpensFile x 2 (record { name = name; length = None }) y → (y.image ≡ x.image) × (y.channel ≡ Some (channel_at n 1)) × (y.checked ≡ x.checked)
-    past (inl (bad, _)) = absurd (bad has)
+    past (inl (bad, _)) = absurd (bad.1 has)
     past (inr (_, inl (bad, _))) = absurd bad
-    past (inr (_, inr (_, (k, g, named, same, e)))) = last k g named same e
+    past (inr (_, inr (_, inl (bad, _)))) = absurd (bad.0 has)
+    past (inr (_, inr (_, inr (_, inl (bad, _))))) = absurd (bad has)
+    past (inr (_, inr (_, inr (_, inr (_, (k, g, named, same, e)))))) = last k g named same e
 
 pub opened : (x y : View) (name : List ℕ) (l : Layout) (n : ℕ) (f : File) → x.channel ≡ None → IsClean x.image → IsName name → IsLayout x.image l → IsFirst l name n f
     → Opens x 2 name y → (y.image ≡ x.image) × (y.channel ≡ Some (channel_at n 1)) × (y.checked ≡ true)

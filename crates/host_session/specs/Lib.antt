@@ -11,3 +11,10 @@ pub mod Selecting
 pub mod Completing
 pub mod Keeping
 pub mod Answering
+pub mod Judged
+pub mod Settling
+pub mod Events
+pub mod Counted
+pub mod OneEvent
+pub mod Runs
+pub mod Faults

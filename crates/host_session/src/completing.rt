@@ -16,7 +16,7 @@ use drive_channels::{Dead, Drive};
 use request_cards::{Answer, RequestCard, StockCard};
 
 /// The card of an intent once it is answered, in version 2.
-fn answered(card: &RequestCard) -> RequestCard
+pub(crate) fn answered(card: &RequestCard) -> RequestCard
     requires fits { IsCard card.now }
     ensures { result ≡ answered_card card.now }
 {
@@ -33,8 +33,13 @@ fn put_quantity<D: Sectors>(drive: &mut Drive<D>, item: u16, quantity: u32) -> R
     requires there { (f : Files) × HasFiles (D.history.image drive.old.disk) f × (item ≤ length f.stock) }
     requires fits { IsStock (record { item = item; quantity = quantity }) }
     ensures ready { OnOk result (IsReady D.history drive.new) }
-    ensures ok { (f : Files) → HasFiles (D.history.image drive.old.disk) f → OnOk result (HasCard f item (stock_text (record { item = item; quantity = quantity })) (D.history.image drive.new.disk)) }
-    ensures moments { (f : Files) → HasFiles (D.history.image drive.old.disk) f → Changes D.history drive.old.disk drive.new.disk (touched 18 item 1) (IsPuttingCard f item (stock_text (record { item = item; quantity = quantity }))) }
+    ensures ok { (f : Files) → HasFiles (D.history.image drive.old.disk) f
+        → OnOk result
+        (HasCard f item (stock_text (record { item = item; quantity = quantity }))
+        (D.history.image drive.new.disk)) }
+    ensures moments { (f : Files) → HasFiles (D.history.image drive.old.disk) f
+        → Changes D.history drive.old.disk drive.new.disk (touched 18 item 1)
+        (IsPuttingCard f item (stock_text (record { item = item; quantity = quantity }))) }
     ensures failures { TellsFailure D.history drive.old.disk drive.new.disk result }
     ensures dies { IsErr result → drive.new.dead ≡ true }
 {
@@ -47,9 +52,12 @@ fn put_results<D: Sectors>(drive: &mut Drive<D>, till: u8, card: &RequestCard) -
     requires ready { IsReady D.history drive.old }
     requires intent { (f : Files) × HasFiles (D.history.image drive.old.disk) f × HasIntent f till card.now }
     ensures ready { OnOk result (IsReady D.history drive.new) }
-    ensures ok { (f : Files) → HasFiles (D.history.image drive.old.disk) f → HasIntent f till card.now → OnOk result (HasResults f card.now (D.history.image drive.new.disk)) }
+    ensures ok { (f : Files) → HasFiles (D.history.image drive.old.disk) f → HasIntent f till card.now
+        → OnOk result (HasResults f card.now (D.history.image drive.new.disk)) }
     // every image held is the same shop's
-    ensures moments { (f : Files) → HasFiles (D.history.image drive.old.disk) f → HasIntent f till card.now → Changes D.history drive.old.disk drive.new.disk (card_writes (results_of card.now.newest)) (λ i. IsShop i (shop_of f)) }
+    ensures moments { (f : Files) → HasFiles (D.history.image drive.old.disk) f → HasIntent f till card.now
+        → Changes D.history drive.old.disk drive.new.disk (card_writes (results_of card.now.newest))
+        (λ i. IsShop i (shop_of f)) }
     ensures failures { TellsFailure D.history drive.old.disk drive.new.disk result }
     ensures dies { IsErr result → drive.new.dead ≡ true }
 {
@@ -74,9 +82,12 @@ pub(crate) fn complete<D: Sectors>(
     requires ready { IsReady D.history drive.old }
     requires intent { (f : Files) × HasFiles (D.history.image drive.old.disk) f × HasIntent f till card.now }
     ensures ready { OnOk result (IsReady D.history drive.new) }
-    ensures ok { (f : Files) → HasFiles (D.history.image drive.old.disk) f → HasIntent f till card.now → OnOk result (IsCompleted f till card.now (D.history.image drive.new.disk)) }
+    ensures ok { (f : Files) → HasFiles (D.history.image drive.old.disk) f → HasIntent f till card.now
+        → OnOk result (IsCompleted f till card.now (D.history.image drive.new.disk)) }
     // every image held is the same shop's
-    ensures moments { (f : Files) → HasFiles (D.history.image drive.old.disk) f → HasIntent f till card.now → Changes D.history drive.old.disk drive.new.disk (card_writes (results_of card.now.newest) + 1) (λ i. IsShop i (shop_of f)) }
+    ensures moments { (f : Files) → HasFiles (D.history.image drive.old.disk) f → HasIntent f till card.now
+        → Changes D.history drive.old.disk drive.new.disk (card_writes (results_of card.now.newest) + 1)
+        (λ i. IsShop i (shop_of f)) }
     ensures failures { TellsFailure D.history drive.old.disk drive.new.disk result }
     ensures dies { IsErr result → drive.new.dead ≡ true }
 {

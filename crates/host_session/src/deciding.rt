@@ -17,7 +17,9 @@ pub(crate) fn standing_by(
     tills: u8,
     request: &Request,
 ) -> Standing
-    ensures { result ≡ standing tills (newest_in (nth requests.now request.now.till)) (second_in (nth requests.now request.now.till)) request.now }
+    ensures { result
+        ≡ standing tills (newest_in (nth requests.now request.now.till))
+        (second_in (nth requests.now request.now.till)) request.now }
 {
     let till = request.till();
     match card_of(requests, till) {

@@ -25,9 +25,12 @@ fn put_refusal<D: Sectors>(
     requires keeping { (f : Files) × HasFiles (D.history.image drive.old.disk) f × IsKeeping f request.now card.now }
     requires refused { card.now.pending ≡ false }
     ensures ready { OnOk result (IsReady D.history drive.new) }
-    ensures ok { (f : Files) → HasFiles (D.history.image drive.old.disk) f → IsKeeping f request.now card.now → OnOk result (IsSettled (D.history.image drive.new.disk) (shop_after (shop_of f) request.now)) }
-    ensures moments { (f : Files) → HasFiles (D.history.image drive.old.disk) f → IsKeeping f request.now card.now → Changes D.history drive.old.disk drive.new.disk 1 (IsEither (shop_of f) request.now) }
-    ensures counted { (f : Files) → HasFiles (D.history.image drive.old.disk) f → IsKeeping f request.now card.now → IfCounted D.history drive.old.disk drive.new.disk (λ i. IsShop i (shop_after (shop_of f) request.now)) }
+    ensures ok { (f : Files) → HasFiles (D.history.image drive.old.disk) f → IsKeeping f request.now card.now
+        → OnOk result (IsSettled (D.history.image drive.new.disk) (shop_after (shop_of f) request.now)) }
+    ensures moments { (f : Files) → HasFiles (D.history.image drive.old.disk) f → IsKeeping f request.now card.now
+        → Changes D.history drive.old.disk drive.new.disk 1 (IsEither (shop_of f) request.now) }
+    ensures counted { (f : Files) → HasFiles (D.history.image drive.old.disk) f → IsKeeping f request.now card.now
+        → IfCounted D.history drive.old.disk drive.new.disk (λ i. IsShop i (shop_after (shop_of f) request.now)) }
     ensures failures { TellsFailure D.history drive.old.disk drive.new.disk result }
     ensures dies { IsErr result → drive.new.dead ≡ true }
 {
@@ -41,12 +44,17 @@ fn put_intent<D: Sectors>(
     card: &RequestCard,
 ) -> Result<(), Dead>
     requires ready { IsReady D.history drive.old }
-    requires keeping { (f : Files) × HasFiles (D.history.image drive.old.disk) f × IsKeeping f request.now card.now × HasItems f card.now }
+    requires keeping { (f : Files) × HasFiles (D.history.image drive.old.disk) f × IsKeeping f request.now card.now
+        × HasItems f card.now }
     requires intent { card.now.pending ≡ true }
     ensures ready { OnOk result (IsReady D.history drive.new) }
-    ensures ok { (f : Files) → HasFiles (D.history.image drive.old.disk) f → IsKeeping f request.now card.now → OnOk result (IsSettled (D.history.image drive.new.disk) (shop_after (shop_of f) request.now)) }
-    ensures moments { (f : Files) → HasFiles (D.history.image drive.old.disk) f → IsKeeping f request.now card.now → Changes D.history drive.old.disk drive.new.disk (2 + card_writes (results_of card.now.newest)) (IsEither (shop_of f) request.now) }
-    ensures counted { (f : Files) → HasFiles (D.history.image drive.old.disk) f → IsKeeping f request.now card.now → IfCounted D.history drive.old.disk drive.new.disk (λ i. IsShop i (shop_after (shop_of f) request.now)) }
+    ensures ok { (f : Files) → HasFiles (D.history.image drive.old.disk) f → IsKeeping f request.now card.now
+        → OnOk result (IsSettled (D.history.image drive.new.disk) (shop_after (shop_of f) request.now)) }
+    ensures moments { (f : Files) → HasFiles (D.history.image drive.old.disk) f → IsKeeping f request.now card.now
+        → Changes D.history drive.old.disk drive.new.disk (2 + card_writes (results_of card.now.newest))
+        (IsEither (shop_of f) request.now) }
+    ensures counted { (f : Files) → HasFiles (D.history.image drive.old.disk) f → IsKeeping f request.now card.now
+        → IfCounted D.history drive.old.disk drive.new.disk (λ i. IsShop i (shop_after (shop_of f) request.now)) }
     ensures failures { TellsFailure D.history drive.old.disk drive.new.disk result }
     ensures dies { IsErr result → drive.new.dead ≡ true }
 {
@@ -62,11 +70,16 @@ fn put_first_set<D: Sectors>(
     card: &RequestCard,
 ) -> Result<(), Dead>
     requires ready { IsReady D.history drive.old }
-    requires keeping { (f : Files) × HasFiles (D.history.image drive.old.disk) f × IsKeeping f request.now card.now × (is_none ((shop_of f).state.ledger.cards request.now.body.item) ≡ true) }
+    requires keeping { (f : Files) × HasFiles (D.history.image drive.old.disk) f × IsKeeping f request.now card.now
+        × (is_none ((shop_of f).state.ledger.cards request.now.body.item) ≡ true) }
     requires intent { card.now.pending ≡ true }
     ensures ready { OnOk result (IsReady D.history drive.new) }
-    ensures ok { (f : Files) → HasFiles (D.history.image drive.old.disk) f → IsKeeping f request.now card.now → OnOk result (IsSettled (D.history.image drive.new.disk) (shop_after (shop_of f) request.now)) }
-    ensures moments { (f : Files) → (h : HasFiles (D.history.image drive.old.disk) f) → IsKeeping f request.now card.now → Changes D.history drive.old.disk drive.new.disk (growth_writes h.stock_file request.now.body.item + 2 + card_writes (results_of card.now.newest)) (IsEither (shop_of f) request.now) }
+    ensures ok { (f : Files) → HasFiles (D.history.image drive.old.disk) f → IsKeeping f request.now card.now
+        → OnOk result (IsSettled (D.history.image drive.new.disk) (shop_after (shop_of f) request.now)) }
+    ensures moments { (f : Files) → (h : HasFiles (D.history.image drive.old.disk) f) → IsKeeping f request.now card.now
+        → Changes D.history drive.old.disk drive.new.disk
+        (growth_writes h.stock_file request.now.body.item + 2 + card_writes (results_of card.now.newest))
+        (IsEither (shop_of f) request.now) }
     ensures failures { TellsFailure D.history drive.old.disk drive.new.disk result }
     ensures dies { IsErr result → drive.new.dead ≡ true }
 {
@@ -83,13 +96,21 @@ pub(crate) fn keep<D: Sectors>(
     is_new: bool,
 ) -> Result<(), Dead>
     requires ready { IsReady D.history drive.old }
-    requires keeping { (f : Files) × HasFiles (D.history.image drive.old.disk) f × IsKeeping f request.now card.now × (is_new ≡ is_none ((shop_of f).state.ledger.cards request.now.body.item)) }
+    requires keeping { (f : Files) × HasFiles (D.history.image drive.old.disk) f × IsKeeping f request.now card.now
+        × (is_new ≡ is_none ((shop_of f).state.ledger.cards request.now.body.item)) }
     ensures ready { OnOk result (IsReady D.history drive.new) }
-    ensures ok { (f : Files) → HasFiles (D.history.image drive.old.disk) f → IsKeeping f request.now card.now → OnOk result (IsSettled (D.history.image drive.new.disk) (shop_after (shop_of f) request.now)) }
-    ensures moments { (f : Files) → (h : HasFiles (D.history.image drive.old.disk) f) → IsKeeping f request.now card.now → Changes D.history drive.old.disk drive.new.disk (kept_writes h.stock_file request.now.body.item (results_of card.now.newest)) (IsEither (shop_of f) request.now) }
+    ensures ok { (f : Files) → HasFiles (D.history.image drive.old.disk) f → IsKeeping f request.now card.now
+        → OnOk result (IsSettled (D.history.image drive.new.disk) (shop_after (shop_of f) request.now)) }
+    ensures moments { (f : Files) → (h : HasFiles (D.history.image drive.old.disk) f) → IsKeeping f request.now card.now
+        → Changes D.history drive.old.disk drive.new.disk
+        (kept_writes h.stock_file request.now.body.item (results_of card.now.newest))
+        (IsEither (shop_of f) request.now) }
     // but for a set of an item without a card, the shop is the one after once a write was counted
-    ensures counted { is_new ≡ false → (f : Files) → HasFiles (D.history.image drive.old.disk) f → IsKeeping f request.now card.now → IfCounted D.history drive.old.disk drive.new.disk (λ i. IsShop i (shop_after (shop_of f) request.now)) }
-    ensures refused { card.now.pending ≡ false → (f : Files) → HasFiles (D.history.image drive.old.disk) f → IsKeeping f request.now card.now → IfCounted D.history drive.old.disk drive.new.disk (λ i. IsShop i (shop_after (shop_of f) request.now)) }
+    ensures counted { is_new ≡ false → (f : Files) → HasFiles (D.history.image drive.old.disk) f → IsKeeping f request.now card.now
+        → IfCounted D.history drive.old.disk drive.new.disk (λ i. IsShop i (shop_after (shop_of f) request.now)) }
+    ensures refused { card.now.pending ≡ false → (f : Files) → HasFiles (D.history.image drive.old.disk) f
+        → IsKeeping f request.now card.now
+        → IfCounted D.history drive.old.disk drive.new.disk (λ i. IsShop i (shop_after (shop_of f) request.now)) }
     ensures failures { TellsFailure D.history drive.old.disk drive.new.disk result }
     ensures dies { IsErr result → drive.new.dead ≡ true }
 {

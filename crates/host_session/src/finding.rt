@@ -47,7 +47,8 @@ fn find_of_length<D: Sectors>(
     size: u8,
 ) -> Result<Option<RelFile>, OpenFault>
     requires sound { IsSound (D.history.image disk.old) }
-    ensures found { (l : Layout) → IsLayout (D.history.image disk.old) l → IfOk result (λ o. IfSome o (IsFileNamed (D.history.image disk.old) l name.now size)) }
+    ensures found { (l : Layout) → IsLayout (D.history.image disk.old) l
+        → IfOk result (λ o. IfSome o (IsFileNamed (D.history.image disk.old) l name.now size)) }
     ensures lacks { IfOk result (λ o. IfNone o (LacksFileOf (D.history.image disk.old) name.now size)) }
     ensures err { IfErr result (λ fault. fault ≡ Device) }
     ensures reads { OnlyReads D.history disk.old disk.new 702 }

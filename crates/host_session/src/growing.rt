@@ -16,9 +16,11 @@ pub(crate) fn grow_stock<D: Sectors>(drive: &mut Drive<D>, item: u16) -> Result<
     requires ready { IsReady D.history drive.old }
     requires fits { (f : Files) × HasFiles (D.history.image drive.old.disk) f × (1 ≤ item) × (item ≤ f.top) }
     ensures ready { OnOk result (IsReady D.history drive.new) }
-    ensures ok { (f : Files) → HasFiles (D.history.image drive.old.disk) f → OnOk result (HasGrownTo f item (D.history.image drive.new.disk)) }
+    ensures ok { (f : Files) → HasFiles (D.history.image drive.old.disk) f
+        → OnOk result (HasGrownTo f item (D.history.image drive.new.disk)) }
     // every image held, and the writes: none where the record is there
-    ensures moments { (f : Files) → (h : HasFiles (D.history.image drive.old.disk) f) → Changes D.history drive.old.disk drive.new.disk (growth_writes h.stock_file item) (HasGrown f) }
+    ensures moments { (f : Files) → (h : HasFiles (D.history.image drive.old.disk) f)
+        → Changes D.history drive.old.disk drive.new.disk (growth_writes h.stock_file item) (HasGrown f) }
     ensures failures { TellsFailure D.history drive.old.disk drive.new.disk result }
     ensures dies { IsErr result → drive.new.dead ≡ true }
 {

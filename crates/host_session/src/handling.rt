@@ -53,7 +53,8 @@ impl<D: Sectors> Session<D> {
         ensures failures { (IsMedia result × (self.new.dead ≡ true) × ((self.old.dead ≡ true) ⊎ Failed D.history self.old.disk self.new.disk))
             ⊎ (¬ (IsMedia result) × (D.history.failures self.new.disk ≡ D.history.failures self.old.disk)) }
         // no goods appear and none are lost
-        ensures sums { (s : Shop) → IsShop (D.history.image self.old.disk) s → SumsAgree (start_of s) (option_to_list (request_of message.now)) }
+        ensures sums { (s : Shop) → IsShop (D.history.image self.old.disk) s
+            → SumsAgree (start_of s) (option_to_list (request_of message.now)) }
     {
         // the session is looked at: one that isn't dead is at rest
         let _ = &self.dead;

@@ -1,18 +1,31 @@
-//! A shop on a disk: what the disk stands for at each moment, its opening, and its requests.
+//! A shop on a disk: what the disk stands for at each moment, its opening, its requests, and runs of them with resets.
 #![tactic(auto)]
 
 mod completing;
+mod cutting;
 mod deciding;
 mod doing;
 mod faults;
 mod finding;
 mod growing;
 mod handling;
+mod intents;
+mod judgment;
 mod laws;
+mod migrating;
+mod opening;
+mod playing;
 mod putting;
 mod reading;
+mod recovery;
+mod running;
 mod session;
+mod settling;
+mod starting;
 
 pub use faults::OpenFault;
 pub use laws::{both_ends, last_two, one_shop, refused_no_shop};
+pub use playing::{PlayFault, play};
+pub use running::{ScriptFault, run_script};
+pub use script_lines::{Cut, Event};
 pub use session::Session;

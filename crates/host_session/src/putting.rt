@@ -27,7 +27,8 @@ pub(crate) fn select<D: Sectors>(drive: &mut Drive<D>, name: &[u8], number: u16)
     requires ready { IsReady D.history drive.old }
     requires name { IsName name.now }
     requires reach { (l : Layout) × (n : ℕ) × (f : File) × IsInReach (D.history.image drive.old.disk) name.now number l n f }
-    ensures at { (l : Layout) (n : ℕ) (f : File) → IsInReach (D.history.image drive.old.disk) name.now number l n f → OnOk result (IsAt drive.new n number) }
+    ensures at { (l : Layout) (n : ℕ) (f : File) → IsInReach (D.history.image drive.old.disk) name.now number l n f
+        → OnOk result (IsAt drive.new n number) }
     ensures reads { OnlyReads D.history drive.old.disk drive.new.disk 2817 }
     ensures failures { TellsFailure D.history drive.old.disk drive.new.disk result }
     ensures dies { IsErr result → drive.new.dead ≡ true }
@@ -50,10 +51,18 @@ fn put_record<D: Sectors>(
     requires some { 1 ≤ length text.now }
     ensures ready { OnOk result (IsReady D.history drive.new) }
     ensures clean { OnOk result (IsClean (D.history.image drive.new.disk)) }
-    ensures ok { (l : Layout) (n : ℕ) (f : File) → IsPlaced (D.history.image drive.old.disk) name.now number l n f → OnOk result (HasRecords (D.history.image drive.old.disk) (D.history.image drive.new.disk) l n (with_written (record_length f.slot) number 1 text.now (records_of.records (D.history.image drive.old.disk) f))) }
-    ensures moments { (l : Layout) (n : ℕ) (f : File) → IsPlaced (D.history.image drive.old.disk) name.now number l n f → Changes D.history drive.old.disk drive.new.disk (touched (record_length f.slot) number 1) (IsWriting (D.history.image drive.old.disk) l n f 0 number 1 text.now) }
+    ensures ok { (l : Layout) (n : ℕ) (f : File) → IsPlaced (D.history.image drive.old.disk) name.now number l n f
+        → OnOk result
+        (HasRecords (D.history.image drive.old.disk) (D.history.image drive.new.disk) l n
+        (with_written (record_length f.slot) number 1 text.now
+        (records_of.records (D.history.image drive.old.disk) f))) }
+    ensures moments { (l : Layout) (n : ℕ) (f : File) → IsPlaced (D.history.image drive.old.disk) name.now number l n f
+        → Changes D.history drive.old.disk drive.new.disk (touched (record_length f.slot) number 1)
+        (IsWriting (D.history.image drive.old.disk) l n f 0 number 1 text.now) }
     // a record that lies in one block: at an error no write was counted
-    ensures uncounted { (l : Layout) (n : ℕ) (f : File) → IsPlaced (D.history.image drive.old.disk) name.now number l n f → IsInOneBlock (record_length f.slot) number → OnErr result (D.history.writes drive.new.disk ≡ D.history.writes drive.old.disk) }
+    ensures uncounted { (l : Layout) (n : ℕ) (f : File) → IsPlaced (D.history.image drive.old.disk) name.now number l n f
+        → IsInOneBlock (record_length f.slot) number
+        → OnErr result (D.history.writes drive.new.disk ≡ D.history.writes drive.old.disk) }
     ensures failures { TellsFailure D.history drive.old.disk drive.new.disk result }
     ensures dies { IsErr result → drive.new.dead ≡ true }
 {
@@ -68,8 +77,10 @@ pub(crate) fn put_card<D: Sectors>(drive: &mut Drive<D>, item: u16, text: &[u8])
     requires long { length text.now ≡ 18 }
     ensures ready { OnOk result (IsReady D.history drive.new) }
     ensures clean { OnOk result (IsClean (D.history.image drive.new.disk)) }
-    ensures ok { (f : Files) → HasFiles (D.history.image drive.old.disk) f → OnOk result (HasCard f item text.now (D.history.image drive.new.disk)) }
-    ensures moments { (f : Files) → HasFiles (D.history.image drive.old.disk) f → Changes D.history drive.old.disk drive.new.disk (touched 18 item 1) (IsPuttingCard f item text.now) }
+    ensures ok { (f : Files) → HasFiles (D.history.image drive.old.disk) f
+        → OnOk result (HasCard f item text.now (D.history.image drive.new.disk)) }
+    ensures moments { (f : Files) → HasFiles (D.history.image drive.old.disk) f
+        → Changes D.history drive.old.disk drive.new.disk (touched 18 item 1) (IsPuttingCard f item text.now) }
     ensures failures { TellsFailure D.history drive.old.disk drive.new.disk result }
     ensures dies { IsErr result → drive.new.dead ≡ true }
 {
@@ -83,12 +94,15 @@ pub(crate) fn put_answer<D: Sectors>(
     text: &[u8],
 ) -> Result<(), Dead>
     requires ready { IsReady D.history drive.old }
-    requires there { (f : Files) × HasFiles (D.history.image drive.old.disk) f × (1 ≤ till) × (till ≤ 64) × (till ≤ length f.requests) }
+    requires there { (f : Files) × HasFiles (D.history.image drive.old.disk) f × (1 ≤ till) × (till ≤ 64)
+        × (till ≤ length f.requests) }
     requires long { length text.now ≡ 127 }
     ensures ready { OnOk result (IsReady D.history drive.new) }
     ensures clean { OnOk result (IsClean (D.history.image drive.new.disk)) }
-    ensures ok { (f : Files) → HasFiles (D.history.image drive.old.disk) f → OnOk result (HasAnswer f till text.now (D.history.image drive.new.disk)) }
-    ensures moments { (f : Files) → HasFiles (D.history.image drive.old.disk) f → Changes D.history drive.old.disk drive.new.disk 1 (IsPuttingAnswer f till text.now) }
+    ensures ok { (f : Files) → HasFiles (D.history.image drive.old.disk) f
+        → OnOk result (HasAnswer f till text.now (D.history.image drive.new.disk)) }
+    ensures moments { (f : Files) → HasFiles (D.history.image drive.old.disk) f
+        → Changes D.history drive.old.disk drive.new.disk 1 (IsPuttingAnswer f till text.now) }
     // at an error no write was counted
     ensures uncounted { OnErr result (D.history.writes drive.new.disk ≡ D.history.writes drive.old.disk) }
     ensures failures { TellsFailure D.history drive.old.disk drive.new.disk result }

@@ -75,7 +75,8 @@ pub(crate) fn read_till<D: Sectors>(
 ) -> Result<Option<Held<RequestCard>>, OpenFault>
     requires of { (f : Files) × AreFilesOf (D.history.image disk.old) f files.now }
     requires low { 1 ≤ till }
-    ensures ok { (f : Files) → AreFilesOf (D.history.image disk.old) f files.now → IfOk result (TellsRecord request_card_of 127 f.requests till) }
+    ensures ok { (f : Files) → AreFilesOf (D.history.image disk.old) f files.now
+        → IfOk result (TellsRecord request_card_of 127 f.requests till) }
     ensures err { IfErr result (λ fault. fault ≡ Device) }
     ensures reads { OnlyReads D.history disk.old disk.new 3 }
     ensures failures { TellsFailure D.history disk.old disk.new result }
@@ -101,7 +102,8 @@ pub(crate) fn read_item<D: Sectors>(
 ) -> Result<Option<Held<StockCard>>, OpenFault>
     requires of { (f : Files) × AreFilesOf (D.history.image disk.old) f files.now }
     requires low { 1 ≤ item }
-    ensures ok { (f : Files) → AreFilesOf (D.history.image disk.old) f files.now → IfOk result (TellsRecord stock_card_of 18 f.stock item) }
+    ensures ok { (f : Files) → AreFilesOf (D.history.image disk.old) f files.now
+        → IfOk result (TellsRecord stock_card_of 18 f.stock item) }
     ensures err { IfErr result (λ fault. fault ≡ Device) }
     ensures reads { OnlyReads D.history disk.old disk.new 3 }
     ensures failures { TellsFailure D.history disk.old disk.new result }

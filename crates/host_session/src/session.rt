@@ -1,12 +1,13 @@
 //! An open session: the drive over a shop's disk, and what was read of it.
 ghost use Rattle.std.specs.Prelude.{◌≡◌, ◌≤◌, ◌↔◌, IfOk, IfSome, IsErr, Some, false, option_map, true};
+ghost use Rattle.d64_image.specs.Fuses.{fuse, fuse_disk, fuse_left, fuse_limit};
 ghost use Rattle.host_session.specs.Deciding.{IsInTable};
 ghost use Rattle.host_session.specs.Handling.{told_of};
 ghost use Rattle.host_session.specs.Selecting.{IsReady};
 ghost use Rattle.host_session.specs.Shop.{IsSettled, IsShop, Shop};
 ghost use Rattle.host_session.specs.Standing.{IsStanding, View, nth, state_in, view_code};
 
-use d64_image::Sectors;
+use d64_image::{Fuse, Sectors};
 use drive_channels::{Dead, Drive};
 use request_cards::{Answer, Request, RequestCard};
 use std::marker::Model;
@@ -44,7 +45,8 @@ impl<D: Sectors> Session<D> {
     pub fn is_dead(&self) -> bool
         ensures value { result ≡ self.now.dead }
         // else the disk is at rest
-        ensures settled { result ≡ false → (s : Shop) → IsShop (D.history.image self.now.disk) s → IsSettled (D.history.image self.now.disk) s }
+        ensures settled { result ≡ false → (s : Shop) → IsShop (D.history.image self.now.disk) s
+            → IsSettled (D.history.image self.now.disk) s }
     {
         self.dead
     }
@@ -76,6 +78,32 @@ impl<D: Sectors> Session<D> {
             requests: _,
         } = self;
         drive.into_disk()
+    }
+
+    /// The same session on a disk whose power goes after so many sector writes.
+    pub(crate) fn fused(self, writes: u32) -> Session<Fuse<D>>
+        ensures disk { fuse_disk result.disk ≡ self.disk }
+        ensures limit { fuse_limit result.disk ≡ writes }
+        ensures left { fuse_left result.disk ≡ writes }
+        ensures failures { (fuse D.history).failures result.disk ≡ 0 }
+        ensures dead { result.dead ≡ self.dead }
+    {
+        let Session {
+            drive,
+            dead,
+            top,
+            tills,
+            cards,
+            requests,
+        } = self;
+        Session {
+            drive: Drive::power_on(Fuse::new(drive.into_disk(), writes)),
+            dead,
+            top,
+            tills,
+            cards,
+            requests,
+        }
     }
 }
 
@@ -127,7 +155,8 @@ impl<D: Sectors> Session<D> {
 
     /// The last request of a till with its answer, where the till has one. Err where the session is dead.
     pub fn kept(&self, till: u8) -> Result<Option<(Request, Answer)>, Dead>
-        ensures ok { (s : Shop) → IsShop (D.history.image self.now.disk) s → IfOk result (λ e. e ≡ option_map (told_of till) (s.state.ledger.kept till)) }
+        ensures ok { (s : Shop) → IsShop (D.history.image self.now.disk) s
+            → IfOk result (λ e. e ≡ option_map (told_of till) (s.state.ledger.kept till)) }
         ensures dead { IsErr result ↔ (self.now.dead ≡ true) }
     {
         if self.dead {
@@ -141,7 +170,8 @@ impl<D: Sectors> Session<D> {
 
     /// The request of a till before its last one with its answer, where the disk has it. Err where the session is dead.
     pub fn prior(&self, till: u8) -> Result<Option<(Request, Answer)>, Dead>
-        ensures ok { (s : Shop) → IsShop (D.history.image self.now.disk) s → IfOk result (λ e. e ≡ option_map (told_of till) (s.state.prior till)) }
+        ensures ok { (s : Shop) → IsShop (D.history.image self.now.disk) s
+            → IfOk result (λ e. e ≡ option_map (told_of till) (s.state.prior till)) }
         ensures dead { IsErr result ↔ (self.now.dead ≡ true) }
     {
         if self.dead {

@@ -23,12 +23,12 @@ lacks_before c xs n fits before =
     (λ i h. let below : i < n = omega arith in rw (get_or-take n xs i 0 below) (before i below)))
 
 -- what stands before the first c is a piece
-split_piece : (c : ℕ) (xs ys : List ℕ) → Lacks c xs → split c (xs ++ c ∷ ys) ≡ xs ∷ split c ys
+pub split_piece : (c : ℕ) (xs ys : List ℕ) → Lacks c xs → split c (xs ++ c ∷ ys) ≡ xs ∷ split c ys
 split_piece c [] ys lacks = rw (eq-eqb c c refl) refl
 split_piece c (x ∷ xs) ys lacks = rw (ne_eqb x c lacks.0) (ap (onto_first x) (split_piece c xs ys lacks.1))
 
 -- bytes without c are one piece
-split_whole : (c : ℕ) (xs : List ℕ) → Lacks c xs → split c xs ≡ xs ∷ []
+pub split_whole : (c : ℕ) (xs : List ℕ) → Lacks c xs → split c xs ≡ xs ∷ []
 split_whole c [] lacks = refl
 split_whole c (x ∷ xs) lacks = rw (ne_eqb x c lacks.0) (ap (onto_first x) (split_whole c xs lacks.1))
 
@@ -97,7 +97,7 @@ some_length [] some = cc
 some_length (b ∷ bs) some = omega arith
 
 -- a script without a byte c is cut into pieces without one
-pieces_lack : (c d : ℕ) (script : List ℕ) → Lacks c script → AllByRecursion (Lacks c) (split d script)
+pub pieces_lack : (c d : ℕ) (script : List ℕ) → Lacks c script → AllByRecursion (Lacks c) (split d script)
 pieces_lack c d [] lacks = (tt, tt)
 pieces_lack c d (b ∷ bs) lacks = more (b == d) (split d bs) (pieces_lack c d bs lacks.1)
   where
@@ -138,7 +138,7 @@ found_stays c [] = refl
 found_stays c (x ∷ xs) = found_stays c xs
 
 -- where a byte is not found, the list lacks it
-not_found : (c : ℕ) (xs : List ℕ) → fold (λ found b. found || b == c) false xs ≡ false → Lacks c xs
+pub not_found : (c : ℕ) (xs : List ℕ) → fold (λ found b. found || b == c) false xs ≡ false → Lacks c xs
 not_found c [] none = tt
 not_found c (x ∷ xs) none = elim (eqb_tells x c) [
   | inl h ↦ let bad : true ≡ false = sym (found_stays c xs) ∙ (rw (h.0) at none) in cc

@@ -79,7 +79,7 @@ fn begins_with_at(line: &[u8]) -> bool
 
 /// Whether the byte stands anywhere in the script. It looks at all of them without a branch, many
 /// at a time.
-fn has_byte(script: &[u8], byte: u8) -> bool
+pub(crate) fn has_byte(script: &[u8], byte: u8) -> bool
     ensures { result ≡ fold (λ found b. found || b == byte) false script.now }
 {
     script.iter().fold(false, |found, b| found | (*b == byte))

@@ -1,10 +1,11 @@
 use Rattle.std.proofs.Common.{◌∙◌, refl, ap}
+use Rattle.drive_channels.proofs.Wishes.{name-plain}
 use Rattle.host_session.proofs.Selection.{alive-of, nothing-read, place-silent, reads-between, selected, told-after}
 use Rattle.host_session.proofs.putting.select.Goals as goal
 
 pub returns-in_err-open-clause-reads : goal.returns-in_err-open-clause-reads
 returns-in_err-open-clause-reads g c = reads-between g.D.Sectors.history c.args.drive.now.disk c.close.new.self.disk c.open.new.self.disk c.open.new.self.disk 2817
-    c.close.ensures.disk c.open.ensures.reads refl
+    c.close.ensures.disk (c.open.ensures.plain (name-plain c.args.name.now c.requires.name)) refl
 
 pub returns-clause-at : goal.returns-clause-at
 returns-clause-at g c = λ l n f p. selected g.D.Sectors.history c.args.drive.now c.close.new.self c.open.new.self c.command.new.self c.command.result c.args.name.now c.placing.result c.args.number l n f
@@ -12,7 +13,7 @@ returns-clause-at g c = λ l n f p. selected g.D.Sectors.history c.args.drive.no
 
 pub returns-clause-reads : goal.returns-clause-reads
 returns-clause-reads g c = reads-between g.D.Sectors.history c.args.drive.now.disk c.close.new.self.disk c.open.new.self.disk c.command.new.self.disk 2817
-    c.close.ensures.disk c.open.ensures.reads (c.command.ensures.silent (place-silent c.placing.result c.args.number c.placing.ensures))
+    c.close.ensures.disk (c.open.ensures.plain (name-plain c.args.name.now c.requires.name)) (c.command.ensures.silent (place-silent c.placing.result c.args.number c.placing.ensures))
 
 pub returns-clause-failures : goal.returns-clause-failures
 returns-clause-failures g c =

@@ -1,0 +1,41 @@
+-- An item's record that is empty, its card, or other bytes, where no open intent is for the item.
+use Rattle.std.proofs.Common.{Some, inr, refl, subst, sym, ◌∙◌}
+use Rattle.request_cards.specs.CardReading.{stock_card_of}
+use Rattle.host_session.specs.Found.{Tells}
+use Rattle.host_session.specs.Judged.{IsJudgedItem}
+use Rattle.host_session.proofs.StockTables.{bad-bytes, bad-item, judged-blank, judged-intended, judged-stock, left-alone}
+use Rattle.host_session.proofs.TillTables.{told-none, told-some}
+use Rattle.host_session.proofs.judgment.judge_item.Goals as goal
+
+pub returns-in_default-clause-ok : goal.returns-in_default-clause-ok
+returns-in_default-clause-ok g c = λ f a h. told-none stock_card_of 18 f.stock c.args.item c.in_ok-held.field-0 c.in_default.not-Some (c.in_ok-held.ensures.ok f a)
+
+pub returns-then-is_some-clause-ok : goal.returns-then-is_some-clause-ok
+returns-then-is_some-clause-ok g c = λ f a h.
+    let (bytes, here, told) = told-some stock_card_of 18 f.stock c.args.item c.in_ok-held.field-0 c.in-Some.held c.in-Some.is (c.in_ok-held.ensures.ok f a) in
+    judged-intended f c.args.item c.args.new.now h c.new_quantity-intended.result c.new_quantity-intended.ensures bytes here (sym c.is_some.ensures ∙ c.if-is_some.true)
+
+pub returns-then-item-clause-err : goal.returns-then-item-clause-err
+returns-then-item-clause-err g c = λ f a h.
+    let (bytes, here, told) = told-some stock_card_of 18 f.stock c.args.item c.in_ok-held.field-0 c.in-Some.held c.in-Some.is (c.in_ok-held.ensures.ok f a) in
+    let left = left-alone f c.args.item c.args.new.now h c.new_quantity-intended.result c.new_quantity-intended.ensures (sym c.is_some.ensures ∙ c.if-is_some.false) in
+    inr (refl, bad-item f c.args.item left bytes here c.in-Card.card (subst (Tells stock_card_of 18 bytes) c.in-Card.is told) (λ e. c.if-item.true (c.item.ensures.value ∙ e)))
+
+pub returns-in-Empty-clause-ok : goal.returns-in-Empty-clause-ok
+returns-in-Empty-clause-ok g c = λ f a h.
+    let (bytes, here, told) = told-some stock_card_of 18 f.stock c.args.item c.in_ok-held.field-0 c.in-Some.held c.in-Some.is (c.in_ok-held.ensures.ok f a) in
+    let left = left-alone f c.args.item c.args.new.now h c.new_quantity-intended.result c.new_quantity-intended.ensures (sym c.is_some.ensures ∙ c.if-is_some.false) in
+    judged-blank f c.args.item left bytes here (subst (Tells stock_card_of 18 bytes) c.in-Empty.is told)
+
+pub returns-else-item-clause-ok : goal.returns-else-item-clause-ok
+returns-else-item-clause-ok g c = λ f a h.
+    let (bytes, here, told) = told-some stock_card_of 18 f.stock c.args.item c.in_ok-held.field-0 c.in-Some.held c.in-Some.is (c.in_ok-held.ensures.ok f a) in
+    let left = left-alone f c.args.item c.args.new.now h c.new_quantity-intended.result c.new_quantity-intended.ensures (sym c.is_some.ensures ∙ c.if-is_some.false) in
+    let known = judged-stock f c.args.item left bytes here c.in-Card.card (subst (Tells stock_card_of 18 bytes) c.in-Card.is told) (sym c.item.ensures.value ∙ c.if-item.false) in
+    subst (λ q. IsJudgedItem f c.args.item (Some (Some q))) (sym c.quantity.ensures.value) known
+
+pub returns-in-Other-clause-err : goal.returns-in-Other-clause-err
+returns-in-Other-clause-err g c = λ f a h.
+    let (bytes, here, told) = told-some stock_card_of 18 f.stock c.args.item c.in_ok-held.field-0 c.in-Some.held c.in-Some.is (c.in_ok-held.ensures.ok f a) in
+    let left = left-alone f c.args.item c.args.new.now h c.new_quantity-intended.result c.new_quantity-intended.ensures (sym c.is_some.ensures ∙ c.if-is_some.false) in
+    inr (refl, bad-bytes f c.args.item left bytes here (subst (Tells stock_card_of 18 bytes) c.in-Other.is told))

@@ -1,0 +1,53 @@
+-- The open intent of the table is one of the disk, and it is the shop's as long as it is completed.
+use Rattle.std.proofs.Common.{Some, ap, arith, refl, set, subst, sym, ◌+◌, ◌-◌, ◌∙◌, ◌≡◌}
+use Rattle.d64_image.proofs.Moments.{changes_weaker, no_change}
+use Rattle.host_session.specs.Judged.{IsIntentOf}
+use Rattle.host_session.specs.Settling.{HasClosedTable}
+use Rattle.host_session.specs.Shop.{IsShop}
+use Rattle.host_session.proofs.AtRest.{completed-changes, completed-table, has-intent, intent-card}
+use Rattle.host_session.proofs.recovery.recover.Goals as goal
+
+pub returns-in_default-clause-moments : goal.returns-in_default-clause-moments
+returns-in_default-clause-moments g c = λ s h is.
+    let S = g.D.Sectors.history in
+    let d = c.args.drive.now.disk in
+    changes_weaker S d d 0 5 (λ i. IsShop i s) (λ i. IsShop i s) (omega arith) (λ i x. x) (no_change S d (λ i. IsShop i s) h.shop)
+
+pub complete-requires-clause-intent : goal.complete-requires-clause-intent
+complete-requires-clause-intent g c =
+    let (s, h, is) = c.requires.table in
+    let only = subst (IsIntentOf c.args.requests.now) c.in-Some.is is in
+    (h.shop.files, h.shop.has, has-intent (g.D.Sectors.history.image c.args.drive.now.disk) s c.args.requests.now h c.in-Some.open only)
+
+pub returns-in_err-complete-clause-moments : goal.returns-in_err-complete-clause-moments
+returns-in_err-complete-clause-moments g c = λ s h is.
+    let S = g.D.Sectors.history in
+    let img = S.image c.args.drive.now.disk in
+    let only = subst (IsIntentOf c.args.requests.now) c.in-Some.is is in
+    completed-changes S c.args.drive.now.disk c.complete.new.drive.disk img s h.shop c.in-Some.open.card
+    (c.complete.ensures.moments h.shop.files h.shop.has (has-intent img s c.args.requests.now h c.in-Some.open only))
+
+pub answered-requires : goal.answered-requires
+answered-requires g c =
+    let (s, h, is) = c.requires.table in
+    let only = subst (IsIntentOf c.args.requests.now) c.in-Some.is is in
+    record { fits = intent-card (g.D.Sectors.history.image c.args.drive.now.disk) s c.args.requests.now h c.in-Some.open only }
+
+pub returns-clause-ok : goal.returns-clause-ok
+returns-clause-ok g c = λ s h is.
+    let S = g.D.Sectors.history in
+    let img = S.image c.args.drive.now.disk in
+    let new = S.image c.complete.new.drive.disk in
+    let only = subst (IsIntentOf c.args.requests.now) c.in-Some.is is in
+    let place : (c.from.result - 1) + 1 ≡ c.in-Some.open.till = omega (arith, c.from.ensures, only.low) in
+    let done = c.in_ok-complete.ensures.ok h.shop.files h.shop.has (has-intent img s c.args.requests.now h c.in-Some.open only) in
+    let table = completed-table img s c.args.requests.now h c.in-Some.open (c.from.result - 1) place c.told-requests only new done in
+    subst (λ o. HasClosedTable new s (set c.args.requests.now (c.from.result - 1) (Some o))) (sym c.answered.ensures) table
+
+pub returns-clause-moments : goal.returns-clause-moments
+returns-clause-moments g c = λ s h is.
+    let S = g.D.Sectors.history in
+    let img = S.image c.args.drive.now.disk in
+    let only = subst (IsIntentOf c.args.requests.now) c.in-Some.is is in
+    completed-changes S c.args.drive.now.disk c.complete.new.drive.disk img s h.shop c.in-Some.open.card
+    (c.complete.ensures.moments h.shop.files h.shop.has (has-intent img s c.args.requests.now h c.in-Some.open only))

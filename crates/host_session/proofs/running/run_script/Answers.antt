@@ -1,0 +1,289 @@
+-- Line by line.
+use Rattle.std.proofs.Common.{◌≡◌, ◌≤◌, ◌∙◌, ◌++◌, List, [], ◌∷◌, None, false, refl, sym, subst, ap, arith, map, le_refl}
+use Rattle.std.specs.Prelude.{OnOk, codes, option_map}
+use Rattle.std.specs.Io.KnownBytes.{Appends}
+use Rattle.std.proofs.KnownBytes.{Appends-nil}
+use Rattle.d64_image.proofs.Moments.{never_failed, start}
+use Rattle.request_cards.specs.Ledgers.{plain, report}
+use Rattle.script_lines.specs.Lines.{lines}
+use Rattle.std.proofs.lemmas.Bool.{false≢true}
+use Rattle.d64_image.specs.History.{Failed}
+use Rattle.request_cards.specs.Texts.{reply_text}
+use Rattle.request_cards.specs.declared.reply.Reply.{Reply}
+use Rattle.request_cards.specs.declared.reply.Reply.TheVariants.{Cut}
+use Rattle.script_lines.specs.Resets.{first_bad, line_in}
+use Rattle.host_session.proofs.EventRuns.{PlayedBut, all_played, failed, last, more, unwritten}
+use Rattle.host_session.proofs.PlainRuns.{plain_played}
+use Rattle.host_session.proofs.Reports.{good_line, messages_next, written_more}
+use Rattle.host_session.specs.OneEvent.{EndsFailed, GoesOn, IsEvent}
+use Rattle.host_session.specs.Standing.{View}
+use Rattle.host_session.proofs.running.run_script.Given.{Over}
+use Rattle.host_session.proofs.RunOpenings.{is_cut, is_uncut, opening_failed, opening_later, opening_refused}
+use Rattle.host_session.proofs.Runs.{HasPlayed, held_none, none_played}
+use Rattle.host_session.proofs.Shops.{IsShop-one}
+use Rattle.host_session.specs.Events.{cut_at, message_of, messages_of, requests_of, uncut}
+use Rattle.host_session.specs.Runs.{HeldBeginnings, IsPlayedWhole, IsRefused, StoppedByDevice, StoppedByOutput}
+use Rattle.host_session.specs.Shop.{IsSettled, IsShop, Shop, start_of, with_state}
+use Rattle.host_session.specs.declared.faults.OpenFault.{OpenFault}
+use Rattle.host_session.specs.declared.faults.OpenFault.TheVariants as faults
+use Rattle.host_session.specs.declared.running.ScriptFault.{ScriptFault}
+use Rattle.host_session.specs.declared.running.ScriptFault.TheVariants as ends
+use Rattle.host_session.proofs.running.run_script.Goals as goal
+use Rattle.host_session.proofs.running.run_script.Goals.{in-None+else-is_media, in-Some-cut+in-Ok-next}
+
+-- the fault of an opening
+abbrev opened_with : ScriptFault → OpenFault
+opened_with (ends.Open f) = f
+opened_with _ = faults.Device
+
+pub returns-in-Some-clause-moments : goal.returns-in-Some-clause-moments
+returns-in-Some-clause-moments g c = λ s shop.
+    let h = g.D.Sectors.history in
+    held_none h s (messages_of (lines c.args.script.now)) c.args.disk c.args.disk (start h c.args.disk (λ i. IsShop i s) shop) (le_refl (h.failures c.args.disk))
+
+pub returns-in-Err-clause-moments : goal.returns-in-Err-clause-moments
+returns-in-Err-clause-moments g c = λ s shop.
+    let h = g.D.Sectors.history in
+    held_none h s (messages_of (lines c.args.script.now)) c.args.disk c.in-Err.disk (c.in-Err.ensures.moments s shop).held
+    (opening_later h _ _ _ c.in-Err.ensures.failures)
+
+pub returns-in-Err-clause-plays : goal.returns-in-Err-clause-plays
+returns-in-Err-clause-plays g c = λ shop never.
+    absurd (opening_failed g.D.Sectors.history _ _ _ c.in-Err.ensures.err shop c.in-Err.ensures.failures never)
+
+pub returns-in-Err-clause-open : goal.returns-in-Err-clause-open
+returns-in-Err-clause-open g c = λ f e. (
+  subst (λ x. IsRefused g.D.Sectors.history c.args.disk x c.in-Err.disk) (ap opened_with e)
+      (opening_refused g.D.Sectors.history _ _ _ c.in-Err.ensures.err c.in-Err.ensures.unfit c.in-Err.ensures.moments),
+  refl,
+)
+
+pub loop-line-init : goal.loop-line-init
+loop-line-init g c =
+    let h = g.D.Sectors.history in
+    let ok = c.in-Ok.ensures.ok in
+    let later : h.failures c.args.disk ≤ h.failures c.in-Ok.session.disk = omega (arith, c.in-Ok.ensures.failures) in
+    record {
+      shop = (ok.0, ok.1);
+      alive = ok.3;
+      later = later;
+      good = sym c.in_default.ensures;
+      played = λ s shop. (
+        [],
+        [],
+        refl,
+        Appends-nil (g.W.Write.contents c.args.out.now),
+        none_played h s c.args.disk c.in-Ok.session.disk (c.in-Ok.ensures.moments s shop).held later
+            (subst (IsSettled (h.image c.in-Ok.session.disk)) (IsShop-one _ _ s ok.1 shop) ok.2),
+      );
+    }
+
+-- a message that was told MEDIA
+told_media : (g : Over) (c : goal.After-close g) (t : Shop) → IsSettled (g.D.Sectors.history.image c.loop-line.session.disk) t
+    → IsEvent g.D.Sectors.history t (message_of c.unwrap-event.result) c.loop-line.session.disk c.close.result
+    (EndsFailed g.D.Sectors.history t (message_of c.unwrap-event.result) c.whole_message-reply.result c.close.result)
+told_media g c t settled =
+    let h = g.D.Sectors.history in
+    let reply = c.whole_message-reply.result in
+    subst (λ d. IsEvent h t (message_of c.unwrap-event.result) c.loop-line.session.disk d (EndsFailed h t (message_of c.unwrap-event.result) reply d)) (sym c.close.ensures)
+    (subst (λ m. IsEvent h t m c.loop-line.session.disk c.whole_message-reply.new.session.disk (EndsFailed h t m reply c.whole_message-reply.new.session.disk))
+    (is_uncut c.unwrap-event.result c.in-None.is)
+    (c.whole_message-reply.ensures.stopped t settled c.loop-line.invariant.alive (c.is_media.ensures.0 c.if-is_media.true)))
+
+media_ends : (g : Over) (c : goal.After-close g) (s : Shop) → IsShop (g.D.Sectors.history.image c.args.disk) s
+    → (told : List Reply) × Unit {0} × StoppedByDevice g.D.Sectors.history s (messages_of (lines c.args.script.now)) c.args.disk c.close.result told
+    × HeldBeginnings g.D.Sectors.history s (messages_of (lines c.args.script.now)) c.args.disk c.close.result
+media_ends g c =
+    let k = c.loop-line.invariant in
+    last g.D.Sectors.history (messages_of (lines c.args.script.now)) c.args.disk (messages_of (lines c.loop-line.rest.now)) (messages_of (lines c.in-Some-next_line.more.now))
+    (message_of c.unwrap-event.result) (messages_next _ _ _ c.unwrap-event.result c.in-Some-next_line.ensures.0 (sym (ap (option_map line_in) c.unwrap-event.ensures) ∙ c.event_at.ensures))
+    c.loop-line.session.disk c.close.result (λ told. Appends (g.W.Write.contents c.args.out.now) (g.W.Write.contents c.loop-line.out) (report told))
+    (λ told. Unit {0}) c.whole_message-reply.result k.shop k.later (λ told x. tt) k.played (told_media g c)
+
+media_failed : (g : Over) (c : goal.After-close g) → Failed g.D.Sectors.history c.args.disk c.close.result
+media_failed g c =
+    let k = c.loop-line.invariant in
+    failed g.D.Sectors.history (messages_of (lines c.args.script.now)) c.args.disk (messages_of (lines c.loop-line.rest.now)) (messages_of (lines c.in-Some-next_line.more.now))
+    (message_of c.unwrap-event.result) (messages_next _ _ _ c.unwrap-event.result c.in-Some-next_line.ensures.0 (sym (ap (option_map line_in) c.unwrap-event.ensures) ∙ c.event_at.ensures))
+    c.loop-line.session.disk c.close.result (λ told. Appends (g.W.Write.contents c.args.out.now) (g.W.Write.contents c.loop-line.out) (report told))
+    (λ told. Unit {0}) c.whole_message-reply.result k.shop k.later (λ told x. tt) k.played (told_media g c)
+
+pub returns-then-is_media-clause-device : goal.returns-then-is_media-clause-device
+returns-then-is_media-clause-device g c = λ s shop is. let x = media_ends g c s shop in (x.0, x.2)
+
+pub returns-then-is_media-clause-moments : goal.returns-then-is_media-clause-moments
+returns-then-is_media-clause-moments g c = λ s shop. (media_ends g c s shop).3
+
+pub returns-then-is_media-clause-plays : goal.returns-then-is_media-clause-plays
+returns-then-is_media-clause-plays g c = λ shop never. absurd (never_failed g.D.Sectors.history _ _ never (media_failed g c))
+
+pub returns-then-is_media-clause-cause : goal.returns-then-is_media-clause-cause
+returns-then-is_media-clause-cause g c = λ is. (c.loop-line.invariant.shop, media_failed g c)
+
+-- the whole recovery after a cut message failed
+recovery_failed : (g : Over) (c : goal.In-Err-next g) (t : Shop) → IsSettled (g.D.Sectors.history.image c.loop-line.session.disk) t
+    → IsEvent g.D.Sectors.history t (message_of c.unwrap-event.result) c.loop-line.session.disk c.in-Err-next.disk
+    (EndsFailed g.D.Sectors.history t (message_of c.unwrap-event.result) Cut c.in-Err-next.disk)
+recovery_failed g c t settled =
+    let h = g.D.Sectors.history in
+    subst (λ m. IsEvent h t m c.loop-line.session.disk c.in-Err-next.disk (EndsFailed h t m Cut c.in-Err-next.disk)) (is_cut c.unwrap-event.result c.in-Some-cut.cut c.in-Some-cut.is)
+    (c.in-Err-next.ensures.stopped t settled c.loop-line.invariant.alive)
+
+recovery_ends : (g : Over) (c : goal.In-Err-next g) (s : Shop) → IsShop (g.D.Sectors.history.image c.args.disk) s
+    → (told : List Reply) × Unit {0} × StoppedByDevice g.D.Sectors.history s (messages_of (lines c.args.script.now)) c.args.disk c.in-Err-next.disk told
+    × HeldBeginnings g.D.Sectors.history s (messages_of (lines c.args.script.now)) c.args.disk c.in-Err-next.disk
+recovery_ends g c =
+    let k = c.loop-line.invariant in
+    last g.D.Sectors.history (messages_of (lines c.args.script.now)) c.args.disk (messages_of (lines c.loop-line.rest.now)) (messages_of (lines c.in-Some-next_line.more.now))
+    (message_of c.unwrap-event.result) (messages_next _ _ _ c.unwrap-event.result c.in-Some-next_line.ensures.0 (sym (ap (option_map line_in) c.unwrap-event.ensures) ∙ c.event_at.ensures))
+    c.loop-line.session.disk c.in-Err-next.disk (λ told. Appends (g.W.Write.contents c.args.out.now) (g.W.Write.contents c.loop-line.out) (report told))
+    (λ told. Unit {0}) Cut k.shop k.later (λ told x. tt) k.played (recovery_failed g c)
+
+whole_failed : (g : Over) (c : goal.In-Err-next g) → Failed g.D.Sectors.history c.args.disk c.in-Err-next.disk
+whole_failed g c =
+    let k = c.loop-line.invariant in
+    failed g.D.Sectors.history (messages_of (lines c.args.script.now)) c.args.disk (messages_of (lines c.loop-line.rest.now)) (messages_of (lines c.in-Some-next_line.more.now))
+    (message_of c.unwrap-event.result) (messages_next _ _ _ c.unwrap-event.result c.in-Some-next_line.ensures.0 (sym (ap (option_map line_in) c.unwrap-event.ensures) ∙ c.event_at.ensures))
+    c.loop-line.session.disk c.in-Err-next.disk (λ told. Appends (g.W.Write.contents c.args.out.now) (g.W.Write.contents c.loop-line.out) (report told))
+    (λ told. Unit {0}) Cut k.shop k.later (λ told x. tt) k.played (recovery_failed g c)
+
+pub returns-in-Err-next-clause-device : goal.returns-in-Err-next-clause-device
+returns-in-Err-next-clause-device g c = λ s shop is. let x = recovery_ends g c s shop in (x.0, x.2)
+
+pub returns-in-Err-next-clause-moments : goal.returns-in-Err-next-clause-moments
+returns-in-Err-next-clause-moments g c = λ s shop. (recovery_ends g c s shop).3
+
+pub returns-in-Err-next-clause-plays : goal.returns-in-Err-next-clause-plays
+returns-in-Err-next-clause-plays g c = λ shop never. absurd (never_failed g.D.Sectors.history _ _ never (whole_failed g c))
+
+pub returns-in-Err-next-clause-cause : goal.returns-in-Err-next-clause-cause
+returns-in-Err-next-clause-cause g c = λ is. (c.loop-line.invariant.shop, whole_failed g c)
+
+-- the reply of this turn wasn't taken by the output
+output_ends : (g : Over) (c : goal.After-close-in-Err-written g) (s : Shop) → IsShop (g.D.Sectors.history.image c.args.disk) s
+    → (told : List Reply) × StoppedByOutput g.D.Sectors.history s (messages_of (lines c.args.script.now)) c.args.disk c.match-event.session.disk told
+    × HeldBeginnings g.D.Sectors.history s (messages_of (lines c.args.script.now)) c.args.disk c.match-event.session.disk
+output_ends g c =
+    let h = g.D.Sectors.history in
+    let k = c.loop-line.invariant in
+    let e = c.unwrap-event.result in
+    let next = messages_next _ _ _ e c.in-Some-next_line.ensures.0 (sym (ap (option_map line_in) c.unwrap-event.ensures) ∙ c.event_at.ensures) in
+    let Kept : List Reply → Type 0 = λ told. Appends (g.W.Write.contents c.args.out.now) (g.W.Write.contents c.loop-line.out) (report told) in
+    let Now : List Reply → Type 0 = λ told. Unit {0} in
+    let a = c.loop-line.session.disk in
+    let b = c.match-event.session.disk in
+    elim c.match-event.branch [
+      | in-None+else-is_media w ↦
+          let reply = w.whole_message-reply.result in
+          unwritten h (messages_of (lines c.args.script.now)) c.args.disk (messages_of (lines c.loop-line.rest.now)) (messages_of (lines c.in-Some-next_line.more.now))
+          (message_of e) next a b Kept Now reply k.shop k.later (λ told x. tt) k.played (c.match-event.session.dead ≡ false) (λ t settled.
+          let x = w.whole_message-reply.ensures.done t settled k.alive (λ is. false≢true (sym w.if-is_media.false ∙ w.is_media.ensures.1 is)) in (
+            ap (λ (v : View _). v.dead) w.session-is ∙ x.0,
+            subst (λ n. IsEvent h t n a b (GoesOn h t n reply b)) (is_uncut e w.in-None.is)
+                (subst (λ d. IsEvent h t (uncut e.message.now) a d (GoesOn h t (uncut e.message.now) reply d)) (sym (ap (λ (v : View _). v.disk) w.session-is)) x.1),
+          ))
+      | in-Some-cut+in-Ok-next w ↦
+          unwritten h (messages_of (lines c.args.script.now)) c.args.disk (messages_of (lines c.loop-line.rest.now)) (messages_of (lines c.in-Some-next_line.more.now))
+          (message_of e) next a b Kept Now Cut k.shop k.later (λ told x. tt) k.played (c.match-event.session.dead ≡ false) (λ t settled.
+          let x = w.in-Ok-next.ensures.done t settled k.alive in (
+            ap (λ (v : View _). v.dead) w.session-is ∙ x.0,
+            subst (λ n. IsEvent h t n a b (GoesOn h t n Cut b)) (is_cut e w.in-Some-cut.cut w.in-Some-cut.is)
+                (subst (λ d. IsEvent h t (cut_at e.message.now w.in-Some-cut.cut.after) a d (GoesOn h t (cut_at e.message.now w.in-Some-cut.cut.after) Cut d))
+                (sym (ap (λ (v : View _). v.disk) w.session-is)) x.1),
+          ))
+    ]
+
+pub returns-in-Err-written-clause-output : goal.returns-in-Err-written-clause-output
+returns-in-Err-written-clause-output g c = λ s shop is.
+    let x = output_ends g c s shop in
+    (x.0, subst (λ d. StoppedByOutput g.D.Sectors.history s (messages_of (lines c.args.script.now)) c.args.disk d x.0) (sym c.close-in-Err-written.ensures) x.1)
+
+pub returns-in-Err-written-clause-moments : goal.returns-in-Err-written-clause-moments
+returns-in-Err-written-clause-moments g c = λ s shop.
+    subst (λ d. HeldBeginnings g.D.Sectors.history s (messages_of (lines c.args.script.now)) c.args.disk d) (sym c.close-in-Err-written.ensures) (output_ends g c s shop).2
+
+-- the line of this turn is done
+went_on : (g : Over) (c : goal.In-Ok-written g)
+    → (c.match-event.session.dead ≡ false) × (g.D.Sectors.history.failures c.args.disk ≤ g.D.Sectors.history.failures c.match-event.session.disk)
+    × PlayedBut g.D.Sectors.history (messages_of (lines c.args.script.now)) c.args.disk (messages_of (lines c.in-Some-next_line.more.now))
+    c.match-event.session.disk (λ told. Appends (g.W.Write.contents c.args.out.now) (g.W.Write.contents c.match-event.out) (report told))
+went_on g c =
+    let h = g.D.Sectors.history in
+    let k = c.loop-line.invariant in
+    let e = c.unwrap-event.result in
+    let next = messages_next _ _ _ e c.in-Some-next_line.ensures.0 (sym (ap (option_map line_in) c.unwrap-event.ensures) ∙ c.event_at.ensures) in
+    let first = g.W.Write.contents c.args.out.now in
+    let old = g.W.Write.contents c.loop-line.out in
+    let new = g.W.Write.contents c.match-event.out in
+    let Kept : List Reply → Type 0 = λ told. Appends first old (report told) in
+    let Now : List Reply → Type 0 = λ told. Appends first new (report told) in
+    let a = c.loop-line.session.disk in
+    let b = c.match-event.session.disk in
+    elim c.match-event.branch [
+      | in-None+else-is_media w ↦
+          let reply = w.whole_message-reply.result in
+          let wrote : Appends old new (reply_text reply ++ codes "\n") = subst (λ o. Appends old (g.W.Write.contents o) (reply_text reply ++ codes "\n")) (sym w.out-is)
+          (subst (λ r. OnOk r (Appends old (g.W.Write.contents w.put_line-written.new.out) (reply_text reply ++ codes "\n"))) (sym w.written-is ∙ c.in-Ok-written.is) w.put_line-written.ensures.ok) in
+          more h (messages_of (lines c.args.script.now)) c.args.disk (messages_of (lines c.loop-line.rest.now)) (messages_of (lines c.in-Some-next_line.more.now))
+          (message_of e) next a b Kept Now reply k.shop k.later (λ told x. written_more first old new told reply x wrote) k.played (c.match-event.session.dead ≡ false) (λ t settled.
+          let x = w.whole_message-reply.ensures.done t settled k.alive (λ is. false≢true (sym w.if-is_media.false ∙ w.is_media.ensures.1 is)) in (
+            ap (λ (v : View _). v.dead) w.session-is ∙ x.0,
+            subst (λ n. IsEvent h t n a b (GoesOn h t n reply b)) (is_uncut e w.in-None.is)
+                (subst (λ d. IsEvent h t (uncut e.message.now) a d (GoesOn h t (uncut e.message.now) reply d)) (sym (ap (λ (v : View _). v.disk) w.session-is)) x.1),
+          ))
+      | in-Some-cut+in-Ok-next w ↦
+          let wrote : Appends old new (reply_text Cut ++ codes "\n") = subst (λ o. Appends old (g.W.Write.contents o) (reply_text Cut ++ codes "\n")) (sym w.out-is)
+          (subst (λ r. OnOk r (Appends old (g.W.Write.contents w.put_line-written-in-Some-cut.new.out) (reply_text Cut ++ codes "\n"))) (sym w.written-is ∙ c.in-Ok-written.is) w.put_line-written-in-Some-cut.ensures.ok) in
+          more h (messages_of (lines c.args.script.now)) c.args.disk (messages_of (lines c.loop-line.rest.now)) (messages_of (lines c.in-Some-next_line.more.now))
+          (message_of e) next a b Kept Now Cut k.shop k.later (λ told x. written_more first old new told Cut x wrote) k.played (c.match-event.session.dead ≡ false) (λ t settled.
+          let x = w.in-Ok-next.ensures.done t settled k.alive in (
+            ap (λ (v : View _). v.dead) w.session-is ∙ x.0,
+            subst (λ n. IsEvent h t n a b (GoesOn h t n Cut b)) (is_cut e w.in-Some-cut.cut w.in-Some-cut.is)
+                (subst (λ d. IsEvent h t (cut_at e.message.now w.in-Some-cut.cut.after) a d (GoesOn h t (cut_at e.message.now w.in-Some-cut.cut.after) Cut d))
+                (sym (ap (λ (v : View _). v.disk) w.session-is)) x.1),
+          ))
+    ]
+
+pub loop-line-preserved : goal.loop-line-preserved
+loop-line-preserved g c =
+    let k = c.loop-line.invariant in
+    let x = went_on g c in
+    record {
+      shop = k.shop;
+      alive = x.0;
+      later = x.1;
+      good = (good_line c.in-Some-next_line.line.now (lines c.in-Some-next_line.more.now) (subst (λ ls. first_bad ls ≡ None) c.in-Some-next_line.ensures.0 k.good)).1;
+      played = x.2;
+    }
+
+-- all lines were played
+all_left : (g : Over) (c : goal.After-close-2 g) (s : Shop) → IsShop (g.D.Sectors.history.image c.args.disk) s
+    → (told : List Reply) × Appends (g.W.Write.contents c.args.out.now) (g.W.Write.contents c.loop-line.out) (report told)
+    × HasPlayed g.D.Sectors.history s (messages_of (lines c.args.script.now)) c.args.disk c.loop-line.session.disk told
+all_left g c =
+    let h = g.D.Sectors.history in
+    let Kept : List Reply → Type 0 = λ told. Appends (g.W.Write.contents c.args.out.now) (g.W.Write.contents c.loop-line.out) (report told) in
+    all_played h (messages_of (lines c.args.script.now)) c.args.disk c.loop-line.session.disk Kept
+    (subst (λ ls. PlayedBut h (messages_of (lines c.args.script.now)) c.args.disk (messages_of ls) c.loop-line.session.disk Kept) c.in_default-next_line.ensures c.loop-line.invariant.played)
+
+pub returns-clause-ok : goal.returns-clause-ok
+returns-clause-ok g c = λ s shop.
+    let h = g.D.Sectors.history in
+    let p = all_left g c s shop in
+    (p.0, p.1, subst (λ d. IsPlayedWhole h s (messages_of (lines c.args.script.now)) c.args.disk d p.0) (sym c.close-2.ensures) p.2.0)
+
+pub returns-clause-without_resets : goal.returns-clause-without_resets
+returns-clause-without_resets g c = λ s shop none.
+    let h = g.D.Sectors.history in
+    let ls = lines c.args.script.now in
+    let p = all_left g c s shop in
+    let q = plain_played h s ls c.args.disk c.loop-line.session.disk p.0 none p.2.0 in (
+      subst (λ rs. Appends (g.W.Write.contents c.args.out.now) (g.W.Write.contents c.loop-line.out) (report rs)) q.0 p.1,
+      subst (λ d. IsSettled (h.image d) (with_state s (plain (start_of s) (requests_of ls)))) (sym c.close-2.ensures) q.1,
+    )
+
+pub returns-clause-moments : goal.returns-clause-moments
+returns-clause-moments g c = λ s shop.
+    let h = g.D.Sectors.history in
+    let p = all_left g c s shop in
+    subst (λ d. HeldBeginnings h s (messages_of (lines c.args.script.now)) c.args.disk d) (sym c.close-2.ensures) p.2.1

@@ -1,0 +1,19 @@
+-- The numbers under which the faults of runs are told. All of it is our own.
+use Rattle.std.specs.Prelude.{ℕ}
+use Rattle.host_session.specs.declared.playing.PlayFault.{PlayFault}
+use Rattle.host_session.specs.declared.playing.PlayFault.TheVariants as plays
+use Rattle.host_session.specs.declared.running.ScriptFault.{ScriptFault}
+use Rattle.host_session.specs.declared.running.ScriptFault.TheVariants as scripts
+
+-- the number of a fault of a run of events
+abbrev pub play_number : PlayFault → ℕ
+play_number (plays.Open fault) = 1
+play_number plays.NoMemory = 2
+play_number plays.Device = 3
+
+-- the number of a fault of a run of a script
+abbrev pub script_number : ScriptFault → ℕ
+script_number (scripts.Open fault) = 1
+script_number (scripts.BadLine line) = 2
+script_number scripts.Output = 3
+script_number scripts.Device = 4

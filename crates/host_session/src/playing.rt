@@ -1,0 +1,112 @@
+//! Runs of events.
+ghost use Rattle.std.specs.Prelude.{◌≡◌, ◌≢◌, ◌<◌, ◌++◌, ◌+◌, IfErr, IfOk, List, length, map, vec_capacity};
+ghost use Rattle.d64_image.specs.History.{Failed, NeverFailed};
+ghost use Rattle.host_session.specs.Events.{message_of};
+ghost use Rattle.host_session.specs.Faults.{play_number};
+ghost use Rattle.host_session.specs.Opening.{IsAShop, disk_of};
+ghost use Rattle.host_session.specs.Runs.{HeldBeginnings, IsPlayedWhole, IsRefused, StoppedByDevice};
+ghost use Rattle.host_session.specs.Shop.{IsShop, Shop};
+ghost use Rattle.host_session.specs.declared.faults.OpenFault.{OpenFault};
+ghost use Rattle.request_cards.specs.declared.reply.Reply.{Reply};
+
+use crate::cutting::{cut_event, is_media, whole_message};
+use crate::faults::OpenFault;
+use crate::session::Session;
+use d64_image::Sectors;
+use request_cards::Reply;
+use script_lines::Event;
+use thiserror::Error;
+
+/// Why not all events were played.
+#[derive(Clone, Copy, Debug, PartialEq, Eq, Error)]
+pub enum PlayFault {
+    /// The disk wasn't opened, and no event was played.
+    #[error("{0}")]
+    Open(OpenFault),
+    /// There was no room for all replies: nothing was done.
+    #[error("NO MEMORY")]
+    NoMemory,
+    /// The device failed in a message, which was told MEDIA, or in the whole recovery after a cut one.
+    #[error("DEVICE")]
+    Device,
+}
+
+impl PlayFault {
+    /// The fault's number: 1 Open, 2 NoMemory, 3 Device.
+    pub fn number(self) -> u8
+        ensures { result ≡ play_number self }
+    {
+        match self {
+            PlayFault::Open(_) => 1,
+            PlayFault::NoMemory => 2,
+            PlayFault::Device => 3,
+        }
+    }
+}
+
+/// Plays the events one after another, on a disk that is opened first.
+///
+/// A message without a reset is handled, and its reply is the session's. In a message with one, power goes after so many
+/// of its sector writes; then each listed recovery is stopped after its writes, a whole one follows, and the reply is
+/// `Cut`. The replies go behind those that the list has. It stops after a message that was told MEDIA, and where a whole
+/// recovery failed; both have their replies in the list.
+pub fn play<D: Sectors>(
+    disk: D,
+    events: &[Event<'_>],
+    replies: &mut Vec<Reply>,
+) -> Result<D, (PlayFault, D)>
+    // A shop alone is played.
+    ensures shop { IfOk result (λ _. IsAShop (D.history.image disk)) }
+    // At Ok each event has its reply, over what counted before it, and the shop is settled.
+    ensures ok { (s : Shop) → IsShop (D.history.image disk) s → IfOk result (λ d.
+        (told : List Reply) × (replies.new.items ≡ replies.old.items ++ told)
+        × IsPlayedWhole D.history s (map message_of events.now) disk d told) }
+    // The device failed: this holds of the events replied to, and it failed in the last of them.
+    ensures device { (s : Shop) → IsShop (D.history.image disk) s → IfErr result (λ e. e.0 ≡ PlayFault.Device
+        → (told : List Reply) × (replies.new.items ≡ replies.old.items ++ told)
+        × StoppedByDevice D.history s (map message_of events.now) disk e.1 told) }
+    // At each moment the shop is that of a counted list of some beginning of the events.
+    ensures moments { (s : Shop) → IsShop (D.history.image disk) s
+        → HeldBeginnings D.history s (map message_of events.now) disk (disk_of (λ d. d) result) }
+    // On a shop whose device doesn't fail it answers Ok, unless memory ran out.
+    ensures plays { IsAShop (D.history.image disk) → NeverFailed D.history disk (disk_of (λ d. d) result)
+        → IfErr result (λ e. e.0 ≡ PlayFault.NoMemory) }
+    // What an opening refuses is handed on; and the device is told of on a shop, where it failed.
+    ensures open { IfErr result (λ e. (f : OpenFault) → e.0 ≡ PlayFault.Open f → IsRefused D.history disk f e.1) }
+    ensures cause { IfErr result (λ e. e.0 ≡ PlayFault.Device → IsAShop (D.history.image disk) × Failed D.history disk e.1) }
+    // Memory runs out before anything is done, and only where the list had to grow.
+    ensures memory { IfErr result (λ e.
+        e.0 ≡ PlayFault.NoMemory
+        → (e.1 ≡ disk) × (vec_capacity replies.old < length replies.old.items + length events.now)) }
+    // Whatever stops it before the first event tells nothing.
+    ensures silent { IfErr result (λ e. e.0 ≢ PlayFault.Device → replies.new.items ≡ replies.old.items) }
+{
+    match replies.try_reserve(events.len()) {
+        Ok(()) => {}
+        Err(_) => return Err((PlayFault::NoMemory, disk)),
+    }
+    let mut session = match Session::open(disk) {
+        Ok(session) => session,
+        Err((fault, disk)) => return Err((PlayFault::Open(fault), disk)),
+    };
+    for event in events {
+        match &event.cut {
+            None => {
+                let reply = whole_message(&mut session, event.message);
+                replies.push_reserved(reply);
+                if is_media(reply) {
+                    return Err((PlayFault::Device, session.close()));
+                }
+            }
+            Some(cut) => {
+                let next = cut_event(session, event.message, cut);
+                replies.push_reserved(Reply::Cut);
+                session = match next {
+                    Ok(next) => next,
+                    Err(disk) => return Err((PlayFault::Device, disk)),
+                };
+            }
+        }
+    }
+    Ok(session.close())
+}

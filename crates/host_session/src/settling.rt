@@ -1,0 +1,74 @@
+//! A shop's disk brought to rest: mended, without an open intent and without a card of version 1.
+ghost use Rattle.std.specs.Prelude.{◌≡◌, IfErr, IfNone, IfOk, IsErr, OnOk, false, true};
+ghost use Rattle.d64_image.specs.History.{Changes, TellsFailure};
+ghost use Rattle.host_session.specs.Files.{Files, HasFiles};
+ghost use Rattle.host_session.specs.Judged.{IsIntentOf, IsJudged};
+ghost use Rattle.host_session.specs.Opening.{TellsOpening, Untouched, disk_of};
+ghost use Rattle.host_session.specs.Selecting.{IsReady};
+ghost use Rattle.host_session.specs.Settling.{HasNewTable, HasTable};
+ghost use Rattle.host_session.specs.Shop.{IsSettled, IsShop, Shop, any_old};
+ghost use Rattle.host_session.specs.declared.faults.OpenFault.TheVariants.{Device};
+
+use crate::faults::OpenFault;
+use crate::intents::Intent;
+use crate::judgment::Judged;
+use crate::migrating::migrate;
+use crate::recovery::recover;
+use crate::session::Session;
+use crate::starting::start;
+use d64_image::Sectors;
+use drive_channels::{Dead, Drive};
+use request_cards::RequestCard;
+
+/// Completes the open intent, and then writes each card of version 1 again.
+fn bring_to_rest<D: Sectors>(
+    drive: &mut Drive<D>,
+    intent: &Option<Intent>,
+    requests: &mut [Option<RequestCard>; 64],
+) -> Result<(), Dead>
+    requires ready { IsReady D.history drive.old }
+    requires table { (s : Shop) × HasTable (D.history.image drive.old.disk) s requests.old × IsIntentOf requests.old intent.now }
+    ensures ready { OnOk result (IsReady D.history drive.new) }
+    ensures ok { (s : Shop) → HasTable (D.history.image drive.old.disk) s requests.old → IsIntentOf requests.old intent.now
+        → OnOk result (HasNewTable (D.history.image drive.new.disk) s requests.new 64) }
+    ensures moments { (s : Shop) → HasTable (D.history.image drive.old.disk) s requests.old → IsIntentOf requests.old intent.now
+        → Changes D.history drive.old.disk drive.new.disk 69 (λ c. IsShop c s) }
+    ensures quiet { IfNone intent.now (any_old requests.old ≡ false → drive.new ≡ drive.old) }
+    ensures failures { TellsFailure D.history drive.old.disk drive.new.disk result }
+    ensures dies { IsErr result → drive.new.dead ≡ true }
+{
+    recover(drive, intent, requests)?;
+    migrate(drive, requests)
+}
+
+/// Mends a shop's disk that was judged, and brings it to rest.
+pub(crate) fn settle<D: Sectors>(disk: D, found: Judged) -> Result<Session<D>, (OpenFault, D)>
+    requires judged { (f : Files) × HasFiles (D.history.image disk) f × IsJudged f found }
+    ensures ok { (s : Shop) → IsShop (D.history.image disk) s
+        → IfOk result (λ x. IsSettled (D.history.image x.disk) s × (x.dead ≡ false)) }
+    ensures err { IfErr result (λ e. e.0 ≡ Device) }
+    ensures moments { (s : Shop) → IsShop (D.history.image disk) s
+        → Changes D.history disk (disk_of (λ x. x.disk) result) 952 (λ c. IsShop c s) }
+    ensures quiet { (s : Shop) → IsSettled (D.history.image disk) s → Untouched D.history disk (disk_of (λ x. x.disk) result) }
+    ensures failures { TellsOpening (λ x. x.disk) D.history disk result }
+{
+    let mut drive = start(disk)?;
+    let Judged {
+        top,
+        tills,
+        cards,
+        mut requests,
+        intent,
+    } = found;
+    match bring_to_rest(&mut drive, &intent, &mut requests) {
+        Ok(()) => Ok(Session {
+            drive,
+            dead: false,
+            top,
+            tills,
+            cards,
+            requests,
+        }),
+        Err(Dead) => Err((OpenFault::Device, drive.into_disk())),
+    }
+}

@@ -1,0 +1,81 @@
+-- Lines with a reset, number by number.
+use Rattle.std.proofs.Common.{◌≡◌, ◌≤◌, ◌+◌, ℕ, Bool, true, false, List, [], ◌∷◌, ◌++◌, Option, Some, None, refl, sym, ◌∙◌, ap, append_assoc, append-nil, length, length-append, arith}
+use Rattle.std.specs.Prelude.{nat_le, if◌then◌else◌}
+use Rattle.request_cards.specs.Reading.{cut_at, number_in, ◌>>=◌}
+use Rattle.script_lines.specs.Lines.{split}
+use Rattle.script_lines.specs.Resets.{Line, counts_of, reset_with, reset_of}
+
+-- what a line is whose first numbers are read, and whose fields from here on are left
+abbrev pub with_left : List ℕ → ℕ → List ℕ → List (List ℕ) → Option Line
+with_left message k read fields = counts_of fields >>= (λ ns. reset_with message (k ∷ (read ++ ns)))
+
+-- the bytes that are left, and one
+abbrev pub left_over : Option (List ℕ) → ℕ
+left_over None = 0
+left_over (Some bytes) = length bytes + 1
+
+-- a field more is read
+pub one_read : (message : List ℕ) (k : ℕ) (read field : List ℕ) (fields : List (List ℕ)) (n : ℕ) → number_in 0 99999 field ≡ Some n
+    → with_left message k read (field ∷ fields) ≡ with_left message k (read ++ n ∷ []) fields
+one_read message k read field fields n is = ap (λ (o : Option ℕ). (o >>= (λ m. counts_of fields >>= (λ ns. Some (m ∷ ns)))) >>= (λ ns. reset_with message (k ∷ (read ++ ns)))) is
+    ∙ pick (counts_of fields)
+  where
+    pick : (o : Option (List ℕ)) → ((o >>= (λ ns. Some (n ∷ ns))) >>= (λ ns. reset_with message (k ∷ (read ++ ns)))) ≡ (o >>= (λ ns. reset_with message (k ∷ ((read ++ n ∷ []) ++ ns))))
+    pick None = refl
+    pick (Some ns) = ap (λ xs. reset_with message (k ∷ xs)) (sym (append_assoc read (n ∷ []) ns))
+
+-- a field that is no number makes the line bad
+pub none_read : (message : List ℕ) (k : ℕ) (read field : List ℕ) (fields : List (List ℕ)) → number_in 0 99999 field ≡ None
+    → with_left message k read (field ∷ fields) ≡ None
+none_read message k read field fields is = ap (λ (o : Option ℕ). (o >>= (λ m. counts_of fields >>= (λ ns. Some (m ∷ ns)))) >>= (λ ns. reset_with message (k ∷ (read ++ ns)))) is
+
+too_many : (b : Bool) (l : Line) → b ≡ false → (if b then Some l else None) ≡ None
+too_many true l e = cc
+too_many false l e = refl
+
+few_enough : (b : Bool) (l : Line) → b ≡ true → (if b then Some l else None) ≡ Some l
+few_enough true l e = refl
+few_enough false l e = cc
+
+-- nine numbers behind slashes are too many
+pub ninth_read : (message : List ℕ) (k : ℕ) (read field : List ℕ) (fields : List (List ℕ)) (n : ℕ) → number_in 0 99999 field ≡ Some n → 8 ≤ length read
+    → with_left message k read (field ∷ fields) ≡ None
+ninth_read message k read field fields n is full = one_read message k read field fields n is ∙ pick (counts_of fields)
+  where
+    pick : (o : Option (List ℕ)) → (o >>= (λ ns. reset_with message (k ∷ ((read ++ n ∷ []) ++ ns)))) ≡ None
+    pick None = refl
+    pick (Some ns) = too_many (nat_le (length ((read ++ n ∷ []) ++ ns)) 8) _
+        (grind (arith, length-append (read ++ n ∷ []) ns, length-append read (n ∷ [])))
+
+-- all is read
+pub all_read : (message : List ℕ) (k : ℕ) (read : List ℕ) → length read ≤ 8
+    → with_left message k read [] ≡ Some (record { message = message; reset = Some (k, read) })
+all_read message k read few =
+    ap (λ xs. reset_with message (k ∷ xs)) (append-nil read)
+    ∙ few_enough (nat_le (length read) 8) _ (grind (arith))
+
+-- the first number
+pub first_read : (bytes counts message first : List ℕ) (fields : List (List ℕ)) (k : ℕ) → cut_at 32 bytes ≡ Some (counts, message)
+    → split 47 counts ≡ first ∷ fields → number_in 0 99999 first ≡ Some k → reset_of bytes ≡ with_left message k [] fields
+unfolding reset_of
+first_read bytes counts message first fields k cut pieces is =
+    ap (λ (o : Option (List ℕ × List ℕ)). o >>= (λ c. counts_of (split 47 c.0) >>= (λ ns. reset_with c.1 ns))) cut
+    ∙ ap (λ fs. counts_of fs >>= (λ ns. reset_with message ns)) pieces
+    ∙ ap (λ (o : Option ℕ). (o >>= (λ m. counts_of fields >>= (λ ns. Some (m ∷ ns)))) >>= (λ ns. reset_with message ns)) is
+    ∙ pick (counts_of fields)
+  where
+    pick : (o : Option (List ℕ)) → ((o >>= (λ ns. Some (k ∷ ns))) >>= (λ ns. reset_with message ns)) ≡ (o >>= (λ ns. reset_with message (k ∷ ([] ++ ns))))
+    pick None = refl
+    pick (Some ns) = refl
+
+pub first_not : (bytes counts message first : List ℕ) (fields : List (List ℕ)) → cut_at 32 bytes ≡ Some (counts, message)
+    → split 47 counts ≡ first ∷ fields → number_in 0 99999 first ≡ None → reset_of bytes ≡ None
+unfolding reset_of
+first_not bytes counts message first fields cut pieces is =
+    ap (λ (o : Option (List ℕ × List ℕ)). o >>= (λ c. counts_of (split 47 c.0) >>= (λ ns. reset_with c.1 ns))) cut
+    ∙ ap (λ fs. counts_of fs >>= (λ ns. reset_with message ns)) pieces
+    ∙ ap (λ (o : Option ℕ). (o >>= (λ m. counts_of fields >>= (λ ns. Some (m ∷ ns)))) >>= (λ ns. reset_with message ns)) is
+
+pub no_space : (bytes : List ℕ) → cut_at 32 bytes ≡ None → reset_of bytes ≡ None
+unfolding reset_of
+no_space bytes none = ap (λ (o : Option (List ℕ × List ℕ)). o >>= (λ c. counts_of (split 47 c.0) >>= (λ ns. reset_with c.1 ns))) none

@@ -1,0 +1,21 @@
+-- The numbers of a reset.
+use Rattle.std.proofs.Common.{sym, ◌∙◌, ap, length, arith}
+use Rattle.std.specs.Prelude.{option_map}
+use Rattle.script_lines.specs.Resets.{fields_left, line_in}
+use Rattle.script_lines.proofs.Resets.{with_left, first_read, first_not, no_space}
+use Rattle.script_lines.proofs.event_lines.reset_at.Goals as goal
+
+pub returns-in_err-counts : goal.returns-in_err-counts
+returns-in_err-counts c = ap (option_map line_in) c.from_residual.ensures ∙ sym (no_space c.args.bytes.now (sym c.in_err-counts.ensures))
+
+pub returns-in_err-after : goal.returns-in_err-after
+returns-in_err-after c =
+    ap (option_map line_in) c.from_residual-in_err-after.ensures
+    ∙ sym (first_not c.args.bytes.now _ _ _ _ (sym c.in_ok-counts.ensures) c.first_field.ensures.fields (sym c.in_err-after.ensures.exact))
+
+pub loop-rest-init : goal.loop-rest-init
+loop-rest-init c = record {
+  read = first_read c.args.bytes.now _ _ _ _ c.in_ok-after.after (sym c.in_ok-counts.ensures) c.first_field.ensures.fields (sym c.in_ok-after.ensures.exact)
+      ∙ ap (λ xs. with_left c.in_ok-counts.message.now c.in_ok-after.after xs (fields_left (option_map (λ r. r.now) c.first_field.result.1))) (sym c.new-recoveries.ensures);
+  few = omega (arith, ap length c.new-recoveries.ensures);
+}
