@@ -1,6 +1,5 @@
 -- The records of a file as they are printed. Our own.
-use Rattle.std.specs.Prelude.{ℕ, ◌++◌, ◌∷◌, [], List, flat_map}
-use Rattle.core.specs.declared.option.Option.{Option}
+use Rattle.std.specs.Prelude.{ℕ, ◌++◌, ◌∷◌, [], List, Option, flat_map}
 use Rattle.std.specs.Io.KnownBytes.{Appends}
 use Rattle.d64_image.specs.Images.{Image}
 use Rattle.disk_layout.specs.Layout.{File, Layout}

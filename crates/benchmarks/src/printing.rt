@@ -15,10 +15,10 @@ use rel_records::{RelFile, find, read_record, records};
 use std::io::Write;
 
 /// Prints a record's bytes and a line feed.
-fn put_line<W: Write>(out: &mut W, record: &[u8]) -> Result<(), &'static str>
-    ensures ok { OnOk result (Appends (W.contents out.old) (W.contents out.new) (record_line record.now)) }
+fn put_line<W: Write>(out: &mut W, bytes: &[u8]) -> Result<(), &'static str>
+    ensures ok { OnOk result (Appends (W.contents out.old) (W.contents out.new) (record_line bytes.now)) }
 {
-    out.write_all(record).map_err(|_| "the output failed")?;
+    out.write_all(bytes).map_err(|_| "the output failed")?;
     out.write_all(b"\n").map_err(|_| "the output failed")
 }
 
@@ -36,7 +36,9 @@ fn put_records<D: Sectors, W: Write>(
 {
     let mut record = ArrayVec::new();
     for before in 0..records(file) {
-        read_record(disk, file, before + 1, &mut record).map_err(|_| "a record isn't read")?;
+        let Ok(()) = read_record(disk, file, before + 1, &mut record) else {
+            return Err("a record isn't read");
+        };
         put_line(out, record.as_slice())?;
     }
     Ok(())
@@ -53,7 +55,11 @@ pub fn put_file<D: Sectors, W: Write>(
         (IsPrinted (D.history.image disk.old) l name.now (W.contents out.old) (W.contents out.new)) }
     ensures quiet { WritesNothing D.history disk.old disk.new }
 {
-    check(disk).map_err(|_| "the disk isn't clean")?;
-    let file = find(disk, name).map_err(|_| "there is no relative file of this name")?;
+    let Ok(_) = check(disk) else {
+        return Err("the disk isn't clean");
+    };
+    let Ok(file) = find(disk, name) else {
+        return Err("there is no relative file of this name");
+    };
     put_records(disk, &file, out)
 }
