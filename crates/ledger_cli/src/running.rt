@@ -11,7 +11,7 @@ ghost use Rattle.ledger_commands.specs.Tables.{dry_report};
 use crate::jobs::Job;
 use disk_layout::Fault;
 use ledger_commands::{
-    DryFault, RunFault, check_image, dry, format_file, list_image, play_image, show_image,
+    DryFault, RunFault, check_image, dry, format_file, list_image, play_file, show_image,
 };
 use std::alloc::Global;
 use std::fmt::Display;
@@ -91,7 +91,7 @@ pub fn run<F: Write + Seek + Drop, W: Write, E: Write>(
         Job::Play {
             image: _,
             script: _,
-        } => status_after(play_image(alloc, image, script, file, out), err),
+        } => status_after(play_file(alloc, image, script, file, out), err),
         Job::Dry { script: _ } => match play_whole(script, out) {
             Ok(()) => 0,
             Err(fault) => {
