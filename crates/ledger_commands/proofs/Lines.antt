@@ -1,7 +1,7 @@
 -- The lines of 1 to n, one more.
-use Rattle.std.proofs.Common.{◌≡◌, ℕ, List, Option, [], ◌+◌, ◌++◌, refl, subst, sym}
-use Rattle.std.specs.Io.KnownBytes.{Appends, Keeps}
-use Rattle.std.proofs.KnownBytes.{Appends-kept, Appends-nil, Appends-trans}
+use Rattle.std.proofs.Common.{◌≡◌, ℕ, suc, List, Option, ◌+◌, subst, sym, arith}
+use Rattle.std.specs.Io.KnownBytes.{Appends}
+use Rattle.std.proofs.KnownBytes.{Appends-nil, Appends-trans}
 use Rattle.ledger_commands.specs.Shows.{up_to}
 
 -- nothing was printed yet
@@ -13,4 +13,7 @@ none-yet a line = Appends-nil a
 pub one-more : (a b c : Option (List ℕ)) (n : ℕ) (line : ℕ → List ℕ) → Appends a b (up_to n line) → Appends b c (line (n + 1))
     → Appends a c (up_to (n + 1) line)
 unfolding up_to
-one-more a b c n line before more = Appends-trans a b c _ _ before more
+one-more a b c n line before more =
+    let next : n + 1 ≡ suc n = omega arith in
+    subst (λ (m : ℕ). Appends a c (up_to m line)) (sym next)
+    (Appends-trans a b c (up_to n line) (line (suc n)) before (subst (λ (m : ℕ). Appends b c (line m)) next more))

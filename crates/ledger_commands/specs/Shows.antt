@@ -1,7 +1,8 @@
 -- What is shown of a shop, byte by byte. All of it is our own.
 use Rattle.std.specs.Prelude.{ℕ, zero, suc, List, [], ◌++◌, Option, None, Some, codes, decimal, option_map}
 use Rattle.request_cards.specs.declared.answer.Answer.{Answer}
-use Rattle.request_cards.specs.Ledgers.{Entry, State}
+use Rattle.host_session.specs.Handling.{told_of}
+use Rattle.request_cards.specs.Ledgers.{State}
 use Rattle.request_cards.specs.Requests.{Ask}
 use Rattle.request_cards.specs.Texts.{answer_text, message_text}
 
@@ -32,10 +33,6 @@ abbrev pub told_part : List ℕ → Option (Ask × Answer) → List ℕ
 told_part word None = []
 told_part word (Some told) = told_line word told.0 told.1
 
--- an entry of a till as its request and the answer
-abbrev pub told_by : ℕ → Entry → Ask × Answer
-told_by till e = (record { till = till; number = e.number; body = e.body }, e.answer)
-
 -- a till's last request, and the one before it
 abbrev pub till_part : Option (Ask × Answer) → Option (Ask × Answer) → List ℕ
 till_part kept prior = told_part (codes "TILL ") kept ++ told_part (codes "PRIOR ") prior
@@ -47,7 +44,7 @@ card_lines state = up_to 10160 (λ item. card_part item (state.ledger.cards item
 -- the requests in the order of the tills
 abbrev pub till_lines : State → List ℕ
 till_lines state =
-    up_to 64 (λ till. till_part (option_map (told_by till) (state.ledger.kept till)) (option_map (told_by till) (state.prior till)))
+    up_to 64 (λ till. till_part (option_map (told_of till) (state.ledger.kept till)) (option_map (told_of till) (state.prior till)))
 
 -- all that is shown of a shop: how far new cards may go, its cards, and the last two requests of each till
 unfoldable pub shown_shop : ℕ → State → List ℕ

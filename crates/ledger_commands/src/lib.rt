@@ -28,7 +28,7 @@ pub use faults::RunFault;
 pub use formatting::{format_file, format_image, write_image};
 pub use judging::check_image;
 pub use listing::list_image;
-pub use playing::play_image;
+pub use playing::{play_file, play_image};
 pub use reading::{read_image, read_script};
 pub use replaced::{EndedFile, OpensFile, Replaced};
 pub use showing::show_image;
