@@ -2,18 +2,19 @@
 use Rattle.std.proofs.Common.{◌≡◌, ◌≢◌, ◌⊎◌, ◌∙◌, ℕ, List, Result, Ok, Err, refl, ap, arith, inl, inr, sym}
 use Rattle.std.proofs.lemmas.Bool.{false≢true}
 use Rattle.std.proofs.lemmas.Option.{none-some}
-use Rattle.std.specs.Prelude.{IfErr, IfOk, IsSome, None, OnOk, Option, Some, codes, is_some, length}
+use Rattle.std.specs.Prelude.{IfErr, IfOk, None, OnOk, Option, Some, codes, is_some, length}
 use Rattle.std.specs.Io.KnownBytes.{Appends}
 use Rattle.d64_image.specs.Memory.{sectors_in}
 use Rattle.disk_layout.proofs.Unclean.{told-unclean}
 use Rattle.disk_layout.specs.declared.faults.Fault.{Fault}
 use Rattle.host_session.proofs.Judging.{refused-no_shop}
 use Rattle.ledger_cli.specs.Faults.{check_status, end_status}
-use Rattle.ledger_commands.specs.Shops.{IsOpenRefusal, IsPlayEnd, IsShowFault, IsShown}
+use Rattle.ledger_commands.specs.Plays.{IsPlayEnd, Known}
+use Rattle.ledger_commands.specs.Shops.{IsOpenRefusal, IsShowFault, IsShown}
 use Rattle.ledger_commands.specs.Images.{IsCheckFault, IsFormatFault, IsHandedTo, IsListFault, IsListed, IsVerdict}
 use Rattle.ledger_commands.specs.Faults.{run_status}
 use Rattle.ledger_commands.specs.Texts.{verdict_text}
-use Rattle.ledger_cli.specs.Runs.{IsCheckRun, IsFormatRun, IsListRun, IsPlayRun, IsShowRun}
+use Rattle.ledger_cli.specs.Runs.{IsCheckRun, IsCutShort, IsFormatRun, IsListRun, IsPlayRun, IsShowRun}
 use Rattle.ledger_commands.specs.declared.faults.RunFault.{RunFault}
 use Rattle.ledger_commands.specs.declared.faults.RunFault.TheVariants as run
 
@@ -155,7 +156,7 @@ check-run contents image old new (Err run.Device) size verdict said err untouche
 
 -- an image that no opening takes, and of which nothing was shown
 show-refused : {W : Type 0} (contents : W → Option (List ℕ)) (image : List ℕ) (old new : W) (fault : RunFault)
-    → run_status fault ≡ 1 → file_or fault ≡ 1 → IsOpenRefusal image ⊥ fault → (fault ≢ run.File → new ≡ old)
+    → run_status fault ≡ 1 → file_or fault ≡ 1 → IsOpenRefusal image fault → (fault ≢ run.File → new ≡ old)
     → IsShowRun contents image old new (run_status fault)
 show-refused contents image old new fault one other refusal untouched = record {
   done = λ zero'. absurd (omega (arith, zero', one));
@@ -219,86 +220,93 @@ show-run contents image old new (Err (run.BadRequestCard till)) ok err untouched
 show-run contents image old new (Err run.TwoIntents) ok err untouched = show-refused contents image old new run.TwoIntents refl refl err untouched
 
 -- an image that no opening takes, and on which no line was played
-play-refused : {F W : Type 0} (contents : W → Option (List ℕ)) (image script : List ℕ) (file : Option F) (old new : W) (fault : RunFault)
-    → run_status fault ≡ 1 → (file ≡ None → run_status fault ≡ 3) → IsOpenRefusal image ⊥ fault → new ≡ old
-    → IsPlayRun contents image script file old new (run_status fault)
-play-refused contents image script file old new fault one no_file refusal untouched = record {
+play-refused : {F W : Type 0} (k : Known F W) (image script : List ℕ) (before : F) (old new : W) (fault : RunFault)
+    → run_status fault ≡ 1 → IsOpenRefusal image fault → new ≡ old → IsPlayRun k image script (Some before) old new (run_status fault)
+play-refused k image script before old new fault one refusal untouched = record {
   done = λ zero'. absurd (omega (arith, zero', one));
   size = λ _ _. one;
   refused = λ _. inr (inr (record { fault = refusal.opening; holds = refusal.refuses }));
   shop = λ _ _ _ s. refused-no_shop _ refusal.opening s.0 refusal.refuses s.1;
   untouched = λ _. untouched;
-  no_file = λ none. (no_file none, untouched);
+  no_file = λ none. absurd (none-some before (sym none));
+  stopped = λ three. absurd (omega (arith, three, one));
   statuses = inr (inl one);
 }
 
--- a file that is there isn't none
-no-file : {F : Type 0} (file : Option F) → IsSome file → file ≢ None
-no-file file some none = false≢true (sym (ap is_some none) ∙ some)
+-- the output or the file failed
+play-stopped : {F W : Type 0} (k : Known F W) (image script : List ℕ) (before after : F) (old new : W) (status : ℕ)
+    → status ≡ 3 → length image ≡ 174848 → (new ≡ old) ⊎ IsCutShort k image script old new before after
+    → IsPlayRun k image script (Some before) old new status
+play-stopped k image script before after old new status three size stopped = record {
+  done = λ zero'. absurd (omega (arith, zero', three));
+  size = λ _ other. absurd (other size);
+  refused = λ one. absurd (omega (arith, one, three));
+  shop = λ one. absurd (omega (arith, one, three));
+  untouched = λ one. absurd (omega (arith, one, three));
+  no_file = λ none. absurd (none-some before (sym none));
+  stopped = λ _. elim stopped [ inl e ↦ inl e | inr e ↦ inr (record { before = before; after = after; is = refl; holds = e }) ];
+  statuses = inr (inr three);
+}
 
--- a script played on an image
-pub play-run : {F W : Type 0} (contents : W → Option (List ℕ)) (image script : List ℕ) (file : Option F) (old new : W) (ended : Result Unit RunFault)
-    → (file ≡ None → (ended ≡ Err run.File) × (new ≡ old)) → IsPlayEnd contents image script file old new ended
-    → IsPlayRun contents image script file old new (end_status ended)
-play-run contents image script file old new (Ok _) no_file end = record {
-  done = λ _. end;
+-- a script played over a file
+played-run : {F W : Type 0} (k : Known F W) (image script : List ℕ) (before after : F) (old new : W) (ended : Result Unit RunFault)
+    → IsPlayEnd k image script before after old new ended → IsPlayRun k image script (Some before) old new (end_status ended)
+played-run k image script before after old new (Ok _) end = record {
+  done = λ _. record { before = before; after = after; is = refl; holds = end };
   size = λ some other. absurd (other end.size);
   refused = λ one. absurd (omega (arith, one));
   shop = λ one. absurd (omega (arith, one));
   untouched = λ one. absurd (omega (arith, one));
-  no_file = λ none. (ap end_status (no_file none).0, (no_file none).1);
+  no_file = λ none. absurd (none-some before (sym none));
+  stopped = λ three. absurd (omega (arith, three));
   statuses = inl refl;
 }
-play-run contents image script file old new (Err run.ImageSize) no_file end = record {
+played-run k image script before after old new (Err run.ImageSize) end = record {
   done = λ zero'. absurd (omega (arith, zero'));
   size = λ _ _. refl;
   refused = λ _. inl end.0;
   shop = λ _ same. absurd (end.0 same);
-  untouched = λ _. end.1;
-  no_file = λ none. (ap end_status (no_file none).0, (no_file none).1);
+  untouched = λ _. end.1.1;
+  no_file = λ none. absurd (none-some before (sym none));
+  stopped = λ three. absurd (omega (arith, three));
   statuses = inr (inl refl);
 }
-play-run contents image script file old new (Err (run.BadLine line)) no_file end = record {
+played-run k image script before after old new (Err (run.BadLine line)) end = record {
   done = λ zero'. absurd (omega (arith, zero'));
   size = λ _ _. refl;
   refused = λ _. inr (inl (ap is_some end.1));
   shop = λ _ _ good _. none-some line (sym good ∙ end.1);
-  untouched = λ _. end.2;
-  no_file = λ none. (ap end_status (no_file none).0, (no_file none).1);
+  untouched = λ _. end.2.1;
+  no_file = λ none. absurd (none-some before (sym none));
+  stopped = λ three. absurd (omega (arith, three));
   statuses = inr (inl refl);
 }
-play-run contents image script file old new (Err run.NoMemory) no_file end = record {
-  done = λ zero'. absurd (omega (arith, zero'));
-  size = λ _ other. absurd (other end.0);
-  refused = λ one. absurd (omega (arith, one));
-  shop = λ one. absurd (omega (arith, one));
-  untouched = λ one. absurd (omega (arith, one));
-  no_file = λ none. (ap end_status (no_file none).0, (no_file none).1);
-  statuses = inr (inr refl);
-}
-play-run contents image script file old new (Err run.File) no_file end =
-    let same : IsSome file → length image ≡ 174848 = λ some. elim end [ inl e ↦ absurd (no-file file some e.0) | inr e ↦ e ] in
+played-run k image script before after old new (Err run.NoMemory) end = play-stopped k image script before after old new 3 refl end.0 (inl end.1.1)
+played-run k image script before after old new (Err run.File) end = play-stopped k image script before after old new 3 refl end.size (inr (inl end))
+played-run k image script before after old new (Err run.Device) end = play-stopped k image script before after old new 3 refl end.size (inr (inr end))
+played-run k image script before after old new (Err (run.Layout fault)) end = play-refused k image script before old new (run.Layout fault) refl end.1 end.2.1
+played-run k image script before after old new (Err run.NoStock) end = play-refused k image script before old new run.NoStock refl end.1 end.2.1
+played-run k image script before after old new (Err run.NoRequests) end = play-refused k image script before old new run.NoRequests refl end.1 end.2.1
+played-run k image script before after old new (Err (run.BadCard item)) end = play-refused k image script before old new (run.BadCard item) refl end.1 end.2.1
+played-run k image script before after old new (Err (run.BadRequestCard till)) end = play-refused k image script before old new (run.BadRequestCard till) refl end.1 end.2.1
+played-run k image script before after old new (Err run.TwoIntents) end = play-refused k image script before old new run.TwoIntents refl end.1 end.2.1
+
+-- a script played on an image
+pub play-run : {F W : Type 0} (k : Known F W) (image script : List ℕ) (file : Option F) (old new : W) (ended : Result Unit RunFault)
+    → (file ≡ None → (ended ≡ Err run.File) × (new ≡ old))
+    → ((before : F) → file ≡ Some before → (after : F) × IsPlayEnd k image script before after old new ended)
+    → IsPlayRun k image script file old new (end_status ended)
+play-run k image script (Some before) old new ended no_file over =
+    played-run k image script before (over before refl).0 old new ended (over before refl).1
+play-run k image script None old new ended no_file over =
+    let three : end_status ended ≡ 3 = ap end_status (no_file refl).0 in
     record {
-      done = λ zero'. absurd (omega (arith, zero'));
-      size = λ some other. absurd (other (same some));
-      refused = λ one. absurd (omega (arith, one));
-      shop = λ one. absurd (omega (arith, one));
-      untouched = λ one. absurd (omega (arith, one));
-      no_file = λ none. (refl, (no_file none).1);
-      statuses = inr (inr refl);
+      done = λ zero'. absurd (omega (arith, zero', three));
+      size = λ some. absurd (false≢true some);
+      refused = λ one. absurd (omega (arith, one, three));
+      shop = λ one. absurd (omega (arith, one, three));
+      untouched = λ one. absurd (omega (arith, one, three));
+      no_file = λ _. (three, (no_file refl).1);
+      stopped = λ _. inl (no_file refl).1;
+      statuses = inr (inr three);
     }
-play-run contents image script file old new (Err run.Device) no_file end = record {
-  done = λ zero'. absurd (omega (arith, zero'));
-  size = λ _ other. absurd (other end.0);
-  refused = λ one. absurd (omega (arith, one));
-  shop = λ one. absurd (omega (arith, one));
-  untouched = λ one. absurd (omega (arith, one));
-  no_file = λ none. (ap end_status (no_file none).0, (no_file none).1);
-  statuses = inr (inr refl);
-}
-play-run contents image script file old new (Err (run.Layout fault)) no_file end = play-refused contents image script file old new (run.Layout fault) refl (λ none. ap end_status (no_file none).0) end.0 end.1
-play-run contents image script file old new (Err run.NoStock) no_file end = play-refused contents image script file old new run.NoStock refl (λ none. ap end_status (no_file none).0) end.0 end.1
-play-run contents image script file old new (Err run.NoRequests) no_file end = play-refused contents image script file old new run.NoRequests refl (λ none. ap end_status (no_file none).0) end.0 end.1
-play-run contents image script file old new (Err (run.BadCard item)) no_file end = play-refused contents image script file old new (run.BadCard item) refl (λ none. ap end_status (no_file none).0) end.0 end.1
-play-run contents image script file old new (Err (run.BadRequestCard till)) no_file end = play-refused contents image script file old new (run.BadRequestCard till) refl (λ none. ap end_status (no_file none).0) end.0 end.1
-play-run contents image script file old new (Err run.TwoIntents) no_file end = play-refused contents image script file old new run.TwoIntents refl (λ none. ap end_status (no_file none).0) end.0 end.1
