@@ -6,6 +6,7 @@ use crate::judging::check_image;
 use crate::playing::{play_file, play_image};
 use crate::showing::show_image;
 use crate::tests::Full;
+use std::fmt::Debug;
 use std::io::{self, Cursor, Seek, SeekFrom, Write};
 use std::process::Abort;
 use std::test::Fail;
@@ -57,6 +58,17 @@ impl Write for Paper {
     }
 }
 
+/// Sees that both are the same.
+fn same<T: PartialEq + Debug + Drop>(rt: &impl Abort, got: T, wanted: T) {
+    assert_eq!(rt; got, wanted);
+}
+
+/// Sees that this was printed, and handed on by a flush.
+fn assert_printed(rt: &impl Abort, out: &Paper, wanted: &[u8]) {
+    same(rt, out.bytes.as_slice(), wanted);
+    same(rt, out.handed, wanted.len());
+}
+
 /// A file with these bytes that takes so many more.
 fn new_tape(rt: &(impl AllocGlobal + Abort), image: &[u8], room: usize) -> Result<Tape, Fail> {
     let bytes = Vec::from_slice(rt.alloc(), image)?;
@@ -70,10 +82,10 @@ fn new_tape(rt: &(impl AllocGlobal + Abort), image: &[u8], room: usize) -> Resul
 fn assert_shown(rt: &(impl AllocGlobal + Abort), image: &[u8], shown: &[u8]) -> Result<(), Fail> {
     let mut verdict = Vec::new(rt.alloc());
     check_image(rt.alloc(), image, &mut verdict)?;
-    assert_eq!(rt; verdict.as_slice(), b"OK\n".as_slice());
+    same(rt, verdict.as_slice(), b"OK\n".as_slice());
     let mut out = Vec::new(rt.alloc());
     show_image(rt.alloc(), image, &mut out)?;
-    assert_eq!(rt; out.as_slice(), shown);
+    same(rt, out.as_slice(), shown);
     Ok(())
 }
 
@@ -119,8 +131,7 @@ fn what_is_played_stands_in_the_file(rt: HostRuntime) -> Result<(), Fail> {
         let Ok(file) = play_image(rt.alloc(), image.as_slice(), script, file, &mut out) else {
             return Err(Fail::new("it isn't played"));
         };
-        assert_eq!(rt; out.bytes.as_slice(), replies);
-        assert_eq!(rt; out.handed, out.bytes.len());
+        assert_printed(&rt, &out, replies);
         assert_shown(&rt, file.bytes.into_inner().as_slice(), shown)?;
     }
     Ok(())
@@ -144,16 +155,17 @@ fn what_is_refused_leaves_the_file(rt: HostRuntime) -> Result<(), Fail> {
             return Err(Fail::new("it is played"));
         };
         let text = format!(in rt.alloc(); "{fault}")?;
-        assert_eq!(rt; (text.as_bytes(), fault.status()), (told, 1));
-        assert!(rt; file.bytes.into_inner() == image && out.is_empty());
+        same(&rt, (text.as_bytes(), fault.status()), (told, 1));
+        same(&rt, file.bytes.into_inner() == image, true);
+        same(&rt, out.is_empty(), true);
     }
     let mut out = Vec::new(rt.alloc());
     let ended = show_image(rt.alloc(), &[0; 100], &mut out);
-    assert_eq!(rt; ended, Err(RunFault::ImageSize));
+    same(&rt, ended, Err(RunFault::ImageSize));
     let file: Option<Tape> = None;
     let ended = play_file(rt.alloc(), &[0; 100], b"@", file, &mut out);
-    assert_eq!(rt; ended, Err(RunFault::File));
-    assert!(rt; out.is_empty());
+    same(&rt, ended, Err(RunFault::File));
+    same(&rt, out.is_empty(), true);
     Ok(())
 }
 
@@ -178,9 +190,8 @@ fn a_file_that_fails_ends_the_run(rt: HostRuntime) -> Result<(), Fail> {
         };
         let file = new_tape(&rt, image.as_slice(), room)?;
         let ended = play_file(rt.alloc(), image.as_slice(), script, Some(file), &mut out);
-        assert_eq!(rt; ended, Err(RunFault::Device));
-        assert_eq!(rt; out.bytes.as_slice(), replies);
-        assert_eq!(rt; out.handed, out.bytes.len());
+        same(&rt, ended, Err(RunFault::Device));
+        assert_printed(&rt, &out, replies);
         // that the output fails there too isn't told
         let file = new_tape(&rt, image.as_slice(), room)?;
         let mut full = Full {
@@ -188,7 +199,7 @@ fn a_file_that_fails_ends_the_run(rt: HostRuntime) -> Result<(), Fail> {
             flushes: true,
         };
         let ended = play_file(rt.alloc(), image.as_slice(), script, Some(file), &mut full);
-        assert_eq!(rt; ended, Err(RunFault::Device));
+        same(&rt, ended, Err(RunFault::Device));
     }
     Ok(())
 }
@@ -205,13 +216,13 @@ fn after_an_output_that_fails_the_lines_stand(rt: HostRuntime) -> Result<(), Fai
         else {
             return Err(Fail::new("nothing is told of the output"));
         };
-        assert_eq!(rt; fault, RunFault::File);
+        same(&rt, fault, RunFault::File);
         assert_shown(&rt, file.bytes.into_inner().as_slice(), shown)?;
     }
     for (room, flushes) in [(8, true), (9, false)] {
         let mut full = Full { room, flushes };
         let ended = show_image(rt.alloc(), image.as_slice(), &mut full);
-        assert_eq!(rt; ended, Err(RunFault::File));
+        same(&rt, ended, Err(RunFault::File));
     }
     Ok(())
 }
