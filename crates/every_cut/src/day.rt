@@ -1,6 +1,7 @@
 //! A day of messages, played on a disk, and each image that the disk held on the way.
 use crate::cuts::{Asked, Found, close, copy, open, reopen};
 use crate::draw::Draw;
+use crate::events::play_events;
 use crate::ledger::Ledger;
 use crate::others::Others;
 use crate::tape::{Tape, Written};
@@ -79,19 +80,15 @@ fn play_message(
     Ok(())
 }
 
-/// Plays so many messages: each in a session of its own, with each image on the way, and all of them in one session.
+/// Plays the messages: each in a session of its own, with each image on the way, and all of them in one session.
 fn play_messages(
     alloc: Global,
     whole: &mut Session<Tape<MemDisk>>,
     shop: &mut Shop,
-    draw: &mut Draw,
-    messages: u16,
+    messages: &[String],
     tried: &mut Tried,
 ) -> Found<()> {
-    for _message in 0..messages {
-        let text = draw
-            .message(alloc, &shop.ledger)
-            .map_err(|_| "no memory for a message")?;
+    for text in messages {
         let message = text.as_str().as_bytes();
         let mut after = shop.ledger;
         let asked = Asked {
@@ -107,7 +104,26 @@ fn play_messages(
     Ok(())
 }
 
-/// Plays a day of so many messages on a shop at rest.
+/// Draws the messages of a day that begins with this ledger.
+fn draw_messages(
+    alloc: Global,
+    draw: &mut Draw,
+    ledger: &Ledger,
+    messages: u16,
+) -> Found<Vec<String>> {
+    let mut ledger = *ledger;
+    let mut drawn = Vec::new(alloc);
+    for _message in 0..messages {
+        let text = draw
+            .message(alloc, &ledger)
+            .map_err(|_| "no memory for a message")?;
+        ledger.reply(text.as_str().as_bytes());
+        drawn.push(text).map_err(|_| "no memory for a message")?;
+    }
+    Ok(drawn)
+}
+
+/// Plays a day of so many messages on a shop at rest: as events of one run, and then moment by moment.
 pub fn play_day(
     alloc: Global,
     shop: &mut Shop,
@@ -115,11 +131,14 @@ pub fn play_day(
     messages: u16,
     tried: &mut Tried,
 ) -> Found<()> {
+    let messages = draw_messages(alloc, draw, &shop.ledger, messages)?;
+    let messages = messages.as_slice();
+    play_events(alloc, &shop.disk, &shop.ledger, messages)?;
     let disk = copy(alloc, &shop.disk)?;
     let Ok(mut whole) = Session::open(Tape::new(alloc, disk)) else {
         return Err("the disk isn't opened");
     };
-    let played = play_messages(alloc, &mut whole, shop, draw, messages, tried);
+    let played = play_messages(alloc, &mut whole, shop, messages, tried);
     let (disk, writes) = close(whole, &shop.others)?;
     played?;
     if writes.len() as u64 != tried.writes || disk.bytes() != shop.disk.bytes() {

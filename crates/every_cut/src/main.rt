@@ -5,6 +5,7 @@ mod bits;
 mod cuts;
 mod day;
 mod draw;
+mod events;
 mod ledger;
 mod old_disk;
 mod others;
