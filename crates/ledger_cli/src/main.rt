@@ -5,6 +5,8 @@ mod grammar;
 mod jobs;
 mod running;
 #[cfg(test)]
+mod shop_tests;
+#[cfg(test)]
 mod tests;
 mod words;
 
