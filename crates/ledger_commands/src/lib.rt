@@ -13,6 +13,8 @@ mod formatting;
 mod image_tests;
 mod judging;
 mod listing;
+#[cfg(test)]
+mod play_tests;
 mod playing;
 mod reading;
 mod replaced;
