@@ -1,5 +1,5 @@
 -- What comes of a script that is played, from what its run tells and whether its file failed.
-use Rattle.std.proofs.Common.{◌≡◌, ◌≢◌, ◌<◌, ◌≤◌, ◌+◌, ℕ, List, [], ◌∷◌, Option, None, Some, Result, Ok, Err, IsOk, OnOk, inl, inr, ⊎_elim, length, refl, subst, sym, ◌∙◌, ap, arith}
+use Rattle.std.proofs.Common.{◌≡◌, ◌≢◌, ◌<◌, ◌≤◌, ◌+◌, ℕ, List, [], ◌∷◌, Option, None, Some, Result, Ok, Err, inl, inr, ⊎_elim, length, refl, subst, sym, ◌∙◌, ap, arith}
 use Rattle.std.specs.Prelude.{IfErr}
 use Rattle.std.specs.Io.KnownBytes.{Appends, Keeps}
 use Rattle.std.proofs.KnownBytes.{Appends-kept}
@@ -9,7 +9,7 @@ use Rattle.d64_image.specs.Mirrors.{AreHanded, Handed, IsMirrored, is_broken, mi
 use Rattle.d64_image.specs.declared.mirror.Mirror.{Mirror}
 use Rattle.host_session.specs.Events.{HasNoReset, messages_of, requests_of}
 use Rattle.host_session.specs.Opening.{IsAShop, Refuses, Untouched}
-use Rattle.host_session.specs.Runs.{HeldBeginnings, IsPlayedWhole, IsRefused, StoppedByDevice, StoppedByOutput}
+use Rattle.host_session.specs.Runs.{HeldBeginnings, IsPlayedWhole, IsPrintedUpToLast, IsRefused, StoppedByDevice, StoppedByOutput}
 use Rattle.host_session.specs.Shop.{IsSettled, IsShop, Shop, start_of, with_state}
 use Rattle.host_session.specs.declared.faults.OpenFault.{OpenFault}
 use Rattle.host_session.specs.declared.faults.OpenFault.TheVariants as opening
@@ -34,11 +34,6 @@ ok-or-err r x y ok err = cc
 -- a result that is this error has no other
 pub err-is : {T E : Type 0} (r : Result T E) (y : E) → r ≡ Err y → IfErr r (λ x. x ≡ y)
 err-is r y is = subst (λ s. IfErr s (λ x. x ≡ y)) (sym is) refl
-
--- what holds at Ok, where it is Ok
-pub at-ok : {T E P : Type 0} (r : Result T E) → IsOk r → OnOk r P → P
-at-ok (Ok x) is p = p
-at-ok (Err e) is p = cc
 
 no-sectors : (xs : List Handed) → length xs ≡ 0 → xs ≡ []
 no-sectors [] none = refl
@@ -124,31 +119,34 @@ module _ {F W : Type 0} (k : Known F W) (image script : List ℕ) (file : F) (de
             without_resets = λ plain_lines. (Appends-kept (k.printed old) (k.printed mid) (k.printed new) _ (without s is plain_lines).0 kept, (without s is plain_lines).1);
           }))
 
-      pub all-played-unprinted : ¬ (is_broken after) → IsPlayFault k image script file new_file old new run.File
-      all-played-unprinted whole =
+      pub all-played-unprinted : ¬ (is_broken after) → Keeps (k.printed mid) (k.printed new) → IsPlayFault k image script file new_file old new run.File
+      all-played-unprinted whole kept =
           let s = shop.0 in
           let is = shop.1 in
           let found = played s is in
           taken-up new_file is_file good (ran s is (moments s is) found.0 (record {
-            played = inr found.2;
+            played = inr (Appends-kept (k.printed old) (k.printed mid) (k.printed new) (report found.0) found.1 kept, found.2);
             in_file = in-file (moments s is).reached whole;
           }))
 
-      pub all-played-broken : is_broken after → IsPlayFault k image script file new_file old new run.Device
-      all-played-broken broken =
+      pub all-played-broken : is_broken after → Keeps (k.printed mid) (k.printed new) → IsPlayFault k image script file new_file old new run.Device
+      all-played-broken broken kept =
           let s = shop.0 in
           let is = shop.1 in
           let found = played s is in
-          taken-up new_file is_file good (inr (ran s is (moments s is) found.0 (record { played = inr (inr found.2); failed = broken })))
+          taken-up new_file is_file good (inr (ran s is (moments s is) found.0 (record {
+            played = inr (inr (Appends-kept (k.printed old) (k.printed mid) (k.printed new) (report found.0) found.1 kept, found.2));
+            failed = broken;
+          })))
 
     -- the run was ended by this fault
     module _ (fault : ScriptFault)
         (bad_line : (n : ℕ) → first_bad (lines script) ≡ Some n → (fault ≡ script_faults.BadLine n) × (after ≡ device) × (mid ≡ old))
         (good : (n : ℕ) → fault ≡ script_faults.BadLine n → first_bad (lines script) ≡ Some n)
         (output : (s : Shop) → IsShop (disk_image (mirror_disk device)) s → fault ≡ script_faults.Output
-        → (told : List Reply) × StoppedByOutput (history_of k) s (messages_of (lines script)) device after told)
+        → (told : List Reply) × IsPrintedUpToLast k.printed old told × StoppedByOutput (history_of k) s (messages_of (lines script)) device after told)
         (stopped : (s : Shop) → IsShop (disk_image (mirror_disk device)) s → fault ≡ script_faults.Device
-        → (told : List Reply) × StoppedByDevice (history_of k) s (messages_of (lines script)) device after told)
+        → (told : List Reply) × IsPrintedUpToLast k.printed old told × StoppedByDevice (history_of k) s (messages_of (lines script)) device after told)
         (refused : (f : OpenFault) → fault ≡ script_faults.Open f → IsRefused (history_of k) device f after × (mid ≡ old))
         (cause : fault ≡ script_faults.Device → IsAShop (disk_image (mirror_disk device)) × Failed (history_of k) device after)
         (shop : fault ≡ script_faults.Output → IsAShop (disk_image (mirror_disk device)))
@@ -191,7 +189,7 @@ module _ {F W : Type 0} (k : Known F W) (image script : List ℕ) (file : F) (de
           let s = shop is in
           let found = output s.0 s.1 is in
           taken-up new_file is_file (no-bad-line (λ n b. cc)) (ran s.0 s.1 (moments s.0 s.1) found.0 (record {
-            played = inl found.1;
+            played = inl (found.1, found.2);
             in_file = in-file (moments s.0 s.1).reached whole;
           }))
       told-whole whole script_faults.Device is =
@@ -211,13 +209,13 @@ module _ {F W : Type 0} (k : Known F W) (image script : List ℕ) (file : F) (de
           let s = shop is in
           let found = output s.0 s.1 is in
           taken-up new_file is_file (no-bad-line (λ n b. cc)) (inr (ran s.0 s.1 (moments s.0 s.1) found.0 (record {
-            played = inr (inl found.1);
+            played = inr (inl (found.1, found.2));
             failed = broken;
           })))
       told-broken whole broken script_faults.Device is =
           let x = cause is in
           let found = stopped x.0.0 x.0.1 is in
           taken-up new_file is_file (no-bad-line (λ n b. cc)) (inr (ran x.0.0 x.0.1 (moments x.0.0 x.0.1) found.0 (record {
-            played = inl found.1;
+            played = inl (found.1, found.2);
             failed = broken;
           })))

@@ -1,5 +1,5 @@
 -- What is shown of a shop, from its parts; and an image that is no shop's, from the fault of its opening.
-use Rattle.std.proofs.Common.{◌≡◌, ℕ, List, Option, length, refl, arith}
+use Rattle.std.proofs.Common.{◌≡◌, ℕ, List, Option, Result, Ok, Err, OnOk, length, refl, arith}
 use Rattle.std.specs.Io.KnownBytes.{Appends, Keeps}
 use Rattle.std.proofs.KnownBytes.{Appends-kept, Appends-trans}
 use Rattle.d64_image.specs.History.{Failed}
@@ -12,6 +12,11 @@ use Rattle.request_cards.specs.Ledgers.{State}
 use Rattle.ledger_commands.specs.Faults.{opening_fault}
 use Rattle.ledger_commands.specs.Shops.{IsShowFault}
 use Rattle.ledger_commands.specs.Shows.{card_lines, shown_shop, till_lines, top_line}
+
+-- what holds in each case holds at Ok
+pub at-ok : {T E P : Type 0} (r : Result T E) → P → OnOk r P
+at-ok (Ok x) p = p
+at-ok (Err e) p = tt
 
 -- the top's line, the cards and the tills, handed over
 pub shop-shown : (a b c d e : Option (List ℕ)) (top : ℕ) (state : State) → Appends a b (top_line top) → Appends b c (card_lines state)

@@ -6,7 +6,7 @@ use Rattle.d64_image.specs.Memory.{disk_image, sectors_in}
 use Rattle.d64_image.specs.Mirrors.{AreHanded, Handed, is_broken, mirror, mirror_at, mirror_disk, mirror_failures, mirror_file, mirror_writes, with_sectors}
 use Rattle.d64_image.specs.declared.mirror.Mirror.{Mirror}
 use Rattle.host_session.specs.Events.{HasNoReset, messages_of, requests_of}
-use Rattle.host_session.specs.Runs.{HeldBeginnings, IsPlayedWhole, IsRefused, StoppedByDevice, StoppedByOutput}
+use Rattle.host_session.specs.Runs.{HeldBeginnings, IsPlayedWhole, IsPrintedUpToLast, IsRefused, StoppedByDevice, StoppedByOutput}
 use Rattle.host_session.specs.Shop.{IsSettled, IsShop, Shop, start_of, with_state}
 use Rattle.host_session.specs.declared.faults.OpenFault.{OpenFault}
 use Rattle.request_cards.specs.Ledgers.{plain, replies, report}
@@ -74,10 +74,12 @@ abbrev pub IsPlayedOut : {F W : Type 0} → Known F W → List ℕ → Mirror F 
 IsPlayedOut k script device after shop told =
     IsPlayedWhole (history_of k) shop (messages_of (lines script)) device after told
 
--- each line up to some line was played, whose reply the output failed to take, or all of them
-abbrev pub IsPlayedInPart : {F W : Type 0} → Known F W → List ℕ → Mirror F → Mirror F → Shop → List Reply → Type 0
-IsPlayedInPart k script device after shop told =
-    StoppedByOutput (history_of k) shop (messages_of (lines script)) device after told ⊎ IsPlayedOut k script device after shop told
+-- Each line up to some line was played, whose reply the output failed to take, while it took all before; or each line was
+-- played, and its reply was printed.
+abbrev pub IsPlayedInPart : {F W : Type 0} → Known F W → List ℕ → W → W → Mirror F → Mirror F → Shop → List Reply → Type 0
+IsPlayedInPart k script old new device after shop told =
+    (IsPrintedUpToLast k.printed old told × StoppedByOutput (history_of k) shop (messages_of (lines script)) device after told)
+    ⊎ (Appends (k.printed old) (k.printed new) (report told) × IsPlayedOut k script device after shop told)
 
 -- Each line was played and its reply was handed over, and the file holds the shop, at rest.
 pub record IsDone {F W : Type 0} (k : Known F W) (script : List ℕ) (old new : W) (device after : Mirror F) (shop : Shop)
@@ -90,16 +92,17 @@ pub record IsDone {F W : Type 0} (k : Known F W) (script : List ℕ) (old new : 
       × IsSettled (disk_image (mirror_disk after)) (with_state shop (plain (start_of shop) (requests_of (lines script))))
 
 -- The output failed: the lines that were played stand in the file.
-pub record IsUnprinted {F W : Type 0} (k : Known F W) (script : List ℕ) (device after : Mirror F) (shop : Shop)
+pub record IsUnprinted {F W : Type 0} (k : Known F W) (script : List ℕ) (old new : W) (device after : Mirror F) (shop : Shop)
     (told : List Reply) : Type 0 where
-  pub played : IsPlayedInPart k script device after shop told
+  pub played : IsPlayedInPart k script old new device after shop told
   pub in_file : IsInFile k device after
 
--- The file failed while lines were played: in the last one, or in one in which power went.
-pub record IsStopped {F W : Type 0} (k : Known F W) (script : List ℕ) (device after : Mirror F) (shop : Shop)
+-- The file failed while lines were played: in the last one, where the output took the replies before the last; or in one in
+-- which power went.
+pub record IsStopped {F W : Type 0} (k : Known F W) (script : List ℕ) (old new : W) (device after : Mirror F) (shop : Shop)
     (told : List Reply) : Type 0 where
-  pub played : StoppedByDevice (history_of k) shop (messages_of (lines script)) device after told
-      ⊎ IsPlayedInPart k script device after shop told
+  pub played : (IsPrintedUpToLast k.printed old told × StoppedByDevice (history_of k) shop (messages_of (lines script)) device after told)
+      ⊎ IsPlayedInPart k script old new device after shop told
   pub failed : is_broken after
 
 -- The file failed while the image was opened; nothing was printed.
@@ -120,10 +123,10 @@ IsPlayFault k image script file new_file old new run.NoMemory = (length image �
 IsPlayFault k image script file new_file old new (run.BadLine line) =
     (length image ≡ 174848) × (first_bad (lines script) ≡ Some line) × IsUntouched file new_file old new
 IsPlayFault k image script file new_file old new run.File =
-    IsTakenUp image script file new_file (λ device after. IsRun k image script device after (IsUnprinted k script device after))
+    IsTakenUp image script file new_file (λ device after. IsRun k image script device after (IsUnprinted k script old new device after))
 IsPlayFault k image script file new_file old new run.Device =
     IsTakenUp image script file new_file (λ device after. IsUnopened k old new device after
-    ⊎ IsRun k image script device after (IsStopped k script device after))
+    ⊎ IsRun k image script device after (IsStopped k script old new device after))
 IsPlayFault k image script file new_file old new fault =
     (first_bad (lines script) ≡ None) × IsOpenRefusal image fault × IsUntouched file new_file old new
 

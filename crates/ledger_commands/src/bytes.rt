@@ -60,7 +60,7 @@ pub fn put_line<W: Write, T: Display + Drop>(out: &mut W, text: T) -> Result<(),
 
 /// Hands on what the writer still holds back. `File` where it failed.
 pub fn flush<W: Write>(out: &mut W) -> Result<(), RunFault>
-    ensures ok { OnOk result (Keeps (W.contents out.old) (W.contents out.new)) }
+    ensures kept { Keeps (W.contents out.old) (W.contents out.new) }
     ensures err { IfErr result (λ fault. fault ≡ faults.File) }
 {
     if out.flush().is_err() {

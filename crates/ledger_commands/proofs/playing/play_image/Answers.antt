@@ -9,7 +9,7 @@ use Rattle.script_lines.specs.Resets.{first_bad}
 use Rattle.ledger_commands.specs.Plays.{IsOver, IsPlayFault, known}
 use Rattle.ledger_commands.specs.declared.faults.RunFault.{RunFault}
 use Rattle.ledger_commands.specs.declared.faults.RunFault.TheVariants as run
-use Rattle.ledger_commands.proofs.PlayEnds.{all-played, all-played-broken, all-played-unprinted, at-ok, err-is, none-of, ok-or-err, told-broken, told-whole}
+use Rattle.ledger_commands.proofs.PlayEnds.{all-played, all-played-broken, all-played-unprinted, err-is, none-of, ok-or-err, told-broken, told-whole}
 use Rattle.ledger_commands.proofs.playing.play_image.Goals as goal
 
 pub returns-in-Ok-run_script-clause-ok : goal.returns-in-Ok-run_script-clause-ok
@@ -31,7 +31,7 @@ returns-in-Ok-run_script-clause-ok g c =
     let good : first_bad (lines script) ≡ None = none-of (first_bad (lines script)) (λ n is. ok-or-err (Ok mirror) mirror _ refl (ran.bad_line n is).0) in
     IfOk-weaker c.file_of.result _ _ (λ file x.
     all-played k image script c.args.file device mirror over loaded.0 c.args.out.now c.run_script.new.out c.flush.new.out file x.0 ran.moments
-    good ran.shop ran.ok x.1 (at-ok c.flush.result x.2 c.flush.ensures.ok) ran.without_resets)
+    good ran.shop ran.ok x.1 c.flush.ensures.kept ran.without_resets)
     c.file_of.ensures.ok
 
 pub returns-in-Ok-run_script-clause-err : goal.returns-in-Ok-run_script-clause-err
@@ -54,11 +54,11 @@ returns-in-Ok-run_script-clause-err g c =
     IfErr-weaker c.file_of.result _ _ (λ e x. ⊎_elim
     (λ broken. subst (λ (f : RunFault). IsPlayFault k image script c.args.file e.1 c.args.out.now c.flush.new.out f) (sym broken.1)
     (all-played-broken k image script c.args.file device mirror over loaded.0 c.args.out.now c.run_script.new.out c.flush.new.out e.1 x.0 ran.moments
-    good ran.shop ran.ok broken.0))
+    good ran.shop ran.ok broken.0 c.flush.ensures.kept))
     (λ whole. subst (λ (f : RunFault). IsPlayFault k image script c.args.file e.1 c.args.out.now c.flush.new.out f)
     (sym (subst (λ r. IfErr r (λ f. f ≡ run.File)) whole.1 c.flush.ensures.err))
     (all-played-unprinted k image script c.args.file device mirror over loaded.0 c.args.out.now c.run_script.new.out c.flush.new.out e.1 x.0 ran.moments
-    good ran.shop ran.ok whole.0))
+    good ran.shop ran.ok whole.0 c.flush.ensures.kept))
     x.1)
     c.file_of.ensures.err
 
