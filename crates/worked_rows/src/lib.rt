@@ -5,9 +5,13 @@
 #[cfg(test)]
 mod blank_rows;
 #[cfg(test)]
+mod comparing;
+#[cfg(test)]
 mod creation_rows;
 #[cfg(test)]
 mod disks;
+#[cfg(test)]
+mod foreign_rows;
 #[cfg(test)]
 mod growth_rows;
 #[cfg(test)]
