@@ -8,6 +8,10 @@ mod records;
 mod requests;
 mod sectors;
 
+ghost use Rattle.std.specs.Prelude.{IfOk};
+ghost use Rattle.d64_image.specs.Memory.{memory};
+ghost use Rattle.host_session.specs.Opening.{IsAShop};
+
 use checks::count_clean;
 use d64_image::MemDisk;
 use disk_layout::blank_image;
@@ -94,20 +98,32 @@ fn time_drive(rt: &HostRuntime, rounds: u64) -> Done {
     Ok(checksum(drive.into_disk().bytes()))
 }
 
-/// `requests`: so many messages of 64 tills are handled, half of them repeats, by a session on a disk that was blank; gives a
-/// checksum of the replies and of the image.
-fn time_requests(rt: &HostRuntime, rounds: u64) -> Done {
+/// A disk that was blank, after so many messages of 64 tills to a session on it, and a checksum of the replies.
+fn asked_shop(rt: &HostRuntime, rounds: u64) -> Result<(u64, MemDisk), &'static str>
+    ensures shop { IfOk result (λ asked. IsAShop (memory.image asked.1)) }
+{
     let mut disk = MemDisk::zeroed(rt.alloc()).map_err(|_| "no memory")?;
     blank_image(&mut disk, b"STOCK LEDGER", *b"01", requests::TILLS).map_err(|_| "no blank image")?;
     let mut tills = requests::all_tills(rt.alloc()).map_err(|_| "no memory")?;
-    let (replies, disk) = requests::run(disk, tills.as_mut_slice(), rounds).map_err(
-        |_| "the disk is no shop's",
-    )?;
+    requests::run(disk, tills.as_mut_slice(), rounds).map_err(|_| "the disk is no shop's")
+}
+
+/// `requests`: so many messages of 64 tills are handled, half of them repeats, by a session on a disk that was blank; gives a
+/// checksum of the replies and of the image.
+fn time_requests(rt: &HostRuntime, rounds: u64) -> Done {
+    let (replies, disk) = asked_shop(rt, rounds)?;
     Ok(
         replies
             .wrapping_mul(31)
             .wrapping_add(checksum(disk.bytes())),
     )
+}
+
+/// `openings`: the disk of 100,000 such messages is opened so many times; gives a checksum of the image.
+fn time_openings(rt: &HostRuntime, rounds: u64) -> Done {
+    let (_, disk) = asked_shop(rt, 100_000)?;
+    let disk = requests::reopen(disk, rounds).map_err(|_| "the disk is no shop's")?;
+    Ok(checksum(disk.bytes()))
 }
 
 /// The benchmark of a word. Err also where there is no such word.
@@ -120,7 +136,8 @@ fn timed(rt: &HostRuntime, word: &str, rounds: u64, path: Option<String>) -> Don
         "writes" => time_writes(rt, rounds),
         "drive" => time_drive(rt, rounds),
         "requests" => time_requests(rt, rounds),
-        _ => Err("the words are sectors, check, growth, reads, writes, drive, requests"),
+        "openings" => time_openings(rt, rounds),
+        _ => Err("the words are sectors, check, growth, reads, writes, drive, requests, openings"),
     }
 }
 
@@ -134,7 +151,7 @@ fn main(rt: HostRuntime) -> io::Result<ExitCode> {
     };
     let Some(word) = word else {
         for word in [
-            "sectors", "check", "growth", "reads", "writes", "drive", "requests",
+            "sectors", "check", "growth", "reads", "writes", "drive", "requests", "openings",
         ] {
             match timed(&rt, word, rounds, None) {
                 Ok(number) => println!(rt; "{word} {number}")?,
