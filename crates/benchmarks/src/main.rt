@@ -8,10 +8,6 @@ mod records;
 mod requests;
 mod sectors;
 
-ghost use Rattle.std.specs.Prelude.{IfOk};
-ghost use Rattle.d64_image.specs.Memory.{memory};
-ghost use Rattle.host_session.specs.Opening.{IsAShop};
-
 use checks::count_clean;
 use d64_image::MemDisk;
 use disk_layout::blank_image;
@@ -99,9 +95,7 @@ fn time_drive(rt: &HostRuntime, rounds: u64) -> Done {
 }
 
 /// A disk that was blank, after so many messages of 64 tills to a session on it, and a checksum of the replies.
-fn asked_shop(rt: &HostRuntime, rounds: u64) -> Result<(u64, MemDisk), &'static str>
-    ensures shop { IfOk result (λ asked. IsAShop (memory.image asked.1)) }
-{
+fn asked_shop(rt: &HostRuntime, rounds: u64) -> Result<(u64, MemDisk), &'static str> {
     let mut disk = MemDisk::zeroed(rt.alloc()).map_err(|_| "no memory")?;
     blank_image(&mut disk, b"STOCK LEDGER", *b"01", requests::TILLS).map_err(|_| "no blank image")?;
     let mut tills = requests::all_tills(rt.alloc()).map_err(|_| "no memory")?;

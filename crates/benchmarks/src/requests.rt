@@ -97,8 +97,7 @@ pub fn run<D: Sectors>(disk: D, tills: &mut [Till], rounds: u64) -> Result<(u64,
 
 /// Opens a shop's disk so many times, and closes it again.
 pub fn reopen<D: Sectors>(disk: D, rounds: u64) -> Result<D, (OpenFault, D)>
-    requires shop { IsAShop (D.history.image disk) }
-    ensures shop { IfOk result (λ closed. IsAShop (D.history.image closed)) }
+    ensures shop { IsAShop (D.history.image disk) → IfOk result (λ closed. IsAShop (D.history.image closed)) }
 {
     let mut disk = disk;
     for _round in 0..rounds {
