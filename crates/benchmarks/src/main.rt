@@ -143,10 +143,16 @@ fn timed(rt: &HostRuntime, word: &str, rounds: u64, path: Option<String>) -> Don
 }
 
 /// `records`: each record of a relative file of the image on a line of its own.
-fn print_records(rt: &HostRuntime, path: Option<String>, name: Option<String>) -> Result<(), &'static str> {
+fn print_records(
+    rt: &HostRuntime,
+    path: Option<String>,
+    name: Option<String>,
+) -> Result<(), &'static str> {
     let name = name.ok_or("records asks for an image and a name")?;
     let mut disk = asked_disk(rt, path)?;
-    let mut out = BufWriter::with_capacity(rt.alloc(), OUTPUT_ROOM, io::writer(rt)).map_err(|_| "no memory")?;
+    let mut out = BufWriter::with_capacity(rt.alloc(), OUTPUT_ROOM, io::writer(rt)).map_err(
+        |_| "no memory",
+    )?;
     put_file(&mut disk, name.as_str().as_bytes(), &mut out)?;
     out.flush().map_err(|_| "the output failed")
 }
