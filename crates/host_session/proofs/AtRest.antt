@@ -1,10 +1,9 @@
 -- The table of the tills' cards while a shop's disk is brought to rest.
-use Rattle.std.proofs.Common.{ℕ, zero, suc, ◌≡◌, ◌≢◌, ◌<◌, ◌≤◌, ◌+◌, ◌-◌, ◌⊎◌, inl, inr, List, [], ◌∷◌, None, Option, Some, Bool, true, false, add-one, ap, arith, get_or, length, min, refl, set, take, subst, sym, ◌∙◌, ◌==◌}
+use Rattle.std.proofs.Common.{ℕ, zero, suc, ◌≡◌, ◌≢◌, ◌<◌, ◌≤◌, ◌+◌, inl, inr, List, [], ◌∷◌, None, Option, Some, Bool, true, false, add-one, ap, arith, get_or, length, min, refl, set, take, subst, sym, ◌∙◌}
 use Rattle.std.specs.Prelude.{IfNone, cond, is_some, option_map, ◌||◌}
 use Rattle.std.specs.Option.{option_and_then}
 use Rattle.std.proofs.lemmas.Bool.{cases_eq, cases_lt, eq-eqb, false≢true, ne_eqb, or_from, or_parts}
 use Rattle.std.proofs.lemmas.List.{get_or_past, length-map, length-take}
-use Rattle.std.proofs.lemmas.Option.{none-some}
 use Rattle.d64_image.proofs.Moments.{changes_weaker}
 use Rattle.d64_image.specs.History.{Changes, History}
 use Rattle.d64_image.specs.Images.{Image}
@@ -15,7 +14,6 @@ use Rattle.request_cards.specs.CardTexts.{Card, IsCard, card_text}
 use Rattle.rel_records.specs.Written.{touched}
 use Rattle.request_cards.specs.declared.answer.Answer.{Answer}
 use Rattle.request_cards.specs.declared.answer.Answer.TheVariants as answers
-use Rattle.request_cards.specs.Ledgers.{State}
 use Rattle.request_cards.specs.Requests.{Body}
 use Rattle.host_session.specs.Completing.{HasIntent, IsCompleted, answered_card}
 use Rattle.host_session.specs.Files.{Files, HasFiles, record_at, with_record}
@@ -23,7 +21,7 @@ use Rattle.host_session.specs.Handling.{card_writes}
 use Rattle.host_session.specs.Judged.{HasTills, IsIntentOf, IsJudged, IsOnlyIntent}
 use Rattle.host_session.specs.Putting.{HasAnswer, IsPuttingAnswer}
 use Rattle.host_session.specs.Settling.{HasClosedTable, HasNewTable, HasTable}
-use Rattle.host_session.specs.Shop.{IsSettled, IsShop, Shop, any_old, card_at, cards_in, intents, is_old, open_in, results_in, results_of, shop_of, state_of}
+use Rattle.host_session.specs.Shop.{IsSettled, IsShop, Shop, any_old, card_at, cards_in, intents, is_old, open_in, results_in, results_of, shop_of}
 use Rattle.host_session.specs.Standing.{IsStanding, nth, state_in}
 use Rattle.host_session.specs.declared.intents.Intent.{Intent}
 use Rattle.host_session.specs.declared.judgment.Judged.{Judged}

@@ -1,10 +1,9 @@
 -- What the writes of a completed intent make of the files: the same shop at each moment.
-use Rattle.std.proofs.Common.{ℕ, zero, suc, ◌≡◌, ◌≢◌, ◌≤◌, ◌+◌, inl, inr, false, List, [], ◌∷◌, Ok, Err, Result, Some, length, refl, sym, ◌∙◌, ◌++◌, ap, replicate, set, subst, true, arith}
-use Rattle.std.specs.Prelude.{Bool, Contains, IfSome, IsSome, IsTrue, OnOk, Option, None, slice_get, is_some, nat_le, not, ◌==◌, ◌&&◌, if◌then◌else◌}
+use Rattle.std.proofs.Common.{ℕ, ◌≡◌, ◌≢◌, ◌≤◌, ◌+◌, inl, inr, false, List, [], ◌∷◌, Ok, Err, Result, Some, length, refl, sym, ◌∙◌, ◌++◌, ap, replicate, set, subst, true, arith}
+use Rattle.std.specs.Prelude.{Bool, Contains, IfSome, IsSome, IsTrue, OnOk, Option, None, is_some, nat_le, not, ◌==◌, ◌&&◌, if◌then◌else◌}
 use Rattle.std.specs.List.{AllByRecursion}
 use Rattle.std.proofs.lemmas.Bool.{and_parts, eqb-false, false≢true, leb-true, not-true}
 use Rattle.std.proofs.lemmas.List.{append-nil}
-use Rattle.std.proofs.lemmas.Option.{slice_get_within}
 use Rattle.d64_image.specs.History.{Changes, History}
 use Rattle.d64_image.specs.Images.{Image}
 use Rattle.d64_image.proofs.Moments.{changes_then, changes_weaker}

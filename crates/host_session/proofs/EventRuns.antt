@@ -1,5 +1,5 @@
 -- A run in a loop: what was played so far, and what one event more makes of it.
-use Rattle.std.proofs.Common.{◌≡◌, ◌≢◌, ◌≤◌, ◌++◌, ℕ, List, [], ◌∷◌, refl, sym, subst, ◌∙◌, ap, arith, append_assoc, append-nil}
+use Rattle.std.proofs.Common.{◌≡◌, ◌≢◌, ◌≤◌, ◌++◌, List, [], ◌∷◌, sym, subst, ◌∙◌, ap, arith, append_assoc, append-nil}
 use Rattle.d64_image.specs.History.{Failed, History}
 use Rattle.request_cards.specs.declared.reply.Reply.{Reply}
 use Rattle.host_session.proofs.Runs.{HasPlayed, and_no_more, now_of, one_played, stopped}

@@ -1,8 +1,7 @@
 -- The tills' cards that were read are those of the files, and so are the open intents among them.
-use Rattle.std.proofs.Common.{ℕ, zero, suc, ◌≡◌, ◌<◌, ◌≤◌, ◌+◌, ◌⊎◌, ⊎_elim, inl, inr, List, [], ◌∷◌, ◌++◌, None, Option, Some, true, add-one, ap, arith, get_or, length, map, refl, subst, sym, take, ◌∙◌}
+use Rattle.std.proofs.Common.{ℕ, zero, suc, ◌≡◌, ◌≤◌, ◌+◌, ⊎_elim, List, [], ◌∷◌, ◌++◌, None, Option, Some, add-one, ap, arith, get_or, length, map, refl, subst, sym, take, ◌∙◌}
 use Rattle.std.specs.Prelude.{Contains, IfSome, IsSome, is_some, slice_get}
 use Rattle.std.specs.Option.{option_and_then}
-use Rattle.std.proofs.lemmas.Bool.{false≢true}
 use Rattle.std.proofs.lemmas.List.{append-nil}
 use Rattle.std.proofs.lemmas.Option.{none-some}
 use Rattle.disk_layout.proofs.Once.{Contains-nil}
@@ -11,9 +10,8 @@ use Rattle.request_cards.specs.CardReading.{request_card_of}
 use Rattle.request_cards.specs.CardTexts.{Card, IsCard}
 use Rattle.host_session.specs.Files.{Files, record_at}
 use Rattle.host_session.specs.Judged.{AreCards, AreTills, HasJudgedTills, HasTills, IsIntentOf, IsOnlyIntent, given, listed}
-use Rattle.host_session.specs.Opening.{HasNoBadTill, IsBadTill, LacksRecord, open_intents}
+use Rattle.host_session.specs.Opening.{HasNoBadTill, LacksRecord, open_intents}
 use Rattle.host_session.specs.Shop.{AreLedgerRecords, IsIntended, card_at, cards_in, intents, items, open_in, results, results_of}
-use Rattle.host_session.specs.Standing.{nth}
 use Rattle.host_session.specs.declared.intents.Intent.{Intent}
 use Rattle.host_session.specs.declared.intents.NewQuantities.{NewQuantities}
 use Rattle.host_session.specs.declared.judgment.Tills.{Tills}

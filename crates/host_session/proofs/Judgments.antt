@@ -1,5 +1,5 @@
 -- What a call that judges tells of the disk, through calls that only read.
-use Rattle.std.proofs.Common.{ℕ, ◌≡◌, ◌⊎◌, ⊎_elim, ◌+◌, Err, Ok, Result, ap, subst, sym, ◌∙◌, length}
+use Rattle.std.proofs.Common.{ℕ, ◌≡◌, ◌⊎◌, ⊎_elim, ◌+◌, Err, Ok, Result, subst, sym, ◌∙◌}
 use Rattle.d64_image.proofs.Moments.{failed_later}
 use Rattle.d64_image.specs.History.{Failed, History}
 use Rattle.d64_image.specs.Images.{Image}

@@ -1,5 +1,5 @@
 -- What the writes of a till's next request make of the shop: the one before it, or the one after.
-use Rattle.std.proofs.Common.{ℕ, zero, suc, ◌≡◌, ◌≤◌, ◌⊎◌, ◌+◌, inl, inr, true, false, List, [], ◌∷◌, ◌++◌, Ok, Err, Result, Some, length, replicate, refl, sym, ◌∙◌, ap, subst, arith}
+use Rattle.std.proofs.Common.{ℕ, ◌≡◌, ◌≤◌, ◌⊎◌, ◌+◌, inl, inr, true, false, List, [], ◌∷◌, ◌++◌, Ok, Err, Result, Some, length, replicate, refl, sym, ◌∙◌, ap, subst, arith}
 use Rattle.std.specs.Prelude.{Contains, IsSome, OnErr, OnOk, Option, None, is_none, is_some, ◌==◌}
 use Rattle.std.proofs.lemmas.Bool.{cases_Bool, false≢true}
 use Rattle.std.proofs.lemmas.List.{append-nil}

@@ -1,18 +1,17 @@
 -- The new quantities that an answer gives, and what they make of the cards.
-use Rattle.std.proofs.Common.{ℕ, ◌≡◌, ◌≢◌, ◌≤◌, ◌<◌, ◌⊎◌, inl, inr, List, [], ◌∷◌, ◌++◌, None, Option, Some, true, false, IsTrue, not, ap, arith, refl, subst, sym, ◌∙◌}
+use Rattle.std.proofs.Common.{ℕ, ◌≡◌, ◌≢◌, ◌⊎◌, inl, inr, List, [], ◌∷◌, None, Option, Some, true, IsTrue, ap, refl, subst, sym, ◌∙◌}
 use Rattle.std.specs.Prelude.{Contains, IsSome, is_some}
 use Rattle.std.proofs.lemmas.Bool.{cases_eq, eq-eqb, false≢true, ne_eqb}
-use Rattle.std.proofs.lemmas.List.{append-nil}
-use Rattle.std.proofs.lemmas.Option.{none-some, same_Some}
+use Rattle.std.proofs.lemmas.Option.{none-some}
 use Rattle.disk_layout.proofs.Once.{Contains-cases, Contains-here, Contains-nil, Contains-there}
 use Rattle.request_cards.specs.declared.answer.Answer.{Answer}
 use Rattle.request_cards.specs.declared.answer.Answer.TheVariants as answers
 use Rattle.request_cards.specs.declared.kind.Kind.TheVariants.{Move}
 use Rattle.request_cards.specs.CardTexts.{Card, IsCard, goes_with}
-use Rattle.request_cards.specs.Requests.{Body, same_kind, to_of}
+use Rattle.request_cards.specs.Requests.{same_kind, to_of}
 use Rattle.request_cards.specs.Trade.{Cards, put}
 use Rattle.host_session.specs.Judged.{no_cards}
-use Rattle.host_session.specs.Shop.{items, overlaid, results, results_of}
+use Rattle.host_session.specs.Shop.{items, overlaid}
 
 -- a move's answer is kept for a move, which has an item to go to
 pub moved-to : (c : Card) (h g : ℕ) → IsCard c → c.newest.answer ≡ answers.Moved h g → to_of c.newest.body ≡ Some c.newest.body.to

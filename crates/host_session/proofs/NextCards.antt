@@ -1,7 +1,7 @@
 -- The card of a till's next request on a disk at rest, and what else is known of a message.
 use Rattle.std.proofs.Common.{◌≡◌, ℕ, zero, suc, ◌≤◌, ◌+◌, true, List, [], ◌∷◌, length, map, take, Option, Some, None, inr, refl, sym, ◌∙◌, ap, arith, subst}
 use Rattle.std.specs.Prelude.{IfSome, IsSome, codes, nat_le, option_map, option_to_list, ◌==◌}
-use Rattle.std.proofs.lemmas.Bool.{and_parts, eqb-true, false≢true, leb-true}
+use Rattle.std.proofs.lemmas.Bool.{and_parts, eqb-true, leb-true}
 use Rattle.std.proofs.lemmas.List.{length-map, length-take}
 use Rattle.std.proofs.lemmas.List.Elements.{All-nil, All-push}
 use Rattle.d64_image.specs.Images.{Image, IsImage}
@@ -18,7 +18,7 @@ use Rattle.request_cards.specs.Requests.{Ask, IsAsk}
 use Rattle.request_cards.specs.Sums.{SumsAgree}
 use Rattle.request_cards.specs.Trade.{Cards, room_for}
 use Rattle.host_session.specs.Deciding.{IsInTable}
-use Rattle.host_session.specs.Files.{Files, HasFiles, record_at}
+use Rattle.host_session.specs.Files.{Files, HasFiles}
 use Rattle.host_session.specs.Keeping.{IsKeeping, answer_of}
 use Rattle.host_session.specs.Shop.{IsSettled, Shop, card_at, cards_in, shop_of, start_of}
 use Rattle.host_session.proofs.Lists.{record-within}

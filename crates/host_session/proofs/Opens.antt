@@ -1,10 +1,9 @@
 -- What opening tells of a disk, from what its steps tell.
-use Rattle.std.proofs.Common.{ℕ, ◌≡◌, ◌≢◌, ◌≤◌, ◌⊎◌, inl, inr, Err, IfErr, IfOk, IsOk, Ok, Result, ◌↔◌, ap, arith, refl, subst, sym, ◌∙◌}
+use Rattle.std.proofs.Common.{ℕ, ◌≡◌, ◌≢◌, ◌≤◌, ◌⊎◌, inl, inr, Err, IfErr, IfOk, IsOk, Ok, Result, ap, arith, refl, subst, sym, ◌∙◌}
 use Rattle.d64_image.proofs.Moments.{changes_weaker, failed_later, never_failed}
 use Rattle.d64_image.specs.History.{Changes, Failed, History, NeverFailed}
 use Rattle.d64_image.specs.Images.{Image}
 use Rattle.host_session.specs.Opening.{IsAShop, Refuses, TellsJudging, TellsOpening, disk_of, number_of}
-use Rattle.host_session.specs.Shop.{Shop}
 use Rattle.host_session.specs.declared.faults.OpenFault.{OpenFault}
 use Rattle.host_session.specs.declared.faults.OpenFault.TheVariants as faults
 use Rattle.host_session.proofs.Judging.{refused-no_shop}

@@ -13,7 +13,7 @@ use Rattle.request_cards.specs.Reading.{request_of}
 use Rattle.request_cards.proofs.Plain.{plain_more, plain_nil}
 use Rattle.host_session.proofs.Parts.{after_whole, whole_counts}
 use Rattle.host_session.proofs.Totals.{sums_counted}
-use Rattle.host_session.specs.Counted.{FailsAtLast, IsCounted, MayCount, NoneGotMedia, after_all, all_of, answer, answers}
+use Rattle.host_session.specs.Counted.{IsCounted, MayCount, NoneGotMedia, after_all, all_of, answer, answers}
 use Rattle.host_session.specs.Events.{Message}
 use Rattle.host_session.specs.Handling.{media}
 use Rattle.host_session.specs.OneEvent.{EndsFailed, GoesOn, IsEvent, IsInEvent}

@@ -1,6 +1,6 @@
 -- Tables of the quantities on hand as they are read.
-use Rattle.std.proofs.Common.{ℕ, zero, suc, ◌≡◌, ◌≢◌, ◌<◌, ◌≤◌, ◌+◌, ◌*◌, ◌⊎◌, ⊎_elim, inl, inr, List, [], ◌∷◌, None, Option, Some, false, true, ap, arith, length, refl, replicate, set, subst, sym, ◌∙◌}
-use Rattle.std.specs.Prelude.{Contains, IsSome, is_some, slice_get}
+use Rattle.std.proofs.Common.{ℕ, zero, suc, ◌≡◌, ◌≢◌, ◌<◌, ◌≤◌, ◌+◌, ◌*◌, ◌⊎◌, ⊎_elim, inl, inr, List, None, Option, Some, false, true, ap, arith, length, refl, replicate, set, subst, sym, ◌∙◌}
+use Rattle.std.specs.Prelude.{is_some}
 use Rattle.std.specs.Option.{option_and_then}
 use Rattle.std.proofs.lemmas.Bool.{cases_eq, cases_lt, eq-eqb, false≢true, ne_eqb}
 use Rattle.std.proofs.lemmas.List.{length-replicate, length-set}
@@ -8,16 +8,15 @@ use Rattle.std.proofs.lemmas.Option.{none-some, same_Some}
 use Rattle.d64_image.specs.Images.{Image, IsImage}
 use Rattle.disk_layout.proofs.Count.{places-few}
 use Rattle.disk_layout.specs.Layout.{record_length}
-use Rattle.disk_layout.specs.Records.{empty_record, record_count, records}
+use Rattle.disk_layout.specs.Records.{empty_record, record_count}
 use Rattle.rel_records.proofs.Opened.{blocks-once, records-fit}
 use Rattle.request_cards.specs.CardReading.{stock_card_of}
 use Rattle.request_cards.specs.CardTexts.{Stock}
-use Rattle.request_cards.specs.Trade.{Cards}
 use Rattle.host_session.specs.Files.{Files, record_at}
 use Rattle.host_session.specs.Found.{AreFilesOf}
 use Rattle.host_session.specs.Judged.{AreCards, HasJudgedTills, IsCountedTo, IsJudgedItem, listed, no_cards}
 use Rattle.host_session.specs.Opening.{IsBadCard, IsLowest}
-use Rattle.host_session.specs.Shop.{IsIntended, IsStockRecord, cards_in, intents, items, overlaid, quantities, quantity_if, quantity_in, results, state_of}
+use Rattle.host_session.specs.Shop.{IsIntended, IsStockRecord, cards_in, intents, overlaid, quantities, quantity_if, quantity_in, results, state_of}
 use Rattle.host_session.specs.Standing.{nth}
 use Rattle.host_session.specs.declared.finding.LedgerFiles.{LedgerFiles}
 use Rattle.host_session.specs.declared.intents.NewQuantities.{NewQuantities}

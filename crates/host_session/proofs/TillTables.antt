@@ -1,6 +1,6 @@
 -- Tables of the tills' cards as they are read, and the open intents in them.
 use Rattle.std.proofs.Common.{ℕ, zero, suc, ◌≡◌, ◌≢◌, ◌<◌, ◌≤◌, ◌+◌, ◌-◌, ◌⊎◌, ⊎_elim, inl, inr, List, [], ◌∷◌, ◌++◌, None, Option, Some, false, true, add-one, ap, arith, append_assoc, length, length-append, refl, replicate, set, subst, sym, take, drop, ◌∙◌, get_or, min}
-use Rattle.std.specs.Prelude.{Contains, IsSome, is_some, slice_get}
+use Rattle.std.specs.Prelude.{Contains, is_some, slice_get}
 use Rattle.std.specs.Option.{option_and_then}
 use Rattle.std.proofs.lemmas.Bool.{cases_eq, cases_lt, false≢true, ne_eqb}
 use Rattle.std.proofs.lemmas.List.{append-nil, get_or-set_same, get_or-set_other, length-map, length-set, length-take, take-append-drop}
@@ -13,8 +13,8 @@ use Rattle.request_cards.specs.CardTexts.{Card}
 use Rattle.host_session.specs.Files.{Files, record_at}
 use Rattle.host_session.specs.Found.{Tells, TellsRecord}
 use Rattle.host_session.specs.declared.reading.Held.{Held}
-use Rattle.host_session.specs.Judged.{AreTills, HasTills, IsIntentAmong, IsJudgedTill, IsOnlyIntent, IsReadTo, PassesRecords, listed}
-use Rattle.host_session.specs.Opening.{HasNoBadTill, IsBadTill, IsLowest, LacksRecord}
+use Rattle.host_session.specs.Judged.{AreTills, IsIntentAmong, IsJudgedTill, IsOnlyIntent, IsReadTo, PassesRecords, listed}
+use Rattle.host_session.specs.Opening.{IsBadTill, IsLowest, LacksRecord}
 use Rattle.host_session.specs.Shop.{IsRequestRecord, card_at, cards_in, intents, items, open_in, results, results_of}
 use Rattle.host_session.specs.Standing.{nth}
 use Rattle.host_session.specs.declared.intents.Intent.{Intent}

@@ -3,7 +3,7 @@ use Rattle.std.specs.Prelude.{◌≡◌, ◌≤◌, ℕ, false, List, [], Option
 use Rattle.d64_image.specs.Images.{Image}
 use Rattle.request_cards.specs.CardTexts.{Card}
 use Rattle.host_session.specs.Judged.{HasTills}
-use Rattle.host_session.specs.Shop.{IsShop, Shop, any_old, intents, is_old}
+use Rattle.host_session.specs.Shop.{IsShop, Shop, intents, is_old}
 use Rattle.host_session.specs.Standing.{nth}
 
 -- the image is the shop's, and the table has its tills' cards

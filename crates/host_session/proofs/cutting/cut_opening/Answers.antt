@@ -1,7 +1,6 @@
 -- An opening whose power goes.
-use Rattle.std.proofs.Common.{◌≡◌, ◌≤◌, ◌∙◌, ap, refl, subst, sym}
-use Rattle.d64_image.specs.History.{Changes, HeldOnly}
-use Rattle.d64_image.specs.Fuses.{fuse, fuse_disk}
+use Rattle.std.proofs.Common.{◌∙◌, ap, subst, sym}
+use Rattle.d64_image.specs.Fuses.{fuse_disk}
 use Rattle.host_session.proofs.Cuts.{cut_later, cut_moments, cut_writes}
 use Rattle.host_session.specs.Shop.{IsShop}
 use Rattle.host_session.proofs.cutting.cut_opening.Goals as goal

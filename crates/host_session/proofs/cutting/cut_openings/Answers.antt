@@ -1,5 +1,5 @@
 -- One opening more.
-use Rattle.std.proofs.Common.{◌≤◌, arith, le_refl}
+use Rattle.std.proofs.Common.{arith, le_refl}
 use Rattle.d64_image.proofs.Moments.{start, then, at_end}
 use Rattle.host_session.specs.Shop.{IsShop}
 use Rattle.host_session.proofs.cutting.cut_openings.Goals as goal

@@ -1,5 +1,5 @@
 -- A second open intent is a second one of all.
-use Rattle.std.proofs.Common.{refl, length, ap, arith, sym, ◌∙◌}
+use Rattle.std.proofs.Common.{refl, sym, ◌∙◌}
 use Rattle.host_session.proofs.TillTables.{among-two}
 use Rattle.host_session.proofs.intents.open_intent.Goals as goal
 

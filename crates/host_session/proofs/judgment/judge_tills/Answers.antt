@@ -4,7 +4,6 @@ use Rattle.std.proofs.lemmas.Result.{err_from_is_err_and}
 use Rattle.d64_image.specs.History.{Failed}
 use Rattle.host_session.specs.Opening.{Refuses, TellsJudging}
 use Rattle.host_session.specs.declared.faults.OpenFault.{OpenFault}
-use Rattle.host_session.specs.declared.faults.OpenFault.TheVariants.{TwoIntents}
 use Rattle.host_session.specs.declared.intents.Intent.{Intent}
 use Rattle.host_session.specs.declared.judgment.Tills.{Tills}
 use Rattle.host_session.proofs.JudgedTills.{no-bad_till, two-open}

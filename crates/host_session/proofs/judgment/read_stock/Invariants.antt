@@ -1,4 +1,4 @@
-use Rattle.std.proofs.Common.{ℕ, ◌≡◌, ◌*◌, ◌≤◌}
+use Rattle.std.proofs.Common.{◌≡◌, ◌*◌, ◌≤◌}
 use Rattle.d64_image.specs.History.{OnlyReads}
 use Rattle.host_session.specs.Files.{Files}
 use Rattle.host_session.specs.Found.{AreFilesOf}

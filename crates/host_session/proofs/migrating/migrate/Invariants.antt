@@ -1,4 +1,4 @@
-use Rattle.std.proofs.Common.{ℕ, ◌≡◌, ◌≤◌, false}
+use Rattle.std.proofs.Common.{◌≡◌, ◌≤◌, false}
 use Rattle.d64_image.specs.History.{Changes}
 use Rattle.host_session.specs.Selecting.{IsReady}
 use Rattle.host_session.specs.Settling.{HasClosedTable, HasNewTable}

@@ -1,5 +1,5 @@
 -- A card of version 1 holds one request; as version 2 it holds the same.
-use Rattle.std.proofs.Common.{Some, ap, arith, refl, sym, subst, ◌+◌, ◌-◌, ◌<◌, ◌≡◌, ◌∙◌}
+use Rattle.std.proofs.Common.{ap, arith, sym, subst, ◌+◌, ◌-◌, ◌<◌, ◌≡◌, ◌∙◌}
 use Rattle.d64_image.proofs.Moments.{changes_weaker, no_change}
 use Rattle.request_cards.specs.CardTexts.{card_text}
 use Rattle.host_session.specs.Settling.{HasNewTable}

@@ -1,5 +1,5 @@
 -- Event by event.
-use Rattle.std.proofs.Common.{◌≡◌, ◌≤◌, ◌∙◌, ◌+◌, ◌++◌, List, [], ◌∷◌, refl, sym, subst, ap, arith, append-nil, false, drop, map, length, le_refl}
+use Rattle.std.proofs.Common.{◌≡◌, ◌≤◌, ◌∙◌, ◌+◌, ◌++◌, List, [], refl, sym, subst, ap, arith, false, drop, map, length, le_refl}
 use Rattle.std.specs.Prelude.{vec_capacity, vec_len}
 use Rattle.std.proofs.lemmas.Bool.{false≢true}
 use Rattle.std.proofs.lemmas.List.{drop_all}

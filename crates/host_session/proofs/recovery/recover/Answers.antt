@@ -1,5 +1,5 @@
 -- The open intent of the table is one of the disk, and it is the shop's as long as it is completed.
-use Rattle.std.proofs.Common.{Some, ap, arith, refl, set, subst, sym, ◌+◌, ◌-◌, ◌∙◌, ◌≡◌}
+use Rattle.std.proofs.Common.{Some, arith, set, subst, sym, ◌+◌, ◌-◌, ◌≡◌}
 use Rattle.d64_image.proofs.Moments.{changes_weaker, no_change}
 use Rattle.host_session.specs.Judged.{IsIntentOf}
 use Rattle.host_session.specs.Settling.{HasClosedTable}

@@ -1,5 +1,5 @@
 -- What was judged is a shop's, and stays the same shop's; what was refused is no shop's, and was only read.
-use Rattle.std.proofs.Common.{ap, arith, refl, subst, sym, ◌≡◌, ◌∙◌}
+use Rattle.std.proofs.Common.{arith, refl, subst, sym, ◌≡◌, ◌∙◌}
 use Rattle.std.proofs.lemmas.Bool.{false≢true}
 use Rattle.d64_image.proofs.Moments.{changes_then, changes_weaker, reads_change}
 use Rattle.host_session.specs.Files.{HasFiles}
