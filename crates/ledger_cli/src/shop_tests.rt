@@ -375,14 +375,14 @@ const FULL_OUTPUTS: [(&str, usize, bool, &str); 2] = [
     ),
 ];
 
-/// Plays a script over a file and an output that may fail; its status, and what it tells.
-fn ended_over<F: Write + Seek + Drop>(
+/// Plays a script over a file and an output that may fail. What the output took isn't kept.
+fn played_over<F: Write + Seek + Drop>(
     rt: &impl AllocGlobal,
     image: &Vec<u8>,
     script: &str,
     file: F,
     out: &mut Full,
-) -> (u8, Vec<u8>) {
+) -> Ended {
     let mut told = Vec::new(rt.alloc());
     let status = run(
         rt.alloc(),
@@ -393,11 +393,15 @@ fn ended_over<F: Write + Seek + Drop>(
         out,
         &mut told,
     );
-    (status, told)
+    Ended {
+        status,
+        printed: Vec::new(rt.alloc()),
+        told,
+    }
 }
 
 #[test]
-fn files_and_outputs_fail(rt: HostRuntime) -> Result<(), Fail> {
+fn files_fail(rt: HostRuntime) -> Result<(), Fail> {
     let image = empty_shop(&rt, 2);
     for (script, room, status, printed, told) in BROKEN_FILES {
         let flushes = true;
@@ -407,24 +411,9 @@ fn files_and_outputs_fail(rt: HostRuntime) -> Result<(), Fail> {
         // which counts for more than an output that fails too
         let file = Full { room, flushes };
         let mut out = Full { room: 0, flushes };
-        let (ended, said) = ended_over(&rt, &image, script, file, &mut out);
-        let wanted = if status == 3 { told } else { "FILE\n" };
-        assert_eq!(rt;
-            (ended, said.as_slice()),
-            (3, wanted.as_bytes()),
-            "{script}"
-        );
-    }
-    for (script, room, flushes, shown) in FULL_OUTPUTS {
-        let mut file = Cursor::new(image.clone()?);
-        let mut out = Full { room, flushes };
-        let (status, told) = ended_over(&rt, &image, script, &mut file, &mut out);
-        assert_eq!(rt;
-            (status, told.as_slice()),
-            (3, b"FILE\n" as &[u8]),
-            "{script}"
-        );
-        holds(&rt, &file.into_inner(), shown, script);
+        let ended = played_over(&rt, &image, script, file, &mut out);
+        let told = if status == 3 { told } else { "FILE\n" };
+        ends_so(&rt, &ended, 3, "", told, script);
     }
     let ended = done(&rt, &PLAY, image.as_slice(), b"1,1,S,1,5\n", NO_FILE);
     ends_so(&rt, &ended, 3, "", "FILE\n", "no file");
@@ -432,23 +421,44 @@ fn files_and_outputs_fail(rt: HostRuntime) -> Result<(), Fail> {
 }
 
 #[test]
+fn outputs_fail(rt: HostRuntime) -> Result<(), Fail> {
+    let image = empty_shop(&rt, 2);
+    for (script, room, flushes, shown) in FULL_OUTPUTS {
+        let mut file = Cursor::new(image.clone()?);
+        let mut out = Full { room, flushes };
+        let ended = played_over(&rt, &image, script, &mut file, &mut out);
+        ends_so(&rt, &ended, 3, "", "FILE\n", script);
+        holds(&rt, &file.into_inner(), shown, script);
+    }
+    Ok(())
+}
+
+/// These words ask for this job.
+fn asks_for<'a>(
+    rt: &(impl AllocGlobal + Abort),
+    words: &'a [&'a str],
+    wanted: Job<'a>,
+) -> Result<(), Fail> {
+    assert_eq!(rt; job(rt.alloc(), words)?, wanted);
+    Ok(())
+}
+
+/// These words ask for nothing.
+fn asks_for_none<'a>(rt: &(impl AllocGlobal + Abort), words: &'a [&'a str]) {
+    let status = match job(rt.alloc(), words) {
+        Ok(_) => 0,
+        Err(fault) => fault.status(),
+    };
+    assert_eq!(rt; status, 2, "{words:?}");
+}
+
+#[test]
 fn words_ask_for_show_and_play(rt: HostRuntime) -> Result<(), Fail> {
-    let asked: [(&[&str], Job<'_>); 2] = [
-        (&["ledger", "show", "a.d64"], SHOW),
-        (&["ledger", "play", "a.d64", "s.txt"], PLAY),
-    ];
-    for (words, wanted) in asked {
-        assert_eq!(rt; job(rt.alloc(), words)?, wanted);
-    }
-    let refused: [&[&str]; 4] = [
-        &["ledger", "show"],
-        &["ledger", "play", "a.d64"],
-        &["ledger", "show", "a.d64", "s.txt"],
-        &["ledger", "play", "a.d64", "s.txt", "t.txt"],
-    ];
-    for words in refused {
-        let status = job(rt.alloc(), words).map_err(|fault| fault.status());
-        assert_eq!(rt; status.err(), Some(2), "{words:?}");
-    }
+    asks_for(&rt, &["ledger", "show", "a.d64"], SHOW)?;
+    asks_for(&rt, &["ledger", "play", "a.d64", "s.txt"], PLAY)?;
+    asks_for_none(&rt, &["ledger", "show"]);
+    asks_for_none(&rt, &["ledger", "play", "a.d64"]);
+    asks_for_none(&rt, &["ledger", "show", "a.d64", "s.txt"]);
+    asks_for_none(&rt, &["ledger", "play", "a.d64", "s.txt", "t.txt"]);
     Ok(())
 }
