@@ -48,3 +48,30 @@ pub(crate) fn sector<D: Sectors>(
     disk.read(Place::new(track, number).ok_or(DeviceFault)?, &mut bytes)?;
     Ok(bytes)
 }
+
+/// The bytes of a sector from this one on, and all behind it.
+pub(crate) fn bytes_from(disk: &MemDisk, track: u8, number: u8, at: u8) -> &[u8] {
+    let Some(place) = Place::new(track, number) else {
+        return &[];
+    };
+    disk.bytes()
+        .get(256 * place.index() + usize::from(at)..)
+        .unwrap_or(&[])
+}
+
+/// Bytes of a sector: its place, the first of them, how many they are, and a text, behind which zeros stand.
+pub(crate) type Change = (u8, u8, u8, usize, &'static [u8]);
+
+/// The same disk with these bytes.
+pub(crate) fn changed(alloc: Global, disk: &MemDisk, changes: &[Change]) -> Result<MemDisk, Fail> {
+    let mut image = Vec::from_slice(alloc, disk.bytes())?;
+    for (track, number, at, length, text) in changes {
+        let place = Place::new(*track, *number).ok_or("no place")?;
+        let start = 256 * place.index() + usize::from(*at);
+        let bytes = image.as_mut_slice().iter_mut().skip(start).take(*length);
+        for (i, byte) in bytes.enumerate() {
+            *byte = text.get(i).copied().unwrap_or(0);
+        }
+    }
+    Ok(MemDisk::load(alloc, image.as_slice())?)
+}

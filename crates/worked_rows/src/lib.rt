@@ -5,6 +5,10 @@
 #[cfg(test)]
 mod creation_rows;
 #[cfg(test)]
+mod cut_rows;
+#[cfg(test)]
+mod days;
+#[cfg(test)]
 mod disks;
 #[cfg(test)]
 mod growth_rows;
@@ -12,3 +16,5 @@ mod growth_rows;
 mod record_rows;
 #[cfg(test)]
 mod session_rows;
+#[cfg(test)]
+mod sessions;
