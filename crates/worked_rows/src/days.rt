@@ -145,12 +145,12 @@ pub(crate) fn is_played(
     let events = as_events(rt.alloc(), disk, lines)?;
     is_told(rt, &events, lines, shows)?;
     assert!(rt; events.disk.bytes() == script.disk.bytes(), "{shows}");
-    let mut last = MemDisk::load(rt.alloc(), disk.bytes())?;
+    let mut stepped = MemDisk::load(rt.alloc(), disk.bytes())?;
     for line in lines.chunks(1) {
-        let played = as_script(rt.alloc(), &last, line)?;
+        let played = as_script(rt.alloc(), &stepped, line)?;
         is_told(rt, &played, line, shows)?;
-        last = played.disk;
+        stepped = played.disk;
     }
-    assert!(rt; last.bytes() == script.disk.bytes(), "{shows}");
-    Ok(last)
+    assert!(rt; stepped.bytes() == script.disk.bytes(), "{shows}");
+    Ok(stepped)
 }

@@ -13,6 +13,8 @@ mod disks;
 #[cfg(test)]
 mod growth_rows;
 #[cfg(test)]
+mod opening_rows;
+#[cfg(test)]
 mod record_rows;
 #[cfg(test)]
 mod session_rows;
