@@ -3,6 +3,7 @@ use crate::disks::clean;
 use arrayvec::ArrayVec;
 use d64_image::{MemDisk, Meter};
 use host_session::{Cut, Event, play, run_script};
+use request_cards::Reply;
 use std::alloc::Global;
 use std::io::Write;
 use std::process::Abort;
@@ -27,7 +28,7 @@ pub(crate) struct Played {
 }
 
 /// The lines as a script.
-fn script_of(alloc: Global, lines: &[Line]) -> Result<Vec<u8>, Fail> {
+pub(crate) fn script_of(alloc: Global, lines: &[Line]) -> Result<Vec<u8>, Fail> {
     let mut script = Vec::new(alloc);
     for line in lines {
         let message = match line {
@@ -48,7 +49,7 @@ fn script_of(alloc: Global, lines: &[Line]) -> Result<Vec<u8>, Fail> {
 }
 
 /// The lines as events.
-fn events_of(alloc: Global, lines: &[Line]) -> Result<Vec<Event<'static>>, Fail> {
+pub(crate) fn events_of(alloc: Global, lines: &[Line]) -> Result<Vec<Event<'static>>, Fail> {
     let mut events = Vec::new(alloc);
     for line in lines {
         events.push(match *line {
@@ -81,7 +82,7 @@ pub(crate) fn wanted(alloc: Global, lines: &[Line]) -> Result<(Vec<u8>, u64), Fa
 }
 
 /// Plays the lines as a script on a copy of the disk, which is to be clean then.
-pub(crate) fn as_script(alloc: Global, disk: &MemDisk, lines: &[Line]) -> Result<Played, Fail> {
+fn as_script(alloc: Global, disk: &MemDisk, lines: &[Line]) -> Result<Played, Fail> {
     let script = script_of(alloc, lines)?;
     let mut replies = Vec::new(alloc);
     let copy = Meter::new(MemDisk::load(alloc, disk.bytes())?);
@@ -92,19 +93,24 @@ pub(crate) fn as_script(alloc: Global, disk: &MemDisk, lines: &[Line]) -> Result
 }
 
 /// Plays the lines as events on a copy of the disk, which is to be clean then.
-pub(crate) fn as_events(alloc: Global, disk: &MemDisk, lines: &[Line]) -> Result<Played, Fail> {
+fn as_events(alloc: Global, disk: &MemDisk, lines: &[Line]) -> Result<Played, Fail> {
     let events = events_of(alloc, lines)?;
     let mut told = Vec::new(alloc);
     let copy = Meter::new(MemDisk::load(alloc, disk.bytes())?);
     let Ok(disk) = play(copy, events.as_slice(), &mut told) else {
         return Err(Fail::new("the events aren't played"));
     };
+    ended(text_of(alloc, told.as_slice())?, disk)
+}
+
+/// The replies as a script tells them.
+pub(crate) fn text_of(alloc: Global, told: &[Reply]) -> Result<Vec<u8>, Fail> {
     let mut replies = Vec::new(alloc);
-    for reply in &told {
+    for reply in told {
         replies.extend_from_slice(reply.print().as_slice())?;
         replies.push(b'\n')?;
     }
-    ended(replies, disk)
+    Ok(replies)
 }
 
 /// What was played, where the disk is clean.

@@ -13,6 +13,8 @@ mod disks;
 #[cfg(test)]
 mod growth_rows;
 #[cfg(test)]
+mod held_rows;
+#[cfg(test)]
 mod opening_rows;
 #[cfg(test)]
 mod record_rows;
@@ -20,3 +22,5 @@ mod record_rows;
 mod session_rows;
 #[cfg(test)]
 mod sessions;
+#[cfg(test)]
+mod stopped_rows;

@@ -1,0 +1,83 @@
+//! What a session tells of a shop.
+use crate::sessions::after;
+use host_session::Session;
+use request_cards::{Answer, Request};
+use std::test::Fail;
+
+/// A request, and its answer.
+type Told = Option<(&'static [u8], Answer)>;
+
+/// What a session tells after a script.
+#[derive(Clone, Copy)]
+struct Held {
+    script: &'static [u8],
+    /// An item, and the quantity on hand.
+    card: (u16, Option<u32>),
+    /// The last request of till 1, and the one before it.
+    kept: Told,
+    prior: Told,
+}
+
+const HELD: [Held; 6] = [
+    Held {
+        script: b"",
+        card: (42, None),
+        kept: None,
+        prior: None,
+    },
+    Held {
+        script: b"1,1,S,42,120\n1,1,S,42,120\n",
+        card: (42, Some(120)),
+        kept: Some((b"1,1,S,42,120", Answer::Done(120))),
+        prior: None,
+    },
+    Held {
+        script: b"1,1,S,42,120\n1,2,R,42,5\n1,3,I,42,5\n1,4,I,42,20\n1,3,I,42,5\n",
+        card: (42, Some(100)),
+        kept: Some((b"1,4,I,42,20", Answer::Done(100))),
+        prior: Some((b"1,3,I,42,5", Answer::Done(120))),
+    },
+    Held {
+        script: b"1,1,S,1,10\n1,2,S,15,3\n1,3,M,1,4,15\n",
+        card: (15, Some(7)),
+        kept: Some((b"1,3,M,1,4,15", Answer::Moved(6, 7))),
+        prior: Some((b"1,2,S,15,3", Answer::Done(3))),
+    },
+    // A move that is cut behind its first card, and a first set that is cut behind its growth.
+    Held {
+        script: b"1,1,S,1,10\n1,2,S,15,3\n@2/1 1,3,M,1,4,15\n",
+        card: (1, Some(6)),
+        kept: Some((b"1,3,M,1,4,15", Answer::Moved(6, 7))),
+        prior: Some((b"1,2,S,15,3", Answer::Done(3))),
+    },
+    Held {
+        script: b"1,1,R,7,5\n@5 1,2,S,15,7\n",
+        card: (15, None),
+        kept: Some((b"1,1,R,7,5", Answer::NoCard)),
+        prior: None,
+    },
+];
+
+/// A request that is read from its message, with its answer.
+fn read(told: Told) -> Option<(Request, Answer)> {
+    let (message, answer) = told?;
+    Some((Request::parse(message)?, answer))
+}
+
+#[test]
+fn a_session_tells_what_it_holds(rt: HostRuntime) -> Result<(), Fail> {
+    for row in HELD {
+        let Ok(session) = Session::open(after(rt.alloc(), row.script)?) else {
+            return Err(Fail::new("the disk isn't opened"));
+        };
+        assert_eq!(rt; (session.top(), session.tills()), (9256, 2));
+        let (item, quantity) = row.card;
+        assert_eq!(rt; session.card(item), Ok(quantity));
+        assert_eq!(rt; session.kept(1), Ok(read(row.kept)));
+        assert_eq!(rt; session.prior(1), Ok(read(row.prior)));
+        let nothing = (session.card(0), session.kept(0), session.prior(3));
+        assert_eq!(rt; nothing, (Ok(None), Ok(None), Ok(None)));
+        session.close();
+    }
+    Ok(())
+}
