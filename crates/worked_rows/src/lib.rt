@@ -24,3 +24,5 @@ mod session_rows;
 mod sessions;
 #[cfg(test)]
 mod stopped_rows;
+#[cfg(test)]
+mod till_rows;

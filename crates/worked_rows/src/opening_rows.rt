@@ -8,6 +8,7 @@ use d64_image::{MemDisk, Meter};
 use host_session::{OpenFault, Session};
 use std::alloc::Global;
 use std::io::Write;
+use std::process::Abort;
 use std::test::Fail;
 
 /// A disk, and its openings.
@@ -148,17 +149,28 @@ const OPENINGS: [Opening; 9] = [
     },
 ];
 
+/// Opens the disk again and again, and gives what it is at last.
+fn opened_again(
+    rt: &(impl Abort + AllocGlobal),
+    disk: MemDisk,
+    openings: &[(u32, u64)],
+    shows: &str,
+) -> Result<MemDisk, Fail> {
+    let mut disk = disk;
+    for (power, writes) in openings {
+        let (passed, next) = opened(rt.alloc(), &disk, *power)?;
+        assert_eq!(rt; passed, *writes, "{shows}");
+        disk = next;
+    }
+    clean(&mut disk)?;
+    Ok(disk)
+}
+
 #[test]
 fn changed_disks_are_opened(rt: HostRuntime) -> Result<(), Fail> {
     for row in OPENINGS {
-        let before = after(rt.alloc(), row.before)?;
-        let mut disk = changed(rt.alloc(), &before, row.changes)?;
-        for (power, writes) in row.openings {
-            let (passed, next) = opened(rt.alloc(), &disk, *power)?;
-            assert_eq!(rt; passed, *writes, "{}", row.shows);
-            disk = next;
-        }
-        clean(&mut disk)?;
+        let disk = changed(rt.alloc(), &after(rt.alloc(), row.before)?, row.changes)?;
+        let disk = opened_again(&rt, disk, row.openings, row.shows)?;
         is_played(&rt, &disk, row.lines, row.shows)?;
     }
     Ok(())
