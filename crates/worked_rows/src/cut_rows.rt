@@ -3,6 +3,7 @@
 use crate::days::Line::{Cut, Say};
 use crate::days::is_played;
 use crate::disks::clean;
+use crate::same::{holds, same, same_at};
 use crate::sessions::{WHOLE, after, handled, opened};
 use d64_image::MemDisk;
 use std::process::Abort;
@@ -84,17 +85,17 @@ fn is_cut(
     writes: (u64, u64),
 ) -> Result<(), Fail> {
     let (_, passed, cut) = handled(rt.alloc(), disk, asked.message, power)?;
-    assert_eq!(rt; passed, u64::from(power), "writes that passed");
+    same(rt, passed, u64::from(power));
     let (recovery, mut mended) = opened(rt.alloc(), &cut, WHOLE)?;
     clean(&mut mended)?;
     let (_, repeat, last) = handled(rt.alloc(), &mended, asked.message, WHOLE)?;
-    assert_eq!(rt; (recovery, repeat), writes, "after {power} writes");
+    same_at(rt, (recovery, repeat), writes, power);
     let lines = [
         Cut(power, &[], asked.message, passed.saturating_add(recovery)),
         Say(asked.message, asked.reply, repeat),
     ];
     let played = is_played(rt, disk, &lines, "a request that is cut")?;
-    assert!(rt; played.bytes() == last.bytes(), "after {power} writes");
+    holds(rt, played.bytes() == last.bytes(), power);
     Ok(())
 }
 

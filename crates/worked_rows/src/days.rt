@@ -1,5 +1,6 @@
 //! Lines of a day, played as a script and as events.
 use crate::disks::clean;
+use crate::same::{holds, same_at};
 use arrayvec::ArrayVec;
 use d64_image::{MemDisk, Meter};
 use host_session::{Cut, Event, play, run_script};
@@ -133,8 +134,8 @@ fn is_told(
     shows: &str,
 ) -> Result<(), Fail> {
     let (replies, writes) = wanted(rt.alloc(), lines)?;
-    assert_eq!(rt; played.replies.as_slice(), replies.as_slice(), "{shows}");
-    assert_eq!(rt; played.writes, writes, "{shows}");
+    same_at(rt, played.replies.as_slice(), replies.as_slice(), shows);
+    same_at(rt, played.writes, writes, shows);
     Ok(())
 }
 
@@ -150,13 +151,13 @@ pub(crate) fn is_played(
     is_told(rt, &script, lines, shows)?;
     let events = as_events(rt.alloc(), disk, lines)?;
     is_told(rt, &events, lines, shows)?;
-    assert!(rt; events.disk.bytes() == script.disk.bytes(), "{shows}");
+    holds(rt, events.disk.bytes() == script.disk.bytes(), shows);
     let mut stepped = MemDisk::load(rt.alloc(), disk.bytes())?;
     for line in lines.chunks(1) {
         let played = as_script(rt.alloc(), &stepped, line)?;
         is_told(rt, &played, line, shows)?;
         stepped = played.disk;
     }
-    assert!(rt; stepped.bytes() == script.disk.bytes(), "{shows}");
+    holds(rt, stepped.bytes() == script.disk.bytes(), shows);
     Ok(stepped)
 }

@@ -1,5 +1,6 @@
 //! What a session tells of a shop, and the bytes that requests leave on the disk.
 use crate::disks::bytes_from;
+use crate::same::{holds, same, same_at};
 use crate::sessions::after;
 use host_session::Session;
 use request_cards::{Answer, Request};
@@ -71,13 +72,13 @@ fn a_session_tells_what_it_holds(rt: HostRuntime) -> Result<(), Fail> {
         let Ok(session) = Session::open(after(rt.alloc(), row.script)?) else {
             return Err(Fail::new("the disk isn't opened"));
         };
-        assert_eq!(rt; (session.top(), session.tills()), (9256, 2));
+        same(&rt, (session.top(), session.tills()), (9256, 2));
         let (item, quantity) = row.card;
-        assert_eq!(rt; session.card(item), Ok(quantity));
-        assert_eq!(rt; session.kept(1), Ok(read(row.kept)));
-        assert_eq!(rt; session.prior(1), Ok(read(row.prior)));
+        same_at(&rt, session.card(item), Ok(quantity), row.script);
+        same_at(&rt, session.kept(1), Ok(read(row.kept)), row.script);
+        same_at(&rt, session.prior(1), Ok(read(row.prior)), row.script);
         let nothing = (session.card(0), session.kept(0), session.prior(3));
-        assert_eq!(rt; nothing, (Ok(None), Ok(None), Ok(None)));
+        same(&rt, nothing, (Ok(None), Ok(None), Ok(None)));
         session.close();
     }
     Ok(())
@@ -115,10 +116,8 @@ const BYTES: [(&[u8], (u8, u8, u8), &[u8]); 13] = [
 fn requests_leave_these_bytes(rt: HostRuntime) -> Result<(), Fail> {
     for (script, (track, number, at), bytes) in BYTES {
         let disk = after(rt.alloc(), script)?;
-        assert!(rt;
-            bytes_from(&disk, track, number, at).starts_with(bytes),
-            "{track}/{number} from {at}"
-        );
+        let stands = bytes_from(&disk, track, number, at).starts_with(bytes);
+        holds(&rt, stands, (track, number, at));
     }
     Ok(())
 }

@@ -15,9 +15,13 @@ mod growth_rows;
 #[cfg(test)]
 mod held_rows;
 #[cfg(test)]
+mod mirror_rows;
+#[cfg(test)]
 mod opening_rows;
 #[cfg(test)]
 mod record_rows;
+#[cfg(test)]
+mod same;
 #[cfg(test)]
 mod session_rows;
 #[cfg(test)]

@@ -3,6 +3,7 @@
 use crate::days::Line::{self, Say};
 use crate::days::is_played;
 use crate::disks::{Change, changed, clean};
+use crate::same::{holds, same, same_at};
 use crate::sessions::{WHOLE, after, opened};
 use d64_image::{MemDisk, Meter};
 use host_session::{OpenFault, Session};
@@ -159,7 +160,7 @@ fn opened_again(
     let mut disk = disk;
     for (power, writes) in openings {
         let (passed, next) = opened(rt.alloc(), &disk, *power)?;
-        assert_eq!(rt; passed, *writes, "{shows}");
+        same_at(rt, passed, *writes, shows);
         disk = next;
     }
     clean(&mut disk)?;
@@ -324,9 +325,9 @@ fn changed_disks_are_refused(rt: HostRuntime) -> Result<(), Fail> {
         let (fault, left) = refused(rt.alloc(), &disk)?;
         let mut text = Vec::new(rt.alloc());
         write!(text, "{fault}")?;
-        assert_eq!(rt; text.as_slice(), words);
-        assert_eq!(rt; left.writes(), 0);
-        assert!(rt; left.into_inner().bytes() == disk.bytes());
+        same(&rt, text.as_slice(), words);
+        same_at(&rt, left.writes(), 0, words);
+        holds(&rt, left.into_inner().bytes() == disk.bytes(), words);
     }
     Ok(())
 }

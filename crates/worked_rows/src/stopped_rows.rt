@@ -2,6 +2,7 @@
 use crate::days::Line::{Cut, Say};
 use crate::days::{Line, events_of, is_played, script_of, text_of, wanted};
 use crate::disks::{changed, fresh};
+use crate::same::{holds, same, same_at};
 use crate::sessions::{WHOLE, opened};
 use arrayvec::ArrayVec;
 use d64_image::{Fuse, MemDisk, Meter, Place};
@@ -38,18 +39,18 @@ fn a_dead_session_writes_nothing(rt: HostRuntime) -> Result<(), Fail> {
         told(2, Word::Media),
         Reply::Syntax,
     ];
-    assert_eq!(rt; replies, wanted);
-    assert!(rt; session.is_dead());
+    same(&rt, replies, wanted);
+    holds(&rt, session.is_dead(), "it is dead");
     let dead = (
         session.card(1).is_err(),
         session.kept(1).is_err(),
         session.prior(1).is_err(),
     );
-    assert_eq!(rt; dead, (true, true, true));
+    same(&rt, dead, (true, true, true));
     let meter = session.close().into_inner();
-    assert_eq!(rt; meter.writes(), 1);
+    same(&rt, meter.writes(), 1);
     let (writes, disk) = opened(rt.alloc(), &meter.into_inner(), WHOLE)?;
-    assert_eq!(rt; writes, 2);
+    same(&rt, writes, 2);
     is_played(
         &rt,
         &disk,
@@ -122,13 +123,13 @@ fn a_device_that_fails_stops_a_run(rt: HostRuntime) -> Result<(), Fail> {
         let (wanted, _) = wanted(rt.alloc(), lines.get(..count).unwrap_or(lines))?;
         let script = script_of(rt.alloc(), lines)?;
         let (fault, told, left) = stopped_script(rt.alloc(), &disk, power, script.as_slice())?;
-        assert_eq!(rt; fault, ScriptFault::Device);
-        assert_eq!(rt; told.as_slice(), wanted.as_slice());
-        let (fault, told, same) = stopped_events(rt.alloc(), &disk, power, lines)?;
-        assert_eq!(rt; fault, PlayFault::Device);
+        same_at(&rt, fault, ScriptFault::Device, power);
+        same_at(&rt, told.as_slice(), wanted.as_slice(), power);
+        let (fault, told, again) = stopped_events(rt.alloc(), &disk, power, lines)?;
+        same_at(&rt, fault, PlayFault::Device, power);
         let behind = told.as_slice().strip_prefix(b"30,SYNTAX ERROR,00,00\n");
-        assert_eq!(rt; behind, Some(wanted.as_slice()));
-        assert!(rt; same.bytes() == left.bytes());
+        same_at(&rt, behind, Some(wanted.as_slice()), power);
+        holds(&rt, again.bytes() == left.bytes(), power);
     }
     Ok(())
 }
@@ -141,8 +142,8 @@ fn an_output_that_fails_stops_a_script(rt: HostRuntime) -> Result<(), Fail> {
     let Err((fault, disk)) = run_script(fresh(rt.alloc())?, script, &mut out) else {
         return Err(Fail::new("the script is played"));
     };
-    assert_eq!(rt; fault, ScriptFault::Output);
-    assert_eq!(rt; out.as_slice(), b"1,1,DONE,120\n".as_slice());
+    same(&rt, fault, ScriptFault::Output);
+    same(&rt, out.as_slice(), b"1,1,DONE,120\n".as_slice());
     let lines = [
         Say(b"2,1,R,42,5", b"2,1,DONE,125", 0),
         Say(b"2,2,R,42,5", b"2,2,DONE,130", 3),
@@ -169,13 +170,18 @@ fn bad_lines_come_first(rt: HostRuntime) -> Result<(), Fail> {
     let disk = changed(rt.alloc(), &fresh(rt.alloc())?, &[(17, 0, 0, 2, b"\x11\0")])?;
     for (script, line) in BAD {
         let (fault, told, left) = stopped_script(rt.alloc(), &disk, WHOLE, script)?;
-        assert_eq!(rt; (fault, told.len()), (ScriptFault::BadLine(line), 0));
-        assert!(rt; left.bytes() == disk.bytes());
+        same_at(
+            &rt,
+            (fault, told.len()),
+            (ScriptFault::BadLine(line), 0),
+            script,
+        );
+        holds(&rt, left.bytes() == disk.bytes(), script);
     }
     let refused = OpenFault::Layout(Fault::Loop(Place::new(17, 0).unwrap()));
     let (fault, told, _) = stopped_script(rt.alloc(), &disk, WHOLE, b"")?;
-    assert_eq!(rt; (fault, told.len()), (ScriptFault::Open(refused), 0));
+    same(&rt, (fault, told.len()), (ScriptFault::Open(refused), 0));
     let (fault, _, _) = stopped_events(rt.alloc(), &disk, WHOLE, &[])?;
-    assert_eq!(rt; fault, PlayFault::Open(refused));
+    same(&rt, fault, PlayFault::Open(refused));
     Ok(())
 }

@@ -1,5 +1,6 @@
 //! A till and a session: messages that are lost, repeated and late.
 use crate::disks::fresh;
+use crate::same::same;
 use arrayvec::ArrayVec;
 use host_session::Session;
 use layout_check::check;
@@ -24,25 +25,25 @@ fn a_till_hears_each_answer_once(rt: HostRuntime) -> Result<(), Fail> {
         return Err(Fail::new("the disk isn't opened"));
     };
     let mut till = Till::new(1, 0);
-    assert!(rt; wish(&rt, &mut till, Kind::Set, 120));
+    same(&rt, wish(&rt, &mut till, Kind::Set, 120), true);
     let first = ask(&rt, &till);
     let one = session.handle(first.as_slice());
     let two = session.handle(ask(&rt, &till).as_slice());
     let heard = [till.hear(&two), till.hear(&one)];
-    assert_eq!(rt; heard, [Some(Answer::Done(120)), None]);
-    assert!(rt; wish(&rt, &mut till, Kind::Receive, 5));
+    same(&rt, heard, [Some(Answer::Done(120)), None]);
+    same(&rt, wish(&rt, &mut till, Kind::Receive, 5), true);
     let late = session.handle(first.as_slice());
-    assert_eq!(rt; late.print().as_slice(), b"1,1,DONE,120".as_slice());
-    assert_eq!(rt; till.hear(&late), None);
+    same(&rt, late.print().as_slice(), b"1,1,DONE,120".as_slice());
+    same(&rt, till.hear(&late), None);
     let three = session.handle(ask(&rt, &till).as_slice());
-    assert_eq!(rt; three.print().as_slice(), b"1,2,DONE,125".as_slice());
+    same(&rt, three.print().as_slice(), b"1,2,DONE,125".as_slice());
     let heard = [
         till.hear(&three),
         till.hear(&session.handle(first.as_slice())),
     ];
-    assert_eq!(rt; heard, [Some(Answer::Done(125)), None]);
+    same(&rt, heard, [Some(Answer::Done(125)), None]);
     check(&mut session.close())?;
     let mut used_up = Till::new(1, 999_999_999);
-    assert!(rt; !wish(&rt, &mut used_up, Kind::Set, 1));
+    same(&rt, wish(&rt, &mut used_up, Kind::Set, 1), false);
     Ok(())
 }
