@@ -3,7 +3,7 @@ use crate::disks::{Change, changed, fresh};
 use crate::opening_rows::REFUSED;
 use crate::same::same_at;
 use crate::sessions::after;
-use d64_image::{MemDisk, Meter, Mirror, OneFault};
+use d64_image::{Fuse, MemDisk, Meter, Mirror, OneFault, Sectors};
 use host_session::{Event, OpenFault, PlayFault, ScriptFault, Session, play, run_script};
 use layout_check::check;
 use request_cards::{Reply, Word};
@@ -288,6 +288,77 @@ fn each_call_of_a_run_fails(rt: HostRuntime) -> Result<(), Fail> {
     for done in [false, true] {
         for at in before..all {
             runs_fail(rt.alloc(), at, done)?;
+        }
+    }
+    Ok(())
+}
+
+/// A script whose message makes a card: power goes after its intent.
+const CUT: &[u8] = b"@1 1,1,S,1,5\n";
+
+/// All calls that passed.
+fn passed<D: Sectors>(meter: &Meter<D>) -> u32 {
+    meter.reads().saturating_add(meter.writes()).min(1000) as u32
+}
+
+/// How many calls the script makes, and how many of them come before the message and in the whole recovery.
+fn calls_of_a_cut(alloc: Global) -> Result<(u32, u32, u32), Fail> {
+    let Ok(session) = Session::open(Meter::new(fresh(alloc)?)) else {
+        return Err(Fail::new("it isn't opened"));
+    };
+    let first = session.close();
+    let Ok(mut session) = Session::open(Fuse::new(fresh(alloc)?, 1)) else {
+        return Err(Fail::new("it isn't opened over a fuse"));
+    };
+    session.handle(b"1,1,S,1,5");
+    let Ok(session) = Session::open(Meter::new(session.close().into_inner())) else {
+        return Err(Fail::new("it isn't opened behind the cut"));
+    };
+    let recovery = session.close();
+    let mut out = Vec::new(alloc);
+    match run_script(Meter::new(fresh(alloc)?), CUT, &mut out) {
+        Ok(meter) => Ok((passed(&meter), passed(&first), passed(&recovery))),
+        Err(_) => Err(Fail::new("the script isn't played")),
+    }
+}
+
+/// What is told of the script where one call fails, by the fault's number, 0 for none, and by what was written. What is
+/// left is opened, and the message has its answer.
+fn cut_run(alloc: Global, at: u32, done: bool) -> Result<(u8, Vec<u8>), Fail> {
+    let mut out = Vec::new(alloc);
+    let (number, left) = match run_script(faulty(alloc, at, done)?, CUT, &mut out) {
+        Ok(left) => (0, left),
+        Err((fault, left)) => (fault.number(), left),
+    };
+    let Ok(mut session) = Session::open(left.into_inner()) else {
+        return Err(Fail::new("what is left isn't opened"));
+    };
+    let reply = session.handle(b"1,1,S,1,5");
+    check(&mut session.close())?;
+    if !says(reply, b"1,1,DONE,5") {
+        return Err(Fail::new("the message has another answer"));
+    }
+    Ok((number, out))
+}
+
+// A call of the first opening that fails is told as its fault (1), one of the whole recovery as the device's (4), which isn't
+// tried again. In the message power goes anyway, so that nothing is told.
+#[test]
+fn each_call_of_a_cut_run_fails(rt: HostRuntime) -> Result<(), Fail> {
+    let (all, before, recovery) = calls_of_a_cut(rt.alloc())?;
+    let behind = all.saturating_sub(recovery);
+    same_at(&rt, before < behind && recovery > 0, true, all);
+    for done in [false, true] {
+        for at in 0..all {
+            let (number, out) = cut_run(rt.alloc(), at, done)?;
+            let wanted = if at < before {
+                (1, b"".as_slice())
+            } else if at < behind {
+                (0, b"CUT\n".as_slice())
+            } else {
+                (4, b"CUT\n".as_slice())
+            };
+            same_at(&rt, (number, out.as_slice()), wanted, (at, done));
         }
     }
     Ok(())
