@@ -3,6 +3,8 @@
 #![tactic(auto)]
 
 #[cfg(test)]
+mod blank_rows;
+#[cfg(test)]
 mod creation_rows;
 #[cfg(test)]
 mod cut_rows;
@@ -14,6 +16,8 @@ mod disks;
 mod growth_rows;
 #[cfg(test)]
 mod held_rows;
+#[cfg(test)]
+mod hostile_rows;
 #[cfg(test)]
 mod mirror_rows;
 #[cfg(test)]

@@ -1,0 +1,165 @@
+//! Each image that a device held is opened, and each image of that opening again.
+use crate::ledger::{Kept, Ledger};
+use crate::others::Others;
+use crate::tape::{Tape, Written};
+use crate::tried::{Tried, count};
+use d64_image::{MemDisk, Sectors};
+use host_session::Session;
+use layout_check::check;
+use request_cards::{Reply, Word};
+use std::alloc::Global;
+
+/// What was found; Err is a text that says what differs.
+pub type Found<T> = Result<T, &'static str>;
+
+/// The message in which power goes, and its reply where it doesn't.
+#[derive(Clone, Copy)]
+pub struct Asked<'a> {
+    /// The message.
+    pub message: &'a [u8],
+    /// Its reply.
+    pub reply: Reply,
+}
+
+/// A copy of an image.
+pub fn copy(alloc: Global, image: &MemDisk) -> Found<MemDisk> {
+    MemDisk::load(alloc, image.bytes()).map_err(|_| "no memory for an image")
+}
+
+/// Opens a copy of an image, whose writes are kept.
+pub fn open(alloc: Global, image: &MemDisk, tried: &mut Tried) -> Found<Session<Tape<MemDisk>>> {
+    count(&mut tried.openings);
+    let disk = copy(alloc, image)?;
+    match Session::open(Tape::new(alloc, disk)) {
+        Ok(session) => Ok(session),
+        Err(_) => Err("an image isn't opened"),
+    }
+}
+
+/// Takes the disk back and what was written, which is to keep off other files.
+pub fn close(session: Session<Tape<MemDisk>>, others: &Others) -> Found<(MemDisk, Vec<Written>)> {
+    let (disk, writes) = session.close().into_parts();
+    let Some(writes) = writes else {
+        return Err("no memory for the writes");
+    };
+    for written in &writes {
+        if others.owns(written.place) {
+            return Err("a sector of another file is written");
+        }
+    }
+    Ok((disk, writes))
+}
+
+/// Sends a request again that was answered: it is told its kept answer.
+fn send_kept<D: Sectors>(
+    session: &mut Session<D>,
+    kept: Option<Kept>,
+    tried: &mut Tried,
+) -> Found<()> {
+    let Some((request, answer)) = kept else {
+        return Ok(());
+    };
+    count(&mut tried.repeats);
+    let want = Reply::Told {
+        till: request.till(),
+        number: request.number(),
+        word: Word::Kept(answer),
+    };
+    if session.handle(request.print().as_slice()) == want {
+        Ok(())
+    } else {
+        Err("a kept answer is another one")
+    }
+}
+
+/// Sends the last two requests of each till again.
+fn send_all_kept<D: Sectors>(
+    session: &mut Session<D>,
+    ledger: &Ledger,
+    tried: &mut Tried,
+) -> Found<()> {
+    for till in 1..=64u8 {
+        send_kept(session, ledger.kept(till), tried)?;
+        send_kept(session, ledger.prior(till), tried)?;
+    }
+    Ok(())
+}
+
+/// Sends everything again that was answered, and then the message that was cut: it has its reply, and the ledger is the
+/// one after it.
+fn send_again<D: Sectors>(
+    session: &mut Session<D>,
+    asked: &Asked<'_>,
+    ledger: &Ledger,
+    tried: &mut Tried,
+) -> Found<()> {
+    send_all_kept(session, ledger, tried)?;
+    if !ledger.is_in(session) {
+        return Err("repeats have changed the ledger");
+    }
+    let mut after = *ledger;
+    let reply = after.reply(asked.message);
+    if reply != asked.reply {
+        return Err("the message has another reply by the table");
+    }
+    count(&mut tried.repeats);
+    if session.handle(asked.message) != reply {
+        return Err("the message has another reply when it is sent again");
+    }
+    if !after.is_in(session) {
+        return Err("the ledger is another one after the repeat");
+    }
+    Ok(())
+}
+
+/// A disk that was opened is clean, is opened again without a write, and answers what is sent again; where the message was
+/// counted, without a write too.
+fn resume(
+    alloc: Global,
+    disk: &mut MemDisk,
+    asked: &Asked<'_>,
+    ledger: &Ledger,
+    others: &Others,
+    tried: &mut Tried,
+) -> Found<()> {
+    check(disk).map_err(|_| "a disk isn't clean after its opening")?;
+    let mut session = open(alloc, disk, tried)?;
+    let sent = send_again(&mut session, asked, ledger, tried);
+    let (mut disk, writes) = close(session, others)?;
+    sent?;
+    if !writes.is_empty() && !ledger.is_new(asked.message) {
+        return Err("a repeat is written");
+    }
+    check(&mut disk).map_err(|_| "a disk isn't clean after the repeat")?;
+    Ok(())
+}
+
+/// Opens an image that stands for this ledger, and each image that this opening held, so many openings deep.
+pub fn reopen(
+    alloc: Global,
+    image: &MemDisk,
+    asked: &Asked<'_>,
+    ledger: &Ledger,
+    others: &Others,
+    deep: u32,
+    tried: &mut Tried,
+) -> Found<()> {
+    let session = open(alloc, image, tried)?;
+    let stands = ledger.is_in(&session);
+    let (mut disk, writes) = close(session, others)?;
+    if !stands {
+        return Err("an opening has changed the ledger");
+    }
+    resume(alloc, &mut disk, asked, ledger, others, tried)?;
+    if deep == 0 {
+        return Ok(());
+    }
+    let mut held = copy(alloc, image)?;
+    for written in &writes {
+        held.write(written.place, &written.bytes)
+            .map_err(|_| "memory failed")?;
+        count(&mut tried.images);
+        reopen(alloc, &held, asked, ledger, others, deep - 1, tried)?;
+    }
+    Ok(())
+}

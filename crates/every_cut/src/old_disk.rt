@@ -1,0 +1,90 @@
+//! A disk with cards of version 1 and an open intent, as power may have left one.
+use crate::cuts::Found;
+use crate::ledger::Ledger;
+use d64_image::{MemDisk, Sectors};
+use disk_layout::blank_image;
+use drive_channels::{Dead, Drive};
+use host_session::Session;
+use request_cards::RequestCard;
+use std::alloc::Global;
+
+/// How many tills the disk has. REQUESTS then has three blocks, with two records in each.
+const TILLS: u8 = 6;
+
+/// The last item that a new card may have there: of the 664 sectors outside track 18, REQUESTS has four; 654 of the others
+/// can hold records of 18 bytes, beside six side sectors.
+const TOP: u16 = 9228;
+
+/// What was played on it. The last one's intent stands open.
+const PLAYED: [&str; 8] = [
+    "1,1,S,3,40",
+    "1,2,R,3,2",
+    "2,1,S,20,7",
+    "2,2,I,20,9",
+    "3,1,R,8,1",
+    "4,1,S,9229,5",
+    "6,1,I,20,3",
+    "5,1,S,15,999999999",
+];
+
+/// The till whose intent stands open, and its item, whose card lies in two blocks and is torn.
+const OPEN: (u8, u16) = (5, 15);
+
+/// A record written through a drive.
+fn put_record<D: Sectors>(
+    drive: &mut Drive<D>,
+    name: &[u8],
+    number: u16,
+    text: &[u8],
+) -> Result<(), Dead> {
+    let number = number.to_le_bytes();
+    drive.open(2, name)?;
+    drive.command(&[b'P', 96 + 2, number[0], number[1], 1])?;
+    drive.write(2, text)?;
+    drive.close(2)
+}
+
+/// Plays the messages on a disk, and in the table.
+fn play<D: Sectors>(session: &mut Session<D>, ledger: &mut Ledger) -> Found<()> {
+    for message in PLAYED {
+        if session.handle(message.as_bytes()) != ledger.reply(message.as_bytes()) {
+            return Err("a message before the day has another reply");
+        }
+    }
+    Ok(())
+}
+
+/// Writes the card of a till as version 1.
+fn put_old_card<D: Sectors>(drive: &mut Drive<D>, ledger: &Ledger, till: u8) -> Found<()> {
+    let Some((request, answer)) = ledger.kept(till) else {
+        return Ok(());
+    };
+    let Some(card) = RequestCard::new(till == OPEN.0, request, answer) else {
+        return Err("a request has no card of version 1");
+    };
+    put_record(drive, b"REQUESTS", u16::from(till), &card.print()).map_err(|_| "the drive is dead")
+}
+
+/// The disk, and what it stands for.
+pub fn old_disk(alloc: Global) -> Found<(MemDisk, Ledger)> {
+    let mut disk = MemDisk::zeroed(alloc).map_err(|_| "no memory for an image")?;
+    blank_image(&mut disk, b"STOCK LEDGER", *b"01", TILLS).map_err(|_| "no blank image")?;
+    let Ok(mut session) = Session::open(disk) else {
+        return Err("a blank disk isn't opened");
+    };
+    let mut ledger = Ledger::new(TILLS, TOP);
+    let played = play(&mut session, &mut ledger);
+    let mut drive = Drive::power_on(session.close());
+    played?;
+    ledger.forget_prior();
+    for till in 1..=TILLS {
+        put_old_card(&mut drive, &ledger, till)?;
+    }
+    put_record(&mut drive, b"STOCK", OPEN.1, &[0xA5; 18]).map_err(|_| "the drive is dead")?;
+    Ok((drive.into_disk(), ledger))
+}
+
+/// The message of the open intent.
+pub fn open_message(ledger: &Ledger) -> Option<(request_cards::Request, request_cards::Answer)> {
+    ledger.kept(OPEN.0)
+}

@@ -1,0 +1,40 @@
+//! What was tried.
+
+/// How much was tried.
+#[derive(Clone, Copy)]
+pub struct Tried {
+    /// The messages of the day.
+    pub messages: u64,
+    /// The sectors that were written when nothing was cut.
+    pub writes: u64,
+    /// The images that were held.
+    pub images: u64,
+    /// The openings of an image.
+    pub openings: u64,
+    /// The messages that were sent again.
+    pub repeats: u64,
+    /// The images with one bit turned.
+    pub turned: u64,
+    /// Those of them that were opened.
+    pub opened: u64,
+}
+
+/// One more.
+pub fn count(number: &mut u64) {
+    *number = number.saturating_add(1);
+}
+
+impl Tried {
+    /// Nothing so far.
+    pub fn nothing() -> Tried {
+        Tried {
+            messages: 0,
+            writes: 0,
+            images: 0,
+            openings: 0,
+            repeats: 0,
+            turned: 0,
+            opened: 0,
+        }
+    }
+}

@@ -1,0 +1,54 @@
+#!/bin/sh
+# Plays a day on disks that other programs made (Debian's packages cc1541 and cbmconvert), opens each image that they held
+# on the way, and each image of those openings, two deep: nothing but `every_cut` over an image of someone else's. The
+# shop's files stand behind and between others there, in other sectors, in the other order in the directory, with a last
+# block that isn't full, and on a disk with little room. Not part of the gate. Run it from anywhere.
+. "$(dirname "$0")/common.sh"
+program="$top/crates/every_cut/out/every_cut"
+[ -x "$program" ] || (cd "$top/crates/every_cut" && rt run >/dev/null 2>&1) || true
+[ -x "$program" ] || { echo "foreign_cuts: rt run failed in crates/every_cut" >&2; exit 1; }
+
+# an empty record of this length, so many times
+empty_records() {
+    awk -v length_="$1" -v count="$2" 'BEGIN {
+        for (r = 0; r < count; r++) { printf "ff"; for (i = 1; i < length_; i++) printf "00" } }' | xxd -r -p
+}
+
+# played IMAGE WORDS..: days on the image, which stays as it is
+played() {
+    image=$1
+    shift
+    cp "$image" before.d64
+    for seed in 1 2 3; do
+        "$program" 200 "$seed" "$1" "$image" >said || { echo "$image, seed $seed:"; cat said; exit 1; }
+        cmp "$image" before.d64
+        echo "$image, seed $seed: $(grep -v -e turned -e 'them opened' said | tr '\n' ',' | sed -e 's/,$//' -e 's/,/, /g')"
+    done
+}
+
+head -c 20000 /dev/zero | tr '\0' 'x' >data
+head -c 33016 /dev/zero | tr '\0' 'y' >middle.l10
+
+# both files fresh, nothing else
+empty_records 18 14 >stock.l12
+empty_records 127 8 >requests.l7F
+cbmconvert -v0 -n -D4o plain.d64 stock.l12 requests.l7F
+played plain.d64 100
+
+# behind and between others, REQUESTS first
+cc1541 -q -n shop -f first -w data -f text -T SEQ -w data between.d64 >/dev/null
+cbmconvert -v0 -n -D4 between.d64 requests.l7F middle.l10 stock.l12
+cc1541 -q -f last -w data between.d64 >/dev/null
+played between.d64 100
+
+# last blocks that aren't full: five cards, seven tills
+empty_records 18 5 >stock.l12
+empty_records 127 7 >requests.l7F
+cbmconvert -v0 -n -D4o short.d64 requests.l7F stock.l12
+played short.d64 400
+
+# little room: a disk on which the card of item 600 has none
+head -c 76200 /dev/zero | tr '\0' 'z' >large.l7F
+cc1541 -q -n shop -f first -w data -f second -w data narrow.d64 >/dev/null
+cbmconvert -v0 -n -D4 narrow.d64 large.l7F stock.l12 middle.l10 requests.l7F
+played narrow.d64 900

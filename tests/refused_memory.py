@@ -1,0 +1,141 @@
+#!/usr/bin/env python3
+"""Refuses the built program each piece of memory in turn, and looks at what it does:
+
+    tests/refused_memory.py PROGRAM [CUTS]
+
+PROGRAM is `crates/ledger_cli/out/ledger_cli`, and CUTS `crates/every_cut/out/every_cut`. Each of its words is run over and
+over: the first request for memory is refused, then the second, and so on, until a run has none left to refuse. Each time
+- it ends with status 3 and `NO MEMORY`, with nothing printed and no file changed;
+- or, where it can do without, it does and prints what it does with all its memory.
+CUTS plays a short day: it says so where memory is wanted, with status 1, and never that something differs. A small library
+that is loaded before the program refuses the memory; it is made with `cc`. It prints how much was tried. The status is 1 at
+the first difference."""
+
+import os
+import shutil
+import subprocess
+import sys
+import tempfile
+from pathlib import Path
+
+LIBRARY = r"""
+#include <fcntl.h>
+#include <stddef.h>
+#include <stdlib.h>
+
+void *__libc_malloc(size_t size);
+void *__libc_realloc(void *old, size_t size);
+
+static long left = -1;
+
+__attribute__((constructor)) static void begin(void) {
+    const char *word = getenv("REFUSED");
+    left = word ? atol(word) : -1;
+}
+
+/* counts a request, and leaves a file behind where it is the one that is refused */
+static int refused(void) {
+    if (left < 0 || left-- > 0) return 0;
+    open(getenv("REFUSED_MARK"), O_CREAT | O_WRONLY, 0600);
+    return 1;
+}
+
+void *malloc(size_t size) { return refused() ? NULL : __libc_malloc(size); }
+void *realloc(void *old, size_t size) { return refused() ? NULL : __libc_realloc(old, size); }
+"""
+
+SCRIPT = b"1,1,S,15,7\n1,1,S,15,7\n@3 1,2,S,30,4\n1,2,S,30,4\n2,1,M,15,3,30\n2,2,I,15,9\nhello\n"
+MOST = 5000
+
+
+class Trial:
+    def __init__(self, folder):
+        self.folder = folder
+        self.library = folder / "refused.so"
+        self.mark = folder / "mark"
+        self.tried = 0
+        source = folder / "refused.c"
+        source.write_text(LIBRARY)
+        subprocess.run(["cc", "-O2", "-shared", "-fPIC", "-o", self.library, source], check=True)
+
+    def run(self, words, number=None):
+        """The status and both outputs; and whether the request with this number was refused."""
+        self.mark.unlink(missing_ok=True)
+        environment = dict(os.environ)
+        if number is not None:
+            environment |= {"LD_PRELOAD": str(self.library), "REFUSED": str(number), "REFUSED_MARK": str(self.mark)}
+        done = subprocess.run(words, cwd=self.folder, env=environment, capture_output=True, timeout=120)
+        return (done.returncode, done.stdout, done.stderr), self.mark.exists()
+
+    def files(self):
+        return {path.name: path.read_bytes() for path in self.folder.glob("*.d64")}
+
+    def each(self, words, begin, wanted):
+        """Runs the words with each request refused in turn, each time on the files that `begin` makes. `wanted` judges what
+        the run said and left, beside what it says and leaves with all its memory."""
+        begin()
+        before = self.files()
+        whole, _ = self.run(words)
+        after = self.files()
+        for number in range(MOST):
+            begin()
+            said, hit = self.run(words, number)
+            if not hit:
+                return number
+            self.tried += 1
+            left = self.files()
+            if (said, left) != (whole, after) and not wanted(said, left == before):
+                print(f"{words}, request {number} refused: {said}, files {'as before' if left == before else 'changed'}")
+                sys.exit(1)
+        print(f"{words}: more than {MOST} requests for memory")
+        sys.exit(1)
+
+
+def no_memory(said, same):
+    return said == (3, b"", b"NO MEMORY\n") and same
+
+
+def no_memory_for_a_day(said, same):
+    return said[0] == 1 and b"memory" in said[1].splitlines()[-1] and same
+
+
+def main():
+    if len(sys.argv) < 2:
+        sys.exit(__doc__)
+    program = Path(sys.argv[1]).resolve()
+    if not shutil.which("cc"):
+        print("refused_memory: cc is not installed; nothing was tried")
+        return
+    with tempfile.TemporaryDirectory() as name:
+        trial = Trial(Path(name))
+        image = trial.folder / "shop.d64"
+        (trial.folder / "script").write_bytes(SCRIPT)
+        (trial.folder / "lines").write_bytes(SCRIPT.replace(b"@3 ", b""))
+
+        def blank():
+            image.unlink(missing_ok=True)
+            trial.run([program, "format", "shop.d64", "--tills", "2"])
+
+        def played():
+            blank()
+            trial.run([program, "play", "shop.d64", "script"])
+
+        played()
+        words = ["check", "list", "dry", "format"]
+        if trial.run([program, "show", "shop.d64"])[0][0] == 0:
+            words += ["show", "play"]
+        for word in words:
+            line = {
+                "dry": ["dry", "lines"],
+                "format": ["format", "shop.d64", "--tills", "3"],
+                "play": ["play", "shop.d64", "script"],
+            }.get(word, [word, "shop.d64"])
+            count = trial.each([program, *line], blank if word == "play" else played, no_memory)
+            print(f"{word}: {count} requests for memory refused in turn")
+        if len(sys.argv) > 2:
+            count = trial.each([Path(sys.argv[2]).resolve(), "6", "1", "20"], lambda: None, no_memory_for_a_day)
+            print(f"every_cut: {count} requests for memory refused in turn")
+        print(f"{trial.tried} refusals, no difference")
+
+
+main()
