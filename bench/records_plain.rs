@@ -90,7 +90,7 @@ fn timed(word: &str, rounds: u64) -> Result<(u64, MemDisk), Fault> {
 
 fn counts() -> Result<(), Fault> {
     let mut disk = Meter { disk: MemDisk { sectors: vec![[0; 256]; SECTORS] }, reads: 0, writes: 0 };
-    blank(&mut disk)?;
+    blank(&mut disk, 2)?;
     let mut file = find(&mut disk, b"STOCK")?;
     let (reads, writes) = (disk.reads, disk.writes);
     grow_to(&mut disk, &mut file, RECORDS)?;

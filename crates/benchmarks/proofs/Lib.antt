@@ -1,2 +1,4 @@
+pub mod Asked
+pub mod Printed
 pub mod Tallies
 pub mod Walks

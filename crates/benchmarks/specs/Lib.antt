@@ -1,3 +1,5 @@
+pub mod Asked
+pub mod Printed
 pub mod Rounds
 pub mod Tallies
 pub mod Walks

@@ -1,21 +1,29 @@
 //! Does the same work so many times over, so that it can be timed: `benchmarks WORD ROUNDS IMAGE`. Each word prints one
-//! number, from which no round can be left out. Where there is no word, each benchmark is run for a few rounds.
+//! number, from which no round can be left out. Where there is no word, each benchmark is run for a few rounds. One word
+//! times nothing: `benchmarks records IMAGE NAME` prints the records of a relative file.
 #![tactic(auto)]
 
 mod checks;
 mod drives;
+mod printing;
 mod records;
+mod requests;
 mod sectors;
 
 use checks::count_clean;
 use d64_image::MemDisk;
 use disk_layout::blank_image;
 use drive_channels::Drive;
+use printing::put_file;
+use std::io::{BufWriter, Write};
 use std::process::ExitCode;
 use std::{env, fs, io};
 
 /// How many rounds there are where no word says it.
 const ROUNDS: u64 = 1000;
+
+/// How many bytes of output are gathered before they are written.
+const OUTPUT_ROOM: usize = 65536;
 
 /// Rounds of a benchmark and the number that they give. Err is a text that says what failed.
 type Done = Result<u64, &'static str>;
@@ -93,6 +101,22 @@ fn time_drive(rt: &HostRuntime, rounds: u64) -> Done {
     Ok(checksum(drive.into_disk().bytes()))
 }
 
+/// `requests`: so many messages of 64 tills are handled, half of them repeats, by a session on a disk that was blank; gives a
+/// checksum of the replies and of the image.
+fn time_requests(rt: &HostRuntime, rounds: u64) -> Done {
+    let mut disk = MemDisk::zeroed(rt.alloc()).map_err(|_| "no memory")?;
+    blank_image(&mut disk, b"STOCK LEDGER", *b"01", requests::TILLS).map_err(|_| "no blank image")?;
+    let mut tills = requests::all_tills(rt.alloc()).map_err(|_| "no memory")?;
+    let (replies, disk) = requests::run(disk, tills.as_mut_slice(), rounds).map_err(
+        |_| "the disk is no shop's",
+    )?;
+    Ok(
+        replies
+            .wrapping_mul(31)
+            .wrapping_add(checksum(disk.bytes())),
+    )
+}
+
 /// The benchmark of a word. Err also where there is no such word.
 fn timed(rt: &HostRuntime, word: &str, rounds: u64, path: Option<String>) -> Done {
     match word {
@@ -102,20 +126,45 @@ fn timed(rt: &HostRuntime, word: &str, rounds: u64, path: Option<String>) -> Don
         "reads" => time_reads(rt, rounds),
         "writes" => time_writes(rt, rounds),
         "drive" => time_drive(rt, rounds),
-        _ => Err("the words are sectors, check, growth, reads, writes, drive"),
+        "requests" => time_requests(rt, rounds),
+        _ => Err("the words are sectors, check, growth, reads, writes, drive, requests"),
     }
+}
+
+/// `records`: each record of a relative file of the image on a line of its own.
+fn print_records(rt: &HostRuntime, path: Option<String>, name: Option<String>) -> Result<(), &'static str> {
+    let name = name.ok_or("records asks for an image and a name")?;
+    let mut disk = asked_disk(rt, path)?;
+    let mut out = BufWriter::with_capacity(rt.alloc(), OUTPUT_ROOM, io::writer(rt)).map_err(|_| "no memory")?;
+    put_file(&mut disk, name.as_str().as_bytes(), &mut out)?;
+    out.flush().map_err(|_| "the output failed")
+}
+
+/// Tells what failed, and gives the exit status for it.
+fn refuse(rt: &HostRuntime, what: &str) -> io::Result<ExitCode> {
+    eprintln!(rt; "benchmarks: {what}")?;
+    Ok(ExitCode::FAILURE)
 }
 
 fn main(rt: HostRuntime) -> io::Result<ExitCode> {
     let mut words = env::args(&rt)?;
     words.next();
     let word = words.next();
+    if word.as_deref() == Some("records") {
+        let path = words.next();
+        return match print_records(&rt, path, words.next()) {
+            Ok(()) => Ok(ExitCode::SUCCESS),
+            Err(what) => refuse(&rt, what),
+        };
+    }
     let Some(rounds) = asked_rounds(words.next()) else {
         eprintln!(rt; "benchmarks: ROUNDS is a number")?;
         return Ok(ExitCode::from(2));
     };
     let Some(word) = word else {
-        for word in ["sectors", "check", "growth", "reads", "writes", "drive"] {
+        for word in [
+            "sectors", "check", "growth", "reads", "writes", "drive", "requests",
+        ] {
             match timed(&rt, word, rounds, None) {
                 Ok(number) => println!(rt; "{word} {number}")?,
                 Err(what) => println!(rt; "{word} {what}")?,
@@ -128,9 +177,6 @@ fn main(rt: HostRuntime) -> io::Result<ExitCode> {
             println!(rt; "{number}")?;
             Ok(ExitCode::SUCCESS)
         }
-        Err(what) => {
-            eprintln!(rt; "benchmarks: {what}")?;
-            Ok(ExitCode::FAILURE)
-        }
+        Err(what) => refuse(&rt, what),
     }
 }

@@ -10,7 +10,7 @@ use Rattle.d64_image.specs.Faults.{device_fault}
 use Rattle.d64_image.specs.Fuses.{fuse, fuse_left}
 use Rattle.d64_image.specs.History.{History, HeldOnly, Failed, IfCounted, OnlyReads, OldOr, WritesNothing}
 use Rattle.d64_image.specs.Memory.{memory}
-use Rattle.d64_image.specs.Mirrors.{IsHanded, IsSought, mirror, offset_of, overwritten}
+use Rattle.d64_image.specs.Mirrors.{IsHanded, with_sectors, IsSought, mirror, offset_of, overwritten, TookSectors, is_broken, mirror_file}
 use Rattle.d64_image.specs.OneFaults.{calls_left, fault_place, is_due, one_fault}
 use Rattle.d64_image.specs.declared.fuse.Fuse.{Fuse}
 use Rattle.d64_image.specs.declared.mem_disk.MemDisk.{MemDisk}
@@ -138,8 +138,21 @@ pub file_that_stands_there_is_not_sought : {F : Type 0} (position : F → Option
 file_that_stands_there_is_not_sought position bytes contents old new handed x = ⊎_elim (λ there. there.1) (λ sought. absurd (sought.0 refl)) x.there
 
 -- a mirror whose file failed fails everywhere
-pub broken_mirror_fails_everywhere : {F : Type 0} (m : Mirror F) (p : Place) → m.broken ≡ true → mirror.failed_at m p
-broken_mirror_fails_everywhere m p broken = broken
+pub broken_mirror_fails_everywhere : {F : Type 0} (position : F → Option ℕ) (bytes contents : F → Option (List ℕ)) (m : Mirror F) (p : Place)
+    → m.broken ≡ true → (mirror position bytes contents).failed_at m p
+broken_mirror_fails_everywhere position bytes contents m p broken = broken
+
+pub two_sectors_are_in_it : (img : Image) (p q : Place) (a b : Sector)
+    → with_sectors img (record { place = p; bytes = a } ∷ record { place = q; bytes = b } ∷ []) ≡ put (put img p a) q b
+two_sectors_are_in_it img p q a b = refl
+
+-- a mirror that took no sector left its file alone
+pub mirror_that_took_nothing_left_its_file : {F : Type 0} (position : F → Option ℕ) (bytes contents : F → Option (List ℕ)) (old new : Mirror F)
+    → TookSectors position bytes contents old new [] → ¬ (is_broken new) → mirror_file new ≡ mirror_file old
+mirror_that_took_nothing_left_its_file position bytes contents old new took whole = ⊎_elim
+    (λ broken. absurd (whole broken))
+    (λ same. same.0 ∙ took.handed)
+    took.end
 
 -- a fault that comes at the next call but one isn't due, and neither is one that is past
 pub fault_after_one_call_is_not_due : {D : Type 0} (f : OneFault D) → calls_left f ≡ 1 → ¬ (is_due f)

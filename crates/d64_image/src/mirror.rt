@@ -18,6 +18,7 @@ pub struct Mirror<F> {
     disk: MemDisk,
     at: Option<u64>,
     broken: bool,
+    taken: Count,
     failed: Count,
 }
 
@@ -31,9 +32,9 @@ fn write_through<F: Write>(file: &mut F, bytes: &[u8]) -> std::io::Result<()>
 }
 
 impl<F: Write + Seek> Mirror<F> {
-    ghost use Rattle.std.specs.Prelude.{◌≡◌, ◌+◌, None, Some};
-    ghost use Rattle.d64_image.specs.Mirrors.{IsHanded, is_broken, mirror};
-    ghost use Rattle.d64_image.specs.Mirrors.{mirror_at, mirror_disk, mirror_file, offset_of};
+    ghost use Rattle.std.specs.Prelude.{◌≡◌, ◌↔◌, ◌+◌, None, Some, true};
+    ghost use Rattle.d64_image.specs.Mirrors.{IsHanded, is_broken, mirror_at, mirror_disk};
+    ghost use Rattle.d64_image.specs.Mirrors.{mirror_failures, mirror_file, mirror_writes, offset_of};
 
     /// A mirror of a disk in a file that holds the same 174,848 bytes, wherever it stands. Neither is touched.
     pub fn new(file: F, disk: MemDisk) -> Mirror<F>
@@ -41,15 +42,24 @@ impl<F: Write + Seek> Mirror<F> {
         ensures file { mirror_file result ≡ file }
         ensures at { mirror_at result ≡ None }
         ensures whole { is_broken result → ⊥ }
-        ensures unfailed { mirror.failures result ≡ 0 }
+        ensures unfailed { mirror_failures result ≡ 0 }
+        ensures untaken { mirror_writes result ≡ 0 }
     {
         Mirror {
             file,
             disk,
             at: None,
             broken: false,
+            taken: Count::zero(),
             failed: Count::zero(),
         }
+    }
+
+    /// Whether the file failed.
+    pub fn is_broken(&self) -> bool
+        ensures { result ≡ true ↔ is_broken self.now }
+    {
+        self.broken
     }
 
     /// The file, and the disk in memory.
@@ -62,6 +72,7 @@ impl<F: Write + Seek> Mirror<F> {
             disk,
             at: _,
             broken: _,
+            taken: _,
             failed: _,
         } = self;
         (file, disk)
@@ -71,6 +82,7 @@ impl<F: Write + Seek> Mirror<F> {
     fn hand_over(&mut self, place: Place, from: &[u8; 256]) -> std::io::Result<()>
         ensures disk { self.new.disk ≡ self.old.disk }
         ensures broken { self.new.broken ≡ self.old.broken }
+        ensures taken { self.new.taken ≡ self.old.taken }
         ensures failed { self.new.failed ≡ self.old.failed }
         ensures ok { OnOk result (self.new.at ≡ Some (offset_of place + 256)) }
         ensures handed { OnOk result (IsHanded F.stream_position F.stream_bytes F.contents
@@ -94,11 +106,11 @@ impl<F: Write + Seek> Sectors for Mirror<F> {
     ghost use Rattle.d64_image.specs.Mirrors.{IsHanded, is_broken, mirror};
     ghost use Rattle.d64_image.specs.Mirrors.{mirror_at, mirror_disk, mirror_file, offset_of, overwritten};
 
-    ghost history = { mirror };
+    ghost history = { mirror F.stream_position F.stream_bytes F.contents };
 
     /// Reads memory alone.
     fn read(&mut self, place: Place, to: &mut [u8; 256]) -> Result<(), DeviceFault>
-        ensures device { ReadsSector mirror self.old self.new place to.new device_fault result }
+        ensures device { ReadsSector (mirror F.stream_position F.stream_bytes F.contents) self.old self.new place to.new device_fault result }
         // it fails exactly where it is broken
         ensures broken { is_broken self.old → IsErr result }
         ensures whole { (is_broken self.old → ⊥) → IsOk result }
@@ -113,7 +125,8 @@ impl<F: Write + Seek> Sectors for Mirror<F> {
 
     /// Hands the sector to the file, and then to memory. Where the file fails, memory is as before.
     fn write(&mut self, place: Place, from: &[u8; 256]) -> Result<(), DeviceFault>
-        ensures device { WritesSector mirror self.old self.new place from.now device_fault result }
+        ensures device { WritesSector (mirror F.stream_position F.stream_bytes F.contents) self.old self.new place from.now
+            device_fault result }
         // a broken mirror hands nothing over
         ensures broken { is_broken self.old → IsErr result × (mirror_file self.new ≡ mirror_file self.old) }
         // the file was handed this sector alone, at its place, with a seek only where it stood elsewhere; that is where
@@ -130,6 +143,7 @@ impl<F: Write + Seek> Sectors for Mirror<F> {
             self.failed.add_one();
             return Err(DeviceFault);
         }
+        self.taken.add_one();
         self.disk.write(place, from)
     }
 }

@@ -1,5 +1,5 @@
 -- What the writes of a completed intent make of the files: the same shop at each moment.
-use Rattle.std.proofs.Common.{ℕ, zero, suc, ◌≡◌, ◌≢◌, ◌≤◌, ◌+◌, inl, inr, false, List, [], ◌∷◌, Ok, Err, Result, Some, length, refl, sym, ◌∙◌, ap, subst, arith}
+use Rattle.std.proofs.Common.{ℕ, zero, suc, ◌≡◌, ◌≢◌, ◌≤◌, ◌+◌, inl, inr, false, List, [], ◌∷◌, Ok, Err, Result, Some, length, refl, sym, ◌∙◌, ◌++◌, ap, replicate, set, subst, true, arith}
 use Rattle.std.specs.Prelude.{Bool, Contains, IfSome, IsSome, IsTrue, OnOk, Option, None, slice_get, is_some, nat_le, not, ◌==◌, ◌&&◌, if◌then◌else◌}
 use Rattle.std.specs.List.{AllByRecursion}
 use Rattle.std.proofs.lemmas.Bool.{and_parts, eqb-false, false≢true, leb-true, not-true}
@@ -17,7 +17,7 @@ use Rattle.request_cards.specs.declared.answer.Answer.TheVariants as answers
 use Rattle.request_cards.specs.declared.kind.Kind.{Kind}
 use Rattle.request_cards.specs.declared.kind.Kind.TheVariants.{Receive, Issue, Set, Move}
 use Rattle.request_cards.specs.Requests.{may_go_to, same_kind, to_of}
-use Rattle.request_cards.specs.CardTexts.{Card, IsCard, IsEntry, IsStock, Stock, answer_quantity, answer_to_quantity, card_text, goes_with, is_done, stock_text}
+use Rattle.request_cards.specs.CardTexts.{Card, IsCard, IsEntry, IsStock, Stock, answer_quantity, answer_to_quantity, card_text, entry_text, goes_with, is_done, second_text, stock_text}
 use Rattle.host_session.specs.Handling.{card_writes}
 use Rattle.host_session.specs.Completing.{HasIntent, HasResults, IsCompleted, answered_card}
 use Rattle.host_session.specs.Files.{Files, record_at, with_record}
@@ -326,3 +326,12 @@ module _ (f : Files) (till : ℕ) (c : Card) (x : HasIntent f till c) where
 -- a card of version 1, in version 2 and answered
 pub old-answered : (c d e : Card) → d ≡ record e { pending = false } → e ≡ record c { version = 2; second = None } → None ≡ c.second → d ≡ answered_card c
 old-answered c d e x y z = x ∙ ap (λ (k : Card). record k { pending = false }) y ∙ (λ i. record c { version = 2; pending = false; second = z i })
+
+-- the text of a card of version 2, with an A for its state, is that of the card answered
+pub marked : (c : Card) → c.version ≡ 2 → set (card_text c) 1 65 ≡ card_text (answered_card c)
+marked c two = let two : (c.version == 1) ≡ false = rw two refl in rw two (by c.pending)
+  where
+    by : (p : Bool) → set (50 ∷ entry_text p c.newest ++ second_text c.second ++ replicate 10 0) 1 65
+        ≡ 50 ∷ entry_text false c.newest ++ second_text c.second ++ replicate 10 0
+    by true = refl
+    by false = refl

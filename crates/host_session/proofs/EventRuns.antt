@@ -42,13 +42,13 @@ module _ {D : Type 0} (h : History D) (all : List Message) (old : D) where
 
     -- the next event, whose reply the output didn't take
     pub unwritten : (A : Type 0) → ((t : Shop) → IsSettled (h.image mid) t → A × IsEvent h t m mid new (GoesOn h t m reply new))
-        → (s : Shop) → IsShop (h.image old) s → (told : List Reply) × StoppedByOutput h s all old new told × HeldBeginnings h s all old new
+        → (s : Shop) → IsShop (h.image old) s → (told : List Reply) × Now told × StoppedByOutput h s all old new told × HeldBeginnings h s all old new
     unwritten A event s here =
         let q = played s here in
         let y = event (now_of h s q.0 old mid q.1 q.4) q.4.0.ends in
         let x = and_no_more h s (q.0 ++ m ∷ []) rest all old new (q.1 ++ reply ∷ []) (parts_more q.0 left rest m is q.2) (some_last q.0 m)
         (one_played h s q.0 m old mid new q.1 reply q.4 y.1) in
-        (q.1 ++ reply ∷ [], x.0, x.1)
+        (q.1 ++ reply ∷ [], kept q.1 q.3, x.0, x.1)
 
     -- the next event, in which the device failed
     pub last : ((t : Shop) → IsSettled (h.image mid) t → IsEvent h t m mid new (EndsFailed h t m reply new))

@@ -32,6 +32,7 @@ pub mod Starts
 pub mod AtRest
 pub mod Opens
 pub mod Examples
+pub mod SessionExamples
 pub mod Parts
 pub mod Cuts
 pub mod WholeMessages

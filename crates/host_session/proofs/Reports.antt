@@ -9,6 +9,7 @@ use Rattle.request_cards.specs.declared.reply.Reply.{Reply}
 use Rattle.script_lines.specs.declared.events.Cut.{Cut}
 use Rattle.script_lines.specs.declared.events.Event.{Event}
 use Rattle.host_session.specs.Events.{Message, message_in, message_of, messages_of}
+use Rattle.host_session.specs.Runs.{IsPrintedUpToLast}
 use Rattle.script_lines.specs.Resets.{Line, first_bad, line_in, line_of}
 
 report_more : (told : List Reply) (r : Reply) → report (told ++ r ∷ []) ≡ report told ++ (reply_text r ++ codes "\n")
@@ -52,3 +53,8 @@ pub written_more : (a b c : Option (List ℕ)) (told : List Reply) (reply : Repl
     → Appends a c (report (told ++ reply ∷ []))
 written_more a b c told reply before now =
     subst (Appends a c) (sym (report_more told reply)) (Appends-trans a b c (report told) (reply_text reply ++ codes "\n") before now)
+
+-- the output took these replies, and one more comes
+pub printed_up_to : {W : Type 0} (contents : W → Option (List ℕ)) (old at : W) (reply : Reply) (told : List Reply)
+    → Appends (contents old) (contents at) (report told) → IsPrintedUpToLast contents old (told ++ reply ∷ [])
+printed_up_to contents old at reply told printed = record { before = told; last = reply; parts = refl; at = at; printed = printed }

@@ -8,7 +8,7 @@ ghost use Rattle.host_session.specs.Putting.{HasCard, IsPuttingCard};
 ghost use Rattle.host_session.specs.Selecting.{IsReady};
 ghost use Rattle.host_session.specs.Shop.{IsShop, results_of, shop_of};
 ghost use Rattle.rel_records.specs.Written.{touched};
-ghost use Rattle.request_cards.specs.CardTexts.{IsCard, IsStock, stock_text};
+ghost use Rattle.request_cards.specs.CardTexts.{Card, IsCard, IsStock, card_text, stock_text};
 
 use crate::putting::{put_answer, put_card};
 use d64_image::Sectors;
@@ -25,6 +25,13 @@ pub(crate) fn answered(card: &RequestCard) -> RequestCard
     } else {
         card.answered()
     }
+}
+
+/// Makes the text of a card of version 2 that of the same card with its intent answered.
+pub(crate) fn mark_answered(text: &mut [u8; 127])
+    ensures { (c : Card) → c.version ≡ 2 → text.old ≡ card_text c → text.new ≡ card_text (answered_card c) }
+{
+    text[1] = b'A';
 }
 
 /// Writes the quantity on hand of an item whose record is there.
@@ -73,14 +80,16 @@ fn put_results<D: Sectors>(drive: &mut Drive<D>, till: u8, card: &RequestCard) -
     }
 }
 
-/// Completes an open intent: writes the cards of its results, and then its answer.
-pub(crate) fn complete<D: Sectors>(
+/// Completes an open intent: writes the cards of its results, and then its answer, which has this text.
+pub(crate) fn complete_with<D: Sectors>(
     drive: &mut Drive<D>,
     till: u8,
     card: &RequestCard,
+    text: &[u8; 127],
 ) -> Result<(), Dead>
     requires ready { IsReady D.history drive.old }
     requires intent { (f : Files) × HasFiles (D.history.image drive.old.disk) f × HasIntent f till card.now }
+    requires text { text.now ≡ card_text (answered_card card.now) }
     ensures ready { OnOk result (IsReady D.history drive.new) }
     ensures ok { (f : Files) → HasFiles (D.history.image drive.old.disk) f → HasIntent f till card.now
         → OnOk result (IsCompleted f till card.now (D.history.image drive.new.disk)) }
@@ -92,5 +101,25 @@ pub(crate) fn complete<D: Sectors>(
     ensures dies { IsErr result → drive.new.dead ≡ true }
 {
     put_results(drive, till, card)?;
-    put_answer(drive, till, &answered(card).print())
+    put_answer(drive, till, text)
+}
+
+/// Completes an open intent of either version.
+pub(crate) fn complete<D: Sectors>(
+    drive: &mut Drive<D>,
+    till: u8,
+    card: &RequestCard,
+) -> Result<(), Dead>
+    requires ready { IsReady D.history drive.old }
+    requires intent { (f : Files) × HasFiles (D.history.image drive.old.disk) f × HasIntent f till card.now }
+    ensures ready { OnOk result (IsReady D.history drive.new) }
+    ensures ok { (f : Files) → HasFiles (D.history.image drive.old.disk) f → HasIntent f till card.now
+        → OnOk result (IsCompleted f till card.now (D.history.image drive.new.disk)) }
+    ensures moments { (f : Files) → HasFiles (D.history.image drive.old.disk) f → HasIntent f till card.now
+        → Changes D.history drive.old.disk drive.new.disk (card_writes (results_of card.now.newest) + 1)
+        (λ i. IsShop i (shop_of f)) }
+    ensures failures { TellsFailure D.history drive.old.disk drive.new.disk result }
+    ensures dies { IsErr result → drive.new.dead ≡ true }
+{
+    complete_with(drive, till, card, &answered(card).print())
 }

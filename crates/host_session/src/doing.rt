@@ -8,7 +8,7 @@ ghost use Rattle.host_session.specs.Selecting.{IsReady};
 ghost use Rattle.host_session.specs.Shop.{IsSettled, IsShop, results_of, shop_of};
 ghost use Rattle.rel_records.specs.Growth.{growth_writes};
 
-use crate::completing::complete;
+use crate::completing::{complete_with, mark_answered};
 use crate::growing::grow_stock;
 use crate::putting::put_answer;
 use d64_image::Sectors;
@@ -59,8 +59,11 @@ fn put_intent<D: Sectors>(
     ensures dies { IsErr result → drive.new.dead ≡ true }
 {
     let till = request.till();
-    put_answer(drive, till, &card.print())?;
-    complete(drive, till, card)
+    let mut text = card.print();
+    put_answer(drive, till, &text)?;
+    // the answer differs from its intent by one byte
+    mark_answered(&mut text);
+    complete_with(drive, till, card, &text)
 }
 
 /// Grows STOCK for the item of a first set, then writes the intent and completes it.

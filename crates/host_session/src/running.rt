@@ -5,7 +5,7 @@ ghost use Rattle.d64_image.specs.History.{Failed, NeverFailed};
 ghost use Rattle.host_session.specs.Events.{HasNoReset, messages_of, requests_of};
 ghost use Rattle.host_session.specs.Faults.{script_number};
 ghost use Rattle.host_session.specs.Opening.{IsAShop, disk_of};
-ghost use Rattle.host_session.specs.Runs.{HeldBeginnings, IsPlayedWhole, IsRefused, StoppedByDevice, StoppedByOutput};
+ghost use Rattle.host_session.specs.Runs.{HeldBeginnings, IsPlayedWhole, IsPrintedUpToLast, IsRefused, StoppedByDevice, StoppedByOutput};
 ghost use Rattle.host_session.specs.Shop.{IsSettled, IsShop, Shop, start_of, with_state};
 ghost use Rattle.host_session.specs.declared.faults.OpenFault.{OpenFault};
 ghost use Rattle.request_cards.specs.Ledgers.{plain, replies, report};
@@ -91,12 +91,13 @@ pub fn run_script<D: Sectors, W: Write>(
     ensures without_resets { (s : Shop) → IsShop (D.history.image disk) s → HasNoReset (lines script.now) → IfOk result (λ d.
         Appends (W.contents out.old) (W.contents out.new) (report (replies (start_of s) [] (lines script.now)))
         × IsSettled (D.history.image d) (with_state s (plain (start_of s) (requests_of (lines script.now))))) }
-    // The output failed: this holds of the lines handled, the last of which has the reply that couldn't be written.
+    // The output failed: this holds of the lines handled, the last of which has the reply that couldn't be written; those
+    // before it were.
     ensures output { (s : Shop) → IsShop (D.history.image disk) s → IfErr result (λ e. e.0 ≡ ScriptFault.Output
-        → (told : List Reply) × StoppedByOutput D.history s (messages_of (lines script.now)) disk e.1 told) }
-    // The device failed: it failed in the last line handled.
+        → (told : List Reply) × IsPrintedUpToLast W.contents out.old told × StoppedByOutput D.history s (messages_of (lines script.now)) disk e.1 told) }
+    // The device failed: it failed in the last line handled. The replies before the last one were written.
     ensures device { (s : Shop) → IsShop (D.history.image disk) s → IfErr result (λ e. e.0 ≡ ScriptFault.Device
-        → (told : List Reply) × StoppedByDevice D.history s (messages_of (lines script.now)) disk e.1 told) }
+        → (told : List Reply) × IsPrintedUpToLast W.contents out.old told × StoppedByDevice D.history s (messages_of (lines script.now)) disk e.1 told) }
     // At each moment the shop is that of a counted list of some beginning of the lines.
     ensures moments { (s : Shop) → IsShop (D.history.image disk) s
         → HeldBeginnings D.history s (messages_of (lines script.now)) disk (disk_of (λ d. d) result) }

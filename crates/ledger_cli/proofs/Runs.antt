@@ -1,15 +1,20 @@
 -- The run of a command over an image, from how the command ended.
-use Rattle.std.proofs.Common.{◌≡◌, ◌≢◌, ◌⊎◌, ℕ, List, Result, Ok, Err, refl, ap, arith, inl, inr}
-use Rattle.std.specs.Prelude.{IfErr, IfOk, None, OnOk, Option, Some, codes, length}
+use Rattle.std.proofs.Common.{◌≡◌, ◌≢◌, ◌⊎◌, ◌∙◌, ℕ, List, Result, Ok, Err, refl, ap, arith, inl, inr, sym}
+use Rattle.std.proofs.lemmas.Bool.{false≢true}
+use Rattle.std.proofs.lemmas.Option.{none-some}
+use Rattle.std.specs.Prelude.{IfErr, IfOk, None, OnOk, Option, Some, codes, is_some, length}
 use Rattle.std.specs.Io.KnownBytes.{Appends}
 use Rattle.d64_image.specs.Memory.{sectors_in}
 use Rattle.disk_layout.proofs.Unclean.{told-unclean}
 use Rattle.disk_layout.specs.declared.faults.Fault.{Fault}
+use Rattle.host_session.proofs.Judging.{refused-no_shop}
 use Rattle.ledger_cli.specs.Faults.{check_status, end_status}
+use Rattle.ledger_commands.specs.Plays.{IsPlayEnd, Known}
+use Rattle.ledger_commands.specs.Shops.{IsOpenRefusal, IsShowFault, IsShown}
 use Rattle.ledger_commands.specs.Images.{IsCheckFault, IsFormatFault, IsHandedTo, IsListFault, IsListed, IsVerdict}
 use Rattle.ledger_commands.specs.Faults.{run_status}
 use Rattle.ledger_commands.specs.Texts.{verdict_text}
-use Rattle.ledger_cli.specs.Runs.{IsCheckRun, IsFormatRun, IsListRun}
+use Rattle.ledger_cli.specs.Runs.{IsCheckRun, IsCutShort, IsFormatRun, IsListRun, IsPlayRun, IsShowRun}
 use Rattle.ledger_commands.specs.declared.faults.RunFault.{RunFault}
 use Rattle.ledger_commands.specs.declared.faults.RunFault.TheVariants as run
 
@@ -18,6 +23,12 @@ abbrev file_or : RunFault → ℕ
 file_or run.File = 0
 file_or run.ImageSize = 1
 file_or (run.Layout fault) = 1
+file_or run.NoStock = 1
+file_or run.NoRequests = 1
+file_or (run.BadCard item) = 1
+file_or (run.BadRequestCard till) = 1
+file_or run.TwoIntents = 1
+file_or (run.BadLine line) = 1
 file_or run.NoMemory = 1
 file_or run.Device = 1
 
@@ -85,6 +96,12 @@ list-run contents image old new (Err run.NoMemory) ok err untouched = record {
   untouched = λ _. untouched (not-file run.NoMemory refl);
   statuses = inr (inr refl);
 }
+list-run contents image old new (Err run.NoStock) ok err untouched = absurd err
+list-run contents image old new (Err run.NoRequests) ok err untouched = absurd err
+list-run contents image old new (Err (run.BadCard item)) ok err untouched = absurd err
+list-run contents image old new (Err (run.BadRequestCard till)) ok err untouched = absurd err
+list-run contents image old new (Err run.TwoIntents) ok err untouched = absurd err
+list-run contents image old new (Err (run.BadLine line)) ok err untouched = absurd err
 list-run contents image old new (Err run.Device) ok err untouched = absurd err
 
 -- a check
@@ -129,4 +146,167 @@ check-run contents image old new (Err run.NoMemory) size verdict said err untouc
   clean = λ one. absurd (omega (arith, one));
   statuses = inr (inr refl);
 }
+check-run contents image old new (Err run.NoStock) size verdict said err untouched = absurd err
+check-run contents image old new (Err run.NoRequests) size verdict said err untouched = absurd err
+check-run contents image old new (Err (run.BadCard item)) size verdict said err untouched = absurd err
+check-run contents image old new (Err (run.BadRequestCard till)) size verdict said err untouched = absurd err
+check-run contents image old new (Err run.TwoIntents) size verdict said err untouched = absurd err
+check-run contents image old new (Err (run.BadLine line)) size verdict said err untouched = absurd err
 check-run contents image old new (Err run.Device) size verdict said err untouched = absurd err
+
+-- an image that no opening takes, and of which nothing was shown
+show-refused : {W : Type 0} (contents : W → Option (List ℕ)) (image : List ℕ) (old new : W) (fault : RunFault)
+    → run_status fault ≡ 1 → file_or fault ≡ 1 → IsOpenRefusal image fault → (fault ≢ run.File → new ≡ old)
+    → IsShowRun contents image old new (run_status fault)
+show-refused contents image old new fault one other refusal untouched = record {
+  done = λ zero'. absurd (omega (arith, zero', one));
+  size = λ _. one;
+  refused = λ _. inr (record { fault = refusal.opening; holds = refusal.refuses });
+  shop = λ _ _ s. refused-no_shop _ refusal.opening s.0 refusal.refuses s.1;
+  untouched = λ _. untouched (not-file fault other);
+  statuses = inr (inl one);
+}
+
+-- what an image holds, shown
+pub show-run : {W : Type 0} (contents : W → Option (List ℕ)) (image : List ℕ) (old new : W) (ended : Result Unit RunFault)
+    → OnOk ended (IsShown contents image old new) → IfErr ended (IsShowFault image) → IfErr ended (λ fault. fault ≢ run.File → new ≡ old)
+    → IsShowRun contents image old new (end_status ended)
+show-run contents image old new (Ok _) ok err untouched = record {
+  done = λ _. ok;
+  size = λ other. absurd (other ok.size);
+  refused = λ one. absurd (omega (arith, one));
+  shop = λ one. absurd (omega (arith, one));
+  untouched = λ one. absurd (omega (arith, one));
+  statuses = inl refl;
+}
+show-run contents image old new (Err run.ImageSize) ok err untouched = record {
+  done = λ zero'. absurd (omega (arith, zero'));
+  size = λ _. refl;
+  refused = λ _. inl err;
+  shop = λ _ same. absurd (err same);
+  untouched = λ _. untouched (not-file run.ImageSize refl);
+  statuses = inr (inl refl);
+}
+show-run contents image old new (Err run.File) ok err untouched = record {
+  done = λ zero'. absurd (omega (arith, zero'));
+  size = λ other. absurd (other err.0);
+  refused = λ one. absurd (omega (arith, one));
+  shop = λ one. absurd (omega (arith, one));
+  untouched = λ one. absurd (omega (arith, one));
+  statuses = inr (inr refl);
+}
+show-run contents image old new (Err run.NoMemory) ok err untouched = record {
+  done = λ zero'. absurd (omega (arith, zero'));
+  size = λ other. absurd (other err);
+  refused = λ one. absurd (omega (arith, one));
+  shop = λ one. absurd (omega (arith, one));
+  untouched = λ one. absurd (omega (arith, one));
+  statuses = inr (inr refl);
+}
+show-run contents image old new (Err run.Device) ok err untouched = record {
+  done = λ zero'. absurd (omega (arith, zero'));
+  size = λ other. absurd (other err.size);
+  refused = λ one. absurd (omega (arith, one));
+  shop = λ one. absurd (omega (arith, one));
+  untouched = λ one. absurd (omega (arith, one));
+  statuses = inr (inr refl);
+}
+show-run contents image old new (Err (run.BadLine line)) ok err untouched = show-refused contents image old new (run.BadLine line) refl refl err untouched
+show-run contents image old new (Err (run.Layout fault)) ok err untouched = show-refused contents image old new (run.Layout fault) refl refl err untouched
+show-run contents image old new (Err run.NoStock) ok err untouched = show-refused contents image old new run.NoStock refl refl err untouched
+show-run contents image old new (Err run.NoRequests) ok err untouched = show-refused contents image old new run.NoRequests refl refl err untouched
+show-run contents image old new (Err (run.BadCard item)) ok err untouched = show-refused contents image old new (run.BadCard item) refl refl err untouched
+show-run contents image old new (Err (run.BadRequestCard till)) ok err untouched = show-refused contents image old new (run.BadRequestCard till) refl refl err untouched
+show-run contents image old new (Err run.TwoIntents) ok err untouched = show-refused contents image old new run.TwoIntents refl refl err untouched
+
+-- an image that no opening takes, and on which no line was played
+play-refused : {F W : Type 0} (k : Known F W) (image script : List ℕ) (before : F) (old new : W) (fault : RunFault)
+    → run_status fault ≡ 1 → IsOpenRefusal image fault → new ≡ old → IsPlayRun k image script (Some before) old new (run_status fault)
+play-refused k image script before old new fault one refusal untouched = record {
+  done = λ zero'. absurd (omega (arith, zero', one));
+  size = λ _ _. one;
+  refused = λ _. inr (inr (record { fault = refusal.opening; holds = refusal.refuses }));
+  shop = λ _ _ _ s. refused-no_shop _ refusal.opening s.0 refusal.refuses s.1;
+  untouched = λ _. untouched;
+  no_file = λ none. absurd (none-some before (sym none));
+  stopped = λ three. absurd (omega (arith, three, one));
+  statuses = inr (inl one);
+}
+
+-- the output or the file failed
+play-stopped : {F W : Type 0} (k : Known F W) (image script : List ℕ) (before after : F) (old new : W) (status : ℕ)
+    → status ≡ 3 → length image ≡ 174848 → (new ≡ old) ⊎ IsCutShort k image script old new before after
+    → IsPlayRun k image script (Some before) old new status
+play-stopped k image script before after old new status three size stopped = record {
+  done = λ zero'. absurd (omega (arith, zero', three));
+  size = λ _ other. absurd (other size);
+  refused = λ one. absurd (omega (arith, one, three));
+  shop = λ one. absurd (omega (arith, one, three));
+  untouched = λ one. absurd (omega (arith, one, three));
+  no_file = λ none. absurd (none-some before (sym none));
+  stopped = λ _. elim stopped [ inl e ↦ inl e | inr e ↦ inr (record { before = before; after = after; is = refl; holds = e }) ];
+  statuses = inr (inr three);
+}
+
+-- a script played over a file
+played-run : {F W : Type 0} (k : Known F W) (image script : List ℕ) (before after : F) (old new : W) (ended : Result Unit RunFault)
+    → IsPlayEnd k image script before after old new ended → IsPlayRun k image script (Some before) old new (end_status ended)
+played-run k image script before after old new (Ok _) end = record {
+  done = λ _. record { before = before; after = after; is = refl; holds = end };
+  size = λ some other. absurd (other end.size);
+  refused = λ one. absurd (omega (arith, one));
+  shop = λ one. absurd (omega (arith, one));
+  untouched = λ one. absurd (omega (arith, one));
+  no_file = λ none. absurd (none-some before (sym none));
+  stopped = λ three. absurd (omega (arith, three));
+  statuses = inl refl;
+}
+played-run k image script before after old new (Err run.ImageSize) end = record {
+  done = λ zero'. absurd (omega (arith, zero'));
+  size = λ _ _. refl;
+  refused = λ _. inl end.0;
+  shop = λ _ same. absurd (end.0 same);
+  untouched = λ _. end.1.1;
+  no_file = λ none. absurd (none-some before (sym none));
+  stopped = λ three. absurd (omega (arith, three));
+  statuses = inr (inl refl);
+}
+played-run k image script before after old new (Err (run.BadLine line)) end = record {
+  done = λ zero'. absurd (omega (arith, zero'));
+  size = λ _ _. refl;
+  refused = λ _. inr (inl (ap is_some end.1));
+  shop = λ _ _ good _. none-some line (sym good ∙ end.1);
+  untouched = λ _. end.2.1;
+  no_file = λ none. absurd (none-some before (sym none));
+  stopped = λ three. absurd (omega (arith, three));
+  statuses = inr (inl refl);
+}
+played-run k image script before after old new (Err run.NoMemory) end = play-stopped k image script before after old new 3 refl end.0 (inl end.1.1)
+played-run k image script before after old new (Err run.File) end = play-stopped k image script before after old new 3 refl end.size (inr (inl end))
+played-run k image script before after old new (Err run.Device) end = play-stopped k image script before after old new 3 refl end.size (inr (inr end))
+played-run k image script before after old new (Err (run.Layout fault)) end = play-refused k image script before old new (run.Layout fault) refl end.1 end.2.1
+played-run k image script before after old new (Err run.NoStock) end = play-refused k image script before old new run.NoStock refl end.1 end.2.1
+played-run k image script before after old new (Err run.NoRequests) end = play-refused k image script before old new run.NoRequests refl end.1 end.2.1
+played-run k image script before after old new (Err (run.BadCard item)) end = play-refused k image script before old new (run.BadCard item) refl end.1 end.2.1
+played-run k image script before after old new (Err (run.BadRequestCard till)) end = play-refused k image script before old new (run.BadRequestCard till) refl end.1 end.2.1
+played-run k image script before after old new (Err run.TwoIntents) end = play-refused k image script before old new run.TwoIntents refl end.1 end.2.1
+
+-- a script played on an image
+pub play-run : {F W : Type 0} (k : Known F W) (image script : List ℕ) (file : Option F) (old new : W) (ended : Result Unit RunFault)
+    → (file ≡ None → (ended ≡ Err run.File) × (new ≡ old))
+    → ((before : F) → file ≡ Some before → (after : F) × IsPlayEnd k image script before after old new ended)
+    → IsPlayRun k image script file old new (end_status ended)
+play-run k image script (Some before) old new ended no_file over =
+    played-run k image script before (over before refl).0 old new ended (over before refl).1
+play-run k image script None old new ended no_file over =
+    let three : end_status ended ≡ 3 = ap end_status (no_file refl).0 in
+    record {
+      done = λ zero'. absurd (omega (arith, zero', three));
+      size = λ some. absurd (false≢true some);
+      refused = λ one. absurd (omega (arith, one, three));
+      shop = λ one. absurd (omega (arith, one, three));
+      untouched = λ one. absurd (omega (arith, one, three));
+      no_file = λ _. (three, (no_file refl).1);
+      stopped = λ _. inl (no_file refl).1;
+      statuses = inr (inr three);
+    }

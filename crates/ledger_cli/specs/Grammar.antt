@@ -27,6 +27,14 @@ list = over_image (codes "list")
 abbrev pub check : App
 check = over_image (codes "check")
 
+-- show IMAGE
+abbrev pub show : App
+show = over_image (codes "show")
+
+-- play IMAGE SCRIPT
+abbrev pub play : App
+play = with_rule (over_image (codes "play")) (required (codes "SCRIPT"))
+
 -- dry SCRIPT
 abbrev pub dry : App
 dry = with_rule (new_app (codes "dry")) (required (codes "SCRIPT"))
@@ -41,8 +49,8 @@ with_version a = record { top = record a.top { has_version = true }; subs = a.su
 
 -- the program with its subcommands
 abbrev pub ledger : App
-ledger = with_subcommand (with_subcommand (with_subcommand (with_subcommand
-    (with_required_subcommand (with_version (new_app (codes "ledger_cli")))) format.top) list.top) check.top) dry.top
+ledger = with_subcommand (with_subcommand (with_subcommand (with_subcommand (with_subcommand (with_subcommand
+    (with_required_subcommand (with_version (new_app (codes "ledger_cli")))) format.top) list.top) check.top) show.top) play.top) dry.top
 
 -- the value of an argument, or an empty text where it has none
 abbrev pub value : Text → List Row → Text

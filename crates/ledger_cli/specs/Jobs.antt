@@ -23,6 +23,9 @@ abbrev pub IsJob : Option (Text × List Row) → Job → Type 0
 IsJob found (jobs.Format image tills) = Has found (codes "format") (λ rows. (image.now ≡ value (codes "IMAGE") rows) × (tills_in rows ≡ Some tills))
 IsJob found (jobs.List image) = Has found (codes "list") (λ rows. image.now ≡ value (codes "IMAGE") rows)
 IsJob found (jobs.Check image) = Has found (codes "check") (λ rows. image.now ≡ value (codes "IMAGE") rows)
+IsJob found (jobs.Show image) = Has found (codes "show") (λ rows. image.now ≡ value (codes "IMAGE") rows)
+IsJob found (jobs.Play image script) = Has found (codes "play")
+    (λ rows. (image.now ≡ value (codes "IMAGE") rows) × (script.now ≡ value (codes "SCRIPT") rows))
 IsJob found (jobs.Dry script) = Has found (codes "dry") (λ rows. script.now ≡ value (codes "SCRIPT") rows)
 
 -- the tills of a job are 1 to 64

@@ -1,5 +1,5 @@
 //! The command line that the program takes: one function a subcommand.
-ghost use Rattle.std.specs.Prelude.{◌≡◌, IfOk, false};
+ghost use Rattle.std.specs.Prelude.{◌≡◌, IfOk, codes, false};
 ghost use Rattle.clap.specs.Words.{app_of, rule_of};
 ghost use Rattle.clap.specs.declared.builder.command.Command.TheViews.{out-Command};
 ghost use Rattle.ledger_cli.specs.Grammar as grammar;
@@ -66,16 +66,47 @@ fn check_command<'a>(alloc: Global) -> Result<Command<'a>, AllocError>
     )
 }
 
+/// The script of a subcommand.
+fn script_of<'a>(alloc: Global) -> Arg<'a>
+    ensures rule { rule_of result ≡ grammar.required (codes "SCRIPT") }
+    ensures local { result.global ≡ false }
+{
+    required(
+        alloc,
+        "SCRIPT",
+        "The script, a message a line; /dev/stdin is standard input",
+    )
+}
+
+/// `show IMAGE`
+fn show_command<'a>(alloc: Global) -> Result<Command<'a>, AllocError>
+    ensures app { IfOk result (λ c. app_of c ≡ grammar.show) }
+    ensures local { IfOk result (λ c. (out-Command c).has_globals ≡ false) }
+{
+    over_image(
+        alloc,
+        "show",
+        "Prints the cards of the image, and the last two requests of each till with their answers",
+    )
+}
+
+/// `play IMAGE SCRIPT`
+fn play_command<'a>(alloc: Global) -> Result<Command<'a>, AllocError>
+    ensures app { IfOk result (λ c. app_of c ≡ grammar.play) }
+    ensures local { IfOk result (λ c. (out-Command c).has_globals ≡ false) }
+{
+    let about = "Plays the messages of a script on the image, and prints the reply to each";
+    let script = script_of(alloc);
+    let command = over_image(alloc, "play", about)?;
+    command.arg(script)
+}
+
 /// `dry SCRIPT`
 fn dry_command<'a>(alloc: Global) -> Result<Command<'a>, AllocError>
     ensures app { IfOk result (λ c. app_of c ≡ grammar.dry) }
     ensures local { IfOk result (λ c. (out-Command c).has_globals ≡ false) }
 {
-    let script = required(
-        alloc,
-        "SCRIPT",
-        "The script, a message a line; /dev/stdin is standard input",
-    );
+    let script = script_of(alloc);
     Command::new(alloc, "dry")
         .about(
             "Prints the reply to each message of a script, from an empty shop on, without a disk",
@@ -90,6 +121,8 @@ pub fn ledger_command<'a>(alloc: Global) -> Result<Command<'a>, AllocError>
     let format = format_command(alloc)?;
     let list = list_command(alloc)?;
     let check = check_command(alloc)?;
+    let show = show_command(alloc)?;
+    let play = play_command(alloc)?;
     let dry = dry_command(alloc)?;
     Command::new(alloc, "ledger_cli")
         .about("A retry-safe stock ledger: a request that comes again gets its first answer")
@@ -99,5 +132,7 @@ pub fn ledger_command<'a>(alloc: Global) -> Result<Command<'a>, AllocError>
         .subcommand(format)?
         .subcommand(list)?
         .subcommand(check)?
+        .subcommand(show)?
+        .subcommand(play)?
         .subcommand(dry)
 }

@@ -25,6 +25,18 @@ pub enum Job<'a> {
         /// The image's path.
         image: &'a str,
     },
+    /// What an image holds of a shop: how far new cards may go, the cards, and the last two requests of each till.
+    Show {
+        /// The image's path.
+        image: &'a str,
+    },
+    /// The messages of a script, played on the shop of an image.
+    Play {
+        /// The image's path.
+        image: &'a str,
+        /// The script's path.
+        script: &'a str,
+    },
     /// The replies to the messages of a script, from no cards on and without a disk.
     Dry {
         /// The script's path.

@@ -17,7 +17,7 @@ use running::run;
 use std::alloc::{AllocError, Global};
 use std::env;
 use std::fs::{File, OpenOptions};
-use std::io::{self, BufWriter};
+use std::io::{self, BufWriter, Seek, Write};
 use std::process::ExitCode;
 use words::job;
 
@@ -97,6 +97,33 @@ impl OpensFile for AtPath<'_> {
     }
 }
 
+/// The file of an image that is read and then written, and not made.
+fn opened(rt: &HostRuntime, path: &str) -> io::Result<File> {
+    OpenOptions::new().read(true).write(true).open(rt, path)
+}
+
+/// Does the job over these bytes, and this file for writing. What is printed is gathered.
+fn do_over<F: Write + Seek + Drop>(
+    rt: &HostRuntime,
+    job: &Job<'_>,
+    image: &[u8],
+    script: &[u8],
+    file: Option<F>,
+) -> io::Result<u8>
+    requires { HasTills job.now }
+{
+    let mut out = BufWriter::with_capacity(rt.alloc(), OUTPUT_ROOM, io::writer(rt))?;
+    Ok(run(
+        rt.alloc(),
+        job,
+        image,
+        script,
+        file,
+        &mut out,
+        &mut rt.stderr(),
+    ))
+}
+
 /// Reads or opens the job's files and does it.
 fn do_job(rt: &HostRuntime, job: &Job<'_>) -> io::Result<u8>
     requires { HasTills job.now }
@@ -108,20 +135,25 @@ fn do_job(rt: &HostRuntime, job: &Job<'_>) -> io::Result<u8>
         Job::Format {
             image: path,
             tills: _,
-        } => file = Some(Replaced::new(AtPath { rt, path })),
-        Job::List { image: path } | Job::Check { image: path } => image = image_at(rt, path)?,
+        } => {
+            let replaced = Replaced::new(AtPath { rt, path });
+            return do_over(rt, job, &[], &[], Some(replaced));
+        }
+        Job::List { image: path } | Job::Check { image: path } | Job::Show { image: path } => {
+            image = image_at(rt, path)?;
+        }
+        Job::Play {
+            image: path,
+            script: script_path,
+        } => {
+            let mut disk = opened(rt, path)?;
+            image = read_image(rt.alloc(), &mut disk)?;
+            script = script_at(rt, script_path)?;
+            file = Some(disk);
+        }
         Job::Dry { script: path } => script = script_at(rt, path)?,
     }
-    let mut out = BufWriter::with_capacity(rt.alloc(), OUTPUT_ROOM, io::writer(rt))?;
-    Ok(run(
-        rt.alloc(),
-        job,
-        image.as_slice(),
-        script.as_slice(),
-        file,
-        &mut out,
-        &mut rt.stderr(),
-    ))
+    do_over(rt, job, image.as_slice(), script.as_slice(), file)
 }
 
 /// The words as texts, all at one lifetime.

@@ -3,6 +3,7 @@ ghost use Rattle.std.specs.Prelude.{◌≡◌, None, IfErr, IsOk, IsSome, OnOk};
 ghost use Rattle.std.specs.Io.KnownBytes.{Appends};
 ghost use Rattle.ledger_cli.specs.Faults.{check_status, end_status};
 ghost use Rattle.ledger_commands.specs.Faults.{IsDryFault};
+ghost use Rattle.ledger_commands.specs.Plays.{known};
 ghost use Rattle.ledger_cli.specs.Jobs.{HasTills};
 ghost use Rattle.ledger_cli.specs.Runs.{IsQuiet, IsRun};
 ghost use Rattle.script_lines.specs.Lines.{first_reset, lines};
@@ -10,7 +11,9 @@ ghost use Rattle.ledger_commands.specs.Tables.{dry_report};
 
 use crate::jobs::Job;
 use disk_layout::Fault;
-use ledger_commands::{DryFault, RunFault, check_image, dry, format_file, list_image};
+use ledger_commands::{
+    DryFault, RunFault, check_image, dry, format_file, list_image, play_file, show_image,
+};
 use std::alloc::Global;
 use std::fmt::Display;
 use std::io::{Seek, Write};
@@ -65,9 +68,9 @@ fn judged<E: Write>(ended: Result<Option<Fault>, RunFault>, err: &mut E) -> u8
 /// Does the job and answers the program's exit status. `image` and `script` are the bytes of the
 /// files that the job names (empty where it names none or doesn't read it), `file` is the image's
 /// file for writing, at its start. What is printed goes to `out`, which is flushed at the end; a
-/// fault is told on `err` in one line: with status 1 `SCRIPT LINE n`, `IMAGE SIZE`, or `LAYOUT` with
-/// the fault and its place; with status 3 `FILE` where `file` or `out` failed or there is no `file`,
-/// or `NO MEMORY`.
+/// fault is told on `err` in one line: with status 1 what the image or the script has wrong, as
+/// `IMAGE SIZE`, `LAYOUT LOOP 17/0`, `BAD CARD 3` or `SCRIPT LINE 2`; with status 3 `FILE` where `file`
+/// or `out` failed or there is no `file`, `DEVICE` where the file of `play` failed, or `NO MEMORY`.
 pub fn run<F: Write + Seek + Drop, W: Write, E: Write>(
     alloc: Global,
     job: &Job<'_>,
@@ -78,13 +81,19 @@ pub fn run<F: Write + Seek + Drop, W: Write, E: Write>(
     err: &mut E,
 ) -> u8
     requires tills { HasTills job.now }
-    ensures run { IsRun F.contents W.contents job.now image.now script.now file out.old out.new result }
+    ensures run { IsRun (known F.stream_position F.stream_bytes F.contents W.contents)
+        job.now image.now script.now file out.old out.new result }
     ensures quiet { IsQuiet job.now image.now err.old err.new result }
 {
     match job {
         Job::Format { image: _, tills } => status_after(format_file(alloc, *tills, file, out), err),
         Job::List { image: _ } => status_after(list_image(alloc, image, out), err),
         Job::Check { image: _ } => judged(check_image(alloc, image, out), err),
+        Job::Show { image: _ } => status_after(show_image(alloc, image, out), err),
+        Job::Play {
+            image: _,
+            script: _,
+        } => status_after(play_file(alloc, image, script, file, out), err),
         Job::Dry { script: _ } => match play_whole(script, out) {
             Ok(()) => 0,
             Err(fault) => {

@@ -57,6 +57,13 @@ fn chosen<'a>(matches: &ArgMatches<'a>) -> Result<Job<'a>, JobFault>
         Some(("check", found)) => Ok(Job::Check {
             image: value_of(found, "IMAGE"),
         }),
+        Some(("show", found)) => Ok(Job::Show {
+            image: value_of(found, "IMAGE"),
+        }),
+        Some(("play", found)) => Ok(Job::Play {
+            image: value_of(found, "IMAGE"),
+            script: value_of(found, "SCRIPT"),
+        }),
         Some(("dry", found)) => Ok(Job::Dry {
             script: value_of(found, "SCRIPT"),
         }),

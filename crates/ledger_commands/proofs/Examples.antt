@@ -8,7 +8,12 @@ use Rattle.disk_layout.specs.Directory.{directory_start, map_place}
 use Rattle.disk_layout.specs.View.{blocks_free}
 use Rattle.disk_layout.specs.declared.faults.Fault.TheVariants.{Loop, MapWrong}
 use Rattle.disk_layout.specs.declared.slot.Slot.{Slot}
+use Rattle.request_cards.specs.declared.answer.Answer.TheVariants.{Done, Moved}
+use Rattle.request_cards.specs.declared.kind.Kind.TheVariants.{Issue, Move}
+use Rattle.request_cards.specs.Ledgers.{State}
+use Rattle.request_cards.specs.Trade.{put}
 use Rattle.ledger_commands.specs.Faults.{run_status}
+use Rattle.ledger_commands.specs.Shows.{shown_shop, told_part, up_to}
 use Rattle.ledger_commands.specs.Texts.{disk_text, dry_text, entry_text, listing, quoted, refusal_text, type_text, verdict_text}
 use Rattle.ledger_commands.specs.declared.dry_run.DryFault.TheVariants as dry
 use Rattle.ledger_commands.specs.declared.faults.RunFault.TheVariants as run
@@ -65,3 +70,30 @@ listing_of_a_disk = refl
 
 pub want_of_memory_isnt_a_file : run_status run.NoMemory ≡ 3
 want_of_memory_isnt_a_file = refl
+
+pub faults_of_an_opening_are_told_so :
+    refusal_text (run.BadCard 15) ++ codes ", " ++ refusal_text (run.BadRequestCard 64) ++ codes ", " ++ refusal_text run.TwoIntents
+    ≡ codes "BAD CARD 15, BAD REQUEST CARD 64, TWO INTENTS"
+unfolding digits
+faults_of_an_opening_are_told_so = refl
+
+pub moved_goods_name_both_items :
+    told_part (codes "TILL ") (Some (record { till = 1; number = 3; body = record { kind = Move; item = 1; quantity = 4; to = 15 } }, Moved 6 7))
+    ≡ codes "TILL 1,3,M,1,4,15,DONE,6,7\n"
+unfolding digits
+moved_goods_name_both_items = refl
+
+-- one card, and a till with two requests
+abbrev shop : State
+shop = record {
+  ledger = record {
+    cards = put (λ _. None) 42 (Some 100);
+    kept = put (λ _. None) 1 (Some (record { number = 4; body = record { kind = Issue; item = 42; quantity = 20; to = 0 }; answer = Done 100 }));
+  };
+  prior = put (λ _. None) 1 (Some (record { number = 3; body = record { kind = Issue; item = 42; quantity = 5; to = 0 }; answer = Done 120 }));
+}
+
+pub a_shop_is_shown_so :
+    shown_shop 9256 shop ≡ codes "TOP 9256\nCARD 42,100\nTILL 1,4,I,42,20,DONE,100\nPRIOR 1,3,I,42,5,DONE,120\n"
+unfolding shown_shop up_to digits
+a_shop_is_shown_so = refl

@@ -67,7 +67,7 @@ IsListFault image run.ImageSize = length image ≢ 174848
 IsListFault image (run.Layout fault) = (length image ≡ 174848) × HoldsOfDirectory nowhere (sectors_in image) fault
 IsListFault image run.File = HasDirectory image
 IsListFault image run.NoMemory = length image ≡ 174848
-IsListFault image run.Device = ⊥
+IsListFault image _ = ⊥
 
 -- what is said of an image: that it is clean, or a fault that holds of it
 abbrev pub IsVerdict : Image → Option Fault → Type 0

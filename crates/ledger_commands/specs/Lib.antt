@@ -1,4 +1,7 @@
 pub mod Faults
 pub mod Images
+pub mod Plays
+pub mod Shops
+pub mod Shows
 pub mod Tables
 pub mod Texts

@@ -36,6 +36,12 @@ fault_text (faults.Device p) = codes "DEVICE " ++ place_text p
 abbrev pub refusal_text : RunFault → List ℕ
 refusal_text run.ImageSize = codes "IMAGE SIZE"
 refusal_text (run.Layout fault) = codes "LAYOUT " ++ fault_text fault
+refusal_text run.NoStock = codes "NO STOCK"
+refusal_text run.NoRequests = codes "NO REQUESTS"
+refusal_text (run.BadCard item) = codes "BAD CARD " ++ decimal item
+refusal_text (run.BadRequestCard till) = codes "BAD REQUEST CARD " ++ decimal till
+refusal_text run.TwoIntents = codes "TWO INTENTS"
+refusal_text (run.BadLine line) = codes "SCRIPT LINE " ++ decimal line
 refusal_text run.File = codes "FILE"
 refusal_text run.NoMemory = codes "NO MEMORY"
 refusal_text run.Device = codes "DEVICE"

@@ -25,15 +25,24 @@ pub fn load(alloc: Global, image: &[u8]) -> Result<MemDisk, RunFault>
     }
 }
 
-/// Hands all of these bytes to the writer, and those that it still holds back to where it keeps
-/// them. `File` where it failed.
-pub fn write_whole<W: Write>(out: &mut W, bytes: &[u8]) -> Result<(), RunFault>
+/// Hands all of these bytes to the writer. `File` where it failed.
+pub fn put<W: Write>(out: &mut W, bytes: &[u8]) -> Result<(), RunFault>
     ensures ok { OnOk result (Appends (W.contents out.old) (W.contents out.new) bytes.now) }
     ensures err { IfErr result (λ fault. fault ≡ faults.File) }
 {
     if out.write_all(bytes).is_err() {
         return Err(RunFault::File);
     }
+    Ok(())
+}
+
+/// Hands all of these bytes to the writer, and those that it still holds back to where it keeps
+/// them. `File` where it failed.
+pub fn write_whole<W: Write>(out: &mut W, bytes: &[u8]) -> Result<(), RunFault>
+    ensures ok { OnOk result (Appends (W.contents out.old) (W.contents out.new) bytes.now) }
+    ensures err { IfErr result (λ fault. fault ≡ faults.File) }
+{
+    put(out, bytes)?;
     flush(out)
 }
 
@@ -51,7 +60,7 @@ pub fn put_line<W: Write, T: Display + Drop>(out: &mut W, text: T) -> Result<(),
 
 /// Hands on what the writer still holds back. `File` where it failed.
 pub fn flush<W: Write>(out: &mut W) -> Result<(), RunFault>
-    ensures ok { OnOk result (Keeps (W.contents out.old) (W.contents out.new)) }
+    ensures kept { Keeps (W.contents out.old) (W.contents out.new) }
     ensures err { IfErr result (λ fault. fault ≡ faults.File) }
 {
     if out.flush().is_err() {

@@ -13,8 +13,13 @@ mod formatting;
 mod image_tests;
 mod judging;
 mod listing;
+#[cfg(test)]
+mod play_tests;
+mod playing;
 mod reading;
 mod replaced;
+mod showing;
+mod shows;
 mod table;
 #[cfg(test)]
 mod tests;
@@ -25,5 +30,7 @@ pub use faults::RunFault;
 pub use formatting::{format_file, format_image, write_image};
 pub use judging::check_image;
 pub use listing::list_image;
+pub use playing::{play_file, play_image};
 pub use reading::{read_image, read_script};
 pub use replaced::{EndedFile, OpensFile, Replaced};
+pub use showing::show_image;

@@ -179,6 +179,17 @@ fn write_there<D: Sectors>(
     write_across(disk, file, number, position, text, block, place)
 }
 
+/// What is told of a text that was written from the position on into a record of this size: `Overflow` where it was cut.
+fn told_of_text(text: &[u8], position: u8, size: u8) -> Result<(), RelFault>
+    ensures ok { OnOk result (length text.now + position ≤ size + 1) }
+    ensures err { IfErr result (λ fault. (fault ≡ Overflow) × (size + 1 < length text.now + position)) }
+{
+    if text.len() + position as usize > size as usize + 1 {
+        return Err(RelFault::Overflow);
+    }
+    Ok(())
+}
+
 /// Writes the text into a record, from the position on, counted from 1: the record's bytes before it stay, and those
 /// behind the text become zeros. No other record changes. Where the file has no such record, it grows first.
 ///
@@ -232,8 +243,5 @@ pub fn write_record<D: Sectors>(
 {
     grow_to(disk, file, number)?;
     write_there(disk, file, number, position, text)?;
-    if text.len() + position as usize > file.size as usize + 1 {
-        return Err(RelFault::Overflow);
-    }
-    Ok(())
+    told_of_text(text, position, file.size)
 }

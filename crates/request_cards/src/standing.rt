@@ -10,7 +10,7 @@ use crate::reply::Word;
 use crate::request::Request;
 
 /// How a request stands, by what is kept of its till.
-#[derive(Clone, Copy, Debug, PartialEq, Eq)]
+#[derive(Clone, Copy)]
 pub enum Standing {
     /// It is its till's next one: the trade rule answers it, and the answer is kept.
     New,

@@ -3,8 +3,9 @@ ghost use Rattle.std.specs.Prelude.{◌≤◌, length};
 
 use crate::disks::{clean, fresh, sector};
 use crate::growth_rows::mended;
+use arrayvec::ArrayVec;
 use d64_image::{Fuse, MemDisk, Meter, Place, Sectors};
-use disk_layout::BamView;
+use disk_layout::{BamView, read_directory};
 use layout_check::repair;
 use rel_records::{RelFault, create};
 use std::alloc::Global;
@@ -101,6 +102,9 @@ fn the_directory_fills(rt: HostRuntime) -> Result<(), Fail> {
     let map = sector(&mut disk, 18, 0)?;
     assert_eq!(rt; BamView::new(&map).blocks_free(), 376);
     assert_eq!(rt; map[72..76], b"\0\0\0\0"[..]);
+    let mut slots = ArrayVec::new();
+    read_directory(&mut disk, &mut slots)?;
+    assert_eq!(rt; slots.len(), 144);
     Ok(())
 }
 

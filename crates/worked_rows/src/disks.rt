@@ -26,12 +26,20 @@ pub(crate) fn clean<D: Sectors>(disk: &mut D) -> Result<(), Fail>
     Ok(())
 }
 
+/// The file of this name, of a clean disk.
+pub(crate) fn found<D: Sectors>(disk: &mut D, name: &[u8]) -> Result<RelFile, Fail>
+    ensures ok { IfOk result (λ file. IsClean (D.history.image disk.new) × IsOf (D.history.image disk.new) file) }
+{
+    check(disk)?;
+    let file = find(disk, name)?;
+    Ok(file)
+}
+
 /// STOCK of a clean disk, whose records have 18 bytes.
 pub(crate) fn stock<D: Sectors>(disk: &mut D) -> Result<RelFile, Fail>
     ensures ok { IfOk result (λ file. IsClean (D.history.image disk.new) × IsOf (D.history.image disk.new) file × (length_of file ≡ 18)) }
 {
-    check(disk)?;
-    let file = find(disk, b"STOCK")?;
+    let file = found(disk, b"STOCK")?;
     if file.length() != 18 {
         return Err(Fail::new("the records of STOCK have another length"));
     }

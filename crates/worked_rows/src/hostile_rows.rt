@@ -1,18 +1,109 @@
-//! Hostile use: each call on a device failing in turn, and changed disks through a mirror.
+//! Hostile use: images that no shop left, each call on a device failing in turn, and outputs that stop in the middle.
 use crate::disks::{Change, changed, fresh};
-use crate::opening_rows::REFUSED;
 use crate::same::same_at;
-use crate::sessions::after;
 use d64_image::{Fuse, MemDisk, Meter, Mirror, OneFault, Sectors};
 use host_session::{Event, OpenFault, PlayFault, ScriptFault, Session, play, run_script};
 use layout_check::check;
 use request_cards::{Reply, Word};
 use std::alloc::Global;
-use std::io::Cursor;
+use std::io::{self, Cursor, Write};
 use std::test::Fail;
 
-/// An open intent of till 1 as a card of version 1.
-const INTENT: &[u8] = b"I,000000001,S,00001,000000005,0,000000005\r";
+/// Cards of version 1 as power may have left them: open intents of a set of item 1, 2 and 15, two cards that are none, and
+/// a stock card in the wrong record.
+const INTENT_1: &[u8] = b"I,000000001,S,00001,000000005,0,000000005\r";
+
+const INTENT_2: &[u8] = b"I,000000001,S,00002,000000005,0,000000005\r";
+
+const INTENT_15: &[u8] = b"I,000000001,S,00015,000000005,0,000000005\r";
+
+const SHORT_INTENT: &[u8] = b"I,000000001,S,00001,000000005,1,000000005\r";
+
+const NO_CARD_WITH_5: &[u8] = b"A,000000001,S,00001,000000005,3,000000005\r";
+
+const CARD_4: &[u8] = b"K,00004,000000001\r";
+
+/// A third entry in 18/1, a program `X` whose first block is that of REQUESTS.
+const SECOND_OWNER: &[u8] =
+    b"\x82\x11\x02X\xA0\xA0\xA0\xA0\xA0\xA0\xA0\xA0\xA0\xA0\xA0\xA0\xA0\xA0\xA0\0\0\0\0\0\0\0\0\0\x01\0";
+
+/// Images that aren't opened: a script that made the disk, what is changed on it, and what is told.
+const REFUSED: [(&[u8], &[Change], &[u8]); 16] = [
+    (
+        b"1,1,S,1693,1\n1,2,S,1694,2\n",
+        &[(14, 4, 6, 2, b"")],
+        b"LAYOUT BADSIDE 14/4",
+    ),
+    (
+        b"1,1,S,1693,1\n1,2,S,1694,2\n",
+        &[(14, 4, 2, 1, b"")],
+        b"LAYOUT BADSIDE 14/4",
+    ),
+    (b"1,1,S,15,7\n", &[(17, 4, 2, 1, b" ")], b"BAD CARD 15"),
+    (b"", &[(17, 0, 2, 1, b"")], b"BAD CARD 1"),
+    (
+        b"",
+        &[(18, 1, 23, 1, b"\x11"), (17, 1, 3, 1, b"\x11")],
+        b"NO STOCK",
+    ),
+    (b"", &[(18, 1, 34, 1, b"\x82")], b"NO REQUESTS"),
+    (b"", &[(17, 2, 2, 127, INTENT_15)], b"BAD REQUEST CARD 1"),
+    (b"", &[(17, 2, 2, 127, SHORT_INTENT)], b"BAD REQUEST CARD 1"),
+    (
+        b"",
+        &[(17, 2, 2, 127, NO_CARD_WITH_5)],
+        b"BAD REQUEST CARD 1",
+    ),
+    (b"", &[(17, 0, 0, 2, b"\x11")], b"LAYOUT LOOP 17/0"),
+    (
+        b"",
+        &[(18, 1, 66, 30, SECOND_OWNER)],
+        b"LAYOUT OWNEDTWICE 17/2",
+    ),
+    (
+        b"",
+        &[(17, 2, 2, 127, INTENT_1), (17, 2, 129, 127, INTENT_2)],
+        b"TWO INTENTS",
+    ),
+    (b"", &[(17, 0, 38, 18, CARD_4)], b"BAD CARD 3"),
+    // A till's card is judged before two intents, these before the cards of items, and of those not the open intent's own.
+    (
+        b"",
+        &[
+            (17, 2, 2, 127, INTENT_1),
+            (17, 2, 129, 127, INTENT_15),
+            (17, 0, 38, 18, CARD_4),
+        ],
+        b"BAD REQUEST CARD 2",
+    ),
+    (
+        b"",
+        &[
+            (17, 2, 2, 127, INTENT_1),
+            (17, 2, 129, 127, INTENT_2),
+            (17, 0, 38, 18, CARD_4),
+        ],
+        b"TWO INTENTS",
+    ),
+    (
+        b"",
+        &[
+            (17, 2, 2, 127, INTENT_1),
+            (17, 0, 2, 1, b""),
+            (17, 0, 38, 18, CARD_4),
+        ],
+        b"BAD CARD 3",
+    ),
+];
+
+/// A blank disk for two tills on which a script was played.
+fn played(alloc: Global, script: &[u8]) -> Result<MemDisk, Fail> {
+    let mut out = Vec::new(alloc);
+    match run_script(fresh(alloc)?, script, &mut out) {
+        Ok(disk) => Ok(disk),
+        Err(_) => Err(Fail::new("the script isn't played")),
+    }
+}
 
 /// The same disk in memory and in a file.
 fn mirrored(alloc: Global, disk: &MemDisk) -> Result<Mirror<Cursor<Vec<u8>>>, Fail> {
@@ -20,17 +111,29 @@ fn mirrored(alloc: Global, disk: &MemDisk) -> Result<Mirror<Cursor<Vec<u8>>>, Fa
     Ok(Mirror::new(file, MemDisk::load(alloc, disk.bytes())?))
 }
 
-/// What is told of a mirror that isn't opened. Memory and file stay as they were.
+/// What is told of an image that isn't opened, which stays as it was.
 fn refused(alloc: Global, disk: &MemDisk) -> Result<OpenFault, Fail> {
-    match Session::open(mirrored(alloc, disk)?) {
+    match Session::open(MemDisk::load(alloc, disk.bytes())?) {
         Ok(session) => {
             drop(session.close());
             Err(Fail::new("it is opened"))
         }
+        Err((_, left)) if left.bytes() != disk.bytes() => Err(Fail::new("it is changed")),
+        Err((fault, _)) => Ok(fault),
+    }
+}
+
+/// The same through a mirror, whose file stays as well.
+fn refused_mirror(alloc: Global, disk: &MemDisk) -> Result<OpenFault, Fail> {
+    match Session::open(mirrored(alloc, disk)?) {
+        Ok(session) => {
+            drop(session.close());
+            Err(Fail::new("its mirror is opened"))
+        }
         Err((fault, mirror)) => {
             let (file, left) = mirror.into_inner();
             if left.bytes() != disk.bytes() || file.into_inner().as_slice() != disk.bytes() {
-                return Err(Fail::new("it is changed"));
+                return Err(Fail::new("its mirror is changed"));
             }
             Ok(fault)
         }
@@ -38,11 +141,13 @@ fn refused(alloc: Global, disk: &MemDisk) -> Result<OpenFault, Fail> {
 }
 
 #[test]
-fn mirrors_are_refused(rt: HostRuntime) -> Result<(), Fail> {
+fn malicious_images_are_refused(rt: HostRuntime) -> Result<(), Fail> {
     for (script, changes, told) in REFUSED {
-        let disk = changed(rt.alloc(), &after(rt.alloc(), script)?, changes)?;
-        let text = refused(rt.alloc(), &disk)?.to_string(rt.alloc())?;
+        let disk = changed(rt.alloc(), &played(rt.alloc(), script)?, changes)?;
+        let fault = refused(rt.alloc(), &disk)?;
+        let text = fault.to_string(rt.alloc())?;
         same_at(&rt, text.as_bytes(), told, told);
+        same_at(&rt, refused_mirror(rt.alloc(), &disk)?, fault, told);
     }
     Ok(())
 }
@@ -80,7 +185,7 @@ const OPENED: [(&[Change], u64, &[u8], &[u8], u64, u16); 4] = [
         9256,
     ),
     (
-        &[(17, 2, 2, 127, INTENT)],
+        &[(17, 2, 2, 127, INTENT_1)],
         2,
         b"1,1,S,1,5",
         b"1,1,DONE,5",
@@ -113,7 +218,7 @@ fn handled(alloc: Global, disk: &MemDisk, message: &[u8]) -> Result<(Reply, u16,
 }
 
 #[test]
-fn mirrors_are_opened(rt: HostRuntime) -> Result<(), Fail> {
+fn odd_images_are_opened(rt: HostRuntime) -> Result<(), Fail> {
     for (changes, recovery, message, told, writes, top) in OPENED {
         let disk = changed(rt.alloc(), &fresh(rt.alloc())?, changes)?;
         let (reply, last, first, second) = handled(rt.alloc(), &disk, message)?;
@@ -150,7 +255,11 @@ fn opening_fails(
 // The disk has an open intent, so that an opening reads and writes.
 #[test]
 fn each_call_of_an_opening_fails(rt: HostRuntime) -> Result<(), Fail> {
-    let disk = changed(rt.alloc(), &fresh(rt.alloc())?, &[(17, 2, 2, 127, INTENT)])?;
+    let disk = changed(
+        rt.alloc(),
+        &fresh(rt.alloc())?,
+        &[(17, 2, 2, 127, INTENT_1)],
+    )?;
     for done in [false, true] {
         let mut calls = 0u32;
         for at in 0..1000u32 {
@@ -290,6 +399,58 @@ fn each_call_of_a_run_fails(rt: HostRuntime) -> Result<(), Fail> {
             runs_fail(rt.alloc(), at, done)?;
         }
     }
+    Ok(())
+}
+
+/// An output that takes so many bytes, and then fails.
+#[derive(Drop)]
+struct Stopping {
+    taken: Vec<u8>,
+    room: usize,
+}
+
+impl Write for Stopping {
+    fn write(&mut self, buf: &[u8]) -> io::Result<usize> {
+        let room = buf.len().min(self.room);
+        if room == 0 {
+            return Err(io::Error::from(io::ErrorKind::StorageFull));
+        }
+        let taken = self.taken.write(&buf[..room])?;
+        self.room = self.room.saturating_sub(taken);
+        Ok(taken)
+    }
+
+    fn flush(&mut self) -> io::Result<()> {
+        Ok(())
+    }
+}
+
+// The first reply has 12 bytes and its end of line; the second line is handled, and its reply is lost.
+#[test]
+fn an_output_takes_13_bytes(rt: HostRuntime) -> Result<(), Fail> {
+    let mut out = Stopping {
+        taken: Vec::new(rt.alloc()),
+        room: 13,
+    };
+    let Err((fault, left)) = run_script(fresh(rt.alloc())?, b"1,1,S,42,120\n2,1,R,42,5\n", &mut out)
+    else {
+        return Err(Fail::new("the script is played"));
+    };
+    let taken = out.taken.as_slice() == b"1,1,DONE,120\n".as_slice();
+    same_at(
+        &rt,
+        (fault, fault.number(), taken),
+        (ScriptFault::Output, 3, true),
+        "fault",
+    );
+    let (reply, _, recovery, writes) = handled(rt.alloc(), &left, b"2,1,R,42,5")?;
+    let answered = says(reply, b"2,1,DONE,125");
+    same_at(
+        &rt,
+        (answered, recovery, writes),
+        (true, 0, 0),
+        "sent again",
+    );
     Ok(())
 }
 

@@ -3,6 +3,8 @@
 #![tactic(auto)]
 
 #[cfg(test)]
+mod blank_rows;
+#[cfg(test)]
 mod creation_rows;
 #[cfg(test)]
 mod cut_rows;

@@ -1,14 +1,11 @@
-//! Openings of disks that are changed: the writes of each, also where power goes in it, what is told afterwards, and why
-//! a disk is refused.
+//! Openings of disks with cards of version 1 and with open intents: the writes of each, also where power goes in it, and
+//! what is told afterwards.
 use crate::days::Line::{self, Say};
 use crate::days::is_played;
 use crate::disks::{Change, changed, clean};
-use crate::same::{holds, same, same_at};
+use crate::same::same_at;
 use crate::sessions::{WHOLE, after, opened};
-use d64_image::{MemDisk, Meter};
-use host_session::{OpenFault, Session};
-use std::alloc::Global;
-use std::io::Write;
+use d64_image::MemDisk;
 use std::process::Abort;
 use std::test::Fail;
 
@@ -66,7 +63,7 @@ const OLD_LINES: &[Line] = &[
     Say(b"2,1,R,42,30", b"2,1,DONE,150", 0),
 ];
 
-const OPENINGS: [Opening; 9] = [
+const OPENINGS: [Opening; 7] = [
     Opening {
         shows: "each card of version 1 is written again",
         before: OLD_DAY,
@@ -134,20 +131,6 @@ const OPENINGS: [Opening; 9] = [
             Say(b"1,2,S,15,3", b"1,2,DONE,3", 0),
         ],
     },
-    Opening {
-        shows: "one till",
-        before: b"",
-        changes: &[(17, 2, 1, 1, b"\x80")],
-        openings: &[(WHOLE, 0)],
-        lines: &[Say(b"2,1,S,1,0", b"2,1,NO TILL", 0)],
-    },
-    Opening {
-        shows: "a file without a record gets its first",
-        before: b"",
-        changes: &[(17, 0, 1, 1, b"\0")],
-        openings: &[(WHOLE, 0)],
-        lines: &[Say(b"1,1,S,1,5", b"1,1,DONE,5", 4)],
-    },
 ];
 
 /// Opens the disk again and again, and gives what it is at last.
@@ -173,161 +156,6 @@ fn changed_disks_are_opened(rt: HostRuntime) -> Result<(), Fail> {
         let disk = changed(rt.alloc(), &after(rt.alloc(), row.before)?, row.changes)?;
         let disk = opened_again(&rt, disk, row.openings, row.shows)?;
         is_played(&rt, &disk, row.lines, row.shows)?;
-    }
-    Ok(())
-}
-
-/// What was played before, what was changed, and why the disk isn't opened.
-pub(crate) const REFUSED: [(&[u8], &[Change], &[u8]); 16] = [
-    (b"", &[(17, 0, 0, 2, b"\x11\0")], b"LAYOUT LOOP 17/0"),
-    (
-        b"",
-        &[
-            (
-                18,
-                1,
-                66,
-                30,
-                b"\x82\x11\x02X\xA0\xA0\xA0\xA0\xA0\xA0\xA0\xA0\xA0\xA0\xA0\xA0\xA0\xA0\xA0",
-            ),
-            (18, 1, 94, 1, b"\x01"),
-        ],
-        b"LAYOUT OWNEDTWICE 17/2",
-    ),
-    (
-        b"1,1,S,1693,1\n1,2,S,1694,2\n",
-        &[(14, 4, 6, 2, b"")],
-        b"LAYOUT BADSIDE 14/4",
-    ),
-    (
-        b"1,1,S,1693,1\n1,2,S,1694,2\n",
-        &[(14, 4, 2, 1, b"")],
-        b"LAYOUT BADSIDE 14/4",
-    ),
-    (
-        b"",
-        &[(18, 1, 23, 1, b"\x11"), (17, 1, 3, 1, b"\x11")],
-        b"NO STOCK",
-    ),
-    (b"", &[(18, 1, 34, 1, b"\x82")], b"NO REQUESTS"),
-    (
-        b"",
-        &[(17, 0, 38, 18, b"K,00004,000000001\r")],
-        b"BAD CARD 3",
-    ),
-    (b"", &[(17, 0, 2, 1, b"")], b"BAD CARD 1"),
-    (b"1,1,S,15,7\n", &[(17, 4, 2, 1, b" ")], b"BAD CARD 15"),
-    (
-        b"",
-        &[(
-            17,
-            2,
-            2,
-            127,
-            b"I,000000001,S,00015,000000005,0,000000005\r",
-        )],
-        b"BAD REQUEST CARD 1",
-    ),
-    (
-        b"",
-        &[(
-            17,
-            2,
-            2,
-            127,
-            b"I,000000001,S,00001,000000005,1,000000005\r",
-        )],
-        b"BAD REQUEST CARD 1",
-    ),
-    (
-        b"",
-        &[(
-            17,
-            2,
-            2,
-            127,
-            b"A,000000001,S,00001,000000005,3,000000005\r",
-        )],
-        b"BAD REQUEST CARD 1",
-    ),
-    (
-        b"",
-        &[
-            INTENT,
-            (
-                17,
-                2,
-                129,
-                127,
-                b"I,000000001,S,00002,000000005,0,000000005\r",
-            ),
-        ],
-        b"TWO INTENTS",
-    ),
-    // A till's card is judged before two intents, and both before the cards of items.
-    (
-        b"",
-        &[
-            INTENT,
-            (
-                17,
-                2,
-                129,
-                127,
-                b"I,000000001,S,00015,000000005,0,000000005\r",
-            ),
-            (17, 0, 38, 18, b"K,00004,000000001\r"),
-        ],
-        b"BAD REQUEST CARD 2",
-    ),
-    (
-        b"",
-        &[
-            INTENT,
-            (
-                17,
-                2,
-                129,
-                127,
-                b"I,000000001,S,00003,000000005,0,000000005\r",
-            ),
-            (17, 0, 38, 18, b"K,00004,000000001\r"),
-        ],
-        b"TWO INTENTS",
-    ),
-    // The card of the open intent's own item isn't judged, but every other one is.
-    (
-        b"",
-        &[
-            INTENT,
-            (17, 0, 2, 1, b""),
-            (17, 0, 38, 18, b"K,00004,000000001\r"),
-        ],
-        b"BAD CARD 3",
-    ),
-];
-
-/// Why a copy of the disk isn't opened, and the copy then.
-fn refused(alloc: Global, disk: &MemDisk) -> Result<(OpenFault, Meter<MemDisk>), Fail> {
-    match Session::open(Meter::new(MemDisk::load(alloc, disk.bytes())?)) {
-        Ok(session) => {
-            session.close();
-            Err(Fail::new("the disk is opened"))
-        }
-        Err(refusal) => Ok(refusal),
-    }
-}
-
-#[test]
-fn changed_disks_are_refused(rt: HostRuntime) -> Result<(), Fail> {
-    for (before, changes, words) in REFUSED {
-        let disk = changed(rt.alloc(), &after(rt.alloc(), before)?, changes)?;
-        let (fault, left) = refused(rt.alloc(), &disk)?;
-        let mut text = Vec::new(rt.alloc());
-        write!(text, "{fault}")?;
-        same(&rt, text.as_slice(), words);
-        same_at(&rt, left.writes(), 0, words);
-        holds(&rt, left.into_inner().bytes() == disk.bytes(), words);
     }
     Ok(())
 }

@@ -1,10 +1,9 @@
-//! Runs that are stopped: by a device that fails, by an output that fails, and by a bad line.
+//! Runs that are stopped: by a device that fails, and by a bad line.
 use crate::days::Line::{Cut, Say};
 use crate::days::{Line, events_of, is_played, script_of, text_of, wanted};
 use crate::disks::{changed, fresh};
 use crate::same::{holds, same, same_at};
 use crate::sessions::{WHOLE, opened};
-use arrayvec::ArrayVec;
 use d64_image::{Fuse, MemDisk, Meter, Place};
 use disk_layout::Fault;
 use host_session::{OpenFault, PlayFault, ScriptFault, Session, play, run_script};
@@ -131,24 +130,6 @@ fn a_device_that_fails_stops_a_run(rt: HostRuntime) -> Result<(), Fail> {
         same_at(&rt, behind, Some(wanted.as_slice()), power);
         holds(&rt, again.bytes() == left.bytes(), power);
     }
-    Ok(())
-}
-
-// The output has room for one reply: the line whose reply isn't taken stands, and none behind it is handled.
-#[test]
-fn an_output_that_fails_stops_a_script(rt: HostRuntime) -> Result<(), Fail> {
-    let mut out = ArrayVec::<u8, 13>::new();
-    let script = b"1,1,S,42,120\n2,1,R,42,5\n2,2,R,42,5\n";
-    let Err((fault, disk)) = run_script(fresh(rt.alloc())?, script, &mut out) else {
-        return Err(Fail::new("the script is played"));
-    };
-    same(&rt, fault, ScriptFault::Output);
-    same(&rt, out.as_slice(), b"1,1,DONE,120\n".as_slice());
-    let lines = [
-        Say(b"2,1,R,42,5", b"2,1,DONE,125", 0),
-        Say(b"2,2,R,42,5", b"2,2,DONE,130", 3),
-    ];
-    is_played(&rt, &disk, &lines, "after an output that failed")?;
     Ok(())
 }
 

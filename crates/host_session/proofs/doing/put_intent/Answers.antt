@@ -7,47 +7,52 @@ pub returns-in_err-put_answer-clause-moments : goal.returns-in_err-put_answer-cl
 returns-in_err-put_answer-clause-moments g c = λ f h k.
     let (f', h', k', all) = c.requires.keeping in
     let items = items-for (g.D.Sectors.history.image c.args.drive.now.disk) f' f c.args.card.now h' h all in
-    put-moments f c.args.request.now c.args.card.now c.till-till.result c.print.result c.till-till.ensures.value c.print.ensures k g.D.Sectors.history
+    put-moments f c.args.request.now c.args.card.now c.till-till.result c.print-text.result c.till-till.ensures.value c.print-text.ensures k g.D.Sectors.history
     (open-items f c.args.request.now c.args.card.now k c.requires.intent items) c.args.drive.now.disk c.put_answer.new.drive.disk 1 _ (omega arith) (c.put_answer.ensures.moments f h)
 
 pub returns-in_err-put_answer-clause-counted : goal.returns-in_err-put_answer-clause-counted
 returns-in_err-put_answer-clause-counted g c = λ f h k.
     let (f', h', k', all) = c.requires.keeping in
     let items = items-for (g.D.Sectors.history.image c.args.drive.now.disk) f' f c.args.card.now h' h all in
-    put-counted f c.args.request.now c.args.card.now c.till-till.result c.print.result c.till-till.ensures.value c.print.ensures k g.D.Sectors.history
+    put-counted f c.args.request.now c.args.card.now c.till-till.result c.print-text.result c.till-till.ensures.value c.print-text.ensures k g.D.Sectors.history
     (open-items f c.args.request.now c.args.card.now k c.requires.intent items) c.args.drive.now.disk c.put_answer.new.drive.disk c.put_answer.result (c.put_answer.ensures.ok f h) c.put_answer.ensures.uncounted
 
-pub complete-requires-clause-intent : goal.complete-requires-clause-intent
-complete-requires-clause-intent g c =
+pub complete_with-requires-clause-intent : goal.complete_with-requires-clause-intent
+complete_with-requires-clause-intent g c =
     let (f, h, k, all) = c.requires.keeping in (
       _,
-      answer-named f c.args.request.now c.args.card.now c.till-till.result c.print.result c.till-till.ensures.value c.print.ensures _ (c.in_ok-put_answer.ensures.ok f h),
-      named-intent f c.args.request.now c.args.card.now c.till-till.result c.print.result c.till-till.ensures.value c.print.ensures k g.D.Sectors.history c.requires.intent all,
+      answer-named f c.args.request.now c.args.card.now c.till-till.result c.print-text.result c.till-till.ensures.value c.print-text.ensures _ (c.in_ok-put_answer.ensures.ok f h),
+      named-intent f c.args.request.now c.args.card.now c.till-till.result c.print-text.result c.till-till.ensures.value c.print-text.ensures k g.D.Sectors.history c.requires.intent all,
     )
 
 pub returns-clause-ok : goal.returns-clause-ok
 returns-clause-ok g c = λ f h k.
     let (f', h', k', all) = c.requires.keeping in
     let items = items-for (g.D.Sectors.history.image c.args.drive.now.disk) f' f c.args.card.now h' h all in
-    let has = answer-named f c.args.request.now c.args.card.now c.till-till.result c.print.result c.till-till.ensures.value c.print.ensures _ (c.in_ok-put_answer.ensures.ok f h) in
-    intent-settled f c.args.request.now c.args.card.now c.till-till.result c.print.result c.till-till.ensures.value c.print.ensures k g.D.Sectors.history c.complete.new.drive c.complete.result
-    (c.complete.ensures.ok _ has (named-intent f c.args.request.now c.args.card.now c.till-till.result c.print.result c.till-till.ensures.value c.print.ensures k g.D.Sectors.history c.requires.intent items))
-    c.complete.ensures.ready
+    let has = answer-named f c.args.request.now c.args.card.now c.till-till.result c.print-text.result c.till-till.ensures.value c.print-text.ensures _ (c.in_ok-put_answer.ensures.ok f h) in
+    intent-settled f c.args.request.now c.args.card.now c.till-till.result c.print-text.result c.till-till.ensures.value c.print-text.ensures k g.D.Sectors.history c.complete_with.new.drive c.complete_with.result
+    (c.complete_with.ensures.ok _ has (named-intent f c.args.request.now c.args.card.now c.till-till.result c.print-text.result c.till-till.ensures.value c.print-text.ensures k g.D.Sectors.history c.requires.intent items))
+    c.complete_with.ensures.ready
 
 pub returns-clause-moments : goal.returns-clause-moments
 returns-clause-moments g c = λ f h k.
     let (f', h', k', all) = c.requires.keeping in
     let items = items-for (g.D.Sectors.history.image c.args.drive.now.disk) f' f c.args.card.now h' h all in
-    let has = answer-named f c.args.request.now c.args.card.now c.till-till.result c.print.result c.till-till.ensures.value c.print.ensures _ (c.in_ok-put_answer.ensures.ok f h) in
-    intent-moments f c.args.request.now c.args.card.now c.till-till.result c.print.result c.till-till.ensures.value c.print.ensures k g.D.Sectors.history c.requires.intent items
-    c.args.drive.now.disk c.put_answer.new.drive.disk c.complete.new.drive.disk (c.put_answer.ensures.moments f h)
-    (c.complete.ensures.moments _ has (named-intent f c.args.request.now c.args.card.now c.till-till.result c.print.result c.till-till.ensures.value c.print.ensures k g.D.Sectors.history c.requires.intent items))
+    let has = answer-named f c.args.request.now c.args.card.now c.till-till.result c.print-text.result c.till-till.ensures.value c.print-text.ensures _ (c.in_ok-put_answer.ensures.ok f h) in
+    intent-moments f c.args.request.now c.args.card.now c.till-till.result c.print-text.result c.till-till.ensures.value c.print-text.ensures k g.D.Sectors.history c.requires.intent items
+    c.args.drive.now.disk c.put_answer.new.drive.disk c.complete_with.new.drive.disk (c.put_answer.ensures.moments f h)
+    (c.complete_with.ensures.moments _ has (named-intent f c.args.request.now c.args.card.now c.till-till.result c.print-text.result c.till-till.ensures.value c.print-text.ensures k g.D.Sectors.history c.requires.intent items))
 
 pub returns-clause-counted : goal.returns-clause-counted
 returns-clause-counted g c = λ f h k.
     let (f', h', k', all) = c.requires.keeping in
     let items = items-for (g.D.Sectors.history.image c.args.drive.now.disk) f' f c.args.card.now h' h all in
-    let has = answer-named f c.args.request.now c.args.card.now c.till-till.result c.print.result c.till-till.ensures.value c.print.ensures _ (c.in_ok-put_answer.ensures.ok f h) in
-    intent-counted f c.args.request.now c.args.card.now c.till-till.result c.print.result c.till-till.ensures.value c.print.ensures k g.D.Sectors.history
-    c.args.drive.now.disk c.put_answer.new.drive.disk c.complete.new.drive.disk _
-    (c.complete.ensures.moments _ has (named-intent f c.args.request.now c.args.card.now c.till-till.result c.print.result c.till-till.ensures.value c.print.ensures k g.D.Sectors.history c.requires.intent items))
+    let has = answer-named f c.args.request.now c.args.card.now c.till-till.result c.print-text.result c.till-till.ensures.value c.print-text.ensures _ (c.in_ok-put_answer.ensures.ok f h) in
+    intent-counted f c.args.request.now c.args.card.now c.till-till.result c.print-text.result c.till-till.ensures.value c.print-text.ensures k g.D.Sectors.history
+    c.args.drive.now.disk c.put_answer.new.drive.disk c.complete_with.new.drive.disk _
+    (c.complete_with.ensures.moments _ has (named-intent f c.args.request.now c.args.card.now c.till-till.result c.print-text.result c.till-till.ensures.value c.print-text.ensures k g.D.Sectors.history c.requires.intent items))
+
+pub complete_with-requires-clause-text : goal.complete_with-requires-clause-text
+complete_with-requires-clause-text g c =
+    let (f, h, k, all) = c.requires.keeping in
+    c.mark_answered.ensures c.args.card.now k.version c.print-text.ensures

@@ -14,7 +14,7 @@ use Rattle.request_cards.specs.declared.reply.Reply.TheVariants.{Cut}
 use Rattle.script_lines.specs.Resets.{first_bad, line_in}
 use Rattle.host_session.proofs.EventRuns.{PlayedBut, all_played, failed, last, more, unwritten}
 use Rattle.host_session.proofs.PlainRuns.{plain_played}
-use Rattle.host_session.proofs.Reports.{good_line, messages_next, written_more}
+use Rattle.host_session.proofs.Reports.{good_line, messages_next, printed_up_to, written_more}
 use Rattle.host_session.specs.OneEvent.{EndsFailed, GoesOn, IsEvent}
 use Rattle.host_session.specs.Standing.{View}
 use Rattle.host_session.proofs.running.run_script.Given.{Over}
@@ -22,7 +22,7 @@ use Rattle.host_session.proofs.RunOpenings.{is_cut, is_uncut, opening_failed, op
 use Rattle.host_session.proofs.Runs.{HasPlayed, held_none, none_played}
 use Rattle.host_session.proofs.Shops.{IsShop-one}
 use Rattle.host_session.specs.Events.{cut_at, message_of, messages_of, requests_of, uncut}
-use Rattle.host_session.specs.Runs.{HeldBeginnings, IsPlayedWhole, IsRefused, StoppedByDevice, StoppedByOutput}
+use Rattle.host_session.specs.Runs.{HeldBeginnings, IsPlayedWhole, IsPrintedUpToLast, IsRefused, StoppedByDevice, StoppedByOutput}
 use Rattle.host_session.specs.Shop.{IsSettled, IsShop, Shop, start_of, with_state}
 use Rattle.host_session.specs.declared.faults.OpenFault.{OpenFault}
 use Rattle.host_session.specs.declared.faults.OpenFault.TheVariants as faults
@@ -91,14 +91,15 @@ told_media g c t settled =
     (c.whole_message-reply.ensures.stopped t settled c.loop-line.invariant.alive (c.is_media.ensures.0 c.if-is_media.true)))
 
 media_ends : (g : Over) (c : goal.After-close g) (s : Shop) → IsShop (g.D.Sectors.history.image c.args.disk) s
-    → (told : List Reply) × Unit {0} × StoppedByDevice g.D.Sectors.history s (messages_of (lines c.args.script.now)) c.args.disk c.close.result told
+    → (told : List Reply) × IsPrintedUpToLast g.W.Write.contents c.args.out.now told × StoppedByDevice g.D.Sectors.history s (messages_of (lines c.args.script.now)) c.args.disk c.close.result told
     × HeldBeginnings g.D.Sectors.history s (messages_of (lines c.args.script.now)) c.args.disk c.close.result
 media_ends g c =
     let k = c.loop-line.invariant in
     last g.D.Sectors.history (messages_of (lines c.args.script.now)) c.args.disk (messages_of (lines c.loop-line.rest.now)) (messages_of (lines c.in-Some-next_line.more.now))
     (message_of c.unwrap-event.result) (messages_next _ _ _ c.unwrap-event.result c.in-Some-next_line.ensures.0 (sym (ap (option_map line_in) c.unwrap-event.ensures) ∙ c.event_at.ensures))
     c.loop-line.session.disk c.close.result (λ told. Appends (g.W.Write.contents c.args.out.now) (g.W.Write.contents c.loop-line.out) (report told))
-    (λ told. Unit {0}) c.whole_message-reply.result k.shop k.later (λ told x. tt) k.played (told_media g c)
+    (IsPrintedUpToLast g.W.Write.contents c.args.out.now) c.whole_message-reply.result k.shop k.later
+    (printed_up_to g.W.Write.contents c.args.out.now c.loop-line.out c.whole_message-reply.result) k.played (told_media g c)
 
 media_failed : (g : Over) (c : goal.After-close g) → Failed g.D.Sectors.history c.args.disk c.close.result
 media_failed g c =
@@ -106,10 +107,11 @@ media_failed g c =
     failed g.D.Sectors.history (messages_of (lines c.args.script.now)) c.args.disk (messages_of (lines c.loop-line.rest.now)) (messages_of (lines c.in-Some-next_line.more.now))
     (message_of c.unwrap-event.result) (messages_next _ _ _ c.unwrap-event.result c.in-Some-next_line.ensures.0 (sym (ap (option_map line_in) c.unwrap-event.ensures) ∙ c.event_at.ensures))
     c.loop-line.session.disk c.close.result (λ told. Appends (g.W.Write.contents c.args.out.now) (g.W.Write.contents c.loop-line.out) (report told))
-    (λ told. Unit {0}) c.whole_message-reply.result k.shop k.later (λ told x. tt) k.played (told_media g c)
+    (IsPrintedUpToLast g.W.Write.contents c.args.out.now) c.whole_message-reply.result k.shop k.later
+    (printed_up_to g.W.Write.contents c.args.out.now c.loop-line.out c.whole_message-reply.result) k.played (told_media g c)
 
 pub returns-then-is_media-clause-device : goal.returns-then-is_media-clause-device
-returns-then-is_media-clause-device g c = λ s shop is. let x = media_ends g c s shop in (x.0, x.2)
+returns-then-is_media-clause-device g c = λ s shop is. let x = media_ends g c s shop in (x.0, x.1, x.2)
 
 pub returns-then-is_media-clause-moments : goal.returns-then-is_media-clause-moments
 returns-then-is_media-clause-moments g c = λ s shop. (media_ends g c s shop).3
@@ -130,14 +132,15 @@ recovery_failed g c t settled =
     (c.in-Err-next.ensures.stopped t settled c.loop-line.invariant.alive)
 
 recovery_ends : (g : Over) (c : goal.In-Err-next g) (s : Shop) → IsShop (g.D.Sectors.history.image c.args.disk) s
-    → (told : List Reply) × Unit {0} × StoppedByDevice g.D.Sectors.history s (messages_of (lines c.args.script.now)) c.args.disk c.in-Err-next.disk told
+    → (told : List Reply) × IsPrintedUpToLast g.W.Write.contents c.args.out.now told × StoppedByDevice g.D.Sectors.history s (messages_of (lines c.args.script.now)) c.args.disk c.in-Err-next.disk told
     × HeldBeginnings g.D.Sectors.history s (messages_of (lines c.args.script.now)) c.args.disk c.in-Err-next.disk
 recovery_ends g c =
     let k = c.loop-line.invariant in
     last g.D.Sectors.history (messages_of (lines c.args.script.now)) c.args.disk (messages_of (lines c.loop-line.rest.now)) (messages_of (lines c.in-Some-next_line.more.now))
     (message_of c.unwrap-event.result) (messages_next _ _ _ c.unwrap-event.result c.in-Some-next_line.ensures.0 (sym (ap (option_map line_in) c.unwrap-event.ensures) ∙ c.event_at.ensures))
     c.loop-line.session.disk c.in-Err-next.disk (λ told. Appends (g.W.Write.contents c.args.out.now) (g.W.Write.contents c.loop-line.out) (report told))
-    (λ told. Unit {0}) Cut k.shop k.later (λ told x. tt) k.played (recovery_failed g c)
+    (IsPrintedUpToLast g.W.Write.contents c.args.out.now) Cut k.shop k.later
+    (printed_up_to g.W.Write.contents c.args.out.now c.loop-line.out Cut) k.played (recovery_failed g c)
 
 whole_failed : (g : Over) (c : goal.In-Err-next g) → Failed g.D.Sectors.history c.args.disk c.in-Err-next.disk
 whole_failed g c =
@@ -145,10 +148,11 @@ whole_failed g c =
     failed g.D.Sectors.history (messages_of (lines c.args.script.now)) c.args.disk (messages_of (lines c.loop-line.rest.now)) (messages_of (lines c.in-Some-next_line.more.now))
     (message_of c.unwrap-event.result) (messages_next _ _ _ c.unwrap-event.result c.in-Some-next_line.ensures.0 (sym (ap (option_map line_in) c.unwrap-event.ensures) ∙ c.event_at.ensures))
     c.loop-line.session.disk c.in-Err-next.disk (λ told. Appends (g.W.Write.contents c.args.out.now) (g.W.Write.contents c.loop-line.out) (report told))
-    (λ told. Unit {0}) Cut k.shop k.later (λ told x. tt) k.played (recovery_failed g c)
+    (IsPrintedUpToLast g.W.Write.contents c.args.out.now) Cut k.shop k.later
+    (printed_up_to g.W.Write.contents c.args.out.now c.loop-line.out Cut) k.played (recovery_failed g c)
 
 pub returns-in-Err-next-clause-device : goal.returns-in-Err-next-clause-device
-returns-in-Err-next-clause-device g c = λ s shop is. let x = recovery_ends g c s shop in (x.0, x.2)
+returns-in-Err-next-clause-device g c = λ s shop is. let x = recovery_ends g c s shop in (x.0, x.1, x.2)
 
 pub returns-in-Err-next-clause-moments : goal.returns-in-Err-next-clause-moments
 returns-in-Err-next-clause-moments g c = λ s shop. (recovery_ends g c s shop).3
@@ -161,7 +165,8 @@ returns-in-Err-next-clause-cause g c = λ is. (c.loop-line.invariant.shop, whole
 
 -- the reply of this turn wasn't taken by the output
 output_ends : (g : Over) (c : goal.After-close-in-Err-written g) (s : Shop) → IsShop (g.D.Sectors.history.image c.args.disk) s
-    → (told : List Reply) × StoppedByOutput g.D.Sectors.history s (messages_of (lines c.args.script.now)) c.args.disk c.match-event.session.disk told
+    → (told : List Reply) × IsPrintedUpToLast g.W.Write.contents c.args.out.now told
+    × StoppedByOutput g.D.Sectors.history s (messages_of (lines c.args.script.now)) c.args.disk c.match-event.session.disk told
     × HeldBeginnings g.D.Sectors.history s (messages_of (lines c.args.script.now)) c.args.disk c.match-event.session.disk
 output_ends g c =
     let h = g.D.Sectors.history in
@@ -169,14 +174,14 @@ output_ends g c =
     let e = c.unwrap-event.result in
     let next = messages_next _ _ _ e c.in-Some-next_line.ensures.0 (sym (ap (option_map line_in) c.unwrap-event.ensures) ∙ c.event_at.ensures) in
     let Kept : List Reply → Type 0 = λ told. Appends (g.W.Write.contents c.args.out.now) (g.W.Write.contents c.loop-line.out) (report told) in
-    let Now : List Reply → Type 0 = λ told. Unit {0} in
+    let Now : List Reply → Type 0 = IsPrintedUpToLast g.W.Write.contents c.args.out.now in
     let a = c.loop-line.session.disk in
     let b = c.match-event.session.disk in
     elim c.match-event.branch [
       | in-None+else-is_media w ↦
           let reply = w.whole_message-reply.result in
           unwritten h (messages_of (lines c.args.script.now)) c.args.disk (messages_of (lines c.loop-line.rest.now)) (messages_of (lines c.in-Some-next_line.more.now))
-          (message_of e) next a b Kept Now reply k.shop k.later (λ told x. tt) k.played (c.match-event.session.dead ≡ false) (λ t settled.
+          (message_of e) next a b Kept Now reply k.shop k.later (printed_up_to g.W.Write.contents c.args.out.now c.loop-line.out reply) k.played (c.match-event.session.dead ≡ false) (λ t settled.
           let x = w.whole_message-reply.ensures.done t settled k.alive (λ is. false≢true (sym w.if-is_media.false ∙ w.is_media.ensures.1 is)) in (
             ap (λ (v : View _). v.dead) w.session-is ∙ x.0,
             subst (λ n. IsEvent h t n a b (GoesOn h t n reply b)) (is_uncut e w.in-None.is)
@@ -184,7 +189,7 @@ output_ends g c =
           ))
       | in-Some-cut+in-Ok-next w ↦
           unwritten h (messages_of (lines c.args.script.now)) c.args.disk (messages_of (lines c.loop-line.rest.now)) (messages_of (lines c.in-Some-next_line.more.now))
-          (message_of e) next a b Kept Now Cut k.shop k.later (λ told x. tt) k.played (c.match-event.session.dead ≡ false) (λ t settled.
+          (message_of e) next a b Kept Now Cut k.shop k.later (printed_up_to g.W.Write.contents c.args.out.now c.loop-line.out Cut) k.played (c.match-event.session.dead ≡ false) (λ t settled.
           let x = w.in-Ok-next.ensures.done t settled k.alive in (
             ap (λ (v : View _). v.dead) w.session-is ∙ x.0,
             subst (λ n. IsEvent h t n a b (GoesOn h t n Cut b)) (is_cut e w.in-Some-cut.cut w.in-Some-cut.is)
@@ -196,11 +201,11 @@ output_ends g c =
 pub returns-in-Err-written-clause-output : goal.returns-in-Err-written-clause-output
 returns-in-Err-written-clause-output g c = λ s shop is.
     let x = output_ends g c s shop in
-    (x.0, subst (λ d. StoppedByOutput g.D.Sectors.history s (messages_of (lines c.args.script.now)) c.args.disk d x.0) (sym c.close-in-Err-written.ensures) x.1)
+    (x.0, x.1, subst (λ d. StoppedByOutput g.D.Sectors.history s (messages_of (lines c.args.script.now)) c.args.disk d x.0) (sym c.close-in-Err-written.ensures) x.2)
 
 pub returns-in-Err-written-clause-moments : goal.returns-in-Err-written-clause-moments
 returns-in-Err-written-clause-moments g c = λ s shop.
-    subst (λ d. HeldBeginnings g.D.Sectors.history s (messages_of (lines c.args.script.now)) c.args.disk d) (sym c.close-in-Err-written.ensures) (output_ends g c s shop).2
+    subst (λ d. HeldBeginnings g.D.Sectors.history s (messages_of (lines c.args.script.now)) c.args.disk d) (sym c.close-in-Err-written.ensures) (output_ends g c s shop).3
 
 -- the line of this turn is done
 went_on : (g : Over) (c : goal.In-Ok-written g)

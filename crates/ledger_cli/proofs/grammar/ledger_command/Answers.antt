@@ -15,6 +15,10 @@ returns c =
     ∙ ap₂ with_subcommand with_format (ap (λ (a : App). a.top) c.in_ok-list.ensures.app) in
     let with_check = c.in_ok-subcommand-3.ensures.shape c.in_ok-check.ensures.local
     ∙ ap₂ with_subcommand with_list (ap (λ (a : App). a.top) c.in_ok-check.ensures.app) in
-    IfOk-weaker c.subcommand-4.result _ _
-    (λ command adds. adds.shape c.in_ok-dry.ensures.local ∙ ap₂ with_subcommand with_check (ap (λ (a : App). a.top) c.in_ok-dry.ensures.app))
-    c.subcommand-4.ensures
+    let with_show = c.in_ok-subcommand-4.ensures.shape c.in_ok-show.ensures.local
+    ∙ ap₂ with_subcommand with_check (ap (λ (a : App). a.top) c.in_ok-show.ensures.app) in
+    let with_play = c.in_ok-subcommand-5.ensures.shape c.in_ok-play.ensures.local
+    ∙ ap₂ with_subcommand with_show (ap (λ (a : App). a.top) c.in_ok-play.ensures.app) in
+    IfOk-weaker c.subcommand-6.result _ _
+    (λ command adds. adds.shape c.in_ok-dry.ensures.local ∙ ap₂ with_subcommand with_play (ap (λ (a : App). a.top) c.in_ok-dry.ensures.app))
+    c.subcommand-6.ensures

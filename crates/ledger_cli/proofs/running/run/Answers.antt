@@ -1,5 +1,5 @@
 -- A run over an image is told by how it ended.
-use Rattle.ledger_cli.proofs.Runs.{check-run, format-run, list-run}
+use Rattle.ledger_cli.proofs.Runs.{check-run, format-run, list-run, play-run, show-run}
 use Rattle.ledger_cli.proofs.running.run.Goals as goal
 
 pub returns-in-Format-clause-run : goal.returns-in-Format-clause-run
@@ -19,3 +19,15 @@ returns-in-Check-clause-run g c =
     rw (c.in-Check.is, c.judged.ensures.status)
     (check-run _ c.args.image.now c.args.out.now c.check_image.new.out c.check_image.result
     c.check_image.ensures.size c.check_image.ensures.verdict c.check_image.ensures.printed c.check_image.ensures.err c.check_image.ensures.untouched)
+
+pub returns-in-Show-clause-run : goal.returns-in-Show-clause-run
+returns-in-Show-clause-run g c =
+    rw (c.in-Show.is, c.status_after-in-Show.ensures.status)
+    (show-run _ c.args.image.now c.args.out.now c.show_image.new.out c.show_image.result
+    c.show_image.ensures.ok c.show_image.ensures.err c.show_image.ensures.untouched)
+
+pub returns-in-Play-clause-run : goal.returns-in-Play-clause-run
+returns-in-Play-clause-run g c =
+    rw (c.in-Play.is, c.status_after-in-Play.ensures.status)
+    (play-run _ c.args.image.now c.args.script.now c.args.file c.args.out.now c.play_file.new.out c.play_file.result
+    c.play_file.ensures.no_file c.play_file.ensures.run)

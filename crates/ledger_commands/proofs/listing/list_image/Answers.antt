@@ -1,6 +1,6 @@
 -- What the disk in memory holds is the image, and a fault of the directory is a fact of it.
 use Rattle.std.proofs.Common.{◌≡◌, ◌∙◌, ℕ, List, ap, subst, sym}
-use Rattle.std.specs.Prelude.{length, Result, Ok, Err, OnOk}
+use Rattle.std.specs.Prelude.{length}
 use Rattle.std.proofs.lemmas.Result.{IfErr-weaker, on_ok_weaker}
 use Rattle.d64_image.specs.Images.{Image, sector}
 use Rattle.d64_image.specs.Memory.{sectors_in}
@@ -11,11 +11,6 @@ use Rattle.disk_layout.specs.declared.slot.Slot.{Slot}
 use Rattle.ledger_commands.proofs.Listings.{is-listed}
 use Rattle.ledger_commands.specs.Images.{HasDirectory, IsListFault}
 use Rattle.ledger_commands.proofs.listing.list_image.Goals as goal
-
--- what holds in each case holds at Ok
-at_ok : {T E P : Type 0} (r : Result T E) → P → OnOk r P
-at_ok (Ok _) p = p
-at_ok (Err _) p = tt
 
 abbrev has_directory : (image : List ℕ) (img : Image) (places : List Place) (slots : List Slot)
     → length image ≡ 174848 → img ≡ sectors_in image → IsDirectory img places slots → HasDirectory image

@@ -1,11 +1,10 @@
 -- The first line, the lines of the entries and the last line are the listing.
-use Rattle.std.proofs.lemmas.Result.{on_ok_weaker}
 use Rattle.ledger_commands.proofs.Listings.{listing-written}
+use Rattle.ledger_commands.proofs.Showings.{at-ok}
 use Rattle.ledger_commands.proofs.listing.put_directory.Goals as goal
 
 pub returns-clause-ok : goal.returns-clause-ok
 returns-clause-ok g c =
     let last = rw c.blocks_free.ensures at c.in_ok-put_line-2.ensures.ok in
-    on_ok_weaker c.flush.result
-    (listing-written _ _ _ _ _ c.args.map.now.bytes.now c.args.slots.now c.in_ok-put_line.ensures.ok c.in_ok-put_entries.ensures.ok last)
-    c.flush.ensures.ok
+    at-ok c.flush.result
+    (listing-written _ _ _ _ _ c.args.map.now.bytes.now c.args.slots.now c.in_ok-put_line.ensures.ok c.in_ok-put_entries.ensures.ok last c.flush.ensures.kept)

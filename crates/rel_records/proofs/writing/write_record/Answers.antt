@@ -1,15 +1,16 @@
 -- The file grows where it has to, and then the record is written.
-use Rattle.std.proofs.Common.{Err, IfErr, Result, ap, subst, sym, ℕ, ◌∙◌, ◌≡◌, ◌↔◌}
+use Rattle.std.proofs.Common.{Err, IfErr, Result, ap, length, subst, sym, ℕ, ◌∙◌, ◌≡◌, ◌↔◌, ◌+◌, ◌<◌}
 use Rattle.std.proofs.lemmas.Result.{err_from_is_err_and}
 use Rattle.d64_image.proofs.Moments.{at_end}
 use Rattle.d64_image.specs.History.{Changes}
 use Rattle.disk_layout.specs.Layout.{record_length}
 use Rattle.rel_records.proofs.Grown.{changes-growing, changes-grown, size-kept, written-then, writing-others}
 use Rattle.rel_records.proofs.Readings.{placed}
+use Rattle.rel_records.specs.File.{length_of}
 use Rattle.rel_records.specs.Growth.{IsFull, IsTooLarge, added, growth_writes, records_had}
 use Rattle.rel_records.specs.Written.{IsWriting, touched}
 use Rattle.rel_records.specs.declared.faults.RelFault.{RelFault}
-use Rattle.rel_records.specs.declared.faults.RelFault.TheVariants.{Full, TooLarge}
+use Rattle.rel_records.specs.declared.faults.RelFault.TheVariants.{Full, Overflow, TooLarge}
 use Rattle.rel_records.proofs.writing.write_record.Goals as goal
 
 pub returns-in_err-grow_to-clause-too_large : goal.returns-in_err-grow_to-clause-too_large
@@ -83,66 +84,11 @@ returns-in_err-write_there-clause-others g c = λ l n f of.
     in writing-others a (S.image c.write_there.new.disk) l n f m c.args.number c.args.position c.args.text.now
     (at_end S c.args.disk.now c.write_there.new.disk (IsWriting a l n f m c.args.number c.args.position c.args.text.now) held.held)
 
-pub returns-then-text-position-clause-done : goal.returns-then-text-position-clause-done
-returns-then-text-position-clause-done g c = λ l n f of done.
-    let S = g.D.Sectors.history in
-    let a = S.image c.args.disk.now in
-    let b = S.image c.grow_to.new.disk in
-    let v = c.args.file.now in
-    let w = c.grow_to.new.file in
-    let L = record_length f.slot in
-    let m = added L (records_had f) c.args.number in
-    let h = c.in_ok-grow_to.ensures.ok l n f of in
-    let size = size-kept a b l h.layout n n f h.file v w of h.of c.in_ok-grow_to.ensures.same in
-    written-then a b l n f m w h size (S.image c.write_there.new.disk) c.args.number c.args.position c.args.text.now (c.in_ok-write_there.ensures.ok h.layout n h.file h.of)
-
-pub returns-then-text-position-clause-there : goal.returns-then-text-position-clause-there
-returns-then-text-position-clause-there g c = λ done.
-    let S = g.D.Sectors.history in
-    let w = c.grow_to.new.file in
-    let (l, n, f, of) = c.requires.of in
-    let h = c.in_ok-grow_to.ensures.ok l n f of in
-    (c.in_ok-grow_to.ensures.there, placed (S.image c.grow_to.new.disk) w c.args.number (h.layout, n, h.file, h.of) (S.whole c.grow_to.new.disk) c.requires.number c.in_ok-grow_to.ensures.there)
-
-pub returns-then-text-position-clause-fits : goal.returns-then-text-position-clause-fits
-returns-then-text-position-clause-fits g c = λ l n f of done. c.in_ok-grow_to.ensures.fits l n f of
-
-pub returns-then-text-position-clause-too_large : goal.returns-then-text-position-clause-too_large
-returns-then-text-position-clause-too_large g c = λ l n f of.
+pub returns-clause-too_large : goal.returns-clause-too_large
+returns-clause-too_large g c = λ l n f of.
+    let told = c.told_of_text.ensures.err in
     let grown = c.in_ok-grow_to.was in
-    ((λ e. cc), (λ t. let full = (c.grow_to.ensures.too_large l n f of).1 t in cc))
-
-pub returns-then-text-position-clause-moments : goal.returns-then-text-position-clause-moments
-returns-then-text-position-clause-moments g c = λ l n f of.
-    let S = g.D.Sectors.history in
-    let a = S.image c.args.disk.now in
-    let b = S.image c.grow_to.new.disk in
-    let v = c.args.file.now in
-    let w = c.grow_to.new.file in
-    let L = record_length f.slot in
-    let m = added L (records_had f) c.args.number in
-    let h = c.in_ok-grow_to.ensures.ok l n f of in
-    let size = size-kept a b l h.layout n n f h.file v w of h.of c.in_ok-grow_to.ensures.same in
-    let T : ℕ → Type 0 = λ k. Changes S c.grow_to.new.disk c.write_there.new.disk (touched k c.args.number c.args.position) (IsWriting b h.layout n h.file 0 c.args.number c.args.position c.args.text.now) in
-    changes-grown S c.args.disk.now c.grow_to.new.disk c.write_there.new.disk l n f m w h size (growth_writes f c.args.number) (touched L c.args.number c.args.position) c.args.number c.args.position c.args.text.now
-    (c.grow_to.ensures.moments l n f of) (subst T (c.in_ok-grow_to.ensures.same ∙ of.shows.size) (c.write_there.ensures.moments h.layout n h.file h.of))
-
-pub returns-then-text-position-clause-others : goal.returns-then-text-position-clause-others
-returns-then-text-position-clause-others g c = λ l n f of.
-    let S = g.D.Sectors.history in
-    let a = S.image c.args.disk.now in
-    let b = S.image c.grow_to.new.disk in
-    let v = c.args.file.now in
-    let w = c.grow_to.new.file in
-    let L = record_length f.slot in
-    let m = added L (records_had f) c.args.number in
-    let h = c.in_ok-grow_to.ensures.ok l n f of in
-    let size = size-kept a b l h.layout n n f h.file v w of h.of c.in_ok-grow_to.ensures.same in
-    let T : ℕ → Type 0 = λ k. Changes S c.grow_to.new.disk c.write_there.new.disk (touched k c.args.number c.args.position) (IsWriting b h.layout n h.file 0 c.args.number c.args.position c.args.text.now) in
-    let held = changes-grown S c.args.disk.now c.grow_to.new.disk c.write_there.new.disk l n f m w h size (growth_writes f c.args.number) (touched L c.args.number c.args.position) c.args.number c.args.position c.args.text.now
-    (c.grow_to.ensures.moments l n f of) (subst T (c.in_ok-grow_to.ensures.same ∙ of.shows.size) (c.write_there.ensures.moments h.layout n h.file h.of))
-    in writing-others a (S.image c.write_there.new.disk) l n f m c.args.number c.args.position c.args.text.now
-    (at_end S c.args.disk.now c.write_there.new.disk (IsWriting a l n f m c.args.number c.args.position c.args.text.now) held.held)
+    ((λ e. let q = subst (λ (r : Result (Unit {0}) RelFault). IfErr r (λ fault. (fault ≡ Overflow) × (length_of c.grow_to.new.file + 1 < length c.args.text.now + c.args.position))) e told in let d = q.0 in cc), (λ t. let full = (c.grow_to.ensures.too_large l n f of).1 t in cc))
 
 pub returns-clause-done : goal.returns-clause-done
 returns-clause-done g c = λ l n f of done.

@@ -1,0 +1,139 @@
+//! Messages of 64 tills to a shop on a disk, in plain Rust, so that `requests.sh` can time it beside the proved program:
+//! `requests_plain ROUNDS` prints the same checksum of the replies and the image as `benchmarks requests ROUNDS`.
+//! Its books are kept in memory, and it writes the same sectors; each first reply is lost, so that each request is repeated.
+use std::env;
+use std::io::{self, Sink};
+
+#[path = "plain/checking.rs"]
+#[allow(dead_code)]
+mod checking;
+#[path = "plain/files.rs"]
+#[allow(dead_code)]
+mod files;
+#[path = "plain/full_disk.rs"]
+#[allow(dead_code)]
+mod full_disk;
+#[path = "plain/messages.rs"]
+#[allow(dead_code)]
+mod messages;
+#[path = "plain/places.rs"]
+#[allow(dead_code)]
+mod places;
+#[path = "plain/shop.rs"]
+#[allow(dead_code)]
+mod shop;
+
+use files::*;
+use full_disk::*;
+use messages::*;
+use places::*;
+use shop::Shop;
+
+const TILLS: usize = 64;
+
+/// What a till holds: its last number that was answered, and what it wishes and has heard no answer to.
+#[derive(Clone, Copy, Default)]
+struct Till {
+    last: u32,
+    wish: Option<Body>,
+}
+
+/// What a till wishes in this round; None where it would move an item to itself.
+fn wish_of(round: u64) -> Option<Body> {
+    let mix = ((round + 1).wrapping_mul(0x9E37_79B9_7F4A_7C15) >> 32) as u32;
+    let most = if mix & 8 == 0 { 300 } else { 8819 };
+    let item = (mix / 16 % most) as u16 + 1;
+    let quantity = mix / 128 % 1000;
+    let to = (mix / 1024 % 300) as u16 + 1;
+    match mix & 7 {
+        0..=2 => Some(Body { kind: b'S', item, quantity, to: 0 }),
+        3 | 4 => Some(Body { kind: b'R', item, quantity, to: 0 }),
+        5 | 6 => Some(Body { kind: b'I', item, quantity, to: 0 }),
+        _ => (to != item).then_some(Body { kind: b'M', item, quantity, to }),
+    }
+}
+
+fn reply_number(answer: Answer) -> u64 {
+    match answer {
+        Answer::NoCard => 7,
+        Answer::DiskFull => 8,
+        Answer::TooLarge => 9,
+        Answer::Done(on_hand) => 10 + u64::from(on_hand),
+        Answer::Moved(on_hand, other) => 20 + u64::from(on_hand) + 3 * u64::from(other),
+        Answer::Short(on_hand) => 30 + u64::from(on_hand),
+        Answer::Over(on_hand) => 40 + u64::from(on_hand),
+    }
+}
+
+/// Writes the message of a wish.
+fn write_message(out: &mut Out<Sink>, till: usize, number: u32, body: Body) {
+    out.used = 0;
+    out.number(till as u32);
+    out.text(b",");
+    out.number(number);
+    out.text(b",");
+    out.text(&[body.kind]);
+    out.text(b",");
+    out.number(u32::from(body.item));
+    out.text(b",");
+    out.number(body.quantity);
+    if body.kind == b'M' {
+        out.text(b",");
+        out.number(u32::from(body.to));
+    }
+}
+
+/// Answers a message: the number of the reply, and the answer where there is one.
+fn handle(shop: &mut Shop<MemDisk>, message: &[u8]) -> (u64, bool) {
+    let Some((till, number, body, _)) = request(message, 0) else {
+        return (1, false);
+    };
+    if till > shop.count {
+        return (3, false);
+    }
+    match shop.tills.old(till, number, body) {
+        None => match shop.trade(till, number, body) {
+            Ok(answer) => (reply_number(answer), true),
+            Err(_) => (2, false),
+        },
+        Some(Old::Stale) => (4, false),
+        Some(Old::Clash) => (5, false),
+        Some(Old::Ahead) => (6, false),
+        Some(Old::Kept(answer)) => (reply_number(answer), true),
+    }
+}
+
+fn timed(rounds: u64) -> Result<u64, Fault> {
+    let mut disk = MemDisk { sectors: vec![[0; 256]; SECTORS] };
+    blank(&mut disk, TILLS)?;
+    let mut shop = Shop::open(disk).ok_or(Fault::Device)?;
+    let mut tills = [Till::default(); TILLS];
+    let mut out = Out { inner: io::sink(), buffer: [0; ROOM], used: 0 };
+    let mut sum = 0u64;
+    for round in 0..rounds {
+        let place = (round % TILLS as u64) as usize;
+        let till = &mut tills[place];
+        let is_first = round / TILLS as u64 % 2 == 0;
+        if is_first {
+            if let Some(wish) = wish_of(round) {
+                till.wish.get_or_insert(wish);
+            }
+        }
+        let mut number = 0;
+        if let Some(wish) = till.wish {
+            write_message(&mut out, place + 1, till.last + 1, wish);
+            let (told, is_answer) = handle(&mut shop, &out.buffer[..out.used]);
+            number = told;
+            if !is_first && is_answer {
+                *till = Till { last: till.last + 1, wish: None };
+            }
+        }
+        sum = sum.wrapping_mul(31).wrapping_add(number);
+    }
+    Ok(sum.wrapping_mul(31).wrapping_add(checksum(&shop.disk)))
+}
+
+fn main() {
+    let rounds = env::args().nth(1).and_then(|word| word.parse().ok()).expect("ROUNDS is a number");
+    println!("{}", timed(rounds).expect("a disk in memory never fails"));
+}
