@@ -72,7 +72,7 @@ impl Ledger {
     pub fn is_new(&self, message: &[u8]) -> bool {
         match Request::parse(message) {
             None => false,
-            Some(request) => self.standing(&request) == Standing::New,
+            Some(request) => matches!(self.standing(&request), Standing::New),
         }
     }
 

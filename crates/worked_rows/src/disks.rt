@@ -57,6 +57,16 @@ pub(crate) fn sector<D: Sectors>(
     Ok(bytes)
 }
 
+/// The bytes of a sector from this one on, and all behind it.
+pub(crate) fn bytes_from(disk: &MemDisk, track: u8, number: u8, at: u8) -> &[u8] {
+    let Some(place) = Place::new(track, number) else {
+        return &[];
+    };
+    disk.bytes()
+        .get(256 * place.index() + usize::from(at)..)
+        .unwrap_or(&[])
+}
+
 /// Bytes of a sector: its place, the first of them, how many they are, and a text, behind which zeros stand.
 pub(crate) type Change = (u8, u8, u8, usize, &'static [u8]);
 

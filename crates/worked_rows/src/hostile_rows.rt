@@ -1,19 +1,13 @@
 //! Hostile use: images that no shop left, each call on a device failing in turn, and outputs that stop in the middle.
 use crate::disks::{Change, changed, fresh};
-use d64_image::{MemDisk, Meter, Mirror, OneFault};
+use crate::same::same_at;
+use d64_image::{Fuse, MemDisk, Meter, Mirror, OneFault, Sectors};
 use host_session::{Event, OpenFault, PlayFault, ScriptFault, Session, play, run_script};
 use layout_check::check;
 use request_cards::{Reply, Word};
 use std::alloc::Global;
-use std::fmt::Debug;
 use std::io::{self, Cursor, Write};
-use std::process::Abort;
 use std::test::Fail;
-
-/// Sees that a row gives what it is to give.
-fn same_at<T: PartialEq + Debug + Drop, L: Debug + Drop>(rt: &impl Abort, got: T, want: T, row: L) {
-    assert_eq!(rt; got, want, "{row:?}");
-}
 
 /// Cards of version 1 as power may have left them: open intents of a set of item 1, 2 and 15, two cards that are none, and
 /// a stock card in the wrong record.
@@ -34,7 +28,7 @@ const SECOND_OWNER: &[u8] =
     b"\x82\x11\x02X\xA0\xA0\xA0\xA0\xA0\xA0\xA0\xA0\xA0\xA0\xA0\xA0\xA0\xA0\xA0\0\0\0\0\0\0\0\0\0\x01\0";
 
 /// Images that aren't opened: a script that made the disk, what is changed on it, and what is told.
-const REFUSED: [(&[u8], &[Change], &[u8]); 13] = [
+const REFUSED: [(&[u8], &[Change], &[u8]); 16] = [
     (
         b"1,1,S,1693,1\n1,2,S,1694,2\n",
         &[(14, 4, 6, 2, b"")],
@@ -72,6 +66,34 @@ const REFUSED: [(&[u8], &[Change], &[u8]); 13] = [
         b"TWO INTENTS",
     ),
     (b"", &[(17, 0, 38, 18, CARD_4)], b"BAD CARD 3"),
+    // A till's card is judged before two intents, these before the cards of items, and of those not the open intent's own.
+    (
+        b"",
+        &[
+            (17, 2, 2, 127, INTENT_1),
+            (17, 2, 129, 127, INTENT_15),
+            (17, 0, 38, 18, CARD_4),
+        ],
+        b"BAD REQUEST CARD 2",
+    ),
+    (
+        b"",
+        &[
+            (17, 2, 2, 127, INTENT_1),
+            (17, 2, 129, 127, INTENT_2),
+            (17, 0, 38, 18, CARD_4),
+        ],
+        b"TWO INTENTS",
+    ),
+    (
+        b"",
+        &[
+            (17, 2, 2, 127, INTENT_1),
+            (17, 0, 2, 1, b""),
+            (17, 0, 38, 18, CARD_4),
+        ],
+        b"BAD CARD 3",
+    ),
 ];
 
 /// A blank disk for two tills on which a script was played.
@@ -429,5 +451,76 @@ fn an_output_takes_13_bytes(rt: HostRuntime) -> Result<(), Fail> {
         (true, 0, 0),
         "sent again",
     );
+    Ok(())
+}
+
+/// A script whose message makes a card: power goes after its intent.
+const CUT: &[u8] = b"@1 1,1,S,1,5\n";
+
+/// All calls that passed.
+fn passed<D: Sectors>(meter: &Meter<D>) -> u32 {
+    meter.reads().saturating_add(meter.writes()).min(1000) as u32
+}
+
+/// How many calls the script makes, and how many of them come before the message and in the whole recovery.
+fn calls_of_a_cut(alloc: Global) -> Result<(u32, u32, u32), Fail> {
+    let Ok(session) = Session::open(Meter::new(fresh(alloc)?)) else {
+        return Err(Fail::new("it isn't opened"));
+    };
+    let first = session.close();
+    let Ok(mut session) = Session::open(Fuse::new(fresh(alloc)?, 1)) else {
+        return Err(Fail::new("it isn't opened over a fuse"));
+    };
+    session.handle(b"1,1,S,1,5");
+    let Ok(session) = Session::open(Meter::new(session.close().into_inner())) else {
+        return Err(Fail::new("it isn't opened behind the cut"));
+    };
+    let recovery = session.close();
+    let mut out = Vec::new(alloc);
+    match run_script(Meter::new(fresh(alloc)?), CUT, &mut out) {
+        Ok(meter) => Ok((passed(&meter), passed(&first), passed(&recovery))),
+        Err(_) => Err(Fail::new("the script isn't played")),
+    }
+}
+
+/// What is told of the script where one call fails, by the fault's number, 0 for none, and by what was written. What is
+/// left is opened, and the message has its answer.
+fn cut_run(alloc: Global, at: u32, done: bool) -> Result<(u8, Vec<u8>), Fail> {
+    let mut out = Vec::new(alloc);
+    let (number, left) = match run_script(faulty(alloc, at, done)?, CUT, &mut out) {
+        Ok(left) => (0, left),
+        Err((fault, left)) => (fault.number(), left),
+    };
+    let Ok(mut session) = Session::open(left.into_inner()) else {
+        return Err(Fail::new("what is left isn't opened"));
+    };
+    let reply = session.handle(b"1,1,S,1,5");
+    check(&mut session.close())?;
+    if !says(reply, b"1,1,DONE,5") {
+        return Err(Fail::new("the message has another answer"));
+    }
+    Ok((number, out))
+}
+
+// A call of the first opening that fails is told as its fault (1), one of the whole recovery as the device's (4), which isn't
+// tried again. In the message power goes anyway, so that nothing is told.
+#[test]
+fn each_call_of_a_cut_run_fails(rt: HostRuntime) -> Result<(), Fail> {
+    let (all, before, recovery) = calls_of_a_cut(rt.alloc())?;
+    let behind = all.saturating_sub(recovery);
+    same_at(&rt, before < behind && recovery > 0, true, all);
+    for done in [false, true] {
+        for at in 0..all {
+            let (number, out) = cut_run(rt.alloc(), at, done)?;
+            let wanted = if at < before {
+                (1, b"".as_slice())
+            } else if at < behind {
+                (0, b"CUT\n".as_slice())
+            } else {
+                (4, b"CUT\n".as_slice())
+            };
+            same_at(&rt, (number, out.as_slice()), wanted, (at, done));
+        }
+    }
     Ok(())
 }

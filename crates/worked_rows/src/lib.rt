@@ -9,14 +9,32 @@ mod comparing;
 #[cfg(test)]
 mod creation_rows;
 #[cfg(test)]
+mod cut_rows;
+#[cfg(test)]
+mod days;
+#[cfg(test)]
 mod disks;
 #[cfg(test)]
 mod foreign_rows;
 #[cfg(test)]
 mod growth_rows;
 #[cfg(test)]
+mod held_rows;
+#[cfg(test)]
 mod hostile_rows;
+#[cfg(test)]
+mod mirror_rows;
+#[cfg(test)]
+mod opening_rows;
 #[cfg(test)]
 mod record_rows;
 #[cfg(test)]
+mod same;
+#[cfg(test)]
 mod session_rows;
+#[cfg(test)]
+mod sessions;
+#[cfg(test)]
+mod stopped_rows;
+#[cfg(test)]
+mod till_rows;

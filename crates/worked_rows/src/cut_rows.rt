@@ -1,0 +1,111 @@
+//! Requests in which power goes after each of their sector writes: the writes of the next opening and of the repeat, and
+//! what the disk holds between them.
+use crate::days::Line::{Cut, Say};
+use crate::days::is_played;
+use crate::disks::clean;
+use crate::same::{holds, same, same_at};
+use crate::sessions::{WHOLE, after, handled, opened};
+use d64_image::MemDisk;
+use std::process::Abort;
+use std::test::Fail;
+
+/// A message in which power goes.
+#[derive(Clone, Copy)]
+struct Asked {
+    /// What was played before.
+    before: &'static [u8],
+    message: &'static [u8],
+    reply: &'static [u8],
+    /// The writes of the next opening and of the repeat, where power went after 0, 1, 2 .. writes.
+    writes: &'static [(u64, u64)],
+}
+
+/// A first set that takes a block, and whose card lies in two.
+const SET: Asked = Asked {
+    before: b"",
+    message: b"1,1,S,15,7",
+    reply: b"1,1,DONE,7",
+    writes: &[
+        (0, 9),
+        (1, 9),
+        (1, 9),
+        (2, 9),
+        (1, 4),
+        (0, 4),
+        (3, 0),
+        (3, 0),
+        (3, 0),
+        (0, 0),
+    ],
+};
+
+/// One that takes a block and a side sector, STOCK having 120 blocks.
+const SIDE: Asked = Asked {
+    before: b"1,1,S,1693,1\n",
+    message: b"1,2,S,1694,2",
+    reply: b"1,2,DONE,2",
+    writes: &[
+        (0, 10),
+        (1, 10),
+        (1, 10),
+        (1, 10),
+        (2, 10),
+        (1, 4),
+        (0, 4),
+        (3, 0),
+        (3, 0),
+        (3, 0),
+        (0, 0),
+    ],
+};
+
+/// A move between a card in one block and one in two.
+const MOVE: Asked = Asked {
+    before: b"1,1,S,1,10\n1,2,S,15,3\n",
+    message: b"1,3,M,1,4,15",
+    reply: b"1,3,DONE,6,7",
+    writes: &[(0, 5), (4, 0), (4, 0), (4, 0), (4, 0), (0, 0)],
+};
+
+/// A refusal.
+const REFUSED: Asked = Asked {
+    before: b"",
+    message: b"1,1,R,7,5",
+    reply: b"1,1,NO CARD",
+    writes: &[(0, 1), (0, 0)],
+};
+
+/// Hands the message to a session whose power goes after so many writes. What the next opening writes, and then the
+/// repeat, which has the reply, stands in the row; the same is told of a script and of events.
+fn is_cut(
+    rt: &(impl Abort + AllocGlobal),
+    disk: &MemDisk,
+    asked: &Asked,
+    power: u32,
+    writes: (u64, u64),
+) -> Result<(), Fail> {
+    let (_, passed, cut) = handled(rt.alloc(), disk, asked.message, power)?;
+    same(rt, passed, u64::from(power));
+    let (recovery, mut mended) = opened(rt.alloc(), &cut, WHOLE)?;
+    clean(&mut mended)?;
+    let (_, repeat, last) = handled(rt.alloc(), &mended, asked.message, WHOLE)?;
+    same_at(rt, (recovery, repeat), writes, power);
+    let lines = [
+        Cut(power, &[], asked.message, passed.saturating_add(recovery)),
+        Say(asked.message, asked.reply, repeat),
+    ];
+    let played = is_played(rt, disk, &lines, "a request that is cut")?;
+    holds(rt, played.bytes() == last.bytes(), power);
+    Ok(())
+}
+
+#[test]
+fn requests_are_cut(rt: HostRuntime) -> Result<(), Fail> {
+    for asked in [SET, SIDE, MOVE, REFUSED] {
+        let disk = after(rt.alloc(), asked.before)?;
+        for (power, writes) in (0u32..).zip(asked.writes) {
+            is_cut(&rt, &disk, &asked, power, *writes)?;
+        }
+    }
+    Ok(())
+}
