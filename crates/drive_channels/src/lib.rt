@@ -4,6 +4,8 @@
 mod closing;
 mod commands;
 mod drive;
+#[cfg(test)]
+mod far_rows;
 mod faults;
 mod found;
 mod known;

@@ -16,3 +16,5 @@ mod foreign_rows;
 mod growth_rows;
 #[cfg(test)]
 mod record_rows;
+#[cfg(test)]
+mod side_rows;
