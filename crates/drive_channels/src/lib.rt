@@ -6,6 +6,8 @@ mod commands;
 #[cfg(test)]
 mod comparing;
 mod drive;
+#[cfg(test)]
+mod far_rows;
 mod faults;
 mod found;
 mod known;

@@ -35,6 +35,8 @@ mod session_rows;
 #[cfg(test)]
 mod sessions;
 #[cfg(test)]
+mod side_rows;
+#[cfg(test)]
 mod stopped_rows;
 #[cfg(test)]
 mod till_rows;
