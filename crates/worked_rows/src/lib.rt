@@ -3,6 +3,8 @@
 #![tactic(auto)]
 
 #[cfg(test)]
+mod comparing;
+#[cfg(test)]
 mod creation_rows;
 #[cfg(test)]
 mod disks;
