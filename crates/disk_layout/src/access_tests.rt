@@ -1,4 +1,5 @@
 //! Single sectors read and written, on a device that fails too, and a slot cut out of a sector.
+use crate::comparing::{same, same_at};
 use crate::{Fault, Slot, read_sector, write_sector};
 use d64_image::{DeviceFault, Fuse, MemDisk, Place};
 use std::test::Fail;
@@ -12,22 +13,24 @@ fn a_device_that_fails(rt: HostRuntime) -> Result<(), Fail> {
     );
     let mut disk = Fuse::new(MemDisk::zeroed(rt.alloc())?, 1);
     let mut bytes = [1; 256];
-    assert_eq!(rt; read_sector(&mut disk, first, &mut bytes), Ok(()));
-    assert_eq!(rt; bytes, [0; 256]);
-    assert_eq!(rt; write_sector(&mut disk, first, &[7; 256]), Ok(()));
-    assert_eq!(rt;
+    same(&rt, read_sector(&mut disk, first, &mut bytes), Ok(()));
+    same(&rt, bytes, [0; 256]);
+    same(&rt, write_sector(&mut disk, first, &[7; 256]), Ok(()));
+    same(
+        &rt,
         read_sector(&mut disk, second, &mut bytes),
-        Err(Fault::Device(second))
+        Err(Fault::Device(second)),
     );
-    assert_eq!(rt;
+    same(
+        &rt,
         write_sector(&mut disk, second, &[9; 256]),
-        Err(Fault::Device(second))
+        Err(Fault::Device(second)),
     );
     let mut whole = disk.into_inner();
-    assert_eq!(rt; read_sector(&mut whole, first, &mut bytes), Ok(()));
-    assert_eq!(rt; bytes, [7; 256]);
-    assert_eq!(rt; read_sector(&mut whole, second, &mut bytes), Ok(()));
-    assert_eq!(rt; bytes, [0; 256]);
+    same(&rt, read_sector(&mut whole, first, &mut bytes), Ok(()));
+    same(&rt, bytes, [7; 256]);
+    same(&rt, read_sector(&mut whole, second, &mut bytes), Ok(()));
+    same(&rt, bytes, [0; 256]);
     Ok(())
 }
 
@@ -43,11 +46,12 @@ fn slots_of_a_sector(rt: HostRuntime) -> Result<(), Fail> {
     bytes[255] = 9;
     for (number, first, last) in [(0, 18, 0), (2, 0, 5), (3, 6, 7), (4, 8, 0), (7, 0, 9)] {
         let slot = Slot::in_sector(&bytes, place, number);
-        assert_eq!(rt; (slot.sector, slot.number), (place, number));
-        assert_eq!(rt;
+        same(&rt, (slot.sector, slot.number), (place, number));
+        same_at(
+            &rt,
             (slot.bytes[0], slot.bytes[31]),
             (first, last),
-            "slot {number}"
+            ("slot", number),
         );
     }
     Ok(())

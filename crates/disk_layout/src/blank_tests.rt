@@ -1,4 +1,5 @@
 //! The blank image byte by byte, with values worked out by hand from the disk's format.
+use crate::comparing::{same, same_at};
 use crate::{Bam, BamView, DirView, EntryView, blank_image, read_directory, walk_chain};
 use arrayvec::ArrayVec;
 use d64_image::{DeviceFault, MemDisk, Meter, Place, Sectors};
@@ -91,7 +92,12 @@ fn the_image_for_two_tills(rt: HostRuntime) -> Result<(), Fail> {
                         want = bytes;
                     }
                 }
-                assert_eq!(rt; sector(&mut disk, track, number)?, want, "{track}/{number}");
+                same_at(
+                    &rt,
+                    sector(&mut disk, track, number)?,
+                    want,
+                    (track, number),
+                );
             }
         }
     }
@@ -146,16 +152,22 @@ fn other_numbers_of_tills(rt: HostRuntime) -> Result<(), Fail> {
         let directory = sector(&mut disk, 18, 1)?;
         let first = sector(&mut disk, 17, 2)?;
         let side = sector(&mut disk, 17, 3)?;
-        assert_eq!(rt; disk.writes(), writes, "{tills} tills");
-        assert_eq!(rt; BamView::new(&map).blocks_free(), free, "{tills} tills");
-        assert_eq!(rt;
+        same_at(&rt, disk.writes(), writes, ("tills", tills));
+        same_at(
+            &rt,
+            BamView::new(&map).blocks_free(),
+            free,
+            ("tills", tills),
+        );
+        same_at(
+            &rt,
             DirView::new(&directory).entry(1).block_count(),
             count,
-            "{tills} tills"
+            ("tills", tills),
         );
-        assert_eq!(rt; &map[68..72], track_17.as_slice(), "{tills} tills");
-        assert_eq!(rt; &map[76..80], track_19.as_slice(), "{tills} tills");
-        assert_eq!(rt; [first[0], first[1], side[1]], block, "{tills} tills");
+        same_at(&rt, &map[68..72], track_17.as_slice(), ("tills", tills));
+        same_at(&rt, &map[76..80], track_19.as_slice(), ("tills", tills));
+        same_at(&rt, [first[0], first[1], side[1]], block, ("tills", tills));
     }
     Ok(())
 }
@@ -166,7 +178,7 @@ fn the_requests_of_64_tills(rt: HostRuntime) -> Result<(), Fail> {
     blank_image(&mut disk, b"STOCK LEDGER", *b"01", 64)?;
     let mut places = ArrayVec::new();
     let first = Place::new(17, 2).ok_or(DeviceFault)?;
-    assert_eq!(rt; walk_chain(&mut disk, first, &mut places), Ok(255));
+    same(&rt, walk_chain(&mut disk, first, &mut places), Ok(255));
     let mut number = 0;
     for place in places.as_slice() {
         let at = (place.track(), place.sector());
@@ -176,10 +188,10 @@ fn the_requests_of_64_tills(rt: HostRuntime) -> Result<(), Fail> {
             18..=31 => (19, number - 18),
             _ => (0, 0),
         };
-        assert_eq!(rt; at, want);
+        same(&rt, at, want);
         number = number.wrapping_add(1);
     }
-    assert_eq!(rt; number, 32);
+    same(&rt, number, 32);
     Ok(())
 }
 
@@ -189,31 +201,34 @@ fn names_and_entries(rt: HostRuntime) -> Result<(), Fail> {
     blank_image(&mut disk, b"STOCK LEDGER", *b"01", 2)?;
     let map = Bam::read(&mut disk)?;
     let view = map.view();
-    assert_eq!(rt;
+    same(
+        &rt,
         (view.name(), view.id(), view.version()),
         (
             b"STOCK LEDGER".as_slice(),
             b"01".as_slice(),
-            b"2A".as_slice()
-        )
+            b"2A".as_slice(),
+        ),
     );
-    assert_eq!(rt;
+    same(
+        &rt,
         (view.free_on(17), view.free_on(18), view.free_on(35)),
-        (17, 17, 17)
+        (17, 17, 17),
     );
     let directory = sector(&mut disk, 18, 1)?;
-    assert_eq!(rt; DirView::new(&directory).link(), (0, 255));
+    same(&rt, DirView::new(&directory).link(), (0, 255));
     let mut slots = ArrayVec::new();
-    assert_eq!(rt; read_directory(&mut disk, &mut slots), Ok(()));
+    same(&rt, read_directory(&mut disk, &mut slots), Ok(()));
     let mut names = ArrayVec::<u8, 300>::new();
     for slot in slots.as_slice() {
         let entry = EntryView::new(&slot.bytes);
-        assert_eq!(rt;
+        same(
+            &rt,
             (entry.type_byte(), entry.block_count(), slot.sector.sector()),
-            (0x84, 2, 1)
+            (0x84, 2, 1),
         );
         let _ = names.try_extend_from_slice(entry.name());
-        assert!(rt; entry.is_relative() && entry.has_first_block());
+        same(&rt, entry.is_relative() && entry.has_first_block(), true);
         let first = entry.first_block().unwrap_or_default();
         let side = entry.first_side().unwrap_or_default();
         let _ = names.try_extend_from_slice(&[
@@ -225,9 +240,10 @@ fn names_and_entries(rt: HostRuntime) -> Result<(), Fail> {
             entry.record_length(),
         ]);
     }
-    assert_eq!(rt;
+    same(
+        &rt,
         names.as_slice(),
-        b"STOCK\x00\x11\x00\x11\x01\x12REQUESTS\x01\x11\x02\x11\x03\x7F".as_slice()
+        b"STOCK\x00\x11\x00\x11\x01\x12REQUESTS\x01\x11\x02\x11\x03\x7F".as_slice(),
     );
     Ok(())
 }

@@ -1,4 +1,5 @@
 //! Chains and side sectors with values from the 1541's format, and the faults of damaged chains.
+use crate::comparing::{same, same_at};
 use crate::{Fault, SideView, side_bytes, walk_chain};
 use arrayvec::ArrayVec;
 use d64_image::{DeviceFault, Fuse, MemDisk, Place, Sectors};
@@ -49,7 +50,7 @@ fn damaged_chains(rt: HostRuntime) -> Result<(), Fail> {
         link(&mut disk, first, track, sector)?;
         link(&mut disk, place(17, 1)?, 17, 0)?;
         link(&mut disk, place(17, 2)?, 0, 9)?;
-        assert_eq!(rt; walk(&mut disk, first), (end, visited), "{name}");
+        same_at(&rt, walk(&mut disk, first), (end, visited), name);
     }
     Ok(())
 }
@@ -67,7 +68,7 @@ fn a_chain_of_all_sectors(rt: HostRuntime) -> Result<(), Fail> {
         }
     }
     link(&mut disk, before, 0, 42)?;
-    assert_eq!(rt; walk(&mut disk, place(1, 0)?), (Ok(42), 683));
+    same(&rt, walk(&mut disk, place(1, 0)?), (Ok(42), 683));
     Ok(())
 }
 
@@ -75,7 +76,7 @@ fn a_chain_of_all_sectors(rt: HostRuntime) -> Result<(), Fail> {
 fn a_device_that_fails(rt: HostRuntime) -> Result<(), Fail> {
     let mut disk = Fuse::new(MemDisk::zeroed(rt.alloc())?, 0);
     let first = place(17, 0)?;
-    assert_eq!(rt; walk(&mut disk, first), (Err(Fault::Device(first)), 1));
+    same(&rt, walk(&mut disk, first), (Err(Fault::Device(first)), 1));
     Ok(())
 }
 
@@ -91,28 +92,32 @@ fn side_sectors(rt: HostRuntime) -> Result<(), Fail> {
     want[4] = 17;
     want[5] = 1;
     want[16] = 17;
-    assert_eq!(rt; one, want, "one block");
+    same_at(&rt, one, want, "one block");
     let sides = [b, c];
     let first = side_bytes(0, &[a; 121], &sides, 18);
-    assert_eq!(rt;
+    same_at(
+        &rt,
         &first[..8],
         [17, 2, 0, 18, 17, 1, 17, 2].as_slice(),
-        "the first of two"
+        "the first of two",
     );
     let second = side_bytes(1, &[a; 121], &sides, 18);
-    assert_eq!(rt;
+    same_at(
+        &rt,
         &second[..8],
         [0, 17, 1, 18, 17, 1, 17, 2].as_slice(),
-        "the second of two"
+        "the second of two",
     );
     let view = SideView::new(&second);
-    assert_eq!(rt;
+    same(
+        &rt,
         (view.number(), view.record_length(), view.next()),
-        (1, 18, None)
+        (1, 18, None),
     );
-    assert_eq!(rt;
+    same(
+        &rt,
         (view.side(1), view.block(0), view.block(1)),
-        (Some(c), Some(a), None)
+        (Some(c), Some(a), None),
     );
     Ok(())
 }
@@ -133,9 +138,10 @@ fn texts_and_numbers(rt: HostRuntime) -> Result<(), Fail> {
         (Fault::Device(at), "DEVICE 18/1", 10),
     ];
     for (fault, text, number) in rows {
-        assert_eq!(rt;
+        same(
+            &rt,
             (format!(in rt.alloc(); "{fault}")?.as_str(), fault.number()),
-            (text, number)
+            (text, number),
         );
     }
     Ok(())

@@ -1,4 +1,5 @@
 //! The directory read along its links, on damaged disks too.
+use crate::comparing::{same, same_at};
 use crate::{Fault, Slot, blank_image, read_directory};
 use arrayvec::ArrayVec;
 use d64_image::{DeviceFault, Fuse, MemDisk, Place, Sectors};
@@ -50,7 +51,7 @@ fn damaged_links(rt: HostRuntime) -> Result<(), Fail> {
         let mut disk = MemDisk::zeroed(rt.alloc())?;
         directory_sector(&mut disk, 1, link, [0x82; 8])?;
         directory_sector(&mut disk, 2, [18, 1], [0; 8])?;
-        assert_eq!(rt; listed(&mut disk).0, answer, "{name}");
+        same_at(&rt, listed(&mut disk).0, answer, name);
     }
     Ok(())
 }
@@ -62,7 +63,7 @@ fn a_full_directory(rt: HostRuntime) -> Result<(), Fail> {
         directory_sector(&mut disk, sector, [18, sector + 1], [0x82; 8])?;
     }
     directory_sector(&mut disk, 18, [0, 255], [0x82; 8])?;
-    assert_eq!(rt; listed(&mut disk), (Ok(()), 144));
+    same(&rt, listed(&mut disk), (Ok(()), 144));
     Ok(())
 }
 
@@ -92,10 +93,10 @@ fn entries_in_order(rt: HostRuntime) -> Result<(), Fail> {
     ];
     let mut slots: ArrayVec<Slot, 144> = ArrayVec::new();
     slots.push(Slot::default());
-    assert_eq!(rt; read_directory(&mut disk, &mut slots), Ok(()));
-    assert_eq!(rt; slots.len(), 5);
+    same(&rt, read_directory(&mut disk, &mut slots), Ok(()));
+    same(&rt, slots.len(), 5);
     for (slot, row) in slots.as_slice().iter().zip(rows) {
-        assert_eq!(rt; (slot.sector.sector(), slot.number, slot.bytes[2]), row);
+        same(&rt, (slot.sector.sector(), slot.number, slot.bytes[2]), row);
     }
     Ok(())
 }
@@ -105,13 +106,18 @@ fn a_device_that_fails(rt: HostRuntime) -> Result<(), Fail> {
     let mut disk = MemDisk::zeroed(rt.alloc())?;
     blank_image(&mut disk, b"STOCK LEDGER", *b"01", 2)?;
     let mut dead = Fuse::new(disk, 0);
-    assert_eq!(rt; listed(&mut dead), (Err(Fault::Device(place(18, 1)?)), 0));
+    same(
+        &rt,
+        listed(&mut dead),
+        (Err(Fault::Device(place(18, 1)?)), 0),
+    );
     for writes in 0..6u32 {
         let mut fuse = Fuse::new(MemDisk::zeroed(rt.alloc())?, writes);
-        assert_eq!(rt;
+        same_at(
+            &rt,
             blank_image(&mut fuse, b"N", *b"01", 2),
             Err(DeviceFault),
-            "{writes} writes"
+            ("writes", writes),
         );
     }
     Ok(())

@@ -12,6 +12,8 @@ mod blank_tests;
 mod chain;
 #[cfg(test)]
 mod chain_tests;
+#[cfg(test)]
+mod comparing;
 mod directory;
 #[cfg(test)]
 mod directory_tests;

@@ -1,5 +1,6 @@
 //! The map: the order of picking, taking and giving back.
 use crate::Bam;
+use crate::comparing::{same, same_at};
 use d64_image::{DeviceFault, Place};
 use std::test::Fail;
 
@@ -31,13 +32,13 @@ fn picks_in_order(rt: HostRuntime) -> Result<(), Fail> {
     for track in tracks {
         for sector in 0..21u8 {
             if let Some(place) = Place::new(track, sector) {
-                assert_eq!(rt; map.pick(), Some(place));
+                same(&rt, map.pick(), Some(place));
                 map.take(place);
             }
         }
     }
-    assert_eq!(rt; map.pick(), None);
-    assert_eq!(rt; map.view().blocks_free(), 0);
+    same(&rt, map.pick(), None);
+    same(&rt, map.view().blocks_free(), 0);
     Ok(())
 }
 
@@ -46,10 +47,14 @@ fn picks_for_the_directory(rt: HostRuntime) -> Result<(), Fail> {
     let mut map = fresh();
     for sector in 2..19u8 {
         let place = Place::new(18, sector).ok_or(DeviceFault)?;
-        assert_eq!(rt; map.pick_directory(), Some(place));
+        same(&rt, map.pick_directory(), Some(place));
         map.take(place);
     }
-    assert_eq!(rt; (map.pick_directory(), map.view().free_on(18)), (None, 0));
+    same(
+        &rt,
+        (map.pick_directory(), map.view().free_on(18)),
+        (None, 0),
+    );
     Ok(())
 }
 
@@ -109,10 +114,10 @@ fn takes_and_gives(rt: HostRuntime) -> Result<(), Fail> {
         let mut want = map;
         map.take(place);
         want.bytes[at..at + 4].copy_from_slice(&taken);
-        assert_eq!(rt; map, want, "{name}");
+        same_at(&rt, map, want, name);
         map.give(place);
         want.bytes[at..at + 4].copy_from_slice(&given);
-        assert_eq!(rt; map, want, "{name}");
+        same_at(&rt, map, want, name);
     }
     Ok(())
 }

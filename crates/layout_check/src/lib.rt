@@ -3,6 +3,8 @@
 
 mod blocks;
 mod checking;
+#[cfg(test)]
+mod comparing;
 mod entry;
 mod files;
 mod maps;

@@ -1,4 +1,5 @@
 //! Disks that are repaired, and what that writes.
+use crate::comparing::{same, same_at};
 use crate::test_disks::{change, fresh, place};
 use crate::{check, repair, survey};
 use d64_image::{Fuse, MemDisk, Meter};
@@ -21,14 +22,19 @@ fn wrong_sectors_are_written_once(rt: HostRuntime) -> Result<(), Fail> {
     let mut disk = Meter::new(worn(rt.alloc())?);
     for round in 0..2u8 {
         let found = repair(&mut disk)?;
-        assert_eq!(rt;
+        same_at(
+            &rt,
             (disk.writes(), found.entries()),
             (3, 2),
-            "after round {round}"
+            ("after round", round),
         );
-        assert!(rt; check(&mut disk).is_ok());
+        same(&rt, check(&mut disk).is_ok(), true);
     }
-    assert!(rt; disk.into_inner().bytes() == fresh(rt.alloc())?.bytes());
+    same(
+        &rt,
+        disk.into_inner().bytes() == fresh(rt.alloc())?.bytes(),
+        true,
+    );
     Ok(())
 }
 
@@ -39,11 +45,11 @@ fn bits_past_the_last_sector(rt: HostRuntime) -> Result<(), Fail> {
     change(&mut spare, place(18, 0)?, (7, 0xFF), (7, 0xFF))?;
     let mut disk = Meter::new(spare);
     repair(&mut disk)?;
-    assert_eq!(rt; disk.writes(), 0);
+    same(&rt, disk.writes(), 0);
     let mut wrong = disk.into_inner();
     change(&mut wrong, place(18, 0)?, (0x44, 0x12), (0x45, 0xF8))?;
     repair(&mut wrong)?;
-    assert!(rt; wrong.bytes() == fresh(rt.alloc())?.bytes());
+    same(&rt, wrong.bytes() == fresh(rt.alloc())?.bytes(), true);
     Ok(())
 }
 
@@ -52,12 +58,16 @@ fn bits_past_the_last_sector(rt: HostRuntime) -> Result<(), Fail> {
 fn a_cut_repair_is_taken_up_again(rt: HostRuntime) -> Result<(), Fail> {
     for passed in 0..3u8 {
         let mut cut = Fuse::new(worn(rt.alloc())?, u32::from(passed));
-        assert!(rt; matches!(repair(&mut cut), Err(Fault::Device(_))));
+        same(&rt, matches!(repair(&mut cut), Err(Fault::Device(_))), true);
         let mut disk = Meter::new(cut.into_inner());
-        assert!(rt; survey(&mut disk).is_ok());
-        assert!(rt; repair(&mut disk).is_ok());
-        assert_eq!(rt; disk.writes(), 3 - u64::from(passed));
-        assert!(rt; disk.into_inner().bytes() == fresh(rt.alloc())?.bytes());
+        same(&rt, survey(&mut disk).is_ok(), true);
+        same(&rt, repair(&mut disk).is_ok(), true);
+        same(&rt, disk.writes(), 3 - u64::from(passed));
+        same(
+            &rt,
+            disk.into_inner().bytes() == fresh(rt.alloc())?.bytes(),
+            true,
+        );
     }
     Ok(())
 }
@@ -78,8 +88,8 @@ fn a_disk_that_is_not_sound_stays(rt: HostRuntime) -> Result<(), Fail> {
         let mut disk = worn(rt.alloc())?;
         change(&mut disk, at, first, second)?;
         let mut disk = Meter::new(disk);
-        assert!(rt; repair(&mut disk).err() == Some(fault));
-        assert_eq!(rt; disk.writes(), 0);
+        same(&rt, repair(&mut disk).err(), Some(fault));
+        same(&rt, disk.writes(), 0);
     }
     Ok(())
 }

@@ -1,4 +1,5 @@
 //! Disks with one fault each, and a file of two side sectors.
+use crate::comparing::{same, same_at};
 use crate::test_disks::{change, fresh, place};
 use crate::{check, survey};
 use d64_image::{DeviceFault, Fuse, MemDisk, Place, Sectors};
@@ -114,8 +115,8 @@ fn single_faults(rt: HostRuntime) -> Result<(), Fail> {
     for (name, at, first, second, fault, sound) in rows {
         let mut disk = fresh(rt.alloc())?;
         change(&mut disk, at, first, second)?;
-        assert_eq!(rt; check(&mut disk).err(), Some(fault), "{name}");
-        assert_eq!(rt; survey(&mut disk).is_ok(), sound, "{name}");
+        same_at(&rt, check(&mut disk).err(), Some(fault), name);
+        same_at(&rt, survey(&mut disk).is_ok(), sound, name);
     }
     Ok(())
 }
@@ -127,9 +128,17 @@ fn kept_back_until_the_disk_is_sound(rt: HostRuntime) -> Result<(), Fail> {
     let directory = place(18, 1)?;
     change(&mut disk, place(17, 1)?, (1, 0x10), (1, 0x10))?;
     change(&mut disk, directory, (30, 3), (31, 0))?;
-    assert_eq!(rt; check(&mut disk).err(), Some(Fault::BadSide(place(17, 1)?)));
+    same(
+        &rt,
+        check(&mut disk).err(),
+        Some(Fault::BadSide(place(17, 1)?)),
+    );
     change(&mut disk, directory, (34, 0x04), (34, 0x04))?;
-    assert_eq!(rt; check(&mut disk).err(), Some(Fault::Unclosed(directory)));
+    same(
+        &rt,
+        check(&mut disk).err(),
+        Some(Fault::Unclosed(directory)),
+    );
     Ok(())
 }
 
@@ -139,9 +148,10 @@ fn a_length_too_large(rt: HostRuntime) -> Result<(), Fail> {
     let mut disk = fresh(rt.alloc())?;
     change(&mut disk, place(18, 1)?, (23, 255), (23, 255))?;
     change(&mut disk, place(17, 1)?, (3, 255), (3, 255))?;
-    assert_eq!(rt;
+    same(
+        &rt,
         check(&mut disk).err(),
-        Some(Fault::BadLength(place(18, 1)?))
+        Some(Fault::BadLength(place(18, 1)?)),
     );
     Ok(())
 }
@@ -152,9 +162,10 @@ fn one_sector_twice(rt: HostRuntime) -> Result<(), Fail> {
     let mut disk = fresh(rt.alloc())?;
     change(&mut disk, place(18, 1)?, (36, 0), (54, 1))?;
     change(&mut disk, place(18, 1)?, (55, 18), (55, 18))?;
-    assert_eq!(rt;
+    same(
+        &rt,
         survey(&mut disk).err(),
-        Some(Fault::OwnedTwice(place(17, 0)?))
+        Some(Fault::OwnedTwice(place(17, 0)?)),
     );
     Ok(())
 }
@@ -165,8 +176,8 @@ fn what_a_survey_tells(rt: HostRuntime) -> Result<(), Fail> {
     let Ok(found) = survey(&mut disk) else {
         return Err(Fail::from(DeviceFault));
     };
-    assert_eq!(rt; found.entries(), 2);
-    assert_eq!(rt; (found.outside(0), found.outside(1)), (662, 662));
+    same(&rt, found.entries(), 2);
+    same(&rt, (found.outside(0), found.outside(1)), (662, 662));
     let rows = [
         (18, 0, true),
         (18, 1, true),
@@ -176,10 +187,11 @@ fn what_a_survey_tells(rt: HostRuntime) -> Result<(), Fail> {
         (17, 4, false),
     ];
     for (track, sector, owned) in rows {
-        assert_eq!(rt;
+        same_at(
+            &rt,
             found.is_owned(place(track, sector)?),
             owned,
-            "{track}/{sector}"
+            (track, sector),
         );
     }
     Ok(())
@@ -188,8 +200,16 @@ fn what_a_survey_tells(rt: HostRuntime) -> Result<(), Fail> {
 #[test]
 fn a_device_that_fails(rt: HostRuntime) -> Result<(), Fail> {
     let mut dead = Fuse::new(fresh(rt.alloc())?, 0);
-    assert_eq!(rt; survey(&mut dead).err(), Some(Fault::Device(place(18, 1)?)));
-    assert_eq!(rt; check(&mut dead).err(), Some(Fault::Device(place(18, 1)?)));
+    same(
+        &rt,
+        survey(&mut dead).err(),
+        Some(Fault::Device(place(18, 1)?)),
+    );
+    same(
+        &rt,
+        check(&mut dead).err(),
+        Some(Fault::Device(place(18, 1)?)),
+    );
     Ok(())
 }
 
@@ -249,7 +269,7 @@ fn long_file(alloc: Global) -> Result<MemDisk, Fail> {
 // Two side sectors: each is judged by its number, the list, its link and its pointers.
 #[test]
 fn a_long_file(rt: HostRuntime) -> Result<(), Fail> {
-    assert!(rt; check(&mut long_file(rt.alloc())?).is_ok());
+    same(&rt, check(&mut long_file(rt.alloc())?).is_ok(), true);
     let first = place(7, 0)?;
     let second = place(7, 1)?;
     let rows = [
@@ -263,10 +283,11 @@ fn a_long_file(rt: HostRuntime) -> Result<(), Fail> {
     for (name, at, byte, told) in rows {
         let mut disk = long_file(rt.alloc())?;
         change(&mut disk, at, (byte, 3), (byte, 3))?;
-        assert_eq!(rt;
+        same_at(
+            &rt,
             survey(&mut disk).err(),
             Some(Fault::BadSide(told)),
-            "{name}"
+            name,
         );
     }
     Ok(())

@@ -2,7 +2,14 @@
 use crate::Recorder;
 use d64_image::{DeviceFault, Fuse, MemDisk, Place, Sectors};
 use std::alloc::Global;
+use std::fmt::Debug;
+use std::process::Abort;
 use std::test::Fail;
+
+/// Ends the test where the two differ: one call for each comparison, so that a test is proved in little time.
+fn same<T: PartialEq + Debug + Drop>(rt: &impl Abort, got: T, want: T) {
+    assert_eq!(rt; got, want);
+}
 
 /// Two places: the first and the last of the disk.
 fn places() -> Result<(Place, Place), Fail> {
@@ -40,15 +47,17 @@ fn images_in_between(rt: HostRuntime) -> Result<(), Fail> {
     fill_both(&mut disk, a, b, 1)?;
     fill_both(&mut disk, a, a, 9)?;
     let want = [(0, 0), (1, 0), (1, 1), (9, 1), (9, 1)];
-    assert_eq!(rt;
+    same(
+        &rt,
         seen(rt.alloc(), &mut disk, a, b)?.as_slice(),
-        want.as_slice()
+        want.as_slice(),
     );
     let mut last = [0; 256];
     disk.read_at(9, b, &mut last)?;
-    assert_eq!(rt; last[255], 1, "a later moment is now");
+    // a later moment is now
+    same(&rt, last[255], 1);
     disk.into_inner().read(a, &mut last)?;
-    assert_eq!(rt; last[0], 9);
+    same(&rt, last[0], 9);
     Ok(())
 }
 
@@ -57,13 +66,13 @@ fn images_in_between(rt: HostRuntime) -> Result<(), Fail> {
 fn a_recorder_over_a_fuse(rt: HostRuntime) -> Result<(), Fail> {
     let (a, b) = places()?;
     let mut disk = Recorder::new(rt.alloc(), Fuse::new(MemDisk::zeroed(rt.alloc())?, 1));
-    assert_eq!(rt; fill_both(&mut disk, a, b, 1), Err(DeviceFault));
-    assert_eq!(rt; disk.moments(), 1);
+    same(&rt, fill_both(&mut disk, a, b, 1), Err(DeviceFault));
+    same(&rt, disk.moments(), 1);
     let mut disk = disk.into_inner().into_inner();
     let mut sector = [0; 256];
     disk.read(a, &mut sector)?;
-    assert_eq!(rt; sector[0], 1);
+    same(&rt, sector[0], 1);
     disk.read(b, &mut sector)?;
-    assert_eq!(rt; sector[0], 0);
+    same(&rt, sector[0], 0);
     Ok(())
 }

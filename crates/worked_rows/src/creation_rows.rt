@@ -1,6 +1,7 @@
 //! Files created until the directory is full, names that are taken, and creation that is cut after each write.
 ghost use Rattle.std.specs.Prelude.{◌≤◌, length};
 
+use crate::comparing::{same, same_at};
 use crate::disks::{clean, fresh, sector};
 use crate::growth_rows::mended;
 use arrayvec::ArrayVec;
@@ -69,14 +70,14 @@ fn filled(alloc: Global) -> Result<MemDisk, Fail> {
 fn a_directory_sector_is_added(rt: HostRuntime) -> Result<(), Fail> {
     let disk = filled(rt.alloc())?;
     let (mut disk, made) = make(disk, b"F9", 254)?;
-    assert_eq!(rt; made, (Ok(()), 5));
+    same(&rt, made, (Ok(()), 5));
     let map = sector(&mut disk, 18, 0)?;
-    assert_eq!(rt; BamView::new(&map).blocks_free(), 646);
-    assert_eq!(rt; map[72..76], b"\x10\xF8\xFF\x07"[..]);
-    assert_eq!(rt; sector(&mut disk, 18, 1)?[..2], b"\x12\x02"[..]);
+    same(&rt, BamView::new(&map).blocks_free(), 646);
+    same(&rt, &map[72..76], b"\x10\xF8\xFF\x07".as_slice());
+    same(&rt, &sector(&mut disk, 18, 1)?[..2], b"\x12\x02".as_slice());
     let added = sector(&mut disk, 18, 2)?;
-    assert_eq!(rt; added[..5], b"\0\xFF\x84\x11\x10"[..]);
-    assert_eq!(rt; added[21..24], b"\x11\x11\xFE"[..]);
+    same(&rt, &added[..5], b"\0\xFF\x84\x11\x10".as_slice());
+    same(&rt, &added[21..24], b"\x11\x11\xFE".as_slice());
     Ok(())
 }
 
@@ -93,18 +94,18 @@ fn the_directory_fills(rt: HostRuntime) -> Result<(), Fail> {
         ];
         let (after, (answer, writes)) = make(disk, &name, 254)?;
         if number < 142 {
-            assert_eq!(rt; answer, Ok(()), "file {number}");
+            same_at(&rt, answer, Ok(()), ("file", number));
         } else {
-            assert_eq!(rt; (answer, writes), (Err(RelFault::Full), 0));
+            same(&rt, (answer, writes), (Err(RelFault::Full), 0));
         }
         disk = after;
     }
     let map = sector(&mut disk, 18, 0)?;
-    assert_eq!(rt; BamView::new(&map).blocks_free(), 376);
-    assert_eq!(rt; map[72..76], b"\0\0\0\0"[..]);
+    same(&rt, BamView::new(&map).blocks_free(), 376);
+    same(&rt, &map[72..76], b"\0\0\0\0".as_slice());
     let mut slots = ArrayVec::new();
     read_directory(&mut disk, &mut slots)?;
-    assert_eq!(rt; slots.len(), 144);
+    same(&rt, slots.len(), 144);
     Ok(())
 }
 
@@ -112,13 +113,13 @@ fn the_directory_fills(rt: HostRuntime) -> Result<(), Fail> {
 #[test]
 fn a_name_is_taken(rt: HostRuntime) -> Result<(), Fail> {
     let (mut disk, made) = make(fresh(rt.alloc())?, b"STOCK", 17)?;
-    assert_eq!(rt; made, (Err(RelFault::Exists), 0));
+    same(&rt, made, (Err(RelFault::Exists), 0));
     let mut entries = sector(&mut disk, 18, 1)?;
     entries[2] = 0x82;
     disk.write(Place::new(18, 1).unwrap(), &entries)?;
     repair(&mut disk)?;
     let (_, made) = make(disk, b"STOCK", 18)?;
-    assert_eq!(rt; made, (Err(RelFault::Exists), 0));
+    same(&rt, made, (Err(RelFault::Exists), 0));
     Ok(())
 }
 
@@ -128,21 +129,23 @@ fn creation_is_cut_and_mended(rt: HostRuntime) -> Result<(), Fail> {
     let blank = fresh(rt.alloc())?;
     for (writes, mends) in [(0u32, 0u64), (1, 1), (2, 1), (3, 1), (4, 0)] {
         let (done, left) = cut(rt.alloc(), blank.bytes(), b"NEW", 80, writes)?;
-        assert_eq!(rt; done, writes == 4);
-        assert_eq!(rt;
+        same(&rt, done, writes == 4);
+        same_at(
+            &rt,
             mended(rt.alloc(), left.bytes(), 0)?,
             (mends, 14),
-            "cut after {writes} writes"
+            ("writes", writes),
         );
     }
     let full = filled(rt.alloc())?;
     for (writes, mends) in [(0u32, 0u64), (1, 1), (2, 1), (3, 1), (4, 1), (5, 0)] {
         let (done, left) = cut(rt.alloc(), full.bytes(), b"F9", 254, writes)?;
-        assert_eq!(rt; done, writes == 5);
-        assert_eq!(rt;
+        same(&rt, done, writes == 5);
+        same_at(
+            &rt,
             mended(rt.alloc(), left.bytes(), 0)?,
             (mends, 14),
-            "cut after {writes} writes"
+            ("writes", writes),
         );
     }
     Ok(())

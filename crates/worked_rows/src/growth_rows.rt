@@ -1,4 +1,5 @@
 //! Growth that is cut after each write, judged and mended; side sectors past 120 and 240 blocks.
+use crate::comparing::{same, same_at};
 use crate::disks::{fresh, sector, stock};
 use d64_image::{Fuse, MemDisk, Meter, Place};
 use disk_layout::SideView;
@@ -53,12 +54,13 @@ fn growth_is_cut_and_mended(rt: HostRuntime) -> Result<(), Fail> {
         (6, 1707, 0),
     ] {
         let (done, left) = cut(rt.alloc(), disk.bytes(), writes)?;
-        assert_eq!(rt; done, writes == 6);
+        same(&rt, done, writes == 6);
         for passed in 0..=mends {
-            assert_eq!(rt;
+            same_at(
+                &rt,
                 mended(rt.alloc(), left.bytes(), passed)?,
                 (u64::from(mends - passed), count),
-                "growth cut after {writes} writes, repair after {passed}"
+                ("writes of the growth and of the repair", writes, passed),
             );
         }
     }
@@ -112,17 +114,13 @@ fn side_sectors_are_exact(rt: HostRuntime) -> Result<(), Fail> {
     ] {
         let mut disk = grown(rt.alloc(), number)?;
         let bytes = sector(&mut disk, track, side)?;
-        assert_eq!(rt;
-            bytes[..16],
-            head[..],
-            "{track}/{side} with record {number}"
-        );
+        same_at(&rt, &bytes[..16], head.as_slice(), (track, side, number));
         let view = SideView::new(&bytes);
         let ends = (view.block(0), view.block(119));
         let want = (Place::new(first.0, first.1), Place::new(last.0, last.1));
-        assert_eq!(rt; ends, want, "{track}/{side} with record {number}");
+        same_at(&rt, ends, want, (track, side, number));
         // a clean disk has exact side sectors, pointer by pointer of the chain
-        assert!(rt; check(&mut disk).is_ok(), "with record {number}");
+        same_at(&rt, check(&mut disk).is_ok(), true, ("with record", number));
     }
     Ok(())
 }
@@ -138,12 +136,13 @@ fn too_much_is_refused(rt: HostRuntime) -> Result<(), Fail> {
     ] {
         let mut disk = Meter::new(fresh(rt.alloc())?);
         let mut file = stock(&mut disk)?;
-        assert_eq!(rt;
+        same_at(
+            &rt,
             grow_to(&mut disk, &mut file, number),
             Err(fault),
-            "record {number}"
+            ("record", number),
         );
-        assert_eq!(rt; disk.writes(), 0);
+        same(&rt, disk.writes(), 0);
     }
     Ok(())
 }

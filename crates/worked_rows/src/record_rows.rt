@@ -1,6 +1,7 @@
 //! Records written past the end, and read on a full disk.
 ghost use Rattle.std.specs.Prelude.{◌≤◌};
 
+use crate::comparing::{same, same_at};
 use crate::disks::{fresh, sector, stock};
 use arrayvec::ArrayVec;
 use d64_image::{MemDisk, Meter, Place, Sectors};
@@ -61,11 +62,12 @@ fn a_record_is_written(rt: HostRuntime) -> Result<(), Fail> {
         ),
     ] {
         let (after, got) = write(disk, number, position, text, &mut record)?;
-        assert_eq!(rt; got, written, "record {number} from position {position}");
-        assert_eq!(rt;
+        same_at(&rt, got, written, ("record and position", number, position));
+        same_at(
+            &rt,
             record.as_slice(),
             bytes.as_slice(),
-            "record {number} from position {position}"
+            ("record and position", number, position),
         );
         disk = after;
     }
@@ -81,16 +83,17 @@ fn a_short_file_is_filled(rt: HostRuntime) -> Result<(), Fail> {
     disk.write(Place::new(17, 0).unwrap(), &bytes)?;
     let file = stock(&mut disk)?;
     let mut record = ArrayVec::new();
-    assert_eq!(rt; records(&file), 1);
+    same(&rt, records(&file), 1);
     let missing = read_record(&mut disk, &file, 2, &mut record);
-    assert_eq!(rt; missing, Err(RelFault::NotPresent));
+    same(&rt, missing, Err(RelFault::NotPresent));
     let (mut disk, got) = write(disk, 2, 1, b"A", &mut record)?;
-    assert_eq!(rt; got, (Ok(()), 2, 14));
-    assert_eq!(rt;
+    same(&rt, got, (Ok(()), 2, 14));
+    same(
+        &rt,
         record.as_slice(),
-        b"A\0\0\0\0\0\0\0\0\0\0\0\0\0\0\0\0\0".as_slice()
+        b"A\0\0\0\0\0\0\0\0\0\0\0\0\0\0\0\0\0".as_slice(),
     );
-    assert_eq!(rt; sector(&mut disk, 17, 0)?[1], 0xFD);
+    same(&rt, sector(&mut disk, 17, 0)?[1], 0xFD);
     Ok(())
 }
 
@@ -105,7 +108,12 @@ fn three_sectors_are_read(rt: HostRuntime) -> Result<(), Fail> {
         let file = stock(&mut disk)?;
         let before = disk.reads();
         read_record(&mut disk, &file, number, &mut text)?;
-        assert_eq!(rt; disk.reads().wrapping_sub(before), reads, "record {number}");
+        same_at(
+            &rt,
+            disk.reads().wrapping_sub(before),
+            reads,
+            ("record", number),
+        );
     }
     Ok(())
 }
