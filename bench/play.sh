@@ -3,7 +3,7 @@
 # requests of 64 tills on a disk for them, `play` of the one request that makes STOCK as long as it can be there (item 8819),
 # and `show` of a full disk:
 #   bench/play.sh [REQUESTS] [RUNS]
-# It waits for the program to have `play` and `show`. Both write each sector to the file; the kernel's time is counted too, since most of the work is there.
+# Both write each sector to the file; the kernel's time is counted too, since most of the work is there.
 source "$(dirname "$0")/common.sh"
 requests="${1:-10000}"
 prepare ledger_cli

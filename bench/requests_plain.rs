@@ -1,5 +1,6 @@
 //! Messages of 64 tills to a shop on a disk, in plain Rust, so that `requests.sh` can time it beside the proved program:
-//! `requests_plain ROUNDS` prints the same checksum of the replies and the image as `benchmarks requests ROUNDS`.
+//! `requests_plain requests ROUNDS` prints the same checksum of the replies and the image as `benchmarks requests ROUNDS`,
+//! and `requests_plain openings ROUNDS` the same of the image as `benchmarks openings ROUNDS`.
 //! Its books are kept in memory, and it writes the same sectors; each first reply is lost, so that each request is repeated.
 use std::env;
 use std::io::{self, Sink};
@@ -103,7 +104,8 @@ fn handle(shop: &mut Shop<MemDisk>, message: &[u8]) -> (u64, bool) {
     }
 }
 
-fn timed(rounds: u64) -> Result<u64, Fault> {
+/// So many messages to a shop on a disk that was blank: the sum of the replies, and the disk.
+fn asked_shop(rounds: u64) -> Result<(u64, MemDisk), Fault> {
     let mut disk = MemDisk { sectors: vec![[0; 256]; SECTORS] };
     blank(&mut disk, TILLS)?;
     let mut shop = Shop::open(disk).ok_or(Fault::Device)?;
@@ -130,10 +132,23 @@ fn timed(rounds: u64) -> Result<u64, Fault> {
         }
         sum = sum.wrapping_mul(31).wrapping_add(number);
     }
-    Ok(sum.wrapping_mul(31).wrapping_add(checksum(&shop.disk)))
+    Ok((sum, shop.disk))
+}
+
+fn timed(word: &str, rounds: u64) -> Result<u64, Fault> {
+    if word == "requests" {
+        let (sum, disk) = asked_shop(rounds)?;
+        return Ok(sum.wrapping_mul(31).wrapping_add(checksum(&disk)));
+    }
+    let (_, mut disk) = asked_shop(100_000)?;
+    for _ in 0..rounds {
+        disk = Shop::open(disk).ok_or(Fault::Device)?.disk;
+    }
+    Ok(checksum(&disk))
 }
 
 fn main() {
-    let rounds = env::args().nth(1).and_then(|word| word.parse().ok()).expect("ROUNDS is a number");
-    println!("{}", timed(rounds).expect("a disk in memory never fails"));
+    let words: Vec<String> = env::args().skip(1).collect();
+    let rounds = words.get(1).and_then(|word| word.parse().ok()).expect("ROUNDS is a number");
+    println!("{}", timed(&words[0], rounds).expect("a disk in memory never fails"));
 }

@@ -101,20 +101,30 @@ fn time_drive(rt: &HostRuntime, rounds: u64) -> Done {
     Ok(checksum(drive.into_disk().bytes()))
 }
 
-/// `requests`: so many messages of 64 tills are handled, half of them repeats, by a session on a disk that was blank; gives a
-/// checksum of the replies and of the image.
-fn time_requests(rt: &HostRuntime, rounds: u64) -> Done {
+/// A disk that was blank, after so many messages of 64 tills to a session on it, and a checksum of the replies.
+fn asked_shop(rt: &HostRuntime, rounds: u64) -> Result<(u64, MemDisk), &'static str> {
     let mut disk = MemDisk::zeroed(rt.alloc()).map_err(|_| "no memory")?;
     blank_image(&mut disk, b"STOCK LEDGER", *b"01", requests::TILLS).map_err(|_| "no blank image")?;
     let mut tills = requests::all_tills(rt.alloc()).map_err(|_| "no memory")?;
-    let (replies, disk) = requests::run(disk, tills.as_mut_slice(), rounds).map_err(
-        |_| "the disk is no shop's",
-    )?;
+    requests::run(disk, tills.as_mut_slice(), rounds).map_err(|_| "the disk is no shop's")
+}
+
+/// `requests`: so many messages of 64 tills are handled, half of them repeats, by a session on a disk that was blank; gives a
+/// checksum of the replies and of the image.
+fn time_requests(rt: &HostRuntime, rounds: u64) -> Done {
+    let (replies, disk) = asked_shop(rt, rounds)?;
     Ok(
         replies
             .wrapping_mul(31)
             .wrapping_add(checksum(disk.bytes())),
     )
+}
+
+/// `openings`: the disk of 100,000 such messages is opened so many times; gives a checksum of the image.
+fn time_openings(rt: &HostRuntime, rounds: u64) -> Done {
+    let (_, disk) = asked_shop(rt, 100_000)?;
+    let disk = requests::reopen(disk, rounds).map_err(|_| "the disk is no shop's")?;
+    Ok(checksum(disk.bytes()))
 }
 
 /// The benchmark of a word. Err also where there is no such word.
@@ -127,7 +137,8 @@ fn timed(rt: &HostRuntime, word: &str, rounds: u64, path: Option<String>) -> Don
         "writes" => time_writes(rt, rounds),
         "drive" => time_drive(rt, rounds),
         "requests" => time_requests(rt, rounds),
-        _ => Err("the words are sectors, check, growth, reads, writes, drive, requests"),
+        "openings" => time_openings(rt, rounds),
+        _ => Err("the words are sectors, check, growth, reads, writes, drive, requests, openings"),
     }
 }
 
@@ -163,7 +174,7 @@ fn main(rt: HostRuntime) -> io::Result<ExitCode> {
     };
     let Some(word) = word else {
         for word in [
-            "sectors", "check", "growth", "reads", "writes", "drive", "requests",
+            "sectors", "check", "growth", "reads", "writes", "drive", "requests", "openings",
         ] {
             match timed(&rt, word, rounds, None) {
                 Ok(number) => println!(rt; "{word} {number}")?,

@@ -95,6 +95,17 @@ pub fn run<D: Sectors>(disk: D, tills: &mut [Till], rounds: u64) -> Result<(u64,
     Ok((sum, session.close()))
 }
 
+/// Opens a shop's disk so many times, and closes it again.
+pub fn reopen<D: Sectors>(disk: D, rounds: u64) -> Result<D, (OpenFault, D)>
+    ensures shop { IsAShop (D.history.image disk) → IfOk result (λ closed. IsAShop (D.history.image closed)) }
+{
+    let mut disk = disk;
+    for _round in 0..rounds {
+        disk = Session::open(disk)?.close();
+    }
+    Ok(disk)
+}
+
 /// The 64 tills, none of which has asked yet.
 pub fn all_tills(alloc: Global) -> Result<Vec<Till>, AllocError>
     ensures { IfOk result (λ tills. length tills.items ≡ 64) }

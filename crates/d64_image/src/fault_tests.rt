@@ -1,4 +1,5 @@
 //! A mirror over a file in memory, also where that fails, and a disk of which one call fails.
+use crate::comparing::{same, same_at};
 use crate::tests::place;
 use crate::{DeviceFault, MemDisk, Mirror, OneFault, Place, Sectors};
 use std::io::{self, Cursor, Seek, SeekFrom, Write};
@@ -64,13 +65,13 @@ fn a_sector_goes_to_its_place_in_the_file(rt: HostRuntime) -> Result<(), Fail> {
     }
     let (file, disk) = mirror.into_inner();
     let bytes = file.bytes.into_inner();
-    assert_eq!(rt; bytes.as_slice(), disk.bytes());
+    same(&rt, bytes.as_slice(), disk.bytes());
     for (track, sector, at) in rows {
         let held = bytes.as_slice().get(at).copied();
-        assert_eq!(rt; held, Some(track + sector), "{track}/{sector}");
+        same_at(&rt, held, Some(track + sector), (track, sector));
     }
     // none for 18/0 behind 17/20, and none for 1/1 behind 1/0
-    assert_eq!(rt; file.seeks, 4);
+    same(&rt, file.seeks, 4);
     Ok(())
 }
 
@@ -87,16 +88,20 @@ fn a_file_that_fails_leaves_memory(rt: HostRuntime) -> Result<(), Fail> {
         mirror.read(place(18, 0)?, &mut sector),
     ];
     let failed = Err(DeviceFault);
-    assert_eq!(rt; answers, [Ok(()), Ok(()), failed, failed, failed]);
+    same(&rt, answers, [Ok(()), Ok(()), failed, failed, failed]);
     let (file, mut disk) = mirror.into_inner();
     let mut firsts = [7; 4];
     for (first, (track, number)) in firsts.iter_mut().zip([(18, 0), (17, 4), (17, 0), (18, 1)]) {
         disk.read(place(track, number)?, &mut sector)?;
         *first = sector[0];
     }
-    assert_eq!(rt; firsts, [1, 2, 0, 0]);
+    same(&rt, firsts, [1, 2, 0, 0]);
     // it had taken a part of the sector on 17/0
-    assert_eq!(rt; file.bytes.into_inner().as_slice().get(0x15000), Some(&3));
+    same(
+        &rt,
+        file.bytes.into_inner().as_slice().get(0x15000),
+        Some(&3),
+    );
     Ok(())
 }
 
@@ -130,12 +135,17 @@ fn one_call_fails(rt: HostRuntime) -> Result<(), Fail> {
         if let Some(failed) = wanted.get_mut(at as usize) {
             *failed = false;
         }
-        assert_eq!(rt; four_calls(&mut faulty, one, other), wanted, "call {at}");
-        assert_eq!(rt; faulty.place(), there, "call {at}");
+        same_at(
+            &rt,
+            four_calls(&mut faulty, one, other),
+            wanted,
+            ("call", at),
+        );
+        same_at(&rt, faulty.place(), there, ("call", at));
         let disk = faulty.into_inner();
         let first = |n: usize| disk.bytes().get(256 * n).copied();
         let firsts = (first(one.index()), first(other.index()));
-        assert_eq!(rt; firsts, (Some(held[0]), Some(held[1])), "call {at}");
+        same_at(&rt, firsts, (Some(held[0]), Some(held[1])), ("call", at));
     }
     Ok(())
 }

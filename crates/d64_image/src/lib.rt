@@ -1,6 +1,8 @@
 //! The sectors of a 1541 disk of 35 tracks: places, images, and the devices through which they are read and written.
 #![tactic(auto)]
 
+#[cfg(test)]
+mod comparing;
 mod count;
 #[cfg(test)]
 mod fault_tests;

@@ -1,4 +1,5 @@
 //! Each public call once, with values of the D64 layout.
+use crate::comparing::{same, same_at};
 use crate::{DeviceFault, Fuse, ImageFault, MemDisk, Meter, Place, Sectors};
 use std::alloc::Global;
 use std::test::Fail;
@@ -55,23 +56,29 @@ fn places_of_the_layout(rt: HostRuntime) {
     for (track, sector, index) in rows {
         let found = Place::new(track, sector);
         let there = found.map(|p| (p.track(), p.sector(), p.index()));
-        assert_eq!(rt;
+        same_at(
+            &rt,
             there,
             index.map(|i| (track, sector, i)),
-            "track {track}, sector {sector}"
+            (track, sector),
         );
     }
-    assert_eq!(rt; Place::new(1, 0), Some(Place::default()));
+    same(&rt, Place::new(1, 0), Some(Place::default()));
 }
 
 #[test]
 fn an_image_is_loaded(rt: HostRuntime) -> Result<(), Fail> {
     let bytes = numbered(rt.alloc())?;
     let mut disk = MemDisk::load(rt.alloc(), bytes.as_slice())?;
-    assert_eq!(rt; disk.bytes(), bytes.as_slice());
+    same(&rt, disk.bytes(), bytes.as_slice());
     let mut sector = [7; 256];
     disk.read(place(18, 0)?, &mut sector)?;
-    assert_eq!(rt; (sector[0], sector[1]), (102, 0), "sector 357 of the image");
+    same_at(
+        &rt,
+        (sector[0], sector[1]),
+        (102, 0),
+        "sector 357 of the image",
+    );
     Ok(())
 }
 
@@ -81,11 +88,12 @@ fn an_image_of_another_size_is_refused(rt: HostRuntime) -> Result<(), Fail> {
     for size in [0, 174_847, 175_531] {
         let bytes = vec![in rt.alloc(); 0; size]?;
         let fault = MemDisk::load(rt.alloc(), bytes.as_slice()).map(|disk| disk.bytes().len());
-        assert_eq!(rt; fault, Err(ImageFault::Size), "{size} bytes");
+        same_at(&rt, fault, Err(ImageFault::Size), ("bytes", size));
     }
-    assert_eq!(rt;
+    same(
+        &rt,
         (ImageFault::Size.number(), ImageFault::NoMemory.number()),
-        (1, 2)
+        (1, 2),
     );
     Ok(())
 }
@@ -94,7 +102,11 @@ fn an_image_of_another_size_is_refused(rt: HostRuntime) -> Result<(), Fail> {
 #[test]
 fn a_disk_of_zeros(rt: HostRuntime) -> Result<(), Fail> {
     let disk = MemDisk::zeroed(rt.alloc())?;
-    assert_eq!(rt; disk.bytes(), vec![in rt.alloc(); 0; 174_848]?.as_slice());
+    same(
+        &rt,
+        disk.bytes(),
+        vec![in rt.alloc(); 0; 174_848]?.as_slice(),
+    );
     Ok(())
 }
 
@@ -104,7 +116,7 @@ fn a_write_changes_its_sector_alone(rt: HostRuntime) -> Result<(), Fail> {
     disk.write(place(18, 1)?, &[255; 256])?;
     for (at, byte) in disk.bytes().iter().enumerate() {
         let written = 0x16600 <= at && at < 0x16700;
-        assert_eq!(rt; *byte, if written { 255 } else { 0 }, "byte {at}");
+        same_at(&rt, *byte, if written { 255 } else { 0 }, ("byte", at));
     }
     Ok(())
 }
@@ -112,7 +124,11 @@ fn a_write_changes_its_sector_alone(rt: HostRuntime) -> Result<(), Fail> {
 #[test]
 fn generic_code_in_memory(rt: HostRuntime) -> Result<(), Fail> {
     let mut disk = MemDisk::load(rt.alloc(), numbered(rt.alloc())?.as_slice())?;
-    assert_eq!(rt; copy_sector(&mut disk, place(1, 1)?, place(35, 16)?), Ok(2));
+    same(
+        &rt,
+        copy_sector(&mut disk, place(1, 1)?, place(35, 16)?),
+        Ok(2),
+    );
     Ok(())
 }
 
@@ -125,11 +141,12 @@ fn a_fuse_of_two_writes(rt: HostRuntime) -> Result<(), Fail> {
         *answer = copy_sector(&mut meter, place(1, i as u8)?, place(35, i as u8)?);
     }
     // the second write blows the fuse, and what follows isn't counted
-    assert_eq!(rt;
+    same(
+        &rt,
         answers,
-        [Ok(1), Err(DeviceFault), Err(DeviceFault), Err(DeviceFault)]
+        [Ok(1), Err(DeviceFault), Err(DeviceFault), Err(DeviceFault)],
     );
-    assert_eq!(rt; (meter.reads(), meter.writes()), (3, 2));
+    same(&rt, (meter.reads(), meter.writes()), (3, 2));
     let mut disk = meter.into_inner().into_inner();
     let mut firsts = [0; 3];
     for (i, first) in firsts.iter_mut().enumerate() {
@@ -137,6 +154,6 @@ fn a_fuse_of_two_writes(rt: HostRuntime) -> Result<(), Fail> {
         disk.read(place(35, i as u8)?, &mut sector)?;
         *first = sector[0];
     }
-    assert_eq!(rt; firsts, [1, 2, 157], "the third sector is as it was");
+    same_at(&rt, firsts, [1, 2, 157], "the third sector is as it was");
     Ok(())
 }

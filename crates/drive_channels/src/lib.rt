@@ -3,6 +3,8 @@
 
 mod closing;
 mod commands;
+#[cfg(test)]
+mod comparing;
 mod drive;
 mod faults;
 mod found;

@@ -1,4 +1,5 @@
 //! Each row of the drive's table by itself: what stands before the call, the call, its status, and the sectors it writes.
+use crate::comparing::same;
 use crate::drive::Drive;
 use crate::tests::{Call, change, fresh, rows};
 use d64_image::{MemDisk, Meter, Sectors};
@@ -106,7 +107,7 @@ fn each_row_of_the_table(rt: HostRuntime) -> Result<(), Fail> {
         let mut drive = Drive::power_on(Meter::new(disk_of(*state, rt.alloc())?));
         lead_to(&rt, &mut drive, *state)?;
         rows(&rt, &mut drive, &[(*call, *status)])?;
-        assert_eq!(rt; drive.into_disk().writes(), *writes);
+        same(&rt, drive.into_disk().writes(), *writes);
     }
     Ok(())
 }

@@ -1,4 +1,5 @@
 //! Worked rows of the drive's table, over a fresh disk for two tills, its writes counted.
+use crate::comparing::{same, same_at};
 use crate::drive::Drive;
 use crate::faults::Dead;
 use arrayvec::ArrayVec;
@@ -57,13 +58,13 @@ pub(crate) fn rows<D: Sectors>(
             Call::Read(ch, given) => {
                 let mut to = ArrayVec::new();
                 let answer = drive.read(*ch, &mut to);
-                assert_eq!(rt; to.as_slice(), *given, "given in row {i}");
+                same_at(rt, to.as_slice(), *given, ("given", i));
                 answer
             }
         };
-        assert_eq!(rt; answer, Ok(()), "row {i}");
+        same_at(rt, answer, Ok(()), ("row", i));
         let status = drive.status().ok().map(|s| s.number());
-        assert_eq!(rt; status, Some(*want), "row {i}");
+        same_at(rt, status, Some(*want), ("row", i));
     }
     Ok(())
 }
@@ -72,11 +73,12 @@ pub(crate) fn rows<D: Sectors>(
 #[test]
 fn a_session_at_the_drive(rt: HostRuntime) -> Result<(), Fail> {
     let mut drive = Drive::power_on(Meter::new(fresh(rt.alloc())?));
-    assert_eq!(rt;
+    same(
+        &rt,
         drive.status().map(|s| s.text()),
-        Ok("73,CBM DOS V2.6 1541,00,00")
+        Ok("73,CBM DOS V2.6 1541,00,00"),
     );
-    assert_eq!(rt; drive.status().map(|s| s.text()), Ok("00, OK,00,00"));
+    same(&rt, drive.status().map(|s| s.text()), Ok("00, OK,00,00"));
     rows(
         &rt,
         &mut drive,
@@ -111,8 +113,12 @@ fn a_session_at_the_drive(rt: HostRuntime) -> Result<(), Fail> {
     )?;
     let disk = drive.into_disk();
     // 7 for record 15 and the block before it, 4 for the new file
-    assert_eq!(rt; disk.writes(), 11);
-    assert_eq!(rt; check(&mut disk.into_inner()).map(|s| s.entries()), Ok(3));
+    same(&rt, disk.writes(), 11);
+    same(
+        &rt,
+        check(&mut disk.into_inner()).map(|s| s.entries()),
+        Ok(3),
+    );
     Ok(())
 }
 
@@ -153,7 +159,7 @@ fn channels_texts_and_places(rt: HostRuntime) -> Result<(), Fail> {
         ],
     )?;
     // 5 for the growth by one block, and the written record
-    assert_eq!(rt; drive.into_disk().writes(), 6);
+    same(&rt, drive.into_disk().writes(), 6);
     Ok(())
 }
 
@@ -174,7 +180,7 @@ fn checks_and_repairs(rt: HostRuntime) -> Result<(), Fail> {
             (Call::Command(b"VALID"), 31),
         ],
     )?;
-    assert_eq!(rt; drive.into_disk().writes(), 1);
+    same(&rt, drive.into_disk().writes(), 1);
     // a program of the name
     let mut disk = fresh(rt.alloc())?;
     change(&mut disk, 18, 1, 2, 0x82)?;
@@ -188,7 +194,7 @@ fn checks_and_repairs(rt: HostRuntime) -> Result<(), Fail> {
             (Call::Open(2, b"STOCK"), 62),
         ],
     )?;
-    assert_eq!(rt; drive.into_disk().writes(), 0);
+    same(&rt, drive.into_disk().writes(), 0);
     // a chain that leaves the disk
     let mut disk = fresh(rt.alloc())?;
     change(&mut disk, 17, 0, 0, 0x24)?;
@@ -198,7 +204,7 @@ fn checks_and_repairs(rt: HostRuntime) -> Result<(), Fail> {
         &mut drive,
         &[(Call::Command(b"V0"), 71), (Call::Open(2, b"STOCK"), 71)],
     )?;
-    assert_eq!(rt; drive.into_disk().writes(), 0);
+    same(&rt, drive.into_disk().writes(), 0);
     Ok(())
 }
 
@@ -207,17 +213,17 @@ fn a_dead_drive(rt: HostRuntime) -> Result<(), Fail> {
     let disk = fresh(rt.alloc())?;
     let mut drive = Drive::power_on(Fuse::new(disk, 0));
     let mut to = ArrayVec::new();
-    assert_eq!(rt; drive.status().map(|s| s.number()), Ok(73));
-    assert_eq!(rt; drive.close(2), Ok(()));
-    assert_eq!(rt; drive.open(2, b"STOCK"), Err(Dead));
-    assert_eq!(rt; drive.status().map(|s| s.number()), Err(Dead));
-    assert_eq!(rt; drive.close(2), Err(Dead));
-    assert_eq!(rt; drive.command(b"I"), Err(Dead));
-    assert_eq!(rt; drive.write(2, b"A"), Err(Dead));
-    assert_eq!(rt; drive.read(2, &mut to), Err(Dead));
+    same(&rt, drive.status().map(|s| s.number()), Ok(73));
+    same(&rt, drive.close(2), Ok(()));
+    same(&rt, drive.open(2, b"STOCK"), Err(Dead));
+    same(&rt, drive.status().map(|s| s.number()), Err(Dead));
+    same(&rt, drive.close(2), Err(Dead));
+    same(&rt, drive.command(b"I"), Err(Dead));
+    same(&rt, drive.write(2, b"A"), Err(Dead));
+    same(&rt, drive.read(2, &mut to), Err(Dead));
     let mut disk = drive.into_disk().into_inner();
     let mut other = fresh(rt.alloc())?;
-    assert_eq!(rt; disk.bytes() == other.bytes(), true);
+    same(&rt, disk.bytes() == other.bytes(), true);
     Ok(())
 }
 
@@ -274,6 +280,6 @@ fn files_that_are_remembered(rt: HostRuntime) -> Result<(), Fail> {
             ],
         )?;
     }
-    assert_eq!(rt; drive.disk.reads(), before);
+    same(&rt, drive.disk.reads(), before);
     Ok(())
 }

@@ -27,9 +27,8 @@ use Rattle.host_session.specs.Shop.{IsSettled, IsShop, Shop, any_old, card_at, c
 use Rattle.host_session.specs.Standing.{IsStanding, nth, state_in}
 use Rattle.host_session.specs.declared.intents.Intent.{Intent}
 use Rattle.host_session.specs.declared.judgment.Judged.{Judged}
-use Rattle.host_session.proofs.Completions.{record-within}
 use Rattle.host_session.proofs.JudgedTills.{card-record_at, card_at-get, table-intents}
-use Rattle.host_session.proofs.Lists.{nil_parts, open_in-answered, record_at-map_take, record_at-with_other, record_at-with_same}
+use Rattle.host_session.proofs.Lists.{nil_parts, open_in-answered, record-within, record_at-map_take, record_at-with_other, record_at-with_same}
 use Rattle.host_session.proofs.Moments.{card-intents_now, cards-with}
 use Rattle.host_session.proofs.Shops.{HasFiles-one}
 use Rattle.host_session.proofs.Calls.{card-touched}

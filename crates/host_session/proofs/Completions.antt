@@ -23,18 +23,9 @@ use Rattle.host_session.specs.Completing.{HasIntent, HasResults, IsCompleted, an
 use Rattle.host_session.specs.Files.{Files, record_at, with_record}
 use Rattle.host_session.specs.Putting.{HasAnswer, HasCard, IsPuttingAnswer, IsPuttingCard, with_card}
 use Rattle.host_session.specs.Shop.{IsIntended, IsShop, Shop, cards_in, intents, items, open_in, quantities, results, results_in, results_of, shop_of}
-use Rattle.host_session.proofs.Lists.{intents-open, length-with, open_in-pending, record_at-map_take, record_at-with_some}
+use Rattle.host_session.proofs.Lists.{intents-open, length-with, open_in-pending, record-within, record_at-map_take, record_at-with_some}
 use Rattle.host_session.proofs.Moments.{answered-cards, answered-intents, answered-state, excused-cards, excused-state}
 use Rattle.host_session.proofs.Steps.{quantity-other, quantity-written, step-excused, tills-same}
-
--- a record that is there has a number from 1 to the last
-pub record-within : (rs : List (List ℕ)) (r : ℕ) → IsSome (record_at rs r) → (1 ≤ r) × (r ≤ length rs)
-record-within rs zero some = absurd (false≢true some)
-record-within rs (suc n) some = by (slice_get rs n) refl some
-  where
-    by : (o : Option (List ℕ)) → slice_get rs n ≡ o → IsSome o → (1 ≤ suc n) × (suc n ≤ length rs)
-    by None e s = absurd (false≢true s)
-    by (Some x) e s = (omega arith, omega (arith, slice_get_within rs n x e))
 
 -- the text of a stock card is read as that card
 pub stock-text_read : (s : Stock) → IsStock s → stock_card_of (stock_text s) ≡ Some s

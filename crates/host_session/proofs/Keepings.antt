@@ -26,24 +26,18 @@ use Rattle.host_session.specs.Handling.{card_writes, kept_writes}
 use Rattle.host_session.specs.Keeping.{HasItems, IsEither, IsKeeping, answer_of, shop_after}
 use Rattle.host_session.specs.Putting.{HasAnswer, IsPuttingAnswer}
 use Rattle.host_session.specs.Shop.{IsSettled, IsShop, Shop, any_old, cards_in, items, open_in, overlaid, quantities, results, results_in, results_of, shop_of, with_state}
-use Rattle.host_session.proofs.Completions.{answered-read, completed-shop, record-within}
+use Rattle.host_session.proofs.Completions.{answered-read, completed-shop}
 use Rattle.host_session.proofs.GrowthCounts.{kept-most}
 use Rattle.drive_channels.specs.State.{Seen}
 use Rattle.host_session.specs.Selecting.{IsReady}
 use Rattle.host_session.proofs.GrownStock.{grown-ledger, grown-same, grown-shop_moments}
 use Rattle.host_session.proofs.Shops.{HasFiles-one}
-use Rattle.host_session.proofs.Lists.{open_in-answered, open_in-pending, record_at-append, record_at-with_same}
+use Rattle.host_session.proofs.Lists.{open_in-answered, open_in-pending, record-there, record-within, record_at-append, record_at-with_same}
 use Rattle.host_session.proofs.Moments.{card-cards, card-list, card-state, cards-with, with_card}
 use Rattle.host_session.proofs.Outcomes.{card-applied, outcome-there, results-refused}
 use Rattle.host_session.proofs.Steps.{card-record, old-with, step-card_settled, step-request, tills-same}
 
 -- a record with a number from 1 to the last is there
-pub record-there : {X : Type 0} (xs : List X) (r : ℕ) → 1 ≤ r → r ≤ length xs → (x : X) × (record_at xs r ≡ Some x)
-record-there xs zero low le = absurd (omega (arith, low))
-record-there [] (suc n) low le = absurd (omega (arith, le))
-record-there (x ∷ xs) (suc zero) low le = (x, refl)
-record-there (x ∷ xs) (suc (suc n)) low le = record-there xs (suc n) (omega arith) (omega (arith, le))
-
 pub record-some : {X : Type 0} (xs : List X) (r : ℕ) → 1 ≤ r → r ≤ length xs → IsSome (record_at xs r)
 record-some xs r low le = ap is_some (record-there xs r low le).1
 

@@ -2,7 +2,7 @@
 use Rattle.std.proofs.Common.{◌≡◌, ◌≢◌, ◌⊎◌, ℕ, zero, suc, ◌<◌, ◌≤◌, ◌+◌, inl, inr, Bool, true, false, List, [], ◌∷◌, ◌++◌, length, replicate, take, map, refl, sym, ◌∙◌, ap, arith, append_assoc, length-append}
 use Rattle.std.specs.Prelude.{Contains, IsSome, is_some, Option, Some, None, slice_get, set, cond}
 use Rattle.std.specs.List.{AllByRecursion}
-use Rattle.std.proofs.lemmas.Bool.{cases_eq, eq-eqb, ne_eqb}
+use Rattle.std.proofs.lemmas.Bool.{cases_eq, eq-eqb, false≢true, ne_eqb}
 use Rattle.std.proofs.lemmas.List.{nil_from_length, append-nil}
 use Rattle.std.proofs.lemmas.Option.{none-some, same_Some}
 use Rattle.disk_layout.proofs.Once.{Contains-cases, Contains-nil}
@@ -23,6 +23,20 @@ get-set_other (z ∷ xs) zero zero y h = absurd (h refl)
 get-set_other (z ∷ xs) zero (suc n) y h = refl
 get-set_other (z ∷ xs) (suc k) zero y h = refl
 get-set_other (z ∷ xs) (suc k) (suc n) y h = get-set_other xs k n y (λ e. h (ap suc e))
+
+-- a record that is there has a number from 1 to the last
+pub record-within : {X : Type 0} (xs : List X) (r : ℕ) → IsSome (record_at xs r) → (1 ≤ r) × (r ≤ length xs)
+record-within xs zero some = absurd (false≢true some)
+record-within [] (suc n) some = absurd (false≢true some)
+record-within (x ∷ xs) (suc zero) some = (omega arith, omega arith)
+record-within (x ∷ xs) (suc (suc n)) some = let (low, high) = record-within xs (suc n) some in (omega arith, omega (arith, high))
+
+-- and one with such a number is there
+pub record-there : {X : Type 0} (xs : List X) (r : ℕ) → 1 ≤ r → r ≤ length xs → (x : X) × (record_at xs r ≡ Some x)
+record-there xs zero low le = absurd (omega (arith, low))
+record-there [] (suc n) low le = absurd (omega (arith, le))
+record-there (x ∷ xs) (suc zero) low le = (x, refl)
+record-there (x ∷ xs) (suc (suc n)) low le = record-there xs (suc n) (omega arith) (omega (arith, le))
 
 pub record_at-with_same : {X : Type 0} (xs : List X) (r : ℕ) (x y : X) → record_at xs r ≡ Some x → record_at (with_record xs r y) r ≡ Some y
 record_at-with_same xs zero x y h = absurd (none-some x h)

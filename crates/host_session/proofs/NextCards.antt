@@ -21,6 +21,7 @@ use Rattle.host_session.specs.Deciding.{IsInTable}
 use Rattle.host_session.specs.Files.{Files, HasFiles, record_at}
 use Rattle.host_session.specs.Keeping.{IsKeeping, answer_of}
 use Rattle.host_session.specs.Shop.{IsSettled, Shop, card_at, cards_in, shop_of, start_of}
+use Rattle.host_session.proofs.Lists.{record-within}
 use Rattle.host_session.proofs.Calls.{card-placed}
 use Rattle.host_session.proofs.Decisions.{settled-cards, settled-few}
 use Rattle.host_session.proofs.Selection.{placed-fits}
@@ -42,13 +43,6 @@ message-sums start message = by (request_of message) refl
 pub next-entry : (img : Image) (s : Shop) → IsSettled img s → (a : Ask) → IsAsk a → IsEntry (entry_of (a, answer_of s a))
 next-entry img s x a is =
     answer_is_kept a (s.state.ledger.cards a.body.item) (s.state.ledger.cards a.body.to) (room_for s.top a.body.item) is (settled-few img s x a.body.item) (settled-few img s x a.body.to)
-
--- a record that is there has a number from 1 to the last
-record-within : {X : Type 0} (xs : List X) (r : ℕ) → IsSome (record_at xs r) → (1 ≤ r) × (r ≤ length xs)
-record-within xs zero some = absurd (false≢true some)
-record-within [] (suc n) some = absurd (false≢true some)
-record-within (x ∷ xs) (suc zero) some = (omega arith, omega arith)
-record-within (x ∷ xs) (suc (suc n)) some = let (low, high) = record-within xs (suc n) some in (omega arith, omega (arith, high))
 
 -- what is read as a till's card is one
 read-card : (bytes : List ℕ) → IfSome (request_card_of bytes) IsCard

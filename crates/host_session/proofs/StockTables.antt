@@ -21,7 +21,7 @@ use Rattle.host_session.specs.Shop.{IsIntended, IsStockRecord, cards_in, intents
 use Rattle.host_session.specs.Standing.{nth}
 use Rattle.host_session.specs.declared.finding.LedgerFiles.{LedgerFiles}
 use Rattle.host_session.specs.declared.intents.NewQuantities.{NewQuantities}
-use Rattle.host_session.proofs.Completions.{record-within}
+use Rattle.host_session.proofs.Lists.{record-within}
 use Rattle.host_session.proofs.NewResults.{given-none, given-some, overlays}
 use Rattle.host_session.proofs.Readings.{length-records}
 use Rattle.host_session.proofs.Steps.{blank-record}

@@ -20,8 +20,7 @@ use Rattle.host_session.specs.Standing.{nth}
 use Rattle.host_session.specs.declared.intents.Intent.{Intent}
 use Rattle.host_session.specs.declared.intents.NewQuantities.{NewQuantities}
 use Rattle.host_session.specs.declared.judgment.Tills.{Tills}
-use Rattle.host_session.proofs.Completions.{record-within}
-use Rattle.host_session.proofs.Lists.{open_in-answered, open_in-pending, record_at-map_take}
+use Rattle.host_session.proofs.Lists.{open_in-answered, open_in-pending, record-within, record_at-map_take}
 
 -- one entry of a table changed
 pub nth-at : {X : Type 0} (xs : List (Option X)) (k : ℕ) → nth xs (k + 1) ≡ get_or xs k None

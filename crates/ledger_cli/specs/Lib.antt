@@ -1,4 +1,5 @@
 pub mod Faults
 pub mod Grammar
 pub mod Jobs
+pub mod Placed
 pub mod Runs

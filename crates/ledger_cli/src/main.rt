@@ -3,7 +3,10 @@
 
 mod grammar;
 mod jobs;
+mod placed;
 mod running;
+#[cfg(test)]
+mod shop_tests;
 #[cfg(test)]
 mod tests;
 mod words;
@@ -13,6 +16,7 @@ ghost use Rattle.ledger_cli.specs.Jobs.{HasTills};
 use jobs::{Job, JobFault};
 pub use ledger_commands::dry;
 use ledger_commands::{OpensFile, Replaced, RunFault, read_image, read_script};
+use placed::Placed;
 use running::run;
 use std::alloc::{AllocError, Global};
 use std::env;
@@ -149,7 +153,7 @@ fn do_job(rt: &HostRuntime, job: &Job<'_>) -> io::Result<u8>
             let mut disk = opened(rt, path)?;
             image = read_image(rt.alloc(), &mut disk)?;
             script = script_at(rt, script_path)?;
-            file = Some(disk);
+            file = Some(Placed::new(disk));
         }
         Job::Dry { script: path } => script = script_at(rt, path)?,
     }

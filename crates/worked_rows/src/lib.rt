@@ -5,6 +5,8 @@
 #[cfg(test)]
 mod blank_rows;
 #[cfg(test)]
+mod comparing;
+#[cfg(test)]
 mod creation_rows;
 #[cfg(test)]
 mod cut_rows;
@@ -12,6 +14,8 @@ mod cut_rows;
 mod days;
 #[cfg(test)]
 mod disks;
+#[cfg(test)]
+mod foreign_rows;
 #[cfg(test)]
 mod growth_rows;
 #[cfg(test)]
