@@ -2,6 +2,8 @@
 use crate::disks::bytes_from;
 use crate::same::{holds, same, same_at};
 use crate::sessions::after;
+use d64_image::MemDisk;
+use disk_layout::blank_image;
 use host_session::Session;
 use request_cards::{Answer, Request};
 use std::test::Fail;
@@ -81,6 +83,19 @@ fn a_session_tells_what_it_holds(rt: HostRuntime) -> Result<(), Fail> {
         same(&rt, nothing, (Ok(None), Ok(None), Ok(None)));
         session.close();
     }
+    Ok(())
+}
+
+// REQUESTS takes 31 sectors more for 64 tills than for two.
+#[test]
+fn tills_take_room(rt: HostRuntime) -> Result<(), Fail> {
+    let mut disk = MemDisk::zeroed(rt.alloc())?;
+    blank_image(&mut disk, b"STOCK LEDGER", *b"01", 64)?;
+    let Ok(session) = Session::open(disk) else {
+        return Err(Fail::new("the disk isn't opened"));
+    };
+    same(&rt, (session.top(), session.tills()), (8819, 64));
+    session.close();
     Ok(())
 }
 

@@ -80,6 +80,12 @@ const FULL: [Line; 6] = [
     Say(b"1,6,S,9255,1", b"1,6,DONE,1", 3),
 ];
 
+/// A card behind 120 blocks, and one that takes a side sector more.
+const SIDES: [Line; 2] = [
+    Say(b"1,1,S,1693,1", b"1,1,DONE,1", 598),
+    Say(b"1,2,S,1694,2", b"1,2,DONE,2", 10),
+];
+
 /// A message that is cut before its first write hasn't come; another till is told so.
 const CUT_EARLY: [Line; 5] = [
     Cut(0, &[], b"1,1,R,7,5", 0),
@@ -110,13 +116,14 @@ const CUT_AGAIN: [Line; 6] = [
 ];
 
 /// What each day shows.
-const DAYS: [(&str, &[Line]); 9] = [
+const DAYS: [(&str, &[Line]); 10] = [
     ("repeats", &REPEATS),
     ("cards", &CARDS),
     ("numbers", &NUMBERS),
     ("no requests", &NO_REQUESTS),
     ("moves", &MOVES),
     ("a full disk", &FULL),
+    ("a side sector", &SIDES),
     ("cut early", &CUT_EARLY),
     ("cut late", &CUT_LATE),
     ("cut again", &CUT_AGAIN),
