@@ -2,17 +2,22 @@
 use std::fmt::Debug;
 use std::process::Abort;
 
-/// Ends the test where the two differ.
-pub fn same<T: PartialEq + Debug + Drop>(rt: &impl Abort, got: T, want: T) {
+/// Sees that both are the same.
+pub(crate) fn same<T: PartialEq + Debug + Drop>(rt: &impl Abort, got: T, want: T) {
     assert_eq!(rt; got, want);
 }
 
-/// The same, and tells the row.
-pub fn same_at<T: PartialEq + Debug + Drop, L: Debug + Drop>(
+/// The same in a row of a table, which it names where they differ.
+pub(crate) fn same_at<T: PartialEq + Debug + Drop, L: Debug + Drop>(
     rt: &impl Abort,
     got: T,
     want: T,
     row: L,
 ) {
     assert_eq!(rt; got, want, "{row:?}");
+}
+
+/// Sees that it holds.
+pub(crate) fn holds<L: Debug + Drop>(rt: &impl Abort, it: bool, row: L) {
+    assert!(rt; it, "{row:?}");
 }

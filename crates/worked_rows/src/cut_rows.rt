@@ -1,9 +1,9 @@
 //! Requests in which power goes after each of their sector writes: the writes of the next opening and of the repeat, and
 //! what the disk holds between them.
+use crate::comparing::{holds, same, same_at};
 use crate::days::Line::{Cut, Say};
 use crate::days::is_played;
 use crate::disks::clean;
-use crate::same::{holds, same, same_at};
 use crate::sessions::{WHOLE, after, handled, opened};
 use d64_image::MemDisk;
 use std::process::Abort;

@@ -1,6 +1,6 @@
 //! Lines of a day, played as a script and as events.
+use crate::comparing::{holds, same_at};
 use crate::disks::clean;
-use crate::same::{holds, same_at};
 use arrayvec::ArrayVec;
 use d64_image::{MemDisk, Meter};
 use host_session::{Cut, Event, play, run_script};

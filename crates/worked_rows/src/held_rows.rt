@@ -1,6 +1,6 @@
 //! What a session tells of a shop, and the bytes that requests leave on the disk.
+use crate::comparing::{holds, same, same_at};
 use crate::disks::bytes_from;
-use crate::same::{holds, same, same_at};
 use crate::sessions::after;
 use d64_image::MemDisk;
 use disk_layout::blank_image;

@@ -1,6 +1,6 @@
 //! Hostile use: images that no shop left, each call on a device failing in turn, and outputs that stop in the middle.
+use crate::comparing::same_at;
 use crate::disks::{Change, changed, fresh};
-use crate::same::same_at;
 use d64_image::{Fuse, MemDisk, Meter, Mirror, OneFault, Sectors};
 use host_session::{Event, OpenFault, PlayFault, ScriptFault, Session, play, run_script};
 use layout_check::check;

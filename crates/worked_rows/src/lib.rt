@@ -29,8 +29,6 @@ mod opening_rows;
 #[cfg(test)]
 mod record_rows;
 #[cfg(test)]
-mod same;
-#[cfg(test)]
 mod session_rows;
 #[cfg(test)]
 mod sessions;

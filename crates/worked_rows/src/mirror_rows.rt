@@ -1,6 +1,6 @@
 //! A shop on a disk whose sectors also go to a file in memory, line by line; and a file that fails.
+use crate::comparing::{holds, same};
 use crate::disks::fresh;
-use crate::same::{holds, same};
 use crate::sessions::handled;
 use d64_image::{MemDisk, Mirror};
 use host_session::{Session, run_script};

@@ -1,9 +1,9 @@
 //! Openings of disks with cards of version 1 and with open intents: the writes of each, also where power goes in it, and
 //! what is told afterwards.
+use crate::comparing::same_at;
 use crate::days::Line::{self, Say};
 use crate::days::is_played;
 use crate::disks::{Change, changed, clean};
-use crate::same::same_at;
 use crate::sessions::{WHOLE, after, opened};
 use d64_image::MemDisk;
 use std::process::Abort;

@@ -1,8 +1,8 @@
 //! Runs that are stopped: by a device that fails, and by a bad line.
+use crate::comparing::{holds, same, same_at};
 use crate::days::Line::{Cut, Say};
 use crate::days::{Line, events_of, is_played, script_of, text_of, wanted};
 use crate::disks::{changed, fresh};
-use crate::same::{holds, same, same_at};
 use crate::sessions::{WHOLE, opened};
 use d64_image::{Fuse, MemDisk, Meter, Place};
 use disk_layout::Fault;

@@ -1,6 +1,6 @@
 //! A till and a session: messages that are lost, repeated and late.
+use crate::comparing::same;
 use crate::disks::fresh;
-use crate::same::same;
 use arrayvec::ArrayVec;
 use host_session::Session;
 use layout_check::check;
