@@ -23,6 +23,8 @@ from pathlib import Path
 
 TOP = Path(__file__).resolve().parent.parent
 FUNCTION = re.compile(r"( *)(?:pub(?:\([a-z]+\))? )?(?:const )?fn (\w+)")
+# what says that the edited text itself can't be read, so that no contract was tried
+UNREAD = re.compile(r"(?:\./)?(?:src|specs)/\S+?:\d+:\d+: error: (?:[^`]|`[^`]*`: .*(?:is not in scope|has no field|is no name))")
 # what says that a proof names something that is no longer there, and so little of the contract
 LOST_NAME = re.compile(r"has no field|is not in scope|has no `|was not admitted")
 
@@ -117,7 +119,7 @@ def goals_open(said, place):
 
 def word_for(told):
     """How an edit is refused by these lines."""
-    return "refused by a name " if all(LOST_NAME.search(it) for it in told) else "refused           "
+    return "refused by a name " if told and all(LOST_NAME.search(it) for it in told) else "refused           "
 
 
 def alone(crate, edit):
@@ -126,8 +128,10 @@ def alone(crate, edit):
     ends = any(line.startswith("logic=not-proved") for line in said)
     if status == 0:
         return "PROVED!           "
+    if not ends or any(UNREAD.match(line) for line in said):
+        return "no longer applies "
     told = [line for line in said if re.match(r"(?:note: )?\S+:\d+:\d+: ", line) and ("error" in line or line.startswith("note: "))]
-    return word_for(told) if ends and told else "no longer applies "
+    return word_for(told)
 
 
 def in_rounds(crate, edits):
