@@ -6,6 +6,7 @@ ghost use Rattle.host_session.specs.Found.{AreFilesOf};
 ghost use Rattle.host_session.specs.Judged.{AreCards, AreTills, HasJudgedTills, IsIntentOf, IsJudged, IsJudgedItem, IsJudgedTill};
 ghost use Rattle.host_session.specs.Opening.{IsBadCard, IsBadTill, Refuses, TellsJudging};
 ghost use Rattle.host_session.specs.declared.faults.OpenFault.TheVariants.{BadCard, BadRequestCard, Device};
+ghost use Rattle.rel_records.specs.Kept.{IsKept};
 
 use crate::faults::OpenFault;
 use crate::finding::{LedgerFiles, find_files};
@@ -14,7 +15,7 @@ use crate::intents::{
 };
 use crate::reading::{Held, read_item, read_till};
 use d64_image::Sectors;
-use rel_records::records;
+use rel_records::{LastBlock, records};
 use request_cards::RequestCard;
 
 /// The tills' cards, till 1 first, and how many tills there are.
@@ -43,18 +44,21 @@ pub struct Judged {
 fn judge_till<D: Sectors>(
     disk: &mut D,
     files: &LedgerFiles,
+    last: &mut LastBlock,
     till: u8,
 ) -> Result<Option<Option<RequestCard>>, OpenFault>
     requires of { (f : Files) × AreFilesOf (D.history.image disk.old) f files.now }
+    requires kept { IsKept (D.history.image disk.old) files.now.requests last.old }
     requires low { 1 ≤ till }
     requires high { till ≤ 64 }
     ensures ok { (f : Files) → AreFilesOf (D.history.image disk.old) f files.now → IfOk result (IsJudgedTill f till) }
     ensures err { (f : Files) → AreFilesOf (D.history.image disk.old) f files.now
         → IfErr result (λ fault. (fault ≡ Device) ⊎ ((fault ≡ BadRequestCard till) × IsBadTill f till)) }
+    ensures kept { IsKept (D.history.image disk.old) files.now.requests last.new }
     ensures reads { OnlyReads D.history disk.old disk.new 3 }
     ensures failures { TellsJudging D.history disk.old disk.new result }
 {
-    let Some(held) = read_till(disk, files, till)? else {
+    let Some(held) = read_till(disk, files, last, till)? else {
         return Ok(None);
     };
     match held {
@@ -77,9 +81,10 @@ fn read_tills<D: Sectors>(disk: &mut D, files: &LedgerFiles) -> Result<Tills, Op
     ensures reads { OnlyReads D.history disk.old disk.new 192 }
     ensures failures { TellsJudging D.history disk.old disk.new result }
 {
+    let mut last = LastBlock::none();
     let mut requests = [None; 64];
     for place in 0..64u8 {
-        match judge_till(disk, files, place + 1)? {
+        match judge_till(disk, files, &mut last, place + 1)? {
             Some(card) => requests[usize::from(place)] = card,
             None => {
                 return Ok(Tills {
@@ -99,19 +104,22 @@ fn read_tills<D: Sectors>(disk: &mut D, files: &LedgerFiles) -> Result<Tills, Op
 fn judge_item<D: Sectors>(
     disk: &mut D,
     files: &LedgerFiles,
+    last: &mut LastBlock,
     new: &NewQuantities,
     item: u16,
 ) -> Result<Option<Option<u32>>, OpenFault>
     requires of { (f : Files) × AreFilesOf (D.history.image disk.old) f files.now }
+    requires kept { IsKept (D.history.image disk.old) files.now.stock last.old }
     requires low { 1 ≤ item }
     ensures ok { (f : Files) → AreFilesOf (D.history.image disk.old) f files.now → HasJudgedTills f new.now
         → IfOk result (IsJudgedItem f item) }
     ensures err { (f : Files) → AreFilesOf (D.history.image disk.old) f files.now → HasJudgedTills f new.now
         → IfErr result (λ fault. (fault ≡ Device) ⊎ ((fault ≡ BadCard item) × IsBadCard f item)) }
+    ensures kept { IsKept (D.history.image disk.old) files.now.stock last.new }
     ensures reads { OnlyReads D.history disk.old disk.new 3 }
     ensures failures { TellsJudging D.history disk.old disk.new result }
 {
-    let Some(held) = read_item(disk, files, item)? else {
+    let Some(held) = read_item(disk, files, last, item)? else {
         return Ok(None);
     };
     let intended = new_quantity(new, item);
@@ -143,9 +151,10 @@ fn read_stock<D: Sectors>(
     ensures reads { OnlyReads D.history disk.old disk.new 30480 }
     ensures failures { TellsJudging D.history disk.old disk.new result }
 {
+    let mut last = LastBlock::none();
     let mut cards = [None; 10160];
     for place in 0..10160u16 {
-        match judge_item(disk, files, new, place + 1)? {
+        match judge_item(disk, files, &mut last, new, place + 1)? {
             Some(quantity) => cards[usize::from(place)] = quantity,
             None => return Ok(cards),
         }

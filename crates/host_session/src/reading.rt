@@ -5,13 +5,14 @@ ghost use Rattle.disk_layout.specs.Records.{empty_record};
 ghost use Rattle.host_session.specs.Files.{Files};
 ghost use Rattle.host_session.specs.Found.{AreFilesOf, Tells, TellsRecord};
 ghost use Rattle.host_session.specs.declared.faults.OpenFault.TheVariants.{Device};
+ghost use Rattle.rel_records.specs.Kept.{IsKept};
 ghost use Rattle.request_cards.specs.CardReading.{request_card_of, stock_card_of};
 
 use crate::faults::OpenFault;
 use crate::finding::LedgerFiles;
 use arrayvec::ArrayVec;
 use d64_image::Sectors;
-use rel_records::{RelFault, read_record};
+use rel_records::{LastBlock, RelFault, read_next};
 use request_cards::{RequestCard, StockCard};
 
 /// What a record holds.
@@ -67,22 +68,26 @@ fn held_by_item(bytes: &[u8; 18]) -> Held<StockCard>
     }
 }
 
-/// What a till's record holds; None past the last record. Nothing is written.
+/// What a till's record holds; None past the last record. Nothing is written. `last` is the block of REQUESTS that was read
+/// last.
 pub(crate) fn read_till<D: Sectors>(
     disk: &mut D,
     files: &LedgerFiles,
+    last: &mut LastBlock,
     till: u8,
 ) -> Result<Option<Held<RequestCard>>, OpenFault>
     requires of { (f : Files) × AreFilesOf (D.history.image disk.old) f files.now }
+    requires kept { IsKept (D.history.image disk.old) files.now.requests last.old }
     requires low { 1 ≤ till }
     ensures ok { (f : Files) → AreFilesOf (D.history.image disk.old) f files.now
         → IfOk result (TellsRecord request_card_of 127 f.requests till) }
+    ensures kept { IsKept (D.history.image disk.old) files.now.requests last.new }
     ensures err { IfErr result (λ fault. fault ≡ Device) }
     ensures reads { OnlyReads D.history disk.old disk.new 3 }
     ensures failures { TellsFailure D.history disk.old disk.new result }
 {
     let mut text = ArrayVec::new();
-    match read_record(disk, &files.requests, u32::from(till), &mut text) {
+    match read_next(disk, &files.requests, last, u32::from(till), &mut text) {
         Ok(()) => {
             let bytes = text.as_slice().first_chunk::<127>().unwrap();
             Ok(Some(held_by_till(bytes)))
@@ -94,22 +99,26 @@ pub(crate) fn read_till<D: Sectors>(
     }
 }
 
-/// What an item's record holds; None past the last record. Nothing is written.
+/// What an item's record holds; None past the last record. Nothing is written. `last` is the block of STOCK that was read
+/// last.
 pub(crate) fn read_item<D: Sectors>(
     disk: &mut D,
     files: &LedgerFiles,
+    last: &mut LastBlock,
     item: u16,
 ) -> Result<Option<Held<StockCard>>, OpenFault>
     requires of { (f : Files) × AreFilesOf (D.history.image disk.old) f files.now }
+    requires kept { IsKept (D.history.image disk.old) files.now.stock last.old }
     requires low { 1 ≤ item }
     ensures ok { (f : Files) → AreFilesOf (D.history.image disk.old) f files.now
         → IfOk result (TellsRecord stock_card_of 18 f.stock item) }
+    ensures kept { IsKept (D.history.image disk.old) files.now.stock last.new }
     ensures err { IfErr result (λ fault. fault ≡ Device) }
     ensures reads { OnlyReads D.history disk.old disk.new 3 }
     ensures failures { TellsFailure D.history disk.old disk.new result }
 {
     let mut text = ArrayVec::new();
-    match read_record(disk, &files.stock, u32::from(item), &mut text) {
+    match read_next(disk, &files.stock, last, u32::from(item), &mut text) {
         Ok(()) => {
             let bytes = text.as_slice().first_chunk::<18>().unwrap();
             Ok(Some(held_by_item(bytes)))

@@ -19,7 +19,13 @@ use arrayvec::ArrayVec;
 use d64_image::{Place, Sectors};
 
 /// Fills `text` with the record of this length that begins at data byte `start` of the block `a`, and goes on in `b`.
-fn put_record(text: &mut ArrayVec<u8, 254>, a: &[u8; 256], b: &[u8; 256], start: usize, size: usize)
+pub(crate) fn put_record(
+    text: &mut ArrayVec<u8, 254>,
+    a: &[u8; 256],
+    b: &[u8; 256],
+    start: usize,
+    size: usize,
+)
     requires start { start < 254 }
     requires size { size ≤ 254 }
     ensures { text.new.items ≡ take size (drop start (drop 2 a.now ++ drop 2 b.now)) }
@@ -31,7 +37,7 @@ fn put_record(text: &mut ArrayVec<u8, 254>, a: &[u8; 256], b: &[u8; 256], start:
 }
 
 /// Reads the data block of this number, from 0, as its side sector names it.
-fn read_block<D: Sectors>(
+pub(crate) fn read_block<D: Sectors>(
     disk: &mut D,
     file: &RelFile,
     block: usize,
@@ -50,7 +56,7 @@ fn read_block<D: Sectors>(
 }
 
 /// Reads the data block behind the one of this number, whose bytes name it.
-fn read_behind<D: Sectors>(
+pub(crate) fn read_behind<D: Sectors>(
     disk: &mut D,
     file: &RelFile,
     block: usize,

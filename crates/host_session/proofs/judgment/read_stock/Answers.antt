@@ -3,21 +3,29 @@ use Rattle.std.proofs.Common.{ℕ, Err, IfErr, List, Option, Result, ap, arith, 
 use Rattle.std.proofs.lemmas.Result.{err_from_is_err_and}
 use Rattle.d64_image.proofs.Moments.{failed_later, no_reads, reads_then, reads_weaker}
 use Rattle.d64_image.specs.History.{Failed}
+use Rattle.d64_image.specs.Images.{Image}
 use Rattle.host_session.specs.Judged.{IsJudgedItem, IsCountedTo}
 use Rattle.host_session.specs.Opening.{Refuses}
 use Rattle.host_session.specs.declared.faults.OpenFault.{OpenFault}
 use Rattle.host_session.proofs.Judgments.{files-still, judged-device, judged-error, card-refused}
 use Rattle.host_session.proofs.StockTables.{card-more, card-start, cards-done, stock-few}
+use Rattle.rel_records.proofs.Keeping.{none-kept}
+use Rattle.rel_records.specs.Kept.{IsKept}
 use Rattle.host_session.proofs.judgment.read_stock.Goals as goal
 
 pub loop-place-init : goal.loop-place-init
-loop-place-init g c = record { reads = no_reads g.D.Sectors.history c.args.disk.now; failures = refl; few = omega arith; so_far = λ f a h. card-start f c.args.new.now h }
+loop-place-init g c = record { reads = no_reads g.D.Sectors.history c.args.disk.now; kept = none-kept _ _ _ c.none-last.ensures; failures = refl; few = omega arith; so_far = λ f a h. card-start f c.args.new.now h }
 
 pub judge_item-requires-clause-of : goal.judge_item-requires-clause-of
 judge_item-requires-clause-of g c =
     let S = g.D.Sectors.history in
     let (f, a, h) = c.requires.of in
     (f, files-still (S.image c.args.disk.now) (S.image c.loop-place.disk) f c.args.files.now c.loop-place.invariant.reads.image a)
+
+pub judge_item-requires-clause-kept : goal.judge_item-requires-clause-kept
+judge_item-requires-clause-kept g c =
+    let inv = c.loop-place.invariant in
+    subst (λ (i : Image). IsKept i c.args.files.now.stock c.loop-place.last) (sym inv.reads.image) inv.kept
 
 pub returns-in_err-quantity-clause-err : goal.returns-in_err-quantity-clause-err
 returns-in_err-quantity-clause-err g c =
@@ -60,6 +68,7 @@ loop-place-preserved g c =
     let S = g.D.Sectors.history in
     let inv = c.loop-place.invariant in record {
       reads = reads_then S c.args.disk.now c.loop-place.disk c.judge_item.new.disk (3 * c.loop-place.place) 3 (3 * (c.loop-place.place + 1)) (omega arith) inv.reads c.judge_item.ensures.reads;
+      kept = subst (λ (i : Image). IsKept i c.args.files.now.stock c.judge_item.new.last) inv.reads.image c.judge_item.ensures.kept;
       failures = c.in_ok-quantity.ensures.failures ∙ inv.failures;
       few = omega (arith, c.loop-place-test.true);
       so_far = λ f a h.

@@ -3,6 +3,7 @@ use Rattle.std.proofs.Common.{Err, IfErr, Option, Result, ap, arith, inl, inr, r
 use Rattle.std.proofs.lemmas.Result.{err_from_is_err_and}
 use Rattle.d64_image.proofs.Moments.{failed_later, no_reads, reads_then, reads_weaker}
 use Rattle.d64_image.specs.History.{Failed}
+use Rattle.d64_image.specs.Images.{Image}
 use Rattle.request_cards.specs.CardTexts.{Card}
 use Rattle.host_session.specs.Judged.{IsJudgedTill, IsReadTo}
 use Rattle.host_session.specs.Opening.{Refuses}
@@ -10,16 +11,23 @@ use Rattle.host_session.specs.declared.judgment.Tills.{Tills}
 use Rattle.host_session.specs.declared.faults.OpenFault.{OpenFault}
 use Rattle.host_session.proofs.Judgments.{files-still, judged-device, judged-error, till-refused}
 use Rattle.host_session.proofs.TillTables.{till-more, till-start, tills-done}
+use Rattle.rel_records.proofs.Keeping.{none-kept}
+use Rattle.rel_records.specs.Kept.{IsKept}
 use Rattle.host_session.proofs.judgment.read_tills.Goals as goal
 
 pub loop-place-init : goal.loop-place-init
-loop-place-init g c = record { reads = no_reads g.D.Sectors.history c.args.disk.now; failures = refl; few = omega arith; so_far = λ f a. till-start f }
+loop-place-init g c = record { reads = no_reads g.D.Sectors.history c.args.disk.now; kept = none-kept _ _ _ c.none-last.ensures; failures = refl; few = omega arith; so_far = λ f a. till-start f }
 
 pub judge_till-requires-clause-of : goal.judge_till-requires-clause-of
 judge_till-requires-clause-of g c =
     let S = g.D.Sectors.history in
     let (f, a) = c.requires.of in
     (f, files-still (S.image c.args.disk.now) (S.image c.loop-place.disk) f c.args.files.now c.loop-place.invariant.reads.image a)
+
+pub judge_till-requires-clause-kept : goal.judge_till-requires-clause-kept
+judge_till-requires-clause-kept g c =
+    let inv = c.loop-place.invariant in
+    subst (λ (i : Image). IsKept i c.args.files.now.requests c.loop-place.last) (sym inv.reads.image) inv.kept
 
 pub returns-in_err-card-clause-err : goal.returns-in_err-card-clause-err
 returns-in_err-card-clause-err g c =
@@ -62,6 +70,7 @@ loop-place-preserved g c =
     let S = g.D.Sectors.history in
     let inv = c.loop-place.invariant in record {
       reads = reads_then S c.args.disk.now c.loop-place.disk c.judge_till.new.disk (3 * c.loop-place.place) 3 (3 * (c.loop-place.place + 1)) (omega arith) inv.reads c.judge_till.ensures.reads;
+      kept = subst (λ (i : Image). IsKept i c.args.files.now.requests c.judge_till.new.last) inv.reads.image c.judge_till.ensures.kept;
       failures = c.in_ok-card.ensures.failures ∙ inv.failures;
       few = omega (arith, c.loop-place-test.true);
       so_far = λ f a.
