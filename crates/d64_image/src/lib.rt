@@ -1,11 +1,7 @@
 //! The sectors of a 1541 disk of 35 tracks: places, images, and the devices through which they are read and written.
 #![tactic(auto)]
 
-#[cfg(test)]
-mod comparing;
 mod count;
-#[cfg(test)]
-mod fault_tests;
 mod faults;
 mod fuse;
 mod mem_disk;
@@ -14,8 +10,6 @@ mod mirror;
 mod one_fault;
 mod place;
 mod sectors;
-#[cfg(test)]
-mod tests;
 
 pub use faults::{DeviceFault, ImageFault};
 pub use fuse::Fuse;

@@ -2,27 +2,15 @@
 #![tactic(auto)]
 
 mod access;
-#[cfg(test)]
-mod access_tests;
 mod bam;
 mod blank;
 mod blank_map;
-#[cfg(test)]
-mod blank_tests;
 mod chain;
-#[cfg(test)]
-mod chain_tests;
-#[cfg(test)]
-mod comparing;
 mod directory;
-#[cfg(test)]
-mod directory_tests;
 mod entries;
 mod faults;
 mod filling;
 mod laws;
-#[cfg(test)]
-mod map_tests;
 mod side;
 mod slot;
 mod views;

@@ -3,8 +3,6 @@
 
 mod blocks;
 mod checking;
-#[cfg(test)]
-mod comparing;
 mod entry;
 mod files;
 mod maps;
@@ -14,14 +12,8 @@ mod owners;
 mod parts;
 mod recounting;
 mod repairing;
-#[cfg(test)]
-mod repairing_tests;
 mod sides;
 mod surveying;
-#[cfg(test)]
-mod test_disks;
-#[cfg(test)]
-mod tests;
 
 pub use checking::check;
 pub use outcome::Survey;

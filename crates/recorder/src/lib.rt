@@ -3,7 +3,5 @@
 
 mod change;
 mod recorder;
-#[cfg(test)]
-mod tests;
 
 pub use recorder::Recorder;

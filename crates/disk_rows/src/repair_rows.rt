@@ -1,9 +1,9 @@
 //! Disks that are repaired, and what that writes.
 use crate::comparing::{same, same_at};
-use crate::test_disks::{change, fresh, place};
-use crate::{check, repair, survey};
+use crate::disks::{change, fresh, place};
 use d64_image::{Fuse, MemDisk, Meter};
 use disk_layout::Fault;
+use layout_check::{check, repair, survey};
 use std::alloc::Global;
 use std::test::Fail;
 

@@ -1,7 +1,7 @@
 //! Single sectors read and written, on a device that fails too, and a slot cut out of a sector.
 use crate::comparing::{same, same_at};
-use crate::{Fault, Slot, read_sector, write_sector};
 use d64_image::{DeviceFault, Fuse, MemDisk, Place};
+use disk_layout::{Fault, Slot, read_sector, write_sector};
 use std::test::Fail;
 
 // The fuse lets one write pass: the read before it passes too, and every call after it fails at its own place.

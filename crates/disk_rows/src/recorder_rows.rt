@@ -1,15 +1,9 @@
 //! The images that a recorder kept, over memory and over a fuse.
-use crate::Recorder;
+use crate::comparing::same;
 use d64_image::{DeviceFault, Fuse, MemDisk, Place, Sectors};
+use recorder::Recorder;
 use std::alloc::Global;
-use std::fmt::Debug;
-use std::process::Abort;
 use std::test::Fail;
-
-/// Ends the test where the two differ: one call for each comparison, so that a test is proved in little time.
-fn same<T: PartialEq + Debug + Drop>(rt: &impl Abort, got: T, want: T) {
-    assert_eq!(rt; got, want);
-}
 
 /// Two places: the first and the last of the disk.
 fn places() -> Result<(Place, Place), Fail> {

@@ -1,7 +1,7 @@
 //! A mirror over a file in memory, also where that fails, and a disk of which one call fails.
 use crate::comparing::{same, same_at};
-use crate::tests::place;
-use crate::{DeviceFault, MemDisk, Mirror, OneFault, Place, Sectors};
+use crate::device_rows::place;
+use d64_image::{DeviceFault, MemDisk, Mirror, OneFault, Place, Sectors};
 use std::io::{self, Cursor, Seek, SeekFrom, Write};
 use std::test::Fail;
 

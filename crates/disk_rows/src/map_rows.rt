@@ -1,7 +1,7 @@
 //! The map: the order of picking, taking and giving back.
-use crate::Bam;
 use crate::comparing::{same, same_at};
 use d64_image::{DeviceFault, Place};
+use disk_layout::Bam;
 use std::test::Fail;
 
 /// A map on which every sector is free but the two that the map and the directory have, with a name.

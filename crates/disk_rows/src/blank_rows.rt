@@ -1,8 +1,8 @@
 //! The blank image byte by byte, with values worked out by hand from the disk's format.
 use crate::comparing::{same, same_at};
-use crate::{Bam, BamView, DirView, EntryView, blank_image, read_directory, walk_chain};
 use arrayvec::ArrayVec;
 use d64_image::{DeviceFault, MemDisk, Meter, Place, Sectors};
+use disk_layout::{Bam, BamView, DirView, EntryView, blank_image, read_directory, walk_chain};
 use std::test::Fail;
 
 /// The bytes of a sector of the disk.

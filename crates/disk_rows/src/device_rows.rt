@@ -1,6 +1,6 @@
 //! Each public call once, with values of the D64 layout.
 use crate::comparing::{same, same_at};
-use crate::{DeviceFault, Fuse, ImageFault, MemDisk, Meter, Place, Sectors};
+use d64_image::{DeviceFault, Fuse, ImageFault, MemDisk, Meter, Place, Sectors};
 use std::alloc::Global;
 use std::test::Fail;
 

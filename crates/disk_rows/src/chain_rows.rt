@@ -1,8 +1,8 @@
 //! Chains and side sectors with values from the 1541's format, and the faults of damaged chains.
 use crate::comparing::{same, same_at};
-use crate::{Fault, SideView, side_bytes, walk_chain};
 use arrayvec::ArrayVec;
 use d64_image::{DeviceFault, Fuse, MemDisk, Place, Sectors};
+use disk_layout::{Fault, SideView, side_bytes, walk_chain};
 use std::test::Fail;
 
 /// The place, where the disk has it.

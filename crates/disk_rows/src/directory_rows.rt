@@ -1,8 +1,8 @@
 //! The directory read along its links, on damaged disks too.
 use crate::comparing::{same, same_at};
-use crate::{Fault, Slot, blank_image, read_directory};
 use arrayvec::ArrayVec;
 use d64_image::{DeviceFault, Fuse, MemDisk, Place, Sectors};
+use disk_layout::{Fault, Slot, blank_image, read_directory};
 use std::test::Fail;
 
 /// The place, where the disk has it.

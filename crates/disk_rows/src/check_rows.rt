@@ -1,9 +1,9 @@
 //! Disks with one fault each, and a file of two side sectors.
 use crate::comparing::{same, same_at};
-use crate::test_disks::{change, fresh, place};
-use crate::{check, survey};
+use crate::disks::{change, fresh, place};
 use d64_image::{DeviceFault, Fuse, MemDisk, Place, Sectors};
 use disk_layout::Fault;
+use layout_check::{check, survey};
 use std::alloc::Global;
 use std::test::Fail;
 
