@@ -125,7 +125,7 @@ module _ {D : Type 0} (S : History D) where
 
   -- 720 blocks and six side sectors
   pub rel-few : (img : Image) (s : Slot) (blocks items sides : List Place) → IsWalkOfSides img s items sides → items ≡ blocks → length items ≤ 720 → length blocks + 2 * length sides ≤ 732
-  rel-few img s blocks items sides walk same few = omega (arith, walk.count, ap length same)
+  rel-few img s blocks items sides walk same few = omega (arith, walk.linked.count, ap length same)
 
   pub parts-found : (a b : D) (s : Slot) (blocks items sides : List Place) (k last : ℕ) → HasBlocks (S.image a) s blocks last → Passes S a b k → items ≡ blocks → IsWalkOfSides (S.image b) s items sides → ListsEach (S.image b) sides → HasParts (S.image a) s blocks sides
   parts-found a b s blocks items sides k last chain passes same walk lists = record {
