@@ -110,7 +110,7 @@ fn walk_sides<D: Sectors>(
 ///
 /// The answer is the first of them whose bytes aren't exactly those that they are to be, which a sound disk may have and
 /// a clean one not; None where all are exact.
-fn survey_sides<D: Sectors>(
+pub fn survey_sides<D: Sectors>(
     disk: &mut D,
     slot: &Slot,
     blocks: &[Place],

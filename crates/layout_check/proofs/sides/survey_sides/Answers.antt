@@ -1,6 +1,5 @@
 -- The walk along the links, and then each side sector's bytes.
 use Rattle.std.proofs.Common.{ap, arith, refl, sym, ◌∙◌, ◌≡◌, List, length, subst}
-use Rattle.std.specs.Prelude.{Some, slice_get}
 use borrow.Author.Count.{below_more}
 use Rattle.std.proofs.lemmas.Option.{slice_get_within}
 use Rattle.std.proofs.lemmas.Result.{err_from_is_err_and}
