@@ -13,7 +13,7 @@ use Rattle.disk_layout.specs.Layout.{IsFile, is_rel}
 use Rattle.disk_layout.specs.declared.slot.Slot.{Slot}
 use Rattle.layout_check.proofs.SideWalks.{walk-side}
 use Rattle.layout_check.specs.Entry.{HasBlocks, IsProper}
-use Rattle.layout_check.specs.Sides.{IsRelEntry, IsWalkOfSides, ListsEach}
+use Rattle.layout_check.specs.Sides.{AreLinkedSides, IsRelEntry, IsWalkOfSides, ListsEach}
 
 -- the first sector of a walk, and the next
 leads-head : (img : Image) (first : Place) (front : List Place) (last q : Place) → Leads img first front last → slice_get (front ++ last ∷ []) 0 ≡ Some q → q ≡ first
@@ -29,12 +29,12 @@ leads-link img first (v ∷ front) last zero p q (n, same, linked, more) h k =
     rw (f, ← e) linked
 leads-link img first (v ∷ front) last (suc j) p q (n, same, linked, more) h k = leads-link img n front last j p q more h k
 
-pub first-side : (img : Image) (s : Slot) (blocks sides : List Place) (q : Place) → IsWalkOfSides img s blocks sides → slice_get sides 0 ≡ Some q → Names s.bytes 21 q
+pub first-side : (img : Image) (s : Slot) (blocks sides : List Place) (q : Place) → AreLinkedSides img s blocks sides → slice_get sides 0 ≡ Some q → Names s.bytes 21 q
 first-side img s blocks sides q w h =
     let e : q ≡ w.first = leads-head img w.first w.front w.last q w.leads (ap (λ (xs : List Place). slice_get xs 0) (sym w.places) ∙ h) in
     rw e w.named
 
-pub side-link : (img : Image) (s : Slot) (blocks sides : List Place) (j : ℕ) (p q : Place) → IsWalkOfSides img s blocks sides → slice_get sides j ≡ Some p → slice_get sides (j + 1) ≡ Some q → LinksTo img p q
+pub side-link : (img : Image) (s : Slot) (blocks sides : List Place) (j : ℕ) (p q : Place) → AreLinkedSides img s blocks sides → slice_get sides j ≡ Some p → slice_get sides (j + 1) ≡ Some q → LinksTo img p q
 side-link img s blocks sides j p q w h k =
     let n : suc j ≡ j + 1 = omega arith in
     leads-link img w.first w.front w.last j p q w.leads (ap (λ (xs : List Place). slice_get xs j) (sym w.places) ∙ h) (ap (λ (xs : List Place). slice_get xs (suc j)) (sym w.places) ∙ ap (slice_get sides) n ∙ k)
@@ -50,13 +50,13 @@ rel-file img s blocks sides u proper rel chain w lists = record {
     chain = chain;
     length_low = (proper.length rel).0;
     length_high = (proper.length rel).1;
-    count = w.count;
-    first_side = λ q h. first-side img s blocks sides q w h;
+    count = w.linked.count;
+    first_side = λ q h. first-side img s blocks sides q w.linked h;
     sides = λ j p h. record {
       number = (w.judged j p h).number;
       length_byte = (w.judged j p h).length_byte;
       sides = λ k q there. lists j p h k q there;
-      link = λ q there. side-link img s blocks sides j p q w h there;
+      link = λ q there. side-link img s blocks sides j p q w.linked h there;
       pointers = (w.judged j p h).pointers;
     };
   };
@@ -109,4 +109,4 @@ owns-block img s blocks u p closed (first, named, chain) c =
 pub owns-side : (img : Image) (s : Slot) (blocks sides : List Place) (p : Place) → IsRelEntry img s blocks → IsWalkOfSides img s blocks sides → Contains sides p → Owns img (sides_of s) p
 owns-side img s blocks sides p e w c =
     let (j, there) = contains-get sides p c in
-    (s.sector, e.closed, e.rel, blocks, j, walk-side img s blocks sides j p e w there)
+    (s.sector, e.closed, e.rel, blocks, j, walk-side img s blocks sides j p e w.linked there)

@@ -21,7 +21,8 @@ not_before {X} xs i x h e once =
     let apart = let P : List X → Type 0 = EachOnce in subst P (sym split) once in
     λ c. EachOnce-apart (take i xs) (get_or xs i x ∷ drop (suc i) xs) apart x c (let P : X → Type 0 = λ y. Contains (y ∷ drop (suc i) xs) x in subst P e (Contains-here x (drop (suc i) xs)))
 
-claim-push : (old now new : Owners) (n : ℕ) (ts : List Place) (x : Place) → IsClaimed old now n ts → ¬ (Contains ts x) → owner_of now x ≡ 255 → owner_of new x ≡ n → ((q : Place) → x ≢ q → owner_of new q ≡ owner_of now q) → IsClaimed old new n (ts ++ x ∷ [])
+-- one more place
+pub claim-push : (old now new : Owners) (n : ℕ) (ts : List Place) (x : Place) → IsClaimed old now n ts → ¬ (Contains ts x) → owner_of now x ≡ 255 → owner_of new x ≡ n → ((q : Place) → x ≢ q → owner_of new q ≡ owner_of now q) → IsClaimed old new n (ts ++ x ∷ [])
 claim-push old now new n ts x so_far free at here there p = (
   λ c. elim (Contains-push_cases ts x p c) [
     | inl d ↦ let ne : x ≢ p = λ e. free (rw e d) in (((so_far p).0 d).0, there p ne ∙ ((so_far p).0 d).1)

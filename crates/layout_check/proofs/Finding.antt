@@ -76,16 +76,6 @@ module _ {D : Type 0} (S : History D) where
     passes_weaker S a b k (2 * length (blocks ++ sides)) (omega (arith, length-append {A = Place} blocks sides)) passes,
   )
 
-  -- a block that had an owner
-  pub block-clash : (a b : D) (s : Slot) (k : ℕ) (t : Owners) (blocks : List Place) (last : ℕ) (f : Fault) → IsClosed (S.image a) s.sector s → HasBlocks (S.image a) s blocks last → Passes S a b k → k ≤ 732 → IsOwned t blocks f → TellsOrClashes S a b s t f
-  block-clash a b s k t blocks last f closed chain passes few (p, told, c, owned) = inr (record {
-    place = p;
-    told = told;
-    passes = passes_weaker S a b k 732 few passes;
-    owned = owned;
-    has = inl (owns-block (S.image a) s blocks last p closed chain c);
-  })
-
   -- a side sector that had an owner, or is a block of the same entry
   pub side-clash : (a b : D) (s : Slot) (n k : ℕ) (t v : Owners) (blocks sides : List Place) (f : Fault) → (e : IsRelEntry (S.image a) s blocks) → IsWalkOfSides (S.image a) s blocks sides → Passes S a b k → k ≤ 732 → IsClaimed t v n blocks → IsOwned v sides f → TellsOrClashes S a b s t f
   side-clash a b s n k t v blocks sides f e walk passes few claimed (p, told, c, owned) = step (contains_or_not blocks p)
@@ -125,7 +115,7 @@ module _ {D : Type 0} (S : History D) where
 
   -- 720 blocks and six side sectors
   pub rel-few : (img : Image) (s : Slot) (blocks items sides : List Place) → IsWalkOfSides img s items sides → items ≡ blocks → length items ≤ 720 → length blocks + 2 * length sides ≤ 732
-  rel-few img s blocks items sides walk same few = omega (arith, walk.count, ap length same)
+  rel-few img s blocks items sides walk same few = omega (arith, walk.linked.count, ap length same)
 
   pub parts-found : (a b : D) (s : Slot) (blocks items sides : List Place) (k last : ℕ) → HasBlocks (S.image a) s blocks last → Passes S a b k → items ≡ blocks → IsWalkOfSides (S.image b) s items sides → ListsEach (S.image b) sides → HasParts (S.image a) s blocks sides
   parts-found a b s blocks items sides k last chain passes same walk lists = record {

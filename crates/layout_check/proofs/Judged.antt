@@ -21,15 +21,18 @@ use Rattle.disk_layout.specs.declared.slot.Slot.{Slot}
 use Rattle.layout_check.proofs.Calls.{passes_weaker}
 use Rattle.layout_check.specs.Calls.{Passes}
 use Rattle.layout_check.specs.Exact.{IsCleanFile, IsExactSide, IsFirstInexact, IsFirstInexactFile, IsInexactFile, TellsUnclean, ToldOfEntry, ToldOfFile, ToldOfFiles, ToldOfSides}
-use Rattle.layout_check.specs.Sides.{IsWalkOfSides, NamesEach}
+use Rattle.layout_check.specs.Sides.{IsSoundSide, IsWalkOfSides}
 use Rattle.layout_check.specs.Survey.{Surveys}
 use Rattle.layout_check.specs.declared.outcome.Findings.{Findings}
 
--- exact bytes list all side sectors
-pub exact-lists : (img : Image) (s : Slot) (blocks sides : List Place) (j : ℕ) (p : Place) → length sides ≤ 6 → IsExactSide img s blocks sides j p → NamesEach (sector img p) 4 sides
-exact-lists img s blocks sides j p few e k q there =
+-- exact bytes are all that a sound image asks
+pub exact-sound : (img : Image) (s : Slot) (blocks sides : List Place) (j : ℕ) (p : Place) → length sides ≤ 6 → IsExactSide img s blocks sides j p → IsSoundSide (sector img p) s blocks sides j
+exact-sound img s blocks sides j p few e =
     let side = exact-side img (record { slot = s; blocks = blocks; last = 0; sides = sides }) j p few e in
-    side.sides k q there
+    record {
+      fields = record { number = side.number; length_byte = side.length_byte; pointers = side.pointers };
+      lists = side.sides;
+    }
 
 -- the judgement of the side sectors below the n-th
 abbrev pub ToldBelow : Image → Slot → List Place → List Place → ℕ → Option Place → Type 0
@@ -67,8 +70,8 @@ judged-file img s blocks sides u owned (Some p) told rel walk many judged is =
     subst P (sym is) (rel, judged)
 judged-file img s blocks sides u owned None (Some fault) rel walk many judged (is, other) =
     let P : Fault → Type 0 = IsInexactFile img (record { slot = s; blocks = blocks; last = u; sides = sides }) in
-    subst P (sym is) (rel, refl, λ e. other (omega (arith, e, many, walk.count)))
-judged-file img s blocks sides u owned None None rel walk many judged is = λ _. record { sides = judged; count = omega (arith, is, many, walk.count) }
+    subst P (sym is) (rel, refl, λ e. other (omega (arith, e, many, walk.linked.count)))
+judged-file img s blocks sides u owned None None rel walk many judged is = λ _. record { sides = judged; count = omega (arith, is, many, walk.linked.count) }
 
 pub judged-at : (img now : Image) (f : File) (o : Option Fault) → now ≡ img → ToldOfFile now f o → ToldOfFile img f o
 judged-at img now f o same h = let P : Image → Type 0 = λ i. ToldOfFile i f o in subst P same h

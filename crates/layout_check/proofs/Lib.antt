@@ -1,5 +1,6 @@
 pub mod Assembly
 pub mod Calls
+pub mod ClaimedBlocks
 pub mod Claims
 pub mod Clashes
 pub mod Counting

@@ -83,7 +83,7 @@ pub count-of_parts : (img : Image) (s : Slot) (blocks sides : List Place) (n : �
 count-of_parts img s blocks sides n rel h e l f is own same =
     let one = parts-of img l f s blocks sides is own same rel h in
     let P : File → Type 0 = λ g. n ≡ owned_count g in
-    subst P (sym one) (e ∙ ap (λ k. length blocks + k) h.walk.count)
+    subst P (sym one) (e ∙ ap (λ k. length blocks + k) h.walk.linked.count)
 
 -- the count of a slot that isn't relative isn't asked for
 pub right-plain : (img : Image) (p : Place) (bytes : Sector) (n : ℕ) (s : Slot) → s ≡ slot_in p (sector img p) n → is_rel s ≢ Rattle.std.proofs.Common.true → IsRightAt img p bytes n

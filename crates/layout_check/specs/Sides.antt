@@ -37,9 +37,17 @@ pub record IsMispointed (bytes : Sector) (blocks : List Place) (j : ℕ) : Type 
 abbrev pub HasOtherFields : Sector → Slot → List Place → ℕ → Type 0
 HasOtherFields bytes s blocks j = (slice_index bytes 2 ≢ j) ⊎ ((slice_index bytes 3 ≢ record_length s) ⊎ IsMispointed bytes blocks j)
 
--- the sectors to which the links lead from the first side sector that the slot names on, as many as these blocks need,
--- each judged alone
-pub record IsWalkOfSides (img : Image) (s : Slot) (blocks sides : List Place) : Type 0 where
+-- a side sector is as a sound image asks beside its link: it has these three, and lists all side sectors
+pub record IsSoundSide (bytes : Sector) (s : Slot) (blocks sides : List Place) (j : ℕ) : Type 0 where
+  pub fields : HasSideFields bytes s blocks j
+  pub lists : NamesEach bytes 4 sides
+
+-- it isn't
+abbrev pub IsUnsoundSide : Sector → Slot → List Place → List Place → ℕ → Type 0
+IsUnsoundSide bytes s blocks sides j = HasOtherFields bytes s blocks j ⊎ IsMisnamed bytes 4 sides
+
+-- the sectors to which the links lead from the first side sector that the slot names on, as many as these blocks need
+pub record AreLinkedSides (img : Image) (s : Slot) (blocks sides : List Place) : Type 0 where
   pub first : Place
   pub named : Names s.bytes 21 first
   pub front : List Place
@@ -47,6 +55,10 @@ pub record IsWalkOfSides (img : Image) (s : Slot) (blocks sides : List Place) : 
   pub places : sides ≡ front ++ last ∷ []
   pub leads : Leads img first front last
   pub count : length sides ≡ sides_for (length blocks)
+
+-- and each judged alone
+pub record IsWalkOfSides (img : Image) (s : Slot) (blocks sides : List Place) : Type 0 where
+  pub linked : AreLinkedSides img s blocks sides
   pub judged : (j : ℕ) (q : Place) → slice_get sides j ≡ Some q → HasSideFields (sector img q) s blocks j
 
 -- each of them lists them all

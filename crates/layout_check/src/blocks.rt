@@ -1,13 +1,16 @@
 //! The data blocks of an entry: the chain from the place that its slot names.
-ghost use Rattle.std.specs.Prelude.{◌≡◌, ◌≢◌, ◌⊎◌, IfErr, IfOk, IsTrue, OnOk, length, slice_index};
+ghost use Rattle.std.specs.Prelude.{◌≡◌, ◌≢◌, ◌<◌, ◌⊎◌, ◌↔◌, Contains, IfErr, IfOk, IsTrue, OnOk, length, slice_index};
 ghost use Rattle.disk_layout.specs.Fault.{IsClosed};
 ghost use Rattle.disk_layout.specs.Layout.{is_rel};
 ghost use Rattle.layout_check.specs.Calls.{Passes, TellsUnsound};
 ghost use Rattle.layout_check.specs.Entry.{HasBlocks};
+ghost use Rattle.layout_check.specs.Owners.{IsClaimed};
+ghost use Rattle.layout_check.specs.SurveyedEntry.{TellsOrClashes};
 
+use crate::owners::{NOBODY, Owners};
 use arrayvec::ArrayVec;
 use d64_image::{Place, Sectors};
-use disk_layout::{EntryView, Fault, Slot, walk_chain};
+use disk_layout::{EntryView, Fault, Slot, read_sector, walk_chain};
 
 /// Follows the chain of a closed entry that names a first block, and fills `blocks` with its sectors in order. The answer
 /// is the index of the last used byte in the last one.
@@ -26,4 +29,67 @@ pub fn survey_blocks<D: Sectors>(
         return Err(Fault::BadLink(slot.sector));
     };
     walk_chain(disk, first, blocks)
+}
+
+/// Whether the place is among these.
+fn contains(places: &[Place], place: Place) -> bool
+    ensures { IsTrue result ↔ Contains places.now place }
+{
+    places.contains(&place)
+}
+
+/// What is told of a sector that has an owner already, where a chain leads to it through these blocks of its own.
+// Out of line: a sound disk has none
+#[inline(never)]
+fn owned_block(place: Place, blocks: &[Place]) -> Fault
+    ensures own { Contains blocks.now place → result ≡ Fault.Loop place }
+    ensures other { ¬ (Contains blocks.now place) → result ≡ Fault.OwnedTwice place }
+{
+    if contains(blocks, place) {
+        Fault::Loop(place)
+    } else {
+        Fault::OwnedTwice(place)
+    }
+}
+
+/// Follows the chain as `survey_blocks` does, and gives each sector to the owner with this number when it comes to it: so
+/// the table of owners is also that of the sectors visited, and a link is waited for while the sector before is claimed.
+///
+/// `OwnedTwice` is told at a sector that another owned. What the table has after a fault is open.
+pub fn claim_blocks<D: Sectors>(
+    disk: &mut D,
+    slot: &Slot,
+    number: u8,
+    owners: &mut Owners,
+    blocks: &mut ArrayVec<Place, 720>,
+) -> Result<u8, Fault>
+    requires closed { IsClosed (D.history.image disk.old) slot.now.sector slot.now }
+    requires names { IsTrue (is_rel slot.now) ⊎ (slice_index slot.now.bytes 3 ≢ 0) }
+    requires some { number < 255 }
+    ensures blocks { IfOk result (HasBlocks (D.history.image disk.old) slot.now blocks.new.items) }
+    ensures claimed { OnOk result (IsClaimed owners.old owners.new number blocks.new.items) }
+    ensures ok { OnOk result (Passes D.history disk.old disk.new (length blocks.new.items)) }
+    ensures err { IfErr result (TellsOrClashes D.history disk.old disk.new slot.now owners.old) }
+{
+    let Some(first) = EntryView::new(&slot.bytes).first_block() else {
+        return Err(Fault::BadLink(slot.sector));
+    };
+    blocks.clear();
+    let mut at = first;
+    let mut sector = [0u8; 256];
+    'chain: loop {
+        if owners.owner(at) != NOBODY {
+            return Err(owned_block(at, blocks.as_slice()));
+        }
+        owners.set(at, number);
+        blocks.push(at);
+        read_sector(disk, at, &mut sector)?;
+        if sector[0] == 0 {
+            return Ok(sector[1]);
+        }
+        match Place::new(sector[0], sector[1]) {
+            None => return Err(Fault::BadLink(at)),
+            Some(next) => at = next,
+        }
+    }
 }

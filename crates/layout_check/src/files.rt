@@ -6,11 +6,11 @@ ghost use Rattle.layout_check.specs.Entry.{IsEntry, IsProper};
 ghost use Rattle.layout_check.specs.Exact.{ToldOfEntry};
 ghost use Rattle.layout_check.specs.SurveyedEntry.{SurveysEntry, TellsOrClashes};
 
-use crate::blocks::survey_blocks;
+use crate::blocks::claim_blocks;
 use crate::entry::judge_entry;
 use crate::owners::Owners;
 use crate::parts::Parts;
-use crate::sides::find_parts;
+use crate::sides::survey_sides;
 use arrayvec::ArrayVec;
 use d64_image::{Place, Sectors};
 use disk_layout::{EntryView, Fault, Slot};
@@ -31,8 +31,8 @@ fn survey_plain<D: Sectors>(
     ensures ok { OnOk result (SurveysEntry D.history disk.old disk.new slot.now number owners.old owners.new None) }
     ensures err { IfErr result (TellsOrClashes D.history disk.old disk.new slot.now owners.old) }
 {
-    survey_blocks(disk, slot, blocks)?;
-    owners.claim(number, blocks.as_slice())
+    claim_blocks(disk, slot, number, owners, blocks)?;
+    Ok(())
 }
 
 /// What a clean disk must not have of a relative entry that owns so many sectors: a side sector whose bytes aren't exact,
@@ -64,8 +64,8 @@ fn survey_relative<D: Sectors>(
     ensures ok { IfOk result (SurveysEntry D.history disk.old disk.new slot.now number owners.old owners.new) }
     ensures err { IfErr result (TellsOrClashes D.history disk.old disk.new slot.now owners.old) }
 {
-    let inexact = find_parts(disk, slot, parts)?;
-    owners.claim(number, parts.blocks.as_slice())?;
+    claim_blocks(disk, slot, number, owners, &mut parts.blocks)?;
+    let inexact = survey_sides(disk, slot, parts.blocks.as_slice(), &mut parts.sides)?;
     owners.claim(number, parts.sides.as_slice())?;
     Ok(unclean_of(slot, inexact, parts.blocks.len() + parts.sides.len()))
 }

@@ -46,7 +46,7 @@ impl Owners {
     }
 
     /// The number of the sector's owner.
-    fn owner(&self, place: Place) -> u8
+    pub fn owner(&self, place: Place) -> u8
         ensures { result ≡ owner_of self.now place }
     {
         self.numbers[place.index()]
@@ -67,7 +67,7 @@ impl Owners {
     }
 
     /// Gives the sector to this owner.
-    fn set(&mut self, place: Place, number: u8)
+    pub fn set(&mut self, place: Place, number: u8)
         ensures here { owner_of self.new place ≡ number }
         ensures there { (q : Place) → place ≢ q → owner_of self.new q ≡ owner_of self.old q }
     {

@@ -4,7 +4,7 @@ ghost use Rattle.disk_layout.specs.Fault.{IsClosed};
 ghost use Rattle.disk_layout.specs.Layout.{is_rel, sides_for};
 ghost use Rattle.layout_check.specs.Calls.{Passes, TellsUnsound};
 ghost use Rattle.layout_check.specs.Exact.{ToldOfSides};
-ghost use Rattle.layout_check.specs.Sides.{HasOtherFields, HasParts, HasSideFields, IsMisnamed, IsRelEntry, IsWalkOfSides, ListsEach, NamesEach};
+ghost use Rattle.layout_check.specs.Sides.{AreLinkedSides, HasOtherFields, HasParts, HasSideFields, IsMisnamed, IsRelEntry, IsSoundSide, IsUnsoundSide, IsWalkOfSides, ListsEach, NamesEach};
 
 use crate::blocks::survey_blocks;
 use crate::parts::Parts;
@@ -50,11 +50,30 @@ fn is_side(sector: &[u8; 256], number: usize, slot: &Slot, blocks: &[Place]) -> 
     names_each(sector, POINTERS_AT, &blocks[start..end])
 }
 
+/// Whether the bytes of a sector are those of side sector `number`, as `is_side` has it, and list all side sectors: what a
+/// sound disk asks of it beside its link.
+// Out of line: asked only where the bytes aren't exact
+#[inline(never)]
+fn is_sound_side(
+    sector: &[u8; 256],
+    number: usize,
+    slot: &Slot,
+    blocks: &[Place],
+    sides: &[Place],
+) -> bool
+    requires number { number < sides_for (length blocks.now) }
+    requires few { length sides.now ≤ 6 }
+    ensures right { IsTrue result → IsSoundSide sector.now slot.now blocks.now sides.now number }
+    ensures wrong { IsFalse result → IsUnsoundSide sector.now slot.now blocks.now sides.now number }
+{
+    is_side(sector, number, slot, blocks) && names_each(sector, LIST_AT, sides)
+}
+
 /// Follows the side sectors of a closed relative entry with these blocks from the first on by their links, as many as the
-/// blocks need, and fills `sides` with their places in order. Each one's number, record length and pointers are judged.
+/// blocks need, and fills `sides` with their places in order. Only links are judged.
 ///
 /// Told are `BadSide` at the entry's directory sector, where the entry names no first side sector, or at a side sector
-/// that isn't right or links to no place, and `Device`.
+/// that links to no place where there is to be another, and `Device`.
 fn walk_sides<D: Sectors>(
     disk: &mut D,
     slot: &Slot,
@@ -63,7 +82,7 @@ fn walk_sides<D: Sectors>(
 ) -> Result<(), Fault>
     requires entry { IsRelEntry (D.history.image disk.old) slot.now blocks.now }
     requires few { length blocks.now ≤ 720 }
-    ensures sides { OnOk result (IsWalkOfSides (D.history.image disk.old) slot.now blocks.now sides.new.items) }
+    ensures sides { OnOk result (AreLinkedSides (D.history.image disk.old) slot.now blocks.now sides.new.items) }
     ensures ok { OnOk result (Passes D.history disk.old disk.new (length sides.new.items)) }
     ensures err { IfErr result (TellsUnsound D.history disk.old disk.new 6) }
 {
@@ -74,29 +93,24 @@ fn walk_sides<D: Sectors>(
     let needed = blocks.len().div_ceil(POINTERS);
     let mut at = first;
     let mut sector = [0u8; 256];
-    for number in 0..needed {
-        read_sector(disk, at, &mut sector)?;
-        if !is_side(&sector, number, slot, blocks) {
-            return Err(Fault::BadSide(at));
-        }
+    for _number in 1..needed {
         sides.push(at);
-        if number + 1 == needed {
-            return Ok(());
-        }
+        read_sector(disk, at, &mut sector)?;
         let Some(next) = SideView::new(&sector).next() else {
             return Err(Fault::BadSide(at));
         };
         at = next;
     }
+    sides.push(at);
     Ok(())
 }
 
-/// Finds the side sectors of a closed relative entry with these blocks, as `walk_sides` does, and judges beside that each
-/// of them lists the places of all. Each is read twice at most.
+/// Finds the side sectors of a closed relative entry with these blocks, as `walk_sides` does, and judges each one's
+/// number, record length, pointers and list of all side sectors. Each is read twice at most.
 ///
 /// The answer is the first of them whose bytes aren't exactly those that they are to be, which a sound disk may have and
 /// a clean one not; None where all are exact.
-fn survey_sides<D: Sectors>(
+pub fn survey_sides<D: Sectors>(
     disk: &mut D,
     slot: &Slot,
     blocks: &[Place],
@@ -111,15 +125,15 @@ fn survey_sides<D: Sectors>(
     ensures err { IfErr result (TellsUnsound D.history disk.old disk.new 12) }
 {
     walk_sides(disk, slot, blocks, sides)?;
+    let sides = sides.as_slice();
     let record_length = EntryView::new(&slot.bytes).record_length();
     let mut inexact = None;
     let mut sector = [0u8; 256];
-    for (number, &side) in sides.as_slice().iter().enumerate() {
+    for (number, &side) in sides.iter().enumerate() {
         read_sector(disk, side, &mut sector)?;
-        let wanted = side_bytes(number as u8, blocks, sides.as_slice(), record_length);
-        // the exact bytes list all side sectors
-        if sector != wanted {
-            if !names_each(&sector, LIST_AT, sides.as_slice()) {
+        // exact bytes are all that a sound disk asks
+        if sector != side_bytes(number as u8, blocks, sides, record_length) {
+            if !is_sound_side(&sector, number, slot, blocks, sides) {
                 return Err(Fault::BadSide(side));
             }
             inexact = inexact.or(Some(side));

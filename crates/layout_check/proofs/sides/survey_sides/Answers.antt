@@ -1,6 +1,5 @@
--- The walk along the links, and then each list.
+-- The walk along the links, and then each side sector's bytes.
 use Rattle.std.proofs.Common.{ap, arith, refl, sym, ◌∙◌, ◌≡◌, List, length, subst}
-use Rattle.std.specs.Prelude.{Some, slice_get}
 use borrow.Author.Count.{below_more}
 use Rattle.std.proofs.lemmas.Option.{slice_get_within}
 use Rattle.std.proofs.lemmas.Result.{err_from_is_err_and}
@@ -9,16 +8,15 @@ use Rattle.d64_image.specs.declared.place.Place.{Place}
 use Rattle.disk_layout.proofs.OtherWrites.{other-bytes}
 use Rattle.layout_check.proofs.Calls.{passes_read, passes_then, passes_weaker, side_tells, tells_read, tells_then, tells_weaker}
 use Rattle.layout_check.proofs.Inexact.{exact-here, same-bytes}
-use Rattle.layout_check.proofs.Judged.{exact-lists, judged-all, judged-exact, judged-none, judged-other}
+use Rattle.layout_check.proofs.Judged.{exact-sound, judged-all, judged-exact, judged-none, judged-other}
 use Rattle.layout_check.proofs.Pointers.{read-there}
-use Rattle.layout_check.proofs.SideWalks.{few-sides, listed-here, unlisted-holds, unlisted-part}
+use Rattle.layout_check.proofs.SideWalks.{all-sound, few-sides, side-there, sound-here, unsound-holds}
+use Rattle.disk_layout.specs.Fault.{nowhere}
 use Rattle.disk_layout.specs.Layout.{record_length}
 use Rattle.disk_layout.specs.Side.{side_sector}
 use Rattle.layout_check.specs.Exact.{ToldOfSides}
-use Rattle.layout_check.specs.Sides.{NamesEach}
-use Rattle.disk_layout.specs.Fault.{nowhere}
 use Rattle.layout_check.proofs.sides.survey_sides.Goals as goal
-use Rattle.layout_check.proofs.sides.survey_sides.Goals.{then-ne+else-not-names_each, else-ne}
+use Rattle.layout_check.proofs.sides.survey_sides.Goals.{then-ne+else-not-is_sound_side, else-ne}
 
 pub returns-in_err-walk_sides-clause-err : goal.returns-in_err-walk_sides-clause-err
 returns-in_err-walk_sides-clause-err g c =
@@ -27,9 +25,9 @@ returns-in_err-walk_sides-clause-err g c =
 
 pub loop-number-init : goal.loop-number-init
 loop-number-init g c = record {
-  passes = passes_weaker g.D.Sectors.history c.args.disk.now c.walk_sides.new.disk _ _ (omega (arith, ap length c.as_slice-side-items.ensures.value)) c.in_ok-walk_sides.ensures.ok;
-  lists = λ j h. absurd (omega arith);
-  judged = judged-none _ c.args.slot.now c.args.blocks.now c.as_slice-side-items.result.now;
+  passes = passes_weaker g.D.Sectors.history c.args.disk.now c.walk_sides.new.disk _ _ (omega (arith, ap length c.as_slice-sides.ensures.value)) c.in_ok-walk_sides.ensures.ok;
+  sound = λ j h. absurd (omega arith);
+  judged = judged-none _ c.args.slot.now c.args.blocks.now c.as_slice-sides.result.now;
 }
 
 pub returns-in_err-read_sector-clause-err : goal.returns-in_err-read_sector-clause-err
@@ -39,63 +37,70 @@ returns-in_err-read_sector-clause-err g c =
     let read = c.in_err-read_sector.ensures in
     let p = err_from_is_err_and c.from_residual-in_err-read_sector.result c.from_residual-in_err-read_sector.ensures.1 in
     rw (p.1, p.2) (tells_then S c.args.disk.now c.loop-number.disk c.read_sector.new.disk _ 1 12 _
-    (few-sides _ c.args.slot.now c.args.blocks.now c.walk_sides.new.sides.items c.as_slice-side-items.result.now c.loop-number.number c.in_ok-walk_sides.ensures.sides c.requires.few c.as_slice-side-items.ensures.value c.loop-number-test.true)
-    old.passes (tells_read S c.loop-number.disk c.read_sector.new.disk c.side-item.result _ read.told read.reads read.failures read.failed))
+    (few-sides _ c.args.slot.now c.args.blocks.now c.walk_sides.new.sides.items c.as_slice-sides.result.now c.loop-number.number c.in_ok-walk_sides.ensures.sides c.requires.few c.as_slice-sides.ensures.value c.loop-number-test.true)
+    old.passes (tells_read S c.loop-number.disk c.read_sector.new.disk c.index-sides-number.result _ read.told read.reads read.failures read.failed))
 
-pub names_each-requires : goal.names_each-requires
-names_each-requires g c = omega (arith, ap length c.as_slice-then-ne.ensures.value, c.in_ok-walk_sides.ensures.sides.count, c.requires.few)
+pub is_sound_side-requires : goal.is_sound_side-requires
+is_sound_side-requires g c = record {
+  number = omega (arith, c.loop-number-test.true, ap length c.as_slice-sides.ensures.value, c.in_ok-walk_sides.ensures.sides.count);
+  few = c.as_slice-sides.ensures.fits;
+}
 
-pub returns-then-not-names_each-clause-err : goal.returns-then-not-names_each-clause-err
-returns-then-not-names_each-clause-err g c =
+pub returns-then-not-is_sound_side-clause-err : goal.returns-then-not-is_sound_side-clause-err
+returns-then-not-is_sound_side-clause-err g c =
     let S = g.D.Sectors.history in
     let old = c.loop-number.invariant in
-    let few = few-sides _ c.args.slot.now c.args.blocks.now c.walk_sides.new.sides.items c.as_slice-side-items.result.now c.loop-number.number c.in_ok-walk_sides.ensures.sides c.requires.few c.as_slice-side-items.ensures.value c.loop-number-test.true in
+    let sides = c.walk_sides.new.sides.items in
+    let items = c.as_slice-sides.result.now in
+    let few = few-sides _ c.args.slot.now c.args.blocks.now sides items c.loop-number.number c.in_ok-walk_sides.ensures.sides c.requires.few c.as_slice-sides.ensures.value c.loop-number-test.true in
     let passes = passes_then S c.args.disk.now c.loop-number.disk c.read_sector.new.disk _ 1 12 few old.passes (passes_read S c.loop-number.disk c.read_sector.new.disk c.in_ok-read_sector.ensures.reads c.in_ok-read_sector.ensures.failures) in
-    let e = c.in_ok-read_sector.ensures.sector ∙ ap (λ (i : Image). sector i c.side-item.result) old.passes.reads.image in
-    side_tells S c.args.disk.now c.read_sector.new.disk 12 c.side-item.result passes
-    (unlisted-holds nowhere _ c.args.slot.now c.args.blocks.now c.walk_sides.new.sides.items c.loop-number.number c.side-item.result c.read_sector.new.to c.requires.entry c.in_ok-walk_sides.ensures.sides
-    (unlisted-part c.walk_sides.new.sides.items c.as_slice-side-items.result.now c.loop-number.number c.side-item.result c.as_slice-side-items.ensures.value c.loop-number-test.true c.side-item.is)
-    e (rw (← c.as_slice-then-ne.ensures.value) (c.names_each.ensures.wrong c.if-not-names_each.true)))
+    let e = c.in_ok-read_sector.ensures.sector ∙ ap (λ (i : Image). sector i c.index-sides-number.result) old.passes.reads.image in
+    side_tells S c.args.disk.now c.read_sector.new.disk 12 c.index-sides-number.result passes
+    (unsound-holds nowhere _ c.args.slot.now c.args.blocks.now sides c.loop-number.number c.index-sides-number.result c.read_sector.new.to c.requires.entry c.in_ok-walk_sides.ensures.sides
+    (side-there sides items c.loop-number.number c.index-sides-number.result c.as_slice-sides.ensures.value c.loop-number-test.true c.index-sides-number.is)
+    e (rw (← c.as_slice-sides.ensures.value) (c.is_sound_side.ensures.wrong c.if-not-is_sound_side.true)))
 
 pub loop-number-preserved : goal.loop-number-preserved
 loop-number-preserved g c =
     let S = g.D.Sectors.history in
     let old = c.loop-number.invariant in
-    let items = c.as_slice-side-items.result.now in
+    let items = c.as_slice-sides.result.now in
     let n = c.loop-number.number in
-    let e = c.in_ok-read_sector.ensures.sector ∙ ap (λ (i : Image). sector i c.side-item.result) old.passes.reads.image in
-    let there = read-there items n c.side-item.result c.loop-number-test.true c.side-item.is in
+    let e = c.in_ok-read_sector.ensures.sector ∙ ap (λ (i : Image). sector i c.index-sides-number.result) old.passes.reads.image in
+    let there = read-there items n c.index-sides-number.result c.loop-number-test.true c.index-sides-number.is in
     let passes = passes_then S c.args.disk.now c.loop-number.disk c.read_sector.new.disk _ 1 _ (omega arith) old.passes (passes_read S c.loop-number.disk c.read_sector.new.disk c.in_ok-read_sector.ensures.reads c.in_ok-read_sector.ensures.failures) in
     let length_byte : c.record_length-record_length.result ≡ record_length c.args.slot.now = rw (c.record_length-record_length.ensures, c.new.ensures) refl in
-    let wanted : c.side_bytes-wanted.result ≡ side_sector n c.args.blocks.now items (record_length c.args.slot.now) =
-    rw (← length_byte) c.side_bytes-wanted.ensures ∙ ap (λ (xs : List Place). side_sector n c.args.blocks.now xs (record_length c.args.slot.now)) (c.as_slice.ensures.value ∙ sym c.as_slice-side-items.ensures.value) in
+    let wanted : c.side_bytes.result ≡ side_sector n c.args.blocks.now items (record_length c.args.slot.now) =
+    rw (← length_byte) c.side_bytes.ensures in
     elim c.if-ne.branch [
-      | then-ne+else-not-names_each w ↦ record {
+      | then-ne+else-not-is_sound_side w ↦ record {
         passes = passes;
-        lists = below_more _ _ old.lists (listed-here _ c.walk_sides.new.sides.items items w.as_slice-then-ne.result.now n c.side-item.result c.read_sector.new.to c.as_slice-side-items.ensures.value w.as_slice-then-ne.ensures.value c.loop-number-test.true c.side-item.is e (w.names_each.ensures.right w.if-not-names_each.false));
-        judged = rw (w.inexact-is, w.or-inexact.ensures) (judged-other _ c.args.slot.now c.args.blocks.now items n c.loop-number.inexact c.side-item.result old.judged there
-            (λ same. other-bytes c.read_sector.new.to c.side_bytes-wanted.result c.ne.result c.ne.ensures w.if-ne.true (e ∙ same ∙ sym wanted)));
+        sound = below_more _ _ old.sound (sound-here _ c.args.slot.now c.args.blocks.now items n c.index-sides-number.result c.read_sector.new.to c.loop-number-test.true c.index-sides-number.is e (w.is_sound_side.ensures.right w.if-not-is_sound_side.false));
+        judged = rw (w.inexact-is, w.or-inexact.ensures) (judged-other _ c.args.slot.now c.args.blocks.now items n c.loop-number.inexact c.index-sides-number.result old.judged there
+            (λ same. other-bytes c.read_sector.new.to c.side_bytes.result c.ne.result c.ne.ensures w.if-ne.true (e ∙ same ∙ sym wanted)));
       }
       | else-ne w ↦
-          let exact = exact-here _ c.args.slot.now c.args.blocks.now items n c.side-item.result c.loop-number-test.true c.side-item.is (sym e ∙ same-bytes c.read_sector.new.to c.side_bytes-wanted.result c.ne.result c.ne.ensures w.if-ne.false ∙ wanted) in
+          let exact = exact-here _ c.args.slot.now c.args.blocks.now items n c.index-sides-number.result c.loop-number-test.true c.index-sides-number.is (sym e ∙ same-bytes c.read_sector.new.to c.side_bytes.result c.ne.result c.ne.ensures w.if-ne.false ∙ wanted) in
           record {
             passes = passes;
-            lists = below_more _ _ old.lists (λ q at. exact-lists _ c.args.slot.now c.args.blocks.now items n q c.as_slice-side-items.ensures.fits (exact q at));
+            sound = below_more _ _ old.sound (λ q at. exact-sound _ c.args.slot.now c.args.blocks.now items n q c.as_slice-sides.ensures.fits (exact q at));
             judged = rw w.inexact-is (judged-exact _ c.args.slot.now c.args.blocks.now items n c.loop-number.inexact old.judged exact);
           }
     ]
 
+-- after the last
+pub returns-clause-sides : goal.returns-clause-sides
+returns-clause-sides g c = (all-sound _ c.args.slot.now c.args.blocks.now c.walk_sides.new.sides.items c.as_slice-sides.result.now c.as_slice-sides.ensures.value c.in_ok-walk_sides.ensures.sides
+    (λ j p at. c.loop-number.invariant.sound j (omega (arith, c.loop-number-test.false, slice_get_within c.as_slice-sides.result.now j p at)) p at)).0
+
 pub returns-clause-lists : goal.returns-clause-lists
-returns-clause-lists g c j p there =
-    let v = c.as_slice-side-items.ensures.value in
-    let at : slice_get c.as_slice-side-items.result.now j ≡ Some p = ap (λ (xs : List Place). slice_get xs j) v ∙ there in
-    let P : List Place → Type 0 = λ xs. NamesEach (sector (g.D.Sectors.history.image c.args.disk.now) p) 4 xs in
-    subst P v (c.loop-number.invariant.lists j (omega (arith, c.loop-number-test.false, slice_get_within c.as_slice-side-items.result.now j p at)) p at)
+returns-clause-lists g c = (all-sound _ c.args.slot.now c.args.blocks.now c.walk_sides.new.sides.items c.as_slice-sides.result.now c.as_slice-sides.ensures.value c.in_ok-walk_sides.ensures.sides
+    (λ j p at. c.loop-number.invariant.sound j (omega (arith, c.loop-number-test.false, slice_get_within c.as_slice-sides.result.now j p at)) p at)).1
 
 pub returns-clause-exact : goal.returns-clause-exact
 returns-clause-exact g c =
     let P : List Place → Type 0 = λ xs. ToldOfSides (g.D.Sectors.history.image c.args.disk.now) c.args.slot.now c.args.blocks.now xs c.loop-number.inexact in
-    subst P c.as_slice-side-items.ensures.value (judged-all _ c.args.slot.now c.args.blocks.now c.as_slice-side-items.result.now c.loop-number.number c.loop-number.inexact (omega (arith, c.loop-number-test.false)) c.loop-number.invariant.judged)
+    subst P c.as_slice-sides.ensures.value (judged-all _ c.args.slot.now c.args.blocks.now c.as_slice-sides.result.now c.loop-number.number c.loop-number.inexact (omega (arith, c.loop-number-test.false)) c.loop-number.invariant.judged)
 
 pub returns-clause-ok : goal.returns-clause-ok
-returns-clause-ok g c = passes_weaker g.D.Sectors.history c.args.disk.now c.loop-number.disk _ _ (omega (arith, ap length c.as_slice-side-items.ensures.value)) c.loop-number.invariant.passes
+returns-clause-ok g c = passes_weaker g.D.Sectors.history c.args.disk.now c.loop-number.disk _ _ (omega (arith, ap length c.as_slice-sides.ensures.value)) c.loop-number.invariant.passes
