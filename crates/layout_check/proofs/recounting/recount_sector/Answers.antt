@@ -1,5 +1,5 @@
 -- Slot by slot: the one that was made right, and those before and behind it.
-use Rattle.std.proofs.Common.{ap, arith, refl, subst, sym, ◌∙◌, ◌*◌, ◌+◌, ◌≡◌}
+use Rattle.std.proofs.Common.{ap, arith, subst, sym, ◌∙◌, ◌*◌, ◌+◌, ◌≡◌}
 use Rattle.std.proofs.lemmas.Result.{err_from_is_err_and}
 use Rattle.d64_image.specs.Images.{Image, Sector, sector}
 use Rattle.disk_layout.specs.Directory.{slot_in}

@@ -1,10 +1,8 @@
 -- The survey, then what is to be mended.
-use Rattle.std.proofs.Common.{refl, subst, sym, ◌∙◌}
+use Rattle.std.proofs.Common.{refl, ◌∙◌}
 use Rattle.std.proofs.lemmas.Result.{err_from_is_err_and}
 use Rattle.d64_image.proofs.Moments.{no_write_then, reads_no_write}
-use Rattle.d64_image.specs.Images.{Image}
 use Rattle.disk_layout.proofs.Orders.{over_none}
-use Rattle.layout_check.proofs.MapMends.{device_later}
 use Rattle.layout_check.specs.RepairOrder.{IsRight, repair_order}
 use Rattle.layout_check.proofs.RepairOrder.{order_after, spare_after}
 use Rattle.layout_check.proofs.RepairRuns.{clean_after, device_holds, device_sound, device_tells, mends_after, mends_none, repaired_after, told_after}
