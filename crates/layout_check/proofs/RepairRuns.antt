@@ -1,17 +1,19 @@
 -- A repair's run: the images held, the fault told, what is left at the end, and that a clean disk is not written.
 use Rattle.std.proofs.Common.{ℕ, ◌≡◌, ◌≤◌, Result, Ok, Err, OnOk, IfErr, sym, subst, arith}
-use Rattle.d64_image.proofs.Moments.{changes_then, changes_weaker, reads_change}
-use Rattle.d64_image.specs.History.{Changes, History, OnlyReads}
+use Rattle.d64_image.proofs.Moments.{changes_then, changes_weaker, failed_later, never_failed, reads_change}
+use Rattle.d64_image.specs.History.{Changes, History, NeverFailed, OnlyReads}
 use Rattle.d64_image.specs.Images.{Image}
 use Rattle.disk_layout.proofs.Layouts.{IsLayout-one}
 use Rattle.disk_layout.specs.Clean.{IsClean}
+use Rattle.disk_layout.specs.Fault.{Holds, TellsFault}
 use Rattle.disk_layout.specs.Layout.{IsLayout, Layout}
 use Rattle.disk_layout.specs.Same.{SameFiles}
+use Rattle.disk_layout.specs.declared.faults.Fault.{Fault}
 use Rattle.layout_check.proofs.MapMends.{mends_weaker}
 use Rattle.layout_check.proofs.Mendings.{mended-start, mended-then}
 use Rattle.layout_check.proofs.Repairs.{clean-after, clean-counts, clean-sides, survey-same}
 use Rattle.layout_check.specs.Exact.{HasMap}
-use Rattle.layout_check.specs.Mended.{AreExactFor, IsMended, KeepsLayouts, Mends, SameMap}
+use Rattle.layout_check.specs.Mended.{AreExactFor, IsMended, KeepsLayouts, Mends, SameMap, TellsDevice}
 use Rattle.layout_check.specs.Recounted.{AreCounted, KeepsButCounts}
 use Rattle.layout_check.specs.Repaired.{IsRepaired, MendsFrom}
 use Rattle.layout_check.specs.Survey.{IsToldBy}
@@ -60,3 +62,24 @@ module _ {D : Type 0} (S : History D) where
 
   pub clean_after : (a b : D) (k : ℕ) → OnlyReads S a b k → IsClean (S.image a) → IsClean (S.image b)
   clean_after a b k reads clean = let P : Image → Type 0 = IsClean in subst P (sym reads.image) clean
+
+  -- reads alone
+  pub mends_none : (a b : D) (k : ℕ) → OnlyReads S a b k → MendsFrom S a b 883
+  mends_none a b k reads l is =
+      changes_weaker S a b 0 883 (IsMended (S.image a) l) (IsMended (S.image a) l) (omega arith) (λ c h. h) (reads_change S a b k (IsMended (S.image a) l) reads (mended-start (S.image a) l is))
+
+  pub told_after : (a b : D) (s : Survey) (k : ℕ) → OnlyReads S a b k → IsToldBy (S.image a) s → IsToldBy (S.image b) s
+  told_after a b s k reads told = let P : Image → Type 0 = λ i. IsToldBy i s in subst P (sym reads.image) told
+
+  pub repaired_after : (a b c : D) (s : Survey) (k : ℕ) → OnlyReads S a b k → IsRepaired (S.image b) (S.image c) s → IsRepaired (S.image a) (S.image c) s
+  repaired_after a b c s k reads h = let P : Image → Type 0 = λ i. IsRepaired i (S.image c) s in subst P reads.image h
+
+  -- a failure of the device behind calls that met none
+  pub device_holds : (a b : D) (img : Image) (f : Fault) → TellsDevice {T = Unit {0}} S a b (Err f) → Holds (S.failed_at b) img f
+  device_holds a b img f (failed, (p, e, there)) = let P : Fault → Type 0 = Holds (S.failed_at b) img in subst P (sym e) there
+
+  pub device_sound : (a b c : D) (f : Fault) → S.failures b ≡ S.failures a → TellsDevice {T = Unit {0}} S b c (Err f) → ¬ (NeverFailed S a c)
+  device_sound a b c f same (failed, told) never = never_failed S a c never (failed_later S a b c same failed)
+
+  pub device_tells : (T : Type 0) (a b c : D) (f : Fault) → S.failures b ≡ S.failures a → TellsDevice {T = Unit {0}} S b c (Err f) → TellsFault {T = T} S a c (Err f)
+  device_tells T a b c f same (failed, (p, e, there)) = let P : Fault → Type 0 = λ x. TellsFault {T = T} S a c (Err x) in subst P (sym e) (failed_later S a b c same failed)

@@ -10,7 +10,7 @@ use Rattle.disk_layout.specs.Layout.{sides_for}
 use Rattle.disk_layout.specs.declared.faults.Fault.TheVariants.{BadSide}
 use Rattle.disk_layout.specs.declared.slot.Slot.{Slot}
 use Rattle.layout_check.proofs.Pointers.{read-there}
-use Rattle.layout_check.specs.Sides.{AreLinkedSides, HasOtherFields, IsRelEntry, IsSoundSide, IsUnsoundSide, IsWalkOfSides, ListsEach}
+use Rattle.layout_check.specs.Sides.{AreLinkedSides, HasOtherFields, HasOtherNumber, IsRelEntry, IsSoundSide, IsUnsoundSide, IsWalkOfSides, ListsEach}
 
 -- an element of a list with one more at the end
 pub get-push : {X : Type 0} (xs : List X) (x : X) (k : ℕ) (y : X) → slice_get (xs ++ x ∷ []) k ≡ Some y → (slice_get xs k ≡ Some y) ⊎ ((k ≡ length xs) × (x ≡ y))
@@ -49,6 +49,10 @@ misjudged-bad img s blocks j p bytes e h = here (let P : List ℕ → Type 0 = �
     here (inl n) = number n
     here (inr (inl n)) = length_byte n
     here (inr (inr h)) = pointer h.k h.q h.low h.there h.other
+
+pub misnumbered : (bytes : List ℕ) (s : Slot) (blocks : List Place) (j : ℕ) → HasOtherNumber bytes s j → HasOtherFields bytes s blocks j
+misnumbered bytes s blocks j (inl n) = inl n
+misnumbered bytes s blocks j (inr n) = inr (inl n)
 
 pub unlinked-bad : (img : Image) (s : Slot) (blocks : List Place) (j : ℕ) (p : Place) (bytes : List ℕ) → bytes ≡ sector img p → j + 1 < sides_for (length blocks) → NamesNone bytes 0 → IsBadSide img s blocks j p
 unlinked-bad img s blocks j p bytes e more none = link more (let P : List ℕ → Type 0 = λ b. NamesNone b 0 in subst P e none)

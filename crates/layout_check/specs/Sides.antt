@@ -19,6 +19,14 @@ pub record IsMisnamed (bytes : Sector) (at : ℕ) (ps : List Place) : Type 0 whe
   pub there : slice_get ps k ≡ Some q
   pub other : ¬ (Names bytes (at + 2 * k) q)
 
+-- number and record length are those of side sector j of the entry
+abbrev pub HasNumber : Sector → Slot → ℕ → Type 0
+HasNumber bytes s j = (slice_index bytes 2 ≡ j) × (slice_index bytes 3 ≡ record_length s)
+
+-- one of the two is not
+abbrev pub HasOtherNumber : Sector → Slot → ℕ → Type 0
+HasOtherNumber bytes s j = (slice_index bytes 2 ≢ j) ⊎ (slice_index bytes 3 ≢ record_length s)
+
 -- number, record length and pointers are those of side sector j of the entry, which has these blocks
 pub record HasSideFields (bytes : Sector) (s : Slot) (blocks : List Place) (j : ℕ) : Type 0 where
   pub number : slice_index bytes 2 ≡ j

@@ -4,7 +4,7 @@ ghost use Rattle.disk_layout.specs.Fault.{IsClosed};
 ghost use Rattle.disk_layout.specs.Layout.{is_rel, sides_for};
 ghost use Rattle.layout_check.specs.Calls.{Passes, TellsUnsound};
 ghost use Rattle.layout_check.specs.Exact.{ToldOfSides};
-ghost use Rattle.layout_check.specs.Sides.{AreLinkedSides, HasOtherFields, HasParts, HasSideFields, IsMisnamed, IsRelEntry, IsSoundSide, IsUnsoundSide, IsWalkOfSides, ListsEach, NamesEach};
+ghost use Rattle.layout_check.specs.Sides.{AreLinkedSides, HasNumber, HasOtherFields, HasOtherNumber, HasParts, HasSideFields, IsMisnamed, IsRelEntry, IsSoundSide, IsUnsoundSide, IsWalkOfSides, ListsEach, NamesEach};
 
 use crate::blocks::survey_blocks;
 use crate::parts::Parts;
@@ -33,6 +33,16 @@ fn names_each(sector: &[u8; 256], at: usize, places: &[Place]) -> bool
     same
 }
 
+/// Whether a sector has the number, from 0, and the record length of a side sector of this entry.
+fn is_numbered(sector: &[u8; 256], number: usize, slot: &Slot) -> bool
+    ensures right { IsTrue result → HasNumber sector.now slot.now number }
+    ensures wrong { IsFalse result → HasOtherNumber sector.now slot.now number }
+{
+    let side = SideView::new(sector);
+    let record_length = EntryView::new(&slot.bytes).record_length();
+    side.number() as usize == number && side.record_length() == record_length
+}
+
 /// Whether the bytes of a sector are those of side sector `number`, from 0, of an entry with these blocks: its number,
 /// its record length and its pointers. The list of side sectors and the link are judged beside.
 fn is_side(sector: &[u8; 256], number: usize, slot: &Slot, blocks: &[Place]) -> bool
@@ -40,9 +50,7 @@ fn is_side(sector: &[u8; 256], number: usize, slot: &Slot, blocks: &[Place]) -> 
     ensures right { IsTrue result → HasSideFields sector.now slot.now blocks.now number }
     ensures wrong { IsFalse result → HasOtherFields sector.now slot.now blocks.now number }
 {
-    let side = SideView::new(sector);
-    let record_length = EntryView::new(&slot.bytes).record_length();
-    if side.number() as usize != number || side.record_length() != record_length {
+    if !is_numbered(sector, number, slot) {
         return false;
     }
     let start = POINTERS * number;
@@ -70,10 +78,10 @@ fn is_sound_side(
 }
 
 /// Follows the side sectors of a closed relative entry with these blocks from the first on by their links, as many as the
-/// blocks need, and fills `sides` with their places in order. Only links are judged.
+/// blocks need, and fills `sides` with their places in order. Each one's number and record length are judged.
 ///
 /// Told are `BadSide` at the entry's directory sector, where the entry names no first side sector, or at a side sector
-/// that links to no place where there is to be another, and `Device`.
+/// that has another number or record length or links to no place, and `Device`.
 fn walk_sides<D: Sectors>(
     disk: &mut D,
     slot: &Slot,
@@ -93,20 +101,25 @@ fn walk_sides<D: Sectors>(
     let needed = blocks.len().div_ceil(POINTERS);
     let mut at = first;
     let mut sector = [0u8; 256];
-    for _number in 1..needed {
-        sides.push(at);
+    for number in 0..needed {
         read_sector(disk, at, &mut sector)?;
+        if !is_numbered(&sector, number, slot) {
+            return Err(Fault::BadSide(at));
+        }
+        sides.push(at);
+        if number + 1 == needed {
+            return Ok(());
+        }
         let Some(next) = SideView::new(&sector).next() else {
             return Err(Fault::BadSide(at));
         };
         at = next;
     }
-    sides.push(at);
     Ok(())
 }
 
 /// Finds the side sectors of a closed relative entry with these blocks, as `walk_sides` does, and judges each one's
-/// number, record length, pointers and list of all side sectors. Each is read twice at most.
+/// pointers and list of all side sectors. Each is read twice at most.
 ///
 /// The answer is the first of them whose bytes aren't exactly those that they are to be, which a sound disk may have and
 /// a clean one not; None where all are exact.

@@ -1,9 +1,48 @@
 -- What is known of the sector that was read, at each way out and for the next turn.
-use Rattle.std.proofs.Common.{ap, arith, length, refl, sym, ◌∙◌}
+use Rattle.std.proofs.Common.{ap, arith, length, refl, subst, sym, ◌∙◌}
+use Rattle.std.specs.Prelude.{Err}
 use Rattle.std.proofs.lemmas.Bool.{false≢true}
-use Rattle.d64_image.proofs.Moments.{no_reads, reads_then, reads_weaker}
+use Rattle.std.proofs.lemmas.Result.{err_from_is_err_and}
+use Rattle.d64_image.proofs.Moments.{failed_later, no_reads, reads_then, reads_weaker}
 use Rattle.disk_layout.proofs.Directories.{bad-link, comes-back, directory-whole, few-before, reached-next, reached-start, read-now, used-more, used-none}
+use Rattle.disk_layout.specs.Fault.{HoldsOfDirectory, TellsFault}
+use Rattle.disk_layout.specs.declared.faults.Fault.{Fault}
 use Rattle.disk_layout.proofs.directory.read_directory.Goals as goal
+
+pub returns-in_err-read_sector-clause-ok : goal.returns-in_err-read_sector-clause-ok
+returns-in_err-read_sector-clause-ok g c =
+    let p = err_from_is_err_and c.from_residual.result c.from_residual.ensures.1 in
+    rw p.1 tt
+
+pub returns-in_err-read_sector-clause-err : goal.returns-in_err-read_sector-clause-err
+returns-in_err-read_sector-clause-err g c =
+    let S = g.D.Sectors.history in
+    let p = err_from_is_err_and c.from_residual.result c.from_residual.ensures.1 in
+    let P : Fault → Type 0 = HoldsOfDirectory (S.failed_at c.read_sector.new.disk) (S.image c.args.disk.now) in
+    rw (p.1, p.2) (subst P (sym c.in_err-read_sector.ensures.told) c.in_err-read_sector.ensures.failed)
+
+pub returns-in_err-read_sector-clause-failures : goal.returns-in_err-read_sector-clause-failures
+returns-in_err-read_sector-clause-failures g c =
+    let S = g.D.Sectors.history in
+    let p = err_from_is_err_and c.from_residual.result c.from_residual.ensures.1 in
+    let P : Fault → Type 0 = λ f. TellsFault {T = Unit {0}} S c.args.disk.now c.read_sector.new.disk (Err f) in
+    rw (p.1, p.2) (subst P (sym c.in_err-read_sector.ensures.told) (failed_later S c.args.disk.now c.sectors.disk c.read_sector.new.disk c.sectors.invariant.failures c.in_err-read_sector.ensures.failures))
+
+pub add_used-requires : goal.add_used-requires
+add_used-requires g c = omega (arith, c.sectors.invariant.room, c.sectors.invariant.few)
+
+pub returns-then-sector-eq0-clause-failures : goal.returns-then-sector-eq0-clause-failures
+returns-then-sector-eq0-clause-failures g c = c.in_ok-read_sector.ensures.failures ∙ c.sectors.invariant.failures
+
+pub returns-in_default-clause-failures : goal.returns-in_default-clause-failures
+returns-in_default-clause-failures g c = c.in_ok-read_sector.ensures.failures ∙ c.sectors.invariant.failures
+
+pub returns-then-contains-clause-failures : goal.returns-then-contains-clause-failures
+returns-then-contains-clause-failures g c = c.in_ok-read_sector.ensures.failures ∙ c.sectors.invariant.failures
+
+pub returns-then-contains-clause-reads : goal.returns-then-contains-clause-reads
+returns-then-contains-clause-reads g c =
+    reads_then g.D.Sectors.history _ _ _ _ 1 18 (omega (arith, c.sectors.invariant.few)) c.sectors.invariant.reads c.read_sector.ensures.reads
 
 pub sectors-init : goal.sectors-init
 sectors-init g c = record {

@@ -9,8 +9,27 @@ use Rattle.layout_check.proofs.Finding.{on_ok}
 use Rattle.layout_check.proofs.MapMends.{device_later, device_told, write_device}
 use Rattle.layout_check.proofs.RightWrites.{mended-read, other_later, reads_moment, right_read, right_written, write_moment}
 use Rattle.layout_check.proofs.SideMends.{sound-device}
-use Rattle.layout_check.specs.Recounted.{AreRightIn}
+use Rattle.layout_check.specs.Recounted.{AreRightIn, IsInDirectory}
 use Rattle.layout_check.proofs.recounting.mend_sector.Goals as goal
+
+pub returns-in_err-read_sector-clause-right : goal.returns-in_err-read_sector-clause-right
+returns-in_err-read_sector-clause-right g c =
+    let p = err_from_is_err_and c.from_residual.result c.from_residual.ensures.1 in
+    rw p.1 tt
+
+pub recount_sector-requires-clause-sound : goal.recount_sector-requires-clause-sound
+recount_sector-requires-clause-sound g c = let P : Image → Type 0 = IsSound in subst P (sym c.read_sector.ensures.reads.image) c.requires.sound
+
+pub recount_sector-requires-clause-own : goal.recount_sector-requires-clause-own
+recount_sector-requires-clause-own g c = let P : Image → Type 0 = λ i. IsInDirectory i c.args.place in subst P (sym c.read_sector.ensures.reads.image) c.requires.own
+
+pub recount_sector-requires-clause-there : goal.recount_sector-requires-clause-there
+recount_sector-requires-clause-there g c = c.in_ok-read_sector.ensures.sector ∙ ap (λ (i : Image). sector i c.args.place) (sym c.read_sector.ensures.reads.image)
+
+pub returns-in_err-recount_sector-clause-right : goal.returns-in_err-recount_sector-clause-right
+returns-in_err-recount_sector-clause-right g c =
+    let p = err_from_is_err_and c.from_residual-in_err-recount_sector.result c.from_residual-in_err-recount_sector.ensures.1 in
+    rw p.1 tt
 
 pub returns-in_err-read_sector-clause-moments : goal.returns-in_err-read_sector-clause-moments
 returns-in_err-read_sector-clause-moments g c = reads_moment g.D.Sectors.history c.args.disk.now c.read_sector.new.disk 1 c.args.place c.read_sector.ensures.reads

@@ -1,10 +1,49 @@
 -- Slot by slot: the one that was made right, and those before and behind it.
-use Rattle.std.proofs.Common.{arith, ◌∙◌, ◌*◌, ◌+◌}
+use Rattle.std.proofs.Common.{ap, arith, subst, sym, ◌∙◌, ◌*◌, ◌+◌, ◌≡◌}
 use Rattle.std.proofs.lemmas.Result.{err_from_is_err_and}
-use Rattle.layout_check.proofs.Calls.{passes_then, tells_then}
+use Rattle.d64_image.specs.Images.{Image, Sector, sector}
+use Rattle.disk_layout.specs.Directory.{slot_in}
+use Rattle.disk_layout.specs.Layout.{IsSound}
+use Rattle.layout_check.proofs.Calls.{passes_then, passes_weaker, tells_then}
 use Rattle.layout_check.proofs.RightCounts.{counted-then}
 use Rattle.layout_check.proofs.RightSlots.{other-slot, right-next, right-there}
+use Rattle.layout_check.specs.Recounted.{IsInDirectory}
 use Rattle.layout_check.proofs.recounting.recount_sector.Goals as goal
+
+-- the disk is the same after the reads so far
+pub recount_slot-requires-clause-sound : goal.recount_slot-requires-clause-sound
+recount_slot-requires-clause-sound g c = let P : Image → Type 0 = IsSound in subst P (sym c.loop-number.invariant.passes.reads.image) c.requires.sound
+
+pub recount_slot-requires-clause-own : goal.recount_slot-requires-clause-own
+recount_slot-requires-clause-own g c = let P : Image → Type 0 = λ i. IsInDirectory i c.args.place in subst P (sym c.loop-number.invariant.passes.reads.image) c.requires.own
+
+pub recount_slot-requires-clause-there : goal.recount_slot-requires-clause-there
+recount_slot-requires-clause-there g c =
+    let old = c.loop-number.invariant in
+    let n = c.loop-number.number in
+    let S = g.D.Sectors.history in
+    let same : c.args.bytes.now ≡ sector (S.image c.loop-number.disk) c.args.place = c.requires.there ∙ ap (λ (i : Image). sector i c.args.place) (sym old.passes.reads.image) in
+    old.later n (omega arith) c.loop-number-test.true ∙ ap (λ (bytes : Sector). slot_in c.args.place bytes n) same
+
+pub returns-in_err-recount_slot-clause-counts : goal.returns-in_err-recount_slot-clause-counts
+returns-in_err-recount_slot-clause-counts g c =
+    let p = err_from_is_err_and c.from_residual.result c.from_residual.ensures.1 in
+    rw p.1 tt
+
+pub returns-in_err-recount_slot-clause-right : goal.returns-in_err-recount_slot-clause-right
+returns-in_err-recount_slot-clause-right g c =
+    let p = err_from_is_err_and c.from_residual.result c.from_residual.ensures.1 in
+    rw p.1 tt
+
+pub returns-in_err-recount_slot-clause-kept : goal.returns-in_err-recount_slot-clause-kept
+returns-in_err-recount_slot-clause-kept g c =
+    let p = err_from_is_err_and c.from_residual.result c.from_residual.ensures.1 in
+    rw p.1 tt
+
+pub returns-in_err-recount_slot-clause-ok : goal.returns-in_err-recount_slot-clause-ok
+returns-in_err-recount_slot-clause-ok g c =
+    let p = err_from_is_err_and c.from_residual.result c.from_residual.ensures.1 in
+    rw p.1 tt
 
 pub returns-in_err-recount_slot-clause-err : goal.returns-in_err-recount_slot-clause-err
 returns-in_err-recount_slot-clause-err g c =
@@ -19,6 +58,7 @@ loop-number-preserved g c =
     let n = c.loop-number.number in
     let eight = c.loop-number-test.true in
     record {
+      few = omega (arith, eight);
       passes = passes_then S c.args.disk.now c.loop-number.disk c.recount_slot.new.disk (732 * n) 732 (732 * (n + 1)) (omega arith) old.passes now.ok;
       counts = counted-then c.args.bytes.now c.loop-number.bytes c.recount_slot.new.bytes old.counts now.counts;
       later = λ k above low. other-slot c.args.place c.loop-number.bytes c.recount_slot.new.bytes n k now.rest low (λ e. omega (arith, e, above)) ∙ old.later k (omega (arith, above)) low;
@@ -28,3 +68,12 @@ loop-number-preserved g c =
 
 pub returns-clause-right : goal.returns-clause-right
 returns-clause-right g c n low = c.loop-number.invariant.right n (omega (arith, low, c.loop-number-test.false))
+
+pub returns-clause-counts : goal.returns-clause-counts
+returns-clause-counts g c = c.loop-number.invariant.counts
+
+pub returns-clause-kept : goal.returns-clause-kept
+returns-clause-kept g c = c.loop-number.invariant.kept
+
+pub returns-clause-ok : goal.returns-clause-ok
+returns-clause-ok g c = passes_weaker g.D.Sectors.history c.args.disk.now c.loop-number.disk (732 * c.loop-number.number) 5856 (omega (arith, c.loop-number.invariant.few)) c.loop-number.invariant.passes

@@ -9,6 +9,7 @@ abbrev pub invariant-loop-number : goal.invariant-loop-number
 invariant-loop-number g l =
     let S = g.D.Sectors.history in
     record {
+      few : l.number ≤ 8;
       passes : Passes S l.fn.disk l.disk (732 * l.number);
       counts : IsCountedAs l.fn.bytes l.bytes;
       later : (k : ℕ) → l.number ≤ k → k < 8 → slot_in l.place l.bytes k ≡ slot_in l.place l.fn.bytes k;

@@ -1,10 +1,58 @@
 -- The survey, then what is to be mended.
+use Rattle.std.proofs.Common.{refl, ◌∙◌}
+use Rattle.std.proofs.lemmas.Result.{err_from_is_err_and}
 use Rattle.d64_image.proofs.Moments.{no_write_then, reads_no_write}
 use Rattle.disk_layout.proofs.Orders.{over_none}
 use Rattle.layout_check.specs.RepairOrder.{IsRight, repair_order}
 use Rattle.layout_check.proofs.RepairOrder.{order_after, spare_after}
-use Rattle.layout_check.proofs.RepairRuns.{clean_after, mends_after}
+use Rattle.layout_check.proofs.RepairRuns.{clean_after, device_holds, device_sound, device_tells, mends_after, mends_none, repaired_after, told_after}
+use Rattle.layout_check.specs.declared.outcome.Survey.{Survey}
 use Rattle.layout_check.proofs.repairing.repair.Goals as goal
+
+pub returns-in_err-found-clause-err : goal.returns-in_err-found-clause-err
+returns-in_err-found-clause-err g c =
+    let p = err_from_is_err_and c.from_residual.result c.from_residual.ensures.1 in
+    rw (p.1, p.2) c.in_err-found.ensures.err
+
+pub returns-in_err-found-clause-moments : goal.returns-in_err-found-clause-moments
+returns-in_err-found-clause-moments g c = mends_none g.D.Sectors.history _ _ 2114 c.survey.ensures.reads
+
+pub returns-in_err-found-clause-unsound : goal.returns-in_err-found-clause-unsound
+returns-in_err-found-clause-unsound g c not_sound = c.survey.ensures.reads
+
+pub mend-requires : goal.mend-requires
+mend-requires g c = told_after g.D.Sectors.history _ _ _ 2114 c.survey.ensures.reads (let h = c.in_ok-found.ensures.ok in (h.0, h.1, h.2))
+
+-- a failure while it is mended
+pub returns-in_err-mend-clause-err : goal.returns-in_err-mend-clause-err
+returns-in_err-mend-clause-err g c =
+    let p = err_from_is_err_and c.from_residual-in_err-mend.result c.from_residual-in_err-mend.ensures.1 in
+    rw (p.1, p.2) (device_holds g.D.Sectors.history _ _ _ _ c.in_err-mend.ensures.failures)
+
+pub returns-in_err-mend-clause-sound : goal.returns-in_err-mend-clause-sound
+returns-in_err-mend-clause-sound g c never =
+    absurd (device_sound g.D.Sectors.history _ _ _ _ c.in_ok-found.ensures.failures c.in_err-mend.ensures.failures never)
+
+pub returns-in_err-mend-clause-spare : goal.returns-in_err-mend-clause-spare
+returns-in_err-mend-clause-spare g c = spare_after g.D.Sectors.history _ _ _ 2114 c.survey.ensures.reads c.mend.ensures.spare
+
+pub returns-in_err-mend-clause-unsound : goal.returns-in_err-mend-clause-unsound
+returns-in_err-mend-clause-unsound g c not_sound = let l = c.in_ok-found.ensures.ok in absurd (not_sound (l.0, l.1))
+
+pub returns-in_err-mend-clause-failures : goal.returns-in_err-mend-clause-failures
+returns-in_err-mend-clause-failures g c =
+    let p = err_from_is_err_and c.from_residual-in_err-mend.result c.from_residual-in_err-mend.ensures.1 in
+    rw (p.1, p.2) (device_tells g.D.Sectors.history Survey _ _ _ _ c.in_ok-found.ensures.failures c.in_err-mend.ensures.failures)
+
+-- mended
+pub returns-clause-ok : goal.returns-clause-ok
+returns-clause-ok g c = repaired_after g.D.Sectors.history _ _ _ _ 2114 c.survey.ensures.reads c.in_ok-mend.ensures.clean
+
+pub returns-clause-sound : goal.returns-clause-sound
+returns-clause-sound g c never = let l = c.in_ok-found.ensures.ok in (λ _. (l.0, l.1), λ _. refl)
+
+pub returns-clause-failures : goal.returns-clause-failures
+returns-clause-failures g c = c.in_ok-mend.ensures.failures ∙ c.in_ok-found.ensures.failures
 
 pub returns-in_err-found-clause-quiet : goal.returns-in_err-found-clause-quiet
 returns-in_err-found-clause-quiet g c clean = reads_no_write g.D.Sectors.history _ _ 2114 c.survey.ensures.reads

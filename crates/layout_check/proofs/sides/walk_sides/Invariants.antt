@@ -1,12 +1,12 @@
-use Rattle.std.proofs.Common.{◌≡◌, ◌≤◌, ◌+◌, length}
+use Rattle.std.proofs.Common.{◌≡◌, ◌<◌, length}
 use Rattle.disk_layout.specs.Chain.{Leads}
 use Rattle.layout_check.specs.Calls.{Passes}
 use Rattle.layout_check.proofs.sides.walk_sides.Given as goal
 
 abbrev pub invariant-loop-number : goal.invariant-loop-number
 invariant-loop-number g l = record {
-  passes : Passes g.D.Sectors.history l.fn.disk l.disk (length l.sides.items);
+  passes : Passes g.D.Sectors.history l.fn.disk l.disk l.number;
+  below : l.number < l.needed;
   leads : Leads (g.D.Sectors.history.image l.fn.disk) l.initial.at l.sides.items l.at;
-  count : length l.sides.items + 1 ≡ l._number;
-  below : l._number ≤ l.needed;
+  count : length l.sides.items ≡ l.number;
 }
