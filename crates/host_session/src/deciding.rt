@@ -12,6 +12,7 @@ use request_cards::{
 };
 
 /// How a request stands by the tills' cards, on a disk with so many tills.
+#[inline(always)]
 pub(crate) fn standing_by(
     requests: &[Option<RequestCard>; 64],
     tills: u8,

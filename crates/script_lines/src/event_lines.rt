@@ -35,6 +35,8 @@ fn first_field(counts: &[u8]) -> (&[u8], Option<&[u8]>)
 }
 
 /// The event of a line with a reset, whose bytes after its `@` these are. None where the line is bad.
+// Out of line, so that a line without a reset, as most are, is only looked at.
+#[inline(never)]
 fn reset_at(bytes: &[u8]) -> Option<Event<'_>>
     ensures { option_map line_in result ≡ reset_of bytes.now }
 {
@@ -58,6 +60,7 @@ fn reset_at(bytes: &[u8]) -> Option<Event<'_>>
 
 /// The event of a line, as `next_line` gives it. None where the line is bad: where it begins with `@` and hasn't the
 /// form of a reset, with numbers up to 99999 without leading zeros.
+#[inline]
 pub fn event_at(line: &[u8]) -> Option<Event<'_>>
     ensures { option_map line_in result ≡ line_of line.now }
 {
