@@ -1,43 +1,56 @@
 -- Files that are found by their names.
-use Rattle.std.proofs.Common.{ℕ, ◌≡◌, ◌≢◌, Bool, true, false, List, Option, None, Some, IfSome, MatchOption, IsTrue, ◌↔◌, sym, ◌∙◌, ap, subst, refl, slice_get, slice_range}
-use Rattle.std.proofs.lemmas.Option.{same_Some}
+use Rattle.std.proofs.Common.{ℕ, zero, suc, ◌≡◌, ◌≢◌, Bool, true, false, List, [], ◌∷◌, ◌++◌, Option, None, Some, IfSome, MatchOption, IsTrue, ◌↔◌, sym, ◌∙◌, ap, ap₂, subst, refl, drop, get_or, replicate, slice_get, slice_range}
+use Rattle.std.proofs.lemmas.Option.{none-some, same_Some}
+use Rattle.std.specs.List.{AllByRecursion}
 use Rattle.d64_image.specs.Images.{Image}
 use Rattle.disk_layout.proofs.Layouts.{IsLayout-one}
 use Rattle.disk_layout.specs.Layout.{File, Layout}
-use Rattle.disk_layout.specs.Rest.{IsFirst, slot_name}
+use Rattle.disk_layout.specs.Rest.{IsFirst}
 use Rattle.rel_records.specs.File.{IsFileOf, entry_of}
 use Rattle.rel_records.specs.declared.rel_file.RelFile.{RelFile}
 use Rattle.drive_channels.specs.Files.{HasFile, IsNamedFile}
-use Rattle.drive_channels.specs.Inside.{HasLooked, IsFound, IsKnown, Remembers, channel_of, closed_with, found_in}
+use Rattle.drive_channels.specs.Inside.{HasLooked, IsFound, IsKnown, Remembers, channel_in, channel_of, found_in}
+use Rattle.drive_channels.specs.Spelling.{IsName, is_name_byte}
 use Rattle.drive_channels.specs.declared.found.Found.{Found}
 use Rattle.drive_channels.specs.declared.found.Opened.{Opened}
+use Rattle.drive_channels.specs.declared.found.Spot.{Spot}
 use Rattle.drive_channels.specs.declared.known.Known.{Known}
 
--- a name counts as a slot holds it
-pub first-padded : (l : Layout) (a b : List ℕ) (n : ℕ) (f : File) → slot_name a ≡ slot_name b → IsFirst l a n f → IsFirst l b n f
-first-padded l a b n f same h = record {
-  file = h.file;
-  named = (h.named.0, h.named.1 ∙ same);
-  first = λ k g lt at named. h.first k g lt at (named.0, named.1 ∙ sym same);
-}
+-- a name that a slot holds ends where its padding begins
+first-pad : (n y : ℕ) (ys : List ℕ) → replicate n 160 ≡ y ∷ ys → y ≡ 160
+first-pad zero y ys e = cc
+first-pad (suc n) y ys e = sym (ap (λ (xs : List ℕ). get_or xs 0 0) e)
+
+no-pad : (y : ℕ) → IsTrue (is_name_byte y) → y ≡ 160 → ⊥
+no-pad y named is = other (subst (λ (b : ℕ). IsTrue (is_name_byte b)) is named)
+  where
+    other : IsTrue (is_name_byte 160) → ⊥
+    other h = cc
+
+one-name : (a b : List ℕ) (m n : ℕ) → AllByRecursion (λ b. IsTrue (is_name_byte b)) a → AllByRecursion (λ b. IsTrue (is_name_byte b)) b
+    → a ++ replicate m 160 ≡ b ++ replicate n 160 → a ≡ b
+one-name [] [] m n x y e = refl
+one-name [] (c ∷ b) m n x y e = absurd (no-pad c y.0 (first-pad m c (b ++ replicate n 160) e))
+one-name (c ∷ a) [] m n x y e = absurd (no-pad c x.0 (first-pad n c (a ++ replicate m 160) (sym e)))
+one-name (c ∷ a) (d ∷ b) m n x y e = ap₂ (λ (z : ℕ) (zs : List ℕ). z ∷ zs) (ap (λ (xs : List ℕ). get_or xs 0 0) e) (one-name a b m n x.1 y.1 (ap (drop 1) e))
 
 -- the file that is found is the first of its name
-pub found-named : (img : Image) (e : Found) (name : List ℕ) (h : IsFound img e) → e.name ≡ slot_name name → IsNamedFile img name (entry_of e.file) h.file
-found-named img e name h is = (h.layout, h.of.layout, first-padded h.layout h.name name (entry_of e.file) h.file (h.padded ∙ is) h.first)
+pub found-named : (img : Image) (e : Found) (name : List ℕ) (h : IsFound img e) → e.name.items ≡ name → IsNamedFile img name (entry_of e.file) h.file
+found-named img e name h is = (h.layout, h.of.layout, subst (λ (name : List ℕ). IsFirst h.layout name (entry_of e.file) h.file) is h.first)
 
-pub found-file : (img : Image) (e : Found) (name : List ℕ) → IsFound img e → e.name ≡ slot_name name → HasFile img name
+pub found-file : (img : Image) (e : Found) (name : List ℕ) → IsFound img e → e.name.items ≡ name → HasFile img name
 found-file img e name h is = (entry_of e.file, h.file, found-named img e name h is)
 
 -- two files of different names are different files
-pub apart-names : (img : Image) (a b : Found) → IsFound img a → IsFound img b → a.name ≢ b.name → entry_of a.file ≢ entry_of b.file
+pub apart-names : (img : Image) (a b : Found) → IsFound img a → IsFound img b → a.name.items ≢ b.name.items → entry_of a.file ≢ entry_of b.file
 apart-names img a b x y other same =
     let l : x.layout ≡ y.layout = IsLayout-one img x.layout y.layout x.of.layout y.of.layout in
     let at : slice_get y.layout.files (entry_of b.file) ≡ Some x.file = sym (ap (slice_get y.layout.files) same) ∙ sym (ap (λ (l : Layout). slice_get l.files (entry_of a.file)) l) ∙ x.of.there in
     let f : x.file ≡ y.file = same_Some _ _ (sym at ∙ y.of.there) in
-    other (sym x.padded ∙ sym x.first.named.1 ∙ ap (λ (f : File). slice_range f.slot.bytes 5 21) f ∙ y.first.named.1 ∙ y.padded)
+    other (one-name a.name.items b.name.items _ _ x.named.bytes y.named.bytes (sym x.first.named.1 ∙ ap (λ (f : File). slice_range f.slot.bytes 5 21) f ∙ y.first.named.1))
 
 -- what is known once this file is the one opened last, with no channel, and the one opened last until now is the one before
-pub known-put : (img : Image) (k new : Known) (e : Found) → IsKnown img k → k.checked ≡ true → IsFound img e → IfSome k.last (λ o. o.found.name ≢ e.name)
+pub known-put : (img : Image) (k new : Known) (e : Found) → IsKnown img k → k.checked ≡ true → IsFound img e → IfSome k.last (λ o. o.found.name.items ≢ e.name.items)
     → new.last ≡ Some (record { found = e; spot = None }) → new.before ≡ found_in k.last → new.checked ≡ k.checked → IsKnown img new
 known-put img k new e known checked found other last before same =
     subst (IsKnown img) (sym whole) (record { fresh = λ no. absurd (both no); remembered = λ _. memory })
@@ -60,7 +73,7 @@ known-put img k new e known checked found other last before same =
     kept None h = tt
     kept (Some o) h = h
 
-    apart : (last : Option Opened) → IfSome last (λ o. IsFound img o.found) → IfSome last (λ o. o.found.name ≢ e.name) → IfSome (found_in last) (λ b. entry_of b.file ≢ entry_of e.file)
+    apart : (last : Option Opened) → IfSome last (λ o. IsFound img o.found) → IfSome last (λ o. o.found.name.items ≢ e.name.items) → IfSome (found_in last) (λ b. entry_of b.file ≢ entry_of e.file)
     apart None h ne = tt
     apart (Some o) h ne = apart-names img o.found e h found ne
 
@@ -68,20 +81,19 @@ known-put img k new e known checked found other last before same =
     memory = record { clean = old.clean; last_found = found; spot = tt; before_found = kept k.last old.last_found; apart = apart k.last old.last_found other }
 
 -- a file under the name by which it was found
-pub found-new : (img : Image) (e : Found) (v : RelFile) (name : List ℕ) (l : Layout) (f : File) → e.file ≡ v → e.name ≡ slot_name name
+pub found-new : (img : Image) (e : Found) (v : RelFile) (name : List ℕ) (l : Layout) (f : File) → e.file ≡ v → e.name.items ≡ name → IsName name
     → IsFirst l name (entry_of v) f → IsFileOf img l (entry_of v) f v → IsFound img e
-found-new img e v name l f file is first of = record {
+found-new img e v name l f file is named first of = record {
   layout = l;
   file = f;
   of = subst (λ (x : RelFile). IsFileOf img l (entry_of x) f x) (sym file) of;
-  name = name;
-  padded = sym is;
-  first = subst (λ (x : RelFile). IsFirst l name (entry_of x) f) (sym file) first;
+  named = subst IsName (sym is) named;
+  first = subst (λ (x : RelFile). IsFirst l e.name.items (entry_of x) f) (sym file) (subst (λ (name : List ℕ). IsFirst l name (entry_of v) f) (sym is) first);
 }
 
 -- the file of a name is the one opened last now
-pub looked-put : (img : Image) (k new : Known) (e : Found) (name : List ℕ) → IsKnown img k → k.checked ≡ true → IsFound img e → e.name ≡ slot_name name
-    → IfSome k.last (λ o. o.found.name ≢ e.name) → new.last ≡ Some (record { found = e; spot = None }) → new.before ≡ found_in k.last → new.checked ≡ k.checked
+pub looked-put : (img : Image) (k new : Known) (e : Found) (name : List ℕ) → IsKnown img k → k.checked ≡ true → IsFound img e → e.name.items ≡ name
+    → IfSome k.last (λ o. o.found.name.items ≢ e.name.items) → new.last ≡ Some (record { found = e; spot = None }) → new.before ≡ found_in k.last → new.checked ≡ k.checked
     → HasLooked img name new true
 looked-put img k new e name known checked found is other last before same = record {
   known = known-put img k new e known checked found other last before same;
@@ -94,51 +106,71 @@ looked-put img k new e name known checked found is other last before same = reco
     differ : true ≡ false → ⊥
     differ h = cc
 
--- it was the one opened last
-pub looked-last : (img : Image) (k : Known) (padded name : List ℕ) (b : Bool) → MatchOption k.last (b ≡ false) (λ o. IsTrue b ↔ (o.found.name ≡ padded)) → b ≡ true
-    → padded ≡ slot_name name → IsKnown img k → k.checked ≡ true → channel_of k.last ≡ None → HasLooked img name k true
-looked-last img k padded name b told is same known checked closed = record {
-  known = known;
-  checked = checked;
-  closed = closed;
-  found = λ _. by k.last refl told;
-  missing = λ no. absurd (differ no);
-}
+-- a file is remembered only once a check has passed
+last-checked : (img : Image) (k : Known) (o : Opened) → IsKnown img k → k.last ≡ Some o → k.checked ≡ true
+last-checked img k o known is = by k.checked refl
   where
-    differ : true ≡ false → ⊥
-    differ h = cc
+    by : (b : Bool) → k.checked ≡ b → k.checked ≡ true
+    by true checked = checked
+    by false checked = absurd (none-some o (sym (known.fresh checked).0 ∙ is))
 
+-- it is the one opened last
+pub looked-last : (img : Image) (k : Known) (name : List ℕ) (b : Bool) → MatchOption k.last (b ≡ false) (λ o. IsTrue b ↔ (o.found.name.items ≡ name)) → b ≡ true
+    → channel_of k.last ≡ None → IsKnown img k → HasLooked img name k true
+looked-last img k name b told yes-named closed known = by k.last refl told
+  where
     both : b ≡ false → ⊥
     both h = cc
 
-    by : (last : Option Opened) → k.last ≡ last → MatchOption last (b ≡ false) (λ o. IsTrue b ↔ (o.found.name ≡ padded)) → (o : Opened) × (k.last ≡ Some o) × (o.found.name ≡ slot_name name)
-    by None at told = absurd (both told)
-    by (Some o) at told = (o, at, told.0 is ∙ same)
+    differ : true ≡ false → ⊥
+    differ h = cc
 
--- it wasn't
-pub not-last : (last : Option Opened) (padded : List ℕ) (b : Bool) → MatchOption last (b ≡ false) (λ o. IsTrue b ↔ (o.found.name ≡ padded)) → b ≡ false → IfSome last (λ o. o.found.name ≢ padded)
-not-last None padded b told off = tt
-not-last (Some o) padded b told off = λ same. both (told.1 same)
+    by : (last : Option Opened) → k.last ≡ last → MatchOption last (b ≡ false) (λ o. IsTrue b ↔ (o.found.name.items ≡ name)) → HasLooked img name k true
+    by None is told = absurd (both told)
+    by (Some o) is told = record {
+      known = known;
+      checked = last-checked img k o known is;
+      closed = closed;
+      found = λ _. (o, is, told.0 yes-named);
+      missing = λ no. absurd (differ no);
+    }
+
+-- it isn't
+pub not-last : (last : Option Opened) (name : List ℕ) (b : Bool) → MatchOption last (b ≡ false) (λ o. IsTrue b ↔ (o.found.name.items ≡ name)) → b ≡ false
+    → IfSome last (λ o. o.found.name.items ≢ name)
+not-last None name b told off = tt
+not-last (Some o) name b told off = λ same. both (told.1 same)
   where
     both : b ≡ true → ⊥
     both is = cc
 
--- it was the one before
-pub looked-before : (img : Image) (k new : Known) (padded name : List ℕ) (b : Bool) → MatchOption k.before (b ≡ false) (λ e. IsTrue b ↔ (e.name ≡ padded)) → b ≡ true
-    → padded ≡ slot_name name → IsKnown img k → k.checked ≡ true → IfSome k.last (λ o. o.found.name ≢ padded)
-    → new.last ≡ closed_with k.before → new.before ≡ found_in k.last → new.checked ≡ k.checked → HasLooked img name new true
-looked-before img k new padded name b told is same known checked other last before still = by k.before refl told
+-- it is the one before, and the two change places
+pub looked-before : (img : Image) (k new : Known) (o : Opened) (e x y : Found) (name : List ℕ) → IsKnown img k → k.last ≡ Some o → k.before ≡ Some e → channel_of k.last ≡ None
+    → IfSome k.last (λ o. o.found.name.items ≢ name) → e.name.items ≡ name → x ≡ e → y ≡ o.found
+    → new.last ≡ Some (record { found = x; spot = o.spot }) → new.before ≡ Some y → new.checked ≡ k.checked → HasLooked img name new true
+looked-before img k new o e x y name known is before closed other named here there last was same =
+    looked-put img k new e name known checked found named
+    (subst (λ (name : List ℕ). IfSome k.last (λ o. o.found.name.items ≢ name)) (sym named) other)
+    (last ∙ ap₂ (λ (x : Found) (s : Option Spot). Some (record { found = x; spot = s })) here (shut (entry_of o.found.file) o.spot (sym (ap channel_of is) ∙ closed)))
+    (was ∙ ap (λ (y : Found). Some y) there ∙ sym (ap found_in is)) same
   where
-    both : b ≡ false → ⊥
-    both h = cc
+    checked : k.checked ≡ true
+    checked = last-checked img k o known is
 
-    by : (o : Option Found) → k.before ≡ o → MatchOption o (b ≡ false) (λ e. IsTrue b ↔ (e.name ≡ padded)) → HasLooked img name new true
-    by None at told = absurd (both told)
-    by (Some e) at told =
-        let found : IsFound img e = subst (λ (o : Option Found). IfSome o (IsFound img)) at (known.remembered checked).before_found in
-        let named : e.name ≡ padded = told.0 is in
-        looked-put img k new e name known checked found (named ∙ same) (subst (λ (name : List ℕ). IfSome k.last (λ o. o.found.name ≢ name)) (sym named) other)
-        (last ∙ ap closed_with at) before still
+    found : IsFound img e
+    found = subst (λ (o : Option Found). IfSome o (IsFound img)) before (known.remembered checked).before_found
+
+    shut : (entry : ℕ) (s : Option Spot) → channel_in entry s ≡ None → s ≡ None
+    shut entry None h = refl
+    shut entry (Some s) h = absurd (none-some _ (sym h))
+
+-- there is none, and what is remembered is as it was
+pub looked-none : (img : Image) (k new : Known) (name : List ℕ) → IsKnown img k → k.checked ≡ true → channel_of k.last ≡ None → new ≡ k → ¬ (HasFile img name) → HasLooked img name new false
+looked-none img k new name known checked closed same missing = subst (λ (k : Known). HasLooked img name k false) (sym same)
+    (record { known = known; checked = checked; closed = closed; found = λ is. absurd (differ is); missing = λ _. missing })
+  where
+    differ : false ≡ true → ⊥
+    differ h = cc
 
 -- what is told of a found file
 pub of-some : {A : Type 0} (N : Type 0) (P : A → Type 0) (o : Option A) (x : A) → o ≡ Some x → MatchOption o N P → P x

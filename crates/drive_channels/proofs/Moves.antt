@@ -1,5 +1,5 @@
 -- The rows of P.
-use Rattle.std.proofs.Common.{ℕ, ◌≡◌, ◌≤◌, ◌<◌, ◌⊎◌, inl, inr, Bool, true, false, ap, if◌then◌else◌, List, length, nat_lt, Option, Some, sym, ◌∙◌, ap₂, subst, refl, arith}
+use Rattle.std.proofs.Common.{ℕ, ◌≡◌, ◌≤◌, ◌<◌, ◌⊎◌, inl, inr, Bool, true, false, ap, if◌then◌else◌, List, length, nat_lt, Option, Some, sym, ◌∙◌, subst, refl, arith}
 use Rattle.d64_image.specs.Images.{Image}
 use Rattle.rel_records.specs.File.{entry_of, length_of, records_in}
 use Rattle.rel_records.specs.Growth.{blocks_for}
@@ -30,19 +30,19 @@ module _ (img : Image) (e : Found) (s w : Spot) (status : Status) (b : Bool) (fo
   ))
 
   -- the place is taken
-  pub placed-row : w.position ≤ length_of e.file → blocks_for (length_of e.file) w.record_number ≤ 720 → w.channel ≡ s.channel
+  pub placed-row : w.position ≤ length_of e.file → blocks_for (length_of e.file) w.record_number ≤ 720
       → (told : Status) → told ≡ (if nat_lt (records_in e.file) w.record_number then statuses.RecordNotPresent else statuses.Ok)
-      → InFile (at_spot img e s status b) (MovesTo (at_spot img e s status b) w.record_number w.position (at_spot img e w told b))
-  placed-row within few same told is = in-file img e s status b _ found (λ l f of. inr (
+      → InFile (at_spot img e s status b) (MovesTo (at_spot img e s status b) w.record_number w.position (at_spot img e (record s { record_number = w.record_number; position = w.position }) told b))
+  placed-row within few told is = in-file img e s status b _ found (λ l f of. inr (
     (λ past. absurd (omega (arith, of.shows.size, within, past))),
     inr (
       (λ large. absurd (omega (arith, subst (λ (L : ℕ). blocks_for L w.record_number ≤ 720) of.shows.size few, large))),
-      ap₂ (λ (n : ℕ) (told : Status). record {
+      ap (λ (told : Status). record {
         image = img;
-        channel = Some (record { number = n; entry = entry_of e.file; record_number = w.record_number; position = w.position });
+        channel = Some (record { number = s.channel; entry = entry_of e.file; record_number = w.record_number; position = w.position });
         status = told;
         checked = b;
-      }) same
+      })
           (subst (λ (n : ℕ). told ≡ (if nat_lt n w.record_number then statuses.RecordNotPresent else statuses.Ok)) (had-is f e.file of.shows) is),
     ),
   ))

@@ -1,5 +1,5 @@
 -- An opening as a whole: the check, the look for the file, its creation.
-use Rattle.std.proofs.Common.{ℕ, ◌≡◌, ◌≢◌, ◌≤◌, ◌<◌, ◌⊎◌, inl, inr, Bool, true, false, MatchOption, List, Option, None, Some, IfOk, IsSome, Result, Ok, Err, OnOk, sym, ◌∙◌, ap₂, subst, refl, arith}
+use Rattle.std.proofs.Common.{ℕ, ◌≡◌, ◌≢◌, ◌≤◌, ◌<◌, ◌⊎◌, inl, inr, Bool, true, false, MatchOption, List, Option, None, Some, IfOk, IsSome, Result, Ok, Err, OnOk, sym, ◌∙◌, ap, ap₂, subst, refl, arith}
 use Rattle.std.proofs.lemmas.Option.{none-some}
 use Rattle.d64_image.proofs.Moments.{changes_then, changes_weaker, reads_change, reads_then, reads_weaker}
 use Rattle.d64_image.specs.History.{Changes, History, OnlyReads}
@@ -8,9 +8,11 @@ use Rattle.disk_layout.specs.Clean.{IsClean}
 use Rattle.disk_layout.specs.Layout.{IsLayout, Layout}
 use Rattle.rel_records.specs.Made.{IsCreating, creation_writes}
 use Rattle.drive_channels.specs.Files.{HasFile}
-use Rattle.drive_channels.specs.Inside.{channel_of, shown}
+use Rattle.drive_channels.proofs.Steady.{found-last}
+use Rattle.drive_channels.proofs.Wishes.{wish-one}
+use Rattle.drive_channels.specs.Inside.{HasLooked, channel_of, shown}
 use Rattle.drive_channels.specs.Moments.{IsCreatingFor, IsCreatingFrom, IsOpenedBy, IsOpenedFor}
-use Rattle.drive_channels.specs.Spelling.{IsWish, Wish}
+use Rattle.drive_channels.specs.Spelling.{IsName, IsWish, Wish}
 use Rattle.drive_channels.specs.State.{Channel, View}
 use Rattle.drive_channels.specs.Tables.{Opens, OpensFile, Tells, when◌then◌otherwise◌}
 use Rattle.drive_channels.specs.declared.found.Opened.{Opened}
@@ -122,3 +124,20 @@ pub checked-shown : (img img' : Image) (k k' : Known) (s : Status) → img' ≡ 
 checked-shown img img' k k' s same last checked =
     subst (λ (i : Image). shown i k' s ≡ record (shown img k s) { checked = true }) (sym same)
     (ap₂ (λ (o : Option Opened) (b : Bool). record { image = img; channel = channel_of o; status = s; checked = b }) last checked)
+
+-- the name of a file that is remembered is opened without a look at the disk
+pub recalled : (img : Image) (k k' : Known) (number : ℕ) (text : List ℕ) (s : Status) (y : View) → 2 ≤ number → number ≤ 14 → channel_of k.last ≡ None → k'.checked ≡ k.checked
+    → HasLooked img text k' true → OpensFile (shown img k' s) number (record { name = text; length = None }) y → Opens (shown img k s) number text y
+recalled img k k' number text s y low high closed same looked row = past (shown img k s) number text y asked low high closed is (inr (
+  (λ h. h.1 (looked.known.remembered looked.checked).clean),
+  (λ w v. subst (λ (w : Wish). OpensFile (record (shown img k s) { checked = true }) number w y) (wish-one text asked w is v)
+      (subst (λ (x : View). OpensFile x number asked y)
+      (ap (λ (c : Option Channel). record { image = img; channel = c; status = s; checked = true }) (looked.closed ∙ sym closed))
+      (subst (λ (b : Bool). OpensFile (record { image = img; channel = channel_of k'.last; status = s; checked = b }) number asked y) looked.checked row))),
+))
+  where
+    asked : Wish
+    asked = record { name = text; length = None }
+
+    is : IsWish text asked
+    is = let f = looked.found refl in (subst IsName f.2 (found-last img k' f.0 looked.known f.1).named, refl)

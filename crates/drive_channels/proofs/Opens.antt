@@ -5,7 +5,7 @@ use Rattle.d64_image.specs.Images.{Image}
 use Rattle.disk_layout.proofs.Layouts.{IsLayout-one}
 use Rattle.disk_layout.proofs.Uniques.{IsFirst-one}
 use Rattle.disk_layout.specs.Layout.{File, IsLayout, Layout, record_length}
-use Rattle.disk_layout.specs.Rest.{IsFirst, slot_name}
+use Rattle.disk_layout.specs.Rest.{IsFirst}
 use Rattle.rel_records.specs.File.{entry_of, length_of}
 use Rattle.rel_records.specs.Made.{IsMade, IsTakenName}
 use Rattle.rel_records.specs.declared.rel_file.RelFile.{RelFile}
@@ -14,6 +14,7 @@ use Rattle.drive_channels.proofs.Made.{first-made}
 use Rattle.drive_channels.proofs.Steady.{found-last}
 use Rattle.drive_channels.specs.Files.{HasEntry, HasFile, HasOther, IsNamedFile, IsNoRoom, Makes}
 use Rattle.drive_channels.specs.Inside.{HasLooked, IsFound, IsKnown, IsSpot, channel_at, channel_of, first_spot, shown}
+use Rattle.drive_channels.specs.Spelling.{IsName}
 use Rattle.drive_channels.specs.State.{Channel}
 use Rattle.drive_channels.specs.Tables.{OpensFile}
 use Rattle.drive_channels.specs.declared.found.Found.{Found}
@@ -34,7 +35,7 @@ no-other : (img : Image) (name : List ℕ) (length : Option ℕ) (entry : ℕ) (
 no-other img name None entry f named same other = absurd other
 no-other img name (Some l) entry f named same other = other.3 (one-length img name other.0 entry other.1 f other.2 named ∙ same)
 
-module _ (img : Image) (k : Known) (o : Opened) (name : List ℕ) (known : IsKnown img k) (last : k.last ≡ Some o) (is : o.found.name ≡ slot_name name) where
+module _ (img : Image) (k : Known) (o : Opened) (name : List ℕ) (known : IsKnown img k) (last : k.last ≡ Some o) (is : o.found.name.items ≡ name) where
   found : IsFound img o.found
   found = found-last img k o known last
 
@@ -144,9 +145,9 @@ module _ (img : Image) (k : Known) (name : List ℕ) (missing : ¬ (HasFile img 
   )
 
 -- the file that is opened last is the one that was looked for
-pub looked-name : (img : Image) (name : List ℕ) (k : Known) (o : Opened) → HasLooked img name k true → k.last ≡ Some o → o.found.name ≡ slot_name name
+pub looked-name : (img : Image) (name : List ℕ) (k : Known) (o : Opened) → HasLooked img name k true → k.last ≡ Some o → o.found.name.items ≡ name
 looked-name img name k o looked last =
-    let f = looked.found refl in subst (λ (x : Opened). x.found.name ≡ slot_name name) (same_Some _ _ (sym f.1 ∙ last)) f.2
+    let f = looked.found refl in subst (λ (x : Opened). x.found.name.items ≡ name) (same_Some _ _ (sym f.1 ∙ last)) f.2
 
 -- what a creation that is done leaves
 pub makes-of : (old new : Image) (l : Layout) (name : List ℕ) (L : ℕ) (v : RelFile) → IsLayout old l → IsMade old l name L new v → Makes old new name L (entry_of v)
@@ -158,16 +159,16 @@ makes-of old new l name L v layout made = record {
 }
 
 -- and what is known after it
-pub known-made : (old new : Image) (l : Layout) (name : List ℕ) (L : ℕ) (v : RelFile) (e : Found) (s : Spot) (number : ℕ) → IsMade old l name L new v → ¬ (IsTakenName l name) → e.file ≡ v → e.name ≡ slot_name name
+pub known-made : (old new : Image) (l : Layout) (name : List ℕ) (L : ℕ) (v : RelFile) (e : Found) (s : Spot) (number : ℕ) → IsMade old l name L new v → ¬ (IsTakenName l name) → e.file ≡ v → e.name.items ≡ name → IsName name
     → s ≡ first_spot number → 2 ≤ number → number ≤ 14 → (checked : Bool) → checked ≡ true
     → IsKnown new (record { last = Some (record { found = e; spot = Some s }); before = None; checked = checked })
-known-made old new l name L v e s number made free file named is low high checked yes-checked = record {
+known-made old new l name L v e s number made free file is named at low high checked yes-checked = record {
   fresh = λ off. absurd (both off);
   remembered = λ _. record {
     clean = (made.more.layout, made.more.clean);
-    last_found = found-new new e v name made.more.layout made.more.file file named
+    last_found = found-new new e v name made.more.layout made.more.file file is named
         (first-made old new l made.more.layout name made.more.file made.more.adds free (entry_of v) made.of.there made.more.named) made.of;
-    spot = subst (IsSpot e) (sym is) (record { low = low; high = high; record_from = omega arith; up_to = omega arith; from = omega arith; within = e.file.size_low });
+    spot = subst (IsSpot e) (sym at) (record { low = low; high = high; record_from = omega arith; up_to = omega arith; from = omega arith; within = e.file.size_low });
     before_found = tt;
     apart = tt;
   };

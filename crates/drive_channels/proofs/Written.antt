@@ -1,5 +1,5 @@
 -- A write to the channel of a number, and what is known of the files behind it.
-use Rattle.std.proofs.Common.{ℕ, ◌≡◌, ◌≢◌, inl, inr, List, [], ◌∷◌, append-nil, arith, Option, None, Some, IfSome, Result, OnErr, Ok, Err, sym, ◌∙◌, subst, refl}
+use Rattle.std.proofs.Common.{ℕ, ◌≡◌, ◌≢◌, inl, inr, List, [], ◌∷◌, append-nil, arith, Option, None, Some, IfSome, Result, OnOk, Ok, Err, sym, ◌∙◌, subst, refl}
 use Rattle.std.proofs.lemmas.Option.{same_Some, none-some}
 use Rattle.d64_image.proofs.Moments.{changes_weaker, no_change}
 use Rattle.d64_image.specs.History.{Changes, History}
@@ -43,19 +43,10 @@ module _ {D T E : Type 0} (S : History D) (number : ℕ) (text : List ℕ) (resu
   pub not-written : (d : D) (open_one : Option Channel) → ¬ (HasOn open_one number) → IsWrittenOn S d d open_one number text result
   not-written d open_one closed = record { silent = λ _. refl; at = λ c l f on rel. absurd (closed (c, on)) }
 
--- a write that is done has counted what it may
-pub ok-at : {D T V E : Type 0} (S : History D) (old new : D) (c : Channel) (l : Layout) (f : File) (text : List ℕ) (x : T) (y : V)
-    → IsWrittenAt {E = E} S old new c l f text (Ok x) → IsWrittenAt {E = E} S old new c l f text (Ok y)
-ok-at S old new c l f text x y h = record { moments = h.moments; uncounted = λ _ _. tt }
-
--- what one that failed says, any answer may
-pub any-at : {D T V E : Type 0} (S : History D) (old new : D) (c : Channel) (l : Layout) (f : File) (text : List ℕ) (e : E) (result : Result V E)
-    → IsWrittenAt {T = T} S old new c l f text (Err e) → IsWrittenAt {T = V} S old new c l f text result
-any-at S old new c l f text e result h = record { moments = h.moments; uncounted = λ le one. on-any result (h.uncounted le one) }
-  where
-    on-any : {V E P : Type 0} (r : Result V E) → P → OnErr r P
-    on-any (Ok x) p = tt
-    on-any (Err x) p = p
+-- what follows of two facts of an answer that is done
+pub on-both : {T E A B C : Type 0} (r : Result T E) → (A → B → C) → OnOk r A → OnOk r B → OnOk r C
+on-both (Ok x) f a b = f a b
+on-both (Err e) f a b = tt
 
 -- another channel is open, or none
 pub other-open : (e : Found) (s : Spot) (last : Option Opened) (number : ℕ) → last ≡ Some (record { found = e; spot = Some s }) → s.channel ≢ number → ¬ (HasOn (channel_of last) number)

@@ -4,9 +4,10 @@ use Rattle.d64_image.specs.History.{History}
 use Rattle.d64_image.specs.Images.{Image}
 use Rattle.disk_layout.specs.Clean.{IsClean}
 use Rattle.disk_layout.specs.Layout.{File, Layout}
-use Rattle.disk_layout.specs.Rest.{IsFirst, slot_name}
+use Rattle.disk_layout.specs.Rest.{IsFirst}
 use Rattle.rel_records.specs.File.{IsFileOf, entry_of, length_of}
 use Rattle.drive_channels.specs.Files.{HasFile}
+use Rattle.drive_channels.specs.Spelling.{IsName}
 use Rattle.drive_channels.specs.State.{Channel, Seen, View}
 use Rattle.drive_channels.specs.declared.found.Found.{Found}
 use Rattle.drive_channels.specs.declared.found.Opened.{Opened}
@@ -53,9 +54,8 @@ pub record IsFound (img : Image) (e : Found) : Type 0 where
   pub layout : Layout
   pub file : File
   pub of : IsFileOf img layout (entry_of e.file) file e.file
-  pub name : List ℕ
-  pub padded : slot_name name ≡ e.name
-  pub first : IsFirst layout name (entry_of e.file) file
+  pub named : IsName e.name.items
+  pub first : IsFirst layout e.name.items (entry_of e.file) file
 
 -- the place of a channel in its file
 pub record IsSpot (e : Found) (s : Spot) : Type 0 where
@@ -95,15 +95,10 @@ abbrev pub found_in : Option Opened → Option Found
 found_in None = None
 found_in (Some o) = Some o.found
 
--- a file with no channel
-abbrev pub closed_with : Option Found → Option Opened
-closed_with None = None
-closed_with (Some e) = Some (record { found = e; spot = None })
-
 -- after a look for the first closed relative file of a name: where there is one it is the one opened last, with no channel
 pub record HasLooked (img : Image) (name : List ℕ) (k : Known) (there : Bool) : Type 0 where
   pub known : IsKnown img k
   pub checked : k.checked ≡ true
   pub closed : channel_of k.last ≡ None
-  pub found : there ≡ true → (o : Opened) × (k.last ≡ Some o) × (o.found.name ≡ slot_name name)
+  pub found : there ≡ true → (o : Opened) × (k.last ≡ Some o) × (o.found.name.items ≡ name)
   pub missing : there ≡ false → ¬ (HasFile img name)

@@ -20,7 +20,7 @@ impl Known {
         ensures known { (img : Image) → IsKnown img self.old → IsKnown img self.new }
     {
         if let Some(opened) = &mut self.last {
-            if let Some(spot) = opened.spot {
+            if let Some(spot) = &opened.spot {
                 if spot.channel == channel {
                     opened.spot = None;
                 }

@@ -52,34 +52,35 @@ fn place_of(text: &[u8]) -> Option<Spot>
     let position = if text.len() == 5 { text[4] } else { 1 };
     Some(Spot {
         channel: text[1] % 16,
-        record_number: number.max(1),
         position: position.max(1),
+        record_number: number.max(1),
     })
 }
 
-/// Goes to a place in the file: what that comes to, and the place from then on.
-fn go_to(found: &Found, spot: Spot, wanted: Spot) -> (Status, Spot)
-    requires channel { wanted.channel ≡ spot.channel }
+/// Goes to a place in the file, on the same channel: what that comes to.
+fn go_to(found: &Found, spot: &mut Spot, wanted: Spot) -> Status
     requires record_low { 1 ≤ wanted.record_number }
     requires record_high { wanted.record_number ≤ 65535 }
     requires position { 1 ≤ wanted.position }
     ensures row { (img : Image) → (s : statuses.Status) → (b : Bool) → IsFound img found.now
-        → InFile (at_spot img found.now spot s b)
-        (MovesTo (at_spot img found.now spot s b) wanted.record_number wanted.position
-        (at_spot img found.now result.1 result.0 b)) }
-    ensures spot { IsSpot found.now spot → IsSpot found.now result.1 }
+        → InFile (at_spot img found.now spot.old s b)
+        (MovesTo (at_spot img found.now spot.old s b) wanted.record_number wanted.position
+        (at_spot img found.now spot.new result b)) }
+    ensures spot { IsSpot found.now spot.old → IsSpot found.now spot.new }
 {
     let length = found.file.length();
     if wanted.position > length {
-        return (Status::Overflow, spot);
+        return Status::Overflow;
     }
     if (wanted.record_number * length as u32 + 253) / 254 > 720 {
-        return (Status::FileTooLarge, spot);
+        return Status::FileTooLarge;
     }
+    spot.record_number = wanted.record_number;
+    spot.position = wanted.position;
     if wanted.record_number > records(&found.file) {
-        return (Status::RecordNotPresent, wanted);
+        return Status::RecordNotPresent;
     }
-    (Status::Ok, wanted)
+    Status::Ok
 }
 
 impl Known {
@@ -93,11 +94,9 @@ impl Known {
             return Status::SyntaxError;
         };
         if let Some(opened) = &mut self.last {
-            if let Some(spot) = opened.spot {
+            if let Some(spot) = &mut opened.spot {
                 if spot.channel == wanted.channel {
-                    let (status, next) = go_to(&opened.found, spot, wanted);
-                    opened.spot = Some(next);
-                    return status;
+                    return go_to(&opened.found, spot, wanted);
                 }
             }
         }

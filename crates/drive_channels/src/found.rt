@@ -1,21 +1,23 @@
 //! A file as it was found, and the place of a channel in it.
 ghost use Rattle.std.specs.Prelude.{◌≡◌};
 
+use arrayvec::ArrayVec;
 use rel_records::RelFile;
 
-/// A file with the name under which it was found, as a slot of the directory holds it: 16 bytes, padded with A0.
+/// A file with the name under which it was found.
 #[derive(Drop)]
 pub(crate) struct Found {
-    pub(crate) name: [u8; 16],
+    pub(crate) name: ArrayVec<u8, 16>,
     pub(crate) file: RelFile,
 }
 
 /// A channel and its place: the record and the byte in it, both from 1.
 #[derive(Clone, Copy)]
 pub(crate) struct Spot {
+    // the two bytes side by side: one alone in its word is read as a word, and waits there for the byte just written
     pub(crate) channel: u8,
-    pub(crate) record_number: u32,
     pub(crate) position: u8,
+    pub(crate) record_number: u32,
 }
 
 /// The file that was opened last, and its channel while that is open.
@@ -23,6 +25,28 @@ pub(crate) struct Spot {
 pub(crate) struct Opened {
     pub(crate) found: Found,
     pub(crate) spot: Option<Spot>,
+}
+
+impl Found {
+    ghost use Rattle.std.specs.Prelude.{◌≤◌, ◌↔◌, IsTrue, length};
+
+    /// A file under the name by which it was found.
+    pub(crate) fn new(text: &[u8], file: RelFile) -> Found
+        requires fits { length text.now ≤ 16 }
+        ensures name { result.name.items ≡ text.now }
+        ensures file { result.file ≡ file }
+    {
+        let mut name = ArrayVec::new();
+        name.try_extend_from_slice(text).ok();
+        Found { name, file }
+    }
+
+    /// Whether the file has this name.
+    pub(crate) fn is_named(&self, name: &[u8]) -> bool
+        ensures { IsTrue result ↔ (self.now.name.items ≡ name.now) }
+    {
+        self.name.as_slice() == name
+    }
 }
 
 impl Spot {
@@ -35,20 +59,17 @@ impl Spot {
     {
         Spot {
             channel,
-            record_number: 1,
             position: 1,
+            record_number: 1,
         }
     }
 
-    /// The first byte of the next record.
-    pub(crate) fn next(self) -> Spot
-        requires { self.record_number < 4294967295 }
-        ensures { result ≡ next_spot self }
+    /// Goes on to the first byte of the next record.
+    pub(crate) fn advance(&mut self)
+        requires { self.old.record_number < 4294967295 }
+        ensures { self.new ≡ next_spot self.old }
     {
-        Spot {
-            channel: self.channel,
-            record_number: self.record_number + 1,
-            position: 1,
-        }
+        self.record_number += 1;
+        self.position = 1;
     }
 }

@@ -4,17 +4,16 @@ ghost use Rattle.d64_image.specs.History.{Changes, OnlyReads, TellsFailure};
 ghost use Rattle.d64_image.specs.Images.{Image};
 ghost use Rattle.disk_layout.specs.Clean.{IsClean};
 ghost use Rattle.disk_layout.specs.Layout.{IsLayout, Layout};
-ghost use Rattle.disk_layout.specs.Rest.{slot_name};
 ghost use Rattle.drive_channels.specs.Files.{HasFile};
 ghost use Rattle.drive_channels.specs.Moments.{IsCreatingFrom, IsOpenedBy, IsOpenedFor};
 ghost use Rattle.drive_channels.specs.Serving.{Serves};
-ghost use Rattle.drive_channels.specs.Spelling.{IsWish, Wish};
+ghost use Rattle.drive_channels.specs.Spelling.{IsName, IsWish, Wish};
 ghost use Rattle.drive_channels.specs.State.{view_of};
 ghost use Rattle.drive_channels.specs.Tables.{Opens, OpensFile};
 ghost use Rattle.drive_channels.specs.Wishes.{wish_of};
 ghost use Rattle.rel_records.specs.File.{length_of};
 ghost use Rattle.rel_records.specs.Made.{IsCreating, creation_writes};
-ghost use Rattle.drive_channels.specs.Inside.{HasLooked, IsFound, IsKnown, channel_of, closed_with, found_in, shown};
+ghost use Rattle.drive_channels.specs.Inside.{HasLooked, IsFound, IsKnown, channel_of, found_in, shown};
 ghost use Rattle.drive_channels.specs.declared.status.Status as statuses;
 ghost use Rattle.drive_channels.specs.declared.status.Status.TheVariants as told;
 
@@ -25,17 +24,10 @@ use crate::known::Known;
 use crate::status::Status;
 use crate::text::{FileWish, wish};
 use d64_image::Sectors;
-use disk_layout::{Fault, padded_name};
+use disk_layout::Fault;
 use layout_check::check;
 use rel_records::{RelFault, RelFile, create, find};
-
-/// A file under the name by which it was found.
-fn found_as(name: [u8; 16], file: RelFile) -> Found
-    ensures name { result.name ≡ name }
-    ensures file { result.file ≡ file }
-{
-    Found { name, file }
-}
+use std::mem::swap;
 
 /// Whether the file's records have this length, if one is asked for.
 fn has_length(file: &RelFile, length: Option<u8>) -> bool
@@ -50,15 +42,15 @@ fn has_length(file: &RelFile, length: Option<u8>) -> bool
 /// The first closed relative file of this name, where there is one.
 fn find_file<D: Sectors>(disk: &mut D, name: &[u8]) -> Result<Option<Found>, Dead>
     requires clean { IsClean (D.history.image disk.old) }
-    requires name { length name.now ≤ 16 }
+    requires name { IsName name.now }
     ensures found { IfOk result (λ o.
         MatchOption o (¬ (HasFile (D.history.image disk.old) name.now))
-        (λ e. IsFound (D.history.image disk.old) e × (e.name ≡ slot_name name.now))) }
+        (λ e. IsFound (D.history.image disk.old) e × (e.name.items ≡ name.now))) }
     ensures reads { OnlyReads D.history disk.old disk.new 702 }
     ensures failures { TellsFailure D.history disk.old disk.new result }
 {
     match find(disk, name) {
-        Ok(file) => Ok(Some(found_as(padded_name(name), file))),
+        Ok(file) => Ok(Some(Found::new(name, file))),
         Err(fault) => match fault {
             RelFault::Device => Err(Dead),
             _ => Ok(None),
@@ -77,39 +69,46 @@ impl Known {
         }
     }
 
-    /// Whether the file opened last has this padded name.
-    fn is_last(&self, name: &[u8; 16]) -> bool
-        ensures { MatchOption self.now.last (result ≡ false) (λ o. IsTrue result ↔ (o.found.name ≡ name.now)) }
+    /// Whether the file opened last has this name.
+    fn is_last(&self, name: &[u8]) -> bool
+        ensures { MatchOption self.now.last (result ≡ false) (λ o. IsTrue result ↔ (o.found.name.items ≡ name.now)) }
     {
         match &self.last {
-            Some(opened) => opened.found.name == *name,
+            Some(opened) => opened.found.is_named(name),
             None => false,
         }
     }
 
-    /// Whether the file opened before it has.
-    fn is_before(&self, name: &[u8; 16]) -> bool
-        ensures { MatchOption self.now.before (result ≡ false) (λ e. IsTrue result ↔ (e.name ≡ name.now)) }
+    /// Makes the file of this name the one opened last, where it is one of the two that are remembered. Whether it is.
+    fn recall(&mut self, name: &[u8]) -> bool
+        requires closed { channel_of self.old.last ≡ None }
+        ensures found { (img : Image) → IsKnown img self.old → result ≡ true → HasLooked img name.now self.new true }
+        ensures other { result ≡ false → (self.new ≡ self.old) × IfSome self.old.last (λ o. o.found.name.items ≢ name.now) }
+        ensures checked { self.new.checked ≡ self.old.checked }
     {
-        match &self.before {
-            Some(found) => found.name == *name,
-            None => false,
+        if self.is_last(name) {
+            return true;
         }
+        if let Some(opened) = &mut self.last {
+            if let Some(found) = &mut self.before {
+                if found.is_named(name) {
+                    swap(&mut opened.found, found);
+                    return true;
+                }
+            }
+        }
+        false
     }
 
-    /// Makes this file, or none, the one opened last, with no channel; the one before it is the one opened last until now.
-    fn put_last(&mut self, found: Option<Found>)
-        ensures last { self.new.last ≡ closed_with found }
+    /// Makes this file the one opened last, with no channel; the one before it is the one opened last until now.
+    fn put_last(&mut self, found: Found)
+        ensures last { self.new.last ≡ Some (record { found = found; spot = None }) }
         ensures before { self.new.before ≡ found_in self.old.last }
         ensures checked { self.new.checked ≡ self.old.checked }
     {
-        let last = self.last.take();
+        let last = self.last.replace(Opened { found, spot: None });
         self.before = match last {
             Some(opened) => Some(opened.found),
-            None => None,
-        };
-        self.last = match found {
-            Some(found) => Some(Opened { found, spot: None }),
             None => None,
         };
     }
@@ -119,23 +118,17 @@ impl Known {
         requires known { IsKnown (D.history.image disk.old) self.old }
         requires checked { self.old.checked ≡ true }
         requires closed { channel_of self.old.last ≡ None }
-        requires name { length name.now ≤ 16 }
+        requires name { IsName name.now }
         ensures found { IfOk result (HasLooked (D.history.image disk.old) name.now self.new) }
         ensures reads { OnlyReads D.history disk.old disk.new 702 }
         ensures failures { TellsFailure D.history disk.old disk.new result }
     {
-        let padded = padded_name(name);
-        if self.is_last(&padded) {
-            return Ok(true);
-        }
-        if self.is_before(&padded) {
-            let before = self.before.take();
-            self.put_last(before);
+        if self.recall(name) {
             return Ok(true);
         }
         match find_file(disk, name)? {
             Some(found) => {
-                self.put_last(Some(found));
+                self.put_last(found);
                 Ok(true)
             }
             None => Ok(false),
@@ -202,7 +195,7 @@ impl Known {
         requires missing { ¬ (HasFile (D.history.image disk.old) name.now) }
         requires low { 2 ≤ channel }
         requires high { channel ≤ 14 }
-        requires name { length name.now ≤ 16 }
+        requires name { IsName name.now }
         requires size_low { 1 ≤ size }
         requires size_high { size ≤ 254 }
         ensures row { IfOk result (λ status.
@@ -220,10 +213,9 @@ impl Known {
     {
         match create(disk, name, size) {
             Ok(file) => {
-                let found = found_as(padded_name(name), file);
                 self.before = None;
                 self.last = Some(Opened {
-                    found,
+                    found: Found::new(name, file),
                     spot: Some(Spot::first(channel)),
                 });
                 Ok(Status::Ok)
@@ -266,7 +258,37 @@ impl Known {
         }
     }
 
-    /// Opens what the text asks for: what that comes to.
+    /// Opens what the text asks for, while no channel is open: what that comes to.
+    #[inline(never)]
+    fn open_wish<D: Sectors>(
+        &mut self,
+        disk: &mut D,
+        channel: u8,
+        text: &[u8],
+    ) -> Result<Status, Dead>
+        requires known { IsKnown (D.history.image disk.old) self.old }
+        requires closed { channel_of self.old.last ≡ None }
+        requires low { 2 ≤ channel }
+        requires high { channel ≤ 14 }
+        ensures row { IfOk result (λ status.
+            (s : statuses.Status)
+            → Opens (shown (D.history.image disk.old) self.old s) channel text.now
+            (shown (D.history.image disk.new) self.new status)) }
+        ensures known { OnOk result (IsKnown (D.history.image disk.new) self.new) }
+        ensures opened { IsOpenedBy D.history disk.old disk.new text.now (channel_of self.old.last) (channel_of self.new.last)
+            result }
+        ensures failures { TellsFailure D.history disk.old disk.new result }
+    {
+        let Some(wish) = wish(text) else {
+            return Ok(Status::SyntaxError);
+        };
+        if !self.passes_check(disk)? {
+            return Ok(Status::DirError);
+        }
+        self.open_file(disk, channel, wish)
+    }
+
+    /// Opens what the text asks for: what that comes to. The name of a file that is remembered is only compared.
     fn open<D: Sectors>(&mut self, disk: &mut D, channel: u8, text: &[u8]) -> Result<Status, Dead>
         requires known { IsKnown (D.history.image disk.old) self.old }
         ensures row { IfOk result (λ status.
@@ -281,13 +303,10 @@ impl Known {
         if channel < 2 || channel > 14 || self.is_open() {
             return Ok(Status::NoChannel);
         }
-        let Some(wish) = wish(text) else {
-            return Ok(Status::SyntaxError);
-        };
-        if !self.passes_check(disk)? {
-            return Ok(Status::DirError);
+        if self.recall(text) {
+            return Ok(self.open_last(channel, None));
         }
-        self.open_file(disk, channel, wish)
+        self.open_wish(disk, channel, text)
     }
 }
 

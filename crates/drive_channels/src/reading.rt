@@ -66,22 +66,21 @@ fn give(bytes: &[u8], position: u8, to: &mut ArrayVec<u8, 254>)
     copy(&rest[..end], to);
 }
 
-/// Reads at a place: what it comes to, and the place from then on.
+/// Reads at a place, and goes on from it: what that comes to.
 fn read_at<D: Sectors>(
     disk: &mut D,
     found: &Found,
-    spot: Spot,
+    spot: &mut Spot,
     to: &mut ArrayVec<u8, 254>,
-) -> Result<(Status, Spot), Dead>
+) -> Result<Status, Dead>
     requires found { IsFound (D.history.image disk.old) found.now }
-    requires spot { IsSpot found.now spot }
-    ensures row { IfOk result (λ p.
+    requires spot { IsSpot found.now spot.old }
+    ensures row { IfOk result (λ status.
         (s : statuses.Status) → (b : Bool)
-        → InFile (at_spot (D.history.image disk.old) found.now spot s b)
-        (ReadsIn (at_spot (D.history.image disk.old) found.now spot s b) to.new.items
-        (at_spot (D.history.image disk.old) found.now p.1 p.0 b))) }
-    ensures spot { IfOk result (λ p. IsSpot found.now p.1) }
-    ensures channel { IfOk result (λ p. p.1.channel ≡ spot.channel) }
+        → InFile (at_spot (D.history.image disk.old) found.now spot.old s b)
+        (ReadsIn (at_spot (D.history.image disk.old) found.now spot.old s b) to.new.items
+        (at_spot (D.history.image disk.old) found.now spot.new status b))) }
+    ensures spot { OnOk result (IsSpot found.now spot.new) }
     ensures reads { OnlyReads D.history disk.old disk.new 3 }
     ensures failures { TellsFailure D.history disk.old disk.new result }
 {
@@ -89,13 +88,14 @@ fn read_at<D: Sectors>(
     match read_record(disk, &found.file, spot.record_number, &mut text) {
         Ok(()) => {
             give(text.as_slice(), spot.position, to);
-            Ok((Status::Ok, spot.next()))
+            spot.advance();
+            Ok(Status::Ok)
         }
         Err(fault) => match fault {
             RelFault::Device => Err(Dead),
             _ => {
                 to.clear();
-                Ok((Status::RecordNotPresent, spot))
+                Ok(Status::RecordNotPresent)
             }
         },
     }
@@ -120,11 +120,9 @@ impl Known {
     {
         to.clear();
         if let Some(opened) = &mut self.last {
-            if let Some(spot) = opened.spot {
+            if let Some(spot) = &mut opened.spot {
                 if spot.channel == channel {
-                    let (status, next) = read_at(disk, &opened.found, spot, to)?;
-                    opened.spot = Some(next);
-                    return Ok(status);
+                    return read_at(disk, &opened.found, spot, to);
                 }
             }
         }

@@ -23,54 +23,54 @@ use crate::status::Status;
 use d64_image::Sectors;
 use rel_records::{RelFault, grow_to, write_record};
 
-/// Grows the file so that the record at a place is there: what it comes to, and the same place.
-fn grow_at<D: Sectors>(disk: &mut D, found: &mut Found, spot: Spot) -> Result<(Status, Spot), Dead>
+/// Grows the file so that the record at a place is there: what it comes to.
+fn grow_at<D: Sectors>(disk: &mut D, found: &mut Found, spot: &mut Spot) -> Result<Status, Dead>
     requires clean { IsClean (D.history.image disk.old) }
     requires found { IsFound (D.history.image disk.old) found.old }
-    requires spot { IsSpot found.old spot }
-    ensures row { IfOk result (λ p.
+    requires spot { IsSpot found.old spot.old }
+    ensures row { IfOk result (λ status.
         (s : statuses.Status) → (b : Bool)
-        → InFile (at_spot (D.history.image disk.old) found.old spot s b)
-        (WritesIn (at_spot (D.history.image disk.old) found.old spot s b) []
-        (at_spot (D.history.image disk.new) found.new p.1 p.0 b))) }
+        → InFile (at_spot (D.history.image disk.old) found.old spot.old s b)
+        (WritesIn (at_spot (D.history.image disk.old) found.old spot.old s b) []
+        (at_spot (D.history.image disk.new) found.new spot.new status b))) }
     ensures found { OnOk result (KeepsFound (D.history.image disk.old) (D.history.image disk.new) found.old found.new) }
-    ensures spot { IfOk result (λ p. IsSpot found.new p.1 × (p.1.channel ≡ spot.channel)) }
+    ensures spot { OnOk result (IsSpot found.new spot.new) }
     ensures writes { (l : Layout) → (f : File) → IsRelAt (D.history.image disk.old) l (entry_of found.old.file) f
-        → IsWrittenAt D.history disk.old disk.new (channel_at (entry_of found.old.file) spot) l f [] result }
-    ensures refused { IfOk result (λ p. p.0 ≡ FileTooLarge → OnlyReads D.history disk.old disk.new 1) }
+        → IsWrittenAt D.history disk.old disk.new (channel_at (entry_of found.old.file) spot.old) l f [] result }
+    ensures refused { IfOk result (λ status. status ≡ FileTooLarge → OnlyReads D.history disk.old disk.new 1) }
     ensures failures { TellsFailure D.history disk.old disk.new result }
 {
     match grow_to(disk, &mut found.file, spot.record_number) {
-        Ok(()) => Ok((Status::Ok, spot)),
+        Ok(()) => Ok(Status::Ok),
         Err(fault) => match fault {
             RelFault::Device => Err(Dead),
-            _ => Ok((Status::FileTooLarge, spot)),
+            _ => Ok(Status::FileTooLarge),
         },
     }
 }
 
-/// Writes a text that isn't empty at a place: what it comes to, and the place from then on.
+/// Writes a text that isn't empty at a place, and goes on from it: what that comes to.
 fn write_text<D: Sectors>(
     disk: &mut D,
     found: &mut Found,
-    spot: Spot,
+    spot: &mut Spot,
     text: &[u8],
-) -> Result<(Status, Spot), Dead>
+) -> Result<Status, Dead>
     requires some { 1 ≤ length text.now }
     requires clean { IsClean (D.history.image disk.old) }
     requires found { IsFound (D.history.image disk.old) found.old }
-    requires spot { IsSpot found.old spot }
-    ensures row { IfOk result (λ p.
+    requires spot { IsSpot found.old spot.old }
+    ensures row { IfOk result (λ status.
         (s : statuses.Status) → (b : Bool)
-        → InFile (at_spot (D.history.image disk.old) found.old spot s b)
-        (WritesIn (at_spot (D.history.image disk.old) found.old spot s b) text.now
-        (at_spot (D.history.image disk.new) found.new p.1 p.0 b))) }
+        → InFile (at_spot (D.history.image disk.old) found.old spot.old s b)
+        (WritesIn (at_spot (D.history.image disk.old) found.old spot.old s b) text.now
+        (at_spot (D.history.image disk.new) found.new spot.new status b))) }
     ensures found { OnOk result (KeepsFound (D.history.image disk.old) (D.history.image disk.new) found.old found.new) }
-    ensures spot { IfOk result (λ p. IsSpot found.new p.1 × (p.1.channel ≡ spot.channel)) }
+    ensures spot { OnOk result (IsSpot found.new spot.new) }
     ensures writes { (l : Layout) → (f : File) → IsRelAt (D.history.image disk.old) l (entry_of found.old.file) f
-        → IsWrittenAt D.history disk.old disk.new (channel_at (entry_of found.old.file) spot) l f text.now
+        → IsWrittenAt D.history disk.old disk.new (channel_at (entry_of found.old.file) spot.old) l f text.now
         result }
-    ensures refused { IfOk result (λ p. p.0 ≡ FileTooLarge → OnlyReads D.history disk.old disk.new 1) }
+    ensures refused { IfOk result (λ status. status ≡ FileTooLarge → OnlyReads D.history disk.old disk.new 1) }
     ensures failures { TellsFailure D.history disk.old disk.new result }
 {
     match write_record(
@@ -80,36 +80,42 @@ fn write_text<D: Sectors>(
         spot.position,
         text,
     ) {
-        Ok(()) => Ok((Status::Ok, spot.next())),
+        Ok(()) => {
+            spot.advance();
+            Ok(Status::Ok)
+        }
         Err(fault) => match fault {
             RelFault::Device => Err(Dead),
-            RelFault::Overflow => Ok((Status::Overflow, spot.next())),
-            _ => Ok((Status::FileTooLarge, spot)),
+            RelFault::Overflow => {
+                spot.advance();
+                Ok(Status::Overflow)
+            }
+            _ => Ok(Status::FileTooLarge),
         },
     }
 }
 
-/// Writes at a place: what it comes to, and the place from then on.
+/// Writes at a place, and goes on from it: what that comes to.
 fn write_at<D: Sectors>(
     disk: &mut D,
     found: &mut Found,
-    spot: Spot,
+    spot: &mut Spot,
     text: &[u8],
-) -> Result<(Status, Spot), Dead>
+) -> Result<Status, Dead>
     requires clean { IsClean (D.history.image disk.old) }
     requires found { IsFound (D.history.image disk.old) found.old }
-    requires spot { IsSpot found.old spot }
-    ensures row { IfOk result (λ p.
+    requires spot { IsSpot found.old spot.old }
+    ensures row { IfOk result (λ status.
         (s : statuses.Status) → (b : Bool)
-        → InFile (at_spot (D.history.image disk.old) found.old spot s b)
-        (WritesIn (at_spot (D.history.image disk.old) found.old spot s b) text.now
-        (at_spot (D.history.image disk.new) found.new p.1 p.0 b))) }
+        → InFile (at_spot (D.history.image disk.old) found.old spot.old s b)
+        (WritesIn (at_spot (D.history.image disk.old) found.old spot.old s b) text.now
+        (at_spot (D.history.image disk.new) found.new spot.new status b))) }
     ensures found { OnOk result (KeepsFound (D.history.image disk.old) (D.history.image disk.new) found.old found.new) }
-    ensures spot { IfOk result (λ p. IsSpot found.new p.1 × (p.1.channel ≡ spot.channel)) }
+    ensures spot { OnOk result (IsSpot found.new spot.new) }
     ensures writes { (l : Layout) → (f : File) → IsRelAt (D.history.image disk.old) l (entry_of found.old.file) f
-        → IsWrittenAt D.history disk.old disk.new (channel_at (entry_of found.old.file) spot) l f text.now
+        → IsWrittenAt D.history disk.old disk.new (channel_at (entry_of found.old.file) spot.old) l f text.now
         result }
-    ensures refused { IfOk result (λ p. p.0 ≡ FileTooLarge → OnlyReads D.history disk.old disk.new 1) }
+    ensures refused { IfOk result (λ status. status ≡ FileTooLarge → OnlyReads D.history disk.old disk.new 1) }
     ensures failures { TellsFailure D.history disk.old disk.new result }
 {
     if text.is_empty() {
@@ -132,11 +138,9 @@ impl Known {
         ensures failures { TellsFailure D.history disk.old disk.new result }
     {
         if let Some(opened) = &mut self.last {
-            if let Some(spot) = opened.spot {
+            if let Some(spot) = &mut opened.spot {
                 if spot.channel == channel {
-                    let (status, next) = write_at(disk, &mut opened.found, spot, text)?;
-                    opened.spot = Some(next);
-                    return Ok(status);
+                    return write_at(disk, &mut opened.found, spot, text);
                 }
             }
         }

@@ -1,4 +1,3 @@
-use Rattle.std.proofs.Common.{◌∙◌}
 use Rattle.drive_channels.proofs.Finds.{found-new}
 use Rattle.drive_channels.proofs.opening.find_file.Goals as goal
 
@@ -6,5 +5,4 @@ pub returns-in-Ok-clause-found : goal.returns-in-Ok-clause-found
 returns-in-Ok-clause-found g c =
     let clean = c.requires.clean in
     let found = c.in-Ok.ensures.ok clean.0 clean.1.layout in
-    let name = c.found_as.ensures.name ∙ c.padded_name.ensures in
-    (found-new _ c.found_as.result c.in-Ok.file c.args.name.now clean.0 found.0 c.found_as.ensures.file name found.1 found.2, name)
+    (found-new _ c.new.result c.in-Ok.file c.args.name.now clean.0 found.0 c.new.ensures.file c.new.ensures.name c.requires.name found.1 found.2, c.new.ensures.name)

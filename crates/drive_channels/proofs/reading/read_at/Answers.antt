@@ -1,4 +1,4 @@
-use Rattle.std.proofs.Common.{ℕ, List, drop, ◌-◌, ◌≡◌, ◌⊎◌, inl, inr, Err, arith, refl, subst}
+use Rattle.std.proofs.Common.{ℕ, List, drop, ◌-◌, ◌≡◌, ◌⊎◌, inl, inr, Err, arith, subst}
 use Rattle.d64_image.specs.History.{History}
 use Rattle.drive_channels.specs.Given.{IsGiven}
 use Rattle.rel_records.specs.Faults.{TellsRelFault}
@@ -8,11 +8,11 @@ use Rattle.drive_channels.proofs.Rows.{absent-row, read-row}
 use Rattle.drive_channels.proofs.reading.read_at.Goals as goal
 
 pub returns-in-Ok-clause-row : goal.returns-in-Ok-clause-row
-returns-in-Ok-clause-row g c = rw c.next.ensures (λ s b. read-row (g.D.Sectors.history.image c.args.disk.now) c.args.found.now c.args.spot s b
-    c.read_record.new.text.items _ c.requires.found (λ l f of. c.in-Ok.ensures.ok l _ f of) (subst (λ (xs : List ℕ). IsGiven (drop (c.args.spot.position - 1) xs) c.give.new.to.items) c.as_slice.ensures.value c.give.ensures))
+returns-in-Ok-clause-row g c = rw c.advance.ensures (λ s b. read-row (g.D.Sectors.history.image c.args.disk.now) c.args.found.now c.args.spot.now s b
+    c.read_record.new.text.items _ c.requires.found (λ l f of. c.in-Ok.ensures.ok l _ f of) (subst (λ (xs : List ℕ). IsGiven (drop (c.args.spot.now.position - 1) xs) c.give.new.to.items) c.as_slice.ensures.value c.give.ensures))
 
 pub returns-in-Ok-clause-spot : goal.returns-in-Ok-clause-spot
-returns-in-Ok-clause-spot g c = rw c.next.ensures (record {
+returns-in-Ok-clause-spot g c = rw c.advance.ensures (record {
   low = c.requires.spot.low;
   high = c.requires.spot.high;
   record_from = omega arith;
@@ -34,10 +34,9 @@ returns-in_default g c =
     let S = g.D.Sectors.history in
     let m = missing S c.args.disk.now c.read_record.new.disk c.in-Err.fault c.in_default.not-Device c.in-Err.ensures.told c.in-Err.ensures.failures in
     record {
-      row = rw c.clear.ensures (λ s b. absent-row (S.image c.args.disk.now) c.args.found.now c.args.spot s b c.requires.found c.requires.spot.record_from
+      row = rw c.clear.ensures (λ s b. absent-row (S.image c.args.disk.now) c.args.found.now c.args.spot.now s b c.requires.found c.requires.spot.record_from
           (λ l f of. c.in-Err.ensures.not_present l _ f of m.0));
       spot = c.requires.spot;
-      channel = refl;
       reads = c.read_record.ensures.reads;
       failures = m.1;
     }

@@ -1,4 +1,4 @@
-use Rattle.std.proofs.Common.{◌≡◌, ◌⊎◌, ◌∙◌, inl, inr, None, Some, ap₂, refl}
+use Rattle.std.proofs.Common.{◌≡◌, ◌⊎◌, inl, inr, None, Some, ap₂, refl}
 use Rattle.drive_channels.proofs.Opens.{full-row, known-made, known-still, made-row, makes-of, taken-row}
 use Rattle.drive_channels.proofs.Refusals.{calm}
 use Rattle.drive_channels.proofs.known.Known.make.Goals as goal
@@ -27,14 +27,13 @@ returns-in-Ok g c =
     let S = g.D.Sectors.history in
     let clean = (c.requires.known.remembered c.requires.checked).clean in
     let made = c.in-Ok.ensures.ok clean.0 clean.1.layout in
-    let name = c.found_as-found.ensures.name ∙ c.padded_name.ensures in
     record {
       row = λ s. made-row (S.image c.args.disk.now) c.args.self.now c.args.name.now c.requires.missing c.args.channel s c.args.size _
-          (record { last = Some (record { found = c.found_as-found.result; spot = Some c.first.result }); before = None; checked = c.args.self.now.checked }) (entry_of c.in-Ok.file)
+          (record { last = Some (record { found = c.new.result; spot = Some c.first.result }); before = None; checked = c.args.self.now.checked }) (entry_of c.in-Ok.file)
           (λ h. (c.in-Ok.ensures.fits h.0 h.1).1 h.2) (λ h. (c.in-Ok.ensures.fits h.0 h.1).0 h.2) (makes-of _ _ clean.0 c.args.name.now c.args.size c.in-Ok.file clean.1.layout made)
-          (ap₂ (λ (v : RelFile) (s : Spot). Some (channel_at (entry_of v) s)) c.found_as-found.ensures.file c.first.ensures) refl;
-      known = known-made _ _ clean.0 c.args.name.now c.args.size c.in-Ok.file c.found_as-found.result c.first.result c.args.channel made
-          (c.in-Ok.ensures.fits clean.0 clean.1.layout).1 c.found_as-found.ensures.file name c.first.ensures
+          (ap₂ (λ (v : RelFile) (s : Spot). Some (channel_at (entry_of v) s)) c.new.ensures.file c.first.ensures) refl;
+      known = known-made _ _ clean.0 c.args.name.now c.args.size c.in-Ok.file c.new.result c.first.result c.args.channel made
+          (c.in-Ok.ensures.fits clean.0 clean.1.layout).1 c.new.ensures.file c.new.ensures.name c.requires.name c.first.ensures
           c.requires.low c.requires.high c.args.self.now.checked c.requires.checked;
       refused = λ other. absurd (ok-ok other);
       opened = λ _. refl;

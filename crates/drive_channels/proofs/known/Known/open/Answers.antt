@@ -1,43 +1,40 @@
-use Rattle.std.proofs.Common.{true, inl, inr, ap₂, arith, subst}
-use Rattle.d64_image.specs.Images.{Image}
-use Rattle.drive_channels.proofs.Openings.{checked-shown, closed-of, if-ok, opened-by, past}
-use Rattle.drive_channels.proofs.Wishes.{wish-one}
+use Rattle.std.proofs.Common.{ap, arith, subst, sym, ◌∙◌, IfOk}
+use Rattle.d64_image.proofs.Moments.{no_reads}
+use Rattle.drive_channels.proofs.Openings.{closed-of, read-by, recalled}
 use Rattle.drive_channels.proofs.known.Known.open.Goals as goal
-use Rattle.drive_channels.specs.Inside.{shown}
-use Rattle.drive_channels.specs.Spelling.{Wish}
-use Rattle.drive_channels.specs.State.{View}
-use Rattle.drive_channels.specs.Tables.{OpensFile}
-use Rattle.drive_channels.specs.Wishes.{wish_of}
+use Rattle.drive_channels.specs.Inside.{IsKnown, channel_of, shown}
+use Rattle.drive_channels.specs.Moments.{IsOpenedBy}
+use Rattle.drive_channels.specs.Tables.{Opens}
 use Rattle.drive_channels.specs.declared.known.Known.{Known}
-use Rattle.drive_channels.specs.declared.status.Status.TheVariants as statuses
+use Rattle.drive_channels.specs.declared.status.Status.{Status}
 
-pub returns-then-not-branch-clause-row : goal.returns-then-not-branch-clause-row
-returns-then-not-branch-clause-row g c = λ s.
-    let img = g.D.Sectors.history.image in
-    let refused = c.in_ok-passes_check.ensures.refused c.if-not-branch.true in
-    past (shown (img c.args.disk.now) c.args.self.now s) c.args.channel c.args.text.now _ (wish_of c.in-Some.wish)
-    (omega (arith, c.if-channel-lt2.false)) (omega (arith, c.if-channel-gt14.false)) (closed-of _ c.is_open.result c.is_open.ensures c.if-is_open.false) c.in-Some.ensures
-    (inl ((refused.1, refused.2), ap₂ (λ (i : Image) (k : Known). shown i k statuses.DirError) c.passes_check.ensures.reads.image refused.0))
+pub returns-then-recall-clause-row : goal.returns-then-recall-clause-row
+returns-then-recall-clause-row g c = λ s.
+    let img = g.D.Sectors.history.image c.args.disk.now in
+    let looked = c.recall.ensures.found img c.requires.known c.if-recall.true in
+    recalled img c.args.self.now c.recall.new.self c.args.channel c.args.text.now s _ (omega (arith, c.if-channel-lt2.false)) (omega (arith, c.if-channel-gt14.false))
+    (closed-of _ c.is_open.result c.is_open.ensures c.if-is_open.false) c.recall.ensures.checked looked (c.open_last.ensures.row img c.args.text.now s looked)
 
+pub returns-then-recall-clause-known : goal.returns-then-recall-clause-known
+returns-then-recall-clause-known g c = c.open_last.ensures.known _ (c.recall.ensures.found _ c.requires.known c.if-recall.true).known
+
+pub returns-then-recall-clause-opened : goal.returns-then-recall-clause-opened
+returns-then-recall-clause-opened g c = read-by g.D.Sectors.history _ _ 0 c.args.text.now _ _ _ (omega arith) (no_reads g.D.Sectors.history _)
+
+pub open_wish-requires-clause-known : goal.open_wish-requires-clause-known
+open_wish-requires-clause-known g c = subst (IsKnown (g.D.Sectors.history.image c.args.disk.now)) (sym (c.recall.ensures.other c.if-recall.false).0) c.requires.known
+
+pub open_wish-requires-clause-closed : goal.open_wish-requires-clause-closed
+open_wish-requires-clause-closed g c = ap (λ (k : Known). channel_of k.last) (c.recall.ensures.other c.if-recall.false).0 ∙ closed-of _ c.is_open.result c.is_open.ensures c.if-is_open.false
+
+-- a text that is no such name is looked at with nothing changed
 pub returns-clause-row : goal.returns-clause-row
 returns-clause-row g c =
     let img = g.D.Sectors.history.image in
-    let passed = c.in_ok-passes_check.ensures.passed c.if-not-branch.false in
-    if-ok _ _ c.open_file.result (λ status row s.
-    past (shown (img c.args.disk.now) c.args.self.now s) c.args.channel c.args.text.now (shown (img c.open_file.new.disk) c.open_file.new.self status) (wish_of c.in-Some.wish)
-    (omega (arith, c.if-channel-lt2.false)) (omega (arith, c.if-channel-gt14.false)) (closed-of _ c.is_open.result c.is_open.ensures c.if-is_open.false) c.in-Some.ensures
-    (inr (
-      (λ h. h.1 (passed.1.remembered passed.0).clean),
-      (λ v is.
-          subst (λ (w : Wish). OpensFile (record (shown (img c.args.disk.now) c.args.self.now s) { checked = true }) c.args.channel w (shown (img c.open_file.new.disk) c.open_file.new.self status))
-          (wish-one c.args.text.now (wish_of c.in-Some.wish) v c.in-Some.ensures is)
-          (subst (λ (x : View). OpensFile x c.args.channel (wish_of c.in-Some.wish) (shown (img c.open_file.new.disk) c.open_file.new.self status))
-          (checked-shown (img c.args.disk.now) (img c.passes_check.new.disk) c.args.self.now c.passes_check.new.self s c.passes_check.ensures.reads.image c.in_ok-passes_check.ensures.last passed.0)
-          (row s))),
-    )))
-    c.open_file.ensures.row
+    subst (λ (k : Known). IfOk c.open_wish.result (λ status. (s : Status) → Opens (shown (img c.args.disk.now) k s) c.args.channel c.args.text.now (shown (img c.open_wish.new.disk) c.open_wish.new.self status)))
+    (c.recall.ensures.other c.if-recall.false).0 c.open_wish.ensures.row
 
 pub returns-clause-opened : goal.returns-clause-opened
-returns-clause-opened g c = opened-by g.D.Sectors.history _ _ _ c.args.text.now (wish_of c.in-Some.wish) _ _ c.open_file.result c.passes_check.ensures.reads
-    ((c.in_ok-passes_check.ensures.passed c.if-not-branch.false).1.remembered (c.in_ok-passes_check.ensures.passed c.if-not-branch.false).0).clean c.in-Some.ensures
-    (λ v is. wish-one c.args.text.now v (wish_of c.in-Some.wish) is c.in-Some.ensures) (closed-of _ c.is_open.result c.is_open.ensures c.if-is_open.false) c.open_file.ensures.opened
+returns-clause-opened g c =
+    subst (λ (k : Known). IsOpenedBy g.D.Sectors.history c.args.disk.now c.open_wish.new.disk c.args.text.now (channel_of k.last) (channel_of c.open_wish.new.self.last) c.open_wish.result)
+    (c.recall.ensures.other c.if-recall.false).0 c.open_wish.ensures.opened
