@@ -14,7 +14,6 @@ use Rattle.host_session.specs.Opening.{HasNoBadTill, LacksRecord, open_intents}
 use Rattle.host_session.specs.Shop.{AreLedgerRecords, IsIntended, card_at, cards_in, intents, items, open_in, results, results_of}
 use Rattle.host_session.specs.declared.intents.Intent.{Intent}
 use Rattle.host_session.specs.declared.intents.NewQuantities.{NewQuantities}
-use Rattle.host_session.specs.declared.judgment.Tills.{Tills}
 use Rattle.host_session.proofs.Lists.{open_in-pending}
 use Rattle.host_session.proofs.TillTables.{nth-at}
 
@@ -45,17 +44,17 @@ card-record_at rs (suc n) c e = by 64 rs n e
     by (suc m) (r ∷ rs) zero e = (r, refl, e)
     by (suc m) (r ∷ rs) (suc n) e = by m rs n e
 
-module _ (f : Files) (t : Tills) (a : AreTills f t) where
+module _ (f : Files) (many : ℕ) (table : List (Option Card)) (a : AreTills f many table) where
   pub no-bad_till : HasNoBadTill f
   no-bad_till till x =
       let (good, has) = a.records till x.bytes x.low x.here in
       ⊎_elim (λ other. other good) has x.bad
 
-  pub two-open : 2 ≤ length (intents t.requests) → 2 ≤ open_intents f
-  two-open two = omega (arith, two, ap length (table-intents f t.requests a.table))
+  pub two-open : 2 ≤ length (intents table) → 2 ≤ open_intents f
+  two-open two = omega (arith, two, ap length (table-intents f table a.table))
 
   -- an open intent stands in its till's record
-  module _ (x : Intent) (h : IsOnlyIntent t.requests (intents t.requests) x) where
+  module _ (x : Intent) (h : IsOnlyIntent table (intents table) x) where
     stands : (bytes : List ℕ) × (record_at f.requests x.till ≡ Some bytes) × (request_card_of bytes ≡ Some x.card)
     stands = card-record_at f.requests x.till x.card (sym (a.table x.till) ∙ h.at)
 
@@ -63,27 +62,27 @@ module _ (f : Files) (t : Tills) (a : AreTills f t) where
     intent-fits = let (bytes, here, reads) = stands in ((card_is bytes x.card).0 reads).0
 
     intent-results : results (intents (cards_in f.requests)) ≡ results_of x.card.newest
-    intent-results = ap results (sym (table-intents f t.requests a.table) ∙ h.only) ∙ append-nil (results_of x.card.newest)
+    intent-results = ap results (sym (table-intents f table a.table) ∙ h.only) ∙ append-nil (results_of x.card.newest)
 
     has-record : (item : ℕ) → IsIntended f.requests item → IsSome (record_at f.stock item)
     has-record item intended =
         let (bytes, here, reads) = stands in
         let (good, has) = a.records x.till bytes h.high here in
         let mine : Contains (items (results (open_in (Some x.card)))) item
-        = subst (λ (cs : List Card). Contains (items (results cs)) item) (sym (table-intents f t.requests a.table) ∙ h.only ∙ sym (open_in-pending x.card h.pending)) intended in
+        = subst (λ (cs : List Card). Contains (items (results cs)) item) (sym (table-intents f table a.table) ∙ h.only ∙ sym (open_in-pending x.card h.pending)) intended in
         by (record_at f.stock item) refl (λ none. has (subst (λ (o : Option Card). LacksRecord f.stock o) (sym reads) (item, mine, none)))
       where
         by : (o : Option (List ℕ)) → record_at f.stock item ≡ o → ¬ (record_at f.stock item ≡ None) → IsSome (record_at f.stock item)
         by None e some = absurd (some e)
         by (Some bytes) e some = ap is_some e
 
-  pub given-fits : (o : Option Intent) → IsIntentOf t.requests o → IfSome o (λ x. (1 ≤ x.till) × (x.till ≤ 64) × IsCard x.card)
+  pub given-fits : (o : Option Intent) → IsIntentOf table o → IfSome o (λ x. (1 ≤ x.till) × (x.till ≤ 64) × IsCard x.card)
   given-fits None h = tt
   given-fits (Some x) h = (h.low, h.high, intent-fits x h)
 
-  pub judged-tills : (o : Option Intent) → IsIntentOf t.requests o → (x : NewQuantities) → listed x ≡ given o → HasJudgedTills f x
+  pub judged-tills : (o : Option Intent) → IsIntentOf table o → (x : NewQuantities) → listed x ≡ given o → HasJudgedTills f x
   judged-tills None h x e =
-      let none : intents (cards_in f.requests) ≡ [] = sym (table-intents f t.requests a.table) ∙ h in record {
+      let none : intents (cards_in f.requests) ≡ [] = sym (table-intents f table a.table) ∙ h in record {
         no_bad_till = no-bad_till;
         few = omega (arith, ap length none);
         new = e ∙ sym (ap results none);
@@ -91,16 +90,16 @@ module _ (f : Files) (t : Tills) (a : AreTills f t) where
       }
   judged-tills (Some y) h x e = record {
     no_bad_till = no-bad_till;
-    few = omega (arith, ap length (sym (table-intents f t.requests a.table) ∙ h.only));
+    few = omega (arith, ap length (sym (table-intents f table a.table) ∙ h.only));
     new = e ∙ sym (intent-results y h);
     there = has-record y h;
   }
 
   -- both files are a ledger's
-  pub ledger-judged : (table : List (Option ℕ)) (x : NewQuantities) → HasJudgedTills f x → AreCards f table → AreLedgerRecords f.stock f.requests
-  ledger-judged table x h cards = record {
+  pub ledger-judged : (cards : List (Option ℕ)) (x : NewQuantities) → HasJudgedTills f x → AreCards f cards → AreLedgerRecords f.stock f.requests
+  ledger-judged cards x h are = record {
     request_records = λ till bytes low here. (a.records till bytes low here).0;
     one_intent = h.few;
     intent_has_records = h.there;
-    stock_records = cards.records;
+    stock_records = are.records;
   }

@@ -1,5 +1,5 @@
 -- What opening tells of a disk, from what its steps tell.
-use Rattle.std.proofs.Common.{ℕ, ◌≡◌, ◌≢◌, ◌≤◌, ◌⊎◌, inl, inr, Err, IfErr, IfOk, IsOk, Ok, Result, ap, arith, refl, subst, sym, ◌∙◌}
+use Rattle.std.proofs.Common.{ℕ, ◌≡◌, ◌≢◌, ◌≤◌, ◌⊎◌, inl, inr, Err, IfErr, IfOk, IsOk, Ok, OnOk, Result, ap, arith, refl, subst, sym, ◌∙◌}
 use Rattle.d64_image.proofs.Moments.{changes_weaker, failed_later, never_failed}
 use Rattle.d64_image.specs.History.{Changes, Failed, History, NeverFailed}
 use Rattle.d64_image.specs.Images.{Image}
@@ -44,6 +44,27 @@ module _ {T D : Type 0} (S : History D) (f : T → D) (a b : D) (same : S.failur
       by (Ok x) told device never = refl
       by (Err e) (inl (is, failed)) device never = absurd (never_failed S a e.1 never (failed_later S a b e.1 same failed))
       by (Err e) (inr (other, none)) device never = absurd (other device)
+
+-- what is no error
+module _ {E : Type 0} (r : Result (Unit {0}) E) (none : (e : E) → r ≢ Err e) where
+  pub ok-of : (A : Type 0) → OnOk r A → A
+  ok-of A = by r none
+    where
+      by : (q : Result (Unit {0}) E) → ((e : E) → q ≢ Err e) → OnOk q A → A
+      by (Ok u) none known = known
+      by (Err e) none known = absurd (none e refl)
+
+pub judged-same : {D : Type 0} (S : History D) (a b : D) (r : Result (Unit {0}) OpenFault) → ((e : OpenFault) → r ≢ Err e) → TellsJudging S a b r → S.failures b ≡ S.failures a
+judged-same S a b (Ok u) none told = told
+judged-same S a b (Err e) none told = absurd (none e refl)
+
+-- an error handed on
+module _ {T D : Type 0} (S : History D) (f : T → D) (b : D) (r : Result T (OpenFault × D)) (e : OpenFault × D) (is : r ≡ Err e) where
+  pub error-told : ((e.0 ≡ faults.Device) × Failed S b e.1) ⊎ ((e.0 ≢ faults.Device) × (S.failures e.1 ≡ S.failures b)) → TellsOpening f S b r
+  error-told told = subst (TellsOpening f S b) (sym is) told
+
+  pub error-device : e.0 ≡ faults.Device → IfErr r (λ e. e.0 ≡ faults.Device)
+  error-device device = subst (λ (q : Result T (OpenFault × D)). IfErr q (λ e. e.0 ≡ faults.Device)) (sym is) device
 
 -- a fault that was judged
 pub judged-opening : {D : Type 0} (U : Type 0) (S : History D) (a b : D) (fault : OpenFault) → TellsJudging {T = U} S a b (Err fault)

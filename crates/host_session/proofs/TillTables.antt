@@ -19,7 +19,6 @@ use Rattle.host_session.specs.Shop.{IsRequestRecord, card_at, cards_in, intents,
 use Rattle.host_session.specs.Standing.{nth}
 use Rattle.host_session.specs.declared.intents.Intent.{Intent}
 use Rattle.host_session.specs.declared.intents.NewQuantities.{NewQuantities}
-use Rattle.host_session.specs.declared.judgment.Tills.{Tills}
 use Rattle.host_session.proofs.Lists.{open_in-answered, open_in-pending, record-within, record_at-map_take}
 
 -- one entry of a table changed
@@ -223,10 +222,10 @@ module _ (f : Files) (n : ℕ) (table : List (Option Card)) (few : n ≤ 64) (h 
       at = ap (option_and_then (λ c. c)) (record_at-map_take request_card_of 64 f.requests (n + 1) bytes (omega (arith, lt)) here) ∙ reads
 
   -- the last till, or the last that a card may stand for
-  pub tills-done : (n ≡ 64) ⊎ (length f.requests < n + 1) → (x : Tills) → x.count ≡ n → x.requests ≡ table → AreTills f x
-  tills-done end x count same = record {
-    count = count ∙ many;
-    table = λ t. ap (λ rs. nth rs t) same ∙ all t;
+  pub tills-done : (n ≡ 64) ⊎ (length f.requests < n + 1) → AreTills f n table
+  tills-done end = record {
+    count = many;
+    table = all;
     records = λ t bytes high here. elim (cases_lt n t) [
       | inr le ↦ h.records t bytes le here
       | inl gt ↦ absurd (none-some bytes (sym (record_at-past f.requests t (past t high gt)) ∙ here))

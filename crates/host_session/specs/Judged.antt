@@ -1,5 +1,5 @@
 -- What opening reads and judges before it writes, record by record. All of it is our own.
-use Rattle.std.specs.Prelude.{◌≡◌, ◌≤◌, ◌<◌, ◌⊎◌, ℕ, true, ◌++◌, List, [], ◌∷◌, Option, None, Some, Contains, IsSome, length}
+use Rattle.std.specs.Prelude.{◌≡◌, ◌≤◌, ◌<◌, ◌⊎◌, ℕ, true, ◌++◌, List, [], ◌∷◌, Option, None, Some, Contains, IsSome, length, replicate}
 use Rattle.request_cards.specs.CardReading.{request_card_of}
 use Rattle.request_cards.specs.CardTexts.{Card}
 use Rattle.request_cards.specs.Trade.{Cards}
@@ -10,7 +10,6 @@ use Rattle.host_session.specs.Standing.{nth}
 use Rattle.host_session.specs.declared.intents.Intent.{Intent}
 use Rattle.host_session.specs.declared.intents.NewQuantities.{NewQuantities}
 use Rattle.host_session.specs.declared.judgment.Judged.{Judged}
-use Rattle.host_session.specs.declared.judgment.Tills.{Tills}
 
 -- the new quantities, item by item
 abbrev pub pair_in : Option (ℕ × ℕ) → List (ℕ × ℕ)
@@ -48,9 +47,9 @@ pub record IsReadTo (f : Files) (last : ℕ) (table : List (Option Card)) : Type
       → IsRequestRecord bytes × ¬ (LacksRecord f.stock (request_card_of bytes))
 
 -- how many tills there are, and their cards; no till's record is bad
-pub record AreTills (f : Files) (x : Tills) : Type 0 where
-  pub count : x.count ≡ length (cards_in f.requests)
-  pub table : HasTills f x.requests
+pub record AreTills (f : Files) (many : ℕ) (cards : List (Option Card)) : Type 0 where
+  pub count : many ≡ length (cards_in f.requests)
+  pub table : HasTills f cards
   pub records : (till : ℕ) (bytes : List ℕ) → till ≤ 64 → record_at f.requests till ≡ Some bytes
       → IsRequestRecord bytes × ¬ (LacksRecord f.stock (request_card_of bytes))
 
@@ -104,6 +103,11 @@ pub record AreCards (f : Files) (table : List (Option ℕ)) : Type 0 where
   pub quantities : (item : ℕ) → nth table item ≡ (state_of f.stock f.requests).ledger.cards item
   pub records : (item : ℕ) (bytes : List ℕ) → record_at f.stock item ≡ Some bytes
       → IsIntended f.requests item ⊎ IsStockRecord item bytes
+
+-- nothing was read yet
+pub record IsNothing (x : Judged) : Type 0 where
+  pub cards : x.cards ≡ replicate 10160 None
+  pub requests : x.requests ≡ replicate 64 None
 
 -- what was read is what these files hold, and they are a ledger's
 pub record IsJudged (f : Files) (x : Judged) : Type 0 where

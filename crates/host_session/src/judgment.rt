@@ -1,9 +1,9 @@
 //! A disk read and judged before anything is written to it.
-ghost use Rattle.std.specs.Prelude.{◌≡◌, ◌≤◌, ◌⊎◌, IfErr, IfOk};
+ghost use Rattle.std.specs.Prelude.{◌≡◌, ◌≤◌, ◌⊎◌, IfErr, IfOk, None, OnOk, replicate};
 ghost use Rattle.d64_image.specs.History.{Failed, OnlyReads};
 ghost use Rattle.host_session.specs.Files.{Files, HasFiles};
 ghost use Rattle.host_session.specs.Found.{AreFilesOf};
-ghost use Rattle.host_session.specs.Judged.{AreCards, AreTills, HasJudgedTills, IsIntentOf, IsJudged, IsJudgedItem, IsJudgedTill};
+ghost use Rattle.host_session.specs.Judged.{AreCards, AreTills, HasJudgedTills, IsIntentOf, IsJudged, IsJudgedItem, IsJudgedTill, IsNothing};
 ghost use Rattle.host_session.specs.Opening.{IsBadCard, IsBadTill, Refuses, TellsJudging};
 ghost use Rattle.host_session.specs.declared.faults.OpenFault.TheVariants.{BadCard, BadRequestCard, Device};
 ghost use Rattle.rel_records.specs.Kept.{IsKept};
@@ -14,18 +14,12 @@ use crate::intents::{
     Intent, NewQuantities, given_by, new_quantities, new_quantity, open_intent, passes,
 };
 use crate::reading::{Held, read_item, read_till};
+use arrayvec::ArrayVec;
 use d64_image::Sectors;
 use rel_records::{LastBlock, records};
 use request_cards::RequestCard;
 
-/// The tills' cards, till 1 first, and how many tills there are.
-#[derive(Drop)]
-pub struct Tills {
-    count: u8,
-    requests: [Option<RequestCard>; 64],
-}
-
-/// What opening reads before it writes.
+/// What opening reads before it writes. It is large, so that each step fills it where it stands.
 #[derive(Drop)]
 pub struct Judged {
     /// The last item that a new card may have.
@@ -40,11 +34,27 @@ pub struct Judged {
     pub(crate) intent: Option<Intent>,
 }
 
+impl Judged {
+    /// Nothing was read yet.
+    pub(crate) fn nothing() -> Judged
+        ensures { IsNothing result }
+    {
+        Judged {
+            top: 0,
+            tills: 0,
+            cards: [None; 10160],
+            requests: [None; 64],
+            intent: None,
+        }
+    }
+}
+
 /// The card of a till whose record may stand; None past the last record.
 fn judge_till<D: Sectors>(
     disk: &mut D,
     files: &LedgerFiles,
     last: &mut LastBlock,
+    text: &mut ArrayVec<u8, 254>,
     till: u8,
 ) -> Result<Option<Option<RequestCard>>, OpenFault>
     requires of { (f : Files) × AreFilesOf (D.history.image disk.old) f files.now }
@@ -58,7 +68,7 @@ fn judge_till<D: Sectors>(
     ensures reads { OnlyReads D.history disk.old disk.new 3 }
     ensures failures { TellsJudging D.history disk.old disk.new result }
 {
-    let Some(held) = read_till(disk, files, last, till)? else {
+    let Some(held) = read_till(disk, files, last, text, till)? else {
         return Ok(None);
     };
     match held {
@@ -73,31 +83,29 @@ fn judge_till<D: Sectors>(
     }
 }
 
-/// The cards of all tills up to 64, of which the lowest bad one is told.
-fn read_tills<D: Sectors>(disk: &mut D, files: &LedgerFiles) -> Result<Tills, OpenFault>
+/// Reads the cards of all tills up to 64 into a table, and tells how many there are, or the lowest bad one.
+fn read_tills<D: Sectors>(
+    disk: &mut D,
+    files: &LedgerFiles,
+    requests: &mut [Option<RequestCard>; 64],
+) -> Result<u8, OpenFault>
     requires of { (f : Files) × AreFilesOf (D.history.image disk.old) f files.now }
-    ensures ok { (f : Files) → AreFilesOf (D.history.image disk.old) f files.now → IfOk result (AreTills f) }
+    requires none { requests.old ≡ replicate 64 None }
+    ensures ok { (f : Files) → AreFilesOf (D.history.image disk.old) f files.now
+        → IfOk result (λ count. AreTills f count requests.new) }
     ensures err { IfErr result (Refuses (Failed D.history disk.old disk.new) (D.history.image disk.old)) }
     ensures reads { OnlyReads D.history disk.old disk.new 192 }
     ensures failures { TellsJudging D.history disk.old disk.new result }
 {
     let mut last = LastBlock::none();
-    let mut requests = [None; 64];
+    let mut text = ArrayVec::new();
     for place in 0..64u8 {
-        match judge_till(disk, files, &mut last, place + 1)? {
+        match judge_till(disk, files, &mut last, &mut text, place + 1)? {
             Some(card) => requests[usize::from(place)] = card,
-            None => {
-                return Ok(Tills {
-                    count: place,
-                    requests,
-                });
-            }
+            None => return Ok(place),
         }
     }
-    Ok(Tills {
-        count: 64,
-        requests,
-    })
+    Ok(64)
 }
 
 /// The quantity on hand of an item whose record may stand, or is to have this new quantity; None past the last record.
@@ -105,6 +113,7 @@ fn judge_item<D: Sectors>(
     disk: &mut D,
     files: &LedgerFiles,
     last: &mut LastBlock,
+    text: &mut ArrayVec<u8, 254>,
     new: &NewQuantities,
     item: u16,
 ) -> Result<Option<Option<u32>>, OpenFault>
@@ -119,7 +128,7 @@ fn judge_item<D: Sectors>(
     ensures reads { OnlyReads D.history disk.old disk.new 3 }
     ensures failures { TellsJudging D.history disk.old disk.new result }
 {
-    let Some(held) = read_item(disk, files, last, item)? else {
+    let Some(held) = read_item(disk, files, last, text, item)? else {
         return Ok(None);
     };
     let intended = new_quantity(new, item);
@@ -138,63 +147,64 @@ fn judge_item<D: Sectors>(
     }
 }
 
-/// The quantities on hand of all items, of which the lowest bad card is told.
+/// Reads the quantities on hand of all items into a table. The lowest bad card is told.
 fn read_stock<D: Sectors>(
     disk: &mut D,
     files: &LedgerFiles,
     new: &NewQuantities,
-) -> Result<[Option<u32>; 10160], OpenFault>
+    cards: &mut [Option<u32>; 10160],
+) -> Result<(), OpenFault>
     requires of { (f : Files) × AreFilesOf (D.history.image disk.old) f files.now × HasJudgedTills f new.now }
+    requires none { cards.old ≡ replicate 10160 None }
     ensures ok { (f : Files) → AreFilesOf (D.history.image disk.old) f files.now → HasJudgedTills f new.now
-        → IfOk result (AreCards f) }
+        → OnOk result (AreCards f cards.new) }
     ensures err { IfErr result (Refuses (Failed D.history disk.old disk.new) (D.history.image disk.old)) }
     ensures reads { OnlyReads D.history disk.old disk.new 30480 }
     ensures failures { TellsJudging D.history disk.old disk.new result }
 {
     let mut last = LastBlock::none();
-    let mut cards = [None; 10160];
+    let mut text = ArrayVec::new();
     for place in 0..10160u16 {
-        match judge_item(disk, files, &mut last, new, place + 1)? {
+        match judge_item(disk, files, &mut last, &mut text, new, place + 1)? {
             Some(quantity) => cards[usize::from(place)] = quantity,
-            None => return Ok(cards),
+            None => return Ok(()),
         }
     }
-    Ok(cards)
+    Ok(())
 }
 
-/// The tills' cards, and the open intent among them, if there is one.
+/// Reads the tills' cards into a table, and tells how many there are, and the open intent among them, if there is one.
 fn judge_tills<D: Sectors>(
     disk: &mut D,
     files: &LedgerFiles,
-) -> Result<(Tills, Option<Intent>), OpenFault>
+    requests: &mut [Option<RequestCard>; 64],
+) -> Result<(u8, Option<Intent>), OpenFault>
     requires of { (f : Files) × AreFilesOf (D.history.image disk.old) f files.now }
+    requires none { requests.old ≡ replicate 64 None }
     ensures ok { (f : Files) → AreFilesOf (D.history.image disk.old) f files.now
-        → IfOk result (λ p. AreTills f p.0 × IsIntentOf p.0.requests p.1) }
+        → IfOk result (λ p. AreTills f p.0 requests.new × IsIntentOf requests.new p.1) }
     ensures err { IfErr result (Refuses (Failed D.history disk.old disk.new) (D.history.image disk.old)) }
     ensures reads { OnlyReads D.history disk.old disk.new 192 }
     ensures failures { TellsJudging D.history disk.old disk.new result }
 {
-    let tills = read_tills(disk, files)?;
-    let intent = open_intent(&tills.requests)?;
-    Ok((tills, intent))
+    let count = read_tills(disk, files, requests)?;
+    let intent = open_intent(requests)?;
+    Ok((count, intent))
 }
 
 /// Reads a disk and judges it, in the order of `OpenFault`. Nothing is written.
-pub(crate) fn judge<D: Sectors>(disk: &mut D) -> Result<Judged, OpenFault>
-    ensures ok { IfOk result (λ x. (f : Files) × HasFiles (D.history.image disk.old) f × IsJudged f x) }
+pub(crate) fn judge<D: Sectors>(disk: &mut D, found: &mut Judged) -> Result<(), OpenFault>
+    requires nothing { IsNothing found.old }
+    ensures ok { OnOk result ((f : Files) × HasFiles (D.history.image disk.old) f × IsJudged f found.new) }
     ensures err { IfErr result (Refuses (Failed D.history disk.old disk.new) (D.history.image disk.old)) }
     ensures reads { OnlyReads D.history disk.old disk.new 34190 }
     ensures failures { TellsJudging D.history disk.old disk.new result }
 {
     let files = find_files(disk)?;
-    let (tills, intent) = judge_tills(disk, &files)?;
-    let cards = read_stock(disk, &files, &given_by(&intent))?;
-    let Tills { count, requests } = tills;
-    Ok(Judged {
-        top: files.top,
-        tills: count,
-        cards,
-        requests,
-        intent,
-    })
+    let (tills, intent) = judge_tills(disk, &files, &mut found.requests)?;
+    read_stock(disk, &files, &given_by(&intent), &mut found.cards)?;
+    found.top = files.top;
+    found.tills = tills;
+    found.intent = intent;
+    Ok(())
 }

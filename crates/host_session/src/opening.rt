@@ -39,9 +39,18 @@ impl<D: Sectors> Session<D> {
         ensures failures { TellsOpening (λ x. x.disk) D.history disk result }
     {
         let mut disk = disk;
-        match judge(&mut disk) {
-            Ok(found) => settle(disk, found),
-            Err(fault) => Err((fault, disk)),
+        let mut found = Judged::nothing();
+        if let Err(fault) = judge(&mut disk, &mut found) {
+            return Err((fault, disk));
         }
+        let drive = settle(disk, &mut found)?;
+        Ok(Session {
+            drive,
+            top: found.top,
+            tills: found.tills,
+            dead: false,
+            cards: found.cards,
+            requests: found.requests,
+        })
     }
 }

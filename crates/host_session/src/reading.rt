@@ -69,11 +69,12 @@ fn held_by_item(bytes: &[u8; 18]) -> Held<StockCard>
 }
 
 /// What a till's record holds; None past the last record. Nothing is written. `last` is the block of REQUESTS that was read
-/// last.
+/// last, `text` is room for the record.
 pub(crate) fn read_till<D: Sectors>(
     disk: &mut D,
     files: &LedgerFiles,
     last: &mut LastBlock,
+    text: &mut ArrayVec<u8, 254>,
     till: u8,
 ) -> Result<Option<Held<RequestCard>>, OpenFault>
     requires of { (f : Files) × AreFilesOf (D.history.image disk.old) f files.now }
@@ -86,8 +87,7 @@ pub(crate) fn read_till<D: Sectors>(
     ensures reads { OnlyReads D.history disk.old disk.new 3 }
     ensures failures { TellsFailure D.history disk.old disk.new result }
 {
-    let mut text = ArrayVec::new();
-    match read_next(disk, &files.requests, last, u32::from(till), &mut text) {
+    match read_next(disk, &files.requests, last, u32::from(till), text) {
         Ok(()) => {
             let bytes = text.as_slice().first_chunk::<127>().unwrap();
             Ok(Some(held_by_till(bytes)))
@@ -100,11 +100,12 @@ pub(crate) fn read_till<D: Sectors>(
 }
 
 /// What an item's record holds; None past the last record. Nothing is written. `last` is the block of STOCK that was read
-/// last.
+/// last, `text` is room for the record.
 pub(crate) fn read_item<D: Sectors>(
     disk: &mut D,
     files: &LedgerFiles,
     last: &mut LastBlock,
+    text: &mut ArrayVec<u8, 254>,
     item: u16,
 ) -> Result<Option<Held<StockCard>>, OpenFault>
     requires of { (f : Files) × AreFilesOf (D.history.image disk.old) f files.now }
@@ -117,8 +118,7 @@ pub(crate) fn read_item<D: Sectors>(
     ensures reads { OnlyReads D.history disk.old disk.new 3 }
     ensures failures { TellsFailure D.history disk.old disk.new result }
 {
-    let mut text = ArrayVec::new();
-    match read_next(disk, &files.stock, last, u32::from(item), &mut text) {
+    match read_next(disk, &files.stock, last, u32::from(item), text) {
         Ok(()) => {
             let bytes = text.as_slice().first_chunk::<18>().unwrap();
             Ok(Some(held_by_item(bytes)))

@@ -18,12 +18,12 @@ use std::marker::Model;
 /// device has failed the session is dead: nothing is written any more, and the disk is to be opened again.
 pub struct Session<D: Sectors> {
     pub(crate) drive: Drive<D>,
-    /// Whether the device failed.
-    pub(crate) dead: bool,
     /// The last item that a new card may have.
     pub(crate) top: u16,
     /// How many tills the disk has.
     pub(crate) tills: u8,
+    /// Whether the device failed.
+    pub(crate) dead: bool,
     /// The quantity on hand of each item, from item 1 on; as many as the largest file has records.
     pub(crate) cards: [Option<u32>; 10160],
     /// The card of each till, from till 1 on.

@@ -7,6 +7,7 @@ ghost use Rattle.host_session.specs.Opening.{TellsOpening, Untouched, disk_of};
 ghost use Rattle.host_session.specs.Selecting.{IsReady};
 ghost use Rattle.host_session.specs.Settling.{HasNewTable, HasTable};
 ghost use Rattle.host_session.specs.Shop.{IsSettled, IsShop, Shop, any_old};
+ghost use Rattle.host_session.specs.Standing.{IsStanding, state_in};
 ghost use Rattle.host_session.specs.declared.faults.OpenFault.TheVariants.{Device};
 
 use crate::faults::OpenFault;
@@ -14,7 +15,6 @@ use crate::intents::Intent;
 use crate::judgment::Judged;
 use crate::migrating::migrate;
 use crate::recovery::recover;
-use crate::session::Session;
 use crate::starting::start;
 use d64_image::Sectors;
 use drive_channels::{Dead, Drive};
@@ -41,11 +41,14 @@ fn bring_to_rest<D: Sectors>(
     migrate(drive, requests)
 }
 
-/// Mends a shop's disk that was judged, and brings it to rest.
-pub(crate) fn settle<D: Sectors>(disk: D, found: Judged) -> Result<Session<D>, (OpenFault, D)>
-    requires judged { (f : Files) × HasFiles (D.history.image disk) f × IsJudged f found }
+/// Mends a shop's disk that was judged, and brings it to rest. What was found is then as the disk has it at rest.
+pub(crate) fn settle<D: Sectors>(disk: D, found: &mut Judged) -> Result<Drive<D>, (OpenFault, D)>
+    requires judged { (f : Files) × HasFiles (D.history.image disk) f × IsJudged f found.old }
+    ensures ready { IfOk result (λ x. IsReady D.history x) }
+    ensures standing { IfOk result (λ x. IsStanding (D.history.image x.disk) false found.new.top found.new.tills
+        (state_in found.new.cards found.new.requests)) }
     ensures ok { (s : Shop) → IsShop (D.history.image disk) s
-        → IfOk result (λ x. IsSettled (D.history.image x.disk) s × (x.dead ≡ false)) }
+        → IfOk result (λ x. IsSettled (D.history.image x.disk) s) }
     ensures err { IfErr result (λ e. e.0 ≡ Device) }
     ensures moments { (s : Shop) → IsShop (D.history.image disk) s
         → Changes D.history disk (disk_of (λ x. x.disk) result) 952 (λ c. IsShop c s) }
@@ -53,22 +56,8 @@ pub(crate) fn settle<D: Sectors>(disk: D, found: Judged) -> Result<Session<D>, (
     ensures failures { TellsOpening (λ x. x.disk) D.history disk result }
 {
     let mut drive = start(disk)?;
-    let Judged {
-        top,
-        tills,
-        cards,
-        mut requests,
-        intent,
-    } = found;
-    match bring_to_rest(&mut drive, &intent, &mut requests) {
-        Ok(()) => Ok(Session {
-            drive,
-            dead: false,
-            top,
-            tills,
-            cards,
-            requests,
-        }),
+    match bring_to_rest(&mut drive, &found.intent, &mut found.requests) {
+        Ok(()) => Ok(drive),
         Err(Dead) => Err((OpenFault::Device, drive.into_disk())),
     }
 }

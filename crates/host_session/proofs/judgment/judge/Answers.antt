@@ -17,13 +17,19 @@ pub returns-in_err-tills-clause-reads : goal.returns-in_err-tills-clause-reads
 returns-in_err-tills-clause-reads g c =
     reads_then g.D.Sectors.history c.args.disk.now c.find_files.new.disk c.judge_tills.new.disk 3518 192 34190 (omega arith) c.find_files.ensures.reads c.judge_tills.ensures.reads
 
+pub judge_tills-requires-clause-of : goal.judge_tills-requires-clause-of
+judge_tills-requires-clause-of g c =
+    let S = g.D.Sectors.history in
+    let (f, a) = c.in_ok-files.ensures.ok in
+    (f, files-still (S.image c.args.disk.now) (S.image c.find_files.new.disk) f c.in_ok-files.files c.find_files.ensures.reads.image a)
+
 pub given_by-requires : goal.given_by-requires
 given_by-requires g c =
     let S = g.D.Sectors.history in
     let (f, a) = c.in_ok-files.ensures.ok in
     let one = files-still (S.image c.args.disk.now) (S.image c.find_files.new.disk) f c.in_ok-files.files c.find_files.ensures.reads.image a in
     let (tills, intent) = c.in_ok-tills.ensures.ok f one in
-    given-fits f c.in_ok-tills.tills tills c.in_ok-tills.intent intent
+    given-fits f c.in_ok-tills.tills c.judge_tills.new.requests tills c.in_ok-tills.intent intent
 
 pub read_stock-requires : goal.read_stock-requires
 read_stock-requires g c =
@@ -32,17 +38,17 @@ read_stock-requires g c =
     let one = files-still (S.image c.args.disk.now) (S.image c.find_files.new.disk) f c.in_ok-files.files c.find_files.ensures.reads.image a in
     let two = files-still (S.image c.find_files.new.disk) (S.image c.judge_tills.new.disk) f c.in_ok-files.files c.judge_tills.ensures.reads.image one in
     let (tills, intent) = c.in_ok-tills.ensures.ok f one in
-    record { of = (f, two, judged-tills f c.in_ok-tills.tills tills c.in_ok-tills.intent intent c.given_by.result c.given_by.ensures) }
+    record { of = (f, two, judged-tills f c.in_ok-tills.tills c.judge_tills.new.requests tills c.in_ok-tills.intent intent c.given_by.result c.given_by.ensures); none = c.requires.nothing.cards }
 
-pub returns-in_err-cards-clause-err : goal.returns-in_err-cards-clause-err
-returns-in_err-cards-clause-err g c =
+pub returns-in_err-read_stock-clause-err : goal.returns-in_err-read_stock-clause-err
+returns-in_err-read_stock-clause-err g c =
     let S = g.D.Sectors.history in
-    let p = err_from_is_err_and c.from_residual-in_err-cards.result c.from_residual-in_err-cards.ensures.1 in
-    refused-error S c.args.disk.now c.judge_tills.new.disk c.read_stock.new.disk c.in_err-cards.field-0.0 c.from_residual-in_err-cards.result (p.1 ∙ ap Err p.2)
-    (c.judge_tills.ensures.reads.image ∙ c.find_files.ensures.reads.image) (c.in_ok-tills.ensures.failures ∙ c.in_ok-files.ensures.failures) c.in_err-cards.ensures.err
+    let p = err_from_is_err_and c.from_residual-in_err-read_stock.result c.from_residual-in_err-read_stock.ensures.1 in
+    refused-error S c.args.disk.now c.judge_tills.new.disk c.read_stock.new.disk c.in_err-read_stock.field-0.0 c.from_residual-in_err-read_stock.result (p.1 ∙ ap Err p.2)
+    (c.judge_tills.ensures.reads.image ∙ c.find_files.ensures.reads.image) (c.in_ok-tills.ensures.failures ∙ c.in_ok-files.ensures.failures) c.in_err-read_stock.ensures.err
 
-pub returns-in_err-cards-clause-reads : goal.returns-in_err-cards-clause-reads
-returns-in_err-cards-clause-reads g c =
+pub returns-in_err-read_stock-clause-reads : goal.returns-in_err-read_stock-clause-reads
+returns-in_err-read_stock-clause-reads g c =
     let S = g.D.Sectors.history in
     reads_then S c.args.disk.now c.judge_tills.new.disk c.read_stock.new.disk 3710 30480 34190 (omega arith)
     (reads_then S c.args.disk.now c.find_files.new.disk c.judge_tills.new.disk 3518 192 3710 (omega arith) c.find_files.ensures.reads c.judge_tills.ensures.reads) c.read_stock.ensures.reads
@@ -54,12 +60,12 @@ returns-clause-ok g c =
     let one = files-still (S.image c.args.disk.now) (S.image c.find_files.new.disk) f c.in_ok-files.files c.find_files.ensures.reads.image a in
     let two = files-still (S.image c.find_files.new.disk) (S.image c.judge_tills.new.disk) f c.in_ok-files.files c.judge_tills.ensures.reads.image one in
     let (tills, intent) = c.in_ok-tills.ensures.ok f one in
-    let judged = judged-tills f c.in_ok-tills.tills tills c.in_ok-tills.intent intent c.given_by.result c.given_by.ensures in
-    let cards = c.in_ok-cards.ensures.ok f two judged in (
+    let judged = judged-tills f c.in_ok-tills.tills c.judge_tills.new.requests tills c.in_ok-tills.intent intent c.given_by.result c.given_by.ensures in
+    let cards = c.in_ok-read_stock.ensures.ok f two judged in (
       f,
       a.has,
       record {
-        records = ledger-judged f c.in_ok-tills.tills tills _ c.given_by.result judged cards;
+        records = ledger-judged f c.in_ok-tills.tills c.judge_tills.new.requests tills _ c.given_by.result judged cards;
         top = a.top_is;
         tills = tills.count;
         requests = tills.table;

@@ -14,7 +14,7 @@ use Rattle.rel_records.specs.Kept.{IsKept}
 use Rattle.host_session.proofs.judgment.read_stock.Goals as goal
 
 pub loop-place-init : goal.loop-place-init
-loop-place-init g c = record { reads = no_reads g.D.Sectors.history c.args.disk.now; kept = none-kept _ _ _ c.none-last.ensures; failures = refl; few = omega arith; so_far = λ f a h. card-start f c.args.new.now h }
+loop-place-init g c = record { reads = no_reads g.D.Sectors.history c.args.disk.now; kept = none-kept _ _ _ c.none-last.ensures; failures = refl; few = omega arith; so_far = λ f a h. subst (IsCountedTo f 0) (sym c.requires.none) (card-start f c.args.new.now h) }
 
 pub judge_item-requires-clause-of : goal.judge_item-requires-clause-of
 judge_item-requires-clause-of g c =
@@ -38,7 +38,7 @@ returns-in_err-quantity-clause-err g c =
     let refused = card-refused (Failed S c.args.disk.now c.judge_item.new.disk) old f c.args.new.now h c.loop-place.place c.loop-place.cards inv.few a.has (inv.so_far f a h) c.in_err-quantity.field-0.0
     (λ e. failed_later S c.args.disk.now c.loop-place.disk c.judge_item.new.disk inv.failures (judged-device (Option (Option ℕ)) S c.loop-place.disk c.judge_item.new.disk c.in_err-quantity.field-0.0 c.in_err-quantity.ensures.failures e))
     (c.in_err-quantity.ensures.err f now h) in
-    subst (λ (r : Result (List (Option ℕ)) OpenFault). IfErr r (Refuses (Failed S c.args.disk.now c.judge_item.new.disk) old)) (sym (p.1 ∙ ap Err p.2)) refused
+    subst (λ (r : Result Unit OpenFault). IfErr r (Refuses (Failed S c.args.disk.now c.judge_item.new.disk) old)) (sym (p.1 ∙ ap Err p.2)) refused
 
 pub returns-in_err-quantity-clause-reads : goal.returns-in_err-quantity-clause-reads
 returns-in_err-quantity-clause-reads g c =

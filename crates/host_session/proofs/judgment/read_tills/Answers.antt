@@ -1,13 +1,12 @@
 -- One till more is read in each turn; the first bad one is the lowest.
-use Rattle.std.proofs.Common.{Err, IfErr, Option, Result, ap, arith, inl, inr, refl, set, subst, sym, ◌*◌, ◌+◌, ◌∙◌, ◌≡◌}
+use Rattle.std.proofs.Common.{ℕ, Err, IfErr, Option, Result, ap, arith, inl, inr, refl, set, subst, sym, ◌*◌, ◌+◌, ◌∙◌, ◌≡◌}
 use Rattle.std.proofs.lemmas.Result.{err_from_is_err_and}
 use Rattle.d64_image.proofs.Moments.{failed_later, no_reads, reads_then, reads_weaker}
 use Rattle.d64_image.specs.History.{Failed}
 use Rattle.d64_image.specs.Images.{Image}
 use Rattle.request_cards.specs.CardTexts.{Card}
-use Rattle.host_session.specs.Judged.{IsJudgedTill, IsReadTo}
+use Rattle.host_session.specs.Judged.{AreTills, IsJudgedTill, IsReadTo}
 use Rattle.host_session.specs.Opening.{Refuses}
-use Rattle.host_session.specs.declared.judgment.Tills.{Tills}
 use Rattle.host_session.specs.declared.faults.OpenFault.{OpenFault}
 use Rattle.host_session.proofs.Judgments.{files-still, judged-device, judged-error, till-refused}
 use Rattle.host_session.proofs.TillTables.{till-more, till-start, tills-done}
@@ -16,7 +15,7 @@ use Rattle.rel_records.specs.Kept.{IsKept}
 use Rattle.host_session.proofs.judgment.read_tills.Goals as goal
 
 pub loop-place-init : goal.loop-place-init
-loop-place-init g c = record { reads = no_reads g.D.Sectors.history c.args.disk.now; kept = none-kept _ _ _ c.none-last.ensures; failures = refl; few = omega arith; so_far = λ f a. till-start f }
+loop-place-init g c = record { reads = no_reads g.D.Sectors.history c.args.disk.now; kept = none-kept _ _ _ c.none-last.ensures; failures = refl; few = omega arith; so_far = λ f a. subst (IsReadTo f 0) (sym c.requires.none) (till-start f) }
 
 pub judge_till-requires-clause-of : goal.judge_till-requires-clause-of
 judge_till-requires-clause-of g c =
@@ -40,7 +39,7 @@ returns-in_err-card-clause-err g c =
     let refused = till-refused (Failed S c.args.disk.now c.judge_till.new.disk) old f c.loop-place.place c.loop-place.requests inv.few a.has (inv.so_far f a) c.in_err-card.field-0.0
     (λ e. failed_later S c.args.disk.now c.loop-place.disk c.judge_till.new.disk inv.failures (judged-device (Option (Option Card)) S c.loop-place.disk c.judge_till.new.disk c.in_err-card.field-0.0 c.in_err-card.ensures.failures e))
     (c.in_err-card.ensures.err f now) in
-    subst (λ (r : Result Tills OpenFault). IfErr r (Refuses (Failed S c.args.disk.now c.judge_till.new.disk) old)) (sym (p.1 ∙ ap Err p.2)) refused
+    subst (λ (r : Result ℕ OpenFault). IfErr r (Refuses (Failed S c.args.disk.now c.judge_till.new.disk) old)) (sym (p.1 ∙ ap Err p.2)) refused
 
 pub returns-in_err-card-clause-reads : goal.returns-in_err-card-clause-reads
 returns-in_err-card-clause-reads g c =
@@ -58,7 +57,7 @@ returns-in-None-clause-ok g c = λ f a.
     let S = g.D.Sectors.history in
     let inv = c.loop-place.invariant in
     let now = files-still (S.image c.args.disk.now) (S.image c.loop-place.disk) f c.args.files.now inv.reads.image a in
-    tills-done f c.loop-place.place c.loop-place.requests inv.few (inv.so_far f a) (inr (subst (IsJudgedTill f (c.loop-place.place + 1)) c.in-None.is (c.in_ok-card.ensures.ok f now))) _ refl refl
+    tills-done f c.loop-place.place c.loop-place.requests inv.few (inv.so_far f a) (inr (subst (IsJudgedTill f (c.loop-place.place + 1)) c.in-None.is (c.in_ok-card.ensures.ok f now)))
 
 pub returns-in-None-clause-reads : goal.returns-in-None-clause-reads
 returns-in-None-clause-reads g c =
@@ -83,7 +82,7 @@ pub returns-clause-ok : goal.returns-clause-ok
 returns-clause-ok g c = λ f a.
     let inv = c.loop-place.invariant in
     let n : c.loop-place.place ≡ 64 = omega (arith, inv.few, c.loop-place-test.false) in
-    tills-done f c.loop-place.place c.loop-place.requests inv.few (inv.so_far f a) (inl n) _ (sym n) refl
+    subst (λ (m : ℕ). AreTills f m c.loop-place.requests) n (tills-done f c.loop-place.place c.loop-place.requests inv.few (inv.so_far f a) (inl n))
 
 pub returns-clause-reads : goal.returns-clause-reads
 returns-clause-reads g c = reads_weaker g.D.Sectors.history c.args.disk.now c.loop-place.disk (3 * c.loop-place.place) 192 (omega (arith, c.loop-place.invariant.few)) c.loop-place.invariant.reads

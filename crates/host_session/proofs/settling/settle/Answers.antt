@@ -22,28 +22,28 @@ pub bring_to_rest-requires-clause-table : goal.bring_to_rest-requires-clause-tab
 bring_to_rest-requires-clause-table g c =
     let S = g.D.Sectors.history in
     let (f, has, j) = c.requires.judged in
-    (shop_of f, judged-table (S.image c.in_ok-drive.drive.disk) f c.args.found (c.in_ok-drive.ensures.files f has) j, j.intent)
+    (shop_of f, judged-table (S.image c.in_ok-drive.drive.disk) f c.args.found.now (c.in_ok-drive.ensures.files f has) j, j.intent)
 
-pub invariant_of-result : goal.invariant_of-result
-invariant_of-result g c =
+pub returns-in-Ok-clause-standing : goal.returns-in-Ok-clause-standing
+returns-in-Ok-clause-standing g c =
     let S = g.D.Sectors.history in
     let (f, has, j) = c.requires.judged in
-    let table = judged-table (S.image c.in_ok-drive.drive.disk) f c.args.found (c.in_ok-drive.ensures.files f has) j in
-    (standing (S.image c.bring_to_rest.new.drive.disk) f c.args.found j c.bring_to_rest.new.requests (c.in-Ok.ensures.ok (shop_of f) table j.intent) c.in-Ok.ensures.ready.clean, λ _. c.in-Ok.ensures.ready)
+    let table = judged-table (S.image c.in_ok-drive.drive.disk) f c.args.found.now (c.in_ok-drive.ensures.files f has) j in
+    standing (S.image c.bring_to_rest.new.drive.disk) f c.args.found.now j c.bring_to_rest.new.requests (c.in-Ok.ensures.ok (shop_of f) table j.intent) c.in-Ok.ensures.ready.clean
 
 pub returns-in-Ok-clause-ok : goal.returns-in-Ok-clause-ok
 returns-in-Ok-clause-ok g c = λ s h.
     let S = g.D.Sectors.history in
     let (f, has, j) = c.requires.judged in
-    let table = judged-table (S.image c.in_ok-drive.drive.disk) f c.args.found (c.in_ok-drive.ensures.files f has) j in
+    let table = judged-table (S.image c.in_ok-drive.drive.disk) f c.args.found.now (c.in_ok-drive.ensures.files f has) j in
     let same = IsShop-one (S.image c.args.disk) (shop_of f) s (record { files = f; has = has; records = j.records; is = refl }) h in
-    (subst (IsSettled (S.image c.bring_to_rest.new.drive.disk)) same (at-rest (S.image c.bring_to_rest.new.drive.disk) (shop_of f) c.bring_to_rest.new.requests (c.in-Ok.ensures.ok (shop_of f) table j.intent) c.in-Ok.ensures.ready.clean), refl)
+    subst (IsSettled (S.image c.bring_to_rest.new.drive.disk)) same (at-rest (S.image c.bring_to_rest.new.drive.disk) (shop_of f) c.bring_to_rest.new.requests (c.in-Ok.ensures.ok (shop_of f) table j.intent) c.in-Ok.ensures.ready.clean)
 
 pub returns-in-Ok-clause-moments : goal.returns-in-Ok-clause-moments
 returns-in-Ok-clause-moments g c = λ s h.
     let S = g.D.Sectors.history in
     let (f, has, j) = c.requires.judged in
-    let table = judged-table (S.image c.in_ok-drive.drive.disk) f c.args.found (c.in_ok-drive.ensures.files f has) j in
+    let table = judged-table (S.image c.in_ok-drive.drive.disk) f c.args.found.now (c.in_ok-drive.ensures.files f has) j in
     let same = IsShop-one (S.image c.args.disk) (shop_of f) s (record { files = f; has = has; records = j.records; is = refl }) h in
     changes_then S c.args.disk c.in_ok-drive.drive.disk c.bring_to_rest.new.drive.disk 883 69 952 (λ i. IsShop i s) (omega arith) (c.in_ok-drive.ensures.moments s h)
     (subst (λ t. Changes S c.in_ok-drive.drive.disk c.bring_to_rest.new.drive.disk 69 (λ i. IsShop i t)) same (c.bring_to_rest.ensures.moments (shop_of f) table j.intent))
@@ -52,15 +52,15 @@ pub returns-in-Ok-clause-quiet : goal.returns-in-Ok-clause-quiet
 returns-in-Ok-clause-quiet g c = λ s r.
     let S = g.D.Sectors.history in
     let (f, has, j) = c.requires.judged in
-    let none = rest-intent (S.image c.args.disk) s r f has c.args.found j in
-    let stays = subst (λ o. IfNone o (any_old c.args.found.requests ≡ false → c.bring_to_rest.new.drive ≡ c.in_ok-drive.drive)) none c.bring_to_rest.ensures.quiet (rest-cards (S.image c.args.disk) s r f has c.args.found j) in
+    let none = rest-intent (S.image c.args.disk) s r f has c.args.found.now j in
+    let stays = subst (λ o. IfNone o (any_old c.args.found.now.requests ≡ false → c.bring_to_rest.new.drive ≡ c.in_ok-drive.drive)) none c.bring_to_rest.ensures.quiet (rest-cards (S.image c.args.disk) s r f has c.args.found.now j) in
     subst (λ (d : Seen g.row.D.Denot). Untouched S c.args.disk d.disk) (sym stays) (c.in_ok-drive.ensures.quiet r.clean)
 
 pub returns-in-Err-clause-moments : goal.returns-in-Err-clause-moments
 returns-in-Err-clause-moments g c = λ s h.
     let S = g.D.Sectors.history in
     let (f, has, j) = c.requires.judged in
-    let table = judged-table (S.image c.in_ok-drive.drive.disk) f c.args.found (c.in_ok-drive.ensures.files f has) j in
+    let table = judged-table (S.image c.in_ok-drive.drive.disk) f c.args.found.now (c.in_ok-drive.ensures.files f has) j in
     let same = IsShop-one (S.image c.args.disk) (shop_of f) s (record { files = f; has = has; records = j.records; is = refl }) h in
     subst (λ d. Changes S c.args.disk d 952 (λ i. IsShop i s)) (sym c.into_disk.ensures)
     (changes_then S c.args.disk c.in_ok-drive.drive.disk c.bring_to_rest.new.drive.disk 883 69 952 (λ i. IsShop i s) (omega arith) (c.in_ok-drive.ensures.moments s h)
@@ -70,6 +70,6 @@ pub returns-in-Err-clause-quiet : goal.returns-in-Err-clause-quiet
 returns-in-Err-clause-quiet g c = λ s r.
     let S = g.D.Sectors.history in
     let (f, has, j) = c.requires.judged in
-    let none = rest-intent (S.image c.args.disk) s r f has c.args.found j in
-    let stays = subst (λ o. IfNone o (any_old c.args.found.requests ≡ false → c.bring_to_rest.new.drive ≡ c.in_ok-drive.drive)) none c.bring_to_rest.ensures.quiet (rest-cards (S.image c.args.disk) s r f has c.args.found j) in
+    let none = rest-intent (S.image c.args.disk) s r f has c.args.found.now j in
+    let stays = subst (λ o. IfNone o (any_old c.args.found.now.requests ≡ false → c.bring_to_rest.new.drive ≡ c.in_ok-drive.drive)) none c.bring_to_rest.ensures.quiet (rest-cards (S.image c.args.disk) s r f has c.args.found.now j) in
     subst (λ d. Untouched S c.args.disk d) (sym c.into_disk.ensures) (subst (λ (d : Seen g.row.D.Denot). Untouched S c.args.disk d.disk) (sym stays) (c.in_ok-drive.ensures.quiet r.clean))
