@@ -1,7 +1,9 @@
 -- The words that the program takes (our own), as `clap` reads a command line.
-use Rattle.std.specs.Prelude.{List, Some, true, [], codes}
+use Rattle.std.specs.Prelude.{◌≡◌, List, Result, Ok, Err, Some, true, false, [], codes}
 use Rattle.std.specs.Prelude.{unwrap_or}
-use Rattle.clap.specs.Words.{App, Row, Rule, Text, first_of, new_app, new_rule, with_rule, with_subcommand}
+use Rattle.clap.specs.declared.builder.command.Command.{Command}
+use Rattle.clap.specs.declared.builder.command.Command.TheViews.{out-Command}
+use Rattle.clap.specs.Words.{app_of, App, Row, Rule, Text, first_of, new_app, new_rule, with_rule, with_subcommand}
 
 -- a value that is required, shown by this name
 abbrev pub required : Text → Rule
@@ -47,11 +49,20 @@ with_required_subcommand a = record { top = record a.top { subcommand_required =
 abbrev pub with_version : App → App
 with_version a = record { top = record a.top { has_version = true }; subs = a.subs }
 
+-- the program without its subcommands
+abbrev pub bare : App
+bare = with_required_subcommand (with_version (new_app (codes "ledger_cli")))
+
 -- the program with its subcommands
 abbrev pub ledger : App
 ledger = with_subcommand (with_subcommand (with_subcommand (with_subcommand (with_subcommand (with_subcommand
-    (with_required_subcommand (with_version (new_app (codes "ledger_cli")))) format.top) list.top) check.top) show.top) play.top) dry.top
+    bare format.top) list.top) check.top) show.top) play.top) dry.top
 
 -- the value of an argument, or an empty text where it has none
 abbrev pub value : Text → List Row → Text
 value id rows = unwrap_or (first_of id rows) []
+
+-- a program that has one subcommand more, if that could be made
+abbrev pub AddsTo : {E : Type 0} → App → Result Command E → Command → Type 0
+AddsTo app (Ok subcommand) program = (out-Command subcommand).has_globals ≡ false → app_of program ≡ with_subcommand app (app_of subcommand).top
+AddsTo app (Err _) program = ⊥

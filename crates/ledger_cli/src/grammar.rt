@@ -41,9 +41,8 @@ fn format_command<'a>(alloc: Global) -> Result<Command<'a>, AllocError>
     ensures local { IfOk result (λ c. (out-Command c).has_globals ≡ false) }
 {
     let about = "Makes the image of an empty shop, or replaces it";
-    let tills = required_behind(alloc, "tills", "T", "How many tills the shop has, 1 to 64");
-    let command = over_image(alloc, "format", about)?;
-    command.arg(tills)
+    let help = "How many tills the shop has, 1 to 64";
+    over_image(alloc, "format", about)?.arg(required_behind(alloc, "tills", "T", help))
 }
 
 /// `list IMAGE`
@@ -96,9 +95,7 @@ fn play_command<'a>(alloc: Global) -> Result<Command<'a>, AllocError>
     ensures local { IfOk result (λ c. (out-Command c).has_globals ≡ false) }
 {
     let about = "Plays the messages of a script on the image, and prints the reply to each";
-    let script = script_of(alloc);
-    let command = over_image(alloc, "play", about)?;
-    command.arg(script)
+    over_image(alloc, "play", about)?.arg(script_of(alloc))
 }
 
 /// `dry SCRIPT`
@@ -114,25 +111,36 @@ fn dry_command<'a>(alloc: Global) -> Result<Command<'a>, AllocError>
         .arg(script)
 }
 
-/// The program's command line.
-pub fn ledger_command<'a>(alloc: Global) -> Result<Command<'a>, AllocError>
-    ensures { IfOk result (λ c. app_of c ≡ grammar.ledger) }
+/// The program without its subcommands.
+fn bare<'a>(alloc: Global) -> Command<'a>
+    ensures { app_of result ≡ grammar.bare }
 {
-    let format = format_command(alloc)?;
-    let list = list_command(alloc)?;
-    let check = check_command(alloc)?;
-    let show = show_command(alloc)?;
-    let play = play_command(alloc)?;
-    let dry = dry_command(alloc)?;
     Command::new(alloc, "ledger_cli")
         .about("A retry-safe stock ledger: a request that comes again gets its first answer")
         .after_help("README.md says what each subcommand does, and what is proved of it.")
         .version(VERSION)
         .subcommand_required(true)
-        .subcommand(format)?
-        .subcommand(list)?
-        .subcommand(check)?
-        .subcommand(show)?
-        .subcommand(play)?
-        .subcommand(dry)
+}
+
+/// Adds a subcommand, where there was memory for it.
+fn adds<'a>(
+    program: Command<'a>,
+    subcommand: Result<Command<'a>, AllocError>,
+) -> Result<Command<'a>, AllocError>
+    ensures { IfOk result (grammar.AddsTo (app_of program.entry) subcommand.entry) }
+{
+    program.subcommand(subcommand?)
+}
+
+/// The program's command line.
+pub fn ledger_command<'a>(alloc: Global) -> Result<Command<'a>, AllocError>
+    ensures { IfOk result (λ c. app_of c ≡ grammar.ledger) }
+{
+    let program = bare(alloc);
+    let program = adds(program, format_command(alloc))?;
+    let program = adds(program, list_command(alloc))?;
+    let program = adds(program, check_command(alloc))?;
+    let program = adds(program, show_command(alloc))?;
+    let program = adds(program, play_command(alloc))?;
+    adds(program, dry_command(alloc))
 }

@@ -2,12 +2,10 @@
 use Rattle.std.proofs.Common.{◌≡◌, true, refl, ap, ◌∙◌, subst}
 use Rattle.std.specs.Prelude.{map}
 use Rattle.clap.specs.Words.{App, HasKind, fault_of, is_simple_and_free}
-use Rattle.clap.proofs.OnLiterals.{clap_on_literals}
 use Rattle.ledger_cli.specs.Grammar.{ledger}
 use Rattle.ledger_cli.proofs.words.job.Goals as goal
 
 free : is_simple_and_free ledger ≡ true
-unfolding clap_on_literals
 free = refl
 
 pub returns-in-Err-try_get_matches_from-clause-err : goal.returns-in-Err-try_get_matches_from-clause-err
