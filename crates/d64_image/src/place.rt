@@ -1,5 +1,5 @@
 //! Where a sector lies: its track and its sector, which together are on the disk.
-ghost use Rattle.std.specs.Prelude.{◌<◌, ◌≡◌, ◌↔◌, IsSome};
+ghost use Rattle.std.specs.Prelude.{◌<◌, ◌≡◌, ◌↔◌, IsSome, Some};
 ghost use Rattle.d64_image.specs.Geometry.{sectors_on};
 
 /// A place on the disk: a track from 1 to 35, and a sector from 0 on that the track has.
@@ -42,6 +42,14 @@ impl Place {
         } else {
             None
         }
+    }
+
+    /// The place with this track and this sector, where the caller knows that the disk has it: nothing is asked.
+    pub fn known(track: u8, sector: u8) -> Place
+        requires { IsSome (place_at track sector) }
+        ensures { place_at track sector ≡ Some result }
+    {
+        Place { track, sector }
     }
 
     /// The track, from 1 to 35.

@@ -14,7 +14,7 @@ ghost use Rattle.rel_records.specs.Steps.{HasRun, IsAt, IsFilledUp, IsKeptOf, Is
 ghost use Rattle.rel_records.specs.Written.{IsGrowingBy, IsGrowingTo, grown_to};
 ghost use Rattle.rel_records.specs.declared.faults.RelFault.TheVariants.{Device, Full, TooLarge};
 
-use crate::counting::records;
+use crate::counting::{has_records, records};
 use crate::faults::RelFault;
 use crate::filling::fill_up;
 use crate::gathering::read_parts;
@@ -58,7 +58,7 @@ pub fn grow_to<D: Sectors>(disk: &mut D, file: &mut RelFile, number: u32) -> Res
     ensures entry { entry_of file.new ≡ entry_of file.old }
     ensures failures { TellsRelFault D.history disk.old disk.new result }
 {
-    if number <= records(file) {
+    if has_records(file, number) {
         return Ok(());
     }
     let Some(wanted) = blocks_for(number, file.size) else {

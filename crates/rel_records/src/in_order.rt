@@ -9,7 +9,7 @@ ghost use Rattle.rel_records.specs.Kept.{IsKept, number_kept};
 ghost use Rattle.rel_records.specs.Written.{IsAbsent, IsRecord};
 ghost use Rattle.rel_records.specs.declared.faults.RelFault.TheVariants.{Device, NotPresent};
 
-use crate::counting::records;
+use crate::counting::has_records;
 use crate::faults::RelFault;
 use crate::parts::DATA;
 use crate::reading::{put_record, read_behind, read_block};
@@ -154,11 +154,10 @@ pub fn read_next<D: Sectors>(
     ensures reads { OnlyReads D.history disk.old disk.new 3 }
     ensures failures { TellsRelFault D.history disk.old disk.new result }
 {
-    text.clear();
     if number == 0 {
         return Err(RelFault::NotPresent);
     }
-    if number > records(file) {
+    if !has_records(file, number) {
         return Err(RelFault::NotPresent);
     }
     next_there(disk, file, last, number, text)

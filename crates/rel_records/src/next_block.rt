@@ -47,6 +47,19 @@ fn take_places(parts: &mut Parts) -> Place
     fresh
 }
 
+/// Makes these bytes those of the last block of a file with `behind` blocks before it and all whole records that fit.
+fn make_fresh(bytes: &mut [u8; 256], behind: u16, length: u8)
+    requires few { behind < 720 }
+    requires length_low { 1 ≤ length }
+    requires length_high { length ≤ 254 }
+    ensures { IsFresh behind length bytes.new }
+{
+    bytes[0] = 0;
+    bytes[1] = last_index(behind + 1, length);
+    let at = BLOCK * behind as u32;
+    fill(bytes, at, at, length, full_records(behind + 1, length));
+}
+
 /// The bytes of the last block of a file with `behind` blocks before it and all whole records that fit.
 pub(crate) fn fresh_block(behind: u16, length: u8) -> [u8; 256]
     requires few { behind < 720 }
@@ -55,9 +68,7 @@ pub(crate) fn fresh_block(behind: u16, length: u8) -> [u8; 256]
     ensures { IsFresh behind length result }
 {
     let mut bytes = [0; 256];
-    bytes[1] = last_index(behind + 1, length);
-    let at = BLOCK * behind as u32;
-    fill(&mut bytes, at, at, length, full_records(behind + 1, length));
+    make_fresh(&mut bytes, behind, length);
     bytes
 }
 
@@ -78,14 +89,15 @@ fn link_block(bytes: &mut [u8; 256], fresh: Place, blocks: u16, length: u8)
 }
 
 /// Makes the file's next block in memory: takes its sectors, and makes its bytes, those of the old last block, which then
-/// links to it, and those of the directory sector with the new block count. Tells the block's place and its bytes.
-pub(crate) fn lay_out(parts: &mut Parts) -> (Place, [u8; 256])
+/// links to it, and those of the directory sector with the new block count. Puts the block's bytes into `block`, and tells its
+/// place.
+pub(crate) fn lay_out(parts: &mut Parts, block: &mut [u8; 256]) -> Place
     requires room { taken_next (length parts.old.blocks.items) ≤ blocks_free parts.old.map.bytes }
     requires map { (owned : List Place) × IsMapOf parts.old.map.bytes owned }
     requires some { 1 ≤ length parts.old.blocks.items }
     requires few { length parts.old.blocks.items < 720 }
     requires sides { length parts.old.sides.items ≡ sides_for (length parts.old.blocks.items) }
-    ensures laid_out { IsLaidOut parts.old parts.new result.0 result.1 }
+    ensures laid_out { IsLaidOut parts.old parts.new result block.new }
     ensures sector { IsSector parts.new.last }
 {
     let count = parts.blocks.len() as u16;
@@ -93,5 +105,6 @@ pub(crate) fn lay_out(parts: &mut Parts) -> (Place, [u8; 256])
     link_block(&mut parts.last, fresh, count, parts.size);
     let owned = parts.blocks.len() + parts.sides.len();
     put_count(&mut parts.directory, parts.number, owned as u16);
-    (fresh, fresh_block(count, parts.size))
+    make_fresh(block, count, parts.size);
+    fresh
 }

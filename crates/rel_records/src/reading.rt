@@ -10,13 +10,23 @@ ghost use Rattle.rel_records.specs.Written.{IsAbsent, IsRecord};
 ghost use Rattle.rel_records.specs.declared.faults.RelFault.TheVariants.{Device, NotPresent};
 
 use crate::access::read;
-use crate::counting::records;
+use crate::counting::has_records;
 use crate::faults::RelFault;
 use crate::lookup::block_at;
 use crate::parts::{DATA, record_parts};
 use crate::rel_file::RelFile;
 use arrayvec::ArrayVec;
 use d64_image::{Place, Sectors};
+
+/// Puts two parts one behind the other in place of these bytes.
+fn overwrite(bytes: &mut [u8], here: &[u8], there: &[u8])
+    requires { length bytes.old ≡ length here.now + length there.now }
+    ensures { bytes.new ≡ here.now ++ there.now }
+{
+    let (first, second) = bytes.split_at_mut(here.len());
+    first.copy_from_slice(here);
+    second.copy_from_slice(there);
+}
 
 /// Fills `text` with the record of this length that begins at data byte `start` of the block `a`, and goes on in `b`.
 pub(crate) fn put_record(
@@ -31,6 +41,11 @@ pub(crate) fn put_record(
     ensures { text.new.items ≡ take size (drop start (drop 2 a.now ++ drop 2 b.now)) }
 {
     let (here, there) = record_parts(a, b, start, size);
+    // as long as the one before: there is nothing to clear
+    if text.len() == size {
+        overwrite(text.as_mut_slice(), here, there);
+        return;
+    }
     text.clear();
     text.try_extend_from_slice(here).unwrap();
     text.try_extend_from_slice(there).unwrap();
@@ -73,8 +88,7 @@ pub(crate) fn read_behind<D: Sectors>(
     ensures reads { OnlyReads D.history disk.old disk.new 1 }
     ensures failures { TellsRelFault D.history disk.old disk.new result }
 {
-    let next = Place::new(bytes[0], bytes[1]).unwrap();
-    read(disk, next, to)
+    read(disk, Place::known(bytes[0], bytes[1]), to)
 }
 
 /// Reads a record that is there.
@@ -108,8 +122,8 @@ fn read_there<D: Sectors>(
     Ok(())
 }
 
-/// Reads a record into `text`, all of its bytes; `NotPresent` where the file has none of this number, counted from 1. The
-/// text handed in is emptied first; after a fault what it holds is open.
+/// Reads a record into `text`, all of its bytes; `NotPresent` where the file has none of this number, counted from 1. What
+/// the text held before is gone; after a fault what it holds is open.
 pub fn read_record<D: Sectors>(
     disk: &mut D,
     file: &RelFile,
@@ -129,11 +143,10 @@ pub fn read_record<D: Sectors>(
     ensures reads { OnlyReads D.history disk.old disk.new 3 }
     ensures failures { TellsRelFault D.history disk.old disk.new result }
 {
-    text.clear();
     if number == 0 {
         return Err(RelFault::NotPresent);
     }
-    if number > records(file) {
+    if !has_records(file, number) {
         return Err(RelFault::NotPresent);
     }
     read_there(disk, file, number, text)

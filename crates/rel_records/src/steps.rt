@@ -135,7 +135,8 @@ pub(crate) fn add_block<D: Sectors>(disk: &mut D, parts: &mut Parts) -> Result<(
 {
     let count = parts.blocks.len();
     let old = parts.last_place();
-    let (fresh, block) = lay_out(parts);
+    let mut block = [0; 256];
+    let fresh = lay_out(parts, &mut block);
     prepare(disk, parts, fresh, &block, count % POINTERS == 0)?;
     disk.write(old, &parts.last)?;
     disk.write(parts.sector, &parts.directory)?;

@@ -1,5 +1,5 @@
 -- The records of the file that it shows.
-use Rattle.std.proofs.Common.{ap, sym, ℕ, ◌*◌, ◌+◌, ◌-◌, ◌/◌, ◌∙◌}
+use Rattle.std.proofs.Common.{ap, sym, ℕ, ◌/◌, ◌∙◌}
 use Rattle.disk_layout.specs.Records.{record_count}
 use Rattle.rel_records.proofs.Readings.{count-is}
 use Rattle.rel_records.proofs.counting.records.Goals as goal
@@ -8,4 +8,4 @@ pub returns-clause-exact : goal.returns-clause-exact
 unfolding record_count
 returns-clause-exact c = λ img l n f of.
     let v = c.args.file.now in
-    ap (λ (used : ℕ). (254 * (v.blocks - 1) + used - 1) / v.size) c.max.ensures ∙ sym (count-is img l n f v of)
+    ap (λ (used : ℕ). used / v.size) c.used_bytes.ensures.value ∙ sym (count-is img l n f v of)

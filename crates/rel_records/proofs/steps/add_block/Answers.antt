@@ -11,33 +11,33 @@ prepare-requires-clause-some g c =
     let S = g.D.Sectors.history in
     let (l, n, f, at) = c.requires.at in
     let few : length f.blocks < 720 = omega (arith, c.requires.few, ap length at.blocks) in
-    some-sides (S.image c.args.disk.now) l n f c.args.parts.now c.lay_out.new.parts _ _ (S.whole c.args.disk.now) at few c.lay_out.ensures.laid_out
+    some-sides (S.image c.args.disk.now) l n f c.args.parts.now c.lay_out-fresh.new.parts _ _ (S.whole c.args.disk.now) at few c.lay_out-fresh.ensures.laid_out
 
 pub prepare-requires-clause-few : goal.prepare-requires-clause-few
 prepare-requires-clause-few g c =
     let S = g.D.Sectors.history in
     let (l, n, f, at) = c.requires.at in
     let few : length f.blocks < 720 = omega (arith, c.requires.few, ap length at.blocks) in
-    few-sides (S.image c.args.disk.now) l n f c.args.parts.now c.lay_out.new.parts _ _ (S.whole c.args.disk.now) at few c.lay_out.ensures.laid_out
+    few-sides (S.image c.args.disk.now) l n f c.args.parts.now c.lay_out-fresh.new.parts _ _ (S.whole c.args.disk.now) at few c.lay_out-fresh.ensures.laid_out
 
 pub prepare-requires-clause-once : goal.prepare-requires-clause-once
 prepare-requires-clause-once g c =
     let S = g.D.Sectors.history in
     let (l, n, f, at) = c.requires.at in
     let few : length f.blocks < 720 = omega (arith, c.requires.few, ap length at.blocks) in
-    sides-once (S.image c.args.disk.now) l n f c.args.parts.now c.lay_out.new.parts _ _ (S.whole c.args.disk.now) at few c.lay_out.ensures.laid_out
+    sides-once (S.image c.args.disk.now) l n f c.args.parts.now c.lay_out-fresh.new.parts _ _ (S.whole c.args.disk.now) at few c.lay_out-fresh.ensures.laid_out
 
 pub returns-in_err-prepare-clause-moments : goal.returns-in_err-prepare-clause-moments
 returns-in_err-prepare-clause-moments g c l n f at up =
     let few : length f.blocks < 720 = omega (arith, c.requires.few, ap length at.blocks) in
-    prepared-moments g.D.Sectors.history c.args.disk.now l n f c.args.parts.now c.lay_out.new.parts _ _ _ at few c.lay_out.ensures.laid_out c.lay_out.ensures.sector up (ap (λ k. nat_eq (k % 120) 0) c.len-count.ensures.value) c.prepare.new.disk c.in_err-prepare.ensures.moments
+    prepared-moments g.D.Sectors.history c.args.disk.now l n f c.args.parts.now c.lay_out-fresh.new.parts _ _ _ at few c.lay_out-fresh.ensures.laid_out c.lay_out-fresh.ensures.sector up (ap (λ k. nat_eq (k % 120) 0) c.len-count.ensures.value) c.prepare.new.disk c.in_err-prepare.ensures.moments
 
 pub returns-in_err-write-clause-moments : goal.returns-in_err-write-clause-moments
 returns-in_err-write-clause-moments g c l n f at up =
     let S = g.D.Sectors.history in
     let few : length f.blocks < 720 = omega (arith, c.requires.few, ap length at.blocks) in
     let last = c.last_place-old.ensures at.front at.last_place (at.blocks ∙ at.last_is) in
-    linking-moments S c.args.disk.now l n f c.args.parts.now c.lay_out.new.parts _ _ _ at few c.lay_out.ensures.laid_out c.lay_out.ensures.sector up (ap (λ k. nat_eq (k % 120) 0) c.len-count.ensures.value)
+    linking-moments S c.args.disk.now l n f c.args.parts.now c.lay_out-fresh.new.parts _ _ _ at few c.lay_out-fresh.ensures.laid_out c.lay_out-fresh.ensures.sector up (ap (λ k. nat_eq (k % 120) 0) c.len-count.ensures.value)
     c.prepare.new.disk c.write.new.self c.last_place-old.result last c.in_ok-prepare.ensures.moments c.in_ok-prepare.ensures.ok c.write.ensures.held (counted_once S _ _ c.write.result c.write.ensures.counted c.write.ensures.uncounted)
 
 pub returns-in_err-write-2-clause-moments : goal.returns-in_err-write-2-clause-moments
@@ -45,24 +45,24 @@ returns-in_err-write-2-clause-moments g c l n f at up =
     let S = g.D.Sectors.history in
     let few : length f.blocks < 720 = omega (arith, c.requires.few, ap length at.blocks) in
     let last = c.last_place-old.ensures at.front at.last_place (at.blocks ∙ at.last_is) in
-    counting-moments S c.args.disk.now l n f c.args.parts.now c.lay_out.new.parts _ _ _ at few c.lay_out.ensures.laid_out c.lay_out.ensures.sector up (ap (λ k. nat_eq (k % 120) 0) c.len-count.ensures.value)
+    counting-moments S c.args.disk.now l n f c.args.parts.now c.lay_out-fresh.new.parts _ _ _ at few c.lay_out-fresh.ensures.laid_out c.lay_out-fresh.ensures.sector up (ap (λ k. nat_eq (k % 120) 0) c.len-count.ensures.value)
     c.prepare.new.disk c.write.new.self c.last_place-old.result last c.in_ok-prepare.ensures.moments c.in_ok-prepare.ensures.ok c.in_ok-write.ensures.held c.in_ok-write.ensures.counted
-    c.write-2.new.self _ (c.lay_out.ensures.laid_out.places.sector ∙ at.place) c.in_ok-write.ensures.ok c.write-2.ensures.held (counted_once S _ _ c.write-2.result c.write-2.ensures.counted c.write-2.ensures.uncounted)
+    c.write-2.new.self _ (c.lay_out-fresh.ensures.laid_out.places.sector ∙ at.place) c.in_ok-write.ensures.ok c.write-2.ensures.held (counted_once S _ _ c.write-2.result c.write-2.ensures.counted c.write-2.ensures.uncounted)
 
 pub returns-clause-moments : goal.returns-clause-moments
 returns-clause-moments g c l n f at up =
     let S = g.D.Sectors.history in
     let few : length f.blocks < 720 = omega (arith, c.requires.few, ap length at.blocks) in
     let last = c.last_place-old.ensures at.front at.last_place (at.blocks ∙ at.last_is) in
-    counting-moments S c.args.disk.now l n f c.args.parts.now c.lay_out.new.parts _ _ _ at few c.lay_out.ensures.laid_out c.lay_out.ensures.sector up (ap (λ k. nat_eq (k % 120) 0) c.len-count.ensures.value)
+    counting-moments S c.args.disk.now l n f c.args.parts.now c.lay_out-fresh.new.parts _ _ _ at few c.lay_out-fresh.ensures.laid_out c.lay_out-fresh.ensures.sector up (ap (λ k. nat_eq (k % 120) 0) c.len-count.ensures.value)
     c.prepare.new.disk c.write.new.self c.last_place-old.result last c.in_ok-prepare.ensures.moments c.in_ok-prepare.ensures.ok c.in_ok-write.ensures.held c.in_ok-write.ensures.counted
-    c.write-2.new.self _ (c.lay_out.ensures.laid_out.places.sector ∙ at.place) c.in_ok-write.ensures.ok c.in_ok-write-2.ensures.held c.in_ok-write-2.ensures.counted
+    c.write-2.new.self _ (c.lay_out-fresh.ensures.laid_out.places.sector ∙ at.place) c.in_ok-write.ensures.ok c.in_ok-write-2.ensures.held c.in_ok-write-2.ensures.counted
 
 pub returns-clause-ok : goal.returns-clause-ok
 returns-clause-ok g c l n f at up =
     let S = g.D.Sectors.history in
     let few : length f.blocks < 720 = omega (arith, c.requires.few, ap length at.blocks) in
     let last = c.last_place-old.ensures at.front at.last_place (at.blocks ∙ at.last_is) in
-    added S c.args.disk.now l n f c.args.parts.now c.lay_out.new.parts _ _ _ at few c.lay_out.ensures.laid_out c.lay_out.ensures.sector up (ap (λ k. nat_eq (k % 120) 0) c.len-count.ensures.value)
+    added S c.args.disk.now l n f c.args.parts.now c.lay_out-fresh.new.parts _ _ _ at few c.lay_out-fresh.ensures.laid_out c.lay_out-fresh.ensures.sector up (ap (λ k. nat_eq (k % 120) 0) c.len-count.ensures.value)
     c.prepare.new.disk c.write.new.self c.last_place-old.result last c.in_ok-prepare.ensures.moments c.in_ok-prepare.ensures.ok c.in_ok-write.ensures.held c.in_ok-write.ensures.counted
-    c.write-2.new.self _ (c.lay_out.ensures.laid_out.places.sector ∙ at.place) c.in_ok-write.ensures.ok _ c.in_ok-write-2.ensures.ok refl refl refl refl refl refl refl refl
+    c.write-2.new.self _ (c.lay_out-fresh.ensures.laid_out.places.sector ∙ at.place) c.in_ok-write.ensures.ok _ c.in_ok-write-2.ensures.ok refl refl refl refl refl refl refl refl
