@@ -52,8 +52,8 @@ fn owned_block(place: Place, blocks: &[Place]) -> Fault
     }
 }
 
-/// Follows the chain as `survey_blocks` does, and gives each sector to the owner with this number when it comes to it: so
-/// the table of owners is also that of the sectors visited, and a link is waited for while the sector before is claimed.
+/// Fills `places` with the blocks as `survey_blocks` does, and gives each to the owner with this number when the walk comes
+/// to it: so the table of owners is also that of the sectors visited, and costs no time while a link is waited for.
 ///
 /// `OwnedTwice` is told at a sector that another owned. What the table has after a fault is open.
 pub fn claim_blocks<D: Sectors>(
@@ -61,28 +61,28 @@ pub fn claim_blocks<D: Sectors>(
     slot: &Slot,
     number: u8,
     owners: &mut Owners,
-    blocks: &mut ArrayVec<Place, 720>,
+    places: &mut ArrayVec<Place, 720>,
 ) -> Result<u8, Fault>
     requires closed { IsClosed (D.history.image disk.old) slot.now.sector slot.now }
     requires names { IsTrue (is_rel slot.now) ⊎ (slice_index slot.now.bytes 3 ≢ 0) }
     requires some { number < 255 }
-    ensures blocks { IfOk result (HasBlocks (D.history.image disk.old) slot.now blocks.new.items) }
-    ensures claimed { OnOk result (IsClaimed owners.old owners.new number blocks.new.items) }
-    ensures ok { OnOk result (Passes D.history disk.old disk.new (length blocks.new.items)) }
+    ensures blocks { IfOk result (HasBlocks (D.history.image disk.old) slot.now places.new.items) }
+    ensures claimed { OnOk result (IsClaimed owners.old owners.new number places.new.items) }
+    ensures ok { OnOk result (Passes D.history disk.old disk.new (length places.new.items)) }
     ensures err { IfErr result (TellsOrClashes D.history disk.old disk.new slot.now owners.old) }
 {
     let Some(first) = EntryView::new(&slot.bytes).first_block() else {
         return Err(Fault::BadLink(slot.sector));
     };
-    blocks.clear();
+    places.clear();
     let mut at = first;
     let mut sector = [0u8; 256];
     'chain: loop {
         if owners.owner(at) != NOBODY {
-            return Err(owned_block(at, blocks.as_slice()));
+            return Err(owned_block(at, places.as_slice()));
         }
         owners.set(at, number);
-        blocks.push(at);
+        places.push(at);
         read_sector(disk, at, &mut sector)?;
         if sector[0] == 0 {
             return Ok(sector[1]);

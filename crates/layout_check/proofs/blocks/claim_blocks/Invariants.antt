@@ -6,12 +6,12 @@ use Rattle.layout_check.proofs.blocks.claim_blocks.Given as goal
 
 abbrev pub invariant-chain : goal.invariant-chain
 invariant-chain g l = record {
-  leads : Leads (g.D.Sectors.history.image l.fn.disk) l.initial.at l.blocks.items l.at;
-  once : EachOnce l.blocks.items;
-  claimed : IsClaimed l.fn.owners l.owners l.number l.blocks.items;
-  passes : Passes g.D.Sectors.history l.fn.disk l.disk (length l.blocks.items);
+  leads : Leads (g.D.Sectors.history.image l.fn.disk) l.initial.at l.places.items l.at;
+  once : EachOnce l.places.items;
+  claimed : IsClaimed l.fn.owners l.owners l.number l.places.items;
+  passes : Passes g.D.Sectors.history l.fn.disk l.disk (length l.places.items);
 }
 
 -- how many sectors have not been visited
 abbrev pub decreases-chain : goal.decreases-chain
-decreases-chain g l = 683 - length l.blocks.items
+decreases-chain g l = 683 - length l.places.items

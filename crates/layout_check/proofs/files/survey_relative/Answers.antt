@@ -14,7 +14,7 @@ returns-in_err-claim_blocks-clause-err g c =
 
 pub survey_sides-requires : goal.survey_sides-requires
 survey_sides-requires g c = record {
-  entry = rel-entry g.D.Sectors.history c.args.disk.now c.claim_blocks.new.disk c.args.slot.now c.claim_blocks.new.blocks.items c.as_slice.result.now _ _ c.requires.closed c.requires.rel c.in_ok-claim_blocks.ensures.blocks c.in_ok-claim_blocks.ensures.ok c.as_slice.ensures.value;
+  entry = rel-entry g.D.Sectors.history c.args.disk.now c.claim_blocks.new.disk c.args.slot.now c.claim_blocks.new.places.items c.as_slice.result.now _ _ c.requires.closed c.requires.rel c.in_ok-claim_blocks.ensures.blocks c.in_ok-claim_blocks.ensures.ok c.as_slice.ensures.value;
   few = c.as_slice.ensures.fits;
 }
 
@@ -33,7 +33,7 @@ returns-in_err-claim-clause-err g c =
     let a = c.args.disk.now in
     let b = c.claim_blocks.new.disk in
     let s = c.args.slot.now in
-    let blocks = c.claim_blocks.new.blocks.items in
+    let blocks = c.claim_blocks.new.places.items in
     let sides = c.survey_sides.new.sides.items in
     let claimed = c.in_ok-claim_blocks.ensures in
     let found = c.in_ok-inexact.ensures in
@@ -49,7 +49,7 @@ returns-clause-ok g c =
     let a = c.args.disk.now in
     let b = c.claim_blocks.new.disk in
     let s = c.args.slot.now in
-    let blocks = c.claim_blocks.new.blocks.items in
+    let blocks = c.claim_blocks.new.places.items in
     let sides = c.survey_sides.new.sides.items in
     let claimed = c.in_ok-claim_blocks.ensures in
     let found = c.in_ok-inexact.ensures in

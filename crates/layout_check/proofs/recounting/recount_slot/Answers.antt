@@ -1,6 +1,7 @@
 -- The slot of these bytes is that of the image.
 use Rattle.std.proofs.Common.{List, ap, slice_index, sym, ℕ, ◌∙◌}
 use Rattle.std.proofs.lemmas.Bool.{false≢true}
+use Rattle.std.proofs.lemmas.Result.{err_from_is_err_and}
 use Rattle.disk_layout.specs.Layout.{is_rel, is_rel_type}
 use Rattle.layout_check.proofs.RightSlots.{counted-one, counted-right_at, rel-entry-at, right-counted, right-plain}
 use Rattle.layout_check.proofs.recounting.recount_slot.Goals as goal
@@ -10,6 +11,45 @@ returns-then-not-is_relative-clause-right g c = right-plain _ c.args.place c.arg
 
 pub count_owned-requires-clause-entry : goal.count_owned-requires-clause-entry
 count_owned-requires-clause-entry g c = rel-entry-at _ c.args.place c.args.number c.in_sector-slot.result c.requires.sound c.requires.own c.requires.eight (c.in_sector-slot.ensures ∙ c.requires.there) (sym (c.is_relative.ensures ∙ ap (λ (bs : List ℕ). is_rel_type (slice_index bs 2)) c.new.ensures) ∙ c.if-not-is_relative.false)
+
+pub returns-in_err-count-clause-rest : goal.returns-in_err-count-clause-rest
+returns-in_err-count-clause-rest g c =
+    let p = err_from_is_err_and c.from_residual.result c.from_residual.ensures.1 in
+    rw p.1 tt
+
+pub returns-in_err-count-clause-counts : goal.returns-in_err-count-clause-counts
+returns-in_err-count-clause-counts g c =
+    let p = err_from_is_err_and c.from_residual.result c.from_residual.ensures.1 in
+    rw p.1 tt
+
+pub returns-in_err-count-clause-right : goal.returns-in_err-count-clause-right
+returns-in_err-count-clause-right g c =
+    let p = err_from_is_err_and c.from_residual.result c.from_residual.ensures.1 in
+    rw p.1 tt
+
+pub returns-in_err-count-clause-kept : goal.returns-in_err-count-clause-kept
+returns-in_err-count-clause-kept g c =
+    let p = err_from_is_err_and c.from_residual.result c.from_residual.ensures.1 in
+    rw p.1 tt
+
+pub returns-in_err-count-clause-ok : goal.returns-in_err-count-clause-ok
+returns-in_err-count-clause-ok g c =
+    let p = err_from_is_err_and c.from_residual.result c.from_residual.ensures.1 in
+    rw p.1 tt
+
+pub returns-in_err-count-clause-err : goal.returns-in_err-count-clause-err
+returns-in_err-count-clause-err g c =
+    let p = err_from_is_err_and c.from_residual.result c.from_residual.ensures.1 in
+    rw (p.1, p.2) c.in_err-count.ensures.err
+
+pub count_owned-requires-clause-rel : goal.count_owned-requires-clause-rel
+count_owned-requires-clause-rel g c = sym (c.is_relative.ensures ∙ ap (λ (bs : List ℕ). is_rel_type (slice_index bs 2)) c.new.ensures) ∙ c.if-not-is_relative.false
+
+pub returns-clause-rest : goal.returns-clause-rest
+returns-clause-rest g c = c.put_count.ensures.rest
+
+pub returns-clause-ok : goal.returns-clause-ok
+returns-clause-ok g c = c.in_ok-count.ensures.ok
 
 pub returns-clause-counts : goal.returns-clause-counts
 returns-clause-counts g c = counted-one c.args.place c.args.bytes.now c.put_count.new.bytes c.args.number c.requires.eight (ap is_rel (sym c.in_sector-slot.ensures) ∙ sym (c.is_relative.ensures ∙ ap (λ (bs : List ℕ). is_rel_type (slice_index bs 2)) c.new.ensures) ∙ c.if-not-is_relative.false) c.put_count.ensures.rest

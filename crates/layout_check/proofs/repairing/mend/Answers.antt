@@ -8,6 +8,31 @@ use Rattle.layout_check.proofs.RepairRuns.{counts-at, counts_mend, mends_from, o
 use Rattle.layout_check.proofs.Repairs.{clean-map}
 use Rattle.layout_check.proofs.repairing.mend.Goals as goal
 
+pub returns-in_err-mend_map-clause-clean : goal.returns-in_err-mend_map-clause-clean
+returns-in_err-mend_map-clause-clean g c =
+    let p = err_from_is_err_and c.from_residual.result c.from_residual.ensures.1 in
+    rw p.1 tt
+
+pub returns-in_err-mend_map-clause-spare : goal.returns-in_err-mend_map-clause-spare
+returns-in_err-mend_map-clause-spare g c = c.mend_map.ensures.spare
+
+pub returns-in_err-mend_map-clause-failures : goal.returns-in_err-mend_map-clause-failures
+returns-in_err-mend_map-clause-failures g c =
+    let p = err_from_is_err_and c.from_residual.result c.from_residual.ensures.1 in
+    rw (p.1, p.2) c.in_err-mend_map.ensures.failures
+
+-- the disk stays sound
+pub mend_entries-requires : goal.mend_entries-requires
+mend_entries-requires g c = let h = c.requires in (h.0, c.in_ok-mend_map.ensures.layouts h.0 h.1)
+
+pub mend_counts-requires : goal.mend_counts-requires
+mend_counts-requires g c = let h = c.requires in record { sound = (h.0, c.in_ok-mend_entries.ensures.layouts h.0 (c.in_ok-mend_map.ensures.layouts h.0 h.1)) }
+
+pub returns-in_err-mend_entries-clause-clean : goal.returns-in_err-mend_entries-clause-clean
+returns-in_err-mend_entries-clause-clean g c =
+    let p = err_from_is_err_and c.from_residual-in_err-mend_entries.result c.from_residual-in_err-mend_entries.ensures.1 in
+    rw p.1 tt
+
 pub returns-in_err-mend_map-clause-moments : goal.returns-in_err-mend_map-clause-moments
 returns-in_err-mend_map-clause-moments g c = mends_from g.D.Sectors.history _ _ 1 (omega arith) c.mend_map.ensures.mends
 
