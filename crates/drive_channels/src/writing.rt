@@ -24,19 +24,19 @@ use d64_image::Sectors;
 use rel_records::{RelFault, grow_to, write_record};
 
 /// Grows the file so that the record at a place is there: what it comes to.
-fn grow_at<D: Sectors>(disk: &mut D, found: &mut Found, spot: &mut Spot) -> Result<Status, Dead>
+fn grow_at<D: Sectors>(disk: &mut D, found: &mut Found, spot: Spot) -> Result<Status, Dead>
     requires clean { IsClean (D.history.image disk.old) }
     requires found { IsFound (D.history.image disk.old) found.old }
-    requires spot { IsSpot found.old spot.old }
+    requires spot { IsSpot found.old spot }
     ensures row { IfOk result (λ status.
         (s : statuses.Status) → (b : Bool)
-        → InFile (at_spot (D.history.image disk.old) found.old spot.old s b)
-        (WritesIn (at_spot (D.history.image disk.old) found.old spot.old s b) []
-        (at_spot (D.history.image disk.new) found.new spot.new status b))) }
+        → InFile (at_spot (D.history.image disk.old) found.old spot s b)
+        (WritesIn (at_spot (D.history.image disk.old) found.old spot s b) []
+        (at_spot (D.history.image disk.new) found.new spot status b))) }
     ensures found { OnOk result (KeepsFound (D.history.image disk.old) (D.history.image disk.new) found.old found.new) }
-    ensures spot { OnOk result (IsSpot found.new spot.new) }
+    ensures spot { OnOk result (IsSpot found.new spot) }
     ensures writes { (l : Layout) → (f : File) → IsRelAt (D.history.image disk.old) l (entry_of found.old.file) f
-        → IsWrittenAt D.history disk.old disk.new (channel_at (entry_of found.old.file) spot.old) l f [] result }
+        → IsWrittenAt D.history disk.old disk.new (channel_at (entry_of found.old.file) spot) l f [] result }
     ensures refused { IfOk result (λ status. status ≡ FileTooLarge → OnlyReads D.history disk.old disk.new 1) }
     ensures failures { TellsFailure D.history disk.old disk.new result }
 {
@@ -119,7 +119,7 @@ fn write_at<D: Sectors>(
     ensures failures { TellsFailure D.history disk.old disk.new result }
 {
     if text.is_empty() {
-        return grow_at(disk, found, spot);
+        return grow_at(disk, found, *spot);
     }
     write_text(disk, found, spot, text)
 }

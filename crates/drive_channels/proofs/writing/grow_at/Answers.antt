@@ -8,7 +8,7 @@ use Rattle.drive_channels.specs.declared.found.Found.{Found}
 use Rattle.rel_records.specs.File.{entry_of}
 
 pub returns-in-Ok-clause-row : goal.returns-in-Ok-clause-row
-returns-in-Ok-clause-row g c = λ s b. grown-row (g.D.Sectors.history.image c.args.disk.now) _ c.args.found.now (record { name = c.args.found.now.name; file = c.grow_to.new.file }) c.args.spot.now s b c.requires.found c.in-Ok.ensures.entry
+returns-in-Ok-clause-row g c = λ s b. grown-row (g.D.Sectors.history.image c.args.disk.now) _ c.args.found.now (record { name = c.args.found.now.name; file = c.grow_to.new.file }) c.args.spot s b c.requires.found c.in-Ok.ensures.entry
     (λ l f of. ((λ bad. not-err _ _ ((c.in-Ok.ensures.too_large l _ f of).1 bad)), c.in-Ok.ensures.fits l _ f of, leaves-has _ _ _ _ _ _ (c.in-Ok.ensures.ok l _ f of)))
 
 pub returns-in-Ok-clause-found : goal.returns-in-Ok-clause-found
@@ -21,7 +21,7 @@ returns-in-Ok-clause-writes g c = λ l f rel. let of = at-file _ _ l f c.require
 pub returns-in-Device-clause-writes : goal.returns-in-Device-clause-writes
 returns-in-Device-clause-writes g c = λ l f rel. let of = at-file _ _ l f c.requires.found rel in
     grown-at g.D.Sectors.history _ _ _ l f _ (c.in-Err.ensures.moments l _ f of)
-    (λ le _. absurd (not-ok (c.in-Err.ensures.quiet (subst (λ (k : ℕ). c.args.spot.now.record_number ≤ k) (sym (had-is f c.args.found.now.file of.shows)) le)).0))
+    (λ le _. absurd (not-ok (c.in-Err.ensures.quiet (subst (λ (k : ℕ). c.args.spot.record_number ≤ k) (sym (had-is f c.args.found.now.file of.shows)) le)).0))
 
 pub returns-in_default : goal.returns-in_default
 returns-in_default g c =
@@ -30,14 +30,14 @@ returns-in_default g c =
     let same : record { name = c.args.found.now.name; file = c.grow_to.new.file } ≡ c.args.found.now = ap (λ v. record { name = c.args.found.now.name; file = v }) left.0 in
     let entry : entry_of c.grow_to.new.file ≡ entry_of c.args.found.now.file = ap entry_of left.0 in
     record {
-      row = λ s b. refused-row (S.image c.args.disk.now) _ c.args.found.now (record { name = c.args.found.now.name; file = c.grow_to.new.file }) c.args.spot.now s b c.requires.found entry [] left.1.image
+      row = λ s b. refused-row (S.image c.args.disk.now) _ c.args.found.now (record { name = c.args.found.now.name; file = c.grow_to.new.file }) c.args.spot s b c.requires.found entry [] left.1.image
           (λ l f of. elim c.in-Err.ensures.told [
             | inl x ↦ inl ((c.in-Err.ensures.too_large l _ f of).0 (ap Err x))
             | inr (inl x) ↦ inr (c.in-Err.ensures.full l _ f of x)
             | inr (inr x) ↦ absurd (c.in_default.not-Device x)
           ]);
       found = keeps-same _ _ _ _ (sym left.1.image) (sym same) c.requires.clean c.requires.found;
-      spot = subst (λ (e : Found). IsSpot e c.args.spot.now) (sym same) c.requires.spot;
+      spot = subst (λ (e : Found). IsSpot e c.args.spot) (sym same) c.requires.spot;
       writes = λ l f rel. let of = at-file _ _ l f c.requires.found rel in grown-at S _ _ _ l f _ (c.in-Err.ensures.moments l _ f of) (λ _ _. tt);
       refused = λ _. left.1;
       failures = calm (Unit {0}) S _ _ _ c.in_default.not-Device c.in-Err.ensures.failures;

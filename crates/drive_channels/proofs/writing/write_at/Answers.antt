@@ -12,7 +12,7 @@ pub returns-then-is_empty-clause-row : goal.returns-then-is_empty-clause-row
 returns-then-is_empty-clause-row g c =
     let img = g.D.Sectors.history.image in
     subst (λ (text : List ℕ). IfOk c.grow_at.result (λ status. (s : Status) → (b : Bool) → InFile (at_spot (img c.args.disk.now) c.args.found.now c.args.spot.now s b)
-    (WritesIn (at_spot (img c.args.disk.now) c.args.found.now c.args.spot.now s b) text (at_spot (img c.grow_at.new.disk) c.grow_at.new.found c.grow_at.new.spot status b))))
+    (WritesIn (at_spot (img c.args.disk.now) c.args.found.now c.args.spot.now s b) text (at_spot (img c.grow_at.new.disk) c.grow_at.new.found c.args.spot.now status b))))
     (no-bytes c.args.text.now (grind (arith, common_steps, c.is_empty.ensures, c.if-is_empty.true))) c.grow_at.ensures.row
 
 pub returns-then-is_empty-clause-writes : goal.returns-then-is_empty-clause-writes
