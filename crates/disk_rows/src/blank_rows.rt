@@ -1,33 +1,16 @@
 //! The blank image byte by byte, with values worked out by hand from the disk's format.
 use crate::comparing::{same, same_at};
+use crate::disks::{at, empty_map, fresh, put_four, sector};
 use arrayvec::ArrayVec;
-use d64_image::{DeviceFault, MemDisk, Meter, Place, Sectors};
+use d64_image::{MemDisk, Meter, Place};
 use disk_layout::{Bam, BamView, DirView, EntryView, blank_image, read_directory, walk_chain};
 use std::test::Fail;
 
-/// The bytes of a sector of the disk.
-fn sector<D: Sectors>(disk: &mut D, track: u8, sector: u8) -> Result<[u8; 256], DeviceFault> {
-    let mut bytes = [0; 256];
-    let place = Place::new(track, sector).ok_or(DeviceFault)?;
-    disk.read(place, &mut bytes)?;
-    Ok(bytes)
-}
-
 /// What 18/0 holds for one block of requests.
 fn map_for_two_tills() -> [u8; 256] {
-    let mut bytes = [0; 256];
+    let mut bytes = empty_map();
     bytes[..4].copy_from_slice(&[0x12, 0x01, 0x41, 0x00]);
-    for track in 1..36usize {
-        let four = match track {
-            17 => [0x11, 0xF0, 0xFF, 0x1F],
-            18 => [0x11, 0xFC, 0xFF, 0x07],
-            0..=16 => [0x15, 0xFF, 0xFF, 0x1F],
-            19..=24 => [0x13, 0xFF, 0xFF, 0x07],
-            25..=30 => [0x12, 0xFF, 0xFF, 0x03],
-            _ => [0x11, 0xFF, 0xFF, 0x01],
-        };
-        bytes[4 * track..4 * track + 4].copy_from_slice(&four);
-    }
+    put_four(&mut bytes, 17, [0x11, 0xF0, 0xFF, 0x1F]);
     bytes[0x90..0xAB].copy_from_slice(
         b"STOCK LEDGER\xA0\xA0\xA0\xA0\xA0\xA001\xA02A\xA0\xA0\xA0\xA0",
     );
@@ -62,8 +45,7 @@ fn sector_of(head: &[u8], ones: &[usize]) -> [u8; 256] {
 
 #[test]
 fn the_image_for_two_tills(rt: HostRuntime) -> Result<(), Fail> {
-    let mut disk = MemDisk::zeroed(rt.alloc())?;
-    blank_image(&mut disk, b"STOCK LEDGER", *b"01", 2)?;
+    let mut disk = fresh(rt.alloc())?;
     let stock = [
         2, 20, 38, 56, 74, 92, 110, 128, 146, 164, 182, 200, 218, 236,
     ];
@@ -85,19 +67,14 @@ fn the_image_for_two_tills(rt: HostRuntime) -> Result<(), Fail> {
     ];
     for track in 1..36u8 {
         for number in 0..21u8 {
-            if Place::new(track, number).is_some() {
+            if let Some(place) = Place::new(track, number) {
                 let mut want = [0; 256];
-                for (at, sector, bytes) in rows {
-                    if (track, number) == (at, sector) {
+                for (on, at, bytes) in rows {
+                    if (track, number) == (on, at) {
                         want = bytes;
                     }
                 }
-                same_at(
-                    &rt,
-                    sector(&mut disk, track, number)?,
-                    want,
-                    (track, number),
-                );
+                same_at(&rt, sector(&mut disk, place), want, place);
             }
         }
     }
@@ -148,25 +125,19 @@ fn other_numbers_of_tills(rt: HostRuntime) -> Result<(), Fail> {
     for (tills, writes, count, free, track_17, track_19, block) in rows {
         let mut disk = Meter::new(MemDisk::zeroed(rt.alloc())?);
         blank_image(&mut disk, b"STOCK LEDGER", *b"01", tills)?;
-        let map = sector(&mut disk, 18, 0)?;
-        let directory = sector(&mut disk, 18, 1)?;
-        let first = sector(&mut disk, 17, 2)?;
-        let side = sector(&mut disk, 17, 3)?;
-        same_at(&rt, disk.writes(), writes, ("tills", tills));
-        same_at(
-            &rt,
+        let map = sector(&mut disk, at(18, 0));
+        let directory = sector(&mut disk, at(18, 1));
+        let first = sector(&mut disk, at(17, 2));
+        let side = sector(&mut disk, at(17, 3));
+        let counts = (
+            disk.writes(),
             BamView::new(&map).blocks_free(),
-            free,
-            ("tills", tills),
-        );
-        same_at(
-            &rt,
             DirView::new(&directory).entry(1).block_count(),
-            count,
-            ("tills", tills),
         );
-        same_at(&rt, &map[68..72], track_17.as_slice(), ("tills", tills));
-        same_at(&rt, &map[76..80], track_19.as_slice(), ("tills", tills));
+        same_at(&rt, counts, (writes, free, count), ("tills", tills));
+        let tracks = (&map[68..72], &map[76..80]);
+        let want = (track_17.as_slice(), track_19.as_slice());
+        same_at(&rt, tracks, want, ("tills", tills));
         same_at(&rt, [first[0], first[1], side[1]], block, ("tills", tills));
     }
     Ok(())
@@ -177,8 +148,7 @@ fn the_requests_of_64_tills(rt: HostRuntime) -> Result<(), Fail> {
     let mut disk = MemDisk::zeroed(rt.alloc())?;
     blank_image(&mut disk, b"STOCK LEDGER", *b"01", 64)?;
     let mut places = ArrayVec::new();
-    let first = Place::new(17, 2).ok_or(DeviceFault)?;
-    same(&rt, walk_chain(&mut disk, first, &mut places), Ok(255));
+    same(&rt, walk_chain(&mut disk, at(17, 2), &mut places), Ok(255));
     let mut number = 0;
     for place in places.as_slice() {
         let at = (place.track(), place.sector());
@@ -197,8 +167,7 @@ fn the_requests_of_64_tills(rt: HostRuntime) -> Result<(), Fail> {
 
 #[test]
 fn names_and_entries(rt: HostRuntime) -> Result<(), Fail> {
-    let mut disk = MemDisk::zeroed(rt.alloc())?;
-    blank_image(&mut disk, b"STOCK LEDGER", *b"01", 2)?;
+    let mut disk = fresh(rt.alloc())?;
     let map = Bam::read(&mut disk)?;
     let view = map.view();
     same(
@@ -215,35 +184,26 @@ fn names_and_entries(rt: HostRuntime) -> Result<(), Fail> {
         (view.free_on(17), view.free_on(18), view.free_on(35)),
         (17, 17, 17),
     );
-    let directory = sector(&mut disk, 18, 1)?;
+    let directory = sector(&mut disk, at(18, 1));
     same(&rt, DirView::new(&directory).link(), (0, 255));
     let mut slots = ArrayVec::new();
-    same(&rt, read_directory(&mut disk, &mut slots), Ok(()));
-    let mut names = ArrayVec::<u8, 300>::new();
-    for slot in slots.as_slice() {
+    let answer = read_directory(&mut disk, &mut slots);
+    same(&rt, (answer, slots.len()), (Ok(()), 2));
+    let rows = [
+        (0, b"STOCK".as_slice(), at(17, 0), at(17, 1), 18),
+        (1, b"REQUESTS".as_slice(), at(17, 2), at(17, 3), 127),
+    ];
+    for (slot, (number, name, first, side, length)) in slots.as_slice().iter().zip(rows) {
+        same(&rt, (slot.sector, slot.number), (at(18, 1), number));
         let entry = EntryView::new(&slot.bytes);
+        same(&rt, (entry.type_byte(), entry.block_count()), (0x84, 2));
+        same(&rt, entry.is_relative() && entry.has_first_block(), true);
+        same(&rt, (entry.name(), entry.record_length()), (name, length));
         same(
             &rt,
-            (entry.type_byte(), entry.block_count(), slot.sector.sector()),
-            (0x84, 2, 1),
+            (entry.first_block(), entry.first_side()),
+            (Some(first), Some(side)),
         );
-        let _ = names.try_extend_from_slice(entry.name());
-        same(&rt, entry.is_relative() && entry.has_first_block(), true);
-        let first = entry.first_block().unwrap_or_default();
-        let side = entry.first_side().unwrap_or_default();
-        let _ = names.try_extend_from_slice(&[
-            slot.number,
-            first.track(),
-            first.sector(),
-            side.track(),
-            side.sector(),
-            entry.record_length(),
-        ]);
     }
-    same(
-        &rt,
-        names.as_slice(),
-        b"STOCK\x00\x11\x00\x11\x01\x12REQUESTS\x01\x11\x02\x11\x03\x7F".as_slice(),
-    );
     Ok(())
 }

@@ -1,22 +1,10 @@
 //! Chains and side sectors with values from the 1541's format, and the faults of damaged chains.
 use crate::comparing::{same, same_at};
+use crate::disks::{at, link};
 use arrayvec::ArrayVec;
-use d64_image::{DeviceFault, Fuse, MemDisk, Place, Sectors};
+use d64_image::{Fuse, MemDisk, Place, Sectors};
 use disk_layout::{Fault, SideView, side_bytes, walk_chain};
 use std::test::Fail;
-
-/// The place, where the disk has it.
-fn place(track: u8, sector: u8) -> Result<Place, Fail> {
-    Ok(Place::new(track, sector).ok_or(DeviceFault)?)
-}
-
-/// Writes a sector that begins with these two bytes.
-fn link(disk: &mut MemDisk, from: Place, track: u8, sector: u8) -> Result<(), DeviceFault> {
-    let mut bytes = [0; 256];
-    bytes[0] = track;
-    bytes[1] = sector;
-    disk.write(from, &bytes)
-}
 
 /// The answer of a walk from this place, with the number of sectors visited.
 fn walk<D: Sectors>(disk: &mut D, first: Place) -> (Result<u8, Fault>, usize) {
@@ -28,7 +16,7 @@ fn walk<D: Sectors>(disk: &mut D, first: Place) -> (Result<u8, Fault>, usize) {
 // 17/0 has the link of the row, 17/1 links back to 17/0, and 17/2, a block of another file, ends with index 9.
 #[test]
 fn damaged_chains(rt: HostRuntime) -> Result<(), Fail> {
-    let first = place(17, 0)?;
+    let first = at(17, 0);
     let rows = [
         ("one sector, index 0", 0, 0, Ok(0), 1),
         ("one sector, index 1", 0, 1, Ok(1), 1),
@@ -45,11 +33,11 @@ fn damaged_chains(rt: HostRuntime) -> Result<(), Fail> {
             1,
         ),
     ];
+    let mut disk = MemDisk::zeroed(rt.alloc())?;
+    link(&mut disk, at(17, 1), 17, 0);
+    link(&mut disk, at(17, 2), 0, 9);
     for (name, track, sector, end, visited) in rows {
-        let mut disk = MemDisk::zeroed(rt.alloc())?;
-        link(&mut disk, first, track, sector)?;
-        link(&mut disk, place(17, 1)?, 17, 0)?;
-        link(&mut disk, place(17, 2)?, 0, 9)?;
+        link(&mut disk, first, track, sector);
         same_at(&rt, walk(&mut disk, first), (end, visited), name);
     }
     Ok(())
@@ -58,24 +46,24 @@ fn damaged_chains(rt: HostRuntime) -> Result<(), Fail> {
 #[test]
 fn a_chain_of_all_sectors(rt: HostRuntime) -> Result<(), Fail> {
     let mut disk = MemDisk::zeroed(rt.alloc())?;
-    let mut before = place(1, 0)?;
+    let mut before = at(1, 0);
     for track in 1..36u8 {
         for sector in 0..21u8 {
             if let Some(next) = Place::new(track, sector) {
-                link(&mut disk, before, track, sector)?;
+                link(&mut disk, before, track, sector);
                 before = next;
             }
         }
     }
-    link(&mut disk, before, 0, 42)?;
-    same(&rt, walk(&mut disk, place(1, 0)?), (Ok(42), 683));
+    link(&mut disk, before, 0, 42);
+    same(&rt, walk(&mut disk, at(1, 0)), (Ok(42), 683));
     Ok(())
 }
 
 #[test]
 fn a_device_that_fails(rt: HostRuntime) -> Result<(), Fail> {
     let mut disk = Fuse::new(MemDisk::zeroed(rt.alloc())?, 0);
-    let first = place(17, 0)?;
+    let first = at(17, 0);
     same(&rt, walk(&mut disk, first), (Err(Fault::Device(first)), 1));
     Ok(())
 }
@@ -83,30 +71,25 @@ fn a_device_that_fails(rt: HostRuntime) -> Result<(), Fail> {
 // The side sector of a file whose one block is 17/0 and whose one side sector is 17/1, with records of 18 bytes, and
 // those of a file of 121 blocks.
 #[test]
-fn side_sectors(rt: HostRuntime) -> Result<(), Fail> {
-    let (a, b, c) = (place(17, 0)?, place(17, 1)?, place(17, 2)?);
-    let one = side_bytes(0, &[a], &[b], 18);
+fn side_sectors(rt: HostRuntime) {
+    let (a, b, c) = (at(17, 0), at(17, 1), at(17, 2));
     let mut want = [0; 256];
     want[1] = 17;
     want[3] = 18;
     want[4] = 17;
     want[5] = 1;
     want[16] = 17;
-    same_at(&rt, one, want, "one block");
-    let sides = [b, c];
-    let first = side_bytes(0, &[a; 121], &sides, 18);
+    same_at(&rt, side_bytes(0, &[a], &[b], 18), want, "one block");
+    let first = side_bytes(0, &[a; 121], &[b, c], 18);
+    let second = side_bytes(1, &[a; 121], &[b, c], 18);
     same_at(
         &rt,
-        &first[..8],
-        [17, 2, 0, 18, 17, 1, 17, 2].as_slice(),
-        "the first of two",
-    );
-    let second = side_bytes(1, &[a; 121], &sides, 18);
-    same_at(
-        &rt,
-        &second[..8],
-        [0, 17, 1, 18, 17, 1, 17, 2].as_slice(),
-        "the second of two",
+        (&first[..8], &second[..8]),
+        (
+            [17, 2, 0, 18, 17, 1, 17, 2].as_slice(),
+            [0, 17, 1, 18, 17, 1, 17, 2].as_slice(),
+        ),
+        "the heads of two",
     );
     let view = SideView::new(&second);
     same(
@@ -119,23 +102,22 @@ fn side_sectors(rt: HostRuntime) -> Result<(), Fail> {
         (view.side(1), view.block(0), view.block(1)),
         (Some(c), Some(a), None),
     );
-    Ok(())
 }
 
 #[test]
 fn texts_and_numbers(rt: HostRuntime) -> Result<(), Fail> {
-    let at = place(18, 1)?;
+    let place = at(18, 1);
     let rows = [
-        (Fault::BadLink(at), "BADLINK 18/1", 1),
-        (Fault::Loop(at), "LOOP 18/1", 2),
-        (Fault::OwnedTwice(at), "OWNEDTWICE 18/1", 3),
-        (Fault::BadType(at), "BADTYPE 18/1", 4),
-        (Fault::Unclosed(at), "UNCLOSED 18/1", 5),
-        (Fault::BadSide(at), "BADSIDE 18/1", 6),
-        (Fault::BadLength(at), "BADLENGTH 18/1", 7),
-        (Fault::CountWrong(at), "COUNTWRONG 18/1", 8),
-        (Fault::MapWrong(at), "MAPWRONG 18/1", 9),
-        (Fault::Device(at), "DEVICE 18/1", 10),
+        (Fault::BadLink(place), "BADLINK 18/1", 1),
+        (Fault::Loop(place), "LOOP 18/1", 2),
+        (Fault::OwnedTwice(place), "OWNEDTWICE 18/1", 3),
+        (Fault::BadType(place), "BADTYPE 18/1", 4),
+        (Fault::Unclosed(place), "UNCLOSED 18/1", 5),
+        (Fault::BadSide(place), "BADSIDE 18/1", 6),
+        (Fault::BadLength(place), "BADLENGTH 18/1", 7),
+        (Fault::CountWrong(place), "COUNTWRONG 18/1", 8),
+        (Fault::MapWrong(place), "MAPWRONG 18/1", 9),
+        (Fault::Device(place), "DEVICE 18/1", 10),
     ];
     for (fault, text, number) in rows {
         same(

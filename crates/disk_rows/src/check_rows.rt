@@ -1,6 +1,6 @@
 //! Disks with one fault each, and a file of two side sectors.
 use crate::comparing::{same, same_at};
-use crate::disks::{change, fresh, place};
+use crate::disks::{at, change, empty_map, fresh, link, put_four};
 use d64_image::{DeviceFault, Fuse, MemDisk, Place, Sectors};
 use disk_layout::Fault;
 use layout_check::{check, survey};
@@ -10,10 +10,10 @@ use std::test::Fail;
 // The bytes are those of a fresh disk but for two of one sector; what is told, and whether the disk is sound.
 #[test]
 fn single_faults(rt: HostRuntime) -> Result<(), Fail> {
-    let map = place(18, 0)?;
-    let directory = place(18, 1)?;
-    let block = place(17, 0)?;
-    let side = place(17, 1)?;
+    let map = at(18, 0);
+    let directory = at(18, 1);
+    let block = at(17, 0);
+    let side = at(17, 1);
     let rows = [
         (
             "a track's count",
@@ -28,7 +28,7 @@ fn single_faults(rt: HostRuntime) -> Result<(), Fail> {
             map,
             (0x44, 0x12),
             (0x45, 0xF8),
-            Fault::MapWrong(place(17, 3)?),
+            Fault::MapWrong(at(17, 3)),
             true,
         ),
         (
@@ -112,9 +112,9 @@ fn single_faults(rt: HostRuntime) -> Result<(), Fail> {
             false,
         ),
     ];
-    for (name, at, first, second, fault, sound) in rows {
+    for (name, place, first, second, fault, sound) in rows {
         let mut disk = fresh(rt.alloc())?;
-        change(&mut disk, at, first, second)?;
+        change(&mut disk, place, first, second);
         same_at(&rt, check(&mut disk).err(), Some(fault), name);
         same_at(&rt, survey(&mut disk).is_ok(), sound, name);
     }
@@ -125,15 +125,11 @@ fn single_faults(rt: HostRuntime) -> Result<(), Fail> {
 #[test]
 fn kept_back_until_the_disk_is_sound(rt: HostRuntime) -> Result<(), Fail> {
     let mut disk = fresh(rt.alloc())?;
-    let directory = place(18, 1)?;
-    change(&mut disk, place(17, 1)?, (1, 0x10), (1, 0x10))?;
-    change(&mut disk, directory, (30, 3), (31, 0))?;
-    same(
-        &rt,
-        check(&mut disk).err(),
-        Some(Fault::BadSide(place(17, 1)?)),
-    );
-    change(&mut disk, directory, (34, 0x04), (34, 0x04))?;
+    let directory = at(18, 1);
+    change(&mut disk, at(17, 1), (1, 0x10), (1, 0x10));
+    change(&mut disk, directory, (30, 3), (31, 0));
+    same(&rt, check(&mut disk).err(), Some(Fault::BadSide(at(17, 1))));
+    change(&mut disk, directory, (34, 0x04), (34, 0x04));
     same(
         &rt,
         check(&mut disk).err(),
@@ -146,12 +142,12 @@ fn kept_back_until_the_disk_is_sound(rt: HostRuntime) -> Result<(), Fail> {
 #[test]
 fn a_length_too_large(rt: HostRuntime) -> Result<(), Fail> {
     let mut disk = fresh(rt.alloc())?;
-    change(&mut disk, place(18, 1)?, (23, 255), (23, 255))?;
-    change(&mut disk, place(17, 1)?, (3, 255), (3, 255))?;
+    change(&mut disk, at(18, 1), (23, 255), (23, 255));
+    change(&mut disk, at(17, 1), (3, 255), (3, 255));
     same(
         &rt,
         check(&mut disk).err(),
-        Some(Fault::BadLength(place(18, 1)?)),
+        Some(Fault::BadLength(at(18, 1))),
     );
     Ok(())
 }
@@ -160,12 +156,12 @@ fn a_length_too_large(rt: HostRuntime) -> Result<(), Fail> {
 #[test]
 fn one_sector_twice(rt: HostRuntime) -> Result<(), Fail> {
     let mut disk = fresh(rt.alloc())?;
-    change(&mut disk, place(18, 1)?, (36, 0), (54, 1))?;
-    change(&mut disk, place(18, 1)?, (55, 18), (55, 18))?;
+    change(&mut disk, at(18, 1), (36, 0), (54, 1));
+    change(&mut disk, at(18, 1), (55, 18), (55, 18));
     same(
         &rt,
         survey(&mut disk).err(),
-        Some(Fault::OwnedTwice(place(17, 0)?)),
+        Some(Fault::OwnedTwice(at(17, 0))),
     );
     Ok(())
 }
@@ -176,9 +172,10 @@ fn what_a_survey_tells(rt: HostRuntime) -> Result<(), Fail> {
     let Ok(found) = survey(&mut disk) else {
         return Err(Fail::from(DeviceFault));
     };
-    // The two calls of `outside` below need this fact.
-    assert_eq!(rt; found.entries(), 2);
-    same(&rt, (found.outside(0), found.outside(1)), (662, 662));
+    same(&rt, found.entries(), 2);
+    for entry in 0..found.entries() {
+        same_at(&rt, found.outside(entry), 662, ("entry", entry));
+    }
     let rows = [
         (18, 0, true),
         (18, 1, true),
@@ -190,7 +187,7 @@ fn what_a_survey_tells(rt: HostRuntime) -> Result<(), Fail> {
     for (track, sector, owned) in rows {
         same_at(
             &rt,
-            found.is_owned(place(track, sector)?),
+            found.is_owned(at(track, sector)),
             owned,
             (track, sector),
         );
@@ -201,69 +198,73 @@ fn what_a_survey_tells(rt: HostRuntime) -> Result<(), Fail> {
 #[test]
 fn a_device_that_fails(rt: HostRuntime) -> Result<(), Fail> {
     let mut dead = Fuse::new(fresh(rt.alloc())?, 0);
-    same(
-        &rt,
-        survey(&mut dead).err(),
-        Some(Fault::Device(place(18, 1)?)),
-    );
-    same(
-        &rt,
-        check(&mut dead).err(),
-        Some(Fault::Device(place(18, 1)?)),
-    );
+    same(&rt, survey(&mut dead).err(), Some(Fault::Device(at(18, 1))));
+    same(&rt, check(&mut dead).err(), Some(Fault::Device(at(18, 1))));
     Ok(())
 }
 
 /// The place of block n of the long file: 1/0 and on, the sectors of a track in order.
-fn block_at(n: u8) -> Result<Place, DeviceFault> {
-    place(1 + n / 21, n % 21)
+fn block_at(n: u8) -> Place {
+    at(1 + n / 21, n % 21)
+}
+
+/// The first side sector of the long file.
+fn first_side() -> [u8; 256] {
+    let mut side = [0; 256];
+    side[0..8].copy_from_slice(&[7, 1, 0, 254, 7, 0, 7, 1]);
+    for n in 0..120u8 {
+        let block = block_at(n);
+        side[16 + 2 * n as usize] = block.track();
+        side[17 + 2 * n as usize] = block.sector();
+    }
+    side
+}
+
+/// Its second side sector.
+fn second_side() -> [u8; 256] {
+    let mut side = [0; 256];
+    side[0..8].copy_from_slice(&[0, 17, 1, 254, 7, 0, 7, 1]);
+    side[16..18].copy_from_slice(&[6, 15]);
+    side
+}
+
+/// The directory with the long file alone.
+fn long_directory() -> [u8; 256] {
+    let mut directory = [0; 256];
+    directory[0..5].copy_from_slice(&[0, 0xFF, 0x84, 1, 0]);
+    directory[21..24].copy_from_slice(&[7, 0, 254]);
+    directory[30] = 123;
+    directory
+}
+
+/// The map where the long file's sectors are taken.
+fn long_map() -> [u8; 256] {
+    let mut map = empty_map();
+    for track in 1..6u8 {
+        put_four(&mut map, track, [0; 4]);
+    }
+    put_four(&mut map, 6, [0x05, 0x00, 0x00, 0x1F]);
+    put_four(&mut map, 7, [0x13, 0xFC, 0xFF, 0x1F]);
+    map
 }
 
 /// A disk with one file, of 121 blocks of records of 254 bytes: its side sectors are 7/0 and 7/1.
 fn long_file(alloc: Global) -> Result<MemDisk, Fail> {
     let mut disk = MemDisk::zeroed(alloc)?;
-    for n in 0..121u8 {
-        let mut block = [0; 256];
-        block[1] = 0xFF;
-        if n < 120 {
-            let next = block_at(n + 1)?;
-            block[0] = next.track();
-            block[1] = next.sector();
-        }
-        disk.write(block_at(n)?, &block)?;
-    }
-    let mut side = [0; 256];
-    side[0..8].copy_from_slice(&[7, 1, 0, 254, 7, 0, 7, 1]);
     for n in 0..120u8 {
-        let at = block_at(n)?;
-        side[16 + 2 * n as usize] = at.track();
-        side[17 + 2 * n as usize] = at.sector();
+        let next = block_at(n + 1);
+        link(&mut disk, block_at(n), next.track(), next.sector());
     }
-    disk.write(place(7, 0)?, &side)?;
-    let mut side = [0; 256];
-    side[0..8].copy_from_slice(&[0, 17, 1, 254, 7, 0, 7, 1]);
-    side[16..18].copy_from_slice(&[6, 15]);
-    disk.write(place(7, 1)?, &side)?;
-    let mut directory = [0; 256];
-    directory[0..5].copy_from_slice(&[0, 0xFF, 0x84, 1, 0]);
-    directory[21..24].copy_from_slice(&[7, 0, 254]);
-    directory[30] = 123;
-    disk.write(place(18, 1)?, &directory)?;
-    let mut map = [0; 256];
-    for track in 1..36usize {
-        let four = match track {
-            1..=5 => [0x00, 0x00, 0x00, 0x00],
-            6 => [0x05, 0x00, 0x00, 0x1F],
-            7 => [0x13, 0xFC, 0xFF, 0x1F],
-            8..=17 => [0x15, 0xFF, 0xFF, 0x1F],
-            18 => [0x11, 0xFC, 0xFF, 0x07],
-            19..=24 => [0x13, 0xFF, 0xFF, 0x07],
-            25..=30 => [0x12, 0xFF, 0xFF, 0x03],
-            _ => [0x11, 0xFF, 0xFF, 0x01],
-        };
-        map[4 * track..4 * track + 4].copy_from_slice(&four);
+    link(&mut disk, block_at(120), 0, 0xFF);
+    let rows = [
+        (at(7, 0), first_side()),
+        (at(7, 1), second_side()),
+        (at(18, 0), long_map()),
+        (at(18, 1), long_directory()),
+    ];
+    for (place, bytes) in rows {
+        let _ = disk.write(place, &bytes);
     }
-    disk.write(place(18, 0)?, &map)?;
     Ok(disk)
 }
 
@@ -271,8 +272,8 @@ fn long_file(alloc: Global) -> Result<MemDisk, Fail> {
 #[test]
 fn a_long_file(rt: HostRuntime) -> Result<(), Fail> {
     same(&rt, check(&mut long_file(rt.alloc())?).is_ok(), true);
-    let first = place(7, 0)?;
-    let second = place(7, 1)?;
+    let first = at(7, 0);
+    let second = at(7, 1);
     let rows = [
         ("number", second, 2, second),
         ("list of the second", second, 7, second),
@@ -282,9 +283,9 @@ fn a_long_file(rt: HostRuntime) -> Result<(), Fail> {
         ("pointer to the last block", second, 17, second),
         ("pointer to the block before", first, 255, first),
     ];
-    for (name, at, byte, told) in rows {
+    for (name, place, byte, told) in rows {
         let mut disk = long_file(rt.alloc())?;
-        change(&mut disk, at, (byte, 3), (byte, 3))?;
+        change(&mut disk, place, (byte, 3), (byte, 3));
         same_at(
             &rt,
             survey(&mut disk).err(),

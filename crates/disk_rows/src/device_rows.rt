@@ -1,13 +1,9 @@
 //! Each public call once, with values of the D64 layout.
 use crate::comparing::{same, same_at};
+use crate::disks::{at, sector};
 use d64_image::{DeviceFault, Fuse, ImageFault, MemDisk, Meter, Place, Sectors};
 use std::alloc::Global;
 use std::test::Fail;
-
-/// The place, where the disk has it.
-pub(crate) fn place(track: u8, sector: u8) -> Result<Place, Fail> {
-    Ok(Place::new(track, sector).ok_or(DeviceFault)?)
-}
 
 /// An image with another number in the first byte of each sector, and in the last byte of all.
 fn numbered(alloc: Global) -> Result<Vec<u8>, Fail> {
@@ -72,7 +68,7 @@ fn an_image_is_loaded(rt: HostRuntime) -> Result<(), Fail> {
     let mut disk = MemDisk::load(rt.alloc(), bytes.as_slice())?;
     same(&rt, disk.bytes(), bytes.as_slice());
     let mut sector = [7; 256];
-    disk.read(place(18, 0)?, &mut sector)?;
+    disk.read(at(18, 0), &mut sector)?;
     same_at(
         &rt,
         (sector[0], sector[1]),
@@ -113,10 +109,10 @@ fn a_disk_of_zeros(rt: HostRuntime) -> Result<(), Fail> {
 #[test]
 fn a_write_changes_its_sector_alone(rt: HostRuntime) -> Result<(), Fail> {
     let mut disk = MemDisk::zeroed(rt.alloc())?;
-    disk.write(place(18, 1)?, &[255; 256])?;
-    for (at, byte) in disk.bytes().iter().enumerate() {
-        let written = 0x16600 <= at && at < 0x16700;
-        same_at(&rt, *byte, if written { 255 } else { 0 }, ("byte", at));
+    disk.write(at(18, 1), &[255; 256])?;
+    for (i, byte) in disk.bytes().iter().enumerate() {
+        let written = 0x16600 <= i && i < 0x16700;
+        same_at(&rt, *byte, if written { 255 } else { 0 }, ("byte", i));
     }
     Ok(())
 }
@@ -124,11 +120,7 @@ fn a_write_changes_its_sector_alone(rt: HostRuntime) -> Result<(), Fail> {
 #[test]
 fn generic_code_in_memory(rt: HostRuntime) -> Result<(), Fail> {
     let mut disk = MemDisk::load(rt.alloc(), numbered(rt.alloc())?.as_slice())?;
-    same(
-        &rt,
-        copy_sector(&mut disk, place(1, 1)?, place(35, 16)?),
-        Ok(2),
-    );
+    same(&rt, copy_sector(&mut disk, at(1, 1), at(35, 16)), Ok(2));
     Ok(())
 }
 
@@ -138,7 +130,7 @@ fn a_fuse_of_two_writes(rt: HostRuntime) -> Result<(), Fail> {
     let mut meter = Meter::new(Fuse::new(disk, 2));
     let mut answers = [Ok(0); 4];
     for (i, answer) in answers.iter_mut().enumerate() {
-        *answer = copy_sector(&mut meter, place(1, i as u8)?, place(35, i as u8)?);
+        *answer = copy_sector(&mut meter, at(1, i as u8), at(35, i as u8));
     }
     // the second write blows the fuse, and what follows isn't counted
     same(
@@ -150,9 +142,7 @@ fn a_fuse_of_two_writes(rt: HostRuntime) -> Result<(), Fail> {
     let mut disk = meter.into_inner().into_inner();
     let mut firsts = [0; 3];
     for (i, first) in firsts.iter_mut().enumerate() {
-        let mut sector = [0; 256];
-        disk.read(place(35, i as u8)?, &mut sector)?;
-        *first = sector[0];
+        *first = sector(&mut disk, at(35, i as u8))[0];
     }
     same_at(&rt, firsts, [1, 2, 157], "the third sector is as it was");
     Ok(())

@@ -1,29 +1,20 @@
 //! The directory read along its links, on damaged disks too.
 use crate::comparing::{same, same_at};
+use crate::disks::{at, fresh};
 use arrayvec::ArrayVec;
-use d64_image::{DeviceFault, Fuse, MemDisk, Place, Sectors};
+use d64_image::{DeviceFault, Fuse, MemDisk, Sectors};
 use disk_layout::{Fault, Slot, blank_image, read_directory};
 use std::test::Fail;
 
-/// The place, where the disk has it.
-fn place(track: u8, sector: u8) -> Result<Place, DeviceFault> {
-    Place::new(track, sector).ok_or(DeviceFault)
-}
-
 /// Writes a directory sector with this link, whose slots have the type byte of the row each.
-fn directory_sector(
-    disk: &mut MemDisk,
-    sector: u8,
-    link: [u8; 2],
-    types: [u8; 8],
-) -> Result<(), DeviceFault> {
+fn directory_sector(disk: &mut MemDisk, sector: u8, link: [u8; 2], types: [u8; 8]) {
     let mut bytes = [0; 256];
     bytes[0] = link[0];
     bytes[1] = link[1];
     for n in 0..8usize {
         bytes[32 * n + 2] = types[n];
     }
-    disk.write(place(18, sector)?, &bytes)
+    let _ = disk.write(at(18, sector), &bytes);
 }
 
 /// What `read_directory` answers, and how many entries it lists.
@@ -36,7 +27,7 @@ fn listed<D: Sectors>(disk: &mut D) -> (Result<(), Fault>, usize) {
 // The first directory sector has the link of the row, the second links back to the first.
 #[test]
 fn damaged_links(rt: HostRuntime) -> Result<(), Fail> {
-    let first = place(18, 1)?;
+    let first = at(18, 1);
     let rows = [
         ("no more", [0, 255], Ok(())),
         ("no more, another byte 1", [0, 7], Ok(())),
@@ -47,10 +38,10 @@ fn damaged_links(rt: HostRuntime) -> Result<(), Fail> {
         ("itself", [18, 1], Err(Fault::Loop(first))),
         ("one that links back", [18, 2], Err(Fault::Loop(first))),
     ];
+    let mut disk = MemDisk::zeroed(rt.alloc())?;
+    directory_sector(&mut disk, 2, [18, 1], [0; 8]);
     for (name, link, answer) in rows {
-        let mut disk = MemDisk::zeroed(rt.alloc())?;
-        directory_sector(&mut disk, 1, link, [0x82; 8])?;
-        directory_sector(&mut disk, 2, [18, 1], [0; 8])?;
+        directory_sector(&mut disk, 1, link, [0x82; 8]);
         same_at(&rt, listed(&mut disk).0, answer, name);
     }
     Ok(())
@@ -60,9 +51,9 @@ fn damaged_links(rt: HostRuntime) -> Result<(), Fail> {
 fn a_full_directory(rt: HostRuntime) -> Result<(), Fail> {
     let mut disk = MemDisk::zeroed(rt.alloc())?;
     for sector in 1..18u8 {
-        directory_sector(&mut disk, sector, [18, sector + 1], [0x82; 8])?;
+        directory_sector(&mut disk, sector, [18, sector + 1], [0x82; 8]);
     }
-    directory_sector(&mut disk, 18, [0, 255], [0x82; 8])?;
+    directory_sector(&mut disk, 18, [0, 255], [0x82; 8]);
     same(&rt, listed(&mut disk), (Ok(()), 144));
     Ok(())
 }
@@ -71,19 +62,14 @@ fn a_full_directory(rt: HostRuntime) -> Result<(), Fail> {
 #[test]
 fn entries_in_order(rt: HostRuntime) -> Result<(), Fail> {
     let mut disk = MemDisk::zeroed(rt.alloc())?;
-    directory_sector(
-        &mut disk,
-        1,
-        [18, 9],
-        [0x00, 0x82, 0x00, 0x02, 0x85, 0x00, 0x00, 0x00],
-    )?;
-    directory_sector(&mut disk, 9, [18, 4], [0x00; 8])?;
-    directory_sector(
-        &mut disk,
-        4,
-        [0, 255],
-        [0xC4, 0x00, 0x00, 0x00, 0x00, 0x00, 0x00, 0x81],
-    )?;
+    let sectors = [
+        (1, [18, 9], [0, 0x82, 0, 0x02, 0x85, 0, 0, 0]),
+        (9, [18, 4], [0; 8]),
+        (4, [0, 255], [0xC4, 0, 0, 0, 0, 0, 0, 0x81]),
+    ];
+    for (sector, link, types) in sectors {
+        directory_sector(&mut disk, sector, link, types);
+    }
     let rows = [
         (1, 1, 0x82),
         (1, 3, 0x02),
@@ -93,8 +79,8 @@ fn entries_in_order(rt: HostRuntime) -> Result<(), Fail> {
     ];
     let mut slots: ArrayVec<Slot, 144> = ArrayVec::new();
     slots.push(Slot::default());
-    same(&rt, read_directory(&mut disk, &mut slots), Ok(()));
-    same(&rt, slots.len(), 5);
+    let answer = read_directory(&mut disk, &mut slots);
+    same(&rt, (answer, slots.len()), (Ok(()), 5));
     for (slot, row) in slots.as_slice().iter().zip(rows) {
         same(&rt, (slot.sector.sector(), slot.number, slot.bytes[2]), row);
     }
@@ -103,22 +89,13 @@ fn entries_in_order(rt: HostRuntime) -> Result<(), Fail> {
 
 #[test]
 fn a_device_that_fails(rt: HostRuntime) -> Result<(), Fail> {
-    let mut disk = MemDisk::zeroed(rt.alloc())?;
-    blank_image(&mut disk, b"STOCK LEDGER", *b"01", 2)?;
-    let mut dead = Fuse::new(disk, 0);
-    same(
-        &rt,
-        listed(&mut dead),
-        (Err(Fault::Device(place(18, 1)?)), 0),
-    );
+    let mut dead = Fuse::new(fresh(rt.alloc())?, 0);
+    let failed = Err(Fault::Device(at(18, 1)));
+    same(&rt, listed(&mut dead), (failed, 0));
     for writes in 0..6u32 {
         let mut fuse = Fuse::new(MemDisk::zeroed(rt.alloc())?, writes);
-        same_at(
-            &rt,
-            blank_image(&mut fuse, b"N", *b"01", 2),
-            Err(DeviceFault),
-            ("writes", writes),
-        );
+        let answer = blank_image(&mut fuse, b"N", *b"01", 2);
+        same_at(&rt, answer, Err(DeviceFault), ("writes", writes));
     }
     Ok(())
 }

@@ -1,6 +1,6 @@
 //! A mirror over a file in memory, also where that fails, and a disk of which one call fails.
 use crate::comparing::{same, same_at};
-use crate::device_rows::place;
+use crate::disks::{at, sector};
 use d64_image::{DeviceFault, MemDisk, Mirror, OneFault, Place, Sectors};
 use std::io::{self, Cursor, Seek, SeekFrom, Write};
 use std::test::Fail;
@@ -61,7 +61,7 @@ fn a_sector_goes_to_its_place_in_the_file(rt: HostRuntime) -> Result<(), Fail> {
     ];
     let mut mirror = mirrored(&rt, 174_848)?;
     for (track, sector, _) in rows {
-        mirror.write(place(track, sector)?, &[track + sector; 256])?;
+        mirror.write(at(track, sector), &[track + sector; 256])?;
     }
     let (file, disk) = mirror.into_inner();
     let bytes = file.bytes.into_inner();
@@ -79,23 +79,25 @@ fn a_sector_goes_to_its_place_in_the_file(rt: HostRuntime) -> Result<(), Fail> {
 fn a_file_that_fails_leaves_memory(rt: HostRuntime) -> Result<(), Fail> {
     // room for two sectors, and for a part of the third
     let mut mirror = mirrored(&rt, 612)?;
-    let mut sector = [7; 256];
+    let mut bytes = [7; 256];
     let answers = [
-        mirror.write(place(18, 0)?, &[1; 256]),
-        mirror.write(place(17, 4)?, &[2; 256]),
-        mirror.write(place(17, 0)?, &[3; 256]),
-        mirror.write(place(18, 1)?, &[4; 256]),
-        mirror.read(place(18, 0)?, &mut sector),
+        mirror.write(at(18, 0), &[1; 256]),
+        mirror.write(at(17, 4), &[2; 256]),
+        mirror.write(at(17, 0), &[3; 256]),
+        mirror.write(at(18, 1), &[4; 256]),
+        mirror.read(at(18, 0), &mut bytes),
     ];
     let failed = Err(DeviceFault);
     same(&rt, answers, [Ok(()), Ok(()), failed, failed, failed]);
     let (file, mut disk) = mirror.into_inner();
-    let mut firsts = [7; 4];
-    for (first, (track, number)) in firsts.iter_mut().zip([(18, 0), (17, 4), (17, 0), (18, 1)]) {
-        disk.read(place(track, number)?, &mut sector)?;
-        *first = sector[0];
+    for (place, first) in [
+        (at(18, 0), 1),
+        (at(17, 4), 2),
+        (at(17, 0), 0),
+        (at(18, 1), 0),
+    ] {
+        same_at(&rt, sector(&mut disk, place)[0], first, place);
     }
-    same(&rt, firsts, [1, 2, 0, 0]);
     // it had taken a part of the sector on 17/0
     same(
         &rt,
@@ -118,7 +120,7 @@ fn four_calls<D: Sectors>(disk: &mut D, one: Place, other: Place) -> [bool; 4] {
 
 #[test]
 fn one_call_fails(rt: HostRuntime) -> Result<(), Fail> {
-    let (one, other) = (place(17, 0)?, place(17, 1)?);
+    let (one, other) = (at(17, 0), at(17, 1));
     // the call, whether it is done, where it fails, and what the two sectors hold then
     let rows = [
         (0, false, Some(one), [0, 2]),

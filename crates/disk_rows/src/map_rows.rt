@@ -1,29 +1,26 @@
 //! The map: the order of picking, taking and giving back.
 use crate::comparing::{same, same_at};
-use d64_image::{DeviceFault, Place};
+use crate::disks::{at, empty_map, put_four};
+use d64_image::Place;
 use disk_layout::Bam;
-use std::test::Fail;
 
-/// A map on which every sector is free but the two that the map and the directory have, with a name.
+/// A map with a name, on which every sector is free but the two that the map and the directory have.
 fn fresh() -> Bam {
-    let mut bytes = [0; 256];
-    for track in 1..36usize {
-        let four = match track {
-            18 => [0x11, 0xFC, 0xFF, 0x07],
-            0..=17 => [0x15, 0xFF, 0xFF, 0x1F],
-            19..=24 => [0x13, 0xFF, 0xFF, 0x07],
-            25..=30 => [0x12, 0xFF, 0xFF, 0x03],
-            _ => [0x11, 0xFF, 0xFF, 0x01],
-        };
-        bytes[4 * track..4 * track + 4].copy_from_slice(&four);
-    }
+    let mut bytes = empty_map();
     bytes[0x90..0x94].copy_from_slice(b"NAME");
+    Bam::new(bytes)
+}
+
+/// The same with these four bytes of a track.
+fn with_four(track: u8, four: [u8; 4]) -> Bam {
+    let mut bytes = fresh().bytes;
+    put_four(&mut bytes, track, four);
     Bam::new(bytes)
 }
 
 // Tracks 17, 19, 16, 20 and so on; each sector of a track before the next track; at last none.
 #[test]
-fn picks_in_order(rt: HostRuntime) -> Result<(), Fail> {
+fn picks_in_order(rt: HostRuntime) {
     let tracks = [
         17, 19, 16, 20, 15, 21, 14, 22, 13, 23, 12, 24, 11, 25, 10, 26, 9, 27, 8, 28, 7, 29, 6, 30,
         5, 31, 4, 32, 3, 33, 2, 34, 1, 35,
@@ -39,14 +36,13 @@ fn picks_in_order(rt: HostRuntime) -> Result<(), Fail> {
     }
     same(&rt, map.pick(), None);
     same(&rt, map.view().blocks_free(), 0);
-    Ok(())
 }
 
 #[test]
-fn picks_for_the_directory(rt: HostRuntime) -> Result<(), Fail> {
+fn picks_for_the_directory(rt: HostRuntime) {
     let mut map = fresh();
     for sector in 2..19u8 {
-        let place = Place::new(18, sector).ok_or(DeviceFault)?;
+        let place = at(18, sector);
         same(&rt, map.pick_directory(), Some(place));
         map.take(place);
     }
@@ -55,12 +51,11 @@ fn picks_for_the_directory(rt: HostRuntime) -> Result<(), Fail> {
         (map.pick_directory(), map.view().free_on(18)),
         (None, 0),
     );
-    Ok(())
 }
 
 // Each row: the track's four bytes, the sector, what they are when it is taken, and when it is given back.
 #[test]
-fn takes_and_gives(rt: HostRuntime) -> Result<(), Fail> {
+fn takes_and_gives(rt: HostRuntime) {
     let rows = [
         (
             "free",
@@ -104,20 +99,11 @@ fn takes_and_gives(rt: HostRuntime) -> Result<(), Fail> {
         ),
     ];
     for (name, track, before, sector, taken, given) in rows {
-        let place = Place::new(track, sector).ok_or(DeviceFault)?;
-        let at = 4 * track as usize;
-        if at > 140 {
-            return Ok(());
-        }
-        let mut map = fresh();
-        map.bytes[at..at + 4].copy_from_slice(&before);
-        let mut want = map;
+        let place = at(track, sector);
+        let mut map = with_four(track, before);
         map.take(place);
-        want.bytes[at..at + 4].copy_from_slice(&taken);
-        same_at(&rt, map, want, name);
+        same_at(&rt, map, with_four(track, taken), name);
         map.give(place);
-        want.bytes[at..at + 4].copy_from_slice(&given);
-        same_at(&rt, map, want, name);
+        same_at(&rt, map, with_four(track, given), name);
     }
-    Ok(())
 }

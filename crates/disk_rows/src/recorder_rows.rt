@@ -1,14 +1,9 @@
 //! The images that a recorder kept, over memory and over a fuse.
-use crate::comparing::same;
+use crate::comparing::{same, same_at};
+use crate::disks::{at, sector};
 use d64_image::{DeviceFault, Fuse, MemDisk, Place, Sectors};
 use recorder::Recorder;
-use std::alloc::Global;
 use std::test::Fail;
-
-/// Two places: the first and the last of the disk.
-fn places() -> Result<(Place, Place), Fail> {
-    Ok((Place::default(), Place::new(35, 16).ok_or(DeviceFault)?))
-}
 
 /// Fills the first sector, then the last one, as any layer above writes them.
 fn fill_both<D: Sectors>(disk: &mut D, a: Place, b: Place, byte: u8) -> Result<(), DeviceFault> {
@@ -16,57 +11,45 @@ fn fill_both<D: Sectors>(disk: &mut D, a: Place, b: Place, byte: u8) -> Result<(
     disk.write(b, &[byte; 256])
 }
 
-/// The first bytes of two sectors at each moment that a recorder has seen.
-fn seen<D: Sectors>(
-    alloc: Global,
-    disk: &mut Recorder<D>,
-    a: Place,
-    b: Place,
-) -> Result<Vec<(u8, u8)>, Fail> {
-    let mut seen = Vec::new(alloc);
-    for moment in 0..=disk.moments() {
-        let mut first = [0; 256];
-        disk.read_at(moment, a, &mut first)?;
-        let mut second = [0; 256];
-        disk.read_at(moment, b, &mut second)?;
-        seen.push((first[0], second[0]))?;
-    }
-    Ok(seen)
+/// The bytes of a sector at a moment that a recorder has seen; where it can't be read, EE in each.
+fn seen<D: Sectors>(disk: &mut Recorder<D>, moment: usize, place: Place) -> [u8; 256] {
+    let mut bytes = [0xEE; 256];
+    let _ = disk.read_at(moment, place, &mut bytes);
+    bytes
 }
 
 #[test]
 fn images_in_between(rt: HostRuntime) -> Result<(), Fail> {
-    let (a, b) = places()?;
+    let (a, b) = (at(1, 0), at(35, 16));
     let mut disk = Recorder::new(rt.alloc(), MemDisk::zeroed(rt.alloc())?);
-    fill_both(&mut disk, a, b, 1)?;
-    fill_both(&mut disk, a, a, 9)?;
-    let want = [(0, 0), (1, 0), (1, 1), (9, 1), (9, 1)];
-    same(
-        &rt,
-        seen(rt.alloc(), &mut disk, a, b)?.as_slice(),
-        want.as_slice(),
-    );
-    let mut last = [0; 256];
-    disk.read_at(9, b, &mut last)?;
+    let answers = [fill_both(&mut disk, a, b, 1), fill_both(&mut disk, a, a, 9)];
+    same(&rt, (answers, disk.moments()), ([Ok(()); 2], 4));
     // a later moment is now
-    same(&rt, last[255], 1);
-    disk.into_inner().read(a, &mut last)?;
-    same(&rt, last[0], 9);
+    let rows = [
+        (0, 0, 0),
+        (1, 1, 0),
+        (2, 1, 1),
+        (3, 9, 1),
+        (4, 9, 1),
+        (9, 9, 1),
+    ];
+    for (moment, first, last) in rows {
+        let held = (seen(&mut disk, moment, a), seen(&mut disk, moment, b));
+        same_at(&rt, held, ([first; 256], [last; 256]), ("moment", moment));
+    }
+    same(&rt, sector(&mut disk.into_inner(), a)[0], 9);
     Ok(())
 }
 
 // A blown fuse refuses the recorder's own read before the second write, which isn't recorded then.
 #[test]
 fn a_recorder_over_a_fuse(rt: HostRuntime) -> Result<(), Fail> {
-    let (a, b) = places()?;
+    let (a, b) = (at(1, 0), at(35, 16));
     let mut disk = Recorder::new(rt.alloc(), Fuse::new(MemDisk::zeroed(rt.alloc())?, 1));
     same(&rt, fill_both(&mut disk, a, b, 1), Err(DeviceFault));
     same(&rt, disk.moments(), 1);
     let mut disk = disk.into_inner().into_inner();
-    let mut sector = [0; 256];
-    disk.read(a, &mut sector)?;
-    same(&rt, sector[0], 1);
-    disk.read(b, &mut sector)?;
-    same(&rt, sector[0], 0);
+    let firsts = (sector(&mut disk, a)[0], sector(&mut disk, b)[0]);
+    same(&rt, firsts, (1, 0));
     Ok(())
 }

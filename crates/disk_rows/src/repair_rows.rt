@@ -1,6 +1,6 @@
 //! Disks that are repaired, and what that writes.
 use crate::comparing::{same, same_at};
-use crate::disks::{change, fresh, place};
+use crate::disks::{at, change, fresh};
 use d64_image::{Fuse, MemDisk, Meter};
 use disk_layout::Fault;
 use layout_check::{check, repair, survey};
@@ -10,9 +10,9 @@ use std::test::Fail;
 /// A fresh disk with a bit and a count of the map, a block count and the end of a side sector wrong.
 fn worn(alloc: Global) -> Result<MemDisk, Fail> {
     let mut disk = fresh(alloc)?;
-    change(&mut disk, place(18, 0)?, (0x44, 0x12), (0x45, 0xF8))?;
-    change(&mut disk, place(18, 1)?, (30, 3), (31, 0))?;
-    change(&mut disk, place(17, 1)?, (1, 0x10), (1, 0x10))?;
+    change(&mut disk, at(18, 0), (0x44, 0x12), (0x45, 0xF8));
+    change(&mut disk, at(18, 1), (30, 3), (31, 0));
+    change(&mut disk, at(17, 1), (1, 0x10), (1, 0x10));
     Ok(disk)
 }
 
@@ -42,12 +42,12 @@ fn wrong_sectors_are_written_once(rt: HostRuntime) -> Result<(), Fail> {
 #[test]
 fn bits_past_the_last_sector(rt: HostRuntime) -> Result<(), Fail> {
     let mut spare = fresh(rt.alloc())?;
-    change(&mut spare, place(18, 0)?, (7, 0xFF), (7, 0xFF))?;
+    change(&mut spare, at(18, 0), (7, 0xFF), (7, 0xFF));
     let mut disk = Meter::new(spare);
     repair(&mut disk)?;
     same(&rt, disk.writes(), 0);
     let mut wrong = disk.into_inner();
-    change(&mut wrong, place(18, 0)?, (0x44, 0x12), (0x45, 0xF8))?;
+    change(&mut wrong, at(18, 0), (0x44, 0x12), (0x45, 0xF8));
     repair(&mut wrong)?;
     same(&rt, wrong.bytes() == fresh(rt.alloc())?.bytes(), true);
     Ok(())
@@ -76,17 +76,12 @@ fn a_cut_repair_is_taken_up_again(rt: HostRuntime) -> Result<(), Fail> {
 #[test]
 fn a_disk_that_is_not_sound_stays(rt: HostRuntime) -> Result<(), Fail> {
     let rows = [
-        (place(17, 0)?, (0, 17), (1, 0), Fault::Loop(place(17, 0)?)),
-        (
-            place(18, 1)?,
-            (2, 4),
-            (2, 4),
-            Fault::Unclosed(place(18, 1)?),
-        ),
+        (at(17, 0), (0, 17), (1, 0), Fault::Loop(at(17, 0))),
+        (at(18, 1), (2, 4), (2, 4), Fault::Unclosed(at(18, 1))),
     ];
-    for (at, first, second, fault) in rows {
+    for (place, first, second, fault) in rows {
         let mut disk = worn(rt.alloc())?;
-        change(&mut disk, at, first, second)?;
+        change(&mut disk, place, first, second);
         let mut disk = Meter::new(disk);
         same(&rt, repair(&mut disk).err(), Some(fault));
         same(&rt, disk.writes(), 0);
