@@ -1,4 +1,5 @@
 //! Records that are request cards, and records that are none.
+use crate::comparing::same_at;
 use request_cards::RequestCard;
 
 /// A record's text without the zeros behind, and whether it is a card.
@@ -39,6 +40,6 @@ fn records_are_one_card_or_none(rt: HostRuntime) {
         for (to, from) in bytes.iter_mut().zip(text) {
             *to = *from;
         }
-        assert_eq!(rt; RequestCard::parse(&bytes).is_some(), is_card, "{text:?}");
+        same_at(&rt, RequestCard::parse(&bytes).is_some(), is_card, text);
     }
 }

@@ -1,9 +1,10 @@
 //! What `check` prints of a fresh disk, and of the same disk with one change.
+use crate::comparing::same;
 use crate::faults::RunFault;
-use crate::image_tests::{Bytes, S17_0, S17_1, S18_0, S18_1, formatted, patch};
+use crate::image_tests::{Bytes, S17_0, S17_1, S18_0, S18_1, changed, formatted, patch};
 use crate::judging::check_image;
 use crate::tests::Full;
-use std::test::Fail;
+use std::process::Abort;
 
 /// What `check` prints of a disk for two tills after these changes, and how many faults it tells.
 const VERDICTS: [(&[Bytes], &[u8], u8); 16] = [
@@ -57,38 +58,36 @@ const VERDICTS: [(&[Bytes], &[u8], u8); 16] = [
 ];
 
 #[test]
-fn images_are_judged(rt: HostRuntime) -> Result<(), Fail> {
+fn images_are_judged(rt: HostRuntime) {
     for (changes, verdict, faults) in VERDICTS {
-        let mut image = formatted(&rt, 2)?;
-        patch(&mut image, changes);
+        let image = changed(&rt, 2, changes);
         let mut out = Vec::new(rt.alloc());
-        let found = check_image(rt.alloc(), image.as_slice(), &mut out)?;
-        assert_eq!(rt; (out.as_slice(), found.is_some()), (verdict, faults == 1));
+        let found = check_image(rt.alloc(), image.as_slice(), &mut out);
+        let told = matches!(found, Ok(Some(_)));
+        same(&rt, (out.as_slice(), told), (verdict, faults == 1));
     }
-    Ok(())
+}
+
+/// Sees that an output that takes so many bytes, or doesn't flush, is told.
+fn is_full(rt: &(impl AllocGlobal + Abort), image: &[u8], room: usize, flushes: bool) {
+    let ended = check_image(rt.alloc(), image, &mut Full { room, flushes });
+    same(rt, ended, Err(RunFault::File));
 }
 
 #[test]
-fn a_size_or_an_output_that_fails_is_told(rt: HostRuntime) -> Result<(), Fail> {
-    let mut image = formatted(&rt, 64)?;
-    // What the output takes, and whether it flushes.
-    for (room, flushes) in [(2, true), (3, false)] {
-        let ended = check_image(rt.alloc(), image.as_slice(), &mut Full { room, flushes });
-        assert_eq!(rt; ended, Err(RunFault::File));
-    }
+fn a_size_or_an_output_that_fails_is_told(rt: HostRuntime) {
+    let mut image = formatted(&rt, 64);
+    is_full(&rt, image.as_slice(), 2, true);
+    is_full(&rt, image.as_slice(), 3, false);
     patch(&mut image, &[(S17_0, b"\x11\x00")]);
-    for (room, flushes) in [(9, true), (10, false)] {
-        let ended = check_image(rt.alloc(), image.as_slice(), &mut Full { room, flushes });
-        assert_eq!(rt; ended, Err(RunFault::File));
-    }
+    is_full(&rt, image.as_slice(), 9, true);
+    is_full(&rt, image.as_slice(), 10, false);
     image.truncate(174847);
-    let mut out = Full {
-        room: 0,
-        flushes: true,
-    };
-    assert_eq!(rt;
-        check_image(rt.alloc(), image.as_slice(), &mut out),
-        Err(RunFault::ImageSize)
+    let mut out = Vec::new(rt.alloc());
+    let ended = check_image(rt.alloc(), image.as_slice(), &mut out);
+    same(
+        &rt,
+        (ended, out.is_empty()),
+        (Err(RunFault::ImageSize), true),
     );
-    Ok(())
 }

@@ -1,10 +1,12 @@
 //! The images that `format` makes, and what `list` prints of them and of damaged ones.
+use crate::comparing::{holds, same, same_at};
 use crate::faults::RunFault;
 use crate::formatting::{format_file, format_image};
 use crate::judging::check_image;
 use crate::listing::list_image;
 use crate::tests::Full;
 use std::fs::File;
+use std::io::Write;
 use std::process::Abort;
 use std::test::Fail;
 
@@ -13,7 +15,7 @@ pub(crate) const S17_0: usize = 86016;
 
 pub(crate) const S17_1: usize = S17_0 + 256;
 
-const S17_2: usize = S17_0 + 2 * 256;
+pub(crate) const S17_2: usize = S17_0 + 2 * 256;
 
 const S17_3: usize = S17_0 + 3 * 256;
 
@@ -55,13 +57,15 @@ const TWO_TILLS: [Bytes; 20] = [
     (S17_0 + 2 + 13 * 18, b"\xFF"),
 ];
 
-/// The tracks that are wholly free, from the first of these to the one before the last, with their
-/// four bytes of the map.
-const FREE_TRACKS: [(usize, usize, &[u8]); 4] = [
-    (1, 17, b"\x15\xFF\xFF\x1F"),
-    (19, 25, b"\x13\xFF\xFF\x07"),
-    (25, 31, b"\x12\xFF\xFF\x03"),
-    (31, 36, b"\x11\xFF\xFF\x01"),
+/// What it has again and again: where the first of these bytes stand, how far it is to the next, and how many there are.
+const REPEATED: [(usize, usize, usize, &[u8]); 5] = [
+    // The records of STOCK.
+    (S17_0 + 2, 18, 14, b"\xFF"),
+    // The tracks that are wholly free, in the map: 1 to 16, 19 to 24, 25 to 30 and 31 to 35.
+    (S18_0 + 4, 4, 16, b"\x15\xFF\xFF\x1F"),
+    (S18_0 + 4 * 19, 4, 6, b"\x13\xFF\xFF\x07"),
+    (S18_0 + 4 * 25, 4, 6, b"\x12\xFF\xFF\x03"),
+    (S18_0 + 4 * 31, 4, 5, b"\x11\xFF\xFF\x01"),
 ];
 
 /// For so many tills, what stands somewhere.
@@ -81,13 +85,13 @@ const OTHER_TILLS: [(u8, Bytes); 12] = [
 ];
 
 /// The image that `format` makes for so many tills; for two where that is none of 1 to 64.
-pub(crate) fn formatted(rt: &(impl AllocGlobal + Abort), tills: u8) -> Result<Vec<u8>, Fail> {
+pub(crate) fn formatted(rt: &(impl AllocGlobal + Abort), tills: u8) -> Vec<u8> {
     let tills = if tills >= 1 && tills <= 64 { tills } else { 2 };
     let mut file = Vec::new(rt.alloc());
     let mut out = Vec::new(rt.alloc());
-    format_image(rt.alloc(), tills, &mut file, &mut out)?;
-    assert_eq!(rt; out.as_slice(), b"FORMATTED\n".as_slice());
-    Ok(file)
+    let ended = format_image(rt.alloc(), tills, &mut file, &mut out);
+    same(rt, (ended, out.as_slice()), (Ok(()), b"FORMATTED\n"));
+    file
 }
 
 /// Writes the bytes over the image.
@@ -99,41 +103,48 @@ pub(crate) fn patch(image: &mut Vec<u8>, bytes: &[Bytes]) {
     }
 }
 
+/// The same image with these bytes.
+pub(crate) fn changed(rt: &(impl AllocGlobal + Abort), tills: u8, bytes: &[Bytes]) -> Vec<u8> {
+    let mut image = formatted(rt, tills);
+    patch(&mut image, bytes);
+    image
+}
+
 /// The bytes of the image from there on.
 fn from(image: &[u8], at: usize) -> &[u8] {
     image.get(at..).unwrap_or(&[])
 }
 
+/// Writes the bytes over the image from there on, so many times.
+fn patch_again(image: &mut Vec<u8>, at: usize, step: usize, times: usize, bytes: &'static [u8]) {
+    let mut at = at;
+    for _ in 0..times {
+        patch(image, &[(at, bytes)]);
+        at = at.saturating_add(step);
+    }
+}
+
 #[test]
 fn a_disk_for_two_tills_has_these_bytes_and_zeros(rt: HostRuntime) -> Result<(), Fail> {
-    let mut wanted = Vec::new(rt.alloc());
-    wanted.resize(174848, 0u8)?;
-    for record in 0..14usize {
-        patch(&mut wanted, &[(S17_0 + 2 + 18 * record, b"\xFF")]);
-    }
-    for (first, end, bytes) in FREE_TRACKS {
-        for track in first..end {
-            patch(&mut wanted, &[(S18_0 + 4 * track, bytes)]);
-        }
+    let mut wanted = vec![in rt.alloc(); 0u8; 174848]?;
+    for (at, step, times, bytes) in REPEATED {
+        patch_again(&mut wanted, at, step, times, bytes);
     }
     patch(&mut wanted, &TWO_TILLS);
-    let image = formatted(&rt, 2)?;
-    assert!(rt; image == wanted);
+    let (two, one) = (formatted(&rt, 2), formatted(&rt, 1));
+    holds(&rt, two == wanted, "two tills");
     // An odd number gives one till more.
-    assert!(rt; formatted(&rt, 1)? == wanted);
+    holds(&rt, one == wanted, "one till");
     Ok(())
 }
 
 #[test]
-fn disks_for_other_tills_have_these_bytes(rt: HostRuntime) -> Result<(), Fail> {
+fn disks_for_other_tills_have_these_bytes(rt: HostRuntime) {
     for (tills, (at, bytes)) in OTHER_TILLS {
-        let image = formatted(&rt, tills)?;
-        assert!(rt;
-            from(image.as_slice(), at).starts_with(bytes),
-            "{tills} tills at {at}"
-        );
+        let image = formatted(&rt, tills);
+        let stands = from(image.as_slice(), at).starts_with(bytes);
+        holds(&rt, stands, (tills, at));
     }
-    Ok(())
 }
 
 /// What is printed of a disk for so many tills after these changes.
@@ -251,47 +262,46 @@ const LISTINGS: [(u8, &[Bytes], &[u8]); 13] = [
     ),
 ];
 
-/// Lists an image: how it ends, and what it prints.
-fn list(rt: &impl AllocGlobal, image: &[u8]) -> (Result<(), RunFault>, Vec<u8>) {
+/// Sees that listing an image ends so, and that this is printed.
+fn is_listed(
+    rt: &(impl AllocGlobal + Abort),
+    image: &[u8],
+    ended: Result<(), RunFault>,
+    printed: &[u8],
+) {
     let mut out = Vec::new(rt.alloc());
-    let ended = list_image(rt.alloc(), image, &mut out);
-    (ended, out)
+    let got = list_image(rt.alloc(), image, &mut out);
+    same(rt, (got, out.as_slice()), (ended, printed));
 }
 
 #[test]
-fn images_are_listed(rt: HostRuntime) -> Result<(), Fail> {
+fn images_are_listed(rt: HostRuntime) {
     for (tills, changes, listing) in LISTINGS {
-        let mut image = formatted(&rt, tills)?;
-        patch(&mut image, changes);
-        let (ended, out) = list(&rt, image.as_slice());
-        assert_eq!(rt; (ended, out.as_slice()), (Ok(()), listing), "{changes:?}");
+        let image = changed(&rt, tills, changes);
+        is_listed(&rt, image.as_slice(), Ok(()), listing);
     }
-    Ok(())
+}
+
+/// What `list` prints of a disk for so many tills.
+fn listing_for(rt: &impl AllocGlobal, tills: u8) -> Result<String, Fail> {
+    // Two tills have a block, and all blocks together one side sector.
+    let blocks = (tills.min(64) + 1) / 2;
+    Ok(format!(in rt.alloc();
+        "0 \"STOCK LEDGER\" 01 2A\n2 \"STOCK\" REL\n{} \"REQUESTS\" REL\n{} BLOCKS FREE\n",
+        blocks + 1,
+        661 - u16::from(blocks)
+    )?)
 }
 
 #[test]
 fn each_number_of_tills_has_its_disk(rt: HostRuntime) -> Result<(), Fail> {
     for tills in 1..65u8 {
-        let image = formatted(&rt, tills)?;
-        // Two tills have a block, and all blocks together one side sector.
-        let blocks = (tills + 1) / 2;
-        let listing = format!(in rt.alloc();
-            "0 \"STOCK LEDGER\" 01 2A\n2 \"STOCK\" REL\n{} \"REQUESTS\" REL\n{} BLOCKS FREE\n",
-            blocks + 1,
-            661 - u16::from(blocks)
-        )?;
-        let (ended, out) = list(&rt, image.as_slice());
-        assert_eq!(rt;
-            (ended, out.as_slice()),
-            (Ok(()), listing.as_bytes()),
-            "{tills}"
-        );
+        let listing = listing_for(&rt, tills)?;
+        let image = formatted(&rt, tills);
+        is_listed(&rt, image.as_slice(), Ok(()), listing.as_bytes());
         let mut out = Vec::new(rt.alloc());
-        assert_eq!(rt;
-            check_image(rt.alloc(), image.as_slice(), &mut out),
-            Ok(None),
-            "{tills}"
-        );
+        let found = check_image(rt.alloc(), image.as_slice(), &mut out);
+        same_at(&rt, found, Ok(None), tills);
     }
     Ok(())
 }
@@ -305,55 +315,49 @@ const BAD_LINKS: [(&[u8], &str); 5] = [
     (b"\x12\x01", "LAYOUT LOOP 18/1"),
 ];
 
-/// What a command tells where it isn't done.
-pub(crate) fn told<T: Drop>(
-    rt: &impl AllocGlobal,
+/// Sees that a command isn't done, and that this is told.
+pub(crate) fn is_told<T: Drop>(
+    rt: &(impl AllocGlobal + Abort),
     ended: Result<T, RunFault>,
-) -> Result<String, Fail> {
-    match ended {
-        Ok(_) => Ok(String::new(rt.alloc())),
-        Err(fault) => Ok(format!(in rt.alloc(); "{fault}")?),
+    text: &str,
+) {
+    let mut told = Vec::new(rt.alloc());
+    if let Err(fault) = ended {
+        let _ = write!(told, "{fault}");
     }
+    same(rt, told.as_slice(), text.as_bytes());
 }
 
 #[test]
-fn a_bad_directory_is_told_and_nothing_is_printed(rt: HostRuntime) -> Result<(), Fail> {
+fn a_bad_directory_is_told_and_nothing_is_printed(rt: HostRuntime) {
     for (link, text) in BAD_LINKS {
-        let mut image = formatted(&rt, 2)?;
-        patch(&mut image, &[(S18_1, link)]);
-        let (ended, out) = list(&rt, image.as_slice());
-        assert_eq!(rt;
-            (told(&rt, ended)?.as_str(), out.as_slice()),
-            (text, b"" as &[u8])
+        let image = changed(&rt, 2, &[(S18_1, link)]);
+        let mut out = Vec::new(rt.alloc());
+        is_told(
+            &rt,
+            list_image(rt.alloc(), image.as_slice(), &mut out),
+            text,
         );
+        holds(&rt, out.is_empty(), text);
     }
-    Ok(())
 }
 
 #[test]
 fn other_sizes_are_told(rt: HostRuntime) -> Result<(), Fail> {
+    let image = vec![in rt.alloc(); 0u8; 175531]?;
     for size in [0usize, 174847, 174849, 175531] {
-        let mut image = Vec::new(rt.alloc());
-        image.resize(size, 0u8)?;
-        let (ended, out) = list(&rt, image.as_slice());
-        assert_eq!(rt;
-            (ended, out.as_slice()),
-            (Err(RunFault::ImageSize), b"" as &[u8]),
-            "{size}"
-        );
+        let part = image.get(..size).unwrap_or(&[]);
+        is_listed(&rt, part, Err(RunFault::ImageSize), b"");
     }
     Ok(())
 }
 
 #[test]
-fn a_file_or_an_output_that_fails_is_told(rt: HostRuntime) -> Result<(), Fail> {
+fn a_file_or_an_output_that_fails_is_told(rt: HostRuntime) {
     let mut out = Vec::new(rt.alloc());
     let none: Option<File> = None;
     let ended = format_file(rt.alloc(), 2, none, &mut out);
-    assert_eq!(rt;
-        (ended, out.as_slice()),
-        (Err(RunFault::File), b"" as &[u8])
-    );
+    same(&rt, (ended, out.is_empty()), (Err(RunFault::File), true));
     // What the file takes, and whether it flushes; the same of the output, and how much more it then
     // would take: nothing is printed before the file has all.
     let runs = [
@@ -369,13 +373,12 @@ fn a_file_or_an_output_that_fails_is_told(rt: HostRuntime) -> Result<(), Fail> {
             flushes: out_flushes,
         };
         let ended = format_image(rt.alloc(), 2, &mut file, &mut out);
-        assert_eq!(rt; (ended, out.room), (Err(RunFault::File), left));
+        same(&rt, (ended, out.room), (Err(RunFault::File), left));
     }
-    let image = formatted(&rt, 2)?;
+    let image = formatted(&rt, 2);
     for (room, flushes) in [(69, true), (70, false)] {
         let mut out = Full { room, flushes };
         let ended = list_image(rt.alloc(), image.as_slice(), &mut out);
-        assert_eq!(rt; ended, Err(RunFault::File));
+        same(&rt, ended, Err(RunFault::File));
     }
-    Ok(())
 }

@@ -6,6 +6,8 @@ mod bytes;
 mod card_tests;
 #[cfg(test)]
 mod check_tests;
+#[cfg(test)]
+mod comparing;
 mod dry_run;
 mod faults;
 mod formatting;
@@ -17,6 +19,8 @@ mod listing;
 mod play_tests;
 mod playing;
 mod reading;
+#[cfg(test)]
+mod refusal_tests;
 mod replaced;
 mod showing;
 mod shows;

@@ -1,4 +1,5 @@
 //! Worked scripts, each with the replies that it must have, a till's run, and files as they are read.
+use crate::comparing::{holds, same, same_at};
 use crate::dry_run::{DryFault, dry};
 use crate::formatting::format_image;
 use crate::image_tests::formatted;
@@ -7,6 +8,7 @@ use crate::replaced::{EndedFile, OpensFile, Replaced};
 use crate::table::Table;
 use request_cards::{Answer, Kind, Reply, Till, Wish, Word};
 use std::io::{self, Cursor, Write};
+use std::process::Abort;
 use std::test::Fail;
 
 /// What a script shows, the script, and its replies.
@@ -85,13 +87,12 @@ const SCRIPTS: [(&str, &[u8], &[u8]); 15] = [
 ];
 
 #[test]
-fn scripts_have_their_replies(rt: HostRuntime) -> Result<(), Fail> {
+fn scripts_have_their_replies(rt: HostRuntime) {
     for (shows, script, replies) in SCRIPTS {
         let mut out = Vec::new(rt.alloc());
-        dry(script, &mut out)?;
-        assert_eq!(rt; out.as_slice(), replies, "{shows}");
+        let ended = dry(script, &mut out);
+        same_at(&rt, (ended, out.as_slice()), (Ok(()), replies), shows);
     }
-    Ok(())
 }
 
 /// The reply to the till's message, if it asks.
@@ -137,14 +138,14 @@ fn a_till_hears_each_answer_once(rt: HostRuntime) {
         number: 1,
         word: Word::Kept(Answer::Done(120)),
     };
-    assert_eq!(rt; a_run(&mut Table::new()), Some((heard, last)));
+    same(&rt, a_run(&mut Table::new()), Some((heard, last)));
 }
 
 #[test]
 fn a_till_without_numbers_wishes_nothing(rt: HostRuntime) {
     let mut till = Till::new(1, 999_999_999);
     let opened = Wish::new(Kind::Set, 1, 0, None).map(|wish| till.wish(wish));
-    assert_eq!(rt; opened, Some(false));
+    same(&rt, opened, Some(false));
 }
 
 /// A writer that takes this many bytes and then fails, or fails to hand them on.
@@ -174,40 +175,50 @@ impl Write for Full {
 }
 
 #[test]
-fn a_bad_line_or_an_output_that_fails_is_told(rt: HostRuntime) -> Result<(), Fail> {
+fn a_bad_line_or_an_output_that_fails_is_told(rt: HostRuntime) {
     let bad: &[u8] = b"1,1,S,1,0\n@x 1,1,S,1,0\n@y\n";
     let good: &[u8] = b"1,1,S,1,0\n1,2,S,1,0\n";
-    let none = Full {
-        room: 0,
-        flushes: false,
-    };
     for (script, fault, number, text) in [
         (bad, DryFault::BadLine(2), 2, "SCRIPT LINE 2"),
         (good, DryFault::Output, 3, "FILE"),
     ] {
-        let mut out = Full { ..none };
-        assert_eq!(rt; dry(script, &mut out), Err(fault));
-        assert_eq!(rt; fault.number(), number);
-        assert_eq!(rt; format!(in rt.alloc(); "{fault}")?.as_str(), text);
+        let mut out = Full {
+            room: 0,
+            flushes: false,
+        };
+        let mut told = Vec::new(rt.alloc());
+        let _ = write!(told, "{fault}");
+        same(&rt, dry(script, &mut out), Err(fault));
+        same(
+            &rt,
+            (fault.number(), told.as_slice()),
+            (number, text.as_bytes()),
+        );
     }
-    Ok(())
+}
+
+/// Sees that these bytes were read.
+fn are_read(rt: &impl Abort, read: io::Result<Vec<u8>>, wanted: &[u8]) {
+    match read {
+        Ok(bytes) => holds(rt, bytes.as_slice() == wanted, wanted.len()),
+        Err(_) => holds(rt, false, wanted.len()),
+    }
 }
 
 #[test]
 fn files_are_read(rt: HostRuntime) -> Result<(), Fail> {
     // Past a mebibyte, and past a disk with its error bytes; the last byte isn't 0.
+    let file = vec![in rt.alloc(); 7u8; 1_500_000]?;
     for (size, of_image) in [
         (0usize, 0usize),
         (174848, 174848),
         (175531, 174849),
         (1_500_000, 174849),
     ] {
-        let mut file = Vec::new(rt.alloc());
-        file.resize(size, 7u8)?;
-        assert!(rt; read_script(rt.alloc(), file.as_slice())? == file, "{size}");
-        let image = read_image(rt.alloc(), file.as_slice())?;
-        file.truncate(of_image);
-        assert!(rt; image == file, "{size}");
+        let whole = file.get(..size).unwrap_or(&[]);
+        are_read(&rt, read_script(rt.alloc(), whole), whole);
+        let part = file.get(..of_image).unwrap_or(&[]);
+        are_read(&rt, read_image(rt.alloc(), whole), part);
     }
     Ok(())
 }
@@ -238,18 +249,17 @@ impl OpensFile for Held {
 
 #[test]
 fn nothing_stays_of_an_older_file(rt: HostRuntime) -> Result<(), Fail> {
+    let image = formatted(&rt, 2);
     for size in [0usize, 174848, 175531] {
-        let mut older = Vec::new(rt.alloc());
-        older.resize(size, 7u8)?;
+        let older = vec![in rt.alloc(); 7u8; size]?;
         let mut replaced = Replaced::new(Held(Some(Cursor::new(older))));
         // It isn't opened before there is something to write.
-        assert!(rt; replaced.file.is_none());
+        holds(&rt, replaced.file.is_none(), size);
         let mut out = Vec::new(rt.alloc());
-        format_image(rt.alloc(), 2, &mut replaced, &mut out)?;
-        match &replaced.file {
-            Some(file) => assert!(rt; *file.get_ref() == formatted(&rt, 2)?, "{size}"),
-            None => assert!(rt; false, "{size}"),
-        }
+        let ended = format_image(rt.alloc(), 2, &mut replaced, &mut out);
+        same_at(&rt, ended, Ok(()), size);
+        let held = replaced.file.as_ref().map(|file| *file.get_ref() == image);
+        same_at(&rt, held, Some(true), size);
     }
     Ok(())
 }
