@@ -37,9 +37,13 @@ told_part word (Some told) = told_line word told.0 told.1
 abbrev pub till_part : Option (Ask × Answer) → Option (Ask × Answer) → List ℕ
 till_part kept prior = told_part (codes "TILL ") kept ++ told_part (codes "PRIOR ") prior
 
--- the cards in the order of the items: 10160 is the last record that a file can have
+-- the cards of the first items, in their order
+abbrev pub cards_to : State → ℕ → List ℕ
+cards_to state n = up_to n (λ item. card_part item (state.ledger.cards item))
+
+-- the cards of all items: 10160 is the last record that a file can have
 abbrev pub card_lines : State → List ℕ
-card_lines state = up_to 10160 (λ item. card_part item (state.ledger.cards item))
+card_lines state = cards_to state 10160
 
 -- the requests in the order of the tills
 abbrev pub till_lines : State → List ℕ

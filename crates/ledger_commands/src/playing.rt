@@ -77,7 +77,7 @@ pub fn play_image<F: Write + Seek, W: Write>(
 }
 
 /// The same with the file that was handed in, which is let go afterwards. `File` where there is none; nothing was done then.
-// Out of line, so that the other commands don't pay for a session's room.
+// Out of line: a session is large, and a frame that has its room touches each page of it.
 #[inline(never)]
 pub fn play_file<F: Write + Seek + Drop, W: Write>(
     alloc: Global,

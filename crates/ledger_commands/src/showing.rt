@@ -1,24 +1,56 @@
 //! What an image holds of a shop, as it is printed.
-ghost use Rattle.std.specs.Prelude.{◌≡◌, ◌≢◌, IfErr, OnOk, false};
+ghost use Rattle.std.specs.Prelude.{◌≡◌, ◌≢◌, ◌+◌, ◌++◌, ◌≤◌, IfErr, IfOk, OnOk, drop, false, length};
 ghost use Rattle.std.specs.Io.KnownBytes.{Appends};
 ghost use Rattle.host_session.specs.Shop.{IsShop, Shop};
 ghost use Rattle.ledger_commands.specs.Shops.{IsShowFault, IsShown};
-ghost use Rattle.ledger_commands.specs.Shows.{card_lines, shown_shop, till_lines};
+ghost use Rattle.ledger_commands.specs.Shows.{card_lines, cards_to, shown_shop, till_lines};
 ghost use Rattle.ledger_commands.specs.declared.faults.RunFault.TheVariants as faults;
 
-use crate::bytes::{flush, load};
+use crate::bytes::{flush, load, put};
 use crate::faults::RunFault;
-use crate::shows::{put_item, put_till, put_top};
+use crate::shows::{put_till, put_top, write_item};
 use d64_image::Sectors;
 use host_session::Session;
 use std::alloc::Global;
 use std::io::Write;
 
-/// The last record that a file can have, and so the last item that can have a card.
-const LAST_ITEM: u16 = 10160;
+/// How many items' lines are printed at once. The last record that a file can have, and so the last item that can have a
+/// card, is 10160, the 127th time.
+const AT_ONCE: u16 = 80;
+
+/// How often that is done.
+const TIMES: u16 = 127;
+
+/// How many bytes so many lines have at most.
+const LINES: usize = 1920;
 
 /// How many tills a disk has at most.
 const MOST_TILLS: u8 = 64;
+
+/// Writes the lines of the 80 items behind this one so that they end where the room does, and returns where they start.
+fn write_cards<D: Sectors>(
+    session: &Session<D>,
+    before: u16,
+    room: &mut [u8; LINES],
+) -> Result<usize, RunFault>
+    requires alive { session.now.dead ≡ false }
+    requires few { before + 80 ≤ 10160 }
+    ensures ok { (s : Shop) → IsShop (D.history.image session.now.disk) s
+        → IfOk result (λ start. cards_to s.state before ++ drop start room.new ≡ cards_to s.state (before + 80)) }
+    ensures within { IfOk result (λ start. start ≤ 1920) }
+    ensures long { length room.new ≡ 1920 }
+    ensures err { IfErr result (λ fault. fault ≡ faults.File) }
+{
+    let mut start = LINES;
+    for written in 0..AT_ONCE {
+        let item = before + AT_ONCE - written;
+        let Ok(quantity) = session.card(item) else {
+            return Err(RunFault::Device);
+        };
+        start = write_item(item, quantity, room, start);
+    }
+    Ok(start)
+}
 
 /// Prints the cards of the shop, in the order of the items.
 fn put_cards<D: Sectors, W: Write>(session: &Session<D>, out: &mut W) -> Result<(), RunFault>
@@ -27,12 +59,10 @@ fn put_cards<D: Sectors, W: Write>(session: &Session<D>, out: &mut W) -> Result<
         → OnOk result (Appends (W.contents out.old) (W.contents out.new) (card_lines s.state)) }
     ensures err { IfErr result (λ fault. fault ≡ faults.File) }
 {
-    for before in 0..LAST_ITEM {
-        let item = before + 1;
-        let Ok(quantity) = session.card(item) else {
-            return Err(RunFault::Device);
-        };
-        put_item(out, item, quantity)?;
+    let mut room = [0; LINES];
+    for time in 0..TIMES {
+        let start = write_cards(session, AT_ONCE * time, &mut room)?;
+        put(out, &room[start..])?;
     }
     Ok(())
 }

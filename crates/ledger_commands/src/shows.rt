@@ -43,42 +43,51 @@ pub(crate) fn put_top<W: Write>(out: &mut W, top: u16) -> Result<(), RunFault>
     Ok(())
 }
 
-/// Writes the number so that it ends at `end` behind this text, and returns where the text starts.
-fn write_behind(text: &[u8], n: u32, room: &mut [u8; 24], end: usize) -> usize
-    requires fits { (length text.now + length (decimal n) ≤ end) × (end ≤ 24) }
+/// Writes the text so that it ends at `end`, and returns where it starts.
+fn write_before(text: &[u8], room: &mut [u8], end: usize) -> usize
+    requires { (length text.now ≤ end) × (end ≤ length room.old) }
+    ensures start { result + length text.now ≡ end }
+    ensures written { drop result room.new ≡ text.now ++ drop end room.old }
+{
+    let start = end - text.len();
+    room[start..end].copy_from_slice(text);
+    start
+}
+
+/// Writes the number behind this text, so that it ends at `end`, and returns where the text starts.
+fn write_behind(text: &[u8], n: u32, room: &mut [u8], end: usize) -> usize
+    requires fits { (length text.now + length (decimal n) ≤ end) × (end ≤ length room.old) }
     ensures start { result + length text.now + length (decimal n) ≡ end }
     ensures written { drop result room.new ≡ text.now ++ (decimal n ++ drop end room.old) }
 {
     let number = write_digits(u64::from(n), room, end);
-    let start = number - text.len();
-    room[start..number].copy_from_slice(text);
-    start
+    write_before(text, room, number)
 }
 
-/// Prints an item's card. A disk has thousands of them, so the line is made by hand.
+/// Writes an item's line, 24 bytes at most, so that it ends at `end`, and returns where it starts. A disk has thousands of them, so they are
+/// made by hand, from the last to the first, and printed many at a time.
 #[tactic(auto, using(request_cards::proofs::Texts::number_length))]
-fn put_card<W: Write>(out: &mut W, item: u16, quantity: u32) -> Result<(), RunFault>
-    ensures ok { OnOk result (Appends (W.contents out.old) (W.contents out.new) (card_line item quantity)) }
-    ensures err { IfErr result (λ fault. fault ≡ faults.File) }
+fn write_card(item: u16, quantity: u32, room: &mut [u8], end: usize) -> usize
+    requires { (24 ≤ end) × (end ≤ length room.old) }
+    ensures low { end ≤ result + 24 }
+    ensures high { result ≤ end }
+    ensures written { drop result room.new ≡ card_line item quantity ++ drop end room.old }
 {
-    let mut room = [b'\n'; 24];
-    let start = write_behind(b",", quantity, &mut room, 23);
-    let start = write_behind(b"CARD ", u32::from(item), &mut room, start);
-    put(out, &room[start..])
+    let start = write_before(b"\n", room, end);
+    let start = write_behind(b",", quantity, room, start);
+    write_behind(b"CARD ", u32::from(item), room, start)
 }
 
-/// Prints an item's card, where it has one.
-pub(crate) fn put_item<W: Write>(
-    out: &mut W,
-    item: u16,
-    quantity: Option<u32>,
-) -> Result<(), RunFault>
-    ensures ok { OnOk result (Appends (W.contents out.old) (W.contents out.new) (card_part item quantity)) }
-    ensures err { IfErr result (λ fault. fault ≡ faults.File) }
+/// The same where the item has a card; else nothing is written.
+pub(crate) fn write_item(item: u16, quantity: Option<u32>, room: &mut [u8], end: usize) -> usize
+    requires { (24 ≤ end) × (end ≤ length room.old) }
+    ensures low { end ≤ result + 24 }
+    ensures high { result ≤ end }
+    ensures written { drop result room.new ≡ card_part item quantity ++ drop end room.old }
 {
     match quantity {
-        Some(quantity) => put_card(out, item, quantity),
-        None => Ok(()),
+        Some(quantity) => write_card(item, quantity, room, end),
+        None => end,
     }
 }
 
