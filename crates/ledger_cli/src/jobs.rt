@@ -6,7 +6,7 @@ use clap::error::ErrorKind;
 use thiserror::Error;
 
 /// What the words of a command line ask for.
-#[derive(Clone, Copy, Debug, PartialEq, Eq)]
+#[derive(Clone, Copy)]
 pub enum Job<'a> {
     /// The image of an empty shop, in place of whatever the file held.
     Format {

@@ -1,14 +1,18 @@
 //! A retry-safe stock ledger: the program. It opens, reads and prints; the modules do the rest.
 #![tactic(auto)]
 
+#[cfg(test)]
+mod comparing;
 mod grammar;
 mod jobs;
 mod placed;
+#[cfg(test)]
+mod play_tests;
+#[cfg(test)]
+mod run_tests;
 mod running;
 #[cfg(test)]
-mod shop_tests;
-#[cfg(test)]
-mod tests;
+mod word_tests;
 mod words;
 
 ghost use Rattle.ledger_cli.specs.Jobs.{HasTills};
@@ -128,36 +132,43 @@ fn do_over<F: Write + Seek + Drop>(
     ))
 }
 
+/// Does a job that writes no file.
+fn do_reading(rt: &HostRuntime, job: &Job<'_>, image: &[u8], script: &[u8]) -> io::Result<u8>
+    requires { HasTills job.now }
+{
+    let no_file: Option<Placed<File>> = None;
+    do_over(rt, job, image, script, no_file)
+}
+
+/// Plays the script at a path on the image at another, over its file.
+fn do_playing(rt: &HostRuntime, job: &Job<'_>, path: &str, script: &str) -> io::Result<u8>
+    requires { HasTills job.now }
+{
+    let mut file = opened(rt, path)?;
+    let image = read_image(rt.alloc(), &mut file)?;
+    let script = script_at(rt, script)?;
+    let placed = Some(Placed::new(file));
+    do_over(rt, job, image.as_slice(), script.as_slice(), placed)
+}
+
 /// Reads or opens the job's files and does it.
 fn do_job(rt: &HostRuntime, job: &Job<'_>) -> io::Result<u8>
     requires { HasTills job.now }
 {
-    let mut image = Vec::new(rt.alloc());
-    let mut script = Vec::new(rt.alloc());
-    let mut file = None;
     match job {
         Job::Format {
             image: path,
             tills: _,
-        } => {
-            let replaced = Replaced::new(AtPath { rt, path });
-            return do_over(rt, job, &[], &[], Some(replaced));
-        }
+        } => do_over(rt, job, &[], &[], Some(Replaced::new(AtPath { rt, path }))),
         Job::List { image: path } | Job::Check { image: path } | Job::Show { image: path } => {
-            image = image_at(rt, path)?;
+            do_reading(rt, job, image_at(rt, path)?.as_slice(), &[])
         }
         Job::Play {
             image: path,
-            script: script_path,
-        } => {
-            let mut disk = opened(rt, path)?;
-            image = read_image(rt.alloc(), &mut disk)?;
-            script = script_at(rt, script_path)?;
-            file = Some(Placed::new(disk));
-        }
-        Job::Dry { script: path } => script = script_at(rt, path)?,
+            script,
+        } => do_playing(rt, job, path, script),
+        Job::Dry { script: path } => do_reading(rt, job, &[], script_at(rt, path)?.as_slice()),
     }
-    do_over(rt, job, image.as_slice(), script.as_slice(), file)
 }
 
 /// The words as texts, all at one lifetime.

@@ -43,31 +43,23 @@ fn chosen<'a>(matches: &ArgMatches<'a>) -> Result<Job<'a>, JobFault>
         (IsNoJob [] (subcommand_rows_of matches.now)) }
     ensures tills { IfOk result HasTills }
 {
-    match met(matches) {
-        Some(("format", found)) => match tills_of(value_of(found, "T")) {
-            Some(tills) => Ok(Job::Format {
-                image: value_of(found, "IMAGE"),
-                tills,
-            }),
+    let Some((name, found)) = met(matches) else {
+        // A parse without a subcommand is refused.
+        return Err(JobFault::Words(Error::from(AllocError)));
+    };
+    let image = value_of(found, "IMAGE");
+    let script = value_of(found, "SCRIPT");
+    match name {
+        "format" => match tills_of(value_of(found, "T")) {
+            Some(tills) => Ok(Job::Format { image, tills }),
             None => Err(JobFault::Tills),
         },
-        Some(("list", found)) => Ok(Job::List {
-            image: value_of(found, "IMAGE"),
-        }),
-        Some(("check", found)) => Ok(Job::Check {
-            image: value_of(found, "IMAGE"),
-        }),
-        Some(("show", found)) => Ok(Job::Show {
-            image: value_of(found, "IMAGE"),
-        }),
-        Some(("play", found)) => Ok(Job::Play {
-            image: value_of(found, "IMAGE"),
-            script: value_of(found, "SCRIPT"),
-        }),
-        Some(("dry", found)) => Ok(Job::Dry {
-            script: value_of(found, "SCRIPT"),
-        }),
-        // No other subcommand can be met: a parse without one is refused.
+        "list" => Ok(Job::List { image }),
+        "check" => Ok(Job::Check { image }),
+        "show" => Ok(Job::Show { image }),
+        "play" => Ok(Job::Play { image, script }),
+        "dry" => Ok(Job::Dry { script }),
+        // No other subcommand can be met.
         _ => Err(JobFault::Words(Error::from(AllocError))),
     }
 }
