@@ -6,15 +6,10 @@ use std::hint::black_box;
 use std::process::exit;
 use std::{env, fs};
 
-#[path = "plain/checking.rs"]
-#[allow(dead_code)]
-mod checking;
-#[path = "plain/places.rs"]
-#[allow(dead_code)]
-mod places;
+mod plain;
 
-use checking::check;
-use places::*;
+use plain::checking::check;
+use plain::places::*;
 
 const STOCK_LENGTH: u8 = 18;
 const REQUEST_LENGTH: u8 = 127;

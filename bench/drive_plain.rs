@@ -3,18 +3,11 @@
 //! The drive has one relative channel, and remembers the two files that were opened last. It makes no check of the disk.
 use std::env;
 
-#[path = "plain/files.rs"]
-#[allow(dead_code)]
-mod files;
-#[path = "plain/full_disk.rs"]
-mod full_disk;
-#[path = "plain/places.rs"]
-#[allow(dead_code)]
-mod places;
+mod plain;
 
-use files::*;
-use full_disk::*;
-use places::SECTORS;
+use plain::files::*;
+use plain::full_disk::*;
+use plain::places::SECTORS;
 
 #[derive(Clone, Copy, Debug, PartialEq)]
 enum Status {

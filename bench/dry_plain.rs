@@ -3,11 +3,9 @@
 use std::io::{self, Read};
 use std::process::exit;
 
-#[path = "plain/messages.rs"]
-#[allow(dead_code)]
-mod messages;
+mod plain;
 
-use messages::*;
+use plain::messages::*;
 
 const TOP: usize = 8819;
 

@@ -6,25 +6,12 @@ use std::io::{self, Write};
 use std::os::unix::fs::FileExt;
 use std::process::exit;
 
-#[path = "plain/checking.rs"]
-#[allow(dead_code)]
-mod checking;
-#[path = "plain/files.rs"]
-#[allow(dead_code)]
-mod files;
-#[path = "plain/messages.rs"]
-#[allow(dead_code)]
-mod messages;
-#[path = "plain/places.rs"]
-#[allow(dead_code)]
-mod places;
-#[path = "plain/shop.rs"]
-mod shop;
+mod plain;
 
-use files::*;
-use messages::*;
-use places::*;
-use shop::{Image, Shop};
+use plain::files::*;
+use plain::messages::*;
+use plain::places::*;
+use plain::shop::{Image, Shop};
 
 /// A disk in memory, each sector of which is written to a file before.
 struct Mirror {

@@ -9,18 +9,11 @@
 use std::process::exit;
 use std::{env, fs};
 
-#[path = "plain/files.rs"]
-#[allow(dead_code)]
-mod files;
-#[path = "plain/full_disk.rs"]
-mod full_disk;
-#[path = "plain/places.rs"]
-#[allow(dead_code)]
-mod places;
+mod plain;
 
-use files::*;
-use full_disk::*;
-use places::*;
+use plain::files::*;
+use plain::full_disk::*;
+use plain::places::*;
 
 /// Counts what a disk reads and writes.
 struct Meter {

@@ -5,30 +5,13 @@
 use std::env;
 use std::io::{self, Sink};
 
-#[path = "plain/checking.rs"]
-#[allow(dead_code)]
-mod checking;
-#[path = "plain/files.rs"]
-#[allow(dead_code)]
-mod files;
-#[path = "plain/full_disk.rs"]
-#[allow(dead_code)]
-mod full_disk;
-#[path = "plain/messages.rs"]
-#[allow(dead_code)]
-mod messages;
-#[path = "plain/places.rs"]
-#[allow(dead_code)]
-mod places;
-#[path = "plain/shop.rs"]
-#[allow(dead_code)]
-mod shop;
+mod plain;
 
-use files::*;
-use full_disk::*;
-use messages::*;
-use places::*;
-use shop::Shop;
+use plain::files::*;
+use plain::full_disk::*;
+use plain::messages::*;
+use plain::places::*;
+use plain::shop::Shop;
 
 const TILLS: usize = 64;
 

@@ -3,6 +3,8 @@
 //! times nothing: `benchmarks records IMAGE NAME` prints the records of a relative file.
 #![tactic(auto)]
 
+ghost use Rattle.std.specs.Prelude.{◌≤◌};
+
 mod checks;
 mod drives;
 mod printing;
@@ -36,23 +38,47 @@ fn asked_rounds(word: Option<String>) -> Option<u64> {
     }
 }
 
+/// What was tried to be had; where it isn't there, this text.
+fn or_say<T, E: Drop>(tried: Result<T, E>, what: &'static str) -> Result<T, &'static str> {
+    match tried {
+        Ok(it) => Ok(it),
+        Err(_) => Err(what),
+    }
+}
+
+/// A disk in memory, all of whose bytes are zero.
+fn zeroed(rt: &HostRuntime) -> Result<MemDisk, &'static str> {
+    or_say(MemDisk::zeroed(rt.alloc()), "no memory")
+}
+
+/// The blank disk for so many tills.
+fn blank(rt: &HostRuntime, tills: u8) -> Result<MemDisk, &'static str>
+    requires some { 1 ≤ tills }
+    requires few { tills ≤ 64 }
+{
+    let mut disk = zeroed(rt)?;
+    match blank_image(&mut disk, b"STOCK LEDGER", *b"01", tills) {
+        Ok(_) => Ok(disk),
+        Err(_) => Err("no blank image"),
+    }
+}
+
 /// The disk of the image file that is named; where none is, the blank disk for two tills.
 fn asked_disk(rt: &HostRuntime, path: Option<String>) -> Result<MemDisk, &'static str> {
     let Some(path) = path else {
-        let mut disk = MemDisk::zeroed(rt.alloc()).map_err(|_| "no memory")?;
-        blank_image(&mut disk, b"STOCK LEDGER", *b"01", 2).map_err(|_| "no blank image")?;
-        return Ok(disk);
+        return blank(rt, 2);
     };
-    let bytes = fs::read(rt, path.as_str()).map_err(|_| "the image is not readable")?;
-    MemDisk::load(rt.alloc(), bytes.as_slice()).map_err(
-        |_| "the image has another size, or no memory",
+    let bytes = or_say(fs::read(rt, path.as_str()), "the image is not readable")?;
+    or_say(
+        MemDisk::load(rt.alloc(), bytes.as_slice()),
+        "the image has another size, or no memory",
     )
 }
 
 /// `sectors`: a byte of so many sectors is raised; gives a checksum of these bytes.
 fn time_sectors(rt: &HostRuntime, rounds: u64) -> Done {
-    let mut disk = MemDisk::zeroed(rt.alloc()).map_err(|_| "no memory")?;
-    sectors::run(&mut disk, rounds).map_err(|_| "the device failed")
+    let mut disk = zeroed(rt)?;
+    or_say(sectors::run(&mut disk, rounds), "the device failed")
 }
 
 /// `check`: the disk is checked so many times; gives how often it was clean.
@@ -72,41 +98,54 @@ fn checksum(bytes: &[u8]) -> u64 {
 
 /// `growth`: STOCK grows from one block until the disk is full, so many times over; gives a checksum of the image.
 fn time_growth(rt: &HostRuntime, rounds: u64) -> Done {
-    let mut disk = MemDisk::zeroed(rt.alloc()).map_err(|_| "no memory")?;
+    let mut disk = zeroed(rt)?;
     for _round in 0..rounds {
-        records::grow_stock(&mut disk).map_err(|_| "STOCK can't grow")?;
+        or_say(records::grow_stock(&mut disk), "STOCK can't grow")?;
     }
     Ok(checksum(disk.bytes()))
 }
 
 /// `reads`: so many records of a full disk are read, where each holds what was written; gives a checksum of bytes read.
 fn time_reads(rt: &HostRuntime, rounds: u64) -> Done {
-    let mut disk = MemDisk::zeroed(rt.alloc()).map_err(|_| "no memory")?;
-    records::read_full(&mut disk, rounds).map_err(|_| "the records aren't read")
+    let mut disk = zeroed(rt)?;
+    or_say(
+        records::read_full(&mut disk, rounds),
+        "the records aren't read",
+    )
 }
 
 /// `writes`: so many records of a full disk are written; gives a checksum of the image.
 fn time_writes(rt: &HostRuntime, rounds: u64) -> Done {
-    let mut disk = MemDisk::zeroed(rt.alloc()).map_err(|_| "no memory")?;
-    records::write_full(&mut disk, rounds).map_err(|_| "the records aren't written")?;
+    let mut disk = zeroed(rt)?;
+    or_say(
+        records::write_full(&mut disk, rounds),
+        "the records aren't written",
+    )?;
     Ok(checksum(disk.bytes()))
 }
 
 /// `drive`: so many times a record of each file of a full disk is written through a drive; gives a checksum of the image.
 fn time_drive(rt: &HostRuntime, rounds: u64) -> Done {
-    let mut disk = MemDisk::zeroed(rt.alloc()).map_err(|_| "no memory")?;
-    records::grow_stock(&mut disk).map_err(|_| "STOCK can't grow")?;
+    let mut disk = zeroed(rt)?;
+    or_say(records::grow_stock(&mut disk), "STOCK can't grow")?;
     let mut drive = Drive::power_on(disk);
-    drives::put_by_turns(&mut drive, rounds).map_err(|_| "the drive is dead")?;
+    or_say(
+        drives::put_by_turns(&mut drive, rounds),
+        "the drive is dead",
+    )?;
     Ok(checksum(drive.into_disk().bytes()))
 }
 
 /// A disk that was blank, after so many messages of 64 tills to a session on it, and a checksum of the replies.
 fn asked_shop(rt: &HostRuntime, rounds: u64) -> Result<(u64, MemDisk), &'static str> {
-    let mut disk = MemDisk::zeroed(rt.alloc()).map_err(|_| "no memory")?;
-    blank_image(&mut disk, b"STOCK LEDGER", *b"01", requests::TILLS).map_err(|_| "no blank image")?;
-    let mut tills = requests::all_tills(rt.alloc()).map_err(|_| "no memory")?;
-    requests::run(disk, tills.as_mut_slice(), rounds).map_err(|_| "the disk is no shop's")
+    let disk = blank(rt, requests::TILLS)?;
+    let Ok(mut tills) = requests::all_tills(rt.alloc()) else {
+        return Err("no memory");
+    };
+    or_say(
+        requests::run(disk, tills.as_mut_slice(), rounds),
+        "the disk is no shop's",
+    )
 }
 
 /// `requests`: so many messages of 64 tills are handled, half of them repeats, by a session on a disk that was blank; gives a
@@ -123,7 +162,7 @@ fn time_requests(rt: &HostRuntime, rounds: u64) -> Done {
 /// `openings`: the disk of 100,000 such messages is opened so many times; gives a checksum of the image.
 fn time_openings(rt: &HostRuntime, rounds: u64) -> Done {
     let (_, disk) = asked_shop(rt, 100_000)?;
-    let disk = requests::reopen(disk, rounds).map_err(|_| "the disk is no shop's")?;
+    let disk = or_say(requests::reopen(disk, rounds), "the disk is no shop's")?;
     Ok(checksum(disk.bytes()))
 }
 
@@ -150,11 +189,10 @@ fn print_records(
 ) -> Result<(), &'static str> {
     let name = name.ok_or("records asks for an image and a name")?;
     let mut disk = asked_disk(rt, path)?;
-    let mut out = BufWriter::with_capacity(rt.alloc(), OUTPUT_ROOM, io::writer(rt)).map_err(
-        |_| "no memory",
-    )?;
+    let out = BufWriter::with_capacity(rt.alloc(), OUTPUT_ROOM, io::writer(rt));
+    let mut out = or_say(out, "no memory")?;
     put_file(&mut disk, name.as_str().as_bytes(), &mut out)?;
-    out.flush().map_err(|_| "the output failed")
+    or_say(out.flush(), "the output failed")
 }
 
 /// Tells what failed, and gives the exit status for it.

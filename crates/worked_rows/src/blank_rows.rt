@@ -1,6 +1,7 @@
 //! The blank image made a second way: its two files created on a disk without files, and the second one grown.
 ghost use Rattle.std.specs.Prelude.{◌≤◌};
 
+use crate::comparing::holds;
 use crate::disks::{clean, found, sector};
 use d64_image::{MemDisk, Place, Sectors};
 use disk_layout::{Bam, blank_image, directory_start, map_place};
@@ -47,20 +48,31 @@ fn empty_disk(alloc: Global, map: &[u8; 256]) -> Result<MemDisk, Fail> {
     Ok(disk)
 }
 
-// Two files created on a disk without files, and the second one grown by a record for each till: the blank image.
+/// Creates the two files on a disk without files, and lets the second one grow by a record for each till.
+fn create_files(disk: &mut MemDisk, tills: u8) -> Result<(), Fail> {
+    clean(disk)?;
+    create(disk, b"STOCK", 18)?;
+    clean(disk)?;
+    create(disk, b"REQUESTS", 127)?;
+    let mut requests = found(disk, b"REQUESTS")?;
+    grow_to(disk, &mut requests, u32::from(tills))?;
+    Ok(())
+}
+
+/// A disk made so, with the name and the number of this one.
+fn created(alloc: Global, wanted: &mut MemDisk, tills: u8) -> Result<MemDisk, Fail> {
+    let map = without_files(sector(wanted, 18, 0)?);
+    let mut disk = empty_disk(alloc, &map)?;
+    create_files(&mut disk, tills)?;
+    Ok(disk)
+}
+
 #[test]
 fn a_blank_disk_is_created(rt: HostRuntime) -> Result<(), Fail> {
     for tills in [1u8, 2, 3, 64] {
         let mut wanted = blank(rt.alloc(), tills)?;
-        let map = without_files(sector(&mut wanted, 18, 0)?);
-        let mut disk = empty_disk(rt.alloc(), &map)?;
-        clean(&mut disk)?;
-        create(&mut disk, b"STOCK", 18)?;
-        clean(&mut disk)?;
-        create(&mut disk, b"REQUESTS", 127)?;
-        let mut requests = found(&mut disk, b"REQUESTS")?;
-        grow_to(&mut disk, &mut requests, u32::from(tills))?;
-        assert!(rt; disk.bytes() == wanted.bytes(), "{tills} tills");
+        let disk = created(rt.alloc(), &mut wanted, tills)?;
+        holds(&rt, disk.bytes() == wanted.bytes(), (tills, "tills"));
     }
     Ok(())
 }

@@ -99,13 +99,19 @@ fn is_cut(
     Ok(())
 }
 
-#[test]
-fn requests_are_cut(rt: HostRuntime) -> Result<(), Fail> {
-    for asked in [SET, SIDE, MOVE, REFUSED] {
-        let disk = after(rt.alloc(), asked.before)?;
-        for (power, writes) in (0u32..).zip(asked.writes) {
-            is_cut(&rt, &disk, &asked, power, *writes)?;
-        }
+/// Cuts the request after each of its writes.
+fn is_cut_everywhere(rt: &(impl Abort + AllocGlobal), asked: &Asked) -> Result<(), Fail> {
+    let disk = after(rt.alloc(), asked.before)?;
+    for (power, writes) in (0u32..).zip(asked.writes) {
+        is_cut(rt, &disk, asked, power, *writes)?;
     }
     Ok(())
+}
+
+#[test]
+fn requests_are_cut(rt: HostRuntime) -> Result<(), Fail> {
+    is_cut_everywhere(&rt, &SET)?;
+    is_cut_everywhere(&rt, &SIDE)?;
+    is_cut_everywhere(&rt, &MOVE)?;
+    is_cut_everywhere(&rt, &REFUSED)
 }

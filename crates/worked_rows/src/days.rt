@@ -28,40 +28,61 @@ pub(crate) struct Played {
     pub(crate) disk: MemDisk,
 }
 
+/// Adds a text and an end of line.
+fn add_line(lines: &mut Vec<u8>, text: &[u8]) -> Result<(), Fail> {
+    lines.extend_from_slice(text)?;
+    lines.push(b'\n')?;
+    Ok(())
+}
+
+/// Adds where power goes, as a line of a script begins.
+fn add_cut(script: &mut Vec<u8>, after: u32, recoveries: &[u32]) -> Result<(), Fail> {
+    write!(script, "@{after}")?;
+    for writes in recoveries {
+        write!(script, "/{writes}")?;
+    }
+    script.push(b' ')?;
+    Ok(())
+}
+
+/// Adds a line of a script.
+fn add_to_script(script: &mut Vec<u8>, line: &Line) -> Result<(), Fail> {
+    match *line {
+        Line::Say(message, _, _) => add_line(script, message),
+        Line::Cut(after, recoveries, message, _) => {
+            add_cut(script, after, recoveries)?;
+            add_line(script, message)
+        }
+    }
+}
+
 /// The lines as a script.
 pub(crate) fn script_of(alloc: Global, lines: &[Line]) -> Result<Vec<u8>, Fail> {
     let mut script = Vec::new(alloc);
     for line in lines {
-        let message = match line {
-            Line::Say(message, _, _) => message,
-            Line::Cut(after, recoveries, message, _) => {
-                write!(script, "@{after}")?;
-                for writes in *recoveries {
-                    write!(script, "/{writes}")?;
-                }
-                script.push(b' ')?;
-                message
-            }
-        };
-        script.extend_from_slice(message)?;
-        script.push(b'\n')?;
+        add_to_script(&mut script, line)?;
     }
     Ok(script)
+}
+
+/// A line as an event.
+fn event_of(line: &Line) -> Result<Event<'static>, Fail> {
+    match *line {
+        Line::Say(message, _, _) => Ok(Event { message, cut: None }),
+        Line::Cut(after, listed, message, _) => {
+            let mut recoveries = ArrayVec::new();
+            recoveries.try_extend_from_slice(listed)?;
+            let cut = Some(Cut { after, recoveries });
+            Ok(Event { message, cut })
+        }
+    }
 }
 
 /// The lines as events.
 pub(crate) fn events_of(alloc: Global, lines: &[Line]) -> Result<Vec<Event<'static>>, Fail> {
     let mut events = Vec::new(alloc);
     for line in lines {
-        events.push(match *line {
-            Line::Say(message, _, _) => Event { message, cut: None },
-            Line::Cut(after, listed, message, _) => {
-                let mut recoveries = ArrayVec::new();
-                recoveries.try_extend_from_slice(listed)?;
-                let cut = Some(Cut { after, recoveries });
-                Event { message, cut }
-            }
-        })?;
+        events.push(event_of(line)?)?;
     }
     Ok(events)
 }
@@ -75,8 +96,7 @@ pub(crate) fn wanted(alloc: Global, lines: &[Line]) -> Result<(Vec<u8>, u64), Fa
             Line::Say(_, reply, writes) => (reply, writes),
             Line::Cut(_, _, _, writes) => (b"CUT".as_slice(), writes),
         };
-        replies.extend_from_slice(reply)?;
-        replies.push(b'\n')?;
+        add_line(&mut replies, reply)?;
         sum = sum.saturating_add(writes);
     }
     Ok((replies, sum))
@@ -108,8 +128,7 @@ fn as_events(alloc: Global, disk: &MemDisk, lines: &[Line]) -> Result<Played, Fa
 pub(crate) fn text_of(alloc: Global, told: &[Reply]) -> Result<Vec<u8>, Fail> {
     let mut replies = Vec::new(alloc);
     for reply in told {
-        replies.extend_from_slice(reply.print().as_slice())?;
-        replies.push(b'\n')?;
+        add_line(&mut replies, reply.print().as_slice())?;
     }
     Ok(replies)
 }
@@ -139,6 +158,32 @@ fn is_told(
     Ok(())
 }
 
+/// Plays the lines as a script on a copy of the disk, where they have their replies and writes: the disk then.
+fn scripted(
+    rt: &(impl Abort + AllocGlobal),
+    disk: &MemDisk,
+    lines: &[Line],
+    shows: &str,
+) -> Result<MemDisk, Fail> {
+    let played = as_script(rt.alloc(), disk, lines)?;
+    is_told(rt, &played, lines, shows)?;
+    Ok(played.disk)
+}
+
+/// The same of one line after another, on a disk that is opened for each.
+fn stepped(
+    rt: &(impl Abort + AllocGlobal),
+    disk: &MemDisk,
+    lines: &[Line],
+    shows: &str,
+) -> Result<MemDisk, Fail> {
+    let mut disk = MemDisk::load(rt.alloc(), disk.bytes())?;
+    for line in lines.chunks(1) {
+        disk = scripted(rt, &disk, line, shows)?;
+    }
+    Ok(disk)
+}
+
 /// Plays the lines on copies of the disk: as a script, as events, and one by one, on a disk that is opened for each. Each
 /// way they have their replies and writes, and leave the same disk, which is the result.
 pub(crate) fn is_played(
@@ -147,17 +192,11 @@ pub(crate) fn is_played(
     lines: &[Line],
     shows: &str,
 ) -> Result<MemDisk, Fail> {
-    let script = as_script(rt.alloc(), disk, lines)?;
-    is_told(rt, &script, lines, shows)?;
+    let script = scripted(rt, disk, lines, shows)?;
     let events = as_events(rt.alloc(), disk, lines)?;
     is_told(rt, &events, lines, shows)?;
-    holds(rt, events.disk.bytes() == script.disk.bytes(), shows);
-    let mut stepped = MemDisk::load(rt.alloc(), disk.bytes())?;
-    for line in lines.chunks(1) {
-        let played = as_script(rt.alloc(), &stepped, line)?;
-        is_told(rt, &played, line, shows)?;
-        stepped = played.disk;
-    }
-    holds(rt, stepped.bytes() == script.disk.bytes(), shows);
+    holds(rt, events.disk.bytes() == script.bytes(), shows);
+    let stepped = stepped(rt, disk, lines, shows)?;
+    holds(rt, stepped.bytes() == script.bytes(), shows);
     Ok(stepped)
 }

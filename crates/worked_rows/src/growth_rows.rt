@@ -6,6 +6,7 @@ use disk_layout::SideView;
 use layout_check::{check, repair, survey};
 use rel_records::{RelFault, find, grow_to, records};
 use std::alloc::Global;
+use std::process::Abort;
 use std::test::Fail;
 
 /// Lets STOCK of this image grow to record 1694, where power fails after so many writes. Tells whether it came to its end,
@@ -39,110 +40,124 @@ fn grown(alloc: Global, number: u32) -> Result<MemDisk, Fail> {
     Ok(disk)
 }
 
-// STOCK with 120 blocks gets a block, 14/3, and a side sector, 14/4. After the fifth write the file is longer.
-#[test]
-fn growth_is_cut_and_mended(rt: HostRuntime) -> Result<(), Fail> {
-    let disk = grown(rt.alloc(), 1693)?;
-    // writes of the growth, records then, and writes of the repair
-    for (writes, count, mends) in [
-        (0u32, 1693u32, 0u32),
-        (1, 1693, 1),
-        (2, 1693, 1),
-        (3, 1693, 1),
-        (4, 1693, 2),
-        (5, 1707, 1),
-        (6, 1707, 0),
-    ] {
+/// Where the growth is cut: after so many writes; the records then, and the writes of the repair.
+const CUTS: [(u32, u32, u32); 7] = [
+    (0, 1693, 0),
+    (1, 1693, 1),
+    (2, 1693, 1),
+    (3, 1693, 1),
+    (4, 1693, 2),
+    (5, 1707, 1),
+    (6, 1707, 0),
+];
+
+/// Cuts the growth on a disk by each row, and the repair after each of its writes.
+fn are_mended(
+    rt: &(impl Abort + AllocGlobal),
+    disk: &MemDisk,
+    rows: &[(u32, u32, u32)],
+) -> Result<(), Fail> {
+    for &(writes, count, mends) in rows {
         let (done, left) = cut(rt.alloc(), disk.bytes(), writes)?;
-        same(&rt, done, writes == 6);
+        same(rt, done, writes == 6);
         for passed in 0..=mends {
-            same_at(
-                &rt,
-                mended(rt.alloc(), left.bytes(), passed)?,
-                (u64::from(mends - passed), count),
-                ("writes of the growth and of the repair", writes, passed),
-            );
+            let told = mended(rt.alloc(), left.bytes(), passed)?;
+            let row = ("writes of the growth and of the repair", writes, passed);
+            same_at(rt, told, (u64::from(mends - passed), count), row);
         }
     }
     Ok(())
 }
 
-// Side sectors of STOCK with 121 and with 241 blocks: their first sixteen bytes, and their first and last pointers.
+// STOCK with 120 blocks gets a block, 14/3, and a side sector, 14/4. After the fifth write the file is longer.
 #[test]
-fn side_sectors_are_exact(rt: HostRuntime) -> Result<(), Fail> {
-    for (number, track, side, head, first, last) in [
-        (
-            1694,
-            17,
-            1,
-            *b"\x0E\x04\0\x12\x11\x01\x0E\x04\0\0\0\0\0\0\0\0",
-            (17, 0),
-            (14, 2),
-        ),
-        (
-            1694,
-            14,
-            4,
-            *b"\0\x11\x01\x12\x11\x01\x0E\x04\0\0\0\0\0\0\0\0",
-            (14, 3),
-            (0, 0),
-        ),
-        (
-            3387,
-            17,
-            1,
-            *b"\x0E\x04\0\x12\x11\x01\x0E\x04\x0B\x05\0\0\0\0\0\0",
-            (17, 0),
-            (14, 2),
-        ),
-        (
-            3387,
-            14,
-            4,
-            *b"\x0B\x05\x01\x12\x11\x01\x0E\x04\x0B\x05\0\0\0\0\0\0",
-            (14, 3),
-            (11, 3),
-        ),
-        (
-            3387,
-            11,
-            5,
-            *b"\0\x11\x02\x12\x11\x01\x0E\x04\x0B\x05\0\0\0\0\0\0",
-            (11, 4),
-            (0, 0),
-        ),
-    ] {
+fn growth_is_cut_and_mended(rt: HostRuntime) -> Result<(), Fail> {
+    are_mended(&rt, &grown(rt.alloc(), 1693)?, &CUTS)
+}
+
+/// The record to which STOCK grows, a side sector, its first sixteen bytes, and its first and last pointers.
+type Side = (u32, (u8, u8), &'static [u8], (u8, u8), (u8, u8));
+
+/// Side sectors of STOCK with 121 and with 241 blocks.
+const SIDES: [Side; 5] = [
+    (
+        1694,
+        (17, 1),
+        b"\x0E\x04\0\x12\x11\x01\x0E\x04\0\0\0\0\0\0\0\0",
+        (17, 0),
+        (14, 2),
+    ),
+    (
+        1694,
+        (14, 4),
+        b"\0\x11\x01\x12\x11\x01\x0E\x04\0\0\0\0\0\0\0\0",
+        (14, 3),
+        (0, 0),
+    ),
+    (
+        3387,
+        (17, 1),
+        b"\x0E\x04\0\x12\x11\x01\x0E\x04\x0B\x05\0\0\0\0\0\0",
+        (17, 0),
+        (14, 2),
+    ),
+    (
+        3387,
+        (14, 4),
+        b"\x0B\x05\x01\x12\x11\x01\x0E\x04\x0B\x05\0\0\0\0\0\0",
+        (14, 3),
+        (11, 3),
+    ),
+    (
+        3387,
+        (11, 5),
+        b"\0\x11\x02\x12\x11\x01\x0E\x04\x0B\x05\0\0\0\0\0\0",
+        (11, 4),
+        (0, 0),
+    ),
+];
+
+/// Sees that the side sectors are as the rows have them. A clean disk has exact ones, pointer by pointer of the chain.
+fn are_exact(rt: &(impl Abort + AllocGlobal), rows: &[Side]) -> Result<(), Fail> {
+    for &(number, (track, side), head, first, last) in rows {
         let mut disk = grown(rt.alloc(), number)?;
         let bytes = sector(&mut disk, track, side)?;
-        same_at(&rt, &bytes[..16], head.as_slice(), (track, side, number));
+        same_at(rt, &bytes[..16], head, (track, side, number));
         let view = SideView::new(&bytes);
         let ends = (view.block(0), view.block(119));
         let want = (Place::new(first.0, first.1), Place::new(last.0, last.1));
-        same_at(&rt, ends, want, (track, side, number));
-        // a clean disk has exact side sectors, pointer by pointer of the chain
-        same_at(&rt, check(&mut disk).is_ok(), true, ("with record", number));
+        same_at(rt, ends, want, (track, side, number));
+        same_at(rt, check(&mut disk).is_ok(), true, ("with record", number));
     }
     Ok(())
 }
 
-// What doesn't fit is refused before anything is written: 9,256 records fill the disk, and 720 blocks hold 10,160.
 #[test]
-fn too_much_is_refused(rt: HostRuntime) -> Result<(), Fail> {
-    for (number, fault) in [
-        (9257, RelFault::Full),
-        (10160, RelFault::Full),
-        (10161, RelFault::TooLarge),
-        (65536, RelFault::TooLarge),
-    ] {
+fn side_sectors_are_exact(rt: HostRuntime) -> Result<(), Fail> {
+    are_exact(&rt, &SIDES)
+}
+
+/// Records that don't fit, and what is told: 9,256 records fill the disk, and 720 blocks hold 10,160.
+const TOO_MUCH: [(u32, RelFault); 4] = [
+    (9257, RelFault::Full),
+    (10160, RelFault::Full),
+    (10161, RelFault::TooLarge),
+    (65536, RelFault::TooLarge),
+];
+
+/// Sees that growth to each record is refused, with nothing written.
+fn are_refused(rt: &(impl Abort + AllocGlobal), rows: &[(u32, RelFault)]) -> Result<(), Fail> {
+    for &(number, fault) in rows {
         let mut disk = Meter::new(fresh(rt.alloc())?);
         let mut file = stock(&mut disk)?;
-        same_at(
-            &rt,
-            grow_to(&mut disk, &mut file, number),
-            Err(fault),
-            ("record", number),
-        );
-        same(&rt, disk.writes(), 0);
+        let told = grow_to(&mut disk, &mut file, number);
+        same_at(rt, told, Err(fault), ("record", number));
+        same(rt, disk.writes(), 0);
     }
     Ok(())
+}
+
+#[test]
+fn too_much_is_refused(rt: HostRuntime) -> Result<(), Fail> {
+    are_refused(&rt, &TOO_MUCH)
 }

@@ -1,11 +1,12 @@
 //! What a session tells of a shop, and the bytes that requests leave on the disk.
-use crate::comparing::{holds, same, same_at};
-use crate::disks::bytes_from;
+use crate::comparing::{same, same_at};
+use crate::disks::stands;
 use crate::sessions::after;
 use d64_image::MemDisk;
 use disk_layout::blank_image;
 use host_session::Session;
 use request_cards::{Answer, Request};
+use std::process::Abort;
 use std::test::Fail;
 
 /// A request, and its answer.
@@ -68,22 +69,32 @@ fn read(told: Told) -> Option<(Request, Answer)> {
     Some((Request::parse(message)?, answer))
 }
 
-#[test]
-fn a_session_tells_what_it_holds(rt: HostRuntime) -> Result<(), Fail> {
-    for row in HELD {
+/// Sees that the session tells what the row has, and nothing of what there isn't.
+fn tells(rt: &impl Abort, session: &Session<MemDisk>, row: &Held) {
+    same(rt, (session.top(), session.tills()), (9256, 2));
+    let (item, quantity) = row.card;
+    same_at(rt, session.card(item), Ok(quantity), row.script);
+    same_at(rt, session.kept(1), Ok(read(row.kept)), row.script);
+    same_at(rt, session.prior(1), Ok(read(row.prior)), row.script);
+    let nothing = (session.card(0), session.kept(0), session.prior(3));
+    same(rt, nothing, (Ok(None), Ok(None), Ok(None)));
+}
+
+/// Opens the disk of each row's script.
+fn each_tells(rt: &(impl Abort + AllocGlobal), rows: &[Held]) -> Result<(), Fail> {
+    for row in rows {
         let Ok(session) = Session::open(after(rt.alloc(), row.script)?) else {
             return Err(Fail::new("the disk isn't opened"));
         };
-        same(&rt, (session.top(), session.tills()), (9256, 2));
-        let (item, quantity) = row.card;
-        same_at(&rt, session.card(item), Ok(quantity), row.script);
-        same_at(&rt, session.kept(1), Ok(read(row.kept)), row.script);
-        same_at(&rt, session.prior(1), Ok(read(row.prior)), row.script);
-        let nothing = (session.card(0), session.kept(0), session.prior(3));
-        same(&rt, nothing, (Ok(None), Ok(None), Ok(None)));
+        tells(rt, &session, row);
         session.close();
     }
     Ok(())
+}
+
+#[test]
+fn a_session_tells_what_it_holds(rt: HostRuntime) -> Result<(), Fail> {
+    each_tells(&rt, &HELD)
 }
 
 // REQUESTS takes 31 sectors more for 64 tills than for two.
@@ -100,7 +111,9 @@ fn tills_take_room(rt: HostRuntime) -> Result<(), Fail> {
 }
 
 /// What was played, a place, and the bytes that stand there.
-const BYTES: [(&[u8], (u8, u8, u8), &[u8]); 13] = [
+type Left = (&'static [u8], (u8, u8, u8), &'static [u8]);
+
+const BYTES: [Left; 13] = [
     // A first set: a block more, a card in two blocks, the answer on the till's card.
     (b"1,1,S,15,7\n", (17, 0, 0), b"\x11\x04"),
     (b"1,1,S,15,7\n", (17, 0, 254), b"K,"),
@@ -127,12 +140,15 @@ const BYTES: [(&[u8], (u8, u8, u8), &[u8]); 13] = [
     (b"1,1,S,9256,1\n", (18, 0, 140), b"\0\0\0\0"),
 ];
 
-#[test]
-fn requests_leave_these_bytes(rt: HostRuntime) -> Result<(), Fail> {
-    for (script, (track, number, at), bytes) in BYTES {
-        let disk = after(rt.alloc(), script)?;
-        let stands = bytes_from(&disk, track, number, at).starts_with(bytes);
-        holds(&rt, stands, (track, number, at));
+/// Plays each row's script, and sees that its bytes stand there then.
+fn all_stand(rt: &(impl Abort + AllocGlobal), rows: &[Left]) -> Result<(), Fail> {
+    for (script, place, bytes) in rows {
+        stands(rt, &after(rt.alloc(), script)?, *place, bytes);
     }
     Ok(())
+}
+
+#[test]
+fn requests_leave_these_bytes(rt: HostRuntime) -> Result<(), Fail> {
+    all_stand(&rt, &BYTES)
 }

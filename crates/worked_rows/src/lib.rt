@@ -15,17 +15,21 @@ mod days;
 #[cfg(test)]
 mod disks;
 #[cfg(test)]
+mod fault_rows;
+#[cfg(test)]
 mod foreign_rows;
 #[cfg(test)]
 mod growth_rows;
 #[cfg(test)]
 mod held_rows;
 #[cfg(test)]
-mod hostile_rows;
+mod image_rows;
 #[cfg(test)]
 mod mirror_rows;
 #[cfg(test)]
 mod opening_rows;
+#[cfg(test)]
+mod output_rows;
 #[cfg(test)]
 mod record_rows;
 #[cfg(test)]

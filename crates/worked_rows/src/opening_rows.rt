@@ -3,7 +3,7 @@
 use crate::comparing::same_at;
 use crate::days::Line::{self, Say};
 use crate::days::is_played;
-use crate::disks::{Change, changed, clean};
+use crate::disks::{Change, INTENT, changed, clean};
 use crate::sessions::{WHOLE, after, opened};
 use d64_image::MemDisk;
 use std::process::Abort;
@@ -21,15 +21,6 @@ struct Opening {
     /// What is told then.
     lines: &'static [Line],
 }
-
-/// An open intent of version 1, as it stands for till 1.
-const INTENT: Change = (
-    17,
-    2,
-    2,
-    127,
-    b"I,000000001,S,00001,000000005,0,000000005\r",
-);
 
 /// An answered refusal of till 1, and an answered receipt of till 2, as cards of version 1.
 const OLD: [Change; 2] = [
@@ -150,12 +141,17 @@ fn opened_again(
     Ok(disk)
 }
 
-#[test]
-fn changed_disks_are_opened(rt: HostRuntime) -> Result<(), Fail> {
-    for row in OPENINGS {
+/// Opens each row's disk, and plays its lines then.
+fn are_opened(rt: &(impl Abort + AllocGlobal), rows: &[Opening]) -> Result<(), Fail> {
+    for row in rows {
         let disk = changed(rt.alloc(), &after(rt.alloc(), row.before)?, row.changes)?;
-        let disk = opened_again(&rt, disk, row.openings, row.shows)?;
-        is_played(&rt, &disk, row.lines, row.shows)?;
+        let disk = opened_again(rt, disk, row.openings, row.shows)?;
+        is_played(rt, &disk, row.lines, row.shows)?;
     }
     Ok(())
+}
+
+#[test]
+fn changed_disks_are_opened(rt: HostRuntime) -> Result<(), Fail> {
+    are_opened(&rt, &OPENINGS)
 }

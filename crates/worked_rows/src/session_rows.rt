@@ -3,6 +3,7 @@
 use crate::days::Line::{Cut, Say};
 use crate::days::{Line, is_played};
 use crate::disks::fresh;
+use std::process::Abort;
 use std::test::Fail;
 
 /// A set takes two blocks of growth, intent, card and answer; a refusal its answer alone; a repeat nothing.
@@ -129,10 +130,15 @@ const DAYS: [(&str, &[Line]); 10] = [
     ("cut again", &CUT_AGAIN),
 ];
 
-#[test]
-fn days_are_played(rt: HostRuntime) -> Result<(), Fail> {
-    for (shows, lines) in DAYS {
-        is_played(&rt, &fresh(rt.alloc())?, lines, shows)?;
+/// Plays each day on a blank disk.
+fn each_is_played(rt: &(impl Abort + AllocGlobal), days: &[(&str, &[Line])]) -> Result<(), Fail> {
+    for (shows, lines) in days {
+        is_played(rt, &fresh(rt.alloc())?, lines, shows)?;
     }
     Ok(())
+}
+
+#[test]
+fn days_are_played(rt: HostRuntime) -> Result<(), Fail> {
+    each_is_played(&rt, &DAYS)
 }

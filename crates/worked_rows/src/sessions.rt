@@ -1,9 +1,11 @@
 //! Sessions on copies of a disk, also where power goes in them.
 use crate::disks::fresh;
-use d64_image::{Fuse, MemDisk, Meter};
+use d64_image::{Fuse, MemDisk, Meter, Mirror};
 use host_session::{Session, run_script};
+use layout_check::check;
 use request_cards::Reply;
 use std::alloc::Global;
+use std::io::Cursor;
 use std::test::Fail;
 
 /// Power that doesn't go: more writes than any disk takes in a row.
@@ -47,4 +49,57 @@ pub(crate) fn handled(
     };
     let meter = fuse.into_inner();
     Ok((reply, meter.writes(), meter.into_inner()))
+}
+
+/// The same disk in memory and in a file.
+pub(crate) fn mirrored(alloc: Global, disk: &MemDisk) -> Result<Mirror<Cursor<Vec<u8>>>, Fail> {
+    let file = Cursor::new(Vec::from_slice(alloc, disk.bytes())?);
+    Ok(Mirror::new(file, MemDisk::load(alloc, disk.bytes())?))
+}
+
+/// The disk of a mirror whose file has the same bytes.
+fn unmirrored(mirror: Mirror<Cursor<Vec<u8>>>) -> Result<MemDisk, Fail> {
+    let (file, disk) = mirror.into_inner();
+    if file.into_inner().as_slice() != disk.bytes() {
+        return Err(Fail::new("the file has other bytes"));
+    }
+    Ok(disk)
+}
+
+/// Opens a disk twice through a mirror, the second time to handle a message: the reply, the last item that has room, and
+/// the writes of both. The file has what memory has, and the disk is clean.
+pub(crate) fn asked(
+    alloc: Global,
+    disk: &MemDisk,
+    message: &[u8],
+) -> Result<(Reply, u16, u64, u64), Fail> {
+    let Ok(session) = Session::open(Meter::new(mirrored(alloc, disk)?)) else {
+        return Err(Fail::new("it isn't opened"));
+    };
+    let opened = session.close();
+    let recovery = opened.writes();
+    let Ok(mut session) = Session::open(opened) else {
+        return Err(Fail::new("it isn't opened again"));
+    };
+    let top = session.top();
+    let reply = session.handle(message);
+    let meter = session.close();
+    let writes = meter.writes().saturating_sub(recovery);
+    check(&mut unmirrored(meter.into_inner())?)?;
+    Ok((reply, top, recovery, writes))
+}
+
+/// Opens the disk and hands it the message: the reply. The disk is clean then.
+pub(crate) fn sent_to(disk: MemDisk, message: &[u8]) -> Result<Reply, Fail> {
+    let Ok(mut session) = Session::open(disk) else {
+        return Err(Fail::new("what is left isn't opened"));
+    };
+    let reply = session.handle(message);
+    check(&mut session.close())?;
+    Ok(reply)
+}
+
+/// Whether a reply has this text.
+pub(crate) fn says(reply: Reply, text: &[u8]) -> bool {
+    reply.print().as_slice() == text
 }

@@ -1,0 +1,9 @@
+//! What the plain programs share; each takes a part of it.
+#![allow(dead_code)]
+
+pub mod checking;
+pub mod files;
+pub mod full_disk;
+pub mod messages;
+pub mod places;
+pub mod shop;

@@ -1,0 +1,179 @@
+//! Images that no shop left: those that an opening refuses, and those that it takes all the same.
+use crate::comparing::same_at;
+use crate::disks::{Change, INTENT, changed, fresh};
+use crate::sessions::{after, asked, mirrored, says};
+use d64_image::MemDisk;
+use host_session::{OpenFault, Session};
+use std::alloc::Global;
+use std::process::Abort;
+use std::test::Fail;
+
+/// Cards of version 1 as power may have left them: open intents of a set of item 2 and 15, two cards that are none, and
+/// a stock card in the wrong record.
+const INTENT_2: &[u8] = b"I,000000001,S,00002,000000005,0,000000005\r";
+
+const INTENT_15: &[u8] = b"I,000000001,S,00015,000000005,0,000000005\r";
+
+const SHORT_INTENT: &[u8] = b"I,000000001,S,00001,000000005,1,000000005\r";
+
+const NO_CARD_WITH_5: &[u8] = b"A,000000001,S,00001,000000005,3,000000005\r";
+
+const CARD_4: &[u8] = b"K,00004,000000001\r";
+
+/// A third entry in 18/1, a program `X` whose first block is that of REQUESTS.
+const SECOND_OWNER: &[u8] =
+    b"\x82\x11\x02X\xA0\xA0\xA0\xA0\xA0\xA0\xA0\xA0\xA0\xA0\xA0\xA0\xA0\xA0\xA0\0\0\0\0\0\0\0\0\0\x01\0";
+
+/// Images that aren't opened: a script that made the disk, what is changed on it, and what is told.
+const REFUSED: [(&[u8], &[Change], &[u8]); 16] = [
+    (
+        b"1,1,S,1693,1\n1,2,S,1694,2\n",
+        &[(14, 4, 6, 2, b"")],
+        b"LAYOUT BADSIDE 14/4",
+    ),
+    (
+        b"1,1,S,1693,1\n1,2,S,1694,2\n",
+        &[(14, 4, 2, 1, b"")],
+        b"LAYOUT BADSIDE 14/4",
+    ),
+    (b"1,1,S,15,7\n", &[(17, 4, 2, 1, b" ")], b"BAD CARD 15"),
+    (b"", &[(17, 0, 2, 1, b"")], b"BAD CARD 1"),
+    (
+        b"",
+        &[(18, 1, 23, 1, b"\x11"), (17, 1, 3, 1, b"\x11")],
+        b"NO STOCK",
+    ),
+    (b"", &[(18, 1, 34, 1, b"\x82")], b"NO REQUESTS"),
+    (b"", &[(17, 2, 2, 127, INTENT_15)], b"BAD REQUEST CARD 1"),
+    (b"", &[(17, 2, 2, 127, SHORT_INTENT)], b"BAD REQUEST CARD 1"),
+    (
+        b"",
+        &[(17, 2, 2, 127, NO_CARD_WITH_5)],
+        b"BAD REQUEST CARD 1",
+    ),
+    (b"", &[(17, 0, 0, 2, b"\x11")], b"LAYOUT LOOP 17/0"),
+    (
+        b"",
+        &[(18, 1, 66, 30, SECOND_OWNER)],
+        b"LAYOUT OWNEDTWICE 17/2",
+    ),
+    (b"", &[INTENT, (17, 2, 129, 127, INTENT_2)], b"TWO INTENTS"),
+    (b"", &[(17, 0, 38, 18, CARD_4)], b"BAD CARD 3"),
+    // A till's card is judged before two intents, these before the cards of items, and of those not the open intent's own.
+    (
+        b"",
+        &[
+            INTENT,
+            (17, 2, 129, 127, INTENT_15),
+            (17, 0, 38, 18, CARD_4),
+        ],
+        b"BAD REQUEST CARD 2",
+    ),
+    (
+        b"",
+        &[INTENT, (17, 2, 129, 127, INTENT_2), (17, 0, 38, 18, CARD_4)],
+        b"TWO INTENTS",
+    ),
+    (
+        b"",
+        &[INTENT, (17, 0, 2, 1, b""), (17, 0, 38, 18, CARD_4)],
+        b"BAD CARD 3",
+    ),
+];
+
+/// What is told of an image that isn't opened, which stays as it was.
+fn refused(alloc: Global, disk: &MemDisk) -> Result<OpenFault, Fail> {
+    match Session::open(MemDisk::load(alloc, disk.bytes())?) {
+        Ok(session) => {
+            drop(session.close());
+            Err(Fail::new("it is opened"))
+        }
+        Err((_, left)) if left.bytes() != disk.bytes() => Err(Fail::new("it is changed")),
+        Err((fault, _)) => Ok(fault),
+    }
+}
+
+/// The same through a mirror, whose file stays as well.
+fn refused_mirror(alloc: Global, disk: &MemDisk) -> Result<OpenFault, Fail> {
+    match Session::open(mirrored(alloc, disk)?) {
+        Ok(session) => {
+            drop(session.close());
+            Err(Fail::new("its mirror is opened"))
+        }
+        Err((fault, mirror)) => {
+            let (file, left) = mirror.into_inner();
+            if left.bytes() != disk.bytes() || file.into_inner().as_slice() != disk.bytes() {
+                return Err(Fail::new("its mirror is changed"));
+            }
+            Ok(fault)
+        }
+    }
+}
+
+/// Sees that none of the images is opened, and what is told of each.
+fn none_is_opened(
+    rt: &(impl Abort + AllocGlobal),
+    rows: &[(&[u8], &[Change], &[u8])],
+) -> Result<(), Fail> {
+    for (script, changes, told) in rows {
+        let disk = changed(rt.alloc(), &after(rt.alloc(), script)?, changes)?;
+        let fault = refused(rt.alloc(), &disk)?;
+        same_at(rt, fault.to_string(rt.alloc())?.as_bytes(), *told, told);
+        same_at(rt, refused_mirror(rt.alloc(), &disk)?, fault, told);
+    }
+    Ok(())
+}
+
+#[test]
+fn malicious_images_are_refused(rt: HostRuntime) -> Result<(), Fail> {
+    none_is_opened(&rt, &REFUSED)
+}
+
+/// Images that are opened: what is changed on a blank disk, the writes of the opening, a message, its reply and writes,
+/// and the last item that has room.
+const OPENED: [(&[Change], u64, &[u8], &[u8], u64, u16); 4] = [
+    (
+        &[(17, 0, 1, 1, b"")],
+        0,
+        b"1,1,S,1,5",
+        b"1,1,DONE,5",
+        4,
+        9256,
+    ),
+    (
+        &[(17, 2, 1, 1, b"\x80")],
+        0,
+        b"2,1,S,1,0",
+        b"2,1,NO TILL",
+        0,
+        9256,
+    ),
+    (
+        &[(17, 2, 1, 1, b"\x7F")],
+        0,
+        b"1,1,S,1,0",
+        b"1,1,NO TILL",
+        0,
+        9256,
+    ),
+    (&[INTENT], 2, b"1,1,S,1,5", b"1,1,DONE,5", 0, 9256),
+];
+
+/// Sees that each of the images is opened, and what is told and written then.
+fn each_is_opened(
+    rt: &(impl Abort + AllocGlobal),
+    rows: &[(&[Change], u64, &[u8], &[u8], u64, u16)],
+) -> Result<(), Fail> {
+    for (changes, recovery, message, told, writes, top) in rows {
+        let disk = changed(rt.alloc(), &fresh(rt.alloc())?, changes)?;
+        let (reply, last, first, second) = asked(rt.alloc(), &disk, message)?;
+        same_at(rt, (last, first, second), (*top, *recovery, *writes), reply);
+        same_at(rt, says(reply, told), true, reply);
+    }
+    Ok(())
+}
+
+#[test]
+fn odd_images_are_opened(rt: HostRuntime) -> Result<(), Fail> {
+    each_is_opened(&rt, &OPENED)
+}

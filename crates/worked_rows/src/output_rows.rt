@@ -1,0 +1,56 @@
+//! An output that stops in the middle of a run.
+use crate::comparing::same_at;
+use crate::disks::fresh;
+use crate::sessions::{asked, says};
+use d64_image::MemDisk;
+use host_session::{ScriptFault, run_script};
+use std::io::{self, Write};
+use std::process::Abort;
+use std::test::Fail;
+
+/// An output that takes so many bytes, and then fails.
+#[derive(Drop)]
+struct Stopping {
+    taken: Vec<u8>,
+    room: usize,
+}
+
+impl Write for Stopping {
+    fn write(&mut self, buf: &[u8]) -> io::Result<usize> {
+        let room = buf.len().min(self.room);
+        if room == 0 {
+            return Err(io::Error::from(io::ErrorKind::StorageFull));
+        }
+        let taken = self.taken.write(&buf[..room])?;
+        self.room = self.room.saturating_sub(taken);
+        Ok(taken)
+    }
+
+    fn flush(&mut self) -> io::Result<()> {
+        Ok(())
+    }
+}
+
+/// Plays the script into an output that takes 13 bytes, and gives what is on the disk then.
+fn stopped(rt: &(impl Abort + AllocGlobal), script: &[u8], reply: &[u8]) -> Result<MemDisk, Fail> {
+    let mut out = Stopping {
+        taken: Vec::new(rt.alloc()),
+        room: 13,
+    };
+    let Err((fault, left)) = run_script(fresh(rt.alloc())?, script, &mut out) else {
+        return Err(Fail::new("the script is played"));
+    };
+    let told = (fault, fault.number(), out.taken.as_slice() == reply);
+    same_at(rt, told, (ScriptFault::Output, 3, true), "fault");
+    Ok(left)
+}
+
+// The first reply has 12 bytes and its end of line; the second line is handled, and its reply is lost.
+#[test]
+fn an_output_takes_13_bytes(rt: HostRuntime) -> Result<(), Fail> {
+    let left = stopped(&rt, b"1,1,S,42,120\n2,1,R,42,5\n", b"1,1,DONE,120\n")?;
+    let (reply, _, recovery, writes) = asked(rt.alloc(), &left, b"2,1,R,42,5")?;
+    let told = (says(reply, b"2,1,DONE,125"), recovery, writes);
+    same_at(&rt, told, (true, 0, 0), "sent again");
+    Ok(())
+}
