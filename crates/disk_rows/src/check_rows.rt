@@ -278,8 +278,8 @@ fn a_long_file(rt: HostRuntime) -> Result<(), Fail> {
         ("number", second, 2, second),
         ("list of the second", second, 7, second),
         ("list of the first", first, 7, first),
-        // it leads to 7/3, which the lists don't name: a fault of the first, and of 7/3 too
-        ("link", first, 1, first),
+        // it leads to 7/3, which isn't a side sector: a fault of 7/3, and of the lists, which don't name it
+        ("link", first, 1, at(7, 3)),
         ("pointer to the last block", second, 17, second),
         ("pointer to the block before", first, 255, first),
     ];
