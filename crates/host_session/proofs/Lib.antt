@@ -9,6 +9,7 @@ pub mod Mended
 pub mod Calls
 pub mod Readings
 pub mod Selection
+pub mod Channels
 pub mod Records
 pub mod GrownStock
 pub mod GrowthCounts

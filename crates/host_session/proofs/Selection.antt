@@ -28,7 +28,7 @@ use Rattle.rel_records.specs.Growth.{added, blocks_for, fill_writes, full, growt
 use Rattle.rel_records.specs.Others.{HasRecords}
 use Rattle.rel_records.specs.Written.{IsWriting, grown_by, touched, with_written}
 use Rattle.host_session.specs.Putting.{IsInReach, IsPlaced}
-use Rattle.host_session.specs.Selecting.{IsAt, IsReady, channel_at, place_text}
+use Rattle.host_session.specs.Selecting.{IsAt, IsInFile, IsReady, channel_at, place_text}
 
 -- no channel but 2 was open: none is once it is closed
 without-two : (o : Option Channel) → ((c : Channel) → o ≡ Some c → c.number ≡ 2) → channel_without 2 o ≡ None
@@ -152,21 +152,26 @@ alive-of {D} {T} {E} S old new x h = by new.dead refl
     by false e = e
     by true e = absurd (false≢true (h.dies.0 e))
 
--- close, open and P, one after another
-pub selected : {D T E : Type 0} (S : History D) (d0 d1 d2 d3 : Seen D) (r : Result T E) (name text : List ℕ) (number : ℕ) (l : Layout) (n : ℕ) (f : File)
-    → IsReady S d0 → IsName name → Closes (view_of S d0) 2 (view_of S d1) → Opens (view_of S d1) 2 name (view_of S d2) → Serves S d2 d3 r
-    → OnOk r (Commands (view_of S d2) text (view_of S d3)) → text ≡ place_text number → IsInReach (S.image d0.disk) name number l n f → OnOk r (IsAt d3 n number)
-selected S d0 d1 d2 d3 (Err e) name text number l n f ready h closes opens serves row is p = tt
-selected S d0 d1 d2 d3 (Ok x) name text number l n f ready h closes opens serves row is p =
+-- close and open, one after another
+pub opened-in : {D : Type 0} (S : History D) (d0 d1 d2 : Seen D) (name : List ℕ) (l : Layout) (n : ℕ) (f : File)
+    → IsReady S d0 → IsName name → Closes (view_of S d0) 2 (view_of S d1) → Opens (view_of S d1) 2 name (view_of S d2) → d2.dead ≡ false
+    → IsLayout (S.image d0.disk) l → IsFirst l name n f → (S.image d2.disk ≡ S.image d0.disk) × (d2.channel ≡ Some (channel_at n 1)) × (d2.checked ≡ true)
+opened-in S d0 d1 d2 name l n f ready h closes opens alive is first =
     let same : S.image d1.disk ≡ S.image d0.disk = ap (λ (v : View). v.image) closes in
     let free : d1.channel ≡ None = ap (λ (v : View). v.channel) closes ∙ without-two d0.channel ready.free in
     let clean : IsClean (S.image d1.disk) = subst (λ (i : Image). IsClean i) (sym same) ready.clean in
-    let layout : IsLayout (S.image d1.disk) l = subst (λ (i : Image). IsLayout i l) (sym same) p.layout in
-    let o = opened (view_of S d1) (view_of S d2) name l n f free clean h layout p.first opens in
-    let q : IsInReach (S.image d2.disk) name number l n f = subst (λ (i : Image). IsInReach i name number l n f) (sym (o.0 ∙ same)) p in
-    let m = moved (view_of S d2) (view_of S d3) l n number 1 f o.1 (reach-rel (S.image d2.disk) name number l n f q) p.low p.some p.few
-    (subst (λ (t : List ℕ). Commands (view_of S d2) t (view_of S d3)) is row) in
-    record { alive = alive-of S d2 d3 x serves; checked = m.2 ∙ o.2; on = m.1 }
+    let layout : IsLayout (S.image d1.disk) l = subst (λ (i : Image). IsLayout i l) (sym same) is in
+    let o = opened (view_of S d1) (view_of S d2) name l n f free clean h layout first opens in
+    (o.0 ∙ same, o.1, o.2)
+
+-- P, in a file that is open
+pub placed-after : {D T E : Type 0} (S : History D) (d1 d2 : Seen D) (r : Result T E) (name text : List ℕ) (number : ℕ) (l : Layout) (n : ℕ) (f : File)
+    → IsInFile d1 n → Serves S d1 d2 r → OnOk r (Commands (view_of S d1) text (view_of S d2)) → text ≡ place_text number → IsInReach (S.image d1.disk) name number l n f → OnOk r (IsAt d2 n number)
+placed-after S d1 d2 (Err e) name text number l n f at serves row is p = tt
+placed-after S d1 d2 (Ok x) name text number l n f at serves row is p =
+    let m = moved (view_of S d1) (view_of S d2) l n number at.record_number f at.on (reach-rel (S.image d1.disk) name number l n f p) p.low p.some p.few
+    (subst (λ (t : List ℕ). Commands (view_of S d1) t (view_of S d2)) is row) in
+    record { alive = alive-of S d1 d2 x serves; checked = m.2 ∙ at.checked; on = m.1 }
 
 pub reads-between : {D : Type 0} (S : History D) (a b c d : D) (k : ℕ) → b ≡ a → OnlyReads S b c k → d ≡ c → OnlyReads S a d k
 reads-between {D} S a b c d k e h e' = subst (λ (x : D). OnlyReads S x d k) e (subst (λ (x : D). OnlyReads S b x k) (sym e') h)

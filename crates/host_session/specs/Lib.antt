@@ -13,6 +13,7 @@ pub mod Keeping
 pub mod Answering
 pub mod Judged
 pub mod Settling
+pub mod Channels
 pub mod Events
 pub mod Counted
 pub mod OneEvent

@@ -20,6 +20,13 @@ pub record IsAt {D : Type 0} (d : Seen D) (n r : ℕ) : Type 0 where
   pub checked : d.checked ≡ true
   pub on : d.channel ≡ Some (channel_at n r)
 
+-- it isn't dead, a check has passed, and channel 2 is at the first byte of some record of this file
+pub record IsInFile {D : Type 0} (d : Seen D) (n : ℕ) : Type 0 where
+  pub alive : d.dead ≡ false
+  pub checked : d.checked ≡ true
+  pub record_number : ℕ
+  pub on : d.channel ≡ Some (channel_at n record_number)
+
 -- the command that places channel 2 at the start of record r
 abbrev pub place_text : ℕ → List ℕ
 place_text r = 80 ∷ 2 ∷ r % 256 ∷ r / 256 ∷ 1 ∷ []

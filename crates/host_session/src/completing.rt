@@ -11,8 +11,9 @@ ghost use Rattle.rel_records.specs.Written.{touched};
 ghost use Rattle.request_cards.specs.CardTexts.{Card, IsCard, IsStock, card_text, stock_text};
 
 use crate::putting::{put_answer, put_card};
+use crate::shop_drive::ShopDrive;
 use d64_image::Sectors;
-use drive_channels::{Dead, Drive};
+use drive_channels::Dead;
 use request_cards::{Answer, RequestCard, StockCard};
 
 /// The card of an intent once it is answered, in version 2.
@@ -35,7 +36,7 @@ pub(crate) fn mark_answered(text: &mut [u8; 127])
 }
 
 /// Writes the quantity on hand of an item whose record is there.
-fn put_quantity<D: Sectors>(drive: &mut Drive<D>, item: u16, quantity: u32) -> Result<(), Dead>
+fn put_quantity<D: Sectors>(drive: &mut ShopDrive<D>, item: u16, quantity: u32) -> Result<(), Dead>
     requires ready { IsReady D.history drive.old }
     requires there { (f : Files) × HasFiles (D.history.image drive.old.disk) f × (item ≤ length f.stock) }
     requires fits { IsStock (record { item = item; quantity = quantity }) }
@@ -55,7 +56,11 @@ fn put_quantity<D: Sectors>(drive: &mut Drive<D>, item: u16, quantity: u32) -> R
 }
 
 /// Writes the cards of an open intent's results, whole, whatever their records hold.
-fn put_results<D: Sectors>(drive: &mut Drive<D>, till: u8, card: &RequestCard) -> Result<(), Dead>
+fn put_results<D: Sectors>(
+    drive: &mut ShopDrive<D>,
+    till: u8,
+    card: &RequestCard,
+) -> Result<(), Dead>
     requires ready { IsReady D.history drive.old }
     requires intent { (f : Files) × HasFiles (D.history.image drive.old.disk) f × HasIntent f till card.now }
     ensures ready { OnOk result (IsReady D.history drive.new) }
@@ -82,7 +87,7 @@ fn put_results<D: Sectors>(drive: &mut Drive<D>, till: u8, card: &RequestCard) -
 
 /// Completes an open intent: writes the cards of its results, and then its answer, which has this text.
 pub(crate) fn complete_with<D: Sectors>(
-    drive: &mut Drive<D>,
+    drive: &mut ShopDrive<D>,
     till: u8,
     card: &RequestCard,
     text: &[u8; 127],
@@ -106,7 +111,7 @@ pub(crate) fn complete_with<D: Sectors>(
 
 /// Completes an open intent of either version.
 pub(crate) fn complete<D: Sectors>(
-    drive: &mut Drive<D>,
+    drive: &mut ShopDrive<D>,
     till: u8,
     card: &RequestCard,
 ) -> Result<(), Dead>

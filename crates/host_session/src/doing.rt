@@ -11,13 +11,14 @@ ghost use Rattle.rel_records.specs.Growth.{growth_writes};
 use crate::completing::{complete_with, mark_answered};
 use crate::growing::grow_stock;
 use crate::putting::put_answer;
+use crate::shop_drive::ShopDrive;
 use d64_image::Sectors;
-use drive_channels::{Dead, Drive};
+use drive_channels::Dead;
 use request_cards::{Request, RequestCard};
 
 /// Writes the card of an answer that changes no quantity.
 fn put_refusal<D: Sectors>(
-    drive: &mut Drive<D>,
+    drive: &mut ShopDrive<D>,
     request: &Request,
     card: &RequestCard,
 ) -> Result<(), Dead>
@@ -39,7 +40,7 @@ fn put_refusal<D: Sectors>(
 
 /// Writes a request's intent, and completes it. The records of its items are there.
 fn put_intent<D: Sectors>(
-    drive: &mut Drive<D>,
+    drive: &mut ShopDrive<D>,
     request: &Request,
     card: &RequestCard,
 ) -> Result<(), Dead>
@@ -68,7 +69,7 @@ fn put_intent<D: Sectors>(
 
 /// Grows STOCK for the item of a first set, then writes the intent and completes it.
 fn put_first_set<D: Sectors>(
-    drive: &mut Drive<D>,
+    drive: &mut ShopDrive<D>,
     request: &Request,
     card: &RequestCard,
 ) -> Result<(), Dead>
@@ -93,7 +94,7 @@ fn put_first_set<D: Sectors>(
 /// Keeps a till's next request with its answer: the card alone where it changes no quantity; else, after the growth of STOCK
 /// for an item that has no card, its intent, the item's card or both cards, and its answer.
 pub(crate) fn keep<D: Sectors>(
-    drive: &mut Drive<D>,
+    drive: &mut ShopDrive<D>,
     request: &Request,
     card: &RequestCard,
     is_new: bool,

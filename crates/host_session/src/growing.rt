@@ -6,13 +6,13 @@ ghost use Rattle.host_session.specs.Growing.{HasGrown, HasGrownTo};
 ghost use Rattle.host_session.specs.Selecting.{IsReady};
 ghost use Rattle.rel_records.specs.Growth.{growth_writes};
 
-use crate::putting::select;
+use crate::shop_drive::{ShopDrive, ShopFile};
 use d64_image::Sectors;
-use drive_channels::{Dead, Drive};
+use drive_channels::Dead;
 
 /// Makes the record of an item up to the top be there: where STOCK doesn't reach to it yet, empty records follow its last
 /// one. No card, and nothing else on the disk, changes.
-pub(crate) fn grow_stock<D: Sectors>(drive: &mut Drive<D>, item: u16) -> Result<(), Dead>
+pub(crate) fn grow_stock<D: Sectors>(drive: &mut ShopDrive<D>, item: u16) -> Result<(), Dead>
     requires ready { IsReady D.history drive.old }
     requires fits { (f : Files) × HasFiles (D.history.image drive.old.disk) f × (1 ≤ item) × (item ≤ f.top) }
     ensures ready { OnOk result (IsReady D.history drive.new) }
@@ -24,6 +24,6 @@ pub(crate) fn grow_stock<D: Sectors>(drive: &mut Drive<D>, item: u16) -> Result<
     ensures failures { TellsFailure D.history drive.old.disk drive.new.disk result }
     ensures dies { IsErr result → drive.new.dead ≡ true }
 {
-    select(drive, b"STOCK", item)?;
-    drive.write(2, b"")
+    drive.select(ShopFile::Stock, item)?;
+    drive.write(b"")
 }

@@ -21,6 +21,7 @@ mod recovery;
 mod running;
 mod session;
 mod settling;
+mod shop_drive;
 mod starting;
 
 pub use faults::OpenFault;

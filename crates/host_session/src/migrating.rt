@@ -7,13 +7,14 @@ ghost use Rattle.host_session.specs.Shop.{IsShop, Shop, any_old, is_old};
 ghost use Rattle.host_session.specs.Standing.{nth};
 
 use crate::putting::put_answer;
+use crate::shop_drive::ShopDrive;
 use d64_image::Sectors;
-use drive_channels::{Dead, Drive};
+use drive_channels::Dead;
 use request_cards::RequestCard;
 
 /// Writes the card of a till again, where it is of version 1.
 fn migrate_till<D: Sectors>(
-    drive: &mut Drive<D>,
+    drive: &mut ShopDrive<D>,
     till: u8,
     requests: &mut [Option<RequestCard>; 64],
 ) -> Result<(), Dead>
@@ -45,7 +46,7 @@ fn migrate_till<D: Sectors>(
 
 /// Writes each card of version 1 again, of a till up to 64.
 pub(crate) fn migrate<D: Sectors>(
-    drive: &mut Drive<D>,
+    drive: &mut ShopDrive<D>,
     requests: &mut [Option<RequestCard>; 64],
 ) -> Result<(), Dead>
     requires ready { IsReady D.history drive.old }

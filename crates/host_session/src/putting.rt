@@ -1,77 +1,58 @@
 //! Records that are there, written through the drive.
 ghost use Rattle.std.specs.Prelude.{ℕ, ◌≡◌, ◌≤◌, IsErr, OnErr, OnOk, true, length};
-ghost use Rattle.d64_image.specs.History.{Changes, OnlyReads, TellsFailure};
+ghost use Rattle.d64_image.specs.History.{Changes, TellsFailure};
 ghost use Rattle.disk_layout.specs.Clean.{IsClean};
 ghost use Rattle.disk_layout.specs.Layout.{File, Layout, record_length};
 ghost use Rattle.disk_layout.specs.Records as records_of;
-ghost use Rattle.drive_channels.specs.Spelling.{IsName};
-ghost use Rattle.host_session.specs.Putting.{IsInReach, IsPlaced};
-ghost use Rattle.host_session.specs.Selecting.{IsAt, IsReady, place_text};
+ghost use Rattle.host_session.specs.Putting.{IsPlaced};
+ghost use Rattle.host_session.specs.Selecting.{IsReady};
+ghost use Rattle.host_session.specs.Channels.{name_of};
 ghost use Rattle.rel_records.specs.Others.{HasRecords};
 ghost use Rattle.rel_records.specs.Written.{IsInOneBlock, IsWriting, touched, with_written};
 ghost use Rattle.host_session.specs.Putting.{HasAnswer, HasCard, IsPuttingAnswer, IsPuttingCard};
 ghost use Rattle.host_session.specs.Files.{Files, HasFiles};
 
+use crate::shop_drive::{ShopDrive, ShopFile};
 use d64_image::Sectors;
-use drive_channels::{Dead, Drive};
-
-/// The command that places channel 2 at the start of a record.
-fn placing(number: u16) -> [u8; 5]
-    ensures { result ≡ place_text number }
-{
-    [b'P', 2, (number % 256) as u8, (number / 256) as u8, 1]
-}
-
-/// Places channel 2 at the start of a record, which is there or which the file can grow to.
-pub(crate) fn select<D: Sectors>(drive: &mut Drive<D>, name: &[u8], number: u16) -> Result<(), Dead>
-    requires ready { IsReady D.history drive.old }
-    requires name { IsName name.now }
-    requires reach { (l : Layout) × (n : ℕ) × (f : File) × IsInReach (D.history.image drive.old.disk) name.now number l n f }
-    ensures at { (l : Layout) (n : ℕ) (f : File) → IsInReach (D.history.image drive.old.disk) name.now number l n f
-        → OnOk result (IsAt drive.new n number) }
-    ensures reads { OnlyReads D.history drive.old.disk drive.new.disk 2817 }
-    ensures failures { TellsFailure D.history drive.old.disk drive.new.disk result }
-    ensures dies { IsErr result → drive.new.dead ≡ true }
-{
-    drive.close(2)?;
-    drive.open(2, name)?;
-    drive.command(&placing(number))
-}
+use drive_channels::Dead;
 
 /// Writes a record that is there, whole.
 fn put_record<D: Sectors>(
-    drive: &mut Drive<D>,
-    name: &[u8],
+    drive: &mut ShopDrive<D>,
+    file: ShopFile,
     number: u16,
     text: &[u8],
 ) -> Result<(), Dead>
     requires ready { IsReady D.history drive.old }
-    requires name { IsName name.now }
-    requires placed { (l : Layout) × (n : ℕ) × (f : File) × IsPlaced (D.history.image drive.old.disk) name.now number l n f }
+    requires placed { (l : Layout) × (n : ℕ) × (f : File) × IsPlaced (D.history.image drive.old.disk) (name_of file) number l n f }
     requires some { 1 ≤ length text.now }
     ensures ready { OnOk result (IsReady D.history drive.new) }
     ensures clean { OnOk result (IsClean (D.history.image drive.new.disk)) }
-    ensures ok { (l : Layout) (n : ℕ) (f : File) → IsPlaced (D.history.image drive.old.disk) name.now number l n f
+    ensures ok { (l : Layout) (n : ℕ) (f : File) → IsPlaced (D.history.image drive.old.disk) (name_of file) number l n f
         → OnOk result
         (HasRecords (D.history.image drive.old.disk) (D.history.image drive.new.disk) l n
         (with_written (record_length f.slot) number 1 text.now
         (records_of.records (D.history.image drive.old.disk) f))) }
-    ensures moments { (l : Layout) (n : ℕ) (f : File) → IsPlaced (D.history.image drive.old.disk) name.now number l n f
+    ensures moments { (l : Layout) (n : ℕ) (f : File) → IsPlaced (D.history.image drive.old.disk) (name_of file) number l n f
         → Changes D.history drive.old.disk drive.new.disk (touched (record_length f.slot) number 1)
         (IsWriting (D.history.image drive.old.disk) l n f 0 number 1 text.now) }
     // a record that lies in one block: at an error no write was counted
-    ensures uncounted { (l : Layout) (n : ℕ) (f : File) → IsPlaced (D.history.image drive.old.disk) name.now number l n f
+    ensures uncounted { (l : Layout) (n : ℕ) (f : File) → IsPlaced (D.history.image drive.old.disk) (name_of file) number l n f
         → IsInOneBlock (record_length f.slot) number
         → OnErr result (D.history.writes drive.new.disk ≡ D.history.writes drive.old.disk) }
     ensures failures { TellsFailure D.history drive.old.disk drive.new.disk result }
     ensures dies { IsErr result → drive.new.dead ≡ true }
 {
-    select(drive, name, number)?;
-    drive.write(2, text)
+    drive.select(file, number)?;
+    drive.write(text)
 }
 
 /// Writes a stock card whose record is there.
-pub(crate) fn put_card<D: Sectors>(drive: &mut Drive<D>, item: u16, text: &[u8]) -> Result<(), Dead>
+pub(crate) fn put_card<D: Sectors>(
+    drive: &mut ShopDrive<D>,
+    item: u16,
+    text: &[u8],
+) -> Result<(), Dead>
     requires ready { IsReady D.history drive.old }
     requires there { (f : Files) × HasFiles (D.history.image drive.old.disk) f × (1 ≤ item) × (item ≤ length f.stock) }
     requires long { length text.now ≡ 18 }
@@ -84,12 +65,12 @@ pub(crate) fn put_card<D: Sectors>(drive: &mut Drive<D>, item: u16, text: &[u8])
     ensures failures { TellsFailure D.history drive.old.disk drive.new.disk result }
     ensures dies { IsErr result → drive.new.dead ≡ true }
 {
-    put_record(drive, b"STOCK", item, text)
+    put_record(drive, ShopFile::Stock, item, text)
 }
 
 /// Writes a till's card whose record is there.
 pub(crate) fn put_answer<D: Sectors>(
-    drive: &mut Drive<D>,
+    drive: &mut ShopDrive<D>,
     till: u8,
     text: &[u8],
 ) -> Result<(), Dead>
@@ -108,5 +89,5 @@ pub(crate) fn put_answer<D: Sectors>(
     ensures failures { TellsFailure D.history drive.old.disk drive.new.disk result }
     ensures dies { IsErr result → drive.new.dead ≡ true }
 {
-    put_record(drive, b"REQUESTS", u16::from(till), text)
+    put_record(drive, ShopFile::Requests, u16::from(till), text)
 }

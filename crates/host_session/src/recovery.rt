@@ -8,13 +8,14 @@ ghost use Rattle.host_session.specs.Shop.{IsShop, Shop};
 
 use crate::completing::{answered, complete};
 use crate::intents::Intent;
+use crate::shop_drive::ShopDrive;
 use d64_image::Sectors;
-use drive_channels::{Dead, Drive};
+use drive_channels::Dead;
 use request_cards::RequestCard;
 
 /// Completes the open intent, if there is one, and answers it in the table of the tills' cards.
 pub(crate) fn recover<D: Sectors>(
-    drive: &mut Drive<D>,
+    drive: &mut ShopDrive<D>,
     intent: &Option<Intent>,
     requests: &mut [Option<RequestCard>; 64],
 ) -> Result<(), Dead>

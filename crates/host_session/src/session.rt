@@ -7,8 +7,9 @@ ghost use Rattle.host_session.specs.Selecting.{IsReady};
 ghost use Rattle.host_session.specs.Shop.{IsSettled, IsShop, Shop};
 ghost use Rattle.host_session.specs.Standing.{IsStanding, View, nth, state_in, view_code};
 
+use crate::shop_drive::ShopDrive;
 use d64_image::{Fuse, Sectors};
-use drive_channels::{Dead, Drive};
+use drive_channels::Dead;
 use request_cards::{Answer, Request, RequestCard};
 use std::marker::Model;
 
@@ -17,7 +18,7 @@ use std::marker::Model;
 /// What the disk holds is kept here as well, so that a repeat, a refused request and a decision read no sector. Once the
 /// device has failed the session is dead: nothing is written any more, and the disk is to be opened again.
 pub struct Session<D: Sectors> {
-    pub(crate) drive: Drive<D>,
+    pub(crate) drive: ShopDrive<D>,
     /// The last item that a new card may have.
     pub(crate) top: u16,
     /// How many tills the disk has.
@@ -97,7 +98,7 @@ impl<D: Sectors> Session<D> {
             requests,
         } = self;
         Session {
-            drive: Drive::power_on(Fuse::new(drive.into_disk(), writes)),
+            drive: ShopDrive::power_on(Fuse::new(drive.into_disk(), writes)),
             dead,
             top,
             tills,

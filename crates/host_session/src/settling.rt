@@ -15,14 +15,15 @@ use crate::intents::Intent;
 use crate::judgment::Judged;
 use crate::migrating::migrate;
 use crate::recovery::recover;
+use crate::shop_drive::ShopDrive;
 use crate::starting::start;
 use d64_image::Sectors;
-use drive_channels::{Dead, Drive};
+use drive_channels::Dead;
 use request_cards::RequestCard;
 
 /// Completes the open intent, and then writes each card of version 1 again.
 fn bring_to_rest<D: Sectors>(
-    drive: &mut Drive<D>,
+    drive: &mut ShopDrive<D>,
     intent: &Option<Intent>,
     requests: &mut [Option<RequestCard>; 64],
 ) -> Result<(), Dead>
@@ -42,7 +43,10 @@ fn bring_to_rest<D: Sectors>(
 }
 
 /// Mends a shop's disk that was judged, and brings it to rest. What was found is then as the disk has it at rest.
-pub(crate) fn settle<D: Sectors>(disk: D, found: &mut Judged) -> Result<Drive<D>, (OpenFault, D)>
+pub(crate) fn settle<D: Sectors>(
+    disk: D,
+    found: &mut Judged,
+) -> Result<ShopDrive<D>, (OpenFault, D)>
     requires judged { (f : Files) × HasFiles (D.history.image disk) f × IsJudged f found.old }
     ensures ready { IfOk result (λ x. IsReady D.history x) }
     ensures standing { IfOk result (λ x. IsStanding (D.history.image x.disk) false found.new.top found.new.tills

@@ -10,12 +10,12 @@ ghost use Rattle.host_session.specs.Shop.{IsShop, Shop};
 ghost use Rattle.host_session.specs.declared.faults.OpenFault.TheVariants.{Device};
 
 use crate::faults::OpenFault;
+use crate::shop_drive::ShopDrive;
 use d64_image::Sectors;
-use drive_channels::Drive;
 use layout_check::repair;
 
 /// Mends a sound disk, and switches a drive on over it.
-pub(crate) fn start<D: Sectors>(disk: D) -> Result<Drive<D>, (OpenFault, D)>
+pub(crate) fn start<D: Sectors>(disk: D) -> Result<ShopDrive<D>, (OpenFault, D)>
     requires sound { IsSound (D.history.image disk) }
     ensures ready { IfOk result (λ x. IsReady D.history x) }
     // what both files hold is as it was
@@ -28,7 +28,7 @@ pub(crate) fn start<D: Sectors>(disk: D) -> Result<Drive<D>, (OpenFault, D)>
 {
     let mut disk = disk;
     match repair(&mut disk) {
-        Ok(_) => Ok(Drive::power_on(disk)),
+        Ok(_) => Ok(ShopDrive::power_on(disk)),
         Err(_) => Err((OpenFault::Device, disk)),
     }
 }

@@ -10,14 +10,14 @@ select-requires-clause-reach g c =
 
 pub returns-in_err-select-clause-moments : goal.returns-in_err-select-clause-moments
 returns-in_err-select-clause-moments g c = λ f h.
-    unread-moments g.D.Sectors.history c.args.drive.now.disk c.select.new.drive.disk 2817 _ f h c.select.ensures.reads
+    unread-moments g.D.Sectors.history c.args.drive.now.disk c.select.new.self.disk 2817 _ f h c.select.ensures.reads
 
 pub returns-clause-ready : goal.returns-clause-ready
 returns-clause-ready g c =
     let (f, h, low, le) = c.requires.fits in
     let S = g.D.Sectors.history in
     let reach = stock-reach (S.image c.args.drive.now.disk) f h c.args.item le low in
-    ready-part c.write.result _ _ (grown-ok S c.args.drive.now c.select.new.drive c.write.new.self c.write.result f h c.args.item le c.requires.ready.clean
+    ready-part c.write.result _ _ (grown-ok S c.args.drive.now c.select.new.self c.write.new.self c.write.result f h c.args.item le c.requires.ready.clean
     c.select.ensures.reads.image (c.in_ok-select.ensures.at h.layout h.stock_place h.stock_file reach) c.write.ensures.serves c.write.ensures.row)
 
 pub returns-clause-ok : goal.returns-clause-ok
@@ -26,7 +26,7 @@ returns-clause-ok g c = λ f h.
     let S = g.D.Sectors.history in
     let top = top-of (S.image c.args.drive.now.disk) k f c.args.item other h le in
     let reach = stock-reach (S.image c.args.drive.now.disk) f h c.args.item top low in
-    grown-part c.write.result _ _ (grown-ok S c.args.drive.now c.select.new.drive c.write.new.self c.write.result f h c.args.item top c.requires.ready.clean
+    grown-part c.write.result _ _ (grown-ok S c.args.drive.now c.select.new.self c.write.new.self c.write.result f h c.args.item top c.requires.ready.clean
     c.select.ensures.reads.image (c.in_ok-select.ensures.at h.layout h.stock_place h.stock_file reach) c.write.ensures.serves c.write.ensures.row)
 
 pub returns-clause-moments : goal.returns-clause-moments
@@ -35,12 +35,12 @@ returns-clause-moments g c = λ f h.
     let S = g.D.Sectors.history in
     let top = top-of (S.image c.args.drive.now.disk) k f c.args.item other h le in
     let reach = stock-reach (S.image c.args.drive.now.disk) f h c.args.item top low in
-    grown-moments S c.args.drive.now c.select.new.drive c.write.new.self 2817 f h c.args.item c.select.ensures.reads
+    grown-moments S c.args.drive.now c.select.new.self c.write.new.self 2817 f h c.args.item c.select.ensures.reads
     (c.in_ok-select.ensures.at h.layout h.stock_place h.stock_file reach) c.write.ensures.moments
 
 pub returns-clause-failures : goal.returns-clause-failures
 returns-clause-failures g c =
     let (f, h, low, le) = c.requires.fits in
     let reach = stock-reach (g.D.Sectors.history.image c.args.drive.now.disk) f h c.args.item le low in
-    told-after g.D.Sectors.history c.args.drive.now.disk c.select.new.drive.disk c.write.new.self.disk c.write.result c.in_ok-select.ensures.failures
+    told-after g.D.Sectors.history c.args.drive.now.disk c.select.new.self.disk c.write.new.self.disk c.write.result c.in_ok-select.ensures.failures
     (c.write.ensures.serves.failures (c.in_ok-select.ensures.at h.layout h.stock_place h.stock_file reach).alive)
