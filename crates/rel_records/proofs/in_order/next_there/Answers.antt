@@ -1,13 +1,12 @@
 -- The record's bytes are those of the block that is kept, and of the one behind it.
-use Rattle.std.proofs.Common.{Option, ap, arith, length, subst, sym, ℕ, ◌+◌, ◌-◌, ◌*◌, ◌/◌, ◌∙◌, ◌≡◌}
+use Rattle.std.proofs.Common.{Option, ap, arith, length, subst, sym, ℕ, ◌∙◌, ◌≡◌}
 use Rattle.std.specs.Prelude.{IfSome}
 use Rattle.d64_image.specs.Images.{Image, IsImage, Sector}
-use Rattle.d64_image.proofs.Moments.{reads_then}
 use Rattle.disk_layout.proofs.Joined.{sector-long}
 use Rattle.disk_layout.specs.Layout.{File}
 use Rattle.rel_records.proofs.Readings.{inside-of, record-long, record-read}
 use Rattle.rel_records.specs.Block.{IsBlock}
-use Rattle.rel_records.specs.File.{IsOf, length_of}
+use Rattle.rel_records.specs.File.{IsOf}
 use Rattle.rel_records.specs.Kept.{IsKept}
 use Rattle.rel_records.proofs.in_order.next_there.Goals as goal
 

@@ -1,0 +1,68 @@
+-- What a call tells that passes on another call's fault, and what it tells of the device after calls without a failure.
+use Rattle.std.proofs.Common.{◌≡◌, ◌∙◌, Err, OnOk, Ok, Result, subst, sym}
+use Rattle.std.specs.Prelude.{IfErr, IfOk}
+use Rattle.std.specs.Result.{IsErrAnd}
+use Rattle.d64_image.proofs.Moments.{failed_later}
+use Rattle.d64_image.specs.History.{Failed, History, TellsFailure}
+use Rattle.rel_records.specs.Faults.{TellsRelFault}
+use Rattle.rel_records.specs.declared.faults.RelFault.{RelFault}
+use Rattle.rel_records.specs.declared.faults.RelFault.TheVariants.{Device, Exists, Full, NotFound, NotPresent, Overflow, TooLarge}
+
+-- no clause of what is done says anything
+pub none-done : {T E : Type 0} (r : Result T E) (Q : E → Type 0) → IsErrAnd r Q → (P : T → Type 0) → IfOk r P
+none-done (Ok x) Q h P = absurd h
+none-done (Err e) Q h P = tt
+
+pub not-done : {T E : Type 0} (r : Result T E) (Q : E → Type 0) → IsErrAnd r Q → (P : Type 0) → OnOk r P
+not-done (Ok x) Q h P = absurd h
+not-done (Err e) Q h P = tt
+
+-- the fault is the one that is passed on
+pub fault-is : {T E : Type 0} (r : Result T E) (Q : E → Type 0) → IsErrAnd r Q → (P : E → Type 0) → ((e : E) → Q e → P e) → IfErr r P
+fault-is (Ok x) Q h P f = absurd h
+fault-is (Err e) Q h P f = f e h
+
+module _ {D : Type 0} (S : History D) (a b c : D) (same : S.failures b ≡ S.failures a) where
+  -- of the device
+  pub tells-after : {T E : Type 0} (r : Result T E) → TellsFailure S b c r → TellsFailure S a c r
+  tells-after (Ok x) h = h ∙ same
+  tells-after (Err e) h = failed_later S a b c same h
+
+  pub tells-failed : {T E : Type 0} (r : Result T E) (Q : E → Type 0) → IsErrAnd r Q → Failed S b c → TellsFailure S a c r
+  tells-failed (Ok x) Q h f = absurd h
+  tells-failed (Err e) Q h f = failed_later S a b c same f
+
+  pub tells-rel-after : {T : Type 0} (r : Result T RelFault) → TellsRelFault S b c r → TellsRelFault S a c r
+  tells-rel-after (Ok x) h = h ∙ same
+  tells-rel-after (Err NotFound) h = h ∙ same
+  tells-rel-after (Err NotPresent) h = h ∙ same
+  tells-rel-after (Err Overflow) h = h ∙ same
+  tells-rel-after (Err TooLarge) h = h ∙ same
+  tells-rel-after (Err Full) h = h ∙ same
+  tells-rel-after (Err Exists) h = h ∙ same
+  tells-rel-after (Err Device) h = failed_later S a b c same h
+
+  pub passed-on : {T : Type 0} (r : Result T RelFault) (e : RelFault) → IsErrAnd r (λ y. y ≡ e) → TellsRelFault {T = T} S b c (Err e) → TellsRelFault S a c r
+  passed-on (Ok x) e h told = absurd h
+  passed-on {T} (Err y) e h told = let P : RelFault → Type 0 = λ f. TellsRelFault {T = T} S a c (Err f) in subst P (sym h) (tells-rel-after {T = T} (Err e) told)
+
+-- each fault is one alone
+pub device-not-exists : {X : Type 0} (e : RelFault) → e ≡ Device → e ≡ Exists → X
+device-not-exists e is other = cc
+
+pub device-not-full : {X : Type 0} (e : RelFault) → e ≡ Device → e ≡ Full → X
+device-not-full e is other = cc
+
+pub full-not-exists : {X : Type 0} → Full ≡ Exists → X
+full-not-exists e = cc
+
+pub exists-not-full : {X : Type 0} → Exists ≡ Full → X
+exists-not-full e = cc
+
+pub device-not-found : {X : Type 0} (e : RelFault) → e ≡ Device → e ≡ NotFound → X
+device-not-found e is other = cc
+
+-- what holds of each such fault
+pub weaker-fault : {T E : Type 0} (r : Result T E) (P Q : E → Type 0) → ((e : E) → P e → Q e) → IfErr r P → IfErr r Q
+weaker-fault (Ok x) P Q f h = tt
+weaker-fault (Err e) P Q f h = f e h
