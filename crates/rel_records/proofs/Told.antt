@@ -1,6 +1,6 @@
 -- What a call tells that passes on another call's fault, and what it tells of the device after calls without a failure.
 use Rattle.std.proofs.Common.{◌≡◌, ◌∙◌, Err, OnOk, Ok, Result, subst, sym}
-use Rattle.std.specs.Prelude.{IfErr, IfOk}
+use Rattle.std.specs.Prelude.{IfErr, IfOk, OnErr}
 use Rattle.std.specs.Result.{IsErrAnd}
 use Rattle.d64_image.proofs.Moments.{failed_later}
 use Rattle.d64_image.specs.History.{Failed, History, TellsFailure}
@@ -66,3 +66,28 @@ device-not-found e is other = cc
 pub weaker-fault : {T E : Type 0} (r : Result T E) (P Q : E → Type 0) → ((e : E) → P e → Q e) → IfErr r P → IfErr r Q
 weaker-fault (Ok x) P Q f h = tt
 weaker-fault (Err e) P Q f h = f e h
+
+pub too-large-not-full : {X : Type 0} → TooLarge ≡ Full → X
+too-large-not-full e = cc
+
+pub device-not-overflow : {X : Type 0} (e : RelFault) → e ≡ Device → e ≡ Overflow → X
+device-not-overflow e is other = cc
+
+-- what is done is no fault, and another fault isn't TooLarge
+pub done-no-fault : {X T : Type 0} (x : T) (e : RelFault) → ◌≡◌ {A = Result T RelFault} (Ok x) (Err e) → X
+done-no-fault x e h = cc
+
+pub device-not-too-large : {X T : Type 0} → ◌≡◌ {A = Result T RelFault} (Err Device) (Err TooLarge) → X
+device-not-too-large e = cc
+
+pub full-not-too-large : {X T : Type 0} → ◌≡◌ {A = Result T RelFault} (Err Full) (Err TooLarge) → X
+full-not-too-large e = cc
+
+-- at an error
+pub at-error : {T E : Type 0} (r : Result T E) (P : Type 0) → P → OnErr r P
+at-error (Ok x) P h = tt
+at-error (Err e) P h = h
+
+pub error-then : {T E : Type 0} (r : Result T E) (P Q : Type 0) → (P → Q) → OnErr r P → OnErr r Q
+error-then (Ok x) P Q f h = tt
+error-then (Err e) P Q f h = f h
