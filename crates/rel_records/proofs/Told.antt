@@ -1,10 +1,11 @@
 -- What a call tells that passes on another call's fault, and what it tells of the device after calls without a failure.
-use Rattle.std.proofs.Common.{◌≡◌, ◌∙◌, Err, OnOk, Ok, Result, subst, sym}
+use Rattle.std.proofs.Common.{◌≡◌, ◌⊎◌, ◌∙◌, Err, OnOk, Ok, Result, inl, inr, subst, sym}
 use Rattle.std.specs.Prelude.{IfErr, IfOk, OnErr}
 use Rattle.std.specs.Result.{IsErrAnd}
 use Rattle.d64_image.proofs.Moments.{failed_later}
 use Rattle.d64_image.specs.History.{Failed, History, TellsFailure}
 use Rattle.rel_records.specs.Faults.{TellsRelFault}
+use Rattle.rel_records.specs.Written.{IsDone}
 use Rattle.rel_records.specs.declared.faults.RelFault.{RelFault}
 use Rattle.rel_records.specs.declared.faults.RelFault.TheVariants.{Device, Exists, Full, NotFound, NotPresent, Overflow, TooLarge}
 
@@ -91,3 +92,32 @@ at-error (Err e) P h = h
 pub error-then : {T E : Type 0} (r : Result T E) (P Q : Type 0) → (P → Q) → OnErr r P → OnErr r Q
 error-then (Ok x) P Q f h = tt
 error-then (Err e) P Q f h = f h
+
+-- a refusal of growth is not done
+pub refused-undone : {X : Type 0} (r : Result (Unit {0}) RelFault) (e : RelFault) → IsErrAnd r (λ y. y ≡ e) → (e ≡ TooLarge) ⊎ ((e ≡ Full) ⊎ (e ≡ Device)) → IsDone r → X
+refused-undone (Ok x) e h told done = absurd h
+refused-undone (Err Overflow) e h (inl t) done = let both : Overflow ≡ TooLarge = h ∙ t in cc
+refused-undone (Err Overflow) e h (inr (inl t)) done = let both : Overflow ≡ Full = h ∙ t in cc
+refused-undone (Err Overflow) e h (inr (inr t)) done = let both : Overflow ≡ Device = h ∙ t in cc
+refused-undone (Err NotFound) e h told done = absurd done
+refused-undone (Err NotPresent) e h told done = absurd done
+refused-undone (Err TooLarge) e h told done = absurd done
+refused-undone (Err Full) e h told done = absurd done
+refused-undone (Err Exists) e h told done = absurd done
+refused-undone (Err Device) e h told done = absurd done
+
+pub refusal-no-overflow : {X : Type 0} (e : RelFault) → (e ≡ TooLarge) ⊎ ((e ≡ Full) ⊎ (e ≡ Device)) → e ≡ Overflow → X
+refusal-no-overflow e (inl t) o = cc
+refusal-no-overflow e (inr (inl t)) o = cc
+refusal-no-overflow e (inr (inr t)) o = cc
+
+-- a cut text is told after calls without a failure
+pub cut-tells : {D T : Type 0} (S : History D) (a b : D) (r : Result T RelFault) (P : Type 0) → IfErr r (λ e. (e ≡ Overflow) × P) → S.failures b ≡ S.failures a → TellsRelFault S a b r
+cut-tells S a b (Ok x) P h same = same
+cut-tells {T = T} S a b (Err e) P h same = let Q : RelFault → Type 0 = λ f. TellsRelFault {T = T} S a b (Err f) in subst Q (sym h.0) same
+
+pub overflow-not-full : {X : Type 0} (e : RelFault) → e ≡ Overflow → e ≡ Full → X
+overflow-not-full e is other = cc
+
+pub device-not-present : {X : Type 0} (e : RelFault) → e ≡ Device → e ≡ NotPresent → X
+device-not-present e is other = cc

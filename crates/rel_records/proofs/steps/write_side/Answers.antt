@@ -18,3 +18,6 @@ returns-clause-moments g c =
     (counted_once S _ _ c.write.result c.write.ensures.counted c.write.ensures.uncounted)
     (sided-none a c.args.blocks.now c.args.sides.now c.args.size)
     (subst P (sym c.side_bytes-bytes.ensures) (sided-put a a c.args.blocks.now c.args.sides.now c.args.size c.args.number p (S.whole c.args.disk.now).size at (sided-none a c.args.blocks.now c.args.sides.now c.args.size)))
+
+pub returns-clause-failures : goal.returns-clause-failures
+returns-clause-failures g c = c.write.ensures.failures
