@@ -8,10 +8,11 @@ use Rattle.rel_records.proofs.Grown.{changes-growing, changes-grown, size-kept, 
 use Rattle.rel_records.proofs.Readings.{placed}
 use Rattle.rel_records.specs.File.{length_of}
 use Rattle.rel_records.specs.Growth.{IsFull, IsTooLarge, added, growth_writes, records_had}
-use Rattle.rel_records.specs.Written.{IsWriting, touched}
+use Rattle.rel_records.specs.Written.{IsWriting, touched, IsInOneBlock}
 use Rattle.rel_records.specs.declared.faults.RelFault.{RelFault}
 use Rattle.rel_records.specs.declared.faults.RelFault.TheVariants.{Full, Overflow, TooLarge, Device}
 use Rattle.rel_records.proofs.Told.{cut-tells, device-not-full, device-not-overflow, fault-is, not-done, overflow-not-full, passed-on, refusal-no-overflow, refused-undone, weaker-fault}
+use Rattle.rel_records.proofs.Sided.{ok-then}
 use Rattle.rel_records.proofs.writing.write_record.Goals as goal
 
 pub returns-in_err-grow_to-clause-too_large : goal.returns-in_err-grow_to-clause-too_large
@@ -239,3 +240,29 @@ returns-clause-entry g c = c.grow_to.ensures.entry
 
 pub returns-clause-failures : goal.returns-clause-failures
 returns-clause-failures g c = cut-tells g.D.Sectors.history _ _ c.told_of_text.result _ c.told_of_text.ensures.err (c.in_ok-write_there.ensures.failures ∙ c.in_ok-grow_to.ensures.failures)
+
+pub returns-clause-ok : goal.returns-clause-ok
+returns-clause-ok g c = ok-then c.told_of_text.result _ _ (λ h. omega (arith, h, c.in_ok-grow_to.ensures.same)) c.told_of_text.ensures.ok
+
+pub returns-in_err-write_there-clause-uncounted : goal.returns-in_err-write_there-clause-uncounted
+returns-in_err-write_there-clause-uncounted g c le one =
+    let P : ℕ → Type 0 = λ s. IsInOneBlock s c.args.number in
+    fault-is c.from_residual-in_err-write_there.result _ c.from_residual-in_err-write_there.ensures.1 _ (λ e is over. c.in_err-write_there.ensures.uncounted (subst P (sym c.in_ok-grow_to.ensures.same) one) ∙ (c.grow_to.ensures.quiet le).2.writes)
+
+pub write_there-requires-clause-low : goal.write_there-requires-clause-low
+write_there-requires-clause-low g c = c.requires.number
+
+pub write_there-requires-clause-high : goal.write_there-requires-clause-high
+write_there-requires-clause-high g c = c.in_ok-grow_to.ensures.there
+
+pub write_there-requires-clause-position_low : goal.write_there-requires-clause-position_low
+write_there-requires-clause-position_low g c = c.requires.position_low
+
+pub write_there-requires-clause-position_high : goal.write_there-requires-clause-position_high
+write_there-requires-clause-position_high g c = omega (arith, c.requires.position_high, c.in_ok-grow_to.ensures.same)
+
+pub grow_to-requires-clause-clean : goal.grow_to-requires-clause-clean
+grow_to-requires-clause-clean g c = c.requires.clean
+
+pub grow_to-requires-clause-of : goal.grow_to-requires-clause-of
+grow_to-requires-clause-of g c = c.requires.of
