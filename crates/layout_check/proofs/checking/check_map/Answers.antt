@@ -4,7 +4,7 @@ use Rattle.std.proofs.lemmas.Result.{err_from_is_err_and}
 use Rattle.d64_image.specs.Images.{sector}
 use Rattle.d64_image.specs.declared.place.Place.{Place}
 use Rattle.layout_check.proofs.Calls.{passes_read, tells_read}
-use Rattle.layout_check.proofs.Finding.{if_err, on_ok}
+use Rattle.layout_check.proofs.Finding.{if_err, on_ok, on_any}
 use Rattle.layout_check.proofs.Inexact.{clean_tells}
 use Rattle.layout_check.proofs.Verdict.{map-right, map_tells}
 use Rattle.layout_check.proofs.checking.check_map.Goals as goal
@@ -25,3 +25,16 @@ returns-clause-err g c =
     let S = g.D.Sectors.history in
     let e = c.in_ok-read_sector.ensures.sector ∙ ap (λ (p : Place). sector (g.D.Sectors.history.image c.args.disk.now) p) c.map_place.ensures in
     if_err c.check_bits.result _ _ (λ f h. map_tells S c.args.disk.now c.read_sector.new.disk c.args.found.now c.read_sector.new.to f c.requires (passes_read S c.args.disk.now c.read_sector.new.disk c.in_ok-read_sector.ensures.reads c.in_ok-read_sector.ensures.failures) e (rw (← c.owners.ensures) h)) c.check_bits.ensures.err
+
+pub returns-in_err-read_sector-clause-map : goal.returns-in_err-read_sector-clause-map
+returns-in_err-read_sector-clause-map g c =
+    let p = err_from_is_err_and c.from_residual.result c.from_residual.ensures.1 in
+    rw p.1 tt
+
+pub returns-in_err-read_sector-clause-ok : goal.returns-in_err-read_sector-clause-ok
+returns-in_err-read_sector-clause-ok g c =
+    let p = err_from_is_err_and c.from_residual.result c.from_residual.ensures.1 in
+    rw p.1 tt
+
+pub returns-clause-ok : goal.returns-clause-ok
+returns-clause-ok g c = on_any c.check_bits.result _ (passes_read g.D.Sectors.history c.args.disk.now c.read_sector.new.disk c.in_ok-read_sector.ensures.reads c.in_ok-read_sector.ensures.failures)

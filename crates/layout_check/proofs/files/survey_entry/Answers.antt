@@ -19,3 +19,33 @@ returns-then-not-has_first_block-clause-ok g c =
       | inr ne ↦ absurd (false≢true (sym c.if-not-has_first_block.true ∙ c.has_first_block.ensures.1 (rw c.new-entry.ensures ne)))
     ] in
     empty-finds g.D.Sectors.history c.args.disk.now c.args.slot.now c.args.number c.args.owners.now c.in_ok-judge_entry.ensures.ok (search rules) none (passes_none g.D.Sectors.history c.args.disk.now)
+
+pub returns-in_err-judge_entry-clause-ok : goal.returns-in_err-judge_entry-clause-ok
+returns-in_err-judge_entry-clause-ok g c =
+    let p = err_from_is_err_and c.from_residual.result c.from_residual.ensures.1 in
+    rw p.1 tt
+
+pub returns-in_err-survey_plain-clause-ok : goal.returns-in_err-survey_plain-clause-ok
+returns-in_err-survey_plain-clause-ok g c =
+    let p = err_from_is_err_and c.from_residual-in_err-survey_plain.result c.from_residual-in_err-survey_plain.ensures.1 in
+    rw p.1 tt
+
+pub returns-then-is_relative-clause-ok : goal.returns-then-is_relative-clause-ok
+returns-then-is_relative-clause-ok g c = c.survey_relative.ensures.ok
+
+pub returns-then-is_relative-clause-err : goal.returns-then-is_relative-clause-err
+returns-then-is_relative-clause-err g c = c.survey_relative.ensures.err
+
+pub returns-then-not-has_first_block-clause-err : goal.returns-then-not-has_first_block-clause-err
+returns-then-not-has_first_block-clause-err g c = tt
+
+pub returns-clause-ok : goal.returns-clause-ok
+returns-clause-ok g c = c.in_ok-survey_plain.ensures.ok
+
+pub returns-clause-err : goal.returns-clause-err
+returns-clause-err g c = tt
+
+pub returns-in_err-survey_plain-clause-err : goal.returns-in_err-survey_plain-clause-err
+returns-in_err-survey_plain-clause-err g c =
+    let p = err_from_is_err_and c.from_residual-in_err-survey_plain.result c.from_residual-in_err-survey_plain.ensures.1 in
+    rw (p.1, p.2) c.in_err-survey_plain.ensures.err

@@ -58,3 +58,21 @@ returns-clause-ok g c =
     let judged = judged-file _ s blocks sides parts.last _ c.in_ok-inexact.inexact c.unclean_of.result c.requires.rel parts.walk (omega (arith, c.len.ensures.value, c.len-2.ensures.value)) exact c.unclean_of.ensures in
     rel-finds S a c.survey_sides.new.disk s c.args.number _ c.args.owners.now c.claim_blocks.new.owners c.claim.new.self blocks sides parts.last c.unclean_of.result c.requires.proper c.requires.rel parts.chain parts.walk parts.lists
     (passes_then S a b c.survey_sides.new.disk _ _ (length blocks + 2 * length sides) (omega arith) claimed.ok found.ok) (omega arith) claimed.claimed (rw (← c.as_slice-2.ensures.value) c.in_ok-claim.ensures.ok) judged
+
+pub returns-in_err-claim_blocks-clause-ok : goal.returns-in_err-claim_blocks-clause-ok
+returns-in_err-claim_blocks-clause-ok g c =
+    let p = err_from_is_err_and c.from_residual.result c.from_residual.ensures.1 in
+    rw p.1 tt
+
+pub returns-in_err-inexact-clause-ok : goal.returns-in_err-inexact-clause-ok
+returns-in_err-inexact-clause-ok g c =
+    let p = err_from_is_err_and c.from_residual-in_err-inexact.result c.from_residual-in_err-inexact.ensures.1 in
+    rw p.1 tt
+
+pub returns-in_err-claim-clause-ok : goal.returns-in_err-claim-clause-ok
+returns-in_err-claim-clause-ok g c =
+    let p = err_from_is_err_and c.from_residual-in_err-claim.result c.from_residual-in_err-claim.ensures.1 in
+    rw p.1 tt
+
+pub returns-clause-err : goal.returns-clause-err
+returns-clause-err g c = tt

@@ -144,3 +144,55 @@ returns-clause-made g c l h =
     let items = c.as_slice-slot-items.result.now in
     let P : List Place → Type 0 = λ xs. AreMade (IsRight l) xs (S.image c.args.disk.now) (S.image c.loop-slot.disk) in
     subst P (sides-all _ l d.0 items c.loop-slot.slot-index h (listed-as _ d.0 c.read_directory.new.slots.items items c.as_slice-slot-items.ensures.value d.1) c.loop-slot-test.false) (c.loop-slot.invariant.made l h)
+
+pub returns-in_err-read_directory-clause-exact : goal.returns-in_err-read_directory-clause-exact
+returns-in_err-read_directory-clause-exact g c =
+    let p = err_from_is_err_and c.from_residual.result c.from_residual.ensures.1 in
+    rw p.1 tt
+
+pub returns-in_err-read_directory-clause-layouts : goal.returns-in_err-read_directory-clause-layouts
+returns-in_err-read_directory-clause-layouts g c =
+    let p = err_from_is_err_and c.from_residual.result c.from_residual.ensures.1 in
+    rw p.1 tt
+
+pub returns-in_err-read_directory-clause-map : goal.returns-in_err-read_directory-clause-map
+returns-in_err-read_directory-clause-map g c =
+    let p = err_from_is_err_and c.from_residual.result c.from_residual.ensures.1 in
+    rw p.1 tt
+
+pub returns-in_err-read_directory-clause-made : goal.returns-in_err-read_directory-clause-made
+returns-in_err-read_directory-clause-made g c =
+    let p = err_from_is_err_and c.from_residual.result c.from_residual.ensures.1 in
+    rw p.1 tt
+
+pub returns-in_err-mend_relative-clause-exact : goal.returns-in_err-mend_relative-clause-exact
+returns-in_err-mend_relative-clause-exact g c =
+    let p = err_from_is_err_and c.from_residual-in_err-mend_relative.result c.from_residual-in_err-mend_relative.ensures.1 in
+    rw p.1 tt
+
+pub returns-in_err-mend_relative-clause-layouts : goal.returns-in_err-mend_relative-clause-layouts
+returns-in_err-mend_relative-clause-layouts g c =
+    let p = err_from_is_err_and c.from_residual-in_err-mend_relative.result c.from_residual-in_err-mend_relative.ensures.1 in
+    rw p.1 tt
+
+pub returns-in_err-mend_relative-clause-map : goal.returns-in_err-mend_relative-clause-map
+returns-in_err-mend_relative-clause-map g c =
+    let p = err_from_is_err_and c.from_residual-in_err-mend_relative.result c.from_residual-in_err-mend_relative.ensures.1 in
+    rw p.1 tt
+
+pub returns-in_err-mend_relative-clause-made : goal.returns-in_err-mend_relative-clause-made
+returns-in_err-mend_relative-clause-made g c =
+    let p = err_from_is_err_and c.from_residual-in_err-mend_relative.result c.from_residual-in_err-mend_relative.ensures.1 in
+    rw p.1 tt
+
+pub returns-clause-layouts : goal.returns-clause-layouts
+returns-clause-layouts g c = c.loop-slot.invariant.layouts
+
+pub returns-clause-map : goal.returns-clause-map
+returns-clause-map g c = c.loop-slot.invariant.map
+
+pub returns-clause-failures : goal.returns-clause-failures
+returns-clause-failures g c = c.loop-slot.invariant.failures
+
+pub returns-clause-quiet : goal.returns-clause-quiet
+returns-clause-quiet g c = c.loop-slot.invariant.quiet

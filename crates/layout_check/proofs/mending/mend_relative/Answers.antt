@@ -1,9 +1,9 @@
 -- The parts, and then the side sectors.
-use Rattle.std.proofs.Common.{List, arith, refl, subst, sym}
+use Rattle.std.proofs.Common.{List, arith, refl, subst, sym, ap}
 use Rattle.std.specs.Prelude.{Option}
 use Rattle.std.proofs.lemmas.Result.{err_from_is_err_and}
 use Rattle.d64_image.proofs.Moments.{no_write_then, reads_no_write}
-use Rattle.d64_image.specs.Images.{Image}
+use Rattle.d64_image.specs.Images.{Image, sector}
 use Rattle.d64_image.specs.declared.place.Place.{Place}
 use Rattle.disk_layout.proofs.Orders.{over_none, over_read}
 use Rattle.disk_layout.specs.InOrder.{AreMade, GoesOver}
@@ -16,6 +16,7 @@ use Rattle.layout_check.proofs.SideMends.{parts-at, parts-exact, parts-here, rig
 use Rattle.layout_check.specs.Exact.{AreExactSides, ToldOfSides}
 use Rattle.layout_check.specs.RepairOrder.{IsRight}
 use Rattle.layout_check.specs.Mended.{KeepsExact, KeepsLayouts, SameMap}
+use Rattle.disk_layout.specs.Directory.{map_place}
 use Rattle.layout_check.proofs.mending.mend_relative.Goals as goal
 
 pub find_parts-requires-clause-closed : goal.find_parts-requires-clause-closed
@@ -128,3 +129,37 @@ returns-in-None-clause-made g c l f is own slot =
 
 pub returns-in-None-clause-quiet : goal.returns-in-None-clause-quiet
 returns-in-None-clause-quiet g c exact = reads_no_write g.D.Sectors.history c.args.disk.now c.find_parts.new.disk _ c.in_ok-find_parts.ensures.ok.reads
+
+pub returns-in_err-find_parts-clause-exact : goal.returns-in_err-find_parts-clause-exact
+returns-in_err-find_parts-clause-exact g c =
+    let p = err_from_is_err_and c.from_residual.result c.from_residual.ensures.1 in
+    rw p.1 tt
+
+pub returns-in_err-find_parts-clause-others : goal.returns-in_err-find_parts-clause-others
+returns-in_err-find_parts-clause-others g c =
+    let p = err_from_is_err_and c.from_residual.result c.from_residual.ensures.1 in
+    rw p.1 tt
+
+pub returns-in_err-find_parts-clause-layouts : goal.returns-in_err-find_parts-clause-layouts
+returns-in_err-find_parts-clause-layouts g c =
+    let p = err_from_is_err_and c.from_residual.result c.from_residual.ensures.1 in
+    rw p.1 tt
+
+pub returns-in_err-find_parts-clause-map : goal.returns-in_err-find_parts-clause-map
+returns-in_err-find_parts-clause-map g c =
+    let p = err_from_is_err_and c.from_residual.result c.from_residual.ensures.1 in
+    rw p.1 tt
+
+pub returns-in_err-find_parts-clause-made : goal.returns-in_err-find_parts-clause-made
+returns-in_err-find_parts-clause-made g c =
+    let p = err_from_is_err_and c.from_residual.result c.from_residual.ensures.1 in
+    rw p.1 tt
+
+pub returns-in-None-clause-layouts : goal.returns-in-None-clause-layouts
+returns-in-None-clause-layouts g c l h = let P : Image → Type 0 = λ i. IsLayout i l in subst P (sym c.in_ok-find_parts.ensures.ok.reads.image) h
+
+pub returns-in-None-clause-map : goal.returns-in-None-clause-map
+returns-in-None-clause-map g c = ap (λ (i : Image). sector i map_place) c.in_ok-find_parts.ensures.ok.reads.image
+
+pub returns-in-None-clause-failures : goal.returns-in-None-clause-failures
+returns-in-None-clause-failures g c = c.in_ok-find_parts.ensures.ok.failures

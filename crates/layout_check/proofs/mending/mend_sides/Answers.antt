@@ -144,3 +144,68 @@ returns-clause-made g c l h =
     let S = g.D.Sectors.history in
     let P : List Place → Type 0 = λ xs. AreMade (IsRight l) xs (S.image c.args.disk.now) (S.image c.loop-number.disk) in
     subst P (take_all c.loop-number.number c.args.sides.now (omega (arith, c.loop-number-test.false))) (c.loop-number.invariant.made l h)
+
+pub returns-in_err-read_sector-clause-exact : goal.returns-in_err-read_sector-clause-exact
+returns-in_err-read_sector-clause-exact g c =
+    let p = err_from_is_err_and c.from_residual.result c.from_residual.ensures.1 in
+    rw p.1 tt
+
+pub returns-in_err-read_sector-clause-others : goal.returns-in_err-read_sector-clause-others
+returns-in_err-read_sector-clause-others g c =
+    let p = err_from_is_err_and c.from_residual.result c.from_residual.ensures.1 in
+    rw p.1 tt
+
+pub returns-in_err-read_sector-clause-layouts : goal.returns-in_err-read_sector-clause-layouts
+returns-in_err-read_sector-clause-layouts g c =
+    let p = err_from_is_err_and c.from_residual.result c.from_residual.ensures.1 in
+    rw p.1 tt
+
+pub returns-in_err-read_sector-clause-map : goal.returns-in_err-read_sector-clause-map
+returns-in_err-read_sector-clause-map g c =
+    let p = err_from_is_err_and c.from_residual.result c.from_residual.ensures.1 in
+    rw p.1 tt
+
+pub returns-in_err-read_sector-clause-made : goal.returns-in_err-read_sector-clause-made
+returns-in_err-read_sector-clause-made g c =
+    let p = err_from_is_err_and c.from_residual.result c.from_residual.ensures.1 in
+    rw p.1 tt
+
+pub returns-in_err-write_other-clause-exact : goal.returns-in_err-write_other-clause-exact
+returns-in_err-write_other-clause-exact g c =
+    let p = err_from_is_err_and c.from_residual-in_err-write_other.result c.from_residual-in_err-write_other.ensures.1 in
+    rw p.1 tt
+
+pub returns-in_err-write_other-clause-others : goal.returns-in_err-write_other-clause-others
+returns-in_err-write_other-clause-others g c =
+    let p = err_from_is_err_and c.from_residual-in_err-write_other.result c.from_residual-in_err-write_other.ensures.1 in
+    rw p.1 tt
+
+pub returns-in_err-write_other-clause-layouts : goal.returns-in_err-write_other-clause-layouts
+returns-in_err-write_other-clause-layouts g c =
+    let p = err_from_is_err_and c.from_residual-in_err-write_other.result c.from_residual-in_err-write_other.ensures.1 in
+    rw p.1 tt
+
+pub returns-in_err-write_other-clause-map : goal.returns-in_err-write_other-clause-map
+returns-in_err-write_other-clause-map g c =
+    let p = err_from_is_err_and c.from_residual-in_err-write_other.result c.from_residual-in_err-write_other.ensures.1 in
+    rw p.1 tt
+
+pub returns-in_err-write_other-clause-made : goal.returns-in_err-write_other-clause-made
+returns-in_err-write_other-clause-made g c =
+    let p = err_from_is_err_and c.from_residual-in_err-write_other.result c.from_residual-in_err-write_other.ensures.1 in
+    rw p.1 tt
+
+pub returns-clause-layouts : goal.returns-clause-layouts
+returns-clause-layouts g c = c.loop-number.invariant.layouts
+
+pub returns-clause-map : goal.returns-clause-map
+returns-clause-map g c = c.loop-number.invariant.map
+
+pub returns-clause-failures : goal.returns-clause-failures
+returns-clause-failures g c = c.loop-number.invariant.failures
+
+pub returns-clause-others : goal.returns-clause-others
+returns-clause-others g c = c.loop-number.invariant.others
+
+pub returns-clause-quiet : goal.returns-clause-quiet
+returns-clause-quiet g c = c.loop-number.invariant.quiet

@@ -131,3 +131,29 @@ returns-clause-over g c l h =
 pub returns-clause-made : goal.returns-clause-made
 returns-clause-made g c l h =
     made_directory g.D.Sectors.history c.args.disk.now l h c.as_slice-place-items.result.now (c.as_slice-place-items.ensures.value ∙ c.in_ok-find_directory.ensures.directory l.directory _ h.directory) c.loop-place.disk c.loop-place.place-index (omega (arith, c.loop-place-test.false)) (c.loop-place.invariant.made l h)
+
+pub returns-in_err-find_directory-clause-counted : goal.returns-in_err-find_directory-clause-counted
+returns-in_err-find_directory-clause-counted g c =
+    let p = err_from_is_err_and c.from_residual.result c.from_residual.ensures.1 in
+    rw p.1 tt
+
+pub returns-in_err-find_directory-clause-made : goal.returns-in_err-find_directory-clause-made
+returns-in_err-find_directory-clause-made g c =
+    let p = err_from_is_err_and c.from_residual.result c.from_residual.ensures.1 in
+    rw p.1 tt
+
+pub returns-in_err-mend_sector-clause-counted : goal.returns-in_err-mend_sector-clause-counted
+returns-in_err-mend_sector-clause-counted g c =
+    let p = err_from_is_err_and c.from_residual-in_err-mend_sector.result c.from_residual-in_err-mend_sector.ensures.1 in
+    rw p.1 tt
+
+pub returns-in_err-mend_sector-clause-made : goal.returns-in_err-mend_sector-clause-made
+returns-in_err-mend_sector-clause-made g c =
+    let p = err_from_is_err_and c.from_residual-in_err-mend_sector.result c.from_residual-in_err-mend_sector.ensures.1 in
+    rw p.1 tt
+
+pub returns-clause-failures : goal.returns-clause-failures
+returns-clause-failures g c = c.loop-place.invariant.failures
+
+pub returns-clause-quiet : goal.returns-clause-quiet
+returns-clause-quiet g c = c.loop-place.invariant.quiet

@@ -1,5 +1,5 @@
 -- The sector is read, its counts are made right, and it is written where other bytes came out.
-use Rattle.std.proofs.Common.{Err, ap, arith, subst, sym, ◌∙◌}
+use Rattle.std.proofs.Common.{Err, ap, arith, subst, sym, ◌∙◌, inl}
 use Rattle.std.proofs.lemmas.Result.{err_from_is_err_and}
 use Rattle.d64_image.proofs.Moments.{no_write_then, reads_no_write, reads_then}
 use Rattle.d64_image.specs.Images.{Image, sector}
@@ -97,3 +97,9 @@ returns-clause-quiet g c right =
 pub returns-clause-failures : goal.returns-clause-failures
 returns-clause-failures g c =
     device_later g.D.Sectors.history (Unit {0}) c.args.disk.now c.recount_sector.new.disk c.write_other.new.disk c.write_other.result (c.in_ok-recount_sector.ensures.ok.failures ∙ c.in_ok-read_sector.ensures.failures) (write_device g.D.Sectors.history (Unit {0}) c.recount_sector.new.disk c.write_other.new.disk c.args.place c.recount_sector.new.bytes c.write_other.result c.write_other.ensures.write)
+
+pub returns-in_err-read_sector-clause-once : goal.returns-in_err-read_sector-clause-once
+returns-in_err-read_sector-clause-once g c = inl c.read_sector.ensures.reads.writes
+
+pub returns-in_err-recount_sector-clause-once : goal.returns-in_err-recount_sector-clause-once
+returns-in_err-recount_sector-clause-once g c = inl (c.in_err-recount_sector.ensures.err.reads.writes ∙ c.read_sector.ensures.reads.writes)

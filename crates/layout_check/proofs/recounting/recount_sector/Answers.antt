@@ -1,11 +1,11 @@
 -- Slot by slot: the one that was made right, and those before and behind it.
-use Rattle.std.proofs.Common.{ap, arith, subst, sym, ◌∙◌, ◌*◌, ◌+◌, ◌≡◌}
+use Rattle.std.proofs.Common.{ap, arith, subst, sym, ◌∙◌, ◌*◌, ◌+◌, ◌≡◌, refl, rules}
 use Rattle.std.proofs.lemmas.Result.{err_from_is_err_and}
 use Rattle.d64_image.specs.Images.{Image, Sector, sector}
 use Rattle.disk_layout.specs.Directory.{slot_in}
 use Rattle.disk_layout.specs.Layout.{IsSound}
-use Rattle.layout_check.proofs.Calls.{passes_then, passes_weaker, tells_then}
-use Rattle.layout_check.proofs.RightCounts.{counted-then}
+use Rattle.layout_check.proofs.Calls.{passes_then, passes_weaker, tells_then, passes_none}
+use Rattle.layout_check.proofs.RightCounts.{counted-then, counted-none}
 use Rattle.layout_check.proofs.RightSlots.{other-slot, right-next, right-there}
 use Rattle.layout_check.specs.Recounted.{IsInDirectory}
 use Rattle.layout_check.proofs.recounting.recount_sector.Goals as goal
@@ -77,3 +77,13 @@ returns-clause-kept g c = c.loop-number.invariant.kept
 
 pub returns-clause-ok : goal.returns-clause-ok
 returns-clause-ok g c = passes_weaker g.D.Sectors.history c.args.disk.now c.loop-number.disk (732 * c.loop-number.number) 5856 (omega (arith, c.loop-number.invariant.few)) c.loop-number.invariant.passes
+
+pub loop-number-init : goal.loop-number-init
+loop-number-init g c = record {
+  few = omega arith;
+  passes = passes_none g.D.Sectors.history c.args.disk.now;
+  counts = counted-none c.args.bytes.now (search rules);
+  later = λ k above low. refl;
+  right = λ k low. absurd (omega (arith, low));
+  kept = λ all. refl;
+}

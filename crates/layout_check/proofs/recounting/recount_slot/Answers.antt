@@ -1,9 +1,11 @@
 -- The slot of these bytes is that of the image.
-use Rattle.std.proofs.Common.{List, ap, slice_index, sym, ℕ, ◌∙◌}
+use Rattle.std.proofs.Common.{List, ap, slice_index, sym, ℕ, ◌∙◌, refl, rules, arith}
 use Rattle.std.proofs.lemmas.Bool.{false≢true}
 use Rattle.std.proofs.lemmas.Result.{err_from_is_err_and}
 use Rattle.disk_layout.specs.Layout.{is_rel, is_rel_type}
 use Rattle.layout_check.proofs.RightSlots.{counted-one, counted-right_at, rel-entry-at, right-counted, right-plain}
+use Rattle.layout_check.proofs.Calls.{passes_none, passes_weaker}
+use Rattle.layout_check.proofs.RightCounts.{counted-none}
 use Rattle.layout_check.proofs.recounting.recount_slot.Goals as goal
 
 pub returns-then-not-is_relative-clause-right : goal.returns-then-not-is_relative-clause-right
@@ -63,3 +65,21 @@ returns-clause-kept g c right =
     let rel = sym (c.is_relative.ensures ∙ ap (λ (bs : List ℕ). is_rel_type (slice_index bs 2)) c.new.ensures) ∙ c.if-not-is_relative.false in
     let entry = rel-entry-at _ c.args.place c.args.number c.in_sector-slot.result c.requires.sound c.requires.own c.requires.eight there rel in
     c.put_count.ensures.kept c.args.place (counted-right_at _ c.args.place c.args.bytes.now c.args.number c.in_ok-count.count c.in_sector-slot.result c.requires.sound there entry rel c.in_ok-count.ensures.count right)
+
+pub returns-then-not-is_relative-clause-rest : goal.returns-then-not-is_relative-clause-rest
+returns-then-not-is_relative-clause-rest g c = record { old_long = search rules; long = search rules; same = λ i at. refl }
+
+pub returns-then-not-is_relative-clause-counts : goal.returns-then-not-is_relative-clause-counts
+returns-then-not-is_relative-clause-counts g c = counted-none c.args.bytes.now (search rules)
+
+pub returns-then-not-is_relative-clause-kept : goal.returns-then-not-is_relative-clause-kept
+returns-then-not-is_relative-clause-kept g c right = refl
+
+pub returns-then-not-is_relative-clause-ok : goal.returns-then-not-is_relative-clause-ok
+returns-then-not-is_relative-clause-ok g c = passes_weaker g.D.Sectors.history c.args.disk.now c.args.disk.now 0 732 (omega arith) (passes_none g.D.Sectors.history c.args.disk.now)
+
+pub returns-then-not-is_relative-clause-err : goal.returns-then-not-is_relative-clause-err
+returns-then-not-is_relative-clause-err g c = tt
+
+pub returns-clause-err : goal.returns-clause-err
+returns-clause-err g c = tt

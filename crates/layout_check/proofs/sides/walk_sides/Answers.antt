@@ -92,3 +92,37 @@ returns-clause-sides g c = absurd (omega (arith, c.loop-number.invariant.below, 
 
 pub returns-clause-ok : goal.returns-clause-ok
 returns-clause-ok g c = absurd (omega (arith, c.loop-number.invariant.below, c.loop-number-test.false))
+
+pub returns-in_err-read_sector-clause-sides : goal.returns-in_err-read_sector-clause-sides
+returns-in_err-read_sector-clause-sides g c =
+    let p = err_from_is_err_and c.from_residual.result c.from_residual.ensures.1 in
+    rw p.1 tt
+
+pub returns-in_err-read_sector-clause-ok : goal.returns-in_err-read_sector-clause-ok
+returns-in_err-read_sector-clause-ok g c =
+    let p = err_from_is_err_and c.from_residual.result c.from_residual.ensures.1 in
+    rw p.1 tt
+
+pub returns-in_default-clause-sides : goal.returns-in_default-clause-sides
+returns-in_default-clause-sides g c = tt
+
+pub returns-in_default-clause-ok : goal.returns-in_default-clause-ok
+returns-in_default-clause-ok g c = tt
+
+pub returns-then-not-is_numbered-clause-sides : goal.returns-then-not-is_numbered-clause-sides
+returns-then-not-is_numbered-clause-sides g c = tt
+
+pub returns-then-not-is_numbered-clause-ok : goal.returns-then-not-is_numbered-clause-ok
+returns-then-not-is_numbered-clause-ok g c = tt
+
+pub returns-in_default-next-clause-sides : goal.returns-in_default-next-clause-sides
+returns-in_default-next-clause-sides g c = tt
+
+pub returns-in_default-next-clause-ok : goal.returns-in_default-next-clause-ok
+returns-in_default-next-clause-ok g c = tt
+
+pub returns-then-number-needed-clause-err : goal.returns-then-number-needed-clause-err
+returns-then-number-needed-clause-err g c = tt
+
+pub returns-clause-err : goal.returns-clause-err
+returns-clause-err g c = tt
