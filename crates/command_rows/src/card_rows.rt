@@ -4,7 +4,7 @@ use request_cards::RequestCard;
 use std::process::Abort;
 
 /// A record's text without the zeros behind, and whether it is a card.
-const RECORDS: [(&[u8], bool); 12] = [
+static RECORDS: [(&[u8], bool); 12] = [
     // The last number and item; a move that was refused, after a refusal.
     (b"A,999999999,S,65535,999999999,5,000000000\r", true),
     (

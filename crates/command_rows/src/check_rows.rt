@@ -9,7 +9,7 @@ use std::process::Abort;
 type Verdict = (&'static [Bytes], &'static [u8], u8);
 
 /// What `check` prints of disks.
-const VERDICTS: [Verdict; 16] = [
+static VERDICTS: [Verdict; 16] = [
     (&[], b"OK\n", 0),
     // The map: a count, and a sector that is in use but free in the map.
     (&[(S18_0 + 0x44, b"\x10")], b"MAPWRONG 18/0\n", 1),
@@ -59,14 +59,19 @@ const VERDICTS: [Verdict; 16] = [
     (&[(174847, b"\x07")], b"OK\n", 0),
 ];
 
+/// Sees that a disk is judged so after these changes.
+fn is_judged(rt: &(impl AllocGlobal + Abort), changes: &[Bytes], verdict: &[u8], faults: u8) {
+    let image = changed(rt, 2, changes);
+    let mut out = Vec::new(rt.alloc());
+    let found = check_image(rt.alloc(), image.as_slice(), &mut out);
+    let told = matches!(found, Ok(Some(_)));
+    same(rt, (out.as_slice(), told), (verdict, faults == 1));
+}
+
 /// Sees that each disk is judged so.
 fn are_judged(rt: &(impl AllocGlobal + Abort), rows: &[Verdict]) {
     for (changes, verdict, faults) in rows {
-        let image = changed(rt, 2, changes);
-        let mut out = Vec::new(rt.alloc());
-        let found = check_image(rt.alloc(), image.as_slice(), &mut out);
-        let told = matches!(found, Ok(Some(_)));
-        same(rt, (out.as_slice(), told), (*verdict, *faults == 1));
+        is_judged(rt, changes, verdict, *faults);
     }
 }
 
@@ -91,15 +96,20 @@ fn an_output_that_fails_is_told(rt: HostRuntime) {
     is_full(&rt, image.as_slice(), 10, false);
 }
 
-#[test]
-fn a_size_is_told(rt: HostRuntime) {
-    let mut image = changed(&rt, 64, &[(S17_0, b"\x11\x00")]);
-    image.truncate(174847);
+/// Sees that the size of the image is told, and nothing printed.
+fn is_no_disk(rt: &(impl AllocGlobal + Abort), image: &[u8]) {
     let mut out = Vec::new(rt.alloc());
-    let ended = check_image(rt.alloc(), image.as_slice(), &mut out);
+    let ended = check_image(rt.alloc(), image, &mut out);
     same(
-        &rt,
+        rt,
         (ended, out.is_empty()),
         (Err(RunFault::ImageSize), true),
     );
+}
+
+#[test]
+fn a_size_is_told(rt: HostRuntime) {
+    let image = changed(&rt, 64, &[(S17_0, b"\x11\x00")]);
+    let part = image.as_slice().get(..174847).unwrap_or(&[]);
+    is_no_disk(&rt, part);
 }

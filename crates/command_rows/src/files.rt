@@ -1,4 +1,5 @@
 //! Files and outputs of the rows, in memory, also such as fail.
+use ledger_commands::EndedFile;
 use std::io::{self, Cursor, Seek, SeekFrom, Write};
 use std::process::Abort;
 
@@ -36,8 +37,15 @@ impl Write for Full {
 /// A file in memory that takes so many bytes and then fails.
 #[derive(Drop)]
 pub(crate) struct Tape {
-    pub(crate) bytes: Cursor<Vec<u8>>,
+    bytes: Cursor<Vec<u8>>,
     room: usize,
+}
+
+impl Tape {
+    /// All that the file holds.
+    pub(crate) fn bytes(&self) -> &[u8] {
+        self.bytes.get_ref().as_slice()
+    }
 }
 
 /// A file with these bytes that takes so many more.
@@ -67,6 +75,15 @@ impl Write for Tape {
 impl Seek for Tape {
     fn seek(&mut self, to: SeekFrom) -> io::Result<u64> {
         self.bytes.seek(to)
+    }
+}
+
+impl EndedFile for &mut Tape {
+    fn end_at(&mut self, bytes: u64) -> io::Result<()> {
+        if let Ok(length) = usize::try_from(bytes) {
+            self.bytes.get_mut().truncate(length);
+        }
+        Ok(())
     }
 }
 

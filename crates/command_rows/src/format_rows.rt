@@ -9,7 +9,7 @@ use std::fs::File;
 use std::process::Abort;
 
 /// What an image has for two tills beside the records and zeros.
-const TWO_TILLS: [Bytes; 20] = [
+static TWO_TILLS: [Bytes; 20] = [
     (S18_0, b"\x12\x01\x41\x00"),
     (S18_0 + 0x44, b"\x11\xF0\xFF\x1F"),
     (S18_0 + 0x48, b"\x11\xFC\xFF\x07"),
@@ -36,7 +36,7 @@ const TWO_TILLS: [Bytes; 20] = [
 type Repeated = (usize, usize, usize, &'static [u8]);
 
 /// What it has again and again.
-const REPEATED: [Repeated; 5] = [
+static REPEATED: [Repeated; 5] = [
     // The records of STOCK.
     (S17_0 + 2, 18, 14, b"\xFF"),
     // The tracks that are wholly free, in the map: 1 to 16, 19 to 24, 25 to 30 and 31 to 35.
@@ -47,7 +47,7 @@ const REPEATED: [Repeated; 5] = [
 ];
 
 /// For so many tills, what stands somewhere.
-const OTHER_TILLS: [(u8, Bytes); 12] = [
+static OTHER_TILLS: [(u8, Bytes); 12] = [
     (3, (S17_2, b"\x11\x04\xFF\x00")),
     (3, (S17_3, b"\x00\x13\x00\x7F\x11\x03\x00\x00")),
     (3, (S17_3 + 16, b"\x11\x02\x11\x04\x00")),

@@ -14,7 +14,7 @@ const SLOT_3: usize = S18_1 + 64;
 type Listing = (u8, &'static [Bytes], &'static [u8]);
 
 /// What is printed of disks.
-const LISTINGS: [Listing; 13] = [
+static LISTINGS: [Listing; 13] = [
     (
         2,
         &[],
@@ -184,7 +184,7 @@ fn each_number_of_tills_has_its_disk(rt: HostRuntime) {
 }
 
 /// What is told of a directory that links so from its first sector.
-const BAD_LINKS: [(&[u8], &str); 5] = [
+static BAD_LINKS: [(&[u8], &str); 5] = [
     (b"\x11\x00", "LAYOUT BADLINK 18/1"),
     (b"\x12\x00", "LAYOUT BADLINK 18/1"),
     (b"\x12\x13", "LAYOUT BADLINK 18/1"),
@@ -213,13 +213,19 @@ fn a_bad_directory_is_told_and_nothing_is_printed(rt: HostRuntime) {
     are_bad(&rt, &BAD_LINKS);
 }
 
+/// Sees that the first so many bytes of the image aren't listed.
+fn is_no_disk(rt: &(impl AllocGlobal + Abort), image: &[u8], size: usize) {
+    let part = image.get(..size).unwrap_or(&[]);
+    is_listed(rt, part, Err(RunFault::ImageSize), b"");
+}
+
 #[test]
 fn other_sizes_are_told(rt: HostRuntime) {
     let image = filled(&rt, 0, 175531);
-    for size in [0usize, 174847, 174849, 175531] {
-        let part = image.as_slice().get(..size).unwrap_or(&[]);
-        is_listed(&rt, part, Err(RunFault::ImageSize), b"");
-    }
+    is_no_disk(&rt, image.as_slice(), 0);
+    is_no_disk(&rt, image.as_slice(), 174847);
+    is_no_disk(&rt, image.as_slice(), 174849);
+    is_no_disk(&rt, image.as_slice(), 175531);
 }
 
 /// Sees that an output that takes so many bytes, or doesn't flush, is told.

@@ -17,11 +17,11 @@ fn is_played(
     let (ended, file) = played(rt, image, script, &mut out);
     same_at(rt, ended, Ok(()), script);
     is_printed(rt, &out, replies);
-    is_shown(rt, file.as_slice(), shown);
+    is_shown(rt, file.bytes(), shown);
 }
 
 /// Scripts, the replies on a disk for two tills, and what is shown of it afterwards.
-const DAYS: [(&[u8], &[u8], &[u8]); 16] = [
+static DAYS: [(&[u8], &[u8], &[u8]); 16] = [
     (b"", b"", b"TOP 9256\n"),
     (
         b"1,1,S,42,120\n1,1,S,42,120\n",
@@ -121,7 +121,7 @@ type Changed = (
 );
 
 /// Disks with cards of version 1.
-const CHANGED: [Changed; 2] = [
+static CHANGED: [Changed; 2] = [
     // An open intent of version 1, which is completed.
     (
         &[(S17_2 + 2, b"I,000000001,S,00001,000000005,0,000000005\r")],

@@ -7,7 +7,7 @@ use ledger_commands::{RunFault, play_file, show_image};
 use std::process::Abort;
 
 /// Scripts with a line that can't be played, and what is told of each.
-const BAD_LINES: [(&[u8], &str); 7] = [
+static BAD_LINES: [(&[u8], &str); 7] = [
     (b"1,1,S,1,0\n@x 1,1,S,1,0\n@y\n", "SCRIPT LINE 2"),
     (b"@x 1,1,S,1,0\n", "SCRIPT LINE 1"),
     (b"1,1,S,1,5\n@01 x\n", "SCRIPT LINE 2"),
@@ -18,7 +18,7 @@ const BAD_LINES: [(&[u8], &str); 7] = [
 ];
 
 /// Changes of a disk for two tills that make it no shop's, and what is told of it.
-const NO_SHOPS: [(&[Bytes], &str); 8] = [
+static NO_SHOPS: [(&[Bytes], &str); 8] = [
     (&[(S17_0, b"\x11\x00")], "LAYOUT LOOP 17/0"),
     // A third entry, over the block of REQUESTS.
     (&[(S18_1 + 66, b"\x82\x11\x02X")], "LAYOUT OWNEDTWICE 17/2"),
@@ -49,7 +49,7 @@ fn not_played(rt: &(impl AllocGlobal + Abort), image: &[u8], script: &[u8], text
     let mut out = Vec::new(rt.alloc());
     let (ended, file) = played(rt, image, script, &mut out);
     same_at(rt, (status_of(ended), out.is_empty()), (1, true), script);
-    holds(rt, file.as_slice() == image, text);
+    holds(rt, file.bytes() == image, text);
     is_told(rt, ended, text);
 }
 
@@ -88,14 +88,18 @@ fn what_is_no_shop_is_refused(rt: HostRuntime) {
     are_no_shops(&rt, &NO_SHOPS);
 }
 
-// The size is judged before the lines.
+/// Sees that the first so many bytes of the image are refused; the size is judged before the lines.
+fn is_no_disk(rt: &(impl AllocGlobal + Abort), image: &[u8], size: usize) {
+    let part = image.get(..size).unwrap_or(&[]);
+    is_refused(rt, part, "IMAGE SIZE", "IMAGE SIZE");
+}
+
 #[test]
 fn other_sizes_are_refused(rt: HostRuntime) {
     let image = filled(&rt, 0, 175_531);
-    for size in [0usize, 174_847, 175_531] {
-        let part = image.as_slice().get(..size).unwrap_or(&[]);
-        is_refused(&rt, part, "IMAGE SIZE", "IMAGE SIZE");
-    }
+    is_no_disk(&rt, image.as_slice(), 0);
+    is_no_disk(&rt, image.as_slice(), 174_847);
+    is_no_disk(&rt, image.as_slice(), 175_531);
 }
 
 #[test]

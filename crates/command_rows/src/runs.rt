@@ -1,21 +1,22 @@
 //! Runs of the commands: what they print, show and tell.
-use crate::comparing::same;
-use crate::files::{Paper, new_tape};
+use crate::comparing::{holds, same};
+use crate::files::{Paper, Tape, new_tape};
 use ledger_commands::{RunFault, check_image, play_image, show_image};
+use std::fmt::Display;
 use std::io::Write;
 use std::process::Abort;
 
-/// Plays a script on the image, over a file that takes all: how it ends, and what the file holds then.
+/// Plays a script on the image, over a file that takes all: how it ends, and the file.
 pub(crate) fn played<W: Write>(
     rt: &(impl AllocGlobal + Abort),
     image: &[u8],
     script: &[u8],
     out: &mut W,
-) -> (Result<(), RunFault>, Vec<u8>) {
+) -> (Result<(), RunFault>, Tape) {
     let file = new_tape(rt, image, usize::MAX);
     match play_image(rt.alloc(), image, script, file, out) {
-        Ok(file) => (Ok(()), file.bytes.into_inner()),
-        Err((fault, file)) => (Err(fault), file.bytes.into_inner()),
+        Ok(file) => (Ok(()), file),
+        Err((fault, file)) => (Err(fault), file),
     }
 }
 
@@ -37,9 +38,15 @@ pub(crate) fn is_shown(rt: &(impl AllocGlobal + Abort), image: &[u8], shown: &[u
 
 /// Sees that a command isn't done, and that this is told.
 pub(crate) fn is_told(rt: &(impl AllocGlobal + Abort), ended: Result<(), RunFault>, text: &str) {
-    let mut told = Vec::new(rt.alloc());
-    if let Err(fault) = ended {
-        let _ = write!(told, "{fault}");
+    match ended {
+        Ok(()) => holds(rt, false, text),
+        Err(fault) => has_text(rt, fault, text),
     }
+}
+
+/// Sees that a fault is told by this text.
+pub(crate) fn has_text<F: Display + Drop>(rt: &(impl AllocGlobal + Abort), fault: F, text: &str) {
+    let mut told = Vec::new(rt.alloc());
+    let _ = write!(told, "{fault}");
     same(rt, told.as_slice(), text.as_bytes());
 }

@@ -1,12 +1,12 @@
 //! Worked scripts of the dry run, each with the replies that it must have, and scripts that have none.
 use crate::comparing::{same, same_at};
 use crate::files::Full;
+use crate::runs::has_text;
 use ledger_commands::{DryFault, dry};
-use std::io::Write;
 use std::process::Abort;
 
 /// What a script shows, the script, and its replies.
-const SCRIPTS: [(&str, &[u8], &[u8]); 15] = [
+static SCRIPTS: [(&str, &[u8], &[u8]); 15] = [
     (
         "a repeat gets its first answer, also after another till's request; ends of lines",
         b"1,1,S,42,120\n1,1,S,42,120\n1,2,I,42,121\n2,1,R,42,30\r\n1,2,I,42,121",
@@ -80,12 +80,17 @@ const SCRIPTS: [(&str, &[u8], &[u8]); 15] = [
     ("an empty script has no line", b"", b""),
 ];
 
+/// Sees that a script has these replies.
+fn is_answered(rt: &(impl AllocGlobal + Abort), shows: &str, script: &[u8], replies: &[u8]) {
+    let mut out = Vec::new(rt.alloc());
+    let ended = dry(script, &mut out);
+    same_at(rt, (ended, out.as_slice()), (Ok(()), replies), shows);
+}
+
 /// Sees that each script has its replies.
 fn are_answered(rt: &(impl AllocGlobal + Abort), scripts: &[(&str, &[u8], &[u8])]) {
     for (shows, script, replies) in scripts {
-        let mut out = Vec::new(rt.alloc());
-        let ended = dry(script, &mut out);
-        same_at(rt, (ended, out.as_slice()), (Ok(()), *replies), *shows);
+        is_answered(rt, shows, script, replies);
     }
 }
 
@@ -107,13 +112,8 @@ fn is_refused(
         flushes: false,
     };
     same(rt, dry(script, &mut out), Err(fault));
-    let mut told = Vec::new(rt.alloc());
-    let _ = write!(told, "{fault}");
-    same(
-        rt,
-        (fault.number(), told.as_slice()),
-        (number, text.as_bytes()),
-    );
+    same(rt, fault.number(), number);
+    has_text(rt, fault, text);
 }
 
 #[test]

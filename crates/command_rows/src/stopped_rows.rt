@@ -8,7 +8,7 @@ use std::io::Write;
 use std::process::Abort;
 
 /// How many bytes the file takes, a script, and the replies: the file fails in the message, or in the recovery after a cut.
-const STOPPED: [(usize, &[u8], &[u8]); 3] = [
+static STOPPED: [(usize, &[u8], &[u8]); 3] = [
     (256, b"1,1,S,1,0\n1,1,S,1,0\n", b"1,1,MEDIA\n"),
     (
         300,
@@ -56,7 +56,7 @@ fn stands(rt: &(impl AllocGlobal + Abort), image: &[u8], room: usize, flushes: b
     let mut full = Full { room, flushes };
     let (ended, file) = played(rt, image, b"1,1,S,42,120\n", &mut full);
     same(rt, ended, Err(RunFault::File));
-    is_shown(rt, file.as_slice(), shown);
+    is_shown(rt, file.bytes(), shown);
 }
 
 #[test]
