@@ -199,7 +199,10 @@ fn words_of(rt: &HostRuntime) -> Result<Vec<String>, u8> {
         }
         Err(error) => return Err(refuse_io(rt, &error)),
     };
-    collected.map_err(|error| refuse_io(rt, &io::Error::from(error)))
+    match collected {
+        Ok(words) => Ok(words),
+        Err(error) => Err(refuse_io(rt, &io::Error::from(error))),
+    }
 }
 
 fn main(rt: HostRuntime) -> ExitCode {

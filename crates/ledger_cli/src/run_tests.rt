@@ -169,10 +169,18 @@ const OUTPUTS: [(&[u8], usize, bool, (u8, &str)); 5] = [
     (b"", 0, true, (0, "")),
 ];
 
+/// Sees that each of these scripts ends so, where its output takes no more than this.
+fn each_output_fails(rt: &(impl AllocGlobal + Abort), rows: &[(&[u8], usize, bool, (u8, &str))]) {
+    for (script, room, flushes, wanted) in rows {
+        let out = Full {
+            room: *room,
+            flushes: *flushes,
+        };
+        ends_over(rt, &DRY, &[], script, NO_FILE, out, *wanted);
+    }
+}
+
 #[test]
 fn outputs_fail(rt: HostRuntime) {
-    for (script, room, flushes, wanted) in OUTPUTS {
-        let out = Full { room, flushes };
-        ends_over(&rt, &DRY, &[], script, NO_FILE, out, wanted);
-    }
+    each_output_fails(&rt, &OUTPUTS);
 }

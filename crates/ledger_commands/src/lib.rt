@@ -2,31 +2,17 @@
 #![tactic(auto)]
 
 mod bytes;
-#[cfg(test)]
-mod card_tests;
-#[cfg(test)]
-mod check_tests;
-#[cfg(test)]
-mod comparing;
 mod dry_run;
 mod faults;
 mod formatting;
-#[cfg(test)]
-mod image_tests;
 mod judging;
 mod listing;
-#[cfg(test)]
-mod play_tests;
 mod playing;
 mod reading;
-#[cfg(test)]
-mod refusal_tests;
 mod replaced;
 mod showing;
 mod shows;
 mod table;
-#[cfg(test)]
-mod tests;
 mod texts;
 
 pub use dry_run::{DryFault, dry};

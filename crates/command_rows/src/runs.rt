@@ -1,0 +1,45 @@
+//! Runs of the commands: what they print, show and tell.
+use crate::comparing::same;
+use crate::files::{Paper, new_tape};
+use ledger_commands::{RunFault, check_image, play_image, show_image};
+use std::io::Write;
+use std::process::Abort;
+
+/// Plays a script on the image, over a file that takes all: how it ends, and what the file holds then.
+pub(crate) fn played<W: Write>(
+    rt: &(impl AllocGlobal + Abort),
+    image: &[u8],
+    script: &[u8],
+    out: &mut W,
+) -> (Result<(), RunFault>, Vec<u8>) {
+    let file = new_tape(rt, image, usize::MAX);
+    match play_image(rt.alloc(), image, script, file, out) {
+        Ok(file) => (Ok(()), file.bytes.into_inner()),
+        Err((fault, file)) => (Err(fault), file.bytes.into_inner()),
+    }
+}
+
+/// Sees that this was printed, and handed on by a flush.
+pub(crate) fn is_printed(rt: &impl Abort, out: &Paper, wanted: &[u8]) {
+    same(rt, out.bytes.as_slice(), wanted);
+    same(rt, out.handed, wanted.len());
+}
+
+/// Sees that the image is clean and that this is shown of it.
+pub(crate) fn is_shown(rt: &(impl AllocGlobal + Abort), image: &[u8], shown: &[u8]) {
+    let mut out = Vec::new(rt.alloc());
+    let found = check_image(rt.alloc(), image, &mut out);
+    same(rt, (found, out.as_slice()), (Ok(None), b"OK\n"));
+    out.clear();
+    let ended = show_image(rt.alloc(), image, &mut out);
+    same(rt, (ended, out.as_slice()), (Ok(()), shown));
+}
+
+/// Sees that a command isn't done, and that this is told.
+pub(crate) fn is_told(rt: &(impl AllocGlobal + Abort), ended: Result<(), RunFault>, text: &str) {
+    let mut told = Vec::new(rt.alloc());
+    if let Err(fault) = ended {
+        let _ = write!(told, "{fault}");
+    }
+    same(rt, told.as_slice(), text.as_bytes());
+}
