@@ -15,6 +15,7 @@ mod formatting;
 mod image_tests;
 mod judging;
 mod listing;
+mod placed;
 #[cfg(test)]
 mod play_tests;
 mod playing;
@@ -34,6 +35,7 @@ pub use faults::RunFault;
 pub use formatting::{format_file, format_image, write_image};
 pub use judging::check_image;
 pub use listing::list_image;
+pub use placed::Placed;
 pub use playing::{play_file, play_image};
 pub use reading::{read_image, read_script};
 pub use replaced::{EndedFile, OpensFile, Replaced};
