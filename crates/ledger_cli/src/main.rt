@@ -5,7 +5,8 @@
 mod comparing;
 mod grammar;
 mod jobs;
-mod placed;
+#[cfg(test)]
+mod placed_tests;
 #[cfg(test)]
 mod play_tests;
 #[cfg(test)]
@@ -19,8 +20,7 @@ ghost use Rattle.ledger_cli.specs.Jobs.{HasTills};
 
 use jobs::{Job, JobFault};
 pub use ledger_commands::dry;
-use ledger_commands::{OpensFile, Replaced, RunFault, read_image, read_script};
-use placed::Placed;
+use ledger_commands::{OpensFile, Placed, Replaced, RunFault, read_image, read_script};
 use running::run;
 use std::alloc::{AllocError, Global};
 use std::env;

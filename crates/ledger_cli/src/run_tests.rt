@@ -114,13 +114,18 @@ pub(crate) fn empty_shop(rt: &(impl AllocGlobal + Abort)) -> Vec<u8> {
 /// Bytes, and where in an image they stand.
 pub(crate) type Bytes = (usize, &'static [u8]);
 
+/// Puts bytes over those of the image from a place on.
+fn put(image: &mut [u8], at: usize, bytes: &[u8]) {
+    for (place, byte) in image.iter_mut().skip(at).zip(bytes.iter()) {
+        *place = *byte;
+    }
+}
+
 /// The image of an empty shop with these bytes over its own.
 pub(crate) fn changed(rt: &(impl AllocGlobal + Abort), changes: &[Bytes]) -> Vec<u8> {
     let mut image = empty_shop(rt);
     for (at, bytes) in changes {
-        for (place, byte) in image.as_mut_slice().iter_mut().skip(*at).zip(bytes.iter()) {
-            *place = *byte;
-        }
+        put(image.as_mut_slice(), *at, bytes);
     }
     image
 }
