@@ -1,11 +1,9 @@
-use Rattle.std.proofs.Common.{◌≡◌, true, false, refl, arith, Err, None, subst, sym, Option}
+use Rattle.std.proofs.Common.{◌≡◌, true, false, refl, arith, None, subst, sym, Option}
 use Rattle.disk_layout.proofs.Unclean.{told-unclean}
 use Rattle.drive_channels.proofs.Refusals.{clean-fact, quiet}
 use Rattle.d64_image.proofs.Moments.{no_reads, reads_weaker}
 use Rattle.d64_image.specs.Images.{Image}
 use Rattle.disk_layout.specs.Clean.{IsClean}
-use Rattle.disk_layout.specs.Fault.{TellsFault}
-use Rattle.disk_layout.specs.declared.faults.Fault.{Fault}
 use Rattle.drive_channels.specs.Inside.{IsKnown, Remembers}
 use Rattle.drive_channels.specs.declared.known.Known.{Known}
 use Rattle.drive_channels.specs.declared.found.Found.{Found}

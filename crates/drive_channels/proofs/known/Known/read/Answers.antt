@@ -1,4 +1,4 @@
-use Rattle.std.proofs.Common.{arith, refl, Some, None}
+use Rattle.std.proofs.Common.{arith, refl, None}
 use Rattle.d64_image.proofs.Moments.{no_reads, reads_weaker}
 use Rattle.drive_channels.proofs.Openings.{if-ok}
 use Rattle.drive_channels.proofs.Rows.{read-on}

@@ -1,4 +1,4 @@
-use Rattle.std.proofs.Common.{refl, Some, None, ◌≡◌}
+use Rattle.std.proofs.Common.{refl, None, ◌≡◌}
 use Rattle.drive_channels.proofs.Openings.{if-ok}
 use Rattle.drive_channels.proofs.Written.{known-written, on-both, write-on, written-on, closed-row, no-file, none-open, not-written, on-spot, other-open, parts-of, still-known}
 use Rattle.drive_channels.specs.Inside.{channel_of}
