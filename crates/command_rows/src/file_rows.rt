@@ -26,7 +26,8 @@ fn is_read(rt: &impl Abort, read: io::Result<Vec<u8>>, wanted: &[u8]) {
 fn are_read(rt: &(impl AllocGlobal + Abort), file: &[u8], sizes: &[(usize, usize)]) {
     for (size, of_image) in sizes {
         let whole = file.get(..*size).unwrap_or(&[]);
-        is_read(rt, read_script(rt.alloc(), whole), whole);
+        is_read(rt, read_script(rt.alloc(), whole, 0), whole);
+        is_read(rt, read_script(rt.alloc(), whole, 175_532), whole);
         let part = file.get(..*of_image).unwrap_or(&[]);
         is_read(rt, read_image(rt.alloc(), whole), part);
     }

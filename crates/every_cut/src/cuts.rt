@@ -1,4 +1,5 @@
 //! Each image that a device held is opened, and each image of that opening again.
+use crate::found::{Found, or_say};
 use crate::ledger::{Kept, Ledger};
 use crate::others::Others;
 use crate::tape::{Tape, Written};
@@ -8,9 +9,6 @@ use host_session::Session;
 use layout_check::check;
 use request_cards::{Reply, Word};
 use std::alloc::Global;
-
-/// What was found; Err is a text that says what differs.
-pub type Found<T> = Result<T, &'static str>;
 
 /// The message in which power goes, and its reply where it doesn't.
 #[derive(Clone, Copy)]
@@ -23,7 +21,23 @@ pub struct Asked<'a> {
 
 /// A copy of an image.
 pub fn copy(alloc: Global, image: &MemDisk) -> Found<MemDisk> {
-    MemDisk::load(alloc, image.bytes()).map_err(|_| "no memory for an image")
+    or_say(
+        MemDisk::load(alloc, image.bytes()),
+        "no memory for an image",
+    )
+}
+
+/// Puts onto a disk what was written.
+pub fn put(disk: &mut MemDisk, written: &Written) -> Found<()> {
+    or_say(disk.write(written.place, &written.bytes), "memory failed")
+}
+
+/// Sees that a disk is clean; where it isn't, this text.
+pub fn is_clean(disk: &mut MemDisk, what: &'static str) -> Found<()> {
+    match check(disk) {
+        Ok(_) => Ok(()),
+        Err(_) => Err(what),
+    }
 }
 
 /// Opens a copy of an image, whose writes are kept.
@@ -122,7 +136,7 @@ fn resume(
     others: &Others,
     tried: &mut Tried,
 ) -> Found<()> {
-    check(disk).map_err(|_| "a disk isn't clean after its opening")?;
+    is_clean(disk, "a disk isn't clean after its opening")?;
     let mut session = open(alloc, disk, tried)?;
     let sent = send_again(&mut session, asked, ledger, tried);
     let (mut disk, writes) = close(session, others)?;
@@ -130,8 +144,26 @@ fn resume(
     if !writes.is_empty() && !ledger.is_new(asked.message) {
         return Err("a repeat is written");
     }
-    check(&mut disk).map_err(|_| "a disk isn't clean after the repeat")?;
-    Ok(())
+    is_clean(&mut disk, "a disk isn't clean after the repeat")
+}
+
+/// Opens an image that stands for this ledger, and goes on from there: what the opening wrote.
+fn settle(
+    alloc: Global,
+    image: &MemDisk,
+    asked: &Asked<'_>,
+    ledger: &Ledger,
+    others: &Others,
+    tried: &mut Tried,
+) -> Found<Vec<Written>> {
+    let session = open(alloc, image, tried)?;
+    let stands = ledger.is_in(&session);
+    let (mut disk, writes) = close(session, others)?;
+    if !stands {
+        return Err("an opening has changed the ledger");
+    }
+    resume(alloc, &mut disk, asked, ledger, others, tried)?;
+    Ok(writes)
 }
 
 /// Opens an image that stands for this ledger, and each image that this opening held, so many openings deep.
@@ -144,20 +176,13 @@ pub fn reopen(
     deep: u32,
     tried: &mut Tried,
 ) -> Found<()> {
-    let session = open(alloc, image, tried)?;
-    let stands = ledger.is_in(&session);
-    let (mut disk, writes) = close(session, others)?;
-    if !stands {
-        return Err("an opening has changed the ledger");
-    }
-    resume(alloc, &mut disk, asked, ledger, others, tried)?;
+    let writes = settle(alloc, image, asked, ledger, others, tried)?;
     if deep == 0 {
         return Ok(());
     }
     let mut held = copy(alloc, image)?;
     for written in &writes {
-        held.write(written.place, &written.bytes)
-            .map_err(|_| "memory failed")?;
+        put(&mut held, written)?;
         count(&mut tried.images);
         reopen(alloc, &held, asked, ledger, others, deep - 1, tried)?;
     }

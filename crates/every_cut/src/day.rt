@@ -1,12 +1,13 @@
 //! A day of messages, played on a disk, and each image that the disk held on the way.
-use crate::cuts::{Asked, Found, close, copy, open, reopen};
+use crate::cuts::{Asked, close, copy, open, put, reopen};
 use crate::draw::Draw;
 use crate::events::play_events;
+use crate::found::{Found, or_say};
 use crate::ledger::Ledger;
 use crate::others::Others;
 use crate::tape::{Tape, Written};
 use crate::tried::{Tried, count};
-use d64_image::{MemDisk, Sectors};
+use d64_image::MemDisk;
 use host_session::Session;
 use std::alloc::Global;
 
@@ -36,9 +37,7 @@ fn try_images(
 ) -> Found<()> {
     let mut counted = !shop.ledger.is_first_set(asked.message);
     for written in writes {
-        shop.disk
-            .write(written.place, &written.bytes)
-            .map_err(|_| "memory failed")?;
+        put(&mut shop.disk, written)?;
         count(&mut tried.images);
         let session = open(alloc, &shop.disk, tried)?;
         let is_after = after.is_in(&session);
@@ -114,11 +113,9 @@ fn draw_messages(
     let mut ledger = *ledger;
     let mut drawn = Vec::new(alloc);
     for _message in 0..messages {
-        let text = draw
-            .message(alloc, &ledger)
-            .map_err(|_| "no memory for a message")?;
+        let text = or_say(draw.message(alloc, &ledger), "no memory for a message")?;
         ledger.reply(text.as_str().as_bytes());
-        drawn.push(text).map_err(|_| "no memory for a message")?;
+        or_say(drawn.push(text), "no memory for a message")?;
     }
     Ok(drawn)
 }

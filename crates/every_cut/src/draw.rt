@@ -106,15 +106,16 @@ impl Draw {
         } else {
             self.item_with_card(ledger)
         };
-        match kind {
-            0..=3 => format!(in alloc; "{till},{number},S,{item},{quantity}"),
-            4..=5 => format!(in alloc; "{till},{number},R,{item},{quantity}"),
-            6..=7 => format!(in alloc; "{till},{number},I,{item},{quantity}"),
+        let letter = match kind {
+            0..=3 => 'S',
+            4..=5 => 'R',
+            6..=7 => 'I',
             _ => {
                 let to = self.item_with_card(ledger);
-                format!(in alloc; "{till},{number},M,{item},{quantity},{to}")
+                return format!(in alloc; "{till},{number},M,{item},{quantity},{to}");
             }
-        }
+        };
+        format!(in alloc; "{till},{number},{letter},{item},{quantity}")
     }
 
     /// A request again; another message where there is none.

@@ -1,10 +1,10 @@
 //! The messages of a day as events of one run, each sent twice: power goes in the first, and in openings behind it.
-use crate::cuts::{Found, copy};
+use crate::cuts::{copy, is_clean};
+use crate::found::Found;
 use crate::ledger::Ledger;
 use arrayvec::ArrayVec;
 use d64_image::MemDisk;
 use host_session::{Cut, Event, PlayFault, Session, play};
-use layout_check::check;
 use request_cards::Reply;
 use std::alloc::Global;
 
@@ -86,7 +86,7 @@ pub fn play_events(
     if !are_right(messages, replies.as_slice(), &mut ledger) {
         return Err("an event has another reply");
     }
-    check(&mut disk).map_err(|_| "a disk isn't clean after its run")?;
+    is_clean(&mut disk, "a disk isn't clean after its run")?;
     let Ok(session) = Session::open(disk) else {
         return Err("a disk isn't opened after its run");
     };

@@ -6,6 +6,7 @@ mod cuts;
 mod day;
 mod draw;
 mod events;
+mod found;
 mod ledger;
 mod old_disk;
 mod others;
@@ -13,10 +14,11 @@ mod tape;
 mod tried;
 
 use bits::turn_each_bit;
-use cuts::{Asked, Found, close, open, reopen};
+use cuts::{Asked, close, open, reopen};
 use d64_image::MemDisk;
 use day::{DEEP, Shop, play_day};
 use draw::Draw;
+use found::{Found, or_say};
 use ledger::Ledger;
 use old_disk::{old_disk, open_message};
 use others::Others;
@@ -29,10 +31,10 @@ use tried::Tried;
 /// A word that is a number; this one where there is no word. Err where it is no number.
 fn number(word: Option<String>, without: u16) -> Found<u16> {
     match word {
-        Some(word) => word
-            .as_str()
-            .parse()
-            .map_err(|_| "MESSAGES, SEED and ITEMS are numbers up to 65535"),
+        Some(word) => or_say(
+            word.as_str().parse(),
+            "MESSAGES, SEED and ITEMS are numbers up to 65535",
+        ),
         None => Ok(without),
     }
 }
@@ -65,8 +67,9 @@ fn old_shop(alloc: Global, tried: &mut Tried) -> Found<Shop> {
 
 /// The shop on an image of someone else's, which holds no card and no request yet.
 fn other_shop(alloc: Global, bytes: &[u8], tried: &mut Tried) -> Found<Shop> {
-    let mut disk = MemDisk::load(alloc, bytes).map_err(
-        |_| "the image has another size, or no memory",
+    let mut disk = or_say(
+        MemDisk::load(alloc, bytes),
+        "the image has another size, or no memory",
     )?;
     let others = Others::of(&mut disk)?;
     let session = open(alloc, &disk, tried)?;
@@ -85,7 +88,7 @@ fn other_shop(alloc: Global, bytes: &[u8], tried: &mut Tried) -> Found<Shop> {
 
 /// Plays the day that the words name, and tells how much was tried.
 fn run(rt: &HostRuntime, tried: &mut Tried) -> Found<()> {
-    let mut words = env::args(rt).map_err(|_| "no memory for the words")?;
+    let mut words = or_say(env::args(rt), "no memory for the words")?;
     words.next();
     let word = words.next();
     if word.is_none() {
@@ -97,7 +100,7 @@ fn run(rt: &HostRuntime, tried: &mut Tried) -> Found<()> {
     let mut shop = match words.next() {
         None => old_shop(rt.alloc(), tried)?,
         Some(path) => {
-            let bytes = fs::read(rt, path.as_str()).map_err(|_| "the image isn't readable")?;
+            let bytes = or_say(fs::read(rt, path.as_str()), "the image isn't readable")?;
             other_shop(rt.alloc(), bytes.as_slice(), tried)?
         }
     };
@@ -105,21 +108,18 @@ fn run(rt: &HostRuntime, tried: &mut Tried) -> Found<()> {
     play_day(rt.alloc(), &mut shop, &mut draw, messages, tried)
 }
 
-/// Prints how much was tried.
-fn tell(rt: &HostRuntime, tried: &Tried) -> io::Result<()> {
-    println!(rt; "messages {}", tried.messages)?;
-    println!(rt; "writes {}", tried.writes)?;
-    println!(rt; "images {}", tried.images)?;
-    println!(rt; "openings {}", tried.openings)?;
-    println!(rt; "repeats {}", tried.repeats)?;
-    println!(rt; "images with one bit turned {}", tried.turned)?;
-    println!(rt; "of them opened {}", tried.opened)
+/// Prints how much was tried, a line for each.
+fn tell(rt: &HostRuntime, rows: &[(&str, u64)]) -> io::Result<()> {
+    for (what, number) in rows {
+        println!(rt; "{what} {number}")?;
+    }
+    Ok(())
 }
 
 fn main(rt: HostRuntime) -> io::Result<ExitCode> {
     let mut tried = Tried::nothing();
     let result = run(&rt, &mut tried);
-    tell(&rt, &tried)?;
+    tell(&rt, &tried.rows())?;
     match result {
         Ok(()) => {
             println!(rt; "no difference")?;

@@ -1,5 +1,7 @@
 //! A disk with cards of version 1 and an open intent, as power may have left one.
-use crate::cuts::Found;
+ghost use Rattle.std.specs.Prelude.{◌≤◌};
+
+use crate::found::{Found, or_say};
 use crate::ledger::Ledger;
 use d64_image::{MemDisk, Sectors};
 use disk_layout::blank_image;
@@ -30,6 +32,18 @@ const PLAYED: [&str; 8] = [
 /// The till whose intent stands open, and its item, whose card lies in two blocks and is torn.
 const OPEN: (u8, u16) = (5, 15);
 
+/// The blank disk for so many tills.
+pub fn blank(alloc: Global, tills: u8) -> Found<MemDisk>
+    requires some { 1 ≤ tills }
+    requires few { tills ≤ 64 }
+{
+    let mut disk = or_say(MemDisk::zeroed(alloc), "no memory for an image")?;
+    match blank_image(&mut disk, b"STOCK LEDGER", *b"01", tills) {
+        Ok(_) => Ok(disk),
+        Err(_) => Err("no blank image"),
+    }
+}
+
 /// A record written through a drive.
 fn put_record<D: Sectors>(
     drive: &mut Drive<D>,
@@ -45,8 +59,8 @@ fn put_record<D: Sectors>(
 }
 
 /// Plays the messages on a disk, and in the table.
-fn play<D: Sectors>(session: &mut Session<D>, ledger: &mut Ledger) -> Found<()> {
-    for message in PLAYED {
+fn play<D: Sectors>(session: &mut Session<D>, ledger: &mut Ledger, messages: &[&str]) -> Found<()> {
+    for message in messages {
         if session.handle(message.as_bytes()) != ledger.reply(message.as_bytes()) {
             return Err("a message before the day has another reply");
         }
@@ -62,25 +76,30 @@ fn put_old_card<D: Sectors>(drive: &mut Drive<D>, ledger: &Ledger, till: u8) -> 
     let Some(card) = RequestCard::new(till == OPEN.0, request, answer) else {
         return Err("a request has no card of version 1");
     };
-    put_record(drive, b"REQUESTS", u16::from(till), &card.print()).map_err(|_| "the drive is dead")
+    let number = u16::from(till);
+    or_say(
+        put_record(drive, b"REQUESTS", number, &card.print()),
+        "the drive is dead",
+    )
 }
 
 /// The disk, and what it stands for.
 pub fn old_disk(alloc: Global) -> Found<(MemDisk, Ledger)> {
-    let mut disk = MemDisk::zeroed(alloc).map_err(|_| "no memory for an image")?;
-    blank_image(&mut disk, b"STOCK LEDGER", *b"01", TILLS).map_err(|_| "no blank image")?;
-    let Ok(mut session) = Session::open(disk) else {
+    let Ok(mut session) = Session::open(blank(alloc, TILLS)?) else {
         return Err("a blank disk isn't opened");
     };
     let mut ledger = Ledger::new(TILLS, TOP);
-    let played = play(&mut session, &mut ledger);
+    let played = play(&mut session, &mut ledger, &PLAYED);
     let mut drive = Drive::power_on(session.close());
     played?;
     ledger.forget_prior();
     for till in 1..=TILLS {
         put_old_card(&mut drive, &ledger, till)?;
     }
-    put_record(&mut drive, b"STOCK", OPEN.1, &[0xA5; 18]).map_err(|_| "the drive is dead")?;
+    or_say(
+        put_record(&mut drive, b"STOCK", OPEN.1, &[0xA5; 18]),
+        "the drive is dead",
+    )?;
     Ok((drive.into_disk(), ledger))
 }
 

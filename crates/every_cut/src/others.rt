@@ -35,7 +35,9 @@ impl Others {
             return Ok(());
         };
         let mut places = ArrayVec::new();
-        walk_chain(disk, first, &mut places).map_err(|_| "a chain of the disk has a fault")?;
+        let Ok(_) = walk_chain(disk, first, &mut places) else {
+            return Err("a chain of the disk has a fault");
+        };
         for place in places.as_slice() {
             self.owned[place.index()] = is_other;
             if place.track() != 18 {
@@ -66,7 +68,9 @@ impl Others {
             room: 664,
         };
         let mut slots = ArrayVec::new();
-        read_directory(disk, &mut slots).map_err(|_| "the directory has a fault")?;
+        let Ok(_) = read_directory(disk, &mut slots) else {
+            return Err("the directory has a fault");
+        };
         for slot in slots.as_slice() {
             others.add_entry(disk, slot)?;
         }

@@ -5,7 +5,7 @@ use d64_image::{DeviceFault, Place, Sectors};
 use std::alloc::Global;
 
 /// A sector as it was written, and where.
-#[derive(Clone, Copy, Debug, PartialEq, Eq)]
+#[derive(Clone, Copy)]
 pub struct Written {
     /// Where it was written.
     pub place: Place,

@@ -37,4 +37,17 @@ impl Tried {
             opened: 0,
         }
     }
+
+    /// What was tried, and how much.
+    pub fn rows(&self) -> [(&'static str, u64); 7] {
+        [
+            ("messages", self.messages),
+            ("writes", self.writes),
+            ("images", self.images),
+            ("openings", self.openings),
+            ("repeats", self.repeats),
+            ("images with one bit turned", self.turned),
+            ("of them opened", self.opened),
+        ]
+    }
 }
