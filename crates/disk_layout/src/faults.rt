@@ -2,41 +2,32 @@
 ghost use Rattle.std.specs.Prelude.{◌≡◌};
 
 use d64_image::Place;
-use thiserror::Error;
+use std::error::Error;
+use std::fmt::{self, Display, Formatter};
 
 /// A fault of the layout, with the sector at which it was found. What each one says of the image at its place is
 /// defined beside it; which of several is told is open.
-#[derive(Clone, Copy, Debug, PartialEq, Eq, Error)]
+#[derive(Clone, Copy, Debug, PartialEq, Eq)]
 pub enum Fault {
     /// A link, or an entry's first block, is no place of the disk, or leads the directory where it may not be.
-    #[error("BADLINK {}/{}", .0.track(), .0.sector())]
     BadLink(Place),
     /// A chain comes to this sector a second time.
-    #[error("LOOP {}/{}", .0.track(), .0.sector())]
     Loop(Place),
     /// The sector has two owners among the map, the directory, chains and side sectors.
-    #[error("OWNEDTWICE {}/{}", .0.track(), .0.sector())]
     OwnedTwice(Place),
     /// A closed slot of this directory sector has a type that there isn't.
-    #[error("BADTYPE {}/{}", .0.track(), .0.sector())]
     BadType(Place),
     /// A used slot of this directory sector isn't closed.
-    #[error("UNCLOSED {}/{}", .0.track(), .0.sector())]
     Unclosed(Place),
     /// A side sector disagrees with its file, or an entry of this directory sector names none.
-    #[error("BADSIDE {}/{}", .0.track(), .0.sector())]
     BadSide(Place),
     /// A relative entry of this directory sector has record length 0 or 255.
-    #[error("BADLENGTH {}/{}", .0.track(), .0.sector())]
     BadLength(Place),
     /// A relative entry of this directory sector has a wrong block count.
-    #[error("COUNTWRONG {}/{}", .0.track(), .0.sector())]
     CountWrong(Place),
     /// The map is wrong about this sector, or, at 18/0, about some track's number of free sectors.
-    #[error("MAPWRONG {}/{}", .0.track(), .0.sector())]
     MapWrong(Place),
     /// The device failed at this sector.
-    #[error("DEVICE {}/{}", .0.track(), .0.sector())]
     Device(Place),
 }
 
@@ -62,3 +53,24 @@ impl Fault {
         }
     }
 }
+
+/// Its word and its place, as `LOOP 17/0`.
+impl Display for Fault {
+    fn fmt<W: fmt::Write>(&self, f: &mut Formatter<W>) -> fmt::Result {
+        let (word, place) = match *self {
+            Fault::BadLink(place) => ("BADLINK", place),
+            Fault::Loop(place) => ("LOOP", place),
+            Fault::OwnedTwice(place) => ("OWNEDTWICE", place),
+            Fault::BadType(place) => ("BADTYPE", place),
+            Fault::Unclosed(place) => ("UNCLOSED", place),
+            Fault::BadSide(place) => ("BADSIDE", place),
+            Fault::BadLength(place) => ("BADLENGTH", place),
+            Fault::CountWrong(place) => ("COUNTWRONG", place),
+            Fault::MapWrong(place) => ("MAPWRONG", place),
+            Fault::Device(place) => ("DEVICE", place),
+        };
+        write!(f, "{word} {}/{}", place.track(), place.sector())
+    }
+}
+
+impl Error for Fault {}

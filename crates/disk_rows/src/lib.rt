@@ -1,5 +1,6 @@
-//! Worked rows of the disk's layers: devices, what lies on a disk and where, checks and repairs. Tests only: no program
-//! stands on this crate. They stand here and not in the crates that they test so that the gate proves those once.
+//! Worked rows of the disk's layers: devices, what lies on a disk and where, checks and repairs; and of the drive. Tests
+//! only: no program stands on this crate. They stand here and not in the crates that they test so that the gate proves
+//! those once.
 #![tactic(auto)]
 
 #[cfg(test)]
@@ -19,6 +20,12 @@ mod directory_rows;
 #[cfg(test)]
 mod disks;
 #[cfg(test)]
+mod drive_rows;
+#[cfg(test)]
+mod drives;
+#[cfg(test)]
+mod far_rows;
+#[cfg(test)]
 mod fault_rows;
 #[cfg(test)]
 mod map_rows;
@@ -26,3 +33,5 @@ mod map_rows;
 mod recorder_rows;
 #[cfg(test)]
 mod repair_rows;
+#[cfg(test)]
+mod table_rows;

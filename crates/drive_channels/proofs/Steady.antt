@@ -73,6 +73,18 @@ died S old new x alive after failed = record {
     apart : {b : Bool} → b ≡ false → b ≡ true → ⊥
     apart f t = cc
 
+-- a dead drive stays as it is
+pub still-dead : {D T E : Type 0} (S : History D) (d : Seen D) (x : E) → d.dead ≡ true → Serves {T = T} S d d (Err x)
+still-dead S d x dead = record {
+  dead = λ _. (refl, refl);
+  failures = λ alive. absurd (apart alive dead);
+  dies = (λ _. refl, λ _. dead);
+  orderly = λ alive. absurd (apart alive dead);
+}
+  where
+    apart : {b : Bool} → b ≡ false → b ≡ true → ⊥
+    apart f t = cc
+
 -- the file opened last is as it is remembered
 pub found-last : (img : Image) (k : Known) (o : Opened) → IsKnown img k → k.last ≡ Some o → IsFound img o.found
 found-last img k o known is = by k.checked refl

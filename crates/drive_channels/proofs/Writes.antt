@@ -1,5 +1,6 @@
 -- The rows of a write, and what it leaves of the files that are remembered.
-use Rattle.std.proofs.Common.{ℕ, ◌≡◌, ◌≤◌, ◌<◌, ◌+◌, ◌⊎◌, inl, inr, Bool, true, false, List, [], ◌∷◌, if◌then◌else◌, length, nat_lt, Some, sym, ap, ap₂, subst, refl, arith, Result, OnErr}
+use Rattle.std.proofs.Common.{ℕ, ◌≡◌, ◌≤◌, ◌<◌, ◌+◌, ◌⊎◌, inl, inr, Bool, true, false, List, [], ◌∷◌, if◌then◌else◌, length, nat_lt, Some, sym, ap, ap₂, subst, refl, arith, Result, OnErr, ◌==◌}
+use Rattle.std.proofs.lemmas.Grind.{common_steps}
 use Rattle.d64_image.proofs.Moments.{changes_weaker}
 use Rattle.d64_image.specs.History.{Changes, History}
 use Rattle.d64_image.specs.Images.{Image}
@@ -153,3 +154,6 @@ overflow-done h = cc
 pub no-bytes : (text : List ℕ) → length text ≡ 0 → [] ≡ text
 no-bytes [] h = refl
 no-bytes (x ∷ xs) h = absurd (omega (arith, h))
+
+pub no-text : (text : List ℕ) (b : Bool) → b ≡ (length text == 0) → b ≡ true → [] ≡ text
+no-text text b is empty = no-bytes text (grind (arith, common_steps, is, empty))

@@ -1,9 +1,10 @@
 -- A write to the channel of a number, and what is known of the files behind it.
-use Rattle.std.proofs.Common.{ℕ, ◌≡◌, ◌≢◌, inl, inr, List, [], ◌∷◌, append-nil, arith, Option, None, Some, IfSome, Result, OnOk, Ok, Err, sym, ◌∙◌, subst, refl}
+use Rattle.std.proofs.Common.{ℕ, ◌≡◌, ◌≢◌, inl, inr, List, [], ◌∷◌, append-nil, arith, Bool, false, true, Option, None, Some, IfSome, Result, OnOk, Ok, Err, sym, ◌∙◌, subst, refl}
 use Rattle.std.proofs.lemmas.Option.{same_Some, none-some}
 use Rattle.d64_image.proofs.Moments.{changes_weaker, no_change}
 use Rattle.d64_image.specs.History.{Changes, History}
 use Rattle.d64_image.specs.Images.{Image}
+use Rattle.disk_layout.specs.Clean.{IsClean}
 use Rattle.disk_layout.specs.Layout.{File, Layout}
 use Rattle.disk_layout.specs.Records.{records}
 use Rattle.rel_records.specs.File.{entry_of}
@@ -13,12 +14,13 @@ use Rattle.drive_channels.specs.Files.{IsRelAt}
 use Rattle.drive_channels.specs.Inside.{IsFound, IsKnown, IsSpot, KeepsFound, Remembers, at_spot, channel_at, channel_of, shown}
 use Rattle.drive_channels.specs.Moments.{IsOnTheWay, IsWrittenAt, IsWrittenOn}
 use Rattle.drive_channels.specs.State.{Channel, View}
-use Rattle.drive_channels.specs.Tables.{HasOn, InFile, Writes, WritesIn}
+use Rattle.drive_channels.specs.Tables.{HasOn, InFile, Reads, Writes, WritesIn}
 use Rattle.drive_channels.specs.declared.found.Found.{Found}
 use Rattle.drive_channels.specs.declared.found.Opened.{Opened}
 use Rattle.drive_channels.specs.declared.found.Spot.{Spot}
 use Rattle.drive_channels.specs.declared.known.Known.{Known}
 use Rattle.drive_channels.specs.declared.status.Status.{Status}
+use Rattle.drive_channels.specs.declared.status.Status.TheVariants.{FileNotOpen}
 
 -- a write to the open channel
 pub write-on : (img : Image) (e : Found) (s : Spot) (channel : ℕ) (known : Known) (text : List ℕ) (status : Status) (y : View)
@@ -60,6 +62,39 @@ none-open e last number is = subst (λ (o : Option Opened). ¬ (HasOn (channel_o
 
 pub no-file : (last : Option Opened) (number : ℕ) → last ≡ None → ¬ (HasOn (channel_of last) number)
 no-file last number is = subst (λ (o : Option Opened). ¬ (HasOn (channel_of o) number)) (sym is) (λ h. none-some h.0 h.1.0)
+
+-- a file opened last, by its parts
+pub parts-of : (k : Known) (o : Opened) (spot : Option Spot) → k.last ≡ Some o → o.spot ≡ spot → k.last ≡ Some (record { found = o.found; spot = spot })
+parts-of k o spot is at = subst (λ (x : Option Spot). k.last ≡ Some (record { found = o.found; spot = x })) at is
+
+-- what is known of its disk, of the file and of its place
+pub on-spot : (img : Image) (k : Known) (e : Found) (s : Spot) → IsKnown img k → k.last ≡ Some (record { found = e; spot = Some s }) → IsClean img × IsFound img e × IsSpot e s
+on-spot img k e s known is = by k.checked refl
+  where
+    by : (b : Bool) → k.checked ≡ b → IsClean img × IsFound img e × IsSpot e s
+    by false unchecked = absurd (none-some (record { found = e; spot = Some s }) (sym (known.fresh unchecked).0 ∙ is))
+    by true checked =
+        let m = known.remembered checked in (
+          m.clean,
+          subst (λ (last : Option Opened). IfSome last (λ o. IsFound img o.found)) is m.last_found,
+          subst (λ (last : Option Opened). IfSome last (λ o. IfSome o.spot (IsSpot o.found))) is m.spot,
+        )
+
+-- a call that only looks at the file opened last leaves what is known
+pub still-known : (img : Image) (k : Known) (last : Option Opened) → k.last ≡ last → IsKnown img k → IsKnown img (record { last = last; before = k.before; checked = k.checked })
+still-known img k last is known = subst (λ (o : Option Opened). IsKnown img (record { last = o; before = k.before; checked = k.checked })) is known
+
+-- a write to a channel that isn't open
+pub closed-row : (img : Image) (k : Known) (last : Option Opened) (number : ℕ) (text : List ℕ) (s : Status) → k.last ≡ last → ¬ (HasOn (channel_of k.last) number)
+    → Writes (shown img k s) number text (shown img (record { last = last; before = k.before; checked = k.checked }) FileNotOpen)
+closed-row img k last number text s is closed =
+    subst (λ (o : Option Opened). Writes (shown img k s) number text (shown img (record { last = o; before = k.before; checked = k.checked }) FileNotOpen)) is (inl (closed, refl))
+
+-- a read of one
+pub closed-read : (img : Image) (k : Known) (last : Option Opened) (number : ℕ) (given : List ℕ) (s : Status) → k.last ≡ last → ¬ (HasOn (channel_of k.last) number) → given ≡ []
+    → Reads (shown img k s) number given (shown img (record { last = last; before = k.before; checked = k.checked }) FileNotOpen)
+closed-read img k last number given s is closed none =
+    subst (λ (o : Option Opened). Reads (shown img k s) number given (shown img (record { last = o; before = k.before; checked = k.checked }) FileNotOpen)) is (inl (closed, (refl, none)))
 
 -- what is known after a write to the file that was opened last
 pub known-written : (old new : Image) (k : Known) (o : Opened) (e : Found) (s : Spot) → k.last ≡ Some o → IsKnown old k → KeepsFound old new o.found e → IsSpot e s

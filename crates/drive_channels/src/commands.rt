@@ -20,7 +20,7 @@ use crate::status::Status;
 use d64_image::Sectors;
 use disk_layout::Fault;
 use layout_check::repair;
-use rel_records::records;
+use rel_records::has_records;
 
 /// Whether the command asks for the disk to be mended.
 fn is_validate(text: &[u8]) -> bool
@@ -77,7 +77,7 @@ fn go_to(found: &Found, spot: &mut Spot, wanted: Spot) -> Status
     }
     spot.record_number = wanted.record_number;
     spot.position = wanted.position;
-    if wanted.record_number > records(&found.file) {
+    if !has_records(&found.file, wanted.record_number) {
         return Status::RecordNotPresent;
     }
     Status::Ok

@@ -3,21 +3,13 @@
 
 mod closing;
 mod commands;
-#[cfg(test)]
-mod comparing;
 mod drive;
-#[cfg(test)]
-mod far_rows;
 mod faults;
 mod found;
 mod known;
 mod opening;
 mod reading;
 mod status;
-#[cfg(test)]
-mod table_rows;
-#[cfg(test)]
-mod tests;
 mod text;
 mod writing;
 

@@ -1,6 +1,6 @@
 -- What is known of the file that a drive's channel is in, after a call on it.
-use Rattle.std.proofs.Common.{◌≡◌, ◌≤◌, ◌+◌, ◌⊎◌, ℕ, inl, inr, Bool, true, false, Option, None, Some, Result, Ok, Err, List, [], refl, sym, ◌∙◌, ap, subst}
-use Rattle.std.specs.Prelude.{OnOk, slice_get}
+use Rattle.std.proofs.Common.{◌≡◌, ◌+◌, ℕ, inl, inr, Bool, true, false, Option, None, Some, Result, Ok, Err, List, refl, sym, ◌∙◌, ap, subst}
+use Rattle.std.specs.Prelude.{OnOk}
 use Rattle.std.proofs.lemmas.Bool.{false≢true}
 use Rattle.std.proofs.lemmas.Option.{same_Some}
 use Rattle.d64_image.specs.History.{History}
@@ -18,7 +18,7 @@ use Rattle.drive_channels.specs.Tables.{Closes, Commands, Opens, Writes, WritesI
 use Rattle.rel_records.specs.Others.{HasRecords}
 use Rattle.host_session.proofs.Selection.{moved, opened-in, reach-rel}
 use Rattle.host_session.specs.Putting.{IsInReach}
-use Rattle.host_session.specs.Selecting.{IsAt, IsInFile, IsReady, channel_at, place_text}
+use Rattle.host_session.specs.Selecting.{IsInFile, IsReady, channel_at, place_text}
 use Rattle.host_session.specs.Channels.{IsKnownOn, IsOn, name_of}
 use Rattle.host_session.specs.declared.shop_drive.ShopFile.{ShopFile}
 

@@ -1,11 +1,10 @@
 -- What is known of a request that was answered, said of the message that it was read from.
-use Rattle.std.proofs.Common.{◌≡◌, ◌⊎◌, ℕ, ◌≤◌, ◌<◌, ◌+◌, inl, Bool, true, false, Option, Some, None, refl, sym, ◌∙◌, ap, subst, arith}
+use Rattle.std.proofs.Common.{◌≡◌, ◌⊎◌, ℕ, ◌≤◌, ◌<◌, ◌+◌, inl, Bool, false, Option, Some, None, sym, ◌∙◌, ap, subst, arith}
 use Rattle.d64_image.specs.History.{Changes, History}
 use Rattle.d64_image.specs.Images.{Image}
 use Rattle.d64_image.proofs.Moments.{changes_weaker, no_change}
 use Rattle.request_cards.specs.declared.reply.Reply.TheVariants.{Syntax, Told}
 use Rattle.request_cards.specs.declared.reply.Word.{Word}
-use Rattle.request_cards.specs.declared.reply.Word.TheVariants.{Media}
 use Rattle.request_cards.specs.Ledgers.{after_message, next_in, reply_in, word_in}
 use Rattle.request_cards.specs.Requests.{Ask}
 use Rattle.host_session.specs.Answering.{IsAnswered}
@@ -31,51 +30,31 @@ pub no-moments : {D : Type 0} (S : History D) (d : D) (s : Shop) (o : Option Ask
     → Changes S d d 7196 (λ i. IsShop i s ⊎ IsShop i (with_state s (after_message (start_of s) s.state o)))
 no-moments S d s o h = changes_weaker S d d 0 7196 (IsHeld s o) (IsHeld s o) (omega arith) (λ i x. x) (no_change S d (IsHeld s o) (inl h))
 
-same-few : (x y n : ℕ) → y ≡ x → y ≤ x + n
-same-few x y n e = omega (arith, e)
-
-same-none : (x y : ℕ) → y ≡ x → x < y → ⊥
-same-none x y e lt = omega (arith, e, lt)
-
--- a request that was answered with a word: a dead session told MEDIA and did nothing
-module _ {D : Type 0} (S : History D) (old new : View D) (o : Option Ask) (a : Ask) (w : Word) (e : o ≡ Some a)
-    (dies : old.dead ≡ true → (w ≡ Media) × (new ≡ old)) (answered : old.dead ≡ false → IsAnswered S old new a w) where
-  pub told-reply : (t n : ℕ) → t ≡ a.till → n ≡ a.number → (s : Shop) → IsShop (S.image old.disk) s → old.dead ≡ false → ¬ (IsMedia (Told t n w))
+-- a request that an open session answered with a word
+module _ {D : Type 0} (S : History D) (old new : View D) (o : Option Ask) (a : Ask) (w : Word) (e : o ≡ Some a) (answered : IsAnswered S old new a w) where
+  pub told-reply : (t n : ℕ) → t ≡ a.till → n ≡ a.number → (s : Shop) → IsShop (S.image old.disk) s → ¬ (IsMedia (Told t n w))
       → (Told t n w ≡ reply_in (start_of s) s.state o) × IsSettled (S.image new.disk) (with_state s (after_message (start_of s) s.state o)) × (new.dead ≡ false)
-  told-reply t n till number s h alive other =
-      let r = (answered alive).reply s h (λ m. other (t, n, ap (Told t n) m)) in (
+  told-reply t n till number s h other =
+      let r = answered.reply s h (λ m. other (t, n, ap (Told t n) m)) in (
         (λ i. Told (till i) (number i) (r.0 i)) ∙ ap (reply_in (start_of s) s.state) (sym e),
         subst (λ (p : Option Ask). IsSettled (S.image new.disk) (after_option s p)) (sym e) r.1,
         r.2,
       )
 
-  pub told-quiet : ((s : Shop) → IsShop (S.image old.disk) s → old.dead ≡ false → next_in (start_of s) s.state a ≡ false → (w ≡ word_in (start_of s) s.state a) × (new ≡ old))
-      → (t n : ℕ) → t ≡ a.till → n ≡ a.number → (s : Shop) → IsShop (S.image old.disk) s → old.dead ≡ false → is_next_request s o ≡ false
+  pub told-quiet : ((s : Shop) → IsShop (S.image old.disk) s → next_in (start_of s) s.state a ≡ false → (w ≡ word_in (start_of s) s.state a) × (new ≡ old))
+      → (t n : ℕ) → t ≡ a.till → n ≡ a.number → (s : Shop) → IsShop (S.image old.disk) s → is_next_request s o ≡ false
       → (Told t n w ≡ reply_in (start_of s) s.state o) × (new ≡ old)
-  told-quiet quiet t n till number s h alive none =
-      let q = quiet s h alive (subst (λ (p : Option Ask). is_next_request s p ≡ false) e none) in
+  told-quiet quiet t n till number s h none =
+      let q = quiet s h (subst (λ (p : Option Ask). is_next_request s p ≡ false) e none) in
       ((λ i. Told (till i) (number i) (q.0 i)) ∙ ap (reply_in (start_of s) s.state) (sym e), q.1)
 
   pub told-moments : (s : Shop) → IsShop (S.image old.disk) s
       → Changes S old.disk new.disk 7196 (λ i. IsShop i s ⊎ IsShop i (with_state s (after_message (start_of s) s.state o)))
-  told-moments s h = by old.dead refl
-    where
-      by : (b : Bool) → old.dead ≡ b → Changes S old.disk new.disk 7196 (IsHeld s o)
-      by true d = subst (λ (x : D). Changes S old.disk x 7196 (IsHeld s o)) (sym (ap (λ (v : View D). v.disk) (dies d).1))
-          (no-moments S old.disk s o h)
-      by false d = subst (λ (p : Option Ask). Changes S old.disk new.disk 7196 (IsHeld s p)) (sym e) ((answered d).moments s h)
+  told-moments s h = subst (λ (p : Option Ask). Changes S old.disk new.disk 7196 (IsHeld s p)) (sym e) (answered.moments s h)
 
   pub told-writes : (f : Files) (h : HasFiles (S.image old.disk) f) → S.writes new.disk ≤ S.writes old.disk + most_writes (shop_of f) h.stock_file o
-  told-writes f h = by old.dead refl
-    where
-      by : (b : Bool) → old.dead ≡ b → S.writes new.disk ≤ S.writes old.disk + most_writes (shop_of f) h.stock_file o
-      by true d = same-few (S.writes old.disk) (S.writes new.disk) (most_writes (shop_of f) h.stock_file o) (ap (λ (v : View D). S.writes v.disk) (dies d).1)
-      by false d = subst (λ (p : Option Ask). S.writes new.disk ≤ S.writes old.disk + most_writes (shop_of f) h.stock_file p) (sym e) ((answered d).writes f h)
+  told-writes f h = subst (λ (p : Option Ask). S.writes new.disk ≤ S.writes old.disk + most_writes (shop_of f) h.stock_file p) (sym e) (answered.writes f h)
 
   pub told-counted : (s : Shop) → IsShop (S.image old.disk) s → S.writes old.disk < S.writes new.disk
       → MayGrow s o ⊎ IsShop (S.image new.disk) (with_state s (after_message (start_of s) s.state o))
-  told-counted s h lt = by old.dead refl
-    where
-      by : (b : Bool) → old.dead ≡ b → MayGrow s o ⊎ IsShop (S.image new.disk) (after_option s o)
-      by true d = absurd (same-none (S.writes old.disk) (S.writes new.disk) (ap (λ (v : View D). S.writes v.disk) (dies d).1) lt)
-      by false d = subst (λ (p : Option Ask). MayGrow s p ⊎ IsShop (S.image new.disk) (after_option s p)) (sym e) ((answered d).counted s h lt)
+  told-counted s h lt = subst (λ (p : Option Ask). MayGrow s p ⊎ IsShop (S.image new.disk) (after_option s p)) (sym e) (answered.counted s h lt)

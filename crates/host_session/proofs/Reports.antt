@@ -8,7 +8,7 @@ use Rattle.request_cards.specs.Texts.{reply_text}
 use Rattle.request_cards.specs.declared.reply.Reply.{Reply}
 use Rattle.script_lines.specs.declared.events.Cut.{Cut}
 use Rattle.script_lines.specs.declared.events.Event.{Event}
-use Rattle.host_session.specs.Events.{Message, message_in, message_of, messages_of}
+use Rattle.host_session.specs.Events.{message_in, message_of, messages_of}
 use Rattle.host_session.specs.Runs.{IsPrintedUpToLast}
 use Rattle.script_lines.specs.Resets.{Line, first_bad, line_in, line_of}
 

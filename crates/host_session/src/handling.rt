@@ -56,29 +56,29 @@ impl<D: Sectors> Session<D> {
         ensures sums { (s : Shop) → IsShop (D.history.image self.old.disk) s
             → SumsAgree (start_of s) (option_to_list (request_of message.now)) }
     {
-        // the session is looked at: one that isn't dead is at rest
-        let _ = &self.dead;
+        let dead = self.dead;
         let Some(request) = Request::parse(message) else {
             return Reply::Syntax;
         };
         Reply::Told {
             till: request.till(),
             number: request.number(),
-            word: self.word_on(&request),
+            word: if dead {
+                Word::Media
+            } else {
+                self.word_on(&request)
+            },
         }
     }
 
     /// What a till is told of its request.
     fn word_on(&mut self, request: &Request) -> Word
         requires ask { IsAsk request.now }
-        ensures dead { self.old.dead ≡ true → (result ≡ Media) × (self.new ≡ self.old) }
-        ensures quiet { (s : Shop) → IsShop (D.history.image self.old.disk) s → self.old.dead ≡ false → next_in (start_of s) s.state request.now ≡ false
+        requires alive { self.old.dead ≡ false }
+        ensures quiet { (s : Shop) → IsShop (D.history.image self.old.disk) s → next_in (start_of s) s.state request.now ≡ false
             → (result ≡ word_in (start_of s) s.state request.now) × (self.new ≡ self.old) }
-        ensures answered { self.old.dead ≡ false → IsAnswered D.history self.old self.new request.now result }
+        ensures answered { IsAnswered D.history self.old self.new request.now result }
     {
-        if self.dead {
-            return Word::Media;
-        }
         match standing_by(&self.requests, self.tills, request) {
             Standing::Settled(word) => word,
             Standing::New => self.answer(request),

@@ -193,6 +193,9 @@ fn judge_tills<D: Sectors>(
 }
 
 /// Reads a disk and judges it, in the order of `OpenFault`. Nothing is written.
+// Out of line, as `settle` is: an opening is then so short that the compiler makes the tables once, where the session is
+// kept, and not a second time for a fault.
+#[inline(never)]
 pub(crate) fn judge<D: Sectors>(disk: &mut D, found: &mut Judged) -> Result<(), OpenFault>
     requires nothing { IsNothing found.old }
     ensures ok { OnOk result ((f : Files) × HasFiles (D.history.image disk.old) f × IsJudged f found.new) }

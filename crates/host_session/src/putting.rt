@@ -17,6 +17,8 @@ use d64_image::Sectors;
 use drive_channels::Dead;
 
 /// Writes a record that is there, whole.
+// In line: where the file and the length of the text are known, most of a `P` is worked out by the compiler.
+#[inline(always)]
 fn put_record<D: Sectors>(
     drive: &mut ShopDrive<D>,
     file: ShopFile,

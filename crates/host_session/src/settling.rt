@@ -43,6 +43,8 @@ fn bring_to_rest<D: Sectors>(
 }
 
 /// Mends a shop's disk that was judged, and brings it to rest. What was found is then as the disk has it at rest.
+// Out of line, as `judge` is.
+#[inline(never)]
 pub(crate) fn settle<D: Sectors>(
     disk: D,
     found: &mut Judged,

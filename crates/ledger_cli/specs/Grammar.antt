@@ -1,9 +1,8 @@
 -- The words that the program takes (our own), as `clap` reads a command line.
-use Rattle.std.specs.Prelude.{◌≡◌, List, Result, Ok, Err, Some, true, false, [], codes}
+use Rattle.std.specs.Prelude.{List, Result, Ok, Err, Some, true, [], codes}
 use Rattle.std.specs.Prelude.{unwrap_or}
 use Rattle.clap.specs.declared.builder.command.Command.{Command}
-use Rattle.clap.specs.declared.builder.command.Command.TheViews.{out-Command}
-use Rattle.clap.specs.Words.{app_of, App, Row, Rule, Text, first_of, new_app, new_rule, with_rule, with_subcommand}
+use Rattle.clap.specs.Words.{AddsSubcommand, App, Row, Rule, Text, first_of, new_app, new_rule, with_rule, with_subcommand}
 
 -- a value that is required, shown by this name
 abbrev pub required : Text → Rule
@@ -62,7 +61,8 @@ ledger = with_subcommand (with_subcommand (with_subcommand (with_subcommand (wit
 abbrev pub value : Text → List Row → Text
 value id rows = unwrap_or (first_of id rows) []
 
--- a program that has one subcommand more, if that could be made
-abbrev pub AddsTo : {E : Type 0} → App → Result Command E → Command → Type 0
-AddsTo app (Ok subcommand) program = (out-Command subcommand).has_globals ≡ false → app_of program ≡ with_subcommand app (app_of subcommand).top
-AddsTo app (Err _) program = ⊥
+-- a program that has one subcommand more, where both could be made
+abbrev pub AddsTo : {E : Type 0} → Result Command E → Result Command E → Command → Type 0
+AddsTo (Ok before) (Ok subcommand) program = AddsSubcommand before subcommand program
+AddsTo (Ok before) (Err _) program = ⊥
+AddsTo (Err _) _ program = ⊥

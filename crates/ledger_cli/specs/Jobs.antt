@@ -1,6 +1,7 @@
 -- What the words of a command line ask for (our own).
 use Rattle.std.specs.Prelude.{◌≡◌, ◌≤◌, ⊤, ℕ, List, Option, Some, None, [], codes}
-use Rattle.clap.specs.Words.{HasKind, Kinds, Row, Text}
+use Rattle.clap.specs.Words.{HasKind, Kinds, Row, Text, subcommand_rows_of}
+use Rattle.clap.specs.declared.parser.matches.ArgMatches.{ArgMatches}
 use Rattle.request_cards.specs.Reading.{number_in}
 use Rattle.ledger_cli.specs.Grammar.{value}
 use Rattle.ledger_cli.specs.declared.jobs.Job.{Job}
@@ -13,6 +14,11 @@ pub record Has (found : Option (Text × List Row)) (name : Text) (P : List Row �
   pub rows : List Row
   pub is : found ≡ Some (name, rows)
   pub holds : P rows
+
+-- a parse of words in which nothing is wrong, and whose subcommand and values are these
+pub record IsParse (kinds : Kinds) (found : Option (Text × List Row)) (matches : ArgMatches) : Type 0 where
+  pub fine : kinds ≡ []
+  pub is : subcommand_rows_of matches ≡ found
 
 -- the number of tills that the words give: 1 to 64, without leading zeros
 abbrev pub tills_in : List Row → Option ℕ

@@ -1,5 +1,4 @@
 pub mod Faults
 pub mod Grammar
 pub mod Jobs
-pub mod Placed
 pub mod Runs

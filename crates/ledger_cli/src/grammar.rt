@@ -1,6 +1,6 @@
 //! The command line that the program takes: one function a subcommand.
 ghost use Rattle.std.specs.Prelude.{◌≡◌, IfOk, codes, false};
-ghost use Rattle.clap.specs.Words.{app_of, rule_of};
+ghost use Rattle.clap.specs.Words.{app_of, new_app, rule_of, with_rule};
 ghost use Rattle.clap.specs.declared.builder.command.Command.TheViews.{out-Command};
 ghost use Rattle.ledger_cli.specs.Grammar as grammar;
 
@@ -23,7 +23,21 @@ fn required_behind<'a>(alloc: Global, word: &'a str, name: &'a str, help: &'a st
     ensures rule { rule_of result ≡ grammar.required_behind word.entry.now name.entry.now }
     ensures local { result.global ≡ false }
 {
-    Arg::new(alloc, name).long(word).required(true).help(help)
+    required(alloc, name, help).long(word)
+}
+
+/// A subcommand with one value.
+fn with_value<'a>(
+    alloc: Global,
+    name: &'a str,
+    about: &'a str,
+    value: Arg<'a>,
+) -> Result<Command<'a>, AllocError>
+    requires { value.global ≡ false }
+    ensures app { IfOk result (λ c. app_of c ≡ with_rule (new_app name.entry.now) (rule_of value.entry)) }
+    ensures local { IfOk result (λ c. (out-Command c).has_globals ≡ false) }
+{
+    Command::new(alloc, name).about(about).arg(value)
 }
 
 /// A subcommand over an image.
@@ -32,7 +46,7 @@ fn over_image<'a>(alloc: Global, name: &'a str, about: &'a str) -> Result<Comman
     ensures local { IfOk result (λ c. (out-Command c).has_globals ≡ false) }
 {
     let image = required(alloc, "IMAGE", "The disk's image, a D64 file of 35 tracks");
-    Command::new(alloc, name).about(about).arg(image)
+    with_value(alloc, name, about, image)
 }
 
 /// `format IMAGE --tills T`
@@ -103,12 +117,9 @@ fn dry_command<'a>(alloc: Global) -> Result<Command<'a>, AllocError>
     ensures app { IfOk result (λ c. app_of c ≡ grammar.dry) }
     ensures local { IfOk result (λ c. (out-Command c).has_globals ≡ false) }
 {
-    let script = script_of(alloc);
-    Command::new(alloc, "dry")
-        .about(
-            "Prints the reply to each message of a script, from an empty shop on, without a disk",
-        )
-        .arg(script)
+    let about =
+        "Prints the reply to each message of a script, from an empty shop on, without a disk";
+    with_value(alloc, "dry", about, script_of(alloc))
 }
 
 /// The program without its subcommands.
@@ -122,25 +133,26 @@ fn bare<'a>(alloc: Global) -> Command<'a>
         .subcommand_required(true)
 }
 
-/// Adds a subcommand, where there was memory for it.
+/// Adds a subcommand to the program, where there was memory for both.
 fn adds<'a>(
-    program: Command<'a>,
+    program: Result<Command<'a>, AllocError>,
     subcommand: Result<Command<'a>, AllocError>,
 ) -> Result<Command<'a>, AllocError>
-    ensures { IfOk result (grammar.AddsTo (app_of program.entry) subcommand.entry) }
+    ensures { IfOk result (grammar.AddsTo program.entry subcommand.entry) }
 {
-    program.subcommand(subcommand?)
+    let subcommand = subcommand?;
+    program?.subcommand(subcommand)
 }
 
 /// The program's command line.
 pub fn ledger_command<'a>(alloc: Global) -> Result<Command<'a>, AllocError>
     ensures { IfOk result (λ c. app_of c ≡ grammar.ledger) }
 {
-    let program = bare(alloc);
-    let program = adds(program, format_command(alloc))?;
-    let program = adds(program, list_command(alloc))?;
-    let program = adds(program, check_command(alloc))?;
-    let program = adds(program, show_command(alloc))?;
-    let program = adds(program, play_command(alloc))?;
+    let program = Ok(bare(alloc));
+    let program = adds(program, format_command(alloc));
+    let program = adds(program, list_command(alloc));
+    let program = adds(program, check_command(alloc));
+    let program = adds(program, show_command(alloc));
+    let program = adds(program, play_command(alloc));
     adds(program, dry_command(alloc))
 }

@@ -5,7 +5,8 @@
 mod comparing;
 mod grammar;
 mod jobs;
-mod placed;
+#[cfg(test)]
+mod placed_tests;
 #[cfg(test)]
 mod play_tests;
 #[cfg(test)]
@@ -19,8 +20,7 @@ ghost use Rattle.ledger_cli.specs.Jobs.{HasTills};
 
 use jobs::{Job, JobFault};
 pub use ledger_commands::dry;
-use ledger_commands::{OpensFile, Replaced, RunFault, read_image, read_script};
-use placed::Placed;
+use ledger_commands::{OpensFile, Placed, Replaced, RunFault, read_image, read_script};
 use running::run;
 use std::alloc::{AllocError, Global};
 use std::env;
@@ -36,7 +36,7 @@ const WORDS: u8 = 2;
 const STANDARD_INPUT: &str = "/dev/stdin";
 
 /// How many bytes of output are gathered before they are written.
-const OUTPUT_ROOM: usize = 65536;
+const OUTPUT_ROOM: usize = 32768;
 
 /// Tells that a file or the output failed, or that there was no memory for it.
 fn refuse(rt: &HostRuntime, fault: RunFault) -> u8 {
@@ -77,13 +77,22 @@ fn image_at(rt: &HostRuntime, path: &str) -> io::Result<Vec<u8>> {
     }
 }
 
+/// How many bytes the file has, and one more; 0 where the system doesn't tell.
+fn room_for(file: &File) -> usize {
+    match file.metadata() {
+        Ok(told) => told.len().saturating_add(1) as usize,
+        Err(_) => 0,
+    }
+}
+
 /// The bytes of a script's file, or of standard input.
 fn script_at(rt: &HostRuntime, path: &str) -> io::Result<Vec<u8>> {
     if path == STANDARD_INPUT {
-        read_script(rt.alloc(), rt.reader())
-    } else {
-        read_script(rt.alloc(), File::open(rt, path)?)
+        return read_script(rt.alloc(), rt.reader(), 0);
     }
+    let file = File::open(rt, path)?;
+    let room = room_for(&file);
+    read_script(rt.alloc(), file, room)
 }
 
 /// The file at a path.
@@ -199,7 +208,10 @@ fn words_of(rt: &HostRuntime) -> Result<Vec<String>, u8> {
         }
         Err(error) => return Err(refuse_io(rt, &error)),
     };
-    collected.map_err(|error| refuse_io(rt, &io::Error::from(error)))
+    match collected {
+        Ok(words) => Ok(words),
+        Err(error) => Err(refuse_io(rt, &io::Error::from(error))),
+    }
 }
 
 fn main(rt: HostRuntime) -> ExitCode {

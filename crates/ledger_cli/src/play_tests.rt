@@ -29,25 +29,27 @@ const DAYS: [(&str, &str, &str); 2] = [
     ),
 ];
 
+/// The image after a script was played on this one, which has to print these replies.
+fn played(rt: &(impl AllocGlobal + Abort), image: &[u8], script: &str, printed: &str) -> Vec<u8> {
+    let mut file = file_of(rt, image);
+    let wanted = (0, printed, "");
+    ends(rt, &PLAY, image, script.as_bytes(), Some(&mut file), wanted);
+    file.into_inner()
+}
+
+/// Sees that each of these days is played on this image, and leaves what is shown.
+fn each_is_played(rt: &(impl AllocGlobal + Abort), image: &[u8], days: &[(&str, &str, &str)]) {
+    for (script, printed, shown) in days {
+        let after = played(rt, image, script, printed);
+        ends(rt, &SHOW, after.as_slice(), &[], NO_FILE, (0, *shown, ""));
+        ends(rt, &CHECK, after.as_slice(), &[], NO_FILE, (0, "OK\n", ""));
+    }
+}
+
 #[test]
 fn scripts_are_played(rt: HostRuntime) {
     let image = empty_shop(&rt);
-    for (script, printed, shown) in DAYS {
-        let script = script.as_bytes();
-        let mut file = file_of(&rt, image.as_slice());
-        let wanted = (0, printed, "");
-        ends(
-            &rt,
-            &PLAY,
-            image.as_slice(),
-            script,
-            Some(&mut file),
-            wanted,
-        );
-        let after = file.into_inner();
-        ends(&rt, &SHOW, after.as_slice(), &[], NO_FILE, (0, shown, ""));
-        ends(&rt, &CHECK, after.as_slice(), &[], NO_FILE, (0, "OK\n", ""));
-    }
+    each_is_played(&rt, image.as_slice(), &DAYS);
 }
 
 /// Changes of the image of an empty shop, and why the image is none then.
@@ -77,13 +79,18 @@ fn not_played(rt: &(impl AllocGlobal + Abort), image: &[u8], script: &[u8], told
     holds(rt, file.into_inner().as_slice() == image, told);
 }
 
+/// Sees that each of these changes makes an image that is neither shown nor played on, for this reason.
+fn each_is_no_shop(rt: &(impl AllocGlobal + Abort), rows: &[(&[Bytes], &str)]) {
+    for (changes, told) in rows {
+        let image = changed(rt, changes);
+        ends(rt, &SHOW, image.as_slice(), &[], NO_FILE, (1, "", *told));
+        not_played(rt, image.as_slice(), b"1,1,S,1,5\n", told);
+    }
+}
+
 #[test]
 fn what_is_no_shop_is_told(rt: HostRuntime) {
-    for (changes, told) in NO_SHOPS {
-        let image = changed(&rt, changes);
-        ends(&rt, &SHOW, image.as_slice(), &[], NO_FILE, (1, "", told));
-        not_played(&rt, image.as_slice(), b"1,1,S,1,5\n", told);
-    }
+    each_is_no_shop(&rt, &NO_SHOPS);
 }
 
 #[test]
@@ -122,21 +129,25 @@ const BROKEN_FILES: [(&str, usize, (u8, &str, &str)); 4] = [
     ("@3 x\n", 0, (0, "CUT\n", "")),
 ];
 
+/// Sees that each of these scripts ends so, where its file takes no more than this.
+fn each_file_fails(
+    rt: &(impl AllocGlobal + Abort),
+    image: &[u8],
+    rows: &[(&str, usize, (u8, &str, &str))],
+) {
+    for (script, room, wanted) in rows {
+        let file = Some(Full {
+            room: *room,
+            flushes: true,
+        });
+        ends(rt, &PLAY, image, script.as_bytes(), file, *wanted);
+    }
+}
+
 #[test]
 fn files_fail(rt: HostRuntime) {
     let image = empty_shop(&rt);
-    for (script, room, wanted) in BROKEN_FILES {
-        let flushes = true;
-        let file = Some(Full { room, flushes });
-        ends(
-            &rt,
-            &PLAY,
-            image.as_slice(),
-            script.as_bytes(),
-            file,
-            wanted,
-        );
-    }
+    each_file_fails(&rt, image.as_slice(), &BROKEN_FILES);
     let told = (3, "", "FILE\n");
     ends(&rt, &PLAY, image.as_slice(), b"1,1,S,1,5\n", NO_FILE, told);
 }

@@ -114,13 +114,18 @@ pub(crate) fn empty_shop(rt: &(impl AllocGlobal + Abort)) -> Vec<u8> {
 /// Bytes, and where in an image they stand.
 pub(crate) type Bytes = (usize, &'static [u8]);
 
+/// Puts bytes over those of the image from a place on.
+fn put(image: &mut [u8], at: usize, bytes: &[u8]) {
+    for (place, byte) in image.iter_mut().skip(at).zip(bytes.iter()) {
+        *place = *byte;
+    }
+}
+
 /// The image of an empty shop with these bytes over its own.
 pub(crate) fn changed(rt: &(impl AllocGlobal + Abort), changes: &[Bytes]) -> Vec<u8> {
     let mut image = empty_shop(rt);
     for (at, bytes) in changes {
-        for (place, byte) in image.as_mut_slice().iter_mut().skip(*at).zip(bytes.iter()) {
-            *place = *byte;
-        }
+        put(image.as_mut_slice(), *at, bytes);
     }
     image
 }
@@ -169,10 +174,18 @@ const OUTPUTS: [(&[u8], usize, bool, (u8, &str)); 5] = [
     (b"", 0, true, (0, "")),
 ];
 
+/// Sees that each of these scripts ends so, where its output takes no more than this.
+fn each_output_fails(rt: &(impl AllocGlobal + Abort), rows: &[(&[u8], usize, bool, (u8, &str))]) {
+    for (script, room, flushes, wanted) in rows {
+        let out = Full {
+            room: *room,
+            flushes: *flushes,
+        };
+        ends_over(rt, &DRY, &[], script, NO_FILE, out, *wanted);
+    }
+}
+
 #[test]
 fn outputs_fail(rt: HostRuntime) {
-    for (script, room, flushes, wanted) in OUTPUTS {
-        let out = Full { room, flushes };
-        ends_over(&rt, &DRY, &[], script, NO_FILE, out, wanted);
-    }
+    each_output_fails(&rt, &OUTPUTS);
 }

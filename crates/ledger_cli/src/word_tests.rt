@@ -3,6 +3,7 @@ use crate::comparing::{holds, same_at};
 use crate::jobs::Job;
 use crate::words::job;
 use std::fmt::Write;
+use std::process::Abort;
 
 /// A job: its subcommand, its image, its script and its tills, where it has them.
 type Row<'a> = (&'a str, &'a str, &'a str, u8);
@@ -20,78 +21,100 @@ fn asked<'a>(rt: &impl AllocGlobal, words: &'a [&'a str]) -> Result<Row<'a>, (u8
     }
 }
 
-/// Words, and the job that they ask for.
-const ASKED: [(&[&str], Row<'static>); 8] = [
-    (&["ledger", "dry", "s.txt"], ("dry", "", "s.txt", 0)),
-    (&["ledger", "list", "a.d64"], ("list", "a.d64", "", 0)),
-    (&["ledger", "check", "a.d64"], ("check", "a.d64", "", 0)),
-    (&["ledger", "show", "a.d64"], ("show", "a.d64", "", 0)),
-    (
-        &["ledger", "play", "a.d64", "s.txt"],
-        ("play", "a.d64", "s.txt", 0),
-    ),
-    (
-        &["ledger", "format", "a.d64", "--tills", "1"],
-        ("format", "a.d64", "", 1),
-    ),
-    (
-        &["ledger", "format", "--tills", "64", "a.d64"],
-        ("format", "a.d64", "", 64),
-    ),
-    (
-        &["ledger", "format", "--tills=20", "a.d64"],
-        ("format", "a.d64", "", 20),
-    ),
-];
+/// Sees that these words ask for this job.
+fn each_asks(rt: &(impl AllocGlobal + Abort), rows: &[(&[&str], Row<'static>)]) {
+    for (words, row) in rows {
+        same_at(rt, asked(rt, words), Ok(*row), *words);
+    }
+}
 
 #[test]
 fn words_ask_for_a_job(rt: HostRuntime) {
-    for (words, row) in ASKED {
-        same_at(&rt, asked(&rt, words), Ok(row), words);
+    each_asks(
+        &rt,
+        &[
+            (&["ledger", "dry", "s.txt"], ("dry", "", "s.txt", 0)),
+            (&["ledger", "list", "a.d64"], ("list", "a.d64", "", 0)),
+            (&["ledger", "check", "a.d64"], ("check", "a.d64", "", 0)),
+            (&["ledger", "show", "a.d64"], ("show", "a.d64", "", 0)),
+            (
+                &["ledger", "play", "a.d64", "s.txt"],
+                ("play", "a.d64", "s.txt", 0),
+            ),
+            (
+                &["ledger", "format", "a.d64", "--tills", "1"],
+                ("format", "a.d64", "", 1),
+            ),
+            (
+                &["ledger", "format", "--tills", "64", "a.d64"],
+                ("format", "a.d64", "", 64),
+            ),
+            (
+                &["ledger", "format", "--tills=20", "a.d64"],
+                ("format", "a.d64", "", 20),
+            ),
+        ],
+    );
+}
+
+/// Sees that these words are refused, and end with this status.
+fn each_is_refused(rt: &(impl AllocGlobal + Abort), rows: &[(&[&str], u8)]) {
+    for (words, status) in rows {
+        same_at(rt, asked(rt, words), Err((1, *status)), *words);
     }
 }
 
 #[test]
 fn other_words_are_refused(rt: HostRuntime) {
-    // Words, and the status that they end with.
-    let rows: [(&[&str], u8); 15] = [
-        (&["ledger"], 2),
-        (&["ledger", "dry"], 2),
-        (&["ledger", "wet", "a.txt"], 2),
-        (&["ledger", "dry", "a.txt", "b.txt"], 2),
-        (&["ledger", "list"], 2),
-        (&["ledger", "format", "a.d64"], 2),
-        (&["ledger", "format", "--tills", "2"], 2),
-        (&["ledger", "list", "a.d64", "--tills", "2"], 2),
-        (&["ledger", "show"], 2),
-        (&["ledger", "play", "a.d64"], 2),
-        (&["ledger", "show", "a.d64", "s.txt"], 2),
-        (&["ledger", "play", "a.d64", "s.txt", "t.txt"], 2),
-        (&["ledger", "--help"], 0),
-        (&["ledger", "--version"], 0),
-        (&["ledger", "format", "--help"], 0),
-    ];
-    for (words, status) in rows {
-        same_at(&rt, asked(&rt, words), Err((1, status)), words);
+    each_is_refused(
+        &rt,
+        &[
+            (&["ledger"], 2),
+            (&["ledger", "dry"], 2),
+            (&["ledger", "wet", "a.txt"], 2),
+            (&["ledger", "dry", "a.txt", "b.txt"], 2),
+            (&["ledger", "list"], 2),
+            (&["ledger", "format", "a.d64"], 2),
+            (&["ledger", "format", "--tills", "2"], 2),
+            (&["ledger", "list", "a.d64", "--tills", "2"], 2),
+            (&["ledger", "show"], 2),
+            (&["ledger", "play", "a.d64"], 2),
+            (&["ledger", "show", "a.d64", "s.txt"], 2),
+            (&["ledger", "play", "a.d64", "s.txt", "t.txt"], 2),
+            (&["ledger", "--help"], 0),
+            (&["ledger", "--version"], 0),
+            (&["ledger", "format", "--help"], 0),
+        ],
+    );
+}
+
+/// Sees that none of these is a number of tills.
+fn none_is_a_number(rt: &(impl AllocGlobal + Abort), texts: &[&str]) {
+    for text in texts {
+        let words = ["ledger", "format", "a.d64", "--tills", *text];
+        same_at(rt, asked(rt, &words), Err((2, 2)), *text);
     }
 }
 
 #[test]
 fn tills_are_one_to_sixty_four(rt: HostRuntime) {
-    for tills in ["0", "65", "01", "x", "", "1 ", "+1", "256", "4294967297"] {
-        let words = ["ledger", "format", "a.d64", "--tills", tills];
-        same_at(&rt, asked(&rt, &words), Err((2, 2)), tills);
+    none_is_a_number(
+        &rt,
+        &["0", "65", "01", "x", "", "1 ", "+1", "256", "4294967297"],
+    );
+}
+
+/// Sees that what is told of the words has this text in it.
+fn tells(rt: &(impl AllocGlobal + Abort), words: &[&str], text: &str) {
+    let mut told = String::new(rt.alloc());
+    if let Err(fault) = job(rt.alloc(), words) {
+        let _ = write!(told, "{fault}");
     }
+    holds(rt, told.as_str().contains(text), text);
 }
 
 #[test]
 fn the_version_and_the_documents_are_named(rt: HostRuntime) {
-    for (word, text) in [("--version", "ledger_cli 0.1.0"), ("--help", "README.md")] {
-        let words = ["ledger", word];
-        let mut told = String::new(rt.alloc());
-        if let Err(fault) = job(rt.alloc(), &words) {
-            let _ = write!(told, "{fault}");
-        }
-        holds(&rt, told.as_str().contains(text), word);
-    }
+    tells(&rt, &["ledger", "--version"], "ledger_cli 0.1.0");
+    tells(&rt, &["ledger", "--help"], "README.md");
 }

@@ -1,9 +1,9 @@
 //! Reading the words of the command line.
 ghost use Rattle.std.specs.Prelude.{◌≡◌, ◌≤◌, IfErr, IfOk, IfSome, List, MatchResult, [], map, option_map};
-ghost use Rattle.clap.specs.Words.{fault_of, found_of, rows_of, subcommand_of, subcommand_rows_of};
+ghost use Rattle.clap.specs.Words.{HasKind, fault_of, found_of, rows_of, subcommand_of, subcommand_rows_of};
 ghost use Rattle.ledger_cli.specs.Grammar.{ledger, value};
 ghost use Rattle.request_cards.specs.Reading.{number_in};
-ghost use Rattle.ledger_cli.specs.Jobs.{HasTills, IsJob, IsNoJob};
+ghost use Rattle.ledger_cli.specs.Jobs.{HasTills, IsJob, IsNoJob, IsParse};
 
 use crate::grammar::ledger_command;
 use crate::jobs::{Job, JobFault};
@@ -64,6 +64,14 @@ fn chosen<'a>(matches: &ArgMatches<'a>) -> Result<Job<'a>, JobFault>
     }
 }
 
+/// What the command line finds in the words.
+fn parsed<'a>(alloc: Global, words: &'a [&'a str]) -> Result<ArgMatches<'a>, Error>
+    ensures { let texts = map (λ word. word.now) words.entry.now in
+        MatchResult result (IsParse (fault_of ledger texts) (subcommand_of ledger texts)) (HasKind (fault_of ledger texts)) }
+{
+    ledger_command(alloc)?.try_get_matches_from(words)
+}
+
 /// The job that the words ask for. The first word is the program's name.
 pub fn job<'a>(alloc: Global, words: &'a [&'a str]) -> Result<Job<'a>, JobFault>
     // A job comes only where no word is refused, and is that of the subcommand and its values.
@@ -75,11 +83,7 @@ pub fn job<'a>(alloc: Global, words: &'a [&'a str]) -> Result<Job<'a>, JobFault>
     ensures err { let texts = map (λ word. word.now) words.entry.now in
         IfErr result (IsNoJob (fault_of ledger texts) (subcommand_of ledger texts)) }
 {
-    let command = match ledger_command(alloc) {
-        Ok(command) => command,
-        Err(e) => return Err(JobFault::Words(Error::from(e))),
-    };
-    match command.try_get_matches_from(words) {
+    match parsed(alloc, words) {
         Ok(matches) => chosen(&matches),
         Err(e) => Err(JobFault::Words(e)),
     }

@@ -1,5 +1,6 @@
 pub mod Faults
 pub mod Images
+pub mod Placed
 pub mod Plays
 pub mod Shops
 pub mod Shows

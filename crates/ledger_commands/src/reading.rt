@@ -19,11 +19,12 @@ fn read_all<R: Read + Drop>(alloc: Global, reader: R, room: usize) -> io::Result
 }
 
 /// The bytes of a script: all that the reader has left. Its error where it failed, or where there was no
-/// memory for them.
-pub fn read_script<R: Read + Drop>(alloc: Global, reader: R) -> io::Result<Vec<u8>>
+/// memory for them. `room` is how many bytes memory is taken for at once: with one more than a file has it need not grow,
+/// and any number will do.
+pub fn read_script<R: Read + Drop>(alloc: Global, reader: R, room: usize) -> io::Result<Vec<u8>>
     ensures { IfOk result (λ bytes. IfSome (R.remaining reader) (λ all. vec_items bytes ≡ all)) }
 {
-    read_all(alloc, reader, 0)
+    read_all(alloc, reader, room)
 }
 
 /// The bytes of an image: the first 174,849 that the reader has left, or all of them where there are

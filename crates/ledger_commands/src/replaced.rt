@@ -35,7 +35,7 @@ pub trait OpensFile {
 #[derive(Drop)]
 pub struct Replaced<O: OpensFile> {
     opens: O,
-    pub(crate) file: Option<O::File>,
+    file: Option<O::File>,
 }
 
 /// Hands on all that was written, and ends the file behind it.

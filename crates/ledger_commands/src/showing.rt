@@ -105,6 +105,8 @@ pub(crate) fn put_shop<D: Sectors, W: Write>(
 /// open is completed, and isn't written. `ImageSize` where it hasn't the size of a disk; `Layout`, `NoStock`, `NoRequests`,
 /// `BadRequestCard`, `TwoIntents` or `BadCard` where it is no shop's, the first that is so in this order; `NoMemory` where
 /// there was none for the copy; `File` where the output failed, which may then have a part.
+// Out of line: a session is large, and a frame that has its room touches each page of it.
+#[inline(never)]
 pub fn show_image<W: Write>(alloc: Global, image: &[u8], out: &mut W) -> Result<(), RunFault>
     // What is shown is the shop that the image is, at rest.
     ensures ok { OnOk result (IsShown W.contents image.now out.old out.new) }

@@ -1,7 +1,7 @@
 -- What a disk holds while a file takes its next data block, write by write.
 use Rattle.std.proofs.Common.{◌≡◌, ◌≢◌, ℕ, ◌+◌, ◌-◌, ◌%◌, ◌<◌, ◌≤◌, inl, inr, Bool, true, false, List, [], ◌∷◌, ◌++◌, length, slice_index, refl, sym, ◌∙◌, ap, arith, subst, length-append}
 use Rattle.std.specs.Prelude.{Some, get_or, if◌then◌else◌, nat_eq, slice_get}
-use Rattle.std.proofs.lemmas.Bool.Decides.{nat_tests}
+use Rattle.std.proofs.lemmas.Bool.{eqb-true}
 use Rattle.d64_image.proofs.Moments.{at_end, changes_weaker, one_write_more}
 use Rattle.d64_image.specs.History.{Changes, HeldOnly, History, OldOr}
 use Rattle.d64_image.specs.Images.{Image, IsSector, Sector, put}
@@ -51,7 +51,7 @@ module _ {D : Type 0} (S : History D) (d : D) (l : Layout) (n : ℕ) (f : File) 
       by : (b : Bool) → b ≡ nat_eq (length f.blocks % 120) 0 → 2 + (if b then (length q.sides.items) else 1) + 2 ≡ (if nat_eq (length f.blocks % 120) 0 then (5 + sides_for (length f.blocks)) else 5)
       by true e =
           let t : (if nat_eq (length f.blocks % 120) 0 then (5 + sides_for (length f.blocks)) else 5) ≡ 5 + sides_for (length f.blocks) = ap (λ x. if x then (5 + sides_for (length f.blocks)) else 5) (sym e) in
-          let z : length f.blocks % 120 ≡ 0 = grind (arith, nat_tests) in
+          let z : length f.blocks % 120 ≡ 0 = eqb-true (length f.blocks % 120) 0 (sym e) in
           omega (arith, t, (next a l n f p q fresh block (S.whole d) at few lay).count, z)
       by false e = sym (ap (λ x. if x then (5 + sides_for (length f.blocks)) else 5) (sym e))
 

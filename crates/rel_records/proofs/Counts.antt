@@ -1,5 +1,5 @@
 -- What it says that a file hasn't so many records.
-use Rattle.std.proofs.Common.{Bool, IsTrue, arith, false, ⊎_elim, ℕ, ◌<◌, ◌↔◌, ◌≡◌, ◌≤◌}
+use Rattle.std.proofs.Common.{Bool, IsTrue, false, ⊎_elim, ℕ, ◌<◌, ◌↔◌, ◌≡◌, ◌≤◌}
 use Rattle.std.proofs.lemmas.Bool.{cases_lt}
 
 pub fewer : (b : Bool) (r n : ℕ) → (IsTrue b ↔ (n ≤ r)) → b ≡ false → r < n

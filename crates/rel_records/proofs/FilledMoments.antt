@@ -1,7 +1,7 @@
 -- What a disk holds while a file's last blocks are filled, write by write.
 use Rattle.std.proofs.Common.{◌≡◌, ◌≢◌, ℕ, ◌+◌, ◌-◌, ◌*◌, ◌≤◌, ◌⊎◌, inl, inr, Bool, true, false, Result, OnOk, length, refl, sym, ◌∙◌, ap, arith, subst, slice_index}
 use Rattle.std.specs.Prelude.{if◌then◌else◌, nat_eq, nat_lt}
-use Rattle.std.proofs.lemmas.Bool.Decides.{nat_tests}
+use Rattle.std.proofs.lemmas.Bool.{ne_eqb}
 use Rattle.d64_image.proofs.Moments.{at_end, changes_weaker, one_write_more}
 use Rattle.d64_image.specs.History.{Changes, HeldOnly, History, OldOr}
 use Rattle.d64_image.specs.Images.{Image, IsSector, Sector, put, sector}
@@ -54,7 +54,7 @@ module _ {D : Type 0} (S : History D) (d : D) (l : Layout) (n : ℕ) (f : File) 
       same-test = ap (λ k. nat_lt k (254 * (length p.blocks.items - 1))) from-here ∙ ap (λ xs. nat_lt (records_had f * record_length f.slot) (254 * (length xs - 1))) at.blocks
 
       none : nat_eq (records_had f) (full (record_length f.slot) (length f.blocks)) ≡ false
-      none = let ne : records_had f ≢ full (record_length f.slot) (length f.blocks) = λ e. fill.other (had-here ∙ e ∙ sym total-here) in grind (arith, nat_tests)
+      none = ne_eqb (records_had f) (full (record_length f.slot) (length f.blocks)) (λ e. fill.other (had-here ∙ e ∙ sym total-here))
 
       by : (s t u : Bool) → s ≡ u → t ≡ false → (if s then 1 else 0) + 1 ≡ (if t then 0 else (if u then 2 else 1))
       by true true u e z = cc

@@ -1,7 +1,7 @@
 -- How many slots of a directory are used: where all are, and before the first free one.
 use Rattle.std.proofs.Common.{◌≡◌, ℕ, suc, ◌+◌, ◌*◌, ◌<◌, ◌≤◌, Bool, true, false, IsTrue, List, [], ◌∷◌, ◌++◌, ap, arith, drop, length, length-append, refl, sym, take, ◌∙◌}
 use Rattle.std.specs.Prelude.{Contains, filter, if◌then◌else◌, nat_lt}
-use Rattle.std.proofs.lemmas.Bool.Decides.{nat_tests}
+use Rattle.std.proofs.lemmas.Bool.{le-ltb, lt-ltb}
 use Rattle.std.proofs.lemmas.List.{get_or-take, length-drop, length-map, length-take}
 use Rattle.d64_image.specs.Images.{Image, Sector, sector}
 use Rattle.d64_image.specs.declared.place.Place.{Place}
@@ -88,12 +88,12 @@ files-full a l h full = files-count a l h ∙ full-slots a l.directory full
 pub five-writes : (a : Image) (l : Layout) → IsLayout a l → AreFullSectors a l.directory → creation_writes l ≡ 5
 five-writes a l h full =
     let same = files-full a l h full in
-    let e : nat_lt (length l.files) (8 * length l.directory) ≡ false = grind (arith, nat_tests) in
+    let e : nat_lt (length l.files) (8 * length l.directory) ≡ false = le-ltb (length l.files) (8 * length l.directory) (omega (arith, same)) in
     ap (λ (b : Bool). if b then 4 else 5) e
 
 pub four-writes : (a : Image) (l : Layout) (p : Place) (n : ℕ) → IsLayout a l → IsFirstRoom a l.directory p n → creation_writes l ≡ 4
 four-writes a l p n h room =
     let split = ap (used_slots a) room.split ∙ used_slots-free a room.front room.back p n room.slot.number room.slot.free in
     let some : length l.files < 8 * length l.directory = omega (arith, files-count a l h, ap length split, length-append (used_before a room.front p n) (used_behind a p n room.back), slots-before a room.front p n room.full room.slot, slots-behind a p n room.back room.slot.number, ap length room.split, length-append room.front (p ∷ room.back)) in
-    let e : nat_lt (length l.files) (8 * length l.directory) ≡ true = grind (arith, nat_tests) in
+    let e : nat_lt (length l.files) (8 * length l.directory) ≡ true = lt-ltb (length l.files) (8 * length l.directory) some in
     ap (λ (b : Bool). if b then 4 else 5) e

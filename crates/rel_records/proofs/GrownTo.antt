@@ -1,7 +1,7 @@
 -- Growth to a record: what its refusals and its result mean for that record.
 use Rattle.std.proofs.Common.{◌≡◌, ℕ, ◌+◌, ◌-◌, ◌*◌, ◌<◌, ◌≤◌, ◌⊎◌, inl, inr, Bool, true, false, List, Some, length, refl, sym, ◌∙◌, ap, arith, subst, append-nil}
 use Rattle.std.specs.Prelude.{if◌then◌else◌, nat_le}
-use Rattle.std.proofs.lemmas.Bool.Decides.{nat_tests}
+use Rattle.std.proofs.lemmas.Bool.{leb-false, lt-leb}
 use Rattle.std.proofs.lemmas.Nat.{le-div}
 use Rattle.d64_image.specs.Images.{Image, sector}
 use Rattle.disk_layout.proofs.Pieces.{row-le}
@@ -40,7 +40,7 @@ module _ (a : Image) (l : Layout) (n : ℕ) (f : File) (v : RelFile) (of : IsFil
       where
         by : (b : Bool) → nat_le r (records_had f) ≡ b → (if b then 0 else (full L (blocks_for L r) - records_had f)) ≡ 0
         by true e = refl
-        by false e = absurd (grind (arith, nat_tests, had, le))
+        by false e = absurd (omega (arith, leb-false r (records_had f) e, had, le))
 
     pub leaves-here : IsClean a → LeavesRecords a a l n (grown_to a f r) v
     leaves-here clean =
@@ -65,7 +65,7 @@ module _ (a : Image) (l : Layout) (n : ℕ) (f : File) (v : RelFile) (of : IsFil
   -- a record that is not there
   module _ (lt : records_in v < r) where
     absent : nat_le r (records_had f) ≡ false
-    absent = let h : records_had f < r = omega (arith, had, lt) in grind (arith, nat_tests)
+    absent = lt-leb r (records_had f) (omega (arith, had, lt))
 
     pub some-added : added L (records_had f) r ≡ full L (blocks_for L r) - records_had f
     some-added = ap (λ b. if b then 0 else (full L (blocks_for L r) - records_had f)) absent

@@ -1,7 +1,6 @@
 -- The directory's room for an entry: slot by slot, and sector by sector.
 use Rattle.std.proofs.Common.{ℕ, suc, ◌≡◌, ◌≢◌, ◌<◌, ◌+◌, ◌*◌, ◌++◌, ◌∷◌, List, Some, IsTrue, true, inl, inr, ap, arith, drop, length, sym, slice_index, subst, take, ◌∙◌}
-use Rattle.std.proofs.lemmas.Bool.{cases_eq}
-use Rattle.std.proofs.lemmas.Bool.Decides.{nat_tests}
+use Rattle.std.proofs.lemmas.Bool.{cases_eq, ne_eqb}
 use Rattle.std.proofs.lemmas.List.{drop_all, get_or-take, length-take}
 use Rattle.std.proofs.lemmas.Option.{slice_get-get_or, slice_get_within}
 use Rattle.std.specs.Prelude.{Contains, slice_get, not, nat_eq}
@@ -16,7 +15,7 @@ slot-used : (p : Place) (bytes : Sector) (k : ℕ) → slice_index bytes (32 * k
 slot-used p bytes k h =
     let same = slot-byte bytes k 2 (omega arith) in
     let n : type_byte (slot_in p bytes k) ≢ 0 = λ z. h (sym same ∙ z) in
-    let e : is_used (slot_in p bytes k) ≡ true = grind (arith, nat_tests) in
+    let e : is_used (slot_in p bytes k) ≡ true = ap not (ne_eqb (type_byte (slot_in p bytes k)) 0 n) in
     e
 
 pub used-more : (bytes : Sector) (n : ℕ) → ((k : ℕ) → k < n → slice_index bytes (32 * k + 2) ≢ 0) → slice_index bytes (32 * n + 2) ≢ 0 → (k : ℕ) → k < n + 1 → slice_index bytes (32 * k + 2) ≢ 0

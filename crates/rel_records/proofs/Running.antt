@@ -1,7 +1,7 @@
 -- Growth block by block: what its steps leave together.
 use Rattle.std.proofs.Common.{◌≡◌, ◌≢◌, ℕ, zero, suc, ◌+◌, ◌-◌, ◌*◌, ◌/◌, ◌%◌, ◌<◌, ◌≤◌, Bool, true, false, List, ◌++◌, length, refl, sym, ◌∙◌, ap, arith, subst, append_assoc, ap₂}
 use Rattle.std.specs.Prelude.{Some, if◌then◌else◌, nat_eq, replicate, slice_get}
-use Rattle.std.proofs.lemmas.Bool.Decides.{nat_tests}
+use Rattle.std.proofs.lemmas.Bool.{eqb-false, eqb-true}
 use Rattle.std.proofs.lemmas.Nat.{le-div}
 use Rattle.std.proofs.Math.Nat.{add-mul-div_left}
 use Rattle.d64_image.proofs.Moments.{changes_then, changes_weaker}
@@ -52,11 +52,11 @@ side-step n = by (nat_eq (n % 120) 0) refl
   where
     by : (b : Bool) → nat_eq (n % 120) 0 ≡ b → side_writes (n + 1) ≡ side_writes n + (if b then (sides_for n) else 0)
     by true e =
-        let z : n % 120 ≡ 0 = grind (arith, nat_tests) in
+        let z : n % 120 ≡ 0 = eqb-true (n % 120) 0 e in
         let more : sides_for (n + 1) ≡ sides_for n + 1 = omega (arith, z) in
         ap (λ s. s * (s - 1) / 2) more ∙ triangle (sides_for n)
     by false e =
-        let ne : n % 120 ≢ 0 = grind (arith, nat_tests) in
+        let ne : n % 120 ≢ 0 = eqb-false (n % 120) 0 e in
         let same : sides_for (n + 1) ≡ sides_for n = omega (arith, ne) in
         ap (λ s. s * (s - 1) / 2) same ∙ omega arith
 
@@ -197,11 +197,11 @@ room-step c w free had lt le e = by (nat_eq (c % 120) 0) refl
     by : (b : Bool) → nat_eq (c % 120) 0 ≡ b → needed (c + 1) w ≤ free
     by true t =
         let two : taken_next c ≡ 2 = ap (λ b. if b then 2 else 1) t in
-        let z : c % 120 ≡ 0 = grind (arith, nat_tests) in
+        let z : c % 120 ≡ 0 = eqb-true (c % 120) 0 t in
         omega (arith, two, le, e, z, lt)
     by false t =
         let one : taken_next c ≡ 1 = ap (λ b. if b then 2 else 1) t in
-        let ne : c % 120 ≢ 0 = grind (arith, nat_tests) in
+        let ne : c % 120 ≢ 0 = eqb-false (c % 120) 0 t in
         omega (arith, one, le, e, ne, lt)
 
 pub room-next : (c w had : ℕ) → c < w → needed c w ≤ had → taken_next c ≤ had
@@ -210,7 +210,7 @@ room-next c w had lt le = by (nat_eq (c % 120) 0) refl
     by : (b : Bool) → nat_eq (c % 120) 0 ≡ b → taken_next c ≤ had
     by true t =
         let two : taken_next c ≡ 2 = ap (λ b. if b then 2 else 1) t in
-        let z : c % 120 ≡ 0 = grind (arith, nat_tests) in
+        let z : c % 120 ≡ 0 = eqb-true (c % 120) 0 t in
         omega (arith, two, le, z, lt)
     by false t =
         let one : taken_next c ≡ 1 = ap (λ b. if b then 2 else 1) t in

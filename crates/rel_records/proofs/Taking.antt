@@ -1,6 +1,7 @@
 -- The next free sector is taken.
-use Rattle.std.proofs.Common.{◌≡◌, ◌<◌, ◌+◌, ◌%◌, ℕ, ◌⊎◌, inl, inr, true, List, [], ◌∷◌, ◌++◌, Option, Some, None, length, take, drop, arith, ap, ap₂, refl, subst, sym, ◌∙◌}
+use Rattle.std.proofs.Common.{◌≡◌, ◌≢◌, ◌<◌, ◌+◌, ◌%◌, ℕ, ◌⊎◌, inl, inr, Bool, true, false, ◌≤◌, List, [], ◌∷◌, ◌++◌, Option, Some, None, length, take, drop, arith, ap, ap₂, refl, subst, sym, ◌∙◌}
 use Rattle.std.specs.Prelude.{Contains, IsSome, MatchOption, nat_eq, if◌then◌else◌}
+use Rattle.std.proofs.lemmas.Bool.{eq-eqb, ne_eqb}
 use Rattle.d64_image.specs.declared.place.Place.{Place}
 use Rattle.d64_image.specs.Images.{Sector}
 use Rattle.disk_layout.proofs.FreeBlocks.{full-none, taken-block}
@@ -94,3 +95,28 @@ laid-out p m q fresh block k owned places last directory map blocks sides sector
       subst P places.number (subst R directory recounted);
   count = λ d. ap (λ n. count_field (slot_in d q.directory n)) (sym places.number) ∙ count d ∙ total ∙ ap₂ (λ xs ys. length xs + length ys) (sym blocks) (sym sides);
 }
+
+-- the sector of the block is all that is taken
+pub places-block : (p q : Parts) (fresh : Place) → TakesNext p.map.bytes q.map.bytes fresh → length p.blocks.items % 120 ≢ 0
+    → q.blocks.items ≡ p.blocks.items ++ fresh ∷ [] → q.sides.items ≡ p.sides.items → q.sector ≡ p.sector → q.number ≡ p.number → q.size ≡ p.size → TakesPlaces p q fresh
+places-block p q fresh first within blocks sides sector number size = record {
+  blocks = blocks;
+  unowned = first.unowned;
+  taken = inl (record { within = within; sides = sides; owned = first.owned });
+  header = (first.taken.rest.header.0, first.taken.rest.header.1);
+  free = (let one : taken_next (length p.blocks.items) ≡ 1 = ap (λ b. if b then 2 else 1) (ne_eqb (length p.blocks.items % 120) 0 within) in omega (arith, one, first.free));
+  sector = sector;
+  number = number;
+  size = size;
+}
+
+-- one sector is taken at least, and two where the side sectors are full
+pub taken-some : (n : ℕ) → 1 ≤ taken_next n
+taken-some n = by (nat_eq (n % 120) 0)
+  where
+    by : (b : Bool) → 1 ≤ (if b then 2 else 1)
+    by true = omega arith
+    by false = omega arith
+
+pub taken-two : (n : ℕ) → n % 120 ≡ 0 → taken_next n ≡ 2
+taken-two n full = ap (λ b. if b then 2 else 1) (eq-eqb (n % 120) 0 full)

@@ -23,7 +23,7 @@ mod step_parts;
 mod steps;
 mod writing;
 
-pub use counting::records;
+pub use counting::{has_records, records};
 pub use creation::create;
 pub use faults::RelFault;
 pub use finding::find;

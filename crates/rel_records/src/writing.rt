@@ -23,6 +23,8 @@ use d64_image::{Place, Sectors};
 
 /// Writes the text over the data bytes from `start` to below `end` of the block at `place`, and zeros where it is shorter.
 /// The answer is the block that it links to, where it does.
+// In line: a record that lies in one block has no use for the link, and then nobody asks where it leads.
+#[inline(always)]
 fn write_block<D: Sectors>(
     disk: &mut D,
     place: Place,
@@ -96,6 +98,7 @@ fn write_in_block<D: Sectors>(
 
 /// Writes the text into a record that is there, where it goes on behind the block at `place`, the one with this number, from
 /// 0, in which the position lies: first the part in that block, then the rest.
+#[inline(never)]
 fn write_across<D: Sectors>(
     disk: &mut D,
     file: &RelFile,

@@ -1,5 +1,5 @@
 -- Numbers of a fixed width, two digits at a time.
-use Rattle.std.proofs.Common.{◌≡◌, ℕ, zero, suc, ◌+◌, ◌*◌, ◌-◌, ◌/◌, ◌%◌, ◌<◌, ◌≤◌, Bool, true, ◌&&◌, T, eqb, List, ◌∷◌, ◌++◌, drop, length, get_or, set, ap, ap₂, sym, ◌∙◌, inl, inr, arith, eq-zero-or-pos, eqb→eq}
+use Rattle.std.proofs.Common.{◌≡◌, ℕ, zero, suc, ◌+◌, ◌*◌, ◌-◌, ◌/◌, ◌%◌, ◌<◌, ◌≤◌, Bool, true, ◌&&◌, T, eqb, List, ◌∷◌, ◌++◌, codes, drop, length, get_or, set, ap, ap₂, sym, ◌∙◌, inl, inr, arith, eq-zero-or-pos, eqb→eq}
 use lib.Ieee.Fits.{and_l, and_r}
 use Rattle.std.proofs.lemmas.List.{drop-set}
 use Rattle.request_cards.proofs.Widths.{fixed_more, fixed_none}
@@ -37,6 +37,16 @@ fixed_two w n tail =
     let ones : n % 10 ≡ n % 100 % 10 = omega arith in
     fixed_more (suc w) n tail ∙ fixed_more w (n / 10) ((48 + n % 10) ∷ tail)
     ∙ rw (left, tens, ones) λ i. fixed w (n / 100) ++ (48 + n % 100 / 10) ∷ (48 + n % 100 % 10) ∷ tail
+
+-- a number of at most four digits has five zeros in front
+pub nine_of_four : (n : ℕ) (tail : List ℕ) → n < 10000 → fixed 9 n ++ tail ≡ codes "00000" ++ (fixed 4 n ++ tail)
+unfolding fixed
+nine_of_four n tail few =
+    let none : n / 100 / 100 ≡ 0 = omega (arith, few) in
+    let two : List ℕ = (48 + n % 100 / 10) ∷ (48 + n % 100 % 10) ∷ tail in
+    let four : List ℕ = (48 + n / 100 % 100 / 10) ∷ (48 + n / 100 % 100 % 10) ∷ two in
+    fixed_two 7 n tail ∙ fixed_two 5 (n / 100) two ∙ ap (λ k. fixed 5 k ++ four) none
+    ∙ ap (λ xs. codes "00000" ++ xs) (sym (fixed_two 2 n tail ∙ fixed_two 0 (n / 100) two ∙ ap (λ xs. xs ++ four) (fixed_none (n / 100 / 100))))
 
 -- two more digits are written
 pub fixed_two_more : (text : List ℕ) (w i n end : ℕ) (room new : List ℕ)

@@ -12,23 +12,16 @@ use Rattle.disk_layout.specs.declared.faults.Fault.{Fault}
 use Rattle.std.specs.Prelude.{ℕ, Err}
 use Rattle.disk_layout.proofs.chain.walk_chain.Goals as goal
 
--- a sector that was visited
-pub returns-then-contains-clause-chain : goal.returns-then-contains-clause-chain
-returns-then-contains-clause-chain g c = tt
-
-pub returns-then-contains-clause-fault : goal.returns-then-contains-clause-fault
-returns-then-contains-clause-fault g c =
-    let old = c.chain.invariant in
-    (c.chain.places.items, (old.leads, old.once, (old.marks c.chain.at).0 (sym c.contains.ensures ∙ c.if-contains.true)))
-
-pub returns-then-contains-clause-failures : goal.returns-then-contains-clause-failures
-returns-then-contains-clause-failures g c = c.chain.invariant.failures
-
-pub returns-then-contains-clause-reads : goal.returns-then-contains-clause-reads
-returns-then-contains-clause-reads g c = c.chain.invariant.reads
-
-pub returns-then-contains-clause-few : goal.returns-then-contains-clause-few
-returns-then-contains-clause-few g c = omega (arith, c.chain.invariant.count)
+pub returns-then-contains : goal.returns-then-contains
+returns-then-contains g c = record {
+  -- a sector that was visited
+  chain = tt;
+  fault = let old = c.chain.invariant in
+      (c.chain.places.items, (old.leads, old.once, (old.marks c.chain.at).0 (sym c.contains.ensures ∙ c.if-contains.true)));
+  failures = c.chain.invariant.failures;
+  reads = c.chain.invariant.reads;
+  few = omega (arith, c.chain.invariant.count);
+}
 
 -- the next one
 pub insert-requires : goal.insert-requires
@@ -39,66 +32,24 @@ push-requires g c =
     let h : length c.chain.places.items < 720 = omega (arith, c.chain.invariant.count) in
     (lit< tt, h)
 
-pub returns-in_err-read_sector-clause-chain : goal.returns-in_err-read_sector-clause-chain
-returns-in_err-read_sector-clause-chain g c =
-    let p = err_from_is_err_and c.from_residual.result c.from_residual.ensures.1 in
-    rw p.1 tt
-
-pub returns-in_err-read_sector-clause-fault : goal.returns-in_err-read_sector-clause-fault
-returns-in_err-read_sector-clause-fault g c =
-    let S = g.D.Sectors.history in
-    let p = err_from_is_err_and c.from_residual.result c.from_residual.ensures.1 in
-    let P : Fault → Type 0 = HoldsOfChain (S.failed_at c.read_sector.new.disk) (S.image c.args.disk.now) c.args.first in
-    rw (p.1, p.2) (subst P (sym c.in_err-read_sector.ensures.told) c.in_err-read_sector.ensures.failed)
-
-pub returns-in_err-read_sector-clause-failures : goal.returns-in_err-read_sector-clause-failures
-returns-in_err-read_sector-clause-failures g c =
-    let S = g.D.Sectors.history in
-    let p = err_from_is_err_and c.from_residual.result c.from_residual.ensures.1 in
-    let P : Fault → Type 0 = λ f. TellsFault {T = ℕ} S c.args.disk.now c.read_sector.new.disk (Err f) in
-    rw (p.1, p.2) (subst P (sym c.in_err-read_sector.ensures.told) (failed_later S c.args.disk.now c.chain.disk c.read_sector.new.disk c.chain.invariant.failures c.in_err-read_sector.ensures.failures))
-
-pub returns-in_err-read_sector-clause-reads : goal.returns-in_err-read_sector-clause-reads
-returns-in_err-read_sector-clause-reads g c = reads_then g.D.Sectors.history _ _ _ (length c.chain.places.items) 1 (length c.push.new.self.items) (omega (arith, c.push.ensures.len)) c.chain.invariant.reads c.read_sector.ensures.reads
-
-pub returns-in_err-read_sector-clause-few : goal.returns-in_err-read_sector-clause-few
-returns-in_err-read_sector-clause-few g c = omega (arith, c.push.ensures.len, c.insert.ensures.room, c.chain.invariant.count)
-
-pub returns-then-sector-eq0-clause-failures : goal.returns-then-sector-eq0-clause-failures
-returns-then-sector-eq0-clause-failures g c = c.in_ok-read_sector.ensures.failures ∙ c.chain.invariant.failures
-
-pub returns-then-sector-eq0-clause-reads : goal.returns-then-sector-eq0-clause-reads
-returns-then-sector-eq0-clause-reads g c = reads_then g.D.Sectors.history _ _ _ (length c.chain.places.items) 1 (length c.push.new.self.items) (omega (arith, c.push.ensures.len)) c.chain.invariant.reads c.read_sector.ensures.reads
-
-pub returns-then-sector-eq0-clause-few : goal.returns-then-sector-eq0-clause-few
-returns-then-sector-eq0-clause-few g c = omega (arith, c.push.ensures.len, c.insert.ensures.room, c.chain.invariant.count)
-
-pub returns-in-None-clause-failures : goal.returns-in-None-clause-failures
-returns-in-None-clause-failures g c = c.in_ok-read_sector.ensures.failures ∙ c.chain.invariant.failures
-
-pub returns-in-None-clause-reads : goal.returns-in-None-clause-reads
-returns-in-None-clause-reads g c = reads_then g.D.Sectors.history _ _ _ (length c.chain.places.items) 1 (length c.push.new.self.items) (omega (arith, c.push.ensures.len)) c.chain.invariant.reads c.read_sector.ensures.reads
-
-pub returns-in-None-clause-few : goal.returns-in-None-clause-few
-returns-in-None-clause-few g c = omega (arith, c.push.ensures.len, c.insert.ensures.room, c.chain.invariant.count)
+pub returns-in_err-read_sector : goal.returns-in_err-read_sector
+returns-in_err-read_sector g c = record {
+  chain = let p = err_from_is_err_and c.from_residual.result c.from_residual.ensures.1 in
+      rw p.1 tt;
+  fault = let S = g.D.Sectors.history in
+      let p = err_from_is_err_and c.from_residual.result c.from_residual.ensures.1 in
+      let P : Fault → Type 0 = HoldsOfChain (S.failed_at c.read_sector.new.disk) (S.image c.args.disk.now) c.args.first in
+      rw (p.1, p.2) (subst P (sym c.in_err-read_sector.ensures.told) c.in_err-read_sector.ensures.failed);
+  failures = let S = g.D.Sectors.history in
+      let p = err_from_is_err_and c.from_residual.result c.from_residual.ensures.1 in
+      let P : Fault → Type 0 = λ f. TellsFault {T = ℕ} S c.args.disk.now c.read_sector.new.disk (Err f) in
+      rw (p.1, p.2) (subst P (sym c.in_err-read_sector.ensures.told) (failed_later S c.args.disk.now c.chain.disk c.read_sector.new.disk c.chain.invariant.failures c.in_err-read_sector.ensures.failures));
+  reads = reads_then g.D.Sectors.history _ _ _ (length c.chain.places.items) 1 (length c.push.new.self.items) (omega (arith, c.push.ensures.len)) c.chain.invariant.reads c.read_sector.ensures.reads;
+  few = omega (arith, c.push.ensures.len, c.insert.ensures.room, c.chain.invariant.count);
+}
 
 pub chain-smaller : goal.chain-smaller
 chain-smaller g c = omega (arith, c.insert.ensures.room)
-
-pub returns-then-sector-eq0-clause-chain : goal.returns-then-sector-eq0-clause-chain
-returns-then-sector-eq0-clause-chain g c =
-    let old = c.chain.invariant in
-    rw c.push.ensures.items (walk-end _ c.args.first c.chain.at c.chain.places.items _ old.leads old.once
-    (not_in c.chain.visited c.chain.places.items c.chain.at old.marks (sym c.contains.ensures ∙ c.if-contains.false))
-    (end-read _ _ c.chain.at c.read_sector.new.to old.reads.image c.in_ok-read_sector.ensures.sector c.if-sector-eq0.true))
-
-pub returns-in-None-clause-fault : goal.returns-in-None-clause-fault
-returns-in-None-clause-fault g c =
-    let old = c.chain.invariant in (
-      c.chain.places.items,
-      (old.leads, EachOnce-push _ _ old.once (not_in c.chain.visited _ _ old.marks (sym c.contains.ensures ∙ c.if-contains.false))),
-      nowhere-read _ _ c.chain.at c.read_sector.new.to old.reads.image c.in_ok-read_sector.ensures.sector c.if-sector-eq0.false (λ h. false≢true (c.in-None.ensures.on_disk.1 h)),
-    )
 
 pub chain-preserved : goal.chain-preserved
 chain-preserved g c =
@@ -112,3 +63,28 @@ chain-preserved g c =
       reads = reads_then S _ _ _ (length c.chain.places.items) 1 (length c.push.new.self.items) (omega (arith, c.push.ensures.len)) old.reads c.read_sector.ensures.reads;
       failures = c.in_ok-read_sector.ensures.failures ∙ old.failures;
     }
+
+pub returns-then-sector-eq0 : goal.returns-then-sector-eq0
+returns-then-sector-eq0 g c = record {
+  chain = let old = c.chain.invariant in
+      rw c.push.ensures.items (walk-end _ c.args.first c.chain.at c.chain.places.items _ old.leads old.once
+      (not_in c.chain.visited c.chain.places.items c.chain.at old.marks (sym c.contains.ensures ∙ c.if-contains.false))
+      (end-read _ _ c.chain.at c.read_sector.new.to old.reads.image c.in_ok-read_sector.ensures.sector c.if-sector-eq0.true));
+  fault = tt;
+  failures = c.in_ok-read_sector.ensures.failures ∙ c.chain.invariant.failures;
+  reads = reads_then g.D.Sectors.history _ _ _ (length c.chain.places.items) 1 (length c.push.new.self.items) (omega (arith, c.push.ensures.len)) c.chain.invariant.reads c.read_sector.ensures.reads;
+  few = omega (arith, c.push.ensures.len, c.insert.ensures.room, c.chain.invariant.count);
+}
+
+pub returns-in-None : goal.returns-in-None
+returns-in-None g c = record {
+  chain = tt;
+  fault = let old = c.chain.invariant in (
+    c.chain.places.items,
+    (old.leads, EachOnce-push _ _ old.once (not_in c.chain.visited _ _ old.marks (sym c.contains.ensures ∙ c.if-contains.false))),
+    nowhere-read _ _ c.chain.at c.read_sector.new.to old.reads.image c.in_ok-read_sector.ensures.sector c.if-sector-eq0.false (λ h. false≢true (c.in-None.ensures.on_disk.1 h)),
+  );
+  failures = c.in_ok-read_sector.ensures.failures ∙ c.chain.invariant.failures;
+  reads = reads_then g.D.Sectors.history _ _ _ (length c.chain.places.items) 1 (length c.push.new.self.items) (omega (arith, c.push.ensures.len)) c.chain.invariant.reads c.read_sector.ensures.reads;
+  few = omega (arith, c.push.ensures.len, c.insert.ensures.room, c.chain.invariant.count);
+}

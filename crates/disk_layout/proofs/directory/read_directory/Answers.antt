@@ -9,40 +9,8 @@ use Rattle.disk_layout.specs.Fault.{HoldsOfDirectory, TellsFault}
 use Rattle.disk_layout.specs.declared.faults.Fault.{Fault}
 use Rattle.disk_layout.proofs.directory.read_directory.Goals as goal
 
-pub returns-in_err-read_sector-clause-ok : goal.returns-in_err-read_sector-clause-ok
-returns-in_err-read_sector-clause-ok g c =
-    let p = err_from_is_err_and c.from_residual.result c.from_residual.ensures.1 in
-    rw p.1 tt
-
-pub returns-in_err-read_sector-clause-err : goal.returns-in_err-read_sector-clause-err
-returns-in_err-read_sector-clause-err g c =
-    let S = g.D.Sectors.history in
-    let p = err_from_is_err_and c.from_residual.result c.from_residual.ensures.1 in
-    let P : Fault → Type 0 = HoldsOfDirectory (S.failed_at c.read_sector.new.disk) (S.image c.args.disk.now) in
-    rw (p.1, p.2) (subst P (sym c.in_err-read_sector.ensures.told) c.in_err-read_sector.ensures.failed)
-
-pub returns-in_err-read_sector-clause-failures : goal.returns-in_err-read_sector-clause-failures
-returns-in_err-read_sector-clause-failures g c =
-    let S = g.D.Sectors.history in
-    let p = err_from_is_err_and c.from_residual.result c.from_residual.ensures.1 in
-    let P : Fault → Type 0 = λ f. TellsFault {T = Unit {0}} S c.args.disk.now c.read_sector.new.disk (Err f) in
-    rw (p.1, p.2) (subst P (sym c.in_err-read_sector.ensures.told) (failed_later S c.args.disk.now c.sectors.disk c.read_sector.new.disk c.sectors.invariant.failures c.in_err-read_sector.ensures.failures))
-
 pub add_used-requires : goal.add_used-requires
 add_used-requires g c = omega (arith, c.sectors.invariant.room, c.sectors.invariant.few)
-
-pub returns-then-sector-eq0-clause-failures : goal.returns-then-sector-eq0-clause-failures
-returns-then-sector-eq0-clause-failures g c = c.in_ok-read_sector.ensures.failures ∙ c.sectors.invariant.failures
-
-pub returns-in_default-clause-failures : goal.returns-in_default-clause-failures
-returns-in_default-clause-failures g c = c.in_ok-read_sector.ensures.failures ∙ c.sectors.invariant.failures
-
-pub returns-then-contains-clause-failures : goal.returns-then-contains-clause-failures
-returns-then-contains-clause-failures g c = c.in_ok-read_sector.ensures.failures ∙ c.sectors.invariant.failures
-
-pub returns-then-contains-clause-reads : goal.returns-then-contains-clause-reads
-returns-then-contains-clause-reads g c =
-    reads_then g.D.Sectors.history _ _ _ _ 1 18 (omega (arith, c.sectors.invariant.few)) c.sectors.invariant.reads c.read_sector.ensures.reads
 
 pub sectors-init : goal.sectors-init
 sectors-init g c = record {
@@ -54,36 +22,20 @@ sectors-init g c = record {
   few = omega (arith, ap length c.new-visited.ensures);
 }
 
-pub returns-in_err-read_sector-clause-reads : goal.returns-in_err-read_sector-clause-reads
-returns-in_err-read_sector-clause-reads g c =
-    reads_then g.D.Sectors.history _ _ _ _ 1 18 (omega (arith, c.sectors.invariant.few)) c.sectors.invariant.reads c.read_sector.ensures.reads
-
-pub returns-then-sector-eq0-clause-ok : goal.returns-then-sector-eq0-clause-ok
-returns-then-sector-eq0-clause-ok g c =
-    let old = c.sectors.invariant in
-    let read = read-now _ _ c.sectors.at c.read_sector.new.to old.reads.image c.in_ok-read_sector.ensures.sector in
-    directory-whole _ c.sectors.visited.items c.sectors.at c.read_sector.new.to _ old.reached read c.if-sector-eq0.true
-    (used-more _ c.sectors.visited.items c.sectors.at c.read_sector.new.to _ _ old.slots read c.add_used.ensures.items)
-
-pub returns-then-sector-eq0-clause-reads : goal.returns-then-sector-eq0-clause-reads
-returns-then-sector-eq0-clause-reads g c =
-    reads_then g.D.Sectors.history _ _ _ _ 1 18 (omega (arith, c.sectors.invariant.few)) c.sectors.invariant.reads c.read_sector.ensures.reads
-
-pub returns-in_default-clause-err : goal.returns-in_default-clause-err
-returns-in_default-clause-err g c =
-    let old = c.sectors.invariant in
-    let read = read-now _ _ c.sectors.at c.read_sector.new.to old.reads.image c.in_ok-read_sector.ensures.sector in
-    bad-link _ c.sectors.visited.items c.sectors.at c.read_sector.new.to old.reached read c.if-sector-eq0.false c.in_default.ensures
-
-pub returns-in_default-clause-reads : goal.returns-in_default-clause-reads
-returns-in_default-clause-reads g c =
-    reads_then g.D.Sectors.history _ _ _ _ 1 18 (omega (arith, c.sectors.invariant.few)) c.sectors.invariant.reads c.read_sector.ensures.reads
-
-pub returns-then-contains-clause-err : goal.returns-then-contains-clause-err
-returns-then-contains-clause-err g c =
-    let old = c.sectors.invariant in
-    let read = read-now _ _ c.sectors.at c.read_sector.new.to old.reads.image c.in_ok-read_sector.ensures.sector in
-    comes-back _ c.sectors.visited.items c.sectors.at c.in-Some.next c.read_sector.new.to old.reached read c.in-Some.ensures.0 (rw c.push.ensures.items at (c.contains.ensures.0 c.if-contains.true))
+pub returns-in_err-read_sector : goal.returns-in_err-read_sector
+returns-in_err-read_sector g c = record {
+  ok = let p = err_from_is_err_and c.from_residual.result c.from_residual.ensures.1 in
+      rw p.1 tt;
+  err = let S = g.D.Sectors.history in
+      let p = err_from_is_err_and c.from_residual.result c.from_residual.ensures.1 in
+      let P : Fault → Type 0 = HoldsOfDirectory (S.failed_at c.read_sector.new.disk) (S.image c.args.disk.now) in
+      rw (p.1, p.2) (subst P (sym c.in_err-read_sector.ensures.told) c.in_err-read_sector.ensures.failed);
+  failures = let S = g.D.Sectors.history in
+      let p = err_from_is_err_and c.from_residual.result c.from_residual.ensures.1 in
+      let P : Fault → Type 0 = λ f. TellsFault {T = Unit {0}} S c.args.disk.now c.read_sector.new.disk (Err f) in
+      rw (p.1, p.2) (subst P (sym c.in_err-read_sector.ensures.told) (failed_later S c.args.disk.now c.sectors.disk c.read_sector.new.disk c.sectors.invariant.failures c.in_err-read_sector.ensures.failures));
+  reads = reads_then g.D.Sectors.history _ _ _ _ 1 18 (omega (arith, c.sectors.invariant.few)) c.sectors.invariant.reads c.read_sector.ensures.reads;
+}
 
 pub sectors-preserved : goal.sectors-preserved
 sectors-preserved g c =
@@ -99,3 +51,34 @@ sectors-preserved g c =
       room = omega (arith, old.room, c.add_used.ensures.room, c.push.ensures.len);
       few = omega (arith, few-before _ _ _ next, ap length c.push.ensures.items);
     }
+
+pub returns-then-sector-eq0 : goal.returns-then-sector-eq0
+returns-then-sector-eq0 g c = record {
+  ok = let old = c.sectors.invariant in
+      let read = read-now _ _ c.sectors.at c.read_sector.new.to old.reads.image c.in_ok-read_sector.ensures.sector in
+      directory-whole _ c.sectors.visited.items c.sectors.at c.read_sector.new.to _ old.reached read c.if-sector-eq0.true
+      (used-more _ c.sectors.visited.items c.sectors.at c.read_sector.new.to _ _ old.slots read c.add_used.ensures.items);
+  err = tt;
+  failures = c.in_ok-read_sector.ensures.failures ∙ c.sectors.invariant.failures;
+  reads = reads_then g.D.Sectors.history _ _ _ _ 1 18 (omega (arith, c.sectors.invariant.few)) c.sectors.invariant.reads c.read_sector.ensures.reads;
+}
+
+pub returns-in_default : goal.returns-in_default
+returns-in_default g c = record {
+  ok = tt;
+  err = let old = c.sectors.invariant in
+      let read = read-now _ _ c.sectors.at c.read_sector.new.to old.reads.image c.in_ok-read_sector.ensures.sector in
+      bad-link _ c.sectors.visited.items c.sectors.at c.read_sector.new.to old.reached read c.if-sector-eq0.false c.in_default.ensures;
+  failures = c.in_ok-read_sector.ensures.failures ∙ c.sectors.invariant.failures;
+  reads = reads_then g.D.Sectors.history _ _ _ _ 1 18 (omega (arith, c.sectors.invariant.few)) c.sectors.invariant.reads c.read_sector.ensures.reads;
+}
+
+pub returns-then-contains : goal.returns-then-contains
+returns-then-contains g c = record {
+  ok = tt;
+  err = let old = c.sectors.invariant in
+      let read = read-now _ _ c.sectors.at c.read_sector.new.to old.reads.image c.in_ok-read_sector.ensures.sector in
+      comes-back _ c.sectors.visited.items c.sectors.at c.in-Some.next c.read_sector.new.to old.reached read c.in-Some.ensures.0 (rw c.push.ensures.items at (c.contains.ensures.0 c.if-contains.true));
+  failures = c.in_ok-read_sector.ensures.failures ∙ c.sectors.invariant.failures;
+  reads = reads_then g.D.Sectors.history _ _ _ _ 1 18 (omega (arith, c.sectors.invariant.few)) c.sectors.invariant.reads c.read_sector.ensures.reads;
+}

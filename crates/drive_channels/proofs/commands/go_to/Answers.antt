@@ -1,6 +1,8 @@
 use Rattle.std.proofs.Common.{ℕ, ◌+◌, ◌*◌, ◌/◌, ◌≤◌, ◌<◌, subst, arith}
 use Rattle.drive_channels.proofs.Moves.{among, behind, large-row, past-row, placed-row}
+use Rattle.drive_channels.proofs.Orders.{no-truth}
 use Rattle.drive_channels.proofs.commands.go_to.Goals as goal
+use Rattle.rel_records.specs.File.{records_in}
 
 pub returns-then-wanted-length-clause-row : goal.returns-then-wanted-length-clause-row
 returns-then-wanted-length-clause-row c = λ img s b found. past-row img c.args.found.now c.args.spot.now c.args.wanted s b found (omega (arith, c.length-length.ensures.value, c.if-wanted-length.true))
@@ -9,12 +11,14 @@ pub returns-then-wanted-length-gt720-clause-row : goal.returns-then-wanted-lengt
 returns-then-wanted-length-gt720-clause-row c = λ img s b found. large-row img c.args.found.now c.args.spot.now c.args.wanted s b found (omega (arith, c.length-length.ensures.value, c.if-wanted-length.false))
     (subst (λ (L : ℕ). 720 < (c.args.wanted.record_number * L + 253) / 254) c.length-length.ensures.value (omega (arith, c.if-wanted-length-gt720.true)))
 
-pub returns-then-wanted-records-clause-row : goal.returns-then-wanted-records-clause-row
-returns-then-wanted-records-clause-row c = λ img s b found. placed-row img c.args.found.now c.args.spot.now c.args.wanted s b found (omega (arith, c.length-length.ensures.value, c.if-wanted-length.false))
+pub returns-then-not-has_records-clause-row : goal.returns-then-not-has_records-clause-row
+returns-then-not-has_records-clause-row c =
+    let absent : ¬ (c.args.wanted.record_number ≤ records_in c.args.found.now.file) = λ there. no-truth _ c.if-not-has_records.true (c.has_records.ensures.1 there) in
+    λ img s b found. placed-row img c.args.found.now c.args.spot.now c.args.wanted s b found (omega (arith, c.length-length.ensures.value, c.if-wanted-length.false))
     (subst (λ (L : ℕ). (c.args.wanted.record_number * L + 253) / 254 ≤ 720) c.length-length.ensures.value (omega (arith, c.if-wanted-length-gt720.false)))
-    _ (behind c.args.wanted.record_number _ (omega (arith, c.records.ensures, c.if-wanted-records.true)))
+    _ (behind c.args.wanted.record_number _ (omega (arith, absent)))
 
 pub returns-clause-row : goal.returns-clause-row
 returns-clause-row c = λ img s b found. placed-row img c.args.found.now c.args.spot.now c.args.wanted s b found (omega (arith, c.length-length.ensures.value, c.if-wanted-length.false))
     (subst (λ (L : ℕ). (c.args.wanted.record_number * L + 253) / 254 ≤ 720) c.length-length.ensures.value (omega (arith, c.if-wanted-length-gt720.false)))
-    _ (among c.args.wanted.record_number _ (omega (arith, c.records.ensures, c.if-wanted-records.false)))
+    _ (among c.args.wanted.record_number _ (c.has_records.ensures.0 c.if-not-has_records.false))

@@ -5,34 +5,30 @@ use Rattle.host_session.proofs.Cuts.{cut_later, cut_moments, cut_writes}
 use Rattle.host_session.specs.Shop.{IsShop}
 use Rattle.host_session.proofs.cutting.cut_opening.Goals as goal
 
-pub returns-in-Ok-clause-moments : goal.returns-in-Ok-clause-moments
-returns-in-Ok-clause-moments g c = λ s shop.
-    cut_moments g.D.Sectors.history s 952 c.args.disk c.into_inner.result c.new.result c.in-Ok.session.disk c.new.ensures.disk
-    (c.into_inner.ensures ∙ ap fuse_disk c.close.ensures) shop (c.in-Ok.ensures.moments s)
+pub returns-in-Ok : goal.returns-in-Ok
+returns-in-Ok g c = record {
+  moments = λ s shop.
+      cut_moments g.D.Sectors.history s 952 c.args.disk c.into_inner.result c.new.result c.in-Ok.session.disk c.new.ensures.disk
+      (c.into_inner.ensures ∙ ap fuse_disk c.close.ensures) shop (c.in-Ok.ensures.moments s);
+  writes = λ s shop.
+      cut_writes g.D.Sectors.history c.args.writes 952 c.args.disk c.into_inner.result c.new.result c.in-Ok.session.disk (λ i. IsShop i s) c.new.ensures.disk
+      (c.into_inner.ensures ∙ ap fuse_disk c.close.ensures) c.new.ensures.limit
+      (c.in-Ok.ensures.moments s (subst (λ d. IsShop (g.D.Sectors.history.image d) s) (sym c.new.ensures.disk) shop));
+  later = λ s shop.
+      cut_later g.D.Sectors.history s 952 c.args.disk c.into_inner.result c.new.result c.in-Ok.session.disk c.new.ensures.disk
+      (c.into_inner.ensures ∙ ap fuse_disk c.close.ensures) shop (c.in-Ok.ensures.moments s);
+}
 
-pub returns-in-Ok-clause-writes : goal.returns-in-Ok-clause-writes
-returns-in-Ok-clause-writes g c = λ s shop.
-    cut_writes g.D.Sectors.history c.args.writes 952 c.args.disk c.into_inner.result c.new.result c.in-Ok.session.disk (λ i. IsShop i s) c.new.ensures.disk
-    (c.into_inner.ensures ∙ ap fuse_disk c.close.ensures) c.new.ensures.limit
-    (c.in-Ok.ensures.moments s (subst (λ d. IsShop (g.D.Sectors.history.image d) s) (sym c.new.ensures.disk) shop))
-
-pub returns-in-Ok-clause-later : goal.returns-in-Ok-clause-later
-returns-in-Ok-clause-later g c = λ s shop.
-    cut_later g.D.Sectors.history s 952 c.args.disk c.into_inner.result c.new.result c.in-Ok.session.disk c.new.ensures.disk
-    (c.into_inner.ensures ∙ ap fuse_disk c.close.ensures) shop (c.in-Ok.ensures.moments s)
-
-pub returns-in-Err-clause-moments : goal.returns-in-Err-clause-moments
-returns-in-Err-clause-moments g c = λ s shop.
-    cut_moments g.D.Sectors.history s 952 c.args.disk c.into_inner-in-Err.result c.new.result c.in-Err.fuse c.new.ensures.disk
-    c.into_inner-in-Err.ensures shop (c.in-Err.ensures.moments s)
-
-pub returns-in-Err-clause-writes : goal.returns-in-Err-clause-writes
-returns-in-Err-clause-writes g c = λ s shop.
-    cut_writes g.D.Sectors.history c.args.writes 952 c.args.disk c.into_inner-in-Err.result c.new.result c.in-Err.fuse (λ i. IsShop i s) c.new.ensures.disk
-    c.into_inner-in-Err.ensures c.new.ensures.limit
-    (c.in-Err.ensures.moments s (subst (λ d. IsShop (g.D.Sectors.history.image d) s) (sym c.new.ensures.disk) shop))
-
-pub returns-in-Err-clause-later : goal.returns-in-Err-clause-later
-returns-in-Err-clause-later g c = λ s shop.
-    cut_later g.D.Sectors.history s 952 c.args.disk c.into_inner-in-Err.result c.new.result c.in-Err.fuse c.new.ensures.disk
-    c.into_inner-in-Err.ensures shop (c.in-Err.ensures.moments s)
+pub returns-in-Err : goal.returns-in-Err
+returns-in-Err g c = record {
+  moments = λ s shop.
+      cut_moments g.D.Sectors.history s 952 c.args.disk c.into_inner-in-Err.result c.new.result c.in-Err.fuse c.new.ensures.disk
+      c.into_inner-in-Err.ensures shop (c.in-Err.ensures.moments s);
+  writes = λ s shop.
+      cut_writes g.D.Sectors.history c.args.writes 952 c.args.disk c.into_inner-in-Err.result c.new.result c.in-Err.fuse (λ i. IsShop i s) c.new.ensures.disk
+      c.into_inner-in-Err.ensures c.new.ensures.limit
+      (c.in-Err.ensures.moments s (subst (λ d. IsShop (g.D.Sectors.history.image d) s) (sym c.new.ensures.disk) shop));
+  later = λ s shop.
+      cut_later g.D.Sectors.history s 952 c.args.disk c.into_inner-in-Err.result c.new.result c.in-Err.fuse c.new.ensures.disk
+      c.into_inner-in-Err.ensures shop (c.in-Err.ensures.moments s);
+}

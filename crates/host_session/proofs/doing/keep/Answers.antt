@@ -23,3 +23,39 @@ pub returns-clause-moments : goal.returns-clause-moments
 returns-clause-moments g c = λ f h k.
     changes_weaker g.D.Sectors.history c.args.drive.now.disk c.put_intent.new.drive.disk _ _ _ _
     (omega (arith, intent-writes f c.args.request.now c.args.card.now k (sym c.pending.ensures ∙ c.if-not-pending.false) h.stock_file)) (λ i x. x) (c.put_intent.ensures.moments f h k)
+
+pub returns-then-not-pending-clause-ready : goal.returns-then-not-pending-clause-ready
+returns-then-not-pending-clause-ready g c = c.put_refusal.ensures.ready
+
+pub returns-then-not-pending-clause-ok : goal.returns-then-not-pending-clause-ok
+returns-then-not-pending-clause-ok g c = c.put_refusal.ensures.ok
+
+pub returns-then-not-pending-clause-failures : goal.returns-then-not-pending-clause-failures
+returns-then-not-pending-clause-failures g c = c.put_refusal.ensures.failures
+
+pub returns-then-not-pending-clause-dies : goal.returns-then-not-pending-clause-dies
+returns-then-not-pending-clause-dies g c = c.put_refusal.ensures.dies
+
+pub returns-then-is_new-clause-ready : goal.returns-then-is_new-clause-ready
+returns-then-is_new-clause-ready g c = c.put_first_set.ensures.ready
+
+pub returns-then-is_new-clause-ok : goal.returns-then-is_new-clause-ok
+returns-then-is_new-clause-ok g c = c.put_first_set.ensures.ok
+
+pub returns-then-is_new-clause-failures : goal.returns-then-is_new-clause-failures
+returns-then-is_new-clause-failures g c = c.put_first_set.ensures.failures
+
+pub returns-then-is_new-clause-dies : goal.returns-then-is_new-clause-dies
+returns-then-is_new-clause-dies g c = c.put_first_set.ensures.dies
+
+pub returns-clause-ready : goal.returns-clause-ready
+returns-clause-ready g c = c.put_intent.ensures.ready
+
+pub returns-clause-ok : goal.returns-clause-ok
+returns-clause-ok g c = c.put_intent.ensures.ok
+
+pub returns-clause-failures : goal.returns-clause-failures
+returns-clause-failures g c = c.put_intent.ensures.failures
+
+pub returns-clause-dies : goal.returns-clause-dies
+returns-clause-dies g c = c.put_intent.ensures.dies

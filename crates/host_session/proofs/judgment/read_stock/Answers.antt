@@ -1,5 +1,5 @@
 -- One item more is read in each turn; the first bad one is the lowest.
-use Rattle.std.proofs.Common.{ℕ, Err, IfErr, List, Option, Result, ap, arith, inl, inr, refl, set, subst, sym, ◌*◌, ◌+◌, ◌∙◌, ◌≡◌}
+use Rattle.std.proofs.Common.{ℕ, Err, IfErr, Option, Result, ap, arith, inl, inr, refl, set, subst, sym, ◌*◌, ◌+◌, ◌∙◌, ◌≡◌}
 use Rattle.std.proofs.lemmas.Result.{err_from_is_err_and}
 use Rattle.d64_image.proofs.Moments.{failed_later, no_reads, reads_then, reads_weaker}
 use Rattle.d64_image.specs.History.{Failed}

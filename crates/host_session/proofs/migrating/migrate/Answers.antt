@@ -27,27 +27,6 @@ migrate_till-requires-clause-table g c =
     let same : c.loop-place.place ≡ (c.loop-place.place + 1) - 1 = omega arith in
     (s, subst (HasNewTable (S.image c.loop-place.drive.disk) s c.loop-place.requests) same (c.loop-place.invariant.so_far s h).0)
 
-pub returns-in_err-migrate_till-clause-moments : goal.returns-in_err-migrate_till-clause-moments
-returns-in_err-migrate_till-clause-moments g c = λ s h.
-    let S = g.D.Sectors.history in
-    let (table, changes) = c.loop-place.invariant.so_far s h in
-    let same : c.loop-place.place ≡ (c.loop-place.place + 1) - 1 = omega arith in
-    let now = subst (HasNewTable (S.image c.loop-place.drive.disk) s c.loop-place.requests) same table in
-    changes_then S c.args.drive.now.disk c.loop-place.drive.disk c.migrate_till.new.drive.disk c.loop-place.place 1 64 (λ i. IsShop i s) (omega (arith, c.loop-place-test.true)) changes (c.migrate_till.ensures.moments s now)
-
-pub returns-in_err-migrate_till-clause-quiet : goal.returns-in_err-migrate_till-clause-quiet
-returns-in_err-migrate_till-clause-quiet g c = λ young.
-    let (drive, requests) = c.loop-place.invariant.quiet young in
-    let (d, r) = c.migrate_till.ensures.quiet (ap (λ t. is_old (nth t (c.loop-place.place + 1))) requests ∙ table-none_old c.args.requests.now young c.loop-place.place) in
-    (d ∙ drive, r ∙ requests)
-
-pub returns-in_err-migrate_till-clause-failures : goal.returns-in_err-migrate_till-clause-failures
-returns-in_err-migrate_till-clause-failures g c =
-    let S = g.D.Sectors.history in
-    let p = err_from_is_err_and c.from_residual.result c.from_residual.ensures.1 in
-    subst (λ (r : Result (Unit {0}) Dead). TellsFailure S c.args.drive.now.disk c.migrate_till.new.drive.disk r) (sym (p.1 ∙ ap Err p.2))
-    (failed_later S c.args.drive.now.disk c.loop-place.drive.disk c.migrate_till.new.drive.disk c.loop-place.invariant.failures c.in_err-migrate_till.ensures.failures)
-
 pub loop-place-preserved : goal.loop-place-preserved
 loop-place-preserved g c =
     let S = g.D.Sectors.history in
@@ -68,11 +47,38 @@ loop-place-preserved g c =
           (d ∙ drive, r ∙ requests);
     }
 
-pub returns-clause-ok : goal.returns-clause-ok
-returns-clause-ok g c = λ s h.
-    let n : c.loop-place.place ≡ 64 = omega (arith, c.loop-place.invariant.few, c.loop-place-test.false) in
-    subst (HasNewTable (g.D.Sectors.history.image c.loop-place.drive.disk) s c.loop-place.requests) n (c.loop-place.invariant.so_far s h).0
+pub returns-in_err-migrate_till : goal.returns-in_err-migrate_till
+returns-in_err-migrate_till g c =
+    let p = err_from_is_err_and c.from_residual.result c.from_residual.ensures.1 in
+    record {
+      ready = rw p.1 tt;
+      ok = rw p.1 (λ s h. tt);
+      moments = λ s h.
+          let S = g.D.Sectors.history in
+          let (table, changes) = c.loop-place.invariant.so_far s h in
+          let same : c.loop-place.place ≡ (c.loop-place.place + 1) - 1 = omega arith in
+          let now = subst (HasNewTable (S.image c.loop-place.drive.disk) s c.loop-place.requests) same table in
+          changes_then S c.args.drive.now.disk c.loop-place.drive.disk c.migrate_till.new.drive.disk c.loop-place.place 1 64 (λ i. IsShop i s) (omega (arith, c.loop-place-test.true)) changes (c.migrate_till.ensures.moments s now);
+      quiet = λ young.
+          let (drive, requests) = c.loop-place.invariant.quiet young in
+          let (d, r) = c.migrate_till.ensures.quiet (ap (λ t. is_old (nth t (c.loop-place.place + 1))) requests ∙ table-none_old c.args.requests.now young c.loop-place.place) in
+          (d ∙ drive, r ∙ requests);
+      failures = let S = g.D.Sectors.history in
+          let p = err_from_is_err_and c.from_residual.result c.from_residual.ensures.1 in
+          subst (λ (r : Result (Unit {0}) Dead). TellsFailure S c.args.drive.now.disk c.migrate_till.new.drive.disk r) (sym (p.1 ∙ ap Err p.2))
+          (failed_later S c.args.drive.now.disk c.loop-place.drive.disk c.migrate_till.new.drive.disk c.loop-place.invariant.failures c.in_err-migrate_till.ensures.failures);
+      dies = rw p.1 (λ is. c.in_err-migrate_till.ensures.dies refl);
+    }
 
-pub returns-clause-moments : goal.returns-clause-moments
-returns-clause-moments g c = λ s h.
-    changes_weaker g.D.Sectors.history c.args.drive.now.disk c.loop-place.drive.disk c.loop-place.place 64 (λ i. IsShop i s) (λ i. IsShop i s) c.loop-place.invariant.few (λ i x. x) (c.loop-place.invariant.so_far s h).1
+pub returns : goal.returns
+returns g c = record {
+  ready = c.loop-place.invariant.ready;
+  ok = λ s h.
+      let n : c.loop-place.place ≡ 64 = omega (arith, c.loop-place.invariant.few, c.loop-place-test.false) in
+      subst (HasNewTable (g.D.Sectors.history.image c.loop-place.drive.disk) s c.loop-place.requests) n (c.loop-place.invariant.so_far s h).0;
+  moments = λ s h.
+      changes_weaker g.D.Sectors.history c.args.drive.now.disk c.loop-place.drive.disk c.loop-place.place 64 (λ i. IsShop i s) (λ i. IsShop i s) c.loop-place.invariant.few (λ i x. x) (c.loop-place.invariant.so_far s h).1;
+  quiet = c.loop-place.invariant.quiet;
+  failures = c.loop-place.invariant.failures;
+  dies = λ is. absurd cc;
+}

@@ -1,5 +1,5 @@
 -- Line by line.
-use Rattle.std.proofs.Common.{◌≡◌, ◌≤◌, ◌∙◌, ◌++◌, List, [], None, false, refl, sym, subst, ap, arith, le_refl}
+use Rattle.std.proofs.Common.{◌≡◌, ◌≤◌, ◌∙◌, ◌++◌, List, [], None, false, refl, sym, subst, ap, arith, le_refl, Err, ℕ, inl, inr, Some}
 use Rattle.std.specs.Prelude.{OnOk, codes, option_map}
 use Rattle.std.specs.Io.KnownBytes.{Appends}
 use Rattle.std.proofs.KnownBytes.{Appends-nil}
@@ -28,6 +28,7 @@ use Rattle.host_session.specs.declared.faults.OpenFault.{OpenFault}
 use Rattle.host_session.specs.declared.faults.OpenFault.TheVariants as faults
 use Rattle.host_session.specs.declared.running.ScriptFault.{ScriptFault}
 use Rattle.host_session.specs.declared.running.ScriptFault.TheVariants as ends
+use Rattle.std.proofs.lemmas.Option.{none-some, same_Some}
 use Rattle.host_session.proofs.running.run_script.Goals as goal
 use Rattle.host_session.proofs.running.run_script.Goals.{in-None+else-is_media, in-Some-cut+in-Ok-next}
 
@@ -35,28 +36,6 @@ use Rattle.host_session.proofs.running.run_script.Goals.{in-None+else-is_media, 
 abbrev opened_with : ScriptFault → OpenFault
 opened_with (ends.Open f) = f
 opened_with _ = faults.Device
-
-pub returns-in-Some-clause-moments : goal.returns-in-Some-clause-moments
-returns-in-Some-clause-moments g c = λ s shop.
-    let h = g.D.Sectors.history in
-    held_none h s (messages_of (lines c.args.script.now)) c.args.disk c.args.disk (start h c.args.disk (λ i. IsShop i s) shop) (le_refl (h.failures c.args.disk))
-
-pub returns-in-Err-clause-moments : goal.returns-in-Err-clause-moments
-returns-in-Err-clause-moments g c = λ s shop.
-    let h = g.D.Sectors.history in
-    held_none h s (messages_of (lines c.args.script.now)) c.args.disk c.in-Err.disk (c.in-Err.ensures.moments s shop).held
-    (opening_later h _ _ _ c.in-Err.ensures.failures)
-
-pub returns-in-Err-clause-plays : goal.returns-in-Err-clause-plays
-returns-in-Err-clause-plays g c = λ shop never.
-    absurd (opening_failed g.D.Sectors.history _ _ _ c.in-Err.ensures.err shop c.in-Err.ensures.failures never)
-
-pub returns-in-Err-clause-open : goal.returns-in-Err-clause-open
-returns-in-Err-clause-open g c = λ f e. (
-  subst (λ x. IsRefused g.D.Sectors.history c.args.disk x c.in-Err.disk) (ap opened_with e)
-      (opening_refused g.D.Sectors.history _ _ _ c.in-Err.ensures.err c.in-Err.ensures.unfit c.in-Err.ensures.moments),
-  refl,
-)
 
 pub loop-line-init : goal.loop-line-init
 loop-line-init g c =
@@ -110,18 +89,6 @@ media_failed g c =
     (IsPrintedUpToLast g.W.Write.contents c.args.out.now) c.whole_message-reply.result k.shop k.later
     (printed_up_to g.W.Write.contents c.args.out.now c.loop-line.out c.whole_message-reply.result) k.played (told_media g c)
 
-pub returns-then-is_media-clause-device : goal.returns-then-is_media-clause-device
-returns-then-is_media-clause-device g c = λ s shop is. let x = media_ends g c s shop in (x.0, x.1, x.2)
-
-pub returns-then-is_media-clause-moments : goal.returns-then-is_media-clause-moments
-returns-then-is_media-clause-moments g c = λ s shop. (media_ends g c s shop).3
-
-pub returns-then-is_media-clause-plays : goal.returns-then-is_media-clause-plays
-returns-then-is_media-clause-plays g c = λ shop never. absurd (never_failed g.D.Sectors.history _ _ never (media_failed g c))
-
-pub returns-then-is_media-clause-cause : goal.returns-then-is_media-clause-cause
-returns-then-is_media-clause-cause g c = λ is. (c.loop-line.invariant.shop, media_failed g c)
-
 -- the whole recovery after a cut message failed
 recovery_failed : (g : Over) (c : goal.In-Err-next g) (t : Shop) → IsSettled (g.D.Sectors.history.image c.loop-line.session.disk) t
     → IsEvent g.D.Sectors.history t (message_of c.unwrap-event.result) c.loop-line.session.disk c.in-Err-next.disk
@@ -150,18 +117,6 @@ whole_failed g c =
     c.loop-line.session.disk c.in-Err-next.disk (λ told. Appends (g.W.Write.contents c.args.out.now) (g.W.Write.contents c.loop-line.out) (report told))
     (IsPrintedUpToLast g.W.Write.contents c.args.out.now) Cut k.shop k.later
     (printed_up_to g.W.Write.contents c.args.out.now c.loop-line.out Cut) k.played (recovery_failed g c)
-
-pub returns-in-Err-next-clause-device : goal.returns-in-Err-next-clause-device
-returns-in-Err-next-clause-device g c = λ s shop is. let x = recovery_ends g c s shop in (x.0, x.1, x.2)
-
-pub returns-in-Err-next-clause-moments : goal.returns-in-Err-next-clause-moments
-returns-in-Err-next-clause-moments g c = λ s shop. (recovery_ends g c s shop).3
-
-pub returns-in-Err-next-clause-plays : goal.returns-in-Err-next-clause-plays
-returns-in-Err-next-clause-plays g c = λ shop never. absurd (never_failed g.D.Sectors.history _ _ never (whole_failed g c))
-
-pub returns-in-Err-next-clause-cause : goal.returns-in-Err-next-clause-cause
-returns-in-Err-next-clause-cause g c = λ is. (c.loop-line.invariant.shop, whole_failed g c)
 
 -- the reply of this turn wasn't taken by the output
 output_ends : (g : Over) (c : goal.After-close-in-Err-written g) (s : Shop) → IsShop (g.D.Sectors.history.image c.args.disk) s
@@ -197,15 +152,6 @@ output_ends g c =
                 (sym (ap (λ (v : View _). v.disk) w.session-is)) x.1),
           ))
     ]
-
-pub returns-in-Err-written-clause-output : goal.returns-in-Err-written-clause-output
-returns-in-Err-written-clause-output g c = λ s shop is.
-    let x = output_ends g c s shop in
-    (x.0, x.1, subst (λ d. StoppedByOutput g.D.Sectors.history s (messages_of (lines c.args.script.now)) c.args.disk d x.0) (sym c.close-in-Err-written.ensures) x.2)
-
-pub returns-in-Err-written-clause-moments : goal.returns-in-Err-written-clause-moments
-returns-in-Err-written-clause-moments g c = λ s shop.
-    subst (λ d. HeldBeginnings g.D.Sectors.history s (messages_of (lines c.args.script.now)) c.args.disk d) (sym c.close-in-Err-written.ensures) (output_ends g c s shop).3
 
 -- the line of this turn is done
 went_on : (g : Over) (c : goal.In-Ok-written g)
@@ -271,24 +217,165 @@ all_left g c =
     all_played h (messages_of (lines c.args.script.now)) c.args.disk c.loop-line.session.disk Kept
     (subst (λ ls. PlayedBut h (messages_of (lines c.args.script.now)) c.args.disk (messages_of ls) c.loop-line.session.disk Kept) c.in_default-next_line.ensures c.loop-line.invariant.played)
 
-pub returns-clause-ok : goal.returns-clause-ok
-returns-clause-ok g c = λ s shop.
-    let h = g.D.Sectors.history in
-    let p = all_left g c s shop in
-    (p.0, p.1, subst (λ d. IsPlayedWhole h s (messages_of (lines c.args.script.now)) c.args.disk d p.0) (sym c.close-2.ensures) p.2.0)
+-- each fault is another one
+abbrev line_of : ScriptFault → ℕ
+line_of (ends.BadLine n) = n
+line_of _ = 0
 
-pub returns-clause-without_resets : goal.returns-clause-without_resets
-returns-clause-without_resets g c = λ s shop none.
-    let h = g.D.Sectors.history in
-    let ls = lines c.args.script.now in
-    let p = all_left g c s shop in
-    let q = plain_played h s ls c.args.disk c.loop-line.session.disk p.0 none p.2.0 in (
-      subst (λ rs. Appends (g.W.Write.contents c.args.out.now) (g.W.Write.contents c.loop-line.out) (report rs)) q.0 p.1,
-      subst (λ d. IsSettled (h.image d) (with_state s (plain (start_of s) (requests_of ls)))) (sym c.close-2.ensures) q.1,
-    )
+open-line : (f : OpenFault) (n : ℕ) → ends.Open f ≡ ends.BadLine n → ⊥
+open-line f n e = cc
 
-pub returns-clause-moments : goal.returns-clause-moments
-returns-clause-moments g c = λ s shop.
-    let h = g.D.Sectors.history in
-    let p = all_left g c s shop in
-    subst (λ d. HeldBeginnings h s (messages_of (lines c.args.script.now)) c.args.disk d) (sym c.close-2.ensures) p.2.1
+open-output : (f : OpenFault) → ends.Open f ≡ ends.Output → ⊥
+open-output f e = cc
+
+open-device : (f : OpenFault) → ends.Open f ≡ ends.Device → ⊥
+open-device f e = cc
+
+line-output : (n : ℕ) → ends.BadLine n ≡ ends.Output → ⊥
+line-output n e = cc
+
+line-device : (n : ℕ) → ends.BadLine n ≡ ends.Device → ⊥
+line-device n e = cc
+
+line-open : (n : ℕ) (f : OpenFault) → ends.BadLine n ≡ ends.Open f → ⊥
+line-open n f e = cc
+
+output-line : (n : ℕ) → ends.Output ≡ ends.BadLine n → ⊥
+output-line n e = cc
+
+output-device : ends.Output ≡ ends.Device → ⊥
+output-device e = cc
+
+output-open : (f : OpenFault) → ends.Output ≡ ends.Open f → ⊥
+output-open f e = cc
+
+device-line : (n : ℕ) → ends.Device ≡ ends.BadLine n → ⊥
+device-line n e = cc
+
+device-output : ends.Device ≡ ends.Output → ⊥
+device-output e = cc
+
+device-open : (f : OpenFault) → ends.Device ≡ ends.Open f → ⊥
+device-open f e = cc
+
+pub returns-in-Some : goal.returns-in-Some
+returns-in-Some g c = record {
+  bad_line = λ n e. (ap (λ (k : ℕ). Err (ends.BadLine k, c.args.disk)) (same_Some _ _ (c.in-Some.ensures ∙ e)), refl);
+  good = λ n e. sym c.in-Some.ensures ∙ ap (λ (x : ScriptFault). Some (line_of x)) e;
+  shop = tt;
+  ok = λ s shop. tt;
+  without_resets = λ s shop none. tt;
+  output = λ s shop e. absurd (line-output c.in-Some.line e);
+  device = λ s shop e. absurd (line-device c.in-Some.line e);
+  moments = λ s shop.
+      let h = g.D.Sectors.history in
+      held_none h s (messages_of (lines c.args.script.now)) c.args.disk c.args.disk (start h c.args.disk (λ i. IsShop i s) shop) (le_refl (h.failures c.args.disk));
+  plays = λ shop never. inl (c.in-Some.line, refl);
+  «open» = λ f e. absurd (line-open c.in-Some.line f e);
+  cause = λ e. absurd (line-device c.in-Some.line e);
+  after = λ e. absurd (line-output c.in-Some.line e);
+}
+
+pub returns-in-Err : goal.returns-in-Err
+returns-in-Err g c = record {
+  bad_line = λ n e. absurd (none-some n (c.in_default.ensures ∙ e));
+  good = λ n e. absurd (open-line _ n e);
+  shop = tt;
+  ok = λ s shop. tt;
+  without_resets = λ s shop none. tt;
+  output = λ s shop e. absurd (open-output _ e);
+  device = λ s shop e. absurd (open-device _ e);
+  moments = λ s shop.
+      let h = g.D.Sectors.history in
+      held_none h s (messages_of (lines c.args.script.now)) c.args.disk c.in-Err.disk (c.in-Err.ensures.moments s shop).held
+      (opening_later h _ _ _ c.in-Err.ensures.failures);
+  plays = λ shop never.
+      absurd (opening_failed g.D.Sectors.history _ _ _ c.in-Err.ensures.err shop c.in-Err.ensures.failures never);
+  «open» = λ f e. (
+    subst (λ x. IsRefused g.D.Sectors.history c.args.disk x c.in-Err.disk) (ap opened_with e)
+        (opening_refused g.D.Sectors.history _ _ _ c.in-Err.ensures.err c.in-Err.ensures.unfit c.in-Err.ensures.moments),
+    refl,
+  );
+  cause = λ e. absurd (open-device _ e);
+  after = λ e. absurd (open-output _ e);
+}
+
+pub returns-then-is_media : goal.returns-then-is_media
+returns-then-is_media g c = record {
+  bad_line = λ n e. absurd (none-some n (c.in_default.ensures ∙ e));
+  good = λ n e. absurd (device-line n e);
+  shop = tt;
+  ok = λ s shop. tt;
+  without_resets = λ s shop none. tt;
+  output = λ s shop e. absurd (device-output e);
+  device = λ s shop is. let x = media_ends g c s shop in (x.0, x.1, x.2);
+  moments = λ s shop. (media_ends g c s shop).3;
+  plays = λ shop never. absurd (never_failed g.D.Sectors.history _ _ never (media_failed g c));
+  «open» = λ f e. absurd (device-open f e);
+  cause = λ is. (c.loop-line.invariant.shop, media_failed g c);
+  after = λ e. absurd (device-output e);
+}
+
+pub returns-in-Err-next : goal.returns-in-Err-next
+returns-in-Err-next g c = record {
+  bad_line = λ n e. absurd (none-some n (c.in_default.ensures ∙ e));
+  good = λ n e. absurd (device-line n e);
+  shop = tt;
+  ok = λ s shop. tt;
+  without_resets = λ s shop none. tt;
+  output = λ s shop e. absurd (device-output e);
+  device = λ s shop is. let x = recovery_ends g c s shop in (x.0, x.1, x.2);
+  moments = λ s shop. (recovery_ends g c s shop).3;
+  plays = λ shop never. absurd (never_failed g.D.Sectors.history _ _ never (whole_failed g c));
+  «open» = λ f e. absurd (device-open f e);
+  cause = λ is. (c.loop-line.invariant.shop, whole_failed g c);
+  after = λ e. absurd (device-output e);
+}
+
+pub returns-in-Err-written : goal.returns-in-Err-written
+returns-in-Err-written g c = record {
+  bad_line = λ n e. absurd (none-some n (c.in_default.ensures ∙ e));
+  good = λ n e. absurd (output-line n e);
+  shop = tt;
+  ok = λ s shop. tt;
+  without_resets = λ s shop none. tt;
+  output = λ s shop is.
+      let x = output_ends g c s shop in
+      (x.0, x.1, subst (λ d. StoppedByOutput g.D.Sectors.history s (messages_of (lines c.args.script.now)) c.args.disk d x.0) (sym c.close-in-Err-written.ensures) x.2);
+  device = λ s shop e. absurd (output-device e);
+  moments = λ s shop.
+      subst (λ d. HeldBeginnings g.D.Sectors.history s (messages_of (lines c.args.script.now)) c.args.disk d) (sym c.close-in-Err-written.ensures) (output_ends g c s shop).3;
+  plays = λ shop never. inr refl;
+  «open» = λ f e. absurd (output-open f e);
+  cause = λ e. absurd (output-device e);
+  after = λ e. c.loop-line.invariant.shop;
+}
+
+pub returns : goal.returns
+returns g c = record {
+  bad_line = λ n e. absurd (none-some n (c.in_default.ensures ∙ e));
+  good = tt;
+  shop = c.loop-line.invariant.shop;
+  ok = λ s shop.
+      let h = g.D.Sectors.history in
+      let p = all_left g c s shop in
+      (p.0, p.1, subst (λ d. IsPlayedWhole h s (messages_of (lines c.args.script.now)) c.args.disk d p.0) (sym c.close-2.ensures) p.2.0);
+  without_resets = λ s shop none.
+      let h = g.D.Sectors.history in
+      let ls = lines c.args.script.now in
+      let p = all_left g c s shop in
+      let q = plain_played h s ls c.args.disk c.loop-line.session.disk p.0 none p.2.0 in (
+        subst (λ rs. Appends (g.W.Write.contents c.args.out.now) (g.W.Write.contents c.loop-line.out) (report rs)) q.0 p.1,
+        subst (λ d. IsSettled (h.image d) (with_state s (plain (start_of s) (requests_of ls)))) (sym c.close-2.ensures) q.1,
+      );
+  output = λ s shop. tt;
+  device = λ s shop. tt;
+  moments = λ s shop.
+      let h = g.D.Sectors.history in
+      let p = all_left g c s shop in
+      subst (λ d. HeldBeginnings h s (messages_of (lines c.args.script.now)) c.args.disk d) (sym c.close-2.ensures) p.2.1;
+  plays = λ shop never. tt;
+  «open» = tt;
+  cause = tt;
+  after = tt;
+}

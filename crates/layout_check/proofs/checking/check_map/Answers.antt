@@ -4,24 +4,28 @@ use Rattle.std.proofs.lemmas.Result.{err_from_is_err_and}
 use Rattle.d64_image.specs.Images.{sector}
 use Rattle.d64_image.specs.declared.place.Place.{Place}
 use Rattle.layout_check.proofs.Calls.{passes_read, tells_read}
-use Rattle.layout_check.proofs.Finding.{if_err, on_ok}
+use Rattle.layout_check.proofs.Finding.{if_err, on_ok, on_any}
 use Rattle.layout_check.proofs.Inexact.{clean_tells}
 use Rattle.layout_check.proofs.Verdict.{map-right, map_tells}
 use Rattle.layout_check.proofs.checking.check_map.Goals as goal
 
-pub returns-in_err-read_sector-clause-err : goal.returns-in_err-read_sector-clause-err
-returns-in_err-read_sector-clause-err g c =
-    let S = g.D.Sectors.history in
+pub returns-in_err-read_sector : goal.returns-in_err-read_sector
+returns-in_err-read_sector g c =
     let p = err_from_is_err_and c.from_residual.result c.from_residual.ensures.1 in
-    rw (p.1, p.2) (clean_tells S _ _ 1 _ (tells_read S c.args.disk.now c.read_sector.new.disk c.map_place.result _ c.in_err-read_sector.ensures.told c.in_err-read_sector.ensures.reads c.in_err-read_sector.ensures.failures c.in_err-read_sector.ensures.failed))
+    record {
+      map = rw p.1 tt;
+      ok = rw p.1 tt;
+      err = let S = g.D.Sectors.history in
+          let p = err_from_is_err_and c.from_residual.result c.from_residual.ensures.1 in
+          rw (p.1, p.2) (clean_tells S _ _ 1 _ (tells_read S c.args.disk.now c.read_sector.new.disk c.map_place.result _ c.in_err-read_sector.ensures.told c.in_err-read_sector.ensures.reads c.in_err-read_sector.ensures.failures c.in_err-read_sector.ensures.failed));
+    }
 
-pub returns-clause-map : goal.returns-clause-map
-returns-clause-map g c =
-    let e = c.in_ok-read_sector.ensures.sector ∙ ap (λ (p : Place). sector (g.D.Sectors.history.image c.args.disk.now) p) c.map_place.ensures in
-    on_ok c.check_bits.result _ _ (λ h. map-right _ c.args.found.now c.read_sector.new.to c.requires e (rw (← c.owners.ensures) h)) c.check_bits.ensures.ok
-
-pub returns-clause-err : goal.returns-clause-err
-returns-clause-err g c =
-    let S = g.D.Sectors.history in
-    let e = c.in_ok-read_sector.ensures.sector ∙ ap (λ (p : Place). sector (g.D.Sectors.history.image c.args.disk.now) p) c.map_place.ensures in
-    if_err c.check_bits.result _ _ (λ f h. map_tells S c.args.disk.now c.read_sector.new.disk c.args.found.now c.read_sector.new.to f c.requires (passes_read S c.args.disk.now c.read_sector.new.disk c.in_ok-read_sector.ensures.reads c.in_ok-read_sector.ensures.failures) e (rw (← c.owners.ensures) h)) c.check_bits.ensures.err
+pub returns : goal.returns
+returns g c = record {
+  map = let e = c.in_ok-read_sector.ensures.sector ∙ ap (λ (p : Place). sector (g.D.Sectors.history.image c.args.disk.now) p) c.map_place.ensures in
+      on_ok c.check_bits.result _ _ (λ h. map-right _ c.args.found.now c.read_sector.new.to c.requires e (rw (← c.owners.ensures) h)) c.check_bits.ensures.ok;
+  ok = on_any c.check_bits.result _ (passes_read g.D.Sectors.history c.args.disk.now c.read_sector.new.disk c.in_ok-read_sector.ensures.reads c.in_ok-read_sector.ensures.failures);
+  err = let S = g.D.Sectors.history in
+      let e = c.in_ok-read_sector.ensures.sector ∙ ap (λ (p : Place). sector (g.D.Sectors.history.image c.args.disk.now) p) c.map_place.ensures in
+      if_err c.check_bits.result _ _ (λ f h. map_tells S c.args.disk.now c.read_sector.new.disk c.args.found.now c.read_sector.new.to f c.requires (passes_read S c.args.disk.now c.read_sector.new.disk c.in_ok-read_sector.ensures.reads c.in_ok-read_sector.ensures.failures) e (rw (← c.owners.ensures) h)) c.check_bits.ensures.err;
+}

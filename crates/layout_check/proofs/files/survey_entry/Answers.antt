@@ -7,15 +7,40 @@ use Rattle.layout_check.proofs.Entries.{shown-tells}
 use Rattle.layout_check.proofs.Finding.{empty-finds}
 use Rattle.layout_check.proofs.files.survey_entry.Goals as goal
 
-pub returns-in_err-judge_entry-clause-err : goal.returns-in_err-judge_entry-clause-err
-returns-in_err-judge_entry-clause-err g c =
+pub returns-in_err-judge_entry : goal.returns-in_err-judge_entry
+returns-in_err-judge_entry g c =
     let p = err_from_is_err_and c.from_residual.result c.from_residual.ensures.1 in
-    rw (p.1, p.2) (inl (shown-tells g.D.Sectors.history c.args.disk.now 732 c.args.slot.now _ c.requires.entry c.in_err-judge_entry.ensures.err))
+    record {
+      ok = rw p.1 tt;
+      err = rw (p.1, p.2) (inl (shown-tells g.D.Sectors.history c.args.disk.now 732 c.args.slot.now _ c.requires.entry c.in_err-judge_entry.ensures.err));
+    }
 
-pub returns-then-not-has_first_block-clause-ok : goal.returns-then-not-has_first_block-clause-ok
-returns-then-not-has_first_block-clause-ok g c =
-    let none : slice_index c.args.slot.now.bytes 3 ≡ 0 = elim (cases_eq (slice_index c.args.slot.now.bytes 3) 0) [
-      | inl e ↦ e
-      | inr ne ↦ absurd (false≢true (sym c.if-not-has_first_block.true ∙ c.has_first_block.ensures.1 (rw c.new-entry.ensures ne)))
-    ] in
-    empty-finds g.D.Sectors.history c.args.disk.now c.args.slot.now c.args.number c.args.owners.now c.in_ok-judge_entry.ensures.ok (search rules) none (passes_none g.D.Sectors.history c.args.disk.now)
+pub returns-then-is_relative : goal.returns-then-is_relative
+returns-then-is_relative g c = record {
+  ok = c.survey_relative.ensures.ok;
+  err = c.survey_relative.ensures.err;
+}
+
+pub returns-then-not-has_first_block : goal.returns-then-not-has_first_block
+returns-then-not-has_first_block g c = record {
+  ok = let none : slice_index c.args.slot.now.bytes 3 ≡ 0 = elim (cases_eq (slice_index c.args.slot.now.bytes 3) 0) [
+    | inl e ↦ e
+    | inr ne ↦ absurd (false≢true (sym c.if-not-has_first_block.true ∙ c.has_first_block.ensures.1 (rw c.new-entry.ensures ne)))
+  ] in
+      empty-finds g.D.Sectors.history c.args.disk.now c.args.slot.now c.args.number c.args.owners.now c.in_ok-judge_entry.ensures.ok (search rules) none (passes_none g.D.Sectors.history c.args.disk.now);
+  err = tt;
+}
+
+pub returns : goal.returns
+returns g c = record {
+  ok = c.in_ok-survey_plain.ensures.ok;
+  err = tt;
+}
+
+pub returns-in_err-survey_plain : goal.returns-in_err-survey_plain
+returns-in_err-survey_plain g c =
+    let p = err_from_is_err_and c.from_residual-in_err-survey_plain.result c.from_residual-in_err-survey_plain.ensures.1 in
+    record {
+      ok = rw p.1 tt;
+      err = rw (p.1, p.2) c.in_err-survey_plain.ensures.err;
+    }

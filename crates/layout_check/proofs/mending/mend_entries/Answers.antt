@@ -22,22 +22,6 @@ use Rattle.layout_check.specs.RepairOrder.{IsRight, sides_of}
 use Rattle.layout_check.proofs.mending.mend_entries.Goals as goal
 use Rattle.layout_check.proofs.mending.mend_entries.Goals.{then-is_relative+in_ok-mend_relative, else-is_relative}
 
-pub returns-in_err-read_directory-clause-failures : goal.returns-in_err-read_directory-clause-failures
-returns-in_err-read_directory-clause-failures g c =
-    let S = g.D.Sectors.history in
-    let p = err_from_is_err_and c.from_residual.result c.from_residual.ensures.1 in
-    rw (p.1, p.2) (sound-device S (Unit {0}) c.args.disk.now c.read_directory.new.disk 738 _ c.requires
-    (directory-tells S (Unit {0}) c.args.disk.now c.read_directory.new.disk _ c.in_err-read_directory.ensures.reads c.in_err-read_directory.ensures.failures c.in_err-read_directory.ensures.err))
-
-pub returns-in_err-read_directory-clause-mends : goal.returns-in_err-read_directory-clause-mends
-returns-in_err-read_directory-clause-mends g c = mends_read g.D.Sectors.history c.args.disk.now c.read_directory.new.disk 18 864 c.in_err-read_directory.ensures.reads
-
-pub returns-in_err-read_directory-clause-quiet : goal.returns-in_err-read_directory-clause-quiet
-returns-in_err-read_directory-clause-quiet g c exact = reads_no_write g.D.Sectors.history c.args.disk.now c.read_directory.new.disk 18 c.in_err-read_directory.ensures.reads
-
-pub returns-in_err-read_directory-clause-over : goal.returns-in_err-read_directory-clause-over
-returns-in_err-read_directory-clause-over g c l h = over_none g.D.Sectors.history (IsRight l) (sides_of l.files) c.args.disk.now c.read_directory.new.disk 18 c.in_err-read_directory.ensures.reads
-
 pub loop-slot-init : goal.loop-slot-init
 loop-slot-init g c =
     let reads = c.in_ok-read_directory.ensures.reads in
@@ -59,31 +43,6 @@ mend_relative-requires-clause-filed g c =
 
 pub mend_relative-requires-clause-entry : goal.mend_relative-requires-clause-entry
 mend_relative-requires-clause-entry g c = entry-filed _ c.slot-item.result (mend_relative-requires-clause-filed g c)
-
-pub returns-in_err-mend_relative-clause-failures : goal.returns-in_err-mend_relative-clause-failures
-returns-in_err-mend_relative-clause-failures g c =
-    let p = err_from_is_err_and c.from_residual-in_err-mend_relative.result c.from_residual-in_err-mend_relative.ensures.1 in
-    rw (p.1, p.2) (device_later g.D.Sectors.history (Unit {0}) c.args.disk.now c.loop-slot.disk c.mend_relative.new.disk (Err _) c.loop-slot.invariant.failures c.in_err-mend_relative.ensures.failures)
-
-pub returns-in_err-mend_relative-clause-mends : goal.returns-in_err-mend_relative-clause-mends
-returns-in_err-mend_relative-clause-mends g c = mends_then g.D.Sectors.history c.args.disk.now c.loop-slot.disk c.mend_relative.new.disk _ 6 864 (omega (arith, c.loop-slot-test.true, c.as_slice-slot-items.ensures.fits)) c.loop-slot.invariant.mends c.in_err-mend_relative.ensures.mends
-
-pub returns-in_err-mend_relative-clause-over : goal.returns-in_err-mend_relative-clause-over
-returns-in_err-mend_relative-clause-over g c l h =
-    let S = g.D.Sectors.history in
-    let n = c.loop-slot.slot-index in
-    let d = c.in_ok-read_directory.ensures.ok in
-    let items = c.as_slice-slot-items.result.now in
-    let old = c.loop-slot.invariant in
-    let (f, there, slot) = file-at _ l d.0 items n c.slot-item.result h (listed-as _ d.0 c.read_directory.new.slots.items items c.as_slice-slot-items.ensures.value d.1) c.loop-slot-test.true c.slot-item.is in
-    let here = c.in_err-mend_relative.ensures.over l f (old.layouts l h) (get-contains l.files n f there) slot in
-    over_files S c.args.disk.now c.mend_relative.new.disk (n + 1) (IsRight l) l.files (file_over S c.args.disk.now l h n f there c.loop-slot.disk c.mend_relative.new.disk (old.made l h) (old.over l h) here)
-
-pub returns-in_err-mend_relative-clause-quiet : goal.returns-in_err-mend_relative-clause-quiet
-returns-in_err-mend_relative-clause-quiet g c exact =
-    let S = g.D.Sectors.history in
-    let so_far = c.loop-slot.invariant.quiet exact in
-    no_write_then S c.args.disk.now c.loop-slot.disk c.mend_relative.new.disk so_far (c.in_err-mend_relative.ensures.quiet (exact-same _ _ c.slot-item.result so_far.image exact))
 
 pub loop-slot-preserved : goal.loop-slot-preserved
 loop-slot-preserved g c =
@@ -126,21 +85,62 @@ loop-slot-preserved g c =
       }
     ]
 
-pub returns-clause-exact : goal.returns-clause-exact
-returns-clause-exact g c =
-    let d = c.in_ok-read_directory.ensures.ok in
-    exact-entries _ _ d.0 c.as_slice-slot-items.result.now c.loop-slot.slot-index (listed-as _ d.0 c.read_directory.new.slots.items c.as_slice-slot-items.result.now c.as_slice-slot-items.ensures.value d.1) c.loop-slot-test.false c.loop-slot.invariant.exact
+pub returns-in_err-read_directory : goal.returns-in_err-read_directory
+returns-in_err-read_directory g c =
+    let p = err_from_is_err_and c.from_residual.result c.from_residual.ensures.1 in
+    record {
+      exact = rw p.1 tt;
+      layouts = rw p.1 tt;
+      map = rw p.1 tt;
+      failures = let S = g.D.Sectors.history in
+          let p = err_from_is_err_and c.from_residual.result c.from_residual.ensures.1 in
+          rw (p.1, p.2) (sound-device S (Unit {0}) c.args.disk.now c.read_directory.new.disk 738 _ c.requires
+          (directory-tells S (Unit {0}) c.args.disk.now c.read_directory.new.disk _ c.in_err-read_directory.ensures.reads c.in_err-read_directory.ensures.failures c.in_err-read_directory.ensures.err));
+      mends = mends_read g.D.Sectors.history c.args.disk.now c.read_directory.new.disk 18 864 c.in_err-read_directory.ensures.reads;
+      over = λ l h. over_none g.D.Sectors.history (IsRight l) (sides_of l.files) c.args.disk.now c.read_directory.new.disk 18 c.in_err-read_directory.ensures.reads;
+      made = rw p.1 tt;
+      quiet = λ exact. reads_no_write g.D.Sectors.history c.args.disk.now c.read_directory.new.disk 18 c.in_err-read_directory.ensures.reads;
+    }
 
-pub returns-clause-mends : goal.returns-clause-mends
-returns-clause-mends g c = mends_weaker g.D.Sectors.history c.args.disk.now c.loop-slot.disk _ 864 (omega (arith, c.loop-slot.auto, c.as_slice-slot-items.ensures.fits)) c.loop-slot.invariant.mends
+pub returns-in_err-mend_relative : goal.returns-in_err-mend_relative
+returns-in_err-mend_relative g c =
+    let p = err_from_is_err_and c.from_residual-in_err-mend_relative.result c.from_residual-in_err-mend_relative.ensures.1 in
+    record {
+      exact = rw p.1 tt;
+      layouts = rw p.1 tt;
+      map = rw p.1 tt;
+      failures = rw (p.1, p.2) (device_later g.D.Sectors.history (Unit {0}) c.args.disk.now c.loop-slot.disk c.mend_relative.new.disk (Err _) c.loop-slot.invariant.failures c.in_err-mend_relative.ensures.failures);
+      mends = mends_then g.D.Sectors.history c.args.disk.now c.loop-slot.disk c.mend_relative.new.disk _ 6 864 (omega (arith, c.loop-slot-test.true, c.as_slice-slot-items.ensures.fits)) c.loop-slot.invariant.mends c.in_err-mend_relative.ensures.mends;
+      over = λ l h.
+          let S = g.D.Sectors.history in
+          let n = c.loop-slot.slot-index in
+          let d = c.in_ok-read_directory.ensures.ok in
+          let items = c.as_slice-slot-items.result.now in
+          let old = c.loop-slot.invariant in
+          let (f, there, slot) = file-at _ l d.0 items n c.slot-item.result h (listed-as _ d.0 c.read_directory.new.slots.items items c.as_slice-slot-items.ensures.value d.1) c.loop-slot-test.true c.slot-item.is in
+          let here = c.in_err-mend_relative.ensures.over l f (old.layouts l h) (get-contains l.files n f there) slot in
+          over_files S c.args.disk.now c.mend_relative.new.disk (n + 1) (IsRight l) l.files (file_over S c.args.disk.now l h n f there c.loop-slot.disk c.mend_relative.new.disk (old.made l h) (old.over l h) here);
+      made = rw p.1 tt;
+      quiet = λ exact.
+          let S = g.D.Sectors.history in
+          let so_far = c.loop-slot.invariant.quiet exact in
+          no_write_then S c.args.disk.now c.loop-slot.disk c.mend_relative.new.disk so_far (c.in_err-mend_relative.ensures.quiet (exact-same _ _ c.slot-item.result so_far.image exact));
+    }
 
-pub returns-clause-over : goal.returns-clause-over
-returns-clause-over g c l h = over_files g.D.Sectors.history c.args.disk.now c.loop-slot.disk c.loop-slot.slot-index (IsRight l) l.files (c.loop-slot.invariant.over l h)
-
-pub returns-clause-made : goal.returns-clause-made
-returns-clause-made g c l h =
-    let S = g.D.Sectors.history in
-    let d = c.in_ok-read_directory.ensures.ok in
-    let items = c.as_slice-slot-items.result.now in
-    let P : List Place → Type 0 = λ xs. AreMade (IsRight l) xs (S.image c.args.disk.now) (S.image c.loop-slot.disk) in
-    subst P (sides-all _ l d.0 items c.loop-slot.slot-index h (listed-as _ d.0 c.read_directory.new.slots.items items c.as_slice-slot-items.ensures.value d.1) c.loop-slot-test.false) (c.loop-slot.invariant.made l h)
+pub returns : goal.returns
+returns g c = record {
+  exact = let d = c.in_ok-read_directory.ensures.ok in
+      exact-entries _ _ d.0 c.as_slice-slot-items.result.now c.loop-slot.slot-index (listed-as _ d.0 c.read_directory.new.slots.items c.as_slice-slot-items.result.now c.as_slice-slot-items.ensures.value d.1) c.loop-slot-test.false c.loop-slot.invariant.exact;
+  layouts = c.loop-slot.invariant.layouts;
+  map = c.loop-slot.invariant.map;
+  failures = c.loop-slot.invariant.failures;
+  mends = mends_weaker g.D.Sectors.history c.args.disk.now c.loop-slot.disk _ 864 (omega (arith, c.loop-slot.auto, c.as_slice-slot-items.ensures.fits)) c.loop-slot.invariant.mends;
+  over = λ l h. over_files g.D.Sectors.history c.args.disk.now c.loop-slot.disk c.loop-slot.slot-index (IsRight l) l.files (c.loop-slot.invariant.over l h);
+  made = λ l h.
+      let S = g.D.Sectors.history in
+      let d = c.in_ok-read_directory.ensures.ok in
+      let items = c.as_slice-slot-items.result.now in
+      let P : List Place → Type 0 = λ xs. AreMade (IsRight l) xs (S.image c.args.disk.now) (S.image c.loop-slot.disk) in
+      subst P (sides-all _ l d.0 items c.loop-slot.slot-index h (listed-as _ d.0 c.read_directory.new.slots.items items c.as_slice-slot-items.ensures.value d.1) c.loop-slot-test.false) (c.loop-slot.invariant.made l h);
+  quiet = c.loop-slot.invariant.quiet;
+}

@@ -5,23 +5,18 @@ use Rattle.layout_check.proofs.Calls.{passes_weaker}
 use Rattle.layout_check.proofs.RightSlots.{count-of_parts}
 use Rattle.layout_check.proofs.recounting.count_owned.Goals as goal
 
-pub returns-in_err-find_parts-clause-count : goal.returns-in_err-find_parts-clause-count
-returns-in_err-find_parts-clause-count g c =
+pub returns-in_err-find_parts : goal.returns-in_err-find_parts
+returns-in_err-find_parts g c =
     let p = err_from_is_err_and c.from_residual.result c.from_residual.ensures.1 in
-    rw p.1 tt
+    record {
+      count = rw p.1 tt;
+      ok = rw p.1 tt;
+      err = rw (p.1, p.2) c.in_err-find_parts.ensures.err;
+    }
 
-pub returns-in_err-find_parts-clause-ok : goal.returns-in_err-find_parts-clause-ok
-returns-in_err-find_parts-clause-ok g c =
-    let p = err_from_is_err_and c.from_residual.result c.from_residual.ensures.1 in
-    rw p.1 tt
-
-pub returns-in_err-find_parts-clause-err : goal.returns-in_err-find_parts-clause-err
-returns-in_err-find_parts-clause-err g c =
-    let p = err_from_is_err_and c.from_residual.result c.from_residual.ensures.1 in
-    rw (p.1, p.2) c.in_err-find_parts.ensures.err
-
-pub returns-clause-ok : goal.returns-clause-ok
-returns-clause-ok g c = passes_weaker g.D.Sectors.history c.args.disk.now c.find_parts.new.disk _ 732 c.in_ok-find_parts.ensures.few c.in_ok-find_parts.ensures.ok
-
-pub returns-clause-count : goal.returns-clause-count
-returns-clause-count g c = count-of_parts _ c.args.slot.now c.find_parts.new.parts.blocks.items c.find_parts.new.parts.sides.items _ c.requires.rel c.in_ok-find_parts.ensures.parts (omega (arith, c.len.ensures.value, c.len-2.ensures.value))
+pub returns : goal.returns
+returns g c = record {
+  count = count-of_parts _ c.args.slot.now c.find_parts.new.parts.blocks.items c.find_parts.new.parts.sides.items _ c.requires.rel c.in_ok-find_parts.ensures.parts (omega (arith, c.len.ensures.value, c.len-2.ensures.value));
+  ok = passes_weaker g.D.Sectors.history c.args.disk.now c.find_parts.new.disk _ 732 c.in_ok-find_parts.ensures.few c.in_ok-find_parts.ensures.ok;
+  err = tt;
+}

@@ -16,21 +16,6 @@ use Rattle.layout_check.proofs.recounting.mend_counts.Goals as goal
 pub find_directory-requires : goal.find_directory-requires
 find_directory-requires g c = let (l, h) = c.requires.sound in (l.directory, _, h.directory)
 
-pub returns-in_err-find_directory-clause-failures : goal.returns-in_err-find_directory-clause-failures
-returns-in_err-find_directory-clause-failures g c =
-    let p = err_from_is_err_and c.from_residual.result c.from_residual.ensures.1 in
-    rw (p.1, p.2) (sound-device g.D.Sectors.history (Unit {0}) c.args.disk.now c.find_directory.new.disk 683 _ c.requires.sound c.in_err-find_directory.ensures.err)
-
-pub returns-in_err-find_directory-clause-quiet : goal.returns-in_err-find_directory-clause-quiet
-returns-in_err-find_directory-clause-quiet g c all = reads_no_write g.D.Sectors.history c.args.disk.now c.find_directory.new.disk 683 c.in_err-find_directory.ensures.err.reads
-
-pub returns-in_err-find_directory-clause-moments : goal.returns-in_err-find_directory-clause-moments
-returns-in_err-find_directory-clause-moments g c =
-    let S = g.D.Sectors.history in
-    let (l, h) = c.requires.sound in
-    all_moments S c.args.disk.now c.find_directory.new.disk l.directory 0 (omega arith) (λ m is. ap (λ (x : Layout). x.directory) (IsLayout-one (S.image c.args.disk.now) l m h is))
-    (first_moments S c.args.disk.now c.find_directory.new.disk l.directory 683 c.in_err-find_directory.ensures.err.reads)
-
 pub loop-place-init : goal.loop-place-init
 loop-place-init g c =
     let S = g.D.Sectors.history in
@@ -60,24 +45,6 @@ mend_sector-requires-clause-own g c =
     (at_end S c.args.disk.now c.loop-place.disk (λ i. IsRecountOf (S.image c.args.disk.now) i items) c.loop-place.invariant.moments.held)
     (get-contains items c.loop-place.place-index c.place-item.result (read-there items c.loop-place.place-index c.place-item.result c.loop-place-test.true c.place-item.is))
 
-pub returns-in_err-mend_sector-clause-moments : goal.returns-in_err-mend_sector-clause-moments
-returns-in_err-mend_sector-clause-moments g c =
-    let S = g.D.Sectors.history in
-    let items = c.as_slice-place-items.result.now in
-    let k = c.loop-place.place-index in
-    let same : (l : Layout) → IsLayout (S.image c.args.disk.now) l → items ≡ l.directory = λ l h. c.as_slice-place-items.ensures.value ∙ c.in_ok-find_directory.ensures.directory l.directory _ h.directory in
-    all_moments S c.args.disk.now c.mend_sector.new.disk items (k + 1) (omega (arith, c.loop-place-test.true, few-of (S.image c.args.disk.now) items c.requires.sound same)) same
-    (step_moments S c.args.disk.now c.loop-place.disk c.mend_sector.new.disk items k c.place-item.result
-    (get-contains items k c.place-item.result (read-there items k c.place-item.result c.loop-place-test.true c.place-item.is)) c.loop-place.invariant.moments c.in_err-mend_sector.ensures.moments)
-
-pub returns-in_err-mend_sector-clause-quiet : goal.returns-in_err-mend_sector-clause-quiet
-returns-in_err-mend_sector-clause-quiet g c = step_quiet g.D.Sectors.history c.args.disk.now c.loop-place.disk c.mend_sector.new.disk c.place-item.result c.loop-place.invariant.quiet c.in_err-mend_sector.ensures.quiet
-
-pub returns-in_err-mend_sector-clause-failures : goal.returns-in_err-mend_sector-clause-failures
-returns-in_err-mend_sector-clause-failures g c =
-    let p = err_from_is_err_and c.from_residual-in_err-mend_sector.result c.from_residual-in_err-mend_sector.ensures.1 in
-    rw (p.1, p.2) (device_later g.D.Sectors.history (Unit {0}) c.args.disk.now c.loop-place.disk c.mend_sector.new.disk (Err _) c.loop-place.invariant.failures c.in_err-mend_sector.ensures.failures)
-
 pub loop-place-preserved : goal.loop-place-preserved
 loop-place-preserved g c =
     let S = g.D.Sectors.history in
@@ -94,40 +61,61 @@ loop-place-preserved g c =
       failures = now.failures ∙ old.failures;
     }
 
-pub returns-clause-counted : goal.returns-clause-counted
-returns-clause-counted g c =
-    let S = g.D.Sectors.history in
-    let items = c.as_slice-place-items.result.now in
-    let same : (l : Layout) → IsLayout (S.image c.args.disk.now) l → items ≡ l.directory = λ l h. c.as_slice-place-items.ensures.value ∙ c.in_ok-find_directory.ensures.directory l.directory _ h.directory in
-    counted-of (S.image c.args.disk.now) (S.image c.loop-place.disk) items (S.whole c.args.disk.now).size c.requires.sound same
-    (at_end S c.args.disk.now c.loop-place.disk (λ i. IsRecountOf (S.image c.args.disk.now) i items) c.loop-place.invariant.moments.held)
-    (λ l h. made_directory S c.args.disk.now l h items (same l h) c.loop-place.disk c.loop-place.place-index (omega (arith, c.loop-place-test.false)) (c.loop-place.invariant.made l h))
+pub returns-in_err-find_directory : goal.returns-in_err-find_directory
+returns-in_err-find_directory g c =
+    let p = err_from_is_err_and c.from_residual.result c.from_residual.ensures.1 in
+    record {
+      counted = rw p.1 tt;
+      moments = let S = g.D.Sectors.history in
+          let (l, h) = c.requires.sound in
+          all_moments S c.args.disk.now c.find_directory.new.disk l.directory 0 (omega arith) (λ m is. ap (λ (x : Layout). x.directory) (IsLayout-one (S.image c.args.disk.now) l m h is))
+          (first_moments S c.args.disk.now c.find_directory.new.disk l.directory 683 c.in_err-find_directory.ensures.err.reads);
+      over = λ l h. over_none g.D.Sectors.history (IsRight l) l.directory c.args.disk.now c.find_directory.new.disk 683 c.in_err-find_directory.ensures.err.reads;
+      made = rw p.1 tt;
+      quiet = λ all. reads_no_write g.D.Sectors.history c.args.disk.now c.find_directory.new.disk 683 c.in_err-find_directory.ensures.err.reads;
+      failures = rw (p.1, p.2) (sound-device g.D.Sectors.history (Unit {0}) c.args.disk.now c.find_directory.new.disk 683 _ c.requires.sound c.in_err-find_directory.ensures.err);
+    }
 
-pub returns-clause-moments : goal.returns-clause-moments
-returns-clause-moments g c =
-    let S = g.D.Sectors.history in
-    let items = c.as_slice-place-items.result.now in
-    let same : (l : Layout) → IsLayout (S.image c.args.disk.now) l → items ≡ l.directory = λ l h. c.as_slice-place-items.ensures.value ∙ c.in_ok-find_directory.ensures.directory l.directory _ h.directory in
-    all_moments S c.args.disk.now c.loop-place.disk items c.loop-place.place-index (omega (arith, c.loop-place.auto, few-of (S.image c.args.disk.now) items c.requires.sound same)) same c.loop-place.invariant.moments
+pub returns-in_err-mend_sector : goal.returns-in_err-mend_sector
+returns-in_err-mend_sector g c =
+    let p = err_from_is_err_and c.from_residual-in_err-mend_sector.result c.from_residual-in_err-mend_sector.ensures.1 in
+    record {
+      counted = rw p.1 tt;
+      moments = let S = g.D.Sectors.history in
+          let items = c.as_slice-place-items.result.now in
+          let k = c.loop-place.place-index in
+          let same : (l : Layout) → IsLayout (S.image c.args.disk.now) l → items ≡ l.directory = λ l h. c.as_slice-place-items.ensures.value ∙ c.in_ok-find_directory.ensures.directory l.directory _ h.directory in
+          all_moments S c.args.disk.now c.mend_sector.new.disk items (k + 1) (omega (arith, c.loop-place-test.true, few-of (S.image c.args.disk.now) items c.requires.sound same)) same
+          (step_moments S c.args.disk.now c.loop-place.disk c.mend_sector.new.disk items k c.place-item.result
+          (get-contains items k c.place-item.result (read-there items k c.place-item.result c.loop-place-test.true c.place-item.is)) c.loop-place.invariant.moments c.in_err-mend_sector.ensures.moments);
+      over = λ l h.
+          let S = g.D.Sectors.history in
+          let items = c.as_slice-place-items.result.now in
+          let k = c.loop-place.place-index in
+          let old = c.loop-place.invariant in
+          let now = c.in_err-mend_sector.ensures in
+          let same : items ≡ l.directory = c.as_slice-place-items.ensures.value ∙ c.in_ok-find_directory.ensures.directory l.directory _ h.directory in
+          over_directory S c.args.disk.now l h items same c.mend_sector.new.disk (k + 1)
+          (over_step S c.args.disk.now l h items same c.loop-place.disk c.mend_sector.new.disk k c.place-item.result c.loop-place-test.true c.place-item.is old.moments now.moments now.once (old.over l h) (old.made l h));
+      made = rw p.1 tt;
+      quiet = step_quiet g.D.Sectors.history c.args.disk.now c.loop-place.disk c.mend_sector.new.disk c.place-item.result c.loop-place.invariant.quiet c.in_err-mend_sector.ensures.quiet;
+      failures = rw (p.1, p.2) (device_later g.D.Sectors.history (Unit {0}) c.args.disk.now c.loop-place.disk c.mend_sector.new.disk (Err _) c.loop-place.invariant.failures c.in_err-mend_sector.ensures.failures);
+    }
 
-pub returns-in_err-mend_sector-clause-over : goal.returns-in_err-mend_sector-clause-over
-returns-in_err-mend_sector-clause-over g c l h =
-    let S = g.D.Sectors.history in
-    let items = c.as_slice-place-items.result.now in
-    let k = c.loop-place.place-index in
-    let old = c.loop-place.invariant in
-    let now = c.in_err-mend_sector.ensures in
-    let same : items ≡ l.directory = c.as_slice-place-items.ensures.value ∙ c.in_ok-find_directory.ensures.directory l.directory _ h.directory in
-    over_directory S c.args.disk.now l h items same c.mend_sector.new.disk (k + 1)
-    (over_step S c.args.disk.now l h items same c.loop-place.disk c.mend_sector.new.disk k c.place-item.result c.loop-place-test.true c.place-item.is old.moments now.moments now.once (old.over l h) (old.made l h))
-
-pub returns-in_err-find_directory-clause-over : goal.returns-in_err-find_directory-clause-over
-returns-in_err-find_directory-clause-over g c l h = over_none g.D.Sectors.history (IsRight l) l.directory c.args.disk.now c.find_directory.new.disk 683 c.in_err-find_directory.ensures.err.reads
-
-pub returns-clause-over : goal.returns-clause-over
-returns-clause-over g c l h =
-    over_directory g.D.Sectors.history c.args.disk.now l h c.as_slice-place-items.result.now (c.as_slice-place-items.ensures.value ∙ c.in_ok-find_directory.ensures.directory l.directory _ h.directory) c.loop-place.disk c.loop-place.place-index (c.loop-place.invariant.over l h)
-
-pub returns-clause-made : goal.returns-clause-made
-returns-clause-made g c l h =
-    made_directory g.D.Sectors.history c.args.disk.now l h c.as_slice-place-items.result.now (c.as_slice-place-items.ensures.value ∙ c.in_ok-find_directory.ensures.directory l.directory _ h.directory) c.loop-place.disk c.loop-place.place-index (omega (arith, c.loop-place-test.false)) (c.loop-place.invariant.made l h)
+pub returns : goal.returns
+returns g c = record {
+  counted = let S = g.D.Sectors.history in
+      let items = c.as_slice-place-items.result.now in
+      let same : (l : Layout) → IsLayout (S.image c.args.disk.now) l → items ≡ l.directory = λ l h. c.as_slice-place-items.ensures.value ∙ c.in_ok-find_directory.ensures.directory l.directory _ h.directory in
+      counted-of (S.image c.args.disk.now) (S.image c.loop-place.disk) items (S.whole c.args.disk.now).size c.requires.sound same
+      (at_end S c.args.disk.now c.loop-place.disk (λ i. IsRecountOf (S.image c.args.disk.now) i items) c.loop-place.invariant.moments.held)
+      (λ l h. made_directory S c.args.disk.now l h items (same l h) c.loop-place.disk c.loop-place.place-index (omega (arith, c.loop-place-test.false)) (c.loop-place.invariant.made l h));
+  moments = let S = g.D.Sectors.history in
+      let items = c.as_slice-place-items.result.now in
+      let same : (l : Layout) → IsLayout (S.image c.args.disk.now) l → items ≡ l.directory = λ l h. c.as_slice-place-items.ensures.value ∙ c.in_ok-find_directory.ensures.directory l.directory _ h.directory in
+      all_moments S c.args.disk.now c.loop-place.disk items c.loop-place.place-index (omega (arith, c.loop-place.auto, few-of (S.image c.args.disk.now) items c.requires.sound same)) same c.loop-place.invariant.moments;
+  over = λ l h. over_directory g.D.Sectors.history c.args.disk.now l h c.as_slice-place-items.result.now (c.as_slice-place-items.ensures.value ∙ c.in_ok-find_directory.ensures.directory l.directory _ h.directory) c.loop-place.disk c.loop-place.place-index (c.loop-place.invariant.over l h);
+  made = λ l h. made_directory g.D.Sectors.history c.args.disk.now l h c.as_slice-place-items.result.now (c.as_slice-place-items.ensures.value ∙ c.in_ok-find_directory.ensures.directory l.directory _ h.directory) c.loop-place.disk c.loop-place.place-index (omega (arith, c.loop-place-test.false)) (c.loop-place.invariant.made l h);
+  quiet = c.loop-place.invariant.quiet;
+  failures = c.loop-place.invariant.failures;
+}

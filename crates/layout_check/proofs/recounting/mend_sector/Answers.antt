@@ -1,5 +1,5 @@
 -- The sector is read, its counts are made right, and it is written where other bytes came out.
-use Rattle.std.proofs.Common.{Err, ap, arith, subst, sym, ◌∙◌}
+use Rattle.std.proofs.Common.{Err, ap, arith, subst, sym, ◌∙◌, inl}
 use Rattle.std.proofs.lemmas.Result.{err_from_is_err_and}
 use Rattle.d64_image.proofs.Moments.{no_write_then, reads_no_write, reads_then}
 use Rattle.d64_image.specs.Images.{Image, sector}
@@ -12,11 +12,6 @@ use Rattle.layout_check.proofs.SideMends.{sound-device}
 use Rattle.layout_check.specs.Recounted.{AreRightIn, IsInDirectory}
 use Rattle.layout_check.proofs.recounting.mend_sector.Goals as goal
 
-pub returns-in_err-read_sector-clause-right : goal.returns-in_err-read_sector-clause-right
-returns-in_err-read_sector-clause-right g c =
-    let p = err_from_is_err_and c.from_residual.result c.from_residual.ensures.1 in
-    rw p.1 tt
-
 pub recount_sector-requires-clause-sound : goal.recount_sector-requires-clause-sound
 recount_sector-requires-clause-sound g c = let P : Image → Type 0 = IsSound in subst P (sym c.read_sector.ensures.reads.image) c.requires.sound
 
@@ -26,74 +21,58 @@ recount_sector-requires-clause-own g c = let P : Image → Type 0 = λ i. IsInDi
 pub recount_sector-requires-clause-there : goal.recount_sector-requires-clause-there
 recount_sector-requires-clause-there g c = c.in_ok-read_sector.ensures.sector ∙ ap (λ (i : Image). sector i c.args.place) (sym c.read_sector.ensures.reads.image)
 
-pub returns-in_err-recount_sector-clause-right : goal.returns-in_err-recount_sector-clause-right
-returns-in_err-recount_sector-clause-right g c =
-    let p = err_from_is_err_and c.from_residual-in_err-recount_sector.result c.from_residual-in_err-recount_sector.ensures.1 in
-    rw p.1 tt
-
-pub returns-in_err-read_sector-clause-moments : goal.returns-in_err-read_sector-clause-moments
-returns-in_err-read_sector-clause-moments g c = reads_moment g.D.Sectors.history c.args.disk.now c.read_sector.new.disk 1 c.args.place c.read_sector.ensures.reads
-
-pub returns-in_err-read_sector-clause-failures : goal.returns-in_err-read_sector-clause-failures
-returns-in_err-read_sector-clause-failures g c =
-    let p = err_from_is_err_and c.from_residual.result c.from_residual.ensures.1 in
-    let read = c.in_err-read_sector.ensures in
-    rw (p.1, p.2) (device_told g.D.Sectors.history (Unit {0}) c.args.disk.now c.read_sector.new.disk c.args.place _ read.told read.failures read.failed)
-
-pub returns-in_err-read_sector-clause-quiet : goal.returns-in_err-read_sector-clause-quiet
-returns-in_err-read_sector-clause-quiet g c right = reads_no_write g.D.Sectors.history c.args.disk.now c.read_sector.new.disk 1 c.read_sector.ensures.reads
-
-pub returns-in_err-recount_sector-clause-moments : goal.returns-in_err-recount_sector-clause-moments
-returns-in_err-recount_sector-clause-moments g c =
-    let S = g.D.Sectors.history in
-    reads_moment S c.args.disk.now c.recount_sector.new.disk 5857 c.args.place (reads_then S c.args.disk.now c.read_sector.new.disk c.recount_sector.new.disk 1 5856 5857 (omega arith) c.read_sector.ensures.reads c.in_err-recount_sector.ensures.err.reads)
-
-pub returns-in_err-recount_sector-clause-failures : goal.returns-in_err-recount_sector-clause-failures
-returns-in_err-recount_sector-clause-failures g c =
-    let S = g.D.Sectors.history in
-    let p = err_from_is_err_and c.from_residual-in_err-recount_sector.result c.from_residual-in_err-recount_sector.ensures.1 in
-    let P : Image → Type 0 = IsSound in
-    rw (p.1, p.2) (device_later S (Unit {0}) c.args.disk.now c.read_sector.new.disk c.recount_sector.new.disk (Err _) c.in_ok-read_sector.ensures.failures
-    (sound-device S (Unit {0}) c.read_sector.new.disk c.recount_sector.new.disk 5856 _ (subst P (sym c.read_sector.ensures.reads.image) c.requires.sound) c.in_err-recount_sector.ensures.err))
-
-pub returns-in_err-recount_sector-clause-quiet : goal.returns-in_err-recount_sector-clause-quiet
-returns-in_err-recount_sector-clause-quiet g c right =
-    let S = g.D.Sectors.history in
-    reads_no_write S c.args.disk.now c.recount_sector.new.disk 5857 (reads_then S c.args.disk.now c.read_sector.new.disk c.recount_sector.new.disk 1 5856 5857 (omega arith) c.read_sector.ensures.reads c.in_err-recount_sector.ensures.err.reads)
-
 pub write_other-requires : goal.write_other-requires
 write_other-requires g c =
     c.in_ok-read_sector.ensures.sector ∙ ap (λ (i : Image). sector i c.args.place) (sym (c.in_ok-recount_sector.ensures.ok.reads.image ∙ c.read_sector.ensures.reads.image))
 
-pub returns-clause-right : goal.returns-clause-right
-returns-clause-right g c =
-    let S = g.D.Sectors.history in
-    let now = c.in_ok-recount_sector.ensures in
-    let P : Image → Type 0 = λ i. AreRightIn i c.args.place c.recount_sector.new.bytes in
-    on_ok c.write_other.result _ _ (λ h. right_written S c.args.disk.now c.recount_sector.new.disk _ c.args.place c.recount_sector.new.bytes (now.ok.reads.image ∙ c.read_sector.ensures.reads.image) h (subst P (sym now.ok.reads.image) now.right)) c.write_other.ensures.write.ok
+pub returns : goal.returns
+returns g c = record {
+  right = let S = g.D.Sectors.history in
+      let now = c.in_ok-recount_sector.ensures in
+      let P : Image → Type 0 = λ i. AreRightIn i c.args.place c.recount_sector.new.bytes in
+      on_ok c.write_other.result _ _ (λ h. right_written S c.args.disk.now c.recount_sector.new.disk _ c.args.place c.recount_sector.new.bytes (now.ok.reads.image ∙ c.read_sector.ensures.reads.image) h (subst P (sym now.ok.reads.image) now.right)) c.write_other.ensures.write.ok;
+  moments = let S = g.D.Sectors.history in
+      let now = c.in_ok-recount_sector.ensures in
+      let reads = reads_then S c.args.disk.now c.read_sector.new.disk c.recount_sector.new.disk 1 5856 5857 (omega arith) c.read_sector.ensures.reads now.ok.reads in
+      write_moment S c.args.disk.now c.recount_sector.new.disk c.write_other.new.disk 5857 c.args.place c.recount_sector.new.bytes reads (write_changes S c.recount_sector.new.disk c.write_other.new.disk c.args.place c.recount_sector.new.bytes _ c.write_other.result c.write_other.ensures.write)
+      (mended-read S c.args.disk.now c.read_sector.new.disk c.args.place c.read_sector.new.to c.recount_sector.new.bytes c.read_sector.ensures.reads.image c.in_ok-read_sector.ensures.sector now.counts now.kept now.right);
+  once = let S = g.D.Sectors.history in
+      let reads = reads_then S c.args.disk.now c.read_sector.new.disk c.recount_sector.new.disk 1 5856 5857 (omega arith) c.read_sector.ensures.reads c.in_ok-recount_sector.ensures.ok.reads in
+      other_later S c.args.disk.now c.recount_sector.new.disk c.write_other.new.disk 5857 c.args.place reads c.write_other.ensures.once;
+  quiet = λ right.
+      let S = g.D.Sectors.history in
+      let now = c.in_ok-recount_sector.ensures in
+      let reads = reads_then S c.args.disk.now c.read_sector.new.disk c.recount_sector.new.disk 1 5856 5857 (omega arith) c.read_sector.ensures.reads now.ok.reads in
+      let kept = now.kept (right_read S c.args.disk.now c.read_sector.new.disk c.args.place c.read_sector.new.to c.read_sector.ensures.reads.image c.in_ok-read_sector.ensures.sector right) in
+      no_write_then S c.args.disk.now c.recount_sector.new.disk c.write_other.new.disk (reads_no_write S _ _ 5857 reads) (c.write_other.ensures.quiet (sym kept));
+  failures = device_later g.D.Sectors.history (Unit {0}) c.args.disk.now c.recount_sector.new.disk c.write_other.new.disk c.write_other.result (c.in_ok-recount_sector.ensures.ok.failures ∙ c.in_ok-read_sector.ensures.failures) (write_device g.D.Sectors.history (Unit {0}) c.recount_sector.new.disk c.write_other.new.disk c.args.place c.recount_sector.new.bytes c.write_other.result c.write_other.ensures.write);
+}
 
-pub returns-clause-moments : goal.returns-clause-moments
-returns-clause-moments g c =
-    let S = g.D.Sectors.history in
-    let now = c.in_ok-recount_sector.ensures in
-    let reads = reads_then S c.args.disk.now c.read_sector.new.disk c.recount_sector.new.disk 1 5856 5857 (omega arith) c.read_sector.ensures.reads now.ok.reads in
-    write_moment S c.args.disk.now c.recount_sector.new.disk c.write_other.new.disk 5857 c.args.place c.recount_sector.new.bytes reads (write_changes S c.recount_sector.new.disk c.write_other.new.disk c.args.place c.recount_sector.new.bytes _ c.write_other.result c.write_other.ensures.write)
-    (mended-read S c.args.disk.now c.read_sector.new.disk c.args.place c.read_sector.new.to c.recount_sector.new.bytes c.read_sector.ensures.reads.image c.in_ok-read_sector.ensures.sector now.counts now.kept now.right)
+pub returns-in_err-read_sector : goal.returns-in_err-read_sector
+returns-in_err-read_sector g c =
+    let p = err_from_is_err_and c.from_residual.result c.from_residual.ensures.1 in
+    record {
+      right = rw p.1 tt;
+      moments = reads_moment g.D.Sectors.history c.args.disk.now c.read_sector.new.disk 1 c.args.place c.read_sector.ensures.reads;
+      once = inl c.read_sector.ensures.reads.writes;
+      quiet = λ right. reads_no_write g.D.Sectors.history c.args.disk.now c.read_sector.new.disk 1 c.read_sector.ensures.reads;
+      failures = let read = c.in_err-read_sector.ensures in
+          rw (p.1, p.2) (device_told g.D.Sectors.history (Unit {0}) c.args.disk.now c.read_sector.new.disk c.args.place _ read.told read.failures read.failed);
+    }
 
-pub returns-clause-once : goal.returns-clause-once
-returns-clause-once g c =
-    let S = g.D.Sectors.history in
-    let reads = reads_then S c.args.disk.now c.read_sector.new.disk c.recount_sector.new.disk 1 5856 5857 (omega arith) c.read_sector.ensures.reads c.in_ok-recount_sector.ensures.ok.reads in
-    other_later S c.args.disk.now c.recount_sector.new.disk c.write_other.new.disk 5857 c.args.place reads c.write_other.ensures.once
-
-pub returns-clause-quiet : goal.returns-clause-quiet
-returns-clause-quiet g c right =
-    let S = g.D.Sectors.history in
-    let now = c.in_ok-recount_sector.ensures in
-    let reads = reads_then S c.args.disk.now c.read_sector.new.disk c.recount_sector.new.disk 1 5856 5857 (omega arith) c.read_sector.ensures.reads now.ok.reads in
-    let kept = now.kept (right_read S c.args.disk.now c.read_sector.new.disk c.args.place c.read_sector.new.to c.read_sector.ensures.reads.image c.in_ok-read_sector.ensures.sector right) in
-    no_write_then S c.args.disk.now c.recount_sector.new.disk c.write_other.new.disk (reads_no_write S _ _ 5857 reads) (c.write_other.ensures.quiet (sym kept))
-
-pub returns-clause-failures : goal.returns-clause-failures
-returns-clause-failures g c =
-    device_later g.D.Sectors.history (Unit {0}) c.args.disk.now c.recount_sector.new.disk c.write_other.new.disk c.write_other.result (c.in_ok-recount_sector.ensures.ok.failures ∙ c.in_ok-read_sector.ensures.failures) (write_device g.D.Sectors.history (Unit {0}) c.recount_sector.new.disk c.write_other.new.disk c.args.place c.recount_sector.new.bytes c.write_other.result c.write_other.ensures.write)
+pub returns-in_err-recount_sector : goal.returns-in_err-recount_sector
+returns-in_err-recount_sector g c = record {
+  right = let p = err_from_is_err_and c.from_residual-in_err-recount_sector.result c.from_residual-in_err-recount_sector.ensures.1 in
+      rw p.1 tt;
+  moments = let S = g.D.Sectors.history in
+      reads_moment S c.args.disk.now c.recount_sector.new.disk 5857 c.args.place (reads_then S c.args.disk.now c.read_sector.new.disk c.recount_sector.new.disk 1 5856 5857 (omega arith) c.read_sector.ensures.reads c.in_err-recount_sector.ensures.err.reads);
+  once = inl (c.in_err-recount_sector.ensures.err.reads.writes ∙ c.read_sector.ensures.reads.writes);
+  quiet = λ right.
+      let S = g.D.Sectors.history in
+      reads_no_write S c.args.disk.now c.recount_sector.new.disk 5857 (reads_then S c.args.disk.now c.read_sector.new.disk c.recount_sector.new.disk 1 5856 5857 (omega arith) c.read_sector.ensures.reads c.in_err-recount_sector.ensures.err.reads);
+  failures = let S = g.D.Sectors.history in
+      let p = err_from_is_err_and c.from_residual-in_err-recount_sector.result c.from_residual-in_err-recount_sector.ensures.1 in
+      let P : Image → Type 0 = IsSound in
+      rw (p.1, p.2) (device_later S (Unit {0}) c.args.disk.now c.read_sector.new.disk c.recount_sector.new.disk (Err _) c.in_ok-read_sector.ensures.failures
+      (sound-device S (Unit {0}) c.read_sector.new.disk c.recount_sector.new.disk 5856 _ (subst P (sym c.read_sector.ensures.reads.image) c.requires.sound) c.in_err-recount_sector.ensures.err));
+}

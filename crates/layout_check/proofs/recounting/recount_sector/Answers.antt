@@ -1,11 +1,11 @@
 -- Slot by slot: the one that was made right, and those before and behind it.
-use Rattle.std.proofs.Common.{ap, arith, subst, sym, ◌∙◌, ◌*◌, ◌+◌, ◌≡◌}
+use Rattle.std.proofs.Common.{ap, arith, subst, sym, ◌∙◌, ◌*◌, ◌+◌, ◌≡◌, refl, rules}
 use Rattle.std.proofs.lemmas.Result.{err_from_is_err_and}
 use Rattle.d64_image.specs.Images.{Image, Sector, sector}
 use Rattle.disk_layout.specs.Directory.{slot_in}
 use Rattle.disk_layout.specs.Layout.{IsSound}
-use Rattle.layout_check.proofs.Calls.{passes_then, passes_weaker, tells_then}
-use Rattle.layout_check.proofs.RightCounts.{counted-then}
+use Rattle.layout_check.proofs.Calls.{passes_then, passes_weaker, tells_then, passes_none}
+use Rattle.layout_check.proofs.RightCounts.{counted-then, counted-none}
 use Rattle.layout_check.proofs.RightSlots.{other-slot, right-next, right-there}
 use Rattle.layout_check.specs.Recounted.{IsInDirectory}
 use Rattle.layout_check.proofs.recounting.recount_sector.Goals as goal
@@ -25,30 +25,16 @@ recount_slot-requires-clause-there g c =
     let same : c.args.bytes.now ≡ sector (S.image c.loop-number.disk) c.args.place = c.requires.there ∙ ap (λ (i : Image). sector i c.args.place) (sym old.passes.reads.image) in
     old.later n (omega arith) c.loop-number-test.true ∙ ap (λ (bytes : Sector). slot_in c.args.place bytes n) same
 
-pub returns-in_err-recount_slot-clause-counts : goal.returns-in_err-recount_slot-clause-counts
-returns-in_err-recount_slot-clause-counts g c =
+pub returns-in_err-recount_slot : goal.returns-in_err-recount_slot
+returns-in_err-recount_slot g c =
     let p = err_from_is_err_and c.from_residual.result c.from_residual.ensures.1 in
-    rw p.1 tt
-
-pub returns-in_err-recount_slot-clause-right : goal.returns-in_err-recount_slot-clause-right
-returns-in_err-recount_slot-clause-right g c =
-    let p = err_from_is_err_and c.from_residual.result c.from_residual.ensures.1 in
-    rw p.1 tt
-
-pub returns-in_err-recount_slot-clause-kept : goal.returns-in_err-recount_slot-clause-kept
-returns-in_err-recount_slot-clause-kept g c =
-    let p = err_from_is_err_and c.from_residual.result c.from_residual.ensures.1 in
-    rw p.1 tt
-
-pub returns-in_err-recount_slot-clause-ok : goal.returns-in_err-recount_slot-clause-ok
-returns-in_err-recount_slot-clause-ok g c =
-    let p = err_from_is_err_and c.from_residual.result c.from_residual.ensures.1 in
-    rw p.1 tt
-
-pub returns-in_err-recount_slot-clause-err : goal.returns-in_err-recount_slot-clause-err
-returns-in_err-recount_slot-clause-err g c =
-    let p = err_from_is_err_and c.from_residual.result c.from_residual.ensures.1 in
-    rw (p.1, p.2) (tells_then g.D.Sectors.history c.args.disk.now c.loop-number.disk c.recount_slot.new.disk (732 * c.loop-number.number) 732 5856 _ (omega (arith, c.loop-number-test.true)) c.loop-number.invariant.passes c.in_err-recount_slot.ensures.err)
+    record {
+      counts = rw p.1 tt;
+      right = rw p.1 tt;
+      kept = rw p.1 tt;
+      ok = rw p.1 tt;
+      err = rw (p.1, p.2) (tells_then g.D.Sectors.history c.args.disk.now c.loop-number.disk c.recount_slot.new.disk (732 * c.loop-number.number) 732 5856 _ (omega (arith, c.loop-number-test.true)) c.loop-number.invariant.passes c.in_err-recount_slot.ensures.err);
+    }
 
 pub loop-number-preserved : goal.loop-number-preserved
 loop-number-preserved g c =
@@ -66,14 +52,21 @@ loop-number-preserved g c =
       kept = λ all. let e = old.kept all in now.kept (right-there _ _ c.args.place c.args.bytes.now c.loop-number.bytes n old.passes.reads.image eight e all) ∙ e;
     }
 
-pub returns-clause-right : goal.returns-clause-right
-returns-clause-right g c n low = c.loop-number.invariant.right n (omega (arith, low, c.loop-number-test.false))
+pub loop-number-init : goal.loop-number-init
+loop-number-init g c = record {
+  few = omega arith;
+  passes = passes_none g.D.Sectors.history c.args.disk.now;
+  counts = counted-none c.args.bytes.now (search rules);
+  later = λ k above low. refl;
+  right = λ k low. absurd (omega (arith, low));
+  kept = λ all. refl;
+}
 
-pub returns-clause-counts : goal.returns-clause-counts
-returns-clause-counts g c = c.loop-number.invariant.counts
-
-pub returns-clause-kept : goal.returns-clause-kept
-returns-clause-kept g c = c.loop-number.invariant.kept
-
-pub returns-clause-ok : goal.returns-clause-ok
-returns-clause-ok g c = passes_weaker g.D.Sectors.history c.args.disk.now c.loop-number.disk (732 * c.loop-number.number) 5856 (omega (arith, c.loop-number.invariant.few)) c.loop-number.invariant.passes
+pub returns : goal.returns
+returns g c = record {
+  counts = c.loop-number.invariant.counts;
+  right = λ n low. c.loop-number.invariant.right n (omega (arith, low, c.loop-number-test.false));
+  kept = c.loop-number.invariant.kept;
+  ok = passes_weaker g.D.Sectors.history c.args.disk.now c.loop-number.disk (732 * c.loop-number.number) 5856 (omega (arith, c.loop-number.invariant.few)) c.loop-number.invariant.passes;
+  err = tt;
+}

@@ -23,69 +23,44 @@ returns-in_err-found-clause-unsound g c not_sound = c.survey.ensures.reads
 pub mend-requires : goal.mend-requires
 mend-requires g c = told_after g.D.Sectors.history _ _ _ 2114 c.survey.ensures.reads (let h = c.in_ok-found.ensures.ok in (h.0, h.1, h.2))
 
--- a failure while it is mended
-pub returns-in_err-mend-clause-err : goal.returns-in_err-mend-clause-err
-returns-in_err-mend-clause-err g c =
-    let p = err_from_is_err_and c.from_residual-in_err-mend.result c.from_residual-in_err-mend.ensures.1 in
-    rw (p.1, p.2) (device_holds g.D.Sectors.history _ _ _ _ c.in_err-mend.ensures.failures)
-
-pub returns-in_err-mend-clause-sound : goal.returns-in_err-mend-clause-sound
-returns-in_err-mend-clause-sound g c never =
-    absurd (device_sound g.D.Sectors.history _ _ _ _ c.in_ok-found.ensures.failures c.in_err-mend.ensures.failures never)
-
-pub returns-in_err-mend-clause-spare : goal.returns-in_err-mend-clause-spare
-returns-in_err-mend-clause-spare g c = spare_after g.D.Sectors.history _ _ _ 2114 c.survey.ensures.reads c.mend.ensures.spare
-
-pub returns-in_err-mend-clause-unsound : goal.returns-in_err-mend-clause-unsound
-returns-in_err-mend-clause-unsound g c not_sound = let l = c.in_ok-found.ensures.ok in absurd (not_sound (l.0, l.1))
-
-pub returns-in_err-mend-clause-failures : goal.returns-in_err-mend-clause-failures
-returns-in_err-mend-clause-failures g c =
-    let p = err_from_is_err_and c.from_residual-in_err-mend.result c.from_residual-in_err-mend.ensures.1 in
-    rw (p.1, p.2) (device_tells g.D.Sectors.history Survey _ _ _ _ c.in_ok-found.ensures.failures c.in_err-mend.ensures.failures)
-
--- mended
-pub returns-clause-ok : goal.returns-clause-ok
-returns-clause-ok g c = repaired_after g.D.Sectors.history _ _ _ _ 2114 c.survey.ensures.reads c.in_ok-mend.ensures.clean
-
-pub returns-clause-sound : goal.returns-clause-sound
-returns-clause-sound g c never = let l = c.in_ok-found.ensures.ok in (λ _. (l.0, l.1), λ _. refl)
-
-pub returns-clause-failures : goal.returns-clause-failures
-returns-clause-failures g c = c.in_ok-mend.ensures.failures ∙ c.in_ok-found.ensures.failures
-
 pub returns-in_err-found-clause-quiet : goal.returns-in_err-found-clause-quiet
 returns-in_err-found-clause-quiet g c clean = reads_no_write g.D.Sectors.history _ _ 2114 c.survey.ensures.reads
-
-pub returns-in_err-mend-clause-moments : goal.returns-in_err-mend-clause-moments
-returns-in_err-mend-clause-moments g c = mends_after g.D.Sectors.history _ _ _ 2114 c.in_ok-found.ensures.reads c.mend.ensures.moments
-
-pub returns-in_err-mend-clause-quiet : goal.returns-in_err-mend-clause-quiet
-returns-in_err-mend-clause-quiet g c clean =
-    let S = g.D.Sectors.history in
-    let reads = c.in_ok-found.ensures.reads in
-    no_write_then S _ _ _ (reads_no_write S _ _ 2114 reads) (c.mend.ensures.quiet (clean_after S _ _ 2114 reads clean))
-
-pub returns-clause-moments : goal.returns-clause-moments
-returns-clause-moments g c = mends_after g.D.Sectors.history _ _ _ 2114 c.in_ok-found.ensures.reads c.mend.ensures.moments
-
-pub returns-clause-unsound : goal.returns-clause-unsound
-returns-clause-unsound g c not_sound = let l = c.in_ok-found.ensures.ok in absurd (not_sound (l.0, l.1))
-
-pub returns-clause-quiet : goal.returns-clause-quiet
-returns-clause-quiet g c clean =
-    let S = g.D.Sectors.history in
-    let reads = c.in_ok-found.ensures.reads in
-    no_write_then S _ _ _ (reads_no_write S _ _ 2114 reads) (c.mend.ensures.quiet (clean_after S _ _ 2114 reads clean))
 
 pub returns-in_err-found-clause-order : goal.returns-in_err-found-clause-order
 returns-in_err-found-clause-order g c l is = over_none g.D.Sectors.history (IsRight l) (repair_order l) _ _ 2114 c.survey.ensures.reads
 
-pub returns-in_err-mend-clause-order : goal.returns-in_err-mend-clause-order
-returns-in_err-mend-clause-order g c l is = order_after g.D.Sectors.history l _ _ _ 2114 is c.survey.ensures.reads c.mend.ensures.order
+pub returns : goal.returns
+returns g c = record {
+  -- mended
+  ok = repaired_after g.D.Sectors.history _ _ _ _ 2114 c.survey.ensures.reads c.in_ok-mend.ensures.clean;
+  err = tt;
+  sound = λ never. let l = c.in_ok-found.ensures.ok in (λ _. (l.0, l.1), λ _. refl);
+  moments = mends_after g.D.Sectors.history _ _ _ 2114 c.in_ok-found.ensures.reads c.mend.ensures.moments;
+  order = λ l is. order_after g.D.Sectors.history l _ _ _ 2114 is c.survey.ensures.reads c.mend.ensures.order;
+  spare = spare_after g.D.Sectors.history _ _ _ 2114 c.survey.ensures.reads c.mend.ensures.spare;
+  unsound = λ not_sound. let l = c.in_ok-found.ensures.ok in absurd (not_sound (l.0, l.1));
+  quiet = λ clean.
+      let S = g.D.Sectors.history in
+      let reads = c.in_ok-found.ensures.reads in
+      no_write_then S _ _ _ (reads_no_write S _ _ 2114 reads) (c.mend.ensures.quiet (clean_after S _ _ 2114 reads clean));
+  failures = c.in_ok-mend.ensures.failures ∙ c.in_ok-found.ensures.failures;
+}
 
-pub returns-clause-order : goal.returns-clause-order
-returns-clause-order g c l is = order_after g.D.Sectors.history l _ _ _ 2114 is c.survey.ensures.reads c.mend.ensures.order
-
-pub returns-clause-spare : goal.returns-clause-spare
-returns-clause-spare g c = spare_after g.D.Sectors.history _ _ _ 2114 c.survey.ensures.reads c.mend.ensures.spare
+pub returns-in_err-mend : goal.returns-in_err-mend
+returns-in_err-mend g c =
+    let p = err_from_is_err_and c.from_residual-in_err-mend.result c.from_residual-in_err-mend.ensures.1 in
+    record {
+      ok = rw p.1 tt;
+      -- a failure while it is mended
+      err = rw (p.1, p.2) (device_holds g.D.Sectors.history _ _ _ _ c.in_err-mend.ensures.failures);
+      sound = λ never. absurd (device_sound g.D.Sectors.history _ _ _ _ c.in_ok-found.ensures.failures c.in_err-mend.ensures.failures never);
+      moments = mends_after g.D.Sectors.history _ _ _ 2114 c.in_ok-found.ensures.reads c.mend.ensures.moments;
+      order = λ l is. order_after g.D.Sectors.history l _ _ _ 2114 is c.survey.ensures.reads c.mend.ensures.order;
+      spare = spare_after g.D.Sectors.history _ _ _ 2114 c.survey.ensures.reads c.mend.ensures.spare;
+      unsound = λ not_sound. let l = c.in_ok-found.ensures.ok in absurd (not_sound (l.0, l.1));
+      quiet = λ clean.
+          let S = g.D.Sectors.history in
+          let reads = c.in_ok-found.ensures.reads in
+          no_write_then S _ _ _ (reads_no_write S _ _ 2114 reads) (c.mend.ensures.quiet (clean_after S _ _ 2114 reads clean));
+      failures = rw (p.1, p.2) (device_tells g.D.Sectors.history Survey _ _ _ _ c.in_ok-found.ensures.failures c.in_err-mend.ensures.failures);
+    }

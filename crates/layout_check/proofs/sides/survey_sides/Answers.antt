@@ -18,11 +18,6 @@ use Rattle.layout_check.specs.Exact.{ToldOfSides}
 use Rattle.layout_check.proofs.sides.survey_sides.Goals as goal
 use Rattle.layout_check.proofs.sides.survey_sides.Goals.{then-ne+else-not-is_sound_side, else-ne}
 
-pub returns-in_err-walk_sides-clause-err : goal.returns-in_err-walk_sides-clause-err
-returns-in_err-walk_sides-clause-err g c =
-    let p = err_from_is_err_and c.from_residual.result c.from_residual.ensures.1 in
-    rw (p.1, p.2) (tells_weaker g.D.Sectors.history c.args.disk.now c.walk_sides.new.disk 6 12 _ (omega arith) c.in_err-walk_sides.ensures.err)
-
 pub loop-number-init : goal.loop-number-init
 loop-number-init g c = record {
   passes = passes_weaker g.D.Sectors.history c.args.disk.now c.walk_sides.new.disk _ _ (omega (arith, ap length c.as_slice-sides.ensures.value)) c.in_ok-walk_sides.ensures.ok;
@@ -30,35 +25,11 @@ loop-number-init g c = record {
   judged = judged-none _ c.args.slot.now c.args.blocks.now c.as_slice-sides.result.now;
 }
 
-pub returns-in_err-read_sector-clause-err : goal.returns-in_err-read_sector-clause-err
-returns-in_err-read_sector-clause-err g c =
-    let S = g.D.Sectors.history in
-    let old = c.loop-number.invariant in
-    let read = c.in_err-read_sector.ensures in
-    let p = err_from_is_err_and c.from_residual-in_err-read_sector.result c.from_residual-in_err-read_sector.ensures.1 in
-    rw (p.1, p.2) (tells_then S c.args.disk.now c.loop-number.disk c.read_sector.new.disk _ 1 12 _
-    (few-sides _ c.args.slot.now c.args.blocks.now c.walk_sides.new.sides.items c.as_slice-sides.result.now c.loop-number.number c.in_ok-walk_sides.ensures.sides c.requires.few c.as_slice-sides.ensures.value c.loop-number-test.true)
-    old.passes (tells_read S c.loop-number.disk c.read_sector.new.disk c.index-sides-number.result _ read.told read.reads read.failures read.failed))
-
 pub is_sound_side-requires : goal.is_sound_side-requires
 is_sound_side-requires g c = record {
   number = omega (arith, c.loop-number-test.true, ap length c.as_slice-sides.ensures.value, c.in_ok-walk_sides.ensures.sides.count);
   few = c.as_slice-sides.ensures.fits;
 }
-
-pub returns-then-not-is_sound_side-clause-err : goal.returns-then-not-is_sound_side-clause-err
-returns-then-not-is_sound_side-clause-err g c =
-    let S = g.D.Sectors.history in
-    let old = c.loop-number.invariant in
-    let sides = c.walk_sides.new.sides.items in
-    let items = c.as_slice-sides.result.now in
-    let few = few-sides _ c.args.slot.now c.args.blocks.now sides items c.loop-number.number c.in_ok-walk_sides.ensures.sides c.requires.few c.as_slice-sides.ensures.value c.loop-number-test.true in
-    let passes = passes_then S c.args.disk.now c.loop-number.disk c.read_sector.new.disk _ 1 12 few old.passes (passes_read S c.loop-number.disk c.read_sector.new.disk c.in_ok-read_sector.ensures.reads c.in_ok-read_sector.ensures.failures) in
-    let e = c.in_ok-read_sector.ensures.sector ∙ ap (λ (i : Image). sector i c.index-sides-number.result) old.passes.reads.image in
-    side_tells S c.args.disk.now c.read_sector.new.disk 12 c.index-sides-number.result passes
-    (unsound-holds nowhere _ c.args.slot.now c.args.blocks.now sides c.loop-number.number c.index-sides-number.result c.read_sector.new.to c.requires.entry c.in_ok-walk_sides.ensures.sides
-    (side-there sides items c.loop-number.number c.index-sides-number.result c.as_slice-sides.ensures.value c.loop-number-test.true c.index-sides-number.is)
-    e (rw (← c.as_slice-sides.ensures.value) (c.is_sound_side.ensures.wrong c.if-not-is_sound_side.true)))
 
 pub loop-number-preserved : goal.loop-number-preserved
 loop-number-preserved g c =
@@ -88,19 +59,62 @@ loop-number-preserved g c =
           }
     ]
 
--- after the last
-pub returns-clause-sides : goal.returns-clause-sides
-returns-clause-sides g c = (all-sound _ c.args.slot.now c.args.blocks.now c.walk_sides.new.sides.items c.as_slice-sides.result.now c.as_slice-sides.ensures.value c.in_ok-walk_sides.ensures.sides
-    (λ j p at. c.loop-number.invariant.sound j (omega (arith, c.loop-number-test.false, slice_get_within c.as_slice-sides.result.now j p at)) p at)).0
+pub returns-in_err-walk_sides : goal.returns-in_err-walk_sides
+returns-in_err-walk_sides g c =
+    let p = err_from_is_err_and c.from_residual.result c.from_residual.ensures.1 in
+    record {
+      sides = rw p.1 tt;
+      lists = rw p.1 tt;
+      exact = rw p.1 tt;
+      ok = rw p.1 tt;
+      err = rw (p.1, p.2) (tells_weaker g.D.Sectors.history c.args.disk.now c.walk_sides.new.disk 6 12 _ (omega arith) c.in_err-walk_sides.ensures.err);
+    }
 
-pub returns-clause-lists : goal.returns-clause-lists
-returns-clause-lists g c = (all-sound _ c.args.slot.now c.args.blocks.now c.walk_sides.new.sides.items c.as_slice-sides.result.now c.as_slice-sides.ensures.value c.in_ok-walk_sides.ensures.sides
-    (λ j p at. c.loop-number.invariant.sound j (omega (arith, c.loop-number-test.false, slice_get_within c.as_slice-sides.result.now j p at)) p at)).1
+pub returns-in_err-read_sector : goal.returns-in_err-read_sector
+returns-in_err-read_sector g c =
+    let p = err_from_is_err_and c.from_residual-in_err-read_sector.result c.from_residual-in_err-read_sector.ensures.1 in
+    record {
+      sides = rw p.1 tt;
+      lists = rw p.1 tt;
+      exact = rw p.1 tt;
+      ok = rw p.1 tt;
+      err = let S = g.D.Sectors.history in
+          let old = c.loop-number.invariant in
+          let read = c.in_err-read_sector.ensures in
+          let p = err_from_is_err_and c.from_residual-in_err-read_sector.result c.from_residual-in_err-read_sector.ensures.1 in
+          rw (p.1, p.2) (tells_then S c.args.disk.now c.loop-number.disk c.read_sector.new.disk _ 1 12 _
+          (few-sides _ c.args.slot.now c.args.blocks.now c.walk_sides.new.sides.items c.as_slice-sides.result.now c.loop-number.number c.in_ok-walk_sides.ensures.sides c.requires.few c.as_slice-sides.ensures.value c.loop-number-test.true)
+          old.passes (tells_read S c.loop-number.disk c.read_sector.new.disk c.index-sides-number.result _ read.told read.reads read.failures read.failed));
+    }
 
-pub returns-clause-exact : goal.returns-clause-exact
-returns-clause-exact g c =
-    let P : List Place → Type 0 = λ xs. ToldOfSides (g.D.Sectors.history.image c.args.disk.now) c.args.slot.now c.args.blocks.now xs c.loop-number.inexact in
-    subst P c.as_slice-sides.ensures.value (judged-all _ c.args.slot.now c.args.blocks.now c.as_slice-sides.result.now c.loop-number.number c.loop-number.inexact (omega (arith, c.loop-number-test.false)) c.loop-number.invariant.judged)
+pub returns-then-not-is_sound_side : goal.returns-then-not-is_sound_side
+returns-then-not-is_sound_side g c = record {
+  sides = tt;
+  lists = tt;
+  exact = tt;
+  ok = tt;
+  err = let S = g.D.Sectors.history in
+      let old = c.loop-number.invariant in
+      let sides = c.walk_sides.new.sides.items in
+      let items = c.as_slice-sides.result.now in
+      let few = few-sides _ c.args.slot.now c.args.blocks.now sides items c.loop-number.number c.in_ok-walk_sides.ensures.sides c.requires.few c.as_slice-sides.ensures.value c.loop-number-test.true in
+      let passes = passes_then S c.args.disk.now c.loop-number.disk c.read_sector.new.disk _ 1 12 few old.passes (passes_read S c.loop-number.disk c.read_sector.new.disk c.in_ok-read_sector.ensures.reads c.in_ok-read_sector.ensures.failures) in
+      let e = c.in_ok-read_sector.ensures.sector ∙ ap (λ (i : Image). sector i c.index-sides-number.result) old.passes.reads.image in
+      side_tells S c.args.disk.now c.read_sector.new.disk 12 c.index-sides-number.result passes
+      (unsound-holds nowhere _ c.args.slot.now c.args.blocks.now sides c.loop-number.number c.index-sides-number.result c.read_sector.new.to c.requires.entry c.in_ok-walk_sides.ensures.sides
+      (side-there sides items c.loop-number.number c.index-sides-number.result c.as_slice-sides.ensures.value c.loop-number-test.true c.index-sides-number.is)
+      e (rw (← c.as_slice-sides.ensures.value) (c.is_sound_side.ensures.wrong c.if-not-is_sound_side.true)));
+}
 
-pub returns-clause-ok : goal.returns-clause-ok
-returns-clause-ok g c = passes_weaker g.D.Sectors.history c.args.disk.now c.loop-number.disk _ _ (omega (arith, ap length c.as_slice-sides.ensures.value)) c.loop-number.invariant.passes
+pub returns : goal.returns
+returns g c = record {
+  -- after the last
+  sides = (all-sound _ c.args.slot.now c.args.blocks.now c.walk_sides.new.sides.items c.as_slice-sides.result.now c.as_slice-sides.ensures.value c.in_ok-walk_sides.ensures.sides
+      (λ j p at. c.loop-number.invariant.sound j (omega (arith, c.loop-number-test.false, slice_get_within c.as_slice-sides.result.now j p at)) p at)).0;
+  lists = (all-sound _ c.args.slot.now c.args.blocks.now c.walk_sides.new.sides.items c.as_slice-sides.result.now c.as_slice-sides.ensures.value c.in_ok-walk_sides.ensures.sides
+      (λ j p at. c.loop-number.invariant.sound j (omega (arith, c.loop-number-test.false, slice_get_within c.as_slice-sides.result.now j p at)) p at)).1;
+  exact = let P : List Place → Type 0 = λ xs. ToldOfSides (g.D.Sectors.history.image c.args.disk.now) c.args.slot.now c.args.blocks.now xs c.loop-number.inexact in
+      subst P c.as_slice-sides.ensures.value (judged-all _ c.args.slot.now c.args.blocks.now c.as_slice-sides.result.now c.loop-number.number c.loop-number.inexact (omega (arith, c.loop-number-test.false)) c.loop-number.invariant.judged);
+  ok = passes_weaker g.D.Sectors.history c.args.disk.now c.loop-number.disk _ _ (omega (arith, ap length c.as_slice-sides.ensures.value)) c.loop-number.invariant.passes;
+  err = tt;
+}

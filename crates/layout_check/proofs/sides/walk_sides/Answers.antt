@@ -10,12 +10,6 @@ use Rattle.layout_check.proofs.SideWalks.{bad-holds, linked-at, misjudged-bad, m
 use Rattle.disk_layout.specs.Fault.{nowhere}
 use Rattle.layout_check.proofs.sides.walk_sides.Goals as goal
 
-pub returns-in_default-clause-err : goal.returns-in_default-clause-err
-returns-in_default-clause-err g c =
-    let S = g.D.Sectors.history in
-    let d = c.args.disk.now in
-    side_tells S d d 6 c.args.slot.now.sector (passes_weaker S d d 0 6 (omega arith) (passes_none S d)) (no_first_side nowhere _ c.args.slot.now c.args.blocks.now c.requires.entry (named-match c.args.slot.now.bytes _ 21 _ c.new.ensures c.in_default.ensures))
-
 pub loop-number-init : goal.loop-number-init
 loop-number-init g c = record {
   passes = passes_none g.D.Sectors.history c.args.disk.now;
@@ -24,56 +18,11 @@ loop-number-init g c = record {
   count = rw c.clear.ensures refl;
 }
 
-pub returns-in_err-read_sector-clause-err : goal.returns-in_err-read_sector-clause-err
-returns-in_err-read_sector-clause-err g c =
-    let S = g.D.Sectors.history in
-    let old = c.loop-number.invariant in
-    let read = c.in_err-read_sector.ensures in
-    let p = err_from_is_err_and c.from_residual.result c.from_residual.ensures.1 in
-    rw (p.1, p.2) (tells_then S c.args.disk.now c.loop-number.disk c.read_sector.new.disk c.loop-number.number 1 6 _
-    (omega (arith, old.below, c.div_ceil-needed.ensures, c.requires.few)) old.passes (tells_read S c.loop-number.disk c.read_sector.new.disk c.loop-number.at _ read.told read.reads read.failures read.failed))
-
-pub returns-then-not-is_numbered-clause-err : goal.returns-then-not-is_numbered-clause-err
-returns-then-not-is_numbered-clause-err g c =
-    let S = g.D.Sectors.history in
-    let old = c.loop-number.invariant in
-    let e = c.in_ok-read_sector.ensures.sector ∙ ap (λ (i : Image). sector i c.loop-number.at) old.passes.reads.image in
-    let passes = passes_then S c.args.disk.now c.loop-number.disk c.read_sector.new.disk c.loop-number.number 1 6 (omega (arith, old.below, c.div_ceil-needed.ensures, c.requires.few)) old.passes (passes_read S c.loop-number.disk c.read_sector.new.disk c.in_ok-read_sector.ensures.reads c.in_ok-read_sector.ensures.failures) in
-    let below : c.loop-number.number < sides_for (length c.args.blocks.now) = omega (arith, old.below, c.div_ceil-needed.ensures) in
-    side_tells S c.args.disk.now c.read_sector.new.disk 6 c.loop-number.at passes
-    (bad-holds nowhere _ c.args.slot.now c.args.blocks.now c.loop-number.number c.loop-number.at c.requires.entry
-    (side-reached _ c.args.slot.now c.args.blocks.now c.loop-number.sides.items c.in-Some.first c.loop-number.at c.loop-number.number c.requires.entry (named-match c.args.slot.now.bytes _ 21 _ c.new.ensures c.in-Some.ensures) old.leads old.count below)
-    (misjudged-bad _ c.args.slot.now c.args.blocks.now c.loop-number.number c.loop-number.at c.read_sector.new.to e (misnumbered _ c.args.slot.now c.args.blocks.now c.loop-number.number (c.is_numbered.ensures.wrong c.if-not-is_numbered.true))))
-
 pub push-requires : goal.push-requires
 push-requires g c =
     let old = c.loop-number.invariant in
     let h : length c.loop-number.sides.items < 6 = omega (arith, old.below, old.count, c.div_ceil-needed.ensures, c.requires.few) in
     (lit< tt, h)
-
-pub returns-then-number-needed-clause-sides : goal.returns-then-number-needed-clause-sides
-returns-then-number-needed-clause-sides g c =
-    let old = c.loop-number.invariant in
-    rw c.push.ensures.items (walk-done _ c.args.slot.now c.args.blocks.now c.loop-number.sides.items c.in-Some.first c.loop-number.at (named-match c.args.slot.now.bytes _ 21 _ c.new.ensures c.in-Some.ensures) old.leads
-    (omega (arith, old.count, c.if-number-needed.true, c.div_ceil-needed.ensures)))
-
-pub returns-then-number-needed-clause-ok : goal.returns-then-number-needed-clause-ok
-returns-then-number-needed-clause-ok g c =
-    let S = g.D.Sectors.history in
-    let old = c.loop-number.invariant in
-    passes_then S c.args.disk.now c.loop-number.disk c.read_sector.new.disk c.loop-number.number 1 _ (omega (arith, c.push.ensures.len, old.count)) old.passes (passes_read S c.loop-number.disk c.read_sector.new.disk c.in_ok-read_sector.ensures.reads c.in_ok-read_sector.ensures.failures)
-
-pub returns-in_default-next-clause-err : goal.returns-in_default-next-clause-err
-returns-in_default-next-clause-err g c =
-    let S = g.D.Sectors.history in
-    let old = c.loop-number.invariant in
-    let e = c.in_ok-read_sector.ensures.sector ∙ ap (λ (i : Image). sector i c.loop-number.at) old.passes.reads.image in
-    let passes = passes_then S c.args.disk.now c.loop-number.disk c.read_sector.new.disk c.loop-number.number 1 6 (omega (arith, old.below, c.div_ceil-needed.ensures, c.requires.few)) old.passes (passes_read S c.loop-number.disk c.read_sector.new.disk c.in_ok-read_sector.ensures.reads c.in_ok-read_sector.ensures.failures) in
-    let below : c.loop-number.number < sides_for (length c.args.blocks.now) = omega (arith, old.below, c.div_ceil-needed.ensures) in
-    side_tells S c.args.disk.now c.read_sector.new.disk 6 c.loop-number.at passes
-    (bad-holds nowhere _ c.args.slot.now c.args.blocks.now c.loop-number.number c.loop-number.at c.requires.entry
-    (side-reached _ c.args.slot.now c.args.blocks.now c.loop-number.sides.items c.in-Some.first c.loop-number.at c.loop-number.number c.requires.entry (named-match c.args.slot.now.bytes _ 21 _ c.new.ensures c.in-Some.ensures) old.leads old.count below)
-    (unlinked-bad _ c.args.slot.now c.args.blocks.now c.loop-number.number c.loop-number.at c.read_sector.new.to e (omega (arith, old.below, c.if-number-needed.false, c.div_ceil-needed.ensures)) (named-match c.read_sector.new.to _ 0 _ c.new-in-loop-number.ensures c.in_default-next.ensures)))
 
 pub loop-number-preserved : goal.loop-number-preserved
 loop-number-preserved g c =
@@ -87,8 +36,73 @@ loop-number-preserved g c =
       count = omega (arith, c.push.ensures.len, old.count);
     }
 
-pub returns-clause-sides : goal.returns-clause-sides
-returns-clause-sides g c = absurd (omega (arith, c.loop-number.invariant.below, c.loop-number-test.false))
+pub returns-in_err-read_sector : goal.returns-in_err-read_sector
+returns-in_err-read_sector g c =
+    let p = err_from_is_err_and c.from_residual.result c.from_residual.ensures.1 in
+    record {
+      sides = rw p.1 tt;
+      ok = rw p.1 tt;
+      err = let S = g.D.Sectors.history in
+          let old = c.loop-number.invariant in
+          let read = c.in_err-read_sector.ensures in
+          let p = err_from_is_err_and c.from_residual.result c.from_residual.ensures.1 in
+          rw (p.1, p.2) (tells_then S c.args.disk.now c.loop-number.disk c.read_sector.new.disk c.loop-number.number 1 6 _
+          (omega (arith, old.below, c.div_ceil-needed.ensures, c.requires.few)) old.passes (tells_read S c.loop-number.disk c.read_sector.new.disk c.loop-number.at _ read.told read.reads read.failures read.failed));
+    }
 
-pub returns-clause-ok : goal.returns-clause-ok
-returns-clause-ok g c = absurd (omega (arith, c.loop-number.invariant.below, c.loop-number-test.false))
+pub returns-in_default : goal.returns-in_default
+returns-in_default g c = record {
+  sides = tt;
+  ok = tt;
+  err = let S = g.D.Sectors.history in
+      let d = c.args.disk.now in
+      side_tells S d d 6 c.args.slot.now.sector (passes_weaker S d d 0 6 (omega arith) (passes_none S d)) (no_first_side nowhere _ c.args.slot.now c.args.blocks.now c.requires.entry (named-match c.args.slot.now.bytes _ 21 _ c.new.ensures c.in_default.ensures));
+}
+
+pub returns-then-not-is_numbered : goal.returns-then-not-is_numbered
+returns-then-not-is_numbered g c = record {
+  sides = tt;
+  ok = tt;
+  err = let S = g.D.Sectors.history in
+      let old = c.loop-number.invariant in
+      let e = c.in_ok-read_sector.ensures.sector ∙ ap (λ (i : Image). sector i c.loop-number.at) old.passes.reads.image in
+      let passes = passes_then S c.args.disk.now c.loop-number.disk c.read_sector.new.disk c.loop-number.number 1 6 (omega (arith, old.below, c.div_ceil-needed.ensures, c.requires.few)) old.passes (passes_read S c.loop-number.disk c.read_sector.new.disk c.in_ok-read_sector.ensures.reads c.in_ok-read_sector.ensures.failures) in
+      let below : c.loop-number.number < sides_for (length c.args.blocks.now) = omega (arith, old.below, c.div_ceil-needed.ensures) in
+      side_tells S c.args.disk.now c.read_sector.new.disk 6 c.loop-number.at passes
+      (bad-holds nowhere _ c.args.slot.now c.args.blocks.now c.loop-number.number c.loop-number.at c.requires.entry
+      (side-reached _ c.args.slot.now c.args.blocks.now c.loop-number.sides.items c.in-Some.first c.loop-number.at c.loop-number.number c.requires.entry (named-match c.args.slot.now.bytes _ 21 _ c.new.ensures c.in-Some.ensures) old.leads old.count below)
+      (misjudged-bad _ c.args.slot.now c.args.blocks.now c.loop-number.number c.loop-number.at c.read_sector.new.to e (misnumbered _ c.args.slot.now c.args.blocks.now c.loop-number.number (c.is_numbered.ensures.wrong c.if-not-is_numbered.true))));
+}
+
+pub returns-in_default-next : goal.returns-in_default-next
+returns-in_default-next g c = record {
+  sides = tt;
+  ok = tt;
+  err = let S = g.D.Sectors.history in
+      let old = c.loop-number.invariant in
+      let e = c.in_ok-read_sector.ensures.sector ∙ ap (λ (i : Image). sector i c.loop-number.at) old.passes.reads.image in
+      let passes = passes_then S c.args.disk.now c.loop-number.disk c.read_sector.new.disk c.loop-number.number 1 6 (omega (arith, old.below, c.div_ceil-needed.ensures, c.requires.few)) old.passes (passes_read S c.loop-number.disk c.read_sector.new.disk c.in_ok-read_sector.ensures.reads c.in_ok-read_sector.ensures.failures) in
+      let below : c.loop-number.number < sides_for (length c.args.blocks.now) = omega (arith, old.below, c.div_ceil-needed.ensures) in
+      side_tells S c.args.disk.now c.read_sector.new.disk 6 c.loop-number.at passes
+      (bad-holds nowhere _ c.args.slot.now c.args.blocks.now c.loop-number.number c.loop-number.at c.requires.entry
+      (side-reached _ c.args.slot.now c.args.blocks.now c.loop-number.sides.items c.in-Some.first c.loop-number.at c.loop-number.number c.requires.entry (named-match c.args.slot.now.bytes _ 21 _ c.new.ensures c.in-Some.ensures) old.leads old.count below)
+      (unlinked-bad _ c.args.slot.now c.args.blocks.now c.loop-number.number c.loop-number.at c.read_sector.new.to e (omega (arith, old.below, c.if-number-needed.false, c.div_ceil-needed.ensures)) (named-match c.read_sector.new.to _ 0 _ c.new-in-loop-number.ensures c.in_default-next.ensures)));
+}
+
+pub returns-then-number-needed : goal.returns-then-number-needed
+returns-then-number-needed g c = record {
+  sides = let old = c.loop-number.invariant in
+      rw c.push.ensures.items (walk-done _ c.args.slot.now c.args.blocks.now c.loop-number.sides.items c.in-Some.first c.loop-number.at (named-match c.args.slot.now.bytes _ 21 _ c.new.ensures c.in-Some.ensures) old.leads
+      (omega (arith, old.count, c.if-number-needed.true, c.div_ceil-needed.ensures)));
+  ok = let S = g.D.Sectors.history in
+      let old = c.loop-number.invariant in
+      passes_then S c.args.disk.now c.loop-number.disk c.read_sector.new.disk c.loop-number.number 1 _ (omega (arith, c.push.ensures.len, old.count)) old.passes (passes_read S c.loop-number.disk c.read_sector.new.disk c.in_ok-read_sector.ensures.reads c.in_ok-read_sector.ensures.failures);
+  err = tt;
+}
+
+pub returns : goal.returns
+returns g c = record {
+  sides = absurd (omega (arith, c.loop-number.invariant.below, c.loop-number-test.false));
+  ok = absurd (omega (arith, c.loop-number.invariant.below, c.loop-number-test.false));
+  err = tt;
+}

@@ -1,14 +1,22 @@
--- The command line is a simple one, so words are refused for one of its reasons.
-use Rattle.std.proofs.Common.{◌≡◌, true, refl, ap, ◌∙◌, subst}
-use Rattle.std.specs.Prelude.{map}
-use Rattle.clap.specs.Words.{App, HasKind, fault_of, is_simple_and_free}
-use Rattle.ledger_cli.specs.Grammar.{ledger}
+-- A job is that of what the command line found, and why there is none is its reason.
+use Rattle.std.proofs.Common.{refl}
+use Rattle.ledger_cli.proofs.Parses.{job-found, no-job-found}
 use Rattle.ledger_cli.proofs.words.job.Goals as goal
 
-free : is_simple_and_free ledger ≡ true
-free = refl
+pub returns-in-Ok-clause-ok : goal.returns-in-Ok-clause-ok
+returns-in-Ok-clause-ok c = job-found _ _ _ c.chosen.result c.in-Ok.ensures.fine c.in-Ok.ensures.is c.chosen.ensures.job
 
-pub returns-in-Err-try_get_matches_from-clause-err : goal.returns-in-Err-try_get_matches_from-clause-err
-returns-in-Err-try_get_matches_from-clause-err c =
-    subst (λ (a : App). HasKind (fault_of a (map (λ word. word.now) c.args.words.now)) c.in-Err-try_get_matches_from.e) c.in-Ok.ensures
-    (c.in-Err-try_get_matches_from.ensures.kinds (ap is_simple_and_free c.in-Ok.ensures ∙ free))
+pub returns-in-Ok-clause-tills : goal.returns-in-Ok-clause-tills
+returns-in-Ok-clause-tills c = c.chosen.ensures.tills
+
+pub returns-in-Ok-clause-err : goal.returns-in-Ok-clause-err
+returns-in-Ok-clause-err c = no-job-found _ _ _ c.chosen.result c.in-Ok.ensures.fine c.in-Ok.ensures.is c.chosen.ensures.job
+
+pub returns-in-Err-clause-ok : goal.returns-in-Err-clause-ok
+returns-in-Err-clause-ok c = tt
+
+pub returns-in-Err-clause-tills : goal.returns-in-Err-clause-tills
+returns-in-Err-clause-tills c = tt
+
+pub returns-in-Err-clause-err : goal.returns-in-Err-clause-err
+returns-in-Err-clause-err c = c.in-Err.ensures

@@ -1,5 +1,5 @@
 -- So many records fit into the bytes that are used.
-use Rattle.std.proofs.Common.{arith, refl, ◌*◌, ◌/◌, ◌↔◌, ◌≤◌, ◌≡◌, ℕ}
+use Rattle.std.proofs.Common.{arith, refl, ◌*◌, ◌/◌, ◌↔◌, ◌≤◌, ◌≡◌}
 use Rattle.std.proofs.Math.Nat.{le-div_iff_mul-le}
 use Rattle.std.proofs.lemmas.Bool.{le-leb, leb-true}
 use Rattle.disk_layout.specs.Records.{record_count}

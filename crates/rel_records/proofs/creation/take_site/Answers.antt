@@ -1,7 +1,11 @@
 -- Two sectors for the file, and the directory's room.
-use Rattle.std.proofs.Common.{arith, ap}
+use Rattle.std.proofs.Common.{arith, ap, ◌∷◌, inl, subst, sym}
 use Rattle.disk_layout.specs.View.{blocks_free}
 use Rattle.rel_records.proofs.Sites.{before-few, no-sector, room-slot, sector-site, slot-site}
+use Rattle.d64_image.specs.Images.{Sector}
+use Rattle.disk_layout.specs.Map.{IsMapOf}
+use Rattle.disk_layout.specs.Directory.{map_place}
+use Rattle.disk_layout.specs.Layout.{owners}
 use Rattle.rel_records.proofs.creation.take_site.Goals as goal
 
 pub overflow_mul-result : goal.overflow_mul-result
@@ -31,3 +35,24 @@ pub returns-in-Some-pick_directory : goal.returns-in-Some-pick_directory
 returns-in-Some-pick_directory c img l clean read room =
     sector-site img l clean c.args.map.bytes c.take_next-block.new.map.bytes read c.take_next-block.result c.take_next-side.result c.take_next-side.new.map c.take_next-block.ensures c.take_next-side.ensures c.take.new.self c.in-Some-pick_directory.fresh c.args.room
     (λ few. omega (arith, few, c.if-blocks_free-lt2.false, c.blocks_free.ensures, ap blocks_free c.view.ensures)) room c.in-None.is c.in-Some-pick_directory.ensures c.take.ensures.taken
+
+pub take_next-block-requires-clause-some : goal.take_next-block-requires-clause-some
+take_next-block-requires-clause-some c = omega (arith, c.if-blocks_free-lt2.false, c.blocks_free.ensures, ap blocks_free c.view.ensures)
+
+pub take_next-block-requires-clause-map : goal.take_next-block-requires-clause-map
+take_next-block-requires-clause-map c =
+    let (img, l, clean, read, room) = c.requires.of in
+    let P : Sector → Type 0 = λ b. IsMapOf b (map_place ∷ owners l) in
+    (map_place ∷ owners l, subst P (sym read) clean.map)
+
+pub take_next-side-requires-clause-some : goal.take_next-side-requires-clause-some
+take_next-side-requires-clause-some c = omega (arith, c.if-blocks_free-lt2.false, c.blocks_free.ensures, ap blocks_free c.view.ensures, c.take_next-block.ensures.free)
+
+pub take_next-side-requires-clause-map : goal.take_next-side-requires-clause-map
+take_next-side-requires-clause-map c =
+    let (img, l, clean, read, room) = c.requires.of in
+    let P : Sector → Type 0 = λ b. IsMapOf b (map_place ∷ owners l) in
+    (_, c.take_next-block.ensures.owned _ (subst P (sym read) clean.map))
+
+pub returns-then-blocks_free-lt2 : goal.returns-then-blocks_free-lt2
+returns-then-blocks_free-lt2 c img l clean read room = inl (omega (arith, c.if-blocks_free-lt2.true, c.blocks_free.ensures, ap blocks_free c.view.ensures, ap blocks_free read))

@@ -8,6 +8,8 @@ use Rattle.disk_layout.specs.Layout.{record_length}
 use Rattle.rel_records.proofs.Standing.{had-fit}
 use Rattle.rel_records.specs.Growth.{full, records_had}
 use Rattle.rel_records.specs.Steps.{IsEnd}
+use Rattle.rel_records.proofs.Told.{not-done, tells-after, tells-failed}
+use Rattle.rel_records.proofs.Grows.{at-some}
 use Rattle.rel_records.proofs.filling.fill_up.Goals as goal
 
 pub returns-then-had-total-clause-ok : goal.returns-then-had-total-clause-ok
@@ -65,3 +67,24 @@ returns-clause-ok g c l n f at =
     (record { count = c.requires.had; begins = refl; sum = c.full_records-total.ensures ∙ ap (λ k. full c.args.parts.now.size k) c.len-count.ensures.value; other = c.if-had-total.false })
     c.fill_before.new.disk c.in_ok-fill_before.ensures.ok c.last_place.result (c.last_place.ensures at.front at.last_place (at.blocks ∙ at.last_is)) c.fill_last.new.bytes c.fill_last.ensures.sector (subst P c.len-count.ensures.value c.fill_last.ensures.end)
     c.write.new.self c.write.result _ refl refl refl refl refl refl refl refl c.write.ensures.ok
+
+pub returns-then-had-total-clause-failures : goal.returns-then-had-total-clause-failures
+returns-then-had-total-clause-failures g c = refl
+
+pub returns-in_err-fill_before-clause-ok : goal.returns-in_err-fill_before-clause-ok
+returns-in_err-fill_before-clause-ok g c l n f at = not-done c.from_residual.result _ c.from_residual.ensures.1 _
+
+pub returns-in_err-fill_before-clause-failures : goal.returns-in_err-fill_before-clause-failures
+returns-in_err-fill_before-clause-failures g c = tells-failed g.D.Sectors.history _ _ _ refl c.from_residual.result _ c.from_residual.ensures.1 c.in_err-fill_before.ensures.failures
+
+pub returns-clause-failures : goal.returns-clause-failures
+returns-clause-failures g c = tells-after g.D.Sectors.history _ _ _ c.in_ok-fill_before.ensures.failures c.write.result c.write.ensures.failures
+
+pub fill_before-requires-clause-some : goal.fill_before-requires-clause-some
+fill_before-requires-clause-some g c = let (l, n, f, at) = c.requires.at in at-some (g.D.Sectors.history.image c.args.disk.now) l n f c.args.parts.now at
+
+pub last_place-requires : goal.last_place-requires
+last_place-requires g c = let (l, n, f, at) = c.requires.at in at-some (g.D.Sectors.history.image c.args.disk.now) l n f c.args.parts.now at
+
+pub fill_last-requires-clause-some : goal.fill_last-requires-clause-some
+fill_last-requires-clause-some g c = let (l, n, f, at) = c.requires.at in omega (arith, at-some (g.D.Sectors.history.image c.args.disk.now) l n f c.args.parts.now at, c.len-count.ensures.value)

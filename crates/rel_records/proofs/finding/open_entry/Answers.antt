@@ -1,11 +1,12 @@
 -- What is kept is of the slot's file: its chain was measured, and its first side sector lists them all.
-use Rattle.std.proofs.Common.{List, ap, arith, length, slice_index, sym, ℕ, ◌∙◌, ◌≡◌}
-use Rattle.d64_image.proofs.Moments.{reads_then}
+use Rattle.std.proofs.Common.{List, ap, arith, length, slice_index, sym, ℕ, ◌∙◌, ◌≡◌, refl}
+use Rattle.d64_image.proofs.Moments.{reads_then, reads_weaker}
 use Rattle.d64_image.specs.declared.place.Place.{Place}
 use Rattle.disk_layout.specs.Chain.{named_at}
 use Rattle.disk_layout.specs.Layout.{sides_for}
 use Rattle.disk_layout.specs.declared.slot.Slot.{Slot}
 use Rattle.rel_records.proofs.Found.{length-is, sides-named, some-blocks, some-side}
+use Rattle.rel_records.proofs.Told.{fault-is, none-done, passed-on}
 use Rattle.rel_records.proofs.finding.open_entry.Goals as goal
 
 pub unwrap-first-requires : goal.unwrap-first-requires
@@ -64,3 +65,42 @@ returns-clause-ok g c = λ f of.
 pub returns-in_err-read_sides-clause-reads : goal.returns-in_err-read_sides-clause-reads
 returns-in_err-read_sides-clause-reads g c =
     reads_then g.D.Sectors.history c.args.disk.now c.measure.new.disk c.read_sides.new.disk 683 1 684 (omega arith) c.measure.ensures.reads c.read_sides.ensures.reads
+
+pub returns-in_err-blocks-clause-ok : goal.returns-in_err-blocks-clause-ok
+returns-in_err-blocks-clause-ok g c f of = none-done c.from_residual.result _ c.from_residual.ensures.1 _
+
+pub returns-in_err-blocks-clause-entry : goal.returns-in_err-blocks-clause-entry
+returns-in_err-blocks-clause-entry g c = none-done c.from_residual.result _ c.from_residual.ensures.1 _
+
+pub returns-in_err-blocks-clause-err : goal.returns-in_err-blocks-clause-err
+returns-in_err-blocks-clause-err g c = fault-is c.from_residual.result _ c.from_residual.ensures.1 _ (λ e is. is ∙ c.in_err-blocks.ensures.err)
+
+pub returns-in_err-blocks-clause-failures : goal.returns-in_err-blocks-clause-failures
+returns-in_err-blocks-clause-failures g c = passed-on g.D.Sectors.history _ _ _ refl c.from_residual.result _ c.from_residual.ensures.1 c.in_err-blocks.ensures.failures
+
+pub returns-in_err-read_sides-clause-ok : goal.returns-in_err-read_sides-clause-ok
+returns-in_err-read_sides-clause-ok g c f of = none-done c.from_residual-in_err-read_sides.result _ c.from_residual-in_err-read_sides.ensures.1 _
+
+pub returns-in_err-read_sides-clause-entry : goal.returns-in_err-read_sides-clause-entry
+returns-in_err-read_sides-clause-entry g c = none-done c.from_residual-in_err-read_sides.result _ c.from_residual-in_err-read_sides.ensures.1 _
+
+pub returns-in_err-read_sides-clause-err : goal.returns-in_err-read_sides-clause-err
+returns-in_err-read_sides-clause-err g c = fault-is c.from_residual-in_err-read_sides.result _ c.from_residual-in_err-read_sides.ensures.1 _ (λ e is. is ∙ c.in_err-read_sides.ensures.err)
+
+pub returns-in_err-read_sides-clause-failures : goal.returns-in_err-read_sides-clause-failures
+returns-in_err-read_sides-clause-failures g c = passed-on g.D.Sectors.history _ _ _ c.in_ok-blocks.ensures.failures c.from_residual-in_err-read_sides.result _ c.from_residual-in_err-read_sides.ensures.1 c.in_err-read_sides.ensures.failures
+
+pub returns-in_err-blocks-clause-reads : goal.returns-in_err-blocks-clause-reads
+returns-in_err-blocks-clause-reads g c = reads_weaker g.D.Sectors.history _ _ 683 684 (omega arith) c.measure.ensures.reads
+
+pub returns-clause-entry : goal.returns-clause-entry
+returns-clause-entry g c = refl
+
+pub returns-clause-err : goal.returns-clause-err
+returns-clause-err g c = tt
+
+pub returns-clause-reads : goal.returns-clause-reads
+returns-clause-reads g c = reads_then g.D.Sectors.history _ _ _ 683 1 684 (omega arith) c.measure.ensures.reads c.read_sides.ensures.reads
+
+pub returns-clause-failures : goal.returns-clause-failures
+returns-clause-failures g c = c.in_ok-read_sides.ensures.failures ∙ c.in_ok-blocks.ensures.failures

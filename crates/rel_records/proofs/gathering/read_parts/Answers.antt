@@ -1,10 +1,11 @@
 -- The places, the directory sector, the last block.
 use Rattle.std.proofs.Common.{arith, ap, ◌∙◌, refl, length}
-use Rattle.d64_image.proofs.Moments.{reads_then}
+use Rattle.d64_image.proofs.Moments.{reads_then, reads_weaker}
 use Rattle.d64_image.specs.Images.{sector}
 use Rattle.rel_records.proofs.Gathered.{number-low}
 use Rattle.rel_records.proofs.Gathers.{is-at}
 use Rattle.rel_records.proofs.Opened.{some-blocks}
+use Rattle.rel_records.proofs.Told.{none-done, tells-failed}
 use Rattle.rel_records.proofs.gathering.read_parts.Goals as goal
 
 pub returns-in_err-read-clause-reads : goal.returns-in_err-read-clause-reads
@@ -45,3 +46,27 @@ returns-clause-ok g c l n f of =
     (rw c.deref.ensures.0 at c.index-deref-len.is)
     (c.in_ok-read-2.ensures.sector ∙ ap (λ img. sector img c.index-deref-len.result) second)
     (c.in_ok-read.ensures.sector ∙ ap (λ img. sector img c.args.file.now.sector) first)
+
+pub returns-in_err-read_places-clause-ok : goal.returns-in_err-read_places-clause-ok
+returns-in_err-read_places-clause-ok g c l n f of = none-done c.from_residual.result _ c.from_residual.ensures.1 _
+
+pub returns-in_err-read_places-clause-failures : goal.returns-in_err-read_places-clause-failures
+returns-in_err-read_places-clause-failures g c = tells-failed g.D.Sectors.history _ _ _ refl c.from_residual.result _ c.from_residual.ensures.1 c.in_err-read_places.ensures.failures
+
+pub returns-in_err-read-clause-ok : goal.returns-in_err-read-clause-ok
+returns-in_err-read-clause-ok g c l n f of = none-done c.from_residual-in_err-read.result _ c.from_residual-in_err-read.ensures.1 _
+
+pub returns-in_err-read-clause-failures : goal.returns-in_err-read-clause-failures
+returns-in_err-read-clause-failures g c = tells-failed g.D.Sectors.history _ _ _ c.in_ok-read_places.ensures.failures c.from_residual-in_err-read.result _ c.from_residual-in_err-read.ensures.1 c.in_err-read.ensures.failures
+
+pub returns-in_err-read-2-clause-ok : goal.returns-in_err-read-2-clause-ok
+returns-in_err-read-2-clause-ok g c l n f of = none-done c.from_residual-in_err-read-2.result _ c.from_residual-in_err-read-2.ensures.1 _
+
+pub returns-in_err-read-2-clause-failures : goal.returns-in_err-read-2-clause-failures
+returns-in_err-read-2-clause-failures g c = tells-failed g.D.Sectors.history _ _ _ (c.in_ok-read.ensures.failures ∙ c.in_ok-read_places.ensures.failures) c.from_residual-in_err-read-2.result _ c.from_residual-in_err-read-2.ensures.1 c.in_err-read-2.ensures.failures
+
+pub returns-in_err-read_places-clause-reads : goal.returns-in_err-read_places-clause-reads
+returns-in_err-read_places-clause-reads g c = reads_weaker g.D.Sectors.history _ _ 6 8 (omega arith) c.in_err-read_places.ensures.reads
+
+pub returns-clause-failures : goal.returns-clause-failures
+returns-clause-failures g c = c.in_ok-read-2.ensures.failures ∙ c.in_ok-read.ensures.failures ∙ c.in_ok-read_places.ensures.failures

@@ -5,6 +5,7 @@ use Rattle.d64_image.proofs.Moments.{reads_then}
 use Rattle.d64_image.specs.Images.{sector}
 use Rattle.rel_records.proofs.Gathered.{all-listed, len-low, piece-joined, piece-long, piece-named, take-one}
 use Rattle.rel_records.proofs.Sided.{read-there}
+use Rattle.rel_records.proofs.Told.{not-done, tells-failed}
 use Rattle.rel_records.proofs.gathering.read_places.Goals as goal
 
 pub overflow_sub-file : goal.overflow_sub-file
@@ -47,3 +48,15 @@ loop-side-preserved g c =
 pub returns-clause-blocks : goal.returns-clause-blocks
 returns-clause-blocks g c l n f of =
     all-listed _ l n f c.args.file.now of c.loop-side.side-index c.loop-side.blocks.items (omega (arith, c.loop-side-test.false, ap length c.as_slice-side-items.ensures.value)) (c.loop-side.invariant.listed l n f of)
+
+pub returns-in_err-read-clause-sides : goal.returns-in_err-read-clause-sides
+returns-in_err-read-clause-sides g c l n f of = not-done c.from_residual.result _ c.from_residual.ensures.1 _
+
+pub returns-in_err-read-clause-blocks : goal.returns-in_err-read-clause-blocks
+returns-in_err-read-clause-blocks g c l n f of = not-done c.from_residual.result _ c.from_residual.ensures.1 _
+
+pub returns-in_err-read-clause-failures : goal.returns-in_err-read-clause-failures
+returns-in_err-read-clause-failures g c = tells-failed g.D.Sectors.history _ _ _ c.loop-side.invariant.failures c.from_residual.result _ c.from_residual.ensures.1 c.in_err-read.ensures.failures
+
+pub returns-clause-failures : goal.returns-clause-failures
+returns-clause-failures g c = c.loop-side.invariant.failures

@@ -1,11 +1,12 @@
 -- What is read, the last blocks filled, blocks one after another.
-use Rattle.std.proofs.Common.{arith, sym, ap, ◌∙◌, ◌≤◌, length}
+use Rattle.std.proofs.Common.{arith, sym, ap, ◌∙◌, ◌≤◌, length, refl}
 use Rattle.d64_image.proofs.Moments.{changes_weaker, reads_change}
 use Rattle.disk_layout.specs.View.{blocks_free}
 use Rattle.rel_records.proofs.Filled.{had-is}
 use Rattle.rel_records.proofs.Grows.{at-now, at-sides, at-some, fill-moments, had-of, has-run, long, room, run, run-moments, standing}
 use Rattle.rel_records.proofs.Kept.{growing_same}
 use Rattle.rel_records.specs.Growth.{needed}
+use Rattle.rel_records.proofs.Told.{not-done, tells-failed}
 use Rattle.rel_records.proofs.growth.grow.Goals as goal
 
 pub returns-in_err-parts-clause-moments : goal.returns-in_err-parts-clause-moments
@@ -105,3 +106,36 @@ returns-clause-moments g c l n f of =
     let r = run S c.args.disk.now c.read_parts.new.disk l n f c.in_ok-parts.parts c.args.wanted c.in_ok-parts.ensures.reads at more c.fill_up.new.disk (c.in_ok-fill_up.ensures.moments l n f (at-now S c.args.disk.now c.read_parts.new.disk l n f c.in_ok-parts.parts c.args.wanted c.in_ok-parts.ensures.reads at more)) c.fill_up.new.parts (c.in_ok-fill_up.ensures.ok l n f (at-now S c.args.disk.now c.read_parts.new.disk l n f c.in_ok-parts.parts c.args.wanted c.in_ok-parts.ensures.reads at more)) in
     run-moments S c.args.disk.now c.read_parts.new.disk l n f c.in_ok-parts.parts c.args.wanted c.in_ok-parts.ensures.reads at more c.fill_up.new.disk (c.in_ok-fill_up.ensures.moments l n f (at-now S c.args.disk.now c.read_parts.new.disk l n f c.in_ok-parts.parts c.args.wanted c.in_ok-parts.ensures.reads at more)) c.fill_up.new.parts (c.in_ok-fill_up.ensures.ok l n f (at-now S c.args.disk.now c.read_parts.new.disk l n f c.in_ok-parts.parts c.args.wanted c.in_ok-parts.ensures.reads at more))
     c.add_blocks.new.disk (c.in_ok-add_blocks.ensures.moments r.layout n r.file r.at r.filled)
+
+pub returns-in_err-parts-clause-ok : goal.returns-in_err-parts-clause-ok
+returns-in_err-parts-clause-ok g c l n f of = not-done c.from_residual.result _ c.from_residual.ensures.1 _
+
+pub returns-in_err-parts-clause-failures : goal.returns-in_err-parts-clause-failures
+returns-in_err-parts-clause-failures g c = tells-failed g.D.Sectors.history _ _ _ refl c.from_residual.result _ c.from_residual.ensures.1 c.in_err-parts.ensures.failures
+
+pub returns-in_err-fill_up-clause-ok : goal.returns-in_err-fill_up-clause-ok
+returns-in_err-fill_up-clause-ok g c l n f of = not-done c.from_residual-in_err-fill_up.result _ c.from_residual-in_err-fill_up.ensures.1 _
+
+pub returns-in_err-fill_up-clause-failures : goal.returns-in_err-fill_up-clause-failures
+returns-in_err-fill_up-clause-failures g c = tells-failed g.D.Sectors.history _ _ _ c.in_ok-parts.ensures.failures c.from_residual-in_err-fill_up.result _ c.from_residual-in_err-fill_up.ensures.1 c.in_err-fill_up.ensures.failures
+
+pub returns-in_err-add_blocks-clause-ok : goal.returns-in_err-add_blocks-clause-ok
+returns-in_err-add_blocks-clause-ok g c l n f of = not-done c.from_residual-in_err-add_blocks.result _ c.from_residual-in_err-add_blocks.ensures.1 _
+
+pub returns-in_err-add_blocks-clause-failures : goal.returns-in_err-add_blocks-clause-failures
+returns-in_err-add_blocks-clause-failures g c = tells-failed g.D.Sectors.history _ _ _ (c.in_ok-fill_up.ensures.failures ∙ c.in_ok-parts.ensures.failures) c.from_residual-in_err-add_blocks.result _ c.from_residual-in_err-add_blocks.ensures.1 c.in_err-add_blocks.ensures.failures
+
+pub returns-in_err-parts-clause-entry : goal.returns-in_err-parts-clause-entry
+returns-in_err-parts-clause-entry g c = refl
+
+pub returns-in_err-fill_up-clause-entry : goal.returns-in_err-fill_up-clause-entry
+returns-in_err-fill_up-clause-entry g c = refl
+
+pub returns-in_err-add_blocks-clause-entry : goal.returns-in_err-add_blocks-clause-entry
+returns-in_err-add_blocks-clause-entry g c = refl
+
+pub returns-clause-entry : goal.returns-clause-entry
+returns-clause-entry g c = c.renew.ensures.entry
+
+pub returns-clause-failures : goal.returns-clause-failures
+returns-clause-failures g c = c.in_ok-add_blocks.ensures.failures ∙ c.in_ok-fill_up.ensures.failures ∙ c.in_ok-parts.ensures.failures

@@ -1,14 +1,15 @@
 -- The record's bytes are those of the block that is kept, and of the one behind it.
-use Rattle.std.proofs.Common.{Option, ap, arith, length, subst, sym, ℕ, ◌+◌, ◌-◌, ◌*◌, ◌/◌, ◌∙◌, ◌≡◌}
+use Rattle.std.proofs.Common.{Option, ap, arith, length, subst, sym, ℕ, ◌∙◌, ◌≡◌, refl}
 use Rattle.std.specs.Prelude.{IfSome}
 use Rattle.d64_image.specs.Images.{Image, IsImage, Sector}
-use Rattle.d64_image.proofs.Moments.{reads_then}
 use Rattle.disk_layout.proofs.Joined.{sector-long}
 use Rattle.disk_layout.specs.Layout.{File}
 use Rattle.rel_records.proofs.Readings.{inside-of, record-long, record-read}
 use Rattle.rel_records.specs.Block.{IsBlock}
-use Rattle.rel_records.specs.File.{IsOf, length_of}
+use Rattle.rel_records.specs.File.{IsOf}
 use Rattle.rel_records.specs.Kept.{IsKept}
+use Rattle.d64_image.proofs.Moments.{reads_then, reads_weaker}
+use Rattle.rel_records.proofs.Told.{not-done, fault-is, passed-on}
 use Rattle.rel_records.proofs.in_order.next_there.Goals as goal
 
 -- a block that is read has 256 bytes
@@ -65,3 +66,57 @@ returns-clause-size g c =
 
 pub returns-clause-kept : goal.returns-clause-kept
 returns-clause-kept g c = subst (λ (i : Image). IsKept i c.args.file.now c.go_on.new.last) c.bring.ensures.reads.image c.go_on.ensures.kept
+
+pub returns-in_err-bring-clause-ok : goal.returns-in_err-bring-clause-ok
+returns-in_err-bring-clause-ok g c l n f of = not-done c.from_residual.result _ c.from_residual.ensures.1 _
+
+pub returns-in_err-bring-clause-size : goal.returns-in_err-bring-clause-size
+returns-in_err-bring-clause-size g c = not-done c.from_residual.result _ c.from_residual.ensures.1 _
+
+pub returns-in_err-bring-clause-err : goal.returns-in_err-bring-clause-err
+returns-in_err-bring-clause-err g c = fault-is c.from_residual.result _ c.from_residual.ensures.1 _ (λ e is. is ∙ c.in_err-bring.ensures.err)
+
+pub returns-in_err-bring-clause-failures : goal.returns-in_err-bring-clause-failures
+returns-in_err-bring-clause-failures g c = passed-on g.D.Sectors.history _ _ _ refl c.from_residual.result _ c.from_residual.ensures.1 c.in_err-bring.ensures.failures
+
+pub returns-in_err-bring-clause-reads : goal.returns-in_err-bring-clause-reads
+returns-in_err-bring-clause-reads g c = reads_weaker g.D.Sectors.history _ _ 2 3 (omega arith) c.bring.ensures.reads
+
+pub returns-then-start-size-le-DATA-clause-err : goal.returns-then-start-size-le-DATA-clause-err
+returns-then-start-size-le-DATA-clause-err g c = tt
+
+pub returns-then-start-size-le-DATA-clause-reads : goal.returns-then-start-size-le-DATA-clause-reads
+returns-then-start-size-le-DATA-clause-reads g c = reads_weaker g.D.Sectors.history _ _ 2 3 (omega arith) c.bring.ensures.reads
+
+pub returns-then-start-size-le-DATA-clause-failures : goal.returns-then-start-size-le-DATA-clause-failures
+returns-then-start-size-le-DATA-clause-failures g c = c.in_ok-bring.ensures.failures
+
+pub returns-in_err-go_on-clause-ok : goal.returns-in_err-go_on-clause-ok
+returns-in_err-go_on-clause-ok g c l n f of = not-done c.from_residual-in_err-go_on.result _ c.from_residual-in_err-go_on.ensures.1 _
+
+pub returns-in_err-go_on-clause-size : goal.returns-in_err-go_on-clause-size
+returns-in_err-go_on-clause-size g c = not-done c.from_residual-in_err-go_on.result _ c.from_residual-in_err-go_on.ensures.1 _
+
+pub returns-in_err-go_on-clause-err : goal.returns-in_err-go_on-clause-err
+returns-in_err-go_on-clause-err g c = fault-is c.from_residual-in_err-go_on.result _ c.from_residual-in_err-go_on.ensures.1 _ (λ e is. is ∙ c.in_err-go_on.ensures.err)
+
+pub returns-in_err-go_on-clause-failures : goal.returns-in_err-go_on-clause-failures
+returns-in_err-go_on-clause-failures g c = passed-on g.D.Sectors.history _ _ _ c.in_ok-bring.ensures.failures c.from_residual-in_err-go_on.result _ c.from_residual-in_err-go_on.ensures.1 c.in_err-go_on.ensures.failures
+
+pub returns-in_err-go_on-clause-reads : goal.returns-in_err-go_on-clause-reads
+returns-in_err-go_on-clause-reads g c = reads_then g.D.Sectors.history _ _ _ 2 1 3 (omega arith) c.bring.ensures.reads c.go_on.ensures.reads
+
+pub returns-clause-reads : goal.returns-clause-reads
+returns-clause-reads g c = reads_then g.D.Sectors.history _ _ _ 2 1 3 (omega arith) c.bring.ensures.reads c.go_on.ensures.reads
+
+pub returns-clause-err : goal.returns-clause-err
+returns-clause-err g c = tt
+
+pub returns-clause-failures : goal.returns-clause-failures
+returns-clause-failures g c = c.in_ok-go_on.ensures.failures ∙ c.in_ok-bring.ensures.failures
+
+pub returns-in_err-bring-clause-kept : goal.returns-in_err-bring-clause-kept
+returns-in_err-bring-clause-kept g c = c.bring.ensures.kept
+
+pub returns-then-start-size-le-DATA-clause-kept : goal.returns-then-start-size-le-DATA-clause-kept
+returns-then-start-size-le-DATA-clause-kept g c = c.bring.ensures.kept

@@ -1,12 +1,12 @@
 -- Into a free slot by four writes, behind a full directory by five.
 use Rattle.std.proofs.Common.{List, ℕ, Option, subst, sym}
-use Rattle.std.specs.Prelude.{MatchOption}
+use Rattle.std.specs.Prelude.{MatchOption, OnOk}
 use Rattle.d64_image.specs.History.{Changes}
 use Rattle.d64_image.specs.declared.place.Place.{Place}
 use Rattle.rel_records.proofs.FullSlots.{five-writes, four-writes}
 use Rattle.rel_records.specs.Made.{IsCreating}
 use Rattle.rel_records.specs.NewFile.{IsEntered, IsNewDirectory}
-use Rattle.rel_records.specs.Site.{IsSectorSite, IsSlotSite}
+use Rattle.rel_records.specs.Site.{IsSectorSite, IsSlotSite, HasFileAt, sector_or}
 use Rattle.rel_records.proofs.new_file.write_file.Goals as goal
 
 pub returns-in-Some-clause-moments : goal.returns-in-Some-clause-moments
@@ -32,3 +32,68 @@ returns-in-None-clause-moments g c l site =
     let P : ℕ → Type 0 = λ n. Changes S c.args.disk.now c.write_in_slot.new.disk n (IsCreating a l c.args.name.now c.args.size) in
     subst P (sym (four-writes a l st.place st.number at.taken.clean.layout at.room))
     (c.write_in_slot.ensures.moments l c.args.name.now at (record { entered = subst E c.relative_entry-entry.ensures c.put_entry.ensures; few = c.requires.name }))
+
+pub write_behind-requires-clause-low : goal.write_behind-requires-clause-low
+write_behind-requires-clause-low g c = c.requires.low
+
+pub write_behind-requires-clause-high : goal.write_behind-requires-clause-high
+write_behind-requires-clause-high g c = c.requires.high
+
+pub write_behind-requires-clause-site : goal.write_behind-requires-clause-site
+write_behind-requires-clause-site g c =
+    let (l, site) = c.requires.site in
+    let a = g.D.Sectors.history.image c.args.disk.now in
+    let st = c.args.site.now in
+    let O : Option Place → Type 0 = λ o. MatchOption o (IsSlotSite a l st) (IsSectorSite a l st) in
+    (l, subst O c.in-Some.is site)
+
+pub returns-in-Some-clause-failures : goal.returns-in-Some-clause-failures
+returns-in-Some-clause-failures g c = c.write_behind.ensures.failures
+
+pub write_in_slot-requires-clause-low : goal.write_in_slot-requires-clause-low
+write_in_slot-requires-clause-low g c = c.requires.low
+
+pub write_in_slot-requires-clause-high : goal.write_in_slot-requires-clause-high
+write_in_slot-requires-clause-high g c = c.requires.high
+
+pub write_in_slot-requires-clause-site : goal.write_in_slot-requires-clause-site
+write_in_slot-requires-clause-site g c =
+    let (l, site) = c.requires.site in
+    let a = g.D.Sectors.history.image c.args.disk.now in
+    let st = c.args.site.now in
+    let O : Option Place → Type 0 = λ o. MatchOption o (IsSlotSite a l st) (IsSectorSite a l st) in
+    (l, subst O c.in-None.is site)
+
+pub returns-in-None-clause-failures : goal.returns-in-None-clause-failures
+returns-in-None-clause-failures g c = c.write_in_slot.ensures.failures
+
+pub put_entry-requires : goal.put_entry-requires
+put_entry-requires g c =
+    let (l, site) = c.requires.site in
+    let a = g.D.Sectors.history.image c.args.disk.now in
+    let st = c.args.site.now in
+    let O : Option Place → Type 0 = λ o. MatchOption o (IsSlotSite a l st) (IsSectorSite a l st) in
+    let at : IsSlotSite a l st = subst O c.in-None.is site in
+    at.room.slot.number
+
+pub returns-in-Some-clause-ok : goal.returns-in-Some-clause-ok
+returns-in-Some-clause-ok g c l site =
+    let S = g.D.Sectors.history in
+    let a = S.image c.args.disk.now in
+    let st = c.args.site.now in
+    let O : Option Place → Type 0 = λ o. MatchOption o (IsSlotSite a l st) (IsSectorSite a l st) in
+    let at : IsSectorSite a l st c.in-Some.fresh = subst O c.in-Some.is site in
+    let E : List ℕ → Type 0 = IsNewDirectory c.directory_with.result in
+    let P : Option Place → Type 0 = λ o. OnOk c.write_behind.result (HasFileAt a l c.args.name.now c.args.size st (sector_or st.place o) (S.image c.write_behind.new.disk)) in
+    subst P (sym c.in-Some.is) (c.write_behind.ensures.ok l c.args.name.now at (record { made = subst E c.relative_entry-entry.ensures c.directory_with.ensures; linked = c.link_to.ensures; few = c.requires.name }))
+
+pub returns-in-None-clause-ok : goal.returns-in-None-clause-ok
+returns-in-None-clause-ok g c l site =
+    let S = g.D.Sectors.history in
+    let a = S.image c.args.disk.now in
+    let st = c.args.site.now in
+    let O : Option Place → Type 0 = λ o. MatchOption o (IsSlotSite a l st) (IsSectorSite a l st) in
+    let at : IsSlotSite a l st = subst O c.in-None.is site in
+    let E : List ℕ → Type 0 = IsEntered st.bytes c.put_entry.new.bytes st.number in
+    let P : Option Place → Type 0 = λ o. OnOk c.write_in_slot.result (HasFileAt a l c.args.name.now c.args.size st (sector_or st.place o) (S.image c.write_in_slot.new.disk)) in
+    subst P (sym c.in-None.is) (c.write_in_slot.ensures.ok l c.args.name.now at (record { entered = subst E c.relative_entry-entry.ensures c.put_entry.ensures; few = c.requires.name }))

@@ -1,5 +1,5 @@
 -- The map, the fresh block, the side sectors.
-use Rattle.std.proofs.Common.{arith, subst, ap, ◌≡◌, ◌∙◌}
+use Rattle.std.proofs.Common.{arith, subst, ap, ◌≡◌, ◌∙◌, refl}
 use Rattle.d64_image.proofs.Moments.{at_end, changes_weaker}
 use Rattle.d64_image.specs.Images.{Image, put}
 use Rattle.d64_image.specs.declared.place.Place.{Place}
@@ -7,6 +7,7 @@ use Rattle.disk_layout.specs.Directory.{map_place}
 use Rattle.rel_records.proofs.Sided.{ok-then}
 use Rattle.rel_records.proofs.Sided.{before_sides, before_two}
 use Rattle.rel_records.specs.Steps.{IsSided}
+use Rattle.rel_records.proofs.Told.{tells-after, not-done, tells-failed}
 use Rattle.rel_records.proofs.steps.prepare.Goals as goal
 
 pub returns-in_err-write-2-clause-moments : goal.returns-in_err-write-2-clause-moments
@@ -33,3 +34,18 @@ returns-clause-moments g c =
     before_sides S c.args.parts.now c.args.fresh c.args.block.now c.args.disk.now c.write.new.self c.write-2.new.self c.write_sides.new.disk c.map_place.result _ _ (omega arith) c.map_place.ensures c.in_ok-write.ensures.ok c.in_ok-write-2.ensures.ok
     (before_two S c.args.parts.now c.args.fresh c.args.block.now c.args.disk.now c.write.new.self c.write-2.new.self c.map_place.result c.map_place.ensures c.in_ok-write.ensures.ok c.in_ok-write.ensures.held c.in_ok-write.ensures.counted c.in_ok-write-2.ensures.held c.in_ok-write-2.ensures.counted)
     moments
+
+pub returns-in_err-write-clause-ok : goal.returns-in_err-write-clause-ok
+returns-in_err-write-clause-ok g c = not-done c.from_residual.result _ c.from_residual.ensures.1 _
+
+pub returns-in_err-write-clause-failures : goal.returns-in_err-write-clause-failures
+returns-in_err-write-clause-failures g c = tells-failed g.D.Sectors.history _ _ _ refl c.from_residual.result _ c.from_residual.ensures.1 c.in_err-write.ensures.failures
+
+pub returns-in_err-write-2-clause-ok : goal.returns-in_err-write-2-clause-ok
+returns-in_err-write-2-clause-ok g c = not-done c.from_residual-in_err-write-2.result _ c.from_residual-in_err-write-2.ensures.1 _
+
+pub returns-in_err-write-2-clause-failures : goal.returns-in_err-write-2-clause-failures
+returns-in_err-write-2-clause-failures g c = tells-failed g.D.Sectors.history _ _ _ c.in_ok-write.ensures.failures c.from_residual-in_err-write-2.result _ c.from_residual-in_err-write-2.ensures.1 c.in_err-write-2.ensures.failures
+
+pub returns-clause-failures : goal.returns-clause-failures
+returns-clause-failures g c = tells-after g.D.Sectors.history _ _ _ (c.in_ok-write-2.ensures.failures ∙ c.in_ok-write.ensures.failures) c.write_sides.result c.write_sides.ensures.failures

@@ -1,11 +1,16 @@
 -- One side sector is written.
-use Rattle.std.proofs.Common.{sym, subst}
+use Rattle.std.proofs.Common.{sym, subst, ◌≡◌, ◌∙◌, ap, Some}
 use Rattle.d64_image.proofs.Moments.{write_change}
 use Rattle.d64_image.specs.Images.{Sector, put}
-use Rattle.rel_records.proofs.Sided.{read-there}
+use Rattle.rel_records.proofs.Sided.{read-there, ok-then}
 use Rattle.rel_records.specs.Steps.{IsSided}
 use Rattle.rel_records.proofs.Sided.{counted_once, sided-none, sided-put}
+use Rattle.disk_layout.specs.Side.{side_sector}
+use Rattle.d64_image.specs.declared.place.Place.{Place}
 use Rattle.rel_records.proofs.steps.write_side.Goals as goal
+
+same-place : (p q : Place) → Some p ≡ Some q → p ≡ q
+same-place p q e = cc
 
 pub returns-clause-moments : goal.returns-clause-moments
 returns-clause-moments g c =
@@ -18,3 +23,13 @@ returns-clause-moments g c =
     (counted_once S _ _ c.write.result c.write.ensures.counted c.write.ensures.uncounted)
     (sided-none a c.args.blocks.now c.args.sides.now c.args.size)
     (subst P (sym c.side_bytes-bytes.ensures) (sided-put a a c.args.blocks.now c.args.sides.now c.args.size c.args.number p (S.whole c.args.disk.now).size at (sided-none a c.args.blocks.now c.args.sides.now c.args.size)))
+
+pub returns-clause-failures : goal.returns-clause-failures
+returns-clause-failures g c = c.write.ensures.failures
+
+pub returns-clause-ok : goal.returns-clause-ok
+returns-clause-ok g c q at =
+    let a = g.D.Sectors.history.image c.args.disk.now in
+    let p = c.index-sides-number.result in
+    let here = read-there c.args.sides.now c.args.number p c.requires c.index-sides-number.is in
+    ok-then c.write.result _ _ (λ e. e ∙ ap (λ (s : Sector). put a p s) c.side_bytes-bytes.ensures ∙ ap (λ x. put a x (side_sector c.args.number c.args.blocks.now c.args.sides.now c.args.size)) (same-place p q (sym here ∙ at))) c.write.ensures.ok

@@ -9,6 +9,7 @@ use Rattle.rel_records.proofs.Readings.{block-there, inside-of, next-is, next-so
 use Rattle.rel_records.specs.File.{length_of}
 use Rattle.rel_records.specs.Others.{LeavesRecords}
 use Rattle.rel_records.specs.Written.{with_written}
+use Rattle.rel_records.proofs.Told.{not-done, fault-is, passed-on}
 use Rattle.rel_records.proofs.writing.write_across.Goals as goal
 
 pub unwrap-requires : goal.unwrap-requires
@@ -76,3 +77,27 @@ returns-clause-moments g c = λ l n f of.
     c.write_block-2.new.disk _ c.in_ok-next.ensures.ok c.write_block-2.ensures.held c.write_block-2.ensures.writes
     (leaves-both a l n f v (S.whole c.args.disk.now) of (clean-of a l n f v of r.clean) c.args.block c.args.number c.args.position c.args.place c.unwrap.result c.args.text.now small (r.at l n f of) to r.low r.high r.position_low r.position_high r.from r.inside r.over
     c.min.result (S.image c.write_block.new.disk) c.min.ensures c.in_ok-next.ensures.ok)
+
+pub returns-in_err-next-clause-ok : goal.returns-in_err-next-clause-ok
+returns-in_err-next-clause-ok g c l n f of = not-done c.from_residual.result _ c.from_residual.ensures.1 _
+
+pub returns-in_err-next-clause-err : goal.returns-in_err-next-clause-err
+returns-in_err-next-clause-err g c = fault-is c.from_residual.result _ c.from_residual.ensures.1 _ (λ e is. is ∙ c.in_err-next.ensures.err)
+
+pub returns-in_err-next-clause-failures : goal.returns-in_err-next-clause-failures
+returns-in_err-next-clause-failures g c = passed-on g.D.Sectors.history _ _ _ refl c.from_residual.result _ c.from_residual.ensures.1 c.in_err-next.ensures.failures
+
+pub returns-in_err-write_block-clause-ok : goal.returns-in_err-write_block-clause-ok
+returns-in_err-write_block-clause-ok g c l n f of = not-done c.from_residual-in_err-write_block.result _ c.from_residual-in_err-write_block.ensures.1 _
+
+pub returns-in_err-write_block-clause-err : goal.returns-in_err-write_block-clause-err
+returns-in_err-write_block-clause-err g c = fault-is c.from_residual-in_err-write_block.result _ c.from_residual-in_err-write_block.ensures.1 _ (λ e is. is ∙ c.in_err-write_block.ensures.err)
+
+pub returns-in_err-write_block-clause-failures : goal.returns-in_err-write_block-clause-failures
+returns-in_err-write_block-clause-failures g c = passed-on g.D.Sectors.history _ _ _ c.in_ok-next.ensures.failures c.from_residual-in_err-write_block.result _ c.from_residual-in_err-write_block.ensures.1 c.in_err-write_block.ensures.failures
+
+pub returns-clause-err : goal.returns-clause-err
+returns-clause-err g c = tt
+
+pub returns-clause-failures : goal.returns-clause-failures
+returns-clause-failures g c = c.in_ok-write_block.ensures.failures ∙ c.in_ok-next.ensures.failures

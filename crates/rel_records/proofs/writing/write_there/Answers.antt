@@ -1,11 +1,15 @@
 -- The block is looked up, and then one is written, or two.
-use Rattle.std.proofs.Common.{arith, subst, sym}
+use Rattle.std.proofs.Common.{arith, subst, sym, OnOk, ◌∙◌, refl}
 use Rattle.d64_image.specs.Images.{Image}
 use Rattle.rel_records.proofs.Composed.{reads_first, reads_only}
 use Rattle.rel_records.proofs.OneBlock.{old-moment, one-more}
 use Rattle.rel_records.proofs.Readings.{there-fits}
 use Rattle.rel_records.specs.File.{IsFileOf, IsOf, length_of}
-use Rattle.rel_records.specs.Written.{IsWriting, touched}
+use Rattle.rel_records.specs.Written.{IsWriting, touched, with_written}
+use Rattle.disk_layout.specs.Layout.{record_length}
+use Rattle.disk_layout.specs.Records.{records}
+use Rattle.rel_records.specs.Others.{LeavesRecords}
+use Rattle.rel_records.proofs.Told.{error-then, at-error, tells-rel-after, not-done, fault-is, passed-on}
 use Rattle.rel_records.proofs.writing.write_there.Goals as goal
 
 pub block_at-requires-clause-there : goal.block_at-requires-clause-there
@@ -80,3 +84,46 @@ returns-clause-moments g c = λ l n f of.
     let of' = let P : Image → Type 0 = λ i. IsFileOf i l n f v in subst P (sym c.block_at.ensures.reads.image) of in
     reads_first S a c.block_at.new.disk c.write_across.new.disk 1 2 (touched (length_of v) c.args.number c.args.position) (λ old. IsWriting old l n f 0 c.args.number c.args.position c.args.text.now)
     (omega (arith, c.if-end-block.false)) c.block_at.ensures.reads (old-moment (S.image a) (S.image a) l n f v c.args.number c.args.position c.args.text.now of) (c.write_across.ensures.moments l n f of')
+
+pub returns-in_err-place-clause-ok : goal.returns-in_err-place-clause-ok
+returns-in_err-place-clause-ok g c l n f of = not-done c.from_residual.result _ c.from_residual.ensures.1 _
+
+pub returns-in_err-place-clause-err : goal.returns-in_err-place-clause-err
+returns-in_err-place-clause-err g c = fault-is c.from_residual.result _ c.from_residual.ensures.1 _ (λ e is. is ∙ c.in_err-place.ensures.err)
+
+pub returns-in_err-place-clause-failures : goal.returns-in_err-place-clause-failures
+returns-in_err-place-clause-failures g c = passed-on g.D.Sectors.history _ _ _ refl c.from_residual.result _ c.from_residual.ensures.1 c.in_err-place.ensures.failures
+
+pub returns-in_err-place-clause-uncounted : goal.returns-in_err-place-clause-uncounted
+returns-in_err-place-clause-uncounted g c one = at-error c.from_residual.result _ c.block_at.ensures.reads.writes
+
+pub returns-then-end-block-clause-ok : goal.returns-then-end-block-clause-ok
+returns-then-end-block-clause-ok g c l n f of =
+    let S = g.D.Sectors.history in
+    let v = c.args.file.now in
+    let of' = let P : Image → Type 0 = λ i. IsFileOf i l n f v in subst P (sym c.block_at.ensures.reads.image) of in
+    let P : Image → Type 0 = λ i. OnOk c.write_in_block.result (LeavesRecords i (S.image c.write_in_block.new.disk) l n (with_written (record_length f.slot) c.args.number c.args.position c.args.text.now (records i f)) v) in
+    subst P c.block_at.ensures.reads.image (c.write_in_block.ensures.ok l n f of')
+
+pub returns-then-end-block-clause-err : goal.returns-then-end-block-clause-err
+returns-then-end-block-clause-err g c = c.write_in_block.ensures.err
+
+pub returns-then-end-block-clause-failures : goal.returns-then-end-block-clause-failures
+returns-then-end-block-clause-failures g c = tells-rel-after g.D.Sectors.history _ _ _ c.in_ok-place.ensures.failures c.write_in_block.result c.write_in_block.ensures.failures
+
+pub returns-clause-ok : goal.returns-clause-ok
+returns-clause-ok g c l n f of =
+    let S = g.D.Sectors.history in
+    let v = c.args.file.now in
+    let of' = let P : Image → Type 0 = λ i. IsFileOf i l n f v in subst P (sym c.block_at.ensures.reads.image) of in
+    let P : Image → Type 0 = λ i. OnOk c.write_across.result (LeavesRecords i (S.image c.write_across.new.disk) l n (with_written (record_length f.slot) c.args.number c.args.position c.args.text.now (records i f)) v) in
+    subst P c.block_at.ensures.reads.image (c.write_across.ensures.ok l n f of')
+
+pub returns-clause-err : goal.returns-clause-err
+returns-clause-err g c = c.write_across.ensures.err
+
+pub returns-clause-failures : goal.returns-clause-failures
+returns-clause-failures g c = tells-rel-after g.D.Sectors.history _ _ _ c.in_ok-place.ensures.failures c.write_across.result c.write_across.ensures.failures
+
+pub returns-then-end-block-clause-uncounted : goal.returns-then-end-block-clause-uncounted
+returns-then-end-block-clause-uncounted g c one = error-then c.write_in_block.result _ _ (λ e. e ∙ c.block_at.ensures.reads.writes) c.write_in_block.ensures.uncounted

@@ -1,6 +1,13 @@
-use Rattle.std.proofs.Common.{◌≡◌, true, false, refl}
+use Rattle.std.proofs.Common.{◌≡◌, true, false, refl, arith, None, subst, sym, Option}
 use Rattle.disk_layout.proofs.Unclean.{told-unclean}
 use Rattle.drive_channels.proofs.Refusals.{clean-fact, quiet}
+use Rattle.d64_image.proofs.Moments.{no_reads, reads_weaker}
+use Rattle.d64_image.specs.Images.{Image}
+use Rattle.disk_layout.specs.Clean.{IsClean}
+use Rattle.drive_channels.specs.Inside.{IsKnown, Remembers}
+use Rattle.drive_channels.specs.declared.known.Known.{Known}
+use Rattle.drive_channels.specs.declared.found.Found.{Found}
+use Rattle.drive_channels.specs.declared.found.Opened.{Opened}
 use Rattle.drive_channels.proofs.known.Known.passes_check.Goals as goal
 use Rattle.layout_check.specs.declared.outcome.Survey.{Survey}
 
@@ -16,4 +23,39 @@ returns-in_default g c =
       last = refl;
       reads = c.check.ensures.reads;
       failures = quiet Survey S _ _ c.in-Err.fault c.in_default.not-Device c.in-Err.ensures.failures;
+    }
+
+refused : true ≡ false → ⊥
+refused h = cc
+
+-- nothing is remembered before a check has passed
+checked-now : (img : Image) (k : Known) → k.checked ≡ false → IsKnown img k → IsClean img → IsKnown img (record { last = k.last; before = k.before; checked = true })
+checked-now img k unchecked known clean =
+    let (last, before) = known.fresh unchecked in
+    let nothing : Remembers img None None = record { clean = clean; last_found = tt; spot = tt; before_found = tt; apart = tt } in
+    record {
+      fresh = λ e. absurd (refused e);
+      remembered = λ _. subst (λ (o : Option Opened). Remembers img o k.before) (sym last) (subst (λ (o : Option Found). Remembers img None o) (sym before) nothing);
+    }
+
+pub returns-then-self : goal.returns-then-self
+returns-then-self g c =
+    let S = g.D.Sectors.history in
+    record {
+      passed = λ _. (c.if-self.true, c.requires.known);
+      refused = λ is. absurd (refused is);
+      last = refl;
+      reads = reads_weaker S c.args.disk.now c.args.disk.now 0 2115 (omega arith) (no_reads S c.args.disk.now);
+      failures = refl;
+    }
+
+pub returns-in-Ok : goal.returns-in-Ok
+returns-in-Ok g c =
+    let clean = c.in-Ok.ensures.ok in
+    record {
+      passed = λ _. (refl, checked-now (g.D.Sectors.history.image c.args.disk.now) c.args.self.now c.if-self.false c.requires.known (clean.0, clean.1));
+      refused = λ is. absurd (refused is);
+      last = refl;
+      reads = c.check.ensures.reads;
+      failures = c.in-Ok.ensures.failures;
     }

@@ -18,27 +18,33 @@ returns-in_default-clause-moments g c = λ s h. no-moments g.D.Sectors.history c
 pub returns-in_default-clause-sums : goal.returns-in_default-clause-sums
 returns-in_default-clause-sums g c = λ s h. message-sums (start_of s) c.args.message.now
 
-pub returns-clause-quiet : goal.returns-clause-quiet
-returns-clause-quiet g c =
-    told-quiet g.D.Sectors.history c.args.self.now c.word_on.new.self _ c.in-Some.request c.word_on.result (sym c.parse.ensures.exact ∙ c.in-Some.is) c.word_on.ensures.dead c.word_on.ensures.answered
-    c.word_on.ensures.quiet c.till.result c.number.result c.till.ensures.value c.number.ensures.value
+pub returns-then-dead-clause-moments : goal.returns-then-dead-clause-moments
+returns-then-dead-clause-moments g c = λ s h. no-moments g.D.Sectors.history c.args.self.now.disk s _ h
 
-pub returns-clause-reply : goal.returns-clause-reply
-returns-clause-reply g c =
-    told-reply g.D.Sectors.history c.args.self.now c.word_on.new.self _ c.in-Some.request c.word_on.result (sym c.parse.ensures.exact ∙ c.in-Some.is) c.word_on.ensures.dead c.word_on.ensures.answered
-    c.till.result c.number.result c.till.ensures.value c.number.ensures.value
+pub returns-then-dead-clause-sums : goal.returns-then-dead-clause-sums
+returns-then-dead-clause-sums g c = λ s h. message-sums (start_of s) c.args.message.now
 
-pub returns-clause-moments : goal.returns-clause-moments
-returns-clause-moments g c =
-    told-moments g.D.Sectors.history c.args.self.now c.word_on.new.self _ c.in-Some.request c.word_on.result (sym c.parse.ensures.exact ∙ c.in-Some.is) c.word_on.ensures.dead c.word_on.ensures.answered
+pub returns-else-dead-clause-quiet : goal.returns-else-dead-clause-quiet
+returns-else-dead-clause-quiet g c = λ s h alive.
+    told-quiet g.D.Sectors.history c.args.self.now c.word_on.new.self _ c.in-Some.request c.word_on.result (sym c.parse.ensures.exact ∙ c.in-Some.is) c.word_on.ensures.answered
+    c.word_on.ensures.quiet c.till.result c.number.result c.till.ensures.value c.number.ensures.value s h
 
-pub returns-clause-writes : goal.returns-clause-writes
-returns-clause-writes g c =
-    told-writes g.D.Sectors.history c.args.self.now c.word_on.new.self _ c.in-Some.request c.word_on.result (sym c.parse.ensures.exact ∙ c.in-Some.is) c.word_on.ensures.dead c.word_on.ensures.answered
+pub returns-else-dead-clause-reply : goal.returns-else-dead-clause-reply
+returns-else-dead-clause-reply g c = λ s h alive.
+    told-reply g.D.Sectors.history c.args.self.now c.word_on.new.self _ c.in-Some.request c.word_on.result (sym c.parse.ensures.exact ∙ c.in-Some.is) c.word_on.ensures.answered
+    c.till.result c.number.result c.till.ensures.value c.number.ensures.value s h
 
-pub returns-clause-counted : goal.returns-clause-counted
-returns-clause-counted g c =
-    told-counted g.D.Sectors.history c.args.self.now c.word_on.new.self _ c.in-Some.request c.word_on.result (sym c.parse.ensures.exact ∙ c.in-Some.is) c.word_on.ensures.dead c.word_on.ensures.answered
+pub returns-else-dead-clause-moments : goal.returns-else-dead-clause-moments
+returns-else-dead-clause-moments g c =
+    told-moments g.D.Sectors.history c.args.self.now c.word_on.new.self _ c.in-Some.request c.word_on.result (sym c.parse.ensures.exact ∙ c.in-Some.is) c.word_on.ensures.answered
 
-pub returns-clause-sums : goal.returns-clause-sums
-returns-clause-sums g c = λ s h. message-sums (start_of s) c.args.message.now
+pub returns-else-dead-clause-writes : goal.returns-else-dead-clause-writes
+returns-else-dead-clause-writes g c =
+    told-writes g.D.Sectors.history c.args.self.now c.word_on.new.self _ c.in-Some.request c.word_on.result (sym c.parse.ensures.exact ∙ c.in-Some.is) c.word_on.ensures.answered
+
+pub returns-else-dead-clause-counted : goal.returns-else-dead-clause-counted
+returns-else-dead-clause-counted g c =
+    told-counted g.D.Sectors.history c.args.self.now c.word_on.new.self _ c.in-Some.request c.word_on.result (sym c.parse.ensures.exact ∙ c.in-Some.is) c.word_on.ensures.answered
+
+pub returns-else-dead-clause-sums : goal.returns-else-dead-clause-sums
+returns-else-dead-clause-sums g c = λ s h. message-sums (start_of s) c.args.message.now

@@ -38,3 +38,6 @@ returns-clause-failures g c =
     let at = subst (λ d. IsInFile d n) (sym c.self.view_is) (c.in_ok-turn_to.ensures.on l n f p.layout p.first) in
     told-after S c.args.self.now.disk c.turn_to.new.self.disk c.command.new.self.disk c.command.result c.in_ok-turn_to.ensures.failures
     (subst (λ d. TellsFailure S d.disk c.command.new.self.disk c.command.result) c.self.view_is (c.command.ensures.serves.failures at.alive))
+
+pub returns-clause-dies : goal.returns-clause-dies
+returns-clause-dies g c = c.command.ensures.serves.dies.1

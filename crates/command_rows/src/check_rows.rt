@@ -1,13 +1,15 @@
 //! What `check` prints of a fresh disk, and of the same disk with one change.
-use crate::comparing::same;
-use crate::faults::RunFault;
-use crate::image_tests::{Bytes, S17_0, S17_1, S18_0, S18_1, changed, formatted, patch};
-use crate::judging::check_image;
-use crate::tests::Full;
+use crate::comparing::{same, same_at};
+use crate::files::Full;
+use crate::images::{Bytes, S17_0, S17_1, S18_0, S18_1, changed, formatted, patch};
+use ledger_commands::{RunFault, check_image};
 use std::process::Abort;
 
-/// What `check` prints of a disk for two tills after these changes, and how many faults it tells.
-const VERDICTS: [(&[Bytes], &[u8], u8); 16] = [
+/// Changes of a disk for two tills, what is printed of it then, and how many faults are told.
+type Verdict = (&'static [Bytes], &'static [u8], u8);
+
+/// What `check` prints of disks.
+static VERDICTS: [Verdict; 16] = [
     (&[], b"OK\n", 0),
     // The map: a count, and a sector that is in use but free in the map.
     (&[(S18_0 + 0x44, b"\x10")], b"MAPWRONG 18/0\n", 1),
@@ -57,15 +59,25 @@ const VERDICTS: [(&[Bytes], &[u8], u8); 16] = [
     (&[(174847, b"\x07")], b"OK\n", 0),
 ];
 
+/// Sees that a disk is judged so after these changes.
+fn is_judged(rt: &(impl AllocGlobal + Abort), changes: &[Bytes], verdict: &[u8], faults: u8) {
+    let image = changed(rt, 2, changes);
+    let mut out = Vec::new(rt.alloc());
+    let found = check_image(rt.alloc(), image.as_slice(), &mut out);
+    let told = matches!(found, Ok(Some(_)));
+    same(rt, (out.as_slice(), told), (verdict, faults == 1));
+}
+
+/// Sees that each disk is judged so.
+fn are_judged(rt: &(impl AllocGlobal + Abort), rows: &[Verdict]) {
+    for (changes, verdict, faults) in rows {
+        is_judged(rt, changes, verdict, *faults);
+    }
+}
+
 #[test]
 fn images_are_judged(rt: HostRuntime) {
-    for (changes, verdict, faults) in VERDICTS {
-        let image = changed(&rt, 2, changes);
-        let mut out = Vec::new(rt.alloc());
-        let found = check_image(rt.alloc(), image.as_slice(), &mut out);
-        let told = matches!(found, Ok(Some(_)));
-        same(&rt, (out.as_slice(), told), (verdict, faults == 1));
-    }
+    are_judged(&rt, &VERDICTS);
 }
 
 /// Sees that an output that takes so many bytes, or doesn't flush, is told.
@@ -75,19 +87,29 @@ fn is_full(rt: &(impl AllocGlobal + Abort), image: &[u8], room: usize, flushes: 
 }
 
 #[test]
-fn a_size_or_an_output_that_fails_is_told(rt: HostRuntime) {
+fn an_output_that_fails_is_told(rt: HostRuntime) {
     let mut image = formatted(&rt, 64);
     is_full(&rt, image.as_slice(), 2, true);
     is_full(&rt, image.as_slice(), 3, false);
     patch(&mut image, &[(S17_0, b"\x11\x00")]);
     is_full(&rt, image.as_slice(), 9, true);
     is_full(&rt, image.as_slice(), 10, false);
-    image.truncate(174847);
+}
+
+/// Sees that the size of the image is told, and nothing printed.
+fn is_no_disk(rt: &(impl AllocGlobal + Abort), image: &[u8]) {
     let mut out = Vec::new(rt.alloc());
-    let ended = check_image(rt.alloc(), image.as_slice(), &mut out);
+    let ended = check_image(rt.alloc(), image, &mut out);
     same(
-        &rt,
+        rt,
         (ended, out.is_empty()),
         (Err(RunFault::ImageSize), true),
     );
+}
+
+#[test]
+fn a_size_is_told(rt: HostRuntime) {
+    let image = changed(&rt, 64, &[(S17_0, b"\x11\x00")]);
+    let part = image.as_slice().get(..174847).unwrap_or(&[]);
+    is_no_disk(&rt, part);
 }

@@ -1,6 +1,6 @@
 -- A file that is written at the places to which it is sent. Our own.
 use Rattle.std.specs.Prelude.{◌≡◌, ◌<◌, ◌+◌, ◌^◌, ℕ, Result, Ok, Err}
-use Rattle.ledger_cli.specs.declared.placed.Placed.{Placed}
+use Rattle.ledger_commands.specs.declared.placed.Placed.{Placed}
 
 -- the file, and the place at which it is written next
 abbrev pub placed_file : {F : Type 0} → Placed F → F

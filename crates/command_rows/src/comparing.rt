@@ -4,7 +4,7 @@ use std::process::Abort;
 
 /// Sees that both are the same.
 pub(crate) fn same<T: PartialEq + Debug + Drop>(rt: &impl Abort, got: T, want: T) {
-    assert_eq!(rt; got, want);
+    same_at(rt, got, want, "the two");
 }
 
 /// The same in a row of a table, which it names where they differ.

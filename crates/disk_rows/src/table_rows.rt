@@ -1,9 +1,8 @@
 //! Each row of the drive's table by itself: what stands before the call, the call, its status, and the sectors it writes.
-use crate::comparing::same;
-use crate::drive::Drive;
-use crate::tests::{Call, change, fresh, rows};
-use d64_image::{MemDisk, Meter, Sectors};
-use layout_check::repair;
+use crate::disks::fresh;
+use crate::drives::{Call, broken_chain, counted, full, program, rows, session, wrong_count};
+use d64_image::{MemDisk, Meter};
+use drive_channels::Drive;
 use std::alloc::Global;
 use std::process::Abort;
 use std::test::Fail;
@@ -31,40 +30,41 @@ enum State {
 
 /// The disk of a state.
 fn disk_of(state: State, alloc: Global) -> Result<MemDisk, Fail> {
-    let mut disk = fresh(alloc)?;
     match state {
-        State::WrongCount => change(&mut disk, 18, 1, 30, 3)?,
-        State::BrokenChain => change(&mut disk, 17, 0, 0, 0x24)?,
-        State::Program => {
-            change(&mut disk, 18, 1, 2, 0x82)?;
-            repair(&mut disk).ok();
-        }
-        State::Full => {
-            let mut drive = Drive::power_on(disk);
-            drive.open(2, b"STOCK").ok();
-            // record 9256 takes every free block
-            drive.command(b"P\x62\x28\x24").ok();
-            drive.write(2, b"").ok();
-            disk = drive.into_disk();
-        }
-        _ => {}
+        State::WrongCount => wrong_count(alloc),
+        State::BrokenChain => broken_chain(alloc),
+        State::Program => program(alloc),
+        State::Full => full(alloc),
+        _ => fresh(alloc),
     }
-    Ok(disk)
 }
 
 /// Leads a drive that was just switched on to a state.
-fn lead_to<D: Sectors>(rt: &impl Abort, drive: &mut Drive<D>, state: State) -> Result<(), Fail> {
+fn lead_to(rt: &impl Abort, drive: &mut Drive<Meter<MemDisk>>, state: State) {
     let open = (Call::Open(2, b"STOCK"), 0);
     match state {
         State::Open => rows(rt, drive, &[open]),
         State::Behind => rows(rt, drive, &[open, (Call::Command(b"P\x62\x0F\x00"), 50)]),
         State::NoRoom => rows(rt, drive, &[open, (Call::Command(b"P\x62\xB0\x27"), 50)]),
-        _ => Ok(()),
+        _ => {}
     }
 }
 
+/// Tries each row over a drive of its own.
+fn each_row(
+    rt: &(impl Abort + AllocGlobal),
+    table: &[(State, Call<'_>, u8, u64)],
+) -> Result<(), Fail> {
+    for (state, call, status, writes) in table {
+        let mut drive = counted(disk_of(*state, rt.alloc())?);
+        lead_to(rt, &mut drive, *state);
+        session(rt, drive, &[(*call, *status)], *writes);
+    }
+    Ok(())
+}
+
 /// The rows, in the order of `docs/DRIVE.md`: the state, the call, its status, and the sectors it writes.
-const ROWS: &[(State, Call<'static>, u8, u64)] = &[
+const ROWS: [(State, Call<'static>, u8, u64); 34] = [
     (State::Fresh, Call::Open(1, b"STOCK"), 70, 0),
     (State::Fresh, Call::Open(15, b"STOCK"), 70, 0),
     (State::Open, Call::Open(3, b"REQUESTS"), 70, 0),
@@ -103,11 +103,5 @@ const ROWS: &[(State, Call<'static>, u8, u64)] = &[
 
 #[test]
 fn each_row_of_the_table(rt: HostRuntime) -> Result<(), Fail> {
-    for (state, call, status, writes) in ROWS {
-        let mut drive = Drive::power_on(Meter::new(disk_of(*state, rt.alloc())?));
-        lead_to(&rt, &mut drive, *state)?;
-        rows(&rt, &mut drive, &[(*call, *status)])?;
-        same(&rt, drive.into_disk().writes(), *writes);
-    }
-    Ok(())
+    each_row(&rt, &ROWS)
 }

@@ -1,9 +1,10 @@
 //! Records that are request cards, and records that are none.
 use crate::comparing::same_at;
 use request_cards::RequestCard;
+use std::process::Abort;
 
 /// A record's text without the zeros behind, and whether it is a card.
-const RECORDS: [(&[u8], bool); 12] = [
+static RECORDS: [(&[u8], bool); 12] = [
     // The last number and item; a move that was refused, after a refusal.
     (b"A,999999999,S,65535,999999999,5,000000000\r", true),
     (
@@ -33,13 +34,24 @@ const RECORDS: [(&[u8], bool); 12] = [
     ),
 ];
 
+/// A record with this text and zeros behind it.
+fn record(text: &[u8]) -> [u8; 127] {
+    let mut bytes = [0; 127];
+    for (to, from) in bytes.iter_mut().zip(text) {
+        *to = *from;
+    }
+    bytes
+}
+
+/// Sees that each record is a card or none.
+fn are_told(rt: &impl Abort, records: &[(&[u8], bool)]) {
+    for (text, is_card) in records {
+        let card = RequestCard::parse(&record(text));
+        same_at(rt, card.is_some(), *is_card, *text);
+    }
+}
+
 #[test]
 fn records_are_one_card_or_none(rt: HostRuntime) {
-    for (text, is_card) in RECORDS {
-        let mut bytes = [0; 127];
-        for (to, from) in bytes.iter_mut().zip(text) {
-            *to = *from;
-        }
-        same_at(&rt, RequestCard::parse(&bytes).is_some(), is_card, text);
-    }
+    are_told(&rt, &RECORDS);
 }

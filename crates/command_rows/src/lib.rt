@@ -1,0 +1,33 @@
+//! Worked rows of the commands: scripts played, also without a disk, images made, listed, judged and shown, and files and
+//! outputs that fail. Tests only: no program stands on this crate. They stand here and not in the crate that they test so
+//! that the gate proves that one once.
+#![tactic(auto)]
+
+#[cfg(test)]
+mod card_rows;
+#[cfg(test)]
+mod check_rows;
+#[cfg(test)]
+mod comparing;
+#[cfg(test)]
+mod file_rows;
+#[cfg(test)]
+mod files;
+#[cfg(test)]
+mod format_rows;
+#[cfg(test)]
+mod images;
+#[cfg(test)]
+mod listing_rows;
+#[cfg(test)]
+mod play_rows;
+#[cfg(test)]
+mod refusal_rows;
+#[cfg(test)]
+mod runs;
+#[cfg(test)]
+mod script_rows;
+#[cfg(test)]
+mod stopped_rows;
+#[cfg(test)]
+mod till_rows;

@@ -1,0 +1,52 @@
+//! Runs of the commands: what they print, show and tell.
+use crate::comparing::{holds, same};
+use crate::files::{Paper, Tape, new_tape};
+use ledger_commands::{RunFault, check_image, play_image, show_image};
+use std::fmt::Display;
+use std::io::Write;
+use std::process::Abort;
+
+/// Plays a script on the image, over a file that takes all: how it ends, and the file.
+pub(crate) fn played<W: Write>(
+    rt: &(impl AllocGlobal + Abort),
+    image: &[u8],
+    script: &[u8],
+    out: &mut W,
+) -> (Result<(), RunFault>, Tape) {
+    let file = new_tape(rt, image, usize::MAX);
+    match play_image(rt.alloc(), image, script, file, out) {
+        Ok(file) => (Ok(()), file),
+        Err((fault, file)) => (Err(fault), file),
+    }
+}
+
+/// Sees that this was printed, and handed on by a flush.
+pub(crate) fn is_printed(rt: &impl Abort, out: &Paper, wanted: &[u8]) {
+    same(rt, out.bytes.as_slice(), wanted);
+    same(rt, out.handed, wanted.len());
+}
+
+/// Sees that the image is clean and that this is shown of it.
+pub(crate) fn is_shown(rt: &(impl AllocGlobal + Abort), image: &[u8], shown: &[u8]) {
+    let mut out = Vec::new(rt.alloc());
+    let found = check_image(rt.alloc(), image, &mut out);
+    same(rt, (found, out.as_slice()), (Ok(None), b"OK\n"));
+    out.clear();
+    let ended = show_image(rt.alloc(), image, &mut out);
+    same(rt, (ended, out.as_slice()), (Ok(()), shown));
+}
+
+/// Sees that a command isn't done, and that this is told.
+pub(crate) fn is_told(rt: &(impl AllocGlobal + Abort), ended: Result<(), RunFault>, text: &str) {
+    match ended {
+        Ok(()) => holds(rt, false, text),
+        Err(fault) => has_text(rt, fault, text),
+    }
+}
+
+/// Sees that a fault is told by this text.
+pub(crate) fn has_text<F: Display + Drop>(rt: &(impl AllocGlobal + Abort), fault: F, text: &str) {
+    let mut told = Vec::new(rt.alloc());
+    let _ = write!(told, "{fault}");
+    same(rt, told.as_slice(), text.as_bytes());
+}
