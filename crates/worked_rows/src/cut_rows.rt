@@ -7,7 +7,6 @@ use crate::disks::clean;
 use crate::sessions::{WHOLE, after, handled, opened};
 use d64_image::MemDisk;
 use std::process::Abort;
-use std::test::Fail;
 
 /// A message in which power goes.
 #[derive(Clone, Copy)]
@@ -83,35 +82,33 @@ fn is_cut(
     asked: &Asked,
     power: u32,
     writes: (u64, u64),
-) -> Result<(), Fail> {
-    let (_, passed, cut) = handled(rt.alloc(), disk, asked.message, power)?;
+) {
+    let (passed, cut) = handled(rt, disk, asked.message, power);
     same(rt, passed, u64::from(power));
-    let (recovery, mut mended) = opened(rt.alloc(), &cut, WHOLE)?;
-    clean(&mut mended)?;
-    let (_, repeat, last) = handled(rt.alloc(), &mended, asked.message, WHOLE)?;
+    let (recovery, mut mended) = opened(rt, &cut, WHOLE);
+    clean(rt, &mut mended);
+    let (repeat, last) = handled(rt, &mended, asked.message, WHOLE);
     same_at(rt, (recovery, repeat), writes, power);
     let lines = [
         Cut(power, &[], asked.message, passed.saturating_add(recovery)),
         Say(asked.message, asked.reply, repeat),
     ];
-    let played = is_played(rt, disk, &lines, "a request that is cut")?;
+    let played = is_played(rt, disk, &lines, "a request that is cut");
     holds(rt, played.bytes() == last.bytes(), power);
-    Ok(())
 }
 
 /// Cuts the request after each of its writes.
-fn is_cut_everywhere(rt: &(impl Abort + AllocGlobal), asked: &Asked) -> Result<(), Fail> {
-    let disk = after(rt.alloc(), asked.before)?;
+fn is_cut_everywhere(rt: &(impl Abort + AllocGlobal), asked: &Asked) {
+    let disk = after(rt, asked.before);
     for (power, writes) in (0u32..).zip(asked.writes) {
-        is_cut(rt, &disk, asked, power, *writes)?;
+        is_cut(rt, &disk, asked, power, *writes);
     }
-    Ok(())
 }
 
 #[test]
-fn requests_are_cut(rt: HostRuntime) -> Result<(), Fail> {
-    is_cut_everywhere(&rt, &SET)?;
-    is_cut_everywhere(&rt, &SIDE)?;
-    is_cut_everywhere(&rt, &MOVE)?;
-    is_cut_everywhere(&rt, &REFUSED)
+fn requests_are_cut(rt: HostRuntime) {
+    is_cut_everywhere(&rt, &SET);
+    is_cut_everywhere(&rt, &SIDE);
+    is_cut_everywhere(&rt, &MOVE);
+    is_cut_everywhere(&rt, &REFUSED);
 }

@@ -1,14 +1,13 @@
 //! Lines of a day, played as a script and as events.
 use crate::comparing::{holds, same_at};
-use crate::disks::clean;
+use crate::disks::{clean, loaded};
+use crate::sessions::{told, told_of_events};
 use arrayvec::ArrayVec;
 use d64_image::{MemDisk, Meter};
-use host_session::{Cut, Event, play, run_script};
+use host_session::{Cut, Event};
 use request_cards::Reply;
-use std::alloc::Global;
 use std::io::Write;
 use std::process::Abort;
-use std::test::Fail;
 
 /// A line of a day.
 #[derive(Clone, Copy)]
@@ -29,133 +28,122 @@ pub(crate) struct Played {
 }
 
 /// Adds a text and an end of line.
-fn add_line(lines: &mut Vec<u8>, text: &[u8]) -> Result<(), Fail> {
-    lines.extend_from_slice(text)?;
-    lines.push(b'\n')?;
-    Ok(())
+fn add_line(rt: &impl Abort, lines: &mut Vec<u8>, text: &[u8]) {
+    lines.extend_from_slice(text).expect(rt, "room for a line");
+    lines.push(b'\n').expect(rt, "room for its end");
 }
 
 /// Adds where power goes, as a line of a script begins.
-fn add_cut(script: &mut Vec<u8>, after: u32, recoveries: &[u32]) -> Result<(), Fail> {
-    write!(script, "@{after}")?;
+fn add_cut(rt: &impl Abort, script: &mut Vec<u8>, after: u32, recoveries: &[u32]) {
+    write!(script, "@{after}").expect(rt, "room for a reset");
     for writes in recoveries {
-        write!(script, "/{writes}")?;
+        write!(script, "/{writes}").expect(rt, "room for a recovery");
     }
-    script.push(b' ')?;
-    Ok(())
+    script.push(b' ').expect(rt, "room for a space");
 }
 
 /// Adds a line of a script.
-fn add_to_script(script: &mut Vec<u8>, line: &Line) -> Result<(), Fail> {
+fn add_to_script(rt: &impl Abort, script: &mut Vec<u8>, line: &Line) {
     match *line {
-        Line::Say(message, _, _) => add_line(script, message),
+        Line::Say(message, _, _) => add_line(rt, script, message),
         Line::Cut(after, recoveries, message, _) => {
-            add_cut(script, after, recoveries)?;
-            add_line(script, message)
+            add_cut(rt, script, after, recoveries);
+            add_line(rt, script, message);
         }
     }
 }
 
 /// The lines as a script.
-pub(crate) fn script_of(alloc: Global, lines: &[Line]) -> Result<Vec<u8>, Fail> {
-    let mut script = Vec::new(alloc);
+pub(crate) fn script_of(rt: &(impl Abort + AllocGlobal), lines: &[Line]) -> Vec<u8> {
+    let mut script = Vec::new(rt.alloc());
     for line in lines {
-        add_to_script(&mut script, line)?;
+        add_to_script(rt, &mut script, line);
     }
-    Ok(script)
+    script
 }
 
 /// A line as an event.
-fn event_of(line: &Line) -> Result<Event<'static>, Fail> {
+fn event_of(rt: &impl Abort, line: &Line) -> Event<'static> {
     match *line {
-        Line::Say(message, _, _) => Ok(Event { message, cut: None }),
+        Line::Say(message, _, _) => Event { message, cut: None },
         Line::Cut(after, listed, message, _) => {
             let mut recoveries = ArrayVec::new();
-            recoveries.try_extend_from_slice(listed)?;
+            let taken = recoveries.try_extend_from_slice(listed);
+            taken.expect(rt, "at most as many recoveries as a line has");
             let cut = Some(Cut { after, recoveries });
-            Ok(Event { message, cut })
+            Event { message, cut }
         }
     }
 }
 
 /// The lines as events.
-pub(crate) fn events_of(alloc: Global, lines: &[Line]) -> Result<Vec<Event<'static>>, Fail> {
-    let mut events = Vec::new(alloc);
+pub(crate) fn events_of(rt: &(impl Abort + AllocGlobal), lines: &[Line]) -> Vec<Event<'static>> {
+    let mut events = Vec::new(rt.alloc());
     for line in lines {
-        events.push(event_of(line)?)?;
+        events
+            .push(event_of(rt, line))
+            .expect(rt, "room for an event");
     }
-    Ok(events)
+    events
 }
 
 /// The replies that the lines are to have, and how many sectors are to be written.
-pub(crate) fn wanted(alloc: Global, lines: &[Line]) -> Result<(Vec<u8>, u64), Fail> {
-    let mut replies = Vec::new(alloc);
+pub(crate) fn wanted(rt: &(impl Abort + AllocGlobal), lines: &[Line]) -> (Vec<u8>, u64) {
+    let mut replies = Vec::new(rt.alloc());
     let mut sum = 0u64;
     for line in lines {
         let (reply, writes) = match *line {
             Line::Say(_, reply, writes) => (reply, writes),
             Line::Cut(_, _, _, writes) => (b"CUT".as_slice(), writes),
         };
-        add_line(&mut replies, reply)?;
+        add_line(rt, &mut replies, reply);
         sum = sum.saturating_add(writes);
     }
-    Ok((replies, sum))
+    (replies, sum)
 }
 
 /// Plays the lines as a script on a copy of the disk, which is to be clean then.
-fn as_script(alloc: Global, disk: &MemDisk, lines: &[Line]) -> Result<Played, Fail> {
-    let script = script_of(alloc, lines)?;
-    let mut replies = Vec::new(alloc);
-    let copy = Meter::new(MemDisk::load(alloc, disk.bytes())?);
-    let Ok(disk) = run_script(copy, script.as_slice(), &mut replies) else {
-        return Err(Fail::new("the script isn't played"));
-    };
-    ended(replies, disk)
+fn as_script(rt: &(impl Abort + AllocGlobal), disk: &MemDisk, lines: &[Line]) -> Played {
+    let script = script_of(rt, lines);
+    let meter = Meter::new(loaded(rt, disk.bytes()));
+    let (replies, meter) = told(rt, meter, script.as_slice());
+    ended(rt, replies, meter)
 }
 
 /// Plays the lines as events on a copy of the disk, which is to be clean then.
-fn as_events(alloc: Global, disk: &MemDisk, lines: &[Line]) -> Result<Played, Fail> {
-    let events = events_of(alloc, lines)?;
-    let mut told = Vec::new(alloc);
-    let copy = Meter::new(MemDisk::load(alloc, disk.bytes())?);
-    let Ok(disk) = play(copy, events.as_slice(), &mut told) else {
-        return Err(Fail::new("the events aren't played"));
-    };
-    ended(text_of(alloc, told.as_slice())?, disk)
+fn as_events(rt: &(impl Abort + AllocGlobal), disk: &MemDisk, lines: &[Line]) -> Played {
+    let events = events_of(rt, lines);
+    let meter = Meter::new(loaded(rt, disk.bytes()));
+    let (replies, meter) = told_of_events(rt, meter, events.as_slice());
+    ended(rt, text_of(rt, replies.as_slice()), meter)
 }
 
 /// The replies as a script tells them.
-pub(crate) fn text_of(alloc: Global, told: &[Reply]) -> Result<Vec<u8>, Fail> {
-    let mut replies = Vec::new(alloc);
+pub(crate) fn text_of(rt: &(impl Abort + AllocGlobal), told: &[Reply]) -> Vec<u8> {
+    let mut replies = Vec::new(rt.alloc());
     for reply in told {
-        add_line(&mut replies, reply.print().as_slice())?;
+        add_line(rt, &mut replies, reply.print().as_slice());
     }
-    Ok(replies)
+    replies
 }
 
 /// What was played, where the disk is clean.
-fn ended(replies: Vec<u8>, disk: Meter<MemDisk>) -> Result<Played, Fail> {
-    let writes = disk.writes();
-    let mut disk = disk.into_inner();
-    clean(&mut disk)?;
-    Ok(Played {
+fn ended(rt: &impl Abort, replies: Vec<u8>, meter: Meter<MemDisk>) -> Played {
+    let writes = meter.writes();
+    let mut disk = meter.into_inner();
+    clean(rt, &mut disk);
+    Played {
         replies,
         writes,
         disk,
-    })
+    }
 }
 
 /// Sees that the lines have their replies and writes.
-fn is_told(
-    rt: &(impl Abort + AllocGlobal),
-    played: &Played,
-    lines: &[Line],
-    shows: &str,
-) -> Result<(), Fail> {
-    let (replies, writes) = wanted(rt.alloc(), lines)?;
+fn is_told(rt: &(impl Abort + AllocGlobal), played: &Played, lines: &[Line], shows: &str) {
+    let (replies, writes) = wanted(rt, lines);
     same_at(rt, played.replies.as_slice(), replies.as_slice(), shows);
     same_at(rt, played.writes, writes, shows);
-    Ok(())
 }
 
 /// Plays the lines as a script on a copy of the disk, where they have their replies and writes: the disk then.
@@ -164,10 +152,17 @@ fn scripted(
     disk: &MemDisk,
     lines: &[Line],
     shows: &str,
-) -> Result<MemDisk, Fail> {
-    let played = as_script(rt.alloc(), disk, lines)?;
-    is_told(rt, &played, lines, shows)?;
-    Ok(played.disk)
+) -> MemDisk {
+    let played = as_script(rt, disk, lines);
+    is_told(rt, &played, lines, shows);
+    played.disk
+}
+
+/// The same as events.
+fn as_run(rt: &(impl Abort + AllocGlobal), disk: &MemDisk, lines: &[Line], shows: &str) -> MemDisk {
+    let played = as_events(rt, disk, lines);
+    is_told(rt, &played, lines, shows);
+    played.disk
 }
 
 /// The same of one line after another, on a disk that is opened for each.
@@ -176,12 +171,12 @@ fn stepped(
     disk: &MemDisk,
     lines: &[Line],
     shows: &str,
-) -> Result<MemDisk, Fail> {
-    let mut disk = MemDisk::load(rt.alloc(), disk.bytes())?;
+) -> MemDisk {
+    let mut disk = loaded(rt, disk.bytes());
     for line in lines.chunks(1) {
-        disk = scripted(rt, &disk, line, shows)?;
+        disk = scripted(rt, &disk, line, shows);
     }
-    Ok(disk)
+    disk
 }
 
 /// Plays the lines on copies of the disk: as a script, as events, and one by one, on a disk that is opened for each. Each
@@ -191,12 +186,11 @@ pub(crate) fn is_played(
     disk: &MemDisk,
     lines: &[Line],
     shows: &str,
-) -> Result<MemDisk, Fail> {
-    let script = scripted(rt, disk, lines, shows)?;
-    let events = as_events(rt.alloc(), disk, lines)?;
-    is_told(rt, &events, lines, shows)?;
-    holds(rt, events.disk.bytes() == script.bytes(), shows);
-    let stepped = stepped(rt, disk, lines, shows)?;
+) -> MemDisk {
+    let script = scripted(rt, disk, lines, shows);
+    let events = as_run(rt, disk, lines, shows);
+    holds(rt, events.bytes() == script.bytes(), shows);
+    let stepped = stepped(rt, disk, lines, shows);
     holds(rt, stepped.bytes() == script.bytes(), shows);
-    Ok(stepped)
+    stepped
 }

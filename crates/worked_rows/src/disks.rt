@@ -1,71 +1,114 @@
-//! The disks of the rows.
-ghost use Rattle.std.specs.Prelude.{IfOk, OnOk, ◌≡◌};
+//! The disks of the rows. Where one can't be made, or isn't what it is to be, the test ends there: on the way out of a `?`
+//! all that a row holds would be let go, and proved.
+ghost use Rattle.std.specs.Prelude.{◌≡◌, ◌≤◌};
 ghost use Rattle.disk_layout.specs.Clean.{IsClean};
+ghost use Rattle.disk_layout.specs.Layout.{IsSound};
 ghost use Rattle.rel_records.specs.File.{IsOf, length_of};
 
 use crate::comparing::same_at;
-use d64_image::{DeviceFault, MemDisk, Place, Sectors};
+use d64_image::{MemDisk, Place, Sectors};
 use disk_layout::blank_image;
-use layout_check::check;
+use layout_check::{check, survey};
 use rel_records::{RelFile, find};
-use std::alloc::Global;
 use std::process::Abort;
-use std::test::Fail;
+
+/// The blank disk for so many tills.
+pub(crate) fn blank(rt: &(impl Abort + AllocGlobal), tills: u8) -> MemDisk
+    requires some { 1 ≤ tills }
+    requires few { tills ≤ 64 }
+{
+    let mut disk = MemDisk::zeroed(rt.alloc()).expect(rt, "a disk of zeros");
+    blank_image(&mut disk, b"STOCK LEDGER", *b"01", tills).expect(rt, "a blank disk");
+    disk
+}
 
 /// The blank disk for two tills: STOCK in 17/0 (18 bytes a record, 14 of them) with the side sector 17/1, REQUESTS in 17/2
 /// with the side sector 17/3; so 17/4 is the next free sector.
-pub(crate) fn fresh(alloc: Global) -> Result<MemDisk, Fail> {
-    let mut disk = MemDisk::zeroed(alloc)?;
-    blank_image(&mut disk, b"STOCK LEDGER", *b"01", 2)?;
-    Ok(disk)
+pub(crate) fn fresh(rt: &(impl Abort + AllocGlobal)) -> MemDisk {
+    blank(rt, 2)
+}
+
+/// The disk of these bytes.
+pub(crate) fn loaded(rt: &(impl Abort + AllocGlobal), image: &[u8]) -> MemDisk {
+    MemDisk::load(rt.alloc(), image).expect(rt, "a disk of these bytes")
 }
 
 /// Sees that the disk is clean.
-pub(crate) fn clean<D: Sectors>(disk: &mut D) -> Result<(), Fail>
-    ensures ok { OnOk result (IsClean (D.history.image disk.new)) }
+pub(crate) fn clean<D: Sectors>(rt: &impl Abort, disk: &mut D)
+    ensures { IsClean (D.history.image disk.new) }
 {
-    check(disk)?;
-    Ok(())
+    match check(disk) {
+        Ok(_) => {}
+        Err(fault) => panic!(rt; "the disk isn't clean: {fault:?}"),
+    }
 }
 
 /// The file of this name, of a clean disk.
-pub(crate) fn found<D: Sectors>(disk: &mut D, name: &[u8]) -> Result<RelFile, Fail>
-    ensures ok { IfOk result (λ file. IsClean (D.history.image disk.new) × IsOf (D.history.image disk.new) file) }
+pub(crate) fn found<D: Sectors>(rt: &impl Abort, disk: &mut D, name: &[u8]) -> RelFile
+    ensures clean { IsClean (D.history.image disk.new) }
+    ensures of { IsOf (D.history.image disk.new) result }
 {
-    check(disk)?;
-    let file = find(disk, name)?;
-    Ok(file)
+    clean(rt, disk);
+    match find(disk, name) {
+        Ok(file) => file,
+        Err(fault) => panic!(rt; "the file isn't found: {fault:?}"),
+    }
+}
+
+/// Sees that the disk is sound.
+fn sound<D: Sectors>(rt: &impl Abort, disk: &mut D)
+    ensures { IsSound (D.history.image disk.new) }
+{
+    match survey(disk) {
+        Ok(_) => {}
+        Err(fault) => panic!(rt; "the disk isn't sound: {fault:?}"),
+    }
+}
+
+/// STOCK of a sound disk.
+pub(crate) fn sound_stock<D: Sectors>(rt: &impl Abort, disk: &mut D) -> RelFile
+    ensures { IsOf (D.history.image disk.new) result }
+{
+    sound(rt, disk);
+    match find(disk, b"STOCK") {
+        Ok(file) => file,
+        Err(fault) => panic!(rt; "STOCK isn't found: {fault:?}"),
+    }
 }
 
 /// STOCK of a clean disk, whose records have 18 bytes.
-pub(crate) fn stock<D: Sectors>(disk: &mut D) -> Result<RelFile, Fail>
-    ensures ok { IfOk result (λ file. IsClean (D.history.image disk.new) × IsOf (D.history.image disk.new) file × (length_of file ≡ 18)) }
+pub(crate) fn stock<D: Sectors>(rt: &impl Abort, disk: &mut D) -> RelFile
+    ensures clean { IsClean (D.history.image disk.new) }
+    ensures of { IsOf (D.history.image disk.new) result }
+    ensures length { length_of result ≡ 18 }
 {
-    let file = found(disk, b"STOCK")?;
-    if file.length() != 18 {
-        return Err(Fail::new("the records of STOCK have another length"));
-    }
-    Ok(file)
+    let file = found(rt, disk, b"STOCK");
+    assert!(rt;
+        file.length() == 18,
+        "the records of STOCK have another length"
+    );
+    file
 }
 
-/// A sector's bytes.
-pub(crate) fn sector<D: Sectors>(
-    disk: &mut D,
-    track: u8,
-    number: u8,
-) -> Result<[u8; 256], DeviceFault> {
-    let mut bytes = [0; 256];
-    disk.read(Place::new(track, number).ok_or(DeviceFault)?, &mut bytes)?;
-    Ok(bytes)
+/// The place. One that the disk lacks is 1/0.
+pub(crate) fn at(track: u8, number: u8) -> Place {
+    Place::new(track, number).unwrap_or_default()
+}
+
+/// The bytes of a sector; where it can't be read, EE in each.
+pub(crate) fn sector<D: Sectors>(disk: &mut D, track: u8, number: u8) -> [u8; 256] {
+    let mut bytes = [0xEE; 256];
+    let _ = disk.read(at(track, number), &mut bytes);
+    bytes
 }
 
 /// The bytes of a sector from this one on, and all behind it.
-pub(crate) fn bytes_from(disk: &MemDisk, track: u8, number: u8, at: u8) -> &[u8] {
+pub(crate) fn bytes_from(disk: &MemDisk, track: u8, number: u8, from: u8) -> &[u8] {
     let Some(place) = Place::new(track, number) else {
         return &[];
     };
     disk.bytes()
-        .get(256 * place.index() + usize::from(at)..)
+        .get(256 * place.index() + usize::from(from)..)
         .unwrap_or(&[])
 }
 
@@ -73,11 +116,11 @@ pub(crate) fn bytes_from(disk: &MemDisk, track: u8, number: u8, at: u8) -> &[u8]
 pub(crate) fn stands(
     rt: &impl Abort,
     disk: &MemDisk,
-    (track, number, at): (u8, u8, u8),
+    (track, number, from): (u8, u8, u8),
     bytes: &[u8],
 ) {
-    let there = bytes_from(disk, track, number, at).get(..bytes.len());
-    same_at(rt, there, Some(bytes), (track, number, at));
+    let there = bytes_from(disk, track, number, from).get(..bytes.len());
+    same_at(rt, there, Some(bytes), (track, number, from));
 }
 
 /// Bytes of a sector: its place, the first of them, how many they are, and a text, behind which zeros stand.
@@ -92,22 +135,26 @@ pub(crate) const INTENT: Change = (
     b"I,000000001,S,00001,000000005,0,000000005\r",
 );
 
-/// Puts the bytes of a change into an image.
-fn put(image: &mut [u8], change: &Change) -> Result<(), Fail> {
-    let (track, number, at, length, text) = *change;
-    let place = Place::new(track, number).ok_or("no place")?;
-    let start = 256 * place.index() + usize::from(at);
-    for (i, byte) in image.iter_mut().skip(start).take(length).enumerate() {
+/// Gives so many bytes of a sector, from this one of its own on, the text, and zeros behind it.
+fn fill(disk: &mut MemDisk, (track, number, from): (u8, u8, u8), length: usize, text: &[u8]) {
+    let mut bytes = sector(disk, track, number);
+    let all = bytes.iter_mut().skip(usize::from(from)).take(length);
+    for (i, byte) in all.enumerate() {
         *byte = text.get(i).copied().unwrap_or(0);
     }
-    Ok(())
+    let _ = disk.write(at(track, number), &bytes);
 }
 
-/// The same disk with these bytes.
-pub(crate) fn changed(alloc: Global, disk: &MemDisk, changes: &[Change]) -> Result<MemDisk, Fail> {
-    let mut image = Vec::from_slice(alloc, disk.bytes())?;
-    for change in changes {
-        put(image.as_mut_slice(), change)?;
+/// Puts these bytes onto a sector, from this one of its own on.
+pub(crate) fn put(disk: &mut MemDisk, place: (u8, u8, u8), bytes: &[u8]) {
+    fill(disk, place, bytes.len(), bytes);
+}
+
+/// The disk with these changes.
+pub(crate) fn changed(disk: MemDisk, changes: &[Change]) -> MemDisk {
+    let mut disk = disk;
+    for &(track, number, from, length, text) in changes {
+        fill(&mut disk, (track, number, from), length, text);
     }
-    Ok(MemDisk::load(alloc, image.as_slice())?)
+    disk
 }

@@ -1,59 +1,51 @@
 //! Each call on a device failing in turn: in an opening, in a request, in a run, and in a run in which power goes.
-use crate::comparing::same_at;
-use crate::disks::{INTENT, changed, fresh};
-use crate::sessions::{says, sent_to};
+use crate::comparing::{holds, same_at};
+use crate::disks::{INTENT, changed, fresh, loaded};
+use crate::sessions::{handed, open, says, sent_to, stopped, stopped_events, told};
 use d64_image::{Fuse, MemDisk, Meter, OneFault, Sectors};
-use host_session::{Event, PlayFault, ScriptFault, Session, play, run_script};
+use host_session::{Event, PlayFault, ScriptFault, Session, run_script};
 use request_cards::{Reply, Word};
-use std::alloc::Global;
 use std::process::Abort;
-use std::test::Fail;
 
-/// Opens a disk of which one call fails, and again. None where no call had this number; else whether the device was told,
-/// and the reply to the message at last.
-fn opening_fails(
-    alloc: Global,
-    disk: &MemDisk,
-    at: u32,
-    done: bool,
-) -> Result<Option<(u8, Reply)>, Fail> {
-    let faulty = OneFault::new(MemDisk::load(alloc, disk.bytes())?, at, done);
-    let (number, faulty) = match Session::open(faulty) {
+/// Opens a disk; the fault's number, 0 for none, and the disk then.
+fn opening<D: Sectors>(disk: D) -> (u8, D) {
+    match Session::open(disk) {
         Ok(session) => (0, session.close()),
-        Err((fault, faulty)) => (fault.number(), faulty),
-    };
-    if faulty.place().is_none() {
-        return Ok(None);
+        Err((fault, disk)) => (fault.number(), disk),
     }
-    let reply = sent_to(faulty.into_inner(), b"1,1,S,1,5")?;
-    Ok(Some((number, reply)))
+}
+
+/// Opens a disk of which one call fails, and sees that the device is told, and that the next opening is whole. False where
+/// no call had this number.
+fn opening_fails(rt: &(impl Abort + AllocGlobal), disk: &MemDisk, at: u32, done: bool) -> bool {
+    let (number, faulty) = opening(OneFault::new(loaded(rt, disk.bytes()), at, done));
+    if faulty.place().is_none() {
+        return false;
+    }
+    let reply = sent_to(rt, faulty.into_inner(), b"1,1,S,1,5");
+    let told = (number, says(reply, b"1,1,DONE,5"));
+    same_at(rt, told, (7, true), (at, done));
+    true
 }
 
 /// Has each call of the disk's opening fail; how many there are.
-fn each_opening_fails(
-    rt: &(impl Abort + AllocGlobal),
-    disk: &MemDisk,
-    done: bool,
-) -> Result<u32, Fail> {
+fn each_opening_fails(rt: &(impl Abort + AllocGlobal), disk: &MemDisk, done: bool) -> u32 {
     for at in 0..1000u32 {
-        let Some((number, reply)) = opening_fails(rt.alloc(), disk, at, done)? else {
-            return Ok(at);
-        };
-        let told = (number, says(reply, b"1,1,DONE,5"));
-        same_at(rt, told, (7, true), (at, done));
+        if !opening_fails(rt, disk, at, done) {
+            return at;
+        }
     }
-    Ok(1000)
+    1000
 }
 
 // The disk has an open intent, so that an opening reads and writes.
 #[test]
-fn each_call_of_an_opening_fails(rt: HostRuntime) -> Result<(), Fail> {
-    let disk = changed(rt.alloc(), &fresh(rt.alloc())?, &[INTENT])?;
-    for done in [false, true] {
-        let calls = each_opening_fails(&rt, &disk, done)?;
-        same_at(&rt, calls > 2 && calls < 1000, true, calls);
-    }
-    Ok(())
+fn each_call_of_an_opening_fails(rt: HostRuntime) {
+    let disk = changed(fresh(&rt), &[INTENT]);
+    let calls = each_opening_fails(&rt, &disk, false);
+    holds(&rt, calls > 2 && calls < 1000, calls);
+    let calls = each_opening_fails(&rt, &disk, true);
+    holds(&rt, calls > 2 && calls < 1000, calls);
 }
 
 /// The message whose calls fail: two blocks of growth, the intent, the card in two blocks, and the answer.
@@ -64,87 +56,74 @@ fn passed<D: Sectors>(meter: &Meter<D>) -> u32 {
     meter.reads().saturating_add(meter.writes()).min(1000) as u32
 }
 
-/// Opens the disk, counting its calls.
-fn opened(disk: MemDisk) -> Result<Meter<MemDisk>, Fail> {
-    match Session::open(Meter::new(disk)) {
-        Ok(session) => Ok(session.close()),
-        Err(_) => Err(Fail::new("it isn't opened")),
-    }
+/// How many calls the opening of a disk makes, and the disk then.
+fn opened(rt: &impl Abort, disk: MemDisk) -> (u32, MemDisk) {
+    let meter = open(rt, Meter::new(disk)).close();
+    (passed(&meter), meter.into_inner())
 }
 
 /// How many calls the opening of a blank disk makes, and the opening with the message.
-fn calls(alloc: Global) -> Result<(u32, u32), Fail> {
-    let meter = opened(fresh(alloc)?)?;
-    let before = passed(&meter);
-    let Ok(mut session) = Session::open(Meter::new(meter.into_inner())) else {
-        return Err(Fail::new("it isn't opened again"));
-    };
-    session.handle(MESSAGE);
-    Ok((before, passed(&session.close())))
+fn calls(rt: &(impl Abort + AllocGlobal)) -> (u32, u32) {
+    let (before, disk) = opened(rt, fresh(rt));
+    let (_, meter) = handed(rt, Meter::new(disk), MESSAGE);
+    (before, passed(&meter))
 }
 
 /// A blank disk of which one call fails.
-fn faulty(alloc: Global, at: u32, done: bool) -> Result<OneFault<MemDisk>, Fail> {
-    Ok(OneFault::new(fresh(alloc)?, at, done))
+fn faulty(rt: &(impl Abort + AllocGlobal), at: u32, done: bool) -> OneFault<MemDisk> {
+    OneFault::new(fresh(rt), at, done)
 }
 
 /// Sends the message so many times to a session of which one call fails, and then hands over the last reply and the disk.
-fn sent(alloc: Global, at: u32, done: bool, times: u32) -> Result<(Reply, MemDisk), Fail> {
-    let Ok(mut session) = Session::open(faulty(alloc, at, done)?) else {
-        return Err(Fail::new("it isn't opened"));
-    };
+fn sent(rt: &(impl Abort + AllocGlobal), at: u32, done: bool, times: u32) -> (Reply, MemDisk) {
+    let mut session = open(rt, faulty(rt, at, done));
     let mut reply = Reply::Syntax;
     for _time in 0..times {
         reply = session.handle(MESSAGE);
     }
-    Ok((reply, session.close().into_inner()))
+    (reply, session.close().into_inner())
 }
 
 /// Opens what is left and sends the message again: it has its answer, and the disk is clean.
-fn goes_on(left: MemDisk) -> Result<(), Fail> {
-    if says(sent_to(left, MESSAGE)?, b"1,1,DONE,7") {
-        Ok(())
-    } else {
-        Err(Fail::new("the message has another answer"))
-    }
+fn goes_on(rt: &impl Abort, left: MemDisk, at: u32, done: bool) {
+    let reply = sent_to(rt, left, MESSAGE);
+    same_at(rt, says(reply, b"1,1,DONE,7"), true, (at, done));
 }
 
 /// The message is told MEDIA, sent again MEDIA with nothing written, and after the next opening it has its answer.
-fn request_fails(rt: &(impl Abort + AllocGlobal), at: u32, done: bool) -> Result<(), Fail> {
-    let (once, left) = sent(rt.alloc(), at, done, 1)?;
-    let (twice, again) = sent(rt.alloc(), at, done, 2)?;
+fn request_fails(rt: &(impl Abort + AllocGlobal), at: u32, done: bool) {
+    let (once, left) = sent(rt, at, done, 1);
+    let (twice, again) = sent(rt, at, done, 2);
     let told = (says(once, b"1,1,MEDIA"), says(twice, b"1,1,MEDIA"));
     let same = left.bytes() == again.bytes();
     same_at(rt, (told, same), ((true, true), true), (at, done));
-    goes_on(left)
+    goes_on(rt, left, at, done);
+}
+
+/// Has each call of the message fail.
+fn requests_fail(rt: &(impl Abort + AllocGlobal), before: u32, all: u32, done: bool) {
+    for at in before..all {
+        request_fails(rt, at, done);
+    }
 }
 
 #[test]
-fn each_call_of_a_request_fails(rt: HostRuntime) -> Result<(), Fail> {
-    let (before, all) = calls(rt.alloc())?;
-    same_at(&rt, before < all && all < 1000, true, all);
-    for done in [false, true] {
-        for at in before..all {
-            request_fails(&rt, at, done)?;
-        }
-    }
-    Ok(())
+fn each_call_of_a_request_fails(rt: HostRuntime) {
+    let (before, all) = calls(&rt);
+    holds(&rt, before < all && all < 1000, all);
+    requests_fail(&rt, before, all, false);
+    requests_fail(&rt, before, all, true);
 }
 
 /// A script of the message and a second line: it tells the device after one reply, MEDIA.
-fn script_fails(alloc: Global, at: u32, done: bool) -> Result<(), Fail> {
-    let mut out = Vec::new(alloc);
+fn script_fails(rt: &(impl Abort + AllocGlobal), at: u32, done: bool) {
     let script = b"1,1,S,15,7\n2,1,S,1,1\n";
-    let Err((fault, left)) = run_script(faulty(alloc, at, done)?, script, &mut out) else {
-        return Err(Fail::new("the script is played"));
-    };
-    if fault != ScriptFault::Device
-        || fault.number() != 4
-        || out.as_slice() != b"1,1,MEDIA\n".as_slice()
-    {
-        return Err(Fail::new("the script tells something else"));
-    }
-    goes_on(left.into_inner())
+    let (fault, out, left) = stopped(rt, faulty(rt, at, done), script);
+    let told = (fault, fault.number());
+    same_at(rt, told, (ScriptFault::Device, 4), (at, done));
+    let wanted = b"1,1,MEDIA\n".as_slice();
+    same_at(rt, out.as_slice(), wanted, (at, done));
+    goes_on(rt, left.into_inner(), at, done);
 }
 
 /// The message without a reset.
@@ -156,95 +135,94 @@ fn event() -> Event<'static> {
 }
 
 /// The same of events, behind a reply that the list has.
-fn events_fail(alloc: Global, at: u32, done: bool) -> Result<(), Fail> {
-    let mut replies = Vec::new(alloc);
-    replies.push(Reply::Cut)?;
-    let Err((fault, left)) = play(faulty(alloc, at, done)?, &[event(), event()], &mut replies)
-    else {
-        return Err(Fail::new("the events are played"));
-    };
+fn events_fail(rt: &(impl Abort + AllocGlobal), at: u32, done: bool) {
+    let (fault, replies, left) = stopped_events(rt, faulty(rt, at, done), &[event(), event()]);
+    let told = (fault, fault.number());
+    same_at(rt, told, (PlayFault::Device, 3), (at, done));
     let media = Reply::Told {
         till: 1,
         number: 1,
         word: Word::Media,
     };
-    if fault != PlayFault::Device
-        || fault.number() != 3
-        || replies.as_slice() != [Reply::Cut, media].as_slice()
-    {
-        return Err(Fail::new("the events tell something else"));
+    let wanted = [Reply::Syntax, media];
+    same_at(rt, replies.as_slice(), wanted.as_slice(), (at, done));
+    goes_on(rt, left.into_inner(), at, done);
+}
+
+/// Has each call of the message fail in a script and in events.
+fn runs_fail(rt: &(impl Abort + AllocGlobal), before: u32, all: u32, done: bool) {
+    for at in before..all {
+        script_fails(rt, at, done);
+        events_fail(rt, at, done);
     }
-    goes_on(left.into_inner())
 }
 
 #[test]
-fn each_call_of_a_run_fails(rt: HostRuntime) -> Result<(), Fail> {
-    let (before, all) = calls(rt.alloc())?;
-    for done in [false, true] {
-        for at in before..all {
-            script_fails(rt.alloc(), at, done)?;
-            events_fail(rt.alloc(), at, done)?;
-        }
-    }
-    Ok(())
+fn each_call_of_a_run_fails(rt: HostRuntime) {
+    let (before, all) = calls(&rt);
+    runs_fail(&rt, before, all, false);
+    runs_fail(&rt, before, all, true);
 }
 
 /// A script whose message makes a card: power goes after its intent.
 const CUT: &[u8] = b"@1 1,1,S,1,5\n";
 
 /// The blank disk, whose power went after the message's intent.
-fn cut_at_the_intent(alloc: Global) -> Result<MemDisk, Fail> {
-    let Ok(mut session) = Session::open(Fuse::new(fresh(alloc)?, 1)) else {
-        return Err(Fail::new("it isn't opened over a fuse"));
-    };
-    session.handle(b"1,1,S,1,5");
-    Ok(session.close().into_inner())
+fn cut_at_the_intent(rt: &(impl Abort + AllocGlobal)) -> MemDisk {
+    let (_, fuse) = handed(rt, Fuse::new(fresh(rt), 1), b"1,1,S,1,5");
+    fuse.into_inner()
 }
 
 /// How many calls the script makes, and how many of them come before the message and in the whole recovery.
-fn calls_of_a_cut(alloc: Global) -> Result<(u32, u32, u32), Fail> {
-    let first = opened(fresh(alloc)?)?;
-    let recovery = opened(cut_at_the_intent(alloc)?)?;
-    let mut out = Vec::new(alloc);
-    match run_script(Meter::new(fresh(alloc)?), CUT, &mut out) {
-        Ok(meter) => Ok((passed(&meter), passed(&first), passed(&recovery))),
-        Err(_) => Err(Fail::new("the script isn't played")),
+fn calls_of_a_cut(rt: &(impl Abort + AllocGlobal)) -> (u32, u32, u32) {
+    let (before, _) = opened(rt, fresh(rt));
+    let (recovery, _) = opened(rt, cut_at_the_intent(rt));
+    let (_, meter) = told(rt, Meter::new(fresh(rt)), CUT);
+    (passed(&meter), before, recovery)
+}
+
+/// Plays a script: the fault's number, 0 for none, what is told, and the disk then.
+fn run<D: Sectors>(rt: &(impl Abort + AllocGlobal), disk: D, script: &[u8]) -> (u8, Vec<u8>, D) {
+    let mut out = Vec::new(rt.alloc());
+    match run_script(disk, script, &mut out) {
+        Ok(disk) => (0, out, disk),
+        Err((fault, disk)) => (fault.number(), out, disk),
     }
 }
 
-/// What is told of the script where one call fails, by the fault's number, 0 for none, and by what was written. What is
-/// left is opened, and the message has its answer.
-fn cut_run(alloc: Global, at: u32, done: bool) -> Result<(u8, Vec<u8>), Fail> {
-    let mut out = Vec::new(alloc);
-    let (number, left) = match run_script(faulty(alloc, at, done)?, CUT, &mut out) {
-        Ok(left) => (0, left),
-        Err((fault, left)) => (fault.number(), left),
-    };
-    if !says(sent_to(left.into_inner(), b"1,1,S,1,5")?, b"1,1,DONE,5") {
-        return Err(Fail::new("the message has another answer"));
+/// Sees what is told of the script where one call fails, by the fault's number and by what was written. What is left is
+/// opened, and the message has its answer.
+fn cut_run_fails(rt: &(impl Abort + AllocGlobal), at: u32, done: bool, number: u8, wanted: &[u8]) {
+    let (fault, out, left) = run(rt, faulty(rt, at, done), CUT);
+    same_at(rt, (fault, out.as_slice()), (number, wanted), (at, done));
+    let reply = sent_to(rt, left.into_inner(), b"1,1,S,1,5");
+    same_at(rt, says(reply, b"1,1,DONE,5"), true, (at, done));
+}
+
+/// Has each call of the script fail: those before the message, then those in it, and behind these those of the recovery.
+fn cut_runs_fail(
+    rt: &(impl Abort + AllocGlobal),
+    (before, behind, all): (u32, u32, u32),
+    done: bool,
+) {
+    for at in 0..all {
+        if at < before {
+            cut_run_fails(rt, at, done, 1, b"");
+        } else if at < behind {
+            cut_run_fails(rt, at, done, 0, b"CUT\n");
+        } else {
+            cut_run_fails(rt, at, done, 4, b"CUT\n");
+        }
     }
-    Ok((number, out))
 }
 
 // A call of the first opening that fails is told as its fault (1), one of the whole recovery as the device's (4), which isn't
 // tried again. In the message power goes anyway, so that nothing is told.
 #[test]
-fn each_call_of_a_cut_run_fails(rt: HostRuntime) -> Result<(), Fail> {
-    let (all, before, recovery) = calls_of_a_cut(rt.alloc())?;
+fn each_call_of_a_cut_run_fails(rt: HostRuntime) {
+    let (all, before, recovery) = calls_of_a_cut(&rt);
     let behind = all.saturating_sub(recovery);
-    same_at(&rt, before < behind && recovery > 0, true, all);
-    for done in [false, true] {
-        for at in 0..all {
-            let (number, out) = cut_run(rt.alloc(), at, done)?;
-            let wanted = if at < before {
-                (1, b"".as_slice())
-            } else if at < behind {
-                (0, b"CUT\n".as_slice())
-            } else {
-                (4, b"CUT\n".as_slice())
-            };
-            same_at(&rt, (number, out.as_slice()), wanted, (at, done));
-        }
-    }
-    Ok(())
+    holds(&rt, before < behind && recovery > 0, all);
+    cut_runs_fail(&rt, (before, behind, all), false);
+    cut_runs_fail(&rt, (before, behind, all), true);
 }

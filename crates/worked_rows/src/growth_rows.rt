@@ -1,43 +1,45 @@
 //! Growth that is cut after each write, judged and mended; side sectors past 120 and 240 blocks.
 use crate::comparing::{same, same_at};
-use crate::disks::{fresh, sector, stock};
+use crate::disks::{clean, fresh, loaded, sector, sound_stock, stock};
 use d64_image::{Fuse, MemDisk, Meter, Place};
 use disk_layout::SideView;
-use layout_check::{check, repair, survey};
-use rel_records::{RelFault, find, grow_to, records};
-use std::alloc::Global;
+use layout_check::{check, repair};
+use rel_records::{RelFault, grow_to, records};
 use std::process::Abort;
-use std::test::Fail;
 
 /// Lets STOCK of this image grow to record 1694, where power fails after so many writes. Tells whether it came to its end,
 /// and what is on the disk then.
-fn cut(alloc: Global, image: &[u8], writes: u32) -> Result<(bool, MemDisk), Fail> {
-    let mut disk = MemDisk::load(alloc, image)?;
-    let mut file = stock(&mut disk)?;
+fn cut(rt: &(impl Abort + AllocGlobal), image: &[u8], writes: u32) -> (bool, MemDisk) {
+    let mut disk = loaded(rt, image);
+    let mut file = stock(rt, &mut disk);
     let mut fuse = Fuse::new(disk, writes);
     let done = grow_to(&mut fuse, &mut file, 1694).is_ok();
-    Ok((done, fuse.into_inner()))
+    (done, fuse.into_inner())
+}
+
+/// The disk of this image, of which a repair was cut after so many writes.
+fn half_mended(rt: &(impl Abort + AllocGlobal), image: &[u8], writes: u32) -> MemDisk {
+    let mut fuse = Fuse::new(loaded(rt, image), writes);
+    let _ = repair(&mut fuse);
+    fuse.into_inner()
 }
 
 /// Repairs a copy of the image, in which power fails after so many writes, then repairs that. Tells how many writes the
-/// second repair made, and how many records STOCK has. Err where the disk between isn't sound, or the last one isn't clean.
-pub(crate) fn mended(alloc: Global, image: &[u8], cut: u32) -> Result<(u64, u32), Fail> {
-    let mut fuse = Fuse::new(MemDisk::load(alloc, image)?, cut);
-    let _ = repair(&mut fuse);
-    let mut disk = Meter::new(fuse.into_inner());
-    survey(&mut disk)?;
-    let count = records(&find(&mut disk, b"STOCK")?);
-    repair(&mut disk)?;
-    check(&mut disk)?;
-    Ok((disk.writes(), count))
+/// second repair made, and how many records STOCK has. The disk between is sound, and the last one clean.
+pub(crate) fn mended(rt: &(impl Abort + AllocGlobal), image: &[u8], cut: u32) -> (u64, u32) {
+    let mut disk = Meter::new(half_mended(rt, image, cut));
+    let count = records(&sound_stock(rt, &mut disk));
+    repair(&mut disk).expect(rt, "a disk that is mended");
+    clean(rt, &mut disk);
+    (disk.writes(), count)
 }
 
 /// The blank disk with STOCK grown to this record.
-fn grown(alloc: Global, number: u32) -> Result<MemDisk, Fail> {
-    let mut disk = fresh(alloc)?;
-    let mut file = stock(&mut disk)?;
-    grow_to(&mut disk, &mut file, number)?;
-    Ok(disk)
+pub(crate) fn grown(rt: &(impl Abort + AllocGlobal), number: u32) -> MemDisk {
+    let mut disk = fresh(rt);
+    let mut file = stock(rt, &mut disk);
+    grow_to(&mut disk, &mut file, number).expect(rt, "room for the record");
+    disk
 }
 
 /// Where the growth is cut: after so many writes; the records then, and the writes of the repair.
@@ -51,28 +53,32 @@ const CUTS: [(u32, u32, u32); 7] = [
     (6, 1707, 0),
 ];
 
-/// Cuts the growth on a disk by each row, and the repair after each of its writes.
-fn are_mended(
+/// Repairs what a growth left that was cut after so many writes, and cuts the repair after each of its own.
+fn is_mended(
     rt: &(impl Abort + AllocGlobal),
-    disk: &MemDisk,
-    rows: &[(u32, u32, u32)],
-) -> Result<(), Fail> {
-    for &(writes, count, mends) in rows {
-        let (done, left) = cut(rt.alloc(), disk.bytes(), writes)?;
-        same(rt, done, writes == 6);
-        for passed in 0..=mends {
-            let told = mended(rt.alloc(), left.bytes(), passed)?;
-            let row = ("writes of the growth and of the repair", writes, passed);
-            same_at(rt, told, (u64::from(mends - passed), count), row);
-        }
+    left: &MemDisk,
+    (writes, count, mends): (u32, u32, u32),
+) {
+    for passed in 0..=mends {
+        let told = mended(rt, left.bytes(), passed);
+        let row = ("writes of the growth and of the repair", writes, passed);
+        same_at(rt, told, (u64::from(mends - passed), count), row);
     }
-    Ok(())
+}
+
+/// Cuts the growth on a disk by each row.
+fn are_mended(rt: &(impl Abort + AllocGlobal), disk: &MemDisk, rows: &[(u32, u32, u32)]) {
+    for &(writes, count, mends) in rows {
+        let (done, left) = cut(rt, disk.bytes(), writes);
+        same(rt, done, writes == 6);
+        is_mended(rt, &left, (writes, count, mends));
+    }
 }
 
 // STOCK with 120 blocks gets a block, 14/3, and a side sector, 14/4. After the fifth write the file is longer.
 #[test]
-fn growth_is_cut_and_mended(rt: HostRuntime) -> Result<(), Fail> {
-    are_mended(&rt, &grown(rt.alloc(), 1693)?, &CUTS)
+fn growth_is_cut_and_mended(rt: HostRuntime) {
+    are_mended(&rt, &grown(&rt, 1693), &CUTS);
 }
 
 /// The record to which STOCK grows, a side sector, its first sixteen bytes, and its first and last pointers.
@@ -118,10 +124,10 @@ const SIDES: [Side; 5] = [
 ];
 
 /// Sees that the side sectors are as the rows have them. A clean disk has exact ones, pointer by pointer of the chain.
-fn are_exact(rt: &(impl Abort + AllocGlobal), rows: &[Side]) -> Result<(), Fail> {
+fn are_exact(rt: &(impl Abort + AllocGlobal), rows: &[Side]) {
     for &(number, (track, side), head, first, last) in rows {
-        let mut disk = grown(rt.alloc(), number)?;
-        let bytes = sector(&mut disk, track, side)?;
+        let mut disk = grown(rt, number);
+        let bytes = sector(&mut disk, track, side);
         same_at(rt, &bytes[..16], head, (track, side, number));
         let view = SideView::new(&bytes);
         let ends = (view.block(0), view.block(119));
@@ -129,12 +135,11 @@ fn are_exact(rt: &(impl Abort + AllocGlobal), rows: &[Side]) -> Result<(), Fail>
         same_at(rt, ends, want, (track, side, number));
         same_at(rt, check(&mut disk).is_ok(), true, ("with record", number));
     }
-    Ok(())
 }
 
 #[test]
-fn side_sectors_are_exact(rt: HostRuntime) -> Result<(), Fail> {
-    are_exact(&rt, &SIDES)
+fn side_sectors_are_exact(rt: HostRuntime) {
+    are_exact(&rt, &SIDES);
 }
 
 /// Records that don't fit, and what is told: 9,256 records fill the disk, and 720 blocks hold 10,160.
@@ -146,18 +151,17 @@ const TOO_MUCH: [(u32, RelFault); 4] = [
 ];
 
 /// Sees that growth to each record is refused, with nothing written.
-fn are_refused(rt: &(impl Abort + AllocGlobal), rows: &[(u32, RelFault)]) -> Result<(), Fail> {
+fn are_refused(rt: &(impl Abort + AllocGlobal), rows: &[(u32, RelFault)]) {
     for &(number, fault) in rows {
-        let mut disk = Meter::new(fresh(rt.alloc())?);
-        let mut file = stock(&mut disk)?;
+        let mut disk = Meter::new(fresh(rt));
+        let mut file = stock(rt, &mut disk);
         let told = grow_to(&mut disk, &mut file, number);
         same_at(rt, told, Err(fault), ("record", number));
         same(rt, disk.writes(), 0);
     }
-    Ok(())
 }
 
 #[test]
-fn too_much_is_refused(rt: HostRuntime) -> Result<(), Fail> {
-    are_refused(&rt, &TOO_MUCH)
+fn too_much_is_refused(rt: HostRuntime) {
+    are_refused(&rt, &TOO_MUCH);
 }

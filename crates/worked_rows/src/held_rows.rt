@@ -1,13 +1,11 @@
 //! What a session tells of a shop, and the bytes that requests leave on the disk.
 use crate::comparing::{same, same_at};
-use crate::disks::stands;
-use crate::sessions::after;
+use crate::disks::{blank, stands};
+use crate::sessions::{after, open};
 use d64_image::MemDisk;
-use disk_layout::blank_image;
 use host_session::Session;
 use request_cards::{Answer, Request};
 use std::process::Abort;
-use std::test::Fail;
 
 /// A request, and its answer.
 type Told = Option<(&'static [u8], Answer)>;
@@ -81,33 +79,25 @@ fn tells(rt: &impl Abort, session: &Session<MemDisk>, row: &Held) {
 }
 
 /// Opens the disk of each row's script.
-fn each_tells(rt: &(impl Abort + AllocGlobal), rows: &[Held]) -> Result<(), Fail> {
+fn each_tells(rt: &(impl Abort + AllocGlobal), rows: &[Held]) {
     for row in rows {
-        let Ok(session) = Session::open(after(rt.alloc(), row.script)?) else {
-            return Err(Fail::new("the disk isn't opened"));
-        };
+        let session = open(rt, after(rt, row.script));
         tells(rt, &session, row);
         session.close();
     }
-    Ok(())
 }
 
 #[test]
-fn a_session_tells_what_it_holds(rt: HostRuntime) -> Result<(), Fail> {
-    each_tells(&rt, &HELD)
+fn a_session_tells_what_it_holds(rt: HostRuntime) {
+    each_tells(&rt, &HELD);
 }
 
 // REQUESTS takes 31 sectors more for 64 tills than for two.
 #[test]
-fn tills_take_room(rt: HostRuntime) -> Result<(), Fail> {
-    let mut disk = MemDisk::zeroed(rt.alloc())?;
-    blank_image(&mut disk, b"STOCK LEDGER", *b"01", 64)?;
-    let Ok(session) = Session::open(disk) else {
-        return Err(Fail::new("the disk isn't opened"));
-    };
+fn tills_take_room(rt: HostRuntime) {
+    let session = open(&rt, blank(&rt, 64));
     same(&rt, (session.top(), session.tills()), (8819, 64));
     session.close();
-    Ok(())
 }
 
 /// What was played, a place, and the bytes that stand there.
@@ -141,14 +131,13 @@ const BYTES: [Left; 13] = [
 ];
 
 /// Plays each row's script, and sees that its bytes stand there then.
-fn all_stand(rt: &(impl Abort + AllocGlobal), rows: &[Left]) -> Result<(), Fail> {
+fn all_stand(rt: &(impl Abort + AllocGlobal), rows: &[Left]) {
     for (script, place, bytes) in rows {
-        stands(rt, &after(rt.alloc(), script)?, *place, bytes);
+        stands(rt, &after(rt, script), *place, bytes);
     }
-    Ok(())
 }
 
 #[test]
-fn requests_leave_these_bytes(rt: HostRuntime) -> Result<(), Fail> {
-    all_stand(&rt, &BYTES)
+fn requests_leave_these_bytes(rt: HostRuntime) {
+    all_stand(&rt, &BYTES);
 }

@@ -1,12 +1,10 @@
 //! Images that no shop left: those that an opening refuses, and those that it takes all the same.
-use crate::comparing::same_at;
-use crate::disks::{Change, INTENT, changed, fresh};
-use crate::sessions::{after, asked, mirrored, says};
-use d64_image::MemDisk;
+use crate::comparing::{holds, same_at};
+use crate::disks::{Change, INTENT, changed, fresh, loaded};
+use crate::sessions::{after, asked, mirrored, says, unmirrored};
+use d64_image::{MemDisk, Sectors};
 use host_session::{OpenFault, Session};
-use std::alloc::Global;
 use std::process::Abort;
-use std::test::Fail;
 
 /// Cards of version 1 as power may have left them: open intents of a set of item 2 and 15, two cards that are none, and
 /// a stock card in the wrong record.
@@ -24,8 +22,10 @@ const CARD_4: &[u8] = b"K,00004,000000001\r";
 const SECOND_OWNER: &[u8] =
     b"\x82\x11\x02X\xA0\xA0\xA0\xA0\xA0\xA0\xA0\xA0\xA0\xA0\xA0\xA0\xA0\xA0\xA0\0\0\0\0\0\0\0\0\0\x01\0";
 
-/// Images that aren't opened: a script that made the disk, what is changed on it, and what is told.
-const REFUSED: [(&[u8], &[Change], &[u8]); 16] = [
+/// An image that isn't opened: a script that made the disk, what is changed on it, and what is told.
+type Refused = (&'static [u8], &'static [Change], &'static [u8]);
+
+const REFUSED: [Refused; 16] = [
     (
         b"1,1,S,1693,1\n1,2,S,1694,2\n",
         &[(14, 4, 6, 2, b"")],
@@ -81,57 +81,61 @@ const REFUSED: [(&[u8], &[Change], &[u8]); 16] = [
     ),
 ];
 
-/// What is told of an image that isn't opened, which stays as it was.
-fn refused(alloc: Global, disk: &MemDisk) -> Result<OpenFault, Fail> {
-    match Session::open(MemDisk::load(alloc, disk.bytes())?) {
-        Ok(session) => {
-            drop(session.close());
-            Err(Fail::new("it is opened"))
-        }
-        Err((_, left)) if left.bytes() != disk.bytes() => Err(Fail::new("it is changed")),
-        Err((fault, _)) => Ok(fault),
+/// What is told of a disk that isn't opened, and the disk then.
+fn refused<D: Sectors>(rt: &impl Abort, disk: D) -> (OpenFault, D) {
+    match Session::open(disk) {
+        Ok(_) => panic!(rt; "it is opened"),
+        Err(refused) => refused,
     }
+}
+
+/// What is told of an image that isn't opened, which stays as it was.
+fn refused_image(rt: &(impl Abort + AllocGlobal), disk: &MemDisk, row: &[u8]) -> OpenFault {
+    let (fault, left) = refused(rt, loaded(rt, disk.bytes()));
+    holds(rt, left.bytes() == disk.bytes(), row);
+    fault
 }
 
 /// The same through a mirror, whose file stays as well.
-fn refused_mirror(alloc: Global, disk: &MemDisk) -> Result<OpenFault, Fail> {
-    match Session::open(mirrored(alloc, disk)?) {
-        Ok(session) => {
-            drop(session.close());
-            Err(Fail::new("its mirror is opened"))
-        }
-        Err((fault, mirror)) => {
-            let (file, left) = mirror.into_inner();
-            if left.bytes() != disk.bytes() || file.into_inner().as_slice() != disk.bytes() {
-                return Err(Fail::new("its mirror is changed"));
-            }
-            Ok(fault)
-        }
-    }
+fn refused_mirror(rt: &(impl Abort + AllocGlobal), disk: &MemDisk, row: &[u8]) -> OpenFault {
+    let (fault, mirror) = refused(rt, mirrored(rt, disk));
+    holds(rt, unmirrored(rt, mirror).bytes() == disk.bytes(), row);
+    fault
+}
+
+/// Sees that a fault has this text.
+fn is_told(rt: &(impl Abort + AllocGlobal), fault: OpenFault, text: &[u8]) {
+    let told = fault.to_string(rt.alloc()).expect(rt, "a text");
+    same_at(rt, told.as_bytes(), text, fault);
 }
 
 /// Sees that none of the images is opened, and what is told of each.
-fn none_is_opened(
-    rt: &(impl Abort + AllocGlobal),
-    rows: &[(&[u8], &[Change], &[u8])],
-) -> Result<(), Fail> {
+fn none_is_opened(rt: &(impl Abort + AllocGlobal), rows: &[Refused]) {
     for (script, changes, told) in rows {
-        let disk = changed(rt.alloc(), &after(rt.alloc(), script)?, changes)?;
-        let fault = refused(rt.alloc(), &disk)?;
-        same_at(rt, fault.to_string(rt.alloc())?.as_bytes(), *told, told);
-        same_at(rt, refused_mirror(rt.alloc(), &disk)?, fault, told);
+        let disk = changed(after(rt, script), changes);
+        let fault = refused_image(rt, &disk, told);
+        is_told(rt, fault, told);
+        same_at(rt, refused_mirror(rt, &disk, told), fault, told);
     }
-    Ok(())
 }
 
 #[test]
-fn malicious_images_are_refused(rt: HostRuntime) -> Result<(), Fail> {
-    none_is_opened(&rt, &REFUSED)
+fn malicious_images_are_refused(rt: HostRuntime) {
+    none_is_opened(&rt, &REFUSED);
 }
 
-/// Images that are opened: what is changed on a blank disk, the writes of the opening, a message, its reply and writes,
+/// An image that is opened: what is changed on a blank disk, the writes of the opening, a message, its reply and writes,
 /// and the last item that has room.
-const OPENED: [(&[Change], u64, &[u8], &[u8], u64, u16); 4] = [
+type Opened = (
+    &'static [Change],
+    u64,
+    &'static [u8],
+    &'static [u8],
+    u64,
+    u16,
+);
+
+const OPENED: [Opened; 4] = [
     (
         &[(17, 0, 1, 1, b"")],
         0,
@@ -160,20 +164,16 @@ const OPENED: [(&[Change], u64, &[u8], &[u8], u64, u16); 4] = [
 ];
 
 /// Sees that each of the images is opened, and what is told and written then.
-fn each_is_opened(
-    rt: &(impl Abort + AllocGlobal),
-    rows: &[(&[Change], u64, &[u8], &[u8], u64, u16)],
-) -> Result<(), Fail> {
+fn each_is_opened(rt: &(impl Abort + AllocGlobal), rows: &[Opened]) {
     for (changes, recovery, message, told, writes, top) in rows {
-        let disk = changed(rt.alloc(), &fresh(rt.alloc())?, changes)?;
-        let (reply, last, first, second) = asked(rt.alloc(), &disk, message)?;
+        let disk = changed(fresh(rt), changes);
+        let (reply, last, first, second) = asked(rt, &disk, message);
         same_at(rt, (last, first, second), (*top, *recovery, *writes), reply);
         same_at(rt, says(reply, told), true, reply);
     }
-    Ok(())
 }
 
 #[test]
-fn odd_images_are_opened(rt: HostRuntime) -> Result<(), Fail> {
-    each_is_opened(&rt, &OPENED)
+fn odd_images_are_opened(rt: HostRuntime) {
+    each_is_opened(&rt, &OPENED);
 }

@@ -7,7 +7,6 @@ use crate::disks::{Change, INTENT, changed, clean};
 use crate::sessions::{WHOLE, after, opened};
 use d64_image::MemDisk;
 use std::process::Abort;
-use std::test::Fail;
 
 /// A disk, and its openings.
 #[derive(Clone, Copy)]
@@ -130,28 +129,27 @@ fn opened_again(
     disk: MemDisk,
     openings: &[(u32, u64)],
     shows: &str,
-) -> Result<MemDisk, Fail> {
+) -> MemDisk {
     let mut disk = disk;
     for (power, writes) in openings {
-        let (passed, next) = opened(rt.alloc(), &disk, *power)?;
+        let (passed, next) = opened(rt, &disk, *power);
         same_at(rt, passed, *writes, shows);
         disk = next;
     }
-    clean(&mut disk)?;
-    Ok(disk)
+    clean(rt, &mut disk);
+    disk
 }
 
 /// Opens each row's disk, and plays its lines then.
-fn are_opened(rt: &(impl Abort + AllocGlobal), rows: &[Opening]) -> Result<(), Fail> {
+fn are_opened(rt: &(impl Abort + AllocGlobal), rows: &[Opening]) {
     for row in rows {
-        let disk = changed(rt.alloc(), &after(rt.alloc(), row.before)?, row.changes)?;
-        let disk = opened_again(rt, disk, row.openings, row.shows)?;
-        is_played(rt, &disk, row.lines, row.shows)?;
+        let disk = changed(after(rt, row.before), row.changes);
+        let disk = opened_again(rt, disk, row.openings, row.shows);
+        is_played(rt, &disk, row.lines, row.shows);
     }
-    Ok(())
 }
 
 #[test]
-fn changed_disks_are_opened(rt: HostRuntime) -> Result<(), Fail> {
-    are_opened(&rt, &OPENINGS)
+fn changed_disks_are_opened(rt: HostRuntime) {
+    are_opened(&rt, &OPENINGS);
 }

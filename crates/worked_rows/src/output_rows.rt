@@ -6,7 +6,6 @@ use d64_image::MemDisk;
 use host_session::{ScriptFault, run_script};
 use std::io::{self, Write};
 use std::process::Abort;
-use std::test::Fail;
 
 /// An output that takes so many bytes, and then fails.
 #[derive(Drop)]
@@ -32,25 +31,26 @@ impl Write for Stopping {
 }
 
 /// Plays the script into an output that takes 13 bytes, and gives what is on the disk then.
-fn stopped(rt: &(impl Abort + AllocGlobal), script: &[u8], reply: &[u8]) -> Result<MemDisk, Fail> {
+fn stopped(rt: &(impl Abort + AllocGlobal), script: &[u8], reply: &[u8]) -> MemDisk {
     let mut out = Stopping {
         taken: Vec::new(rt.alloc()),
         room: 13,
     };
-    let Err((fault, left)) = run_script(fresh(rt.alloc())?, script, &mut out) else {
-        return Err(Fail::new("the script is played"));
-    };
-    let told = (fault, fault.number(), out.taken.as_slice() == reply);
-    same_at(rt, told, (ScriptFault::Output, 3, true), "fault");
-    Ok(left)
+    match run_script(fresh(rt), script, &mut out) {
+        Ok(_) => panic!(rt; "the script is played"),
+        Err((fault, left)) => {
+            let told = (fault, fault.number(), out.taken.as_slice() == reply);
+            same_at(rt, told, (ScriptFault::Output, 3, true), "fault");
+            left
+        }
+    }
 }
 
 // The first reply has 12 bytes and its end of line; the second line is handled, and its reply is lost.
 #[test]
-fn an_output_takes_13_bytes(rt: HostRuntime) -> Result<(), Fail> {
-    let left = stopped(&rt, b"1,1,S,42,120\n2,1,R,42,5\n", b"1,1,DONE,120\n")?;
-    let (reply, _, recovery, writes) = asked(rt.alloc(), &left, b"2,1,R,42,5")?;
+fn an_output_takes_13_bytes(rt: HostRuntime) {
+    let left = stopped(&rt, b"1,1,S,42,120\n2,1,R,42,5\n", b"1,1,DONE,120\n");
+    let (reply, _, recovery, writes) = asked(&rt, &left, b"2,1,R,42,5");
     let told = (says(reply, b"2,1,DONE,125"), recovery, writes);
     same_at(&rt, told, (true, 0, 0), "sent again");
-    Ok(())
 }

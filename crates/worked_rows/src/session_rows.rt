@@ -4,7 +4,6 @@ use crate::days::Line::{Cut, Say};
 use crate::days::{Line, is_played};
 use crate::disks::fresh;
 use std::process::Abort;
-use std::test::Fail;
 
 /// A set takes two blocks of growth, intent, card and answer; a refusal its answer alone; a repeat nothing.
 const REPEATS: [Line; 5] = [
@@ -131,14 +130,13 @@ const DAYS: [(&str, &[Line]); 10] = [
 ];
 
 /// Plays each day on a blank disk.
-fn each_is_played(rt: &(impl Abort + AllocGlobal), days: &[(&str, &[Line])]) -> Result<(), Fail> {
+fn each_is_played(rt: &(impl Abort + AllocGlobal), days: &[(&str, &[Line])]) {
     for (shows, lines) in days {
-        is_played(rt, &fresh(rt.alloc())?, lines, shows)?;
+        is_played(rt, &fresh(rt), lines, shows);
     }
-    Ok(())
 }
 
 #[test]
-fn days_are_played(rt: HostRuntime) -> Result<(), Fail> {
-    each_is_played(&rt, &DAYS)
+fn days_are_played(rt: HostRuntime) {
+    each_is_played(&rt, &DAYS);
 }

@@ -1,102 +1,178 @@
 //! Sessions on copies of a disk, also where power goes in them.
-use crate::disks::fresh;
-use d64_image::{Fuse, MemDisk, Meter, Mirror};
-use host_session::{Session, run_script};
-use layout_check::check;
+use crate::comparing::holds;
+use crate::disks::{clean, fresh, loaded};
+use d64_image::{Fuse, MemDisk, Meter, Mirror, Sectors};
+use host_session::{Event, PlayFault, ScriptFault, Session, play, run_script};
 use request_cards::Reply;
-use std::alloc::Global;
 use std::io::Cursor;
-use std::test::Fail;
+use std::process::Abort;
 
 /// Power that doesn't go: more writes than any disk takes in a row.
 pub(crate) const WHOLE: u32 = u32::MAX;
 
+/// The session on a disk that is opened.
+pub(crate) fn open<D: Sectors>(rt: &impl Abort, disk: D) -> Session<D> {
+    match Session::open(disk) {
+        Ok(session) => session,
+        Err((fault, _)) => panic!(rt; "the disk isn't opened: {fault:?}"),
+    }
+}
+
+/// Opens a disk and hands it the message: the reply, and the disk then.
+pub(crate) fn handed<D: Sectors>(rt: &impl Abort, disk: D, message: &[u8]) -> (Reply, D) {
+    let mut session = open(rt, disk);
+    let reply = session.handle(message);
+    (reply, session.close())
+}
+
+/// Plays a script to its end: what is told, and the disk then.
+pub(crate) fn told<D: Sectors>(
+    rt: &(impl Abort + AllocGlobal),
+    disk: D,
+    script: &[u8],
+) -> (Vec<u8>, D) {
+    let mut out = Vec::new(rt.alloc());
+    match run_script(disk, script, &mut out) {
+        Ok(disk) => (out, disk),
+        Err((fault, _)) => panic!(rt; "the script isn't played: {fault:?}"),
+    }
+}
+
+/// Plays a script that is stopped: the fault, what is told, and the disk then.
+pub(crate) fn stopped<D: Sectors>(
+    rt: &(impl Abort + AllocGlobal),
+    disk: D,
+    script: &[u8],
+) -> (ScriptFault, Vec<u8>, D) {
+    let mut out = Vec::new(rt.alloc());
+    match run_script(disk, script, &mut out) {
+        Ok(_) => panic!(rt; "the script is played"),
+        Err((fault, disk)) => (fault, out, disk),
+    }
+}
+
+/// Plays events to their end: what is told, and the disk then.
+pub(crate) fn told_of_events<D: Sectors>(
+    rt: &(impl Abort + AllocGlobal),
+    disk: D,
+    events: &[Event<'static>],
+) -> (Vec<Reply>, D) {
+    let mut told = Vec::new(rt.alloc());
+    match play(disk, events, &mut told) {
+        Ok(disk) => (told, disk),
+        Err((fault, _)) => panic!(rt; "the events aren't played: {fault:?}"),
+    }
+}
+
+/// Plays events that are stopped, behind a reply that the list has: the fault, the list, and the disk then.
+pub(crate) fn stopped_events<D: Sectors>(
+    rt: &(impl Abort + AllocGlobal),
+    disk: D,
+    events: &[Event<'static>],
+) -> (PlayFault, Vec<Reply>, D) {
+    let mut told = vec![in rt.alloc(); Reply::Syntax; 1].expect(rt, "a list");
+    match play(disk, events, &mut told) {
+        Ok(_) => panic!(rt; "the events are played"),
+        Err((fault, disk)) => (fault, told, disk),
+    }
+}
+
 /// The fresh disk on which this script was played.
-pub(crate) fn after(alloc: Global, script: &[u8]) -> Result<MemDisk, Fail> {
-    let mut out = Vec::new(alloc);
-    match run_script(fresh(alloc)?, script, &mut out) {
-        Ok(disk) => Ok(disk),
-        Err(_) => Err(Fail::new("what comes before isn't played")),
+pub(crate) fn after(rt: &(impl Abort + AllocGlobal), script: &[u8]) -> MemDisk {
+    let (_, disk) = told(rt, fresh(rt), script);
+    disk
+}
+
+/// A copy of the disk whose writes are counted, and whose power goes after so many.
+fn fused(rt: &(impl Abort + AllocGlobal), disk: &MemDisk, power: u32) -> Fuse<Meter<MemDisk>> {
+    Fuse::new(Meter::new(loaded(rt, disk.bytes())), power)
+}
+
+/// How many writes passed, and the disk then.
+fn passed(fuse: Fuse<Meter<MemDisk>>) -> (u64, MemDisk) {
+    let meter = fuse.into_inner();
+    (meter.writes(), meter.into_inner())
+}
+
+/// What an opening leaves of the disk.
+fn left<D: Sectors>(disk: D) -> D {
+    match Session::open(disk) {
+        Ok(session) => session.close(),
+        Err((_, disk)) => disk,
+    }
+}
+
+/// What an opening leaves of the disk, and the message behind it where the session stands.
+fn left_by<D: Sectors>(disk: D, message: &[u8]) -> D {
+    match Session::open(disk) {
+        Ok(mut session) => {
+            session.handle(message);
+            session.close()
+        }
+        Err((_, disk)) => disk,
     }
 }
 
 /// Opens a copy of the disk, whose power goes after so many writes; tells how many passed, and the disk then.
-pub(crate) fn opened(alloc: Global, disk: &MemDisk, power: u32) -> Result<(u64, MemDisk), Fail> {
-    let meter = Meter::new(MemDisk::load(alloc, disk.bytes())?);
-    let fuse = match Session::open(Fuse::new(meter, power)) {
-        Ok(session) => session.close(),
-        Err((_, fuse)) => fuse,
-    };
-    let meter = fuse.into_inner();
-    Ok((meter.writes(), meter.into_inner()))
+pub(crate) fn opened(
+    rt: &(impl Abort + AllocGlobal),
+    disk: &MemDisk,
+    power: u32,
+) -> (u64, MemDisk) {
+    passed(left(fused(rt, disk, power)))
 }
 
-/// What became of a message: its reply, how many writes passed, and the disk then.
-pub(crate) type Handled = (Option<Reply>, u64, MemDisk);
-
-/// Hands the message to a session on a copy of the disk, whose power goes after so many writes. No reply where it goes
-/// before the session stands.
+/// Hands the message to a session on a copy of the disk, whose power goes after so many writes, also before the session
+/// stands; tells how many passed, and the disk then.
 pub(crate) fn handled(
-    alloc: Global,
+    rt: &(impl Abort + AllocGlobal),
     disk: &MemDisk,
     message: &[u8],
     power: u32,
-) -> Result<Handled, Fail> {
-    let meter = Meter::new(MemDisk::load(alloc, disk.bytes())?);
-    let (reply, fuse) = match Session::open(Fuse::new(meter, power)) {
-        Ok(mut session) => (Some(session.handle(message)), session.close()),
-        Err((_, fuse)) => (None, fuse),
-    };
-    let meter = fuse.into_inner();
-    Ok((reply, meter.writes(), meter.into_inner()))
+) -> (u64, MemDisk) {
+    passed(left_by(fused(rt, disk, power), message))
+}
+
+/// A file in memory with these bytes.
+pub(crate) fn file_of(rt: &(impl Abort + AllocGlobal), bytes: &[u8]) -> Cursor<Vec<u8>> {
+    Cursor::new(Vec::from_slice(rt.alloc(), bytes).expect(rt, "a file"))
 }
 
 /// The same disk in memory and in a file.
-pub(crate) fn mirrored(alloc: Global, disk: &MemDisk) -> Result<Mirror<Cursor<Vec<u8>>>, Fail> {
-    let file = Cursor::new(Vec::from_slice(alloc, disk.bytes())?);
-    Ok(Mirror::new(file, MemDisk::load(alloc, disk.bytes())?))
+pub(crate) fn mirrored(rt: &(impl Abort + AllocGlobal), disk: &MemDisk) -> Mirror<Cursor<Vec<u8>>> {
+    Mirror::new(file_of(rt, disk.bytes()), loaded(rt, disk.bytes()))
 }
 
 /// The disk of a mirror whose file has the same bytes.
-fn unmirrored(mirror: Mirror<Cursor<Vec<u8>>>) -> Result<MemDisk, Fail> {
+pub(crate) fn unmirrored(rt: &impl Abort, mirror: Mirror<Cursor<Vec<u8>>>) -> MemDisk {
     let (file, disk) = mirror.into_inner();
-    if file.into_inner().as_slice() != disk.bytes() {
-        return Err(Fail::new("the file has other bytes"));
-    }
-    Ok(disk)
+    holds(rt, file.into_inner().as_slice() == disk.bytes(), "the file");
+    disk
 }
 
 /// Opens a disk twice through a mirror, the second time to handle a message: the reply, the last item that has room, and
 /// the writes of both. The file has what memory has, and the disk is clean.
 pub(crate) fn asked(
-    alloc: Global,
+    rt: &(impl Abort + AllocGlobal),
     disk: &MemDisk,
     message: &[u8],
-) -> Result<(Reply, u16, u64, u64), Fail> {
-    let Ok(session) = Session::open(Meter::new(mirrored(alloc, disk)?)) else {
-        return Err(Fail::new("it isn't opened"));
-    };
-    let opened = session.close();
-    let recovery = opened.writes();
-    let Ok(mut session) = Session::open(opened) else {
-        return Err(Fail::new("it isn't opened again"));
-    };
+) -> (Reply, u16, u64, u64) {
+    let meter = open(rt, Meter::new(mirrored(rt, disk))).close();
+    let recovery = meter.writes();
+    let mut session = open(rt, meter);
     let top = session.top();
     let reply = session.handle(message);
     let meter = session.close();
     let writes = meter.writes().saturating_sub(recovery);
-    check(&mut unmirrored(meter.into_inner())?)?;
-    Ok((reply, top, recovery, writes))
+    clean(rt, &mut unmirrored(rt, meter.into_inner()));
+    (reply, top, recovery, writes)
 }
 
 /// Opens the disk and hands it the message: the reply. The disk is clean then.
-pub(crate) fn sent_to(disk: MemDisk, message: &[u8]) -> Result<Reply, Fail> {
-    let Ok(mut session) = Session::open(disk) else {
-        return Err(Fail::new("what is left isn't opened"));
-    };
-    let reply = session.handle(message);
-    check(&mut session.close())?;
-    Ok(reply)
+pub(crate) fn sent_to(rt: &impl Abort, disk: MemDisk, message: &[u8]) -> Reply {
+    let (reply, mut disk) = handed(rt, disk, message);
+    clean(rt, &mut disk);
+    reply
 }
 
 /// Whether a reply has this text.
