@@ -1,5 +1,4 @@
 -- A job is that of what the command line found, and why there is none is its reason.
-use Rattle.std.proofs.Common.{refl}
 use Rattle.ledger_cli.proofs.Parses.{job-found, no-job-found}
 use Rattle.ledger_cli.proofs.words.job.Goals as goal
 

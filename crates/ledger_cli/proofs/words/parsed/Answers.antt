@@ -1,5 +1,4 @@
 -- The command line is a simple one, so its matches are those of the words, and words are refused for one of its reasons.
-use Rattle.std.proofs.Common.{inl}
 use Rattle.ledger_cli.proofs.Parses.{ledger-parse}
 use Rattle.ledger_cli.proofs.words.parsed.Goals as goal
 
