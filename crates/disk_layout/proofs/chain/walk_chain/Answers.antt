@@ -33,20 +33,18 @@ push-requires g c =
     (lit< tt, h)
 
 pub returns-in_err-read_sector : goal.returns-in_err-read_sector
-returns-in_err-read_sector g c = record {
-  chain = let p = err_from_is_err_and c.from_residual.result c.from_residual.ensures.1 in
-      rw p.1 tt;
-  fault = let S = g.D.Sectors.history in
-      let p = err_from_is_err_and c.from_residual.result c.from_residual.ensures.1 in
-      let P : Fault → Type 0 = HoldsOfChain (S.failed_at c.read_sector.new.disk) (S.image c.args.disk.now) c.args.first in
-      rw (p.1, p.2) (subst P (sym c.in_err-read_sector.ensures.told) c.in_err-read_sector.ensures.failed);
-  failures = let S = g.D.Sectors.history in
-      let p = err_from_is_err_and c.from_residual.result c.from_residual.ensures.1 in
-      let P : Fault → Type 0 = λ f. TellsFault {T = ℕ} S c.args.disk.now c.read_sector.new.disk (Err f) in
-      rw (p.1, p.2) (subst P (sym c.in_err-read_sector.ensures.told) (failed_later S c.args.disk.now c.chain.disk c.read_sector.new.disk c.chain.invariant.failures c.in_err-read_sector.ensures.failures));
-  reads = reads_then g.D.Sectors.history _ _ _ (length c.chain.places.items) 1 (length c.push.new.self.items) (omega (arith, c.push.ensures.len)) c.chain.invariant.reads c.read_sector.ensures.reads;
-  few = omega (arith, c.push.ensures.len, c.insert.ensures.room, c.chain.invariant.count);
-}
+returns-in_err-read_sector g c =
+    let S = g.D.Sectors.history in
+    let p = err_from_is_err_and c.from_residual.result c.from_residual.ensures.1 in
+    record {
+      chain = rw p.1 tt;
+      fault = let P : Fault → Type 0 = HoldsOfChain (S.failed_at c.read_sector.new.disk) (S.image c.args.disk.now) c.args.first in
+          rw (p.1, p.2) (subst P (sym c.in_err-read_sector.ensures.told) c.in_err-read_sector.ensures.failed);
+      failures = let P : Fault → Type 0 = λ f. TellsFault {T = ℕ} S c.args.disk.now c.read_sector.new.disk (Err f) in
+          rw (p.1, p.2) (subst P (sym c.in_err-read_sector.ensures.told) (failed_later S c.args.disk.now c.chain.disk c.read_sector.new.disk c.chain.invariant.failures c.in_err-read_sector.ensures.failures));
+      reads = reads_then S _ _ _ (length c.chain.places.items) 1 (length c.push.new.self.items) (omega (arith, c.push.ensures.len)) c.chain.invariant.reads c.read_sector.ensures.reads;
+      few = omega (arith, c.push.ensures.len, c.insert.ensures.room, c.chain.invariant.count);
+    }
 
 pub chain-smaller : goal.chain-smaller
 chain-smaller g c = omega (arith, c.insert.ensures.room)

@@ -23,19 +23,17 @@ sectors-init g c = record {
 }
 
 pub returns-in_err-read_sector : goal.returns-in_err-read_sector
-returns-in_err-read_sector g c = record {
-  ok = let p = err_from_is_err_and c.from_residual.result c.from_residual.ensures.1 in
-      rw p.1 tt;
-  err = let S = g.D.Sectors.history in
-      let p = err_from_is_err_and c.from_residual.result c.from_residual.ensures.1 in
-      let P : Fault → Type 0 = HoldsOfDirectory (S.failed_at c.read_sector.new.disk) (S.image c.args.disk.now) in
-      rw (p.1, p.2) (subst P (sym c.in_err-read_sector.ensures.told) c.in_err-read_sector.ensures.failed);
-  failures = let S = g.D.Sectors.history in
-      let p = err_from_is_err_and c.from_residual.result c.from_residual.ensures.1 in
-      let P : Fault → Type 0 = λ f. TellsFault {T = Unit {0}} S c.args.disk.now c.read_sector.new.disk (Err f) in
-      rw (p.1, p.2) (subst P (sym c.in_err-read_sector.ensures.told) (failed_later S c.args.disk.now c.sectors.disk c.read_sector.new.disk c.sectors.invariant.failures c.in_err-read_sector.ensures.failures));
-  reads = reads_then g.D.Sectors.history _ _ _ _ 1 18 (omega (arith, c.sectors.invariant.few)) c.sectors.invariant.reads c.read_sector.ensures.reads;
-}
+returns-in_err-read_sector g c =
+    let S = g.D.Sectors.history in
+    let p = err_from_is_err_and c.from_residual.result c.from_residual.ensures.1 in
+    record {
+      ok = rw p.1 tt;
+      err = let P : Fault → Type 0 = HoldsOfDirectory (S.failed_at c.read_sector.new.disk) (S.image c.args.disk.now) in
+          rw (p.1, p.2) (subst P (sym c.in_err-read_sector.ensures.told) c.in_err-read_sector.ensures.failed);
+      failures = let P : Fault → Type 0 = λ f. TellsFault {T = Unit {0}} S c.args.disk.now c.read_sector.new.disk (Err f) in
+          rw (p.1, p.2) (subst P (sym c.in_err-read_sector.ensures.told) (failed_later S c.args.disk.now c.sectors.disk c.read_sector.new.disk c.sectors.invariant.failures c.in_err-read_sector.ensures.failures));
+      reads = reads_then S _ _ _ _ 1 18 (omega (arith, c.sectors.invariant.few)) c.sectors.invariant.reads c.read_sector.ensures.reads;
+    }
 
 pub sectors-preserved : goal.sectors-preserved
 sectors-preserved g c =

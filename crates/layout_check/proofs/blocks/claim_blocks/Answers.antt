@@ -50,14 +50,15 @@ chain-smaller g c =
     omega (arith, c.push.ensures.len, room-left c.chain.places.items c.chain.at old.once (unclaimed c.args.owners.now c.chain.owners c.args.number _ _ old.claimed c.requires.some free))
 
 pub returns-in_default : goal.returns-in_default
-returns-in_default g c = record {
-  blocks = tt;
-  claimed = tt;
-  ok = tt;
-  err = let S = g.D.Sectors.history in
-      let d = c.args.disk.now in
-      inl (tells_weaker S d d 720 732 _ (omega arith) (no_first S d c.args.slot.now.sector c.args.slot.now c.requires.closed (named-match c.args.slot.now.bytes _ 3 _ c.new.ensures c.in_default.ensures) c.requires.names));
-}
+returns-in_default g c =
+    let S = g.D.Sectors.history in
+    record {
+      blocks = tt;
+      claimed = tt;
+      ok = tt;
+      err = let d = c.args.disk.now in
+          inl (tells_weaker S d d 720 732 _ (omega arith) (no_first S d c.args.slot.now.sector c.args.slot.now c.requires.closed (named-match c.args.slot.now.bytes _ 3 _ c.new.ensures c.in_default.ensures) c.requires.names));
+    }
 
 pub returns-then-owner : goal.returns-then-owner
 returns-then-owner g c = record {
@@ -72,51 +73,52 @@ returns-then-owner g c = record {
 }
 
 pub returns-in-None : goal.returns-in-None
-returns-in-None g c = record {
-  blocks = tt;
-  claimed = tt;
-  ok = tt;
-  -- a sector that links to no place
-  err = let S = g.D.Sectors.history in
-      let old = c.chain.invariant in
-      let free : owner_of c.chain.owners c.chain.at ≡ 255 = sym c.owner.ensures ∙ c.if-owner.false in
-      let new = unclaimed c.args.owners.now c.chain.owners c.args.number _ _ old.claimed c.requires.some free in
-      unlinked-tells S c.args.disk.now c.read_sector.new.disk c.args.slot.now c.args.owners.now c.in-Some.first c.chain.at c.chain.places.items c.requires.closed
-      (named-match c.args.slot.now.bytes _ 3 _ c.new.ensures c.in-Some.ensures) old.leads old.once new
-      (nowhere-read _ _ c.chain.at c.read_sector.new.to old.passes.reads.image c.in_ok-read_sector.ensures.sector c.if-sector-eq0.false (λ h. false≢true (c.in-None.ensures.on_disk.1 h)))
-      (passes_then S c.args.disk.now c.chain.disk c.read_sector.new.disk (length c.chain.places.items) 1 732 (omega (arith, room-left c.chain.places.items c.chain.at old.once new)) old.passes (passes_read S c.chain.disk c.read_sector.new.disk c.in_ok-read_sector.ensures.reads c.in_ok-read_sector.ensures.failures));
-}
+returns-in-None g c =
+    let S = g.D.Sectors.history in
+    record {
+      blocks = tt;
+      claimed = tt;
+      ok = tt;
+      -- a sector that links to no place
+      err = let old = c.chain.invariant in
+          let free : owner_of c.chain.owners c.chain.at ≡ 255 = sym c.owner.ensures ∙ c.if-owner.false in
+          let new = unclaimed c.args.owners.now c.chain.owners c.args.number _ _ old.claimed c.requires.some free in
+          unlinked-tells S c.args.disk.now c.read_sector.new.disk c.args.slot.now c.args.owners.now c.in-Some.first c.chain.at c.chain.places.items c.requires.closed
+          (named-match c.args.slot.now.bytes _ 3 _ c.new.ensures c.in-Some.ensures) old.leads old.once new
+          (nowhere-read _ _ c.chain.at c.read_sector.new.to old.passes.reads.image c.in_ok-read_sector.ensures.sector c.if-sector-eq0.false (λ h. false≢true (c.in-None.ensures.on_disk.1 h)))
+          (passes_then S c.args.disk.now c.chain.disk c.read_sector.new.disk (length c.chain.places.items) 1 732 (omega (arith, room-left c.chain.places.items c.chain.at old.once new)) old.passes (passes_read S c.chain.disk c.read_sector.new.disk c.in_ok-read_sector.ensures.reads c.in_ok-read_sector.ensures.failures));
+    }
 
 pub returns-in_err-read_sector : goal.returns-in_err-read_sector
 returns-in_err-read_sector g c =
+    let S = g.D.Sectors.history in
     let p = err_from_is_err_and c.from_residual.result c.from_residual.ensures.1 in
     record {
       blocks = rw p.1 tt;
       claimed = rw p.1 tt;
       ok = rw p.1 tt;
-      err = let S = g.D.Sectors.history in
-          let old = c.chain.invariant in
+      err = let old = c.chain.invariant in
           let read = c.in_err-read_sector.ensures in
           let free : owner_of c.chain.owners c.chain.at ≡ 255 = sym c.owner.ensures ∙ c.if-owner.false in
           let few = room-left c.chain.places.items c.chain.at old.once (unclaimed c.args.owners.now c.chain.owners c.args.number _ _ old.claimed c.requires.some free) in
-          let p = err_from_is_err_and c.from_residual.result c.from_residual.ensures.1 in
           rw (p.1, p.2) (inl (tells_then S c.args.disk.now c.chain.disk c.read_sector.new.disk (length c.chain.places.items) 1 732 _ (omega (arith, few)) old.passes (tells_read S c.chain.disk c.read_sector.new.disk c.chain.at _ read.told read.reads read.failures read.failed)));
     }
 
 pub returns-then-sector-eq0 : goal.returns-then-sector-eq0
-returns-then-sector-eq0 g c = record {
-  blocks = let old = c.chain.invariant in
-      let free : owner_of c.chain.owners c.chain.at ≡ 255 = sym c.owner.ensures ∙ c.if-owner.false in
-      rw c.push.ensures.items (
-        c.in-Some.first,
-        named-match c.args.slot.now.bytes _ 3 _ c.new.ensures c.in-Some.ensures,
-        walk-end _ c.in-Some.first c.chain.at c.chain.places.items _ old.leads old.once (unclaimed c.args.owners.now c.chain.owners c.args.number _ _ old.claimed c.requires.some free)
-            (end-read _ _ c.chain.at c.read_sector.new.to old.passes.reads.image c.in_ok-read_sector.ensures.sector c.if-sector-eq0.true),
-      );
-  claimed = let old = c.chain.invariant in
-      let free : owner_of c.chain.owners c.chain.at ≡ 255 = sym c.owner.ensures ∙ c.if-owner.false in
-      rw c.push.ensures.items (claim-push c.args.owners.now c.chain.owners c.set.new.self c.args.number c.chain.places.items c.chain.at old.claimed (unclaimed c.args.owners.now c.chain.owners c.args.number _ _ old.claimed c.requires.some free) free c.set.ensures.here c.set.ensures.there);
-  ok = let S = g.D.Sectors.history in
-      passes_then S c.args.disk.now c.chain.disk c.read_sector.new.disk (length c.chain.places.items) 1 _ (omega (arith, c.push.ensures.len)) c.chain.invariant.passes (passes_read S c.chain.disk c.read_sector.new.disk c.in_ok-read_sector.ensures.reads c.in_ok-read_sector.ensures.failures);
-  err = tt;
-}
+returns-then-sector-eq0 g c =
+    let S = g.D.Sectors.history in
+    record {
+      blocks = let old = c.chain.invariant in
+          let free : owner_of c.chain.owners c.chain.at ≡ 255 = sym c.owner.ensures ∙ c.if-owner.false in
+          rw c.push.ensures.items (
+            c.in-Some.first,
+            named-match c.args.slot.now.bytes _ 3 _ c.new.ensures c.in-Some.ensures,
+            walk-end _ c.in-Some.first c.chain.at c.chain.places.items _ old.leads old.once (unclaimed c.args.owners.now c.chain.owners c.args.number _ _ old.claimed c.requires.some free)
+                (end-read _ _ c.chain.at c.read_sector.new.to old.passes.reads.image c.in_ok-read_sector.ensures.sector c.if-sector-eq0.true),
+          );
+      claimed = let old = c.chain.invariant in
+          let free : owner_of c.chain.owners c.chain.at ≡ 255 = sym c.owner.ensures ∙ c.if-owner.false in
+          rw c.push.ensures.items (claim-push c.args.owners.now c.chain.owners c.set.new.self c.args.number c.chain.places.items c.chain.at old.claimed (unclaimed c.args.owners.now c.chain.owners c.args.number _ _ old.claimed c.requires.some free) free c.set.ensures.here c.set.ensures.there);
+      ok = passes_then S c.args.disk.now c.chain.disk c.read_sector.new.disk (length c.chain.places.items) 1 _ (omega (arith, c.push.ensures.len)) c.chain.invariant.passes (passes_read S c.chain.disk c.read_sector.new.disk c.in_ok-read_sector.ensures.reads c.in_ok-read_sector.ensures.failures);
+      err = tt;
+    }

@@ -87,32 +87,31 @@ loop-slot-preserved g c =
 
 pub returns-in_err-read_directory : goal.returns-in_err-read_directory
 returns-in_err-read_directory g c =
+    let S = g.D.Sectors.history in
     let p = err_from_is_err_and c.from_residual.result c.from_residual.ensures.1 in
     record {
       exact = rw p.1 tt;
       layouts = rw p.1 tt;
       map = rw p.1 tt;
-      failures = let S = g.D.Sectors.history in
-          let p = err_from_is_err_and c.from_residual.result c.from_residual.ensures.1 in
-          rw (p.1, p.2) (sound-device S (Unit {0}) c.args.disk.now c.read_directory.new.disk 738 _ c.requires
+      failures = rw (p.1, p.2) (sound-device S (Unit {0}) c.args.disk.now c.read_directory.new.disk 738 _ c.requires
           (directory-tells S (Unit {0}) c.args.disk.now c.read_directory.new.disk _ c.in_err-read_directory.ensures.reads c.in_err-read_directory.ensures.failures c.in_err-read_directory.ensures.err));
-      mends = mends_read g.D.Sectors.history c.args.disk.now c.read_directory.new.disk 18 864 c.in_err-read_directory.ensures.reads;
-      over = λ l h. over_none g.D.Sectors.history (IsRight l) (sides_of l.files) c.args.disk.now c.read_directory.new.disk 18 c.in_err-read_directory.ensures.reads;
+      mends = mends_read S c.args.disk.now c.read_directory.new.disk 18 864 c.in_err-read_directory.ensures.reads;
+      over = λ l h. over_none S (IsRight l) (sides_of l.files) c.args.disk.now c.read_directory.new.disk 18 c.in_err-read_directory.ensures.reads;
       made = rw p.1 tt;
-      quiet = λ exact. reads_no_write g.D.Sectors.history c.args.disk.now c.read_directory.new.disk 18 c.in_err-read_directory.ensures.reads;
+      quiet = λ exact. reads_no_write S c.args.disk.now c.read_directory.new.disk 18 c.in_err-read_directory.ensures.reads;
     }
 
 pub returns-in_err-mend_relative : goal.returns-in_err-mend_relative
 returns-in_err-mend_relative g c =
+    let S = g.D.Sectors.history in
     let p = err_from_is_err_and c.from_residual-in_err-mend_relative.result c.from_residual-in_err-mend_relative.ensures.1 in
     record {
       exact = rw p.1 tt;
       layouts = rw p.1 tt;
       map = rw p.1 tt;
-      failures = rw (p.1, p.2) (device_later g.D.Sectors.history (Unit {0}) c.args.disk.now c.loop-slot.disk c.mend_relative.new.disk (Err _) c.loop-slot.invariant.failures c.in_err-mend_relative.ensures.failures);
-      mends = mends_then g.D.Sectors.history c.args.disk.now c.loop-slot.disk c.mend_relative.new.disk _ 6 864 (omega (arith, c.loop-slot-test.true, c.as_slice-slot-items.ensures.fits)) c.loop-slot.invariant.mends c.in_err-mend_relative.ensures.mends;
+      failures = rw (p.1, p.2) (device_later S (Unit {0}) c.args.disk.now c.loop-slot.disk c.mend_relative.new.disk (Err _) c.loop-slot.invariant.failures c.in_err-mend_relative.ensures.failures);
+      mends = mends_then S c.args.disk.now c.loop-slot.disk c.mend_relative.new.disk _ 6 864 (omega (arith, c.loop-slot-test.true, c.as_slice-slot-items.ensures.fits)) c.loop-slot.invariant.mends c.in_err-mend_relative.ensures.mends;
       over = λ l h.
-          let S = g.D.Sectors.history in
           let n = c.loop-slot.slot-index in
           let d = c.in_ok-read_directory.ensures.ok in
           let items = c.as_slice-slot-items.result.now in
@@ -122,25 +121,25 @@ returns-in_err-mend_relative g c =
           over_files S c.args.disk.now c.mend_relative.new.disk (n + 1) (IsRight l) l.files (file_over S c.args.disk.now l h n f there c.loop-slot.disk c.mend_relative.new.disk (old.made l h) (old.over l h) here);
       made = rw p.1 tt;
       quiet = λ exact.
-          let S = g.D.Sectors.history in
           let so_far = c.loop-slot.invariant.quiet exact in
           no_write_then S c.args.disk.now c.loop-slot.disk c.mend_relative.new.disk so_far (c.in_err-mend_relative.ensures.quiet (exact-same _ _ c.slot-item.result so_far.image exact));
     }
 
 pub returns : goal.returns
-returns g c = record {
-  exact = let d = c.in_ok-read_directory.ensures.ok in
-      exact-entries _ _ d.0 c.as_slice-slot-items.result.now c.loop-slot.slot-index (listed-as _ d.0 c.read_directory.new.slots.items c.as_slice-slot-items.result.now c.as_slice-slot-items.ensures.value d.1) c.loop-slot-test.false c.loop-slot.invariant.exact;
-  layouts = c.loop-slot.invariant.layouts;
-  map = c.loop-slot.invariant.map;
-  failures = c.loop-slot.invariant.failures;
-  mends = mends_weaker g.D.Sectors.history c.args.disk.now c.loop-slot.disk _ 864 (omega (arith, c.loop-slot.auto, c.as_slice-slot-items.ensures.fits)) c.loop-slot.invariant.mends;
-  over = λ l h. over_files g.D.Sectors.history c.args.disk.now c.loop-slot.disk c.loop-slot.slot-index (IsRight l) l.files (c.loop-slot.invariant.over l h);
-  made = λ l h.
-      let S = g.D.Sectors.history in
-      let d = c.in_ok-read_directory.ensures.ok in
-      let items = c.as_slice-slot-items.result.now in
-      let P : List Place → Type 0 = λ xs. AreMade (IsRight l) xs (S.image c.args.disk.now) (S.image c.loop-slot.disk) in
-      subst P (sides-all _ l d.0 items c.loop-slot.slot-index h (listed-as _ d.0 c.read_directory.new.slots.items items c.as_slice-slot-items.ensures.value d.1) c.loop-slot-test.false) (c.loop-slot.invariant.made l h);
-  quiet = c.loop-slot.invariant.quiet;
-}
+returns g c =
+    let S = g.D.Sectors.history in
+    record {
+      exact = let d = c.in_ok-read_directory.ensures.ok in
+          exact-entries _ _ d.0 c.as_slice-slot-items.result.now c.loop-slot.slot-index (listed-as _ d.0 c.read_directory.new.slots.items c.as_slice-slot-items.result.now c.as_slice-slot-items.ensures.value d.1) c.loop-slot-test.false c.loop-slot.invariant.exact;
+      layouts = c.loop-slot.invariant.layouts;
+      map = c.loop-slot.invariant.map;
+      failures = c.loop-slot.invariant.failures;
+      mends = mends_weaker S c.args.disk.now c.loop-slot.disk _ 864 (omega (arith, c.loop-slot.auto, c.as_slice-slot-items.ensures.fits)) c.loop-slot.invariant.mends;
+      over = λ l h. over_files S c.args.disk.now c.loop-slot.disk c.loop-slot.slot-index (IsRight l) l.files (c.loop-slot.invariant.over l h);
+      made = λ l h.
+          let d = c.in_ok-read_directory.ensures.ok in
+          let items = c.as_slice-slot-items.result.now in
+          let P : List Place → Type 0 = λ xs. AreMade (IsRight l) xs (S.image c.args.disk.now) (S.image c.loop-slot.disk) in
+          subst P (sides-all _ l d.0 items c.loop-slot.slot-index h (listed-as _ d.0 c.read_directory.new.slots.items items c.as_slice-slot-items.ensures.value d.1) c.loop-slot-test.false) (c.loop-slot.invariant.made l h);
+      quiet = c.loop-slot.invariant.quiet;
+    }

@@ -26,27 +26,25 @@ write_other-requires g c =
     c.in_ok-read_sector.ensures.sector ∙ ap (λ (i : Image). sector i c.args.place) (sym (c.in_ok-recount_sector.ensures.ok.reads.image ∙ c.read_sector.ensures.reads.image))
 
 pub returns : goal.returns
-returns g c = record {
-  right = let S = g.D.Sectors.history in
-      let now = c.in_ok-recount_sector.ensures in
-      let P : Image → Type 0 = λ i. AreRightIn i c.args.place c.recount_sector.new.bytes in
-      on_ok c.write_other.result _ _ (λ h. right_written S c.args.disk.now c.recount_sector.new.disk _ c.args.place c.recount_sector.new.bytes (now.ok.reads.image ∙ c.read_sector.ensures.reads.image) h (subst P (sym now.ok.reads.image) now.right)) c.write_other.ensures.write.ok;
-  moments = let S = g.D.Sectors.history in
-      let now = c.in_ok-recount_sector.ensures in
-      let reads = reads_then S c.args.disk.now c.read_sector.new.disk c.recount_sector.new.disk 1 5856 5857 (omega arith) c.read_sector.ensures.reads now.ok.reads in
-      write_moment S c.args.disk.now c.recount_sector.new.disk c.write_other.new.disk 5857 c.args.place c.recount_sector.new.bytes reads (write_changes S c.recount_sector.new.disk c.write_other.new.disk c.args.place c.recount_sector.new.bytes _ c.write_other.result c.write_other.ensures.write)
-      (mended-read S c.args.disk.now c.read_sector.new.disk c.args.place c.read_sector.new.to c.recount_sector.new.bytes c.read_sector.ensures.reads.image c.in_ok-read_sector.ensures.sector now.counts now.kept now.right);
-  once = let S = g.D.Sectors.history in
-      let reads = reads_then S c.args.disk.now c.read_sector.new.disk c.recount_sector.new.disk 1 5856 5857 (omega arith) c.read_sector.ensures.reads c.in_ok-recount_sector.ensures.ok.reads in
-      other_later S c.args.disk.now c.recount_sector.new.disk c.write_other.new.disk 5857 c.args.place reads c.write_other.ensures.once;
-  quiet = λ right.
-      let S = g.D.Sectors.history in
-      let now = c.in_ok-recount_sector.ensures in
-      let reads = reads_then S c.args.disk.now c.read_sector.new.disk c.recount_sector.new.disk 1 5856 5857 (omega arith) c.read_sector.ensures.reads now.ok.reads in
-      let kept = now.kept (right_read S c.args.disk.now c.read_sector.new.disk c.args.place c.read_sector.new.to c.read_sector.ensures.reads.image c.in_ok-read_sector.ensures.sector right) in
-      no_write_then S c.args.disk.now c.recount_sector.new.disk c.write_other.new.disk (reads_no_write S _ _ 5857 reads) (c.write_other.ensures.quiet (sym kept));
-  failures = device_later g.D.Sectors.history (Unit {0}) c.args.disk.now c.recount_sector.new.disk c.write_other.new.disk c.write_other.result (c.in_ok-recount_sector.ensures.ok.failures ∙ c.in_ok-read_sector.ensures.failures) (write_device g.D.Sectors.history (Unit {0}) c.recount_sector.new.disk c.write_other.new.disk c.args.place c.recount_sector.new.bytes c.write_other.result c.write_other.ensures.write);
-}
+returns g c =
+    let S = g.D.Sectors.history in
+    record {
+      right = let now = c.in_ok-recount_sector.ensures in
+          let P : Image → Type 0 = λ i. AreRightIn i c.args.place c.recount_sector.new.bytes in
+          on_ok c.write_other.result _ _ (λ h. right_written S c.args.disk.now c.recount_sector.new.disk _ c.args.place c.recount_sector.new.bytes (now.ok.reads.image ∙ c.read_sector.ensures.reads.image) h (subst P (sym now.ok.reads.image) now.right)) c.write_other.ensures.write.ok;
+      moments = let now = c.in_ok-recount_sector.ensures in
+          let reads = reads_then S c.args.disk.now c.read_sector.new.disk c.recount_sector.new.disk 1 5856 5857 (omega arith) c.read_sector.ensures.reads now.ok.reads in
+          write_moment S c.args.disk.now c.recount_sector.new.disk c.write_other.new.disk 5857 c.args.place c.recount_sector.new.bytes reads (write_changes S c.recount_sector.new.disk c.write_other.new.disk c.args.place c.recount_sector.new.bytes _ c.write_other.result c.write_other.ensures.write)
+          (mended-read S c.args.disk.now c.read_sector.new.disk c.args.place c.read_sector.new.to c.recount_sector.new.bytes c.read_sector.ensures.reads.image c.in_ok-read_sector.ensures.sector now.counts now.kept now.right);
+      once = let reads = reads_then S c.args.disk.now c.read_sector.new.disk c.recount_sector.new.disk 1 5856 5857 (omega arith) c.read_sector.ensures.reads c.in_ok-recount_sector.ensures.ok.reads in
+          other_later S c.args.disk.now c.recount_sector.new.disk c.write_other.new.disk 5857 c.args.place reads c.write_other.ensures.once;
+      quiet = λ right.
+          let now = c.in_ok-recount_sector.ensures in
+          let reads = reads_then S c.args.disk.now c.read_sector.new.disk c.recount_sector.new.disk 1 5856 5857 (omega arith) c.read_sector.ensures.reads now.ok.reads in
+          let kept = now.kept (right_read S c.args.disk.now c.read_sector.new.disk c.args.place c.read_sector.new.to c.read_sector.ensures.reads.image c.in_ok-read_sector.ensures.sector right) in
+          no_write_then S c.args.disk.now c.recount_sector.new.disk c.write_other.new.disk (reads_no_write S _ _ 5857 reads) (c.write_other.ensures.quiet (sym kept));
+      failures = device_later S (Unit {0}) c.args.disk.now c.recount_sector.new.disk c.write_other.new.disk c.write_other.result (c.in_ok-recount_sector.ensures.ok.failures ∙ c.in_ok-read_sector.ensures.failures) (write_device S (Unit {0}) c.recount_sector.new.disk c.write_other.new.disk c.args.place c.recount_sector.new.bytes c.write_other.result c.write_other.ensures.write);
+    }
 
 pub returns-in_err-read_sector : goal.returns-in_err-read_sector
 returns-in_err-read_sector g c =
@@ -61,18 +59,17 @@ returns-in_err-read_sector g c =
     }
 
 pub returns-in_err-recount_sector : goal.returns-in_err-recount_sector
-returns-in_err-recount_sector g c = record {
-  right = let p = err_from_is_err_and c.from_residual-in_err-recount_sector.result c.from_residual-in_err-recount_sector.ensures.1 in
-      rw p.1 tt;
-  moments = let S = g.D.Sectors.history in
-      reads_moment S c.args.disk.now c.recount_sector.new.disk 5857 c.args.place (reads_then S c.args.disk.now c.read_sector.new.disk c.recount_sector.new.disk 1 5856 5857 (omega arith) c.read_sector.ensures.reads c.in_err-recount_sector.ensures.err.reads);
-  once = inl (c.in_err-recount_sector.ensures.err.reads.writes ∙ c.read_sector.ensures.reads.writes);
-  quiet = λ right.
-      let S = g.D.Sectors.history in
-      reads_no_write S c.args.disk.now c.recount_sector.new.disk 5857 (reads_then S c.args.disk.now c.read_sector.new.disk c.recount_sector.new.disk 1 5856 5857 (omega arith) c.read_sector.ensures.reads c.in_err-recount_sector.ensures.err.reads);
-  failures = let S = g.D.Sectors.history in
-      let p = err_from_is_err_and c.from_residual-in_err-recount_sector.result c.from_residual-in_err-recount_sector.ensures.1 in
-      let P : Image → Type 0 = IsSound in
-      rw (p.1, p.2) (device_later S (Unit {0}) c.args.disk.now c.read_sector.new.disk c.recount_sector.new.disk (Err _) c.in_ok-read_sector.ensures.failures
-      (sound-device S (Unit {0}) c.read_sector.new.disk c.recount_sector.new.disk 5856 _ (subst P (sym c.read_sector.ensures.reads.image) c.requires.sound) c.in_err-recount_sector.ensures.err));
-}
+returns-in_err-recount_sector g c =
+    let S = g.D.Sectors.history in
+    record {
+      right = let p = err_from_is_err_and c.from_residual-in_err-recount_sector.result c.from_residual-in_err-recount_sector.ensures.1 in
+          rw p.1 tt;
+      moments = reads_moment S c.args.disk.now c.recount_sector.new.disk 5857 c.args.place (reads_then S c.args.disk.now c.read_sector.new.disk c.recount_sector.new.disk 1 5856 5857 (omega arith) c.read_sector.ensures.reads c.in_err-recount_sector.ensures.err.reads);
+      once = inl (c.in_err-recount_sector.ensures.err.reads.writes ∙ c.read_sector.ensures.reads.writes);
+      quiet = λ right.
+          reads_no_write S c.args.disk.now c.recount_sector.new.disk 5857 (reads_then S c.args.disk.now c.read_sector.new.disk c.recount_sector.new.disk 1 5856 5857 (omega arith) c.read_sector.ensures.reads c.in_err-recount_sector.ensures.err.reads);
+      failures = let p = err_from_is_err_and c.from_residual-in_err-recount_sector.result c.from_residual-in_err-recount_sector.ensures.1 in
+          let P : Image → Type 0 = IsSound in
+          rw (p.1, p.2) (device_later S (Unit {0}) c.args.disk.now c.read_sector.new.disk c.recount_sector.new.disk (Err _) c.in_ok-read_sector.ensures.failures
+          (sound-device S (Unit {0}) c.read_sector.new.disk c.recount_sector.new.disk 5856 _ (subst P (sym c.read_sector.ensures.reads.image) c.requires.sound) c.in_err-recount_sector.ensures.err));
+    }

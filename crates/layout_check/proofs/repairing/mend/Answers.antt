@@ -29,20 +29,19 @@ returns-in_err-mend_map g c =
 
 pub returns-in_err-mend_entries : goal.returns-in_err-mend_entries
 returns-in_err-mend_entries g c =
+    let S = g.D.Sectors.history in
     let p = err_from_is_err_and c.from_residual-in_err-mend_entries.result c.from_residual-in_err-mend_entries.ensures.1 in
     record {
       clean = rw p.1 tt;
-      moments = let S = g.D.Sectors.history in
-          mends_from S _ _ 865 (omega arith) (mends_then S _ _ _ 1 864 865 (omega arith) c.mend_map.ensures.mends c.mend_entries.ensures.mends);
+      moments = mends_from S _ _ 865 (omega arith) (mends_then S _ _ _ 1 864 865 (omega arith) c.mend_map.ensures.mends c.mend_entries.ensures.mends);
       order = λ l is.
-          order_sides g.D.Sectors.history l _ _ _ is (c.mend_map.ensures.over l is) (c.in_ok-mend_map.ensures.made l is)
+          order_sides S l _ _ _ is (c.mend_map.ensures.over l is) (c.in_ok-mend_map.ensures.made l is)
           (c.mend_entries.ensures.over l (c.in_ok-mend_map.ensures.layouts l is));
       spare = let (l, is, of) = c.requires in
           let after_map = c.in_ok-mend_map.ensures.layouts l is in
-          spare_sides g.D.Sectors.history l _ _ _ after_map c.mend_map.ensures.spare (c.mend_entries.ensures.over l after_map);
-      failures = rw (p.1, p.2) (device_later g.D.Sectors.history (Unit {0}) c.args.disk.now c.mend_map.new.disk c.mend_entries.new.disk (Err _) c.in_ok-mend_map.ensures.failures c.in_err-mend_entries.ensures.failures);
+          spare_sides S l _ _ _ after_map c.mend_map.ensures.spare (c.mend_entries.ensures.over l after_map);
+      failures = rw (p.1, p.2) (device_later S (Unit {0}) c.args.disk.now c.mend_map.new.disk c.mend_entries.new.disk (Err _) c.in_ok-mend_map.ensures.failures c.in_err-mend_entries.ensures.failures);
       quiet = λ clean.
-          let S = g.D.Sectors.history in
           let first = c.mend_map.ensures.quiet (clean-map _ clean) in
           no_write_then S _ _ _ first (c.mend_entries.ensures.quiet (sides-at _ _ first.image clean));
     }

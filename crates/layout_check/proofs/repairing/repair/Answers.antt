@@ -30,37 +30,38 @@ pub returns-in_err-found-clause-order : goal.returns-in_err-found-clause-order
 returns-in_err-found-clause-order g c l is = over_none g.D.Sectors.history (IsRight l) (repair_order l) _ _ 2114 c.survey.ensures.reads
 
 pub returns : goal.returns
-returns g c = record {
-  -- mended
-  ok = repaired_after g.D.Sectors.history _ _ _ _ 2114 c.survey.ensures.reads c.in_ok-mend.ensures.clean;
-  err = tt;
-  sound = λ never. let l = c.in_ok-found.ensures.ok in (λ _. (l.0, l.1), λ _. refl);
-  moments = mends_after g.D.Sectors.history _ _ _ 2114 c.in_ok-found.ensures.reads c.mend.ensures.moments;
-  order = λ l is. order_after g.D.Sectors.history l _ _ _ 2114 is c.survey.ensures.reads c.mend.ensures.order;
-  spare = spare_after g.D.Sectors.history _ _ _ 2114 c.survey.ensures.reads c.mend.ensures.spare;
-  unsound = λ not_sound. let l = c.in_ok-found.ensures.ok in absurd (not_sound (l.0, l.1));
-  quiet = λ clean.
-      let S = g.D.Sectors.history in
-      let reads = c.in_ok-found.ensures.reads in
-      no_write_then S _ _ _ (reads_no_write S _ _ 2114 reads) (c.mend.ensures.quiet (clean_after S _ _ 2114 reads clean));
-  failures = c.in_ok-mend.ensures.failures ∙ c.in_ok-found.ensures.failures;
-}
+returns g c =
+    let S = g.D.Sectors.history in
+    record {
+      -- mended
+      ok = repaired_after S _ _ _ _ 2114 c.survey.ensures.reads c.in_ok-mend.ensures.clean;
+      err = tt;
+      sound = λ never. let l = c.in_ok-found.ensures.ok in (λ _. (l.0, l.1), λ _. refl);
+      moments = mends_after S _ _ _ 2114 c.in_ok-found.ensures.reads c.mend.ensures.moments;
+      order = λ l is. order_after S l _ _ _ 2114 is c.survey.ensures.reads c.mend.ensures.order;
+      spare = spare_after S _ _ _ 2114 c.survey.ensures.reads c.mend.ensures.spare;
+      unsound = λ not_sound. let l = c.in_ok-found.ensures.ok in absurd (not_sound (l.0, l.1));
+      quiet = λ clean.
+          let reads = c.in_ok-found.ensures.reads in
+          no_write_then S _ _ _ (reads_no_write S _ _ 2114 reads) (c.mend.ensures.quiet (clean_after S _ _ 2114 reads clean));
+      failures = c.in_ok-mend.ensures.failures ∙ c.in_ok-found.ensures.failures;
+    }
 
 pub returns-in_err-mend : goal.returns-in_err-mend
 returns-in_err-mend g c =
+    let S = g.D.Sectors.history in
     let p = err_from_is_err_and c.from_residual-in_err-mend.result c.from_residual-in_err-mend.ensures.1 in
     record {
       ok = rw p.1 tt;
       -- a failure while it is mended
-      err = rw (p.1, p.2) (device_holds g.D.Sectors.history _ _ _ _ c.in_err-mend.ensures.failures);
-      sound = λ never. absurd (device_sound g.D.Sectors.history _ _ _ _ c.in_ok-found.ensures.failures c.in_err-mend.ensures.failures never);
-      moments = mends_after g.D.Sectors.history _ _ _ 2114 c.in_ok-found.ensures.reads c.mend.ensures.moments;
-      order = λ l is. order_after g.D.Sectors.history l _ _ _ 2114 is c.survey.ensures.reads c.mend.ensures.order;
-      spare = spare_after g.D.Sectors.history _ _ _ 2114 c.survey.ensures.reads c.mend.ensures.spare;
+      err = rw (p.1, p.2) (device_holds S _ _ _ _ c.in_err-mend.ensures.failures);
+      sound = λ never. absurd (device_sound S _ _ _ _ c.in_ok-found.ensures.failures c.in_err-mend.ensures.failures never);
+      moments = mends_after S _ _ _ 2114 c.in_ok-found.ensures.reads c.mend.ensures.moments;
+      order = λ l is. order_after S l _ _ _ 2114 is c.survey.ensures.reads c.mend.ensures.order;
+      spare = spare_after S _ _ _ 2114 c.survey.ensures.reads c.mend.ensures.spare;
       unsound = λ not_sound. let l = c.in_ok-found.ensures.ok in absurd (not_sound (l.0, l.1));
       quiet = λ clean.
-          let S = g.D.Sectors.history in
           let reads = c.in_ok-found.ensures.reads in
           no_write_then S _ _ _ (reads_no_write S _ _ 2114 reads) (c.mend.ensures.quiet (clean_after S _ _ 2114 reads clean));
-      failures = rw (p.1, p.2) (device_tells g.D.Sectors.history Survey _ _ _ _ c.in_ok-found.ensures.failures c.in_err-mend.ensures.failures);
+      failures = rw (p.1, p.2) (device_tells S Survey _ _ _ _ c.in_ok-found.ensures.failures c.in_err-mend.ensures.failures);
     }
