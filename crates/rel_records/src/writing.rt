@@ -98,6 +98,7 @@ fn write_in_block<D: Sectors>(
 
 /// Writes the text into a record that is there, where it goes on behind the block at `place`, the one with this number, from
 /// 0, in which the position lies: first the part in that block, then the rest.
+// Out of line, since few records lie in two blocks.
 #[inline(never)]
 fn write_across<D: Sectors>(
     disk: &mut D,
