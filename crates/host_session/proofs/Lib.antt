@@ -44,3 +44,4 @@ pub mod RunOpenings
 pub mod Reports
 pub mod PlainRuns
 pub mod RunExamples
+pub mod ScriptFaults

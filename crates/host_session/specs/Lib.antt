@@ -19,3 +19,4 @@ pub mod Counted
 pub mod OneEvent
 pub mod Runs
 pub mod Faults
+pub mod ScriptRuns

@@ -1,25 +1,16 @@
 //! Runs of scripts.
-ghost use Rattle.std.specs.Prelude.{◌≡◌, ◌⊎◌, ◌++◌, ℕ, Err, IfErr, IfOk, List, OnOk, Some, [], codes};
+ghost use Rattle.std.specs.Prelude.{◌≡◌, ◌++◌, OnOk, codes};
 ghost use Rattle.std.specs.Io.KnownBytes.{Appends};
-ghost use Rattle.d64_image.specs.History.{Failed, NeverFailed};
-ghost use Rattle.host_session.specs.Events.{HasNoReset, messages_of, requests_of};
 ghost use Rattle.host_session.specs.Faults.{script_number};
-ghost use Rattle.host_session.specs.Opening.{IsAShop, disk_of};
-ghost use Rattle.host_session.specs.Runs.{HeldBeginnings, IsPlayedWhole, IsPrintedUpToLast, IsRefused, StoppedByDevice, StoppedByOutput};
-ghost use Rattle.host_session.specs.Shop.{IsSettled, IsShop, Shop, start_of, with_state};
-ghost use Rattle.host_session.specs.declared.faults.OpenFault.{OpenFault};
-ghost use Rattle.request_cards.specs.Ledgers.{plain, replies, report};
+ghost use Rattle.host_session.specs.ScriptRuns.{IsScriptRun};
 ghost use Rattle.request_cards.specs.Texts.{reply_text};
-ghost use Rattle.request_cards.specs.declared.reply.Reply.{Reply};
-ghost use Rattle.script_lines.specs.Lines.{lines};
-ghost use Rattle.script_lines.specs.Resets.{first_bad};
 
 use crate::cutting::{cut_event, is_media, whole_message};
 use crate::faults::OpenFault;
 use crate::session::Session;
 use d64_image::Sectors;
 use request_cards::Reply;
-use script_lines::{event_at, first_bad_line, next_line};
+use script_lines::{event_at, first_bad_line, first_reset_line, next_line};
 use std::io::Write;
 use thiserror::Error;
 
@@ -66,50 +57,15 @@ fn put_line<W: Write>(out: &mut W, reply: Reply) -> Result<(), ()>
     Ok(())
 }
 
-/// Plays the lines of a script one after another, as `play` plays events, and writes each reply on a line of its own
-/// before the next line is played.
-///
-/// All lines are judged before anything else is done. It takes no memory. After `Output` the lines handled stand, the
-/// one whose reply couldn't be written among them. Where the device failed, the last reply is handed to the output before
-/// `Device` is told, and whether that took it isn't.
-pub fn run_script<D: Sectors, W: Write>(
+/// Plays the lines of any script, those with resets among them.
+// Out of line: a call takes the room of all its sessions at once, and a script without a reset has use for one alone.
+#[inline(never)]
+fn run_with_resets<D: Sectors, W: Write>(
     disk: D,
     script: &[u8],
     out: &mut W,
 ) -> Result<D, (ScriptFault, D)>
-    // A bad line is told exactly where there is one, it is the first, and then nothing was done.
-    ensures bad_line { (n : ℕ) → first_bad (lines script.now) ≡ Some n
-        → (result ≡ Err (ScriptFault.BadLine n, disk)) × (out.new ≡ out.old) }
-    ensures good { IfErr result (λ e. (n : ℕ) → e.0 ≡ ScriptFault.BadLine n → first_bad (lines script.now) ≡ Some n) }
-    // A shop alone is played.
-    ensures shop { IfOk result (λ _. IsAShop (D.history.image disk)) }
-    // At Ok each line has its reply, over what counted before it, the shop is settled, and the replies were written.
-    ensures ok { (s : Shop) → IsShop (D.history.image disk) s → IfOk result (λ d.
-        (told : List Reply) × Appends (W.contents out.old) (W.contents out.new) (report told)
-        × IsPlayedWhole D.history s (messages_of (lines script.now)) disk d told) }
-    // Where no line begins with @, each line has its reply over the lines before it, and each counts.
-    ensures without_resets { (s : Shop) → IsShop (D.history.image disk) s → HasNoReset (lines script.now) → IfOk result (λ d.
-        Appends (W.contents out.old) (W.contents out.new) (report (replies (start_of s) [] (lines script.now)))
-        × IsSettled (D.history.image d) (with_state s (plain (start_of s) (requests_of (lines script.now))))) }
-    // The output failed: this holds of the lines handled, the last of which has the reply that couldn't be written; those
-    // before it were.
-    ensures output { (s : Shop) → IsShop (D.history.image disk) s → IfErr result (λ e. e.0 ≡ ScriptFault.Output
-        → (told : List Reply) × IsPrintedUpToLast W.contents out.old told × StoppedByOutput D.history s (messages_of (lines script.now)) disk e.1 told) }
-    // The device failed: it failed in the last line handled. The replies before the last one were written.
-    ensures device { (s : Shop) → IsShop (D.history.image disk) s → IfErr result (λ e. e.0 ≡ ScriptFault.Device
-        → (told : List Reply) × IsPrintedUpToLast W.contents out.old told × StoppedByDevice D.history s (messages_of (lines script.now)) disk e.1 told) }
-    // At each moment the shop is that of a counted list of some beginning of the lines.
-    ensures moments { (s : Shop) → IsShop (D.history.image disk) s
-        → HeldBeginnings D.history s (messages_of (lines script.now)) disk (disk_of (λ d. d) result) }
-    // On a shop whose device doesn't fail it answers Ok, unless a line is bad or the output fails.
-    ensures plays { IsAShop (D.history.image disk) → NeverFailed D.history disk (disk_of (λ d. d) result)
-        → IfErr result (λ e. ((n : ℕ) × (e.0 ≡ ScriptFault.BadLine n)) ⊎ (e.0 ≡ ScriptFault.Output)) }
-    // What an opening refuses is handed on; the device and the output are told of on a shop alone, and the device where
-    // it failed.
-    ensures open { IfErr result
-        (λ e. (f : OpenFault) → e.0 ≡ ScriptFault.Open f → IsRefused D.history disk f e.1 × (out.new ≡ out.old)) }
-    ensures cause { IfErr result (λ e. e.0 ≡ ScriptFault.Device → IsAShop (D.history.image disk) × Failed D.history disk e.1) }
-    ensures after { IfErr result (λ e. e.0 ≡ ScriptFault.Output → IsAShop (D.history.image disk)) }
+    ensures { IsScriptRun D.history W.contents disk script.now out.old out.new result }
 {
     if let Some(line) = first_bad_line(script) {
         return Err((ScriptFault::BadLine(line), disk));
@@ -146,6 +102,42 @@ pub fn run_script<D: Sectors, W: Write>(
             Err(()) => return Err((ScriptFault::Output, session.close())),
         }
         rest = more;
+    }
+    Ok(session.close())
+}
+
+/// Plays the lines of a script one after another, as `play` plays events, and writes each reply on a line of its own
+/// before the next line is played. What comes of it are the clauses of `IsScriptRun`.
+///
+/// All lines are judged before anything else is done. It takes no memory. After `Output` the lines handled stand, the
+/// one whose reply couldn't be written among them. Where the device failed, the last reply is handed to the output before
+/// `Device` is told, and whether that took it isn't.
+pub fn run_script<D: Sectors, W: Write>(
+    disk: D,
+    script: &[u8],
+    out: &mut W,
+) -> Result<D, (ScriptFault, D)>
+    ensures { IsScriptRun D.history W.contents disk script.now out.old out.new result }
+{
+    if first_reset_line(script).is_some() {
+        return run_with_resets(disk, script, out);
+    }
+    let mut session = match Session::open(disk) {
+        Ok(session) => session,
+        Err((fault, disk)) => return Err((ScriptFault::Open(fault), disk)),
+    };
+    let mut left = script;
+    while let Some((line, more)) = next_line(left) {
+        let reply = whole_message(&mut session, line);
+        let written = put_line(out, reply);
+        if is_media(reply) {
+            return Err((ScriptFault::Device, session.close()));
+        }
+        match written {
+            Ok(()) => {}
+            Err(()) => return Err((ScriptFault::Output, session.close())),
+        }
+        left = more;
     }
     Ok(session.close())
 }

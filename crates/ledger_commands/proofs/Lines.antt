@@ -1,5 +1,5 @@
 -- The lines of 1 to n, one more.
-use Rattle.std.proofs.Common.{◌≡◌, ℕ, suc, List, [], Option, ◌+◌, ◌++◌, ◌≤◌, ap, drop, length, subst, sym, arith, ◌∙◌}
+use Rattle.std.proofs.Common.{◌≡◌, ℕ, suc, List, Option, ◌+◌, ◌++◌, ◌≤◌, ap, drop, length, subst, sym, arith, ◌∙◌}
 use Rattle.std.proofs.lemmas.List.{append_assoc, append-nil}
 use Rattle.std.proofs.Math.ListN.{drop_of_length-le}
 use Rattle.std.specs.Io.KnownBytes.{Appends}

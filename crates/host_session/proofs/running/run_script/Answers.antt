@@ -1,41 +1,38 @@
--- Line by line.
-use Rattle.std.proofs.Common.{◌≡◌, ◌≤◌, ◌∙◌, ◌++◌, List, [], None, false, refl, sym, subst, ap, arith, le_refl, Err, ℕ, inl, inr, Some}
-use Rattle.std.specs.Prelude.{OnOk, codes, option_map}
+-- Line by line, none of which has a reset.
+use Rattle.std.proofs.Common.{◌≡◌, ◌≤◌, ◌∙◌, ◌++◌, ℕ, List, [], Option, None, Some, false, inr, refl, sym, subst, ap, arith}
+use Rattle.std.specs.Prelude.{OnOk, codes, is_some}
 use Rattle.std.specs.Io.KnownBytes.{Appends}
 use Rattle.std.proofs.KnownBytes.{Appends-nil}
-use Rattle.d64_image.proofs.Moments.{never_failed, start}
+use Rattle.d64_image.proofs.Moments.{never_failed}
 use Rattle.request_cards.specs.Ledgers.{plain, report}
-use Rattle.script_lines.specs.Lines.{lines}
+use Rattle.script_lines.specs.Lines.{first_reset, lines}
+use Rattle.script_lines.specs.Resets.{first_bad}
 use Rattle.std.proofs.lemmas.Bool.{false≢true}
 use Rattle.d64_image.specs.History.{Failed}
 use Rattle.request_cards.specs.Texts.{reply_text}
 use Rattle.request_cards.specs.declared.reply.Reply.{Reply}
-use Rattle.request_cards.specs.declared.reply.Reply.TheVariants.{Cut}
-use Rattle.script_lines.specs.Resets.{first_bad, line_in}
 use Rattle.host_session.proofs.EventRuns.{PlayedBut, all_played, failed, last, more, unwritten}
-use Rattle.host_session.proofs.PlainRuns.{plain_played}
-use Rattle.host_session.proofs.Reports.{good_line, messages_next, printed_up_to, written_more}
-use Rattle.host_session.specs.OneEvent.{EndsFailed, GoesOn, IsEvent}
-use Rattle.host_session.specs.Standing.{View}
+use Rattle.host_session.proofs.PlainRuns.{none_bad, plain_next, plain_played}
+use Rattle.host_session.proofs.Reports.{printed_up_to, written_more}
+use Rattle.host_session.specs.OneEvent.{EndsFailed, IsEvent}
 use Rattle.host_session.proofs.running.run_script.Given.{Over}
-use Rattle.host_session.proofs.RunOpenings.{is_cut, is_uncut, opening_failed, opening_later, opening_refused}
+use Rattle.host_session.proofs.RunOpenings.{opening_failed, opening_later, opening_refused}
 use Rattle.host_session.proofs.Runs.{HasPlayed, held_none, none_played}
 use Rattle.host_session.proofs.Shops.{IsShop-one}
-use Rattle.host_session.specs.Events.{cut_at, message_of, messages_of, requests_of, uncut}
+use Rattle.host_session.specs.Events.{messages_of, requests_of, uncut}
 use Rattle.host_session.specs.Runs.{HeldBeginnings, IsPlayedWhole, IsPrintedUpToLast, IsRefused, StoppedByDevice, StoppedByOutput}
 use Rattle.host_session.specs.Shop.{IsSettled, IsShop, Shop, start_of, with_state}
-use Rattle.host_session.specs.declared.faults.OpenFault.{OpenFault}
-use Rattle.host_session.specs.declared.faults.OpenFault.TheVariants as faults
-use Rattle.host_session.specs.declared.running.ScriptFault.{ScriptFault}
-use Rattle.host_session.specs.declared.running.ScriptFault.TheVariants as ends
-use Rattle.std.proofs.lemmas.Option.{none-some, same_Some}
+use Rattle.std.proofs.lemmas.Option.{none-some}
+use Rattle.host_session.proofs.ScriptFaults.{device-line, device-open, device-output, open-device, open-line, open-output, opened_with, output-device, output-line, output-open}
 use Rattle.host_session.proofs.running.run_script.Goals as goal
-use Rattle.host_session.proofs.running.run_script.Goals.{in-None+else-is_media, in-Some-cut+in-Ok-next}
 
--- the fault of an opening
-abbrev opened_with : ScriptFault → OpenFault
-opened_with (ends.Open f) = f
-opened_with _ = faults.Device
+not_some : (o : Option ℕ) → is_some o ≡ false → o ≡ None
+not_some None e = refl
+not_some (Some n) e = cc
+
+-- a script in which no line begins with @ has no bad line
+no_bad : (ls : List (List ℕ)) (o : Option ℕ) → o ≡ first_reset ls → is_some o ≡ false → (n : ℕ) → first_bad ls ≡ Some n → ⊥
+no_bad ls o is none n bad = none-some n (sym (none_bad ls (sym is ∙ not_some o none)) ∙ bad)
 
 pub loop-line-init : goal.loop-line-init
 loop-line-init g c =
@@ -46,7 +43,7 @@ loop-line-init g c =
       shop = (ok.0, ok.1);
       alive = ok.3;
       later = later;
-      good = sym c.in_default.ensures;
+      plain = sym c.first_reset_line.ensures ∙ not_some _ (sym c.is_some.ensures ∙ c.if-is_some.false);
       played = λ s shop. (
         [],
         [],
@@ -59,23 +56,22 @@ loop-line-init g c =
 
 -- a message that was told MEDIA
 told_media : (g : Over) (c : goal.After-close g) (t : Shop) → IsSettled (g.D.Sectors.history.image c.loop-line.session.disk) t
-    → IsEvent g.D.Sectors.history t (message_of c.unwrap-event.result) c.loop-line.session.disk c.close.result
-    (EndsFailed g.D.Sectors.history t (message_of c.unwrap-event.result) c.whole_message-reply.result c.close.result)
+    → IsEvent g.D.Sectors.history t (uncut c.in-Some.line.now) c.loop-line.session.disk c.close.result
+    (EndsFailed g.D.Sectors.history t (uncut c.in-Some.line.now) c.whole_message-reply.result c.close.result)
 told_media g c t settled =
     let h = g.D.Sectors.history in
+    let m = uncut c.in-Some.line.now in
     let reply = c.whole_message-reply.result in
-    subst (λ d. IsEvent h t (message_of c.unwrap-event.result) c.loop-line.session.disk d (EndsFailed h t (message_of c.unwrap-event.result) reply d)) (sym c.close.ensures)
-    (subst (λ m. IsEvent h t m c.loop-line.session.disk c.whole_message-reply.new.session.disk (EndsFailed h t m reply c.whole_message-reply.new.session.disk))
-    (is_uncut c.unwrap-event.result c.in-None.is)
-    (c.whole_message-reply.ensures.stopped t settled c.loop-line.invariant.alive (c.is_media.ensures.0 c.if-is_media.true)))
+    subst (λ d. IsEvent h t m c.loop-line.session.disk d (EndsFailed h t m reply d)) (sym c.close.ensures)
+    (c.whole_message-reply.ensures.stopped t settled c.loop-line.invariant.alive (c.is_media.ensures.0 c.if-is_media.true))
 
 media_ends : (g : Over) (c : goal.After-close g) (s : Shop) → IsShop (g.D.Sectors.history.image c.args.disk) s
     → (told : List Reply) × IsPrintedUpToLast g.W.Write.contents c.args.out.now told × StoppedByDevice g.D.Sectors.history s (messages_of (lines c.args.script.now)) c.args.disk c.close.result told
     × HeldBeginnings g.D.Sectors.history s (messages_of (lines c.args.script.now)) c.args.disk c.close.result
 media_ends g c =
     let k = c.loop-line.invariant in
-    last g.D.Sectors.history (messages_of (lines c.args.script.now)) c.args.disk (messages_of (lines c.loop-line.rest.now)) (messages_of (lines c.in-Some-next_line.more.now))
-    (message_of c.unwrap-event.result) (messages_next _ _ _ c.unwrap-event.result c.in-Some-next_line.ensures.0 (sym (ap (option_map line_in) c.unwrap-event.ensures) ∙ c.event_at.ensures))
+    last g.D.Sectors.history (messages_of (lines c.args.script.now)) c.args.disk (messages_of (lines c.loop-line.left.now)) (messages_of (lines c.in-Some.more.now))
+    (uncut c.in-Some.line.now) (plain_next _ _ _ c.in-Some.ensures.0 k.plain).0
     c.loop-line.session.disk c.close.result (λ told. Appends (g.W.Write.contents c.args.out.now) (g.W.Write.contents c.loop-line.out) (report told))
     (IsPrintedUpToLast g.W.Write.contents c.args.out.now) c.whole_message-reply.result k.shop k.later
     (printed_up_to g.W.Write.contents c.args.out.now c.loop-line.out c.whole_message-reply.result) k.played (told_media g c)
@@ -83,129 +79,43 @@ media_ends g c =
 media_failed : (g : Over) (c : goal.After-close g) → Failed g.D.Sectors.history c.args.disk c.close.result
 media_failed g c =
     let k = c.loop-line.invariant in
-    failed g.D.Sectors.history (messages_of (lines c.args.script.now)) c.args.disk (messages_of (lines c.loop-line.rest.now)) (messages_of (lines c.in-Some-next_line.more.now))
-    (message_of c.unwrap-event.result) (messages_next _ _ _ c.unwrap-event.result c.in-Some-next_line.ensures.0 (sym (ap (option_map line_in) c.unwrap-event.ensures) ∙ c.event_at.ensures))
+    failed g.D.Sectors.history (messages_of (lines c.args.script.now)) c.args.disk (messages_of (lines c.loop-line.left.now)) (messages_of (lines c.in-Some.more.now))
+    (uncut c.in-Some.line.now) (plain_next _ _ _ c.in-Some.ensures.0 k.plain).0
     c.loop-line.session.disk c.close.result (λ told. Appends (g.W.Write.contents c.args.out.now) (g.W.Write.contents c.loop-line.out) (report told))
     (IsPrintedUpToLast g.W.Write.contents c.args.out.now) c.whole_message-reply.result k.shop k.later
     (printed_up_to g.W.Write.contents c.args.out.now c.loop-line.out c.whole_message-reply.result) k.played (told_media g c)
 
--- the whole recovery after a cut message failed
-recovery_failed : (g : Over) (c : goal.In-Err-next g) (t : Shop) → IsSettled (g.D.Sectors.history.image c.loop-line.session.disk) t
-    → IsEvent g.D.Sectors.history t (message_of c.unwrap-event.result) c.loop-line.session.disk c.in-Err-next.disk
-    (EndsFailed g.D.Sectors.history t (message_of c.unwrap-event.result) Cut c.in-Err-next.disk)
-recovery_failed g c t settled =
-    let h = g.D.Sectors.history in
-    subst (λ m. IsEvent h t m c.loop-line.session.disk c.in-Err-next.disk (EndsFailed h t m Cut c.in-Err-next.disk)) (is_cut c.unwrap-event.result c.in-Some-cut.cut c.in-Some-cut.is)
-    (c.in-Err-next.ensures.stopped t settled c.loop-line.invariant.alive)
-
-recovery_ends : (g : Over) (c : goal.In-Err-next g) (s : Shop) → IsShop (g.D.Sectors.history.image c.args.disk) s
-    → (told : List Reply) × IsPrintedUpToLast g.W.Write.contents c.args.out.now told × StoppedByDevice g.D.Sectors.history s (messages_of (lines c.args.script.now)) c.args.disk c.in-Err-next.disk told
-    × HeldBeginnings g.D.Sectors.history s (messages_of (lines c.args.script.now)) c.args.disk c.in-Err-next.disk
-recovery_ends g c =
-    let k = c.loop-line.invariant in
-    last g.D.Sectors.history (messages_of (lines c.args.script.now)) c.args.disk (messages_of (lines c.loop-line.rest.now)) (messages_of (lines c.in-Some-next_line.more.now))
-    (message_of c.unwrap-event.result) (messages_next _ _ _ c.unwrap-event.result c.in-Some-next_line.ensures.0 (sym (ap (option_map line_in) c.unwrap-event.ensures) ∙ c.event_at.ensures))
-    c.loop-line.session.disk c.in-Err-next.disk (λ told. Appends (g.W.Write.contents c.args.out.now) (g.W.Write.contents c.loop-line.out) (report told))
-    (IsPrintedUpToLast g.W.Write.contents c.args.out.now) Cut k.shop k.later
-    (printed_up_to g.W.Write.contents c.args.out.now c.loop-line.out Cut) k.played (recovery_failed g c)
-
-whole_failed : (g : Over) (c : goal.In-Err-next g) → Failed g.D.Sectors.history c.args.disk c.in-Err-next.disk
-whole_failed g c =
-    let k = c.loop-line.invariant in
-    failed g.D.Sectors.history (messages_of (lines c.args.script.now)) c.args.disk (messages_of (lines c.loop-line.rest.now)) (messages_of (lines c.in-Some-next_line.more.now))
-    (message_of c.unwrap-event.result) (messages_next _ _ _ c.unwrap-event.result c.in-Some-next_line.ensures.0 (sym (ap (option_map line_in) c.unwrap-event.ensures) ∙ c.event_at.ensures))
-    c.loop-line.session.disk c.in-Err-next.disk (λ told. Appends (g.W.Write.contents c.args.out.now) (g.W.Write.contents c.loop-line.out) (report told))
-    (IsPrintedUpToLast g.W.Write.contents c.args.out.now) Cut k.shop k.later
-    (printed_up_to g.W.Write.contents c.args.out.now c.loop-line.out Cut) k.played (recovery_failed g c)
-
 -- the reply of this turn wasn't taken by the output
 output_ends : (g : Over) (c : goal.After-close-in-Err-written g) (s : Shop) → IsShop (g.D.Sectors.history.image c.args.disk) s
     → (told : List Reply) × IsPrintedUpToLast g.W.Write.contents c.args.out.now told
-    × StoppedByOutput g.D.Sectors.history s (messages_of (lines c.args.script.now)) c.args.disk c.match-event.session.disk told
-    × HeldBeginnings g.D.Sectors.history s (messages_of (lines c.args.script.now)) c.args.disk c.match-event.session.disk
+    × StoppedByOutput g.D.Sectors.history s (messages_of (lines c.args.script.now)) c.args.disk c.whole_message-reply.new.session.disk told
+    × HeldBeginnings g.D.Sectors.history s (messages_of (lines c.args.script.now)) c.args.disk c.whole_message-reply.new.session.disk
 output_ends g c =
-    let h = g.D.Sectors.history in
     let k = c.loop-line.invariant in
-    let e = c.unwrap-event.result in
-    let next = messages_next _ _ _ e c.in-Some-next_line.ensures.0 (sym (ap (option_map line_in) c.unwrap-event.ensures) ∙ c.event_at.ensures) in
-    let Kept : List Reply → Type 0 = λ told. Appends (g.W.Write.contents c.args.out.now) (g.W.Write.contents c.loop-line.out) (report told) in
-    let Now : List Reply → Type 0 = IsPrintedUpToLast g.W.Write.contents c.args.out.now in
-    let a = c.loop-line.session.disk in
-    let b = c.match-event.session.disk in
-    elim c.match-event.branch [
-      | in-None+else-is_media w ↦
-          let reply = w.whole_message-reply.result in
-          unwritten h (messages_of (lines c.args.script.now)) c.args.disk (messages_of (lines c.loop-line.rest.now)) (messages_of (lines c.in-Some-next_line.more.now))
-          (message_of e) next a b Kept Now reply k.shop k.later (printed_up_to g.W.Write.contents c.args.out.now c.loop-line.out reply) k.played (c.match-event.session.dead ≡ false) (λ t settled.
-          let x = w.whole_message-reply.ensures.done t settled k.alive (λ is. false≢true (sym w.if-is_media.false ∙ w.is_media.ensures.1 is)) in (
-            ap (λ (v : View _). v.dead) w.session-is ∙ x.0,
-            subst (λ n. IsEvent h t n a b (GoesOn h t n reply b)) (is_uncut e w.in-None.is)
-                (subst (λ d. IsEvent h t (uncut e.message.now) a d (GoesOn h t (uncut e.message.now) reply d)) (sym (ap (λ (v : View _). v.disk) w.session-is)) x.1),
-          ))
-      | in-Some-cut+in-Ok-next w ↦
-          unwritten h (messages_of (lines c.args.script.now)) c.args.disk (messages_of (lines c.loop-line.rest.now)) (messages_of (lines c.in-Some-next_line.more.now))
-          (message_of e) next a b Kept Now Cut k.shop k.later (printed_up_to g.W.Write.contents c.args.out.now c.loop-line.out Cut) k.played (c.match-event.session.dead ≡ false) (λ t settled.
-          let x = w.in-Ok-next.ensures.done t settled k.alive in (
-            ap (λ (v : View _). v.dead) w.session-is ∙ x.0,
-            subst (λ n. IsEvent h t n a b (GoesOn h t n Cut b)) (is_cut e w.in-Some-cut.cut w.in-Some-cut.is)
-                (subst (λ d. IsEvent h t (cut_at e.message.now w.in-Some-cut.cut.after) a d (GoesOn h t (cut_at e.message.now w.in-Some-cut.cut.after) Cut d))
-                (sym (ap (λ (v : View _). v.disk) w.session-is)) x.1),
-          ))
-    ]
-
--- the line of this turn is done
-went_on : (g : Over) (c : goal.In-Ok-written g)
-    → (c.match-event.session.dead ≡ false) × (g.D.Sectors.history.failures c.args.disk ≤ g.D.Sectors.history.failures c.match-event.session.disk)
-    × PlayedBut g.D.Sectors.history (messages_of (lines c.args.script.now)) c.args.disk (messages_of (lines c.in-Some-next_line.more.now))
-    c.match-event.session.disk (λ told. Appends (g.W.Write.contents c.args.out.now) (g.W.Write.contents c.match-event.out) (report told))
-went_on g c =
-    let h = g.D.Sectors.history in
-    let k = c.loop-line.invariant in
-    let e = c.unwrap-event.result in
-    let next = messages_next _ _ _ e c.in-Some-next_line.ensures.0 (sym (ap (option_map line_in) c.unwrap-event.ensures) ∙ c.event_at.ensures) in
-    let first = g.W.Write.contents c.args.out.now in
-    let old = g.W.Write.contents c.loop-line.out in
-    let new = g.W.Write.contents c.match-event.out in
-    let Kept : List Reply → Type 0 = λ told. Appends first old (report told) in
-    let Now : List Reply → Type 0 = λ told. Appends first new (report told) in
-    let a = c.loop-line.session.disk in
-    let b = c.match-event.session.disk in
-    elim c.match-event.branch [
-      | in-None+else-is_media w ↦
-          let reply = w.whole_message-reply.result in
-          let wrote : Appends old new (reply_text reply ++ codes "\n") = subst (λ o. Appends old (g.W.Write.contents o) (reply_text reply ++ codes "\n")) (sym w.out-is)
-          (subst (λ r. OnOk r (Appends old (g.W.Write.contents w.put_line-written.new.out) (reply_text reply ++ codes "\n"))) (sym w.written-is ∙ c.in-Ok-written.is) w.put_line-written.ensures.ok) in
-          more h (messages_of (lines c.args.script.now)) c.args.disk (messages_of (lines c.loop-line.rest.now)) (messages_of (lines c.in-Some-next_line.more.now))
-          (message_of e) next a b Kept Now reply k.shop k.later (λ told x. written_more first old new told reply x wrote) k.played (c.match-event.session.dead ≡ false) (λ t settled.
-          let x = w.whole_message-reply.ensures.done t settled k.alive (λ is. false≢true (sym w.if-is_media.false ∙ w.is_media.ensures.1 is)) in (
-            ap (λ (v : View _). v.dead) w.session-is ∙ x.0,
-            subst (λ n. IsEvent h t n a b (GoesOn h t n reply b)) (is_uncut e w.in-None.is)
-                (subst (λ d. IsEvent h t (uncut e.message.now) a d (GoesOn h t (uncut e.message.now) reply d)) (sym (ap (λ (v : View _). v.disk) w.session-is)) x.1),
-          ))
-      | in-Some-cut+in-Ok-next w ↦
-          let wrote : Appends old new (reply_text Cut ++ codes "\n") = subst (λ o. Appends old (g.W.Write.contents o) (reply_text Cut ++ codes "\n")) (sym w.out-is)
-          (subst (λ r. OnOk r (Appends old (g.W.Write.contents w.put_line-written-in-Some-cut.new.out) (reply_text Cut ++ codes "\n"))) (sym w.written-is ∙ c.in-Ok-written.is) w.put_line-written-in-Some-cut.ensures.ok) in
-          more h (messages_of (lines c.args.script.now)) c.args.disk (messages_of (lines c.loop-line.rest.now)) (messages_of (lines c.in-Some-next_line.more.now))
-          (message_of e) next a b Kept Now Cut k.shop k.later (λ told x. written_more first old new told Cut x wrote) k.played (c.match-event.session.dead ≡ false) (λ t settled.
-          let x = w.in-Ok-next.ensures.done t settled k.alive in (
-            ap (λ (v : View _). v.dead) w.session-is ∙ x.0,
-            subst (λ n. IsEvent h t n a b (GoesOn h t n Cut b)) (is_cut e w.in-Some-cut.cut w.in-Some-cut.is)
-                (subst (λ d. IsEvent h t (cut_at e.message.now w.in-Some-cut.cut.after) a d (GoesOn h t (cut_at e.message.now w.in-Some-cut.cut.after) Cut d))
-                (sym (ap (λ (v : View _). v.disk) w.session-is)) x.1),
-          ))
-    ]
+    let reply = c.whole_message-reply.result in
+    unwritten g.D.Sectors.history (messages_of (lines c.args.script.now)) c.args.disk (messages_of (lines c.loop-line.left.now)) (messages_of (lines c.in-Some.more.now))
+    (uncut c.in-Some.line.now) (plain_next _ _ _ c.in-Some.ensures.0 k.plain).0
+    c.loop-line.session.disk c.whole_message-reply.new.session.disk (λ told. Appends (g.W.Write.contents c.args.out.now) (g.W.Write.contents c.loop-line.out) (report told))
+    (IsPrintedUpToLast g.W.Write.contents c.args.out.now) reply k.shop k.later
+    (printed_up_to g.W.Write.contents c.args.out.now c.loop-line.out reply) k.played (c.whole_message-reply.new.session.dead ≡ false)
+    (λ t settled. c.whole_message-reply.ensures.done t settled k.alive (λ is. false≢true (sym c.if-is_media.false ∙ c.is_media.ensures.1 is)))
 
 pub loop-line-preserved : goal.loop-line-preserved
 loop-line-preserved g c =
     let k = c.loop-line.invariant in
-    let x = went_on g c in
-    record {
-      shop = k.shop;
-      alive = x.0;
-      later = x.1;
-      good = (good_line c.in-Some-next_line.line.now (lines c.in-Some-next_line.more.now) (subst (λ ls. first_bad ls ≡ None) c.in-Some-next_line.ensures.0 k.good)).1;
-      played = x.2;
-    }
+    let next = plain_next _ _ _ c.in-Some.ensures.0 k.plain in
+    let reply = c.whole_message-reply.result in
+    let first = g.W.Write.contents c.args.out.now in
+    let old = g.W.Write.contents c.loop-line.out in
+    let new = g.W.Write.contents c.put_line-written.new.out in
+    let wrote : Appends old new (reply_text reply ++ codes "\n") =
+    subst (λ r. OnOk r (Appends old new (reply_text reply ++ codes "\n"))) c.in-Ok-written.is c.put_line-written.ensures.ok in
+    let x = more g.D.Sectors.history (messages_of (lines c.args.script.now)) c.args.disk (messages_of (lines c.loop-line.left.now)) (messages_of (lines c.in-Some.more.now))
+    (uncut c.in-Some.line.now) next.0 c.loop-line.session.disk c.whole_message-reply.new.session.disk
+    (λ told. Appends first old (report told)) (λ told. Appends first new (report told)) reply k.shop k.later
+    (λ told x. written_more first old new told reply x wrote) k.played (c.whole_message-reply.new.session.dead ≡ false)
+    (λ t settled. c.whole_message-reply.ensures.done t settled k.alive (λ is. false≢true (sym c.if-is_media.false ∙ c.is_media.ensures.1 is))) in
+    record { shop = k.shop; alive = x.0; later = x.1; plain = next.1; played = x.2 }
 
 -- all lines were played
 all_left : (g : Over) (c : goal.After-close-2 g) (s : Shop) → IsShop (g.D.Sectors.history.image c.args.disk) s
@@ -215,70 +125,14 @@ all_left g c =
     let h = g.D.Sectors.history in
     let Kept : List Reply → Type 0 = λ told. Appends (g.W.Write.contents c.args.out.now) (g.W.Write.contents c.loop-line.out) (report told) in
     all_played h (messages_of (lines c.args.script.now)) c.args.disk c.loop-line.session.disk Kept
-    (subst (λ ls. PlayedBut h (messages_of (lines c.args.script.now)) c.args.disk (messages_of ls) c.loop-line.session.disk Kept) c.in_default-next_line.ensures c.loop-line.invariant.played)
+    (subst (λ ls. PlayedBut h (messages_of (lines c.args.script.now)) c.args.disk (messages_of ls) c.loop-line.session.disk Kept) c.in_default.ensures c.loop-line.invariant.played)
 
--- each fault is another one
-abbrev line_of : ScriptFault → ℕ
-line_of (ends.BadLine n) = n
-line_of _ = 0
-
-open-line : (f : OpenFault) (n : ℕ) → ends.Open f ≡ ends.BadLine n → ⊥
-open-line f n e = cc
-
-open-output : (f : OpenFault) → ends.Open f ≡ ends.Output → ⊥
-open-output f e = cc
-
-open-device : (f : OpenFault) → ends.Open f ≡ ends.Device → ⊥
-open-device f e = cc
-
-line-output : (n : ℕ) → ends.BadLine n ≡ ends.Output → ⊥
-line-output n e = cc
-
-line-device : (n : ℕ) → ends.BadLine n ≡ ends.Device → ⊥
-line-device n e = cc
-
-line-open : (n : ℕ) (f : OpenFault) → ends.BadLine n ≡ ends.Open f → ⊥
-line-open n f e = cc
-
-output-line : (n : ℕ) → ends.Output ≡ ends.BadLine n → ⊥
-output-line n e = cc
-
-output-device : ends.Output ≡ ends.Device → ⊥
-output-device e = cc
-
-output-open : (f : OpenFault) → ends.Output ≡ ends.Open f → ⊥
-output-open f e = cc
-
-device-line : (n : ℕ) → ends.Device ≡ ends.BadLine n → ⊥
-device-line n e = cc
-
-device-output : ends.Device ≡ ends.Output → ⊥
-device-output e = cc
-
-device-open : (f : OpenFault) → ends.Device ≡ ends.Open f → ⊥
-device-open f e = cc
-
-pub returns-in-Some : goal.returns-in-Some
-returns-in-Some g c = record {
-  bad_line = λ n e. (ap (λ (k : ℕ). Err (ends.BadLine k, c.args.disk)) (same_Some _ _ (c.in-Some.ensures ∙ e)), refl);
-  good = λ n e. sym c.in-Some.ensures ∙ ap (λ (x : ScriptFault). Some (line_of x)) e;
-  shop = tt;
-  ok = λ s shop. tt;
-  without_resets = λ s shop none. tt;
-  output = λ s shop e. absurd (line-output c.in-Some.line e);
-  device = λ s shop e. absurd (line-device c.in-Some.line e);
-  moments = λ s shop.
-      let h = g.D.Sectors.history in
-      held_none h s (messages_of (lines c.args.script.now)) c.args.disk c.args.disk (start h c.args.disk (λ i. IsShop i s) shop) (le_refl (h.failures c.args.disk));
-  plays = λ shop never. inl (c.in-Some.line, refl);
-  «open» = λ f e. absurd (line-open c.in-Some.line f e);
-  cause = λ e. absurd (line-device c.in-Some.line e);
-  after = λ e. absurd (line-output c.in-Some.line e);
-}
+pub returns-then-is_some : goal.returns-then-is_some
+returns-then-is_some g c = c.run_with_resets.ensures
 
 pub returns-in-Err : goal.returns-in-Err
 returns-in-Err g c = record {
-  bad_line = λ n e. absurd (none-some n (c.in_default.ensures ∙ e));
+  bad_line = λ n e. absurd (no_bad (lines c.args.script.now) _ c.first_reset_line.ensures (sym c.is_some.ensures ∙ c.if-is_some.false) n e);
   good = λ n e. absurd (open-line _ n e);
   shop = tt;
   ok = λ s shop. tt;
@@ -302,7 +156,7 @@ returns-in-Err g c = record {
 
 pub returns-then-is_media : goal.returns-then-is_media
 returns-then-is_media g c = record {
-  bad_line = λ n e. absurd (none-some n (c.in_default.ensures ∙ e));
+  bad_line = λ n e. absurd (no_bad (lines c.args.script.now) _ c.first_reset_line.ensures (sym c.is_some.ensures ∙ c.if-is_some.false) n e);
   good = λ n e. absurd (device-line n e);
   shop = tt;
   ok = λ s shop. tt;
@@ -316,25 +170,9 @@ returns-then-is_media g c = record {
   after = λ e. absurd (device-output e);
 }
 
-pub returns-in-Err-next : goal.returns-in-Err-next
-returns-in-Err-next g c = record {
-  bad_line = λ n e. absurd (none-some n (c.in_default.ensures ∙ e));
-  good = λ n e. absurd (device-line n e);
-  shop = tt;
-  ok = λ s shop. tt;
-  without_resets = λ s shop none. tt;
-  output = λ s shop e. absurd (device-output e);
-  device = λ s shop is. let x = recovery_ends g c s shop in (x.0, x.1, x.2);
-  moments = λ s shop. (recovery_ends g c s shop).3;
-  plays = λ shop never. absurd (never_failed g.D.Sectors.history _ _ never (whole_failed g c));
-  «open» = λ f e. absurd (device-open f e);
-  cause = λ is. (c.loop-line.invariant.shop, whole_failed g c);
-  after = λ e. absurd (device-output e);
-}
-
 pub returns-in-Err-written : goal.returns-in-Err-written
 returns-in-Err-written g c = record {
-  bad_line = λ n e. absurd (none-some n (c.in_default.ensures ∙ e));
+  bad_line = λ n e. absurd (no_bad (lines c.args.script.now) _ c.first_reset_line.ensures (sym c.is_some.ensures ∙ c.if-is_some.false) n e);
   good = λ n e. absurd (output-line n e);
   shop = tt;
   ok = λ s shop. tt;
@@ -353,7 +191,7 @@ returns-in-Err-written g c = record {
 
 pub returns : goal.returns
 returns g c = record {
-  bad_line = λ n e. absurd (none-some n (c.in_default.ensures ∙ e));
+  bad_line = λ n e. absurd (no_bad (lines c.args.script.now) _ c.first_reset_line.ensures (sym c.is_some.ensures ∙ c.if-is_some.false) n e);
   good = tt;
   shop = c.loop-line.invariant.shop;
   ok = λ s shop.
