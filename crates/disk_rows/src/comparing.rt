@@ -3,12 +3,12 @@ use std::fmt::Debug;
 use std::process::Abort;
 
 /// Ends the test where the two differ.
-pub fn same<T: PartialEq + Debug + Drop>(rt: &impl Abort, got: T, want: T) {
+pub(crate) fn same<T: PartialEq + Debug + Drop>(rt: &impl Abort, got: T, want: T) {
     assert_eq!(rt; got, want);
 }
 
 /// The same, and tells the row.
-pub fn same_at<T: PartialEq + Debug + Drop, L: Debug + Drop>(
+pub(crate) fn same_at<T: PartialEq + Debug + Drop, L: Debug + Drop>(
     rt: &impl Abort,
     got: T,
     want: T,
