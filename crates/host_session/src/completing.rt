@@ -36,6 +36,7 @@ pub(crate) fn mark_answered(text: &mut [u8; 127])
 }
 
 /// Writes the quantity on hand of an item whose record is there.
+#[inline(always)]
 fn put_quantity<D: Sectors>(drive: &mut ShopDrive<D>, item: u16, quantity: u32) -> Result<(), Dead>
     requires ready { IsReady D.history drive.old }
     requires there { (f : Files) × HasFiles (D.history.image drive.old.disk) f × (item ≤ length f.stock) }
@@ -86,6 +87,7 @@ fn put_results<D: Sectors>(
 }
 
 /// Completes an open intent: writes the cards of its results, and then its answer, which has this text.
+#[inline(always)]
 pub(crate) fn complete_with<D: Sectors>(
     drive: &mut ShopDrive<D>,
     till: u8,

@@ -39,6 +39,7 @@ fn put_refusal<D: Sectors>(
 }
 
 /// Writes a request's intent, and completes it. The records of its items are there.
+#[inline(always)]
 fn put_intent<D: Sectors>(
     drive: &mut ShopDrive<D>,
     request: &Request,

@@ -151,6 +151,7 @@ impl<D: Sectors> ShopDrive<D> {
     }
 
     /// Writes at channel 2's place.
+    #[inline(always)]
     pub(crate) fn write(&mut self, text: &[u8]) -> Result<(), Dead>
         ensures serves { Serves D.history self.old self.new result }
         ensures row { OnOk result (Writes (view_of D.history self.old) 2 text.now (view_of D.history self.new)) }

@@ -11,8 +11,9 @@ pub struct Placed<F> {
 }
 
 impl<F: FileExt> Placed<F> {
-    ghost use Rattle.std.specs.Prelude.{◌≡◌};
-    ghost use Rattle.ledger_commands.specs.Placed.{placed_at, placed_file};
+    ghost use Rattle.std.specs.Prelude.{◌≡◌, OnOk, length};
+    ghost use Rattle.std.specs.Io.{WritesAtMost};
+    ghost use Rattle.ledger_commands.specs.Placed.{StandsBehind, placed_at, placed_file, rest_after};
 
     /// The file, to be written from its start.
     pub fn new(file: F) -> Placed<F>
@@ -21,13 +22,30 @@ impl<F: FileExt> Placed<F> {
     {
         Placed { file, at: 0 }
     }
+
+    /// Writes what a write that ended so didn't take of these bytes, if it may go on.
+    #[inline(never)]
+    fn go_on(&mut self, buf: &[u8], ended: io::Result<usize>) -> io::Result<()>
+        requires bound { WritesAtMost ended buf.now }
+        ensures at { OnOk result (StandsBehind self.old self.new (rest_after ended (length buf.now))) }
+        ensures file { placed_file self.new ≡ placed_file self.old }
+    {
+        let rest = match ended {
+            Ok(written) => &buf[written..],
+            Err(error) if error.kind() == io::ErrorKind::Interrupted => buf,
+            Err(error) => return Err(error),
+        };
+        self.file.write_all_at(rest, self.at)?;
+        self.at = self.at.saturating_add(rest.len() as u64);
+        Ok(())
+    }
 }
 
 impl<F: FileExt> Write for Placed<F> {
-    ghost use Rattle.std.specs.Prelude.{◌≡◌, None};
+    ghost use Rattle.std.specs.Prelude.{◌≡◌, None, OnOk, length};
     ghost use Rattle.std.specs.Io.KnownBytes.{WriteAppends};
     ghost use Rattle.std.specs.Io.{WritesAtMost};
-    ghost use Rattle.ledger_commands.specs.Placed.{MovesOn, placed_file};
+    ghost use Rattle.ledger_commands.specs.Placed.{MovesOn, StandsBehind, placed_file};
 
     fn write(&mut self, buf: &[u8]) -> io::Result<usize>
         ensures bound { WritesAtMost result buf.now }
@@ -38,6 +56,18 @@ impl<F: FileExt> Write for Placed<F> {
         let written = self.file.write_at(buf, self.at)?;
         self.at = self.at.saturating_add(written as u64);
         Ok(written)
+    }
+
+    // In line: of a sector that the file takes whole by one call no error is left to be looked for.
+    #[inline(always)]
+    fn write_all(&mut self, buf: &[u8]) -> io::Result<()>
+        ensures at { OnOk result (StandsBehind self.old self.new (length buf.now)) }
+        ensures file { placed_file self.new ≡ placed_file self.old }
+    {
+        match self.write(buf) {
+            Ok(written) if written == buf.len() => Ok(()),
+            ended => self.go_on(buf, ended),
+        }
     }
 
     /// Nothing is held back.

@@ -24,6 +24,7 @@ pub(crate) fn read<D: Sectors>(
 }
 
 /// Writes a sector; at an error it is written or as before.
+#[inline(always)]
 pub(crate) fn write<D: Sectors>(
     disk: &mut D,
     place: Place,
