@@ -139,18 +139,23 @@ closed-of (Some c) b told off = absurd (both b told off)
     both : (b : Bool) → b ≡ true → b ≡ false → ⊥
     both b x y = cc
 
+-- the channel may be opened
+free : (number : ℕ) (o : Option Channel) → 2 ≤ number → number ≤ 14 → o ≡ None → (number < 2) ⊎ ((14 < number) ⊎ IsSome o) → ⊥
+free number o low high closed h = elim h [
+  | inl lt ↦ omega (arith, lt, low)
+  | inr (inl gt) ↦ omega (arith, gt, high)
+  | inr (inr some) ↦ subst (λ (o : Option Channel). IsSome o → ⊥) (sym closed) (λ h. cc) some
+]
+
 -- a call that comes past the first two rows
 pub past : (x : View) (number : ℕ) (text : List ℕ) (y : View) (w : Wish) → 2 ≤ number → number ≤ 14 → x.channel ≡ None → IsWish text w
     → (when (x.checked ≡ false) × ¬ (IsClean x.image) then Tells x statuses.DirError y otherwise ((w : Wish) → IsWish text w → OpensFile (record x { checked = true }) number w y))
     → Opens x number text y
-past x number text y w low high closed is rest = inr (free, inr ((λ none. none (w, is)), rest))
-  where
-    free : (number < 2) ⊎ ((14 < number) ⊎ IsSome x.channel) → ⊥
-    free h = elim h [
-      | inl lt ↦ omega (arith, lt, low)
-      | inr (inl gt) ↦ omega (arith, gt, high)
-      | inr (inr some) ↦ subst (λ (o : Option Channel). IsSome o → ⊥) (sym closed) (λ h. cc) some
-    ]
+past x number text y w low high closed is rest = inr (free number x.channel low high closed, inr ((λ none. none (w, is)), rest))
+
+-- a call with a text that asks for no file
+pub unspelled : (x : View) (number : ℕ) (text : List ℕ) (y : View) → 2 ≤ number → number ≤ 14 → x.channel ≡ None → ((w : Wish) → ¬ (IsWish text w)) → Tells x statuses.SyntaxError y → Opens x number text y
+unspelled x number text y low high closed none tells = inr (free number x.channel low high closed, inl ((λ asked. none asked.0 asked.1), tells))
 
 -- a check has passed
 pub checked-shown : (img img' : Image) (k k' : Known) (s : Status) → img' ≡ img → k'.last ≡ k.last → k'.checked ≡ true → shown img' k' s ≡ record (shown img k s) { checked = true }

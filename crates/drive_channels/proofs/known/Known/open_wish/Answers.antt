@@ -1,7 +1,7 @@
 use Rattle.std.proofs.Common.{true, inl, inr, ap, ap₂, arith, refl, subst, sym, ◌∙◌}
 use Rattle.d64_image.proofs.Moments.{no_reads}
 use Rattle.d64_image.specs.Images.{Image}
-use Rattle.drive_channels.proofs.Openings.{checked-shown, if-ok, none-done, not-done, opened-by, past, read-by, tells-after, tells-failed}
+use Rattle.drive_channels.proofs.Openings.{checked-shown, if-ok, none-done, not-done, opened-by, past, read-by, tells-after, tells-failed, unspelled}
 use Rattle.drive_channels.proofs.Wishes.{wish-one}
 use Rattle.drive_channels.proofs.known.Known.open_wish.Goals as goal
 use Rattle.drive_channels.specs.Inside.{IsKnown, channel_of, shown}
@@ -98,3 +98,8 @@ returns-clause-known g c = c.open_file.ensures.known
 
 pub returns-clause-failures : goal.returns-clause-failures
 returns-clause-failures g c = tells-after g.D.Sectors.history _ _ _ c.in_ok-passes_check.ensures.failures c.open_file.result c.open_file.ensures.failures
+
+pub returns-in_default-clause-row : goal.returns-in_default-clause-row
+returns-in_default-clause-row g c = λ s.
+    let x = shown (g.D.Sectors.history.image c.args.disk.now) c.args.self.now s in
+    unspelled x c.args.channel c.args.text.now _ c.requires.low c.requires.high c.requires.closed c.in_default.ensures refl
