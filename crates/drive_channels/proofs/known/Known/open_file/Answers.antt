@@ -108,8 +108,10 @@ pub returns-in-None-clause-row : goal.returns-in-None-clause-row
 returns-in-None-clause-row g c = λ s.
     let img = g.D.Sectors.history.image in
     let looked = c.in_ok-look_up.ensures.found in
-    inl ((subst IsNone (sym c.in-None.is) refl, looked.missing c.if-branch.false),
-    same-shown (img c.args.disk.now) (img c.look_up.new.disk) c.args.self.now c.look_up.new.self statuses.FileNotFound c.look_up.ensures.reads.image c.requires.closed c.requires.checked looked.closed looked.checked)
+    inl (
+      (subst IsNone (sym c.in-None.is) refl, looked.missing c.if-branch.false),
+      same-shown (img c.args.disk.now) (img c.look_up.new.disk) c.args.self.now c.look_up.new.self statuses.FileNotFound c.look_up.ensures.reads.image c.requires.closed c.requires.checked looked.closed looked.checked,
+    )
 
 pub returns-in-None-clause-known : goal.returns-in-None-clause-known
 returns-in-None-clause-known g c = subst (λ (i : Image). IsKnown i c.look_up.new.self) (sym c.look_up.ensures.reads.image) c.in_ok-look_up.ensures.found.known
