@@ -2,7 +2,9 @@
 use Rattle.std.proofs.Common.{ℕ, ◌≡◌, ◌≢◌, ◌≤◌, ◌<◌, ◌⊎◌, inl, inr, Bool, true, false, MatchOption, List, Option, None, Some, IfOk, IsSome, Result, Ok, Err, OnOk, sym, ◌∙◌, ap, ap₂, subst, refl, arith}
 use Rattle.std.proofs.lemmas.Option.{none-some}
 use Rattle.d64_image.proofs.Moments.{changes_then, changes_weaker, reads_change, reads_then, reads_weaker}
-use Rattle.d64_image.specs.History.{Changes, History, OnlyReads}
+use Rattle.std.specs.Result.{IsErrAnd}
+use Rattle.d64_image.proofs.Moments.{failed_later}
+use Rattle.d64_image.specs.History.{Changes, Failed, History, OnlyReads, TellsFailure}
 use Rattle.d64_image.specs.Images.{Image}
 use Rattle.disk_layout.specs.Clean.{IsClean}
 use Rattle.disk_layout.specs.Layout.{IsLayout, Layout}
@@ -98,6 +100,37 @@ read-by {D} {E} S a b n text before after result few reads = record {
     by (Ok st) = λ _. reads_weaker S a b n 2872 (omega (arith, few)) reads
     by (Err e) = tt
 
+-- an opening that only looked for the file
+pub read-for : {D E : Type 0} (S : History D) (a b : D) (w : Wish) (after : Option Channel) (result : Result Status E) → OnlyReads S a b 702 → IsOpenedFor S a b 702 w after result
+read-for {D} {E} S a b w after result reads = record {
+  plain = λ _. reads;
+  there = λ _. reads;
+  refused = by result;
+  moments = λ m _. changes_weaker S a b 0 (creation_writes m) _ _ (omega arith) (λ i h. h)
+      (reads_change S a b 702 (λ i. (i ≡ S.image a) ⊎ IsCreatingFor (S.image a) m w i) reads (inl refl));
+}
+  where
+    by : (r : Result Status E) → OnOk r (after ≡ None → OnlyReads S a b 757)
+    by (Ok st) = λ _. reads_weaker S a b 702 757 (omega arith) reads
+    by (Err e) = tt
+
+-- an answer that is passed on is not done, and tells of the device what the call told
+pub none-done : {T E : Type 0} (r : Result T E) (Q : E → Type 0) → IsErrAnd r Q → (P : T → Type 0) → IfOk r P
+none-done (Ok x) Q h P = absurd h
+none-done (Err e) Q h P = tt
+
+pub not-done : {T E : Type 0} (r : Result T E) (Q : E → Type 0) → IsErrAnd r Q → (P : Type 0) → OnOk r P
+not-done (Ok x) Q h P = absurd h
+not-done (Err e) Q h P = tt
+
+pub tells-failed : {D T E : Type 0} (S : History D) (a b : D) (r : Result T E) (Q : E → Type 0) → IsErrAnd r Q → Failed S a b → TellsFailure S a b r
+tells-failed S a b (Ok x) Q h f = absurd h
+tells-failed S a b (Err e) Q h f = f
+
+pub tells-after : {D T E : Type 0} (S : History D) (a b c : D) → S.failures b ≡ S.failures a → (r : Result T E) → TellsFailure S b c r → TellsFailure S a c r
+tells-after S a b c same (Ok x) h = h ∙ same
+tells-after S a b c same (Err e) h = failed_later S a b c same h
+
 -- no channel is open
 pub closed-of : (o : Option Channel) (b : Bool) → MatchOption o (b ≡ false) (λ c. b ≡ true) → b ≡ false → o ≡ None
 closed-of None b told off = refl
@@ -106,18 +139,23 @@ closed-of (Some c) b told off = absurd (both b told off)
     both : (b : Bool) → b ≡ true → b ≡ false → ⊥
     both b x y = cc
 
+-- the channel may be opened
+free : (number : ℕ) (o : Option Channel) → 2 ≤ number → number ≤ 14 → o ≡ None → (number < 2) ⊎ ((14 < number) ⊎ IsSome o) → ⊥
+free number o low high closed h = elim h [
+  | inl lt ↦ omega (arith, lt, low)
+  | inr (inl gt) ↦ omega (arith, gt, high)
+  | inr (inr some) ↦ subst (λ (o : Option Channel). IsSome o → ⊥) (sym closed) (λ h. cc) some
+]
+
 -- a call that comes past the first two rows
 pub past : (x : View) (number : ℕ) (text : List ℕ) (y : View) (w : Wish) → 2 ≤ number → number ≤ 14 → x.channel ≡ None → IsWish text w
     → (when (x.checked ≡ false) × ¬ (IsClean x.image) then Tells x statuses.DirError y otherwise ((w : Wish) → IsWish text w → OpensFile (record x { checked = true }) number w y))
     → Opens x number text y
-past x number text y w low high closed is rest = inr (free, inr ((λ none. none (w, is)), rest))
-  where
-    free : (number < 2) ⊎ ((14 < number) ⊎ IsSome x.channel) → ⊥
-    free h = elim h [
-      | inl lt ↦ omega (arith, lt, low)
-      | inr (inl gt) ↦ omega (arith, gt, high)
-      | inr (inr some) ↦ subst (λ (o : Option Channel). IsSome o → ⊥) (sym closed) (λ h. cc) some
-    ]
+past x number text y w low high closed is rest = inr (free number x.channel low high closed, inr ((λ none. none (w, is)), rest))
+
+-- a call with a text that asks for no file
+pub unspelled : (x : View) (number : ℕ) (text : List ℕ) (y : View) → 2 ≤ number → number ≤ 14 → x.channel ≡ None → ((w : Wish) → ¬ (IsWish text w)) → Tells x statuses.SyntaxError y → Opens x number text y
+unspelled x number text y low high closed none tells = inr (free number x.channel low high closed, inl ((λ asked. none asked.0 asked.1), tells))
 
 -- a check has passed
 pub checked-shown : (img img' : Image) (k k' : Known) (s : Status) → img' ≡ img → k'.last ≡ k.last → k'.checked ≡ true → shown img' k' s ≡ record (shown img k s) { checked = true }

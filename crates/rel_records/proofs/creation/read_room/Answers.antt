@@ -7,6 +7,7 @@ use Rattle.disk_layout.specs.Directory.{directory_start}
 use Rattle.disk_layout.specs.Fault.{HoldsOfChain}
 use Rattle.rel_records.proofs.Found.{chain-failed}
 use Rattle.rel_records.proofs.Sites.{few-sectors, room-of, walked}
+use Rattle.std.proofs.lemmas.List.{length_push}
 use Rattle.rel_records.proofs.creation.read_room.Goals as goal
 
 pub returns-in_default-clause-quiet : goal.returns-in_default-clause-quiet
@@ -74,3 +75,8 @@ returns-clause-err g c = tt
 
 pub returns-clause-failures : goal.returns-clause-failures
 returns-clause-failures g c = c.in-Ok-find_room.ensures.failures ∙ c.in-Ok.ensures.failures
+
+pub find_room-requires : goal.find_room-requires
+find_room-requires g c =
+    let chain = c.in-Ok.ensures.chain in
+    omega (arith, ap length c.as_slice.ensures.value, ap length chain.places, length_push chain.front chain.last)

@@ -2,10 +2,11 @@
 use Rattle.std.proofs.Common.{ℕ, arith, refl, sym, ap, inl, inr, length, ◌≡◌, ◌≤◌, ◌<◌, ◌∙◌, ◌+◌, ◌-◌, ◌*◌}
 use Rattle.std.specs.Prelude.{Some, if◌then◌else◌, nat_lt, slice_get}
 use Rattle.std.proofs.lemmas.Bool.{lt-ltb}
-use Rattle.d64_image.proofs.Moments.{changes_then, reads_change, write_change}
+use Rattle.d64_image.proofs.Moments.{changes_then, reads_change, write_change, changes_weaker, no_change}
 use Rattle.d64_image.specs.Images.{put}
 use Rattle.rel_records.proofs.Filled.{tail-of}
 use Rattle.rel_records.proofs.Sided.{counted_once, ok-then, read-there}
+use Rattle.rel_records.proofs.Told.{not-done, tells-after, tells-failed}
 use Rattle.rel_records.proofs.filling.fill_before.Goals as goal
 
 pub returns-clause-ok : goal.returns-clause-ok
@@ -34,3 +35,64 @@ returns-clause-moments g c =
     (write_change S c.read.new.self c.write.new.self (S.image c.read.new.self) (put (S.image c.read.new.self) place c.fill_tail.new.bytes) _ c.write.ensures.held (counted_once S _ _ c.write.result c.write.ensures.counted c.write.ensures.uncounted)
     (inl c.in_ok-read.ensures.reads.image)
     (inr (inr (low, (place, c.fill_tail.new.bytes, ap (λ k. slice_get p.blocks.items (k - 2)) (sym c.len-count.ensures.value) ∙ at, tail, ap (λ i. put i place c.fill_tail.new.bytes) c.in_ok-read.ensures.reads.image)))))
+
+pub overflow_cast-count : goal.overflow_cast-count
+overflow_cast-count g c = omega (arith, c.len-count.ensures.fits)
+
+pub overflow_sub-count : goal.overflow_sub-count
+overflow_sub-count g c = omega (arith, c.len-count.ensures.value, c.requires.some)
+
+pub overflow_mul-count : goal.overflow_mul-count
+overflow_mul-count g c = omega (arith, c.len-count.ensures.fits)
+
+pub returns-then-from-count-clause-ok : goal.returns-then-from-count-clause-ok
+returns-then-from-count-clause-ok g c = inl (omega (arith, c.if-from-count.true, c.len-count.ensures.value), refl)
+
+pub returns-then-from-count-clause-moments : goal.returns-then-from-count-clause-moments
+returns-then-from-count-clause-moments g c =
+    let S = g.D.Sectors.history in
+    changes_weaker S _ _ 0 _ _ _ (omega arith) (λ x h. h) (no_change S c.args.disk.now _ (inl refl))
+
+pub returns-then-from-count-clause-failures : goal.returns-then-from-count-clause-failures
+returns-then-from-count-clause-failures g c = refl
+
+pub overflow_sub-place : goal.overflow_sub-place
+overflow_sub-place g c = omega (arith, c.if-from-count.false, c.len-count.ensures.value)
+
+pub offset_bounds-deref-count : goal.offset_bounds-deref-count
+offset_bounds-deref-count g c = omega (arith, c.len-count.ensures.fits)
+
+pub bounds-deref-count : goal.bounds-deref-count
+bounds-deref-count g c = omega (arith, ap length c.deref.ensures.0, c.len-count.ensures.value, c.requires.some)
+
+pub returns-in_err-read-clause-ok : goal.returns-in_err-read-clause-ok
+returns-in_err-read-clause-ok g c = not-done c.from_residual.result _ c.from_residual.ensures.1 _
+
+pub returns-in_err-read-clause-moments : goal.returns-in_err-read-clause-moments
+returns-in_err-read-clause-moments g c =
+    let S = g.D.Sectors.history in
+    changes_weaker S _ _ 0 _ _ _ (omega arith) (λ x h. h) (reads_change S c.args.disk.now c.read.new.self 1 _ c.read.ensures.reads (inl refl))
+
+pub returns-in_err-read-clause-failures : goal.returns-in_err-read-clause-failures
+returns-in_err-read-clause-failures g c = tells-failed g.D.Sectors.history _ _ _ refl c.from_residual.result _ c.from_residual.ensures.1 c.in_err-read.ensures.failures
+
+pub overflow_cast-count-2 : goal.overflow_cast-count-2
+overflow_cast-count-2 g c = omega (arith, c.len-count.ensures.fits)
+
+pub overflow_sub-count-2 : goal.overflow_sub-count-2
+overflow_sub-count-2 g c = omega (arith, c.if-from-count.false, c.len-count.ensures.value)
+
+pub overflow_mul-count-2 : goal.overflow_mul-count-2
+overflow_mul-count-2 g c = omega (arith, c.len-count.ensures.fits)
+
+pub fill_tail-requires-clause-at : goal.fill_tail-requires-clause-at
+fill_tail-requires-clause-at g c = omega (arith, c.len-count.ensures.fits)
+
+pub fill_tail-requires-clause-total : goal.fill_tail-requires-clause-total
+fill_tail-requires-clause-total g c = c.requires.total
+
+pub fill_tail-requires-clause-length : goal.fill_tail-requires-clause-length
+fill_tail-requires-clause-length g c = c.args.parts.now.size_low
+
+pub returns-clause-failures : goal.returns-clause-failures
+returns-clause-failures g c = tells-after g.D.Sectors.history _ _ _ c.in_ok-read.ensures.failures c.write.result c.write.ensures.failures

@@ -66,3 +66,9 @@ returns-clause-reads g c = reads_then g.D.Sectors.history _ _ _ 18 684 702 (omeg
 
 pub returns-clause-failures : goal.returns-clause-failures
 returns-clause-failures g c = tells-rel-after g.D.Sectors.history _ _ _ c.in_ok-list_slots.ensures.failures c.open_entry.result c.open_entry.ensures.failures
+
+pub list_slots-requires : goal.list_slots-requires
+list_slots-requires g c = record { sound = c.requires.sound }
+
+pub offset_bounds-slots-entry : goal.offset_bounds-slots-entry
+offset_bounds-slots-entry g c = omega (arith, slice_get_within c.as_slice-slots.result.now c.in-Some.entry c.in-Some.ensures.slot c.in-Some.ensures.there, c.as_slice-slots.type_inv.1)

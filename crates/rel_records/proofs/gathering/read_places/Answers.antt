@@ -1,7 +1,8 @@
 -- Side sector by side sector.
-use Rattle.std.proofs.Common.{arith, ap, ◌∙◌, sym, ◌≡◌, ◌+◌, ◌*◌, ◌<◌, ◌∷◌, [], ◌++◌, Some, length, take, drop}
+use Rattle.std.proofs.Common.{arith, ap, ◌∙◌, refl, sym, ◌≡◌, ◌+◌, ◌*◌, ◌<◌, ◌≤◌, ◌∷◌, [], ◌++◌, Some, length, take, drop}
 use Rattle.std.specs.Prelude.{slice_get}
-use Rattle.d64_image.proofs.Moments.{reads_then}
+use Rattle.std.proofs.lemmas.List.{length-take, take_all}
+use Rattle.d64_image.proofs.Moments.{no_reads, reads_then, reads_weaker}
 use Rattle.d64_image.specs.Images.{sector}
 use Rattle.rel_records.proofs.Gathered.{all-listed, len-low, piece-joined, piece-long, piece-named, take-one}
 use Rattle.rel_records.proofs.Sided.{read-there}
@@ -60,3 +61,45 @@ returns-in_err-read-clause-failures g c = tells-failed g.D.Sectors.history _ _ _
 
 pub returns-clause-failures : goal.returns-clause-failures
 returns-clause-failures g c = c.loop-side.invariant.failures
+
+pub loop-side-init : goal.loop-side-init
+loop-side-init g c = record {
+  listed = λ l n f of. c.requires.no_blocks;
+  sides = c.requires.no_sides;
+  reads = no_reads g.D.Sectors.history _;
+  failures = refl;
+}
+
+pub offset_bounds-side-items-side-index : goal.offset_bounds-side-items-side-index
+offset_bounds-side-items-side-index g c = omega (arith, c.loop-side-test.true, c.as_slice-side-items.type_inv.1)
+
+pub bounds-side-items-side-index : goal.bounds-side-items-side-index
+bounds-side-items-side-index g c = c.loop-side-test.true
+
+pub list_blocks-requires-clause-few : goal.list_blocks-requires-clause-few
+list_blocks-requires-clause-few g c = omega (arith, c.min-count.ensures)
+
+pub list_blocks-requires-clause-room : goal.list_blocks-requires-clause-room
+list_blocks-requires-clause-room g c =
+    let (l, n, f, of) = c.requires.of in
+    let low = len-low _ l n f c.args.file.now of c.loop-side.side-index c.len.result c.loop-side.blocks.items (c.loop-side.invariant.listed l n f of) c.len.ensures.value in
+    omega (arith, low, c.len.ensures.value, c.min-count.ensures, c.args.file.now.few)
+
+pub push-requires : goal.push-requires
+push-requires g c =
+    let m = ap length c.loop-side.invariant.sides in
+    (omega arith, omega (arith, m, length-take c.loop-side.side-index c.args.file.now.sides.items, c.loop-side-test.true, ap length c.as_slice-side-items.ensures.value, c.as_slice-side-items.ensures.fits))
+
+pub loop-side-smaller : goal.loop-side-smaller
+loop-side-smaller g c = omega (arith, c.loop-side-test.true)
+
+pub returns-in_err-read-clause-reads : goal.returns-in_err-read-clause-reads
+returns-in_err-read-clause-reads g c = reads_then g.D.Sectors.history _ _ _ c.loop-side.side-index 1 6 (omega (arith, c.loop-side-test.true, c.as_slice-side-items.ensures.fits)) c.loop-side.invariant.reads c.read.ensures.reads
+
+pub returns-clause-sides : goal.returns-clause-sides
+returns-clause-sides g c l n f of =
+    let all : length c.args.file.now.sides.items ≤ c.loop-side.side-index = omega (arith, c.loop-side-test.false, ap length c.as_slice-side-items.ensures.value) in
+    c.loop-side.invariant.sides ∙ take_all c.loop-side.side-index c.args.file.now.sides.items all ∙ of.shows.sides
+
+pub returns-clause-reads : goal.returns-clause-reads
+returns-clause-reads g c = reads_weaker g.D.Sectors.history _ _ c.loop-side.side-index 6 (omega (arith, c.loop-side.auto.side-index-end, c.as_slice-side-items.ensures.fits)) c.loop-side.invariant.reads

@@ -1,6 +1,6 @@
 -- The map, the fresh block, the side sectors.
-use Rattle.std.proofs.Common.{arith, subst, ap, ◌≡◌, ◌∙◌, refl}
-use Rattle.d64_image.proofs.Moments.{at_end, changes_weaker}
+use Rattle.std.proofs.Common.{arith, subst, ap, ◌≡◌, ◌∙◌, refl, inl, inr, length, sym}
+use Rattle.d64_image.proofs.Moments.{at_end, changes_weaker, write_change}
 use Rattle.d64_image.specs.Images.{Image, put}
 use Rattle.d64_image.specs.declared.place.Place.{Place}
 use Rattle.disk_layout.specs.Directory.{map_place}
@@ -8,6 +8,7 @@ use Rattle.rel_records.proofs.Sided.{ok-then}
 use Rattle.rel_records.proofs.Sided.{before_sides, before_two}
 use Rattle.rel_records.specs.Steps.{IsSided}
 use Rattle.rel_records.proofs.Told.{tells-after, not-done, tells-failed}
+use Rattle.disk_layout.specs.Chain.{EachOnce}
 use Rattle.rel_records.proofs.steps.prepare.Goals as goal
 
 pub returns-in_err-write-2-clause-moments : goal.returns-in_err-write-2-clause-moments
@@ -49,3 +50,20 @@ returns-in_err-write-2-clause-failures g c = tells-failed g.D.Sectors.history _ 
 
 pub returns-clause-failures : goal.returns-clause-failures
 returns-clause-failures g c = tells-after g.D.Sectors.history _ _ _ (c.in_ok-write-2.ensures.failures ∙ c.in_ok-write.ensures.failures) c.write_sides.result c.write_sides.ensures.failures
+
+pub returns-in_err-write-clause-moments : goal.returns-in_err-write-clause-moments
+returns-in_err-write-clause-moments g c =
+    let S = g.D.Sectors.history in
+    let p = c.args.parts.now in
+    changes_weaker S _ _ 1 _ _ _ (omega arith) (λ x h. h)
+    (write_change S c.args.disk.now c.write.new.self (S.image c.args.disk.now) (put (S.image c.args.disk.now) c.map_place.result p.map.bytes) _ c.write.ensures.held (omega (arith, c.in_err-write.ensures.uncounted))
+    (inl refl) (inr (inl (ap (λ x. put (S.image c.args.disk.now) x p.map.bytes) c.map_place.ensures))))
+
+pub write_sides-requires-clause-some : goal.write_sides-requires-clause-some
+write_sides-requires-clause-some g c = omega (arith, c.requires.some, ap length c.as_slice-2.ensures.value)
+
+pub write_sides-requires-clause-few : goal.write_sides-requires-clause-few
+write_sides-requires-clause-few g c = omega (arith, c.requires.few, ap length c.as_slice-2.ensures.value)
+
+pub write_sides-requires-clause-once : goal.write_sides-requires-clause-once
+write_sides-requires-clause-once g c = subst EachOnce (sym c.as_slice-2.ensures.value) c.requires.once

@@ -1,5 +1,5 @@
 -- Two blocks are written: the image before, the record with its first part new, and the record as it is to be.
-use Rattle.std.proofs.Common.{arith, length, refl, slice_index, subst, sym, ℕ, ◌+◌, ◌<◌, ◌∙◌}
+use Rattle.std.proofs.Common.{arith, length, refl, slice_index, subst, sym, ℕ, ◌+◌, ◌<◌, ◌∙◌, ◌*◌, ◌≤◌}
 use Rattle.d64_image.specs.Images.{Image}
 use Rattle.disk_layout.specs.Layout.{record_length}
 use Rattle.disk_layout.specs.Records.{records}
@@ -101,3 +101,57 @@ returns-clause-err g c = tt
 
 pub returns-clause-failures : goal.returns-clause-failures
 returns-clause-failures g c = c.in_ok-write_block.ensures.failures ∙ c.in_ok-next.ensures.failures
+
+pub overflow_sub-start : goal.overflow_sub-start
+overflow_sub-start g c = c.requires.low
+
+pub overflow_mul-start : goal.overflow_mul-start
+overflow_mul-start g c =
+    let large : c.args.number * c.args.file.now.size ≤ 182880 = c.requires.large in
+    let more = one-more c.args.number c.args.file.now.size c.requires.low in
+    omega (arith, large, more)
+
+pub overflow_sub-start-2 : goal.overflow_sub-start-2
+overflow_sub-start-2 g c = c.requires.position_low
+
+pub overflow_add-start : goal.overflow_add-start
+overflow_add-start g c =
+    let large : c.args.number * c.args.file.now.size ≤ 182880 = c.requires.large in
+    let more = one-more c.args.number c.args.file.now.size c.requires.low in
+    omega (arith, large, more, c.requires.position_high)
+
+pub overflow_mul-end : goal.overflow_mul-end
+overflow_mul-end g c = omega (arith, c.requires.large)
+
+pub overflow_add-here : goal.overflow_add-here
+overflow_add-here g c = omega (arith, c.requires.few)
+
+pub overflow_mul-here : goal.overflow_mul-here
+overflow_mul-here g c = omega (arith, c.requires.few)
+
+pub overflow_mul-block : goal.overflow_mul-block
+overflow_mul-block g c = omega (arith, c.requires.few)
+
+pub overflow_sub-start-3 : goal.overflow_sub-start-3
+overflow_sub-start-3 g c = c.requires.from
+
+pub write_block-requires-clause-order : goal.write_block-requires-clause-order
+write_block-requires-clause-order g c = omega (arith, c.requires.inside)
+
+pub write_block-requires-clause-inside : goal.write_block-requires-clause-inside
+write_block-requires-clause-inside g c = omega arith
+
+pub overflow_sub-here : goal.overflow_sub-here
+overflow_sub-here g c = omega (arith, c.requires.inside)
+
+pub slice_bounds-rest-count : goal.slice_bounds-rest-count
+slice_bounds-rest-count g c = omega (arith, c.min.ensures)
+
+pub overflow_sub-end : goal.overflow_sub-end
+overflow_sub-end g c = omega (arith, c.requires.over)
+
+pub write_block-requires-2-clause-order : goal.write_block-requires-2-clause-order
+write_block-requires-2-clause-order g c = omega arith
+
+pub write_block-requires-2-clause-inside : goal.write_block-requires-2-clause-inside
+write_block-requires-2-clause-inside g c = omega (arith, one-more c.args.number c.args.file.now.size c.requires.low, c.requires.inside, c.args.file.now.size_high)

@@ -10,6 +10,7 @@ use Rattle.disk_layout.specs.Layout.{record_length}
 use Rattle.disk_layout.specs.Records.{records}
 use Rattle.rel_records.specs.Others.{LeavesRecords}
 use Rattle.rel_records.proofs.Told.{error-then, at-error, tells-rel-after, not-done, fault-is, passed-on}
+use Rattle.disk_layout.specs.Clean.{IsClean}
 use Rattle.rel_records.proofs.writing.write_there.Goals as goal
 
 pub block_at-requires-clause-there : goal.block_at-requires-clause-there
@@ -127,3 +128,60 @@ returns-clause-failures g c = tells-rel-after g.D.Sectors.history _ _ _ c.in_ok-
 
 pub returns-then-end-block-clause-uncounted : goal.returns-then-end-block-clause-uncounted
 returns-then-end-block-clause-uncounted g c one = error-then c.write_in_block.result _ _ (λ e. e ∙ c.block_at.ensures.reads.writes) c.write_in_block.ensures.uncounted
+
+pub overflow_sub-start : goal.overflow_sub-start
+overflow_sub-start g c = c.requires.low
+
+pub overflow_sub-start-2 : goal.overflow_sub-start-2
+overflow_sub-start-2 g c = c.requires.position_low
+
+pub block_at-requires-clause-of : goal.block_at-requires-clause-of
+block_at-requires-clause-of g c = c.requires.of
+
+pub write_in_block-requires-clause-clean : goal.write_in_block-requires-clause-clean
+write_in_block-requires-clause-clean g c = subst IsClean (sym c.block_at.ensures.reads.image) c.requires.clean
+
+pub write_in_block-requires-clause-low : goal.write_in_block-requires-clause-low
+write_in_block-requires-clause-low g c = c.requires.low
+
+pub write_in_block-requires-clause-high : goal.write_in_block-requires-clause-high
+write_in_block-requires-clause-high g c = c.requires.high
+
+pub write_in_block-requires-clause-position_low : goal.write_in_block-requires-clause-position_low
+write_in_block-requires-clause-position_low g c = c.requires.position_low
+
+pub write_in_block-requires-clause-position_high : goal.write_in_block-requires-clause-position_high
+write_in_block-requires-clause-position_high g c = c.requires.position_high
+
+pub write_in_block-requires-clause-from : goal.write_in_block-requires-clause-from
+write_in_block-requires-clause-from g c = omega arith
+
+pub write_in_block-requires-clause-to : goal.write_in_block-requires-clause-to
+write_in_block-requires-clause-to g c = omega (arith, c.if-end-block.true)
+
+pub write_across-requires-clause-clean : goal.write_across-requires-clause-clean
+write_across-requires-clause-clean g c = subst IsClean (sym c.block_at.ensures.reads.image) c.requires.clean
+
+pub write_across-requires-clause-low : goal.write_across-requires-clause-low
+write_across-requires-clause-low g c = c.requires.low
+
+pub write_across-requires-clause-high : goal.write_across-requires-clause-high
+write_across-requires-clause-high g c = c.requires.high
+
+pub write_across-requires-clause-position_low : goal.write_across-requires-clause-position_low
+write_across-requires-clause-position_low g c = c.requires.position_low
+
+pub write_across-requires-clause-position_high : goal.write_across-requires-clause-position_high
+write_across-requires-clause-position_high g c = c.requires.position_high
+
+pub write_across-requires-clause-from : goal.write_across-requires-clause-from
+write_across-requires-clause-from g c = omega arith
+
+pub write_across-requires-clause-inside : goal.write_across-requires-clause-inside
+write_across-requires-clause-inside g c = omega arith
+
+pub write_across-requires-clause-over : goal.write_across-requires-clause-over
+write_across-requires-clause-over g c = omega (arith, c.if-end-block.false)
+
+pub returns-clause-uncounted : goal.returns-clause-uncounted
+returns-clause-uncounted g c one = absurd (omega (arith, one, c.if-end-block.false, one-more c.args.number c.args.file.now.size c.requires.low))

@@ -1,4 +1,4 @@
-use Rattle.std.proofs.Common.{ap, arith, subst, sym, ◌∙◌, IfOk}
+use Rattle.std.proofs.Common.{ap, arith, refl, subst, sym, ◌∙◌, IfOk}
 use Rattle.d64_image.proofs.Moments.{no_reads}
 use Rattle.drive_channels.proofs.Openings.{closed-of, read-by, recalled}
 use Rattle.drive_channels.proofs.known.Known.open.Goals as goal
@@ -38,3 +38,21 @@ pub returns-clause-opened : goal.returns-clause-opened
 returns-clause-opened g c =
     subst (λ (k : Known). IsOpenedBy g.D.Sectors.history c.args.disk.now c.open_wish.new.disk c.args.text.now (channel_of k.last) (channel_of c.open_wish.new.self.last) c.open_wish.result)
     (c.recall.ensures.other c.if-recall.false).0 c.open_wish.ensures.opened
+
+pub returns-then-channel-lt2-clause-known : goal.returns-then-channel-lt2-clause-known
+returns-then-channel-lt2-clause-known g c = c.requires.known
+
+pub returns-then-channel-lt2-clause-opened : goal.returns-then-channel-lt2-clause-opened
+returns-then-channel-lt2-clause-opened g c = read-by g.D.Sectors.history _ _ 0 c.args.text.now _ _ _ (omega arith) (no_reads g.D.Sectors.history _)
+
+pub returns-then-channel-lt2-clause-failures : goal.returns-then-channel-lt2-clause-failures
+returns-then-channel-lt2-clause-failures g c = refl
+
+pub returns-then-recall-clause-failures : goal.returns-then-recall-clause-failures
+returns-then-recall-clause-failures g c = refl
+
+pub returns-clause-known : goal.returns-clause-known
+returns-clause-known g c = c.open_wish.ensures.known
+
+pub returns-clause-failures : goal.returns-clause-failures
+returns-clause-failures g c = c.open_wish.ensures.failures

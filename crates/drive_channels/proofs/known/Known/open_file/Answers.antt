@@ -1,12 +1,14 @@
-use Rattle.std.proofs.Common.{ℕ, Option, sym, subst}
+use Rattle.std.proofs.Common.{ℕ, IsNone, Option, inl, refl, sym, subst}
 use Rattle.d64_image.specs.Images.{Image}
-use Rattle.drive_channels.proofs.Openings.{if-ok, opened-made, same-shown}
+use Rattle.drive_channels.proofs.Openings.{if-ok, none-done, not-done, opened-made, read-for, same-shown, tells-after, tells-failed}
 use Rattle.drive_channels.proofs.known.Known.open_file.Goals as goal
 use Rattle.drive_channels.specs.Files.{HasFile}
-use Rattle.drive_channels.specs.Inside.{HasLooked, shown}
+use Rattle.drive_channels.specs.Inside.{HasLooked, IsKnown, shown}
+use Rattle.drive_channels.specs.Spelling.{IsSpelled}
 use Rattle.drive_channels.specs.State.{View}
 use Rattle.drive_channels.specs.Tables.{OpensFile}
 use Rattle.drive_channels.specs.Wishes.{wish_of}
+use Rattle.drive_channels.specs.declared.status.Status.TheVariants as statuses
 
 pub returns-then-branch-clause-row : goal.returns-then-branch-clause-row
 returns-then-branch-clause-row g c = λ s.
@@ -34,3 +36,88 @@ returns-in-Some-clause-row g c =
 pub returns-in-Some-clause-opened : goal.returns-in-Some-clause-opened
 returns-in-Some-clause-opened g c = opened-made g.D.Sectors.history _ _ _ c.args.wish.name.now c.args.wish.length c.in-Some.length _ c.make.result c.look_up.ensures.reads c.in-Some.is
     (c.in_ok-look_up.ensures.found.missing c.if-branch.false) c.make.ensures.refused c.make.ensures.opened c.make.ensures.moments
+
+pub look_up-requires-clause-known : goal.look_up-requires-clause-known
+look_up-requires-clause-known g c = c.requires.known
+
+pub look_up-requires-clause-checked : goal.look_up-requires-clause-checked
+look_up-requires-clause-checked g c = c.requires.checked
+
+pub look_up-requires-clause-closed : goal.look_up-requires-clause-closed
+look_up-requires-clause-closed g c = c.requires.closed
+
+pub look_up-requires-clause-name : goal.look_up-requires-clause-name
+look_up-requires-clause-name g c = c.requires.wish.1.0
+
+pub returns-in_err-look_up-clause-row : goal.returns-in_err-look_up-clause-row
+returns-in_err-look_up-clause-row g c = none-done c.from_residual.result _ c.from_residual.ensures.1 _
+
+pub returns-in_err-look_up-clause-known : goal.returns-in_err-look_up-clause-known
+returns-in_err-look_up-clause-known g c = not-done c.from_residual.result _ c.from_residual.ensures.1 _
+
+pub returns-in_err-look_up-clause-opened : goal.returns-in_err-look_up-clause-opened
+returns-in_err-look_up-clause-opened g c = read-for g.D.Sectors.history _ _ _ _ c.from_residual.result c.look_up.ensures.reads
+
+pub returns-in_err-look_up-clause-failures : goal.returns-in_err-look_up-clause-failures
+returns-in_err-look_up-clause-failures g c = tells-failed g.D.Sectors.history _ _ c.from_residual.result _ c.from_residual.ensures.1 c.in_err-look_up.ensures.failures
+
+pub open_last-requires-clause-low : goal.open_last-requires-clause-low
+open_last-requires-clause-low g c = c.requires.low
+
+pub open_last-requires-clause-high : goal.open_last-requires-clause-high
+open_last-requires-clause-high g c = c.requires.high
+
+pub returns-then-branch-clause-known : goal.returns-then-branch-clause-known
+returns-then-branch-clause-known g c =
+    subst (λ (i : Image). IsKnown i c.open_last.new.self) (sym c.look_up.ensures.reads.image) (c.open_last.ensures.known (g.D.Sectors.history.image c.args.disk.now) c.in_ok-look_up.ensures.found.known)
+
+pub returns-then-branch-clause-opened : goal.returns-then-branch-clause-opened
+returns-then-branch-clause-opened g c = read-for g.D.Sectors.history _ _ _ _ _ c.look_up.ensures.reads
+
+pub returns-then-branch-clause-failures : goal.returns-then-branch-clause-failures
+returns-then-branch-clause-failures g c = c.in_ok-look_up.ensures.failures
+
+pub make-requires-clause-known : goal.make-requires-clause-known
+make-requires-clause-known g c = subst (λ (i : Image). IsKnown i c.look_up.new.self) (sym c.look_up.ensures.reads.image) c.in_ok-look_up.ensures.found.known
+
+pub make-requires-clause-checked : goal.make-requires-clause-checked
+make-requires-clause-checked g c = c.in_ok-look_up.ensures.found.checked
+
+pub make-requires-clause-low : goal.make-requires-clause-low
+make-requires-clause-low g c = c.requires.low
+
+pub make-requires-clause-high : goal.make-requires-clause-high
+make-requires-clause-high g c = c.requires.high
+
+pub make-requires-clause-name : goal.make-requires-clause-name
+make-requires-clause-name g c = c.requires.wish.1.0
+
+pub make-requires-clause-size_low : goal.make-requires-clause-size_low
+make-requires-clause-size_low g c = (subst (IsSpelled c.requires.wish.0 c.args.wish.name.now) c.in-Some.is c.requires.wish.1.1).2.low
+
+pub make-requires-clause-size_high : goal.make-requires-clause-size_high
+make-requires-clause-size_high g c = (subst (IsSpelled c.requires.wish.0 c.args.wish.name.now) c.in-Some.is c.requires.wish.1.1).2.high
+
+pub returns-in-Some-clause-known : goal.returns-in-Some-clause-known
+returns-in-Some-clause-known g c = c.make.ensures.known
+
+pub returns-in-Some-clause-failures : goal.returns-in-Some-clause-failures
+returns-in-Some-clause-failures g c = tells-after g.D.Sectors.history _ _ _ c.in_ok-look_up.ensures.failures c.make.result c.make.ensures.failures
+
+pub returns-in-None-clause-row : goal.returns-in-None-clause-row
+returns-in-None-clause-row g c = λ s.
+    let img = g.D.Sectors.history.image in
+    let looked = c.in_ok-look_up.ensures.found in
+    inl (
+      (subst IsNone (sym c.in-None.is) refl, looked.missing c.if-branch.false),
+      same-shown (img c.args.disk.now) (img c.look_up.new.disk) c.args.self.now c.look_up.new.self statuses.FileNotFound c.look_up.ensures.reads.image c.requires.closed c.requires.checked looked.closed looked.checked,
+    )
+
+pub returns-in-None-clause-known : goal.returns-in-None-clause-known
+returns-in-None-clause-known g c = subst (λ (i : Image). IsKnown i c.look_up.new.self) (sym c.look_up.ensures.reads.image) c.in_ok-look_up.ensures.found.known
+
+pub returns-in-None-clause-opened : goal.returns-in-None-clause-opened
+returns-in-None-clause-opened g c = read-for g.D.Sectors.history _ _ _ _ _ c.look_up.ensures.reads
+
+pub returns-in-None-clause-failures : goal.returns-in-None-clause-failures
+returns-in-None-clause-failures g c = c.in_ok-look_up.ensures.failures

@@ -1,9 +1,10 @@
-use Rattle.std.proofs.Common.{true, inl, inr, ap₂, subst}
+use Rattle.std.proofs.Common.{true, inl, inr, ap, ap₂, arith, refl, subst, sym, ◌∙◌}
+use Rattle.d64_image.proofs.Moments.{no_reads}
 use Rattle.d64_image.specs.Images.{Image}
-use Rattle.drive_channels.proofs.Openings.{checked-shown, if-ok, opened-by, past}
+use Rattle.drive_channels.proofs.Openings.{checked-shown, if-ok, none-done, not-done, opened-by, past, read-by, tells-after, tells-failed, unspelled}
 use Rattle.drive_channels.proofs.Wishes.{wish-one}
 use Rattle.drive_channels.proofs.known.Known.open_wish.Goals as goal
-use Rattle.drive_channels.specs.Inside.{shown}
+use Rattle.drive_channels.specs.Inside.{IsKnown, channel_of, shown}
 use Rattle.drive_channels.specs.Spelling.{Wish}
 use Rattle.drive_channels.specs.State.{View}
 use Rattle.drive_channels.specs.Tables.{OpensFile}
@@ -41,3 +42,64 @@ pub returns-clause-opened : goal.returns-clause-opened
 returns-clause-opened g c = opened-by g.D.Sectors.history _ _ _ c.args.text.now (wish_of c.in-Some.wish) _ _ c.open_file.result c.passes_check.ensures.reads
     ((c.in_ok-passes_check.ensures.passed c.if-not-branch.false).1.remembered (c.in_ok-passes_check.ensures.passed c.if-not-branch.false).0).clean c.in-Some.ensures
     (λ v is. wish-one c.args.text.now v (wish_of c.in-Some.wish) is c.in-Some.ensures) c.requires.closed c.open_file.ensures.opened
+
+pub returns-in_default-clause-known : goal.returns-in_default-clause-known
+returns-in_default-clause-known g c = c.requires.known
+
+pub returns-in_default-clause-opened : goal.returns-in_default-clause-opened
+returns-in_default-clause-opened g c = read-by g.D.Sectors.history _ _ 0 c.args.text.now _ _ _ (omega arith) (no_reads g.D.Sectors.history _)
+
+pub returns-in_default-clause-failures : goal.returns-in_default-clause-failures
+returns-in_default-clause-failures g c = refl
+
+pub returns-in_err-passes_check-clause-row : goal.returns-in_err-passes_check-clause-row
+returns-in_err-passes_check-clause-row g c = none-done c.from_residual.result _ c.from_residual.ensures.1 _
+
+pub returns-in_err-passes_check-clause-known : goal.returns-in_err-passes_check-clause-known
+returns-in_err-passes_check-clause-known g c = not-done c.from_residual.result _ c.from_residual.ensures.1 _
+
+pub returns-in_err-passes_check-clause-opened : goal.returns-in_err-passes_check-clause-opened
+returns-in_err-passes_check-clause-opened g c = read-by g.D.Sectors.history _ _ 2115 c.args.text.now _ _ c.from_residual.result (omega arith) c.passes_check.ensures.reads
+
+pub returns-in_err-passes_check-clause-failures : goal.returns-in_err-passes_check-clause-failures
+returns-in_err-passes_check-clause-failures g c = tells-failed g.D.Sectors.history _ _ c.from_residual.result _ c.from_residual.ensures.1 c.in_err-passes_check.ensures.failures
+
+pub returns-then-not-branch-clause-known : goal.returns-then-not-branch-clause-known
+returns-then-not-branch-clause-known g c =
+    subst (λ (i : Image). IsKnown i c.passes_check.new.self) (sym c.passes_check.ensures.reads.image)
+    (subst (IsKnown (g.D.Sectors.history.image c.args.disk.now)) (sym (c.in_ok-passes_check.ensures.refused c.if-not-branch.true).0) c.requires.known)
+
+pub returns-then-not-branch-clause-opened : goal.returns-then-not-branch-clause-opened
+returns-then-not-branch-clause-opened g c = read-by g.D.Sectors.history _ _ 2115 c.args.text.now _ _ _ (omega arith) c.passes_check.ensures.reads
+
+pub returns-then-not-branch-clause-failures : goal.returns-then-not-branch-clause-failures
+returns-then-not-branch-clause-failures g c = c.in_ok-passes_check.ensures.failures
+
+pub open_file-requires-clause-known : goal.open_file-requires-clause-known
+open_file-requires-clause-known g c = subst (λ (i : Image). IsKnown i c.passes_check.new.self) (sym c.passes_check.ensures.reads.image) (c.in_ok-passes_check.ensures.passed c.if-not-branch.false).1
+
+pub open_file-requires-clause-checked : goal.open_file-requires-clause-checked
+open_file-requires-clause-checked g c = (c.in_ok-passes_check.ensures.passed c.if-not-branch.false).0
+
+pub open_file-requires-clause-closed : goal.open_file-requires-clause-closed
+open_file-requires-clause-closed g c = ap channel_of c.in_ok-passes_check.ensures.last ∙ c.requires.closed
+
+pub open_file-requires-clause-low : goal.open_file-requires-clause-low
+open_file-requires-clause-low g c = c.requires.low
+
+pub open_file-requires-clause-high : goal.open_file-requires-clause-high
+open_file-requires-clause-high g c = c.requires.high
+
+pub open_file-requires-clause-wish : goal.open_file-requires-clause-wish
+open_file-requires-clause-wish g c = (c.args.text.now, c.in-Some.ensures)
+
+pub returns-clause-known : goal.returns-clause-known
+returns-clause-known g c = c.open_file.ensures.known
+
+pub returns-clause-failures : goal.returns-clause-failures
+returns-clause-failures g c = tells-after g.D.Sectors.history _ _ _ c.in_ok-passes_check.ensures.failures c.open_file.result c.open_file.ensures.failures
+
+pub returns-in_default-clause-row : goal.returns-in_default-clause-row
+returns-in_default-clause-row g c = λ s.
+    let x = shown (g.D.Sectors.history.image c.args.disk.now) c.args.self.now s in
+    unspelled x c.args.channel c.args.text.now _ c.requires.low c.requires.high c.requires.closed c.in_default.ensures refl
