@@ -1,15 +1,16 @@
 -- What is known of a request that was answered, said of the message that it was read from.
-use Rattle.std.proofs.Common.{◌≡◌, ◌⊎◌, ℕ, ◌≤◌, ◌<◌, ◌+◌, inl, Bool, false, Option, Some, None, sym, ◌∙◌, ap, subst, arith}
-use Rattle.d64_image.specs.History.{Changes, History}
+use Rattle.std.proofs.Common.{◌≡◌, ◌⊎◌, ℕ, ◌≤◌, ◌<◌, ◌+◌, inl, inr, Bool, false, true, Option, Some, None, refl, sym, ◌∙◌, ap, subst, arith}
+use Rattle.d64_image.specs.History.{Changes, Failed, History}
 use Rattle.d64_image.specs.Images.{Image}
 use Rattle.d64_image.proofs.Moments.{changes_weaker, no_change}
 use Rattle.request_cards.specs.declared.reply.Reply.TheVariants.{Syntax, Told}
+use Rattle.request_cards.specs.declared.reply.Word.TheVariants.{Media}
 use Rattle.request_cards.specs.declared.reply.Word.{Word}
 use Rattle.request_cards.specs.Ledgers.{after_message, next_in, reply_in, word_in}
 use Rattle.request_cards.specs.Requests.{Ask}
 use Rattle.host_session.specs.Answering.{IsAnswered}
 use Rattle.host_session.specs.Files.{Files, HasFiles}
-use Rattle.host_session.specs.Handling.{IsMedia, MayGrow, is_next_request, most_writes}
+use Rattle.host_session.specs.Handling.{IsMedia, MayGrow, is_next_request, media, most_writes}
 use Rattle.host_session.specs.Shop.{IsSettled, IsShop, Shop, shop_of, start_of, with_state}
 use Rattle.host_session.specs.Standing.{View}
 
@@ -58,3 +59,29 @@ module _ {D : Type 0} (S : History D) (old new : View D) (o : Option Ask) (a : A
   pub told-counted : (s : Shop) → IsShop (S.image old.disk) s → S.writes old.disk < S.writes new.disk
       → MayGrow s o ⊎ IsShop (S.image new.disk) (with_state s (after_message (start_of s) s.state o))
   told-counted s h lt = subst (λ (p : Option Ask). MayGrow s p ⊎ IsShop (S.image new.disk) (after_option s p)) (sym e) (answered.counted s h lt)
+
+-- a message is a request or none, and a session is dead or not
+pub one-option : {A X : Type 0} {o : Option A} {a : A} → o ≡ Some a → o ≡ None → X
+one-option is none = cc
+
+pub one-bool : {X : Type 0} {b : Bool} → b ≡ true → b ≡ false → X
+one-bool is other = cc
+
+-- what is no request isn't told MEDIA
+pub syntax-other : {X : Type 0} → IsMedia Syntax → X
+syntax-other (t, n, e) = cc
+
+-- a request's MEDIA is the message's
+pub told-media : (o : Option Ask) (a : Ask) → o ≡ Some a → (t n : ℕ) → t ≡ a.till → n ≡ a.number → (w : Word) → w ≡ Media → Told t n w ≡ media o
+told-media o a e t n till number w is = (λ i. Told (till i) (number i) (is i)) ∙ ap media (sym e)
+
+pub media-word : (t n : ℕ) (w : Word) → IsMedia (Told t n w) → w ≡ Media
+media-word t n w (x, y, e) = cc
+
+pub told-failures : {D : Type 0} (S : History D) (old new : View D) (a : Ask) (t n : ℕ) (w : Word) → IsAnswered S old new a w
+    → (IsMedia (Told t n w) × (new.dead ≡ true) × ((old.dead ≡ true) ⊎ Failed S old.disk new.disk))
+    ⊎ (¬ (IsMedia (Told t n w)) × (S.failures new.disk ≡ S.failures old.disk))
+told-failures S old new a t n w answered = elim answered.failures [
+  | inl x ↦ inl ((t, n, ap (Told t n) x.0), x.1, inr x.2)
+  | inr x ↦ inr (λ m. x.0 (media-word t n w m), x.1)
+]

@@ -13,6 +13,11 @@ pub error-changes : {T D : Type 0} (S : History D) (a : D) (m n : ℕ) (P : Imag
 error-changes {T = T} {D = D} S a m n P f r e le is changes =
     subst (λ (q : Result T (OpenFault × D)). Changes S a (disk_of f q) n P) (sym is) (changes_weaker S a e.1 m n P P le (λ i x. x) changes)
 
+-- and what it tells of the device
+pub error-tells : {T D : Type 0} (S : History D) (a : D) (f : T → D) (r : Result T (OpenFault × D)) (e : OpenFault × D) → r ≡ Err e
+    → ((e.0 ≡ faults.Device) × Failed S a e.1) ⊎ ((e.0 ≢ faults.Device) × (S.failures e.1 ≡ S.failures a)) → TellsOpening f S a r
+error-tells {T = T} {D = D} S a f r e is told = subst (λ (q : Result T (OpenFault × D)). TellsOpening f S a q) (sym is) told
+
 pub ok-weaker : {T E : Type 0} (P Q : T → Type 0) (r : Result T E) → ((x : T) → P x → Q x) → IfOk r P → IfOk r Q
 ok-weaker P Q (Ok x) f h = f x h
 ok-weaker P Q (Err e) f h = h

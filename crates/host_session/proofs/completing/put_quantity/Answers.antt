@@ -19,3 +19,15 @@ returns-clause-moments g c = λ f h.
     subst (λ (t : List ℕ). Changes g.D.Sectors.history c.args.drive.now.disk c.put_card.new.drive.disk (touched 18 c.args.item 1) (IsPuttingCard f c.args.item t))
     (c.print.ensures ∙ ap stock_text (some-of _ c.new.result c.unwrap-card.result c.unwrap-card.ensures c.new.ensures.some))
     (c.put_card.ensures.moments f h)
+
+pub put_card-requires-clause-ready : goal.put_card-requires-clause-ready
+put_card-requires-clause-ready g c = c.requires.ready
+
+pub returns-clause-ready : goal.returns-clause-ready
+returns-clause-ready g c = c.put_card.ensures.ready
+
+pub returns-clause-failures : goal.returns-clause-failures
+returns-clause-failures g c = c.put_card.ensures.failures
+
+pub returns-clause-dies : goal.returns-clause-dies
+returns-clause-dies g c = c.put_card.ensures.dies

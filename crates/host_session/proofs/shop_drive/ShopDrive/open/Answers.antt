@@ -1,10 +1,12 @@
 use Rattle.std.proofs.Common.{◌∙◌, ap, refl, subst, sym}
+use Rattle.std.proofs.lemmas.Bool.{false≢true}
 use Rattle.std.proofs.lemmas.Result.{err_from_is_err_and}
 use Rattle.d64_image.proofs.Moments.{failed_later}
 use Rattle.disk_layout.specs.Layout.{IsLayout}
 use Rattle.drive_channels.proofs.Wishes.{name-plain}
 use Rattle.host_session.proofs.Selection.{alive-of, nothing-read, reads-between}
 use Rattle.host_session.proofs.Channels.{opened-inside, opened-on}
+use Rattle.rel_records.proofs.Told.{not-done}
 use Rattle.host_session.specs.Selecting.{IsReady}
 use Rattle.host_session.proofs.shop_drive.ShopDrive.open.Goals as goal
 
@@ -53,3 +55,18 @@ returns-clause-failures g c =
     let S = g.D.Sectors.history in
     let alive = alive-of S c.self.inside.drive c.close.new.self _ c.in_ok-close.ensures.serves in
     rw (← c.self.view_is) (c.in_ok-open.ensures.serves.failures alive ∙ ap (λ d. S.failures d) c.close.ensures.disk)
+
+pub returns-in_err-close-clause-on : goal.returns-in_err-close-clause-on
+returns-in_err-close-clause-on g c = λ l n f is first. not-done c.from_residual.result _ c.from_residual.ensures.1 _
+
+pub returns-in_err-close-clause-dies : goal.returns-in_err-close-clause-dies
+returns-in_err-close-clause-dies g c = λ failed. c.in_err-close.ensures.serves.dies.1 refl
+
+pub returns-in_err-open-clause-on : goal.returns-in_err-open-clause-on
+returns-in_err-open-clause-on g c = λ l n f is first. not-done c.from_residual-in_err-open.result _ c.from_residual-in_err-open.ensures.1 _
+
+pub returns-in_err-open-clause-dies : goal.returns-in_err-open-clause-dies
+returns-in_err-open-clause-dies g c = λ failed. c.in_err-open.ensures.serves.dies.1 refl
+
+pub returns-clause-dies : goal.returns-clause-dies
+returns-clause-dies g c = λ failed. absurd (false≢true failed)
