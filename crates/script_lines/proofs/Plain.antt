@@ -1,5 +1,5 @@
 -- Lines that don't begin with @ aren't bad.
-use Rattle.std.proofs.Common.{◌≡◌, ◌+◌, ℕ, Bool, true, false, List, [], ◌∷◌, Option, Some, None, refl}
+use Rattle.std.proofs.Common.{◌≡◌, ◌+◌, ℕ, Bool, true, false, List, [], ◌∷◌, Option, Some, None, refl, ap, arith}
 use Rattle.std.specs.Prelude.{◌==◌, ◌||◌, fold, option_map, if◌then◌else◌}
 use Rattle.script_lines.specs.Lines.{first_reset, is_reset, lines}
 use Rattle.script_lines.specs.Resets.{first_bad, line_of}
@@ -26,3 +26,8 @@ none_bad (l ∷ ls) none = pick (is_reset l) (line_plain l) (first_reset ls) (no
 
 pub no_reset : (script : List ℕ) → fold (λ found b. found || b == 64) false script ≡ false → first_bad (lines script) ≡ None
 no_reset script none = none_bad (lines script) (no_at script none)
+
+-- no line is counted yet
+pub from_zero : (o : Option ℕ) → o ≡ option_map (λ n. 0 + n) o
+from_zero None = refl
+from_zero (Some n) = let same : n ≡ 0 + n = omega arith in ap (λ m. Some m) same

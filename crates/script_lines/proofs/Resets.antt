@@ -1,9 +1,9 @@
 -- Lines with a reset, number by number.
-use Rattle.std.proofs.Common.{◌≡◌, ◌≤◌, ◌+◌, ℕ, Bool, true, false, List, [], ◌∷◌, ◌++◌, Option, Some, None, refl, sym, ◌∙◌, ap, append_assoc, append-nil, length, length-append, arith}
-use Rattle.std.specs.Prelude.{nat_le, if◌then◌else◌}
+use Rattle.std.proofs.Common.{◌≡◌, ◌≤◌, ◌+◌, ℕ, Bool, true, false, List, [], ◌∷◌, ◌++◌, Option, Some, None, refl, sym, ◌∙◌, ap, append_assoc, append-nil, length, length-append, arith, Result, Ok, Err, IsOk, OnOk}
+use Rattle.std.specs.Prelude.{is_err, nat_le, if◌then◌else◌}
 use Rattle.request_cards.specs.Reading.{cut_at, number_in, ◌>>=◌}
 use Rattle.script_lines.specs.Lines.{split}
-use Rattle.script_lines.specs.Resets.{Line, counts_of, reset_with, reset_of}
+use Rattle.script_lines.specs.Resets.{Line, counts_of, reset_with, reset_of, line_of}
 
 -- what a line is whose first numbers are read, and whose fields from here on are left
 abbrev pub with_left : List ℕ → ℕ → List ℕ → List (List ℕ) → Option Line
@@ -79,3 +79,28 @@ first_not bytes counts message first fields cut pieces is =
 pub no_space : (bytes : List ℕ) → cut_at 32 bytes ≡ None → reset_of bytes ≡ None
 unfolding reset_of
 no_space bytes none = ap (λ (o : Option (List ℕ × List ℕ)). o >>= (λ c. counts_of (split 47 c.0) >>= (λ ns. reset_with c.1 ns))) none
+
+-- the next field is no number
+pub next_not : (bytes message : List ℕ) (k : ℕ) (read field : List ℕ) (left fields : List (List ℕ)) → reset_of bytes ≡ with_left message k read left
+    → left ≡ field ∷ fields → number_in 0 99999 field ≡ None → reset_of bytes ≡ None
+next_not bytes message k read field left fields so pieces is =
+    so ∙ ap (with_left message k read) pieces ∙ none_read message k read field fields is
+
+-- the next field is a number, and there is room for it
+pub next_read : (bytes message : List ℕ) (k : ℕ) (read now field : List ℕ) (left fields : List (List ℕ)) (n : ℕ) → reset_of bytes ≡ with_left message k read left
+    → left ≡ field ∷ fields → number_in 0 99999 field ≡ Some n → now ≡ read ++ n ∷ [] → reset_of bytes ≡ with_left message k now fields
+next_read bytes message k read now field left fields n so pieces is pushed =
+    so ∙ ap (with_left message k read) pieces ∙ one_read message k read field fields n is ∙ ap (λ xs. with_left message k xs fields) (sym pushed)
+
+-- what is no error is Ok
+pub taken : {A E : Type 0} (r : Result A E) → false ≡ is_err r → IsOk r
+taken (Ok x) e = refl
+taken (Err x) e = cc
+
+pub once_taken : {A E P : Type 0} (r : Result A E) → false ≡ is_err r → OnOk r P → P
+once_taken (Ok x) e p = p
+once_taken (Err x) e p = cc
+
+-- a line that begins with @ is a reset
+pub reset_line : (line : List ℕ) (b : ℕ) (rest : List ℕ) → line ≡ b ∷ rest → b ≡ 64 → line_of line ≡ reset_of rest
+reset_line line b rest parts at = ap line_of parts ∙ ap (λ c. line_of (c ∷ rest)) at

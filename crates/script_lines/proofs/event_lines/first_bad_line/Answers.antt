@@ -1,9 +1,17 @@
 -- Without an @ no line is bad.
-use Rattle.std.proofs.Common.{◌≡◌, false, rules, sym, ◌∙◌}
-use Rattle.script_lines.proofs.Plain.{no_reset}
+use Rattle.std.proofs.Common.{◌≡◌, false, rules, sym, ◌∙◌, arith}
+use Rattle.script_lines.specs.Lines.{lines}
+use Rattle.script_lines.specs.Resets.{first_bad}
+use Rattle.script_lines.proofs.Plain.{from_zero, no_reset}
 use Rattle.script_lines.proofs.event_lines.first_bad_line.Goals as goal
 
 pub returns-then-not-has_byte : goal.returns-then-not-has_byte
 returns-then-not-has_byte c =
     let absent : c.has_byte.result ≡ false = search rules in
     sym (no_reset c.args.script.now (sym c.has_byte.ensures ∙ absent))
+
+pub loop-line-init : goal.loop-line-init
+loop-line-init c = record {
+  passed = from_zero (first_bad (lines c.args.script.now));
+  room = omega arith;
+}
