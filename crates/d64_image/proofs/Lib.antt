@@ -5,5 +5,6 @@ pub mod Images
 pub mod Mirrored
 pub mod Moments
 pub mod Once
+pub mod OneCalls
 pub mod Places
 pub mod Rows
