@@ -24,6 +24,11 @@ use std::{env, fs, io};
 /// How many rounds there are where no word says it.
 const ROUNDS: u64 = 1000;
 
+/// The words of all benchmarks.
+const WORDS: [&str; 8] = [
+    "sectors", "check", "growth", "reads", "writes", "drive", "requests", "openings",
+];
+
 /// How many bytes of output are gathered before they are written.
 const OUTPUT_ROOM: usize = 65536;
 
@@ -63,22 +68,23 @@ fn blank(rt: &HostRuntime, tills: u8) -> Result<MemDisk, &'static str>
     }
 }
 
-/// The disk of the image file that is named; where none is, the blank disk for two tills.
-fn asked_disk(rt: &HostRuntime, path: Option<String>) -> Result<MemDisk, &'static str> {
-    let Some(path) = path else {
-        return blank(rt, 2);
-    };
-    let bytes = or_say(fs::read(rt, path.as_str()), "the image is not readable")?;
-    or_say(
-        MemDisk::load(rt.alloc(), bytes.as_slice()),
-        "the image has another size, or no memory",
-    )
+/// The disk of an image file.
+fn disk_of(rt: &HostRuntime, path: &str) -> Result<MemDisk, &'static str> {
+    match fs::read(rt, path) {
+        Ok(bytes) => or_say(
+            MemDisk::load(rt.alloc(), bytes.as_slice()),
+            "the image has another size, or no memory",
+        ),
+        Err(_) => Err("the image is not readable"),
+    }
 }
 
-/// `sectors`: a byte of so many sectors is raised; gives a checksum of these bytes.
-fn time_sectors(rt: &HostRuntime, rounds: u64) -> Done {
-    let mut disk = zeroed(rt)?;
-    or_say(sectors::run(&mut disk, rounds), "the device failed")
+/// The disk of the image file that is named; where none is, the blank disk for two tills.
+fn asked_disk(rt: &HostRuntime, path: Option<String>) -> Result<MemDisk, &'static str> {
+    match path {
+        Some(path) => disk_of(rt, path.as_str()),
+        None => blank(rt, 2),
+    }
 }
 
 /// `check`: the disk is checked so many times; gives how often it was clean.
@@ -96,44 +102,50 @@ fn checksum(bytes: &[u8]) -> u64 {
     sum
 }
 
+/// `sectors`: a byte of so many sectors is raised; gives a checksum of these bytes.
+fn time_sectors(disk: &mut MemDisk, rounds: u64) -> Done {
+    or_say(sectors::run(disk, rounds), "the device failed")
+}
+
 /// `growth`: STOCK grows from one block until the disk is full, so many times over; gives a checksum of the image.
-fn time_growth(rt: &HostRuntime, rounds: u64) -> Done {
-    let mut disk = zeroed(rt)?;
+fn time_growth(disk: &mut MemDisk, rounds: u64) -> Done {
     for _round in 0..rounds {
-        or_say(records::grow_stock(&mut disk), "STOCK can't grow")?;
+        if records::grow_stock(disk).is_err() {
+            return Err("STOCK can't grow");
+        }
     }
     Ok(checksum(disk.bytes()))
 }
 
 /// `reads`: so many records of a full disk are read, where each holds what was written; gives a checksum of bytes read.
-fn time_reads(rt: &HostRuntime, rounds: u64) -> Done {
-    let mut disk = zeroed(rt)?;
-    or_say(
-        records::read_full(&mut disk, rounds),
-        "the records aren't read",
-    )
+fn time_reads(disk: &mut MemDisk, rounds: u64) -> Done {
+    or_say(records::read_full(disk, rounds), "the records aren't read")
 }
 
 /// `writes`: so many records of a full disk are written; gives a checksum of the image.
-fn time_writes(rt: &HostRuntime, rounds: u64) -> Done {
-    let mut disk = zeroed(rt)?;
-    or_say(
-        records::write_full(&mut disk, rounds),
-        "the records aren't written",
-    )?;
-    Ok(checksum(disk.bytes()))
+fn time_writes(disk: &mut MemDisk, rounds: u64) -> Done {
+    match records::write_full(disk, rounds) {
+        Ok(()) => Ok(checksum(disk.bytes())),
+        Err(_) => Err("the records aren't written"),
+    }
+}
+
+/// A record of each file of a full disk is written through a drive so many times; gives a checksum of the image.
+fn time_turns(disk: MemDisk, rounds: u64) -> Done {
+    let mut drive = Drive::power_on(disk);
+    match drives::put_by_turns(&mut drive, rounds) {
+        Ok(()) => Ok(checksum(drive.into_disk().bytes())),
+        Err(_) => Err("the drive is dead"),
+    }
 }
 
 /// `drive`: so many times a record of each file of a full disk is written through a drive; gives a checksum of the image.
 fn time_drive(rt: &HostRuntime, rounds: u64) -> Done {
     let mut disk = zeroed(rt)?;
-    or_say(records::grow_stock(&mut disk), "STOCK can't grow")?;
-    let mut drive = Drive::power_on(disk);
-    or_say(
-        drives::put_by_turns(&mut drive, rounds),
-        "the drive is dead",
-    )?;
-    Ok(checksum(drive.into_disk().bytes()))
+    match records::grow_stock(&mut disk) {
+        Ok(_) => time_turns(disk, rounds),
+        Err(_) => Err("STOCK can't grow"),
+    }
 }
 
 /// A disk that was blank, after so many messages of 64 tills to a session on it, and a checksum of the replies.
@@ -166,18 +178,36 @@ fn time_openings(rt: &HostRuntime, rounds: u64) -> Done {
     Ok(checksum(disk.bytes()))
 }
 
+/// The benchmark of a word that works on a disk in memory. Err also where there is no such word.
+fn timed_on(disk: &mut MemDisk, word: &str, rounds: u64) -> Done {
+    match word {
+        "sectors" => time_sectors(disk, rounds),
+        "growth" => time_growth(disk, rounds),
+        "reads" => time_reads(disk, rounds),
+        "writes" => time_writes(disk, rounds),
+        _ => Err("the words are sectors, check, growth, reads, writes, drive, requests, openings"),
+    }
+}
+
 /// The benchmark of a word. Err also where there is no such word.
 fn timed(rt: &HostRuntime, word: &str, rounds: u64, path: Option<String>) -> Done {
     match word {
-        "sectors" => time_sectors(rt, rounds),
         "check" => time_checks(rt, rounds, path),
-        "growth" => time_growth(rt, rounds),
-        "reads" => time_reads(rt, rounds),
-        "writes" => time_writes(rt, rounds),
         "drive" => time_drive(rt, rounds),
         "requests" => time_requests(rt, rounds),
         "openings" => time_openings(rt, rounds),
-        _ => Err("the words are sectors, check, growth, reads, writes, drive, requests, openings"),
+        _ => timed_on(&mut zeroed(rt)?, word, rounds),
+    }
+}
+
+/// The records of a relative file of the disk, each on a line of its own.
+fn put_lines(rt: &HostRuntime, disk: &mut MemDisk, name: &str) -> Result<(), &'static str> {
+    let Ok(mut out) = BufWriter::with_capacity(rt.alloc(), OUTPUT_ROOM, io::writer(rt)) else {
+        return Err("no memory");
+    };
+    match put_file(disk, name.as_bytes(), &mut out) {
+        Ok(()) => or_say(out.flush(), "the output failed"),
+        Err(what) => Err(what),
     }
 }
 
@@ -187,12 +217,10 @@ fn print_records(
     path: Option<String>,
     name: Option<String>,
 ) -> Result<(), &'static str> {
-    let name = name.ok_or("records asks for an image and a name")?;
-    let mut disk = asked_disk(rt, path)?;
-    let out = BufWriter::with_capacity(rt.alloc(), OUTPUT_ROOM, io::writer(rt));
-    let mut out = or_say(out, "no memory")?;
-    put_file(&mut disk, name.as_str().as_bytes(), &mut out)?;
-    or_say(out.flush(), "the output failed")
+    match name {
+        Some(name) => put_lines(rt, &mut asked_disk(rt, path)?, name.as_str()),
+        None => Err("records asks for an image and a name"),
+    }
 }
 
 /// Tells what failed, and gives the exit status for it.
@@ -201,37 +229,63 @@ fn refuse(rt: &HostRuntime, what: &str) -> io::Result<ExitCode> {
     Ok(ExitCode::FAILURE)
 }
 
-fn main(rt: HostRuntime) -> io::Result<ExitCode> {
-    let mut words = env::args(&rt)?;
-    words.next();
-    let word = words.next();
-    if word.as_deref() == Some("records") {
-        let path = words.next();
-        return match print_records(&rt, path, words.next()) {
-            Ok(()) => Ok(ExitCode::SUCCESS),
-            Err(what) => refuse(&rt, what),
-        };
-    }
-    let Some(rounds) = asked_rounds(words.next()) else {
-        eprintln!(rt; "benchmarks: ROUNDS is a number")?;
-        return Ok(ExitCode::from(2));
-    };
-    let Some(word) = word else {
-        for word in [
-            "sectors", "check", "growth", "reads", "writes", "drive", "requests", "openings",
-        ] {
-            match timed(&rt, word, rounds, None) {
-                Ok(number) => println!(rt; "{word} {number}")?,
-                Err(what) => println!(rt; "{word} {what}")?,
-            }
-        }
-        return Ok(ExitCode::SUCCESS);
-    };
-    match timed(&rt, word.as_str(), rounds, words.next()) {
+/// Tells that the second word is no number, and gives the exit status for it.
+fn refuse_rounds(rt: &HostRuntime) -> io::Result<ExitCode> {
+    eprintln!(rt; "benchmarks: ROUNDS is a number")?;
+    Ok(ExitCode::from(2))
+}
+
+/// Tells what came of the benchmark that was asked for, and gives the exit status for it.
+fn tell(rt: &HostRuntime, done: Done) -> io::Result<ExitCode> {
+    match done {
         Ok(number) => {
             println!(rt; "{number}")?;
             Ok(ExitCode::SUCCESS)
         }
-        Err(what) => refuse(&rt, what),
+        Err(what) => refuse(rt, what),
+    }
+}
+
+/// Tells what came of one of several benchmarks, behind its word.
+fn tell_one(rt: &HostRuntime, word: &str, done: Done) -> io::Result<()> {
+    match done {
+        Ok(number) => println!(rt; "{word} {number}"),
+        Err(what) => println!(rt; "{word} {what}"),
+    }
+}
+
+/// Runs the benchmarks of these words, one after another.
+fn run_all(rt: &HostRuntime, words: &[&str]) -> io::Result<ExitCode> {
+    for word in words {
+        tell_one(rt, word, timed(rt, word, ROUNDS, None))?;
+    }
+    Ok(ExitCode::SUCCESS)
+}
+
+/// Does what a word and the two behind it ask for, and gives the exit status.
+fn run_word(
+    rt: &HostRuntime,
+    word: &str,
+    second: Option<String>,
+    third: Option<String>,
+) -> io::Result<ExitCode> {
+    if word == "records" {
+        return match print_records(rt, second, third) {
+            Ok(()) => Ok(ExitCode::SUCCESS),
+            Err(what) => refuse(rt, what),
+        };
+    }
+    match asked_rounds(second) {
+        Some(rounds) => tell(rt, timed(rt, word, rounds, third)),
+        None => refuse_rounds(rt),
+    }
+}
+
+fn main(rt: HostRuntime) -> io::Result<ExitCode> {
+    let mut words = env::args(&rt)?;
+    words.next();
+    match words.next() {
+        Some(word) => run_word(&rt, word.as_str(), words.next(), words.next()),
+        None => run_all(&rt, &WORDS),
     }
 }

@@ -18,8 +18,10 @@ use std::io::Write;
 fn put_line<W: Write>(out: &mut W, bytes: &[u8]) -> Result<(), &'static str>
     ensures ok { OnOk result (Appends (W.contents out.old) (W.contents out.new) (record_line bytes.now)) }
 {
-    out.write_all(bytes).map_err(|_| "the output failed")?;
-    out.write_all(b"\n").map_err(|_| "the output failed")
+    if out.write_all(bytes).is_err() || out.write_all(b"\n").is_err() {
+        return Err("the output failed");
+    }
+    Ok(())
 }
 
 /// Prints each record of the file on a line of its own, the first one first.
