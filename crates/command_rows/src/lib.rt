@@ -20,6 +20,8 @@ mod images;
 #[cfg(test)]
 mod listing_rows;
 #[cfg(test)]
+mod placed_rows;
+#[cfg(test)]
 mod play_rows;
 #[cfg(test)]
 mod refusal_rows;

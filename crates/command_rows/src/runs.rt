@@ -6,6 +6,14 @@ use std::fmt::Display;
 use std::io::Write;
 use std::process::Abort;
 
+/// How a run ended, and the file that it handed back.
+fn parted(run: Result<Tape, (RunFault, Tape)>) -> (Result<(), RunFault>, Tape) {
+    match run {
+        Ok(file) => (Ok(()), file),
+        Err((fault, file)) => (Err(fault), file),
+    }
+}
+
 /// Plays a script on the image, over a file that takes all: how it ends, and the file.
 pub(crate) fn played<W: Write>(
     rt: &(impl AllocGlobal + Abort),
@@ -14,10 +22,7 @@ pub(crate) fn played<W: Write>(
     out: &mut W,
 ) -> (Result<(), RunFault>, Tape) {
     let file = new_tape(rt, image, usize::MAX);
-    match play_image(rt.alloc(), image, script, file, out) {
-        Ok(file) => (Ok(()), file),
-        Err((fault, file)) => (Err(fault), file),
-    }
+    parted(play_image(rt.alloc(), image, script, file, out))
 }
 
 /// Sees that this was printed, and handed on by a flush.

@@ -26,6 +26,14 @@ fn required_behind<'a>(alloc: Global, word: &'a str, name: &'a str, help: &'a st
     required(alloc, name, help).long(word)
 }
 
+/// A command with this name, and what help says of it.
+fn named<'a>(alloc: Global, name: &'a str, about: &'a str) -> Command<'a>
+    ensures app { app_of result ≡ new_app name.entry.now }
+    ensures local { (out-Command result).has_globals ≡ false }
+{
+    Command::new(alloc, name).about(about)
+}
+
 /// A subcommand with one value.
 fn with_value<'a>(
     alloc: Global,
@@ -37,7 +45,7 @@ fn with_value<'a>(
     ensures app { IfOk result (λ c. app_of c ≡ with_rule (new_app name.entry.now) (rule_of value.entry)) }
     ensures local { IfOk result (λ c. (out-Command c).has_globals ≡ false) }
 {
-    Command::new(alloc, name).about(about).arg(value)
+    named(alloc, name, about).arg(value)
 }
 
 /// A subcommand over an image.
@@ -122,15 +130,21 @@ fn dry_command<'a>(alloc: Global) -> Result<Command<'a>, AllocError>
     with_value(alloc, "dry", about, script_of(alloc))
 }
 
+/// The program's name, and what help says of it.
+fn described<'a>(alloc: Global) -> Command<'a>
+    ensures { app_of result ≡ new_app (codes "ledger_cli") }
+{
+    let about = "A retry-safe stock ledger: a request that comes again gets its first answer";
+    named(alloc, "ledger_cli", about).after_help(
+        "README.md says what each subcommand does, and what is proved of it.",
+    )
+}
+
 /// The program without its subcommands.
 fn bare<'a>(alloc: Global) -> Command<'a>
     ensures { app_of result ≡ grammar.bare }
 {
-    Command::new(alloc, "ledger_cli")
-        .about("A retry-safe stock ledger: a request that comes again gets its first answer")
-        .after_help("README.md says what each subcommand does, and what is proved of it.")
-        .version(VERSION)
-        .subcommand_required(true)
+    described(alloc).version(VERSION).subcommand_required(true)
 }
 
 /// Adds a subcommand to the program, where there was memory for both.

@@ -6,8 +6,6 @@ mod comparing;
 mod grammar;
 mod jobs;
 #[cfg(test)]
-mod placed_tests;
-#[cfg(test)]
 mod play_tests;
 #[cfg(test)]
 mod run_tests;
@@ -149,15 +147,51 @@ fn do_reading(rt: &HostRuntime, job: &Job<'_>, image: &[u8], script: &[u8]) -> i
     do_over(rt, job, image, script, no_file)
 }
 
+/// Makes the file at a path an empty shop's image.
+fn do_making(rt: &HostRuntime, job: &Job<'_>, path: &str) -> io::Result<u8>
+    requires { HasTills job.now }
+{
+    let file = Some(Replaced::new(AtPath { rt, path }));
+    do_over(rt, job, &[], &[], file)
+}
+
+/// Does a job that reads the image at a path.
+fn do_on_image(rt: &HostRuntime, job: &Job<'_>, path: &str) -> io::Result<u8>
+    requires { HasTills job.now }
+{
+    let image = image_at(rt, path)?;
+    do_reading(rt, job, image.as_slice(), &[])
+}
+
+/// Does a job that reads the script at a path.
+fn do_on_script(rt: &HostRuntime, job: &Job<'_>, path: &str) -> io::Result<u8>
+    requires { HasTills job.now }
+{
+    let script = script_at(rt, path)?;
+    do_reading(rt, job, &[], script.as_slice())
+}
+
+/// Plays the script at a path on an image, over its file.
+fn do_writing(
+    rt: &HostRuntime,
+    job: &Job<'_>,
+    file: File,
+    image: &[u8],
+    script: &str,
+) -> io::Result<u8>
+    requires { HasTills job.now }
+{
+    let script = script_at(rt, script)?;
+    do_over(rt, job, image, script.as_slice(), Some(Placed::new(file)))
+}
+
 /// Plays the script at a path on the image at another, over its file.
 fn do_playing(rt: &HostRuntime, job: &Job<'_>, path: &str, script: &str) -> io::Result<u8>
     requires { HasTills job.now }
 {
     let mut file = opened(rt, path)?;
     let image = read_image(rt.alloc(), &mut file)?;
-    let script = script_at(rt, script)?;
-    let placed = Some(Placed::new(file));
-    do_over(rt, job, image.as_slice(), script.as_slice(), placed)
+    do_writing(rt, job, file, image.as_slice(), script)
 }
 
 /// Reads or opens the job's files and does it.
@@ -165,18 +199,12 @@ fn do_job(rt: &HostRuntime, job: &Job<'_>) -> io::Result<u8>
     requires { HasTills job.now }
 {
     match job {
-        Job::Format {
-            image: path,
-            tills: _,
-        } => do_over(rt, job, &[], &[], Some(Replaced::new(AtPath { rt, path }))),
-        Job::List { image: path } | Job::Check { image: path } | Job::Show { image: path } => {
-            do_reading(rt, job, image_at(rt, path)?.as_slice(), &[])
+        Job::Format { image, tills: _ } => do_making(rt, job, image),
+        Job::List { image } | Job::Check { image } | Job::Show { image } => {
+            do_on_image(rt, job, image)
         }
-        Job::Play {
-            image: path,
-            script,
-        } => do_playing(rt, job, path, script),
-        Job::Dry { script: path } => do_reading(rt, job, &[], script_at(rt, path)?.as_slice()),
+        Job::Play { image, script } => do_playing(rt, job, image, script),
+        Job::Dry { script } => do_on_script(rt, job, script),
     }
 }
 
