@@ -24,6 +24,7 @@ pub struct Mirror<F> {
 
 /// Writes all these bytes. A file that gathers what it is handed hands it on.
 #[tactic(auto, using(crate::proofs::Mirrored::appends_kept))]
+// In line, as all on the way to the file is: a return right behind a call of the system is dear.
 #[inline(always)]
 fn write_through<F: Write>(file: &mut F, bytes: &[u8]) -> std::io::Result<()>
     ensures { OnOk result (Appends (F.contents file.old) (F.contents file.new) bytes.now) }
@@ -80,6 +81,7 @@ impl<F: Write + Seek> Mirror<F> {
     }
 
     /// Hands a sector to the file, without a seek where the file stands there already.
+    // In line, as `write_through` is.
     #[inline(always)]
     fn hand_over(&mut self, place: Place, from: &[u8; 256]) -> std::io::Result<()>
         ensures disk { self.new.disk ≡ self.old.disk }
@@ -126,6 +128,7 @@ impl<F: Write + Seek> Sectors for Mirror<F> {
     }
 
     /// Hands the sector to the file, and then to memory. Where the file fails, memory is as before.
+    // In line, as `write_through` is.
     #[inline(always)]
     fn write(&mut self, place: Place, from: &[u8; 256]) -> Result<(), DeviceFault>
         ensures device { WritesSector (mirror F.stream_position F.stream_bytes F.contents) self.old self.new place from.now

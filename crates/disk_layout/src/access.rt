@@ -23,6 +23,7 @@ pub fn read_sector<D: Sectors>(disk: &mut D, place: Place, to: &mut [u8; 256]) -
 ///
 /// `Device` at this place is told where the device failed there, and no other fault; the sector is then written or as before.
 /// Nothing else changes, and nothing else was ever held.
+// In line, as all on the way to a device's write is: a return right behind a call of the system is dear.
 #[inline(always)]
 pub fn write_sector<D: Sectors>(disk: &mut D, place: Place, from: &[u8; 256]) -> Result<(), Fault>
     ensures { WritesSector D.history disk.old disk.new place from.now (Device place) result }

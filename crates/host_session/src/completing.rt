@@ -36,6 +36,7 @@ pub(crate) fn mark_answered(text: &mut [u8; 127])
 }
 
 /// Writes the quantity on hand of an item whose record is there.
+// In line, as all on the way to a device's write is: a return right behind a call of the system is dear.
 #[inline(always)]
 fn put_quantity<D: Sectors>(drive: &mut ShopDrive<D>, item: u16, quantity: u32) -> Result<(), Dead>
     requires ready { IsReady D.history drive.old }
@@ -87,6 +88,7 @@ fn put_results<D: Sectors>(
 }
 
 /// Completes an open intent: writes the cards of its results, and then its answer, which has this text.
+// In line, as `put_quantity` is.
 #[inline(always)]
 pub(crate) fn complete_with<D: Sectors>(
     drive: &mut ShopDrive<D>,

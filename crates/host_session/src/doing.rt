@@ -39,6 +39,7 @@ fn put_refusal<D: Sectors>(
 }
 
 /// Writes a request's intent, and completes it. The records of its items are there.
+// In line, as all on the way to a device's write is: a return right behind a call of the system is dear.
 #[inline(always)]
 fn put_intent<D: Sectors>(
     drive: &mut ShopDrive<D>,

@@ -151,6 +151,7 @@ impl<D: Sectors> ShopDrive<D> {
     }
 
     /// Writes at channel 2's place.
+    // In line, as all on the way to a device's write is: a return right behind a call of the system is dear.
     #[inline(always)]
     pub(crate) fn write(&mut self, text: &[u8]) -> Result<(), Dead>
         ensures serves { Serves D.history self.old self.new result }

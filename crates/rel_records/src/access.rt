@@ -24,6 +24,7 @@ pub(crate) fn read<D: Sectors>(
 }
 
 /// Writes a sector; at an error it is written or as before.
+// In line, as all on the way to a device's write is: a return right behind a call of the system is dear.
 #[inline(always)]
 pub(crate) fn write<D: Sectors>(
     disk: &mut D,
