@@ -58,6 +58,8 @@ impl<F: FileExt> Write for Placed<F> {
         Ok(written)
     }
 
+    /// Writes all these bytes, by one call of the system where the file takes them at once. At an error the place is where the
+    /// first call left it, and bytes behind it may have been written.
     // In line: of a sector that the file takes whole by one call no error is left to be looked for.
     #[inline(always)]
     fn write_all(&mut self, buf: &[u8]) -> io::Result<()>
