@@ -71,6 +71,6 @@ fn turn_all(
 }
 
 /// Turns each bit of the six sectors, one at a time.
-pub fn turn_each_bit(alloc: Global, tried: &mut Tried) -> Found<()> {
+pub(crate) fn turn_each_bit(alloc: Global, tried: &mut Tried) -> Found<()> {
     turn_all(alloc, &mut blank(alloc, 2)?, &USED, tried)
 }

@@ -12,7 +12,7 @@ use std::alloc::Global;
 
 /// The message in which power goes, and its reply where it doesn't.
 #[derive(Clone, Copy)]
-pub struct Asked<'a> {
+pub(crate) struct Asked<'a> {
     /// The message.
     pub message: &'a [u8],
     /// Its reply.
@@ -20,7 +20,7 @@ pub struct Asked<'a> {
 }
 
 /// A copy of an image.
-pub fn copy(alloc: Global, image: &MemDisk) -> Found<MemDisk> {
+pub(crate) fn copy(alloc: Global, image: &MemDisk) -> Found<MemDisk> {
     or_say(
         MemDisk::load(alloc, image.bytes()),
         "no memory for an image",
@@ -28,12 +28,12 @@ pub fn copy(alloc: Global, image: &MemDisk) -> Found<MemDisk> {
 }
 
 /// Puts onto a disk what was written.
-pub fn put(disk: &mut MemDisk, written: &Written) -> Found<()> {
+pub(crate) fn put(disk: &mut MemDisk, written: &Written) -> Found<()> {
     or_say(disk.write(written.place, &written.bytes), "memory failed")
 }
 
 /// Sees that a disk is clean; where it isn't, this text.
-pub fn is_clean(disk: &mut MemDisk, what: &'static str) -> Found<()> {
+pub(crate) fn is_clean(disk: &mut MemDisk, what: &'static str) -> Found<()> {
     match check(disk) {
         Ok(_) => Ok(()),
         Err(_) => Err(what),
@@ -41,7 +41,11 @@ pub fn is_clean(disk: &mut MemDisk, what: &'static str) -> Found<()> {
 }
 
 /// Opens a copy of an image, whose writes are kept.
-pub fn open(alloc: Global, image: &MemDisk, tried: &mut Tried) -> Found<Session<Tape<MemDisk>>> {
+pub(crate) fn open(
+    alloc: Global,
+    image: &MemDisk,
+    tried: &mut Tried,
+) -> Found<Session<Tape<MemDisk>>> {
     count(&mut tried.openings);
     let disk = copy(alloc, image)?;
     match Session::open(Tape::new(alloc, disk)) {
@@ -51,7 +55,10 @@ pub fn open(alloc: Global, image: &MemDisk, tried: &mut Tried) -> Found<Session<
 }
 
 /// Takes the disk back and what was written, which is to keep off other files.
-pub fn close(session: Session<Tape<MemDisk>>, others: &Others) -> Found<(MemDisk, Vec<Written>)> {
+pub(crate) fn close(
+    session: Session<Tape<MemDisk>>,
+    others: &Others,
+) -> Found<(MemDisk, Vec<Written>)> {
     let (disk, writes) = session.close().into_parts();
     let Some(writes) = writes else {
         return Err("no memory for the writes");
@@ -167,7 +174,7 @@ fn settle(
 }
 
 /// Opens an image that stands for this ledger, and each image that this opening held, so many openings deep.
-pub fn reopen(
+pub(crate) fn reopen(
     alloc: Global,
     image: &MemDisk,
     asked: &Asked<'_>,

@@ -12,11 +12,11 @@ use host_session::Session;
 use std::alloc::Global;
 
 /// How many openings are cut behind a message that was cut, one after another, before one that isn't.
-pub const DEEP: u32 = 2;
+pub(crate) const DEEP: u32 = 2;
 
 /// A shop on a disk, and what it is to hold.
 #[derive(Drop)]
-pub struct Shop {
+pub(crate) struct Shop {
     /// The disk, at rest.
     pub disk: MemDisk,
     /// What it is to hold.
@@ -121,7 +121,7 @@ fn draw_messages(
 }
 
 /// Plays a day of so many messages on a shop at rest: as events of one run, and then moment by moment.
-pub fn play_day(
+pub(crate) fn play_day(
     alloc: Global,
     shop: &mut Shop,
     draw: &mut Draw,

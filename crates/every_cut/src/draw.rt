@@ -39,7 +39,7 @@ impl Dice {
 
 /// Draws the messages of a day.
 #[derive(Clone, Copy)]
-pub struct Draw {
+pub(crate) struct Draw {
     dice: Dice,
     items: u16,
     drawn: u16,
@@ -48,7 +48,7 @@ pub struct Draw {
 
 impl Draw {
     /// Draws from this seed on, with items up to this one at the end of so many messages.
-    pub fn new(seed: u64, items: u16, of: u16) -> Draw {
+    pub(crate) fn new(seed: u64, items: u16, of: u16) -> Draw {
         Draw {
             dice: Dice {
                 state: seed.wrapping_mul(2).wrapping_add(1),
@@ -138,7 +138,7 @@ impl Draw {
     }
 
     /// The next message of the day, where the shop holds this ledger.
-    pub fn message(&mut self, alloc: Global, ledger: &Ledger) -> Result<String, AllocError> {
+    pub(crate) fn message(&mut self, alloc: Global, ledger: &Ledger) -> Result<String, AllocError> {
         self.drawn = self.drawn.saturating_add(1);
         let till = 1 + self.dice.below(u32::from(ledger.tills().min(8))) as u8;
         let last = match ledger.kept(till) {

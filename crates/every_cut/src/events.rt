@@ -73,7 +73,7 @@ fn are_right(messages: &[String], replies: &[Reply], ledger: &mut Ledger) -> boo
 
 /// Plays a day as events on a disk that holds this ledger: each message has its reply, and the disk holds the ledger at the
 /// end.
-pub fn play_events(
+pub(crate) fn play_events(
     alloc: Global,
     disk: &MemDisk,
     ledger: &Ledger,

@@ -7,11 +7,11 @@ use request_cards::{Answer, Kind, Reply, Request, Standing, Word, decide, room_f
 const CARDS: usize = 10160;
 
 /// A request that was answered, and its answer.
-pub type Kept = (Request, Answer);
+pub(crate) type Kept = (Request, Answer);
 
 /// The cards of a shop, and the last two requests of each till.
 #[derive(Clone, Copy)]
-pub struct Ledger {
+pub(crate) struct Ledger {
     tills: u8,
     top: u16,
     cards: [Option<u32>; CARDS],
@@ -26,7 +26,7 @@ fn place_of(till: u8) -> usize {
 
 impl Ledger {
     /// No cards, and nothing kept, on a disk with so many tills and room for cards up to this item.
-    pub fn new(tills: u8, top: u16) -> Ledger {
+    pub(crate) fn new(tills: u8, top: u16) -> Ledger {
         Ledger {
             tills,
             top,
@@ -37,28 +37,28 @@ impl Ledger {
     }
 
     /// How many tills there are.
-    pub fn tills(&self) -> u8 {
+    pub(crate) fn tills(&self) -> u8 {
         self.tills
     }
 
     /// The last item that a new card may have.
-    pub fn top(&self) -> u16 {
+    pub(crate) fn top(&self) -> u16 {
         self.top
     }
 
     /// The quantity on hand of an item, where it has a card.
-    pub fn card(&self, item: u16) -> Option<u32> {
+    pub(crate) fn card(&self, item: u16) -> Option<u32> {
         let place = usize::from(item).checked_sub(1)?;
         *self.cards.get(place)?
     }
 
     /// The last request of a till, with its answer.
-    pub fn kept(&self, till: u8) -> Option<Kept> {
+    pub(crate) fn kept(&self, till: u8) -> Option<Kept> {
         *self.kept.get(place_of(till))?
     }
 
     /// The one before it.
-    pub fn prior(&self, till: u8) -> Option<Kept> {
+    pub(crate) fn prior(&self, till: u8) -> Option<Kept> {
         *self.prior.get(place_of(till))?
     }
 
@@ -69,7 +69,7 @@ impl Ledger {
     }
 
     /// Whether the message is its till's next request.
-    pub fn is_new(&self, message: &[u8]) -> bool {
+    pub(crate) fn is_new(&self, message: &[u8]) -> bool {
         match Request::parse(message) {
             None => false,
             Some(request) => matches!(self.standing(&request), Standing::New),
@@ -77,7 +77,7 @@ impl Ledger {
     }
 
     /// Whether the message is a set of an item without a card.
-    pub fn is_first_set(&self, message: &[u8]) -> bool {
+    pub(crate) fn is_first_set(&self, message: &[u8]) -> bool {
         match Request::parse(message) {
             None => false,
             Some(request) => request.kind() == Kind::Set && self.card(request.item()).is_none(),
@@ -85,7 +85,7 @@ impl Ledger {
     }
 
     /// Nothing is known of the requests before the last, as on a disk with cards of version 1.
-    pub fn forget_prior(&mut self) {
+    pub(crate) fn forget_prior(&mut self) {
         for prior in self.prior.iter_mut() {
             *prior = None;
         }
@@ -132,7 +132,7 @@ impl Ledger {
     }
 
     /// The reply to a message, after which the table has what the message changed.
-    pub fn reply(&mut self, message: &[u8]) -> Reply {
+    pub(crate) fn reply(&mut self, message: &[u8]) -> Reply {
         let Some(request) = Request::parse(message) else {
             return Reply::Syntax;
         };
@@ -170,7 +170,7 @@ impl Ledger {
     }
 
     /// Whether an open session has this ledger.
-    pub fn is_in<D: Sectors>(&self, session: &Session<D>) -> bool {
+    pub(crate) fn is_in<D: Sectors>(&self, session: &Session<D>) -> bool {
         session.tills() == self.tills
             && session.top() == self.top
             && self.has_requests(session)

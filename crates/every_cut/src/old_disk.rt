@@ -33,7 +33,7 @@ const PLAYED: [&str; 8] = [
 const OPEN: (u8, u16) = (5, 15);
 
 /// The blank disk for so many tills.
-pub fn blank(alloc: Global, tills: u8) -> Found<MemDisk>
+pub(crate) fn blank(alloc: Global, tills: u8) -> Found<MemDisk>
     requires some { 1 ≤ tills }
     requires few { tills ≤ 64 }
 {
@@ -84,7 +84,7 @@ fn put_old_card<D: Sectors>(drive: &mut Drive<D>, ledger: &Ledger, till: u8) -> 
 }
 
 /// The disk, and what it stands for.
-pub fn old_disk(alloc: Global) -> Found<(MemDisk, Ledger)> {
+pub(crate) fn old_disk(alloc: Global) -> Found<(MemDisk, Ledger)> {
     let Ok(mut session) = Session::open(blank(alloc, TILLS)?) else {
         return Err("a blank disk isn't opened");
     };
@@ -104,6 +104,8 @@ pub fn old_disk(alloc: Global) -> Found<(MemDisk, Ledger)> {
 }
 
 /// The message of the open intent.
-pub fn open_message(ledger: &Ledger) -> Option<(request_cards::Request, request_cards::Answer)> {
+pub(crate) fn open_message(
+    ledger: &Ledger,
+) -> Option<(request_cards::Request, request_cards::Answer)> {
     ledger.kept(OPEN.0)
 }

@@ -6,20 +6,20 @@ use request_cards::last_card;
 
 /// The sectors of all files but STOCK and REQUESTS, and how many there are for STOCK.
 #[derive(Clone, Copy)]
-pub struct Others {
+pub(crate) struct Others {
     owned: [bool; 683],
     room: u16,
 }
 
 impl Others {
     /// Whether another file owns the sector.
-    pub fn owns(&self, place: Place) -> bool {
+    pub(crate) fn owns(&self, place: Place) -> bool {
         self.owned[place.index()]
     }
 
     /// The last item whose card has room: STOCK may take each sector outside track 18 that neither another file nor
     /// REQUESTS owns, one of 121 as a side sector.
-    pub fn top(&self) -> u16 {
+    pub(crate) fn top(&self) -> u16 {
         let room = self.room.min(664);
         last_card(room - (room + 120) / 121)
     }
@@ -62,7 +62,7 @@ impl Others {
     }
 
     /// The sectors of the other files of a disk.
-    pub fn of(disk: &mut MemDisk) -> Result<Others, &'static str> {
+    pub(crate) fn of(disk: &mut MemDisk) -> Result<Others, &'static str> {
         let mut others = Others {
             owned: [false; 683],
             room: 664,

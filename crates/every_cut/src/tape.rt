@@ -6,7 +6,7 @@ use std::alloc::Global;
 
 /// A sector as it was written, and where.
 #[derive(Clone, Copy)]
-pub struct Written {
+pub(crate) struct Written {
     /// Where it was written.
     pub place: Place,
     /// What was written.
@@ -15,7 +15,7 @@ pub struct Written {
 
 /// A disk that keeps each write that it took, in order: with the image at the start they are each image that it held.
 #[derive(Drop)]
-pub struct Tape<D> {
+pub(crate) struct Tape<D> {
     disk: D,
     writes: Vec<Written>,
     lost: bool,
@@ -23,7 +23,7 @@ pub struct Tape<D> {
 
 impl<D: Sectors> Tape<D> {
     /// A tape on a disk; nothing is on it.
-    pub fn new(alloc: Global, disk: D) -> Tape<D> {
+    pub(crate) fn new(alloc: Global, disk: D) -> Tape<D> {
         Tape {
             disk,
             writes: Vec::new(alloc),
@@ -32,7 +32,7 @@ impl<D: Sectors> Tape<D> {
     }
 
     /// The disk, and its writes; None where one was lost for want of memory.
-    pub fn into_parts(self) -> (D, Option<Vec<Written>>) {
+    pub(crate) fn into_parts(self) -> (D, Option<Vec<Written>>) {
         let Tape { disk, writes, lost } = self;
         let writes = if lost { None } else { Some(writes) };
         (disk, writes)

@@ -2,7 +2,7 @@
 
 /// How much was tried.
 #[derive(Clone, Copy)]
-pub struct Tried {
+pub(crate) struct Tried {
     /// The messages of the day.
     pub messages: u64,
     /// The sectors that were written when nothing was cut.
@@ -20,13 +20,13 @@ pub struct Tried {
 }
 
 /// One more.
-pub fn count(number: &mut u64) {
+pub(crate) fn count(number: &mut u64) {
     *number = number.saturating_add(1);
 }
 
 impl Tried {
     /// Nothing so far.
-    pub fn nothing() -> Tried {
+    pub(crate) fn nothing() -> Tried {
         Tried {
             messages: 0,
             writes: 0,
@@ -39,7 +39,7 @@ impl Tried {
     }
 
     /// What was tried, and how much.
-    pub fn rows(&self) -> [(&'static str, u64); 7] {
+    pub(crate) fn rows(&self) -> [(&'static str, u64); 7] {
         [
             ("messages", self.messages),
             ("writes", self.writes),

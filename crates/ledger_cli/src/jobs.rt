@@ -56,7 +56,7 @@ pub enum JobFault {
 }
 
 impl JobFault {
-    /// The fault's number.
+    /// The fault's number: 1 for `Words`, 2 for `Tills`.
     pub fn number(&self) -> u8
         ensures { result ≡ job_number self.now }
     {

@@ -26,7 +26,7 @@ pub enum DryFault {
 }
 
 impl DryFault {
-    /// The fault's number.
+    /// The fault's number: 2 for `BadLine`, 3 for `Output`.
     pub fn number(&self) -> u8
         ensures { result ≡ dry_number self.now }
     {
@@ -92,7 +92,7 @@ fn play<W: Write>(script: &[u8], table: &mut Table, out: &mut W) -> Result<(), D
 /// Writes the reply to each line of a script on a line of its own, as a fresh disk with 64 tills
 /// would give it, without a disk. A line that begins with `@` is bad: the first such line is told
 /// before anything is written (`BadLine`). Where the writer fails, what it took of the replies is
-/// open (`Output`). It takes no memory.
+/// open (`Output`). What the writer still holds back isn't handed on. It takes no memory.
 pub fn dry<W: Write>(script: &[u8], out: &mut W) -> Result<(), DryFault>
     // A bad line is told exactly where there is one, and it is the first.
     ensures bad_line { (n : ℕ) →

@@ -31,9 +31,9 @@ pub enum RunFault {
     TwoIntents,
     /// A line of the script can't be played: the first such line, counted from 1.
     BadLine(usize),
-    /// The image's file or the output couldn't be written.
+    /// A file couldn't be opened or read, or a file or the output not written.
     File,
-    /// There was no memory for the image.
+    /// There was no memory for the words, a file's bytes, the disk or the output.
     NoMemory,
     /// A sector couldn't be read or written. A disk in memory has no such fault; of a disk whose sectors go on to a
     /// file the file failed.

@@ -24,6 +24,7 @@ impl<F: FileExt> Placed<F> {
     }
 
     /// Writes what a write that ended so didn't take of these bytes, if it may go on.
+    // Not in line: a file takes a sector whole by one call, as a rule.
     #[inline(never)]
     fn go_on(&mut self, buf: &[u8], ended: io::Result<usize>) -> io::Result<()>
         requires bound { WritesAtMost ended buf.now }

@@ -8,8 +8,10 @@ use std::io::{self, Read};
 /// too many.
 const IMAGE_BYTES: u64 = 174_849;
 
-/// All that the reader has left, in memory that has room for so many bytes from the start on.
-fn read_all<R: Read + Drop>(alloc: Global, reader: R, room: usize) -> io::Result<Vec<u8>>
+/// The bytes of a script: all that the reader has left. Its error where it failed, or where there was no
+/// memory for them. `room` is how many bytes memory is taken for at once: with one more than a file has it need not grow,
+/// and any number will do.
+pub fn read_script<R: Read + Drop>(alloc: Global, reader: R, room: usize) -> io::Result<Vec<u8>>
     ensures { IfOk result (λ bytes. IfSome (R.remaining reader) (λ all. vec_items bytes ≡ all)) }
 {
     let mut reader = reader;
@@ -18,20 +20,11 @@ fn read_all<R: Read + Drop>(alloc: Global, reader: R, room: usize) -> io::Result
     Ok(bytes)
 }
 
-/// The bytes of a script: all that the reader has left. Its error where it failed, or where there was no
-/// memory for them. `room` is how many bytes memory is taken for at once: with one more than a file has it need not grow,
-/// and any number will do.
-pub fn read_script<R: Read + Drop>(alloc: Global, reader: R, room: usize) -> io::Result<Vec<u8>>
-    ensures { IfOk result (λ bytes. IfSome (R.remaining reader) (λ all. vec_items bytes ≡ all)) }
-{
-    read_all(alloc, reader, room)
-}
-
 /// The bytes of an image: the first 174,849 that the reader has left, or all of them where there are
 /// fewer. Its error where it failed, or where there was no memory for them.
 pub fn read_image<R: Read + Drop>(alloc: Global, reader: R) -> io::Result<Vec<u8>>
     ensures { IfOk result (λ bytes. IfSome (R.remaining reader)
         (λ all. vec_items bytes ≡ take 174849 all)) }
 {
-    read_all(alloc, reader.take(IMAGE_BYTES), IMAGE_BYTES as usize)
+    read_script(alloc, reader.take(IMAGE_BYTES), IMAGE_BYTES as usize)
 }

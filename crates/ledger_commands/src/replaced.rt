@@ -4,7 +4,7 @@ ghost use Rattle.std.specs.Prelude.{OnOk, ⊤};
 use std::fs::File;
 use std::io::{self, Seek, SeekFrom, Write};
 
-/// A file that can be ended where one stands in it.
+/// A file that can be ended behind so many bytes.
 pub trait EndedFile: Write + Seek {
     // Nothing stands behind the place at which the file was ended last.
     ghost IsEnded: { Self → Type 0 } = { λ _. ⊤ };
