@@ -1,19 +1,13 @@
 //! Doing a job over the bytes of its files.
-ghost use Rattle.std.specs.Prelude.{◌≡◌, None, IfErr, IsOk, IsSome, OnOk};
-ghost use Rattle.std.specs.Io.KnownBytes.{Appends};
+ghost use Rattle.std.specs.Prelude.{◌≡◌, IsOk};
 ghost use Rattle.ledger_cli.specs.Faults.{check_status, end_status};
-ghost use Rattle.ledger_commands.specs.Faults.{IsDryFault};
 ghost use Rattle.ledger_commands.specs.Plays.{known};
 ghost use Rattle.ledger_cli.specs.Jobs.{HasTills};
 ghost use Rattle.ledger_cli.specs.Runs.{IsQuiet, IsRun};
-ghost use Rattle.script_lines.specs.Lines.{first_reset, lines};
-ghost use Rattle.ledger_commands.specs.Tables.{dry_report};
 
 use crate::jobs::Job;
 use disk_layout::Fault;
-use ledger_commands::{
-    DryFault, RunFault, check_image, dry, format_file, list_image, play_file, show_image,
-};
+use ledger_commands::{RunFault, check_image, dry, format_file, list_image, play_file, show_image};
 use std::alloc::Global;
 use std::fmt::Display;
 use std::io::{Seek, Write};
@@ -21,21 +15,6 @@ use std::io::{Seek, Write};
 /// Tells a fault in one line. Where standard error fails too, there is nobody left to tell.
 fn tell<E: Write, D: Display + Drop>(err: &mut E, fault: D) {
     let _ = writeln!(err, "{fault}");
-}
-
-/// Plays the script and hands over all that the output still holds back.
-fn play_whole<W: Write>(script: &[u8], out: &mut W) -> Result<(), DryFault>
-    ensures ok { OnOk result
-        (Appends (W.contents out.old) (W.contents out.new) (dry_report script.now)) }
-    ensures good { OnOk result (first_reset (lines script.now) ≡ None) }
-    ensures err { IfErr result (IsDryFault (first_reset (lines script.now))) }
-    ensures untouched { IsSome (first_reset (lines script.now)) → out.new ≡ out.old }
-{
-    dry(script, out)?;
-    if out.flush().is_err() {
-        return Err(DryFault::Output);
-    }
-    Ok(())
 }
 
 /// Tells why a job over an image isn't done, where it isn't, and answers the exit status.
@@ -94,7 +73,7 @@ pub fn run<F: Write + Seek + Drop, W: Write, E: Write>(
             image: _,
             script: _,
         } => status_after(play_file(alloc, image, script, file, out), err),
-        Job::Dry { script: _ } => match play_whole(script, out) {
+        Job::Dry { script: _ } => match dry(script, out) {
             Ok(()) => 0,
             Err(fault) => {
                 tell(err, fault);

@@ -1,7 +1,7 @@
 //! The run of a script without a disk.
 ghost use Rattle.std.specs.Prelude.{◌≡◌, ◌↔◌, ◌++◌, ℕ, None, IfErr, IsSome, OnOk, Ok, Err, Some};
 ghost use Rattle.std.specs.Prelude.{codes};
-ghost use Rattle.std.specs.Io.KnownBytes.{Appends};
+ghost use Rattle.std.specs.Io.KnownBytes.{Appends, Keeps};
 ghost use Rattle.request_cards.specs.Ledgers.{replies_from, report};
 ghost use Rattle.request_cards.specs.Texts.{reply_text};
 ghost use Rattle.ledger_commands.specs.Faults.{IsDryFault, dry_number, dry_status};
@@ -89,10 +89,21 @@ fn play<W: Write>(script: &[u8], table: &mut Table, out: &mut W) -> Result<(), D
     Ok(())
 }
 
+/// Hands on what the writer still holds back.
+fn hand_on<W: Write>(out: &mut W) -> Result<(), DryFault>
+    ensures kept { Keeps (W.contents out.old) (W.contents out.new) }
+    ensures err { IfErr result (λ e. e ≡ DryFault.Output) }
+{
+    match out.flush() {
+        Ok(()) => Ok(()),
+        Err(_) => Err(DryFault::Output),
+    }
+}
+
 /// Writes the reply to each line of a script on a line of its own, as a fresh disk with 64 tills
-/// would give it, without a disk. A line that begins with `@` is bad: the first such line is told
-/// before anything is written (`BadLine`). Where the writer fails, what it took of the replies is
-/// open (`Output`). What the writer still holds back isn't handed on. It takes no memory.
+/// would give it, without a disk, and hands on what the writer still holds back. A line that begins
+/// with `@` is bad: the first such line is told before anything is written (`BadLine`). Where the
+/// writer fails, what it took of the replies is open (`Output`). It takes no memory.
 pub fn dry<W: Write>(script: &[u8], out: &mut W) -> Result<(), DryFault>
     // A bad line is told exactly where there is one, and it is the first.
     ensures bad_line { (n : ℕ) →
@@ -110,5 +121,6 @@ pub fn dry<W: Write>(script: &[u8], out: &mut W) -> Result<(), DryFault>
         return Err(DryFault::BadLine(line));
     }
     let mut table = Table::new();
-    play(script, &mut table, out)
+    play(script, &mut table, out)?;
+    hand_on(out)
 }
