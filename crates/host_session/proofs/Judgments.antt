@@ -62,6 +62,13 @@ refused-error {B = B} S a b c fault result e image same refused =
     by faults.TwoIntents h = h
     by faults.Device h = failed_later S a b c same h
 
+-- a call that can tell the device alone, behind calls that met no failure
+pub device-error : {D B : Type 0} (S : History D) (img : Image) (a b c : D) (fault : OpenFault) (result : Result B OpenFault) → result ≡ Err fault → fault ≡ faults.Device
+    → S.failures b ≡ S.failures a → Failed S b c → IfErr result (Refuses (Failed S a c) img) × TellsJudging S a c result
+device-error S img a b c fault result e device same failed =
+    let told = failed_later S a b c same failed in
+    rw (e, device) (told, told)
+
 -- Device is told where the device failed
 pub judged-device : {D : Type 0} (T : Type 0) (S : History D) (a b : D) (fault : OpenFault) → TellsJudging {T = T} S a b (Err fault) → fault ≡ faults.Device → Failed S a b
 judged-device T S a b fault told e = subst (λ (x : OpenFault). TellsJudging {T = T} S a b (Err x)) e told
