@@ -1,7 +1,7 @@
 //! The lines that are shown of a shop.
 ghost use Rattle.std.specs.Prelude.{◌≡◌, ◌≤◌, ◌+◌, ◌++◌, IfErr, OnOk, Some, decimal, drop, length};
 ghost use Rattle.std.specs.Io.KnownBytes.{Appends};
-ghost use Rattle.ledger_commands.specs.Shows.{card_line, card_part, told_part, till_part, top_line};
+ghost use Rattle.ledger_commands.specs.Shows.{card_line, card_part, told_line, told_part, till_part, top_line};
 ghost use Rattle.ledger_commands.specs.declared.faults.RunFault.TheVariants as faults;
 ghost use Rattle.request_cards.specs.Texts.{answer_text};
 
@@ -91,7 +91,24 @@ pub(crate) fn write_item(item: u16, quantity: Option<u32>, room: &mut [u8], end:
     }
 }
 
-/// Prints a request with its answer behind a word, where there is one.
+/// Prints a request and its answer behind a word.
+fn put_line_of<W: Write>(
+    out: &mut W,
+    word: &[u8],
+    request: Request,
+    answer: Answer,
+) -> Result<(), RunFault>
+    ensures ok { OnOk result
+        (Appends (W.contents out.old) (W.contents out.new) (told_line word.now request answer)) }
+    ensures err { IfErr result (λ fault. fault ≡ faults.File) }
+{
+    put(out, word)?;
+    put(out, request.print().as_slice())?;
+    put(out, b",")?;
+    put_line(out, AnswerText(answer))
+}
+
+/// The same, where there is a request.
 fn put_told<W: Write>(
     out: &mut W,
     word: &[u8],
@@ -100,13 +117,10 @@ fn put_told<W: Write>(
     ensures ok { OnOk result (Appends (W.contents out.old) (W.contents out.new) (told_part word.now told)) }
     ensures err { IfErr result (λ fault. fault ≡ faults.File) }
 {
-    let Some((request, answer)) = told else {
-        return Ok(());
-    };
-    put(out, word)?;
-    put(out, request.print().as_slice())?;
-    put(out, b",")?;
-    put_line(out, AnswerText(answer))
+    match told {
+        Some((request, answer)) => put_line_of(out, word, request, answer),
+        None => Ok(()),
+    }
 }
 
 /// Prints a till's last request and the one before it, each with its answer, as far as there are such.
