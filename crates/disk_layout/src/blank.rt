@@ -15,9 +15,10 @@ use crate::side::side_bytes;
 use arrayvec::ArrayVec;
 use d64_image::{DeviceFault, Place, Sectors};
 
-/// The record lengths of the two files.
+/// How long a record of STOCK is, in bytes.
 const STOCK_LENGTH: u8 = 18;
 
+/// How long a record of REQUESTS is, in bytes.
 const REQUEST_LENGTH: u8 = 127;
 
 /// Writes the blank image: the disk's name and id, a directory with two relative files, and a map that calls all but
