@@ -55,7 +55,7 @@ fn go_on<D: Sectors>(
     ensures failures { TellsRelFault D.history disk.old disk.new result }
 {
     let mut bytes = [0; 256];
-    read_behind(disk, file, here, &last.bytes, &mut bytes)?;
+    read_behind(disk, &last.bytes, &mut bytes)?;
     *last = LastBlock {
         number: Some(here + 1),
         bytes,

@@ -1,6 +1,9 @@
 //! Records read: one side sector tells the block where a record begins.
-ghost use Rattle.std.specs.Prelude.{◌+◌, ◌++◌, length, ◌⊎◌, ◌≡◌, ◌<◌, ◌≤◌, IfErr, OnOk, drop, take};
+ghost use Rattle.std.specs.Prelude.{◌+◌, ◌++◌, length, ◌⊎◌, ◌≡◌, ◌<◌, ◌≤◌, IfErr, IsSome, OnOk, Some, drop, take};
 ghost use Rattle.d64_image.specs.History.{OnlyReads};
+ghost use Rattle.d64_image.specs.Images.{sector};
+ghost use Rattle.d64_image.specs.declared.place.Place.{Place};
+ghost use Rattle.disk_layout.specs.Chain.{named_at};
 ghost use Rattle.disk_layout.specs.Layout.{File, Layout};
 ghost use Rattle.disk_layout.specs.Records as records_of;
 ghost use Rattle.rel_records.specs.Faults.{TellsRelFault};
@@ -70,20 +73,15 @@ pub(crate) fn read_block<D: Sectors>(
     read(disk, place, to)
 }
 
-/// Reads the data block behind the one of this number, whose bytes name it.
+/// Reads the data block behind the one that has these bytes, which name it.
 pub(crate) fn read_behind<D: Sectors>(
     disk: &mut D,
-    file: &RelFile,
-    block: usize,
     bytes: &[u8; 256],
     to: &mut [u8; 256],
 ) -> Result<(), RelFault>
-    requires of { IsOf (D.history.image disk.old) file.now }
-    requires there { block + 1 < blocks_of file.now }
-    requires here { OfItsFile (D.history.image disk.old) file.now
-        (λ l n f. IsBlock (D.history.image disk.old) f.blocks block bytes.now) }
-    ensures ok { OfItsFile (D.history.image disk.old) file.now
-        (λ l n f. OnOk result (IsBlock (D.history.image disk.old) f.blocks (block + 1) to.new)) }
+    requires { IsSome (named_at bytes.now 0) }
+    ensures ok { (p : Place) → named_at bytes.now 0 ≡ Some p
+        → OnOk result (to.new ≡ sector (D.history.image disk.old) p) }
     ensures err { IfErr result (λ fault. fault ≡ Device) }
     ensures reads { OnlyReads D.history disk.old disk.new 1 }
     ensures failures { TellsRelFault D.history disk.old disk.new result }
@@ -117,7 +115,7 @@ fn read_there<D: Sectors>(
         return Ok(());
     }
     let mut b = [0; 256];
-    read_behind(disk, file, start / DATA, &a, &mut b)?;
+    read_behind(disk, &a, &mut b)?;
     put_record(text, &a, &b, start % DATA, size);
     Ok(())
 }
