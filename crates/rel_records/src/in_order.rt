@@ -12,7 +12,7 @@ ghost use Rattle.rel_records.specs.declared.faults.RelFault.TheVariants.{Device,
 use crate::counting::has_records;
 use crate::faults::RelFault;
 use crate::parts::DATA;
-use crate::reading::{put_record, read_behind, read_block};
+use crate::reading::{fill_record, read_behind, read_block};
 use crate::rel_file::RelFile;
 use arrayvec::ArrayVec;
 use d64_image::Sectors;
@@ -120,12 +120,12 @@ fn next_there<D: Sectors>(
     let start = (number as usize - 1) * size;
     bring(disk, file, last, start / DATA)?;
     if start % DATA + size <= DATA {
-        put_record(text, &last.bytes, &last.bytes, start % DATA, size);
+        fill_record(text, &last.bytes, &last.bytes, start % DATA, size);
         return Ok(());
     }
     let first = last.bytes;
     go_on(disk, file, last, start / DATA)?;
-    put_record(text, &first, &last.bytes, start % DATA, size);
+    fill_record(text, &first, &last.bytes, start % DATA, size);
     Ok(())
 }
 

@@ -31,19 +31,20 @@ fn overwrite(bytes: &mut [u8], here: &[u8], there: &[u8])
     second.copy_from_slice(there);
 }
 
-/// Fills `text` with the record of this length that begins at data byte `start` of the block `a`, and goes on in `b`.
-pub(crate) fn put_record(
+/// Fills `text` with the record of this length that begins at data byte `start` of the first block, and goes on in the
+/// second.
+pub(crate) fn fill_record(
     text: &mut ArrayVec<u8, 254>,
-    a: &[u8; 256],
-    b: &[u8; 256],
+    first: &[u8; 256],
+    second: &[u8; 256],
     start: usize,
     size: usize,
 )
     requires start { start < 254 }
     requires size { size ≤ 254 }
-    ensures { text.new.items ≡ take size (drop start (drop 2 a.now ++ drop 2 b.now)) }
+    ensures { text.new.items ≡ take size (drop start (drop 2 first.now ++ drop 2 second.now)) }
 {
-    let (here, there) = record_parts(a, b, start, size);
+    let (here, there) = record_parts(first, second, start, size);
     // as long as the one before: there is nothing to clear
     if text.len() == size {
         overwrite(text.as_mut_slice(), here, there);
@@ -108,15 +109,15 @@ fn read_there<D: Sectors>(
 {
     let size = file.size as usize;
     let start = (number as usize - 1) * size;
-    let mut a = [0; 256];
-    read_block(disk, file, start / DATA, &mut a)?;
+    let mut first = [0; 256];
+    read_block(disk, file, start / DATA, &mut first)?;
     if start % DATA + size <= DATA {
-        put_record(text, &a, &a, start % DATA, size);
+        fill_record(text, &first, &first, start % DATA, size);
         return Ok(());
     }
-    let mut b = [0; 256];
-    read_behind(disk, &a, &mut b)?;
-    put_record(text, &a, &b, start % DATA, size);
+    let mut second = [0; 256];
+    read_behind(disk, &first, &mut second)?;
+    fill_record(text, &first, &second, start % DATA, size);
     Ok(())
 }
 
