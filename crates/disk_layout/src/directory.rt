@@ -25,14 +25,14 @@ const DIRECTORY_SECTORS: usize = 18;
 pub fn map_place() -> Place
     ensures { result ≡ names.map_place }
 {
-    Place::new(DIRECTORY_TRACK, 0).unwrap()
+    Place::known(DIRECTORY_TRACK, 0)
 }
 
 /// 18/1, where the directory begins.
 pub fn directory_start() -> Place
     ensures { result ≡ names.directory_start }
 {
-    Place::new(DIRECTORY_TRACK, 1).unwrap()
+    Place::known(DIRECTORY_TRACK, 1)
 }
 
 /// Whether the directory may have this sector: it is on track 18, and not the map's.
