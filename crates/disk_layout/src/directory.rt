@@ -15,8 +15,8 @@ use crate::slot::Slot;
 use arrayvec::ArrayVec;
 use d64_image::{Place, Sectors};
 
-/// The track of the map and of the directory.
-const DIRECTORY_TRACK: u8 = 18;
+/// The track of the map and of the directory, on which no data block is placed.
+pub(crate) const DIRECTORY_TRACK: u8 = 18;
 
 /// How many sectors a directory has at most: those of track 18 but the map's.
 const DIRECTORY_SECTORS: usize = 18;

@@ -10,13 +10,12 @@ use crate::blocks::survey_blocks;
 use crate::parts::Parts;
 use arrayvec::ArrayVec;
 use d64_image::{Place, Sectors};
-use disk_layout::{EntryView, Fault, POINTERS, SideView, Slot, read_sector, side_bytes};
+use disk_layout::{
+    EntryView, Fault, POINTERS, POINTERS_AT, SideView, Slot, read_sector, side_bytes,
+};
 
 /// Where in a side sector the places of all side sectors stand.
 const LIST_AT: usize = 4;
-
-/// Where in a side sector its pointers to data blocks stand.
-const POINTERS_AT: usize = 16;
 
 /// Whether the bytes from `at` on name these places in order, track and sector of each.
 fn names_each(sector: &[u8; 256], at: usize, places: &[Place]) -> bool

@@ -11,11 +11,11 @@ ghost use Rattle.rel_records.specs.declared.faults.RelFault.TheVariants.{Device,
 
 use crate::counting::has_records;
 use crate::faults::RelFault;
-use crate::parts::DATA;
 use crate::reading::{fill_record, read_behind, read_block};
 use crate::rel_file::RelFile;
 use arrayvec::ArrayVec;
 use d64_image::Sectors;
+use disk_layout::DATA;
 
 /// The data block of a file that was read last: who reads the records in order finds the next one there, or in the block
 /// that it names.

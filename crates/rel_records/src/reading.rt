@@ -16,10 +16,11 @@ use crate::access::read;
 use crate::counting::has_records;
 use crate::faults::RelFault;
 use crate::lookup::block_at;
-use crate::parts::{DATA, record_parts};
+use crate::parts::record_parts;
 use crate::rel_file::RelFile;
 use arrayvec::ArrayVec;
 use d64_image::{Place, Sectors};
+use disk_layout::DATA;
 
 /// Puts two parts one behind the other in place of these bytes.
 fn overwrite(bytes: &mut [u8], here: &[u8], there: &[u8])

@@ -3,10 +3,10 @@ ghost use Rattle.std.specs.Prelude.{◌≡◌, ◌≤◌, ◌<◌, ◌+◌, ◌-
 ghost use Rattle.disk_layout.specs.Layout.{sides_for};
 ghost use Rattle.rel_records.specs.Growth as growth;
 
-use disk_layout::POINTERS;
+use disk_layout::{DATA, POINTERS};
 
-/// The bytes of a data block behind its link.
-pub(crate) const BLOCK: u32 = 254;
+/// The bytes of data of a block, as bytes of a file are counted.
+pub(crate) const BLOCK: u32 = DATA as u32;
 
 /// The whole records of `length` bytes in `blocks` full blocks.
 pub(crate) fn full_records(blocks: u16, length: u8) -> u32
