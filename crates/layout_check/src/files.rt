@@ -78,7 +78,7 @@ fn survey_relative<D: Sectors>(
 ///
 /// Told is what is wrong with the slot, its chain or its side sectors; or `OwnedTwice` at a sector that is claimed
 /// already.
-pub fn survey_entry<D: Sectors>(
+pub(crate) fn survey_entry<D: Sectors>(
     disk: &mut D,
     slot: &Slot,
     number: u8,

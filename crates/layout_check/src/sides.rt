@@ -122,7 +122,7 @@ fn walk_sides<D: Sectors>(
 ///
 /// The answer is the first of them whose bytes aren't exactly those that they are to be, which a sound disk may have and
 /// a clean one not; None where all are exact.
-pub fn survey_sides<D: Sectors>(
+pub(crate) fn survey_sides<D: Sectors>(
     disk: &mut D,
     slot: &Slot,
     blocks: &[Place],
@@ -156,7 +156,7 @@ pub fn survey_sides<D: Sectors>(
 
 /// Finds the data blocks and the side sectors of a closed relative entry, and fills `parts` with them in order. The answer
 /// is the first side sector whose bytes aren't exact; None where all are.
-pub fn find_parts<D: Sectors>(
+pub(crate) fn find_parts<D: Sectors>(
     disk: &mut D,
     slot: &Slot,
     parts: &mut Parts,
