@@ -1,11 +1,12 @@
 -- The sectors of the blank image, one by one.
-use Rattle.std.proofs.Common.{List, [], Some, ap, ap₂, arith, inl, inr, length, length-append, refl, subst, suc, sym, zero, ℕ, ◌+◌, ◌++◌, ◌<◌, ◌∙◌, ◌∷◌, ◌≡◌, ◌≢◌, ◌≤◌, ◌⊎◌}
+use Rattle.std.proofs.Common.{List, [], Some, IsSome, ap, ap₂, arith, inl, inr, length, length-append, refl, subst, suc, sym, zero, ℕ, ◌+◌, ◌++◌, ◌<◌, ◌∙◌, ◌∷◌, ◌≡◌, ◌≢◌, ◌≤◌, ◌⊎◌}
 use Rattle.std.proofs.lemmas.Bool.{cases_lt}
 use Rattle.std.proofs.lemmas.Bool.Decides.{nat_tests}
 use Rattle.std.specs.Prelude.{None, if◌then◌else◌, nat_eq, nat_lt, slice_get}
 use Rattle.d64_image.proofs.Images.{sector-put_other, sector-put_same}
 use Rattle.d64_image.proofs.Moments.{at_end, changes_then, write_change}
-use Rattle.d64_image.proofs.Places.{place_at-self}
+use Rattle.d64_image.proofs.Places.{place_at-found, place_at-self, place_at-some}
+use Rattle.d64_image.specs.Geometry.{sectors_on}
 use Rattle.d64_image.specs.History.{Changes, HeldOnly, History, OldOr}
 use Rattle.d64_image.specs.Images.{Image, Sector, put, sector}
 use Rattle.d64_image.specs.Places.{place_at}
@@ -20,11 +21,23 @@ use Rattle.disk_layout.specs.Written.{IsWritten}
 pub found-is : (p q : Place) → place_at p.track p.sector ≡ Some q → q ≡ p
 found-is p q at = let known = place_at-self p in let same : Some q ≡ Some p = sym at ∙ known in cc
 
+-- the disk has each place
+pub on-disk : (p : Place) → IsSome (place_at p.track p.sector)
+on-disk p = subst IsSome (sym (place_at-self p)) refl
+
+-- and each of its sectors
+pub has-sector : (t s : ℕ) → s < sectors_on t → IsSome (place_at t s)
+has-sector t s h = let (p, at) = place_at-found t s h in subst IsSome (sym at) refl
+
 get-snoc : {X : Type 0} (xs : List X) (x : X) (k : ℕ) (y : X) → slice_get (xs ++ x ∷ []) k ≡ Some y → (slice_get xs k ≡ Some y) ⊎ ((k ≡ length xs) × (x ≡ y))
 get-snoc [] x zero y h = inr (refl, cc)
 get-snoc [] x (suc k) y h = cc
 get-snoc (z ∷ xs) x zero y h = inl h
 get-snoc (z ∷ xs) x (suc k) y h = elim (get-snoc xs x k y h) [ inl e ↦ inl e | inr e ↦ inr (ap suc e.0, e.1) ]
+
+-- the place of a data block of REQUESTS
+pub request-at : (k t s : ℕ) (p : Place) → place_at t s ≡ Some p → (t ≡ request_track k) × (s ≡ request_sector k) → IsRequestPlace k p
+request-at k t s p at meant = let there = place_at-some t s p at in (there.0 ∙ meant.0, there.1 ∙ meant.1)
 
 -- the list of places with one more
 pub places-more : (ps qs : List Place) (n : ℕ) (p : Place) → AreRequestPlaces ps n → IsRequestPlace n p → qs ≡ ps ++ p ∷ [] → AreRequestPlaces qs (n + 1)

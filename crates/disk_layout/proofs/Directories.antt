@@ -6,7 +6,7 @@ use Rattle.std.proofs.lemmas.Grind.{flat_map-append}
 use Rattle.std.proofs.lemmas.List.Elements.{filter-append}
 use Rattle.std.proofs.lemmas.Map.Steps.{length-le_from_distinct_below}
 use Rattle.std.specs.List.{AllByRecursion, IsDistinct, list_any}
-use Rattle.std.specs.Prelude.{Contains, Option, Some, filter, flat_map, slice_index}
+use Rattle.std.specs.Prelude.{Contains, Some, filter, flat_map, slice_index}
 use Rattle.d64_image.proofs.Places.{place_at-some, same_place}
 use Rattle.d64_image.specs.Geometry.{sectors_on}
 use Rattle.d64_image.specs.Images.{Image, sector}
@@ -144,10 +144,6 @@ comes-back img before p next to h read names there =
 -- what the first two bytes name
 pub names-here : (to : List ℕ) (q : Place) → place_at (slice_index to 0) (slice_index to 1) ≡ Some q → Names to 0 q
 names-here to q at = let h = place_at-some (slice_index to 0) (slice_index to 1) q at in (sym h.0, sym h.1)
-
--- the place that was asked for
-pub place-is : (t s : ℕ) (p q : Place) (r : Option Place) → r ≡ place_at t s → r ≡ Some p → place_at t s ≡ Some q → p ≡ q
-place-is t s p q r asked found known = let same : Some p ≡ Some q = sym found ∙ asked ∙ known in cc
 
 -- what was read, of an image that is still the first
 pub read-now : (img now : Image) (p : Place) (to : List ℕ) → now ≡ img → to ≡ sector now p → to ≡ sector img p

@@ -17,6 +17,7 @@ pub mod Rest
 pub mod Room
 pub mod Same
 pub mod Side
+pub mod Texts
 pub mod View
 pub mod Visited
 pub mod Written

@@ -1,12 +1,9 @@
 //! The map of free sectors: which are free, which one is next, taking and giving back.
 ghost use Rattle.std.specs.Prelude.{◌≡◌, ◌≢◌, ◌≤◌, ◌↔◌, IfOk, IsTrue, MatchOption, OnErr, length};
 
-use crate::directory::map_place;
+use crate::directory::{DIRECTORY_TRACK, map_place};
 use crate::views::BamView;
 use d64_image::{DeviceFault, Place, Sectors};
-
-/// The track of the map and the directory, on which no data block is placed.
-const DIRECTORY_TRACK: u8 = 18;
 
 /// The 256 bytes of 18/0, in memory: read, changed, and then written back by the caller. Bytes 4 to 143 are the map:
 /// four for each track, its count of free sectors and a bit for each sector, 1 for free. The other bytes, the disk's

@@ -1,8 +1,6 @@
 //! The blank image: an empty disk with the two relative files of a ledger.
 ghost use Rattle.std.specs.Prelude.{◌≡◌, ◌+◌, ◌<◌, ◌≤◌, IsTrue, length, OnOk, slice_get, Some};
-ghost use Rattle.d64_image.specs.Geometry.{sectors_on};
 ghost use Rattle.d64_image.specs.History.{Changes, TellsFailure};
-ghost use Rattle.d64_image.specs.Places.{place_at, sector_of, track_of};
 ghost use Rattle.disk_layout.specs.Blank.{AreRequestPlaces, IsBlank, IsEmptyBlock, IsRequestPlace, SameElsewhere, blank_directory, request_blocks};
 ghost use Rattle.disk_layout.specs.Clean.{IsClean};
 ghost use Rattle.disk_layout.specs.Written.{IsWritten};
@@ -15,9 +13,10 @@ use crate::side::side_bytes;
 use arrayvec::ArrayVec;
 use d64_image::{DeviceFault, Place, Sectors};
 
-/// The record lengths of the two files.
+/// How long a record of STOCK is, in bytes.
 const STOCK_LENGTH: u8 = 18;
 
+/// How long a record of REQUESTS is, in bytes.
 const REQUEST_LENGTH: u8 = 127;
 
 /// Writes the blank image: the disk's name and id, a directory with two relative files, and a map that calls all but
@@ -58,7 +57,11 @@ fn blank_sector(number: usize, name: &[u8], id: [u8; 2], requests: &[Place]) -> 
     ensures { IsWritten name.now id requests.now number result.0 result.1 }
 {
     let blocks = requests.len() as u8;
-    let (stock_block, stock_side, requests_side) = (place(17, 0), place(17, 1), place(17, 3));
+    let (stock_block, stock_side, requests_side) = (
+        Place::known(17, 0),
+        Place::known(17, 1),
+        Place::known(17, 3),
+    );
     match number {
         0 => (map_place(), blank_map(name, id, blocks)),
         1 => (directory_start(), directory_bytes(blocks)),
@@ -92,20 +95,7 @@ fn next_of(places: &[Place], number: usize) -> Option<Place>
     requires { number < length places.now }
     ensures { result ≡ slice_get places.now (number + 1) }
 {
-    match places.get(number + 1) {
-        Some(next) => Some(*next),
-        None => None,
-    }
-}
-
-/// The place, which the disk has.
-fn place(track: u8, sector: u8) -> Place
-    requires { sector < sectors_on track }
-    ensures at { place_at track sector ≡ Some result }
-    ensures track { track_of result ≡ track }
-    ensures sector { sector_of result ≡ sector }
-{
-    Place::new(track, sector).unwrap()
+    places.get(number + 1).copied()
 }
 
 /// The data blocks of the second file, in order.
@@ -127,9 +117,9 @@ fn request_place(number: u8) -> Place
     ensures { IsRequestPlace number result }
 {
     match number {
-        0 => place(17, 2),
-        1..=17 => place(17, number + 3),
-        _ => place(19, number - 18),
+        0 => Place::known(17, 2),
+        1..=17 => Place::known(17, number + 3),
+        _ => Place::known(19, number - 18),
     }
 }
 
@@ -138,11 +128,17 @@ fn directory_bytes(blocks: u8) -> [u8; 256]
     requires { blocks ≤ 32 }
     ensures { result ≡ blank_directory blocks }
 {
-    let stock = relative_entry(b"STOCK", place(17, 0), place(17, 1), STOCK_LENGTH, 2);
+    let stock = relative_entry(
+        b"STOCK",
+        Place::known(17, 0),
+        Place::known(17, 1),
+        STOCK_LENGTH,
+        2,
+    );
     let requests = relative_entry(
         b"REQUESTS",
-        place(17, 2),
-        place(17, 3),
+        Place::known(17, 2),
+        Place::known(17, 3),
         REQUEST_LENGTH,
         blocks as u16 + 1,
     );

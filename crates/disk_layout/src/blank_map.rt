@@ -8,7 +8,7 @@ use crate::entries::padded_name;
 use d64_image::Place;
 
 /// 18/0 of the blank image in which the second file has so many data blocks.
-pub fn blank_map(name: &[u8], id: [u8; 2], blocks: u8) -> [u8; 256]
+pub(crate) fn blank_map(name: &[u8], id: [u8; 2], blocks: u8) -> [u8; 256]
     requires name { length name.now ≤ 16 }
     requires blocks { blocks ≤ 32 }
     ensures { IsBlankMap result name.now id blocks }

@@ -15,8 +15,8 @@ use crate::slot::Slot;
 use arrayvec::ArrayVec;
 use d64_image::{Place, Sectors};
 
-/// The track of the map and of the directory.
-const DIRECTORY_TRACK: u8 = 18;
+/// The track of the map and of the directory, on which no data block is placed.
+pub(crate) const DIRECTORY_TRACK: u8 = 18;
 
 /// How many sectors a directory has at most: those of track 18 but the map's.
 const DIRECTORY_SECTORS: usize = 18;
@@ -25,14 +25,14 @@ const DIRECTORY_SECTORS: usize = 18;
 pub fn map_place() -> Place
     ensures { result ≡ names.map_place }
 {
-    Place::new(DIRECTORY_TRACK, 0).unwrap()
+    Place::known(DIRECTORY_TRACK, 0)
 }
 
 /// 18/1, where the directory begins.
 pub fn directory_start() -> Place
     ensures { result ≡ names.directory_start }
 {
-    Place::new(DIRECTORY_TRACK, 1).unwrap()
+    Place::known(DIRECTORY_TRACK, 1)
 }
 
 /// Whether the directory may have this sector: it is on track 18, and not the map's.

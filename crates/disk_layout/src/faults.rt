@@ -1,5 +1,6 @@
 //! What can be wrong with the layout of a disk, and where.
-ghost use Rattle.std.specs.Prelude.{◌≡◌};
+ghost use Rattle.std.specs.Prelude.{◌≡◌, Some};
+ghost use Rattle.disk_layout.specs.Texts.{fault_text};
 
 use d64_image::Place;
 use std::error::Error;
@@ -56,6 +57,8 @@ impl Fault {
 
 /// Its word and its place, as `LOOP 17/0`.
 impl Display for Fault {
+    ghost output = { λ fault. Some (fault_text fault) };
+
     fn fmt<W: fmt::Write>(&self, f: &mut Formatter<W>) -> fmt::Result {
         let (word, place) = match *self {
             Fault::BadLink(place) => ("BADLINK", place),

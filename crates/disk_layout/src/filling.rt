@@ -2,8 +2,8 @@
 ghost use Rattle.std.specs.Prelude.{◌≡◌, ◌≢◌, ℕ, ◌+◌, ◌-◌, ◌*◌, ◌<◌, ◌≤◌, slice_index};
 ghost use Rattle.disk_layout.specs.Records.{filler};
 
-/// How many data bytes a block has.
-const DATA: u32 = 254;
+/// How many bytes of data a block has, behind the two of its link.
+pub const DATA: usize = 254;
 
 /// Writes empty records into a data block, from byte `from` of a file's joined data on, of which this block holds those
 /// from `at` on, 254 of them in bytes 2 to 255: FF where one of the first `total` records of `length` bytes begins, 00
@@ -17,10 +17,10 @@ pub fn fill(bytes: &mut [u8; 256], at: u32, from: u32, length: u8, total: u32)
     ensures link { (j : ℕ) → j < 2 → slice_index bytes.new j ≡ slice_index bytes.old j }
 {
     let size = length as u32;
-    let first = from.max(at).min(at + DATA);
+    let first = from.max(at).min(at + DATA as u32);
     bytes[2 + (first - at) as usize..].fill(0);
     let begin = first.div_ceil(size);
-    let end = (at + DATA).div_ceil(size).min(total);
+    let end = (at + DATA as u32).div_ceil(size).min(total);
     start_records(bytes, at, size, begin, end);
 }
 

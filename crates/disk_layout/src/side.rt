@@ -8,6 +8,9 @@ use d64_image::Place;
 /// How many data blocks a side sector points to at most.
 pub const POINTERS: usize = 120;
 
+/// Where in a side sector its pointers to data blocks stand, two bytes each.
+pub const POINTERS_AT: usize = 16;
+
 /// How many side sectors a side sector lists at most: a file has six or fewer.
 const LISTED: usize = 6;
 
@@ -28,7 +31,7 @@ pub fn side_bytes(number: u8, blocks: &[Place], sides: &[Place], length: u8) -> 
     bytes[2] = number;
     bytes[3] = length;
     put_places(&mut bytes, 4, &sides[..sides.len().min(LISTED)]);
-    put_places(&mut bytes, 16, pointers);
+    put_places(&mut bytes, POINTERS_AT, pointers);
     bytes
 }
 
@@ -87,7 +90,7 @@ impl<'a> SideView<'a> {
         Place::new(self.bytes[0], self.bytes[1])
     }
 
-    /// Its number among the file's side sectors, from 0 to 5.
+    /// Its number among the file's side sectors, as its byte 2 has it: 0 to 5 in a sound file.
     pub fn number(&self) -> u8
         ensures { result ≡ slice_index self.now.bytes.now 2 }
     {
@@ -116,6 +119,7 @@ impl<'a> SideView<'a> {
         requires listed { number < 120 }
         ensures { result ≡ named_at self.now.bytes.now (16 + 2 * number) }
     {
-        Place::new(self.bytes[16 + 2 * number], self.bytes[17 + 2 * number])
+        let at = POINTERS_AT + 2 * number;
+        Place::new(self.bytes[at], self.bytes[at + 1])
     }
 }

@@ -1,6 +1,7 @@
 //! The sectors of track 18 as they are read: names, counts and entries, lent and not copied.
 ghost use Rattle.std.specs.Prelude.{◌≡◌, ◌≢◌, ◌+◌, ◌<◌, ◌≤◌, ◌↔◌, IsTrue, length, slice_index, slice_range};
 
+use crate::directory::DIRECTORY_TRACK;
 use crate::entries::{LOCKED_REL, REL};
 use byteorder::{ByteOrder, LittleEndian};
 use d64_image::Place;
@@ -100,7 +101,11 @@ impl<'a> BamView<'a> {
         requires last { track ≤ 35 }
         ensures { result ≡ data_count self.now.bytes.now track }
     {
-        if track == 18 { 0 } else { self.free_on(track) }
+        if track == DIRECTORY_TRACK {
+            0
+        } else {
+            self.free_on(track)
+        }
     }
 }
 

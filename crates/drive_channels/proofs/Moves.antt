@@ -1,5 +1,7 @@
 -- The rows of P.
-use Rattle.std.proofs.Common.{ℕ, ◌≡◌, ◌≤◌, ◌<◌, ◌⊎◌, inl, inr, Bool, true, false, ap, if◌then◌else◌, List, length, nat_lt, Option, Some, sym, ◌∙◌, subst, refl, arith}
+use Rattle.std.proofs.Common.{ℕ, ◌≡◌, ◌≤◌, ◌<◌, ◌⊎◌, inl, inr, Bool, true, false, ap, None, if◌then◌else◌, List, length, nat_lt, Option, Some, sym, ◌∙◌, subst, refl, arith}
+use Rattle.std.specs.Option.{is_some}
+use Rattle.std.specs.Prelude.{MatchOption}
 use Rattle.d64_image.specs.Images.{Image}
 use Rattle.rel_records.specs.File.{entry_of, length_of, records_in}
 use Rattle.rel_records.specs.Growth.{blocks_for}
@@ -78,3 +80,13 @@ among r count le = sym (ap (λ (b : Bool). if b then statuses.RecordNotPresent e
   where
     is : (m n : ℕ) → n ≤ m → nat_lt m n ≡ false
     is m n le = grind arith
+
+-- a number of blocks isn't told where more than 720 are needed
+pub too-many : (o : Option ℕ) (L r : ℕ) → r ≤ 65535 → MatchOption o ((65535 < r) ⊎ (720 < blocks_for L r)) (λ n. (n ≡ blocks_for L r) × (n ≤ 720) × (r ≤ 65535)) → is_some o ≡ false → 720 < blocks_for L r
+too-many None L r low (inl past) none = absurd (omega (arith, low, past))
+too-many None L r low (inr many) none = many
+too-many (Some n) L r low told none = cc
+
+pub not-many : (o : Option ℕ) (L r : ℕ) → MatchOption o ((65535 < r) ⊎ (720 < blocks_for L r)) (λ n. (n ≡ blocks_for L r) × (n ≤ 720) × (r ≤ 65535)) → is_some o ≡ true → blocks_for L r ≤ 720
+not-many None L r told some = cc
+not-many (Some n) L r told some = omega (arith, told.0, told.1)

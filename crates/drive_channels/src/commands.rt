@@ -20,7 +20,7 @@ use crate::status::Status;
 use d64_image::Sectors;
 use disk_layout::Fault;
 use layout_check::repair;
-use rel_records::has_records;
+use rel_records::{blocks_for, has_records};
 
 /// Whether the command asks for the disk to be mended.
 fn is_validate(text: &[u8]) -> bool
@@ -72,7 +72,7 @@ fn go_to(found: &Found, spot: &mut Spot, wanted: Spot) -> Status
     if wanted.position > length {
         return Status::Overflow;
     }
-    if (wanted.record_number * length as u32 + 253) / 254 > 720 {
+    if blocks_for(wanted.record_number, length).is_none() {
         return Status::FileTooLarge;
     }
     spot.record_number = wanted.record_number;

@@ -259,6 +259,7 @@ impl Known {
     }
 
     /// Opens what the text asks for, while no channel is open: what that comes to.
+    // Out of line, since a call pays for all locals at its start, and `open` mostly finds the file remembered.
     #[inline(never)]
     fn open_wish<D: Sectors>(
         &mut self,

@@ -14,7 +14,7 @@ use disk_layout::{EntryView, Fault, Slot, read_sector, walk_chain};
 
 /// Follows the chain of a closed entry that names a first block, and fills `blocks` with its sectors in order. The answer
 /// is the index of the last used byte in the last one.
-pub fn survey_blocks<D: Sectors>(
+pub(crate) fn survey_blocks<D: Sectors>(
     disk: &mut D,
     slot: &Slot,
     blocks: &mut ArrayVec<Place, 720>,
@@ -56,7 +56,7 @@ fn owned_block(place: Place, blocks: &[Place]) -> Fault
 /// to it: so the table of owners is also that of the sectors visited, and costs no time while a link is waited for.
 ///
 /// `OwnedTwice` is told at a sector that another owned. What the table has after a fault is open.
-pub fn claim_blocks<D: Sectors>(
+pub(crate) fn claim_blocks<D: Sectors>(
     disk: &mut D,
     slot: &Slot,
     number: u8,

@@ -51,7 +51,7 @@ fn check_track(map: &[u8; 256], owners: &Owners, track: u8) -> Result<(), Fault>
 }
 
 /// Judges the bytes of 18/0: the bit of each sector, and the count of each track. What stands beside them isn't judged.
-pub fn check_bits(map: &[u8; 256], owners: &Owners) -> Result<(), Fault>
+pub(crate) fn check_bits(map: &[u8; 256], owners: &Owners) -> Result<(), Fault>
     ensures ok { OnOk result (IsRightMap map.now owners.now) }
     ensures err { IfErr result (IsWrongMap map.now owners.now) }
 {

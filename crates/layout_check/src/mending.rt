@@ -40,7 +40,7 @@ fn free_track(map: &mut Bam, owners: &Owners, track: u8)
 
 /// The bytes that 18/0 is to have: the map by the owners, bits past a track's last sector 0; and beside the map what
 /// stands there.
-pub fn map_of(old: &[u8; 256], owners: &Owners) -> [u8; 256]
+fn map_of(old: &[u8; 256], owners: &Owners) -> [u8; 256]
     ensures { IsMadeMap old.now result owners.now }
 {
     let mut bytes = *old;
@@ -53,7 +53,7 @@ pub fn map_of(old: &[u8; 256], owners: &Owners) -> [u8; 256]
 }
 
 /// Gives a sound disk that was surveyed the map that it is to have, where it has another.
-pub fn mend_map<D: Sectors>(disk: &mut D, found: &Survey) -> Result<(), Fault>
+pub(crate) fn mend_map<D: Sectors>(disk: &mut D, found: &Survey) -> Result<(), Fault>
     requires { IsToldBy (D.history.image disk.old) found.now }
     ensures map { OnOk result (HasMap (D.history.image disk.new)) }
     ensures layouts { OnOk result (KeepsLayouts (D.history.image disk.old) (D.history.image disk.new)) }
@@ -145,7 +145,7 @@ fn mend_relative<D: Sectors>(disk: &mut D, slot: &Slot, parts: &mut Parts) -> Re
 
 /// Gives the side sectors of all relative entries of a sound disk the bytes that they are to have, in the order of the
 /// directory, each where it has others.
-pub fn mend_entries<D: Sectors>(disk: &mut D) -> Result<(), Fault>
+pub(crate) fn mend_entries<D: Sectors>(disk: &mut D) -> Result<(), Fault>
     requires { IsSound (D.history.image disk.old) }
     ensures exact { OnOk result (AreExactFor (D.history.image disk.old) (D.history.image disk.new)) }
     ensures layouts { OnOk result (KeepsLayouts (D.history.image disk.old) (D.history.image disk.new)) }

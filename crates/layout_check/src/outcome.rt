@@ -16,12 +16,12 @@ pub struct Survey {
 
 /// A survey, and what it kept back because only a clean disk must not have it.
 #[derive(Drop)]
-pub struct Findings {
+pub(crate) struct Findings {
     /// The owners and the entries.
-    pub survey: Survey,
+    pub(crate) survey: Survey,
     /// A side sector whose bytes aren't exact, or a wrong block count: the first in the order of the directory. It holds
     /// where the whole disk was seen to be sound. None where all are right.
-    pub unclean: Option<Fault>,
+    pub(crate) unclean: Option<Fault>,
 }
 
 /// The indices of the sectors of track 18.

@@ -5,7 +5,7 @@ use d64_image::Place;
 use disk_layout::{Fault, map_place};
 
 /// The number of a sector that nobody owns.
-pub const NOBODY: u8 = 255;
+pub(crate) const NOBODY: u8 = 255;
 
 /// The number of the map and the directory.
 const SYSTEM: u8 = 254;
@@ -13,7 +13,7 @@ const SYSTEM: u8 = 254;
 /// The owner of each sector, as a number: 255 for nobody, 254 for the map and the directory, and for an entry its
 /// place among the used entries, from 0. Asking takes the same time for each sector, however much is owned.
 #[derive(Drop)]
-pub struct Owners {
+pub(crate) struct Owners {
     numbers: [u8; 683],
     pub ghost full: { length numbers ≡ 683 },
 }
@@ -34,7 +34,7 @@ impl Owners {
     }
 
     /// The map and the directory, which has these sectors, own theirs; nobody owns another.
-    pub fn of_directory(directory: &[Place]) -> Owners
+    pub(crate) fn of_directory(directory: &[Place]) -> Owners
         ensures { IsSystem result directory.now }
     {
         let mut owners = Owners::new();
@@ -46,28 +46,28 @@ impl Owners {
     }
 
     /// The number of the sector's owner.
-    pub fn owner(&self, place: Place) -> u8
+    pub(crate) fn owner(&self, place: Place) -> u8
         ensures { result ≡ owner_of self.now place }
     {
         self.numbers[place.index()]
     }
 
     /// Whether the sector has an owner.
-    pub fn is_owned(&self, place: Place) -> bool
+    pub(crate) fn is_owned(&self, place: Place) -> bool
         ensures { IsTrue result ↔ (owner_of self.now place ≢ 255) }
     {
         self.owner(place) != NOBODY
     }
 
     /// The numbers of the owners of all sectors, in the order of their indices.
-    pub fn numbers(&self) -> &[u8; 683]
+    pub(crate) fn numbers(&self) -> &[u8; 683]
         ensures { (p : Place) → slice_index result.now (index_of p) ≡ owner_of self.now p }
     {
         &self.numbers
     }
 
     /// Gives the sector to this owner.
-    pub fn set(&mut self, place: Place, number: u8)
+    pub(crate) fn set(&mut self, place: Place, number: u8)
         ensures here { owner_of self.new place ≡ number }
         ensures there { (q : Place) → place ≢ q → owner_of self.new q ≡ owner_of self.old q }
     {
@@ -76,7 +76,7 @@ impl Owners {
 
     /// Gives all these sectors, which differ from each other, to one owner; or tells `OwnedTwice` at one of them that is
     /// owned already. What the table has then is open.
-    pub fn claim(&mut self, number: u8, places: &[Place]) -> Result<(), Fault>
+    pub(crate) fn claim(&mut self, number: u8, places: &[Place]) -> Result<(), Fault>
         requires some { number < 255 }
         requires once { EachOnce places.now }
         ensures ok { OnOk result (IsClaimed self.old self.new number places.now) }

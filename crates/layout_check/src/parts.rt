@@ -5,16 +5,16 @@ use d64_image::Place;
 
 /// The data blocks and the side sectors of a relative entry, each in order. The room is used again from entry to entry.
 #[derive(Drop)]
-pub struct Parts {
+pub(crate) struct Parts {
     /// Its data blocks.
-    pub blocks: ArrayVec<Place, 720>,
+    pub(crate) blocks: ArrayVec<Place, 720>,
     /// Its side sectors.
-    pub sides: ArrayVec<Place, 6>,
+    pub(crate) sides: ArrayVec<Place, 6>,
 }
 
 impl Parts {
     /// Room for the parts of an entry.
-    pub fn new() -> Parts {
+    pub(crate) fn new() -> Parts {
         Parts {
             blocks: ArrayVec::new(),
             sides: ArrayVec::new(),

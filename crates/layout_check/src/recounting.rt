@@ -126,7 +126,7 @@ fn find_directory<D: Sectors>(disk: &mut D, places: &mut ArrayVec<Place, 720>) -
 /// wrong; nothing else changes, and where all counts are right nothing is written.
 ///
 /// `Device` is told where the device failed, and no other fault; the sectors before that one are then mended.
-pub fn mend_counts<D: Sectors>(disk: &mut D) -> Result<(), Fault>
+pub(crate) fn mend_counts<D: Sectors>(disk: &mut D) -> Result<(), Fault>
     requires sound { IsSound (D.history.image disk.old) }
     ensures counted { OnOk result (AreCounted (D.history.image disk.new)) }
     // every image held, the last one too, has the same files

@@ -10,13 +10,12 @@ use crate::blocks::survey_blocks;
 use crate::parts::Parts;
 use arrayvec::ArrayVec;
 use d64_image::{Place, Sectors};
-use disk_layout::{EntryView, Fault, POINTERS, SideView, Slot, read_sector, side_bytes};
+use disk_layout::{
+    EntryView, Fault, POINTERS, POINTERS_AT, SideView, Slot, read_sector, side_bytes,
+};
 
 /// Where in a side sector the places of all side sectors stand.
 const LIST_AT: usize = 4;
-
-/// Where in a side sector its pointers to data blocks stand.
-const POINTERS_AT: usize = 16;
 
 /// Whether the bytes from `at` on name these places in order, track and sector of each.
 fn names_each(sector: &[u8; 256], at: usize, places: &[Place]) -> bool
@@ -123,7 +122,7 @@ fn walk_sides<D: Sectors>(
 ///
 /// The answer is the first of them whose bytes aren't exactly those that they are to be, which a sound disk may have and
 /// a clean one not; None where all are exact.
-pub fn survey_sides<D: Sectors>(
+pub(crate) fn survey_sides<D: Sectors>(
     disk: &mut D,
     slot: &Slot,
     blocks: &[Place],
@@ -157,7 +156,7 @@ pub fn survey_sides<D: Sectors>(
 
 /// Finds the data blocks and the side sectors of a closed relative entry, and fills `parts` with them in order. The answer
 /// is the first side sector whose bytes aren't exact; None where all are.
-pub fn find_parts<D: Sectors>(
+pub(crate) fn find_parts<D: Sectors>(
     disk: &mut D,
     slot: &Slot,
     parts: &mut Parts,

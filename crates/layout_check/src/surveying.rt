@@ -31,7 +31,7 @@ fn survey_directory<D: Sectors>(
 }
 
 /// Surveys the disk as `survey` does, and judges beside that the bytes of the side sectors and the block counts.
-pub fn survey_files<D: Sectors>(disk: &mut D) -> Result<Findings, Fault>
+pub(crate) fn survey_files<D: Sectors>(disk: &mut D) -> Result<Findings, Fault>
     ensures ok { IfOk result (Surveys D.history disk.old disk.new) }
     ensures err { IfErr result (TellsUnsound D.history disk.old disk.new 2114) }
 {

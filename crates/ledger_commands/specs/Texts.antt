@@ -3,34 +3,16 @@
 use Rattle.std.specs.Prelude.{ℕ, ◌%◌, ◌++◌, [], not, ◌&&◌, List, Option, Some, None, if◌then◌else◌, codes, decimal, flat_map, map, nat_eq, nat_le, nat_lt, slice_range, take_while}
 use Rattle.std.specs.Int.{bit_at}
 use Rattle.d64_image.specs.Images.{Sector}
-use Rattle.d64_image.specs.declared.place.Place.{Place}
 use Rattle.disk_layout.specs.Directory.{type_byte}
 use Rattle.disk_layout.specs.Layout.{count_field}
+use Rattle.disk_layout.specs.Texts.{fault_text}
 use Rattle.disk_layout.specs.View.{blocks_free}
 use Rattle.disk_layout.specs.declared.faults.Fault.{Fault}
-use Rattle.disk_layout.specs.declared.faults.Fault.TheVariants as faults
 use Rattle.disk_layout.specs.declared.slot.Slot.{Slot}
 use Rattle.ledger_commands.specs.declared.dry_run.DryFault.{DryFault}
 use Rattle.ledger_commands.specs.declared.dry_run.DryFault.TheVariants as dry
 use Rattle.ledger_commands.specs.declared.faults.RunFault.{RunFault}
 use Rattle.ledger_commands.specs.declared.faults.RunFault.TheVariants as run
-
--- a track and a sector: 17/0
-abbrev pub place_text : Place → List ℕ
-place_text p = decimal p.track ++ codes "/" ++ decimal p.sector
-
--- a fault of the layout and its place: LOOP 17/0
-abbrev pub fault_text : Fault → List ℕ
-fault_text (faults.BadLink p) = codes "BADLINK " ++ place_text p
-fault_text (faults.Loop p) = codes "LOOP " ++ place_text p
-fault_text (faults.OwnedTwice p) = codes "OWNEDTWICE " ++ place_text p
-fault_text (faults.BadType p) = codes "BADTYPE " ++ place_text p
-fault_text (faults.Unclosed p) = codes "UNCLOSED " ++ place_text p
-fault_text (faults.BadSide p) = codes "BADSIDE " ++ place_text p
-fault_text (faults.BadLength p) = codes "BADLENGTH " ++ place_text p
-fault_text (faults.CountWrong p) = codes "COUNTWRONG " ++ place_text p
-fault_text (faults.MapWrong p) = codes "MAPWRONG " ++ place_text p
-fault_text (faults.Device p) = codes "DEVICE " ++ place_text p
 
 -- why a command over an image isn't done
 abbrev pub refusal_text : RunFault → List ℕ

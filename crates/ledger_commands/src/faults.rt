@@ -4,7 +4,6 @@ ghost use Rattle.std.specs.IoError.{error_kind};
 ghost use Rattle.ledger_commands.specs.Faults.{io_fault, opening_fault, run_status, script_fault};
 ghost use Rattle.ledger_commands.specs.Texts.{refusal_text};
 
-use crate::texts::FaultText;
 use disk_layout::Fault;
 use host_session::{OpenFault, ScriptFault};
 use std::error::Error;
@@ -102,7 +101,7 @@ impl Display for RunFault {
     fn fmt<W: fmt::Write>(&self, f: &mut Formatter<W>) -> fmt::Result {
         match self {
             RunFault::ImageSize => f.write_str("IMAGE SIZE"),
-            RunFault::Layout(fault) => write!(f, "LAYOUT {}", FaultText(*fault)),
+            RunFault::Layout(fault) => write!(f, "LAYOUT {fault}"),
             RunFault::NoStock => f.write_str("NO STOCK"),
             RunFault::NoRequests => f.write_str("NO REQUESTS"),
             RunFault::BadCard(record) => write!(f, "BAD CARD {record}"),

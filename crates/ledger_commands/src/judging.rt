@@ -9,7 +9,6 @@ ghost use Rattle.ledger_commands.specs.declared.faults.RunFault.TheVariants as f
 
 use crate::bytes::{flush, load, put_line};
 use crate::faults::RunFault;
-use crate::texts::FaultText;
 use d64_image::MemDisk;
 use disk_layout::Fault;
 use layout_check::check;
@@ -34,7 +33,7 @@ fn put_verdict<W: Write>(out: &mut W, found: Option<Fault>) -> Result<(), RunFau
 {
     match found {
         None => put_line(out, "OK")?,
-        Some(fault) => put_line(out, FaultText(fault))?,
+        Some(fault) => put_line(out, fault)?,
     }
     flush(out)
 }

@@ -1,34 +1,10 @@
-//! What is printed of a disk: its faults, names and entries.
+//! What is printed of a disk: its names and entries.
 ghost use Rattle.std.specs.Prelude.{◌≡◌, Some, map};
-ghost use Rattle.ledger_commands.specs.Texts.{disk_text, entry_text, fault_text, free_text, shown, type_text};
+ghost use Rattle.ledger_commands.specs.Texts.{disk_text, entry_text, free_text, shown, type_text};
 ghost use Rattle.ledger_commands.specs.Texts.{type_name as name_of_type};
 
-use disk_layout::{BamView, EntryView, Fault, Slot};
+use disk_layout::{BamView, EntryView, Slot};
 use std::fmt::{self, Display, Formatter};
-
-/// A fault of the layout as it is printed: its word and its place, as `LOOP 17/0`.
-#[derive(Clone, Copy)]
-pub(crate) struct FaultText(pub Fault);
-
-impl Display for FaultText {
-    ghost output = { λ text. Some (fault_text text.0) };
-
-    fn fmt<W: fmt::Write>(&self, f: &mut Formatter<W>) -> fmt::Result {
-        let (word, place) = match self.0 {
-            Fault::BadLink(place) => ("BADLINK", place),
-            Fault::Loop(place) => ("LOOP", place),
-            Fault::OwnedTwice(place) => ("OWNEDTWICE", place),
-            Fault::BadType(place) => ("BADTYPE", place),
-            Fault::Unclosed(place) => ("UNCLOSED", place),
-            Fault::BadSide(place) => ("BADSIDE", place),
-            Fault::BadLength(place) => ("BADLENGTH", place),
-            Fault::CountWrong(place) => ("COUNTWRONG", place),
-            Fault::MapWrong(place) => ("MAPWRONG", place),
-            Fault::Device(place) => ("DEVICE", place),
-        };
-        write!(f, "{word} {}/{}", place.track(), place.sector())
-    }
-}
 
 /// Bytes of the disk as they are printed: a question mark stands for each outside $20 to $7E.
 #[derive(Clone, Copy)]

@@ -152,9 +152,7 @@ fn take_site(mut map: Bam, room: Room) -> Option<Site>
             entry: 8 * before + number as usize,
         }),
         None => {
-            let Some(fresh) = map.pick_directory() else {
-                return None;
-            };
+            let fresh = map.pick_directory()?;
             map.take(fresh);
             Some(Site {
                 map,
@@ -180,10 +178,7 @@ fn file_at(site: &Site, size: u8) -> RelFile
     sides.push(site.side);
     RelFile {
         entry: site.entry,
-        sector: match site.fresh {
-            Some(fresh) => fresh,
-            None => site.place,
-        },
+        sector: site.fresh.unwrap_or(site.place),
         number: site.number,
         size,
         sides,

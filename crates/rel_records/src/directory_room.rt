@@ -65,7 +65,7 @@ pub(crate) fn find_room<D: Sectors>(disk: &mut D, places: &[Place]) -> Result<Ro
 }
 
 /// Whether the entry has the name.
-fn bears(slot: &Slot, padded: &[u8; 16]) -> bool
+pub(crate) fn bears(slot: &Slot, padded: &[u8; 16]) -> bool
     ensures { IsTrue result ↔ (slice_range slot.now.bytes 5 21 ≡ padded.now) }
 {
     &slot.bytes[5..21] == &padded[..]

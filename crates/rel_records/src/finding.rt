@@ -12,6 +12,7 @@ ghost use Rattle.rel_records.specs.Sides.{NamesEach};
 ghost use Rattle.rel_records.specs.declared.faults.RelFault.TheVariants.{Device, NotFound};
 
 use crate::access::read;
+use crate::directory_room::bears;
 use crate::faults::RelFault;
 use crate::rel_file::RelFile;
 use crate::sizes::side_count;
@@ -26,8 +27,7 @@ fn is_named(slot: &Slot, name: &[u8]) -> bool
     if name.len() > 16 || !EntryView::new(&slot.bytes).is_relative() {
         return false;
     }
-    let padded = padded_name(name);
-    &slot.bytes[5..21] == &padded[..]
+    bears(slot, &padded_name(name))
 }
 
 /// The number, from 0, of the first of these slots that is so named.

@@ -130,7 +130,7 @@ fn add_blocks<D: Sectors>(disk: &mut D, parts: &mut Parts, wanted: u16) -> Resul
         (full (record_length f.slot) wanted - records_had f)) }
     ensures failures { TellsFailure D.history disk.old disk.new result }
 {
-    for count in parts.blocks.len()..wanted as usize {
+    for _count in parts.blocks.len()..wanted as usize {
         add_block(disk, parts)?;
     }
     Ok(())

@@ -11,11 +11,11 @@ ghost use Rattle.rel_records.specs.declared.faults.RelFault.TheVariants.{Device,
 
 use crate::counting::has_records;
 use crate::faults::RelFault;
-use crate::parts::DATA;
-use crate::reading::{put_record, read_behind, read_block};
+use crate::reading::{fill_record, read_behind, read_block};
 use crate::rel_file::RelFile;
 use arrayvec::ArrayVec;
 use d64_image::Sectors;
+use disk_layout::DATA;
 
 /// The data block of a file that was read last: who reads the records in order finds the next one there, or in the block
 /// that it names.
@@ -55,7 +55,7 @@ fn go_on<D: Sectors>(
     ensures failures { TellsRelFault D.history disk.old disk.new result }
 {
     let mut bytes = [0; 256];
-    read_behind(disk, file, here, &last.bytes, &mut bytes)?;
+    read_behind(disk, &last.bytes, &mut bytes)?;
     *last = LastBlock {
         number: Some(here + 1),
         bytes,
@@ -120,12 +120,12 @@ fn next_there<D: Sectors>(
     let start = (number as usize - 1) * size;
     bring(disk, file, last, start / DATA)?;
     if start % DATA + size <= DATA {
-        put_record(text, &last.bytes, &last.bytes, start % DATA, size);
+        fill_record(text, &last.bytes, &last.bytes, start % DATA, size);
         return Ok(());
     }
     let first = last.bytes;
     go_on(disk, file, last, start / DATA)?;
-    put_record(text, &first, &last.bytes, start % DATA, size);
+    fill_record(text, &first, &last.bytes, start % DATA, size);
     Ok(())
 }
 

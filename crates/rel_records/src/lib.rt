@@ -32,4 +32,5 @@ pub use in_order::{LastBlock, read_next};
 pub use parts::record_parts;
 pub use reading::read_record;
 pub use rel_file::RelFile;
+pub use sizes::blocks_for;
 pub use writing::write_record;

@@ -10,10 +10,7 @@ use crate::access::read;
 use crate::faults::RelFault;
 use crate::rel_file::RelFile;
 use d64_image::{Place, Sectors};
-use disk_layout::POINTERS;
-
-/// Where a side sector's pointers to data blocks begin, two bytes each.
-const FIRST_POINTER: usize = 16;
+use disk_layout::{POINTERS, POINTERS_AT};
 
 /// The data block of this number, from 0, as its side sector names it.
 pub(crate) fn block_at<D: Sectors>(
@@ -32,6 +29,6 @@ pub(crate) fn block_at<D: Sectors>(
     let side = file.sides[block / POINTERS];
     let mut sector = [0; 256];
     read(disk, side, &mut sector)?;
-    let pointer = FIRST_POINTER + 2 * (block % POINTERS);
+    let pointer = POINTERS_AT + 2 * (block % POINTERS);
     Ok(Place::known(sector[pointer], sector[pointer + 1]))
 }

@@ -1,6 +1,9 @@
 //! Records read: one side sector tells the block where a record begins.
-ghost use Rattle.std.specs.Prelude.{◌+◌, ◌++◌, length, ◌⊎◌, ◌≡◌, ◌<◌, ◌≤◌, IfErr, OnOk, drop, take};
+ghost use Rattle.std.specs.Prelude.{◌+◌, ◌++◌, length, ◌⊎◌, ◌≡◌, ◌<◌, ◌≤◌, IfErr, IsSome, OnOk, Some, drop, take};
 ghost use Rattle.d64_image.specs.History.{OnlyReads};
+ghost use Rattle.d64_image.specs.Images.{sector};
+ghost use Rattle.d64_image.specs.declared.place.Place.{Place};
+ghost use Rattle.disk_layout.specs.Chain.{named_at};
 ghost use Rattle.disk_layout.specs.Layout.{File, Layout};
 ghost use Rattle.disk_layout.specs.Records as records_of;
 ghost use Rattle.rel_records.specs.Faults.{TellsRelFault};
@@ -13,10 +16,11 @@ use crate::access::read;
 use crate::counting::has_records;
 use crate::faults::RelFault;
 use crate::lookup::block_at;
-use crate::parts::{DATA, record_parts};
+use crate::parts::record_parts;
 use crate::rel_file::RelFile;
 use arrayvec::ArrayVec;
 use d64_image::{Place, Sectors};
+use disk_layout::DATA;
 
 /// Puts two parts one behind the other in place of these bytes.
 fn overwrite(bytes: &mut [u8], here: &[u8], there: &[u8])
@@ -28,19 +32,20 @@ fn overwrite(bytes: &mut [u8], here: &[u8], there: &[u8])
     second.copy_from_slice(there);
 }
 
-/// Fills `text` with the record of this length that begins at data byte `start` of the block `a`, and goes on in `b`.
-pub(crate) fn put_record(
+/// Fills `text` with the record of this length that begins at data byte `start` of the first block, and goes on in the
+/// second.
+pub(crate) fn fill_record(
     text: &mut ArrayVec<u8, 254>,
-    a: &[u8; 256],
-    b: &[u8; 256],
+    first: &[u8; 256],
+    second: &[u8; 256],
     start: usize,
     size: usize,
 )
     requires start { start < 254 }
     requires size { size ≤ 254 }
-    ensures { text.new.items ≡ take size (drop start (drop 2 a.now ++ drop 2 b.now)) }
+    ensures { text.new.items ≡ take size (drop start (drop 2 first.now ++ drop 2 second.now)) }
 {
-    let (here, there) = record_parts(a, b, start, size);
+    let (here, there) = record_parts(first, second, start, size);
     // as long as the one before: there is nothing to clear
     if text.len() == size {
         overwrite(text.as_mut_slice(), here, there);
@@ -70,20 +75,15 @@ pub(crate) fn read_block<D: Sectors>(
     read(disk, place, to)
 }
 
-/// Reads the data block behind the one of this number, whose bytes name it.
+/// Reads the data block behind the one that has these bytes, which name it.
 pub(crate) fn read_behind<D: Sectors>(
     disk: &mut D,
-    file: &RelFile,
-    block: usize,
     bytes: &[u8; 256],
     to: &mut [u8; 256],
 ) -> Result<(), RelFault>
-    requires of { IsOf (D.history.image disk.old) file.now }
-    requires there { block + 1 < blocks_of file.now }
-    requires here { OfItsFile (D.history.image disk.old) file.now
-        (λ l n f. IsBlock (D.history.image disk.old) f.blocks block bytes.now) }
-    ensures ok { OfItsFile (D.history.image disk.old) file.now
-        (λ l n f. OnOk result (IsBlock (D.history.image disk.old) f.blocks (block + 1) to.new)) }
+    requires { IsSome (named_at bytes.now 0) }
+    ensures ok { (p : Place) → named_at bytes.now 0 ≡ Some p
+        → OnOk result (to.new ≡ sector (D.history.image disk.old) p) }
     ensures err { IfErr result (λ fault. fault ≡ Device) }
     ensures reads { OnlyReads D.history disk.old disk.new 1 }
     ensures failures { TellsRelFault D.history disk.old disk.new result }
@@ -110,15 +110,15 @@ fn read_there<D: Sectors>(
 {
     let size = file.size as usize;
     let start = (number as usize - 1) * size;
-    let mut a = [0; 256];
-    read_block(disk, file, start / DATA, &mut a)?;
+    let mut first = [0; 256];
+    read_block(disk, file, start / DATA, &mut first)?;
     if start % DATA + size <= DATA {
-        put_record(text, &a, &a, start % DATA, size);
+        fill_record(text, &first, &first, start % DATA, size);
         return Ok(());
     }
-    let mut b = [0; 256];
-    read_behind(disk, file, start / DATA, &a, &mut b)?;
-    put_record(text, &a, &b, start % DATA, size);
+    let mut second = [0; 256];
+    read_behind(disk, &first, &mut second)?;
+    fill_record(text, &first, &second, start % DATA, size);
     Ok(())
 }
 

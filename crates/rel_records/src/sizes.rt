@@ -3,10 +3,10 @@ ghost use Rattle.std.specs.Prelude.{◌≡◌, ◌≤◌, ◌<◌, ◌+◌, ◌-
 ghost use Rattle.disk_layout.specs.Layout.{sides_for};
 ghost use Rattle.rel_records.specs.Growth as growth;
 
-use disk_layout::POINTERS;
+use disk_layout::{DATA, POINTERS};
 
-/// The bytes of a data block behind its link.
-pub(crate) const BLOCK: u32 = 254;
+/// The bytes of data of a block, as bytes of a file are counted.
+pub(crate) const BLOCK: u32 = DATA as u32;
 
 /// The whole records of `length` bytes in `blocks` full blocks.
 pub(crate) fn full_records(blocks: u16, length: u8) -> u32
@@ -34,8 +34,9 @@ pub(crate) fn side_count(blocks: u16) -> u16
     (blocks + POINTERS as u16 - 1) / POINTERS as u16
 }
 
-/// The data blocks that a file needs for its record `number`, None where no file can have them.
-pub(crate) fn blocks_for(number: u32, length: u8) -> Option<u16>
+/// The data blocks that a file with records of this length, in bytes, needs for its record `number`; None where that is past
+/// 65535 or would need more than 720, so that no file can have it.
+pub fn blocks_for(number: u32, length: u8) -> Option<u16>
     ensures { MatchOption result ((65535 < number) ⊎ (720 < growth.blocks_for length number))
         (λ n. (n ≡ growth.blocks_for length number) × (n ≤ 720) × (number ≤ 65535)) }
 {

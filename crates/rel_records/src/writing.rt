@@ -17,9 +17,10 @@ use crate::access::{read, write};
 use crate::faults::RelFault;
 use crate::growth::grow_to;
 use crate::lookup::block_at;
-use crate::parts::{DATA, patch};
+use crate::parts::patch;
 use crate::rel_file::RelFile;
 use d64_image::{Place, Sectors};
+use disk_layout::DATA;
 
 /// Writes the text over the data bytes from `start` to below `end` of the block at `place`, and zeros where it is shorter.
 /// The answer is the block that it links to, where it does.

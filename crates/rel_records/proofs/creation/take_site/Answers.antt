@@ -22,19 +22,20 @@ overflow_add-result-in-None c = let (img, l, clean, read, room) = c.requires.of 
 pub overflow_mul-result-in-None : goal.overflow_mul-result-in-None
 overflow_mul-result-in-None c = let (img, l, clean, read, room) = c.requires.of in omega (arith, before-few img l c.args.room clean.layout room)
 
-pub returns-in_default : goal.returns-in_default
-returns-in_default c img l clean read room =
-    no-sector img l clean c.args.map.bytes c.take_next-block.new.map.bytes read c.take_next-block.result c.take_next-side.result c.take_next-side.new.map c.take_next-block.ensures c.take_next-side.ensures c.args.room room c.in-None.is c.in_default.ensures
+pub returns-in_err-fresh-in-None : goal.returns-in_err-fresh-in-None
+returns-in_err-fresh-in-None c img l clean read room =
+    rw c.from_residual.ensures
+    (no-sector img l clean c.args.map.bytes c.take_next-block.new.map.bytes read c.take_next-block.result c.take_next-side.result c.take_next-side.new.map c.take_next-block.ensures c.take_next-side.ensures c.args.room room c.in-None.is c.in_err-fresh-in-None.ensures)
 
 pub returns-in-Some : goal.returns-in-Some
 returns-in-Some c img l clean read room =
     slot-site img l clean c.args.map.bytes c.take_next-block.new.map.bytes read c.take_next-block.result c.take_next-side.result c.take_next-side.new.map c.take_next-block.ensures c.take_next-side.ensures c.args.room c.in-Some.number
     (λ few. omega (arith, few, c.if-blocks_free-lt2.false, c.blocks_free.ensures, ap blocks_free c.view.ensures)) room c.in-Some.is
 
-pub returns-in-Some-pick_directory : goal.returns-in-Some-pick_directory
-returns-in-Some-pick_directory c img l clean read room =
-    sector-site img l clean c.args.map.bytes c.take_next-block.new.map.bytes read c.take_next-block.result c.take_next-side.result c.take_next-side.new.map c.take_next-block.ensures c.take_next-side.ensures c.take.new.self c.in-Some-pick_directory.fresh c.args.room
-    (λ few. omega (arith, few, c.if-blocks_free-lt2.false, c.blocks_free.ensures, ap blocks_free c.view.ensures)) room c.in-None.is c.in-Some-pick_directory.ensures c.take.ensures.taken
+pub returns-in_ok-fresh-in-None : goal.returns-in_ok-fresh-in-None
+returns-in_ok-fresh-in-None c img l clean read room =
+    sector-site img l clean c.args.map.bytes c.take_next-block.new.map.bytes read c.take_next-block.result c.take_next-side.result c.take_next-side.new.map c.take_next-block.ensures c.take_next-side.ensures c.take.new.self c.in_ok-fresh-in-None.fresh c.args.room
+    (λ few. omega (arith, few, c.if-blocks_free-lt2.false, c.blocks_free.ensures, ap blocks_free c.view.ensures)) room c.in-None.is c.in_ok-fresh-in-None.ensures c.take.ensures.taken
 
 pub take_next-block-requires-clause-some : goal.take_next-block-requires-clause-some
 take_next-block-requires-clause-some c = omega (arith, c.if-blocks_free-lt2.false, c.blocks_free.ensures, ap blocks_free c.view.ensures)

@@ -25,14 +25,14 @@ pub returns-then-start-size-le-DATA-clause-ok : goal.returns-then-start-size-le-
 returns-then-start-size-le-DATA-clause-ok g c = λ l n f of.
     let S = g.D.Sectors.history in
     let here = subst (λ (o : Option ℕ). IfSome o (λ r. IsBlock (S.image c.args.disk.now) f.blocks r c.bring.new.last.bytes)) c.in_ok-bring.ensures.ok (c.bring.ensures.kept l n f of) in
-    record-read (S.image c.args.disk.now) l n f c.args.file.now of (S.whole c.args.disk.now) c.args.number c.bring.new.last.bytes c.bring.new.last.bytes c.put_record.new.text.items c.requires.low c.requires.high
-    here (λ over. absurd (omega (arith, over, c.if-start-size-le-DATA.true))) (block-long _ f _ _ (S.whole c.args.disk.now) here) c.put_record.ensures
+    record-read (S.image c.args.disk.now) l n f c.args.file.now of (S.whole c.args.disk.now) c.args.number c.bring.new.last.bytes c.bring.new.last.bytes c.fill_record.new.text.items c.requires.low c.requires.high
+    here (λ over. absurd (omega (arith, over, c.if-start-size-le-DATA.true))) (block-long _ f _ _ (S.whole c.args.disk.now) here) c.fill_record.ensures
 
 pub returns-then-start-size-le-DATA-clause-size : goal.returns-then-start-size-le-DATA-clause-size
 returns-then-start-size-le-DATA-clause-size g c =
     let S = g.D.Sectors.history in
     let (l, n, f, of) = c.requires.of in
-    record-long (S.image c.args.disk.now) l n f c.args.file.now of (S.whole c.args.disk.now) c.args.number c.put_record.new.text.items (returns-then-start-size-le-DATA-clause-ok g c l n f of)
+    record-long (S.image c.args.disk.now) l n f c.args.file.now of (S.whole c.args.disk.now) c.args.number c.fill_record.new.text.items (returns-then-start-size-le-DATA-clause-ok g c l n f of)
 
 pub go_on-requires-clause-of : goal.go_on-requires-clause-of
 go_on-requires-clause-of g c = subst (λ (i : Image). IsOf i c.args.file.now) (sym c.bring.ensures.reads.image) c.requires.of
@@ -55,14 +55,14 @@ returns-clause-ok g c = λ l n f of.
     let here = subst (λ (o : Option ℕ). IfSome o (λ r. IsBlock img f.blocks r c.bring.new.last.bytes)) c.in_ok-bring.ensures.ok (c.bring.ensures.kept l n f of) in
     let kept = subst (λ (i : Image). IsKept i c.args.file.now c.go_on.new.last) c.bring.ensures.reads.image c.go_on.ensures.kept in
     let behind = subst (λ (o : Option ℕ). IfSome o (λ r. IsBlock img f.blocks r c.go_on.new.last.bytes)) c.in_ok-go_on.ensures.ok (kept l n f of) in
-    record-read img l n f c.args.file.now of (S.whole c.args.disk.now) c.args.number c.bring.new.last.bytes c.go_on.new.last.bytes c.put_record-2.new.text.items c.requires.low c.requires.high
-    here (λ over. behind) (block-long _ f _ _ (S.whole c.args.disk.now) behind) c.put_record-2.ensures
+    record-read img l n f c.args.file.now of (S.whole c.args.disk.now) c.args.number c.bring.new.last.bytes c.go_on.new.last.bytes c.fill_record-2.new.text.items c.requires.low c.requires.high
+    here (λ over. behind) (block-long _ f _ _ (S.whole c.args.disk.now) behind) c.fill_record-2.ensures
 
 pub returns-clause-size : goal.returns-clause-size
 returns-clause-size g c =
     let S = g.D.Sectors.history in
     let (l, n, f, of) = c.requires.of in
-    record-long (S.image c.args.disk.now) l n f c.args.file.now of (S.whole c.args.disk.now) c.args.number c.put_record-2.new.text.items (returns-clause-ok g c l n f of)
+    record-long (S.image c.args.disk.now) l n f c.args.file.now of (S.whole c.args.disk.now) c.args.number c.fill_record-2.new.text.items (returns-clause-ok g c l n f of)
 
 pub returns-clause-kept : goal.returns-clause-kept
 returns-clause-kept g c = subst (λ (i : Image). IsKept i c.args.file.now c.go_on.new.last) c.bring.ensures.reads.image c.go_on.ensures.kept
