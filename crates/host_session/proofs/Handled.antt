@@ -1,5 +1,5 @@
 -- What is known of a request that was answered, said of the message that it was read from.
-use Rattle.std.proofs.Common.{◌≡◌, ◌⊎◌, ℕ, ◌≤◌, ◌<◌, ◌+◌, inl, inr, Bool, false, true, Option, Some, None, refl, sym, ◌∙◌, ap, subst, arith}
+use Rattle.std.proofs.Common.{◌≡◌, ◌⊎◌, ℕ, ◌≤◌, ◌<◌, ◌+◌, inl, inr, Bool, false, true, Option, Some, None, sym, ◌∙◌, ap, subst, arith}
 use Rattle.d64_image.specs.History.{Changes, Failed, History}
 use Rattle.d64_image.specs.Images.{Image}
 use Rattle.d64_image.proofs.Moments.{changes_weaker, no_change}

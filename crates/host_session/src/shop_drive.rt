@@ -1,5 +1,5 @@
 //! The two files of a shop, through the drive.
-ghost use Rattle.std.specs.Prelude.{ℕ, ◌≡◌, ◌≤◌, IsErr, None, OnErr, OnOk, Option, Some, false, true};
+ghost use Rattle.std.specs.Prelude.{ℕ, ◌≡◌, ◌≤◌, IsErr, None, Ok, OnErr, OnOk, Option, Some, false, true};
 ghost use Rattle.d64_image.specs.History.{Changes, OnlyReads, TellsFailure};
 ghost use Rattle.disk_layout.specs.Layout.{File, IsLayout, Layout, record_length};
 ghost use Rattle.disk_layout.specs.Rest.{IsFirst};
@@ -21,23 +21,13 @@ use drive_channels::{Dead, Drive};
 use std::marker::Model;
 
 /// One of the two files of a shop.
-#[derive(Clone, Copy)]
+#[derive(Clone, Copy, PartialEq, Eq)]
 pub(crate) enum ShopFile {
     Stock,
     Requests,
 }
 
 impl ShopFile {
-    /// Whether both are the same file.
-    fn is(self, other: ShopFile) -> bool
-        ensures { result ≡ true → self ≡ other }
-    {
-        match self {
-            ShopFile::Stock => matches!(other, ShopFile::Stock),
-            ShopFile::Requests => matches!(other, ShopFile::Requests),
-        }
-    }
-
     /// Its name.
     fn name(self) -> &'static [u8]
         ensures value { result.now ≡ name_of self }
@@ -95,12 +85,10 @@ impl<D: Sectors> ShopDrive<D> {
 
     /// Whether channel 2 is open on this file.
     fn is_open(&self, file: ShopFile) -> bool
-        ensures { result ≡ true → self.now.dead ≡ false → IsOn D.history self.now file }
+        ensures on { result ≡ true → self.now.dead ≡ false → IsOn D.history self.now file }
+        ensures off { result ≡ false → self.now.dead ≡ false → ¬ (IsOn D.history self.now file) }
     {
-        match self.known {
-            Some(known) => known.is(file),
-            None => false,
-        }
+        self.known == Some(file)
     }
 
     /// Opens channel 2 on a file.
@@ -126,6 +114,8 @@ impl<D: Sectors> ShopDrive<D> {
         requires there { (l : Layout) × (n : ℕ) × (f : File) × IsLayout (D.history.image self.old.disk) l × IsFirst l (name_of file) n f }
         ensures on { (l : Layout) (n : ℕ) (f : File) → IsLayout (D.history.image self.old.disk) l → IsFirst l (name_of file) n f
             → OnOk result (IsInFile self.new n) }
+        // a channel that is on the file stays as it is
+        ensures stays { IsOn D.history self.old file → (result ≡ Ok tt) × (self.new ≡ self.old) }
         ensures reads { OnlyReads D.history self.old.disk self.new.disk 2817 }
         ensures failures { TellsFailure D.history self.old.disk self.new.disk result }
         ensures dies { IsErr result → self.new.dead ≡ true }
@@ -142,6 +132,8 @@ impl<D: Sectors> ShopDrive<D> {
         requires reach { (l : Layout) × (n : ℕ) × (f : File) × IsInReach (D.history.image self.old.disk) (name_of file) number l n f }
         ensures at { (l : Layout) (n : ℕ) (f : File) → IsInReach (D.history.image self.old.disk) (name_of file) number l n f
             → OnOk result (IsAt self.new n number) }
+        // where the channel is on the file no sector is read
+        ensures quiet { IsOn D.history self.old file → self.new.disk ≡ self.old.disk }
         ensures reads { OnlyReads D.history self.old.disk self.new.disk 2817 }
         ensures failures { TellsFailure D.history self.old.disk self.new.disk result }
         ensures dies { IsErr result → self.new.dead ≡ true }

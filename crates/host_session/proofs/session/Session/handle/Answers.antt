@@ -1,7 +1,6 @@
 -- A message that is a request is answered as that; another one leaves all as it is.
-use Rattle.std.proofs.Common.{ap, arith, inl, inr, refl, subst, sym, ◌∙◌, ◌≡◌, true, false}
+use Rattle.std.proofs.Common.{ap, arith, inl, inr, refl, sym, ◌∙◌, ◌≡◌, true}
 use Rattle.request_cards.specs.Ledgers.{reply_in}
-use Rattle.request_cards.specs.declared.reply.Reply.TheVariants.{Syntax}
 use Rattle.host_session.specs.Handling.{media}
 use Rattle.host_session.specs.Shop.{start_of}
 use Rattle.host_session.specs.Standing.{View}
