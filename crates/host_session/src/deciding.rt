@@ -12,6 +12,7 @@ use request_cards::{
 };
 
 /// How a request stands by the tills' cards, on a disk with so many tills.
+// In line, since every message asks it.
 #[inline(always)]
 pub(crate) fn standing_by(
     requests: &[Option<RequestCard>; 64],

@@ -92,6 +92,7 @@ impl<D: Sectors> ShopDrive<D> {
     }
 
     /// Opens channel 2 on a file.
+    // Out of line, since the way to a record of the file that the channel is on needs none of it.
     #[inline(never)]
     fn open(&mut self, file: ShopFile) -> Result<(), Dead>
         requires ready { IsReady D.history self.old }
