@@ -12,6 +12,10 @@ abbrev pub name_of : ShopFile → List ℕ
 name_of Stock = codes "STOCK"
 name_of Requests = codes "REQUESTS"
 
+abbrev pub length_of : ShopFile → ℕ
+length_of Stock = 18
+length_of Requests = 127
+
 -- a check has passed, and channel 2 is at the first byte of a record of the first closed relative file of this name
 pub record IsOn {D : Type 0} (S : History D) (d : Seen D) (file : ShopFile) : Type 0 where
   pub checked : d.checked ≡ true

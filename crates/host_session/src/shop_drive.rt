@@ -12,7 +12,7 @@ ghost use Rattle.drive_channels.specs.Tables.{Writes};
 ghost use Rattle.drive_channels.specs.Tables as tables;
 ghost use Rattle.host_session.specs.Putting.{IsInReach};
 ghost use Rattle.host_session.specs.Selecting.{IsAt, IsReady, IsInFile, place_text};
-ghost use Rattle.host_session.specs.Channels.{IsKnownOn, IsOn, name_of};
+ghost use Rattle.host_session.specs.Channels.{IsKnownOn, IsOn, length_of, name_of};
 ghost use Rattle.rel_records.specs.Growth.{records_had};
 ghost use Rattle.rel_records.specs.Written.{IsInOneBlock};
 
@@ -29,13 +29,23 @@ pub(crate) enum ShopFile {
 
 impl ShopFile {
     /// Its name.
-    fn name(self) -> &'static [u8]
+    pub(crate) fn name(self) -> &'static [u8]
         ensures value { result.now ≡ name_of self }
         ensures name { IsName result.now }
     {
         match self {
             ShopFile::Stock => b"STOCK",
             ShopFile::Requests => b"REQUESTS",
+        }
+    }
+
+    /// The length of its records.
+    pub(crate) fn record_length(self) -> u8
+        ensures { result ≡ length_of self }
+    {
+        match self {
+            ShopFile::Stock => 18,
+            ShopFile::Requests => 127,
         }
     }
 }
