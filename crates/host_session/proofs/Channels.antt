@@ -1,15 +1,16 @@
 -- What is known of the file that a drive's channel is in, after a call on it.
-use Rattle.std.proofs.Common.{◌≡◌, ◌+◌, ℕ, inl, inr, Bool, true, false, Option, None, Some, Result, Ok, Err, List, refl, sym, ◌∙◌, ap, subst}
-use Rattle.std.specs.Prelude.{OnOk}
+use Rattle.std.proofs.Common.{◌≡◌, ◌≢◌, ◌+◌, ℕ, inl, inr, Bool, true, false, Option, None, Some, Result, Ok, Err, List, refl, sym, ◌∙◌, ap, arith, subst}
+use Rattle.std.specs.Prelude.{OnOk, slice_get, slice_index, slice_range}
+use Rattle.std.specs.Option.{option_eq}
 use Rattle.std.proofs.lemmas.Bool.{false≢true}
-use Rattle.std.proofs.lemmas.Option.{same_Some}
+use Rattle.std.proofs.lemmas.Option.{none-some, same_Some}
 use Rattle.d64_image.specs.History.{History}
 use Rattle.d64_image.specs.Images.{Image}
 use Rattle.disk_layout.proofs.Kept.{first-kept}
 use Rattle.disk_layout.proofs.Layouts.{IsLayout-one}
 use Rattle.disk_layout.proofs.Uniques.{IsFirst-one}
 use Rattle.disk_layout.specs.Layout.{File, IsLayout, Layout}
-use Rattle.disk_layout.specs.Rest.{IsFirst}
+use Rattle.disk_layout.specs.Rest.{IsFirst, IsNamed, slot_name}
 use Rattle.drive_channels.specs.Files.{IsRelAt}
 use Rattle.drive_channels.specs.Serving.{Serves}
 use Rattle.drive_channels.specs.Spelling.{IsName}
@@ -21,6 +22,7 @@ use Rattle.host_session.specs.Putting.{IsInReach}
 use Rattle.host_session.specs.Selecting.{IsInFile, IsReady, channel_at, place_text}
 use Rattle.host_session.specs.Channels.{IsKnownOn, IsOn, name_of}
 use Rattle.host_session.specs.declared.shop_drive.ShopFile.{ShopFile}
+use Rattle.host_session.specs.declared.shop_drive.ShopFile.TheVariants.{Requests, Stock}
 
 -- a call that answers Ok found the drive alive
 pub alive-before : {D T E : Type 0} (S : History D) (old new : Seen D) (x : T) → Serves {E = E} S old new (Ok x) → old.dead ≡ false
@@ -37,6 +39,41 @@ known-entry S d file l n f h alive is first =
     let same : h.layout ≡ l = IsLayout-one (S.image d.disk) h.layout l h.is_layout is in
     let one : h.entry ≡ n = (IsFirst-one l (name_of file) h.entry n h.first_file f (subst (λ (m : Layout). IsFirst m (name_of file) h.entry h.first_file) same h.first) first).0 in
     record { alive = alive; checked = h.checked; record_number = h.record_number; on = h.at ∙ ap (λ (j : ℕ). Some (channel_at j h.record_number)) one }
+
+-- both files have names of their own
+name-one : (a b : ShopFile) (f g : File) → f ≡ g → IsNamed (name_of a) f → IsNamed (name_of b) g → a ≡ b
+name-one a b f g same is other =
+    let names : slot_name (name_of a) ≡ slot_name (name_of b) = sym is.1 ∙ ap (λ (h : File). slice_range h.slot.bytes 5 21) same ∙ other.1 in
+    by a b (ap (λ (bytes : List ℕ). slice_index bytes 0) names)
+  where
+    by : (a b : ShopFile) → slice_index (slot_name (name_of a)) 0 ≡ slice_index (slot_name (name_of b)) 0 → a ≡ b
+    by Stock Stock e = refl
+    by Stock Requests e = absurd (omega (arith, e))
+    by Requests Stock e = absurd (omega (arith, e))
+    by Requests Requests e = refl
+
+-- the channel is in one file at most
+on-one : {D : Type 0} (S : History D) (d : Seen D) (a b : ShopFile) → IsOn S d a → IsOn S d b → a ≡ b
+on-one S d a b h k =
+    let same : h.layout ≡ k.layout = IsLayout-one (S.image d.disk) h.layout k.layout h.is_layout k.is_layout in
+    let one : h.entry ≡ k.entry = ap (λ (c : Channel). c.entry) (same_Some (channel_at h.entry h.record_number) (channel_at k.entry k.record_number) (sym h.at ∙ k.at)) in
+    let there : slice_get k.layout.files k.entry ≡ Some h.first_file = subst (λ (n : ℕ). slice_get k.layout.files n ≡ Some h.first_file) one
+    (subst (λ (l : Layout). slice_get l.files h.entry ≡ Some h.first_file) same h.first.file) in
+    name-one a b h.first_file k.first_file (same_Some h.first_file k.first_file (sym there ∙ k.first.file)) h.first.named k.first.named
+
+-- what compares unequal is another file, or none
+pub known-differs : (equal : ShopFile → ShopFile → Bool) → equal Stock Stock ≡ true → equal Requests Requests ≡ true → (known : Option ShopFile) (file : ShopFile)
+    → option_eq equal known (Some file) ≡ false → known ≢ Some file
+known-differs equal stock requests known file differ is = by file (sym (ap (λ (o : Option ShopFile). option_eq equal o (Some file)) is) ∙ differ)
+  where
+    by : (f : ShopFile) → equal f f ≡ false → ⊥
+    by Stock e = false≢true (sym e ∙ stock)
+    by Requests e = false≢true (sym e ∙ requests)
+
+-- where another file is known, or none, the channel isn't in this one
+pub known-off : {D : Type 0} (S : History D) (d : Seen D) (known : Option ShopFile) (file : ShopFile) → (known ≢ Some file) → IsKnownOn S d known → ¬ (IsOn S d file)
+known-off S d None file other none on = none-some (channel_at on.entry on.record_number) (sym none ∙ on.at)
+known-off S d (Some known) file other is on = other (ap (λ (f : ShopFile). Some f) (on-one S d known file is on))
 
 -- after close and open
 pub opened-on : {D : Type 0} (S : History D) (d0 d1 d2 : Seen D) (file : ShopFile) (text : List ℕ) (l : Layout) (n : ℕ) (f : File) → IsReady S d0 → text ≡ name_of file → IsName text
@@ -63,7 +100,7 @@ opened-inside S d0 d1 d2 file text l n f ready e name closes opens alive is firs
 -- after P
 pub known-moved : {D : Type 0} (S : History D) (d e : Seen D) (n k r : ℕ) (known : Option ShopFile) → S.image e.disk ≡ S.image d.disk → d.channel ≡ Some (channel_at n k)
     → e.channel ≡ Some (channel_at n r) → e.checked ≡ d.checked → IsKnownOn S d known → IsKnownOn S e known
-known-moved S d e n k r None same at to checked h = tt
+known-moved S d e n k r None same at to checked h = absurd (none-some (channel_at n k) (sym h ∙ at))
 known-moved S d e n k r (Some file) same at to checked h =
     let one : n ≡ h.entry = ap (λ (c : Channel). c.entry) (same_Some (channel_at n k) (channel_at h.entry h.record_number) (sym at ∙ h.at)) in
     record {
@@ -126,8 +163,13 @@ written-on S d e text file row h = past row
     past (inl (bad, _)) = absurd (bad (channel_at h.entry h.record_number, (h.at, refl)))
     past (inr (_, go)) = wide (go (channel_at h.entry h.record_number) h.layout h.first_file h.at there)
 
+-- no channel was open, and none is opened by a write
+written-off : (x y : View) (text : List ℕ) → Writes x 2 text y → x.channel ≡ None → y.channel ≡ None
+written-off x y text (inl (bad, told)) none = ap (λ (v : View). v.channel) told ∙ none
+written-off x y text (inr (has, go)) none = absurd (has (λ on. none-some on.0 (sym none ∙ on.1.0)))
+
 pub known-written : {D T E : Type 0} (S : History D) (d e : Seen D) (r : Result T E) (text : List ℕ) (known : Option ShopFile) → Serves S d e r
     → OnOk r (Writes (view_of S d) 2 text (view_of S e)) → (d.dead ≡ false → IsKnownOn S d known) → e.dead ≡ false → IsKnownOn S e known
 known-written S d e (Err x) text known serves row h alive = absurd (false≢true (sym alive ∙ serves.dies.1 refl))
-known-written S d e (Ok x) text None serves row h alive = tt
+known-written S d e (Ok x) text None serves row h alive = written-off (view_of S d) (view_of S e) text row (h (alive-before S d e x serves))
 known-written S d e (Ok x) text (Some file) serves row h alive = written-on S d e text file row (h (alive-before S d e x serves))

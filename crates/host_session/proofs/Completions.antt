@@ -1,6 +1,6 @@
 -- What the writes of a completed intent make of the files: the same shop at each moment.
 use Rattle.std.proofs.Common.{ℕ, ◌≡◌, ◌≢◌, ◌≤◌, ◌+◌, inl, inr, false, List, [], ◌∷◌, Ok, Err, Result, Some, length, refl, sym, ◌∙◌, ◌++◌, ap, replicate, set, subst, true, arith}
-use Rattle.std.specs.Prelude.{Bool, Contains, IfSome, IsSome, IsTrue, OnOk, Option, None, is_some, nat_le, not, ◌==◌, ◌&&◌, if◌then◌else◌}
+use Rattle.std.specs.Prelude.{Bool, Contains, IfNone, IfSome, IsSome, IsTrue, OnOk, Option, None, is_some, nat_le, not, ◌==◌, ◌&&◌}
 use Rattle.std.specs.List.{AllByRecursion}
 use Rattle.std.proofs.lemmas.Bool.{and_parts, eqb-false, false≢true, leb-true, not-true}
 use Rattle.std.proofs.lemmas.List.{append-nil}
@@ -15,10 +15,12 @@ use Rattle.request_cards.specs.declared.answer.Answer.{Answer}
 use Rattle.request_cards.specs.declared.answer.Answer.TheVariants as answers
 use Rattle.request_cards.specs.declared.kind.Kind.{Kind}
 use Rattle.request_cards.specs.declared.kind.Kind.TheVariants.{Receive, Issue, Set, Move}
-use Rattle.request_cards.specs.Requests.{may_go_to, same_kind, to_of}
+use Rattle.request_cards.specs.Requests.{Body, may_go_to, same_kind}
 use Rattle.request_cards.specs.CardTexts.{Card, IsCard, IsEntry, IsStock, Stock, answer_quantity, answer_to_quantity, card_text, entry_text, goes_with, is_done, second_text, stock_text}
 use Rattle.host_session.specs.Handling.{card_writes}
 use Rattle.host_session.specs.Completing.{HasIntent, HasResults, IsCompleted, answered_card}
+use Rattle.host_session.specs.Judged.{listed, pair_in}
+use Rattle.host_session.specs.declared.intents.NewQuantities.{NewQuantities}
 use Rattle.host_session.specs.Files.{Files, record_at, with_record}
 use Rattle.host_session.specs.Putting.{HasAnswer, HasCard, IsPuttingAnswer, IsPuttingCard, with_card}
 use Rattle.host_session.specs.Shop.{IsIntended, IsShop, Shop, cards_in, intents, items, open_in, quantities, results, results_in, results_of, shop_of}
@@ -188,6 +190,52 @@ module _ (f : Files) (till : ℕ) (c : Card) (x : HasIntent f till c) (mid : Ima
 pub some-of : {X : Type 0} (P : X → Type 0) (o : Option X) (x : X) → o ≡ Some x → IfSome o P → P x
 some-of {X = X} P o x e h = subst (λ (y : Option X). IfSome y P) e h
 
+abbrev first_in : List (ℕ × ℕ) → ℕ × ℕ
+first_in [] = (0, 0)
+first_in (q ∷ qs) = q
+
+abbrev second_in : List (ℕ × ℕ) → ℕ × ℕ
+second_in [] = (0, 0)
+second_in (q ∷ qs) = first_in qs
+
+-- what new quantities tell of the answer that gives them
+module _ (b : Body) (item q : ℕ) where
+  pub done-of : (a : Answer) → results_in b a ≡ (item, q) ∷ [] → (item ≡ b.item) × (a ≡ answers.Done q)
+  done-of (answers.Done h) e =
+      let same : (b.item, h) ≡ (item, q) = ap first_in e in
+      (sym (ap (λ (p : ℕ × ℕ). p.0) same), ap (λ (p : ℕ × ℕ). answers.Done p.1) same)
+  done-of (answers.Moved h p) e = absurd (omega (arith, ap length e))
+  done-of (answers.Short h) e = absurd (omega (arith, ap length e))
+  done-of (answers.Over h) e = absurd (omega (arith, ap length e))
+  done-of answers.NoCard e = absurd (omega (arith, ap length e))
+  done-of answers.DiskFull e = absurd (omega (arith, ap length e))
+  done-of answers.TooLarge e = absurd (omega (arith, ap length e))
+
+  pub moved-of : (to p : ℕ) (a : Answer) → results_in b a ≡ (item, q) ∷ (to, p) ∷ [] → (item ≡ b.item) × (to ≡ b.to) × (a ≡ answers.Moved q p)
+  moved-of to p (answers.Moved h g) e =
+      let same : (b.item, h) ≡ (item, q) = ap first_in e in
+      let same' : (b.to, g) ≡ (to, p) = ap second_in e in
+      (sym (ap (λ (r : ℕ × ℕ). r.0) same), sym (ap (λ (r : ℕ × ℕ). r.0) same'), λ i. answers.Moved (same i).1 (same' i).1)
+  moved-of to p (answers.Done h) e = absurd (omega (arith, ap length e))
+  moved-of to p (answers.Short h) e = absurd (omega (arith, ap length e))
+  moved-of to p (answers.Over h) e = absurd (omega (arith, ap length e))
+  moved-of to p answers.NoCard e = absurd (omega (arith, ap length e))
+  moved-of to p answers.DiskFull e = absurd (omega (arith, ap length e))
+  moved-of to p answers.TooLarge e = absurd (omega (arith, ap length e))
+
+-- new quantities, one after the other
+module _ (x : NewQuantities) (rs : List (ℕ × ℕ)) (all : listed x ≡ rs) where
+  pub none-in : x.first ≡ None → IfNone x.first (x.second ≡ None) → rs ≡ []
+  none-in first order =
+      let second : x.second ≡ None = subst (λ (o : Option (ℕ × ℕ)). IfNone o (x.second ≡ None)) first order in
+      sym all ∙ (λ i. pair_in (first i) ++ pair_in (second i))
+
+  pub one-in : (q : ℕ × ℕ) → x.first ≡ Some q → x.second ≡ None → rs ≡ q ∷ []
+  one-in q first second = sym all ∙ (λ i. pair_in (first i) ++ pair_in (second i))
+
+  pub two-in : (q p : ℕ × ℕ) → x.first ≡ Some q → x.second ≡ Some p → rs ≡ q ∷ p ∷ []
+  two-in q p first second = sym all ∙ (λ i. pair_in (first i) ++ pair_in (second i))
+
 -- The results of an open intent: one card, or two.
 module _ (f : Files) (till : ℕ) (c : Card) (x : HasIntent f till c) where
   entry : IsEntry c.newest
@@ -224,9 +272,6 @@ module _ (f : Files) (till : ℕ) (c : Card) (x : HasIntent f till c) where
 
   is_move : (h p : ℕ) → c.newest.answer ≡ answers.Moved h p → IsTrue (same_kind c.newest.body.kind Move)
   is_move h p answer = subst (λ (a : Answer). IsTrue (goes_with c.newest.body.kind a)) answer entry.fits
-
-  pub moves-to : (h p : ℕ) → c.newest.answer ≡ answers.Moved h p → to_of c.newest.body ≡ Some c.newest.body.to
-  moves-to h p answer = ap (λ (b : Bool). if b then Some c.newest.body.to else None) (is_move h p answer)
 
   module _ (item h to p : ℕ) (at : item ≡ c.newest.body.item) (at' : to ≡ c.newest.body.to) (answer : c.newest.answer ≡ answers.Moved h p) where
     abbrev card : List ℕ
@@ -301,17 +346,17 @@ module _ (f : Files) (till : ℕ) (c : Card) (x : HasIntent f till c) where
         (moved-first S a b first) later
 
   -- and no other answer is that of an open intent
-  pub only-done : ((q : ℕ) → c.newest.answer ≢ answers.Done q) → ((h p : ℕ) → c.newest.answer ≢ answers.Moved h p) → ⊥
-  only-done one two = by c.newest.answer refl ((intent-fits f till c x).intent x.is_open)
+  pub some-results : results_of c.newest ≢ []
+  some-results = by c.newest.answer ((intent-fits f till c x).intent x.is_open)
     where
-      by : (a : Answer) → c.newest.answer ≡ a → IsTrue (is_done a) → ⊥
-      by (answers.Done q) e d = one q e
-      by (answers.Moved h p) e d = two h p e
-      by (answers.Short h) e d = false≢true d
-      by (answers.Over h) e d = false≢true d
-      by answers.NoCard e d = false≢true d
-      by answers.DiskFull e d = false≢true d
-      by answers.TooLarge e d = false≢true d
+      by : (a : Answer) → IsTrue (is_done a) → results_in c.newest.body a ≢ []
+      by (answers.Done q) d e = omega (arith, ap length e)
+      by (answers.Moved h p) d e = omega (arith, ap length e)
+      by (answers.Short h) d e = false≢true d
+      by (answers.Over h) d e = false≢true d
+      by answers.NoCard d e = false≢true d
+      by answers.DiskFull d e = false≢true d
+      by answers.TooLarge d e = false≢true d
 
 -- a card of version 1, in version 2 and answered
 pub old-answered : (c d e : Card) → d ≡ record e { pending = false } → e ≡ record c { version = 2; second = None } → None ≡ c.second → d ≡ answered_card c

@@ -1,6 +1,7 @@
 -- One reply more, written on a line of its own.
-use Rattle.std.proofs.Common.{◌≡◌, ℕ, ◌+◌, List, [], ◌∷◌, ◌++◌, Option, Some, None, refl, subst, sym, ◌∙◌, ap, append_assoc, append-nil}
-use Rattle.std.specs.Prelude.{IsSome, codes, if◌then◌else◌, is_none, option_map, option_to_list}
+use Rattle.std.proofs.Common.{◌≡◌, ℕ, ◌+◌, List, [], ◌∷◌, ◌++◌, Option, Some, None, Result, Ok, Err, true, refl, subst, sym, ◌∙◌, ap, append_assoc, append-nil}
+use Rattle.std.proofs.lemmas.Bool.{false≢true}
+use Rattle.std.specs.Prelude.{IsSome, OnOk, codes, is_ok, if◌then◌else◌, is_none, option_map, option_to_list}
 use Rattle.std.specs.Io.KnownBytes.{Appends}
 use Rattle.std.proofs.KnownBytes.{Appends-trans}
 use Rattle.request_cards.specs.Ledgers.{report}
@@ -11,6 +12,11 @@ use Rattle.script_lines.specs.declared.events.Event.{Event}
 use Rattle.host_session.specs.Events.{message_in, message_of, messages_of}
 use Rattle.host_session.specs.Runs.{IsPrintedUpToLast}
 use Rattle.script_lines.specs.Resets.{Line, first_bad, line_in, line_of}
+
+-- a line was written
+pub wrote_line : {T E : Type 0} (r : Result T E) (A : Type 0) → is_ok r ≡ true → OnOk r A → A
+wrote_line (Ok x) A is wrote = wrote
+wrote_line (Err e) A is wrote = absurd (false≢true is)
 
 report_more : (told : List Reply) (r : Reply) → report (told ++ r ∷ []) ≡ report told ++ (reply_text r ++ codes "\n")
 report_more [] r = append-nil (reply_text r ++ codes "\n")

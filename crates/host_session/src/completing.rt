@@ -10,11 +10,12 @@ ghost use Rattle.host_session.specs.Shop.{IsShop, results_of, shop_of};
 ghost use Rattle.rel_records.specs.Written.{touched};
 ghost use Rattle.request_cards.specs.CardTexts.{Card, IsCard, IsStock, card_text, stock_text};
 
+use crate::intents::new_quantities;
 use crate::putting::{put_answer, put_card};
 use crate::shop_drive::ShopDrive;
 use d64_image::Sectors;
 use drive_channels::Dead;
-use request_cards::{Answer, RequestCard, StockCard};
+use request_cards::{RequestCard, StockCard};
 
 /// The card of an intent once it is answered, in version 2.
 pub(crate) fn answered(card: &RequestCard) -> RequestCard
@@ -75,16 +76,16 @@ fn put_results<D: Sectors>(
     ensures failures { TellsFailure D.history drive.old.disk drive.new.disk result }
     ensures dies { IsErr result → drive.new.dead ≡ true }
 {
-    let request = card.request(till).unwrap();
-    match card.answer() {
-        Answer::Done(quantity) => put_quantity(drive, request.item(), quantity),
-        Answer::Moved(quantity, to_quantity) => {
-            put_quantity(drive, request.item(), quantity)?;
-            put_quantity(drive, request.to().unwrap(), to_quantity)
-        }
+    let new = new_quantities(till, card);
+    let Some((item, quantity)) = new.first else {
         // what isn't done is no open intent
-        _ => Ok(()),
-    }
+        return Ok(());
+    };
+    let Some((to, to_quantity)) = new.second else {
+        return put_quantity(drive, item, quantity);
+    };
+    put_quantity(drive, item, quantity)?;
+    put_quantity(drive, to, to_quantity)
 }
 
 /// Completes an open intent: writes the cards of its results, and then its answer, which has this text.

@@ -12,6 +12,7 @@ use request_cards::{
 };
 
 /// How a request stands by the tills' cards, on a disk with so many tills.
+// In line, since every message asks it.
 #[inline(always)]
 pub(crate) fn standing_by(
     requests: &[Option<RequestCard>; 64],
@@ -53,7 +54,7 @@ pub(crate) fn next_card(
     requires next { request.now.number ≡ number_of (newest_in (nth requests.now request.now.till)) + 1 }
     ensures { result ≡ card_with (nth requests.now request.now.till) request.now answer }
 {
-    let pending = matches!(answer, Answer::Done(_) | Answer::Moved(_, _));
+    let pending = answer.is_done();
     match card_of(requests, request.till()) {
         Some(card) => card.followed_by(pending, *request, answer).unwrap(),
         None => RequestCard::new_v2(pending, *request, answer).unwrap(),

@@ -1,8 +1,9 @@
 //! The two files of a ledger on a disk, and how far STOCK can grow.
-ghost use Rattle.std.specs.Prelude.{◌≡◌, ◌<◌, IfErr, IfNone, IfOk, IfSome, codes};
+ghost use Rattle.std.specs.Prelude.{◌≡◌, ◌<◌, IfErr, IfNone, IfOk, IfSome};
 ghost use Rattle.d64_image.specs.History.{Failed, OnlyReads, TellsFailure};
 ghost use Rattle.disk_layout.specs.Layout.{IsLayout, IsSound, Layout};
 ghost use Rattle.disk_layout.specs.Rest.{IsTop};
+ghost use Rattle.host_session.specs.Channels.{length_of, name_of};
 ghost use Rattle.host_session.specs.Files.{Files};
 ghost use Rattle.host_session.specs.Found.{AreFilesOf, IsFileNamed};
 ghost use Rattle.host_session.specs.Opening.{LacksFileOf, Refuses, TellsJudging};
@@ -10,6 +11,7 @@ ghost use Rattle.host_session.specs.declared.faults.OpenFault.TheVariants.{Devic
 ghost use Rattle.layout_check.specs.Survey.{IsSurveyOf, entries_of};
 
 use crate::faults::OpenFault;
+use crate::shop_drive::ShopFile;
 use d64_image::Sectors;
 use disk_layout::Fault;
 use layout_check::{Survey, survey};
@@ -40,24 +42,20 @@ fn survey_disk<D: Sectors>(disk: &mut D) -> Result<Survey, OpenFault>
     }
 }
 
-/// The first closed relative file of a name, where it has records of this length.
-fn find_of_length<D: Sectors>(
-    disk: &mut D,
-    name: &[u8],
-    size: u8,
-) -> Result<Option<RelFile>, OpenFault>
+/// The first closed relative file of a name, where it has records of its length.
+fn find_shop_file<D: Sectors>(disk: &mut D, file: ShopFile) -> Result<Option<RelFile>, OpenFault>
     requires sound { IsSound (D.history.image disk.old) }
     ensures found { (l : Layout) → IsLayout (D.history.image disk.old) l
-        → IfOk result (λ o. IfSome o (IsFileNamed (D.history.image disk.old) l name.now size)) }
-    ensures lacks { IfOk result (λ o. IfNone o (LacksFileOf (D.history.image disk.old) name.now size)) }
+        → IfOk result (λ o. IfSome o (IsFileNamed (D.history.image disk.old) l (name_of file) (length_of file))) }
+    ensures lacks { IfOk result (λ o. IfNone o (LacksFileOf (D.history.image disk.old) (name_of file) (length_of file))) }
     ensures err { IfErr result (λ fault. fault ≡ Device) }
     ensures reads { OnlyReads D.history disk.old disk.new 702 }
     ensures failures { TellsFailure D.history disk.old disk.new result }
 {
-    match find(disk, name) {
-        Ok(file) => {
-            if file.length() == size {
-                Ok(Some(file))
+    match find(disk, file.name()) {
+        Ok(found) => {
+            if found.length() == file.record_length() {
+                Ok(Some(found))
             } else {
                 Ok(None)
             }
@@ -88,10 +86,10 @@ pub(crate) fn find_files<D: Sectors>(disk: &mut D) -> Result<LedgerFiles, OpenFa
     ensures failures { TellsJudging D.history disk.old disk.new result }
 {
     let found = survey_disk(disk)?;
-    let Some(stock) = find_of_length(disk, b"STOCK", 18)? else {
+    let Some(stock) = find_shop_file(disk, ShopFile::Stock)? else {
         return Err(OpenFault::NoStock);
     };
-    let Some(requests) = find_of_length(disk, b"REQUESTS", 127)? else {
+    let Some(requests) = find_shop_file(disk, ShopFile::Requests)? else {
         return Err(OpenFault::NoRequests);
     };
     let top = top_of(&found, stock.entry());

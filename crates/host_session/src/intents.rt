@@ -1,5 +1,5 @@
 //! Open intents among the tills' cards, and the new quantities that they give.
-ghost use Rattle.std.specs.Prelude.{◌≡◌, ◌≤◌, ◌↔◌, ℕ, IfErr, IfOk, IfSome, IsTrue, Contains, length};
+ghost use Rattle.std.specs.Prelude.{◌≡◌, ◌≤◌, ◌↔◌, ℕ, IfErr, IfNone, IfOk, IfSome, IsTrue, None, Contains, length};
 ghost use Rattle.host_session.specs.Judged.{IsIntentOf, PassesRecords, given, listed, no_cards};
 ghost use Rattle.host_session.specs.Shop.{intents, items, overlaid, results_of};
 ghost use Rattle.request_cards.specs.CardTexts.{IsCard};
@@ -18,8 +18,8 @@ pub struct Intent {
 /// The items to which an answer gives new quantities, with these; the second is the item that a move goes to.
 #[derive(Clone, Copy)]
 pub struct NewQuantities {
-    first: Option<(u16, u32)>,
-    second: Option<(u16, u32)>,
+    pub(crate) first: Option<(u16, u32)>,
+    pub(crate) second: Option<(u16, u32)>,
 }
 
 /// The new quantities that the answer of a till's card gives.
@@ -29,6 +29,7 @@ pub(crate) fn new_quantities(till: u8, card: &RequestCard) -> NewQuantities
     requires fits { IsCard card.now }
     ensures value { listed result ≡ results_of card.now.newest }
     ensures low { (item : ℕ) → Contains (items (listed result)) item → 1 ≤ item }
+    ensures order { IfNone result.first (result.second ≡ None) }
 {
     let request = card.request(till).unwrap();
     match card.answer() {

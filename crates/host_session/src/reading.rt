@@ -36,35 +36,15 @@ fn is_empty(bytes: &[u8]) -> bool
     }
 }
 
-/// What the bytes of a till's record hold.
-fn held_by_till(bytes: &[u8; 127]) -> Held<RequestCard>
-    ensures { Tells request_card_of 127 bytes.now result }
+/// What bytes hold that were read as this card, or as none.
+fn what_is_held<C>(card: Option<C>, bytes: &[u8]) -> Held<C>
+    requires some { 1 ≤ length bytes.now }
+    ensures { (card_of : List ℕ → Option C) → card_of bytes.now ≡ card → Tells card_of (length bytes.now) bytes.now result }
 {
-    match RequestCard::parse(bytes) {
+    match card {
         Some(card) => Held::Card(card),
-        None => {
-            if is_empty(bytes) {
-                Held::Empty
-            } else {
-                Held::Other
-            }
-        }
-    }
-}
-
-/// What the bytes of an item's record hold.
-fn held_by_item(bytes: &[u8; 18]) -> Held<StockCard>
-    ensures { Tells stock_card_of 18 bytes.now result }
-{
-    match StockCard::parse(bytes) {
-        Some(card) => Held::Card(card),
-        None => {
-            if is_empty(bytes) {
-                Held::Empty
-            } else {
-                Held::Other
-            }
-        }
+        None if is_empty(bytes) => Held::Empty,
+        None => Held::Other,
     }
 }
 
@@ -90,12 +70,10 @@ pub(crate) fn read_till<D: Sectors>(
     match read_next(disk, &files.requests, last, u32::from(till), text) {
         Ok(()) => {
             let bytes = text.as_slice().first_chunk::<127>().unwrap();
-            Ok(Some(held_by_till(bytes)))
+            Ok(Some(what_is_held(RequestCard::parse(bytes), bytes)))
         }
-        Err(fault) => match fault {
-            RelFault::NotPresent => Ok(None),
-            _ => Err(OpenFault::Device),
-        },
+        Err(RelFault::NotPresent) => Ok(None),
+        Err(_) => Err(OpenFault::Device),
     }
 }
 
@@ -121,11 +99,9 @@ pub(crate) fn read_item<D: Sectors>(
     match read_next(disk, &files.stock, last, u32::from(item), text) {
         Ok(()) => {
             let bytes = text.as_slice().first_chunk::<18>().unwrap();
-            Ok(Some(held_by_item(bytes)))
+            Ok(Some(what_is_held(StockCard::parse(bytes), bytes)))
         }
-        Err(fault) => match fault {
-            RelFault::NotPresent => Ok(None),
-            _ => Err(OpenFault::Device),
-        },
+        Err(RelFault::NotPresent) => Ok(None),
+        Err(_) => Err(OpenFault::Device),
     }
 }

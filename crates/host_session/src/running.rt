@@ -1,9 +1,7 @@
 //! Runs of scripts.
-ghost use Rattle.std.specs.Prelude.{◌≡◌, ◌++◌, OnOk, codes};
-ghost use Rattle.std.specs.Io.KnownBytes.{Appends};
+ghost use Rattle.std.specs.Prelude.{◌≡◌};
 ghost use Rattle.host_session.specs.Faults.{script_number};
 ghost use Rattle.host_session.specs.ScriptRuns.{IsScriptRun};
-ghost use Rattle.request_cards.specs.Texts.{reply_text};
 
 use crate::cutting::{cut_event, is_media, whole_message};
 use crate::faults::OpenFault;
@@ -45,18 +43,6 @@ impl ScriptFault {
     }
 }
 
-/// Writes the reply on a line of its own.
-fn put_line<W: Write>(out: &mut W, reply: Reply) -> Result<(), ()>
-    ensures ok { OnOk result (Appends (W.contents out.old) (W.contents out.new) (reply_text reply ++ codes "\n")) }
-{
-    let mut room = [b'\n'; 48];
-    let start = reply.write(&mut room, 47);
-    if out.write_all(&room[start..]).is_err() {
-        return Err(());
-    }
-    Ok(())
-}
-
 /// Plays the lines of any script, those with resets among them.
 // Out of line: a call takes the room of all its sessions at once, and a script without a reset has use for one alone.
 #[inline(never)]
@@ -81,7 +67,7 @@ fn run_with_resets<D: Sectors, W: Write>(
         let written = match &event.cut {
             None => {
                 let reply = whole_message(&mut session, event.message);
-                let written = put_line(out, reply);
+                let written = reply.write_line(out).is_ok();
                 if is_media(reply) {
                     return Err((ScriptFault::Device, session.close()));
                 }
@@ -89,7 +75,7 @@ fn run_with_resets<D: Sectors, W: Write>(
             }
             Some(cut) => {
                 let next = cut_event(session, event.message, cut);
-                let written = put_line(out, Reply::Cut);
+                let written = Reply::Cut.write_line(out).is_ok();
                 session = match next {
                     Ok(next) => next,
                     Err(disk) => return Err((ScriptFault::Device, disk)),
@@ -97,9 +83,8 @@ fn run_with_resets<D: Sectors, W: Write>(
                 written
             }
         };
-        match written {
-            Ok(()) => {}
-            Err(()) => return Err((ScriptFault::Output, session.close())),
+        if !written {
+            return Err((ScriptFault::Output, session.close()));
         }
         rest = more;
     }
@@ -129,13 +114,12 @@ pub fn run_script<D: Sectors, W: Write>(
     let mut left = script;
     while let Some((line, more)) = next_line(left) {
         let reply = whole_message(&mut session, line);
-        let written = put_line(out, reply);
+        let written = reply.write_line(out).is_ok();
         if is_media(reply) {
             return Err((ScriptFault::Device, session.close()));
         }
-        match written {
-            Ok(()) => {}
-            Err(()) => return Err((ScriptFault::Output, session.close())),
+        if !written {
+            return Err((ScriptFault::Output, session.close()));
         }
         left = more;
     }

@@ -1,5 +1,5 @@
 //! The two files of a shop, through the drive.
-ghost use Rattle.std.specs.Prelude.{ℕ, ◌≡◌, ◌≤◌, IsErr, None, OnErr, OnOk, Option, Some, false, true};
+ghost use Rattle.std.specs.Prelude.{ℕ, ◌≡◌, ◌≤◌, IsErr, None, Ok, OnErr, OnOk, Option, Some, false, true};
 ghost use Rattle.d64_image.specs.History.{Changes, OnlyReads, TellsFailure};
 ghost use Rattle.disk_layout.specs.Layout.{File, IsLayout, Layout, record_length};
 ghost use Rattle.disk_layout.specs.Rest.{IsFirst};
@@ -12,7 +12,7 @@ ghost use Rattle.drive_channels.specs.Tables.{Writes};
 ghost use Rattle.drive_channels.specs.Tables as tables;
 ghost use Rattle.host_session.specs.Putting.{IsInReach};
 ghost use Rattle.host_session.specs.Selecting.{IsAt, IsReady, IsInFile, place_text};
-ghost use Rattle.host_session.specs.Channels.{IsKnownOn, IsOn, name_of};
+ghost use Rattle.host_session.specs.Channels.{IsKnownOn, IsOn, length_of, name_of};
 ghost use Rattle.rel_records.specs.Growth.{records_had};
 ghost use Rattle.rel_records.specs.Written.{IsInOneBlock};
 
@@ -21,31 +21,31 @@ use drive_channels::{Dead, Drive};
 use std::marker::Model;
 
 /// One of the two files of a shop.
-#[derive(Clone, Copy)]
+#[derive(Clone, Copy, PartialEq, Eq)]
 pub(crate) enum ShopFile {
     Stock,
     Requests,
 }
 
 impl ShopFile {
-    /// Whether both are the same file.
-    fn is(self, other: ShopFile) -> bool
-        ensures { result ≡ true → self ≡ other }
-    {
-        match self {
-            ShopFile::Stock => matches!(other, ShopFile::Stock),
-            ShopFile::Requests => matches!(other, ShopFile::Requests),
-        }
-    }
-
     /// Its name.
-    fn name(self) -> &'static [u8]
+    pub(crate) fn name(self) -> &'static [u8]
         ensures value { result.now ≡ name_of self }
         ensures name { IsName result.now }
     {
         match self {
             ShopFile::Stock => b"STOCK",
             ShopFile::Requests => b"REQUESTS",
+        }
+    }
+
+    /// The length of its records.
+    pub(crate) fn record_length(self) -> u8
+        ensures { result ≡ length_of self }
+    {
+        match self {
+            ShopFile::Stock => 18,
+            ShopFile::Requests => 127,
         }
     }
 }
@@ -95,15 +95,14 @@ impl<D: Sectors> ShopDrive<D> {
 
     /// Whether channel 2 is open on this file.
     fn is_open(&self, file: ShopFile) -> bool
-        ensures { result ≡ true → self.now.dead ≡ false → IsOn D.history self.now file }
+        ensures on { result ≡ true → self.now.dead ≡ false → IsOn D.history self.now file }
+        ensures off { result ≡ false → self.now.dead ≡ false → ¬ (IsOn D.history self.now file) }
     {
-        match self.known {
-            Some(known) => known.is(file),
-            None => false,
-        }
+        self.known == Some(file)
     }
 
     /// Opens channel 2 on a file.
+    // Out of line, since the way to a record of the file that the channel is on needs none of it.
     #[inline(never)]
     fn open(&mut self, file: ShopFile) -> Result<(), Dead>
         requires ready { IsReady D.history self.old }
@@ -126,6 +125,8 @@ impl<D: Sectors> ShopDrive<D> {
         requires there { (l : Layout) × (n : ℕ) × (f : File) × IsLayout (D.history.image self.old.disk) l × IsFirst l (name_of file) n f }
         ensures on { (l : Layout) (n : ℕ) (f : File) → IsLayout (D.history.image self.old.disk) l → IsFirst l (name_of file) n f
             → OnOk result (IsInFile self.new n) }
+        // a channel that is on the file stays as it is
+        ensures stays { IsOn D.history self.old file → (result ≡ Ok tt) × (self.new ≡ self.old) }
         ensures reads { OnlyReads D.history self.old.disk self.new.disk 2817 }
         ensures failures { TellsFailure D.history self.old.disk self.new.disk result }
         ensures dies { IsErr result → self.new.dead ≡ true }
@@ -142,6 +143,8 @@ impl<D: Sectors> ShopDrive<D> {
         requires reach { (l : Layout) × (n : ℕ) × (f : File) × IsInReach (D.history.image self.old.disk) (name_of file) number l n f }
         ensures at { (l : Layout) (n : ℕ) (f : File) → IsInReach (D.history.image self.old.disk) (name_of file) number l n f
             → OnOk result (IsAt self.new n number) }
+        // where the channel is on the file no sector is read
+        ensures quiet { IsOn D.history self.old file → self.new.disk ≡ self.old.disk }
         ensures reads { OnlyReads D.history self.old.disk self.new.disk 2817 }
         ensures failures { TellsFailure D.history self.old.disk self.new.disk result }
         ensures dies { IsErr result → self.new.dead ≡ true }

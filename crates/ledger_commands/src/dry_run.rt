@@ -1,16 +1,13 @@
 //! The run of a script without a disk.
-ghost use Rattle.std.specs.Prelude.{◌≡◌, ◌↔◌, ◌++◌, ℕ, None, IfErr, IsSome, OnOk, Ok, Err, Some};
-ghost use Rattle.std.specs.Prelude.{codes};
+ghost use Rattle.std.specs.Prelude.{◌≡◌, ◌↔◌, ℕ, None, IfErr, IsSome, OnOk, Ok, Err, Some};
 ghost use Rattle.std.specs.Io.KnownBytes.{Appends, Keeps};
 ghost use Rattle.request_cards.specs.Ledgers.{replies_from, report};
-ghost use Rattle.request_cards.specs.Texts.{reply_text};
 ghost use Rattle.ledger_commands.specs.Faults.{IsDryFault, dry_number, dry_status};
 ghost use Rattle.script_lines.specs.Lines.{first_reset, lines};
 ghost use Rattle.ledger_commands.specs.Texts.{dry_text};
 ghost use Rattle.ledger_commands.specs.Tables.{dry_report, dry_start, state_of};
 
 use crate::table::Table;
-use request_cards::Reply;
 use script_lines::{first_reset_line, next_line};
 use std::error::Error;
 use std::fmt::{self, Display, Formatter};
@@ -60,20 +57,6 @@ impl Display for DryFault {
 
 impl Error for DryFault {}
 
-/// Writes the reply on a line of its own.
-fn put_line<W: Write>(out: &mut W, reply: Reply) -> Result<(), DryFault>
-    ensures ok { OnOk result
-        (Appends (W.contents out.old) (W.contents out.new) (reply_text reply ++ codes "\n")) }
-    ensures err { IfErr result (λ e. e ≡ DryFault.Output) }
-{
-    let mut room = [b'\n'; 48];
-    let start = reply.write(&mut room, 47);
-    if out.write_all(&room[start..]).is_err() {
-        return Err(DryFault::Output);
-    }
-    Ok(())
-}
-
 /// Writes the reply to each line of the script, from the table on.
 fn play<W: Write>(script: &[u8], table: &mut Table, out: &mut W) -> Result<(), DryFault>
     ensures ok { OnOk result (Appends (W.contents out.old) (W.contents out.new)
@@ -82,8 +65,9 @@ fn play<W: Write>(script: &[u8], table: &mut Table, out: &mut W) -> Result<(), D
 {
     let mut rest = script;
     while let Some((line, more)) = next_line(rest) {
-        let reply = table.reply(line);
-        put_line(out, reply)?;
+        if table.reply(line).write_line(out).is_err() {
+            return Err(DryFault::Output);
+        }
         rest = more;
     }
     Ok(())

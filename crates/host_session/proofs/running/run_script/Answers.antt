@@ -1,6 +1,6 @@
 -- Line by line, none of which has a reset.
 use Rattle.std.proofs.Common.{◌≡◌, ◌≤◌, ◌∙◌, ◌++◌, ℕ, List, [], Option, None, Some, false, inr, refl, sym, subst, ap, arith}
-use Rattle.std.specs.Prelude.{OnOk, codes, is_some}
+use Rattle.std.specs.Prelude.{codes, is_some}
 use Rattle.std.specs.Io.KnownBytes.{Appends}
 use Rattle.std.proofs.KnownBytes.{Appends-nil}
 use Rattle.d64_image.proofs.Moments.{never_failed}
@@ -13,7 +13,7 @@ use Rattle.request_cards.specs.Texts.{reply_text}
 use Rattle.request_cards.specs.declared.reply.Reply.{Reply}
 use Rattle.host_session.proofs.EventRuns.{PlayedBut, all_played, failed, last, more, unwritten}
 use Rattle.host_session.proofs.PlainRuns.{none_bad, plain_next, plain_played}
-use Rattle.host_session.proofs.Reports.{printed_up_to, written_more}
+use Rattle.host_session.proofs.Reports.{printed_up_to, wrote_line, written_more}
 use Rattle.host_session.specs.OneEvent.{EndsFailed, IsEvent}
 use Rattle.host_session.proofs.running.run_script.Given.{Over}
 use Rattle.host_session.proofs.RunOpenings.{opening_failed, opening_later, opening_refused}
@@ -86,7 +86,7 @@ media_failed g c =
     (printed_up_to g.W.Write.contents c.args.out.now c.loop-line.out c.whole_message-reply.result) k.played (told_media g c)
 
 -- the reply of this turn wasn't taken by the output
-output_ends : (g : Over) (c : goal.After-close-in-Err-written g) (s : Shop) → IsShop (g.D.Sectors.history.image c.args.disk) s
+output_ends : (g : Over) (c : goal.After-close-then-not-written g) (s : Shop) → IsShop (g.D.Sectors.history.image c.args.disk) s
     → (told : List Reply) × IsPrintedUpToLast g.W.Write.contents c.args.out.now told
     × StoppedByOutput g.D.Sectors.history s (messages_of (lines c.args.script.now)) c.args.disk c.whole_message-reply.new.session.disk told
     × HeldBeginnings g.D.Sectors.history s (messages_of (lines c.args.script.now)) c.args.disk c.whole_message-reply.new.session.disk
@@ -107,9 +107,9 @@ loop-line-preserved g c =
     let reply = c.whole_message-reply.result in
     let first = g.W.Write.contents c.args.out.now in
     let old = g.W.Write.contents c.loop-line.out in
-    let new = g.W.Write.contents c.put_line-written.new.out in
+    let new = g.W.Write.contents c.write_line.new.out in
     let wrote : Appends old new (reply_text reply ++ codes "\n") =
-    subst (λ r. OnOk r (Appends old new (reply_text reply ++ codes "\n"))) c.in-Ok-written.is c.put_line-written.ensures.ok in
+    wrote_line c.write_line.result _ (sym c.is_ok-written.ensures.value ∙ c.if-not-written.false) c.write_line.ensures in
     let x = more g.D.Sectors.history (messages_of (lines c.args.script.now)) c.args.disk (messages_of (lines c.loop-line.left.now)) (messages_of (lines c.in-Some.more.now))
     (uncut c.in-Some.line.now) next.0 c.loop-line.session.disk c.whole_message-reply.new.session.disk
     (λ told. Appends first old (report told)) (λ told. Appends first new (report told)) reply k.shop k.later
@@ -170,8 +170,8 @@ returns-then-is_media g c = record {
   after = λ e. absurd (device-output e);
 }
 
-pub returns-in-Err-written : goal.returns-in-Err-written
-returns-in-Err-written g c = record {
+pub returns-then-not-written : goal.returns-then-not-written
+returns-then-not-written g c = record {
   bad_line = λ n e. absurd (no_bad (lines c.args.script.now) _ c.first_reset_line.ensures (sym c.is_some.ensures ∙ c.if-is_some.false) n e);
   good = λ n e. absurd (output-line n e);
   shop = tt;
@@ -179,10 +179,10 @@ returns-in-Err-written g c = record {
   without_resets = λ s shop none. tt;
   output = λ s shop is.
       let x = output_ends g c s shop in
-      (x.0, x.1, subst (λ d. StoppedByOutput g.D.Sectors.history s (messages_of (lines c.args.script.now)) c.args.disk d x.0) (sym c.close-in-Err-written.ensures) x.2);
+      (x.0, x.1, subst (λ d. StoppedByOutput g.D.Sectors.history s (messages_of (lines c.args.script.now)) c.args.disk d x.0) (sym c.close-then-not-written.ensures) x.2);
   device = λ s shop e. absurd (output-device e);
   moments = λ s shop.
-      subst (λ d. HeldBeginnings g.D.Sectors.history s (messages_of (lines c.args.script.now)) c.args.disk d) (sym c.close-in-Err-written.ensures) (output_ends g c s shop).3;
+      subst (λ d. HeldBeginnings g.D.Sectors.history s (messages_of (lines c.args.script.now)) c.args.disk d) (sym c.close-then-not-written.ensures) (output_ends g c s shop).3;
   plays = λ shop never. inr refl;
   «open» = λ f e. absurd (output-open f e);
   cause = λ e. absurd (output-device e);

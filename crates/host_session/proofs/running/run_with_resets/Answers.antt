@@ -1,6 +1,6 @@
 -- Line by line.
 use Rattle.std.proofs.Common.{◌≡◌, ◌≤◌, ◌∙◌, ◌++◌, List, [], None, false, refl, sym, subst, ap, arith, le_refl, Err, ℕ, inl, inr, Some}
-use Rattle.std.specs.Prelude.{OnOk, codes, option_map}
+use Rattle.std.specs.Prelude.{codes, option_map}
 use Rattle.std.specs.Io.KnownBytes.{Appends}
 use Rattle.std.proofs.KnownBytes.{Appends-nil}
 use Rattle.d64_image.proofs.Moments.{never_failed, start}
@@ -14,7 +14,7 @@ use Rattle.request_cards.specs.declared.reply.Reply.TheVariants.{Cut}
 use Rattle.script_lines.specs.Resets.{first_bad, line_in}
 use Rattle.host_session.proofs.EventRuns.{PlayedBut, all_played, failed, last, more, unwritten}
 use Rattle.host_session.proofs.PlainRuns.{plain_played}
-use Rattle.host_session.proofs.Reports.{good_line, messages_next, printed_up_to, written_more}
+use Rattle.host_session.proofs.Reports.{good_line, messages_next, printed_up_to, wrote_line, written_more}
 use Rattle.host_session.specs.OneEvent.{EndsFailed, GoesOn, IsEvent}
 use Rattle.host_session.specs.Standing.{View}
 use Rattle.host_session.proofs.ScriptFaults.{device-line, device-open, device-output, line-device, line-open, line-output, line_of, open-device, open-line, open-output, opened_with, output-device, output-line, output-open}
@@ -113,7 +113,7 @@ whole_failed g c =
     (printed_up_to g.W.Write.contents c.args.out.now c.loop-line.out Cut) k.played (recovery_failed g c)
 
 -- the reply of this turn wasn't taken by the output
-output_ends : (g : Over) (c : goal.After-close-in-Err-written g) (s : Shop) → IsShop (g.D.Sectors.history.image c.args.disk) s
+output_ends : (g : Over) (c : goal.After-close-then-not-written g) (s : Shop) → IsShop (g.D.Sectors.history.image c.args.disk) s
     → (told : List Reply) × IsPrintedUpToLast g.W.Write.contents c.args.out.now told
     × StoppedByOutput g.D.Sectors.history s (messages_of (lines c.args.script.now)) c.args.disk c.match-event.session.disk told
     × HeldBeginnings g.D.Sectors.history s (messages_of (lines c.args.script.now)) c.args.disk c.match-event.session.disk
@@ -148,7 +148,7 @@ output_ends g c =
     ]
 
 -- the line of this turn is done
-went_on : (g : Over) (c : goal.In-Ok-written g)
+went_on : (g : Over) (c : goal.Else-not-written g)
     → (c.match-event.session.dead ≡ false) × (g.D.Sectors.history.failures c.args.disk ≤ g.D.Sectors.history.failures c.match-event.session.disk)
     × PlayedBut g.D.Sectors.history (messages_of (lines c.args.script.now)) c.args.disk (messages_of (lines c.in-Some-next_line.more.now))
     c.match-event.session.disk (λ told. Appends (g.W.Write.contents c.args.out.now) (g.W.Write.contents c.match-event.out) (report told))
@@ -168,7 +168,7 @@ went_on g c =
       | in-None+else-is_media w ↦
           let reply = w.whole_message-reply.result in
           let wrote : Appends old new (reply_text reply ++ codes "\n") = subst (λ o. Appends old (g.W.Write.contents o) (reply_text reply ++ codes "\n")) (sym w.out-is)
-          (subst (λ r. OnOk r (Appends old (g.W.Write.contents w.put_line-written.new.out) (reply_text reply ++ codes "\n"))) (sym w.written-is ∙ c.in-Ok-written.is) w.put_line-written.ensures.ok) in
+          (wrote_line w.write_line.result _ (sym w.is_ok-written.ensures.value ∙ sym w.written-is ∙ c.if-not-written.false) w.write_line.ensures) in
           more h (messages_of (lines c.args.script.now)) c.args.disk (messages_of (lines c.loop-line.rest.now)) (messages_of (lines c.in-Some-next_line.more.now))
           (message_of e) next a b Kept Now reply k.shop k.later (λ told x. written_more first old new told reply x wrote) k.played (c.match-event.session.dead ≡ false) (λ t settled.
           let x = w.whole_message-reply.ensures.done t settled k.alive (λ is. false≢true (sym w.if-is_media.false ∙ w.is_media.ensures.1 is)) in (
@@ -178,7 +178,7 @@ went_on g c =
           ))
       | in-Some-cut+in-Ok-next w ↦
           let wrote : Appends old new (reply_text Cut ++ codes "\n") = subst (λ o. Appends old (g.W.Write.contents o) (reply_text Cut ++ codes "\n")) (sym w.out-is)
-          (subst (λ r. OnOk r (Appends old (g.W.Write.contents w.put_line-written-in-Some-cut.new.out) (reply_text Cut ++ codes "\n"))) (sym w.written-is ∙ c.in-Ok-written.is) w.put_line-written-in-Some-cut.ensures.ok) in
+          (wrote_line w.write_line-in-Some-cut.result _ (sym w.is_ok-written-in-Some-cut.ensures.value ∙ sym w.written-is ∙ c.if-not-written.false) w.write_line-in-Some-cut.ensures) in
           more h (messages_of (lines c.args.script.now)) c.args.disk (messages_of (lines c.loop-line.rest.now)) (messages_of (lines c.in-Some-next_line.more.now))
           (message_of e) next a b Kept Now Cut k.shop k.later (λ told x. written_more first old new told Cut x wrote) k.played (c.match-event.session.dead ≡ false) (λ t settled.
           let x = w.in-Ok-next.ensures.done t settled k.alive in (
@@ -285,8 +285,8 @@ returns-in-Err-next g c = record {
   after = λ e. absurd (device-output e);
 }
 
-pub returns-in-Err-written : goal.returns-in-Err-written
-returns-in-Err-written g c = record {
+pub returns-then-not-written : goal.returns-then-not-written
+returns-then-not-written g c = record {
   bad_line = λ n e. absurd (none-some n (c.in_default.ensures ∙ e));
   good = λ n e. absurd (output-line n e);
   shop = tt;
@@ -294,10 +294,10 @@ returns-in-Err-written g c = record {
   without_resets = λ s shop none. tt;
   output = λ s shop is.
       let x = output_ends g c s shop in
-      (x.0, x.1, subst (λ d. StoppedByOutput g.D.Sectors.history s (messages_of (lines c.args.script.now)) c.args.disk d x.0) (sym c.close-in-Err-written.ensures) x.2);
+      (x.0, x.1, subst (λ d. StoppedByOutput g.D.Sectors.history s (messages_of (lines c.args.script.now)) c.args.disk d x.0) (sym c.close-then-not-written.ensures) x.2);
   device = λ s shop e. absurd (output-device e);
   moments = λ s shop.
-      subst (λ d. HeldBeginnings g.D.Sectors.history s (messages_of (lines c.args.script.now)) c.args.disk d) (sym c.close-in-Err-written.ensures) (output_ends g c s shop).3;
+      subst (λ d. HeldBeginnings g.D.Sectors.history s (messages_of (lines c.args.script.now)) c.args.disk d) (sym c.close-then-not-written.ensures) (output_ends g c s shop).3;
   plays = λ shop never. inr refl;
   «open» = λ f e. absurd (output-open f e);
   cause = λ e. absurd (output-device e);

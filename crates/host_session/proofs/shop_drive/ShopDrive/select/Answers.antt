@@ -41,3 +41,8 @@ returns-clause-failures g c =
 
 pub returns-clause-dies : goal.returns-clause-dies
 returns-clause-dies g c = c.command.ensures.serves.dies.1
+
+pub returns-clause-quiet : goal.returns-clause-quiet
+returns-clause-quiet g c = λ on.
+    c.command.ensures.silent (place-silent c.placing.result c.args.number c.placing.ensures) ∙ ap (λ d. d.disk) c.self.view_is
+    ∙ ap (λ d. d.disk) (c.turn_to.ensures.stays on).1
