@@ -25,7 +25,10 @@ pub(crate) fn standing_by(
 {
     let till = request.till();
     match card_of(requests, till) {
-        Some(card) => standing_of(tills, newest_of(&card, till), card.prior(till), request),
+        Some(card) => {
+            let newest = newest_of(&card, till);
+            standing_of(tills, Some(newest), card.prior(till), request)
+        }
         None => standing_of(tills, None, None, request),
     }
 }

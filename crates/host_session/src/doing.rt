@@ -99,11 +99,11 @@ pub(crate) fn keep<D: Sectors>(
     drive: &mut ShopDrive<D>,
     request: &Request,
     card: &RequestCard,
-    is_new: bool,
+    has_no_card: bool,
 ) -> Result<(), Dead>
     requires ready { IsReady D.history drive.old }
     requires keeping { (f : Files) × HasFiles (D.history.image drive.old.disk) f × IsKeeping f request.now card.now
-        × (is_new ≡ is_none ((shop_of f).state.ledger.cards request.now.body.item)) }
+        × (has_no_card ≡ is_none ((shop_of f).state.ledger.cards request.now.body.item)) }
     ensures ready { OnOk result (IsReady D.history drive.new) }
     ensures ok { (f : Files) → HasFiles (D.history.image drive.old.disk) f → IsKeeping f request.now card.now
         → OnOk result (IsSettled (D.history.image drive.new.disk) (shop_after (shop_of f) request.now)) }
@@ -112,7 +112,7 @@ pub(crate) fn keep<D: Sectors>(
         (kept_writes h.stock_file request.now.body.item (results_of card.now.newest))
         (IsEither (shop_of f) request.now) }
     // but for a set of an item without a card, the shop is the one after once a write was counted
-    ensures counted { is_new ≡ false → (f : Files) → HasFiles (D.history.image drive.old.disk) f → IsKeeping f request.now card.now
+    ensures counted { has_no_card ≡ false → (f : Files) → HasFiles (D.history.image drive.old.disk) f → IsKeeping f request.now card.now
         → IfCounted D.history drive.old.disk drive.new.disk (λ i. IsShop i (shop_after (shop_of f) request.now)) }
     ensures refused { card.now.pending ≡ false → (f : Files) → HasFiles (D.history.image drive.old.disk) f
         → IsKeeping f request.now card.now
@@ -123,7 +123,7 @@ pub(crate) fn keep<D: Sectors>(
     if !card.pending() {
         return put_refusal(drive, request, card);
     }
-    if is_new {
+    if has_no_card {
         return put_first_set(drive, request, card);
     }
     put_intent(drive, request, card)

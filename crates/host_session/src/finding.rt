@@ -35,10 +35,8 @@ fn survey_disk<D: Sectors>(disk: &mut D) -> Result<Survey, OpenFault>
 {
     match survey(disk) {
         Ok(found) => Ok(found),
-        Err(fault) => match fault {
-            Fault::Device(_) => Err(OpenFault::Device),
-            _ => Err(OpenFault::Layout(fault)),
-        },
+        Err(Fault::Device(_)) => Err(OpenFault::Device),
+        Err(fault) => Err(OpenFault::Layout(fault)),
     }
 }
 
@@ -60,10 +58,8 @@ fn find_shop_file<D: Sectors>(disk: &mut D, file: ShopFile) -> Result<Option<Rel
                 Ok(None)
             }
         }
-        Err(fault) => match fault {
-            RelFault::NotFound => Ok(None),
-            _ => Err(OpenFault::Device),
-        },
+        Err(RelFault::NotFound) => Ok(None),
+        Err(_) => Err(OpenFault::Device),
     }
 }
 

@@ -94,8 +94,8 @@ impl<D: Sectors> Session<D> {
     {
         let outcome = decided(&self.cards, self.top, request);
         let card = next_card(&self.requests, request, outcome.answer);
-        let is_new = on_hand(&self.cards, request.item()).is_none();
-        let Ok(()) = keep(&mut self.drive, request, &card, is_new) else {
+        let has_no_card = on_hand(&self.cards, request.item()).is_none();
+        let Ok(()) = keep(&mut self.drive, request, &card, has_no_card) else {
             self.dead = true;
             return Word::Media;
         };

@@ -133,13 +133,12 @@ pub(crate) fn card_of(requests: &[Option<RequestCard>; 64], till: u8) -> Option<
 }
 
 /// The newest request of a card with its answer, as that of this till.
-pub(crate) fn newest_of(card: &RequestCard, till: u8) -> Option<(Request, Answer)>
+pub(crate) fn newest_of(card: &RequestCard, till: u8) -> (Request, Answer)
     requires low { 1 ≤ till }
     requires high { till ≤ 64 }
-    ensures { result ≡ Some (told_of till card.now.newest) }
+    ensures { result ≡ told_of till card.now.newest }
 {
-    let request = card.request(till)?;
-    Some((request, card.answer()))
+    (card.request(till).unwrap(), card.answer())
 }
 
 impl<D: Sectors> Session<D> {
@@ -166,7 +165,7 @@ impl<D: Sectors> Session<D> {
         let Some(card) = card_of(&self.requests, till) else {
             return Ok(None);
         };
-        Ok(newest_of(&card, till))
+        Ok(Some(newest_of(&card, till)))
     }
 
     /// The request of a till before its last one with its answer, where the disk has it. Err where the session is dead.

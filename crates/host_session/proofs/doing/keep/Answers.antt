@@ -9,15 +9,15 @@ returns-then-not-pending-clause-moments g c = λ f h k.
     changes_weaker g.D.Sectors.history c.args.drive.now.disk c.put_refusal.new.drive.disk 1 _ _ _
     (refused-writes f c.args.request.now c.args.card.now k (sym c.pending.ensures ∙ c.if-not-pending.true) h.stock_file) (λ i x. x) (c.put_refusal.ensures.moments f h k)
 
-pub returns-then-is_new-clause-moments : goal.returns-then-is_new-clause-moments
-returns-then-is_new-clause-moments g c = λ f h k.
+pub returns-then-has_no_card-clause-moments : goal.returns-then-has_no_card-clause-moments
+returns-then-has_no_card-clause-moments g c = λ f h k.
     changes_weaker g.D.Sectors.history c.args.drive.now.disk c.put_first_set.new.drive.disk _ _ _ _
     (intent-writes f c.args.request.now c.args.card.now k (sym c.pending.ensures ∙ c.if-not-pending.false) h.stock_file) (λ i x. x) (c.put_first_set.ensures.moments f h k)
 
 pub put_intent-requires-clause-keeping : goal.put_intent-requires-clause-keeping
 put_intent-requires-clause-keeping g c =
     let (f, h, k, e) = c.requires.keeping in
-    (f, h, k, known-items f c.args.request.now c.args.card.now k (none-or _ (sym e ∙ c.if-is_new.false)))
+    (f, h, k, known-items f c.args.request.now c.args.card.now k (none-or _ (sym e ∙ c.if-has_no_card.false)))
 
 pub returns-clause-moments : goal.returns-clause-moments
 returns-clause-moments g c = λ f h k.
@@ -36,17 +36,17 @@ returns-then-not-pending-clause-failures g c = c.put_refusal.ensures.failures
 pub returns-then-not-pending-clause-dies : goal.returns-then-not-pending-clause-dies
 returns-then-not-pending-clause-dies g c = c.put_refusal.ensures.dies
 
-pub returns-then-is_new-clause-ready : goal.returns-then-is_new-clause-ready
-returns-then-is_new-clause-ready g c = c.put_first_set.ensures.ready
+pub returns-then-has_no_card-clause-ready : goal.returns-then-has_no_card-clause-ready
+returns-then-has_no_card-clause-ready g c = c.put_first_set.ensures.ready
 
-pub returns-then-is_new-clause-ok : goal.returns-then-is_new-clause-ok
-returns-then-is_new-clause-ok g c = c.put_first_set.ensures.ok
+pub returns-then-has_no_card-clause-ok : goal.returns-then-has_no_card-clause-ok
+returns-then-has_no_card-clause-ok g c = c.put_first_set.ensures.ok
 
-pub returns-then-is_new-clause-failures : goal.returns-then-is_new-clause-failures
-returns-then-is_new-clause-failures g c = c.put_first_set.ensures.failures
+pub returns-then-has_no_card-clause-failures : goal.returns-then-has_no_card-clause-failures
+returns-then-has_no_card-clause-failures g c = c.put_first_set.ensures.failures
 
-pub returns-then-is_new-clause-dies : goal.returns-then-is_new-clause-dies
-returns-then-is_new-clause-dies g c = c.put_first_set.ensures.dies
+pub returns-then-has_no_card-clause-dies : goal.returns-then-has_no_card-clause-dies
+returns-then-has_no_card-clause-dies g c = c.put_first_set.ensures.dies
 
 pub returns-clause-ready : goal.returns-clause-ready
 returns-clause-ready g c = c.put_intent.ensures.ready

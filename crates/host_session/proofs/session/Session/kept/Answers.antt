@@ -1,5 +1,5 @@
 -- The tables hold the state of the session's shop.
-use Rattle.std.proofs.Common.{ap, sym, ◌∙◌}
+use Rattle.std.proofs.Common.{Some, ap, sym, ◌∙◌}
 use Rattle.host_session.specs.Standing.{View}
 use Rattle.host_session.proofs.Shops.{standing-state}
 use Rattle.host_session.proofs.Tables.{none-kept, some-kept}
@@ -13,7 +13,7 @@ returns-in_default-clause-ok g c = λ s h.
 
 pub returns-clause-ok : goal.returns-clause-ok
 returns-clause-ok g c = λ s h.
-    c.newest_of.ensures
+    ap (λ e. Some e) c.newest_of.ensures
     ∙ some-kept c.self.inside.cards c.self.inside.requests s.state c.args.till
     (standing-state _ _ _ _ _ _ (sym (ap (λ (v : View _). g.D.Sectors.history.image v.disk) c.self.view_is)) c.self.invariant.0 c.if-self.false s h)
     c.in-Some.card (sym c.card_of.ensures.value ∙ c.in-Some.is)
