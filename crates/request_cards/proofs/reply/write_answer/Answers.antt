@@ -1,5 +1,5 @@
 -- What was written is the text of this answer.
-use Rattle.request_cards.specs.declared.answer.Answer.TheVariants.{Done, Moved, Short, Over, NoCard, DiskFull, TooLarge}
+use Rattle.request_cards.specs.declared.answer.Answer.TheVariants.{Done, Short, Over, NoCard, DiskFull, TooLarge}
 use Rattle.request_cards.proofs.Answering.{moved_text, text_of}
 use Rattle.request_cards.proofs.reply.write_answer.Goals as goal
 

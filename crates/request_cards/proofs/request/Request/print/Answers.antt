@@ -1,6 +1,5 @@
 -- What was written is the text of the request, up to the end of the room.
-use Rattle.std.proofs.Common.{◌≡◌, ap, sym, arith, ◌∙◌}
-use Rattle.request_cards.specs.Texts.{kind_text}
+use Rattle.std.proofs.Common.{arith, ◌∙◌}
 use Rattle.request_cards.proofs.Written.{request_written, to_end}
 use Rattle.request_cards.proofs.request.Request.print.Goals as goal
 
