@@ -1,8 +1,9 @@
 -- What a program has that got a subcommand.
 use Rattle.std.proofs.Common.{◌≡◌, ap₂, ◌∙◌, ap, subst, sym}
 use Rattle.std.proofs.lemmas.Result.{IfOk-weaker}
-use Rattle.std.specs.Prelude.{Result, Ok, Err, IfOk, false}
-use Rattle.clap.specs.Words.{AddsSubcommand, App, app_of, with_subcommand}
+use Rattle.std.specs.Prelude.{◌||◌, Bool, Result, Ok, Err, IfOk, false}
+use Rattle.clap.specs.Words.{AddsArg, AddsSubcommand, App, Rule, app_of, rule_of, with_rule, with_subcommand}
+use Rattle.clap.specs.declared.builder.arg.Arg.{Arg}
 use Rattle.clap.specs.declared.builder.command.Command.{Command}
 use Rattle.clap.specs.declared.builder.command.Command.TheViews.{out-Command}
 use Rattle.ledger_cli.specs.Grammar.{AddsTo}
@@ -23,3 +24,11 @@ pub adds-known : {E : Type 0} (before sub : App) (p s r : Result Command E) → 
     → IfOk s (λ c. app_of c ≡ sub) → IfOk s (λ c. (out-Command c).has_globals ≡ false) → IfOk r (AddsTo p s)
     → IfOk r (λ c. app_of c ≡ with_subcommand before sub.top)
 adds-known before sub p s r known app local adds = IfOk-weaker r _ _ (λ program. added before sub p s program known app local) adds
+
+-- a command has a value more, which no other has
+pub arg-made : {E : Type 0} (old : Command) (a : Arg) (r : Result Command E) (before : App) (rule : Rule) → app_of old ≡ before → (out-Command old).has_globals ≡ false
+    → rule_of a ≡ rule → a.global ≡ false → IfOk r (AddsArg old a)
+    → IfOk r (λ c. app_of c ≡ with_rule before rule) × IfOk r (λ c. (out-Command c).has_globals ≡ false)
+arg-made old a (Ok c) before rule app none is local adds =
+    (adds.shape local ∙ ap₂ with_rule app is, adds.globals ∙ ap₂ (λ (x y : Bool). x || y) none local)
+arg-made old a (Err e) before rule app none is local adds = (tt, tt)

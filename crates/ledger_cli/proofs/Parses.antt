@@ -1,11 +1,11 @@
 -- What a job is where its words are parsed.
-use Rattle.std.proofs.Common.{◌≡◌, List, Option, true, refl, ap, sym, ◌∙◌, subst, []}
-use Rattle.std.specs.Prelude.{Result, Ok, Err, IfErr, IfOk, MatchResult}
-use Rattle.clap.specs.Words.{App, FailsBy, HasKind, HasMatchesOf, Kinds, Row, Text, fault_of, is_simple, is_simple_and_free, subcommand_of}
+use Rattle.std.proofs.Common.{◌≡◌, Bor, List, Option, Some, true, refl, ap, sym, ◌∙◌, subst, []}
+use Rattle.std.specs.Prelude.{Result, Ok, Err, IfErr, IfOk, MatchResult, option_map}
+use Rattle.clap.specs.Words.{App, FailsBy, HasKind, HasMatchesOf, Kinds, Row, Text, fault_of, found_of, is_simple, is_simple_and_free, rows_of, subcommand_of}
 use Rattle.clap.specs.declared.error.Error.{Error}
 use Rattle.clap.specs.declared.parser.matches.ArgMatches.{ArgMatches}
 use Rattle.ledger_cli.specs.Grammar.{ledger}
-use Rattle.ledger_cli.specs.Jobs.{IsJob, IsNoJob, IsParse}
+use Rattle.ledger_cli.specs.Jobs.{Has, IsJob, IsNoJob, IsParse}
 use Rattle.ledger_cli.specs.declared.jobs.Job.{Job}
 use Rattle.ledger_cli.specs.declared.jobs.JobFault.{JobFault}
 
@@ -38,3 +38,15 @@ pub no-job-found : (kinds : Kinds) (found at : Option (Text × List Row)) (r : R
     → MatchResult r (IsJob found) (IsNoJob [] found) → IfErr r (IsNoJob kinds at)
 no-job-found kinds found at (Ok j) fine same is = tt
 no-job-found kinds found at (Err e) fine same is = subst (λ ks. IsNoJob ks at e) (sym fine) (subst (λ f. IsNoJob [] f e) same is)
+
+-- the subcommand that was met is this one, and this holds of its values
+pub met-has : (o : Option (Bor Text × Bor ArgMatches)) (found : Option (Text × List Row)) (name : Bor Text) (at : Bor ArgMatches) (word : Text)
+    (P : List Row → Type 0) → option_map (λ (p : Bor Text × Bor ArgMatches). (p.0.now, rows_of (found_of p.1.now))) o ≡ found → o ≡ Some (name, at) → name.now ≡ word
+    → P (rows_of (found_of at.now)) → Has found word P
+met-has o found name at word P told some is holds =
+    let f : Bor Text × Bor ArgMatches → Text × List Row = λ p. (p.0.now, rows_of (found_of p.1.now)) in
+    record {
+      rows = rows_of (found_of at.now);
+      is = sym told ∙ ap (option_map f) some ∙ ap (λ (n : Text). Some (n, rows_of (found_of at.now))) is;
+      holds = holds;
+    }

@@ -1,8 +1,8 @@
 -- The run of a command over an image, from how the command ended.
-use Rattle.std.proofs.Common.{◌≡◌, ◌≢◌, ◌⊎◌, ◌∙◌, ℕ, List, Result, Ok, Err, refl, ap, arith, inl, inr, sym}
+use Rattle.std.proofs.Common.{◌≡◌, ◌≢◌, ◌⊎◌, ◌∙◌, ℕ, List, Result, Ok, Err, refl, ap, arith, inl, inr, subst, sym}
 use Rattle.std.proofs.lemmas.Bool.{false≢true}
 use Rattle.std.proofs.lemmas.Option.{none-some}
-use Rattle.std.specs.Prelude.{IfErr, IfOk, None, OnOk, Option, Some, codes, is_some, length}
+use Rattle.std.specs.Prelude.{IfErr, IfOk, IsOk, IsSome, None, OnOk, Option, Some, codes, is_some, length}
 use Rattle.std.specs.Io.KnownBytes.{Appends}
 use Rattle.d64_image.specs.Memory.{sectors_in}
 use Rattle.disk_layout.proofs.Unclean.{told-unclean}
@@ -12,9 +12,14 @@ use Rattle.ledger_cli.specs.Faults.{check_status, end_status}
 use Rattle.ledger_commands.specs.Plays.{IsPlayEnd, Known}
 use Rattle.ledger_commands.specs.Shops.{IsOpenRefusal, IsShowFault, IsShown}
 use Rattle.ledger_commands.specs.Images.{IsCheckFault, IsFormatFault, IsHandedTo, IsListFault, IsListed, IsVerdict}
-use Rattle.ledger_commands.specs.Faults.{run_status}
+use Rattle.ledger_commands.specs.Faults.{IsDryFault, dry_status, run_status}
+use Rattle.ledger_commands.specs.Tables.{dry_report}
 use Rattle.ledger_commands.specs.Texts.{verdict_text}
-use Rattle.ledger_cli.specs.Runs.{IsCheckRun, IsCutShort, IsFormatRun, IsListRun, IsPlayRun, IsShowRun}
+use Rattle.ledger_cli.specs.Runs.{IsCheckRun, IsCutShort, IsDryRun, IsFormatRun, IsListRun, IsPlayRun, IsQuiet, IsRun, IsShowRun}
+use Rattle.ledger_cli.specs.declared.jobs.Job.{Job}
+use Rattle.script_lines.specs.Lines.{first_reset, lines}
+use Rattle.ledger_commands.specs.declared.dry_run.DryFault.{DryFault}
+use Rattle.ledger_commands.specs.declared.dry_run.DryFault.TheVariants as dry
 use Rattle.ledger_commands.specs.declared.faults.RunFault.{RunFault}
 use Rattle.ledger_commands.specs.declared.faults.RunFault.TheVariants as run
 
@@ -310,3 +315,61 @@ play-run k image script None old new ended no_file over =
       stopped = λ _. inl (no_file refl).1;
       statuses = inr (inr three);
     }
+
+-- a run without a disk, done
+pub dry-run : {W : Type 0} (contents : W → Option (List ℕ)) (script : List ℕ) (old new : W) → first_reset (lines script) ≡ None
+    → Appends (contents old) (contents new) (dry_report script) → IsDryRun contents script old new 0
+dry-run contents script old new good said = record {
+  done = λ _. said;
+  bad_line = (λ one. absurd (omega (arith, one)), λ bad. absurd (false≢true (ap is_some (sym good) ∙ bad)));
+  untouched = λ one. absurd (omega (arith, one));
+  statuses = inl refl;
+}
+
+-- a run without a disk that ended with a fault
+pub dry-stopped : {W : Type 0} (contents : W → Option (List ℕ)) (script : List ℕ) (old new : W) (fault : DryFault) → IsDryFault (first_reset (lines script)) fault
+    → (IsSome (first_reset (lines script)) → new ≡ old) → IsDryRun contents script old new (dry_status fault)
+dry-stopped contents script old new (dry.BadLine line) bad untouched = record {
+  done = λ zero'. absurd (omega (arith, zero'));
+  bad_line = (λ _. ap is_some bad, λ _. refl);
+  untouched = λ _. untouched (ap is_some bad);
+  statuses = inr (inl refl);
+}
+dry-stopped contents script old new dry.Output good untouched = record {
+  done = λ zero'. absurd (omega (arith, zero'));
+  bad_line = (λ one. absurd (omega (arith, one)), λ bad. absurd (false≢true (ap is_some (sym good) ∙ bad)));
+  untouched = λ one. absurd (omega (arith, one));
+  statuses = inr (inr refl);
+}
+
+-- what a status of a run without a disk tells: 0 for no fault
+pub dry-told : (fault : DryFault) → dry_status fault ≢ 0
+dry-told (dry.BadLine line) zero' = omega (arith, zero')
+dry-told dry.Output zero' = omega (arith, zero')
+
+-- nothing was told of an image that was judged
+pub check-quiet : {E : Type 0} (image : List ℕ) (old new : E) (ended : Result (Option Fault) RunFault) → IfErr ended (IsCheckFault image)
+    → (IsOk ended → new ≡ old) → length image ≡ 174848 → check_status ended ≢ 3 → new ≡ old
+check-quiet image old new (Ok _) err quiet same other = quiet refl
+check-quiet image old new (Err run.ImageSize) err quiet same other = absurd (err same)
+check-quiet image old new (Err run.File) err quiet same other = absurd (other refl)
+check-quiet image old new (Err run.NoMemory) err quiet same other = absurd (other refl)
+check-quiet image old new (Err (run.Layout fault)) err quiet same other = absurd err
+check-quiet image old new (Err run.NoStock) err quiet same other = absurd err
+check-quiet image old new (Err run.NoRequests) err quiet same other = absurd err
+check-quiet image old new (Err (run.BadCard item)) err quiet same other = absurd err
+check-quiet image old new (Err (run.BadRequestCard till)) err quiet same other = absurd err
+check-quiet image old new (Err run.TwoIntents) err quiet same other = absurd err
+check-quiet image old new (Err (run.BadLine line)) err quiet same other = absurd err
+check-quiet image old new (Err run.Device) err quiet same other = absurd err
+
+-- the job and its status are these
+pub run-job : {F W : Type 0} (k : Known F W) (job at : Job) (image script : List ℕ) (file : Option F) (old new : W) (status ended : ℕ)
+    → job ≡ at → status ≡ ended → IsRun k at image script file old new ended → IsRun k job image script file old new status
+run-job k job at image script file old new status ended is told run =
+    subst (λ (j : Job). IsRun k j image script file old new status) (sym is) (subst (λ (s : ℕ). IsRun k at image script file old new s) (sym told) run)
+
+pub quiet-job : {E : Type 0} (job at : Job) (image : List ℕ) (old new : E) (status ended : ℕ)
+    → job ≡ at → status ≡ ended → IsQuiet at image old new ended → IsQuiet job image old new status
+quiet-job job at image old new status ended is told quiet =
+    subst (λ (j : Job). IsQuiet j image old new status) (sym is) (subst (λ (s : ℕ). IsQuiet at image old new s) (sym told) quiet)
