@@ -129,3 +129,18 @@ returns-clause-refused g c = tt
 
 pub returns-clause-failures : goal.returns-clause-failures
 returns-clause-failures g c = c.in-Ok.ensures.failures ∙ c.in_ok-site.ensures.failures
+
+pub choose_site-requires : goal.choose_site-requires
+choose_site-requires g c = record { clean = c.requires.clean; name = c.requires.name }
+
+pub write_file-requires-clause-name : goal.write_file-requires-clause-name
+write_file-requires-clause-name g c = c.requires.name
+
+pub write_file-requires-clause-low : goal.write_file-requires-clause-low
+write_file-requires-clause-low g c = c.requires.low
+
+pub write_file-requires-clause-high : goal.write_file-requires-clause-high
+write_file-requires-clause-high g c = c.requires.high
+
+pub file_at-requires : goal.file_at-requires
+file_at-requires g c = record { low = c.requires.low; high = c.requires.high }
