@@ -1,5 +1,5 @@
 -- Event by event.
-use Rattle.std.proofs.Common.{◌≡◌, ◌≤◌, ◌∙◌, ◌+◌, ◌++◌, List, [], refl, sym, subst, ap, arith, false, drop, map, length, le_refl}
+use Rattle.std.proofs.Common.{◌≡◌, ◌≢◌, ◌≤◌, ◌∙◌, ◌+◌, ◌++◌, List, [], refl, sym, subst, ap, arith, false, drop, map, length, le_refl}
 use Rattle.std.specs.Prelude.{vec_capacity, vec_len}
 use Rattle.std.proofs.lemmas.Bool.{false≢true}
 use Rattle.std.proofs.lemmas.List.{drop_all}
@@ -11,6 +11,9 @@ use Rattle.host_session.proofs.EventRuns.{PlayedBut, all_played, failed, last, m
 use Rattle.host_session.proofs.RunOpenings.{is_cut, is_uncut, next_message, opening_failed, opening_later, opening_refused, same_fault, told_behind, told_none}
 use Rattle.host_session.proofs.Runs.{HasPlayed, held_none, none_played}
 use Rattle.host_session.proofs.Shops.{IsShop-one}
+use Rattle.host_session.specs.declared.faults.OpenFault.{OpenFault}
+use Rattle.host_session.specs.declared.playing.PlayFault.TheVariants as plays
+use Rattle.host_session.specs.Faults.{play_number}
 use Rattle.host_session.specs.Events.{cut_at, message_of, uncut}
 use Rattle.host_session.specs.OneEvent.{EndsFailed, GoesOn, IsEvent}
 use Rattle.host_session.specs.Runs.{HeldBeginnings, IsPlayedWhole, IsRefused, StoppedByDevice}
@@ -20,25 +23,49 @@ use Rattle.host_session.proofs.playing.play.Given.{Over}
 use Rattle.host_session.proofs.playing.play.Goals as goal
 use Rattle.host_session.proofs.playing.play.Goals.{in-None+else-is_media, in-Some+in-Ok-next}
 
-pub returns-in-Err-clause-moments : goal.returns-in-Err-clause-moments
-returns-in-Err-clause-moments g c = λ s shop.
-    let h = g.D.Sectors.history in
-    held_none h s (map message_of c.args.events.now) c.args.disk c.args.disk (start h c.args.disk (λ i. IsShop i s) shop) (le_refl (h.failures c.args.disk))
+-- the faults of a run are told apart
+memory-device : plays.NoMemory ≢ plays.Device
+memory-device same = let e : 2 ≡ 3 = ap play_number same in omega (arith, e)
 
-pub returns-in-Err-open-clause-moments : goal.returns-in-Err-open-clause-moments
-returns-in-Err-open-clause-moments g c = λ s shop.
-    let h = g.D.Sectors.history in
-    held_none h s (map message_of c.args.events.now) c.args.disk c.in-Err-open.disk (c.in-Err-open.ensures.moments s shop).held
-    (opening_later h _ _ _ c.in-Err-open.ensures.failures)
+memory-open : (fault : OpenFault) → plays.NoMemory ≢ plays.Open fault
+memory-open fault same = let e : 2 ≡ 1 = ap play_number same in omega (arith, e)
 
-pub returns-in-Err-open-clause-plays : goal.returns-in-Err-open-clause-plays
-returns-in-Err-open-clause-plays g c = λ shop never.
-    absurd (opening_failed g.D.Sectors.history _ _ _ c.in-Err-open.ensures.err shop c.in-Err-open.ensures.failures never)
+open-device : (fault : OpenFault) → plays.Open fault ≢ plays.Device
+open-device fault same = let e : 1 ≡ 3 = ap play_number same in omega (arith, e)
 
-pub returns-in-Err-open-clause-open : goal.returns-in-Err-open-clause-open
-returns-in-Err-open-clause-open g c = λ f e.
-    subst (λ x. IsRefused g.D.Sectors.history c.args.disk x c.in-Err-open.disk) (same_fault _ f e)
-    (opening_refused g.D.Sectors.history _ _ _ c.in-Err-open.ensures.err c.in-Err-open.ensures.unfit c.in-Err-open.ensures.moments)
+pub returns-in-Err : goal.returns-in-Err
+returns-in-Err g c = record {
+  shop = tt;
+  ok = λ s shop. tt;
+  device = λ s shop is. absurd (memory-device is);
+  moments = λ s shop.
+      let h = g.D.Sectors.history in
+      held_none h s (map message_of c.args.events.now) c.args.disk c.args.disk (start h c.args.disk (λ i. IsShop i s) shop) (le_refl (h.failures c.args.disk));
+  plays = λ shop never. refl;
+  «open» = λ f is. absurd (memory-open f is);
+  cause = λ is. absurd (memory-device is);
+  memory = λ _. (refl, omega (arith, c.in-Err.ensures.full));
+  silent = λ _. c.in-Err.ensures.items;
+}
+
+pub returns-in-Err-open : goal.returns-in-Err-open
+returns-in-Err-open g c = record {
+  shop = tt;
+  ok = λ s shop. tt;
+  device = λ s shop is. absurd (open-device _ is);
+  moments = λ s shop.
+      let h = g.D.Sectors.history in
+      held_none h s (map message_of c.args.events.now) c.args.disk c.in-Err-open.disk (c.in-Err-open.ensures.moments s shop).held
+      (opening_later h _ _ _ c.in-Err-open.ensures.failures);
+  plays = λ shop never.
+      absurd (opening_failed g.D.Sectors.history _ _ _ c.in-Err-open.ensures.err shop c.in-Err-open.ensures.failures never);
+  «open» = λ f e.
+      subst (λ x. IsRefused g.D.Sectors.history c.args.disk x c.in-Err-open.disk) (same_fault _ f e)
+      (opening_refused g.D.Sectors.history _ _ _ c.in-Err-open.ensures.err c.in-Err-open.ensures.unfit c.in-Err-open.ensures.moments);
+  cause = λ is. absurd (open-device _ is);
+  memory = λ is. absurd (memory-open _ (sym is));
+  silent = λ _. c.in-Ok.ensures.items;
+}
 
 pub loop-event-init : goal.loop-event-init
 loop-event-init g c =
@@ -97,17 +124,18 @@ media_failed g c =
     (told_behind c.args.replies.now.items c.loop-event.replies.items c.push_reserved.new.self.items c.whole_message-reply.result c.push_reserved.ensures.items)
     k.played (told_media g c)
 
-pub returns-then-is_media-clause-device : goal.returns-then-is_media-clause-device
-returns-then-is_media-clause-device g c = λ s shop is. let x = media_ends g c s shop in (x.0, x.1, x.2)
-
-pub returns-then-is_media-clause-moments : goal.returns-then-is_media-clause-moments
-returns-then-is_media-clause-moments g c = λ s shop. (media_ends g c s shop).3
-
-pub returns-then-is_media-clause-plays : goal.returns-then-is_media-clause-plays
-returns-then-is_media-clause-plays g c = λ shop never. absurd (never_failed g.D.Sectors.history _ _ never (media_failed g c))
-
-pub returns-then-is_media-clause-cause : goal.returns-then-is_media-clause-cause
-returns-then-is_media-clause-cause g c = λ is. (c.loop-event.invariant.shop, media_failed g c)
+pub returns-then-is_media : goal.returns-then-is_media
+returns-then-is_media g c = record {
+  shop = tt;
+  ok = λ s shop. tt;
+  device = λ s shop is. let x = media_ends g c s shop in (x.0, x.1, x.2);
+  moments = λ s shop. (media_ends g c s shop).3;
+  plays = λ shop never. absurd (never_failed g.D.Sectors.history _ _ never (media_failed g c));
+  «open» = λ f is. absurd (open-device f (sym is));
+  cause = λ is. (c.loop-event.invariant.shop, media_failed g c);
+  memory = λ is. absurd (memory-device (sym is));
+  silent = λ other. absurd (other refl);
+}
 
 -- the whole recovery after a cut message failed
 recovery_failed : (g : Over) (c : goal.In-Err-next g) (t : Shop) → IsSettled (g.D.Sectors.history.image c.loop-event.session.disk) t
@@ -143,17 +171,18 @@ whole_failed g c =
     (told_behind c.args.replies.now.items c.loop-event.replies.items c.push_reserved-in-Some.new.self.items Cut c.push_reserved-in-Some.ensures.items)
     k.played (recovery_failed g c)
 
-pub returns-in-Err-next-clause-device : goal.returns-in-Err-next-clause-device
-returns-in-Err-next-clause-device g c = λ s shop is. let x = recovery_ends g c s shop in (x.0, x.1, x.2)
-
-pub returns-in-Err-next-clause-moments : goal.returns-in-Err-next-clause-moments
-returns-in-Err-next-clause-moments g c = λ s shop. (recovery_ends g c s shop).3
-
-pub returns-in-Err-next-clause-plays : goal.returns-in-Err-next-clause-plays
-returns-in-Err-next-clause-plays g c = λ shop never. absurd (never_failed g.D.Sectors.history _ _ never (whole_failed g c))
-
-pub returns-in-Err-next-clause-cause : goal.returns-in-Err-next-clause-cause
-returns-in-Err-next-clause-cause g c = λ is. (c.loop-event.invariant.shop, whole_failed g c)
+pub returns-in-Err-next : goal.returns-in-Err-next
+returns-in-Err-next g c = record {
+  shop = tt;
+  ok = λ s shop. tt;
+  device = λ s shop is. let x = recovery_ends g c s shop in (x.0, x.1, x.2);
+  moments = λ s shop. (recovery_ends g c s shop).3;
+  plays = λ shop never. absurd (never_failed g.D.Sectors.history _ _ never (whole_failed g c));
+  «open» = λ f is. absurd (open-device f (sym is));
+  cause = λ is. (c.loop-event.invariant.shop, whole_failed g c);
+  memory = λ is. absurd (memory-device (sym is));
+  silent = λ other. absurd (other refl);
+}
 
 -- the event of this turn is done
 went_on : (g : Over) (c : goal.Joined-event g)
@@ -228,14 +257,21 @@ all_left g c =
     (subst (λ left. PlayedBut g.D.Sectors.history (map message_of c.args.events.now) c.args.disk left c.loop-event.session.disk
     (λ told. c.loop-event.replies.items ≡ c.args.replies.now.items ++ told)) (ap (map message_of) (drop_all c.loop-event.event-index c.args.events.now over)) c.loop-event.invariant.played)
 
-pub returns-clause-ok : goal.returns-clause-ok
-returns-clause-ok g c = λ s shop.
-    let h = g.D.Sectors.history in
-    let p = all_left g c s shop in
-    (p.0, p.1, subst (λ d. IsPlayedWhole h s (map message_of c.args.events.now) c.args.disk d p.0) (sym c.close-2.ensures) p.2.0)
-
-pub returns-clause-moments : goal.returns-clause-moments
-returns-clause-moments g c = λ s shop.
-    let h = g.D.Sectors.history in
-    let p = all_left g c s shop in
-    subst (λ d. HeldBeginnings h s (map message_of c.args.events.now) c.args.disk d) (sym c.close-2.ensures) p.2.1
+pub returns : goal.returns
+returns g c = record {
+  shop = c.loop-event.invariant.shop;
+  ok = λ s shop.
+      let h = g.D.Sectors.history in
+      let p = all_left g c s shop in
+      (p.0, p.1, subst (λ d. IsPlayedWhole h s (map message_of c.args.events.now) c.args.disk d p.0) (sym c.close-2.ensures) p.2.0);
+  device = λ s shop. tt;
+  moments = λ s shop.
+      let h = g.D.Sectors.history in
+      let p = all_left g c s shop in
+      subst (λ d. HeldBeginnings h s (map message_of c.args.events.now) c.args.disk d) (sym c.close-2.ensures) p.2.1;
+  plays = λ shop never. tt;
+  «open» = tt;
+  cause = tt;
+  memory = tt;
+  silent = tt;
+}
