@@ -1,6 +1,6 @@
 -- A listing's lines, from what is read of the disk.
 use Rattle.std.proofs.Common.{◌≡◌, ◌≢◌, ◌<◌, ◌≤◌, ◌++◌, ◌+◌, ℕ, true, false, List, [], ◌∷◌, get_or, length, take, refl, subst, sym, ap, ◌∙◌, inl, inr, ne_eqb, arith}
-use Rattle.std.specs.Prelude.{Option, codes, decimal, flat_map, map, nat_eq, not, slice_range, take_while}
+use Rattle.std.specs.Prelude.{Err, IfErr, Option, Result, codes, decimal, flat_map, map, nat_eq, not, slice_range, take_while}
 use Rattle.std.specs.Io.KnownBytes.{Appends, Keeps}
 use Rattle.std.proofs.KnownBytes.{Appends-kept, Appends-trans}
 use Rattle.std.proofs.lemmas.List.{append_assoc, flat_map_more, length-take, take_more}
@@ -11,7 +11,9 @@ use Rattle.disk_layout.specs.Directory.{map_place, type_byte}
 use Rattle.disk_layout.specs.Layout.{count_field}
 use Rattle.disk_layout.specs.View.{IsUnpadded, blocks_free}
 use Rattle.disk_layout.specs.declared.slot.Slot.{Slot}
-use Rattle.ledger_commands.specs.Images.{HasDirectory, IsListed}
+use Rattle.ledger_commands.specs.Images.{HasDirectory, IsListFault, IsListed, IsLoadFault}
+use Rattle.ledger_commands.specs.declared.faults.RunFault.{RunFault}
+use Rattle.ledger_commands.specs.declared.faults.RunFault.TheVariants as run
 use Rattle.ledger_commands.specs.Texts.{disk_text, entry_line, entry_text, free_text, listing, quoted, shown, type_text}
 
 -- a byte that pads nothing
@@ -81,3 +83,20 @@ is-listed contents image old new directory bytes slots here same printed = recor
   printed = subst (λ (b : Sector). Appends (contents old) (contents new) (listing b directory.entries)) here
       (subst (λ (ss : List Slot). Appends (contents old) (contents new) (listing bytes ss)) same printed);
 }
+
+-- what isn't loaded isn't listed
+pub load-listed : {T : Type 0} (image : List ℕ) (fault : RunFault) (r : Result T RunFault) → r ≡ Err fault → IsLoadFault image fault → IfErr r (IsListFault image)
+load-listed {T = T} image fault r told load = subst (λ (x : Result T RunFault). IfErr x (IsListFault image)) (sym told) (by fault load)
+  where
+    by : (f : RunFault) → IsLoadFault image f → IsListFault image f
+    by run.ImageSize h = h
+    by run.NoMemory h = h
+    by (run.Layout x) h = absurd h
+    by run.NoStock h = absurd h
+    by run.NoRequests h = absurd h
+    by (run.BadCard x) h = absurd h
+    by (run.BadRequestCard x) h = absurd h
+    by run.TwoIntents h = absurd h
+    by (run.BadLine x) h = absurd h
+    by run.File h = absurd h
+    by run.Device h = absurd h

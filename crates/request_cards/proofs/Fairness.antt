@@ -13,7 +13,7 @@ use Rattle.request_cards.specs.declared.reply.Word.{Word}
 use Rattle.request_cards.specs.declared.reply.Word.TheVariants.{Media, NoTill, Stale, Clash, Ahead, Kept}
 use Rattle.request_cards.specs.declared.standing.Standing.TheVariants.{New}
 use Rattle.request_cards.specs.Requests.{Body, Ask, same_kind, same_body}
-use Rattle.request_cards.specs.Ledgers.{Entry, State, Start, entry_of, number_of, reply, standing_at, told_late, word_in, word_on}
+use Rattle.request_cards.specs.Ledgers.{Entry, State, Start, entry_of, number_of, standing_at, told_late, word_in, word_on}
 use Rattle.request_cards.specs.Steps.{Core, TillState, asked}
 use Rattle.request_cards.proofs.Lines.{Line, added}
 

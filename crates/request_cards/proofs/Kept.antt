@@ -1,6 +1,6 @@
 -- What the trade rule answers has its place on a card.
-use Rattle.std.proofs.Common.{◌≡◌, ℕ, ◌≤◌, ◌+◌, ◌-◌, Option, Some, None, refl, inl, inr, arith}
-use Rattle.std.specs.Prelude.{IfSome, IsTrue, nat_lt, if◌then◌else◌}
+use Rattle.std.proofs.Common.{ℕ, ◌≤◌, ◌+◌, Option, Some, None, refl, inl, inr, arith}
+use Rattle.std.specs.Prelude.{IfSome, IsTrue, nat_lt}
 use Rattle.std.proofs.lemmas.Bool.{cases_Bool, ltb-false}
 use Rattle.request_cards.specs.declared.answer.Answer.{Answer}
 use Rattle.request_cards.specs.declared.decision.Room.{Room}

@@ -1,6 +1,6 @@
 -- Cards as functions of their bytes: what stands at a card's fixed places is a card where the bytes are its text.
 -- The texts themselves are `IsStockText` and `IsCardText` in CardTexts. All of it is our own.
-use Rattle.std.specs.Prelude.{ℕ, ◌+◌, ◌==◌, ◌&&◌, Bool, true, false, not, nat_le, List, [], ◌∷◌, drop, take, slice_index, Option, Some, None, is_none, unwrap_or, if◌then◌else◌, bytes_eq}
+use Rattle.std.specs.Prelude.{ℕ, ◌+◌, ◌==◌, ◌&&◌, Bool, true, false, not, nat_le, List, [], ◌∷◌, drop, take, slice_index, Option, Some, None, unwrap_or, if◌then◌else◌, bytes_eq}
 use Rattle.std.specs.Str.Parse.{digits_value}
 use Rattle.request_cards.specs.declared.answer.Answer.{Answer}
 use Rattle.request_cards.specs.declared.answer.Answer.TheVariants as answers

@@ -15,6 +15,6 @@ returns-clause-ok g c =
     let new = g.W.Write.contents c.put_line.new.out in
     let request = subst (Appends one two) (c.as_slice.ensures.value ∙ c.print.ensures) c.in_ok-put-2.ensures.ok in
     on_ok_weaker c.put_line.result
-      (λ last. Appends-trans old one new c.args.word.now _ c.in_ok-put.ensures.ok
-        (Appends-trans one two new _ _ request (Appends-trans two three new (codes ",") _ c.in_ok-put-3.ensures.ok last)))
-      c.put_line.ensures.ok
+    (λ last. Appends-trans old one new c.args.word.now _ c.in_ok-put.ensures.ok
+    (Appends-trans one two new _ _ request (Appends-trans two three new (codes ",") _ c.in_ok-put-3.ensures.ok last)))
+    c.put_line.ensures.ok
