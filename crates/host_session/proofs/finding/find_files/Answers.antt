@@ -23,13 +23,8 @@ pub returns-in_err-stock : goal.returns-in_err-stock
 returns-in_err-stock g c =
     let S = g.D.Sectors.history in
     let p = err_from_is_err_and c.from_residual-in_err-stock.result c.from_residual-in_err-stock.ensures.1 in
-<<<<<<< HEAD
     let told = device-error S (S.image c.args.disk.now) c.args.disk.now c.survey_disk.new.disk c.find_shop_file.new.disk c.in_err-stock.field-0.0 c.from_residual-in_err-stock.result
-        (p.1 ∙ ap Err p.2) c.in_err-stock.ensures.err c.in_ok-found.ensures.failures c.in_err-stock.ensures.failures in record {
-=======
-    let told = device-error S (S.image c.args.disk.now) c.args.disk.now c.survey_disk.new.disk c.find_of_length.new.disk c.in_err-stock.field-0.0 c.from_residual-in_err-stock.result
     (p.1 ∙ ap Err p.2) c.in_err-stock.ensures.err c.in_ok-found.ensures.failures c.in_err-stock.ensures.failures in record {
->>>>>>> answers_high
       ok = rw p.1 tt;
       err = told.0;
       reads = reads_then S c.args.disk.now c.survey_disk.new.disk c.find_shop_file.new.disk 2114 702 3518 (omega arith) c.survey_disk.ensures.reads c.find_shop_file.ensures.reads;
@@ -49,13 +44,8 @@ pub returns-in_err-requests : goal.returns-in_err-requests
 returns-in_err-requests g c =
     let S = g.D.Sectors.history in
     let p = err_from_is_err_and c.from_residual-in_err-requests.result c.from_residual-in_err-requests.ensures.1 in
-<<<<<<< HEAD
     let told = device-error S (S.image c.args.disk.now) c.args.disk.now c.find_shop_file.new.disk c.find_shop_file-2.new.disk c.in_err-requests.field-0.0 c.from_residual-in_err-requests.result
-        (p.1 ∙ ap Err p.2) c.in_err-requests.ensures.err (c.in_ok-stock.ensures.failures ∙ c.in_ok-found.ensures.failures) c.in_err-requests.ensures.failures in record {
-=======
-    let told = device-error S (S.image c.args.disk.now) c.args.disk.now c.find_of_length.new.disk c.find_of_length-2.new.disk c.in_err-requests.field-0.0 c.from_residual-in_err-requests.result
     (p.1 ∙ ap Err p.2) c.in_err-requests.ensures.err (c.in_ok-stock.ensures.failures ∙ c.in_ok-found.ensures.failures) c.in_err-requests.ensures.failures in record {
->>>>>>> answers_high
       ok = rw p.1 tt;
       err = told.0;
       reads = reads_then S c.args.disk.now c.find_shop_file.new.disk c.find_shop_file-2.new.disk 2816 702 3518 (omega arith)
