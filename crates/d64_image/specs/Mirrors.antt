@@ -77,8 +77,8 @@ AreHanded {F} position bytes contents at old new (x ∷ xs) =
     (next : F) × IsHanded position bytes contents at old next (offset_of x.place) x.bytes
     × AreHanded position bytes contents (Some (offset_of x.place + 256)) next new xs
 
--- From old to new memory took these sectors, each after the file was handed it, and nothing else; the file was handed one
--- more in part where it failed.
+-- From old to new memory took these sectors, each after the file was handed it, and nothing else. What the file was handed
+-- in a call in which it failed isn't said.
 pub record TookSectors {F : Type 0} (position : F → Option ℕ) (bytes contents : F → Option (List ℕ))
     (old new : Mirror F) (sectors : List Handed) : Type 0 where
   pub memory : disk_image (mirror_disk new) ≡ with_sectors (disk_image (mirror_disk old)) sectors
