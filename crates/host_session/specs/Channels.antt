@@ -12,6 +12,7 @@ abbrev pub name_of : ShopFile → List ℕ
 name_of Stock = codes "STOCK"
 name_of Requests = codes "REQUESTS"
 
+-- how long a record of the file is, in bytes
 abbrev pub length_of : ShopFile → ℕ
 length_of Stock = 18
 length_of Requests = 127
