@@ -25,6 +25,7 @@ pub mod NextCards
 pub mod Handled
 pub mod Answered
 pub mod TillTables
+pub mod BlankShops
 pub mod NewResults
 pub mod StockTables
 pub mod JudgedTills

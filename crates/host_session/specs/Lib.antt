@@ -1,5 +1,6 @@
 pub mod Files
 pub mod Shop
+pub mod Blank
 pub mod Opening
 pub mod Handling
 pub mod Standing

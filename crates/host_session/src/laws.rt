@@ -2,6 +2,7 @@
 
 ghost use Rattle.std.specs.Prelude.{◌≡◌, ℕ, List};
 ghost use Rattle.d64_image.specs.Images.{Image};
+ghost use Rattle.host_session.specs.Blank.{BlankIsAShop};
 ghost use Rattle.host_session.specs.Opening.{Refuses};
 ghost use Rattle.host_session.specs.Shop.{IsShop, Shop, start_of};
 ghost use Rattle.host_session.specs.declared.faults.OpenFault.{OpenFault};
@@ -32,4 +33,11 @@ pub fn last_two()
 pub fn both_ends()
     ensures { (s : Shop) (steps : List Step) (till : ℕ)
         → HoldsAtBothEnds (start_of s) (after_steps (start_of s) steps) till }
+{}
+
+/// The blank image for 1 to 64 tills is a shop's, whatever the disk held before, and at rest: no cards, nothing kept of
+/// any till, so many tills (one more where their number is odd), room for new cards up to item `blank_top tills`, no other
+/// file, and the name and the id that it was given.
+pub fn blank_is_a_shop()
+    ensures { BlankIsAShop }
 {}

@@ -25,7 +25,7 @@ mod shop_drive;
 mod starting;
 
 pub use faults::OpenFault;
-pub use laws::{both_ends, last_two, one_shop, refused_no_shop};
+pub use laws::{blank_is_a_shop, both_ends, last_two, one_shop, refused_no_shop};
 pub use playing::{PlayFault, play};
 pub use running::{ScriptFault, run_script};
 pub use script_lines::{Cut, Event};

@@ -1,4 +1,5 @@
 pub mod Examples
+pub mod FreshShops
 pub mod Lines
 pub mod Listings
 mod PlayEnds

@@ -1,7 +1,7 @@
 -- What the commands over an image make and find. The names of a fresh disk are our own.
 use Rattle.std.specs.Prelude.{◌≡◌, ◌≢◌, ◌⊎◌, ℕ, List, None, Option, Some, codes, length, slice_index}
 use Rattle.std.specs.Io.KnownBytes.{Appends}
-use Rattle.d64_image.specs.Images.{Image, sector}
+use Rattle.d64_image.specs.Images.{Image, IsImage, sector}
 use Rattle.d64_image.specs.Memory.{bytes_of, sectors_in}
 use Rattle.d64_image.specs.declared.place.Place.{Place}
 use Rattle.disk_layout.specs.Blank.{IsBlank}
@@ -23,6 +23,8 @@ pub record IsFreshDisk (img : Image) (tills : ℕ) : Type 0 where
   pub zeros : Image
   pub zero : IsZero zeros
   pub blank : IsBlank zeros img (codes "STOCK LEDGER") (codes "01") tills
+  -- 683 sectors of 256 bytes
+  pub whole : IsImage img
 
 -- the bytes of such a disk, sector after sector
 pub record AreFreshBytes (tills : ℕ) (bytes : List ℕ) : Type 0 where

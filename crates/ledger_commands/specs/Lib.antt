@@ -1,4 +1,5 @@
 pub mod Faults
+pub mod FreshShops
 pub mod Images
 pub mod Placed
 pub mod Plays

@@ -1,0 +1,55 @@
+-- A fresh disk is a shop, on which a script has the replies of the dry run.
+use Rattle.std.proofs.Common.{ℕ, ◌≡◌, ◌≢◌, ◌+◌, List, [], ◌∷◌, Bool, true, false, None, Option, Some, ap, arith, length, lit≤, refl, subst, sym, ◌∙◌}
+use Rattle.std.specs.Prelude.{◌↔◌, if◌then◌else◌, option_map, slice_index}
+use Rattle.std.proofs.lemmas.Bool.{eq-eqb, ne_eqb, true≢false}
+use Rattle.std.proofs.lemmas.Option.{none-some}
+use Rattle.d64_image.proofs.Chunks.{length-bytes_of, sectors_in-bytes_of}
+use Rattle.d64_image.specs.Images.{Image}
+use Rattle.d64_image.specs.Memory.{sectors_in}
+use Rattle.host_session.proofs.BlankShops.{blank-shop}
+use Rattle.host_session.proofs.Shops.{IsShop-one}
+use Rattle.host_session.specs.Events.{HasNoReset}
+use Rattle.host_session.specs.Shop.{IsSettled, start_of}
+use Rattle.request_cards.specs.Ledgers.{replies, report}
+use Rattle.script_lines.specs.Lines.{first_reset, is_reset, lines}
+use Rattle.ledger_commands.specs.FreshShops.{DryBeginsFresh, DryTellsReplies, FreshIsAShop, SamePlainScripts, fresh_shop}
+
+pub fresh-shop : FreshIsAShop
+fresh-shop tills bytes some few are =
+    let fresh = are.fresh in
+    let settled = blank-shop fresh.zeros are.disk _ _ tills some few fresh.whole fresh.blank in
+    let same : sectors_in bytes ≡ are.disk = ap sectors_in are.bytes_of ∙ sectors_in-bytes_of are.disk fresh.whole in
+    record {
+      size = ap length are.bytes_of ∙ length-bytes_of are.disk fresh.whole;
+      settled = let Settled : Image → Type 0 = λ img. IsSettled img (fresh_shop tills) in subst Settled (sym same) settled;
+    }
+
+pub dry-begins : DryBeginsFresh
+dry-begins bytes s are shop =
+    let fresh = fresh-shop 64 bytes (lit≤ tt) (lit≤ tt) are in
+    ap start_of (IsShop-one (sectors_in bytes) s (fresh_shop 64) shop fresh.settled.shop)
+
+pub dry-tells : DryTellsReplies
+dry-tells bytes script s are shop = ap (λ start. report (replies start [] (lines script))) (sym (dry-begins bytes s are shop))
+
+-- a line that begins with @ is a reset
+reset-is : (line : List ℕ) → (is_reset line ≡ false) ↔ (slice_index line 0 ≢ 64)
+reset-is [] = (λ _ e. absurd (let z : 0 ≡ 64 = e in omega (arith, z)), λ _. refl)
+reset-is (b ∷ bs) = (λ other e. absurd (true≢false (sym (eq-eqb b 64 e) ∙ other)), λ ne. ne_eqb b 64 ne)
+
+none-reset : (ls : List (List ℕ)) → (first_reset ls ≡ None) ↔ HasNoReset ls
+none-reset [] = (λ _. tt, λ _. refl)
+none-reset (l ∷ ls) =
+    let (here, back) = reset-is l in
+    let (all, none) = none-reset ls in
+    pick (is_reset l) (first_reset ls) here back all none
+  where
+    pick : (t : Bool) (o : Option ℕ) → (t ≡ false → slice_index l 0 ≢ 64) → (slice_index l 0 ≢ 64 → t ≡ false)
+        → (o ≡ None → HasNoReset ls) → (HasNoReset ls → o ≡ None)
+        → ((if t then Some 1 else option_map (λ n. n + 1) o) ≡ None) ↔ HasNoReset (l ∷ ls)
+    pick true o here back all none = (λ e. absurd (none-some 1 (sym e)), λ h. absurd (true≢false (back h.0)))
+    pick false None here back all none = (λ e. (here refl, all refl), λ h. refl)
+    pick false (Some n) here back all none = (λ e. absurd (none-some (n + 1) (sym e)), λ h. absurd (none-some n (sym (none h.1))))
+
+pub same-scripts : SamePlainScripts
+same-scripts script = none-reset (lines script)
