@@ -10,6 +10,7 @@ use Rattle.request_cards.specs.CardReading.{request_card_of, stock_card_of}
 use Rattle.request_cards.specs.CardTexts.{fixed}
 use Rattle.request_cards.specs.Ledgers.{Entry}
 use Rattle.request_cards.specs.Reading.{kind_of}
+use Rattle.host_session.specs.Blank.{blank_shop}
 use Rattle.host_session.specs.Opening.{LacksRecord}
 use Rattle.host_session.specs.Shop.{IsStockRecord, any_old, cards_in, intents, quantities, results, state_of}
 
@@ -98,3 +99,7 @@ record_65_is_no_till = refl
 pub intent_without_a_record : LacksRecord (empty_record 18 ∷ []) (request_card_of (move_bytes (codes "I")))
 unfolding request_card_of kind_of fixed
 intent_without_a_record = (15, (1, omega arith, refl), refl)
+
+-- an odd number of tills gives one more; beside the records of these STOCK has room up to item 9242
+pub blank_shop_of_three_tills : ((blank_shop (codes "SHOP") (codes "01") 3).tills ≡ 4) × ((blank_shop (codes "SHOP") (codes "01") 3).top ≡ 9242)
+blank_shop_of_three_tills = (refl, refl)
