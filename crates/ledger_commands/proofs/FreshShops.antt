@@ -4,33 +4,37 @@ use Rattle.std.specs.Prelude.{◌↔◌, if◌then◌else◌, option_map, slice_
 use Rattle.std.proofs.lemmas.Bool.{eq-eqb, ne_eqb, true≢false}
 use Rattle.std.proofs.lemmas.Option.{none-some}
 use Rattle.d64_image.proofs.Chunks.{length-bytes_of, sectors_in-bytes_of}
+use Rattle.d64_image.specs.History.{History}
 use Rattle.d64_image.specs.Images.{Image}
 use Rattle.d64_image.specs.Memory.{sectors_in}
 use Rattle.host_session.proofs.BlankShops.{blank-shop}
+use Rattle.host_session.proofs.PlainRuns.{plain_played}
 use Rattle.host_session.proofs.Shops.{IsShop-one}
 use Rattle.host_session.specs.Events.{HasNoReset}
-use Rattle.host_session.specs.Shop.{IsSettled, start_of}
+use Rattle.host_session.specs.Shop.{start_of}
 use Rattle.request_cards.specs.Ledgers.{replies, report}
 use Rattle.script_lines.specs.Lines.{first_reset, is_reset, lines}
-use Rattle.ledger_commands.specs.FreshShops.{DryBeginsFresh, DryTellsReplies, FreshIsAShop, SamePlainScripts, fresh_shop}
+use Rattle.ledger_commands.specs.FreshShops.{DryBeginsFresh, DryTellsReplies, FreshBytesAreADisk, FreshIsAShop, RunTellsDry, SamePlainScripts, fresh_shop}
+use Rattle.ledger_commands.specs.Images.{IsFreshDisk}
 
-pub fresh-shop : FreshIsAShop
-fresh-shop tills bytes some few are =
-    let fresh = are.fresh in
-    let settled = blank-shop fresh.zeros are.disk _ _ tills some few fresh.whole fresh.blank in
-    let same : sectors_in bytes ≡ are.disk = ap sectors_in are.bytes_of ∙ sectors_in-bytes_of are.disk fresh.whole in
-    record {
-      size = ap length are.bytes_of ∙ length-bytes_of are.disk fresh.whole;
-      settled = let Settled : Image → Type 0 = λ img. IsSettled img (fresh_shop tills) in subst Settled (sym same) settled;
+pub bytes-disk : FreshBytesAreADisk
+bytes-disk tills bytes are =
+    let same : sectors_in bytes ≡ are.disk = ap sectors_in are.bytes_of ∙ sectors_in-bytes_of are.disk are.fresh.whole in
+    let Fresh : Image → Type 0 = λ img. IsFreshDisk img tills in record {
+      size = ap length are.bytes_of ∙ length-bytes_of are.disk are.fresh.whole;
+      disk = subst Fresh (sym same) are.fresh;
     }
 
+pub fresh-shop : FreshIsAShop
+fresh-shop tills img some few fresh = blank-shop fresh.zeros img _ _ tills some few fresh.whole fresh.blank
+
 pub dry-begins : DryBeginsFresh
-dry-begins bytes s are shop =
-    let fresh = fresh-shop 64 bytes (lit≤ tt) (lit≤ tt) are in
-    ap start_of (IsShop-one (sectors_in bytes) s (fresh_shop 64) shop fresh.settled.shop)
+dry-begins img s fresh shop =
+    ap start_of (IsShop-one img s (fresh_shop 64) shop (fresh-shop 64 img (lit≤ tt) (lit≤ tt) fresh).shop)
 
 pub dry-tells : DryTellsReplies
-dry-tells bytes script s are shop = ap (λ start. report (replies start [] (lines script))) (sym (dry-begins bytes s are shop))
+dry-tells img s script fresh shop =
+    ap (λ start. report (replies start [] (lines script))) (sym (dry-begins img s fresh shop))
 
 -- a line that begins with @ is a reset
 reset-is : (line : List ℕ) → (is_reset line ≡ false) ↔ (slice_index line 0 ≢ 64)
@@ -53,3 +57,8 @@ none-reset (l ∷ ls) =
 
 pub same-scripts : SamePlainScripts
 same-scripts script = none-reset (lines script)
+
+pub run-tells : {D : Type 0} (h : History D) → RunTellsDry h
+run-tells h old new s script told fresh shop none played =
+    let told_is = (plain_played h s (lines script) old new told ((same-scripts script).0 none) played).0 in
+    ap report told_is ∙ sym (dry-tells (h.image old) s script fresh shop)

@@ -1,6 +1,6 @@
--- The law is a lemma.
-use Rattle.ledger_commands.proofs.FreshShops.{fresh-shop}
+-- The laws are lemmas.
+use Rattle.ledger_commands.proofs.FreshShops.{bytes-disk, fresh-shop}
 use Rattle.ledger_commands.proofs.laws.fresh_is_a_shop.Goals as goal
 
 pub returns : goal.returns
-returns c = fresh-shop
+returns c = record { bytes = bytes-disk; shop = fresh-shop }
