@@ -121,7 +121,8 @@ top-there img name r t l n f is first =
 
 -- a clean blank image, with the map's sector and the top of one
 module _ (img : Image) (name id : List ℕ) (tills : ℕ) (few : tills ≤ 64) (blocks : List Place)
-    (map : IsBlankMap (sector img map_place) name id (request_blocks tills)) (b : IsCleanBlank img (request_blocks tills) blocks)
+    (map : IsBlankMap (sector img map_place) name id (request_blocks tills))
+    (b : IsCleanBlank img (request_blocks tills) blocks)
     (t : IsTopOf img (codes "STOCK") (blank_top tills)) where
   abbrev layout : Layout
   layout = blank_layout (request_blocks tills) blocks

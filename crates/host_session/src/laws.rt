@@ -36,8 +36,8 @@ pub fn both_ends()
 {}
 
 /// The blank image for 1 to 64 tills is a shop's, whatever the disk held before, and at rest: no cards, nothing kept of
-/// any till, so many tills (one more where their number is odd), room for new cards up to item `blank_top tills`, no other
-/// file, and the name and the id that it was given.
+/// any till, so many tills (one more where their number is odd), room for new cards up to item `blank_top tills`, no
+/// other file, and the name and the id that it was given.
 pub fn blank_is_a_shop()
     ensures { BlankIsAShop }
 {}

@@ -3,6 +3,7 @@ use Rattle.std.specs.Prelude.{◌≡◌, ◌↔◌, ◌≤◌, ℕ, List, [], No
 use Rattle.d64_image.specs.History.{History}
 use Rattle.d64_image.specs.Images.{Image}
 use Rattle.d64_image.specs.Memory.{sectors_in}
+use Rattle.disk_layout.specs.BlankLayout.{blank_top}
 use Rattle.host_session.specs.Blank.{blank_shop}
 use Rattle.host_session.specs.Events.{HasNoReset, messages_of}
 use Rattle.host_session.specs.Runs.{IsPlayedWhole}
@@ -11,6 +12,7 @@ use Rattle.request_cards.specs.Ledgers.{replies, report}
 use Rattle.request_cards.specs.declared.reply.Reply.{Reply}
 use Rattle.script_lines.specs.Lines.{first_reset, lines}
 use Rattle.ledger_commands.specs.Images.{AreFreshBytes, IsFreshDisk}
+use Rattle.ledger_commands.specs.Shows.{shown_shop, top_line}
 use Rattle.ledger_commands.specs.Tables.{dry_report, dry_start}
 
 -- the blank image's shop, by the name and the id of our disks
@@ -28,7 +30,13 @@ FreshBytesAreADisk = (tills : ℕ) (bytes : List ℕ) → AreFreshBytes tills by
 
 -- each fresh disk is the fresh shop's, at rest
 abbrev pub FreshIsAShop : Type 0
-FreshIsAShop = (tills : ℕ) (img : Image) → 1 ≤ tills → tills ≤ 64 → IsFreshDisk img tills → IsSettled img (fresh_shop tills)
+FreshIsAShop = (tills : ℕ) (img : Image) → 1 ≤ tills → tills ≤ 64 → IsFreshDisk img tills
+    → IsSettled img (fresh_shop tills)
+
+-- so what is shown of it is its top alone: no card, and no request of any till
+abbrev pub FreshShowsItsTop : Type 0
+FreshShowsItsTop = (tills : ℕ) (img : Image) (s : Shop) → 1 ≤ tills → tills ≤ 64 → IsFreshDisk img tills
+    → IsShop img s → shown_shop s.top s.state ≡ top_line (blank_top tills)
 
 -- whatever shop a fresh disk with 64 tills is, a list of requests begins there where the dry run's does
 abbrev pub DryBeginsFresh : Type 0
@@ -46,5 +54,5 @@ SamePlainScripts = (script : List ℕ) → (first_reset (lines script) ≡ None)
 -- what was told where such a script was played whole on a fresh disk with 64 tills is what the dry run tells of it
 abbrev pub RunTellsDry : {D : Type 0} → History D → Type 0
 RunTellsDry {D} h = (old new : D) (s : Shop) (script : List ℕ) (told : List Reply) → IsFreshDisk (h.image old) 64
-    → IsShop (h.image old) s → first_reset (lines script) ≡ None → IsPlayedWhole h s (messages_of (lines script)) old new told
-    → report told ≡ dry_report script
+    → IsShop (h.image old) s → first_reset (lines script) ≡ None
+    → IsPlayedWhole h s (messages_of (lines script)) old new told → report told ≡ dry_report script
