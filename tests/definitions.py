@@ -16,6 +16,8 @@ from pathlib import Path
 TOP = Path(__file__).resolve().parent.parent
 CRATES = sorted(it.parent.name for it in TOP.glob("crates/*/src"))
 WORD = r"[A-Za-z_][\w'-]*"
+# what a heading needn't say, since the page says it of all that names no source
+OWN = r" *(All of it is our own|Our own|All of it is ours)\.$| \(our own\)"
 HEAD = """# Definitions
 
 What the contracts say rests on these definitions; each is read against its source. `tests/definitions.py` makes this page from
@@ -193,7 +195,7 @@ def page():
         lines += [f"\n## `{crate}`"] if modules else []
         for module in modules:
             heading, found = comments(crate, module)
-            lines.append(f"\n**`{module}`** {heading}\n")
+            lines.append(f"\n**`{module}`** {re.sub(OWN, '', heading)}\n")
             others = []
             for name in [it for it in found if (crate, module, it) in below]:
                 text, source = sentence(side.get((crate, name, "="), found[name][0]))
