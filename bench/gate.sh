@@ -2,7 +2,7 @@
 # What each crate costs in the gate, in minutes of processor time: bench/gate.sh [CRATE ..], without a word all of them
 # For each crate, on a copy of the repository: proved from nothing with its tests, and its wrong bodies in must-fail/ tried.
 # A crate below that isn't named is taken as it was built (out/rlib), or else proved first, in the time of who needs it.
-# The rows are those of docs/GATE.md; what the machine does meanwhile is in them, so run nothing beside it.
+# docs/GATE.md has what a whole run took; what the machine does meanwhile is in these rows, so run nothing beside it.
 source "$(dirname "$0")/common.sh"
 [ $# -gt 0 ] || set -- $(sed -n 's/^\([a-z]\w*\).*:.*/\1/p' "$top/crates.txt")
 tar -C "$top" -cf - --exclude='crates/*/out/incremental' crates crates.txt HANDLES | tar -C "$work" -xf -

@@ -1,10 +1,13 @@
 #!/usr/bin/env python3
-"""Compares docs/DEFINITIONS.md with the contracts, and prints a line for each difference:
+"""Makes docs/DEFINITIONS.md from the comments over the definitions in crates/*/specs/.
 
-`missing`: a word of a specs/ folder that a contract of a public function, trait or type cites, and that no table has.
-`missing below`: a word that no table has, and on which such a word rests.
-`stale`: a word in the first column of a table that the specs/ of its crate don't define.
-The status is 1 where there is a difference."""
+It has a line for each definition that a contract of a public function, trait or type cites, and for each on which such a one
+rests and that is a type or a record, or has an example or a source of its own: its name, the comment over it, its source where
+the heading of its file doesn't name it, and the example that decides it. All others on which they rest are named.
+Examples, further sources, and sentences for definitions without a comment of their own stand in docs/definitions.txt.
+
+Without words the page is written. With `--check` nothing is written, and the status is 1 where the page isn't up to date.
+In both cases the status is 1 where the side table names what isn't on the page, or a definition has no sentence."""
 
 import re
 import sys
@@ -13,6 +16,18 @@ from pathlib import Path
 TOP = Path(__file__).resolve().parent.parent
 CRATES = sorted(it.parent.name for it in TOP.glob("crates/*/src"))
 WORD = r"[A-Za-z_][\w'-]*"
+# what a heading needn't say, since the page says it of all that names no source
+OWN = r" *(All of it is our own|Our own|All of it is ours)\.$| \(our own\)"
+HEAD = """# Definitions
+
+What the contracts say rests on these definitions; each is read against its source. `tests/definitions.py` makes this page from
+the comments in `specs/` and from `definitions.txt`, and with `--check` tells whether it is up to date. A line stands here for
+each definition that a contract of a public call or type cites, and for each on which one of these rests, if it is a type or a
+record of facts, or has an example or a source of its own. In brackets stands the example that decides it: a theorem of the
+crate's `proofs/Examples.antt` (or another file of examples there) that the checker computes, or a row of a test. What else is
+rested on is named as *beneath*; the file, `crates/CRATE/specs/NAME.antt`, has a comment over each. The heading of a file names
+its source: "the Guide" is the 1541 User's Guide, and what names no source is this project's own. In `disk_layout` *the disk
+with STOCK* is a disk with one relative file of one block."""
 
 
 def without_comments(text, mark):
@@ -95,19 +110,53 @@ def definitions(crate):
     return found
 
 
-def listed():
-    """The words in the first columns of the tables of docs/DEFINITIONS.md, by crate."""
-    found, crate = {}, None
-    for line in (TOP / "docs" / "DEFINITIONS.md").read_text().split("\n"):
-        head = re.match(r"## `(\w+)`", line)
-        crate = head[1] if head else crate
-        row = re.match(r"\| ([^|]*`[^|]*) \|", line)
-        if row and crate:
-            found.setdefault(crate, set()).update(re.findall(r"`([^`]*)`", re.sub(r"\(`[^)]*\)", "", row[1])))
-    return found
+def comment_over(lines, at):
+    """The comment that stands right over a line."""
+    start = at
+    while start > 0 and lines[start - 1].lstrip().startswith("--"):
+        start -= 1
+    return " ".join(it.strip()[2:].strip() for it in lines[start:at])
 
 
-def main():
+def comments(crate, module):
+    """The heading of a file of specs/, and in their order its definitions: the comment over each, and whether it is a type of its own."""
+    lines = (TOP / "crates" / crate / "specs" / f"{module.replace('.', '/')}.antt").read_text().split("\n")
+    end = next(at for at, it in enumerate(lines) if not it.startswith("--"))
+    found = {}
+    for at, line in enumerate(lines):
+        head = re.match(rf" *(?:(?:abbrev|unfoldable|ext) )*pub (record |data )?({WORD})", line)
+        if head and head[2] not in found and (head[1] or re.search(r"\b(abbrev|unfoldable)\b", line[: head.start(2)])):
+            found[head[2]] = comment_over(lines, at), bool(head[1])
+    return comment_over(lines, end), found
+
+
+def side_table():
+    """The lines of docs/definitions.txt: for a crate and a name its sentence `=`, its source `<` and its example `:`."""
+    found, faults, crate = {}, [], None
+    for line in (TOP / "docs" / "definitions.txt").read_text().split("\n"):
+        head = re.match(r"\[(\w+)\]$", line)
+        row = re.match(rf"({WORD}) ?([=<:]) (.+)", line)
+        if head:
+            crate = head[1]
+        elif row and (crate, row[1], row[2]) not in found:
+            found[crate, row[1], row[2]] = row[3]
+        elif line and not line.startswith("#"):
+            faults.append(f"not read, or twice: {crate}/{line}")
+    return found, faults
+
+
+def unknown_examples(side):
+    """What is named as an example, and is no word of a proof or a test, and no name of a file or crate."""
+    known = set(CRATES)
+    for file in TOP.glob("crates/*/*/*"):
+        if file.suffix in (".antt", ".rt") and file.parent.name in ("proofs", "src"):
+            known |= {file.stem, f"proofs/{file.stem}"} | set(re.findall(WORD, file.read_text()))
+    named = [(it, word) for it, text in side.items() if it[2] == ":" for word in re.findall(r"`([a-z][\w'/-]*)`", text)]
+    return [f"no such example: {it[0]}/{it[1]}: {word}" for it, word in named if word not in known]
+
+
+def rested_on():
+    """The definitions that contracts cite, and those with all on which they rest."""
     defined = {}
     for crate in CRATES:
         defined.update(definitions(crate))
@@ -124,15 +173,58 @@ def main():
             if it in defined and it not in below:
                 below.add(it)
                 left.append(it)
-    tables = listed()
-    is_listed = lambda it: it[2] in tables.get(it[0], ())
-    lines = [f"missing        {'/'.join(it)}" for it in sorted(wanted) if not is_listed(it)]
-    lines += [f"missing below  {'/'.join(it)}" for it in sorted(below - wanted) if not is_listed(it)]
-    for crate in sorted(tables):
-        there = {name for of, _, name in defined if of == crate}
-        lines += [f"stale          {crate}/{name}" for name in sorted(tables[crate] - there)]
-    print("\n".join(lines) or "docs/DEFINITIONS.md has each definition on which a public contract rests")
-    return 1 if lines else 0
+    return wanted, below
+
+
+def sentence(text):
+    """A comment without its last stop and without a source in brackets; and that source."""
+    source = re.search(r" *\[([^\]]*)\]$", text)
+    kept = text[: source.start()] if source else text
+    kept = kept.rstrip(".")
+    return kept, source[1] if source and source[1] != "own" else ""
+
+
+def page():
+    """The page, and what is wrong with its sources."""
+    wanted, below = rested_on()
+    side, faults = side_table()
+    used, lines = set(), [HEAD]
+    ordered = [it.split(":")[0] for it in (TOP / "crates.txt").read_text().split("\n") if it and not it.startswith("#")]
+    for crate in ordered:
+        modules = sorted({module for of, module, _ in below if of == crate})
+        lines += [f"\n## `{crate}`"] if modules else []
+        for module in modules:
+            heading, found = comments(crate, module)
+            lines.append(f"\n**`{module}`** {re.sub(OWN, '', heading)}\n")
+            others = []
+            for name in [it for it in found if (crate, module, it) in below]:
+                text, source = sentence(side.get((crate, name, "="), found[name][0]))
+                source = side.get((crate, name, "<"), source)
+                example = side.get((crate, name, ":"), "")
+                is_in_side = any((crate, name, mark) in side for mark in "=<:")
+                if not (is_in_side or source or found[name][1] or (crate, module, name) in wanted):
+                    others.append(f"`{name}`")
+                    continue
+                used |= {(crate, name, mark) for mark in "=<:"}
+                if not text:
+                    faults.append(f"no sentence: {crate}/{module}/{name}")
+                shown = [f"source: {source}"] * bool(source) + [example] * bool(example)
+                lines.append(f"- `{name}`: {text}." + f" [{'; '.join(shown)}]" * bool(shown))
+            lines += [f"- *beneath:* {', '.join(others)}"] if others else []
+    faults += unknown_examples(side)
+    faults += [f"not on the page: {crate}/{name}" for crate, name, mark in sorted(set(side) - used)]
+    return "\n".join(lines) + "\n", faults
+
+
+def main():
+    text, faults = page()
+    place = TOP / "docs" / "DEFINITIONS.md"
+    if sys.argv[1:] == ["--check"]:
+        faults += [] if place.read_text() == text else ["docs/DEFINITIONS.md isn't up to date: run tests/definitions.py"]
+    else:
+        place.write_text(text)
+    print("\n".join(faults) or "docs/DEFINITIONS.md has each definition on which a public contract rests")
+    return 1 if faults else 0
 
 
 if __name__ == "__main__":

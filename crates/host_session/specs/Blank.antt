@@ -29,7 +29,7 @@ blank_shop name id tills = record {
   rest = blank_rest name id tills;
 }
 
--- each blank image is that shop's, and at rest, whatever the disk held before
+-- each blank image is the blank shop's, and at rest, whatever the disk held before
 abbrev pub BlankIsAShop : Type 0
 BlankIsAShop = (old new : Image) (name id : List ℕ) (tills : ℕ) → 1 ≤ tills → tills ≤ 64 → IsImage new
     → IsBlank old new name id tills → IsSettled new (blank_shop name id tills)

@@ -24,7 +24,7 @@ pub record IsFreshImage (tills : ℕ) (bytes : List ℕ) : Type 0 where
   pub size : length bytes ≡ 174848
   pub disk : IsFreshDisk (sectors_in bytes) tills
 
--- the bytes of a fresh disk are its image
+-- the bytes of a fresh disk are a whole image, and that is a fresh disk
 abbrev pub FreshBytesAreADisk : Type 0
 FreshBytesAreADisk = (tills : ℕ) (bytes : List ℕ) → AreFreshBytes tills bytes → IsFreshImage tills bytes
 
@@ -33,7 +33,7 @@ abbrev pub FreshIsAShop : Type 0
 FreshIsAShop = (tills : ℕ) (img : Image) → 1 ≤ tills → tills ≤ 64 → IsFreshDisk img tills
     → IsSettled img (fresh_shop tills)
 
--- so what is shown of it is its top alone: no card, and no request of any till
+-- what is shown of a fresh disk is its top alone: no card, and no request of any till
 abbrev pub FreshShowsItsTop : Type 0
 FreshShowsItsTop = (tills : ℕ) (img : Image) (s : Shop) → 1 ≤ tills → tills ≤ 64 → IsFreshDisk img tills
     → IsShop img s → shown_shop s.top s.state ≡ top_line (blank_top tills)
@@ -42,7 +42,8 @@ FreshShowsItsTop = (tills : ℕ) (img : Image) (s : Shop) → 1 ≤ tills → ti
 abbrev pub DryBeginsFresh : Type 0
 DryBeginsFresh = (img : Image) (s : Shop) → IsFreshDisk img 64 → IsShop img s → start_of s ≡ dry_start
 
--- so what the dry run tells of a script are the replies over the lines before each, from that shop on
+-- what the dry run tells of a script are the replies over the lines before each, from the shop of a fresh disk with 64
+-- tills on
 abbrev pub DryTellsReplies : Type 0
 DryTellsReplies = (img : Image) (s : Shop) (script : List ℕ) → IsFreshDisk img 64 → IsShop img s
     → dry_report script ≡ report (replies (start_of s) [] (lines script))
@@ -51,7 +52,8 @@ DryTellsReplies = (img : Image) (s : Shop) (script : List ℕ) → IsFreshDisk i
 abbrev pub SamePlainScripts : Type 0
 SamePlainScripts = (script : List ℕ) → (first_reset (lines script) ≡ None) ↔ HasNoReset (lines script)
 
--- what was told where such a script was played whole on a fresh disk with 64 tills is what the dry run tells of it
+-- what was told where a script without a line that begins with @ was played whole on a fresh disk with 64 tills is what
+-- the dry run tells of it
 abbrev pub RunTellsDry : {D : Type 0} → History D → Type 0
 RunTellsDry {D} h = (old new : D) (s : Shop) (script : List ℕ) (told : List Reply) → IsFreshDisk (h.image old) 64
     → IsShop (h.image old) s → first_reset (lines script) ≡ None

@@ -18,7 +18,7 @@ use Rattle.ledger_commands.specs.declared.faults.RunFault.TheVariants as run
 abbrev pub IsZero : Image → Type 0
 IsZero img = (p : Place) (i : ℕ) → slice_index (sector img p) i ≡ 0
 
--- the disk of an empty shop with so many tills: the blank image over zeros, by the name and the id of our disks
+-- the disk of an empty shop with so many tills: the whole blank image over zeros, by the name and the id of our disks
 pub record IsFreshDisk (img : Image) (tills : ℕ) : Type 0 where
   pub zeros : Image
   pub zero : IsZero zeros

@@ -18,6 +18,15 @@ pub not-done : {T E : Type 0} (r : Result T E) (Q : E → Type 0) → IsErrAnd r
 not-done (Ok x) Q h P = absurd h
 not-done (Err e) Q h P = tt
 
+-- what follows of an answer
+pub if-then : {T E : Type 0} (r : Result T E) (P : T → Type 0) (Q : Type 0) → ((x : T) → P x → Q) → IfOk r P → OnOk r Q
+if-then (Ok x) P Q f h = f x h
+if-then (Err e) P Q f h = tt
+
+pub if-so : {T E : Type 0} (r : Result T E) (P Q : T → Type 0) → ((x : T) → P x → Q x) → IfOk r P → IfOk r Q
+if-so (Ok x) P Q f h = f x h
+if-so (Err e) P Q f h = tt
+
 -- the fault is the one that is passed on
 pub fault-is : {T E : Type 0} (r : Result T E) (Q : E → Type 0) → IsErrAnd r Q → (P : E → Type 0) → ((e : E) → Q e → P e) → IfErr r P
 fault-is (Ok x) Q h P f = absurd h

@@ -15,6 +15,18 @@ pub record ChangesOnly (old : Image) (new_map : Sector) (ps : List Place) (c : I
   pub map : (sector c map_place ≡ sector old map_place) ⊎ (sector c map_place ≡ new_map)
   pub rest : (q : Place) → q ≢ map_place → ¬ (Contains ps q) → sector c q ≡ sector old q
 
+-- two sectors for a file, neither of which is the map's
+pub record AreApart (p q : Place) : Type 0 where
+  pub block : p ≢ map_place
+  pub side : q ≢ map_place
+  pub apart : p ≢ q
+
+-- a third one, for the directory
+pub record IsBeside (r p q : Place) : Type 0 where
+  pub fresh : r ≢ map_place
+  pub fresh_block : r ≢ p
+  pub fresh_side : r ≢ q
+
 -- the map is the new one, and these are the data block and the side sector of a file of one block of empty records
 pub record HasNewSectors (new_map : Sector) (block side : Place) (L : ℕ) (c : Image) : Type 0 where
   pub map : sector c map_place ≡ new_map

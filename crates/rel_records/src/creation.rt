@@ -1,4 +1,6 @@
 //! Creation of a relative file.
+ghost use Rattle.rel_records.specs.File.{IsLength};
+ghost use Rattle.rel_records.specs.Calls.{Chooses, Creates};
 ghost use Rattle.std.specs.Prelude.{◌≡◌, ◌≢◌, ◌≤◌, ◌⊎◌, ◌*◌, ◌+◌, IfErr, IfOk, MatchOption, OnOk, length};
 ghost use Rattle.d64_image.specs.History.{Changes, OnlyReads, WritesNothing};
 ghost use Rattle.d64_image.specs.Images.{Image, sector};
@@ -6,7 +8,7 @@ ghost use Rattle.disk_layout.specs.Clean.{IsClean, IsCleanLayout};
 ghost use Rattle.disk_layout.specs.Directory.{map_place};
 ghost use Rattle.disk_layout.specs.Layout.{File, IsLayout, IsSound, Layout};
 ghost use Rattle.rel_records.specs.Faults.{TellsRelFault};
-ghost use Rattle.rel_records.specs.File.{OfItsFile};
+ghost use Rattle.rel_records.specs.File.{IsLength};
 ghost use Rattle.rel_records.specs.Growth.{full};
 ghost use Rattle.rel_records.specs.Made.{HasNoRoom, IsCreating, IsMade, IsTakenName, StaysOf, creation_writes};
 ghost use Rattle.rel_records.specs.Site.{IsFileAt, IsRoomOf, IsSite, sector_of};
@@ -39,28 +41,7 @@ pub fn create<D: Sectors>(disk: &mut D, name: &[u8], size: u8) -> Result<RelFile
     requires name { length name.now ≤ 16 }
     requires low { 1 ≤ size }
     requires high { size ≤ 254 }
-    ensures ok { (l : Layout) → IsLayout (D.history.image disk.old) l
-        → IfOk result (IsMade (D.history.image disk.old) l name.now size (D.history.image disk.new)) }
-    // each refusal, exactly
-    ensures exists { (l : Layout) → IsLayout (D.history.image disk.old) l
-        → IfErr result (λ fault. fault ≡ Exists → IsTakenName l name.now) }
-    ensures full { (l : Layout) → IsLayout (D.history.image disk.old) l
-        → IfErr result
-        (λ fault. fault ≡ Full → HasNoRoom (D.history.image disk.old) l × ¬ (IsTakenName l name.now)) }
-    ensures fits { (l : Layout) → IsLayout (D.history.image disk.old) l
-        → OnOk result (¬ (HasNoRoom (D.history.image disk.old) l) × ¬ (IsTakenName l name.now)) }
-    ensures told { IfErr result (λ fault. (fault ≡ Exists) ⊎ ((fault ≡ Full) ⊎ (fault ≡ Device))) }
-    // three times the eighteen sectors of the directory, and the map
-    ensures refused { IfErr result (λ fault. fault ≢ Device → OnlyReads D.history disk.old disk.new 55) }
-    // every image held, and the writes
-    ensures moments { (l : Layout) → IsLayout (D.history.image disk.old) l
-        → Changes D.history disk.old disk.new (creation_writes l)
-        (IsCreating (D.history.image disk.old) l name.now size) }
-    // what is kept of any file stays of it
-    ensures others { (v : RelFile)
-        → OfItsFile (D.history.image disk.old) v
-        (λ l n f. StaysOf (D.history.image disk.old) (D.history.image disk.new) f v) }
-    ensures failures { TellsRelFault D.history disk.old disk.new result }
+    ensures { Creates D.history disk.old disk.new name.now size result }
 {
     let site = choose_site(disk, name)?;
     let Ok(()) = write_file(disk, &site, name, size) else {
@@ -73,18 +54,7 @@ pub fn create<D: Sectors>(disk: &mut D, name: &[u8], size: u8) -> Result<RelFile
 fn choose_site<D: Sectors>(disk: &mut D, name: &[u8]) -> Result<Site, RelFault>
     requires clean { IsClean (D.history.image disk.old) }
     requires name { length name.now ≤ 16 }
-    ensures ok { (l : Layout) → IsLayout (D.history.image disk.old) l → IfOk result (IsSite (D.history.image disk.old) l) }
-    ensures exists { (l : Layout) → IsLayout (D.history.image disk.old) l
-        → IfErr result (λ fault. fault ≡ Exists → IsTakenName l name.now) }
-    ensures full { (l : Layout) → IsLayout (D.history.image disk.old) l
-        → IfErr result
-        (λ fault. fault ≡ Full → HasNoRoom (D.history.image disk.old) l × ¬ (IsTakenName l name.now)) }
-    ensures fits { (l : Layout) → IsLayout (D.history.image disk.old) l
-        → OnOk result (¬ (HasNoRoom (D.history.image disk.old) l) × ¬ (IsTakenName l name.now)) }
-    ensures told { IfErr result (λ fault. (fault ≡ Exists) ⊎ ((fault ≡ Full) ⊎ (fault ≡ Device))) }
-    ensures refused { IfErr result (λ fault. fault ≢ Device → OnlyReads D.history disk.old disk.new 55) }
-    ensures quiet { WritesNothing D.history disk.old disk.new }
-    ensures failures { TellsRelFault D.history disk.old disk.new result }
+    ensures { Chooses D.history disk.old disk.new name.now result (IsSite (D.history.image disk.old)) }
 {
     let mut used = ArrayVec::new();
     list_slots(disk, &mut used)?;
@@ -170,8 +140,7 @@ fn take_site(mut map: Bam, room: Room) -> Option<Site>
 
 /// The new file, as it stands at its site.
 fn file_at(site: &Site, size: u8) -> RelFile
-    requires low { 1 ≤ size }
-    requires high { size ≤ 254 }
+    requires { IsLength size }
     ensures { IsFileAt size site.now result }
 {
     let mut sides = ArrayVec::new();

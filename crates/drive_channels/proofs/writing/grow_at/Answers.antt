@@ -9,18 +9,18 @@ use Rattle.rel_records.specs.File.{entry_of}
 
 pub returns-in-Ok-clause-row : goal.returns-in-Ok-clause-row
 returns-in-Ok-clause-row g c = λ s b. grown-row (g.D.Sectors.history.image c.args.disk.now) _ c.args.found.now (record { name = c.args.found.now.name; file = c.grow_to.new.file }) c.args.spot s b c.requires.found c.in-Ok.ensures.entry
-    (λ l f of. ((λ bad. not-err _ _ ((c.in-Ok.ensures.too_large l _ f of).1 bad)), c.in-Ok.ensures.fits l _ f of, leaves-has _ _ _ _ _ _ (c.in-Ok.ensures.ok l _ f of)))
+    (λ l f of. ((λ bad. not-err _ _ (((c.in-Ok.ensures.file l _ f of).too_large).1 bad)), (c.in-Ok.ensures.file l _ f of).fits, leaves-has _ _ _ _ _ _ ((c.in-Ok.ensures.file l _ f of).ok)))
 
 pub returns-in-Ok-clause-found : goal.returns-in-Ok-clause-found
-returns-in-Ok-clause-found g c = keeps-left _ _ _ _ _ c.requires.found refl c.in-Ok.ensures.entry (c.in-Ok.ensures.ok _ _ _ c.requires.found.of)
+returns-in-Ok-clause-found g c = keeps-left _ _ _ _ _ c.requires.found refl c.in-Ok.ensures.entry ((c.in-Ok.ensures.file _ _ _ c.requires.found.of).ok)
 
 pub returns-in-Ok-clause-writes : goal.returns-in-Ok-clause-writes
 returns-in-Ok-clause-writes g c = λ l f rel. let of = at-file _ _ l f c.requires.found rel in
-    grown-at g.D.Sectors.history _ _ _ l f _ (c.in-Ok.ensures.moments l _ f of) (λ _ _. tt)
+    grown-at g.D.Sectors.history _ _ _ l f _ ((c.in-Ok.ensures.file l _ f of).moments) (λ _ _. tt)
 
 pub returns-in-Device-clause-writes : goal.returns-in-Device-clause-writes
 returns-in-Device-clause-writes g c = λ l f rel. let of = at-file _ _ l f c.requires.found rel in
-    grown-at g.D.Sectors.history _ _ _ l f _ (c.in-Err.ensures.moments l _ f of)
+    grown-at g.D.Sectors.history _ _ _ l f _ ((c.in-Err.ensures.file l _ f of).moments)
     (λ le _. absurd (not-ok (c.in-Err.ensures.quiet (subst (λ (k : ℕ). c.args.spot.record_number ≤ k) (sym (had-is f c.args.found.now.file of.shows)) le)).0))
 
 pub returns-in_default : goal.returns-in_default
@@ -32,13 +32,13 @@ returns-in_default g c =
     record {
       row = λ s b. refused-row (S.image c.args.disk.now) _ c.args.found.now (record { name = c.args.found.now.name; file = c.grow_to.new.file }) c.args.spot s b c.requires.found entry [] left.1.image
           (λ l f of. elim c.in-Err.ensures.told [
-            | inl x ↦ inl ((c.in-Err.ensures.too_large l _ f of).0 (ap Err x))
-            | inr (inl x) ↦ inr (c.in-Err.ensures.full l _ f of x)
+            | inl x ↦ inl (((c.in-Err.ensures.file l _ f of).too_large).0 (ap Err x))
+            | inr (inl x) ↦ inr ((c.in-Err.ensures.file l _ f of).full x)
             | inr (inr x) ↦ absurd (c.in_default.not-Device x)
           ]);
       found = keeps-same _ _ _ _ (sym left.1.image) (sym same) c.requires.clean c.requires.found;
       spot = subst (λ (e : Found). IsSpot e c.args.spot) (sym same) c.requires.spot;
-      writes = λ l f rel. let of = at-file _ _ l f c.requires.found rel in grown-at S _ _ _ l f _ (c.in-Err.ensures.moments l _ f of) (λ _ _. tt);
+      writes = λ l f rel. let of = at-file _ _ l f c.requires.found rel in grown-at S _ _ _ l f _ ((c.in-Err.ensures.file l _ f of).moments) (λ _ _. tt);
       refused = λ _. left.1;
       failures = calm (Unit {0}) S _ _ _ c.in_default.not-Device c.in-Err.ensures.failures;
     }

@@ -33,60 +33,60 @@ prepare-requires-clause-once g c =
     let few : length f.blocks < 720 = omega (arith, c.requires.few, ap length at.blocks) in
     sides-once (S.image c.args.disk.now) l n f c.args.parts.now c.lay_out-fresh.new.parts _ _ (S.whole c.args.disk.now) at few c.lay_out-fresh.ensures.laid_out
 
-pub returns-in_err-prepare-clause-moments : goal.returns-in_err-prepare-clause-moments
-returns-in_err-prepare-clause-moments g c l n f at up =
+pub returns-in_err-prepare-clause-file : goal.returns-in_err-prepare-clause-file
+returns-in_err-prepare-clause-file g c l n f at up =
     let few : length f.blocks < 720 = omega (arith, c.requires.few, ap length at.blocks) in
-    prepared-moments g.D.Sectors.history c.args.disk.now l n f c.args.parts.now c.lay_out-fresh.new.parts _ _ _ at few c.lay_out-fresh.ensures.laid_out c.lay_out-fresh.ensures.sector up (ap (λ k. nat_eq (k % 120) 0) c.len-count.ensures.value) c.prepare.new.disk c.in_err-prepare.ensures.moments
+    record {
+      ok = not-done c.from_residual.result _ c.from_residual.ensures.1 _;
+      moments = prepared-moments g.D.Sectors.history c.args.disk.now l n f c.args.parts.now c.lay_out-fresh.new.parts _ _ _ at few c.lay_out-fresh.ensures.laid_out c.lay_out-fresh.ensures.sector up (ap (λ k. nat_eq (k % 120) 0) c.len-count.ensures.value) c.prepare.new.disk c.in_err-prepare.ensures.moments;
+    }
 
-pub returns-in_err-write-clause-moments : goal.returns-in_err-write-clause-moments
-returns-in_err-write-clause-moments g c l n f at up =
+pub returns-in_err-write-clause-file : goal.returns-in_err-write-clause-file
+returns-in_err-write-clause-file g c l n f at up =
     let S = g.D.Sectors.history in
     let few : length f.blocks < 720 = omega (arith, c.requires.few, ap length at.blocks) in
     let last = c.last_place-old.ensures at.front at.last_place (at.blocks ∙ at.last_is) in
-    linking-moments S c.args.disk.now l n f c.args.parts.now c.lay_out-fresh.new.parts _ _ _ at few c.lay_out-fresh.ensures.laid_out c.lay_out-fresh.ensures.sector up (ap (λ k. nat_eq (k % 120) 0) c.len-count.ensures.value)
-    c.prepare.new.disk c.write.new.self c.last_place-old.result last c.in_ok-prepare.ensures.moments c.in_ok-prepare.ensures.ok c.write.ensures.held (counted_once S _ _ c.write.result c.write.ensures.counted c.write.ensures.uncounted)
+    record {
+      ok = not-done c.from_residual-in_err-write.result _ c.from_residual-in_err-write.ensures.1 _;
+      moments =
+          linking-moments S c.args.disk.now l n f c.args.parts.now c.lay_out-fresh.new.parts _ _ _ at few c.lay_out-fresh.ensures.laid_out c.lay_out-fresh.ensures.sector up (ap (λ k. nat_eq (k % 120) 0) c.len-count.ensures.value)
+          c.prepare.new.disk c.write.new.self c.last_place-old.result last c.in_ok-prepare.ensures.moments c.in_ok-prepare.ensures.ok c.write.ensures.held (counted_once S _ _ c.write.result c.write.ensures.counted c.write.ensures.uncounted);
+    }
 
-pub returns-in_err-write-2-clause-moments : goal.returns-in_err-write-2-clause-moments
-returns-in_err-write-2-clause-moments g c l n f at up =
+pub returns-in_err-write-2-clause-file : goal.returns-in_err-write-2-clause-file
+returns-in_err-write-2-clause-file g c l n f at up =
     let S = g.D.Sectors.history in
     let few : length f.blocks < 720 = omega (arith, c.requires.few, ap length at.blocks) in
     let last = c.last_place-old.ensures at.front at.last_place (at.blocks ∙ at.last_is) in
-    counting-moments S c.args.disk.now l n f c.args.parts.now c.lay_out-fresh.new.parts _ _ _ at few c.lay_out-fresh.ensures.laid_out c.lay_out-fresh.ensures.sector up (ap (λ k. nat_eq (k % 120) 0) c.len-count.ensures.value)
-    c.prepare.new.disk c.write.new.self c.last_place-old.result last c.in_ok-prepare.ensures.moments c.in_ok-prepare.ensures.ok c.in_ok-write.ensures.held c.in_ok-write.ensures.counted
-    c.write-2.new.self _ (c.lay_out-fresh.ensures.laid_out.places.sector ∙ at.place) c.in_ok-write.ensures.ok c.write-2.ensures.held (counted_once S _ _ c.write-2.result c.write-2.ensures.counted c.write-2.ensures.uncounted)
+    record {
+      ok = not-done c.from_residual-in_err-write-2.result _ c.from_residual-in_err-write-2.ensures.1 _;
+      moments =
+          counting-moments S c.args.disk.now l n f c.args.parts.now c.lay_out-fresh.new.parts _ _ _ at few c.lay_out-fresh.ensures.laid_out c.lay_out-fresh.ensures.sector up (ap (λ k. nat_eq (k % 120) 0) c.len-count.ensures.value)
+          c.prepare.new.disk c.write.new.self c.last_place-old.result last c.in_ok-prepare.ensures.moments c.in_ok-prepare.ensures.ok c.in_ok-write.ensures.held c.in_ok-write.ensures.counted
+          c.write-2.new.self _ (c.lay_out-fresh.ensures.laid_out.places.sector ∙ at.place) c.in_ok-write.ensures.ok c.write-2.ensures.held (counted_once S _ _ c.write-2.result c.write-2.ensures.counted c.write-2.ensures.uncounted);
+    }
 
-pub returns-clause-moments : goal.returns-clause-moments
-returns-clause-moments g c l n f at up =
+pub returns-clause-file : goal.returns-clause-file
+returns-clause-file g c l n f at up =
     let S = g.D.Sectors.history in
     let few : length f.blocks < 720 = omega (arith, c.requires.few, ap length at.blocks) in
     let last = c.last_place-old.ensures at.front at.last_place (at.blocks ∙ at.last_is) in
-    counting-moments S c.args.disk.now l n f c.args.parts.now c.lay_out-fresh.new.parts _ _ _ at few c.lay_out-fresh.ensures.laid_out c.lay_out-fresh.ensures.sector up (ap (λ k. nat_eq (k % 120) 0) c.len-count.ensures.value)
-    c.prepare.new.disk c.write.new.self c.last_place-old.result last c.in_ok-prepare.ensures.moments c.in_ok-prepare.ensures.ok c.in_ok-write.ensures.held c.in_ok-write.ensures.counted
-    c.write-2.new.self _ (c.lay_out-fresh.ensures.laid_out.places.sector ∙ at.place) c.in_ok-write.ensures.ok c.in_ok-write-2.ensures.held c.in_ok-write-2.ensures.counted
-
-pub returns-clause-ok : goal.returns-clause-ok
-returns-clause-ok g c l n f at up =
-    let S = g.D.Sectors.history in
-    let few : length f.blocks < 720 = omega (arith, c.requires.few, ap length at.blocks) in
-    let last = c.last_place-old.ensures at.front at.last_place (at.blocks ∙ at.last_is) in
-    added S c.args.disk.now l n f c.args.parts.now c.lay_out-fresh.new.parts _ _ _ at few c.lay_out-fresh.ensures.laid_out c.lay_out-fresh.ensures.sector up (ap (λ k. nat_eq (k % 120) 0) c.len-count.ensures.value)
-    c.prepare.new.disk c.write.new.self c.last_place-old.result last c.in_ok-prepare.ensures.moments c.in_ok-prepare.ensures.ok c.in_ok-write.ensures.held c.in_ok-write.ensures.counted
-    c.write-2.new.self _ (c.lay_out-fresh.ensures.laid_out.places.sector ∙ at.place) c.in_ok-write.ensures.ok _ c.in_ok-write-2.ensures.ok refl refl refl refl refl refl refl refl
-
-pub returns-in_err-prepare-clause-ok : goal.returns-in_err-prepare-clause-ok
-returns-in_err-prepare-clause-ok g c l n f at up = not-done c.from_residual.result _ c.from_residual.ensures.1 _
+    record {
+      ok =
+          added S c.args.disk.now l n f c.args.parts.now c.lay_out-fresh.new.parts _ _ _ at few c.lay_out-fresh.ensures.laid_out c.lay_out-fresh.ensures.sector up (ap (λ k. nat_eq (k % 120) 0) c.len-count.ensures.value)
+          c.prepare.new.disk c.write.new.self c.last_place-old.result last c.in_ok-prepare.ensures.moments c.in_ok-prepare.ensures.ok c.in_ok-write.ensures.held c.in_ok-write.ensures.counted
+          c.write-2.new.self _ (c.lay_out-fresh.ensures.laid_out.places.sector ∙ at.place) c.in_ok-write.ensures.ok _ c.in_ok-write-2.ensures.ok refl refl refl refl refl refl refl refl;
+      moments =
+          counting-moments S c.args.disk.now l n f c.args.parts.now c.lay_out-fresh.new.parts _ _ _ at few c.lay_out-fresh.ensures.laid_out c.lay_out-fresh.ensures.sector up (ap (λ k. nat_eq (k % 120) 0) c.len-count.ensures.value)
+          c.prepare.new.disk c.write.new.self c.last_place-old.result last c.in_ok-prepare.ensures.moments c.in_ok-prepare.ensures.ok c.in_ok-write.ensures.held c.in_ok-write.ensures.counted
+          c.write-2.new.self _ (c.lay_out-fresh.ensures.laid_out.places.sector ∙ at.place) c.in_ok-write.ensures.ok c.in_ok-write-2.ensures.held c.in_ok-write-2.ensures.counted;
+    }
 
 pub returns-in_err-prepare-clause-failures : goal.returns-in_err-prepare-clause-failures
 returns-in_err-prepare-clause-failures g c = tells-failed g.D.Sectors.history _ _ _ refl c.from_residual.result _ c.from_residual.ensures.1 c.in_err-prepare.ensures.failures
 
-pub returns-in_err-write-clause-ok : goal.returns-in_err-write-clause-ok
-returns-in_err-write-clause-ok g c l n f at up = not-done c.from_residual-in_err-write.result _ c.from_residual-in_err-write.ensures.1 _
-
 pub returns-in_err-write-clause-failures : goal.returns-in_err-write-clause-failures
 returns-in_err-write-clause-failures g c = tells-failed g.D.Sectors.history _ _ _ c.in_ok-prepare.ensures.failures c.from_residual-in_err-write.result _ c.from_residual-in_err-write.ensures.1 c.in_err-write.ensures.failures
-
-pub returns-in_err-write-2-clause-ok : goal.returns-in_err-write-2-clause-ok
-returns-in_err-write-2-clause-ok g c l n f at up = not-done c.from_residual-in_err-write-2.result _ c.from_residual-in_err-write-2.ensures.1 _
 
 pub returns-in_err-write-2-clause-failures : goal.returns-in_err-write-2-clause-failures
 returns-in_err-write-2-clause-failures g c = tells-failed g.D.Sectors.history _ _ _ (c.in_ok-write.ensures.failures ∙ c.in_ok-prepare.ensures.failures) c.from_residual-in_err-write-2.result _ c.from_residual-in_err-write-2.ensures.1 c.in_err-write-2.ensures.failures

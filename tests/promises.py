@@ -1,0 +1,82 @@
+#!/usr/bin/env python3
+"""Sees that docs/PROMISES.md names no clause that isn't there, and prints a line for each that isn't.
+
+In the last column of a table stand calls in backticks, and in brackets behind them their clauses. A call is a function, a
+type, whose methods it stands for, or a folder or file of tests. A clause is a label of a contract of one of these calls, a
+field of a record that the contract cites, a word of the contract itself, or a record of specs/ on which it rests. The status
+is 1 where something isn't found."""
+
+import re
+import sys
+from pathlib import Path
+
+TOP = Path(__file__).resolve().parent.parent
+WORD = r"[A-Za-z_]\w*"
+
+
+def record_fields():
+    """The fields of each record of specs/."""
+    found = {}
+    for file in TOP.glob("crates/*/specs/**/*.antt"):
+        name = None
+        for line in file.read_text().split("\n"):
+            head = re.match(rf"pub record ({WORD})", line)
+            field = re.match(rf"  pub «?({WORD})»? :", line)
+            name = head[1] if head else name if line.startswith(" ") or not line else None
+            if name and field:
+                found.setdefault(name, set()).add(field[1])
+    return found
+
+
+def contract_words(fields):
+    """For each function and each type the words of its contracts, with the fields of the records that these cite."""
+    found = {}
+    for file in TOP.glob("crates/*/src/*.rt"):
+        owners, name = [], None
+        for line in file.read_text().split("\n"):
+            if re.match(r"\S", line):
+                head = re.match(r"(?:pub )?(?:impl|trait|struct|enum)\b(.*)", line)
+                owners = re.findall(WORD, head[1]) if head else []
+            function = re.match(rf"\s*(?:pub(?:\([a-z]+\))? )?fn ({WORD})", line)
+            name = function[1] if function else name
+            words = set(re.findall(WORD, re.sub(r"//.*", "", line)))
+            words |= {field for word in words for field in fields.get(word, ())}
+            for it in [name] * bool(name) + owners:
+                found.setdefault(it, set()).update(words)
+    return found
+
+
+def rows():
+    """The last cells of the tables of docs/PROMISES.md, by line."""
+    for number, line in enumerate((TOP / "docs" / "PROMISES.md").read_text().split("\n"), 1):
+        if line.startswith("| ") and not line.startswith("|---"):
+            yield number, re.split(r" \| ", line.strip("| "))[-1]
+
+
+def main():
+    fields = record_fields()
+    words = contract_words(fields)
+    everywhere = set(fields).union(*words.values(), words)
+    for file in TOP.glob("crates/*/*/**/*"):
+        everywhere |= {file.stem, file.parts[len(TOP.parts) + 1]}
+        if file.suffix == ".antt" and "specs" in file.parts:
+            everywhere |= set(re.findall(WORD, file.read_text()))
+    lines = []
+    for number, cell in rows():
+        for named in re.findall(r"`([^`/]+)`", cell):
+            unknown = [it for it in re.findall(WORD, named) if it not in everywhere and it != "HANDLES"]
+            lines += [f"PROMISES.md:{number}: no such name: {it}" for it in unknown]
+        for calls, clauses in re.findall(r"((?:`[^`]+`(?:, | |'s ))+)\(([^)]*)\)", cell):
+            names = [re.split(r"::", it)[-1] for it in re.findall(r"`([^`]+)`", calls)]
+            names += [it.split("::")[0] for it in re.findall(r"`([^`]+::[^`]+)`", calls)]
+            known = set(fields).union(*(words.get(it, set()) for it in names), *(fields.get(it, set()) for it in names))
+            for clause in re.findall(rf"`({WORD})`", clauses):
+                known |= fields.get(clause, set()) if clause in known else set()
+            missing = [it for it in re.findall(rf"`({WORD})`", clauses) if it not in known]
+            lines += [f"PROMISES.md:{number}: {', '.join(names)}: no such clause: {it}" for it in missing]
+    print("\n".join(lines) or "docs/PROMISES.md names no clause that isn't there")
+    return 1 if lines else 0
+
+
+if __name__ == "__main__":
+    sys.exit(main())
