@@ -10,6 +10,7 @@ mod faults;
 mod finding;
 mod growing;
 mod handling;
+mod hearing;
 mod intents;
 mod judgment;
 mod laws;
@@ -31,6 +32,7 @@ mod telling;
 
 pub use asking::{Asks, Next, OfEvents, OfScript};
 pub use faults::OpenFault;
+pub use hearing::{Heard, Turn};
 pub use laws::{both_ends, last_two, one_shop, refused_no_shop};
 pub use looping::{RunFault, run};
 pub use playing::{PlayFault, play};
