@@ -2,16 +2,16 @@
 ghost use Rattle.std.specs.Prelude.{◌≡◌, ◌≢◌, ◌<◌, ◌++◌, ◌+◌, IfErr, IfOk, List, length, map, vec_capacity};
 ghost use Rattle.d64_image.specs.History.{Failed, NeverFailed};
 ghost use Rattle.host_session.specs.Events.{message_of};
-ghost use Rattle.host_session.specs.Faults.{play_number};
+ghost use Rattle.host_session.specs.Faults.{play_fault, play_number};
 ghost use Rattle.host_session.specs.Opening.{IsAShop, disk_of};
 ghost use Rattle.host_session.specs.Runs.{HeldBeginnings, IsPlayedWhole, IsRefused, StoppedByDevice};
 ghost use Rattle.host_session.specs.Shop.{IsShop, Shop};
 ghost use Rattle.host_session.specs.declared.faults.OpenFault.{OpenFault};
 ghost use Rattle.request_cards.specs.declared.reply.Reply.{Reply};
 
-use crate::cutting::{cut_event, is_media, whole_message};
+use crate::asking::OfEvents;
 use crate::faults::OpenFault;
-use crate::session::Session;
+use crate::looping::{RunFault, run};
 use d64_image::Sectors;
 use request_cards::Reply;
 use script_lines::Event;
@@ -41,6 +41,16 @@ impl PlayFault {
             PlayFault::NoMemory => 2,
             PlayFault::Device => 3,
         }
+    }
+}
+
+/// What is told of events whose run this fault ended. They are here, and so is the room for their replies.
+fn fault_of(fault: RunFault) -> PlayFault
+    ensures { result ≡ play_fault fault }
+{
+    match fault {
+        RunFault::Open(fault) => PlayFault::Open(fault),
+        RunFault::Device | RunFault::Input | RunFault::Output => PlayFault::Device,
     }
 }
 
@@ -85,28 +95,9 @@ pub fn play<D: Sectors>(
         Ok(()) => {}
         Err(_) => return Err((PlayFault::NoMemory, disk)),
     }
-    let mut session = match Session::open(disk) {
-        Ok(session) => session,
-        Err((fault, disk)) => return Err((PlayFault::Open(fault), disk)),
-    };
-    for event in events {
-        match &event.cut {
-            None => {
-                let reply = whole_message(&mut session, event.message);
-                replies.push_reserved(reply);
-                if is_media(reply) {
-                    return Err((PlayFault::Device, session.close()));
-                }
-            }
-            Some(cut) => {
-                let next = cut_event(session, event.message, cut);
-                replies.push_reserved(Reply::Cut);
-                session = match next {
-                    Ok(next) => next,
-                    Err(disk) => return Err((PlayFault::Device, disk)),
-                };
-            }
-        }
+    let mut asks = OfEvents::new(events);
+    match run(disk, &mut asks, replies) {
+        Ok(disk) => Ok(disk),
+        Err((fault, disk)) => Err((fault_of(fault), disk)),
     }
-    Ok(session.close())
 }

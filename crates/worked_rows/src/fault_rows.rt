@@ -3,7 +3,7 @@ use crate::comparing::{holds, same_at};
 use crate::disks::{INTENT, changed, fresh, loaded};
 use crate::sessions::{handed, open, says, sent_to, stopped, stopped_events, told};
 use d64_image::{Fuse, MemDisk, Meter, OneFault, Sectors};
-use host_session::{Event, PlayFault, ScriptFault, Session, run_script};
+use host_session::{Event, PlayFault, Printer, ScriptFault, Session, run_script};
 use request_cards::{Reply, Word};
 use std::process::Abort;
 
@@ -183,10 +183,10 @@ fn calls_of_a_cut(rt: &(impl Abort + AllocGlobal)) -> (u32, u32, u32) {
 
 /// Plays a script: the fault's number, 0 for none, what is told, and the disk then.
 fn run<D: Sectors>(rt: &(impl Abort + AllocGlobal), disk: D, script: &[u8]) -> (u8, Vec<u8>, D) {
-    let mut out = Vec::new(rt.alloc());
+    let mut out = Printer::new(Vec::new(rt.alloc()));
     match run_script(disk, script, &mut out) {
-        Ok(disk) => (0, out, disk),
-        Err((fault, disk)) => (fault.number(), out, disk),
+        Ok(disk) => (0, out.into_inner(), disk),
+        Err((fault, disk)) => (fault.number(), out.into_inner(), disk),
     }
 }
 

@@ -21,6 +21,8 @@ mod foreign_rows;
 #[cfg(test)]
 mod growth_rows;
 #[cfg(test)]
+mod heard_rows;
+#[cfg(test)]
 mod held_rows;
 #[cfg(test)]
 mod image_rows;

@@ -2,7 +2,7 @@
 use crate::comparing::holds;
 use crate::disks::{clean, fresh, loaded};
 use d64_image::{Fuse, MemDisk, Meter, Mirror, Sectors};
-use host_session::{Event, PlayFault, ScriptFault, Session, play, run_script};
+use host_session::{Event, PlayFault, Printer, ScriptFault, Session, play, run_script};
 use request_cards::Reply;
 use std::io::Cursor;
 use std::process::Abort;
@@ -31,9 +31,9 @@ pub(crate) fn told<D: Sectors>(
     disk: D,
     script: &[u8],
 ) -> (Vec<u8>, D) {
-    let mut out = Vec::new(rt.alloc());
+    let mut out = Printer::new(Vec::new(rt.alloc()));
     match run_script(disk, script, &mut out) {
-        Ok(disk) => (out, disk),
+        Ok(disk) => (out.into_inner(), disk),
         Err((fault, _)) => panic!(rt; "the script isn't played: {fault:?}"),
     }
 }
@@ -44,10 +44,10 @@ pub(crate) fn stopped<D: Sectors>(
     disk: D,
     script: &[u8],
 ) -> (ScriptFault, Vec<u8>, D) {
-    let mut out = Vec::new(rt.alloc());
+    let mut out = Printer::new(Vec::new(rt.alloc()));
     match run_script(disk, script, &mut out) {
         Ok(_) => panic!(rt; "the script is played"),
-        Err((fault, disk)) => (fault, out, disk),
+        Err((fault, disk)) => (fault, out.into_inner(), disk),
     }
 }
 
