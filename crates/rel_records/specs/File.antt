@@ -1,9 +1,14 @@
 -- A relative file as it is kept to find its records, and the file of an image that it shows. Our own.
-use Rattle.std.specs.Prelude.{ℕ, ◌≡◌, IsTrue, Some, length, slice_get}
+use Rattle.std.specs.Prelude.{ℕ, ◌≡◌, ◌≤◌, IsTrue, Some, length, slice_get}
 use Rattle.d64_image.specs.Images.{Image}
 use Rattle.disk_layout.specs.Layout.{File, IsLayout, Layout, is_rel, record_length}
 use Rattle.disk_layout.specs.Records.{record_count}
 use Rattle.rel_records.specs.declared.rel_file.RelFile.{RelFile}
+
+-- a length that records can have, in bytes
+pub record IsLength (L : ℕ) : Type 0 where
+  pub low : 1 ≤ L
+  pub high : L ≤ 254
 
 -- its place among the used entries, from 0, when it was found or made
 abbrev pub entry_of : RelFile → ℕ

@@ -1,9 +1,7 @@
 //! Sectors read and written by calls on relative files: a device's failure is told as `Device`.
-ghost use Rattle.std.specs.Prelude.{◌≡◌, ◌+◌, ◌≤◌, IfErr, OnErr, OnOk};
-ghost use Rattle.d64_image.specs.History.{HeldOnly, OldOr, OnlyReads};
-ghost use Rattle.d64_image.specs.Images.{put, sector};
-ghost use Rattle.rel_records.specs.Faults.{TellsRelFault};
-ghost use Rattle.rel_records.specs.declared.faults.RelFault.TheVariants.{Device};
+ghost use Rattle.std.specs.Prelude.{◌≡◌};
+ghost use Rattle.d64_image.specs.Images.{sector};
+ghost use Rattle.rel_records.specs.Calls.{PutsSector, ReadsAtMost};
 
 use crate::faults::RelFault;
 use d64_image::{Place, Sectors};
@@ -15,10 +13,8 @@ pub(crate) fn read<D: Sectors>(
     place: Place,
     to: &mut [u8; 256],
 ) -> Result<(), RelFault>
-    ensures sector { OnOk result (to.new ≡ sector (D.history.image disk.old) place) }
-    ensures reads { OnlyReads D.history disk.old disk.new 1 }
-    ensures failures { TellsRelFault D.history disk.old disk.new result }
-    ensures told { IfErr result (λ fault. fault ≡ Device) }
+    ensures { ReadsAtMost D.history disk.old disk.new 1 result
+        (λ done. to.new ≡ sector (D.history.image disk.old) place) }
 {
     read_sector(disk, place, to).map_err(|_| RelFault::Device)
 }
@@ -31,13 +27,7 @@ pub(crate) fn write<D: Sectors>(
     place: Place,
     from: &[u8; 256],
 ) -> Result<(), RelFault>
-    ensures ok { OnOk result (D.history.image disk.new ≡ put (D.history.image disk.old) place from.now) }
-    ensures held { HeldOnly D.history disk.old disk.new
-        (OldOr (D.history.image disk.old) (put (D.history.image disk.old) place from.now)) }
-    ensures counted { OnOk result (D.history.writes disk.new ≤ D.history.writes disk.old + 1) }
-    ensures uncounted { OnErr result (D.history.writes disk.new ≡ D.history.writes disk.old) }
-    ensures failures { TellsRelFault D.history disk.old disk.new result }
-    ensures told { IfErr result (λ fault. fault ≡ Device) }
+    ensures { PutsSector D.history disk.old disk.new place from.now result }
 {
     write_sector(disk, place, from).map_err(|_| RelFault::Device)
 }

@@ -1,17 +1,16 @@
 //! Creation of a relative file.
-ghost use Rattle.std.specs.Prelude.{◌≡◌, ◌≢◌, ◌≤◌, ◌⊎◌, ◌*◌, ◌+◌, IfErr, IfOk, MatchOption, OnOk, length};
-ghost use Rattle.d64_image.specs.History.{Changes, OnlyReads, WritesNothing};
+ghost use Rattle.std.specs.Prelude.{◌≡◌, ◌≤◌, IfErr, IfOk, MatchOption, OnOk, length};
+ghost use Rattle.d64_image.specs.History.{OnlyReads, WritesNothing};
 ghost use Rattle.d64_image.specs.Images.{Image, sector};
 ghost use Rattle.disk_layout.specs.Clean.{IsClean, IsCleanLayout};
 ghost use Rattle.disk_layout.specs.Directory.{map_place};
-ghost use Rattle.disk_layout.specs.Layout.{File, IsLayout, IsSound, Layout};
+ghost use Rattle.disk_layout.specs.Layout.{IsLayout, IsSound, Layout};
+ghost use Rattle.rel_records.specs.Calls.{Chooses, Creates};
 ghost use Rattle.rel_records.specs.Faults.{TellsRelFault};
-ghost use Rattle.rel_records.specs.File.{OfItsFile};
-ghost use Rattle.rel_records.specs.Growth.{full};
-ghost use Rattle.rel_records.specs.Made.{HasNoRoom, IsCreating, IsMade, IsTakenName, StaysOf, creation_writes};
-ghost use Rattle.rel_records.specs.Site.{IsFileAt, IsRoomOf, IsSite, sector_of};
-ghost use Rattle.rel_records.specs.declared.faults.RelFault.TheVariants.{Device, Exists, Full};
-ghost use Rattle.rel_records.specs.declared.rel_file.RelFile.{RelFile};
+ghost use Rattle.rel_records.specs.File.{IsLength};
+ghost use Rattle.rel_records.specs.Made.{HasNoRoom};
+ghost use Rattle.rel_records.specs.Site.{IsFileAt, IsRoomOf, IsSite};
+ghost use Rattle.rel_records.specs.declared.faults.RelFault.TheVariants.{Device};
 
 use crate::directory_room::{Room, find_room, has_name};
 use crate::faults::RelFault;
@@ -39,28 +38,7 @@ pub fn create<D: Sectors>(disk: &mut D, name: &[u8], size: u8) -> Result<RelFile
     requires name { length name.now ≤ 16 }
     requires low { 1 ≤ size }
     requires high { size ≤ 254 }
-    ensures ok { (l : Layout) → IsLayout (D.history.image disk.old) l
-        → IfOk result (IsMade (D.history.image disk.old) l name.now size (D.history.image disk.new)) }
-    // each refusal, exactly
-    ensures exists { (l : Layout) → IsLayout (D.history.image disk.old) l
-        → IfErr result (λ fault. fault ≡ Exists → IsTakenName l name.now) }
-    ensures full { (l : Layout) → IsLayout (D.history.image disk.old) l
-        → IfErr result
-        (λ fault. fault ≡ Full → HasNoRoom (D.history.image disk.old) l × ¬ (IsTakenName l name.now)) }
-    ensures fits { (l : Layout) → IsLayout (D.history.image disk.old) l
-        → OnOk result (¬ (HasNoRoom (D.history.image disk.old) l) × ¬ (IsTakenName l name.now)) }
-    ensures told { IfErr result (λ fault. (fault ≡ Exists) ⊎ ((fault ≡ Full) ⊎ (fault ≡ Device))) }
-    // three times the eighteen sectors of the directory, and the map
-    ensures refused { IfErr result (λ fault. fault ≢ Device → OnlyReads D.history disk.old disk.new 55) }
-    // every image held, and the writes
-    ensures moments { (l : Layout) → IsLayout (D.history.image disk.old) l
-        → Changes D.history disk.old disk.new (creation_writes l)
-        (IsCreating (D.history.image disk.old) l name.now size) }
-    // what is kept of any file stays of it
-    ensures others { (v : RelFile)
-        → OfItsFile (D.history.image disk.old) v
-        (λ l n f. StaysOf (D.history.image disk.old) (D.history.image disk.new) f v) }
-    ensures failures { TellsRelFault D.history disk.old disk.new result }
+    ensures { Creates D.history disk.old disk.new name.now size result }
 {
     let site = choose_site(disk, name)?;
     let Ok(()) = write_file(disk, &site, name, size) else {
@@ -73,18 +51,7 @@ pub fn create<D: Sectors>(disk: &mut D, name: &[u8], size: u8) -> Result<RelFile
 fn choose_site<D: Sectors>(disk: &mut D, name: &[u8]) -> Result<Site, RelFault>
     requires clean { IsClean (D.history.image disk.old) }
     requires name { length name.now ≤ 16 }
-    ensures ok { (l : Layout) → IsLayout (D.history.image disk.old) l → IfOk result (IsSite (D.history.image disk.old) l) }
-    ensures exists { (l : Layout) → IsLayout (D.history.image disk.old) l
-        → IfErr result (λ fault. fault ≡ Exists → IsTakenName l name.now) }
-    ensures full { (l : Layout) → IsLayout (D.history.image disk.old) l
-        → IfErr result
-        (λ fault. fault ≡ Full → HasNoRoom (D.history.image disk.old) l × ¬ (IsTakenName l name.now)) }
-    ensures fits { (l : Layout) → IsLayout (D.history.image disk.old) l
-        → OnOk result (¬ (HasNoRoom (D.history.image disk.old) l) × ¬ (IsTakenName l name.now)) }
-    ensures told { IfErr result (λ fault. (fault ≡ Exists) ⊎ ((fault ≡ Full) ⊎ (fault ≡ Device))) }
-    ensures refused { IfErr result (λ fault. fault ≢ Device → OnlyReads D.history disk.old disk.new 55) }
-    ensures quiet { WritesNothing D.history disk.old disk.new }
-    ensures failures { TellsRelFault D.history disk.old disk.new result }
+    ensures { Chooses D.history disk.old disk.new name.now result (IsSite (D.history.image disk.old)) }
 {
     let mut used = ArrayVec::new();
     list_slots(disk, &mut used)?;
@@ -126,7 +93,8 @@ fn read_room<D: Sectors>(disk: &mut D) -> Result<Room, RelFault>
 fn take_site(mut map: Bam, room: Room) -> Option<Site>
     requires of { (img : Image) × (l : Layout) × IsCleanLayout img l × (map.bytes ≡ sector img map_place)
         × IsRoomOf img l room }
-    ensures { (img : Image) → (l : Layout) → IsCleanLayout img l → map.bytes ≡ sector img map_place → IsRoomOf img l room
+    ensures { (img : Image) → (l : Layout) → IsCleanLayout img l → map.bytes ≡ sector img map_place
+        → IsRoomOf img l room
         → MatchOption result (HasNoRoom img l) (λ site. IsSite img l site × ¬ (HasNoRoom img l)) }
 {
     if map.view().blocks_free() < 2 {
@@ -170,8 +138,7 @@ fn take_site(mut map: Bam, room: Room) -> Option<Site>
 
 /// The new file, as it stands at its site.
 fn file_at(site: &Site, size: u8) -> RelFile
-    requires low { 1 ≤ size }
-    requires high { size ≤ 254 }
+    requires { IsLength size }
     ensures { IsFileAt size site.now result }
 {
     let mut sides = ArrayVec::new();

@@ -1,12 +1,13 @@
 //! Empty records in the room that a file's last blocks have left.
-ghost use Rattle.std.specs.Prelude.{◌≡◌, ◌≤◌, ◌<◌, ◌+◌, ◌-◌, ◌*◌, ◌⊎◌, ℕ, OnOk, length, nat_lt, slice_index, if◌then◌else◌};
-ghost use Rattle.d64_image.specs.History.{Changes, TellsFailure};
+ghost use Rattle.std.specs.Prelude.{◌≡◌, ◌≤◌, ◌<◌, ◌+◌, ◌-◌, ◌*◌, ◌⊎◌, ℕ, length, nat_lt, slice_index, if◌then◌else◌};
+ghost use Rattle.d64_image.specs.History.{TellsFailure};
 ghost use Rattle.d64_image.specs.Images.{IsSector};
 ghost use Rattle.disk_layout.specs.Layout.{File, Layout, record_length};
 ghost use Rattle.disk_layout.specs.Records.{filler, record_count};
+ghost use Rattle.rel_records.specs.Calls.{GrowsBy, WritesAtMost};
+ghost use Rattle.rel_records.specs.File.{IsLength};
 ghost use Rattle.rel_records.specs.Growth.{fill_writes, full, records_had};
 ghost use Rattle.rel_records.specs.Steps.{FillsBefore, HasFilled, IsAt, IsEnd, StandsAt};
-ghost use Rattle.rel_records.specs.Written.{IsGrowingBy};
 
 use crate::sizes::{BLOCK, full_records, last_index};
 use crate::step_parts::Parts;
@@ -23,13 +24,10 @@ pub(crate) fn fill_up<D: Sectors>(
     requires at { StandsAt (D.history.image disk.old) parts.old }
     requires few { length parts.old.blocks.items ≤ 720 }
     requires had { had ≡ record_count (length parts.old.blocks.items) (slice_index parts.old.last 1) parts.old.size }
-    ensures ok { (l : Layout) → (n : ℕ) → (f : File) → IsAt (D.history.image disk.old) l n f parts.old
-        → OnOk result
-        (HasFilled (D.history.image disk.old) (D.history.image disk.new) l n f parts.old parts.new) }
-    ensures moments { (l : Layout) → (n : ℕ) → (f : File) → IsAt (D.history.image disk.old) l n f parts.old
-        → Changes D.history disk.old disk.new (fill_writes f)
-        (IsGrowingBy (D.history.image disk.old) l n f
-        (full (record_length f.slot) (length f.blocks) - records_had f)) }
+    ensures file { (l : Layout) → (n : ℕ) → (f : File) → IsAt (D.history.image disk.old) l n f parts.old
+        → GrowsBy D.history disk.old disk.new l n f (fill_writes f)
+        (full (record_length f.slot) (length f.blocks) - records_had f)
+        (HasFilled (D.history.image disk.old) (D.history.image disk.new) l n f parts.old parts.new) result }
     ensures failures { TellsFailure D.history disk.old disk.new result }
 {
     let count = parts.blocks.len() as u16;
@@ -53,10 +51,10 @@ fn fill_before<D: Sectors>(
     requires some { 1 ≤ length parts.now.blocks.items }
     requires total { total ≤ 1000000 }
     requires from { 254 * (length parts.now.blocks.items - 2) ≤ from }
-    ensures ok { OnOk result (FillsBefore (D.history.image disk.old) parts.now from total (D.history.image disk.new)) }
-    ensures moments { Changes D.history disk.old disk.new (if nat_lt from (254 * (length parts.now.blocks.items - 1)) then 1 else 0)
-        (λ c. (c ≡ D.history.image disk.old) ⊎ FillsBefore (D.history.image disk.old) parts.now from total c) }
-    ensures failures { TellsFailure D.history disk.old disk.new result }
+    ensures { WritesAtMost D.history disk.old disk.new
+        (if nat_lt from (254 * (length parts.now.blocks.items - 1)) then 1 else 0)
+        (λ c. (c ≡ D.history.image disk.old) ⊎ FillsBefore (D.history.image disk.old) parts.now from total c)
+        (FillsBefore (D.history.image disk.old) parts.now from total) result }
 {
     let count = parts.blocks.len();
     if from >= BLOCK * (count as u32 - 1) {
@@ -92,8 +90,7 @@ fn fill_tail(bytes: &mut [u8; 256], at: u32, from: u32, length: u8, total: u32)
 fn fill_last(bytes: &mut [u8; 256], from: u32, count: u16, length: u8)
     requires some { 1 ≤ count }
     requires few { count ≤ 720 }
-    requires length_low { 1 ≤ length }
-    requires length_high { length ≤ 254 }
+    requires length { IsLength length }
     ensures end { IsEnd count length from bytes.old bytes.new }
     ensures sector { IsSector bytes.new }
 {

@@ -1,15 +1,12 @@
 //! A relative file found by its name.
-ghost use Rattle.std.specs.Prelude.{◌≡◌, ◌⊎◌, ◌↔◌, ◌+◌, ◌≤◌, ◌<◌, List, IfErr, IfOk, IsTrue, MatchOption, OnOk, Some, length, map, slice_get, ℕ};
-ghost use Rattle.d64_image.specs.History.{OnlyReads};
+ghost use Rattle.std.specs.Prelude.{◌≡◌, ◌↔◌, ◌≤◌, List, IsTrue, MatchOption, length, map};
 ghost use Rattle.d64_image.specs.Images.{sector};
 ghost use Rattle.d64_image.specs.declared.place.Place.{Place};
 ghost use Rattle.disk_layout.specs.Layout.{File, IsLayout, IsSound, Layout};
-ghost use Rattle.disk_layout.specs.Rest.{IsFirst, IsNamed};
-ghost use Rattle.rel_records.specs.Faults.{TellsRelFault};
-ghost use Rattle.rel_records.specs.File.{IsFileOf, Shows, entry_of};
+ghost use Rattle.rel_records.specs.Calls.{FindsFile, ReadsAtMost};
+ghost use Rattle.rel_records.specs.File.{Shows, entry_of};
 ghost use Rattle.rel_records.specs.Named.{HasNoneNamed, HasRel, IsFirstNamed, IsNamedSlot, IsRelOf};
 ghost use Rattle.rel_records.specs.Sides.{NamesEach};
-ghost use Rattle.rel_records.specs.declared.faults.RelFault.TheVariants.{Device, NotFound};
 
 use crate::access::read;
 use crate::directory_room::bears;
@@ -48,11 +45,8 @@ pub(crate) fn list_slots<D: Sectors>(
     slots: &mut ArrayVec<Slot, 144>,
 ) -> Result<(), RelFault>
     requires sound { IsSound (D.history.image disk.old) }
-    ensures ok { (l : Layout) → IsLayout (D.history.image disk.old) l
-        → OnOk result (slots.new.items ≡ map (λ f. f.slot) l.files) }
-    ensures err { IfErr result (λ fault. fault ≡ Device) }
-    ensures reads { OnlyReads D.history disk.old disk.new 18 }
-    ensures failures { TellsRelFault D.history disk.old disk.new result }
+    ensures { ReadsAtMost D.history disk.old disk.new 18 result (λ done.
+        (l : Layout) → IsLayout (D.history.image disk.old) l → slots.new.items ≡ map (λ f. f.slot) l.files) }
 {
     match read_directory(disk, slots) {
         Ok(()) => Ok(()),
@@ -64,12 +58,9 @@ pub(crate) fn list_slots<D: Sectors>(
 /// How many data blocks the file of a relative slot has, and the index of the last used byte of the last one.
 fn measure<D: Sectors>(disk: &mut D, slot: &Slot) -> Result<(u16, u8), RelFault>
     requires of { HasRel (D.history.image disk.old) slot.now }
-    ensures ok { (f : File) → IsRelOf (D.history.image disk.old) slot.now f
-        → IfOk result (λ found. (found.0 ≡ length f.blocks) × (found.1 ≡ f.last)) }
-    ensures few { IfOk result (λ found. found.0 ≤ 683) }
-    ensures err { IfErr result (λ fault. fault ≡ Device) }
-    ensures reads { OnlyReads D.history disk.old disk.new 683 }
-    ensures failures { TellsRelFault D.history disk.old disk.new result }
+    ensures { ReadsAtMost D.history disk.old disk.new 683 result (λ found.
+        ((f : File) → IsRelOf (D.history.image disk.old) slot.now f → (found.0 ≡ length f.blocks) × (found.1 ≡ f.last))
+        × (found.0 ≤ 683)) }
 {
     let first = EntryView::new(&slot.bytes).first_block().unwrap();
     let mut blocks = ArrayVec::new();
@@ -89,11 +80,9 @@ fn read_sides<D: Sectors>(
 ) -> Result<(), RelFault>
     requires of { (qs : List Place) × (length qs ≡ count) × (count ≤ 6)
         × NamesEach (sector (D.history.image disk.old) place) 4 qs }
-    ensures ok { (qs : List Place) → length qs ≡ count → NamesEach (sector (D.history.image disk.old) place) 4 qs
-        → OnOk result (sides.new.items ≡ qs) }
-    ensures err { IfErr result (λ fault. fault ≡ Device) }
-    ensures reads { OnlyReads D.history disk.old disk.new 1 }
-    ensures failures { TellsRelFault D.history disk.old disk.new result }
+    ensures { ReadsAtMost D.history disk.old disk.new 1 result (λ done.
+        (qs : List Place) → length qs ≡ count → NamesEach (sector (D.history.image disk.old) place) 4 qs
+        → sides.new.items ≡ qs) }
 {
     let mut bytes = [0; 256];
     read(disk, place, &mut bytes)?;
@@ -116,11 +105,8 @@ fn list_sides(bytes: &[u8; 256], count: usize, sides: &mut ArrayVec<Place, 6>)
 /// The relative file of this slot, which has the number `entry` among the used slots.
 fn open_entry<D: Sectors>(disk: &mut D, entry: usize, slot: &Slot) -> Result<RelFile, RelFault>
     requires of { HasRel (D.history.image disk.old) slot.now }
-    ensures ok { (f : File) → IsRelOf (D.history.image disk.old) slot.now f → IfOk result (Shows f) }
-    ensures entry { IfOk result (λ v. entry_of v ≡ entry) }
-    ensures err { IfErr result (λ fault. fault ≡ Device) }
-    ensures reads { OnlyReads D.history disk.old disk.new 684 }
-    ensures failures { TellsRelFault D.history disk.old disk.new result }
+    ensures { ReadsAtMost D.history disk.old disk.new 684 result (λ v.
+        ((f : File) → IsRelOf (D.history.image disk.old) slot.now f → Shows f v) × (entry_of v ≡ entry)) }
 {
     let view = EntryView::new(&slot.bytes);
     let first = view.first_side().unwrap();
@@ -145,17 +131,7 @@ fn open_entry<D: Sectors>(disk: &mut D, entry: usize, slot: &Slot) -> Result<Rel
 /// have left a side sector that points past the chain's end.
 pub fn find<D: Sectors>(disk: &mut D, name: &[u8]) -> Result<RelFile, RelFault>
     requires sound { IsSound (D.history.image disk.old) }
-    ensures ok { (l : Layout) → IsLayout (D.history.image disk.old) l
-        → IfOk result (λ v.
-        (f : File) × IsFirst l name.now (entry_of v) f
-        × IsFileOf (D.history.image disk.old) l (entry_of v) f v) }
-    ensures not_found { (l : Layout) → IsLayout (D.history.image disk.old) l
-        → IfErr result (λ fault.
-        fault ≡ NotFound → (k : ℕ) → (f : File) → slice_get l.files k ≡ Some f → ¬ (IsNamed name.now f)) }
-    ensures told { IfErr result (λ fault. (fault ≡ NotFound) ⊎ (fault ≡ Device)) }
-    // eighteen sectors of the directory, the chain, a side sector
-    ensures reads { OnlyReads D.history disk.old disk.new 702 }
-    ensures failures { TellsRelFault D.history disk.old disk.new result }
+    ensures { FindsFile D.history disk.old disk.new name.now result }
 {
     let mut used = ArrayVec::new();
     list_slots(disk, &mut used)?;

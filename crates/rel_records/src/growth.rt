@@ -1,18 +1,15 @@
 //! Growth of a relative file to a record.
-ghost use Rattle.std.specs.Prelude.{◌≡◌, ◌≢◌, ◌≤◌, ◌+◌, ◌-◌, ◌⊎◌, ◌↔◌, ℕ, Err, IfErr, IsOk, OnOk, length};
-ghost use Rattle.d64_image.specs.History.{Changes, OnlyReads, TellsFailure};
+ghost use Rattle.std.specs.Prelude.{◌≡◌, ◌≤◌, ◌+◌, ◌-◌, ℕ, length};
+ghost use Rattle.d64_image.specs.History.{TellsFailure};
 ghost use Rattle.d64_image.specs.Images.{sector};
 ghost use Rattle.disk_layout.specs.Clean.{IsClean};
 ghost use Rattle.disk_layout.specs.Directory.{map_place};
 ghost use Rattle.disk_layout.specs.Layout.{File, Layout, record_length, sides_for};
 ghost use Rattle.disk_layout.specs.View.{blocks_free};
-ghost use Rattle.rel_records.specs.Faults.{TellsRelFault};
-ghost use Rattle.rel_records.specs.File.{IsOf, OfItsFile, blocks_of, entry_of, length_of, records_in};
-ghost use Rattle.rel_records.specs.Growth.{IsFull, IsTooLarge, fill_writes, full, growth_writes, needed, records_had, run_writes};
-ghost use Rattle.rel_records.specs.Others.{KeepsRelFiles, LeavesRecords};
+ghost use Rattle.rel_records.specs.Calls.{Grows, GrowsBy};
+ghost use Rattle.rel_records.specs.File.{IsOf, OfItsFile, blocks_of, entry_of};
+ghost use Rattle.rel_records.specs.Growth.{fill_writes, full, needed, records_had, run_writes};
 ghost use Rattle.rel_records.specs.Steps.{HasRun, IsAt, IsFilledUp, IsKeptOf, IsRunTo, StandsFilled};
-ghost use Rattle.rel_records.specs.Written.{IsGrowingBy, IsGrowingTo, grown_to};
-ghost use Rattle.rel_records.specs.declared.faults.RelFault.TheVariants.{Device, Full, TooLarge};
 
 use crate::counting::{has_records, records};
 use crate::faults::RelFault;
@@ -33,30 +30,7 @@ use disk_layout::Bam;
 pub fn grow_to<D: Sectors>(disk: &mut D, file: &mut RelFile, number: u32) -> Result<(), RelFault>
     requires clean { IsClean (D.history.image disk.old) }
     requires of { IsOf (D.history.image disk.old) file.old }
-    ensures ok { OfItsFile (D.history.image disk.old) file.old (λ l n f.
-        OnOk result
-        (LeavesRecords (D.history.image disk.old) (D.history.image disk.new) l n
-        (grown_to (D.history.image disk.old) f number) file.new)) }
-    ensures there { OnOk result (number ≤ records_in file.new) }
-    ensures same { OnOk result (length_of file.new ≡ length_of file.old) }
-    // a record that is there: nothing is done
-    ensures quiet { number ≤ records_in file.old → IsOk result × (file.new ≡ file.old) × OnlyReads D.history disk.old disk.new 0 }
-    // each refusal, exactly
-    ensures too_large { OfItsFile (D.history.image disk.old) file.old (λ l n f. (result ≡ Err TooLarge) ↔ IsTooLarge f number) }
-    ensures full { OfItsFile (D.history.image disk.old) file.old
-        (λ l n f. IfErr result (λ fault. fault ≡ Full → IsFull (D.history.image disk.old) f number)) }
-    ensures fits { OfItsFile (D.history.image disk.old) file.old
-        (λ l n f. OnOk result (¬ (IsFull (D.history.image disk.old) f number))) }
-    ensures told { IfErr result (λ fault. (fault ≡ TooLarge) ⊎ ((fault ≡ Full) ⊎ (fault ≡ Device))) }
-    ensures refused { IfErr result (λ fault. fault ≢ Device → (file.new ≡ file.old) × OnlyReads D.history disk.old disk.new 1) }
-    // every image held, and the writes: those of the filling, then five for each block and one for each older side sector
-    ensures moments { OfItsFile (D.history.image disk.old) file.old (λ l n f.
-        Changes D.history disk.old disk.new (growth_writes f number)
-        (IsGrowingTo (D.history.image disk.old) l n f number)) }
-    ensures others { OfItsFile (D.history.image disk.old) file.old
-        (λ l n f. KeepsRelFiles (D.history.image disk.old) (D.history.image disk.new) l n) }
-    ensures entry { entry_of file.new ≡ entry_of file.old }
-    ensures failures { TellsRelFault D.history disk.old disk.new result }
+    ensures { Grows D.history disk.old disk.new file.old file.new number result }
 {
     if has_records(file, number) {
         return Ok(());
@@ -101,11 +75,10 @@ fn grow<D: Sectors>(
     requires more { blocks_of file.old ≤ wanted }
     requires few { wanted ≤ 720 }
     requires room { needed (blocks_of file.old) wanted ≤ blocks_free map.bytes }
-    ensures ok { OfItsFile (D.history.image disk.old) file.old (λ l n f.
-        OnOk result (HasRun (D.history.image disk.old) (D.history.image disk.new) l n f wanted file.new)) }
-    ensures moments { OfItsFile (D.history.image disk.old) file.old (λ l n f.
-        Changes D.history disk.old disk.new (fill_writes f + run_writes (length f.blocks) wanted)
-        (IsGrowingBy (D.history.image disk.old) l n f (full (record_length f.slot) wanted - records_had f))) }
+    ensures file { OfItsFile (D.history.image disk.old) file.old (λ l n f.
+        GrowsBy D.history disk.old disk.new l n f (fill_writes f + run_writes (length f.blocks) wanted)
+        (full (record_length f.slot) wanted - records_had f)
+        (HasRun (D.history.image disk.old) (D.history.image disk.new) l n f wanted file.new) result) }
     ensures entry { entry_of file.new ≡ entry_of file.old }
     ensures failures { TellsFailure D.history disk.old disk.new result }
 {
@@ -122,12 +95,10 @@ fn add_blocks<D: Sectors>(disk: &mut D, parts: &mut Parts, wanted: u16) -> Resul
     requires more { length parts.old.blocks.items ≤ wanted }
     requires few { wanted ≤ 720 }
     requires room { needed (length parts.old.blocks.items) wanted ≤ blocks_free parts.old.map.bytes }
-    ensures ok { (l : Layout) → (n : ℕ) → (f : File) → IsAt (D.history.image disk.old) l n f parts.old → IsFilledUp f
-        → OnOk result (IsRunTo (D.history.image disk.old) (D.history.image disk.new) l n f wanted parts.new) }
-    ensures moments { (l : Layout) → (n : ℕ) → (f : File) → IsAt (D.history.image disk.old) l n f parts.old → IsFilledUp f
-        → Changes D.history disk.old disk.new (run_writes (length f.blocks) wanted)
-        (IsGrowingBy (D.history.image disk.old) l n f
-        (full (record_length f.slot) wanted - records_had f)) }
+    ensures file { (l : Layout) → (n : ℕ) → (f : File) → IsAt (D.history.image disk.old) l n f parts.old → IsFilledUp f
+        → GrowsBy D.history disk.old disk.new l n f (run_writes (length f.blocks) wanted)
+        (full (record_length f.slot) wanted - records_had f)
+        (IsRunTo (D.history.image disk.old) (D.history.image disk.new) l n f wanted parts.new) result }
     ensures failures { TellsFailure D.history disk.old disk.new result }
 {
     for _count in parts.blocks.len()..wanted as usize {

@@ -1,13 +1,8 @@
 //! Records read in order: the block that was read last is kept, and its link names the next one.
-ghost use Rattle.std.specs.Prelude.{◌≡◌, ◌⊎◌, ◌+◌, ◌<◌, ◌≤◌, None, Some, IfErr, OnOk, length};
-ghost use Rattle.d64_image.specs.History.{OnlyReads};
-ghost use Rattle.disk_layout.specs.Layout.{File, Layout};
-ghost use Rattle.disk_layout.specs.Records as records_of;
-ghost use Rattle.rel_records.specs.Faults.{TellsRelFault};
-ghost use Rattle.rel_records.specs.File.{IsOf, OfItsFile, blocks_of, length_of, records_in};
+ghost use Rattle.std.specs.Prelude.{◌≡◌, ◌+◌, ◌<◌, ◌≤◌, None, Some};
+ghost use Rattle.rel_records.specs.Calls.{HasRead, ReadsAtMost, ReadsRecord};
+ghost use Rattle.rel_records.specs.File.{IsOf, blocks_of, records_in};
 ghost use Rattle.rel_records.specs.Kept.{IsKept, number_kept};
-ghost use Rattle.rel_records.specs.Written.{IsAbsent, IsRecord};
-ghost use Rattle.rel_records.specs.declared.faults.RelFault.TheVariants.{Device, NotPresent};
 
 use crate::counting::has_records;
 use crate::faults::RelFault;
@@ -48,11 +43,8 @@ fn go_on<D: Sectors>(
     requires there { here + 1 < blocks_of file.now }
     requires number { number_kept last.old ≡ Some here }
     requires kept { IsKept (D.history.image disk.old) file.now last.old }
-    ensures ok { OnOk result (number_kept last.new ≡ Some (here + 1)) }
+    ensures next { ReadsAtMost D.history disk.old disk.new 1 result (λ done. number_kept last.new ≡ Some (here + 1)) }
     ensures kept { IsKept (D.history.image disk.old) file.now last.new }
-    ensures err { IfErr result (λ fault. fault ≡ Device) }
-    ensures reads { OnlyReads D.history disk.old disk.new 1 }
-    ensures failures { TellsRelFault D.history disk.old disk.new result }
 {
     let mut bytes = [0; 256];
     read_behind(disk, &last.bytes, &mut bytes)?;
@@ -73,11 +65,8 @@ fn bring<D: Sectors>(
     requires of { IsOf (D.history.image disk.old) file.now }
     requires there { block < blocks_of file.now }
     requires kept { IsKept (D.history.image disk.old) file.now last.old }
-    ensures ok { OnOk result (number_kept last.new ≡ Some block) }
+    ensures here { ReadsAtMost D.history disk.old disk.new 2 result (λ done. number_kept last.new ≡ Some block) }
     ensures kept { IsKept (D.history.image disk.old) file.now last.new }
-    ensures err { IfErr result (λ fault. fault ≡ Device) }
-    ensures reads { OnlyReads D.history disk.old disk.new 2 }
-    ensures failures { TellsRelFault D.history disk.old disk.new result }
 {
     if let Some(here) = last.number {
         if here == block {
@@ -108,13 +97,9 @@ fn next_there<D: Sectors>(
     requires kept { IsKept (D.history.image disk.old) file.now last.old }
     requires low { 1 ≤ number }
     requires high { number ≤ records_in file.now }
-    ensures ok { OfItsFile (D.history.image disk.old) file.now (λ l n f.
-        OnOk result (IsRecord (records_of.records (D.history.image disk.old) f) number text.new.items)) }
-    ensures size { OnOk result (length text.new.items ≡ length_of file.now) }
+    ensures text { ReadsAtMost D.history disk.old disk.new 3 result
+        (λ done. HasRead (D.history.image disk.old) file.now number text.new.items) }
     ensures kept { IsKept (D.history.image disk.old) file.now last.new }
-    ensures err { IfErr result (λ fault. fault ≡ Device) }
-    ensures reads { OnlyReads D.history disk.old disk.new 3 }
-    ensures failures { TellsRelFault D.history disk.old disk.new result }
 {
     let size = file.size as usize;
     let start = (number as usize - 1) * size;
@@ -141,18 +126,9 @@ pub fn read_next<D: Sectors>(
 ) -> Result<(), RelFault>
     requires of { IsOf (D.history.image disk.old) file.now }
     requires kept { IsKept (D.history.image disk.old) file.now last.old }
-    ensures ok { OfItsFile (D.history.image disk.old) file.now (λ l n f.
-        OnOk result (IsRecord (records_of.records (D.history.image disk.old) f) number text.new.items)) }
-    ensures size { OnOk result (length text.new.items ≡ length_of file.now) }
-    ensures bound { OnOk result (number ≤ 182880) }
-    ensures not_present { OfItsFile (D.history.image disk.old) file.now (λ l n f.
-        IfErr result
-        (λ fault. fault ≡ NotPresent → IsAbsent (records_of.records (D.history.image disk.old) f) number)) }
-    ensures told { IfErr result (λ fault. (fault ≡ NotPresent) ⊎ (fault ≡ Device)) }
+    ensures text { ReadsRecord D.history disk.old disk.new file.now number text.new.items 3 result }
     // what is kept is of the file as it was
     ensures kept { IsKept (D.history.image disk.old) file.now last.new }
-    ensures reads { OnlyReads D.history disk.old disk.new 3 }
-    ensures failures { TellsRelFault D.history disk.old disk.new result }
 {
     if number == 0 {
         return Err(RelFault::NotPresent);

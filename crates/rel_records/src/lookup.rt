@@ -1,10 +1,7 @@
 //! Where a data block of a file lies: one side sector tells it.
-ghost use Rattle.std.specs.Prelude.{ℕ, ◌≡◌, ◌<◌, IfErr, IfOk, Some, slice_get};
-ghost use Rattle.d64_image.specs.History.{OnlyReads};
-ghost use Rattle.disk_layout.specs.Layout.{File, Layout};
-ghost use Rattle.rel_records.specs.Faults.{TellsRelFault};
-ghost use Rattle.rel_records.specs.File.{IsFileOf, IsOf, OfItsFile, blocks_of};
-ghost use Rattle.rel_records.specs.declared.faults.RelFault.TheVariants.{Device};
+ghost use Rattle.std.specs.Prelude.{◌≡◌, ◌<◌, Some, slice_get};
+ghost use Rattle.rel_records.specs.Calls.{ReadsAtMost};
+ghost use Rattle.rel_records.specs.File.{IsOf, OfItsFile, blocks_of};
 
 use crate::access::read;
 use crate::faults::RelFault;
@@ -20,11 +17,8 @@ pub(crate) fn block_at<D: Sectors>(
 ) -> Result<Place, RelFault>
     requires of { IsOf (D.history.image disk.old) file.now }
     requires there { block < blocks_of file.now }
-    ensures ok { OfItsFile (D.history.image disk.old) file.now
-        (λ l n f. IfOk result (λ p. slice_get f.blocks block ≡ Some p)) }
-    ensures err { IfErr result (λ fault. fault ≡ Device) }
-    ensures reads { OnlyReads D.history disk.old disk.new 1 }
-    ensures failures { TellsRelFault D.history disk.old disk.new result }
+    ensures { ReadsAtMost D.history disk.old disk.new 1 result (λ p.
+        OfItsFile (D.history.image disk.old) file.now (λ l n f. slice_get f.blocks block ≡ Some p)) }
 {
     let side = file.sides[block / POINTERS];
     let mut sector = [0; 256];

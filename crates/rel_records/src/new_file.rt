@@ -1,12 +1,13 @@
 //! A new file's sectors, and its entry.
-ghost use Rattle.std.specs.Prelude.{◌≡◌, ◌≢◌, ◌≤◌, ◌<◌, ◌∷◌, [], List, OnOk, length, ℕ};
-ghost use Rattle.d64_image.specs.History.{Changes, TellsFailure};
+ghost use Rattle.std.specs.Prelude.{◌≡◌, ◌≤◌, ◌<◌, ◌∷◌, [], List, length, ℕ};
+ghost use Rattle.d64_image.specs.History.{TellsFailure};
 ghost use Rattle.d64_image.specs.Images.{sector};
-ghost use Rattle.disk_layout.specs.Directory.{map_place};
 ghost use Rattle.disk_layout.specs.Layout.{Layout};
-ghost use Rattle.rel_records.specs.Made.{IsCreating, creation_writes};
-ghost use Rattle.rel_records.specs.NewFile.{ChangesOnly, HasNewSectors, IsEntered, IsLinkedTo, IsNewDirectory};
-ghost use Rattle.rel_records.specs.Site.{HasFileAt, IsSectorEntry, IsSectorSite, IsSite, IsSlotEntry, IsSlotSite, sector_of};
+ghost use Rattle.rel_records.specs.Calls.{MakesFile, WritesAtMost};
+ghost use Rattle.rel_records.specs.File.{IsLength};
+ghost use Rattle.rel_records.specs.Made.{creation_writes};
+ghost use Rattle.rel_records.specs.NewFile.{AreApart, ChangesOnly, HasNewSectors, IsBeside, IsEntered, IsLinkedTo, IsNewDirectory};
+ghost use Rattle.rel_records.specs.Site.{IsSectorEntry, IsSectorSite, IsSite, IsSlotEntry, IsSlotSite, sector_of};
 
 use crate::next_block::fresh_block;
 use crate::site::Site;
@@ -21,15 +22,11 @@ fn write_sectors<D: Sectors>(
     side: Place,
     size: u8,
 ) -> Result<(), DeviceFault>
-    requires low { 1 ≤ size }
-    requires high { size ≤ 254 }
-    requires block { block ≢ map_place }
-    requires side { side ≢ map_place }
-    requires apart { block ≢ side }
-    ensures ok { OnOk result (HasNewSectors map.now.bytes block side size (D.history.image disk.new)) }
-    ensures moments { Changes D.history disk.old disk.new 3
-        (ChangesOnly (D.history.image disk.old) map.now.bytes (block ∷ side ∷ [])) }
-    ensures failures { TellsFailure D.history disk.old disk.new result }
+    requires size { IsLength size }
+    requires apart { AreApart block side }
+    ensures { WritesAtMost D.history disk.old disk.new 3
+        (ChangesOnly (D.history.image disk.old) map.now.bytes (block ∷ side ∷ []))
+        (HasNewSectors map.now.bytes block side size) result }
 {
     disk.write(map_place(), &map.bytes)?;
     disk.write(block, &fresh_block(0, size))?;
@@ -46,20 +43,12 @@ fn write_with_directory<D: Sectors>(
     fresh: Place,
     bytes: &[u8; 256],
 ) -> Result<(), DeviceFault>
-    requires low { 1 ≤ size }
-    requires high { size ≤ 254 }
-    requires block { block ≢ map_place }
-    requires side { side ≢ map_place }
-    requires apart { block ≢ side }
-    requires fresh { fresh ≢ map_place }
-    requires fresh_block { fresh ≢ block }
-    requires fresh_side { fresh ≢ side }
-    ensures ok { OnOk result
-        (HasNewSectors map.now.bytes block side size (D.history.image disk.new)
-        × (sector (D.history.image disk.new) fresh ≡ bytes.now)) }
-    ensures moments { Changes D.history disk.old disk.new 4
-        (ChangesOnly (D.history.image disk.old) map.now.bytes (fresh ∷ block ∷ side ∷ [])) }
-    ensures failures { TellsFailure D.history disk.old disk.new result }
+    requires size { IsLength size }
+    requires apart { AreApart block side }
+    requires fresh { IsBeside fresh block side }
+    ensures { WritesAtMost D.history disk.old disk.new 4
+        (ChangesOnly (D.history.image disk.old) map.now.bytes (fresh ∷ block ∷ side ∷ []))
+        (λ c. HasNewSectors map.now.bytes block side size c × (sector c fresh ≡ bytes.now)) result }
 {
     write_sectors(disk, map, block, side, size)?;
     disk.write(fresh, bytes)
@@ -104,17 +93,11 @@ fn write_in_slot<D: Sectors>(
     bytes: &[u8; 256],
     size: u8,
 ) -> Result<(), DeviceFault>
-    requires low { 1 ≤ size }
-    requires high { size ≤ 254 }
+    requires size { IsLength size }
     requires site { (l : Layout) × IsSlotSite (D.history.image disk.old) l site.now }
-    ensures ok { (l : Layout) → (name : List ℕ) → IsSlotSite (D.history.image disk.old) l site.now
+    ensures file { (l : Layout) → (name : List ℕ) → IsSlotSite (D.history.image disk.old) l site.now
         → IsSlotEntry name size site.now bytes.now
-        → OnOk result
-        (HasFileAt (D.history.image disk.old) l name size site.now site.now.place
-        (D.history.image disk.new)) }
-    ensures moments { (l : Layout) → (name : List ℕ) → IsSlotSite (D.history.image disk.old) l site.now
-        → IsSlotEntry name size site.now bytes.now
-        → Changes D.history disk.old disk.new 4 (IsCreating (D.history.image disk.old) l name size) }
+        → MakesFile D.history disk.old disk.new l name size site.now site.now.place 4 result }
     ensures failures { TellsFailure D.history disk.old disk.new result }
 {
     write_sectors(disk, &site.map, site.block, site.side, size)?;
@@ -131,16 +114,11 @@ fn write_behind<D: Sectors>(
     last: &[u8; 256],
     size: u8,
 ) -> Result<(), DeviceFault>
-    requires low { 1 ≤ size }
-    requires high { size ≤ 254 }
+    requires size { IsLength size }
     requires site { (l : Layout) × IsSectorSite (D.history.image disk.old) l site.now fresh }
-    ensures ok { (l : Layout) → (name : List ℕ) → IsSectorSite (D.history.image disk.old) l site.now fresh
+    ensures file { (l : Layout) → (name : List ℕ) → IsSectorSite (D.history.image disk.old) l site.now fresh
         → IsSectorEntry name size site.now fresh first.now last.now
-        → OnOk result
-        (HasFileAt (D.history.image disk.old) l name size site.now fresh (D.history.image disk.new)) }
-    ensures moments { (l : Layout) → (name : List ℕ) → IsSectorSite (D.history.image disk.old) l site.now fresh
-        → IsSectorEntry name size site.now fresh first.now last.now
-        → Changes D.history disk.old disk.new 5 (IsCreating (D.history.image disk.old) l name size) }
+        → MakesFile D.history disk.old disk.new l name size site.now fresh 5 result }
     ensures failures { TellsFailure D.history disk.old disk.new result }
 {
     write_with_directory(disk, &site.map, site.block, site.side, size, fresh, first)?;
@@ -155,16 +133,10 @@ pub(crate) fn write_file<D: Sectors>(
     size: u8,
 ) -> Result<(), DeviceFault>
     requires name { length name.now ≤ 16 }
-    requires low { 1 ≤ size }
-    requires high { size ≤ 254 }
+    requires size { IsLength size }
     requires site { (l : Layout) × IsSite (D.history.image disk.old) l site.now }
-    ensures ok { (l : Layout) → IsSite (D.history.image disk.old) l site.now
-        → OnOk result
-        (HasFileAt (D.history.image disk.old) l name.now size site.now (sector_of site.now)
-        (D.history.image disk.new)) }
-    ensures moments { (l : Layout) → IsSite (D.history.image disk.old) l site.now
-        → Changes D.history disk.old disk.new (creation_writes l)
-        (IsCreating (D.history.image disk.old) l name.now size) }
+    ensures file { (l : Layout) → IsSite (D.history.image disk.old) l site.now
+        → MakesFile D.history disk.old disk.new l name.now size site.now (sector_of site.now) (creation_writes l) result }
     ensures failures { TellsFailure D.history disk.old disk.new result }
 {
     let entry = relative_entry(name, site.block, site.side, size, 2);

@@ -1,11 +1,11 @@
 //! A file's next data block, made in memory before anything is written.
-ghost use Rattle.std.specs.Prelude.{◌≡◌, ◌≢◌, ◌≤◌, ◌<◌, ◌+◌, ◌-◌, ◌*◌, List, length, slice_index};
+ghost use Rattle.std.specs.Prelude.{◌≡◌, ◌≤◌, ◌<◌, List, length};
 ghost use Rattle.d64_image.specs.Images.{IsSector};
 ghost use Rattle.d64_image.specs.declared.place.Place.{Place};
-ghost use Rattle.disk_layout.specs.Chain.{Names};
 ghost use Rattle.disk_layout.specs.Layout.{sides_for};
 ghost use Rattle.disk_layout.specs.Map.{IsMapOf};
 ghost use Rattle.disk_layout.specs.View.{blocks_free};
+ghost use Rattle.rel_records.specs.File.{IsLength};
 ghost use Rattle.rel_records.specs.Next.{IsFresh, IsLaidOut, IsLinked, TakesPlaces};
 ghost use Rattle.rel_records.specs.Steps.{TakesNext, taken_next};
 
@@ -50,8 +50,7 @@ fn take_places(parts: &mut Parts) -> Place
 /// Makes these bytes those of the last block of a file with `behind` blocks before it and all whole records that fit.
 fn make_fresh(bytes: &mut [u8; 256], behind: u16, length: u8)
     requires few { behind < 720 }
-    requires length_low { 1 ≤ length }
-    requires length_high { length ≤ 254 }
+    requires length { IsLength length }
     ensures { IsFresh behind length bytes.new }
 {
     bytes[0] = 0;
@@ -63,8 +62,7 @@ fn make_fresh(bytes: &mut [u8; 256], behind: u16, length: u8)
 /// The bytes of the last block of a file with `behind` blocks before it and all whole records that fit.
 pub(crate) fn fresh_block(behind: u16, length: u8) -> [u8; 256]
     requires few { behind < 720 }
-    requires length_low { 1 ≤ length }
-    requires length_high { length ≤ 254 }
+    requires length { IsLength length }
     ensures { IsFresh behind length result }
 {
     let mut bytes = [0; 256];
@@ -76,8 +74,7 @@ pub(crate) fn fresh_block(behind: u16, length: u8) -> [u8; 256]
 fn link_block(bytes: &mut [u8; 256], fresh: Place, blocks: u16, length: u8)
     requires some { 1 ≤ blocks }
     requires few { blocks < 720 }
-    requires length_low { 1 ≤ length }
-    requires length_high { length ≤ 254 }
+    requires length { IsLength length }
     ensures linked { IsLinked blocks length fresh bytes.old bytes.new }
     ensures sector { IsSector bytes.new }
 {

@@ -1,16 +1,11 @@
 //! Records read: one side sector tells the block where a record begins.
-ghost use Rattle.std.specs.Prelude.{◌+◌, ◌++◌, length, ◌⊎◌, ◌≡◌, ◌<◌, ◌≤◌, IfErr, IsSome, OnOk, Some, drop, take};
-ghost use Rattle.d64_image.specs.History.{OnlyReads};
+ghost use Rattle.std.specs.Prelude.{◌+◌, ◌++◌, length, ◌≡◌, ◌<◌, ◌≤◌, IsSome, Some, drop, take};
 ghost use Rattle.d64_image.specs.Images.{sector};
 ghost use Rattle.d64_image.specs.declared.place.Place.{Place};
 ghost use Rattle.disk_layout.specs.Chain.{named_at};
-ghost use Rattle.disk_layout.specs.Layout.{File, Layout};
-ghost use Rattle.disk_layout.specs.Records as records_of;
-ghost use Rattle.rel_records.specs.Faults.{TellsRelFault};
-ghost use Rattle.rel_records.specs.File.{IsOf, OfItsFile, blocks_of, length_of, records_in};
+ghost use Rattle.rel_records.specs.Calls.{HasRead, ReadsAtMost, ReadsRecord};
+ghost use Rattle.rel_records.specs.File.{IsOf, OfItsFile, blocks_of, records_in};
 ghost use Rattle.rel_records.specs.Block.{IsBlock};
-ghost use Rattle.rel_records.specs.Written.{IsAbsent, IsRecord};
-ghost use Rattle.rel_records.specs.declared.faults.RelFault.TheVariants.{Device, NotPresent};
 
 use crate::access::read;
 use crate::counting::has_records;
@@ -65,11 +60,9 @@ pub(crate) fn read_block<D: Sectors>(
 ) -> Result<(), RelFault>
     requires of { IsOf (D.history.image disk.old) file.now }
     requires there { block < blocks_of file.now }
-    ensures ok { OfItsFile (D.history.image disk.old) file.now
-        (λ l n f. OnOk result (IsBlock (D.history.image disk.old) f.blocks block to.new)) }
-    ensures err { IfErr result (λ fault. fault ≡ Device) }
-    ensures reads { OnlyReads D.history disk.old disk.new 2 }
-    ensures failures { TellsRelFault D.history disk.old disk.new result }
+    ensures { ReadsAtMost D.history disk.old disk.new 2 result (λ done.
+        OfItsFile (D.history.image disk.old) file.now
+        (λ l n f. IsBlock (D.history.image disk.old) f.blocks block to.new)) }
 {
     let place = block_at(disk, file, block)?;
     read(disk, place, to)
@@ -82,11 +75,8 @@ pub(crate) fn read_behind<D: Sectors>(
     to: &mut [u8; 256],
 ) -> Result<(), RelFault>
     requires { IsSome (named_at bytes.now 0) }
-    ensures ok { (p : Place) → named_at bytes.now 0 ≡ Some p
-        → OnOk result (to.new ≡ sector (D.history.image disk.old) p) }
-    ensures err { IfErr result (λ fault. fault ≡ Device) }
-    ensures reads { OnlyReads D.history disk.old disk.new 1 }
-    ensures failures { TellsRelFault D.history disk.old disk.new result }
+    ensures { ReadsAtMost D.history disk.old disk.new 1 result (λ done.
+        (p : Place) → named_at bytes.now 0 ≡ Some p → to.new ≡ sector (D.history.image disk.old) p) }
 {
     read(disk, Place::known(bytes[0], bytes[1]), to)
 }
@@ -101,12 +91,8 @@ fn read_there<D: Sectors>(
     requires of { IsOf (D.history.image disk.old) file.now }
     requires low { 1 ≤ number }
     requires high { number ≤ records_in file.now }
-    ensures ok { OfItsFile (D.history.image disk.old) file.now (λ l n f.
-        OnOk result (IsRecord (records_of.records (D.history.image disk.old) f) number text.new.items)) }
-    ensures size { OnOk result (length text.new.items ≡ length_of file.now) }
-    ensures err { IfErr result (λ fault. fault ≡ Device) }
-    ensures reads { OnlyReads D.history disk.old disk.new 3 }
-    ensures failures { TellsRelFault D.history disk.old disk.new result }
+    ensures { ReadsAtMost D.history disk.old disk.new 3 result (λ done.
+        HasRead (D.history.image disk.old) file.now number text.new.items) }
 {
     let size = file.size as usize;
     let start = (number as usize - 1) * size;
@@ -131,17 +117,8 @@ pub fn read_record<D: Sectors>(
     text: &mut ArrayVec<u8, 254>,
 ) -> Result<(), RelFault>
     requires of { IsOf (D.history.image disk.old) file.now }
-    ensures ok { OfItsFile (D.history.image disk.old) file.now (λ l n f.
-        OnOk result (IsRecord (records_of.records (D.history.image disk.old) f) number text.new.items)) }
-    ensures size { OnOk result (length text.new.items ≡ length_of file.now) }
-    ensures bound { OnOk result (number ≤ 182880) }
-    ensures not_present { OfItsFile (D.history.image disk.old) file.now (λ l n f.
-        IfErr result
-        (λ fault. fault ≡ NotPresent → IsAbsent (records_of.records (D.history.image disk.old) f) number)) }
-    ensures told { IfErr result (λ fault. (fault ≡ NotPresent) ⊎ (fault ≡ Device)) }
     // its side sector, and the one or two blocks where it lies
-    ensures reads { OnlyReads D.history disk.old disk.new 3 }
-    ensures failures { TellsRelFault D.history disk.old disk.new result }
+    ensures { ReadsRecord D.history disk.old disk.new file.now number text.new.items 3 result }
 {
     if number == 0 {
         return Err(RelFault::NotPresent);

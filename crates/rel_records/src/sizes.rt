@@ -1,6 +1,7 @@
 //! How many records, blocks and side sectors go with one another.
 ghost use Rattle.std.specs.Prelude.{◌≡◌, ◌≤◌, ◌<◌, ◌+◌, ◌-◌, ◌*◌, ◌⊎◌, MatchOption};
 ghost use Rattle.disk_layout.specs.Layout.{sides_for};
+ghost use Rattle.rel_records.specs.File.{IsLength};
 ghost use Rattle.rel_records.specs.Growth as growth;
 
 use disk_layout::{DATA, POINTERS};
@@ -19,8 +20,7 @@ pub(crate) fn full_records(blocks: u16, length: u8) -> u32
 /// The index of the last byte of the last whole record in the last of `blocks` full blocks.
 pub(crate) fn last_index(blocks: u16, length: u8) -> u8
     requires blocks { 1 ≤ blocks }
-    requires low { 1 ≤ length }
-    requires high { length ≤ 254 }
+    requires length { IsLength length }
     ensures { result + 254 * (blocks - 1) ≡ growth.full length blocks * length + 1 }
 {
     (full_records(blocks, length) * length as u32 + 1 - BLOCK * (blocks as u32 - 1)) as u8

@@ -1,6 +1,6 @@
 //! A file takes one more data block: the sectors that are written for it.
-ghost use Rattle.std.specs.Prelude.{◌≡◌, ◌≤◌, ◌<◌, ◌+◌, ◌-◌, ℕ, Some, OnOk, if◌then◌else◌, length, slice_get};
-ghost use Rattle.d64_image.specs.History.{Changes, TellsFailure};
+ghost use Rattle.std.specs.Prelude.{◌≡◌, ◌≤◌, ◌<◌, ◌+◌, ◌-◌, ℕ, Some, if◌then◌else◌, length, slice_get};
+ghost use Rattle.d64_image.specs.History.{TellsFailure};
 ghost use Rattle.d64_image.specs.Images.{put};
 ghost use Rattle.d64_image.specs.declared.place.Place.{Place};
 ghost use Rattle.disk_layout.specs.Chain.{EachOnce};
@@ -8,9 +8,9 @@ ghost use Rattle.disk_layout.specs.Directory.{map_place};
 ghost use Rattle.disk_layout.specs.Layout.{File, Layout, record_length};
 ghost use Rattle.disk_layout.specs.Side.{side_sector};
 ghost use Rattle.disk_layout.specs.View.{blocks_free};
+ghost use Rattle.rel_records.specs.Calls.{GrowsBy, WritesAtMost};
 ghost use Rattle.rel_records.specs.Growth.{full};
 ghost use Rattle.rel_records.specs.Steps.{AreSidedFrom, HasBlockMore, IsAt, IsBefore, IsFilledUp, IsSided, StandsAt, step_writes, taken_next};
-ghost use Rattle.rel_records.specs.Written.{IsGrowingBy};
 
 use crate::next_block::lay_out;
 use crate::step_parts::Parts;
@@ -26,12 +26,10 @@ fn write_side<D: Sectors>(
     size: u8,
 ) -> Result<(), DeviceFault>
     requires { number < length sides.now }
-    ensures ok { (q : Place) → slice_get sides.now number ≡ Some q
-        → OnOk result
-        (D.history.image disk.new
-        ≡ put (D.history.image disk.old) q (side_sector number blocks.now sides.now size)) }
-    ensures moments { Changes D.history disk.old disk.new 1 (IsSided (D.history.image disk.old) blocks.now sides.now size) }
-    ensures failures { TellsFailure D.history disk.old disk.new result }
+    ensures { WritesAtMost D.history disk.old disk.new 1 (IsSided (D.history.image disk.old) blocks.now sides.now size)
+        (λ c. (q : Place) → slice_get sides.now number ≡ Some q
+        → c ≡ put (D.history.image disk.old) q (side_sector number blocks.now sides.now size))
+        result }
 {
     let bytes = side_bytes(number, blocks, sides, size);
     disk.write(sides[number as usize], &bytes)
@@ -47,11 +45,10 @@ fn write_older<D: Sectors>(
 ) -> Result<(), DeviceFault>
     requires below { below < length sides.now }
     requires once { EachOnce sides.now }
-    ensures ok { OnOk result
-        (AreSidedFrom below (D.history.image disk.old) blocks.now sides.now size
-        → AreSidedFrom 0 (D.history.image disk.new) blocks.now sides.now size) }
-    ensures moments { Changes D.history disk.old disk.new below (IsSided (D.history.image disk.old) blocks.now sides.now size) }
-    ensures failures { TellsFailure D.history disk.old disk.new result }
+    ensures { WritesAtMost D.history disk.old disk.new below
+        (IsSided (D.history.image disk.old) blocks.now sides.now size)
+        (λ c. AreSidedFrom below (D.history.image disk.old) blocks.now sides.now size
+        → AreSidedFrom 0 c blocks.now sides.now size) result }
 {
     for number in 0..below {
         write_side(disk, number, blocks, sides, size)?;
@@ -70,12 +67,9 @@ fn write_sides<D: Sectors>(
     requires some { 1 ≤ length sides.now }
     requires few { length sides.now ≤ 6 }
     requires once { EachOnce sides.now }
-    ensures ok { OnOk result
-        (AreSidedFrom (if new then 0 else (length sides.now - 1)) (D.history.image disk.new) blocks.now sides.now
-        size) }
-    ensures moments { Changes D.history disk.old disk.new (if new then (length sides.now) else 1)
-        (IsSided (D.history.image disk.old) blocks.now sides.now size) }
-    ensures failures { TellsFailure D.history disk.old disk.new result }
+    ensures { WritesAtMost D.history disk.old disk.new (if new then (length sides.now) else 1)
+        (IsSided (D.history.image disk.old) blocks.now sides.now size)
+        (λ c. AreSidedFrom (if new then 0 else (length sides.now - 1)) c blocks.now sides.now size) result }
 {
     let last = sides.len() as u8 - 1;
     write_side(disk, last, blocks, sides, size)?;
@@ -97,14 +91,15 @@ fn prepare<D: Sectors>(
     requires some { 1 ≤ length parts.now.sides.items }
     requires few { length parts.now.sides.items ≤ 6 }
     requires once { EachOnce parts.now.sides.items }
-    ensures ok { OnOk result
-        (AreSidedFrom (if new then 0 else (length parts.now.sides.items - 1)) (D.history.image disk.new)
-        parts.now.blocks.items parts.now.sides.items parts.now.size
+    ensures { WritesAtMost D.history disk.old disk.new (2 + (if new then (length parts.now.sides.items) else 1))
+        (IsBefore (D.history.image disk.old) parts.now fresh block.now)
+        (λ c. AreSidedFrom (if new then 0 else (length parts.now.sides.items - 1)) c parts.now.blocks.items
+        parts.now.sides.items
+        parts.now.size
         × IsSided (put (put (D.history.image disk.old) map_place parts.now.map.bytes) fresh block.now)
-        parts.now.blocks.items parts.now.sides.items parts.now.size (D.history.image disk.new)) }
-    ensures moments { Changes D.history disk.old disk.new (2 + (if new then (length parts.now.sides.items) else 1))
-        (IsBefore (D.history.image disk.old) parts.now fresh block.now) }
-    ensures failures { TellsFailure D.history disk.old disk.new result }
+        parts.now.blocks.items
+        parts.now.sides.items parts.now.size c)
+        result }
 {
     disk.write(map_place(), &parts.map.bytes)?;
     disk.write(fresh, block)?;
@@ -123,14 +118,10 @@ pub(crate) fn add_block<D: Sectors>(disk: &mut D, parts: &mut Parts) -> Result<(
     requires at { StandsAt (D.history.image disk.old) parts.old }
     requires few { length parts.old.blocks.items < 720 }
     requires room { taken_next (length parts.old.blocks.items) ≤ blocks_free parts.old.map.bytes }
-    ensures ok { (l : Layout) → (n : ℕ) → (f : File) → IsAt (D.history.image disk.old) l n f parts.old → IsFilledUp f
-        → OnOk result
-        (HasBlockMore (D.history.image disk.old) (D.history.image disk.new) l n f parts.old parts.new) }
-    ensures moments { (l : Layout) → (n : ℕ) → (f : File) → IsAt (D.history.image disk.old) l n f parts.old → IsFilledUp f
-        → Changes D.history disk.old disk.new (step_writes (length f.blocks))
-        (IsGrowingBy (D.history.image disk.old) l n f
-        (full (record_length f.slot) (length f.blocks + 1) - full (record_length f.slot)
-        (length f.blocks))) }
+    ensures file { (l : Layout) → (n : ℕ) → (f : File) → IsAt (D.history.image disk.old) l n f parts.old → IsFilledUp f
+        → GrowsBy D.history disk.old disk.new l n f (step_writes (length f.blocks))
+        (full (record_length f.slot) (length f.blocks + 1) - full (record_length f.slot) (length f.blocks))
+        (HasBlockMore (D.history.image disk.old) (D.history.image disk.new) l n f parts.old parts.new) result }
     ensures failures { TellsFailure D.history disk.old disk.new result }
 {
     let count = parts.blocks.len();

@@ -1,17 +1,12 @@
 //! Records written: the bytes of one record, in the one or two blocks that they touch.
-ghost use Rattle.std.specs.Prelude.{ℕ, ◌≡◌, ◌≢◌, ◌⊎◌, ◌↔◌, ◌+◌, ◌-◌, ◌*◌, ◌<◌, ◌≤◌, Err, IfErr, IfOk, OnErr, OnOk, Some, length, slice_get};
-ghost use Rattle.d64_image.specs.History.{Changes, HeldOnly, OldOr, OnlyReads};
-ghost use Rattle.d64_image.specs.Images.{put, sector};
+ghost use Rattle.std.specs.Prelude.{◌≡◌, ◌+◌, ◌-◌, ◌*◌, ◌<◌, ◌≤◌, IfErr, IfOk, OnOk, length};
+ghost use Rattle.d64_image.specs.Images.{sector};
 ghost use Rattle.disk_layout.specs.Chain.{named_at};
 ghost use Rattle.disk_layout.specs.Clean.{IsClean};
-ghost use Rattle.disk_layout.specs.Layout.{File, Layout, record_length};
-ghost use Rattle.disk_layout.specs.Records as records_of;
-ghost use Rattle.rel_records.specs.Faults.{TellsRelFault};
-ghost use Rattle.rel_records.specs.File.{IsFileOf, IsOf, OfItsFile, entry_of, length_of, records_in};
-ghost use Rattle.rel_records.specs.Growth.{IsFull, IsTooLarge, added, growth_writes, records_had};
-ghost use Rattle.rel_records.specs.Others.{KeepsRelFiles, LeavesRecords};
-ghost use Rattle.rel_records.specs.Written.{IsDone, IsInOneBlock, IsWriting, grown_to, patched, touched, with_written};
-ghost use Rattle.rel_records.specs.declared.faults.RelFault.TheVariants.{Device, Full, Overflow, TooLarge};
+ghost use Rattle.rel_records.specs.Calls.{BeginsIn, IsPosition, PutsSector, WritesRecord, WritesThere};
+ghost use Rattle.rel_records.specs.File.{IsOf, length_of};
+ghost use Rattle.rel_records.specs.Written.{patched, touched};
+ghost use Rattle.rel_records.specs.declared.faults.RelFault.TheVariants.{Overflow};
 
 use crate::access::{read, write};
 use crate::faults::RelFault;
@@ -35,19 +30,9 @@ fn write_block<D: Sectors>(
 ) -> Result<Option<Place>, RelFault>
     requires order { start ≤ end }
     requires inside { end ≤ 254 }
-    ensures ok { OnOk result
-        (D.history.image disk.new
-        ≡ put (D.history.image disk.old) place
-        (patched start end text.now (sector (D.history.image disk.old) place))) }
+    ensures put { PutsSector D.history disk.old disk.new place
+        (patched start end text.now (sector (D.history.image disk.old) place)) result }
     ensures next { IfOk result (λ next. next ≡ named_at (sector (D.history.image disk.old) place) 0) }
-    ensures err { IfErr result (λ fault. fault ≡ Device) }
-    ensures held { HeldOnly D.history disk.old disk.new
-        (OldOr (D.history.image disk.old)
-        (put (D.history.image disk.old) place
-        (patched start end text.now (sector (D.history.image disk.old) place)))) }
-    ensures writes { D.history.writes disk.new ≤ D.history.writes disk.old + 1 }
-    ensures uncounted { OnErr result (D.history.writes disk.new ≡ D.history.writes disk.old) }
-    ensures failures { TellsRelFault D.history disk.old disk.new result }
 {
     let mut block = [0; 256];
     read(disk, place, &mut block)?;
@@ -67,28 +52,9 @@ fn write_in_block<D: Sectors>(
     block: usize,
     place: Place,
 ) -> Result<(), RelFault>
-    requires clean { IsClean (D.history.image disk.old) }
-    requires at { OfItsFile (D.history.image disk.old) file.now (λ l n f. slice_get f.blocks block ≡ Some place) }
-    requires low { 1 ≤ number }
-    requires high { number ≤ records_in file.now }
-    requires position_low { 1 ≤ position }
-    requires position_high { position ≤ length_of file.now }
-    requires from { 254 * block ≤ (number - 1) * length_of file.now + (position - 1) }
+    requires begins { BeginsIn (D.history.image disk.old) file.now number position block place }
     requires to { number * length_of file.now ≤ 254 * block + 254 }
-    requires few { block < 720 }
-    requires large { number * length_of file.now ≤ 182880 }
-    ensures ok { OfItsFile (D.history.image disk.old) file.now (λ l n f.
-        OnOk result
-        (LeavesRecords (D.history.image disk.old) (D.history.image disk.new) l n
-        (with_written (record_length f.slot) number position text.now
-        (records_of.records (D.history.image disk.old) f))
-        file.now)) }
-    ensures err { IfErr result (λ fault. fault ≡ Device) }
-    ensures moments { OfItsFile (D.history.image disk.old) file.now (λ l n f.
-        Changes D.history disk.old disk.new 1
-        (IsWriting (D.history.image disk.old) l n f 0 number position text.now)) }
-    ensures uncounted { OnErr result (D.history.writes disk.new ≡ D.history.writes disk.old) }
-    ensures failures { TellsRelFault D.history disk.old disk.new result }
+    ensures { WritesThere D.history disk.old disk.new file.now number position text.now 1 result }
 {
     let size = file.size as usize;
     let start = (number as usize - 1) * size + (position as usize - 1);
@@ -110,29 +76,10 @@ fn write_across<D: Sectors>(
     block: usize,
     place: Place,
 ) -> Result<(), RelFault>
-    requires clean { IsClean (D.history.image disk.old) }
-    requires of { IsOf (D.history.image disk.old) file.now }
-    requires at { OfItsFile (D.history.image disk.old) file.now (λ l n f. slice_get f.blocks block ≡ Some place) }
-    requires low { 1 ≤ number }
-    requires high { number ≤ records_in file.now }
-    requires position_low { 1 ≤ position }
-    requires position_high { position ≤ length_of file.now }
-    requires from { 254 * block ≤ (number - 1) * length_of file.now + (position - 1) }
+    requires begins { BeginsIn (D.history.image disk.old) file.now number position block place }
     requires inside { (number - 1) * length_of file.now + (position - 1) < 254 * block + 254 }
     requires over { 254 * block + 254 < number * length_of file.now }
-    requires few { block < 720 }
-    requires large { number * length_of file.now ≤ 182880 }
-    ensures ok { OfItsFile (D.history.image disk.old) file.now (λ l n f.
-        OnOk result
-        (LeavesRecords (D.history.image disk.old) (D.history.image disk.new) l n
-        (with_written (record_length f.slot) number position text.now
-        (records_of.records (D.history.image disk.old) f))
-        file.now)) }
-    ensures err { IfErr result (λ fault. fault ≡ Device) }
-    ensures moments { OfItsFile (D.history.image disk.old) file.now (λ l n f.
-        Changes D.history disk.old disk.new 2
-        (IsWriting (D.history.image disk.old) l n f 0 number position text.now)) }
-    ensures failures { TellsRelFault D.history disk.old disk.new result }
+    ensures { WritesThere D.history disk.old disk.new file.now number position text.now 2 result }
 {
     let size = file.size as usize;
     let start = (number as usize - 1) * size + (position as usize - 1);
@@ -152,26 +99,9 @@ fn write_there<D: Sectors>(
     position: u8,
     text: &[u8],
 ) -> Result<(), RelFault>
-    requires clean { IsClean (D.history.image disk.old) }
-    requires of { IsOf (D.history.image disk.old) file.now }
-    requires low { 1 ≤ number }
-    requires high { number ≤ records_in file.now }
-    requires position_low { 1 ≤ position }
-    requires position_high { position ≤ length_of file.now }
-    ensures ok { OfItsFile (D.history.image disk.old) file.now (λ l n f.
-        OnOk result
-        (LeavesRecords (D.history.image disk.old) (D.history.image disk.new) l n
-        (with_written (record_length f.slot) number position text.now
-        (records_of.records (D.history.image disk.old) f))
-        file.now)) }
-    ensures err { IfErr result (λ fault. fault ≡ Device) }
-    ensures moments { OfItsFile (D.history.image disk.old) file.now (λ l n f.
-        Changes D.history disk.old disk.new (touched (length_of file.now) number position)
-        (IsWriting (D.history.image disk.old) l n f 0 number position text.now)) }
-    // a record in one block is written at once
-    ensures uncounted { IsInOneBlock (length_of file.now) number
-        → OnErr result (D.history.writes disk.new ≡ D.history.writes disk.old) }
-    ensures failures { TellsRelFault D.history disk.old disk.new result }
+    requires { IsPosition (D.history.image disk.old) file.now number position }
+    ensures { WritesThere D.history disk.old disk.new file.now number position text.now
+        (touched (length_of file.now) number position) result }
 {
     let size = file.size as usize;
     let start = (number as usize - 1) * size + (position as usize - 1);
@@ -212,39 +142,7 @@ pub fn write_record<D: Sectors>(
     requires number { 1 ≤ number }
     requires position_low { 1 ≤ position }
     requires position_high { position ≤ length_of file.old }
-    // the record is written, whole or cut
-    ensures done { OfItsFile (D.history.image disk.old) file.old (λ l n f.
-        IsDone result
-        → LeavesRecords (D.history.image disk.old) (D.history.image disk.new) l n
-        (with_written (record_length f.slot) number position text.now
-        (grown_to (D.history.image disk.old) f number))
-        file.new) }
-    ensures ok { OnOk result (length text.now + position ≤ length_of file.old + 1) }
-    ensures overflow { IfErr result (λ fault. fault ≡ Overflow → length_of file.old + 1 < length text.now + position) }
-    ensures there { IsDone result → (number ≤ records_in file.new) × (number ≤ 182880) }
-    ensures same { IsDone result → length_of file.new ≡ length_of file.old }
-    // refusals of growth, and no other
-    ensures told { IfErr result (λ fault. (fault ≡ Overflow) ⊎ ((fault ≡ TooLarge) ⊎ ((fault ≡ Full) ⊎ (fault ≡ Device)))) }
-    ensures too_large { OfItsFile (D.history.image disk.old) file.old (λ l n f. (result ≡ Err TooLarge) ↔ IsTooLarge f number) }
-    ensures full { OfItsFile (D.history.image disk.old) file.old
-        (λ l n f. IfErr result (λ fault. fault ≡ Full → IsFull (D.history.image disk.old) f number)) }
-    ensures fits { OfItsFile (D.history.image disk.old) file.old
-        (λ l n f. IsDone result → ¬ (IsFull (D.history.image disk.old) f number)) }
-    ensures refused { IfErr result (λ fault.
-        fault ≢ Device → fault ≢ Overflow → (file.new ≡ file.old) × OnlyReads D.history disk.old disk.new 1) }
-    // every image held
-    ensures moments { OfItsFile (D.history.image disk.old) file.old (λ l n f.
-        Changes D.history disk.old disk.new
-        (growth_writes f number + touched (record_length f.slot) number position)
-        (IsWriting (D.history.image disk.old) l n f (added (record_length f.slot) (records_had f) number)
-        number position text.now)) }
-    ensures others { OfItsFile (D.history.image disk.old) file.old
-        (λ l n f. KeepsRelFiles (D.history.image disk.old) (D.history.image disk.new) l n) }
-    // a record that is there and lies in one block is written at once: a write that was counted is the whole one
-    ensures uncounted { number ≤ records_in file.old → IsInOneBlock (length_of file.old) number
-        → IfErr result (λ fault. fault ≢ Overflow → D.history.writes disk.new ≡ D.history.writes disk.old) }
-    ensures entry { entry_of file.new ≡ entry_of file.old }
-    ensures failures { TellsRelFault D.history disk.old disk.new result }
+    ensures { WritesRecord D.history disk.old disk.new file.old file.new number position text.now result }
 {
     grow_to(disk, file, number)?;
     write_there(disk, file, number, position, text)?;

@@ -22,5 +22,5 @@ returns g c =
     let (l, clean) = c.in-Ok.ensures.clean in
     let (f, first, of) = c.in_ok-file.ensures.ok l clean.layout in
     let (k, n, h, at) = subst P (sym c.in_ok-file.ensures.reads.image) (l, entry_of v, f, of) in
-    let left = c.in_ok-grow_to.ensures.ok k n h at in
+    let left = (c.in_ok-grow_to.ensures.file k n h at).ok in
     record { ok = ((left.layout, left.clean), (left.layout, n, left.file, left.of), c.in_ok-grow_to.ensures.there) }

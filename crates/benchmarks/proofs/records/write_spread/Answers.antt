@@ -5,7 +5,7 @@ use Rattle.benchmarks.proofs.records.write_spread.Goals as goal
 pub loop-round-preserved : goal.loop-round-preserved
 loop-round-preserved g c =
     let (l, n, f, of) = c.loop-round.invariant.of in
-    let left = c.in_ok-write_record.ensures.done l n f of tt in
+    let left = (c.in_ok-write_record.ensures.file l n f of).done tt in
     record {
       high = c.next_number-number.ensures.high;
       clean = (left.layout, left.clean);

@@ -18,122 +18,200 @@ unwrap-requires g c =
     let a = S.image c.args.disk.now in
     let v = c.args.file.now in
     let r = c.requires in
-    next-some a v c.args.block c.args.place _ c.in_ok-next.next r.of r.at
-    (omega (arith, r.over, one-more c.args.number (length_of v) r.low, inside-of a v c.args.number r.of (S.whole c.args.disk.now) r.low r.high))
+    next-some a v c.args.block c.args.place _ c.in_ok-next.next r.begins.there.of r.begins.at
+    (omega (
+      arith,
+      r.over,
+      one-more c.args.number (length_of v) r.begins.there.low,
+      inside-of a v c.args.number
+          r.begins.there.of (S.whole c.args.disk.now) r.begins.there.low r.begins.there.high,
+    ))
     refl c.in_ok-next.ensures.next
 
-pub returns-in_err-next-clause-moments : goal.returns-in_err-next-clause-moments
-returns-in_err-next-clause-moments g c = λ l n f of.
-    let S = g.D.Sectors.history in
-    let a = S.image c.args.disk.now in
-    let v = c.args.file.now in
-    let r = c.requires in
-    let small : (i : ℕ) → slice_index c.args.text.now i < 256 = λ i. omega (arith, c.type_inv.text i) in
-    let more : c.args.block + 1 < length f.blocks = omega (arith, r.over, of.shows.blocks, one-more c.args.number (length_of v) r.low, inside-of a v c.args.number r.of (S.whole c.args.disk.now) r.low r.high) in
-    let (q, to) = block-there a l n f v of (c.args.block + 1) c.args.place more in
-    first-moments S c.args.disk.now c.write_block.new.disk l n f v c.args.number c.args.position c.args.text.now _ of c.write_block.ensures.held c.write_block.ensures.writes
-    (leaves-half a l n f v (S.whole c.args.disk.now) of (clean-of a l n f v of r.clean) c.args.block c.args.number c.args.position c.args.place q c.args.text.now small (r.at l n f of) to r.low r.high r.position_low r.position_high r.from r.inside r.over)
+pub returns-in_err-next : goal.returns-in_err-next
+returns-in_err-next g c =
+    record {
+      file = λ l n f of.
+          let S = g.D.Sectors.history in
+          let a = S.image c.args.disk.now in
+          let v = c.args.file.now in
+          let r = c.requires in
+          let small : (i : ℕ) → slice_index c.args.text.now i < 256 = λ i. omega (arith, c.type_inv.text i) in
+          let more : c.args.block + 1 < length f.blocks = omega (
+            arith,
+            r.over,
+            of.shows.blocks,
+            one-more c.args.number (length_of v) r.begins.there.low,
+            inside-of a v
+                c.args.number r.begins.there.of (S.whole c.args.disk.now) r.begins.there.low r.begins.there.high,
+          ) in
+          let (q, to) = block-there a l n f v of (c.args.block + 1) c.args.place more in
+          record {
+            ok = not-done c.from_residual.result _ c.from_residual.ensures.1 _;
+            moments =
+                first-moments S c.args.disk.now c.write_block.new.disk l n f v c.args.number c.args.position
+                c.args.text.now _ of c.write_block.ensures.put.held c.write_block.ensures.put.writes
+                (leaves-half a l n f v (S.whole c.args.disk.now) of (clean-of a l n f v of r.begins.there.clean)
+                c.args.block c.args.number c.args.position c.args.place q c.args.text.now small
+                (r.begins.at l n f of) to r.begins.there.low r.begins.there.high r.begins.there.position_low
+                r.begins.there.position_high r.begins.from r.inside r.over);
+          };
+      err = fault-is c.from_residual.result _ c.from_residual.ensures.1 _ (λ e is. is ∙ c.in_err-next.ensures.put.err);
+      uncounted = λ one. absurd
+          (omega (
+            arith,
+            one,
+            c.requires.over,
+            c.requires.inside,
+            one-more c.args.number c.args.file.now.size
+                c.requires.begins.there.low,
+          ));
+      failures = passed-on g.D.Sectors.history _ _ _ refl c.from_residual.result _ c.from_residual.ensures.1
+          c.in_err-next.ensures.put.failures;
+    }
 
-pub returns-in_err-write_block-clause-moments : goal.returns-in_err-write_block-clause-moments
-returns-in_err-write_block-clause-moments g c = λ l n f of.
-    let S = g.D.Sectors.history in
-    let a = S.image c.args.disk.now in
-    let v = c.args.file.now in
-    let r = c.requires in
-    let small : (i : ℕ) → slice_index c.args.text.now i < 256 = λ i. omega (arith, c.type_inv.text i) in
-    let more : c.args.block + 1 < length f.blocks = omega (arith, r.over, of.shows.blocks, one-more c.args.number (length_of v) r.low, inside-of a v c.args.number r.of (S.whole c.args.disk.now) r.low r.high) in
-    let to = next-is a l n f v of c.args.block c.args.place _ c.in_ok-next.next (r.at l n f of) more refl c.in_ok-next.ensures.next ∙ c.unwrap.ensures in
-    both-moments S c.args.disk.now c.write_block.new.disk l n f v c.args.number c.args.position c.args.text.now _ of c.in_ok-next.ensures.held c.in_ok-next.ensures.writes
-    (leaves-half a l n f v (S.whole c.args.disk.now) of (clean-of a l n f v of r.clean) c.args.block c.args.number c.args.position c.args.place c.unwrap.result c.args.text.now small (r.at l n f of) to r.low r.high r.position_low r.position_high r.from r.inside r.over)
-    c.write_block-2.new.disk _ c.in_ok-next.ensures.ok c.write_block-2.ensures.held c.write_block-2.ensures.writes
-    (leaves-both a l n f v (S.whole c.args.disk.now) of (clean-of a l n f v of r.clean) c.args.block c.args.number c.args.position c.args.place c.unwrap.result c.args.text.now small (r.at l n f of) to r.low r.high r.position_low r.position_high r.from r.inside r.over
-    c.min.result (S.image c.write_block.new.disk) c.min.ensures c.in_ok-next.ensures.ok)
+pub returns-in_err-write_block : goal.returns-in_err-write_block
+returns-in_err-write_block g c =
+    record {
+      file = λ l n f of.
+          let S = g.D.Sectors.history in
+          let a = S.image c.args.disk.now in
+          let v = c.args.file.now in
+          let r = c.requires in
+          let small : (i : ℕ) → slice_index c.args.text.now i < 256 = λ i. omega (arith, c.type_inv.text i) in
+          let more : c.args.block + 1 < length f.blocks = omega (
+            arith,
+            r.over,
+            of.shows.blocks,
+            one-more c.args.number (length_of v) r.begins.there.low,
+            inside-of a v
+                c.args.number r.begins.there.of (S.whole c.args.disk.now) r.begins.there.low r.begins.there.high,
+          ) in
+          let to = next-is a l n f v of c.args.block c.args.place _ c.in_ok-next.next (r.begins.at l n f of) more refl
+          c.in_ok-next.ensures.next ∙ c.unwrap.ensures in
+          record {
+            ok = not-done c.from_residual-in_err-write_block.result _ c.from_residual-in_err-write_block.ensures.1 _;
+            moments =
+                both-moments S c.args.disk.now c.write_block.new.disk l n f v c.args.number c.args.position
+                c.args.text.now _ of c.in_ok-next.ensures.put.held c.in_ok-next.ensures.put.writes
+                (leaves-half a l n f v (S.whole c.args.disk.now) of (clean-of a l n f v of r.begins.there.clean)
+                c.args.block c.args.number c.args.position c.args.place c.unwrap.result c.args.text.now small
+                (r.begins.at l n f of) to r.begins.there.low r.begins.there.high r.begins.there.position_low
+                r.begins.there.position_high r.begins.from r.inside r.over)
+                c.write_block-2.new.disk _ c.in_ok-next.ensures.put.ok c.write_block-2.ensures.put.held
+                c.write_block-2.ensures.put.writes
+                (leaves-both a l n f v (S.whole c.args.disk.now) of (clean-of a l n f v of r.begins.there.clean)
+                c.args.block c.args.number c.args.position c.args.place c.unwrap.result c.args.text.now small
+                (r.begins.at l n f of) to r.begins.there.low r.begins.there.high r.begins.there.position_low
+                r.begins.there.position_high r.begins.from r.inside r.over
+                c.min.result (S.image c.write_block.new.disk) c.min.ensures c.in_ok-next.ensures.put.ok);
+          };
+      err = fault-is c.from_residual-in_err-write_block.result _ c.from_residual-in_err-write_block.ensures.1 _
+          (λ e is. is ∙ c.in_err-write_block.ensures.put.err);
+      uncounted = λ one. absurd
+          (omega (
+            arith,
+            one,
+            c.requires.over,
+            c.requires.inside,
+            one-more c.args.number c.args.file.now.size
+                c.requires.begins.there.low,
+          ));
+      failures = passed-on g.D.Sectors.history _ _ _ c.in_ok-next.ensures.put.failures
+          c.from_residual-in_err-write_block.result _ c.from_residual-in_err-write_block.ensures.1
+          c.in_err-write_block.ensures.put.failures;
+    }
 
-pub returns-clause-ok : goal.returns-clause-ok
-returns-clause-ok g c = λ l n f of.
-    let S = g.D.Sectors.history in
-    let a = S.image c.args.disk.now in
-    let v = c.args.file.now in
-    let r = c.requires in
-    let small : (i : ℕ) → slice_index c.args.text.now i < 256 = λ i. omega (arith, c.type_inv.text i) in
-    let more : c.args.block + 1 < length f.blocks = omega (arith, r.over, of.shows.blocks, one-more c.args.number (length_of v) r.low, inside-of a v c.args.number r.of (S.whole c.args.disk.now) r.low r.high) in
-    let to = next-is a l n f v of c.args.block c.args.place _ c.in_ok-next.next (r.at l n f of) more refl c.in_ok-next.ensures.next ∙ c.unwrap.ensures in
-    let P : Image → Type 0 = λ i. LeavesRecords a i l n (with_written (record_length f.slot) c.args.number c.args.position c.args.text.now (records a f)) v in
-    subst P (sym c.in_ok-write_block.ensures.ok)
-    (leaves-both a l n f v (S.whole c.args.disk.now) of (clean-of a l n f v of r.clean) c.args.block c.args.number c.args.position c.args.place c.unwrap.result c.args.text.now small (r.at l n f of) to r.low r.high r.position_low r.position_high r.from r.inside r.over
-    c.min.result (S.image c.write_block.new.disk) c.min.ensures c.in_ok-next.ensures.ok)
-
-pub returns-clause-moments : goal.returns-clause-moments
-returns-clause-moments g c = λ l n f of.
-    let S = g.D.Sectors.history in
-    let a = S.image c.args.disk.now in
-    let v = c.args.file.now in
-    let r = c.requires in
-    let small : (i : ℕ) → slice_index c.args.text.now i < 256 = λ i. omega (arith, c.type_inv.text i) in
-    let more : c.args.block + 1 < length f.blocks = omega (arith, r.over, of.shows.blocks, one-more c.args.number (length_of v) r.low, inside-of a v c.args.number r.of (S.whole c.args.disk.now) r.low r.high) in
-    let to = next-is a l n f v of c.args.block c.args.place _ c.in_ok-next.next (r.at l n f of) more refl c.in_ok-next.ensures.next ∙ c.unwrap.ensures in
-    both-moments S c.args.disk.now c.write_block.new.disk l n f v c.args.number c.args.position c.args.text.now _ of c.in_ok-next.ensures.held c.in_ok-next.ensures.writes
-    (leaves-half a l n f v (S.whole c.args.disk.now) of (clean-of a l n f v of r.clean) c.args.block c.args.number c.args.position c.args.place c.unwrap.result c.args.text.now small (r.at l n f of) to r.low r.high r.position_low r.position_high r.from r.inside r.over)
-    c.write_block-2.new.disk _ c.in_ok-next.ensures.ok c.write_block-2.ensures.held c.write_block-2.ensures.writes
-    (leaves-both a l n f v (S.whole c.args.disk.now) of (clean-of a l n f v of r.clean) c.args.block c.args.number c.args.position c.args.place c.unwrap.result c.args.text.now small (r.at l n f of) to r.low r.high r.position_low r.position_high r.from r.inside r.over
-    c.min.result (S.image c.write_block.new.disk) c.min.ensures c.in_ok-next.ensures.ok)
-
-pub returns-in_err-next-clause-ok : goal.returns-in_err-next-clause-ok
-returns-in_err-next-clause-ok g c l n f of = not-done c.from_residual.result _ c.from_residual.ensures.1 _
-
-pub returns-in_err-next-clause-err : goal.returns-in_err-next-clause-err
-returns-in_err-next-clause-err g c = fault-is c.from_residual.result _ c.from_residual.ensures.1 _ (λ e is. is ∙ c.in_err-next.ensures.err)
-
-pub returns-in_err-next-clause-failures : goal.returns-in_err-next-clause-failures
-returns-in_err-next-clause-failures g c = passed-on g.D.Sectors.history _ _ _ refl c.from_residual.result _ c.from_residual.ensures.1 c.in_err-next.ensures.failures
-
-pub returns-in_err-write_block-clause-ok : goal.returns-in_err-write_block-clause-ok
-returns-in_err-write_block-clause-ok g c l n f of = not-done c.from_residual-in_err-write_block.result _ c.from_residual-in_err-write_block.ensures.1 _
-
-pub returns-in_err-write_block-clause-err : goal.returns-in_err-write_block-clause-err
-returns-in_err-write_block-clause-err g c = fault-is c.from_residual-in_err-write_block.result _ c.from_residual-in_err-write_block.ensures.1 _ (λ e is. is ∙ c.in_err-write_block.ensures.err)
-
-pub returns-in_err-write_block-clause-failures : goal.returns-in_err-write_block-clause-failures
-returns-in_err-write_block-clause-failures g c = passed-on g.D.Sectors.history _ _ _ c.in_ok-next.ensures.failures c.from_residual-in_err-write_block.result _ c.from_residual-in_err-write_block.ensures.1 c.in_err-write_block.ensures.failures
-
-pub returns-clause-err : goal.returns-clause-err
-returns-clause-err g c = tt
-
-pub returns-clause-failures : goal.returns-clause-failures
-returns-clause-failures g c = c.in_ok-write_block.ensures.failures ∙ c.in_ok-next.ensures.failures
+pub returns : goal.returns
+returns g c =
+    record {
+      file = λ l n f of.
+          let S = g.D.Sectors.history in
+          let a = S.image c.args.disk.now in
+          let v = c.args.file.now in
+          let r = c.requires in
+          let small : (i : ℕ) → slice_index c.args.text.now i < 256 = λ i. omega (arith, c.type_inv.text i) in
+          let more : c.args.block + 1 < length f.blocks = omega (
+            arith,
+            r.over,
+            of.shows.blocks,
+            one-more c.args.number (length_of v) r.begins.there.low,
+            inside-of a v
+                c.args.number r.begins.there.of (S.whole c.args.disk.now) r.begins.there.low r.begins.there.high,
+          ) in
+          let to = next-is a l n f v of c.args.block c.args.place _ c.in_ok-next.next (r.begins.at l n f of) more refl
+          c.in_ok-next.ensures.next ∙ c.unwrap.ensures in
+          let P : Image
+          → Type 0 = λ i. LeavesRecords a i l n
+          (with_written (record_length f.slot) c.args.number c.args.position c.args.text.now (records a f)) v in
+          record {
+            ok =
+                subst P (sym c.in_ok-write_block.ensures.put.ok)
+                (leaves-both a l n f v (S.whole c.args.disk.now) of (clean-of a l n f v of r.begins.there.clean)
+                c.args.block c.args.number c.args.position c.args.place c.unwrap.result c.args.text.now small
+                (r.begins.at l n f of) to r.begins.there.low r.begins.there.high r.begins.there.position_low
+                r.begins.there.position_high r.begins.from r.inside r.over
+                c.min.result (S.image c.write_block.new.disk) c.min.ensures c.in_ok-next.ensures.put.ok);
+            moments =
+                both-moments S c.args.disk.now c.write_block.new.disk l n f v c.args.number c.args.position
+                c.args.text.now _ of c.in_ok-next.ensures.put.held c.in_ok-next.ensures.put.writes
+                (leaves-half a l n f v (S.whole c.args.disk.now) of (clean-of a l n f v of r.begins.there.clean)
+                c.args.block c.args.number c.args.position c.args.place c.unwrap.result c.args.text.now small
+                (r.begins.at l n f of) to r.begins.there.low r.begins.there.high r.begins.there.position_low
+                r.begins.there.position_high r.begins.from r.inside r.over)
+                c.write_block-2.new.disk _ c.in_ok-next.ensures.put.ok c.write_block-2.ensures.put.held
+                c.write_block-2.ensures.put.writes
+                (leaves-both a l n f v (S.whole c.args.disk.now) of (clean-of a l n f v of r.begins.there.clean)
+                c.args.block c.args.number c.args.position c.args.place c.unwrap.result c.args.text.now small
+                (r.begins.at l n f of) to r.begins.there.low r.begins.there.high r.begins.there.position_low
+                r.begins.there.position_high r.begins.from r.inside r.over
+                c.min.result (S.image c.write_block.new.disk) c.min.ensures c.in_ok-next.ensures.put.ok);
+          };
+      err = tt;
+      uncounted = λ one. absurd
+          (omega (
+            arith,
+            one,
+            c.requires.over,
+            c.requires.inside,
+            one-more c.args.number c.args.file.now.size
+                c.requires.begins.there.low,
+          ));
+      failures = c.in_ok-write_block.ensures.put.failures ∙ c.in_ok-next.ensures.put.failures;
+    }
 
 pub overflow_sub-start : goal.overflow_sub-start
-overflow_sub-start g c = c.requires.low
+overflow_sub-start g c = c.requires.begins.there.low
 
 pub overflow_mul-start : goal.overflow_mul-start
 overflow_mul-start g c =
-    let large : c.args.number * c.args.file.now.size ≤ 182880 = c.requires.large in
-    let more = one-more c.args.number c.args.file.now.size c.requires.low in
+    let large : c.args.number * c.args.file.now.size ≤ 182880 = c.requires.begins.large in
+    let more = one-more c.args.number c.args.file.now.size c.requires.begins.there.low in
     omega (arith, large, more)
 
 pub overflow_sub-start-2 : goal.overflow_sub-start-2
-overflow_sub-start-2 g c = c.requires.position_low
+overflow_sub-start-2 g c = c.requires.begins.there.position_low
 
 pub overflow_add-start : goal.overflow_add-start
 overflow_add-start g c =
-    let large : c.args.number * c.args.file.now.size ≤ 182880 = c.requires.large in
-    let more = one-more c.args.number c.args.file.now.size c.requires.low in
-    omega (arith, large, more, c.requires.position_high)
+    let large : c.args.number * c.args.file.now.size ≤ 182880 = c.requires.begins.large in
+    let more = one-more c.args.number c.args.file.now.size c.requires.begins.there.low in
+    omega (arith, large, more, c.requires.begins.there.position_high)
 
 pub overflow_mul-end : goal.overflow_mul-end
-overflow_mul-end g c = omega (arith, c.requires.large)
+overflow_mul-end g c = omega (arith, c.requires.begins.large)
 
 pub overflow_add-here : goal.overflow_add-here
-overflow_add-here g c = omega (arith, c.requires.few)
+overflow_add-here g c = omega (arith, c.requires.begins.few)
 
 pub overflow_mul-here : goal.overflow_mul-here
-overflow_mul-here g c = omega (arith, c.requires.few)
+overflow_mul-here g c = omega (arith, c.requires.begins.few)
 
 pub overflow_mul-block : goal.overflow_mul-block
-overflow_mul-block g c = omega (arith, c.requires.few)
+overflow_mul-block g c = omega (arith, c.requires.begins.few)
 
 pub overflow_sub-start-3 : goal.overflow_sub-start-3
-overflow_sub-start-3 g c = c.requires.from
+overflow_sub-start-3 g c = c.requires.begins.from
 
 pub write_block-requires-clause-order : goal.write_block-requires-clause-order
 write_block-requires-clause-order g c = omega (arith, c.requires.inside)
@@ -154,4 +232,9 @@ pub write_block-requires-2-clause-order : goal.write_block-requires-2-clause-ord
 write_block-requires-2-clause-order g c = omega arith
 
 pub write_block-requires-2-clause-inside : goal.write_block-requires-2-clause-inside
-write_block-requires-2-clause-inside g c = omega (arith, one-more c.args.number c.args.file.now.size c.requires.low, c.requires.inside, c.args.file.now.size_high)
+write_block-requires-2-clause-inside g c = omega (
+  arith,
+  one-more c.args.number c.args.file.now.size c.requires.begins.there.low,
+  c.requires.inside,
+  c.args.file.now.size_high,
+)

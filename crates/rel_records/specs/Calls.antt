@@ -1,0 +1,225 @@
+-- What each call on a relative file promises, at Ok and at an error. All of it is our own.
+use Rattle.std.specs.Prelude.{ℕ, ◌≡◌, ◌≢◌, ◌⊎◌, ◌↔◌, ◌≤◌, ◌<◌, ◌+◌, ◌*◌, ◌-◌, Err, IfErr, IfOk, IsOk, List, OnErr, OnOk}
+use Rattle.std.specs.Prelude.{Result, Some, length, slice_get}
+use Rattle.d64_image.specs.History.{Changes, HeldOnly, History, OldOr, OnlyReads, TellsFailure, WritesNothing}
+use Rattle.d64_image.specs.Images.{Image, Sector, put}
+use Rattle.d64_image.specs.declared.faults.DeviceFault.{DeviceFault}
+use Rattle.d64_image.specs.declared.place.Place.{Place}
+use Rattle.disk_layout.specs.Clean.{IsClean}
+use Rattle.disk_layout.specs.Layout.{File, IsLayout, Layout, record_length}
+use Rattle.disk_layout.specs.Records.{records}
+use Rattle.disk_layout.specs.Rest.{IsFirst, IsNamed}
+use Rattle.rel_records.specs.Faults.{TellsRelFault}
+use Rattle.rel_records.specs.File.{IsFileOf, IsOf, OfItsFile, entry_of, length_of, records_in}
+use Rattle.rel_records.specs.Growth.{IsFull, IsTooLarge, added, growth_writes, records_had}
+use Rattle.rel_records.specs.Made.{HasNoRoom, IsCreating, IsMade, IsTakenName, StaysOf, creation_writes}
+use Rattle.rel_records.specs.Others.{KeepsRelFiles, LeavesRecords}
+use Rattle.rel_records.specs.Site.{HasFileAt}
+use Rattle.rel_records.specs.Written.{IsAbsent, IsDone, IsGrowingBy, IsGrowingTo, IsInOneBlock, IsRecord, IsWriting}
+use Rattle.rel_records.specs.Written.{grown_to, touched, with_written}
+use Rattle.rel_records.specs.declared.faults.RelFault.{RelFault}
+use Rattle.rel_records.specs.declared.faults.RelFault.TheVariants.{Device, Exists, Full, NotFound, NotPresent, Overflow}
+use Rattle.rel_records.specs.declared.faults.RelFault.TheVariants.{TooLarge}
+use Rattle.rel_records.specs.declared.rel_file.RelFile.{RelFile}
+use Rattle.rel_records.specs.declared.site.Site.{Site}
+
+-- At most so many sectors are read and none is written. At Ok this holds of the answer; the one fault is the device's.
+pub record ReadsAtMost {D T : Type 0} (S : History D) (old new : D) (most : ℕ) (result : Result T RelFault)
+    (P : T → Type 0) : Type 0 where
+  pub ok : IfOk result P
+  pub err : IfErr result (λ e. e ≡ Device)
+  pub reads : OnlyReads S old new most
+  pub failures : TellsRelFault S old new result
+
+-- At most so many sectors are written. At Ok this holds of the image; each image on the way is one of these.
+pub record WritesAtMost {D T E : Type 0} (S : History D) (old new : D) (most : ℕ) (held done : Image → Type 0)
+    (result : Result T E) : Type 0 where
+  pub ok : OnOk result (done (S.image new))
+  pub moments : Changes S old new most held
+  pub failures : TellsFailure S old new result
+
+-- The first closed relative file of this name was found, or the directory has none.
+pub record FindsFile {D : Type 0} (S : History D) (old new : D) (name : List ℕ)
+    (result : Result RelFile RelFault) : Type 0 where
+  pub ok : (l : Layout) → IsLayout (S.image old) l → IfOk result (λ v.
+      (f : File) × IsFirst l name (entry_of v) f × IsFileOf (S.image old) l (entry_of v) f v)
+  pub not_found : (l : Layout) → IsLayout (S.image old) l → IfErr result (λ e.
+      e ≡ NotFound → (k : ℕ) → (f : File) → slice_get l.files k ≡ Some f → ¬ (IsNamed name f))
+  pub told : IfErr result (λ e. (e ≡ NotFound) ⊎ (e ≡ Device))
+  -- eighteen sectors of the directory, the chain, a side sector
+  pub reads : OnlyReads S old new 702
+  pub failures : TellsRelFault S old new result
+
+-- These are the bytes of this record of the file that v is of, all of them.
+pub record HasRead (img : Image) (v : RelFile) (number : ℕ) (text : List ℕ) : Type 0 where
+  pub bytes : OfItsFile img v (λ l n f. IsRecord (records img f) number text)
+  pub size : length text ≡ length_of v
+
+-- A record was read into a text; where it isn't there nothing was.
+pub record ReadsRecord {D : Type 0} (S : History D) (old new : D) (v : RelFile) (number : ℕ) (text : List ℕ) (most : ℕ)
+    (result : Result (Unit {0}) RelFault) : Type 0 where
+  pub ok : OfItsFile (S.image old) v (λ l n f. OnOk result (IsRecord (records (S.image old) f) number text))
+  pub size : OnOk result (length text ≡ length_of v)
+  pub bound : OnOk result (number ≤ 182880)
+  pub not_present : OfItsFile (S.image old) v (λ l n f.
+      IfErr result (λ e. e ≡ NotPresent → IsAbsent (records (S.image old) f) number))
+  pub told : IfErr result (λ e. (e ≡ NotPresent) ⊎ (e ≡ Device))
+  pub reads : OnlyReads S old new most
+  pub failures : TellsRelFault S old new result
+
+-- The sector at a place was written with these bytes, by one write: at an error, which is the device's, they may stand
+-- or not.
+pub record PutsSector {D T : Type 0} (S : History D) (old new : D) (p : Place) (bytes : Sector)
+    (result : Result T RelFault) : Type 0 where
+  pub ok : OnOk result (S.image new ≡ put (S.image old) p bytes)
+  pub err : IfErr result (λ e. e ≡ Device)
+  pub held : HeldOnly S old new (OldOr (S.image old) (put (S.image old) p bytes))
+  pub writes : S.writes new ≤ S.writes old + 1
+  pub uncounted : OnErr result (S.writes new ≡ S.writes old)
+  pub failures : TellsRelFault S old new result
+
+-- Record `number` of the file that v is of is there, and this is a position in it, counted from 1.
+pub record IsPosition (img : Image) (v : RelFile) (number position : ℕ) : Type 0 where
+  pub clean : IsClean img
+  pub of : IsOf img v
+  pub low : 1 ≤ number
+  pub high : number ≤ records_in v
+  pub position_low : 1 ≤ position
+  pub position_high : position ≤ length_of v
+
+-- And its bytes from the position on begin in the file's data block of this number, from 0, which stands at this place.
+pub record BeginsIn (img : Image) (v : RelFile) (number position block : ℕ) (place : Place) : Type 0 where
+  pub there : IsPosition img v number position
+  pub at : OfItsFile img v (λ l n f. slice_get f.blocks block ≡ Some place)
+  pub from : 254 * block ≤ (number - 1) * length_of v + (position - 1)
+  pub few : block < 720
+  pub large : number * length_of v ≤ 182880
+
+-- A text was written from a position on into a record of f, the file at place n of the layout l.
+pub record WritesOver {D : Type 0} (S : History D) (old new : D) (l : Layout) (n : ℕ) (f : File) (v : RelFile)
+    (number position : ℕ)
+    (text : List ℕ) (most : ℕ) (result : Result (Unit {0}) RelFault) : Type 0 where
+  pub ok : OnOk result (LeavesRecords (S.image old) (S.image new) l n
+      (with_written (record_length f.slot) number position text (records (S.image old) f)) v)
+  pub moments : Changes S old new most (IsWriting (S.image old) l n f 0 number position text)
+
+-- A text was written from a position on into a record that is there, by at most so many writes.
+pub record WritesThere {D : Type 0} (S : History D) (old new : D) (v : RelFile) (number position : ℕ) (text : List ℕ)
+    (most : ℕ)
+    (result : Result (Unit {0}) RelFault) : Type 0 where
+  pub file : OfItsFile (S.image old) v (λ l n f. WritesOver S old new l n f v number position text most result)
+  pub err : IfErr result (λ e. e ≡ Device)
+  -- a record in one block is written at once
+  pub uncounted : IsInOneBlock (length_of v) number → OnErr result (S.writes new ≡ S.writes old)
+  pub failures : TellsRelFault S old new result
+
+-- A text was written into a record of f, the file at place n of the layout l, which grew where it had to; w is kept of
+-- it.
+pub record WritesFile {D : Type 0} (S : History D) (old new : D) (l : Layout) (n : ℕ) (f : File) (w : RelFile)
+    (number position : ℕ)
+    (text : List ℕ) (result : Result (Unit {0}) RelFault) : Type 0 where
+  -- the record is written, whole or cut
+  pub done : IsDone result → LeavesRecords (S.image old) (S.image new) l n
+      (with_written (record_length f.slot) number position text (grown_to (S.image old) f number)) w
+  pub too_large : (result ≡ Err TooLarge) ↔ IsTooLarge f number
+  pub full : IfErr result (λ e. e ≡ Full → IsFull (S.image old) f number)
+  pub fits : IsDone result → ¬ (IsFull (S.image old) f number)
+  -- every image held, and the writes
+  pub moments : Changes S old new (growth_writes f number + touched (record_length f.slot) number position)
+      (IsWriting (S.image old) l n f (added (record_length f.slot) (records_had f) number) number position text)
+  pub others : KeepsRelFiles (S.image old) (S.image new) l n
+
+-- A text was written from a position on into a record, or growth was refused for it. Of the file v was kept, and w is
+-- now.
+pub record WritesRecord {D : Type 0} (S : History D) (old new : D) (v w : RelFile) (number position : ℕ) (text : List ℕ)
+    (result : Result (Unit {0}) RelFault) : Type 0 where
+  pub file : OfItsFile (S.image old) v (λ l n f. WritesFile S old new l n f w number position text result)
+  pub ok : OnOk result (length text + position ≤ length_of v + 1)
+  pub overflow : IfErr result (λ e. e ≡ Overflow → length_of v + 1 < length text + position)
+  pub there : IsDone result → (number ≤ records_in w) × (number ≤ 182880)
+  pub same : IsDone result → length_of w ≡ length_of v
+  pub told : IfErr result (λ e. (e ≡ Overflow) ⊎ ((e ≡ TooLarge) ⊎ ((e ≡ Full) ⊎ (e ≡ Device))))
+  -- growth was refused
+  pub refused : IfErr result (λ e. e ≢ Device → e ≢ Overflow → (w ≡ v) × OnlyReads S old new 1)
+  -- a record that is there and lies in one block is written at once: a write that was counted is the whole one
+  pub uncounted : number ≤ records_in v → IsInOneBlock (length_of v) number
+      → IfErr result (λ e. e ≢ Overflow → S.writes new ≡ S.writes old)
+  pub entry : entry_of w ≡ entry_of v
+  pub failures : TellsRelFault S old new result
+
+-- f, the file at place n of the layout l, grew to a record, or couldn't; w is kept of it.
+pub record GrowsFile {D : Type 0} (S : History D) (old new : D) (l : Layout) (n : ℕ) (f : File) (w : RelFile)
+    (number : ℕ)
+    (result : Result (Unit {0}) RelFault) : Type 0 where
+  pub ok : OnOk result (LeavesRecords (S.image old) (S.image new) l n (grown_to (S.image old) f number) w)
+  -- each refusal, exactly
+  pub too_large : (result ≡ Err TooLarge) ↔ IsTooLarge f number
+  pub full : IfErr result (λ e. e ≡ Full → IsFull (S.image old) f number)
+  pub fits : OnOk result (¬ (IsFull (S.image old) f number))
+  -- every image held, and the writes: those of the filling, then five for each block and one for each older side sector
+  pub moments : Changes S old new (growth_writes f number) (IsGrowingTo (S.image old) l n f number)
+  pub others : KeepsRelFiles (S.image old) (S.image new) l n
+
+-- A file grew so that a record is there, or growth was refused. Of the file v was kept, and w is now.
+pub record Grows {D : Type 0} (S : History D) (old new : D) (v w : RelFile) (number : ℕ)
+    (result : Result (Unit {0}) RelFault) : Type 0 where
+  pub file : OfItsFile (S.image old) v (λ l n f. GrowsFile S old new l n f w number result)
+  pub there : OnOk result (number ≤ records_in w)
+  pub same : OnOk result (length_of w ≡ length_of v)
+  -- a record that is there: nothing is done
+  pub quiet : number ≤ records_in v → IsOk result × (w ≡ v) × OnlyReads S old new 0
+  pub told : IfErr result (λ e. (e ≡ TooLarge) ⊎ ((e ≡ Full) ⊎ (e ≡ Device)))
+  pub refused : IfErr result (λ e. e ≢ Device → (w ≡ v) × OnlyReads S old new 1)
+  pub entry : entry_of w ≡ entry_of v
+  pub failures : TellsRelFault S old new result
+
+-- f, the file at place n of the layout l, got up to so many empty records behind its own; at Ok this is done of it.
+pub record GrowsBy {D : Type 0} (S : History D) (old new : D) (l : Layout) (n : ℕ) (f : File) (most more : ℕ)
+    (done : Type 0)
+    (result : Result (Unit {0}) DeviceFault) : Type 0 where
+  pub ok : OnOk result done
+  pub moments : Changes S old new most (IsGrowingBy (S.image old) l n f more)
+
+-- A file of this name was made where the site has it, with its entry in the directory sector at p.
+pub record MakesFile {D : Type 0} (S : History D) (old new : D) (l : Layout) (name : List ℕ) (size : ℕ) (s : Site)
+    (p : Place) (most : ℕ)
+    (result : Result (Unit {0}) DeviceFault) : Type 0 where
+  pub ok : OnOk result (HasFileAt (S.image old) l name size s p (S.image new))
+  pub moments : Changes S old new most (IsCreating (S.image old) l name size)
+
+-- A new file of this name is refused for a cause, each exactly, or isn't.
+pub record RefusesName {T : Type 0} (img : Image) (l : Layout) (name : List ℕ) (result : Result T RelFault) : Type 0
+  where
+    pub exists : IfErr result (λ e. e ≡ Exists → IsTakenName l name)
+    pub full : IfErr result (λ e. e ≡ Full → HasNoRoom img l × ¬ (IsTakenName l name))
+    pub fits : OnOk result (¬ (HasNoRoom img l) × ¬ (IsTakenName l name))
+
+-- A refusal writes nothing: three times the eighteen sectors of the directory are read, and the map.
+pub record Refuses {D T : Type 0} (S : History D) (old new : D) (name : List ℕ) (result : Result T RelFault) : Type 0
+  where
+    pub layout : (l : Layout) → IsLayout (S.image old) l → RefusesName (S.image old) l name result
+    pub told : IfErr result (λ e. (e ≡ Exists) ⊎ ((e ≡ Full) ⊎ (e ≡ Device)))
+    pub refused : IfErr result (λ e. e ≢ Device → OnlyReads S old new 55)
+    pub failures : TellsRelFault S old new result
+
+-- What a new file takes was chosen, or it was refused; nothing was written.
+pub record Chooses {D T : Type 0} (S : History D) (old new : D) (name : List ℕ) (result : Result T RelFault)
+    (Is : Layout → T → Type 0) : Type 0 where
+  pub ok : (l : Layout) → IsLayout (S.image old) l → IfOk result (Is l)
+  pub refuses : Refuses S old new name result
+  pub quiet : WritesNothing S old new
+
+-- A file was created, or not, where l is the layout.
+pub record CreatesFile {D : Type 0} (S : History D) (old new : D) (l : Layout) (name : List ℕ) (size : ℕ)
+    (result : Result RelFile RelFault) : Type 0 where
+  pub ok : IfOk result (IsMade (S.image old) l name size (S.image new))
+  -- every image held, and the writes
+  pub moments : Changes S old new (creation_writes l) (IsCreating (S.image old) l name size)
+
+-- A file was created, or refused.
+pub record Creates {D : Type 0} (S : History D) (old new : D) (name : List ℕ) (size : ℕ)
+    (result : Result RelFile RelFault) : Type 0 where
+  pub layout : (l : Layout) → IsLayout (S.image old) l → CreatesFile S old new l name size result
+  pub refuses : Refuses S old new name result
+  -- what is kept of any file stays of it
+  pub others : (v : RelFile) → OfItsFile (S.image old) v (λ l n f. StaysOf (S.image old) (S.image new) f v)
