@@ -1,5 +1,6 @@
 -- An opening as a whole: the check, the look for the file, its creation.
-use Rattle.std.proofs.Common.{ℕ, ◌≡◌, ◌≢◌, ◌≤◌, ◌<◌, ◌⊎◌, inl, inr, Bool, true, false, MatchOption, List, Option, None, Some, IfOk, IsSome, Result, Ok, Err, OnOk, sym, ◌∙◌, ap, ap₂, subst, refl, arith}
+use Rattle.std.proofs.Common.{ℕ, ◌≡◌, ◌≢◌, ◌≤◌, ◌<◌, ◌⊎◌, inl, inr, Bool, true, false, MatchOption, List, Option, None}
+use Rattle.std.proofs.Common.{Some, IfOk, IsSome, Result, Ok, Err, OnOk, sym, ◌∙◌, ap, ap₂, subst, refl, arith}
 use Rattle.std.proofs.lemmas.Option.{none-some}
 use Rattle.d64_image.proofs.Moments.{changes_then, changes_weaker, reads_change, reads_then, reads_weaker}
 use Rattle.std.specs.Result.{IsErrAnd}
@@ -23,11 +24,13 @@ use Rattle.drive_channels.specs.declared.status.Status.{Status}
 use Rattle.drive_channels.specs.declared.status.Status.TheVariants as statuses
 
 -- a drive with no channel after a check shows the same, whatever files are remembered
-pub same-shown : (img img' : Image) (k k' : Known) (s : Status) → img' ≡ img → channel_of k.last ≡ None → k.checked ≡ true → channel_of k'.last ≡ None → k'.checked ≡ true
+pub same-shown : (img img' : Image) (k k' : Known) (s : Status) → img' ≡ img → channel_of k.last ≡ None
+    → k.checked ≡ true → channel_of k'.last ≡ None → k'.checked ≡ true
     → shown img' k' s ≡ shown img k s
 same-shown img img' k k' s same closed checked closed' checked' =
     subst (λ (i : Image). shown i k' s ≡ shown img k s) (sym same)
-    (ap₂ (λ (c : Option Channel) (b : Bool). record { image = img; channel = c; status = s; checked = b }) (closed' ∙ sym closed) (checked' ∙ sym checked))
+    (ap₂ (λ (c : Option Channel) (b : Bool). record { image = img; channel = c; status = s; checked = b })
+    (closed' ∙ sym closed) (checked' ∙ sym checked))
 
 -- what follows of an answer that is done
 pub if-ok : {T E : Type 0} (P Q : T → Type 0) (r : Result T E) → ((x : T) → P x → Q x) → IfOk r P → IfOk r Q
@@ -36,7 +39,8 @@ if-ok P Q (Err e) f h = tt
 
 module _ {D E : Type 0} (S : History D) (a b c : D) where
   -- the file is made after it was looked for
-  pub opened-made : (name : List ℕ) (length : Option ℕ) (l : ℕ) (after : Option Channel) (result : Result Status E) → OnlyReads S a b 702 → length ≡ Some l → ¬ (HasFile (S.image a) name)
+  pub opened-made : (name : List ℕ) (length : Option ℕ) (l : ℕ) (after : Option Channel) (result : Result Status E)
+      → OnlyReads S a b 702 → length ≡ Some l → ¬ (HasFile (S.image a) name)
       → IfOk result (λ st. st ≢ statuses.Ok → OnlyReads S b c 55) → IfOk result (λ st. st ≡ statuses.Ok → IsSome after)
       → ((m : Layout) → IsLayout (S.image b) m → Changes S b c (creation_writes m) (IsCreating (S.image b) m name l))
       → IsOpenedFor S a c 702 (record { name = name; length = length }) after result
@@ -44,9 +48,15 @@ module _ {D E : Type 0} (S : History D) (a b c : D) where
     plain = λ none. absurd (none-some l (sym none ∙ given));
     there = λ has. absurd (missing has);
     refused = by result refused opened;
-    moments = λ m is. changes_then S a b c 0 (creation_writes m) (creation_writes m) (Held m) (omega arith) (reads_change S a b 702 (Held m) reads (inl refl))
+    moments = λ m is. changes_then S a b c 0 (creation_writes m) (creation_writes m) (Held m) (omega arith)
+        (reads_change S a b 702 (Held m) reads (inl refl))
         (changes_weaker S b c (creation_writes m) (creation_writes m) _ (Held m) (omega arith)
-        (λ i x. inr (record { length = l; given = given; creating = subst (λ (j : Image). IsCreating j m name l i) reads.image x }))
+        (λ i x. inr
+        (record {
+          length = l;
+          given = given;
+          creating = subst (λ (j : Image). IsCreating j m name l i) reads.image x;
+        }))
         (moments m (subst (λ (j : Image). IsLayout j m) (sym reads.image) is)));
   }
     where
@@ -56,44 +66,55 @@ module _ {D E : Type 0} (S : History D) (a b c : D) where
       not-open : IsSome after → after ≡ None → ⊥
       not-open some none = subst (λ (o : Option Channel). IsSome o → ⊥) (sym none) (λ h. cc) some
 
-      by : (r : Result Status E) → IfOk r (λ st. st ≢ statuses.Ok → OnlyReads S b c 55) → IfOk r (λ st. st ≡ statuses.Ok → IsSome after) → OnOk r (after ≡ None → OnlyReads S a c 757)
-      by (Ok st) refused opened = λ none. reads_then S a b c 702 55 757 (omega arith) reads (refused (λ is. not-open (opened is) none))
+      by : (r : Result Status E) → IfOk r (λ st. st ≢ statuses.Ok → OnlyReads S b c 55)
+          → IfOk r (λ st. st ≡ statuses.Ok → IsSome after) → OnOk r (after ≡ None → OnlyReads S a c 757)
+      by (Ok st) refused opened = λ none. reads_then S a b c 702 55 757 (omega arith) reads
+          (refused (λ is. not-open (opened is) none))
       by (Err e) refused opened = tt
 
   -- what is opened after the check
-  pub opened-by : (text : List ℕ) (w : Wish) (before after : Option Channel) (result : Result Status E) → OnlyReads S a b 2115 → IsClean (S.image a) → IsWish text w → ((v : Wish) → IsWish text v → v ≡ w)
+  pub opened-by : (text : List ℕ) (w : Wish) (before after : Option Channel) (result : Result Status E)
+      → OnlyReads S a b 2115 → IsClean (S.image a) → IsWish text w → ((v : Wish) → IsWish text v → v ≡ w)
       → before ≡ None → IsOpenedFor S b c 702 w after result → IsOpenedBy S a c text before after result
   opened-by text w before after result reads clean is one closed opened = record {
     plain = λ none. reads_then S a b c 2115 702 2817 (omega arith) reads (opened.plain (none w is));
     there = λ v asked has. reads_then S a b c 2115 702 2817 (omega arith) reads
-        (opened.there (subst (λ (x : Wish). HasFile (S.image b) x.name) (one v asked) (subst (λ (i : Image). HasFile i v.name) (sym reads.image) has)));
+        (opened.there
+        (subst (λ (x : Wish). HasFile (S.image b) x.name) (one v asked)
+        (subst (λ (i : Image). HasFile i v.name) (sym reads.image) has)));
     refused = by result opened.refused;
     unclean = λ other. absurd (other clean);
-    moments = λ m l. changes_then S a b c 0 (creation_writes m) (creation_writes m) (IsCreatingFrom (S.image a) m text) (omega arith)
+    moments = λ m l. changes_then S a b c 0 (creation_writes m) (creation_writes m) (IsCreatingFrom (S.image a) m text)
+        (omega arith)
         (reads_change S a b 2115 (IsCreatingFrom (S.image a) m text) reads (inl refl))
-        (changes_weaker S b c (creation_writes m) (creation_writes m) _ (IsCreatingFrom (S.image a) m text) (omega arith) (held m)
+        (changes_weaker S b c (creation_writes m) (creation_writes m) _ (IsCreatingFrom (S.image a) m text)
+        (omega arith) (held m)
         (opened.moments m (subst (λ (j : Image). IsLayout j m) (sym reads.image) l)));
   }
     where
-      held : (m : Layout) (i : Image) → (i ≡ S.image b) ⊎ IsCreatingFor (S.image b) m w i → IsCreatingFrom (S.image a) m text i
+      held : (m : Layout) (i : Image) → (i ≡ S.image b) ⊎ IsCreatingFor (S.image b) m w i
+          → IsCreatingFrom (S.image a) m text i
       held m i h = elim h [
         | inl same ↦ inl (same ∙ reads.image)
         | inr x ↦ inr (w, is, subst (λ (j : Image). IsCreatingFor j m w i) reads.image x)
       ]
 
-      by : (r : Result Status E) → OnOk r (after ≡ None → OnlyReads S b c 757) → OnOk r (after ≡ before → OnlyReads S a c 2872)
+      by : (r : Result Status E) → OnOk r (after ≡ None → OnlyReads S b c 757)
+          → OnOk r (after ≡ before → OnlyReads S a c 2872)
       by (Ok st) h = λ same. reads_then S a b c 2115 757 2872 (omega arith) reads (h (same ∙ closed))
       by (Err e) h = tt
 
 -- nothing but reads
-pub read-by : {D E : Type 0} (S : History D) (a b : D) (n : ℕ) (text : List ℕ) (before after : Option Channel) (result : Result Status E) → n ≤ 2115 → OnlyReads S a b n
+pub read-by : {D E : Type 0} (S : History D) (a b : D) (n : ℕ) (text : List ℕ) (before after : Option Channel)
+    (result : Result Status E) → n ≤ 2115 → OnlyReads S a b n
     → IsOpenedBy S a b text before after result
 read-by {D} {E} S a b n text before after result few reads = record {
   plain = λ _. reads_weaker S a b n 2817 (omega (arith, few)) reads;
   there = λ _ _ _. reads_weaker S a b n 2817 (omega (arith, few)) reads;
   refused = by result;
   unclean = λ _. reads_weaker S a b n 2115 few reads;
-  moments = λ m _. changes_weaker S a b 0 (creation_writes m) _ _ (omega arith) (λ i h. h) (reads_change S a b n (IsCreatingFrom (S.image a) m text) reads (inl refl));
+  moments = λ m _. changes_weaker S a b 0 (creation_writes m) _ _ (omega arith) (λ i h. h)
+      (reads_change S a b n (IsCreatingFrom (S.image a) m text) reads (inl refl));
 }
   where
     by : (r : Result Status E) → OnOk r (after ≡ before → OnlyReads S a b 2872)
@@ -101,7 +122,8 @@ read-by {D} {E} S a b n text before after result few reads = record {
     by (Err e) = tt
 
 -- an opening that only looked for the file
-pub read-for : {D E : Type 0} (S : History D) (a b : D) (w : Wish) (after : Option Channel) (result : Result Status E) → OnlyReads S a b 702 → IsOpenedFor S a b 702 w after result
+pub read-for : {D E : Type 0} (S : History D) (a b : D) (w : Wish) (after : Option Channel) (result : Result Status E)
+    → OnlyReads S a b 702 → IsOpenedFor S a b 702 w after result
 read-for {D} {E} S a b w after result reads = record {
   plain = λ _. reads;
   there = λ _. reads;
@@ -123,11 +145,13 @@ pub not-done : {T E : Type 0} (r : Result T E) (Q : E → Type 0) → IsErrAnd r
 not-done (Ok x) Q h P = absurd h
 not-done (Err e) Q h P = tt
 
-pub tells-failed : {D T E : Type 0} (S : History D) (a b : D) (r : Result T E) (Q : E → Type 0) → IsErrAnd r Q → Failed S a b → TellsFailure S a b r
+pub tells-failed : {D T E : Type 0} (S : History D) (a b : D) (r : Result T E) (Q : E → Type 0) → IsErrAnd r Q
+    → Failed S a b → TellsFailure S a b r
 tells-failed S a b (Ok x) Q h f = absurd h
 tells-failed S a b (Err e) Q h f = f
 
-pub tells-after : {D T E : Type 0} (S : History D) (a b c : D) → S.failures b ≡ S.failures a → (r : Result T E) → TellsFailure S b c r → TellsFailure S a c r
+pub tells-after : {D T E : Type 0} (S : History D) (a b c : D) → S.failures b ≡ S.failures a → (r : Result T E)
+    → TellsFailure S b c r → TellsFailure S a c r
 tells-after S a b c same (Ok x) h = h ∙ same
 tells-after S a b c same (Err e) h = failed_later S a b c same h
 
@@ -139,8 +163,17 @@ closed-of (Some c) b told off = absurd (both b told off)
     both : (b : Bool) → b ≡ true → b ≡ false → ⊥
     both b x y = cc
 
+-- one that is open is there
+pub open-of : (o : Option Channel) (b : Bool) → MatchOption o (b ≡ false) (λ c. b ≡ true) → b ≡ true → IsSome o
+open-of None b told on = absurd (both b told on)
+  where
+    both : (b : Bool) → b ≡ false → b ≡ true → ⊥
+    both b x y = cc
+open-of (Some c) b told on = refl
+
 -- the channel may be opened
-free : (number : ℕ) (o : Option Channel) → 2 ≤ number → number ≤ 14 → o ≡ None → (number < 2) ⊎ ((14 < number) ⊎ IsSome o) → ⊥
+free : (number : ℕ) (o : Option Channel) → 2 ≤ number → number ≤ 14 → o ≡ None
+    → (number < 2) ⊎ ((14 < number) ⊎ IsSome o) → ⊥
 free number o low high closed h = elim h [
   | inl lt ↦ omega (arith, lt, low)
   | inr (inl gt) ↦ omega (arith, gt, high)
@@ -148,31 +181,45 @@ free number o low high closed h = elim h [
 ]
 
 -- a call that comes past the first two rows
-pub past : (x : View) (number : ℕ) (text : List ℕ) (y : View) (w : Wish) → 2 ≤ number → number ≤ 14 → x.channel ≡ None → IsWish text w
-    → (when (x.checked ≡ false) × ¬ (IsClean x.image) then Tells x statuses.DirError y otherwise ((w : Wish) → IsWish text w → OpensFile (record x { checked = true }) number w y))
+pub past : (x : View) (number : ℕ) (text : List ℕ) (y : View) (w : Wish) → 2 ≤ number → number ≤ 14 → x.channel ≡ None
+    → IsWish text w
+    → (when (x.checked ≡ false)
+    × ¬ (IsClean x.image) then Tells x statuses.DirError y otherwise
+    ((w : Wish) → IsWish text w → OpensFile (record x { checked = true }) number w y))
     → Opens x number text y
-past x number text y w low high closed is rest = inr (free number x.channel low high closed, inr ((λ none. none (w, is)), rest))
+past x number text y w low high closed is rest = inr
+    (free number x.channel low high closed, inr ((λ none. none (w, is)), rest))
 
 -- a call with a text that asks for no file
-pub unspelled : (x : View) (number : ℕ) (text : List ℕ) (y : View) → 2 ≤ number → number ≤ 14 → x.channel ≡ None → ((w : Wish) → ¬ (IsWish text w)) → Tells x statuses.SyntaxError y → Opens x number text y
-unspelled x number text y low high closed none tells = inr (free number x.channel low high closed, inl ((λ asked. none asked.0 asked.1), tells))
+pub unspelled : (x : View) (number : ℕ) (text : List ℕ) (y : View) → 2 ≤ number → number ≤ 14 → x.channel ≡ None
+    → ((w : Wish) → ¬ (IsWish text w)) → Tells x statuses.SyntaxError y → Opens x number text y
+unspelled x number text y low high closed none tells = inr
+    (free number x.channel low high closed, inl ((λ asked. none asked.0 asked.1), tells))
 
 -- a check has passed
-pub checked-shown : (img img' : Image) (k k' : Known) (s : Status) → img' ≡ img → k'.last ≡ k.last → k'.checked ≡ true → shown img' k' s ≡ record (shown img k s) { checked = true }
+pub checked-shown : (img img' : Image) (k k' : Known) (s : Status) → img' ≡ img → k'.last ≡ k.last → k'.checked ≡ true
+    → shown img' k' s ≡ record (shown img k s) { checked = true }
 checked-shown img img' k k' s same last checked =
     subst (λ (i : Image). shown i k' s ≡ record (shown img k s) { checked = true }) (sym same)
-    (ap₂ (λ (o : Option Opened) (b : Bool). record { image = img; channel = channel_of o; status = s; checked = b }) last checked)
+    (ap₂ (λ (o : Option Opened) (b : Bool). record { image = img; channel = channel_of o; status = s; checked = b })
+    last checked)
 
 -- the name of a file that is remembered is opened without a look at the disk
-pub recalled : (img : Image) (k k' : Known) (number : ℕ) (text : List ℕ) (s : Status) (y : View) → 2 ≤ number → number ≤ 14 → channel_of k.last ≡ None → k'.checked ≡ k.checked
-    → HasLooked img text k' true → OpensFile (shown img k' s) number (record { name = text; length = None }) y → Opens (shown img k s) number text y
-recalled img k k' number text s y low high closed same looked row = past (shown img k s) number text y asked low high closed is (inr (
-  (λ h. h.1 (looked.known.remembered looked.checked).clean),
-  (λ w v. subst (λ (w : Wish). OpensFile (record (shown img k s) { checked = true }) number w y) (wish-one text asked w is v)
-      (subst (λ (x : View). OpensFile x number asked y)
-      (ap (λ (c : Option Channel). record { image = img; channel = c; status = s; checked = true }) (looked.closed ∙ sym closed))
-      (subst (λ (b : Bool). OpensFile (record { image = img; channel = channel_of k'.last; status = s; checked = b }) number asked y) looked.checked row))),
-))
+pub recalled : (img : Image) (k k' : Known) (number : ℕ) (text : List ℕ) (s : Status) (y : View) → 2 ≤ number
+    → number ≤ 14 → channel_of k.last ≡ None → k'.checked ≡ k.checked
+    → HasLooked img text k' true → OpensFile (shown img k' s) number (record { name = text; length = None }) y
+    → Opens (shown img k s) number text y
+recalled img k k' number text s y low high closed same looked row = past (shown img k s) number text y asked low high
+    closed is (inr (
+      (λ h. h.1 (looked.known.remembered looked.checked).clean),
+      (λ w v. subst (λ (w : Wish). OpensFile (record (shown img k s) { checked = true }) number w y)
+          (wish-one text asked w is v)
+          (subst (λ (x : View). OpensFile x number asked y)
+          (ap (λ (c : Option Channel). record { image = img; channel = c; status = s; checked = true })
+          (looked.closed ∙ sym closed))
+          (subst (λ (b : Bool). OpensFile (record { image = img; channel = channel_of k'.last; status = s; checked = b })
+          number asked y) looked.checked row))),
+    ))
   where
     asked : Wish
     asked = record { name = text; length = None }

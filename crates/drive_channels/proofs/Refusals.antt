@@ -1,6 +1,6 @@
 -- What the faults of the calls below say.
-use Rattle.std.proofs.Common.{◌≡◌, false, true, Result, Err, Ok, refl}
-use Rattle.d64_image.specs.History.{History}
+use Rattle.std.proofs.Common.{◌≡◌, false, true, Result, Err, Ok, refl, subst}
+use Rattle.d64_image.specs.History.{Failed, History}
 use Rattle.d64_image.specs.Images.{Image}
 use Rattle.d64_image.specs.declared.place.Place.{Place}
 use Rattle.disk_layout.specs.Fault.{Holds, HoldsOfClean, TellsFault, nowhere}
@@ -8,10 +8,12 @@ use Rattle.disk_layout.specs.declared.faults.Fault.{Fault}
 use Rattle.disk_layout.specs.declared.faults.Fault.TheVariants as faults
 use Rattle.rel_records.specs.Faults.{TellsRelFault}
 use Rattle.rel_records.specs.declared.faults.RelFault.{RelFault}
-use Rattle.rel_records.specs.declared.faults.RelFault.TheVariants.{Device, Exists, Full, NotFound, NotPresent, Overflow, TooLarge}
+use Rattle.rel_records.specs.declared.faults.RelFault.TheVariants.{Device, Exists, Full, NotFound, NotPresent, Overflow}
+use Rattle.rel_records.specs.declared.faults.RelFault.TheVariants.{TooLarge}
 
 -- a fault that isn't Device comes only where no failure was counted
-pub calm : {D : Type 0} (T : Type 0) (S : History D) (old new : D) (e : RelFault) → ¬ (e ≡ Device) → TellsRelFault {T = T} S old new (Err e) → S.failures new ≡ S.failures old
+pub calm : {D : Type 0} (T : Type 0) (S : History D) (old new : D) (e : RelFault) → ¬ (e ≡ Device)
+    → TellsRelFault {T = T} S old new (Err e) → S.failures new ≡ S.failures old
 calm T S old new NotFound other t = t
 calm T S old new NotPresent other t = t
 calm T S old new Overflow other t = t
@@ -28,7 +30,8 @@ pub not-ok : false ≡ true → ⊥
 not-ok h = cc
 
 -- a fault of the layout that isn't Device is a fact of the image alone
-pub fact : (failed_at : Place → Type 0) (img : Image) (fault : Fault) → ((p : Place) → ¬ (fault ≡ faults.Device p)) → Holds failed_at img fault → Holds nowhere img fault
+pub fact : (failed_at : Place → Type 0) (img : Image) (fault : Fault) → ((p : Place) → ¬ (fault ≡ faults.Device p))
+    → Holds failed_at img fault → Holds nowhere img fault
 fact failed_at img (faults.BadLink p) other h = h
 fact failed_at img (faults.Loop p) other h = h
 fact failed_at img (faults.OwnedTwice p) other h = h
@@ -41,7 +44,8 @@ fact failed_at img (faults.MapWrong p) other h = h
 fact failed_at img (faults.Device p) other h = absurd (other p refl)
 
 -- so is one that a check tells
-pub clean-fact : (failed_at : Place → Type 0) (img : Image) (fault : Fault) → ((p : Place) → ¬ (fault ≡ faults.Device p)) → HoldsOfClean failed_at img fault → HoldsOfClean nowhere img fault
+pub clean-fact : (failed_at : Place → Type 0) (img : Image) (fault : Fault)
+    → ((p : Place) → ¬ (fault ≡ faults.Device p)) → HoldsOfClean failed_at img fault → HoldsOfClean nowhere img fault
 clean-fact failed_at img (faults.BadLink p) other h = h
 clean-fact failed_at img (faults.Loop p) other h = h
 clean-fact failed_at img (faults.OwnedTwice p) other h = h
@@ -54,7 +58,8 @@ clean-fact failed_at img (faults.MapWrong p) other h = h
 clean-fact failed_at img (faults.Device p) other h = absurd (other p refl)
 
 -- and comes only where no failure was counted
-pub quiet : {D : Type 0} (T : Type 0) (S : History D) (old new : D) (fault : Fault) → ((p : Place) → ¬ (fault ≡ faults.Device p)) → TellsFault {T = T} S old new (Err fault)
+pub quiet : {D : Type 0} (T : Type 0) (S : History D) (old new : D) (fault : Fault)
+    → ((p : Place) → ¬ (fault ≡ faults.Device p)) → TellsFault {T = T} S old new (Err fault)
     → S.failures new ≡ S.failures old
 quiet T S old new (faults.BadLink p) other t = t
 quiet T S old new (faults.Loop p) other t = t
@@ -66,3 +71,8 @@ quiet T S old new (faults.BadLength p) other t = t
 quiet T S old new (faults.CountWrong p) other t = t
 quiet T S old new (faults.MapWrong p) other t = t
 quiet T S old new (faults.Device p) other t = absurd (other p refl)
+
+-- Device is told where the device failed
+pub device-failed : {D : Type 0} (T : Type 0) (S : History D) (old new : D) (e : RelFault) → e ≡ Device
+    → TellsRelFault {T = T} S old new (Err e) → Failed S old new
+device-failed T S old new e is tells = subst (λ (x : RelFault). TellsRelFault {T = T} S old new (Err x)) is tells

@@ -1,14 +1,15 @@
 //! Commands.
-ghost use Rattle.std.specs.Prelude.{◌≡◌, ◌≤◌, ◌⊎◌, ◌↔◌, Bool, IfOk, IsTrue, MatchOption, OnOk, length};
-ghost use Rattle.d64_image.specs.History.{OnlyReads, TellsFailure, WritesNothing};
+ghost use Rattle.std.specs.Prelude.{◌≡◌, ◌≤◌, ◌⊎◌, ◌↔◌, Bool, IsTrue, MatchOption, OnOk, length};
+ghost use Rattle.d64_image.specs.History.{OnlyReads, WritesNothing};
 ghost use Rattle.d64_image.specs.Images.{Image};
 ghost use Rattle.disk_layout.specs.Clean.{IsClean};
 ghost use Rattle.disk_layout.specs.Layout.{IsSound};
+ghost use Rattle.drive_channels.specs.Calls.{Validates};
 ghost use Rattle.drive_channels.specs.Inside.{IsFound, IsKnown, IsSpot, at_spot, shown};
 ghost use Rattle.drive_channels.specs.Serving.{Serves};
 ghost use Rattle.drive_channels.specs.Spelling.{IsInitialize, IsValidate, wanted_channel, wanted_position, wanted_record};
 ghost use Rattle.drive_channels.specs.State.{view_of};
-ghost use Rattle.drive_channels.specs.Tables.{Commands, InFile, Moves, MovesTo, ValidatesTo};
+ghost use Rattle.drive_channels.specs.Tables.{Commands, InFile, Moves, MovesTo};
 ghost use Rattle.drive_channels.specs.declared.status.Status as statuses;
 ghost use Rattle.layout_check.specs.Repaired.{MendsFrom};
 
@@ -125,11 +126,7 @@ impl Known {
 
 /// Mends the disk: what that comes to.
 fn validate<D: Sectors>(disk: &mut D) -> Result<Status, Dead>
-    ensures row { IfOk result (ValidatesTo (D.history.image disk.old) (D.history.image disk.new)) }
-    ensures moments { MendsFrom D.history disk.old disk.new 883 }
-    ensures unsound { (IsSound (D.history.image disk.old) → ⊥) → OnlyReads D.history disk.old disk.new 2114 }
-    ensures quiet { IsClean (D.history.image disk.old) → WritesNothing D.history disk.old disk.new }
-    ensures failures { TellsFailure D.history disk.old disk.new result }
+    ensures { Validates D.history disk.old disk.new result }
 {
     match repair(disk) {
         Ok(_) => Ok(Status::Ok),

@@ -1,21 +1,21 @@
 //! Opening a channel.
-ghost use Rattle.std.specs.Prelude.{◌≡◌, ◌≢◌, ◌≤◌, ◌↔◌, ◌⊎◌, true, false, IfOk, IfSome, IsSome, IsTrue, List, MatchOption, None, OnOk, Option, Some, option_map, ℕ, length};
-ghost use Rattle.d64_image.specs.History.{Changes, OnlyReads, TellsFailure};
+ghost use Rattle.rel_records.specs.File.{IsLength, length_of};
+ghost use Rattle.std.specs.Prelude.{◌≡◌, ◌≢◌, ◌↔◌, true, false, IfSome, IsTrue, List, MatchOption, None, OnOk, Some, ℕ, length};
+ghost use Rattle.d64_image.specs.History.{Changes, OnlyReads};
 ghost use Rattle.d64_image.specs.Images.{Image};
 ghost use Rattle.disk_layout.specs.Clean.{IsClean};
 ghost use Rattle.disk_layout.specs.Layout.{IsLayout, Layout};
+ghost use Rattle.drive_channels.specs.Calls.{Checks, IsChannelNumber, LooksFor, MakesFile, OpensText, OpensWish};
 ghost use Rattle.drive_channels.specs.Files.{HasFile};
-ghost use Rattle.drive_channels.specs.Moments.{IsCreatingFrom, IsOpenedBy, IsOpenedFor};
+ghost use Rattle.drive_channels.specs.Moments.{IsCreatingFrom};
 ghost use Rattle.drive_channels.specs.Serving.{Serves};
 ghost use Rattle.drive_channels.specs.Spelling.{IsName, IsWish, Wish};
 ghost use Rattle.drive_channels.specs.State.{view_of};
 ghost use Rattle.drive_channels.specs.Tables.{Opens, OpensFile};
 ghost use Rattle.drive_channels.specs.Wishes.{wish_of};
-ghost use Rattle.rel_records.specs.File.{length_of};
-ghost use Rattle.rel_records.specs.Made.{IsCreating, creation_writes};
+ghost use Rattle.rel_records.specs.Made.{creation_writes};
 ghost use Rattle.drive_channels.specs.Inside.{HasLooked, IsFound, IsKnown, channel_of, found_in, shown};
 ghost use Rattle.drive_channels.specs.declared.status.Status as statuses;
-ghost use Rattle.drive_channels.specs.declared.status.Status.TheVariants as told;
 
 use crate::drive::Drive;
 use crate::faults::Dead;
@@ -43,11 +43,9 @@ fn has_length(file: &RelFile, length: Option<u8>) -> bool
 fn find_file<D: Sectors>(disk: &mut D, name: &[u8]) -> Result<Option<Found>, Dead>
     requires clean { IsClean (D.history.image disk.old) }
     requires name { IsName name.now }
-    ensures found { IfOk result (λ o.
+    ensures { LooksFor D.history disk.old disk.new result (λ o.
         MatchOption o (¬ (HasFile (D.history.image disk.old) name.now))
         (λ e. IsFound (D.history.image disk.old) e × (e.name.items ≡ name.now))) }
-    ensures reads { OnlyReads D.history disk.old disk.new 702 }
-    ensures failures { TellsFailure D.history disk.old disk.new result }
 {
     match find(disk, name) {
         Ok(file) => Ok(Some(Found::new(name, file))),
@@ -119,9 +117,7 @@ impl Known {
         requires checked { self.old.checked ≡ true }
         requires closed { channel_of self.old.last ≡ None }
         requires name { IsName name.now }
-        ensures found { IfOk result (HasLooked (D.history.image disk.old) name.now self.new) }
-        ensures reads { OnlyReads D.history disk.old disk.new 702 }
-        ensures failures { TellsFailure D.history disk.old disk.new result }
+        ensures { LooksFor D.history disk.old disk.new result (HasLooked (D.history.image disk.old) name.now self.new) }
     {
         if self.recall(name) {
             return Ok(true);
@@ -138,14 +134,7 @@ impl Known {
     /// Checks the disk, where no check has passed yet. Whether one has now.
     fn passes_check<D: Sectors>(&mut self, disk: &mut D) -> Result<bool, Dead>
         requires known { IsKnown (D.history.image disk.old) self.old }
-        ensures passed { IfOk result
-            (λ passed. passed ≡ true → (self.new.checked ≡ true) × IsKnown (D.history.image disk.old) self.new) }
-        ensures refused { IfOk result (λ passed.
-            passed ≡ false
-            → (self.new ≡ self.old) × (self.old.checked ≡ false) × ¬ (IsClean (D.history.image disk.old))) }
-        ensures last { OnOk result (self.new.last ≡ self.old.last) }
-        ensures reads { OnlyReads D.history disk.old disk.new 2115 }
-        ensures failures { TellsFailure D.history disk.old disk.new result }
+        ensures { Checks D.history disk.old disk.new self.old self.new result }
     {
         if self.checked {
             return Ok(true);
@@ -165,8 +154,7 @@ impl Known {
     /// Opens the file opened last at its first record, unless its records have another length than the one asked for: what
     /// that comes to.
     fn open_last(&mut self, channel: u8, length: Option<u8>) -> Status
-        requires low { 2 ≤ channel }
-        requires high { channel ≤ 14 }
+        requires { IsChannelNumber channel }
         ensures row { (img : Image) → (name : List ℕ) → (s : statuses.Status) → HasLooked img name self.old true
             → OpensFile (shown img self.old s) channel (record { name = name; length = length })
             (shown img self.new result) }
@@ -193,23 +181,10 @@ impl Known {
         requires known { IsKnown (D.history.image disk.old) self.old }
         requires checked { self.old.checked ≡ true }
         requires missing { ¬ (HasFile (D.history.image disk.old) name.now) }
-        requires low { 2 ≤ channel }
-        requires high { channel ≤ 14 }
+        requires channel { IsChannelNumber channel }
         requires name { IsName name.now }
-        requires size_low { 1 ≤ size }
-        requires size_high { size ≤ 254 }
-        ensures row { IfOk result (λ status.
-            (s : statuses.Status)
-            → OpensFile (shown (D.history.image disk.old) self.old s) channel
-            (record { name = name.now; length = Some size })
-            (shown (D.history.image disk.new) self.new status)) }
-        ensures known { OnOk result (IsKnown (D.history.image disk.new) self.new) }
-        ensures refused { IfOk result (λ status. status ≢ told.Ok → OnlyReads D.history disk.old disk.new 55) }
-        ensures opened { IfOk result (λ status. status ≡ told.Ok → IsSome (channel_of self.new.last)) }
-        ensures moments { (l : Layout) → IsLayout (D.history.image disk.old) l
-            → Changes D.history disk.old disk.new (creation_writes l)
-            (IsCreating (D.history.image disk.old) l name.now size) }
-        ensures failures { TellsFailure D.history disk.old disk.new result }
+        requires size { IsLength size }
+        ensures { MakesFile D.history disk.old disk.new self.old self.new channel name.now size result }
     {
         match create(disk, name, size) {
             Ok(file) => {
@@ -238,16 +213,9 @@ impl Known {
         requires known { IsKnown (D.history.image disk.old) self.old }
         requires checked { self.old.checked ≡ true }
         requires closed { channel_of self.old.last ≡ None }
-        requires low { 2 ≤ channel }
-        requires high { channel ≤ 14 }
+        requires channel { IsChannelNumber channel }
         requires wish { (text : List ℕ) × IsWish text (wish_of wish) }
-        ensures row { IfOk result (λ status.
-            (s : statuses.Status)
-            → OpensFile (shown (D.history.image disk.old) self.old s) channel (wish_of wish.entry)
-            (shown (D.history.image disk.new) self.new status)) }
-        ensures known { OnOk result (IsKnown (D.history.image disk.new) self.new) }
-        ensures opened { IsOpenedFor D.history disk.old disk.new 702 (wish_of wish.entry) (channel_of self.new.last) result }
-        ensures failures { TellsFailure D.history disk.old disk.new result }
+        ensures { OpensWish D.history disk.old disk.new self.old self.new channel (wish_of wish.entry) result }
     {
         if self.look_up(disk, wish.name)? {
             return Ok(self.open_last(channel, wish.length));
@@ -269,16 +237,8 @@ impl Known {
     ) -> Result<Status, Dead>
         requires known { IsKnown (D.history.image disk.old) self.old }
         requires closed { channel_of self.old.last ≡ None }
-        requires low { 2 ≤ channel }
-        requires high { channel ≤ 14 }
-        ensures row { IfOk result (λ status.
-            (s : statuses.Status)
-            → Opens (shown (D.history.image disk.old) self.old s) channel text.now
-            (shown (D.history.image disk.new) self.new status)) }
-        ensures known { OnOk result (IsKnown (D.history.image disk.new) self.new) }
-        ensures opened { IsOpenedBy D.history disk.old disk.new text.now (channel_of self.old.last) (channel_of self.new.last)
-            result }
-        ensures failures { TellsFailure D.history disk.old disk.new result }
+        requires channel { IsChannelNumber channel }
+        ensures { OpensText D.history disk.old disk.new self.old self.new channel text.now result }
     {
         let Some(wish) = wish(text) else {
             return Ok(Status::SyntaxError);
@@ -292,14 +252,7 @@ impl Known {
     /// Opens what the text asks for: what that comes to. The name of a file that is remembered is only compared.
     fn open<D: Sectors>(&mut self, disk: &mut D, channel: u8, text: &[u8]) -> Result<Status, Dead>
         requires known { IsKnown (D.history.image disk.old) self.old }
-        ensures row { IfOk result (λ status.
-            (s : statuses.Status)
-            → Opens (shown (D.history.image disk.old) self.old s) channel text.now
-            (shown (D.history.image disk.new) self.new status)) }
-        ensures known { OnOk result (IsKnown (D.history.image disk.new) self.new) }
-        ensures opened { IsOpenedBy D.history disk.old disk.new text.now (channel_of self.old.last) (channel_of self.new.last)
-            result }
-        ensures failures { TellsFailure D.history disk.old disk.new result }
+        ensures { OpensText D.history disk.old disk.new self.old self.new channel text.now result }
     {
         if channel < 2 || channel > 14 || self.is_open() {
             return Ok(Status::NoChannel);

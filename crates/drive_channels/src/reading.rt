@@ -1,13 +1,12 @@
 //! Reading from a channel.
-ghost use Rattle.std.specs.Prelude.{◌≡◌, ◌≢◌, ◌⊎◌, ◌<◌, ◌≤◌, ◌-◌, ℕ, Bool, IfOk, OnOk, drop, length, slice_index};
-ghost use Rattle.d64_image.specs.History.{OnlyReads, TellsFailure};
-ghost use Rattle.d64_image.specs.Images.{Image};
+ghost use Rattle.std.specs.Prelude.{◌≡◌, ◌≢◌, ◌⊎◌, ◌<◌, ◌≤◌, ◌-◌, [], ℕ, true, OnOk, drop, length, slice_index};
+ghost use Rattle.d64_image.specs.History.{OnlyReads};
+ghost use Rattle.drive_channels.specs.Calls.{ReadsAt, ReadsOn};
 ghost use Rattle.drive_channels.specs.Given.{IsGiven};
-ghost use Rattle.drive_channels.specs.Inside.{IsFound, IsKnown, IsSpot, at_spot, shown};
+ghost use Rattle.drive_channels.specs.Inside.{IsFound, IsKnown, IsSpot};
 ghost use Rattle.drive_channels.specs.Serving.{Serves};
 ghost use Rattle.drive_channels.specs.State.{view_of};
-ghost use Rattle.drive_channels.specs.Tables.{InFile, Reads, ReadsIn};
-ghost use Rattle.drive_channels.specs.declared.status.Status as statuses;
+ghost use Rattle.drive_channels.specs.Tables.{Reads};
 
 use crate::drive::Drive;
 use crate::faults::Dead;
@@ -75,14 +74,7 @@ fn read_at<D: Sectors>(
 ) -> Result<Status, Dead>
     requires found { IsFound (D.history.image disk.old) found.now }
     requires spot { IsSpot found.now spot.old }
-    ensures row { IfOk result (λ status.
-        (s : statuses.Status) → (b : Bool)
-        → InFile (at_spot (D.history.image disk.old) found.now spot.old s b)
-        (ReadsIn (at_spot (D.history.image disk.old) found.now spot.old s b) to.new.items
-        (at_spot (D.history.image disk.old) found.now spot.new status b))) }
-    ensures spot { OnOk result (IsSpot found.now spot.new) }
-    ensures reads { OnlyReads D.history disk.old disk.new 3 }
-    ensures failures { TellsFailure D.history disk.old disk.new result }
+    ensures { ReadsAt D.history disk.old disk.new found.now spot.old spot.new to.new.items result }
 {
     let mut text = ArrayVec::new();
     match read_record(disk, &found.file, spot.record_number, &mut text) {
@@ -110,13 +102,7 @@ impl Known {
         to: &mut ArrayVec<u8, 254>,
     ) -> Result<Status, Dead>
         requires known { IsKnown (D.history.image disk.old) self.old }
-        ensures row { IfOk result (λ status.
-            (s : statuses.Status)
-            → Reads (shown (D.history.image disk.old) self.old s) channel to.new.items
-            (shown (D.history.image disk.old) self.new status)) }
-        ensures known { OnOk result (IsKnown (D.history.image disk.old) self.new) }
-        ensures reads { OnlyReads D.history disk.old disk.new 3 }
-        ensures failures { TellsFailure D.history disk.old disk.new result }
+        ensures { ReadsOn D.history disk.old disk.new self.old self.new channel to.new.items result }
     {
         to.clear();
         if let Some(opened) = &mut self.last {
@@ -140,6 +126,7 @@ impl<D: Sectors> Drive<D> {
         ensures serves { Serves D.history self.old self.new result }
         ensures row { OnOk result (Reads (view_of D.history self.old) channel to.new.items (view_of D.history self.new)) }
         ensures reads { OnlyReads D.history self.old.disk self.new.disk 3 }
+        ensures silent { self.old.dead ≡ true → to.new.items ≡ [] }
     {
         if self.dead {
             to.clear();

@@ -1,17 +1,15 @@
 //! Writing to a channel.
-ghost use Rattle.std.specs.Prelude.{◌≡◌, ◌≤◌, [], ℕ, Bool, IfOk, OnErr, OnOk, length};
-ghost use Rattle.d64_image.specs.History.{Changes, OnlyReads, TellsFailure};
-ghost use Rattle.disk_layout.specs.Clean.{IsClean};
+ghost use Rattle.std.specs.Prelude.{◌≡◌, ◌≤◌, [], OnErr, OnOk, length};
+ghost use Rattle.d64_image.specs.History.{Changes, OnlyReads};
 ghost use Rattle.disk_layout.specs.Layout.{File, Layout, record_length};
+ghost use Rattle.drive_channels.specs.Calls.{IsPlace, WritesAt, WritesOn};
 ghost use Rattle.drive_channels.specs.Files.{IsRelAt};
-ghost use Rattle.drive_channels.specs.Inside.{IsFound, IsKnown, IsSpot, KeepsFound, at_spot, channel_at, channel_of, shown};
-ghost use Rattle.drive_channels.specs.Moments.{IsOnTheWay, IsWrittenAt, IsWrittenOn, writes_for};
+ghost use Rattle.drive_channels.specs.Inside.{IsKnown};
+ghost use Rattle.drive_channels.specs.Moments.{IsOnTheWay, writes_for};
 ghost use Rattle.drive_channels.specs.Serving.{Serves};
 ghost use Rattle.drive_channels.specs.State.{Channel, view_of};
-ghost use Rattle.drive_channels.specs.Tables.{HasOn, InFile, IsOn, Writes, WritesIn};
-ghost use Rattle.drive_channels.specs.declared.status.Status as statuses;
+ghost use Rattle.drive_channels.specs.Tables.{HasOn, IsOn, Writes};
 ghost use Rattle.drive_channels.specs.declared.status.Status.TheVariants.{FileTooLarge};
-ghost use Rattle.rel_records.specs.File.{entry_of, length_of, records_in};
 ghost use Rattle.rel_records.specs.Growth.{records_had};
 ghost use Rattle.rel_records.specs.Written.{IsInOneBlock};
 
@@ -25,20 +23,8 @@ use rel_records::{RelFault, grow_to, write_record};
 
 /// Grows the file so that the record at a place is there: what it comes to.
 fn grow_at<D: Sectors>(disk: &mut D, found: &mut Found, spot: Spot) -> Result<Status, Dead>
-    requires clean { IsClean (D.history.image disk.old) }
-    requires found { IsFound (D.history.image disk.old) found.old }
-    requires spot { IsSpot found.old spot }
-    ensures row { IfOk result (λ status.
-        (s : statuses.Status) → (b : Bool)
-        → InFile (at_spot (D.history.image disk.old) found.old spot s b)
-        (WritesIn (at_spot (D.history.image disk.old) found.old spot s b) []
-        (at_spot (D.history.image disk.new) found.new spot status b))) }
-    ensures found { OnOk result (KeepsFound (D.history.image disk.old) (D.history.image disk.new) found.old found.new) }
-    ensures spot { OnOk result (IsSpot found.new spot) }
-    ensures writes { (l : Layout) → (f : File) → IsRelAt (D.history.image disk.old) l (entry_of found.old.file) f
-        → IsWrittenAt D.history disk.old disk.new (channel_at (entry_of found.old.file) spot) l f [] result }
-    ensures refused { IfOk result (λ status. status ≡ FileTooLarge → OnlyReads D.history disk.old disk.new 1) }
-    ensures failures { TellsFailure D.history disk.old disk.new result }
+    requires { IsPlace (D.history.image disk.old) found.old spot }
+    ensures { WritesAt D.history disk.old disk.new found.old found.new spot spot [] result }
 {
     match grow_to(disk, &mut found.file, spot.record_number) {
         Ok(()) => Ok(Status::Ok),
@@ -57,21 +43,8 @@ fn write_text<D: Sectors>(
     text: &[u8],
 ) -> Result<Status, Dead>
     requires some { 1 ≤ length text.now }
-    requires clean { IsClean (D.history.image disk.old) }
-    requires found { IsFound (D.history.image disk.old) found.old }
-    requires spot { IsSpot found.old spot.old }
-    ensures row { IfOk result (λ status.
-        (s : statuses.Status) → (b : Bool)
-        → InFile (at_spot (D.history.image disk.old) found.old spot.old s b)
-        (WritesIn (at_spot (D.history.image disk.old) found.old spot.old s b) text.now
-        (at_spot (D.history.image disk.new) found.new spot.new status b))) }
-    ensures found { OnOk result (KeepsFound (D.history.image disk.old) (D.history.image disk.new) found.old found.new) }
-    ensures spot { OnOk result (IsSpot found.new spot.new) }
-    ensures writes { (l : Layout) → (f : File) → IsRelAt (D.history.image disk.old) l (entry_of found.old.file) f
-        → IsWrittenAt D.history disk.old disk.new (channel_at (entry_of found.old.file) spot.old) l f text.now
-        result }
-    ensures refused { IfOk result (λ status. status ≡ FileTooLarge → OnlyReads D.history disk.old disk.new 1) }
-    ensures failures { TellsFailure D.history disk.old disk.new result }
+    requires place { IsPlace (D.history.image disk.old) found.old spot.old }
+    ensures { WritesAt D.history disk.old disk.new found.old found.new spot.old spot.new text.now result }
 {
     match write_record(
         disk,
@@ -102,21 +75,8 @@ fn write_at<D: Sectors>(
     spot: &mut Spot,
     text: &[u8],
 ) -> Result<Status, Dead>
-    requires clean { IsClean (D.history.image disk.old) }
-    requires found { IsFound (D.history.image disk.old) found.old }
-    requires spot { IsSpot found.old spot.old }
-    ensures row { IfOk result (λ status.
-        (s : statuses.Status) → (b : Bool)
-        → InFile (at_spot (D.history.image disk.old) found.old spot.old s b)
-        (WritesIn (at_spot (D.history.image disk.old) found.old spot.old s b) text.now
-        (at_spot (D.history.image disk.new) found.new spot.new status b))) }
-    ensures found { OnOk result (KeepsFound (D.history.image disk.old) (D.history.image disk.new) found.old found.new) }
-    ensures spot { OnOk result (IsSpot found.new spot.new) }
-    ensures writes { (l : Layout) → (f : File) → IsRelAt (D.history.image disk.old) l (entry_of found.old.file) f
-        → IsWrittenAt D.history disk.old disk.new (channel_at (entry_of found.old.file) spot.old) l f text.now
-        result }
-    ensures refused { IfOk result (λ status. status ≡ FileTooLarge → OnlyReads D.history disk.old disk.new 1) }
-    ensures failures { TellsFailure D.history disk.old disk.new result }
+    requires { IsPlace (D.history.image disk.old) found.old spot.old }
+    ensures { WritesAt D.history disk.old disk.new found.old found.new spot.old spot.new text.now result }
 {
     if text.is_empty() {
         return grow_at(disk, found, *spot);
@@ -128,14 +88,7 @@ impl Known {
     /// Writes where the channel is the open one.
     fn write<D: Sectors>(&mut self, disk: &mut D, channel: u8, text: &[u8]) -> Result<Status, Dead>
         requires known { IsKnown (D.history.image disk.old) self.old }
-        ensures row { IfOk result (λ status.
-            (s : statuses.Status)
-            → Writes (shown (D.history.image disk.old) self.old s) channel text.now
-            (shown (D.history.image disk.new) self.new status)) }
-        ensures known { OnOk result (IsKnown (D.history.image disk.new) self.new) }
-        ensures writes { IsWrittenOn D.history disk.old disk.new (channel_of self.old.last) channel text.now result }
-        ensures refused { IfOk result (λ status. status ≡ FileTooLarge → OnlyReads D.history disk.old disk.new 1) }
-        ensures failures { TellsFailure D.history disk.old disk.new result }
+        ensures { WritesOn D.history disk.old disk.new self.old self.new channel text.now result }
     {
         if let Some(opened) = &mut self.last {
             if let Some(spot) = &mut opened.spot {

@@ -7,7 +7,8 @@ use Rattle.d64_image.specs.History.{Failed, History, TellsFailure}
 use Rattle.rel_records.specs.Faults.{TellsRelFault}
 use Rattle.rel_records.specs.Written.{IsDone}
 use Rattle.rel_records.specs.declared.faults.RelFault.{RelFault}
-use Rattle.rel_records.specs.declared.faults.RelFault.TheVariants.{Device, Exists, Full, NotFound, NotPresent, Overflow, TooLarge}
+use Rattle.rel_records.specs.declared.faults.RelFault.TheVariants.{Device, Exists, Full, NotFound, NotPresent, Overflow}
+use Rattle.rel_records.specs.declared.faults.RelFault.TheVariants.{TooLarge}
 
 -- no clause of what is done says anything
 pub none-done : {T E : Type 0} (r : Result T E) (Q : E → Type 0) → IsErrAnd r Q → (P : T → Type 0) → IfOk r P
@@ -28,7 +29,8 @@ if-so (Ok x) P Q f h = f x h
 if-so (Err e) P Q f h = tt
 
 -- the fault is the one that is passed on
-pub fault-is : {T E : Type 0} (r : Result T E) (Q : E → Type 0) → IsErrAnd r Q → (P : E → Type 0) → ((e : E) → Q e → P e) → IfErr r P
+pub fault-is : {T E : Type 0} (r : Result T E) (Q : E → Type 0) → IsErrAnd r Q → (P : E → Type 0)
+    → ((e : E) → Q e → P e) → IfErr r P
 fault-is (Ok x) Q h P f = absurd h
 fault-is (Err e) Q h P f = f e h
 
@@ -38,7 +40,8 @@ module _ {D : Type 0} (S : History D) (a b c : D) (same : S.failures b ≡ S.fai
   tells-after (Ok x) h = h ∙ same
   tells-after (Err e) h = failed_later S a b c same h
 
-  pub tells-failed : {T E : Type 0} (r : Result T E) (Q : E → Type 0) → IsErrAnd r Q → Failed S b c → TellsFailure S a c r
+  pub tells-failed : {T E : Type 0} (r : Result T E) (Q : E → Type 0) → IsErrAnd r Q → Failed S b c
+      → TellsFailure S a c r
   tells-failed (Ok x) Q h f = absurd h
   tells-failed (Err e) Q h f = failed_later S a b c same f
 
@@ -52,9 +55,11 @@ module _ {D : Type 0} (S : History D) (a b c : D) (same : S.failures b ≡ S.fai
   tells-rel-after (Err Exists) h = h ∙ same
   tells-rel-after (Err Device) h = failed_later S a b c same h
 
-  pub passed-on : {T : Type 0} (r : Result T RelFault) (e : RelFault) → IsErrAnd r (λ y. y ≡ e) → TellsRelFault {T = T} S b c (Err e) → TellsRelFault S a c r
+  pub passed-on : {T : Type 0} (r : Result T RelFault) (e : RelFault) → IsErrAnd r (λ y. y ≡ e)
+      → TellsRelFault {T = T} S b c (Err e) → TellsRelFault S a c r
   passed-on (Ok x) e h told = absurd h
-  passed-on {T} (Err y) e h told = let P : RelFault → Type 0 = λ f. TellsRelFault {T = T} S a c (Err f) in subst P (sym h) (tells-rel-after {T = T} (Err e) told)
+  passed-on {T} (Err y) e h told = let P : RelFault → Type 0 = λ f. TellsRelFault {T = T} S a c (Err f) in
+      subst P (sym h) (tells-rel-after {T = T} (Err e) told)
 
 -- each fault is one alone
 pub device-not-exists : {X : Type 0} (e : RelFault) → e ≡ Device → e ≡ Exists → X
@@ -103,7 +108,8 @@ error-then (Ok x) P Q f h = tt
 error-then (Err e) P Q f h = f h
 
 -- a refusal of growth is not done
-pub refused-undone : {X : Type 0} (r : Result (Unit {0}) RelFault) (e : RelFault) → IsErrAnd r (λ y. y ≡ e) → (e ≡ TooLarge) ⊎ ((e ≡ Full) ⊎ (e ≡ Device)) → IsDone r → X
+pub refused-undone : {X : Type 0} (r : Result (Unit {0}) RelFault) (e : RelFault) → IsErrAnd r (λ y. y ≡ e)
+    → (e ≡ TooLarge) ⊎ ((e ≡ Full) ⊎ (e ≡ Device)) → IsDone r → X
 refused-undone (Ok x) e h told done = absurd h
 refused-undone (Err Overflow) e h (inl t) done = let both : Overflow ≡ TooLarge = h ∙ t in cc
 refused-undone (Err Overflow) e h (inr (inl t)) done = let both : Overflow ≡ Full = h ∙ t in cc
@@ -121,9 +127,11 @@ refusal-no-overflow e (inr (inl t)) o = cc
 refusal-no-overflow e (inr (inr t)) o = cc
 
 -- a cut text is told after calls without a failure
-pub cut-tells : {D T : Type 0} (S : History D) (a b : D) (r : Result T RelFault) (P : Type 0) → IfErr r (λ e. (e ≡ Overflow) × P) → S.failures b ≡ S.failures a → TellsRelFault S a b r
+pub cut-tells : {D T : Type 0} (S : History D) (a b : D) (r : Result T RelFault) (P : Type 0)
+    → IfErr r (λ e. (e ≡ Overflow) × P) → S.failures b ≡ S.failures a → TellsRelFault S a b r
 cut-tells S a b (Ok x) P h same = same
-cut-tells {T = T} S a b (Err e) P h same = let Q : RelFault → Type 0 = λ f. TellsRelFault {T = T} S a b (Err f) in subst Q (sym h.0) same
+cut-tells {T = T} S a b (Err e) P h same = let Q : RelFault → Type 0 = λ f. TellsRelFault {T = T} S a b (Err f) in
+    subst Q (sym h.0) same
 
 pub overflow-not-full : {X : Type 0} (e : RelFault) → e ≡ Overflow → e ≡ Full → X
 overflow-not-full e is other = cc

@@ -1,5 +1,6 @@
 -- What each call on a relative file promises, at Ok and at an error. All of it is our own.
-use Rattle.std.specs.Prelude.{ℕ, ◌≡◌, ◌≢◌, ◌⊎◌, ◌↔◌, ◌≤◌, ◌<◌, ◌+◌, ◌*◌, ◌-◌, Err, IfErr, IfOk, IsOk, List, OnErr, OnOk, Result, Some, length, slice_get}
+use Rattle.std.specs.Prelude.{ℕ, ◌≡◌, ◌≢◌, ◌⊎◌, ◌↔◌, ◌≤◌, ◌<◌, ◌+◌, ◌*◌, ◌-◌, Err, IfErr, IfOk, IsOk, List, OnErr, OnOk}
+use Rattle.std.specs.Prelude.{Result, Some, length, slice_get}
 use Rattle.d64_image.specs.History.{Changes, HeldOnly, History, OldOr, OnlyReads, TellsFailure, WritesNothing}
 use Rattle.d64_image.specs.Images.{Image, Sector, put}
 use Rattle.d64_image.specs.declared.faults.DeviceFault.{DeviceFault}
@@ -14,27 +15,32 @@ use Rattle.rel_records.specs.Growth.{IsFull, IsTooLarge, added, growth_writes, r
 use Rattle.rel_records.specs.Made.{HasNoRoom, IsCreating, IsMade, IsTakenName, StaysOf, creation_writes}
 use Rattle.rel_records.specs.Others.{KeepsRelFiles, LeavesRecords}
 use Rattle.rel_records.specs.Site.{HasFileAt}
-use Rattle.rel_records.specs.Written.{IsAbsent, IsDone, IsGrowingBy, IsGrowingTo, IsInOneBlock, IsRecord, IsWriting, grown_to, touched, with_written}
+use Rattle.rel_records.specs.Written.{IsAbsent, IsDone, IsGrowingBy, IsGrowingTo, IsInOneBlock, IsRecord, IsWriting}
+use Rattle.rel_records.specs.Written.{grown_to, touched, with_written}
 use Rattle.rel_records.specs.declared.faults.RelFault.{RelFault}
-use Rattle.rel_records.specs.declared.faults.RelFault.TheVariants.{Device, Exists, Full, NotFound, NotPresent, Overflow, TooLarge}
+use Rattle.rel_records.specs.declared.faults.RelFault.TheVariants.{Device, Exists, Full, NotFound, NotPresent, Overflow}
+use Rattle.rel_records.specs.declared.faults.RelFault.TheVariants.{TooLarge}
 use Rattle.rel_records.specs.declared.rel_file.RelFile.{RelFile}
 use Rattle.rel_records.specs.declared.site.Site.{Site}
 
 -- At most so many sectors are read and none is written. At Ok this holds of the answer; the one fault is the device's.
-pub record ReadsAtMost {D T : Type 0} (S : History D) (old new : D) (most : ℕ) (result : Result T RelFault) (P : T → Type 0) : Type 0 where
+pub record ReadsAtMost {D T : Type 0} (S : History D) (old new : D) (most : ℕ) (result : Result T RelFault)
+    (P : T → Type 0) : Type 0 where
   pub ok : IfOk result P
   pub err : IfErr result (λ e. e ≡ Device)
   pub reads : OnlyReads S old new most
   pub failures : TellsRelFault S old new result
 
 -- At most so many sectors are written. At Ok this holds of the image; each image on the way is one of these.
-pub record WritesAtMost {D T E : Type 0} (S : History D) (old new : D) (most : ℕ) (held done : Image → Type 0) (result : Result T E) : Type 0 where
+pub record WritesAtMost {D T E : Type 0} (S : History D) (old new : D) (most : ℕ) (held done : Image → Type 0)
+    (result : Result T E) : Type 0 where
   pub ok : OnOk result (done (S.image new))
   pub moments : Changes S old new most held
   pub failures : TellsFailure S old new result
 
 -- The first closed relative file of this name was found, or the directory has none.
-pub record FindsFile {D : Type 0} (S : History D) (old new : D) (name : List ℕ) (result : Result RelFile RelFault) : Type 0 where
+pub record FindsFile {D : Type 0} (S : History D) (old new : D) (name : List ℕ)
+    (result : Result RelFile RelFault) : Type 0 where
   pub ok : (l : Layout) → IsLayout (S.image old) l → IfOk result (λ v.
       (f : File) × IsFirst l name (entry_of v) f × IsFileOf (S.image old) l (entry_of v) f v)
   pub not_found : (l : Layout) → IsLayout (S.image old) l → IfErr result (λ e.
@@ -61,8 +67,10 @@ pub record ReadsRecord {D : Type 0} (S : History D) (old new : D) (v : RelFile) 
   pub reads : OnlyReads S old new most
   pub failures : TellsRelFault S old new result
 
--- The sector at a place was written with these bytes, by one write: at an error, which is the device's, they may stand or not.
-pub record PutsSector {D T : Type 0} (S : History D) (old new : D) (p : Place) (bytes : Sector) (result : Result T RelFault) : Type 0 where
+-- The sector at a place was written with these bytes, by one write: at an error, which is the device's, they may stand
+-- or not.
+pub record PutsSector {D T : Type 0} (S : History D) (old new : D) (p : Place) (bytes : Sector)
+    (result : Result T RelFault) : Type 0 where
   pub ok : OnOk result (S.image new ≡ put (S.image old) p bytes)
   pub err : IfErr result (λ e. e ≡ Device)
   pub held : HeldOnly S old new (OldOr (S.image old) (put (S.image old) p bytes))
@@ -88,14 +96,16 @@ pub record BeginsIn (img : Image) (v : RelFile) (number position block : ℕ) (p
   pub large : number * length_of v ≤ 182880
 
 -- A text was written from a position on into a record of f, the file at place n of the layout l.
-pub record WritesOver {D : Type 0} (S : History D) (old new : D) (l : Layout) (n : ℕ) (f : File) (v : RelFile) (number position : ℕ)
+pub record WritesOver {D : Type 0} (S : History D) (old new : D) (l : Layout) (n : ℕ) (f : File) (v : RelFile)
+    (number position : ℕ)
     (text : List ℕ) (most : ℕ) (result : Result (Unit {0}) RelFault) : Type 0 where
   pub ok : OnOk result (LeavesRecords (S.image old) (S.image new) l n
       (with_written (record_length f.slot) number position text (records (S.image old) f)) v)
   pub moments : Changes S old new most (IsWriting (S.image old) l n f 0 number position text)
 
 -- A text was written from a position on into a record that is there, by at most so many writes.
-pub record WritesThere {D : Type 0} (S : History D) (old new : D) (v : RelFile) (number position : ℕ) (text : List ℕ) (most : ℕ)
+pub record WritesThere {D : Type 0} (S : History D) (old new : D) (v : RelFile) (number position : ℕ) (text : List ℕ)
+    (most : ℕ)
     (result : Result (Unit {0}) RelFault) : Type 0 where
   pub file : OfItsFile (S.image old) v (λ l n f. WritesOver S old new l n f v number position text most result)
   pub err : IfErr result (λ e. e ≡ Device)
@@ -103,8 +113,10 @@ pub record WritesThere {D : Type 0} (S : History D) (old new : D) (v : RelFile) 
   pub uncounted : IsInOneBlock (length_of v) number → OnErr result (S.writes new ≡ S.writes old)
   pub failures : TellsRelFault S old new result
 
--- A text was written into a record of f, the file at place n of the layout l, which grew where it had to; w is kept of it.
-pub record WritesFile {D : Type 0} (S : History D) (old new : D) (l : Layout) (n : ℕ) (f : File) (w : RelFile) (number position : ℕ)
+-- A text was written into a record of f, the file at place n of the layout l, which grew where it had to; w is kept of
+-- it.
+pub record WritesFile {D : Type 0} (S : History D) (old new : D) (l : Layout) (n : ℕ) (f : File) (w : RelFile)
+    (number position : ℕ)
     (text : List ℕ) (result : Result (Unit {0}) RelFault) : Type 0 where
   -- the record is written, whole or cut
   pub done : IsDone result → LeavesRecords (S.image old) (S.image new) l n
@@ -117,7 +129,8 @@ pub record WritesFile {D : Type 0} (S : History D) (old new : D) (l : Layout) (n
       (IsWriting (S.image old) l n f (added (record_length f.slot) (records_had f) number) number position text)
   pub others : KeepsRelFiles (S.image old) (S.image new) l n
 
--- A text was written from a position on into a record, or growth was refused for it. Of the file v was kept, and w is now.
+-- A text was written from a position on into a record, or growth was refused for it. Of the file v was kept, and w is
+-- now.
 pub record WritesRecord {D : Type 0} (S : History D) (old new : D) (v w : RelFile) (number position : ℕ) (text : List ℕ)
     (result : Result (Unit {0}) RelFault) : Type 0 where
   pub file : OfItsFile (S.image old) v (λ l n f. WritesFile S old new l n f w number position text result)
@@ -135,7 +148,8 @@ pub record WritesRecord {D : Type 0} (S : History D) (old new : D) (v w : RelFil
   pub failures : TellsRelFault S old new result
 
 -- f, the file at place n of the layout l, grew to a record, or couldn't; w is kept of it.
-pub record GrowsFile {D : Type 0} (S : History D) (old new : D) (l : Layout) (n : ℕ) (f : File) (w : RelFile) (number : ℕ)
+pub record GrowsFile {D : Type 0} (S : History D) (old new : D) (l : Layout) (n : ℕ) (f : File) (w : RelFile)
+    (number : ℕ)
     (result : Result (Unit {0}) RelFault) : Type 0 where
   pub ok : OnOk result (LeavesRecords (S.image old) (S.image new) l n (grown_to (S.image old) f number) w)
   -- each refusal, exactly
@@ -147,7 +161,8 @@ pub record GrowsFile {D : Type 0} (S : History D) (old new : D) (l : Layout) (n 
   pub others : KeepsRelFiles (S.image old) (S.image new) l n
 
 -- A file grew so that a record is there, or growth was refused. Of the file v was kept, and w is now.
-pub record Grows {D : Type 0} (S : History D) (old new : D) (v w : RelFile) (number : ℕ) (result : Result (Unit {0}) RelFault) : Type 0 where
+pub record Grows {D : Type 0} (S : History D) (old new : D) (v w : RelFile) (number : ℕ)
+    (result : Result (Unit {0}) RelFault) : Type 0 where
   pub file : OfItsFile (S.image old) v (λ l n f. GrowsFile S old new l n f w number result)
   pub there : OnOk result (number ≤ records_in w)
   pub same : OnOk result (length_of w ≡ length_of v)
@@ -159,44 +174,51 @@ pub record Grows {D : Type 0} (S : History D) (old new : D) (v w : RelFile) (num
   pub failures : TellsRelFault S old new result
 
 -- f, the file at place n of the layout l, got up to so many empty records behind its own; at Ok this is done of it.
-pub record GrowsBy {D : Type 0} (S : History D) (old new : D) (l : Layout) (n : ℕ) (f : File) (most more : ℕ) (done : Type 0)
+pub record GrowsBy {D : Type 0} (S : History D) (old new : D) (l : Layout) (n : ℕ) (f : File) (most more : ℕ)
+    (done : Type 0)
     (result : Result (Unit {0}) DeviceFault) : Type 0 where
   pub ok : OnOk result done
   pub moments : Changes S old new most (IsGrowingBy (S.image old) l n f more)
 
 -- A file of this name was made where the site has it, with its entry in the directory sector at p.
-pub record MakesFile {D : Type 0} (S : History D) (old new : D) (l : Layout) (name : List ℕ) (size : ℕ) (s : Site) (p : Place) (most : ℕ)
+pub record MakesFile {D : Type 0} (S : History D) (old new : D) (l : Layout) (name : List ℕ) (size : ℕ) (s : Site)
+    (p : Place) (most : ℕ)
     (result : Result (Unit {0}) DeviceFault) : Type 0 where
   pub ok : OnOk result (HasFileAt (S.image old) l name size s p (S.image new))
   pub moments : Changes S old new most (IsCreating (S.image old) l name size)
 
 -- A new file of this name is refused for a cause, each exactly, or isn't.
-pub record RefusesName {T : Type 0} (img : Image) (l : Layout) (name : List ℕ) (result : Result T RelFault) : Type 0 where
-  pub exists : IfErr result (λ e. e ≡ Exists → IsTakenName l name)
-  pub full : IfErr result (λ e. e ≡ Full → HasNoRoom img l × ¬ (IsTakenName l name))
-  pub fits : OnOk result (¬ (HasNoRoom img l) × ¬ (IsTakenName l name))
+pub record RefusesName {T : Type 0} (img : Image) (l : Layout) (name : List ℕ) (result : Result T RelFault) : Type 0
+  where
+    pub exists : IfErr result (λ e. e ≡ Exists → IsTakenName l name)
+    pub full : IfErr result (λ e. e ≡ Full → HasNoRoom img l × ¬ (IsTakenName l name))
+    pub fits : OnOk result (¬ (HasNoRoom img l) × ¬ (IsTakenName l name))
 
 -- A refusal writes nothing: three times the eighteen sectors of the directory are read, and the map.
-pub record Refuses {D T : Type 0} (S : History D) (old new : D) (name : List ℕ) (result : Result T RelFault) : Type 0 where
-  pub layout : (l : Layout) → IsLayout (S.image old) l → RefusesName (S.image old) l name result
-  pub told : IfErr result (λ e. (e ≡ Exists) ⊎ ((e ≡ Full) ⊎ (e ≡ Device)))
-  pub refused : IfErr result (λ e. e ≢ Device → OnlyReads S old new 55)
-  pub failures : TellsRelFault S old new result
+pub record Refuses {D T : Type 0} (S : History D) (old new : D) (name : List ℕ) (result : Result T RelFault) : Type 0
+  where
+    pub layout : (l : Layout) → IsLayout (S.image old) l → RefusesName (S.image old) l name result
+    pub told : IfErr result (λ e. (e ≡ Exists) ⊎ ((e ≡ Full) ⊎ (e ≡ Device)))
+    pub refused : IfErr result (λ e. e ≢ Device → OnlyReads S old new 55)
+    pub failures : TellsRelFault S old new result
 
 -- What a new file takes was chosen, or it was refused; nothing was written.
-pub record Chooses {D T : Type 0} (S : History D) (old new : D) (name : List ℕ) (result : Result T RelFault) (Is : Layout → T → Type 0) : Type 0 where
+pub record Chooses {D T : Type 0} (S : History D) (old new : D) (name : List ℕ) (result : Result T RelFault)
+    (Is : Layout → T → Type 0) : Type 0 where
   pub ok : (l : Layout) → IsLayout (S.image old) l → IfOk result (Is l)
   pub refuses : Refuses S old new name result
   pub quiet : WritesNothing S old new
 
 -- A file was created, or not, where l is the layout.
-pub record CreatesFile {D : Type 0} (S : History D) (old new : D) (l : Layout) (name : List ℕ) (size : ℕ) (result : Result RelFile RelFault) : Type 0 where
+pub record CreatesFile {D : Type 0} (S : History D) (old new : D) (l : Layout) (name : List ℕ) (size : ℕ)
+    (result : Result RelFile RelFault) : Type 0 where
   pub ok : IfOk result (IsMade (S.image old) l name size (S.image new))
   -- every image held, and the writes
   pub moments : Changes S old new (creation_writes l) (IsCreating (S.image old) l name size)
 
 -- A file was created, or refused.
-pub record Creates {D : Type 0} (S : History D) (old new : D) (name : List ℕ) (size : ℕ) (result : Result RelFile RelFault) : Type 0 where
+pub record Creates {D : Type 0} (S : History D) (old new : D) (name : List ℕ) (size : ℕ)
+    (result : Result RelFile RelFault) : Type 0 where
   pub layout : (l : Layout) → IsLayout (S.image old) l → CreatesFile S old new l name size result
   pub refuses : Refuses S old new name result
   -- what is kept of any file stays of it

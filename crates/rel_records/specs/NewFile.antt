@@ -1,5 +1,6 @@
 -- A new file's sectors, and its entry. Our own.
-use Rattle.std.specs.Prelude.{ℕ, ◌≡◌, ◌≢◌, ◌⊎◌, ◌+◌, ◌*◌, ◌<◌, ◌≤◌, ◌∷◌, [], List, Contains, drop, length, slice_index, slice_range, take}
+use Rattle.std.specs.Prelude.{ℕ, ◌≡◌, ◌≢◌, ◌⊎◌, ◌+◌, ◌*◌, ◌<◌, ◌≤◌, ◌∷◌, [], List, Contains, drop, length, slice_index}
+use Rattle.std.specs.Prelude.{slice_range, take}
 use Rattle.d64_image.specs.Images.{Image, Sector, sector}
 use Rattle.d64_image.specs.declared.place.Place.{Place}
 use Rattle.disk_layout.specs.Chain.{Names}
@@ -42,11 +43,12 @@ pub record IsEntered (old new : Sector) (n : ℕ) (entry : List ℕ) : Type 0 wh
   pub link : (i : ℕ) → i < 2 → slice_index new i ≡ slice_index old i
   pub zeros : 0 < n → (slice_index new (32 * n) ≡ 0) × (slice_index new (32 * n + 1) ≡ 0)
 
--- a new directory sector, the last one, with the entry in its first slot and none in the others
+-- a new directory sector, the last one, whose second byte is 255: the entry in its first slot, zeros in the others
 pub record IsNewDirectory (bytes : Sector) (entry : List ℕ) : Type 0 where
   pub ends : slice_index bytes 0 ≡ 0
+  pub last : slice_index bytes 1 ≡ 255
   pub entered : (old : Sector) × IsEntered old bytes 0 entry
-  pub free : (n : ℕ) → 0 < n → n < 8 → slice_index bytes (32 * n + 2) ≡ 0
+  pub free : (i : ℕ) → 32 ≤ i → i < 256 → slice_index bytes i ≡ 0
 
 -- the bytes of a directory sector that links to p
 pub record IsLinkedTo (old new : Sector) (p : Place) : Type 0 where

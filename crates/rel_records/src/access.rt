@@ -1,10 +1,7 @@
 //! Sectors read and written by calls on relative files: a device's failure is told as `Device`.
+ghost use Rattle.std.specs.Prelude.{◌≡◌};
+ghost use Rattle.d64_image.specs.Images.{sector};
 ghost use Rattle.rel_records.specs.Calls.{PutsSector, ReadsAtMost};
-ghost use Rattle.std.specs.Prelude.{◌≡◌, ◌+◌, ◌≤◌, IfErr, OnErr, OnOk};
-ghost use Rattle.d64_image.specs.History.{HeldOnly, OldOr, OnlyReads};
-ghost use Rattle.d64_image.specs.Images.{put, sector};
-ghost use Rattle.rel_records.specs.Faults.{TellsRelFault};
-ghost use Rattle.rel_records.specs.declared.faults.RelFault.TheVariants.{Device};
 
 use crate::faults::RelFault;
 use d64_image::{Place, Sectors};
@@ -16,7 +13,8 @@ pub(crate) fn read<D: Sectors>(
     place: Place,
     to: &mut [u8; 256],
 ) -> Result<(), RelFault>
-    ensures { ReadsAtMost D.history disk.old disk.new 1 result (λ done. to.new ≡ sector (D.history.image disk.old) place) }
+    ensures { ReadsAtMost D.history disk.old disk.new 1 result
+        (λ done. to.new ≡ sector (D.history.image disk.old) place) }
 {
     read_sector(disk, place, to).map_err(|_| RelFault::Device)
 }

@@ -1,19 +1,16 @@
 //! Creation of a relative file.
-ghost use Rattle.rel_records.specs.File.{IsLength};
-ghost use Rattle.rel_records.specs.Calls.{Chooses, Creates};
-ghost use Rattle.std.specs.Prelude.{◌≡◌, ◌≢◌, ◌≤◌, ◌⊎◌, ◌*◌, ◌+◌, IfErr, IfOk, MatchOption, OnOk, length};
-ghost use Rattle.d64_image.specs.History.{Changes, OnlyReads, WritesNothing};
+ghost use Rattle.std.specs.Prelude.{◌≡◌, ◌≤◌, IfErr, IfOk, MatchOption, OnOk, length};
+ghost use Rattle.d64_image.specs.History.{OnlyReads, WritesNothing};
 ghost use Rattle.d64_image.specs.Images.{Image, sector};
 ghost use Rattle.disk_layout.specs.Clean.{IsClean, IsCleanLayout};
 ghost use Rattle.disk_layout.specs.Directory.{map_place};
-ghost use Rattle.disk_layout.specs.Layout.{File, IsLayout, IsSound, Layout};
+ghost use Rattle.disk_layout.specs.Layout.{IsLayout, IsSound, Layout};
+ghost use Rattle.rel_records.specs.Calls.{Chooses, Creates};
 ghost use Rattle.rel_records.specs.Faults.{TellsRelFault};
 ghost use Rattle.rel_records.specs.File.{IsLength};
-ghost use Rattle.rel_records.specs.Growth.{full};
-ghost use Rattle.rel_records.specs.Made.{HasNoRoom, IsCreating, IsMade, IsTakenName, StaysOf, creation_writes};
-ghost use Rattle.rel_records.specs.Site.{IsFileAt, IsRoomOf, IsSite, sector_of};
-ghost use Rattle.rel_records.specs.declared.faults.RelFault.TheVariants.{Device, Exists, Full};
-ghost use Rattle.rel_records.specs.declared.rel_file.RelFile.{RelFile};
+ghost use Rattle.rel_records.specs.Made.{HasNoRoom};
+ghost use Rattle.rel_records.specs.Site.{IsFileAt, IsRoomOf, IsSite};
+ghost use Rattle.rel_records.specs.declared.faults.RelFault.TheVariants.{Device};
 
 use crate::directory_room::{Room, find_room, has_name};
 use crate::faults::RelFault;
@@ -96,7 +93,8 @@ fn read_room<D: Sectors>(disk: &mut D) -> Result<Room, RelFault>
 fn take_site(mut map: Bam, room: Room) -> Option<Site>
     requires of { (img : Image) × (l : Layout) × IsCleanLayout img l × (map.bytes ≡ sector img map_place)
         × IsRoomOf img l room }
-    ensures { (img : Image) → (l : Layout) → IsCleanLayout img l → map.bytes ≡ sector img map_place → IsRoomOf img l room
+    ensures { (img : Image) → (l : Layout) → IsCleanLayout img l → map.bytes ≡ sector img map_place
+        → IsRoomOf img l room
         → MatchOption result (HasNoRoom img l) (λ site. IsSite img l site × ¬ (HasNoRoom img l)) }
 {
     if map.view().blocks_free() < 2 {

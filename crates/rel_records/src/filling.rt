@@ -1,14 +1,13 @@
 //! Empty records in the room that a file's last blocks have left.
-ghost use Rattle.rel_records.specs.File.{IsLength};
-ghost use Rattle.rel_records.specs.Calls.{GrowsBy, WritesAtMost};
-ghost use Rattle.std.specs.Prelude.{◌≡◌, ◌≤◌, ◌<◌, ◌+◌, ◌-◌, ◌*◌, ◌⊎◌, ℕ, OnOk, length, nat_lt, slice_index, if◌then◌else◌};
-ghost use Rattle.d64_image.specs.History.{Changes, TellsFailure};
+ghost use Rattle.std.specs.Prelude.{◌≡◌, ◌≤◌, ◌<◌, ◌+◌, ◌-◌, ◌*◌, ◌⊎◌, ℕ, length, nat_lt, slice_index, if◌then◌else◌};
+ghost use Rattle.d64_image.specs.History.{TellsFailure};
 ghost use Rattle.d64_image.specs.Images.{IsSector};
 ghost use Rattle.disk_layout.specs.Layout.{File, Layout, record_length};
 ghost use Rattle.disk_layout.specs.Records.{filler, record_count};
+ghost use Rattle.rel_records.specs.Calls.{GrowsBy, WritesAtMost};
+ghost use Rattle.rel_records.specs.File.{IsLength};
 ghost use Rattle.rel_records.specs.Growth.{fill_writes, full, records_had};
 ghost use Rattle.rel_records.specs.Steps.{FillsBefore, HasFilled, IsAt, IsEnd, StandsAt};
-ghost use Rattle.rel_records.specs.Written.{IsGrowingBy};
 
 use crate::sizes::{BLOCK, full_records, last_index};
 use crate::step_parts::Parts;
@@ -26,7 +25,8 @@ pub(crate) fn fill_up<D: Sectors>(
     requires few { length parts.old.blocks.items ≤ 720 }
     requires had { had ≡ record_count (length parts.old.blocks.items) (slice_index parts.old.last 1) parts.old.size }
     ensures file { (l : Layout) → (n : ℕ) → (f : File) → IsAt (D.history.image disk.old) l n f parts.old
-        → GrowsBy D.history disk.old disk.new l n f (fill_writes f) (full (record_length f.slot) (length f.blocks) - records_had f)
+        → GrowsBy D.history disk.old disk.new l n f (fill_writes f)
+        (full (record_length f.slot) (length f.blocks) - records_had f)
         (HasFilled (D.history.image disk.old) (D.history.image disk.new) l n f parts.old parts.new) result }
     ensures failures { TellsFailure D.history disk.old disk.new result }
 {
@@ -51,7 +51,8 @@ fn fill_before<D: Sectors>(
     requires some { 1 ≤ length parts.now.blocks.items }
     requires total { total ≤ 1000000 }
     requires from { 254 * (length parts.now.blocks.items - 2) ≤ from }
-    ensures { WritesAtMost D.history disk.old disk.new (if nat_lt from (254 * (length parts.now.blocks.items - 1)) then 1 else 0)
+    ensures { WritesAtMost D.history disk.old disk.new
+        (if nat_lt from (254 * (length parts.now.blocks.items - 1)) then 1 else 0)
         (λ c. (c ≡ D.history.image disk.old) ⊎ FillsBefore (D.history.image disk.old) parts.now from total c)
         (FillsBefore (D.history.image disk.old) parts.now from total) result }
 {

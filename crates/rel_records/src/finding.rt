@@ -1,16 +1,12 @@
 //! A relative file found by its name.
-ghost use Rattle.rel_records.specs.Calls.{FindsFile, ReadsAtMost};
-ghost use Rattle.std.specs.Prelude.{◌≡◌, ◌⊎◌, ◌↔◌, ◌+◌, ◌≤◌, ◌<◌, List, IfErr, IfOk, IsTrue, MatchOption, OnOk, Some, length, map, slice_get, ℕ};
-ghost use Rattle.d64_image.specs.History.{OnlyReads};
+ghost use Rattle.std.specs.Prelude.{◌≡◌, ◌↔◌, ◌≤◌, List, IsTrue, MatchOption, length, map};
 ghost use Rattle.d64_image.specs.Images.{sector};
 ghost use Rattle.d64_image.specs.declared.place.Place.{Place};
 ghost use Rattle.disk_layout.specs.Layout.{File, IsLayout, IsSound, Layout};
-ghost use Rattle.disk_layout.specs.Rest.{IsFirst, IsNamed};
-ghost use Rattle.rel_records.specs.Faults.{TellsRelFault};
-ghost use Rattle.rel_records.specs.File.{IsFileOf, Shows, entry_of};
+ghost use Rattle.rel_records.specs.Calls.{FindsFile, ReadsAtMost};
+ghost use Rattle.rel_records.specs.File.{Shows, entry_of};
 ghost use Rattle.rel_records.specs.Named.{HasNoneNamed, HasRel, IsFirstNamed, IsNamedSlot, IsRelOf};
 ghost use Rattle.rel_records.specs.Sides.{NamesEach};
-ghost use Rattle.rel_records.specs.declared.faults.RelFault.TheVariants.{Device, NotFound};
 
 use crate::access::read;
 use crate::directory_room::bears;
@@ -63,7 +59,8 @@ pub(crate) fn list_slots<D: Sectors>(
 fn measure<D: Sectors>(disk: &mut D, slot: &Slot) -> Result<(u16, u8), RelFault>
     requires of { HasRel (D.history.image disk.old) slot.now }
     ensures { ReadsAtMost D.history disk.old disk.new 683 result (λ found.
-        ((f : File) → IsRelOf (D.history.image disk.old) slot.now f → (found.0 ≡ length f.blocks) × (found.1 ≡ f.last)) × (found.0 ≤ 683)) }
+        ((f : File) → IsRelOf (D.history.image disk.old) slot.now f → (found.0 ≡ length f.blocks) × (found.1 ≡ f.last))
+        × (found.0 ≤ 683)) }
 {
     let first = EntryView::new(&slot.bytes).first_block().unwrap();
     let mut blocks = ArrayVec::new();
@@ -84,7 +81,8 @@ fn read_sides<D: Sectors>(
     requires of { (qs : List Place) × (length qs ≡ count) × (count ≤ 6)
         × NamesEach (sector (D.history.image disk.old) place) 4 qs }
     ensures { ReadsAtMost D.history disk.old disk.new 1 result (λ done.
-        (qs : List Place) → length qs ≡ count → NamesEach (sector (D.history.image disk.old) place) 4 qs → sides.new.items ≡ qs) }
+        (qs : List Place) → length qs ≡ count → NamesEach (sector (D.history.image disk.old) place) 4 qs
+        → sides.new.items ≡ qs) }
 {
     let mut bytes = [0; 256];
     read(disk, place, &mut bytes)?;

@@ -1,12 +1,11 @@
 //! What growth keeps in memory of a file, read from the disk.
-ghost use Rattle.std.specs.Prelude.{◌≡◌, ◌≤◌, ◌+◌, ◌++◌, ℕ, [], List, IfOk, OnOk, length};
+ghost use Rattle.std.specs.Prelude.{◌≡◌, ◌≤◌, ◌+◌, ◌++◌, [], List, IfOk, OnOk, length};
 ghost use Rattle.d64_image.specs.History.{OnlyReads, TellsFailure};
 ghost use Rattle.d64_image.specs.Images.{sector};
 ghost use Rattle.d64_image.specs.declared.place.Place.{Place};
 ghost use Rattle.disk_layout.specs.Clean.{IsClean};
 ghost use Rattle.disk_layout.specs.Directory.{map_place};
-ghost use Rattle.disk_layout.specs.Layout.{File, Layout};
-ghost use Rattle.rel_records.specs.File.{IsFileOf, IsOf, OfItsFile};
+ghost use Rattle.rel_records.specs.File.{IsOf, OfItsFile};
 ghost use Rattle.rel_records.specs.Sides.{NamesEach};
 ghost use Rattle.rel_records.specs.Steps.{IsAt};
 

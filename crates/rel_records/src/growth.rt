@@ -1,19 +1,15 @@
 //! Growth of a relative file to a record.
-ghost use Rattle.rel_records.specs.Calls.{Grows, GrowsBy};
-ghost use Rattle.std.specs.Prelude.{◌≡◌, ◌≢◌, ◌≤◌, ◌+◌, ◌-◌, ◌⊎◌, ◌↔◌, ℕ, Err, IfErr, IsOk, OnOk, length};
-ghost use Rattle.d64_image.specs.History.{Changes, OnlyReads, TellsFailure};
+ghost use Rattle.std.specs.Prelude.{◌≡◌, ◌≤◌, ◌+◌, ◌-◌, ℕ, length};
+ghost use Rattle.d64_image.specs.History.{TellsFailure};
 ghost use Rattle.d64_image.specs.Images.{sector};
 ghost use Rattle.disk_layout.specs.Clean.{IsClean};
 ghost use Rattle.disk_layout.specs.Directory.{map_place};
 ghost use Rattle.disk_layout.specs.Layout.{File, Layout, record_length, sides_for};
 ghost use Rattle.disk_layout.specs.View.{blocks_free};
-ghost use Rattle.rel_records.specs.Faults.{TellsRelFault};
-ghost use Rattle.rel_records.specs.File.{IsOf, OfItsFile, blocks_of, entry_of, length_of, records_in};
-ghost use Rattle.rel_records.specs.Growth.{IsFull, IsTooLarge, fill_writes, full, growth_writes, needed, records_had, run_writes};
-ghost use Rattle.rel_records.specs.Others.{KeepsRelFiles, LeavesRecords};
+ghost use Rattle.rel_records.specs.Calls.{Grows, GrowsBy};
+ghost use Rattle.rel_records.specs.File.{IsOf, OfItsFile, blocks_of, entry_of};
+ghost use Rattle.rel_records.specs.Growth.{fill_writes, full, needed, records_had, run_writes};
 ghost use Rattle.rel_records.specs.Steps.{HasRun, IsAt, IsFilledUp, IsKeptOf, IsRunTo, StandsFilled};
-ghost use Rattle.rel_records.specs.Written.{IsGrowingBy, IsGrowingTo, grown_to};
-ghost use Rattle.rel_records.specs.declared.faults.RelFault.TheVariants.{Device, Full, TooLarge};
 
 use crate::counting::{has_records, records};
 use crate::faults::RelFault;
@@ -100,7 +96,8 @@ fn add_blocks<D: Sectors>(disk: &mut D, parts: &mut Parts, wanted: u16) -> Resul
     requires few { wanted ≤ 720 }
     requires room { needed (length parts.old.blocks.items) wanted ≤ blocks_free parts.old.map.bytes }
     ensures file { (l : Layout) → (n : ℕ) → (f : File) → IsAt (D.history.image disk.old) l n f parts.old → IsFilledUp f
-        → GrowsBy D.history disk.old disk.new l n f (run_writes (length f.blocks) wanted) (full (record_length f.slot) wanted - records_had f)
+        → GrowsBy D.history disk.old disk.new l n f (run_writes (length f.blocks) wanted)
+        (full (record_length f.slot) wanted - records_had f)
         (IsRunTo (D.history.image disk.old) (D.history.image disk.new) l n f wanted parts.new) result }
     ensures failures { TellsFailure D.history disk.old disk.new result }
 {

@@ -1,14 +1,8 @@
 //! Records read in order: the block that was read last is kept, and its link names the next one.
+ghost use Rattle.std.specs.Prelude.{◌≡◌, ◌+◌, ◌<◌, ◌≤◌, None, Some};
 ghost use Rattle.rel_records.specs.Calls.{HasRead, ReadsAtMost, ReadsRecord};
-ghost use Rattle.std.specs.Prelude.{◌≡◌, ◌⊎◌, ◌+◌, ◌<◌, ◌≤◌, None, Some, IfErr, OnOk, length};
-ghost use Rattle.d64_image.specs.History.{OnlyReads};
-ghost use Rattle.disk_layout.specs.Layout.{File, Layout};
-ghost use Rattle.disk_layout.specs.Records as records_of;
-ghost use Rattle.rel_records.specs.Faults.{TellsRelFault};
-ghost use Rattle.rel_records.specs.File.{IsOf, OfItsFile, blocks_of, length_of, records_in};
+ghost use Rattle.rel_records.specs.File.{IsOf, blocks_of, records_in};
 ghost use Rattle.rel_records.specs.Kept.{IsKept, number_kept};
-ghost use Rattle.rel_records.specs.Written.{IsAbsent, IsRecord};
-ghost use Rattle.rel_records.specs.declared.faults.RelFault.TheVariants.{Device, NotPresent};
 
 use crate::counting::has_records;
 use crate::faults::RelFault;
@@ -103,7 +97,8 @@ fn next_there<D: Sectors>(
     requires kept { IsKept (D.history.image disk.old) file.now last.old }
     requires low { 1 ≤ number }
     requires high { number ≤ records_in file.now }
-    ensures text { ReadsAtMost D.history disk.old disk.new 3 result (λ done. HasRead (D.history.image disk.old) file.now number text.new.items) }
+    ensures text { ReadsAtMost D.history disk.old disk.new 3 result
+        (λ done. HasRead (D.history.image disk.old) file.now number text.new.items) }
     ensures kept { IsKept (D.history.image disk.old) file.now last.new }
 {
     let size = file.size as usize;

@@ -1,11 +1,7 @@
 //! Where a data block of a file lies: one side sector tells it.
+ghost use Rattle.std.specs.Prelude.{◌≡◌, ◌<◌, Some, slice_get};
 ghost use Rattle.rel_records.specs.Calls.{ReadsAtMost};
-ghost use Rattle.std.specs.Prelude.{ℕ, ◌≡◌, ◌<◌, IfErr, IfOk, Some, slice_get};
-ghost use Rattle.d64_image.specs.History.{OnlyReads};
-ghost use Rattle.disk_layout.specs.Layout.{File, Layout};
-ghost use Rattle.rel_records.specs.Faults.{TellsRelFault};
-ghost use Rattle.rel_records.specs.File.{IsFileOf, IsOf, OfItsFile, blocks_of};
-ghost use Rattle.rel_records.specs.declared.faults.RelFault.TheVariants.{Device};
+ghost use Rattle.rel_records.specs.File.{IsOf, OfItsFile, blocks_of};
 
 use crate::access::read;
 use crate::faults::RelFault;

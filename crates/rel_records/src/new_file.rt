@@ -1,14 +1,13 @@
 //! A new file's sectors, and its entry.
-ghost use Rattle.rel_records.specs.File.{IsLength};
-ghost use Rattle.rel_records.specs.Calls.{MakesFile, WritesAtMost};
-ghost use Rattle.std.specs.Prelude.{◌≡◌, ◌≢◌, ◌≤◌, ◌<◌, ◌∷◌, [], List, OnOk, length, ℕ};
-ghost use Rattle.d64_image.specs.History.{Changes, TellsFailure};
+ghost use Rattle.std.specs.Prelude.{◌≡◌, ◌≤◌, ◌<◌, ◌∷◌, [], List, length, ℕ};
+ghost use Rattle.d64_image.specs.History.{TellsFailure};
 ghost use Rattle.d64_image.specs.Images.{sector};
-ghost use Rattle.disk_layout.specs.Directory.{map_place};
 ghost use Rattle.disk_layout.specs.Layout.{Layout};
-ghost use Rattle.rel_records.specs.Made.{IsCreating, creation_writes};
+ghost use Rattle.rel_records.specs.Calls.{MakesFile, WritesAtMost};
+ghost use Rattle.rel_records.specs.File.{IsLength};
+ghost use Rattle.rel_records.specs.Made.{creation_writes};
 ghost use Rattle.rel_records.specs.NewFile.{AreApart, ChangesOnly, HasNewSectors, IsBeside, IsEntered, IsLinkedTo, IsNewDirectory};
-ghost use Rattle.rel_records.specs.Site.{HasFileAt, IsSectorEntry, IsSectorSite, IsSite, IsSlotEntry, IsSlotSite, sector_of};
+ghost use Rattle.rel_records.specs.Site.{IsSectorEntry, IsSectorSite, IsSite, IsSlotEntry, IsSlotSite, sector_of};
 
 use crate::next_block::fresh_block;
 use crate::site::Site;
@@ -25,7 +24,8 @@ fn write_sectors<D: Sectors>(
 ) -> Result<(), DeviceFault>
     requires size { IsLength size }
     requires apart { AreApart block side }
-    ensures { WritesAtMost D.history disk.old disk.new 3 (ChangesOnly (D.history.image disk.old) map.now.bytes (block ∷ side ∷ []))
+    ensures { WritesAtMost D.history disk.old disk.new 3
+        (ChangesOnly (D.history.image disk.old) map.now.bytes (block ∷ side ∷ []))
         (HasNewSectors map.now.bytes block side size) result }
 {
     disk.write(map_place(), &map.bytes)?;
@@ -46,7 +46,8 @@ fn write_with_directory<D: Sectors>(
     requires size { IsLength size }
     requires apart { AreApart block side }
     requires fresh { IsBeside fresh block side }
-    ensures { WritesAtMost D.history disk.old disk.new 4 (ChangesOnly (D.history.image disk.old) map.now.bytes (fresh ∷ block ∷ side ∷ []))
+    ensures { WritesAtMost D.history disk.old disk.new 4
+        (ChangesOnly (D.history.image disk.old) map.now.bytes (fresh ∷ block ∷ side ∷ []))
         (λ c. HasNewSectors map.now.bytes block side size c × (sector c fresh ≡ bytes.now)) result }
 {
     write_sectors(disk, map, block, side, size)?;
@@ -94,7 +95,8 @@ fn write_in_slot<D: Sectors>(
 ) -> Result<(), DeviceFault>
     requires size { IsLength size }
     requires site { (l : Layout) × IsSlotSite (D.history.image disk.old) l site.now }
-    ensures file { (l : Layout) → (name : List ℕ) → IsSlotSite (D.history.image disk.old) l site.now → IsSlotEntry name size site.now bytes.now
+    ensures file { (l : Layout) → (name : List ℕ) → IsSlotSite (D.history.image disk.old) l site.now
+        → IsSlotEntry name size site.now bytes.now
         → MakesFile D.history disk.old disk.new l name size site.now site.now.place 4 result }
     ensures failures { TellsFailure D.history disk.old disk.new result }
 {

@@ -1,12 +1,11 @@
 //! A file's next data block, made in memory before anything is written.
-ghost use Rattle.rel_records.specs.File.{IsLength};
-ghost use Rattle.std.specs.Prelude.{◌≡◌, ◌≢◌, ◌≤◌, ◌<◌, ◌+◌, ◌-◌, ◌*◌, List, length, slice_index};
+ghost use Rattle.std.specs.Prelude.{◌≡◌, ◌≤◌, ◌<◌, List, length};
 ghost use Rattle.d64_image.specs.Images.{IsSector};
 ghost use Rattle.d64_image.specs.declared.place.Place.{Place};
-ghost use Rattle.disk_layout.specs.Chain.{Names};
 ghost use Rattle.disk_layout.specs.Layout.{sides_for};
 ghost use Rattle.disk_layout.specs.Map.{IsMapOf};
 ghost use Rattle.disk_layout.specs.View.{blocks_free};
+ghost use Rattle.rel_records.specs.File.{IsLength};
 ghost use Rattle.rel_records.specs.Next.{IsFresh, IsLaidOut, IsLinked, TakesPlaces};
 ghost use Rattle.rel_records.specs.Steps.{TakesNext, taken_next};
 

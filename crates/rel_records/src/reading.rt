@@ -1,17 +1,11 @@
 //! Records read: one side sector tells the block where a record begins.
-ghost use Rattle.rel_records.specs.Calls.{HasRead, ReadsAtMost, ReadsRecord};
-ghost use Rattle.std.specs.Prelude.{◌+◌, ◌++◌, length, ◌⊎◌, ◌≡◌, ◌<◌, ◌≤◌, IfErr, IsSome, OnOk, Some, drop, take};
-ghost use Rattle.d64_image.specs.History.{OnlyReads};
+ghost use Rattle.std.specs.Prelude.{◌+◌, ◌++◌, length, ◌≡◌, ◌<◌, ◌≤◌, IsSome, Some, drop, take};
 ghost use Rattle.d64_image.specs.Images.{sector};
 ghost use Rattle.d64_image.specs.declared.place.Place.{Place};
 ghost use Rattle.disk_layout.specs.Chain.{named_at};
-ghost use Rattle.disk_layout.specs.Layout.{File, Layout};
-ghost use Rattle.disk_layout.specs.Records as records_of;
-ghost use Rattle.rel_records.specs.Faults.{TellsRelFault};
-ghost use Rattle.rel_records.specs.File.{IsOf, OfItsFile, blocks_of, length_of, records_in};
+ghost use Rattle.rel_records.specs.Calls.{HasRead, ReadsAtMost, ReadsRecord};
+ghost use Rattle.rel_records.specs.File.{IsOf, OfItsFile, blocks_of, records_in};
 ghost use Rattle.rel_records.specs.Block.{IsBlock};
-ghost use Rattle.rel_records.specs.Written.{IsAbsent, IsRecord};
-ghost use Rattle.rel_records.specs.declared.faults.RelFault.TheVariants.{Device, NotPresent};
 
 use crate::access::read;
 use crate::counting::has_records;
@@ -67,7 +61,8 @@ pub(crate) fn read_block<D: Sectors>(
     requires of { IsOf (D.history.image disk.old) file.now }
     requires there { block < blocks_of file.now }
     ensures { ReadsAtMost D.history disk.old disk.new 2 result (λ done.
-        OfItsFile (D.history.image disk.old) file.now (λ l n f. IsBlock (D.history.image disk.old) f.blocks block to.new)) }
+        OfItsFile (D.history.image disk.old) file.now
+        (λ l n f. IsBlock (D.history.image disk.old) f.blocks block to.new)) }
 {
     let place = block_at(disk, file, block)?;
     read(disk, place, to)

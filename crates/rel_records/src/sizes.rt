@@ -1,7 +1,7 @@
 //! How many records, blocks and side sectors go with one another.
-ghost use Rattle.rel_records.specs.File.{IsLength};
 ghost use Rattle.std.specs.Prelude.{◌≡◌, ◌≤◌, ◌<◌, ◌+◌, ◌-◌, ◌*◌, ◌⊎◌, MatchOption};
 ghost use Rattle.disk_layout.specs.Layout.{sides_for};
+ghost use Rattle.rel_records.specs.File.{IsLength};
 ghost use Rattle.rel_records.specs.Growth as growth;
 
 use disk_layout::{DATA, POINTERS};

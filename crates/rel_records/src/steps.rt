@@ -1,7 +1,6 @@
 //! A file takes one more data block: the sectors that are written for it.
-ghost use Rattle.rel_records.specs.Calls.{GrowsBy, WritesAtMost};
-ghost use Rattle.std.specs.Prelude.{◌≡◌, ◌≤◌, ◌<◌, ◌+◌, ◌-◌, ℕ, Some, OnOk, if◌then◌else◌, length, slice_get};
-ghost use Rattle.d64_image.specs.History.{Changes, TellsFailure};
+ghost use Rattle.std.specs.Prelude.{◌≡◌, ◌≤◌, ◌<◌, ◌+◌, ◌-◌, ℕ, Some, if◌then◌else◌, length, slice_get};
+ghost use Rattle.d64_image.specs.History.{TellsFailure};
 ghost use Rattle.d64_image.specs.Images.{put};
 ghost use Rattle.d64_image.specs.declared.place.Place.{Place};
 ghost use Rattle.disk_layout.specs.Chain.{EachOnce};
@@ -9,9 +8,9 @@ ghost use Rattle.disk_layout.specs.Directory.{map_place};
 ghost use Rattle.disk_layout.specs.Layout.{File, Layout, record_length};
 ghost use Rattle.disk_layout.specs.Side.{side_sector};
 ghost use Rattle.disk_layout.specs.View.{blocks_free};
+ghost use Rattle.rel_records.specs.Calls.{GrowsBy, WritesAtMost};
 ghost use Rattle.rel_records.specs.Growth.{full};
 ghost use Rattle.rel_records.specs.Steps.{AreSidedFrom, HasBlockMore, IsAt, IsBefore, IsFilledUp, IsSided, StandsAt, step_writes, taken_next};
-ghost use Rattle.rel_records.specs.Written.{IsGrowingBy};
 
 use crate::next_block::lay_out;
 use crate::step_parts::Parts;
@@ -28,7 +27,8 @@ fn write_side<D: Sectors>(
 ) -> Result<(), DeviceFault>
     requires { number < length sides.now }
     ensures { WritesAtMost D.history disk.old disk.new 1 (IsSided (D.history.image disk.old) blocks.now sides.now size)
-        (λ c. (q : Place) → slice_get sides.now number ≡ Some q → c ≡ put (D.history.image disk.old) q (side_sector number blocks.now sides.now size))
+        (λ c. (q : Place) → slice_get sides.now number ≡ Some q
+        → c ≡ put (D.history.image disk.old) q (side_sector number blocks.now sides.now size))
         result }
 {
     let bytes = side_bytes(number, blocks, sides, size);
@@ -45,8 +45,10 @@ fn write_older<D: Sectors>(
 ) -> Result<(), DeviceFault>
     requires below { below < length sides.now }
     requires once { EachOnce sides.now }
-    ensures { WritesAtMost D.history disk.old disk.new below (IsSided (D.history.image disk.old) blocks.now sides.now size)
-        (λ c. AreSidedFrom below (D.history.image disk.old) blocks.now sides.now size → AreSidedFrom 0 c blocks.now sides.now size) result }
+    ensures { WritesAtMost D.history disk.old disk.new below
+        (IsSided (D.history.image disk.old) blocks.now sides.now size)
+        (λ c. AreSidedFrom below (D.history.image disk.old) blocks.now sides.now size
+        → AreSidedFrom 0 c blocks.now sides.now size) result }
 {
     for number in 0..below {
         write_side(disk, number, blocks, sides, size)?;
@@ -65,7 +67,8 @@ fn write_sides<D: Sectors>(
     requires some { 1 ≤ length sides.now }
     requires few { length sides.now ≤ 6 }
     requires once { EachOnce sides.now }
-    ensures { WritesAtMost D.history disk.old disk.new (if new then (length sides.now) else 1) (IsSided (D.history.image disk.old) blocks.now sides.now size)
+    ensures { WritesAtMost D.history disk.old disk.new (if new then (length sides.now) else 1)
+        (IsSided (D.history.image disk.old) blocks.now sides.now size)
         (λ c. AreSidedFrom (if new then 0 else (length sides.now - 1)) c blocks.now sides.now size) result }
 {
     let last = sides.len() as u8 - 1;
@@ -90,9 +93,11 @@ fn prepare<D: Sectors>(
     requires once { EachOnce parts.now.sides.items }
     ensures { WritesAtMost D.history disk.old disk.new (2 + (if new then (length parts.now.sides.items) else 1))
         (IsBefore (D.history.image disk.old) parts.now fresh block.now)
-        (λ c. AreSidedFrom (if new then 0 else (length parts.now.sides.items - 1)) c parts.now.blocks.items parts.now.sides.items
+        (λ c. AreSidedFrom (if new then 0 else (length parts.now.sides.items - 1)) c parts.now.blocks.items
+        parts.now.sides.items
         parts.now.size
-        × IsSided (put (put (D.history.image disk.old) map_place parts.now.map.bytes) fresh block.now) parts.now.blocks.items
+        × IsSided (put (put (D.history.image disk.old) map_place parts.now.map.bytes) fresh block.now)
+        parts.now.blocks.items
         parts.now.sides.items parts.now.size c)
         result }
 {

@@ -1,18 +1,12 @@
 //! Records written: the bytes of one record, in the one or two blocks that they touch.
-ghost use Rattle.rel_records.specs.Calls.{BeginsIn, IsPosition, PutsSector, WritesRecord, WritesThere};
-ghost use Rattle.std.specs.Prelude.{ℕ, ◌≡◌, ◌≢◌, ◌⊎◌, ◌↔◌, ◌+◌, ◌-◌, ◌*◌, ◌<◌, ◌≤◌, Err, IfErr, IfOk, OnErr, OnOk, Some, length, slice_get};
-ghost use Rattle.d64_image.specs.History.{Changes, HeldOnly, OldOr, OnlyReads};
-ghost use Rattle.d64_image.specs.Images.{put, sector};
+ghost use Rattle.std.specs.Prelude.{◌≡◌, ◌+◌, ◌-◌, ◌*◌, ◌<◌, ◌≤◌, IfErr, IfOk, OnOk, length};
+ghost use Rattle.d64_image.specs.Images.{sector};
 ghost use Rattle.disk_layout.specs.Chain.{named_at};
 ghost use Rattle.disk_layout.specs.Clean.{IsClean};
-ghost use Rattle.disk_layout.specs.Layout.{File, Layout, record_length};
-ghost use Rattle.disk_layout.specs.Records as records_of;
-ghost use Rattle.rel_records.specs.Faults.{TellsRelFault};
-ghost use Rattle.rel_records.specs.File.{IsFileOf, IsOf, OfItsFile, entry_of, length_of, records_in};
-ghost use Rattle.rel_records.specs.Growth.{IsFull, IsTooLarge, added, growth_writes, records_had};
-ghost use Rattle.rel_records.specs.Others.{KeepsRelFiles, LeavesRecords};
-ghost use Rattle.rel_records.specs.Written.{IsDone, IsInOneBlock, IsWriting, grown_to, patched, touched, with_written};
-ghost use Rattle.rel_records.specs.declared.faults.RelFault.TheVariants.{Device, Full, Overflow, TooLarge};
+ghost use Rattle.rel_records.specs.Calls.{BeginsIn, IsPosition, PutsSector, WritesRecord, WritesThere};
+ghost use Rattle.rel_records.specs.File.{IsOf, length_of};
+ghost use Rattle.rel_records.specs.Written.{patched, touched};
+ghost use Rattle.rel_records.specs.declared.faults.RelFault.TheVariants.{Overflow};
 
 use crate::access::{read, write};
 use crate::faults::RelFault;

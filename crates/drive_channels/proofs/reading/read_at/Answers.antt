@@ -7,22 +7,31 @@ use Rattle.rel_records.specs.declared.faults.RelFault.TheVariants as faults
 use Rattle.drive_channels.proofs.Rows.{absent-row, read-row}
 use Rattle.drive_channels.proofs.reading.read_at.Goals as goal
 
-pub returns-in-Ok-clause-row : goal.returns-in-Ok-clause-row
-returns-in-Ok-clause-row g c = rw c.advance.ensures (λ s b. read-row (g.D.Sectors.history.image c.args.disk.now) c.args.found.now c.args.spot.now s b
-    c.read_record.new.text.items _ c.requires.found (λ l f of. c.in-Ok.ensures.ok l _ f of) (subst (λ (xs : List ℕ). IsGiven (drop (c.args.spot.now.position - 1) xs) c.give.new.to.items) c.as_slice.ensures.value c.give.ensures))
-
-pub returns-in-Ok-clause-spot : goal.returns-in-Ok-clause-spot
-returns-in-Ok-clause-spot g c = rw c.advance.ensures (record {
-  low = c.requires.spot.low;
-  high = c.requires.spot.high;
-  record_from = omega arith;
-  up_to = omega (arith, c.in-Ok.ensures.bound);
-  from = omega arith;
-  within = omega (arith, c.requires.spot.from, c.requires.spot.within);
-})
+pub returns-in-Ok : goal.returns-in-Ok
+returns-in-Ok g c =
+    record {
+      row =
+          rw c.advance.ensures
+          (λ s b. read-row (g.D.Sectors.history.image c.args.disk.now) c.args.found.now c.args.spot.now s b
+          c.read_record.new.text.items _ c.requires.found (λ l f of. c.in-Ok.ensures.ok l _ f of)
+          (subst (λ (xs : List ℕ). IsGiven (drop (c.args.spot.now.position - 1) xs) c.give.new.to.items)
+          c.as_slice.ensures.value c.give.ensures));
+      spot =
+          rw c.advance.ensures (record {
+            low = c.requires.spot.low;
+            high = c.requires.spot.high;
+            record_from = omega arith;
+            up_to = omega (arith, c.in-Ok.ensures.bound);
+            from = omega arith;
+            within = omega (arith, c.requires.spot.from, c.requires.spot.within);
+          });
+      reads = c.read_record.ensures.reads;
+      failures = c.in-Ok.ensures.failures;
+    }
 
 -- no record, and no other fault
-missing : {D : Type 0} (S : History D) (old new : D) (e : RelFault) → ¬ (e ≡ faults.Device) → (e ≡ faults.NotPresent) ⊎ (e ≡ faults.Device)
+missing : {D : Type 0} (S : History D) (old new : D) (e : RelFault) → ¬ (e ≡ faults.Device)
+    → (e ≡ faults.NotPresent) ⊎ (e ≡ faults.Device)
     → TellsRelFault {T = Unit {0}} S old new (Err e) → (e ≡ faults.NotPresent) × (S.failures new ≡ S.failures old)
 missing S old new e other told tells = elim told [
   | inl is ↦ (is, subst (λ (x : RelFault). TellsRelFault {T = Unit {0}} S old new (Err x)) is tells)
@@ -32,9 +41,12 @@ missing S old new e other told tells = elim told [
 pub returns-in_default : goal.returns-in_default
 returns-in_default g c =
     let S = g.D.Sectors.history in
-    let m = missing S c.args.disk.now c.read_record.new.disk c.in-Err.fault c.in_default.not-Device c.in-Err.ensures.told c.in-Err.ensures.failures in
+    let m = missing S c.args.disk.now c.read_record.new.disk c.in-Err.fault c.in_default.not-Device
+    c.in-Err.ensures.told c.in-Err.ensures.failures in
     record {
-      row = rw c.clear.ensures (λ s b. absent-row (S.image c.args.disk.now) c.args.found.now c.args.spot.now s b c.requires.found c.requires.spot.record_from
+      row = rw c.clear.ensures
+          (λ s b. absent-row (S.image c.args.disk.now) c.args.found.now c.args.spot.now s b c.requires.found
+          c.requires.spot.record_from
           (λ l f of. c.in-Err.ensures.not_present l _ f of m.0));
       spot = c.requires.spot;
       reads = c.read_record.ensures.reads;

@@ -8,11 +8,13 @@ use Rattle.disk_layout.specs.Clean.{IsClean, IsCleanLayout}
 use Rattle.disk_layout.specs.Directory.{map_place}
 use Rattle.disk_layout.specs.Layout.{IsLayout, Layout}
 use Rattle.rel_records.proofs.Sites.{room-still, slot-taken, taken-slot}
-use Rattle.rel_records.proofs.Told.{device-not-exists, device-not-full, exists-not-full, fault-is, full-not-exists, none-done, not-done, passed-on}
+use Rattle.rel_records.proofs.Told.{device-not-exists, device-not-full, exists-not-full, fault-is, full-not-exists}
+use Rattle.rel_records.proofs.Told.{none-done, not-done, passed-on}
 use Rattle.rel_records.proofs.creation.choose_site.Goals as goal
 
 clean-at : (img : Image) (l : Layout) → IsClean img → IsLayout img l → IsCleanLayout img l
-clean-at img l (k, clean) h = let P : Layout → Type 0 = IsCleanLayout img in subst P (IsLayout-one img k l clean.layout h) clean
+clean-at img l (k, clean) h = let P : Layout → Type 0 = IsCleanLayout img in
+    subst P (IsLayout-one img k l clean.layout h) clean
 
 pub returns-then-has_name : goal.returns-then-has_name
 returns-then-has_name g c =
@@ -21,7 +23,9 @@ returns-then-has_name g c =
       refuses = record {
         layout = λ l h.
             record {
-              exists = λ e. taken-slot l c.as_slice.result.now c.padded_name.result c.args.name.now (c.as_slice.ensures.value ∙ c.in_ok-list_slots.ensures.ok l h) c.padded_name.ensures (c.has_name.ensures.0 c.if-has_name.true);
+              exists = λ e. taken-slot l c.as_slice.result.now c.padded_name.result c.args.name.now
+                  (c.as_slice.ensures.value ∙ c.in_ok-list_slots.ensures.ok l h) c.padded_name.ensures
+                  (c.has_name.ensures.0 c.if-has_name.true);
               full = λ e. exists-not-full e;
               fits = tt;
             };
@@ -46,9 +50,11 @@ returns-in_default g c =
             };
         told = inr (inr refl);
         refused = λ ne. absurd (ne refl);
-        failures = failed_later g.D.Sectors.history _ _ _ (c.in_ok-room.ensures.failures ∙ c.in_ok-list_slots.ensures.failures) c.in_default.ensures.failures;
+        failures = failed_later g.D.Sectors.history _ _ _
+            (c.in_ok-room.ensures.failures ∙ c.in_ok-list_slots.ensures.failures) c.in_default.ensures.failures;
       };
-      quiet = no_write_then S _ _ _ (reads_no_write S _ _ 18 c.list_slots.ensures.reads) (no_write_then S _ _ _ c.read_room.ensures.quiet (reads_no_write S _ _ 1 c.read.ensures.reads));
+      quiet = no_write_then S _ _ _ (reads_no_write S _ _ 18 c.list_slots.ensures.reads)
+          (no_write_then S _ _ _ c.read_room.ensures.quiet (reads_no_write S _ _ 1 c.read.ensures.reads));
     }
 
 pub take_site-requires : goal.take_site-requires
@@ -80,20 +86,29 @@ returns-in_default-take_site g c =
               exists = λ e. full-not-exists e;
               full = λ e.
                   let P : Image → Type 0 = λ i. IsLayout i l in (
-                    c.in_default-take_site.ensures (S.image c.args.disk.now) l (clean-at (S.image c.args.disk.now) l c.requires.clean h)
-                        (c.in-Ok.ensures.ok ∙ ap (λ (i : Image). sector i map_place) (c.read_room.ensures.quiet.image ∙ listed))
-                        (room-still _ _ l c.in_ok-room.room listed (c.in_ok-room.ensures.ok l (subst P (sym listed) h))),
-                    λ taken. false≢true (sym c.if-has_name.false ∙ c.has_name.ensures.1 (slot-taken l c.as_slice.result.now c.padded_name.result c.args.name.now (c.as_slice.ensures.value ∙ c.in_ok-list_slots.ensures.ok l h) c.padded_name.ensures taken)),
+                    c.in_default-take_site.ensures (S.image c.args.disk.now) l
+                        (clean-at (S.image c.args.disk.now) l c.requires.clean h)
+                        (c.in-Ok.ensures.ok
+                        ∙ ap (λ (i : Image). sector i map_place) (c.read_room.ensures.quiet.image ∙ listed))
+                        (room-still _ _ l c.in_ok-room.room listed
+                        (c.in_ok-room.ensures.ok l (subst P (sym listed) h))),
+                    λ taken. false≢true
+                        (sym c.if-has_name.false
+                        ∙ c.has_name.ensures.1
+                        (slot-taken l c.as_slice.result.now c.padded_name.result c.args.name.now
+                        (c.as_slice.ensures.value ∙ c.in_ok-list_slots.ensures.ok l h) c.padded_name.ensures taken)),
                   );
               fits = tt;
             };
         told = inr (inl refl);
         refused = λ ne.
             let S = g.D.Sectors.history in
-            reads_then S _ _ _ 18 37 55 (omega arith) c.list_slots.ensures.reads (reads_then S _ _ _ 36 1 37 (omega arith) c.in_ok-room.ensures.reads c.read.ensures.reads);
+            reads_then S _ _ _ 18 37 55 (omega arith) c.list_slots.ensures.reads
+            (reads_then S _ _ _ 36 1 37 (omega arith) c.in_ok-room.ensures.reads c.read.ensures.reads);
         failures = c.in-Ok.ensures.failures ∙ c.in_ok-room.ensures.failures ∙ c.in_ok-list_slots.ensures.failures;
       };
-      quiet = no_write_then S _ _ _ (reads_no_write S _ _ 18 c.list_slots.ensures.reads) (no_write_then S _ _ _ c.read_room.ensures.quiet (reads_no_write S _ _ 1 c.read.ensures.reads));
+      quiet = no_write_then S _ _ _ (reads_no_write S _ _ 18 c.list_slots.ensures.reads)
+          (no_write_then S _ _ _ c.read_room.ensures.quiet (reads_no_write S _ _ 1 c.read.ensures.reads));
     }
 
 pub returns : goal.returns
@@ -116,17 +131,25 @@ returns g c =
               full = tt;
               fits =
                   let P : Image → Type 0 = λ i. IsLayout i l in (
-                    (c.in-Some.ensures (S.image c.args.disk.now) l (clean-at (S.image c.args.disk.now) l c.requires.clean h)
-                        (c.in-Ok.ensures.ok ∙ ap (λ (i : Image). sector i map_place) (c.read_room.ensures.quiet.image ∙ listed))
-                        (room-still _ _ l c.in_ok-room.room listed (c.in_ok-room.ensures.ok l (subst P (sym listed) h)))).1,
-                    λ taken. false≢true (sym c.if-has_name.false ∙ c.has_name.ensures.1 (slot-taken l c.as_slice.result.now c.padded_name.result c.args.name.now (c.as_slice.ensures.value ∙ c.in_ok-list_slots.ensures.ok l h) c.padded_name.ensures taken)),
+                    (c.in-Some.ensures (S.image c.args.disk.now) l
+                        (clean-at (S.image c.args.disk.now) l c.requires.clean h)
+                        (c.in-Ok.ensures.ok
+                        ∙ ap (λ (i : Image). sector i map_place) (c.read_room.ensures.quiet.image ∙ listed))
+                        (room-still _ _ l c.in_ok-room.room listed
+                        (c.in_ok-room.ensures.ok l (subst P (sym listed) h)))).1,
+                    λ taken. false≢true
+                        (sym c.if-has_name.false
+                        ∙ c.has_name.ensures.1
+                        (slot-taken l c.as_slice.result.now c.padded_name.result c.args.name.now
+                        (c.as_slice.ensures.value ∙ c.in_ok-list_slots.ensures.ok l h) c.padded_name.ensures taken)),
                   );
             };
         told = tt;
         refused = tt;
         failures = c.in-Ok.ensures.failures ∙ c.in_ok-room.ensures.failures ∙ c.in_ok-list_slots.ensures.failures;
       };
-      quiet = no_write_then S _ _ _ (reads_no_write S _ _ 18 c.list_slots.ensures.reads) (no_write_then S _ _ _ c.read_room.ensures.quiet (reads_no_write S _ _ 1 c.read.ensures.reads));
+      quiet = no_write_then S _ _ _ (reads_no_write S _ _ 18 c.list_slots.ensures.reads)
+          (no_write_then S _ _ _ c.read_room.ensures.quiet (reads_no_write S _ _ 1 c.read.ensures.reads));
     }
 
 pub returns-in_err-list_slots : goal.returns-in_err-list_slots
@@ -136,13 +159,18 @@ returns-in_err-list_slots g c =
       refuses = record {
         layout = λ l h.
             record {
-              exists = fault-is c.from_residual.result _ c.from_residual.ensures.1 _ (λ e is x. device-not-exists e (is ∙ c.in_err-list_slots.ensures.err) x);
-              full = fault-is c.from_residual.result _ c.from_residual.ensures.1 _ (λ e is x. device-not-full e (is ∙ c.in_err-list_slots.ensures.err) x);
+              exists = fault-is c.from_residual.result _ c.from_residual.ensures.1 _
+                  (λ e is x. device-not-exists e (is ∙ c.in_err-list_slots.ensures.err) x);
+              full = fault-is c.from_residual.result _ c.from_residual.ensures.1 _
+                  (λ e is x. device-not-full e (is ∙ c.in_err-list_slots.ensures.err) x);
               fits = not-done c.from_residual.result _ c.from_residual.ensures.1 _;
             };
-        told = fault-is c.from_residual.result _ c.from_residual.ensures.1 _ (λ e is. inr (inr (is ∙ c.in_err-list_slots.ensures.err)));
-        refused = fault-is c.from_residual.result _ c.from_residual.ensures.1 _ (λ e is ne. absurd (ne (is ∙ c.in_err-list_slots.ensures.err)));
-        failures = passed-on g.D.Sectors.history _ _ _ refl c.from_residual.result _ c.from_residual.ensures.1 c.in_err-list_slots.ensures.failures;
+        told = fault-is c.from_residual.result _ c.from_residual.ensures.1 _
+            (λ e is. inr (inr (is ∙ c.in_err-list_slots.ensures.err)));
+        refused = fault-is c.from_residual.result _ c.from_residual.ensures.1 _
+            (λ e is ne. absurd (ne (is ∙ c.in_err-list_slots.ensures.err)));
+        failures = passed-on g.D.Sectors.history _ _ _ refl c.from_residual.result _ c.from_residual.ensures.1
+            c.in_err-list_slots.ensures.failures;
       };
       quiet = reads_no_write g.D.Sectors.history _ _ 18 c.list_slots.ensures.reads;
     }
@@ -154,13 +182,19 @@ returns-in_err-room g c =
       refuses = record {
         layout = λ l h.
             record {
-              exists = fault-is c.from_residual-in_err-room.result _ c.from_residual-in_err-room.ensures.1 _ (λ e is x. device-not-exists e (is ∙ c.in_err-room.ensures.err) x);
-              full = fault-is c.from_residual-in_err-room.result _ c.from_residual-in_err-room.ensures.1 _ (λ e is x. device-not-full e (is ∙ c.in_err-room.ensures.err) x);
+              exists = fault-is c.from_residual-in_err-room.result _ c.from_residual-in_err-room.ensures.1 _
+                  (λ e is x. device-not-exists e (is ∙ c.in_err-room.ensures.err) x);
+              full = fault-is c.from_residual-in_err-room.result _ c.from_residual-in_err-room.ensures.1 _
+                  (λ e is x. device-not-full e (is ∙ c.in_err-room.ensures.err) x);
               fits = not-done c.from_residual-in_err-room.result _ c.from_residual-in_err-room.ensures.1 _;
             };
-        told = fault-is c.from_residual-in_err-room.result _ c.from_residual-in_err-room.ensures.1 _ (λ e is. inr (inr (is ∙ c.in_err-room.ensures.err)));
-        refused = fault-is c.from_residual-in_err-room.result _ c.from_residual-in_err-room.ensures.1 _ (λ e is ne. absurd (ne (is ∙ c.in_err-room.ensures.err)));
-        failures = passed-on g.D.Sectors.history _ _ _ c.in_ok-list_slots.ensures.failures c.from_residual-in_err-room.result _ c.from_residual-in_err-room.ensures.1 c.in_err-room.ensures.failures;
+        told = fault-is c.from_residual-in_err-room.result _ c.from_residual-in_err-room.ensures.1 _
+            (λ e is. inr (inr (is ∙ c.in_err-room.ensures.err)));
+        refused = fault-is c.from_residual-in_err-room.result _ c.from_residual-in_err-room.ensures.1 _
+            (λ e is ne. absurd (ne (is ∙ c.in_err-room.ensures.err)));
+        failures = passed-on g.D.Sectors.history _ _ _ c.in_ok-list_slots.ensures.failures
+            c.from_residual-in_err-room.result _ c.from_residual-in_err-room.ensures.1 c.in_err-room.ensures.failures;
       };
-      quiet = no_write_then g.D.Sectors.history _ _ _ (reads_no_write g.D.Sectors.history _ _ 18 c.list_slots.ensures.reads) c.read_room.ensures.quiet;
+      quiet = no_write_then g.D.Sectors.history _ _ _
+          (reads_no_write g.D.Sectors.history _ _ 18 c.list_slots.ensures.reads) c.read_room.ensures.quiet;
     }

@@ -15,7 +15,8 @@ returns-in_err-site g c =
       layout = λ l h.
           record {
             ok = none-done c.from_residual.result _ c.from_residual.ensures.1 _;
-            moments = quiet-moments g.D.Sectors.history c.args.disk.now c.choose_site.new.disk c.choose_site.ensures.quiet l c.args.name.now c.args.size h;
+            moments = quiet-moments g.D.Sectors.history c.args.disk.now c.choose_site.new.disk
+                c.choose_site.ensures.quiet l c.args.name.now c.args.size h;
           };
       refuses = record {
         layout = λ l h.
@@ -27,11 +28,14 @@ returns-in_err-site g c =
             };
         told = rw (told.1, told.2) c.in_err-site.ensures.refuses.told;
         refused = rw (told.1, told.2) c.in_err-site.ensures.refuses.refused;
-        failures = passed-on g.D.Sectors.history _ _ _ refl c.from_residual.result _ c.from_residual.ensures.1 c.in_err-site.ensures.refuses.failures;
+        failures = passed-on g.D.Sectors.history _ _ _ refl c.from_residual.result _ c.from_residual.ensures.1
+            c.in_err-site.ensures.refuses.failures;
       };
       others = λ v l n f of.
           let S = g.D.Sectors.history in
-          changed-others S c.args.disk.now c.choose_site.new.disk _ l c.args.name.now c.args.size (quiet-moments S c.args.disk.now c.choose_site.new.disk c.choose_site.ensures.quiet l c.args.name.now c.args.size of.layout) n f v of;
+          changed-others S c.args.disk.now c.choose_site.new.disk _ l c.args.name.now c.args.size
+          (quiet-moments S c.args.disk.now c.choose_site.new.disk c.choose_site.ensures.quiet l c.args.name.now
+          c.args.size of.layout) n f v of;
     }
 
 pub write_file-requires-clause-site : goal.write_file-requires-clause-site
@@ -49,8 +53,10 @@ returns-in_default g c =
           record {
             ok = tt;
             moments =
-                then-moments S c.args.disk.now c.choose_site.new.disk c.choose_site.ensures.quiet l c.args.name.now c.args.size h c.write_file.new.disk
-                ((c.write_file.ensures.file l (subst P (sym c.choose_site.ensures.quiet.image) (c.in_ok-site.ensures.ok l h))).moments);
+                then-moments S c.args.disk.now c.choose_site.new.disk c.choose_site.ensures.quiet l c.args.name.now
+                c.args.size h c.write_file.new.disk
+                ((c.write_file.ensures.file l
+                (subst P (sym c.choose_site.ensures.quiet.image) (c.in_ok-site.ensures.ok l h))).moments);
           };
       refuses = record {
         layout = λ l h.
@@ -61,14 +67,18 @@ returns-in_default g c =
             };
         told = inr (inr refl);
         refused = λ ne. absurd (ne refl);
-        failures = failed_later g.D.Sectors.history _ _ _ c.in_ok-site.ensures.refuses.failures c.in_default.ensures.failures;
+        failures = failed_later g.D.Sectors.history _ _ _ c.in_ok-site.ensures.refuses.failures
+            c.in_default.ensures.failures;
       };
       others = λ v l n f of.
           let S = g.D.Sectors.history in
           let P : Image → Type 0 = λ i. IsSite i l c.in_ok-site.site in
           changed-others S c.args.disk.now c.write_file.new.disk _ l c.args.name.now c.args.size
-          (then-moments S c.args.disk.now c.choose_site.new.disk c.choose_site.ensures.quiet l c.args.name.now c.args.size of.layout c.write_file.new.disk
-          ((c.write_file.ensures.file l (subst P (sym c.choose_site.ensures.quiet.image) (c.in_ok-site.ensures.ok l of.layout))).moments)) n f v of;
+          (then-moments S c.args.disk.now c.choose_site.new.disk c.choose_site.ensures.quiet l c.args.name.now
+          c.args.size of.layout c.write_file.new.disk
+          ((c.write_file.ensures.file l
+          (subst P (sym c.choose_site.ensures.quiet.image) (c.in_ok-site.ensures.ok l of.layout))).moments)) n f v
+          of;
     }
 
 pub returns : goal.returns
@@ -79,15 +89,21 @@ returns g c =
           let same = c.choose_site.ensures.quiet.image in
           let site = c.in_ok-site.site in
           let P : Image → Type 0 = λ i. IsSite i l site in
-          let Q : Image → Type 0 = λ i. HasFileAt i l c.args.name.now c.args.size site (sector_of site) (S.image c.write_file.new.disk) in
+          let Q : Image
+          → Type 0 = λ i. HasFileAt i l c.args.name.now c.args.size site (sector_of site)
+          (S.image c.write_file.new.disk) in
           record {
             ok =
-                made-file (S.image c.args.disk.now) l c.args.name.now c.args.size site (S.image c.write_file.new.disk) c.file_at.result
-                (subst Q same ((c.in-Ok.ensures.file l (subst P (sym same) (c.in_ok-site.ensures.ok l h))).ok)) c.file_at.ensures;
+                made-file (S.image c.args.disk.now) l c.args.name.now c.args.size site (S.image c.write_file.new.disk)
+                c.file_at.result
+                (subst Q same ((c.in-Ok.ensures.file l (subst P (sym same) (c.in_ok-site.ensures.ok l h))).ok))
+                c.file_at.ensures;
             moments =
                 let P : Image → Type 0 = λ i. IsSite i l c.in_ok-site.site in
-                then-moments S c.args.disk.now c.choose_site.new.disk c.choose_site.ensures.quiet l c.args.name.now c.args.size h c.write_file.new.disk
-                ((c.write_file.ensures.file l (subst P (sym c.choose_site.ensures.quiet.image) (c.in_ok-site.ensures.ok l h))).moments);
+                then-moments S c.args.disk.now c.choose_site.new.disk c.choose_site.ensures.quiet l c.args.name.now
+                c.args.size h c.write_file.new.disk
+                ((c.write_file.ensures.file l
+                (subst P (sym c.choose_site.ensures.quiet.image) (c.in_ok-site.ensures.ok l h))).moments);
           };
       refuses = record {
         layout = λ l h.
@@ -104,8 +120,11 @@ returns g c =
           let S = g.D.Sectors.history in
           let P : Image → Type 0 = λ i. IsSite i l c.in_ok-site.site in
           changed-others S c.args.disk.now c.write_file.new.disk _ l c.args.name.now c.args.size
-          (then-moments S c.args.disk.now c.choose_site.new.disk c.choose_site.ensures.quiet l c.args.name.now c.args.size of.layout c.write_file.new.disk
-          ((c.write_file.ensures.file l (subst P (sym c.choose_site.ensures.quiet.image) (c.in_ok-site.ensures.ok l of.layout))).moments)) n f v of;
+          (then-moments S c.args.disk.now c.choose_site.new.disk c.choose_site.ensures.quiet l c.args.name.now
+          c.args.size of.layout c.write_file.new.disk
+          ((c.write_file.ensures.file l
+          (subst P (sym c.choose_site.ensures.quiet.image) (c.in_ok-site.ensures.ok l of.layout))).moments)) n f v
+          of;
     }
 
 pub choose_site-requires : goal.choose_site-requires

@@ -21,5 +21,6 @@ returns-in-Err g c =
       ok = tt;
       err = refl;
       reads = c.read_directory.ensures.reads;
-      failures = directory-failed (Unit {0}) S c.args.disk.now c.read_directory.new.disk _ (S.image c.args.disk.now) c.in-Err.field-0 c.requires.sound c.in-Err.ensures.err c.in-Err.ensures.failures;
+      failures = directory-failed (Unit {0}) S c.args.disk.now c.read_directory.new.disk _ (S.image c.args.disk.now)
+          c.in-Err.field-0 c.requires.sound c.in-Err.ensures.err c.in-Err.ensures.failures;
     }

@@ -3,7 +3,8 @@ use Rattle.std.proofs.Common.{arith, refl, sym, ap, subst, ◌∙◌, ◌≡◌,
 use Rattle.d64_image.proofs.Moments.{changes_weaker, no_change}
 use Rattle.disk_layout.specs.View.{blocks_free}
 use Rattle.rel_records.proofs.Filled.{old-grows}
-use Rattle.rel_records.proofs.Running.{block-then, low-full, room-next, room-step, run-block, run-here, run-mono, run-run}
+use Rattle.rel_records.proofs.Running.{block-then, low-full, room-next, room-step, run-block, run-here, run-mono}
+use Rattle.rel_records.proofs.Running.{run-run}
 use Rattle.rel_records.proofs.Standing.{pos}
 use Rattle.rel_records.specs.Growth.{run_writes}
 use Rattle.rel_records.specs.Steps.{IsRunTo, taken_next}
@@ -15,8 +16,10 @@ loop-count-init g c =
     let S = g.D.Sectors.history in
     let d = c.args.disk.now in
     record {
-      run = λ l n f at up. run-here (S.image d) l n f c.args.parts.now c.len-count.result (S.whole d) at up (ap length (sym at.blocks) ∙ sym c.len-count.ensures.value);
-      changes = λ l n f at up. changes_weaker S d d 0 _ _ _ (omega arith) (λ i h. h) (no_change S d _ (old-grows (S.image d) l n f c.args.parts.now (S.whole d) at _));
+      run = λ l n f at up. run-here (S.image d) l n f c.args.parts.now c.len-count.result (S.whole d) at up
+          (ap length (sym at.blocks) ∙ sym c.len-count.ensures.value);
+      changes = λ l n f at up. changes_weaker S d d 0 _ _ _ (omega arith) (λ i h. h)
+          (no_change S d _ (old-grows (S.image d) l n f c.args.parts.now (S.whole d) at _));
       room = rw c.len-count.ensures.value c.requires.room;
       long = sym c.len-count.ensures.value;
       failures = refl;
@@ -30,7 +33,8 @@ add_block-requires-clause-at g c =
 
 pub add_block-requires-clause-room : goal.add_block-requires-clause-room
 add_block-requires-clause-room g c =
-    let next = room-next c.loop-count._count c.args.wanted _ (omega (arith, c.loop-count-test.true)) c.loop-count.invariant.room in
+    let next = room-next c.loop-count._count c.args.wanted _ (omega (arith, c.loop-count-test.true))
+    c.loop-count.invariant.room in
     let P : ℕ → Type 0 = λ k. taken_next k ≤ blocks_free c.loop-count.parts.map.bytes in
     subst P (sym c.loop-count.invariant.long) next
 
@@ -40,13 +44,17 @@ returns-in_err-add_block-clause-file g c l n f at up =
     let d = c.args.disk.now in
     let k = c.loop-count._count in
     let run = c.loop-count.invariant.run l n f at up in
-    let first : length f.blocks ≤ k = omega (arith, ap length at.blocks, c.len-count.ensures.value, c.loop-count.auto._count) in
+    let first : length f.blocks ≤ k = omega
+    (arith, ap length at.blocks, c.len-count.ensures.value, c.loop-count.auto._count) in
     let lt : k + 1 ≤ c.args.wanted = omega (arith, c.loop-count-test.true) in
     let p = pos (S.image d) l n f c.args.parts.now at in
-    let longer = block-then S d c.loop-count.disk c.add_block.new.disk l n f k c.args.wanted c.loop-count.parts (low-full f k p up first) first lt p at.there run (c.loop-count.invariant.changes l n f at up) ((c.in_err-add_block.ensures.file run.layout n run.file run.at run.filled).moments) in
+    let longer = block-then S d c.loop-count.disk c.add_block.new.disk l n f k c.args.wanted c.loop-count.parts
+    (low-full f k p up first) first lt p at.there run (c.loop-count.invariant.changes l n f at up)
+    ((c.in_err-add_block.ensures.file run.layout n run.file run.at run.filled).moments) in
     record {
       ok = not-done c.from_residual.result _ c.from_residual.ensures.1 _;
-      moments = changes_weaker S d c.add_block.new.disk _ _ _ _ (run-mono (length f.blocks) (k + 1) c.args.wanted (omega (arith, first)) lt) (λ i h. h) longer;
+      moments = changes_weaker S d c.add_block.new.disk _ _ _ _
+          (run-mono (length f.blocks) (k + 1) c.args.wanted (omega (arith, first)) lt) (λ i h. h) longer;
     }
 
 pub loop-count-preserved : goal.loop-count-preserved
@@ -62,17 +70,28 @@ loop-count-preserved g c =
     record {
       run = λ l n f at up.
           let run = c.loop-count.invariant.run l n f at up in
-          let first : length f.blocks ≤ k = omega (arith, ap length at.blocks, c.len-count.ensures.value, c.loop-count.auto._count) in
+          let first : length f.blocks ≤ k = omega
+          (arith, ap length at.blocks, c.len-count.ensures.value, c.loop-count.auto._count) in
           let p = pos a l n f c.args.parts.now at in
-          let block = run-block (S.image c.loop-count.disk) (S.image c.add_block.new.disk) run.layout n run.file c.loop-count.parts c.add_block.new.parts run.filled ((c.in_ok-add_block.ensures.file run.layout n run.file run.at run.filled).ok) in
-          let P : ℕ → Type 0 = λ j. IsRunTo (S.image c.loop-count.disk) (S.image c.add_block.new.disk) run.layout n run.file (j + 1) c.add_block.new.parts in
-          run-run a (S.image c.loop-count.disk) l n f k (k + 1) c.loop-count.parts (low-full f k p up first) (omega arith) p at.there run (S.image c.add_block.new.disk) c.add_block.new.parts (subst P run.count block);
+          let block = run-block (S.image c.loop-count.disk) (S.image c.add_block.new.disk) run.layout n run.file
+          c.loop-count.parts c.add_block.new.parts run.filled
+          ((c.in_ok-add_block.ensures.file run.layout n run.file run.at run.filled).ok) in
+          let P : ℕ
+          → Type 0 = λ j. IsRunTo (S.image c.loop-count.disk) (S.image c.add_block.new.disk) run.layout n run.file
+          (j + 1) c.add_block.new.parts in
+          run-run a (S.image c.loop-count.disk) l n f k (k + 1) c.loop-count.parts (low-full f k p up first)
+          (omega arith) p at.there run (S.image c.add_block.new.disk) c.add_block.new.parts
+          (subst P run.count block);
       changes = λ l n f at up.
           let run = c.loop-count.invariant.run l n f at up in
-          let first : length f.blocks ≤ k = omega (arith, ap length at.blocks, c.len-count.ensures.value, c.loop-count.auto._count) in
+          let first : length f.blocks ≤ k = omega
+          (arith, ap length at.blocks, c.len-count.ensures.value, c.loop-count.auto._count) in
           let p = pos a l n f c.args.parts.now at in
-          block-then S d c.loop-count.disk c.add_block.new.disk l n f k c.args.wanted c.loop-count.parts (low-full f k p up first) first lt p at.there run (c.loop-count.invariant.changes l n f at up) ((c.in_ok-add_block.ensures.file run.layout n run.file run.at run.filled).moments);
-      room = room-step k c.args.wanted _ _ (omega (arith, lt)) c.loop-count.invariant.room (ap (λ j. blocks_free c.add_block.new.parts.map.bytes + taken_next j) (sym run0.count) ∙ more0.free);
+          block-then S d c.loop-count.disk c.add_block.new.disk l n f k c.args.wanted c.loop-count.parts
+          (low-full f k p up first) first lt p at.there run (c.loop-count.invariant.changes l n f at up)
+          ((c.in_ok-add_block.ensures.file run.layout n run.file run.at run.filled).moments);
+      room = room-step k c.args.wanted _ _ (omega (arith, lt)) c.loop-count.invariant.room
+          (ap (λ j. blocks_free c.add_block.new.parts.map.bytes + taken_next j) (sym run0.count) ∙ more0.free);
       long = ap length more0.at.blocks ∙ more0.count ∙ ap (λ j. j + 1) run0.count;
       failures = c.in_ok-add_block.ensures.failures ∙ c.loop-count.invariant.failures;
     }
@@ -80,9 +99,12 @@ loop-count-preserved g c =
 pub returns-clause-file : goal.returns-clause-file
 returns-clause-file g c l n f at up =
     let S = g.D.Sectors.history in
-    let e : c.loop-count._count ≡ c.args.wanted = omega (arith, c.loop-count-test.false, c.loop-count.auto, c.requires.more, c.len-count.ensures.value) in
-    let P : ℕ → Type 0 = λ k. IsRunTo (S.image c.args.disk.now) (S.image c.loop-count.disk) l n f k c.loop-count.parts in
+    let e : c.loop-count._count ≡ c.args.wanted = omega
+    (arith, c.loop-count-test.false, c.loop-count.auto, c.requires.more, c.len-count.ensures.value) in
+    let P : ℕ
+    → Type 0 = λ k. IsRunTo (S.image c.args.disk.now) (S.image c.loop-count.disk) l n f k c.loop-count.parts in
     record {
       ok = subst P e (c.loop-count.invariant.run l n f at up);
-      moments = changes_weaker S _ _ _ _ _ _ (omega (arith, ap (run_writes (length f.blocks)) e)) (λ i h. h) (c.loop-count.invariant.changes l n f at up);
+      moments = changes_weaker S _ _ _ _ _ _ (omega (arith, ap (run_writes (length f.blocks)) e)) (λ i h. h)
+          (c.loop-count.invariant.changes l n f at up);
     }

@@ -3,7 +3,8 @@ use Rattle.std.proofs.Common.{arith, sym, ap, ◌∙◌, ◌≤◌, length, refl
 use Rattle.d64_image.proofs.Moments.{changes_weaker, reads_change}
 use Rattle.disk_layout.specs.View.{blocks_free}
 use Rattle.rel_records.proofs.Filled.{had-is}
-use Rattle.rel_records.proofs.Grows.{at-now, at-sides, at-some, fill-moments, had-of, has-run, long, room, run, run-moments, standing}
+use Rattle.rel_records.proofs.Grows.{at-now, at-sides, at-some, fill-moments, had-of, has-run, long, room, run}
+use Rattle.rel_records.proofs.Grows.{run-moments, standing}
 use Rattle.rel_records.proofs.Kept.{growing_same}
 use Rattle.rel_records.specs.Growth.{needed}
 use Rattle.rel_records.proofs.Told.{not-done, tells-failed}
@@ -14,7 +15,9 @@ returns-in_err-parts-clause-file g c l n f of =
     let S = g.D.Sectors.history in
     record {
       ok = not-done c.from_residual.result _ c.from_residual.ensures.1 _;
-      moments = changes_weaker S _ _ 0 _ _ _ (omega arith) (λ i h. h) (reads_change S _ _ 8 _ c.in_err-parts.ensures.reads (growing_same (S.image c.args.disk.now) l n f c.args.file.now _ of));
+      moments = changes_weaker S _ _ 0 _ _ _ (omega arith) (λ i h. h)
+          (reads_change S _ _ 8 _ c.in_err-parts.ensures.reads
+          (growing_same (S.image c.args.disk.now) l n f c.args.file.now _ of));
     }
 
 pub fill_up-requires-clause-at : goal.fill_up-requires-clause-at
@@ -22,14 +25,20 @@ fill_up-requires-clause-at g c =
     let (l, n, f, of) = c.requires.of in
     let S = g.D.Sectors.history in
     let at = c.in_ok-parts.ensures.ok l n f of in
-    let more : length f.blocks ≤ c.args.wanted = omega (arith, c.requires.more, of.shows.blocks) in
-    (l, n, f, at-now S c.args.disk.now c.read_parts.new.disk l n f c.in_ok-parts.parts c.args.wanted c.in_ok-parts.ensures.reads at more)
+    let more : length f.blocks ≤ c.args.wanted = omega (arith, c.requires.more, of.shows.blocks) in (
+      l,
+      n,
+      f,
+      at-now S c.args.disk.now c.read_parts.new.disk l n f c.in_ok-parts.parts c.args.wanted
+          c.in_ok-parts.ensures.reads at more,
+    )
 
 pub fill_up-requires-clause-had : goal.fill_up-requires-clause-had
 fill_up-requires-clause-had g c =
     let (l, n, f, of) = c.requires.of in
     let a = g.D.Sectors.history.image c.args.disk.now in
-    c.records.ensures.value ∙ had-of a l n f c.args.file.now of ∙ had-is a l n f c.in_ok-parts.parts (c.in_ok-parts.ensures.ok l n f of)
+    c.records.ensures.value ∙ had-of a l n f c.args.file.now of
+    ∙ had-is a l n f c.in_ok-parts.parts (c.in_ok-parts.ensures.ok l n f of)
 
 pub returns-in_err-fill_up-clause-file : goal.returns-in_err-fill_up-clause-file
 returns-in_err-fill_up-clause-file g c l n f of =
@@ -38,7 +47,11 @@ returns-in_err-fill_up-clause-file g c l n f of =
     let more : length f.blocks ≤ c.args.wanted = omega (arith, c.requires.more, of.shows.blocks) in
     record {
       ok = not-done c.from_residual-in_err-fill_up.result _ c.from_residual-in_err-fill_up.ensures.1 _;
-      moments = fill-moments S c.args.disk.now c.read_parts.new.disk l n f c.in_ok-parts.parts c.args.wanted c.in_ok-parts.ensures.reads at more c.fill_up.new.disk ((c.in_err-fill_up.ensures.file l n f (at-now S c.args.disk.now c.read_parts.new.disk l n f c.in_ok-parts.parts c.args.wanted c.in_ok-parts.ensures.reads at more)).moments);
+      moments = fill-moments S c.args.disk.now c.read_parts.new.disk l n f c.in_ok-parts.parts c.args.wanted
+          c.in_ok-parts.ensures.reads at more c.fill_up.new.disk
+          ((c.in_err-fill_up.ensures.file l n f
+          (at-now S c.args.disk.now c.read_parts.new.disk l n f c.in_ok-parts.parts c.args.wanted
+          c.in_ok-parts.ensures.reads at more)).moments);
     }
 
 pub add_blocks-requires-clause-at : goal.add_blocks-requires-clause-at
@@ -47,7 +60,14 @@ add_blocks-requires-clause-at g c =
     let S = g.D.Sectors.history in
     let at = c.in_ok-parts.ensures.ok l n f of in
     let more : length f.blocks ≤ c.args.wanted = omega (arith, c.requires.more, of.shows.blocks) in
-    standing S c.args.disk.now c.read_parts.new.disk l n f c.in_ok-parts.parts c.args.wanted c.in_ok-parts.ensures.reads at more c.fill_up.new.disk ((c.in_ok-fill_up.ensures.file l n f (at-now S c.args.disk.now c.read_parts.new.disk l n f c.in_ok-parts.parts c.args.wanted c.in_ok-parts.ensures.reads at more)).moments) c.fill_up.new.parts ((c.in_ok-fill_up.ensures.file l n f (at-now S c.args.disk.now c.read_parts.new.disk l n f c.in_ok-parts.parts c.args.wanted c.in_ok-parts.ensures.reads at more)).ok)
+    standing S c.args.disk.now c.read_parts.new.disk l n f c.in_ok-parts.parts c.args.wanted c.in_ok-parts.ensures.reads
+    at more c.fill_up.new.disk
+    ((c.in_ok-fill_up.ensures.file l n f
+    (at-now S c.args.disk.now c.read_parts.new.disk l n f c.in_ok-parts.parts c.args.wanted
+    c.in_ok-parts.ensures.reads at more)).moments) c.fill_up.new.parts
+    ((c.in_ok-fill_up.ensures.file l n f
+    (at-now S c.args.disk.now c.read_parts.new.disk l n f c.in_ok-parts.parts c.args.wanted
+    c.in_ok-parts.ensures.reads at more)).ok)
 
 pub add_blocks-requires-clause-more : goal.add_blocks-requires-clause-more
 add_blocks-requires-clause-more g c =
@@ -55,7 +75,18 @@ add_blocks-requires-clause-more g c =
     let S = g.D.Sectors.history in
     let at = c.in_ok-parts.ensures.ok l n f of in
     let more : length f.blocks ≤ c.args.wanted = omega (arith, c.requires.more, of.shows.blocks) in
-    omega (arith, more, long S c.args.disk.now c.read_parts.new.disk l n f c.in_ok-parts.parts c.args.wanted c.in_ok-parts.ensures.reads at more c.fill_up.new.disk ((c.in_ok-fill_up.ensures.file l n f (at-now S c.args.disk.now c.read_parts.new.disk l n f c.in_ok-parts.parts c.args.wanted c.in_ok-parts.ensures.reads at more)).moments) c.fill_up.new.parts ((c.in_ok-fill_up.ensures.file l n f (at-now S c.args.disk.now c.read_parts.new.disk l n f c.in_ok-parts.parts c.args.wanted c.in_ok-parts.ensures.reads at more)).ok))
+    omega (
+      arith,
+      more,
+      long S c.args.disk.now c.read_parts.new.disk l n f c.in_ok-parts.parts c.args.wanted
+          c.in_ok-parts.ensures.reads at more c.fill_up.new.disk
+          ((c.in_ok-fill_up.ensures.file l n f
+          (at-now S c.args.disk.now c.read_parts.new.disk l n f c.in_ok-parts.parts c.args.wanted
+          c.in_ok-parts.ensures.reads at more)).moments) c.fill_up.new.parts
+          ((c.in_ok-fill_up.ensures.file l n f
+          (at-now S c.args.disk.now c.read_parts.new.disk l n f c.in_ok-parts.parts c.args.wanted
+          c.in_ok-parts.ensures.reads at more)).ok),
+    )
 
 pub add_blocks-requires-clause-room : goal.add_blocks-requires-clause-room
 add_blocks-requires-clause-room g c =
@@ -63,19 +94,46 @@ add_blocks-requires-clause-room g c =
     let S = g.D.Sectors.history in
     let at = c.in_ok-parts.ensures.ok l n f of in
     let more : length f.blocks ≤ c.args.wanted = omega (arith, c.requires.more, of.shows.blocks) in
-    room S c.args.disk.now c.read_parts.new.disk l n f c.in_ok-parts.parts c.args.wanted c.in_ok-parts.ensures.reads at more c.fill_up.new.disk ((c.in_ok-fill_up.ensures.file l n f (at-now S c.args.disk.now c.read_parts.new.disk l n f c.in_ok-parts.parts c.args.wanted c.in_ok-parts.ensures.reads at more)).moments) c.fill_up.new.parts ((c.in_ok-fill_up.ensures.file l n f (at-now S c.args.disk.now c.read_parts.new.disk l n f c.in_ok-parts.parts c.args.wanted c.in_ok-parts.ensures.reads at more)).ok)
-    (omega (arith, c.requires.room, ap (λ k. needed k c.args.wanted) of.shows.blocks, ap blocks_free (at.map ∙ sym c.requires.map)))
+    room S c.args.disk.now c.read_parts.new.disk l n f c.in_ok-parts.parts c.args.wanted c.in_ok-parts.ensures.reads at
+    more c.fill_up.new.disk
+    ((c.in_ok-fill_up.ensures.file l n f
+    (at-now S c.args.disk.now c.read_parts.new.disk l n f c.in_ok-parts.parts c.args.wanted
+    c.in_ok-parts.ensures.reads at more)).moments) c.fill_up.new.parts
+    ((c.in_ok-fill_up.ensures.file l n f
+    (at-now S c.args.disk.now c.read_parts.new.disk l n f c.in_ok-parts.parts c.args.wanted
+    c.in_ok-parts.ensures.reads at more)).ok)
+    (omega (
+      arith,
+      c.requires.room,
+      ap (λ k. needed k c.args.wanted) of.shows.blocks,
+      ap blocks_free
+          (at.map ∙ sym c.requires.map),
+    ))
 
 pub returns-in_err-add_blocks-clause-file : goal.returns-in_err-add_blocks-clause-file
 returns-in_err-add_blocks-clause-file g c l n f of =
     let S = g.D.Sectors.history in
     let at = c.in_ok-parts.ensures.ok l n f of in
     let more : length f.blocks ≤ c.args.wanted = omega (arith, c.requires.more, of.shows.blocks) in
-    let r = run S c.args.disk.now c.read_parts.new.disk l n f c.in_ok-parts.parts c.args.wanted c.in_ok-parts.ensures.reads at more c.fill_up.new.disk ((c.in_ok-fill_up.ensures.file l n f (at-now S c.args.disk.now c.read_parts.new.disk l n f c.in_ok-parts.parts c.args.wanted c.in_ok-parts.ensures.reads at more)).moments) c.fill_up.new.parts ((c.in_ok-fill_up.ensures.file l n f (at-now S c.args.disk.now c.read_parts.new.disk l n f c.in_ok-parts.parts c.args.wanted c.in_ok-parts.ensures.reads at more)).ok) in
+    let r = run S c.args.disk.now c.read_parts.new.disk l n f c.in_ok-parts.parts c.args.wanted
+    c.in_ok-parts.ensures.reads at more c.fill_up.new.disk
+    ((c.in_ok-fill_up.ensures.file l n f
+    (at-now S c.args.disk.now c.read_parts.new.disk l n f c.in_ok-parts.parts c.args.wanted
+    c.in_ok-parts.ensures.reads at more)).moments) c.fill_up.new.parts
+    ((c.in_ok-fill_up.ensures.file l n f
+    (at-now S c.args.disk.now c.read_parts.new.disk l n f c.in_ok-parts.parts c.args.wanted
+    c.in_ok-parts.ensures.reads at more)).ok) in
     record {
       ok = not-done c.from_residual-in_err-add_blocks.result _ c.from_residual-in_err-add_blocks.ensures.1 _;
       moments =
-          run-moments S c.args.disk.now c.read_parts.new.disk l n f c.in_ok-parts.parts c.args.wanted c.in_ok-parts.ensures.reads at more c.fill_up.new.disk ((c.in_ok-fill_up.ensures.file l n f (at-now S c.args.disk.now c.read_parts.new.disk l n f c.in_ok-parts.parts c.args.wanted c.in_ok-parts.ensures.reads at more)).moments) c.fill_up.new.parts ((c.in_ok-fill_up.ensures.file l n f (at-now S c.args.disk.now c.read_parts.new.disk l n f c.in_ok-parts.parts c.args.wanted c.in_ok-parts.ensures.reads at more)).ok)
+          run-moments S c.args.disk.now c.read_parts.new.disk l n f c.in_ok-parts.parts c.args.wanted
+          c.in_ok-parts.ensures.reads at more c.fill_up.new.disk
+          ((c.in_ok-fill_up.ensures.file l n f
+          (at-now S c.args.disk.now c.read_parts.new.disk l n f c.in_ok-parts.parts c.args.wanted
+          c.in_ok-parts.ensures.reads at more)).moments) c.fill_up.new.parts
+          ((c.in_ok-fill_up.ensures.file l n f
+          (at-now S c.args.disk.now c.read_parts.new.disk l n f c.in_ok-parts.parts c.args.wanted
+          c.in_ok-parts.ensures.reads at more)).ok)
           c.add_blocks.new.disk ((c.in_err-add_blocks.ensures.file r.layout n r.file r.at r.filled).moments);
     }
 
@@ -85,7 +143,14 @@ renew-requires-clause-some g c =
     let S = g.D.Sectors.history in
     let at = c.in_ok-parts.ensures.ok l n f of in
     let more : length f.blocks ≤ c.args.wanted = omega (arith, c.requires.more, of.shows.blocks) in
-    let r = run S c.args.disk.now c.read_parts.new.disk l n f c.in_ok-parts.parts c.args.wanted c.in_ok-parts.ensures.reads at more c.fill_up.new.disk ((c.in_ok-fill_up.ensures.file l n f (at-now S c.args.disk.now c.read_parts.new.disk l n f c.in_ok-parts.parts c.args.wanted c.in_ok-parts.ensures.reads at more)).moments) c.fill_up.new.parts ((c.in_ok-fill_up.ensures.file l n f (at-now S c.args.disk.now c.read_parts.new.disk l n f c.in_ok-parts.parts c.args.wanted c.in_ok-parts.ensures.reads at more)).ok) in
+    let r = run S c.args.disk.now c.read_parts.new.disk l n f c.in_ok-parts.parts c.args.wanted
+    c.in_ok-parts.ensures.reads at more c.fill_up.new.disk
+    ((c.in_ok-fill_up.ensures.file l n f
+    (at-now S c.args.disk.now c.read_parts.new.disk l n f c.in_ok-parts.parts c.args.wanted
+    c.in_ok-parts.ensures.reads at more)).moments) c.fill_up.new.parts
+    ((c.in_ok-fill_up.ensures.file l n f
+    (at-now S c.args.disk.now c.read_parts.new.disk l n f c.in_ok-parts.parts c.args.wanted
+    c.in_ok-parts.ensures.reads at more)).ok) in
     let z = (c.in_ok-add_blocks.ensures.file r.layout n r.file r.at r.filled).ok in
     at-some (S.image c.add_blocks.new.disk) z.layout n z.file c.add_blocks.new.parts z.at
 
@@ -95,7 +160,14 @@ renew-requires-clause-sides g c =
     let S = g.D.Sectors.history in
     let at = c.in_ok-parts.ensures.ok l n f of in
     let more : length f.blocks ≤ c.args.wanted = omega (arith, c.requires.more, of.shows.blocks) in
-    let r = run S c.args.disk.now c.read_parts.new.disk l n f c.in_ok-parts.parts c.args.wanted c.in_ok-parts.ensures.reads at more c.fill_up.new.disk ((c.in_ok-fill_up.ensures.file l n f (at-now S c.args.disk.now c.read_parts.new.disk l n f c.in_ok-parts.parts c.args.wanted c.in_ok-parts.ensures.reads at more)).moments) c.fill_up.new.parts ((c.in_ok-fill_up.ensures.file l n f (at-now S c.args.disk.now c.read_parts.new.disk l n f c.in_ok-parts.parts c.args.wanted c.in_ok-parts.ensures.reads at more)).ok) in
+    let r = run S c.args.disk.now c.read_parts.new.disk l n f c.in_ok-parts.parts c.args.wanted
+    c.in_ok-parts.ensures.reads at more c.fill_up.new.disk
+    ((c.in_ok-fill_up.ensures.file l n f
+    (at-now S c.args.disk.now c.read_parts.new.disk l n f c.in_ok-parts.parts c.args.wanted
+    c.in_ok-parts.ensures.reads at more)).moments) c.fill_up.new.parts
+    ((c.in_ok-fill_up.ensures.file l n f
+    (at-now S c.args.disk.now c.read_parts.new.disk l n f c.in_ok-parts.parts c.args.wanted
+    c.in_ok-parts.ensures.reads at more)).ok) in
     let z = (c.in_ok-add_blocks.ensures.file r.layout n r.file r.at r.filled).ok in
     at-sides (S.image c.add_blocks.new.disk) z.layout n z.file c.add_blocks.new.parts z.at
 
@@ -104,24 +176,51 @@ returns-clause-file g c l n f of =
     let S = g.D.Sectors.history in
     let at = c.in_ok-parts.ensures.ok l n f of in
     let more : length f.blocks ≤ c.args.wanted = omega (arith, c.requires.more, of.shows.blocks) in
-    let r = run S c.args.disk.now c.read_parts.new.disk l n f c.in_ok-parts.parts c.args.wanted c.in_ok-parts.ensures.reads at more c.fill_up.new.disk ((c.in_ok-fill_up.ensures.file l n f (at-now S c.args.disk.now c.read_parts.new.disk l n f c.in_ok-parts.parts c.args.wanted c.in_ok-parts.ensures.reads at more)).moments) c.fill_up.new.parts ((c.in_ok-fill_up.ensures.file l n f (at-now S c.args.disk.now c.read_parts.new.disk l n f c.in_ok-parts.parts c.args.wanted c.in_ok-parts.ensures.reads at more)).ok) in
+    let r = run S c.args.disk.now c.read_parts.new.disk l n f c.in_ok-parts.parts c.args.wanted
+    c.in_ok-parts.ensures.reads at more c.fill_up.new.disk
+    ((c.in_ok-fill_up.ensures.file l n f
+    (at-now S c.args.disk.now c.read_parts.new.disk l n f c.in_ok-parts.parts c.args.wanted
+    c.in_ok-parts.ensures.reads at more)).moments) c.fill_up.new.parts
+    ((c.in_ok-fill_up.ensures.file l n f
+    (at-now S c.args.disk.now c.read_parts.new.disk l n f c.in_ok-parts.parts c.args.wanted
+    c.in_ok-parts.ensures.reads at more)).ok) in
     record {
       ok =
-          has-run S c.args.disk.now c.read_parts.new.disk l n f c.in_ok-parts.parts c.args.wanted c.in_ok-parts.ensures.reads at more c.fill_up.new.disk ((c.in_ok-fill_up.ensures.file l n f (at-now S c.args.disk.now c.read_parts.new.disk l n f c.in_ok-parts.parts c.args.wanted c.in_ok-parts.ensures.reads at more)).moments) c.fill_up.new.parts ((c.in_ok-fill_up.ensures.file l n f (at-now S c.args.disk.now c.read_parts.new.disk l n f c.in_ok-parts.parts c.args.wanted c.in_ok-parts.ensures.reads at more)).ok)
-          c.add_blocks.new.disk ((c.in_ok-add_blocks.ensures.file r.layout n r.file r.at r.filled).moments) c.add_blocks.new.parts c.renew.new.file ((c.in_ok-add_blocks.ensures.file r.layout n r.file r.at r.filled).ok) c.renew.ensures.kept;
+          has-run S c.args.disk.now c.read_parts.new.disk l n f c.in_ok-parts.parts c.args.wanted
+          c.in_ok-parts.ensures.reads at more c.fill_up.new.disk
+          ((c.in_ok-fill_up.ensures.file l n f
+          (at-now S c.args.disk.now c.read_parts.new.disk l n f c.in_ok-parts.parts c.args.wanted
+          c.in_ok-parts.ensures.reads at more)).moments) c.fill_up.new.parts
+          ((c.in_ok-fill_up.ensures.file l n f
+          (at-now S c.args.disk.now c.read_parts.new.disk l n f c.in_ok-parts.parts c.args.wanted
+          c.in_ok-parts.ensures.reads at more)).ok)
+          c.add_blocks.new.disk ((c.in_ok-add_blocks.ensures.file r.layout n r.file r.at r.filled).moments)
+          c.add_blocks.new.parts c.renew.new.file
+          ((c.in_ok-add_blocks.ensures.file r.layout n r.file r.at r.filled).ok) c.renew.ensures.kept;
       moments =
-          run-moments S c.args.disk.now c.read_parts.new.disk l n f c.in_ok-parts.parts c.args.wanted c.in_ok-parts.ensures.reads at more c.fill_up.new.disk ((c.in_ok-fill_up.ensures.file l n f (at-now S c.args.disk.now c.read_parts.new.disk l n f c.in_ok-parts.parts c.args.wanted c.in_ok-parts.ensures.reads at more)).moments) c.fill_up.new.parts ((c.in_ok-fill_up.ensures.file l n f (at-now S c.args.disk.now c.read_parts.new.disk l n f c.in_ok-parts.parts c.args.wanted c.in_ok-parts.ensures.reads at more)).ok)
+          run-moments S c.args.disk.now c.read_parts.new.disk l n f c.in_ok-parts.parts c.args.wanted
+          c.in_ok-parts.ensures.reads at more c.fill_up.new.disk
+          ((c.in_ok-fill_up.ensures.file l n f
+          (at-now S c.args.disk.now c.read_parts.new.disk l n f c.in_ok-parts.parts c.args.wanted
+          c.in_ok-parts.ensures.reads at more)).moments) c.fill_up.new.parts
+          ((c.in_ok-fill_up.ensures.file l n f
+          (at-now S c.args.disk.now c.read_parts.new.disk l n f c.in_ok-parts.parts c.args.wanted
+          c.in_ok-parts.ensures.reads at more)).ok)
           c.add_blocks.new.disk ((c.in_ok-add_blocks.ensures.file r.layout n r.file r.at r.filled).moments);
     }
 
 pub returns-in_err-parts-clause-failures : goal.returns-in_err-parts-clause-failures
-returns-in_err-parts-clause-failures g c = tells-failed g.D.Sectors.history _ _ _ refl c.from_residual.result _ c.from_residual.ensures.1 c.in_err-parts.ensures.failures
+returns-in_err-parts-clause-failures g c = tells-failed g.D.Sectors.history _ _ _ refl c.from_residual.result _
+    c.from_residual.ensures.1 c.in_err-parts.ensures.failures
 
 pub returns-in_err-fill_up-clause-failures : goal.returns-in_err-fill_up-clause-failures
-returns-in_err-fill_up-clause-failures g c = tells-failed g.D.Sectors.history _ _ _ c.in_ok-parts.ensures.failures c.from_residual-in_err-fill_up.result _ c.from_residual-in_err-fill_up.ensures.1 c.in_err-fill_up.ensures.failures
+returns-in_err-fill_up-clause-failures g c = tells-failed g.D.Sectors.history _ _ _ c.in_ok-parts.ensures.failures
+    c.from_residual-in_err-fill_up.result _ c.from_residual-in_err-fill_up.ensures.1 c.in_err-fill_up.ensures.failures
 
 pub returns-in_err-add_blocks-clause-failures : goal.returns-in_err-add_blocks-clause-failures
-returns-in_err-add_blocks-clause-failures g c = tells-failed g.D.Sectors.history _ _ _ (c.in_ok-fill_up.ensures.failures ∙ c.in_ok-parts.ensures.failures) c.from_residual-in_err-add_blocks.result _ c.from_residual-in_err-add_blocks.ensures.1 c.in_err-add_blocks.ensures.failures
+returns-in_err-add_blocks-clause-failures g c = tells-failed g.D.Sectors.history _ _ _
+    (c.in_ok-fill_up.ensures.failures ∙ c.in_ok-parts.ensures.failures) c.from_residual-in_err-add_blocks.result _
+    c.from_residual-in_err-add_blocks.ensures.1 c.in_err-add_blocks.ensures.failures
 
 pub returns-in_err-parts-clause-entry : goal.returns-in_err-parts-clause-entry
 returns-in_err-parts-clause-entry g c = refl
@@ -136,4 +235,5 @@ pub returns-clause-entry : goal.returns-clause-entry
 returns-clause-entry g c = c.renew.ensures.entry
 
 pub returns-clause-failures : goal.returns-clause-failures
-returns-clause-failures g c = c.in_ok-add_blocks.ensures.failures ∙ c.in_ok-fill_up.ensures.failures ∙ c.in_ok-parts.ensures.failures
+returns-clause-failures g c = c.in_ok-add_blocks.ensures.failures ∙ c.in_ok-fill_up.ensures.failures
+    ∙ c.in_ok-parts.ensures.failures

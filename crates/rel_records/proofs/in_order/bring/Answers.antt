@@ -9,7 +9,8 @@ returns-then-here-block-clause-here g c =
     record {
       ok = c.in-Some.is ∙ ap Some c.if-here-block.true;
       err = tt;
-      reads = reads_weaker g.D.Sectors.history c.args.disk.now c.args.disk.now 0 2 (omega arith) (no_reads g.D.Sectors.history c.args.disk.now);
+      reads = reads_weaker g.D.Sectors.history c.args.disk.now c.args.disk.now 0 2 (omega arith)
+          (no_reads g.D.Sectors.history c.args.disk.now);
       failures = refl;
     }
 
@@ -57,9 +58,11 @@ pub returns-in_err-read_block-clause-here : goal.returns-in_err-read_block-claus
 returns-in_err-read_block-clause-here g c =
     record {
       ok = none-done c.from_residual.result _ c.from_residual.ensures.1 _;
-      err = fault-is c.from_residual.result _ c.from_residual.ensures.1 _ (λ e is. is ∙ c.in_err-read_block.ensures.err);
+      err = fault-is c.from_residual.result _ c.from_residual.ensures.1 _
+          (λ e is. is ∙ c.in_err-read_block.ensures.err);
       reads = c.read_block.ensures.reads;
-      failures = passed-on g.D.Sectors.history _ _ _ refl c.from_residual.result _ c.from_residual.ensures.1 c.in_err-read_block.ensures.failures;
+      failures = passed-on g.D.Sectors.history _ _ _ refl c.from_residual.result _ c.from_residual.ensures.1
+          c.in_err-read_block.ensures.failures;
     }
 
 pub returns-in_err-read_block-clause-kept : goal.returns-in_err-read_block-clause-kept

@@ -15,7 +15,8 @@ returns-then-number-eq0-clause-text g c =
       bound = tt;
       not_present = λ l n f of e. inl c.if-number-eq0.true;
       told = inl refl;
-      reads = reads_weaker g.D.Sectors.history c.args.disk.now c.args.disk.now 0 3 (omega arith) (no_reads g.D.Sectors.history c.args.disk.now);
+      reads = reads_weaker g.D.Sectors.history c.args.disk.now c.args.disk.now 0 3 (omega arith)
+          (no_reads g.D.Sectors.history c.args.disk.now);
       failures = refl;
     }
 
@@ -27,10 +28,16 @@ returns-then-not-has_records-clause-text g c =
       bound = tt;
       not_present = λ l n f of _.
           let S = g.D.Sectors.history in
-          let past : length (records (S.image c.args.disk.now) f) < c.args.number = omega (arith, fewer c.has_records.result _ _ c.has_records.ensures c.if-not-has_records.true, count-is (S.image c.args.disk.now) l n f c.args.file.now of) in
+          let past : length (records (S.image c.args.disk.now) f) < c.args.number = omega (
+            arith,
+            fewer c.has_records.result _ _ c.has_records.ensures c.if-not-has_records.true,
+            count-is
+                (S.image c.args.disk.now) l n f c.args.file.now of,
+          ) in
           inr past;
       told = inl refl;
-      reads = reads_weaker g.D.Sectors.history c.args.disk.now c.args.disk.now 0 3 (omega arith) (no_reads g.D.Sectors.history c.args.disk.now);
+      reads = reads_weaker g.D.Sectors.history c.args.disk.now c.args.disk.now 0 3 (omega arith)
+          (no_reads g.D.Sectors.history c.args.disk.now);
       failures = refl;
     }
 
@@ -40,8 +47,11 @@ returns-clause-text g c =
     record {
       ok = λ l n f of. if-then c.next_there.result _ _ (λ done h. h.bytes l n f of) c.next_there.ensures.text.ok;
       size = if-then c.next_there.result _ _ (λ done h. h.size) c.next_there.ensures.text.ok;
-      bound = if_ok c.next_there.result (placed (S.image c.args.disk.now) c.args.file.now c.args.number c.requires.of (S.whole c.args.disk.now) (omega (arith, c.if-number-eq0.false)) (c.has_records.ensures.0 c.if-not-has_records.false));
-      not_present = λ l n f of. weaker-fault c.next_there.result _ _ (λ e is o. device-not-present e is o) c.next_there.ensures.text.err;
+      bound = if_ok c.next_there.result
+          (placed (S.image c.args.disk.now) c.args.file.now c.args.number c.requires.of (S.whole c.args.disk.now)
+          (omega (arith, c.if-number-eq0.false)) (c.has_records.ensures.0 c.if-not-has_records.false));
+      not_present = λ l n f of. weaker-fault c.next_there.result _ _ (λ e is o. device-not-present e is o)
+          c.next_there.ensures.text.err;
       told = weaker-fault c.next_there.result _ _ (λ e is. inr is) c.next_there.ensures.text.err;
       reads = c.next_there.ensures.text.reads;
       failures = c.next_there.ensures.text.failures;

@@ -17,13 +17,28 @@ returns-in-Some-clause-file g c l site =
     let O : Option Place → Type 0 = λ o. MatchOption o (IsSlotSite a l st) (IsSectorSite a l st) in
     let at : IsSectorSite a l st c.in-Some.fresh = subst O c.in-Some.is site in
     let E : List ℕ → Type 0 = IsNewDirectory c.directory_with.result in
-    let P : Option Place → Type 0 = λ o. OnOk c.write_behind.result (HasFileAt a l c.args.name.now c.args.size st (sector_or st.place o) (S.image c.write_behind.new.disk)) in
+    let P : Option Place
+    → Type 0 = λ o. OnOk c.write_behind.result
+    (HasFileAt a l c.args.name.now c.args.size st (sector_or st.place o) (S.image c.write_behind.new.disk)) in
     record {
-      ok = subst P (sym c.in-Some.is) ((c.write_behind.ensures.file l c.args.name.now at (record { made = subst E c.relative_entry-entry.ensures c.directory_with.ensures; linked = c.link_to.ensures; few = c.requires.name })).ok);
+      ok = subst P (sym c.in-Some.is)
+          ((c.write_behind.ensures.file l c.args.name.now at
+          (record {
+            made = subst E c.relative_entry-entry.ensures c.directory_with.ensures;
+            linked = c.link_to.ensures;
+            few = c.requires.name;
+          })).ok);
       moments =
-          let P : ℕ → Type 0 = λ n. Changes S c.args.disk.now c.write_behind.new.disk n (IsCreating a l c.args.name.now c.args.size) in
+          let P : ℕ
+          → Type 0 = λ n. Changes S c.args.disk.now c.write_behind.new.disk n
+          (IsCreating a l c.args.name.now c.args.size) in
           subst P (sym (five-writes a l at.taken.clean.layout at.full.full))
-          ((c.write_behind.ensures.file l c.args.name.now at (record { made = subst E c.relative_entry-entry.ensures c.directory_with.ensures; linked = c.link_to.ensures; few = c.requires.name })).moments);
+          ((c.write_behind.ensures.file l c.args.name.now at
+          (record {
+            made = subst E c.relative_entry-entry.ensures c.directory_with.ensures;
+            linked = c.link_to.ensures;
+            few = c.requires.name;
+          })).moments);
     }
 
 pub returns-in-None-clause-file : goal.returns-in-None-clause-file
@@ -34,13 +49,23 @@ returns-in-None-clause-file g c l site =
     let O : Option Place → Type 0 = λ o. MatchOption o (IsSlotSite a l st) (IsSectorSite a l st) in
     let at : IsSlotSite a l st = subst O c.in-None.is site in
     let E : List ℕ → Type 0 = IsEntered st.bytes c.put_entry.new.bytes st.number in
-    let P : Option Place → Type 0 = λ o. OnOk c.write_in_slot.result (HasFileAt a l c.args.name.now c.args.size st (sector_or st.place o) (S.image c.write_in_slot.new.disk)) in
+    let P : Option Place
+    → Type 0 = λ o. OnOk c.write_in_slot.result
+    (HasFileAt a l c.args.name.now c.args.size st (sector_or st.place o) (S.image c.write_in_slot.new.disk)) in
     record {
-      ok = subst P (sym c.in-None.is) ((c.write_in_slot.ensures.file l c.args.name.now at (record { entered = subst E c.relative_entry-entry.ensures c.put_entry.ensures; few = c.requires.name })).ok);
+      ok = subst P (sym c.in-None.is)
+          ((c.write_in_slot.ensures.file l c.args.name.now at
+          (record { entered = subst E c.relative_entry-entry.ensures c.put_entry.ensures; few = c.requires.name })).ok);
       moments =
-          let P : ℕ → Type 0 = λ n. Changes S c.args.disk.now c.write_in_slot.new.disk n (IsCreating a l c.args.name.now c.args.size) in
+          let P : ℕ
+          → Type 0 = λ n. Changes S c.args.disk.now c.write_in_slot.new.disk n
+          (IsCreating a l c.args.name.now c.args.size) in
           subst P (sym (four-writes a l st.place st.number at.taken.clean.layout at.room))
-          ((c.write_in_slot.ensures.file l c.args.name.now at (record { entered = subst E c.relative_entry-entry.ensures c.put_entry.ensures; few = c.requires.name })).moments);
+          ((c.write_in_slot.ensures.file l c.args.name.now at
+          (record {
+            entered = subst E c.relative_entry-entry.ensures c.put_entry.ensures;
+            few = c.requires.name;
+          })).moments);
     }
 
 pub write_behind-requires-clause-size : goal.write_behind-requires-clause-size

@@ -16,10 +16,12 @@ write_sectors-requires-clause-apart g c =
     record {
       block = λ e.
           let (l, site) = c.requires.site in
-          site.taken.no_block (let P : Place → Type 0 = λ x. Contains (x ∷ owners l) c.args.site.now.block in subst P e (Contains-here c.args.site.now.block (owners l)));
+          site.taken.no_block (let P : Place → Type 0 = λ x. Contains (x ∷ owners l) c.args.site.now.block in
+          subst P e (Contains-here c.args.site.now.block (owners l)));
       side = λ e.
           let (l, site) = c.requires.site in
-          site.taken.no_side (let P : Place → Type 0 = λ x. Contains (x ∷ owners l) c.args.site.now.side in subst P e (Contains-here c.args.site.now.side (owners l)));
+          site.taken.no_side (let P : Place → Type 0 = λ x. Contains (x ∷ owners l) c.args.site.now.side in
+          subst P e (Contains-here c.args.site.now.side (owners l)));
       apart = λ e. let (l, site) = c.requires.site in site.taken.apart (sym e);
     }
 
@@ -27,7 +29,9 @@ pub returns-in_err-write_sectors-clause-file : goal.returns-in_err-write_sectors
 returns-in_err-write_sectors-clause-file g c l name site is_for =
     record {
       ok = not-done c.from_residual.result _ c.from_residual.ensures.1 _;
-      moments = sectors-moments g.D.Sectors.history c.args.disk.now c.write_sectors.new.disk l c.args.site.now c.args.bytes.now name c.args.size site is_for c.requires.size.low c.requires.size.high c.in_err-write_sectors.ensures.moments;
+      moments = sectors-moments g.D.Sectors.history c.args.disk.now c.write_sectors.new.disk l c.args.site.now
+          c.args.bytes.now name c.args.size site is_for c.requires.size.low c.requires.size.high
+          c.in_err-write_sectors.ensures.moments;
     }
 
 pub returns-clause-file : goal.returns-clause-file
@@ -38,9 +42,14 @@ returns-clause-file g c l name site is_for =
     record {
       ok =
           ok-then c.write.result _ _ (λ done. subst P (sym done)
-          (entry-more S c.args.disk.now c.write_sectors.new.disk l st c.args.bytes.now name c.args.size site is_for c.requires.size.low c.requires.size.high c.in_ok-write_sectors.ensures.moments c.in_ok-write_sectors.ensures.ok (record { size = c.told-bytes; small = c.fits-bytes })))
+          (entry-more S c.args.disk.now c.write_sectors.new.disk l st c.args.bytes.now name c.args.size site is_for
+          c.requires.size.low c.requires.size.high c.in_ok-write_sectors.ensures.moments
+          c.in_ok-write_sectors.ensures.ok (record { size = c.told-bytes; small = c.fits-bytes })))
           c.write.ensures.ok;
       moments =
-          entry-moments S c.args.disk.now c.write_sectors.new.disk l c.args.site.now c.args.bytes.now name c.args.size site is_for c.requires.size.low c.requires.size.high c.in_ok-write_sectors.ensures.moments c.in_ok-write_sectors.ensures.ok (record { size = c.told-bytes; small = c.fits-bytes })
-          c.write.new.self c.write.ensures.held (counted_once S _ _ c.write.result c.write.ensures.counted c.write.ensures.uncounted);
+          entry-moments S c.args.disk.now c.write_sectors.new.disk l c.args.site.now c.args.bytes.now name c.args.size
+          site is_for c.requires.size.low c.requires.size.high c.in_ok-write_sectors.ensures.moments
+          c.in_ok-write_sectors.ensures.ok (record { size = c.told-bytes; small = c.fits-bytes })
+          c.write.new.self c.write.ensures.held
+          (counted_once S _ _ c.write.result c.write.ensures.counted c.write.ensures.uncounted);
     }

@@ -25,5 +25,6 @@ returns-in_err-place g c =
       ok = none-done c.from_residual.result _ c.from_residual.ensures.1 _;
       err = fault-is c.from_residual.result _ c.from_residual.ensures.1 _ (λ e is. is ∙ c.in_err-place.ensures.err);
       reads = reads_weaker g.D.Sectors.history _ _ 1 2 (omega arith) c.block_at.ensures.reads;
-      failures = passed-on g.D.Sectors.history _ _ _ refl c.from_residual.result _ c.from_residual.ensures.1 c.in_err-place.ensures.failures;
+      failures = passed-on g.D.Sectors.history _ _ _ refl c.from_residual.result _ c.from_residual.ensures.1
+          c.in_err-place.ensures.failures;
     }

@@ -3,4 +3,5 @@ use Rattle.rel_records.proofs.Indexes.{index-is}
 use Rattle.rel_records.proofs.sizes.last_index.Goals as goal
 
 pub returns : goal.returns
-returns c = index-is c.args.length c.args.blocks c.full_records.result c.requires.blocks c.requires.length.low c.requires.length.high c.full_records.ensures
+returns c = index-is c.args.length c.args.blocks c.full_records.result c.requires.blocks c.requires.length.low
+    c.requires.length.high c.full_records.ensures

@@ -21,11 +21,16 @@ returns g c =
     let P : Sector → Type 0 = λ b. IsSided a c.args.blocks.now c.args.sides.now c.args.size (put a p b) in
     record {
       ok =
-          ok-then c.write.result _ _ (λ e q there. e ∙ ap (λ (s : Sector). put a p s) c.side_bytes-bytes.ensures ∙ ap (λ x. put a x (side_sector c.args.number c.args.blocks.now c.args.sides.now c.args.size)) (same-place p q (sym at ∙ there))) c.write.ensures.ok;
+          ok-then c.write.result _ _
+          (λ e q there. e ∙ ap (λ (s : Sector). put a p s) c.side_bytes-bytes.ensures
+          ∙ ap (λ x. put a x (side_sector c.args.number c.args.blocks.now c.args.sides.now c.args.size))
+          (same-place p q (sym at ∙ there))) c.write.ensures.ok;
       moments =
           write_change S c.args.disk.now c.write.new.self a (put a p c.side_bytes-bytes.result) _ c.write.ensures.held
           (counted_once S _ _ c.write.result c.write.ensures.counted c.write.ensures.uncounted)
           (sided-none a c.args.blocks.now c.args.sides.now c.args.size)
-          (subst P (sym c.side_bytes-bytes.ensures) (sided-put a a c.args.blocks.now c.args.sides.now c.args.size c.args.number p (S.whole c.args.disk.now).size at (sided-none a c.args.blocks.now c.args.sides.now c.args.size)));
+          (subst P (sym c.side_bytes-bytes.ensures)
+          (sided-put a a c.args.blocks.now c.args.sides.now c.args.size c.args.number p
+          (S.whole c.args.disk.now).size at (sided-none a c.args.blocks.now c.args.sides.now c.args.size)));
       failures = c.write.ensures.failures;
     }

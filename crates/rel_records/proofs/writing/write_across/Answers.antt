@@ -19,7 +19,13 @@ unwrap-requires g c =
     let v = c.args.file.now in
     let r = c.requires in
     next-some a v c.args.block c.args.place _ c.in_ok-next.next r.begins.there.of r.begins.at
-    (omega (arith, r.over, one-more c.args.number (length_of v) r.begins.there.low, inside-of a v c.args.number r.begins.there.of (S.whole c.args.disk.now) r.begins.there.low r.begins.there.high))
+    (omega (
+      arith,
+      r.over,
+      one-more c.args.number (length_of v) r.begins.there.low,
+      inside-of a v c.args.number
+          r.begins.there.of (S.whole c.args.disk.now) r.begins.there.low r.begins.there.high,
+    ))
     refl c.in_ok-next.ensures.next
 
 pub returns-in_err-next : goal.returns-in_err-next
@@ -31,17 +37,37 @@ returns-in_err-next g c =
           let v = c.args.file.now in
           let r = c.requires in
           let small : (i : ℕ) → slice_index c.args.text.now i < 256 = λ i. omega (arith, c.type_inv.text i) in
-          let more : c.args.block + 1 < length f.blocks = omega (arith, r.over, of.shows.blocks, one-more c.args.number (length_of v) r.begins.there.low, inside-of a v c.args.number r.begins.there.of (S.whole c.args.disk.now) r.begins.there.low r.begins.there.high) in
+          let more : c.args.block + 1 < length f.blocks = omega (
+            arith,
+            r.over,
+            of.shows.blocks,
+            one-more c.args.number (length_of v) r.begins.there.low,
+            inside-of a v
+                c.args.number r.begins.there.of (S.whole c.args.disk.now) r.begins.there.low r.begins.there.high,
+          ) in
           let (q, to) = block-there a l n f v of (c.args.block + 1) c.args.place more in
           record {
             ok = not-done c.from_residual.result _ c.from_residual.ensures.1 _;
             moments =
-                first-moments S c.args.disk.now c.write_block.new.disk l n f v c.args.number c.args.position c.args.text.now _ of c.write_block.ensures.put.held c.write_block.ensures.put.writes
-                (leaves-half a l n f v (S.whole c.args.disk.now) of (clean-of a l n f v of r.begins.there.clean) c.args.block c.args.number c.args.position c.args.place q c.args.text.now small (r.begins.at l n f of) to r.begins.there.low r.begins.there.high r.begins.there.position_low r.begins.there.position_high r.begins.from r.inside r.over);
+                first-moments S c.args.disk.now c.write_block.new.disk l n f v c.args.number c.args.position
+                c.args.text.now _ of c.write_block.ensures.put.held c.write_block.ensures.put.writes
+                (leaves-half a l n f v (S.whole c.args.disk.now) of (clean-of a l n f v of r.begins.there.clean)
+                c.args.block c.args.number c.args.position c.args.place q c.args.text.now small
+                (r.begins.at l n f of) to r.begins.there.low r.begins.there.high r.begins.there.position_low
+                r.begins.there.position_high r.begins.from r.inside r.over);
           };
       err = fault-is c.from_residual.result _ c.from_residual.ensures.1 _ (λ e is. is ∙ c.in_err-next.ensures.put.err);
-      uncounted = λ one. absurd (omega (arith, one, c.requires.over, c.requires.inside, one-more c.args.number c.args.file.now.size c.requires.begins.there.low));
-      failures = passed-on g.D.Sectors.history _ _ _ refl c.from_residual.result _ c.from_residual.ensures.1 c.in_err-next.ensures.put.failures;
+      uncounted = λ one. absurd
+          (omega (
+            arith,
+            one,
+            c.requires.over,
+            c.requires.inside,
+            one-more c.args.number c.args.file.now.size
+                c.requires.begins.there.low,
+          ));
+      failures = passed-on g.D.Sectors.history _ _ _ refl c.from_residual.result _ c.from_residual.ensures.1
+          c.in_err-next.ensures.put.failures;
     }
 
 pub returns-in_err-write_block : goal.returns-in_err-write_block
@@ -53,20 +79,47 @@ returns-in_err-write_block g c =
           let v = c.args.file.now in
           let r = c.requires in
           let small : (i : ℕ) → slice_index c.args.text.now i < 256 = λ i. omega (arith, c.type_inv.text i) in
-          let more : c.args.block + 1 < length f.blocks = omega (arith, r.over, of.shows.blocks, one-more c.args.number (length_of v) r.begins.there.low, inside-of a v c.args.number r.begins.there.of (S.whole c.args.disk.now) r.begins.there.low r.begins.there.high) in
-          let to = next-is a l n f v of c.args.block c.args.place _ c.in_ok-next.next (r.begins.at l n f of) more refl c.in_ok-next.ensures.next ∙ c.unwrap.ensures in
+          let more : c.args.block + 1 < length f.blocks = omega (
+            arith,
+            r.over,
+            of.shows.blocks,
+            one-more c.args.number (length_of v) r.begins.there.low,
+            inside-of a v
+                c.args.number r.begins.there.of (S.whole c.args.disk.now) r.begins.there.low r.begins.there.high,
+          ) in
+          let to = next-is a l n f v of c.args.block c.args.place _ c.in_ok-next.next (r.begins.at l n f of) more refl
+          c.in_ok-next.ensures.next ∙ c.unwrap.ensures in
           record {
             ok = not-done c.from_residual-in_err-write_block.result _ c.from_residual-in_err-write_block.ensures.1 _;
             moments =
-                both-moments S c.args.disk.now c.write_block.new.disk l n f v c.args.number c.args.position c.args.text.now _ of c.in_ok-next.ensures.put.held c.in_ok-next.ensures.put.writes
-                (leaves-half a l n f v (S.whole c.args.disk.now) of (clean-of a l n f v of r.begins.there.clean) c.args.block c.args.number c.args.position c.args.place c.unwrap.result c.args.text.now small (r.begins.at l n f of) to r.begins.there.low r.begins.there.high r.begins.there.position_low r.begins.there.position_high r.begins.from r.inside r.over)
-                c.write_block-2.new.disk _ c.in_ok-next.ensures.put.ok c.write_block-2.ensures.put.held c.write_block-2.ensures.put.writes
-                (leaves-both a l n f v (S.whole c.args.disk.now) of (clean-of a l n f v of r.begins.there.clean) c.args.block c.args.number c.args.position c.args.place c.unwrap.result c.args.text.now small (r.begins.at l n f of) to r.begins.there.low r.begins.there.high r.begins.there.position_low r.begins.there.position_high r.begins.from r.inside r.over
+                both-moments S c.args.disk.now c.write_block.new.disk l n f v c.args.number c.args.position
+                c.args.text.now _ of c.in_ok-next.ensures.put.held c.in_ok-next.ensures.put.writes
+                (leaves-half a l n f v (S.whole c.args.disk.now) of (clean-of a l n f v of r.begins.there.clean)
+                c.args.block c.args.number c.args.position c.args.place c.unwrap.result c.args.text.now small
+                (r.begins.at l n f of) to r.begins.there.low r.begins.there.high r.begins.there.position_low
+                r.begins.there.position_high r.begins.from r.inside r.over)
+                c.write_block-2.new.disk _ c.in_ok-next.ensures.put.ok c.write_block-2.ensures.put.held
+                c.write_block-2.ensures.put.writes
+                (leaves-both a l n f v (S.whole c.args.disk.now) of (clean-of a l n f v of r.begins.there.clean)
+                c.args.block c.args.number c.args.position c.args.place c.unwrap.result c.args.text.now small
+                (r.begins.at l n f of) to r.begins.there.low r.begins.there.high r.begins.there.position_low
+                r.begins.there.position_high r.begins.from r.inside r.over
                 c.min.result (S.image c.write_block.new.disk) c.min.ensures c.in_ok-next.ensures.put.ok);
           };
-      err = fault-is c.from_residual-in_err-write_block.result _ c.from_residual-in_err-write_block.ensures.1 _ (λ e is. is ∙ c.in_err-write_block.ensures.put.err);
-      uncounted = λ one. absurd (omega (arith, one, c.requires.over, c.requires.inside, one-more c.args.number c.args.file.now.size c.requires.begins.there.low));
-      failures = passed-on g.D.Sectors.history _ _ _ c.in_ok-next.ensures.put.failures c.from_residual-in_err-write_block.result _ c.from_residual-in_err-write_block.ensures.1 c.in_err-write_block.ensures.put.failures;
+      err = fault-is c.from_residual-in_err-write_block.result _ c.from_residual-in_err-write_block.ensures.1 _
+          (λ e is. is ∙ c.in_err-write_block.ensures.put.err);
+      uncounted = λ one. absurd
+          (omega (
+            arith,
+            one,
+            c.requires.over,
+            c.requires.inside,
+            one-more c.args.number c.args.file.now.size
+                c.requires.begins.there.low,
+          ));
+      failures = passed-on g.D.Sectors.history _ _ _ c.in_ok-next.ensures.put.failures
+          c.from_residual-in_err-write_block.result _ c.from_residual-in_err-write_block.ensures.1
+          c.in_err-write_block.ensures.put.failures;
     }
 
 pub returns : goal.returns
@@ -78,23 +131,52 @@ returns g c =
           let v = c.args.file.now in
           let r = c.requires in
           let small : (i : ℕ) → slice_index c.args.text.now i < 256 = λ i. omega (arith, c.type_inv.text i) in
-          let more : c.args.block + 1 < length f.blocks = omega (arith, r.over, of.shows.blocks, one-more c.args.number (length_of v) r.begins.there.low, inside-of a v c.args.number r.begins.there.of (S.whole c.args.disk.now) r.begins.there.low r.begins.there.high) in
-          let to = next-is a l n f v of c.args.block c.args.place _ c.in_ok-next.next (r.begins.at l n f of) more refl c.in_ok-next.ensures.next ∙ c.unwrap.ensures in
-          let P : Image → Type 0 = λ i. LeavesRecords a i l n (with_written (record_length f.slot) c.args.number c.args.position c.args.text.now (records a f)) v in
+          let more : c.args.block + 1 < length f.blocks = omega (
+            arith,
+            r.over,
+            of.shows.blocks,
+            one-more c.args.number (length_of v) r.begins.there.low,
+            inside-of a v
+                c.args.number r.begins.there.of (S.whole c.args.disk.now) r.begins.there.low r.begins.there.high,
+          ) in
+          let to = next-is a l n f v of c.args.block c.args.place _ c.in_ok-next.next (r.begins.at l n f of) more refl
+          c.in_ok-next.ensures.next ∙ c.unwrap.ensures in
+          let P : Image
+          → Type 0 = λ i. LeavesRecords a i l n
+          (with_written (record_length f.slot) c.args.number c.args.position c.args.text.now (records a f)) v in
           record {
             ok =
                 subst P (sym c.in_ok-write_block.ensures.put.ok)
-                (leaves-both a l n f v (S.whole c.args.disk.now) of (clean-of a l n f v of r.begins.there.clean) c.args.block c.args.number c.args.position c.args.place c.unwrap.result c.args.text.now small (r.begins.at l n f of) to r.begins.there.low r.begins.there.high r.begins.there.position_low r.begins.there.position_high r.begins.from r.inside r.over
+                (leaves-both a l n f v (S.whole c.args.disk.now) of (clean-of a l n f v of r.begins.there.clean)
+                c.args.block c.args.number c.args.position c.args.place c.unwrap.result c.args.text.now small
+                (r.begins.at l n f of) to r.begins.there.low r.begins.there.high r.begins.there.position_low
+                r.begins.there.position_high r.begins.from r.inside r.over
                 c.min.result (S.image c.write_block.new.disk) c.min.ensures c.in_ok-next.ensures.put.ok);
             moments =
-                both-moments S c.args.disk.now c.write_block.new.disk l n f v c.args.number c.args.position c.args.text.now _ of c.in_ok-next.ensures.put.held c.in_ok-next.ensures.put.writes
-                (leaves-half a l n f v (S.whole c.args.disk.now) of (clean-of a l n f v of r.begins.there.clean) c.args.block c.args.number c.args.position c.args.place c.unwrap.result c.args.text.now small (r.begins.at l n f of) to r.begins.there.low r.begins.there.high r.begins.there.position_low r.begins.there.position_high r.begins.from r.inside r.over)
-                c.write_block-2.new.disk _ c.in_ok-next.ensures.put.ok c.write_block-2.ensures.put.held c.write_block-2.ensures.put.writes
-                (leaves-both a l n f v (S.whole c.args.disk.now) of (clean-of a l n f v of r.begins.there.clean) c.args.block c.args.number c.args.position c.args.place c.unwrap.result c.args.text.now small (r.begins.at l n f of) to r.begins.there.low r.begins.there.high r.begins.there.position_low r.begins.there.position_high r.begins.from r.inside r.over
+                both-moments S c.args.disk.now c.write_block.new.disk l n f v c.args.number c.args.position
+                c.args.text.now _ of c.in_ok-next.ensures.put.held c.in_ok-next.ensures.put.writes
+                (leaves-half a l n f v (S.whole c.args.disk.now) of (clean-of a l n f v of r.begins.there.clean)
+                c.args.block c.args.number c.args.position c.args.place c.unwrap.result c.args.text.now small
+                (r.begins.at l n f of) to r.begins.there.low r.begins.there.high r.begins.there.position_low
+                r.begins.there.position_high r.begins.from r.inside r.over)
+                c.write_block-2.new.disk _ c.in_ok-next.ensures.put.ok c.write_block-2.ensures.put.held
+                c.write_block-2.ensures.put.writes
+                (leaves-both a l n f v (S.whole c.args.disk.now) of (clean-of a l n f v of r.begins.there.clean)
+                c.args.block c.args.number c.args.position c.args.place c.unwrap.result c.args.text.now small
+                (r.begins.at l n f of) to r.begins.there.low r.begins.there.high r.begins.there.position_low
+                r.begins.there.position_high r.begins.from r.inside r.over
                 c.min.result (S.image c.write_block.new.disk) c.min.ensures c.in_ok-next.ensures.put.ok);
           };
       err = tt;
-      uncounted = λ one. absurd (omega (arith, one, c.requires.over, c.requires.inside, one-more c.args.number c.args.file.now.size c.requires.begins.there.low));
+      uncounted = λ one. absurd
+          (omega (
+            arith,
+            one,
+            c.requires.over,
+            c.requires.inside,
+            one-more c.args.number c.args.file.now.size
+                c.requires.begins.there.low,
+          ));
       failures = c.in_ok-write_block.ensures.put.failures ∙ c.in_ok-next.ensures.put.failures;
     }
 
@@ -150,4 +232,9 @@ pub write_block-requires-2-clause-order : goal.write_block-requires-2-clause-ord
 write_block-requires-2-clause-order g c = omega arith
 
 pub write_block-requires-2-clause-inside : goal.write_block-requires-2-clause-inside
-write_block-requires-2-clause-inside g c = omega (arith, one-more c.args.number c.args.file.now.size c.requires.begins.there.low, c.requires.inside, c.args.file.now.size_high)
+write_block-requires-2-clause-inside g c = omega (
+  arith,
+  one-more c.args.number c.args.file.now.size c.requires.begins.there.low,
+  c.requires.inside,
+  c.args.file.now.size_high,
+)

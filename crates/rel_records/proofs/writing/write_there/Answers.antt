@@ -17,8 +17,15 @@ pub block_at-requires-clause-there : goal.block_at-requires-clause-there
 block_at-requires-clause-there g c =
     let S = g.D.Sectors.history in
     let v = c.args.file.now in
-    let fits = there-fits (S.image c.args.disk.now) v c.args.number c.requires.of (S.whole c.args.disk.now) c.requires.low c.requires.high in
-    omega (arith, fits, one-more c.args.number (length_of v) c.requires.low, c.requires.position_low, c.requires.position_high)
+    let fits = there-fits (S.image c.args.disk.now) v c.args.number c.requires.of (S.whole c.args.disk.now)
+    c.requires.low c.requires.high in
+    omega (
+      arith,
+      fits,
+      one-more c.args.number (length_of v) c.requires.low,
+      c.requires.position_low,
+      c.requires.position_high,
+    )
 
 pub returns-in_err-place : goal.returns-in_err-place
 returns-in_err-place g c =
@@ -29,23 +36,29 @@ returns-in_err-place g c =
           record {
             ok = not-done c.from_residual.result _ c.from_residual.ensures.1 _;
             moments =
-                reads_only S a c.block_at.new.disk 1 (touched (length_of c.args.file.now) c.args.number c.args.position) (IsWriting (S.image a) l n f 0 c.args.number c.args.position c.args.text.now)
-                c.block_at.ensures.reads (old-moment (S.image a) (S.image a) l n f c.args.file.now c.args.number c.args.position c.args.text.now of);
+                reads_only S a c.block_at.new.disk 1 (touched (length_of c.args.file.now) c.args.number c.args.position)
+                (IsWriting (S.image a) l n f 0 c.args.number c.args.position c.args.text.now)
+                c.block_at.ensures.reads
+                (old-moment (S.image a) (S.image a) l n f c.args.file.now c.args.number c.args.position
+                c.args.text.now of);
           };
       err = fault-is c.from_residual.result _ c.from_residual.ensures.1 _ (λ e is. is ∙ c.in_err-place.ensures.err);
       uncounted = λ one. at-error c.from_residual.result _ c.block_at.ensures.reads.writes;
-      failures = passed-on g.D.Sectors.history _ _ _ refl c.from_residual.result _ c.from_residual.ensures.1 c.in_err-place.ensures.failures;
+      failures = passed-on g.D.Sectors.history _ _ _ refl c.from_residual.result _ c.from_residual.ensures.1
+          c.in_err-place.ensures.failures;
     }
 
 pub write_in_block-requires-clause-begins : goal.write_in_block-requires-clause-begins
 write_in_block-requires-clause-begins g c =
     let S = g.D.Sectors.history in
     let v = c.args.file.now in
-    let fits = there-fits (S.image c.args.disk.now) v c.args.number c.requires.of (S.whole c.args.disk.now) c.requires.low c.requires.high in
+    let fits = there-fits (S.image c.args.disk.now) v c.args.number c.requires.of (S.whole c.args.disk.now)
+    c.requires.low c.requires.high in
     record {
       there = record {
         clean = subst IsClean (sym c.block_at.ensures.reads.image) c.requires.clean;
-        of = let P : Image → Type 0 = λ i. IsOf i c.args.file.now in subst P (sym c.block_at.ensures.reads.image) c.requires.of;
+        of = let P : Image → Type 0 = λ i. IsOf i c.args.file.now in
+            subst P (sym c.block_at.ensures.reads.image) c.requires.of;
         low = c.requires.low;
         high = c.requires.high;
         position_low = c.requires.position_low;
@@ -55,7 +68,14 @@ write_in_block-requires-clause-begins g c =
           let P : Image → Type 0 = λ i. IsFileOf i l n f c.args.file.now in
           c.in_ok-place.ensures.ok l n f (subst P c.block_at.ensures.reads.image of);
       from = omega arith;
-      few = omega (arith, fits, one-more c.args.number (length_of v) c.requires.low, c.requires.position_low, c.requires.position_high, v.few);
+      few = omega (
+        arith,
+        fits,
+        one-more c.args.number (length_of v) c.requires.low,
+        c.requires.position_low,
+        c.requires.position_high,
+        v.few,
+      );
       large = omega (arith, fits, v.few);
     }
 
@@ -65,29 +85,41 @@ returns-then-end-block g c =
       file = λ l n f of.
           let S = g.D.Sectors.history in
           let v = c.args.file.now in
-          let of' = let P : Image → Type 0 = λ i. IsFileOf i l n f v in subst P (sym c.block_at.ensures.reads.image) of in
-          let P : Image → Type 0 = λ i. OnOk c.write_in_block.result (LeavesRecords i (S.image c.write_in_block.new.disk) l n (with_written (record_length f.slot) c.args.number c.args.position c.args.text.now (records i f)) v) in
+          let of' = let P : Image → Type 0 = λ i. IsFileOf i l n f v in
+          subst P (sym c.block_at.ensures.reads.image) of in
+          let P : Image
+          → Type 0 = λ i. OnOk c.write_in_block.result
+          (LeavesRecords i (S.image c.write_in_block.new.disk) l n
+          (with_written (record_length f.slot) c.args.number c.args.position c.args.text.now (records i f)) v) in
           let a = c.args.disk.now in
           record {
             ok = subst P c.block_at.ensures.reads.image ((c.write_in_block.ensures.file l n f of').ok);
             moments =
-                reads_first S a c.block_at.new.disk c.write_in_block.new.disk 1 1 (touched (length_of v) c.args.number c.args.position) (λ old. IsWriting old l n f 0 c.args.number c.args.position c.args.text.now)
-                (omega (arith)) c.block_at.ensures.reads (old-moment (S.image a) (S.image a) l n f v c.args.number c.args.position c.args.text.now of) ((c.write_in_block.ensures.file l n f of').moments);
+                reads_first S a c.block_at.new.disk c.write_in_block.new.disk 1 1
+                (touched (length_of v) c.args.number c.args.position)
+                (λ old. IsWriting old l n f 0 c.args.number c.args.position c.args.text.now)
+                (omega (arith)) c.block_at.ensures.reads
+                (old-moment (S.image a) (S.image a) l n f v c.args.number c.args.position c.args.text.now of)
+                ((c.write_in_block.ensures.file l n f of').moments);
           };
       err = c.write_in_block.ensures.err;
-      uncounted = λ one. error-then c.write_in_block.result _ _ (λ e. e ∙ c.block_at.ensures.reads.writes) (c.write_in_block.ensures.uncounted one);
-      failures = tells-rel-after g.D.Sectors.history _ _ _ c.in_ok-place.ensures.failures c.write_in_block.result c.write_in_block.ensures.failures;
+      uncounted = λ one. error-then c.write_in_block.result _ _ (λ e. e ∙ c.block_at.ensures.reads.writes)
+          (c.write_in_block.ensures.uncounted one);
+      failures = tells-rel-after g.D.Sectors.history _ _ _ c.in_ok-place.ensures.failures c.write_in_block.result
+          c.write_in_block.ensures.failures;
     }
 
 pub write_across-requires-clause-begins : goal.write_across-requires-clause-begins
 write_across-requires-clause-begins g c =
     let S = g.D.Sectors.history in
     let v = c.args.file.now in
-    let fits = there-fits (S.image c.args.disk.now) v c.args.number c.requires.of (S.whole c.args.disk.now) c.requires.low c.requires.high in
+    let fits = there-fits (S.image c.args.disk.now) v c.args.number c.requires.of (S.whole c.args.disk.now)
+    c.requires.low c.requires.high in
     record {
       there = record {
         clean = subst IsClean (sym c.block_at.ensures.reads.image) c.requires.clean;
-        of = let P : Image → Type 0 = λ i. IsOf i c.args.file.now in subst P (sym c.block_at.ensures.reads.image) c.requires.of;
+        of = let P : Image → Type 0 = λ i. IsOf i c.args.file.now in
+            subst P (sym c.block_at.ensures.reads.image) c.requires.of;
         low = c.requires.low;
         high = c.requires.high;
         position_low = c.requires.position_low;
@@ -97,7 +129,14 @@ write_across-requires-clause-begins g c =
           let P : Image → Type 0 = λ i. IsFileOf i l n f c.args.file.now in
           c.in_ok-place.ensures.ok l n f (subst P c.block_at.ensures.reads.image of);
       from = omega arith;
-      few = omega (arith, fits, one-more c.args.number (length_of v) c.requires.low, c.requires.position_low, c.requires.position_high, v.few);
+      few = omega (
+        arith,
+        fits,
+        one-more c.args.number (length_of v) c.requires.low,
+        c.requires.position_low,
+        c.requires.position_high,
+        v.few,
+      );
       large = omega (arith, fits, v.few);
     }
 
@@ -107,18 +146,28 @@ returns g c =
       file = λ l n f of.
           let S = g.D.Sectors.history in
           let v = c.args.file.now in
-          let of' = let P : Image → Type 0 = λ i. IsFileOf i l n f v in subst P (sym c.block_at.ensures.reads.image) of in
-          let P : Image → Type 0 = λ i. OnOk c.write_across.result (LeavesRecords i (S.image c.write_across.new.disk) l n (with_written (record_length f.slot) c.args.number c.args.position c.args.text.now (records i f)) v) in
+          let of' = let P : Image → Type 0 = λ i. IsFileOf i l n f v in
+          subst P (sym c.block_at.ensures.reads.image) of in
+          let P : Image
+          → Type 0 = λ i. OnOk c.write_across.result
+          (LeavesRecords i (S.image c.write_across.new.disk) l n
+          (with_written (record_length f.slot) c.args.number c.args.position c.args.text.now (records i f)) v) in
           let a = c.args.disk.now in
           record {
             ok = subst P c.block_at.ensures.reads.image ((c.write_across.ensures.file l n f of').ok);
             moments =
-                reads_first S a c.block_at.new.disk c.write_across.new.disk 1 2 (touched (length_of v) c.args.number c.args.position) (λ old. IsWriting old l n f 0 c.args.number c.args.position c.args.text.now)
-                (omega (arith, c.if-end-block.false)) c.block_at.ensures.reads (old-moment (S.image a) (S.image a) l n f v c.args.number c.args.position c.args.text.now of) ((c.write_across.ensures.file l n f of').moments);
+                reads_first S a c.block_at.new.disk c.write_across.new.disk 1 2
+                (touched (length_of v) c.args.number c.args.position)
+                (λ old. IsWriting old l n f 0 c.args.number c.args.position c.args.text.now)
+                (omega (arith, c.if-end-block.false)) c.block_at.ensures.reads
+                (old-moment (S.image a) (S.image a) l n f v c.args.number c.args.position c.args.text.now of)
+                ((c.write_across.ensures.file l n f of').moments);
           };
       err = c.write_across.ensures.err;
-      uncounted = λ one. absurd (omega (arith, one, c.if-end-block.false, one-more c.args.number c.args.file.now.size c.requires.low));
-      failures = tells-rel-after g.D.Sectors.history _ _ _ c.in_ok-place.ensures.failures c.write_across.result c.write_across.ensures.failures;
+      uncounted = λ one. absurd
+          (omega (arith, one, c.if-end-block.false, one-more c.args.number c.args.file.now.size c.requires.low));
+      failures = tells-rel-after g.D.Sectors.history _ _ _ c.in_ok-place.ensures.failures c.write_across.result
+          c.write_across.ensures.failures;
     }
 
 pub overflow_sub-start : goal.overflow_sub-start

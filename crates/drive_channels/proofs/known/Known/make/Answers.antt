@@ -28,13 +28,22 @@ returns-in-Ok g c =
     let clean = (c.requires.known.remembered c.requires.checked).clean in
     let made = (c.in-Ok.ensures.layout clean.0 clean.1.layout).ok in
     record {
-      row = λ s. made-row (S.image c.args.disk.now) c.args.self.now c.args.name.now c.requires.missing c.args.channel s c.args.size _
-          (record { last = Some (record { found = c.new.result; spot = Some c.first.result }); before = None; checked = c.args.self.now.checked }) (entry_of c.in-Ok.file)
-          (λ h. ((c.in-Ok.ensures.refuses.layout h.0 h.1).fits).1 h.2) (λ h. ((c.in-Ok.ensures.refuses.layout h.0 h.1).fits).0 h.2) (makes-of _ _ clean.0 c.args.name.now c.args.size c.in-Ok.file clean.1.layout made)
+      row = λ s. made-row (S.image c.args.disk.now) c.args.self.now c.args.name.now c.requires.missing c.args.channel s
+          c.args.size _
+          (record {
+            last = Some (record { found = c.new.result; spot = Some c.first.result });
+            before = None;
+            checked = c.args.self.now.checked;
+          }) (entry_of c.in-Ok.file)
+          (λ h. ((c.in-Ok.ensures.refuses.layout h.0 h.1).fits).1 h.2)
+          (λ h. ((c.in-Ok.ensures.refuses.layout h.0 h.1).fits).0 h.2)
+          (makes-of _ _ clean.0 c.args.name.now c.args.size c.in-Ok.file clean.1.layout made)
           (ap₂ (λ (v : RelFile) (s : Spot). Some (channel_at (entry_of v) s)) c.new.ensures.file c.first.ensures) refl;
-      known = known-made _ _ clean.0 c.args.name.now c.args.size c.in-Ok.file c.new.result c.first.result c.args.channel made
-          ((c.in-Ok.ensures.refuses.layout clean.0 clean.1.layout).fits).1 c.new.ensures.file c.new.ensures.name c.requires.name c.first.ensures
-          c.requires.low c.requires.high c.args.self.now.checked c.requires.checked;
+      known = known-made _ _ clean.0 c.args.name.now c.args.size c.in-Ok.file c.new.result c.first.result c.args.channel
+          made
+          ((c.in-Ok.ensures.refuses.layout clean.0 clean.1.layout).fits).1 c.new.ensures.file c.new.ensures.name
+          c.requires.name c.first.ensures
+          c.requires.channel.low c.requires.channel.high c.args.self.now.checked c.requires.checked;
       refused = λ other. absurd (ok-ok other);
       opened = λ _. refl;
       moments = λ l h. (c.in-Ok.ensures.layout l h).moments;
@@ -48,7 +57,8 @@ returns-in-Exists g c =
     let other = exists-device c.in-Err.fault c.in-Exists.is in
     let reads = c.in-Err.ensures.refuses.refused other in
     record {
-      row = λ s. taken-row (S.image c.args.disk.now) c.args.self.now c.args.name.now c.requires.missing c.args.channel s c.args.size _ reads.image
+      row = λ s. taken-row (S.image c.args.disk.now) c.args.self.now c.args.name.now c.requires.missing c.args.channel s
+          c.args.size _ reads.image
           (clean.0, clean.1.layout, (c.in-Err.ensures.refuses.layout clean.0 clean.1.layout).exists c.in-Exists.is);
       known = known-still _ _ c.args.self.now reads.image c.requires.known;
       refused = λ _. reads;
@@ -64,8 +74,10 @@ returns-in_default g c =
     let reads = c.in-Err.ensures.refuses.refused c.in_default.not-Device in
     let full = only c.in-Err.fault c.in_default.not-Exists c.in_default.not-Device c.in-Err.ensures.refuses.told in
     record {
-      row = λ s. full-row (S.image c.args.disk.now) c.args.self.now c.args.name.now c.requires.missing c.args.channel s c.args.size _ reads.image
-          (λ h. ((c.in-Err.ensures.refuses.layout h.0 h.1).full full).1 h.2) (clean.0, clean.1.layout, ((c.in-Err.ensures.refuses.layout clean.0 clean.1.layout).full full).0);
+      row = λ s. full-row (S.image c.args.disk.now) c.args.self.now c.args.name.now c.requires.missing c.args.channel s
+          c.args.size _ reads.image
+          (λ h. ((c.in-Err.ensures.refuses.layout h.0 h.1).full full).1 h.2)
+          (clean.0, clean.1.layout, ((c.in-Err.ensures.refuses.layout clean.0 clean.1.layout).full full).0);
       known = known-still _ _ c.args.self.now reads.image c.requires.known;
       refused = λ _. reads;
       opened = λ is. absurd (full-ok is);
@@ -73,7 +85,8 @@ returns-in_default g c =
       failures = calm RelFile S _ _ c.in-Err.fault c.in_default.not-Device c.in-Err.ensures.refuses.failures;
     }
   where
-    only : (e : RelFault) → ¬ (e ≡ faults.Exists) → ¬ (e ≡ faults.Device) → (e ≡ faults.Exists) ⊎ ((e ≡ faults.Full) ⊎ (e ≡ faults.Device)) → e ≡ faults.Full
+    only : (e : RelFault) → ¬ (e ≡ faults.Exists) → ¬ (e ≡ faults.Device)
+        → (e ≡ faults.Exists) ⊎ ((e ≡ faults.Full) ⊎ (e ≡ faults.Device)) → e ≡ faults.Full
     only e a b told = elim told [
       | inl x ↦ absurd (a x)
       | inr (inl x) ↦ x

@@ -1,6 +1,7 @@
 use Rattle.std.proofs.Common.{ℕ, IsNone, Option, inl, refl, sym, subst}
 use Rattle.d64_image.specs.Images.{Image}
-use Rattle.drive_channels.proofs.Openings.{if-ok, none-done, not-done, opened-made, read-for, same-shown, tells-after, tells-failed}
+use Rattle.drive_channels.proofs.Openings.{if-ok, none-done, not-done, opened-made, read-for, same-shown, tells-after}
+use Rattle.drive_channels.proofs.Openings.{tells-failed}
 use Rattle.drive_channels.proofs.known.Known.open_file.Goals as goal
 use Rattle.drive_channels.specs.Files.{HasFile}
 use Rattle.drive_channels.specs.Inside.{HasLooked, IsKnown, shown}
@@ -10,32 +11,55 @@ use Rattle.drive_channels.specs.Tables.{OpensFile}
 use Rattle.drive_channels.specs.Wishes.{wish_of}
 use Rattle.drive_channels.specs.declared.status.Status.TheVariants as statuses
 
-pub returns-then-branch-clause-row : goal.returns-then-branch-clause-row
-returns-then-branch-clause-row g c = λ s.
-    let img = g.D.Sectors.history.image in
-    let looked = subst (HasLooked (img c.args.disk.now) c.args.wish.name.now c.look_up.new.self) c.if-branch.true c.in_ok-look_up.ensures.found in
-    subst (λ (x : View). OpensFile x c.args.channel (wish_of c.args.wish) (shown (img c.look_up.new.disk) c.open_last.new.self c.open_last.result))
-    (same-shown (img c.args.disk.now) (img c.args.disk.now) c.args.self.now c.look_up.new.self s (λ i. img c.args.disk.now) c.requires.closed c.requires.checked looked.closed looked.checked)
-    (subst (λ (i : Image). OpensFile (shown (img c.args.disk.now) c.look_up.new.self s) c.args.channel (wish_of c.args.wish) (shown i c.open_last.new.self c.open_last.result))
-    (sym c.look_up.ensures.reads.image) (c.open_last.ensures.row (img c.args.disk.now) c.args.wish.name.now s looked))
+pub returns-then-branch : goal.returns-then-branch
+returns-then-branch g c =
+    record {
+      row = λ s.
+          let img = g.D.Sectors.history.image in
+          let looked = subst (HasLooked (img c.args.disk.now) c.args.wish.name.now c.look_up.new.self) c.if-branch.true
+          c.in_ok-look_up.ensures.found in
+          subst (λ (x : View). OpensFile x c.args.channel (wish_of c.args.wish)
+          (shown (img c.look_up.new.disk) c.open_last.new.self c.open_last.result))
+          (same-shown (img c.args.disk.now) (img c.args.disk.now) c.args.self.now c.look_up.new.self s
+          (λ i. img c.args.disk.now) c.requires.closed c.requires.checked looked.closed looked.checked)
+          (subst (λ (i : Image). OpensFile (shown (img c.args.disk.now) c.look_up.new.self s) c.args.channel
+          (wish_of c.args.wish) (shown i c.open_last.new.self c.open_last.result))
+          (sym c.look_up.ensures.reads.image)
+          (c.open_last.ensures.row (img c.args.disk.now) c.args.wish.name.now s looked));
+      known = subst (λ (i : Image). IsKnown i c.open_last.new.self) (sym c.look_up.ensures.reads.image)
+          (c.open_last.ensures.known (g.D.Sectors.history.image c.args.disk.now) c.in_ok-look_up.ensures.found.known);
+      opened = read-for g.D.Sectors.history _ _ _ _ _ c.look_up.ensures.reads;
+      failures = c.in_ok-look_up.ensures.failures;
+    }
 
 pub make-requires-clause-missing : goal.make-requires-clause-missing
-make-requires-clause-missing g c = λ has. c.in_ok-look_up.ensures.found.missing c.if-branch.false (subst (λ (i : Image). HasFile i c.args.wish.name.now) c.look_up.ensures.reads.image has)
+make-requires-clause-missing g c = λ has. c.in_ok-look_up.ensures.found.missing c.if-branch.false
+    (subst (λ (i : Image). HasFile i c.args.wish.name.now) c.look_up.ensures.reads.image has)
 
-pub returns-in-Some-clause-row : goal.returns-in-Some-clause-row
-returns-in-Some-clause-row g c =
+pub returns-in-Some : goal.returns-in-Some
+returns-in-Some g c =
     let img = g.D.Sectors.history.image in
     let looked = c.in_ok-look_up.ensures.found in
-    if-ok _ _ c.make.result (λ status row s.
-    subst (λ (x : View). OpensFile x c.args.channel (wish_of c.args.wish) (shown (img c.make.new.disk) c.make.new.self status))
-    (same-shown (img c.args.disk.now) (img c.look_up.new.disk) c.args.self.now c.look_up.new.self s c.look_up.ensures.reads.image c.requires.closed c.requires.checked looked.closed looked.checked)
-    (subst (λ (n : Option ℕ). OpensFile (shown (img c.look_up.new.disk) c.look_up.new.self s) c.args.channel (record { name = c.args.wish.name.now; length = n }) (shown (img c.make.new.disk) c.make.new.self status))
-    (sym c.in-Some.is) (row s)))
-    c.make.ensures.row
-
-pub returns-in-Some-clause-opened : goal.returns-in-Some-clause-opened
-returns-in-Some-clause-opened g c = opened-made g.D.Sectors.history _ _ _ c.args.wish.name.now c.args.wish.length c.in-Some.length _ c.make.result c.look_up.ensures.reads c.in-Some.is
-    (c.in_ok-look_up.ensures.found.missing c.if-branch.false) c.make.ensures.refused c.make.ensures.opened c.make.ensures.moments
+    record {
+      row =
+          if-ok _ _ c.make.result (λ status row s.
+          subst (λ (x : View). OpensFile x c.args.channel (wish_of c.args.wish)
+          (shown (img c.make.new.disk) c.make.new.self status))
+          (same-shown (img c.args.disk.now) (img c.look_up.new.disk) c.args.self.now c.look_up.new.self s
+          c.look_up.ensures.reads.image c.requires.closed c.requires.checked looked.closed looked.checked)
+          (subst (λ (n : Option ℕ). OpensFile (shown (img c.look_up.new.disk) c.look_up.new.self s) c.args.channel
+          (record { name = c.args.wish.name.now; length = n }) (shown (img c.make.new.disk) c.make.new.self status))
+          (sym c.in-Some.is) (row s)))
+          c.make.ensures.row;
+      known = c.make.ensures.known;
+      opened =
+          opened-made g.D.Sectors.history _ _ _ c.args.wish.name.now c.args.wish.length c.in-Some.length _ c.make.result
+          c.look_up.ensures.reads c.in-Some.is
+          (c.in_ok-look_up.ensures.found.missing c.if-branch.false) c.make.ensures.refused c.make.ensures.opened
+          c.make.ensures.moments;
+      failures = tells-after g.D.Sectors.history _ _ _ c.in_ok-look_up.ensures.failures c.make.result
+          c.make.ensures.failures;
+    }
 
 pub look_up-requires-clause-known : goal.look_up-requires-clause-known
 look_up-requires-clause-known g c = c.requires.known
@@ -49,75 +73,61 @@ look_up-requires-clause-closed g c = c.requires.closed
 pub look_up-requires-clause-name : goal.look_up-requires-clause-name
 look_up-requires-clause-name g c = c.requires.wish.1.0
 
-pub returns-in_err-look_up-clause-row : goal.returns-in_err-look_up-clause-row
-returns-in_err-look_up-clause-row g c = none-done c.from_residual.result _ c.from_residual.ensures.1 _
+pub returns-in_err-look_up : goal.returns-in_err-look_up
+returns-in_err-look_up g c =
+    record {
+      row = none-done c.from_residual.result _ c.from_residual.ensures.1 _;
+      known = not-done c.from_residual.result _ c.from_residual.ensures.1 _;
+      opened = read-for g.D.Sectors.history _ _ _ _ c.from_residual.result c.look_up.ensures.reads;
+      failures = tells-failed g.D.Sectors.history _ _ c.from_residual.result _ c.from_residual.ensures.1
+          c.in_err-look_up.ensures.failures;
+    }
 
-pub returns-in_err-look_up-clause-known : goal.returns-in_err-look_up-clause-known
-returns-in_err-look_up-clause-known g c = not-done c.from_residual.result _ c.from_residual.ensures.1 _
-
-pub returns-in_err-look_up-clause-opened : goal.returns-in_err-look_up-clause-opened
-returns-in_err-look_up-clause-opened g c = read-for g.D.Sectors.history _ _ _ _ c.from_residual.result c.look_up.ensures.reads
-
-pub returns-in_err-look_up-clause-failures : goal.returns-in_err-look_up-clause-failures
-returns-in_err-look_up-clause-failures g c = tells-failed g.D.Sectors.history _ _ c.from_residual.result _ c.from_residual.ensures.1 c.in_err-look_up.ensures.failures
-
-pub open_last-requires-clause-low : goal.open_last-requires-clause-low
-open_last-requires-clause-low g c = c.requires.low
-
-pub open_last-requires-clause-high : goal.open_last-requires-clause-high
-open_last-requires-clause-high g c = c.requires.high
-
-pub returns-then-branch-clause-known : goal.returns-then-branch-clause-known
-returns-then-branch-clause-known g c =
-    subst (λ (i : Image). IsKnown i c.open_last.new.self) (sym c.look_up.ensures.reads.image) (c.open_last.ensures.known (g.D.Sectors.history.image c.args.disk.now) c.in_ok-look_up.ensures.found.known)
-
-pub returns-then-branch-clause-opened : goal.returns-then-branch-clause-opened
-returns-then-branch-clause-opened g c = read-for g.D.Sectors.history _ _ _ _ _ c.look_up.ensures.reads
-
-pub returns-then-branch-clause-failures : goal.returns-then-branch-clause-failures
-returns-then-branch-clause-failures g c = c.in_ok-look_up.ensures.failures
+pub open_last-requires : goal.open_last-requires
+open_last-requires g c =
+    record {
+      low = c.requires.channel.low;
+      high = c.requires.channel.high;
+    }
 
 pub make-requires-clause-known : goal.make-requires-clause-known
-make-requires-clause-known g c = subst (λ (i : Image). IsKnown i c.look_up.new.self) (sym c.look_up.ensures.reads.image) c.in_ok-look_up.ensures.found.known
+make-requires-clause-known g c = subst (λ (i : Image). IsKnown i c.look_up.new.self) (sym c.look_up.ensures.reads.image)
+    c.in_ok-look_up.ensures.found.known
 
 pub make-requires-clause-checked : goal.make-requires-clause-checked
 make-requires-clause-checked g c = c.in_ok-look_up.ensures.found.checked
 
-pub make-requires-clause-low : goal.make-requires-clause-low
-make-requires-clause-low g c = c.requires.low
-
-pub make-requires-clause-high : goal.make-requires-clause-high
-make-requires-clause-high g c = c.requires.high
+pub make-requires-clause-channel : goal.make-requires-clause-channel
+make-requires-clause-channel g c =
+    record {
+      low = c.requires.channel.low;
+      high = c.requires.channel.high;
+    }
 
 pub make-requires-clause-name : goal.make-requires-clause-name
 make-requires-clause-name g c = c.requires.wish.1.0
 
-pub make-requires-clause-size_low : goal.make-requires-clause-size_low
-make-requires-clause-size_low g c = (subst (IsSpelled c.requires.wish.0 c.args.wish.name.now) c.in-Some.is c.requires.wish.1.1).2.low
+pub make-requires-clause-size : goal.make-requires-clause-size
+make-requires-clause-size g c =
+    record {
+      low = (subst (IsSpelled c.requires.wish.0 c.args.wish.name.now) c.in-Some.is c.requires.wish.1.1).2.low;
+      high = (subst (IsSpelled c.requires.wish.0 c.args.wish.name.now) c.in-Some.is c.requires.wish.1.1).2.high;
+    }
 
-pub make-requires-clause-size_high : goal.make-requires-clause-size_high
-make-requires-clause-size_high g c = (subst (IsSpelled c.requires.wish.0 c.args.wish.name.now) c.in-Some.is c.requires.wish.1.1).2.high
-
-pub returns-in-Some-clause-known : goal.returns-in-Some-clause-known
-returns-in-Some-clause-known g c = c.make.ensures.known
-
-pub returns-in-Some-clause-failures : goal.returns-in-Some-clause-failures
-returns-in-Some-clause-failures g c = tells-after g.D.Sectors.history _ _ _ c.in_ok-look_up.ensures.failures c.make.result c.make.ensures.failures
-
-pub returns-in-None-clause-row : goal.returns-in-None-clause-row
-returns-in-None-clause-row g c = λ s.
-    let img = g.D.Sectors.history.image in
-    let looked = c.in_ok-look_up.ensures.found in
-    inl (
-      (subst IsNone (sym c.in-None.is) refl, looked.missing c.if-branch.false),
-      same-shown (img c.args.disk.now) (img c.look_up.new.disk) c.args.self.now c.look_up.new.self statuses.FileNotFound c.look_up.ensures.reads.image c.requires.closed c.requires.checked looked.closed looked.checked,
-    )
-
-pub returns-in-None-clause-known : goal.returns-in-None-clause-known
-returns-in-None-clause-known g c = subst (λ (i : Image). IsKnown i c.look_up.new.self) (sym c.look_up.ensures.reads.image) c.in_ok-look_up.ensures.found.known
-
-pub returns-in-None-clause-opened : goal.returns-in-None-clause-opened
-returns-in-None-clause-opened g c = read-for g.D.Sectors.history _ _ _ _ _ c.look_up.ensures.reads
-
-pub returns-in-None-clause-failures : goal.returns-in-None-clause-failures
-returns-in-None-clause-failures g c = c.in_ok-look_up.ensures.failures
+pub returns-in-None : goal.returns-in-None
+returns-in-None g c =
+    record {
+      row = λ s.
+          let img = g.D.Sectors.history.image in
+          let looked = c.in_ok-look_up.ensures.found in
+          inl (
+            (subst IsNone (sym c.in-None.is) refl, looked.missing c.if-branch.false),
+            same-shown (img c.args.disk.now) (img c.look_up.new.disk) c.args.self.now c.look_up.new.self
+                statuses.FileNotFound c.look_up.ensures.reads.image c.requires.closed c.requires.checked looked.closed
+                looked.checked,
+          );
+      known = subst (λ (i : Image). IsKnown i c.look_up.new.self) (sym c.look_up.ensures.reads.image)
+          c.in_ok-look_up.ensures.found.known;
+      opened = read-for g.D.Sectors.history _ _ _ _ _ c.look_up.ensures.reads;
+      failures = c.in_ok-look_up.ensures.failures;
+    }

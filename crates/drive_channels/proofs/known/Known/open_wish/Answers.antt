@@ -1,7 +1,8 @@
 use Rattle.std.proofs.Common.{true, inl, inr, ap, ap₂, arith, refl, subst, sym, ◌∙◌}
 use Rattle.d64_image.proofs.Moments.{no_reads}
 use Rattle.d64_image.specs.Images.{Image}
-use Rattle.drive_channels.proofs.Openings.{checked-shown, if-ok, none-done, not-done, opened-by, past, read-by, tells-after, tells-failed, unspelled}
+use Rattle.drive_channels.proofs.Openings.{checked-shown, if-ok, none-done, not-done, opened-by, past, read-by}
+use Rattle.drive_channels.proofs.Openings.{tells-after, tells-failed, unspelled}
 use Rattle.drive_channels.proofs.Wishes.{wish-one}
 use Rattle.drive_channels.proofs.known.Known.open_wish.Goals as goal
 use Rattle.drive_channels.specs.Inside.{IsKnown, channel_of, shown}
@@ -12,71 +13,90 @@ use Rattle.drive_channels.specs.Wishes.{wish_of}
 use Rattle.drive_channels.specs.declared.known.Known.{Known}
 use Rattle.drive_channels.specs.declared.status.Status.TheVariants as statuses
 
-pub returns-then-not-branch-clause-row : goal.returns-then-not-branch-clause-row
-returns-then-not-branch-clause-row g c = λ s.
-    let img = g.D.Sectors.history.image in
-    let refused = c.in_ok-passes_check.ensures.refused c.if-not-branch.true in
-    past (shown (img c.args.disk.now) c.args.self.now s) c.args.channel c.args.text.now _ (wish_of c.in-Some.wish)
-    c.requires.low c.requires.high c.requires.closed c.in-Some.ensures
-    (inl ((refused.1, refused.2), ap₂ (λ (i : Image) (k : Known). shown i k statuses.DirError) c.passes_check.ensures.reads.image refused.0))
+pub returns-then-not-branch : goal.returns-then-not-branch
+returns-then-not-branch g c =
+    record {
+      row = λ s.
+          let img = g.D.Sectors.history.image in
+          let refused = c.in_ok-passes_check.ensures.refused c.if-not-branch.true in
+          past (shown (img c.args.disk.now) c.args.self.now s) c.args.channel c.args.text.now _ (wish_of c.in-Some.wish)
+          c.requires.channel.low c.requires.channel.high c.requires.closed c.in-Some.ensures
+          (inl (
+            (refused.1, refused.2),
+            ap₂ (λ (i : Image) (k : Known). shown i k statuses.DirError)
+                c.passes_check.ensures.reads.image refused.0,
+          ));
+      known =
+          subst (λ (i : Image). IsKnown i c.passes_check.new.self) (sym c.passes_check.ensures.reads.image)
+          (subst (IsKnown (g.D.Sectors.history.image c.args.disk.now))
+          (sym (c.in_ok-passes_check.ensures.refused c.if-not-branch.true).0) c.requires.known);
+      opened = read-by g.D.Sectors.history _ _ 2115 c.args.text.now _ _ _ (omega arith) c.passes_check.ensures.reads;
+      failures = c.in_ok-passes_check.ensures.failures;
+    }
 
-pub returns-clause-row : goal.returns-clause-row
-returns-clause-row g c =
+pub returns : goal.returns
+returns g c =
     let img = g.D.Sectors.history.image in
     let passed = c.in_ok-passes_check.ensures.passed c.if-not-branch.false in
-    if-ok _ _ c.open_file.result (λ status row s.
-    past (shown (img c.args.disk.now) c.args.self.now s) c.args.channel c.args.text.now (shown (img c.open_file.new.disk) c.open_file.new.self status) (wish_of c.in-Some.wish)
-    c.requires.low c.requires.high c.requires.closed c.in-Some.ensures
-    (inr (
-      (λ h. h.1 (passed.1.remembered passed.0).clean),
-      (λ v is.
-          subst (λ (w : Wish). OpensFile (record (shown (img c.args.disk.now) c.args.self.now s) { checked = true }) c.args.channel w (shown (img c.open_file.new.disk) c.open_file.new.self status))
-          (wish-one c.args.text.now (wish_of c.in-Some.wish) v c.in-Some.ensures is)
-          (subst (λ (x : View). OpensFile x c.args.channel (wish_of c.in-Some.wish) (shown (img c.open_file.new.disk) c.open_file.new.self status))
-          (checked-shown (img c.args.disk.now) (img c.passes_check.new.disk) c.args.self.now c.passes_check.new.self s c.passes_check.ensures.reads.image c.in_ok-passes_check.ensures.last passed.0)
-          (row s))),
-    )))
-    c.open_file.ensures.row
+    record {
+      row =
+          if-ok _ _ c.open_file.result (λ status row s.
+          past (shown (img c.args.disk.now) c.args.self.now s) c.args.channel c.args.text.now
+          (shown (img c.open_file.new.disk) c.open_file.new.self status) (wish_of c.in-Some.wish)
+          c.requires.channel.low c.requires.channel.high c.requires.closed c.in-Some.ensures
+          (inr (
+            (λ h. h.1 (passed.1.remembered passed.0).clean),
+            (λ v is.
+                subst (λ (w : Wish). OpensFile
+                (record (shown (img c.args.disk.now) c.args.self.now s) { checked = true }) c.args.channel w
+                (shown (img c.open_file.new.disk) c.open_file.new.self status))
+                (wish-one c.args.text.now (wish_of c.in-Some.wish) v c.in-Some.ensures is)
+                (subst (λ (x : View). OpensFile x c.args.channel (wish_of c.in-Some.wish)
+                (shown (img c.open_file.new.disk) c.open_file.new.self status))
+                (checked-shown (img c.args.disk.now) (img c.passes_check.new.disk) c.args.self.now
+                c.passes_check.new.self s c.passes_check.ensures.reads.image c.in_ok-passes_check.ensures.last
+                passed.0)
+                (row s))),
+          )))
+          c.open_file.ensures.row;
+      known = c.open_file.ensures.known;
+      opened =
+          opened-by g.D.Sectors.history _ _ _ c.args.text.now (wish_of c.in-Some.wish) _ _ c.open_file.result
+          c.passes_check.ensures.reads
+          ((c.in_ok-passes_check.ensures.passed c.if-not-branch.false).1.remembered
+          (c.in_ok-passes_check.ensures.passed c.if-not-branch.false).0).clean c.in-Some.ensures
+          (λ v is. wish-one c.args.text.now v (wish_of c.in-Some.wish) is c.in-Some.ensures) c.requires.closed
+          c.open_file.ensures.opened;
+      failures = tells-after g.D.Sectors.history _ _ _ c.in_ok-passes_check.ensures.failures c.open_file.result
+          c.open_file.ensures.failures;
+    }
 
-pub returns-clause-opened : goal.returns-clause-opened
-returns-clause-opened g c = opened-by g.D.Sectors.history _ _ _ c.args.text.now (wish_of c.in-Some.wish) _ _ c.open_file.result c.passes_check.ensures.reads
-    ((c.in_ok-passes_check.ensures.passed c.if-not-branch.false).1.remembered (c.in_ok-passes_check.ensures.passed c.if-not-branch.false).0).clean c.in-Some.ensures
-    (λ v is. wish-one c.args.text.now v (wish_of c.in-Some.wish) is c.in-Some.ensures) c.requires.closed c.open_file.ensures.opened
+pub returns-in_default : goal.returns-in_default
+returns-in_default g c =
+    record {
+      row = λ s.
+          let x = shown (g.D.Sectors.history.image c.args.disk.now) c.args.self.now s in
+          unspelled x c.args.channel c.args.text.now _ c.requires.channel.low c.requires.channel.high c.requires.closed
+          c.in_default.ensures refl;
+      known = c.requires.known;
+      opened = read-by g.D.Sectors.history _ _ 0 c.args.text.now _ _ _ (omega arith) (no_reads g.D.Sectors.history _);
+      failures = refl;
+    }
 
-pub returns-in_default-clause-known : goal.returns-in_default-clause-known
-returns-in_default-clause-known g c = c.requires.known
-
-pub returns-in_default-clause-opened : goal.returns-in_default-clause-opened
-returns-in_default-clause-opened g c = read-by g.D.Sectors.history _ _ 0 c.args.text.now _ _ _ (omega arith) (no_reads g.D.Sectors.history _)
-
-pub returns-in_default-clause-failures : goal.returns-in_default-clause-failures
-returns-in_default-clause-failures g c = refl
-
-pub returns-in_err-passes_check-clause-row : goal.returns-in_err-passes_check-clause-row
-returns-in_err-passes_check-clause-row g c = none-done c.from_residual.result _ c.from_residual.ensures.1 _
-
-pub returns-in_err-passes_check-clause-known : goal.returns-in_err-passes_check-clause-known
-returns-in_err-passes_check-clause-known g c = not-done c.from_residual.result _ c.from_residual.ensures.1 _
-
-pub returns-in_err-passes_check-clause-opened : goal.returns-in_err-passes_check-clause-opened
-returns-in_err-passes_check-clause-opened g c = read-by g.D.Sectors.history _ _ 2115 c.args.text.now _ _ c.from_residual.result (omega arith) c.passes_check.ensures.reads
-
-pub returns-in_err-passes_check-clause-failures : goal.returns-in_err-passes_check-clause-failures
-returns-in_err-passes_check-clause-failures g c = tells-failed g.D.Sectors.history _ _ c.from_residual.result _ c.from_residual.ensures.1 c.in_err-passes_check.ensures.failures
-
-pub returns-then-not-branch-clause-known : goal.returns-then-not-branch-clause-known
-returns-then-not-branch-clause-known g c =
-    subst (λ (i : Image). IsKnown i c.passes_check.new.self) (sym c.passes_check.ensures.reads.image)
-    (subst (IsKnown (g.D.Sectors.history.image c.args.disk.now)) (sym (c.in_ok-passes_check.ensures.refused c.if-not-branch.true).0) c.requires.known)
-
-pub returns-then-not-branch-clause-opened : goal.returns-then-not-branch-clause-opened
-returns-then-not-branch-clause-opened g c = read-by g.D.Sectors.history _ _ 2115 c.args.text.now _ _ _ (omega arith) c.passes_check.ensures.reads
-
-pub returns-then-not-branch-clause-failures : goal.returns-then-not-branch-clause-failures
-returns-then-not-branch-clause-failures g c = c.in_ok-passes_check.ensures.failures
+pub returns-in_err-passes_check : goal.returns-in_err-passes_check
+returns-in_err-passes_check g c =
+    record {
+      row = none-done c.from_residual.result _ c.from_residual.ensures.1 _;
+      known = not-done c.from_residual.result _ c.from_residual.ensures.1 _;
+      opened = read-by g.D.Sectors.history _ _ 2115 c.args.text.now _ _ c.from_residual.result (omega arith)
+          c.passes_check.ensures.reads;
+      failures = tells-failed g.D.Sectors.history _ _ c.from_residual.result _ c.from_residual.ensures.1
+          c.in_err-passes_check.ensures.failures;
+    }
 
 pub open_file-requires-clause-known : goal.open_file-requires-clause-known
-open_file-requires-clause-known g c = subst (λ (i : Image). IsKnown i c.passes_check.new.self) (sym c.passes_check.ensures.reads.image) (c.in_ok-passes_check.ensures.passed c.if-not-branch.false).1
+open_file-requires-clause-known g c = subst (λ (i : Image). IsKnown i c.passes_check.new.self)
+    (sym c.passes_check.ensures.reads.image) (c.in_ok-passes_check.ensures.passed c.if-not-branch.false).1
 
 pub open_file-requires-clause-checked : goal.open_file-requires-clause-checked
 open_file-requires-clause-checked g c = (c.in_ok-passes_check.ensures.passed c.if-not-branch.false).0
@@ -84,22 +104,12 @@ open_file-requires-clause-checked g c = (c.in_ok-passes_check.ensures.passed c.i
 pub open_file-requires-clause-closed : goal.open_file-requires-clause-closed
 open_file-requires-clause-closed g c = ap channel_of c.in_ok-passes_check.ensures.last ∙ c.requires.closed
 
-pub open_file-requires-clause-low : goal.open_file-requires-clause-low
-open_file-requires-clause-low g c = c.requires.low
-
-pub open_file-requires-clause-high : goal.open_file-requires-clause-high
-open_file-requires-clause-high g c = c.requires.high
+pub open_file-requires-clause-channel : goal.open_file-requires-clause-channel
+open_file-requires-clause-channel g c =
+    record {
+      low = c.requires.channel.low;
+      high = c.requires.channel.high;
+    }
 
 pub open_file-requires-clause-wish : goal.open_file-requires-clause-wish
 open_file-requires-clause-wish g c = (c.args.text.now, c.in-Some.ensures)
-
-pub returns-clause-known : goal.returns-clause-known
-returns-clause-known g c = c.open_file.ensures.known
-
-pub returns-clause-failures : goal.returns-clause-failures
-returns-clause-failures g c = tells-after g.D.Sectors.history _ _ _ c.in_ok-passes_check.ensures.failures c.open_file.result c.open_file.ensures.failures
-
-pub returns-in_default-clause-row : goal.returns-in_default-clause-row
-returns-in_default-clause-row g c = λ s.
-    let x = shown (g.D.Sectors.history.image c.args.disk.now) c.args.self.now s in
-    unspelled x c.args.channel c.args.text.now _ c.requires.low c.requires.high c.requires.closed c.in_default.ensures refl
