@@ -4,6 +4,7 @@ pub mod Exact
 pub mod Made
 pub mod Marked
 pub mod Mended
+pub mod Mending
 pub mod Open
 pub mod Owners
 pub mod Recounted

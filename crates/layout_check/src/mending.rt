@@ -3,14 +3,14 @@ ghost use Rattle.std.specs.Prelude.{◌≡◌, ◌≤◌, ◌∷◌, [], Contain
 ghost use Rattle.d64_image.specs.History.{Changes, OldOr, WritesNothing};
 ghost use Rattle.d64_image.specs.Images.{put, sector};
 ghost use Rattle.disk_layout.specs.Free.{IsWithoutFree};
-ghost use Rattle.disk_layout.specs.InOrder.{AreMade, GoesOver, WritesOther};
 ghost use Rattle.layout_check.specs.Made.{IsMadeMap, IsMadeTrack};
 ghost use Rattle.disk_layout.specs.Directory.{map_place};
 ghost use Rattle.disk_layout.specs.Layout.{File, IsLayout, IsSound, Layout, is_rel};
 ghost use Rattle.layout_check.specs.Entry.{IsEntry};
 ghost use Rattle.layout_check.specs.Exact.{AreExactSides, HasMap, IsFiled};
-ghost use Rattle.layout_check.specs.RepairOrder.{ClearsSpare, IsRight, sides_of};
-ghost use Rattle.layout_check.specs.Mended.{AreExactFor, IsExactFor, IsPartsOf, KeepsExact, KeepsLayouts, Mends, SameMap, TellsDevice};
+ghost use Rattle.layout_check.specs.RepairOrder.{ClearsSpare, sides_of};
+ghost use Rattle.layout_check.specs.Mended.{AreExactFor, IsExactFor, IsPartsOf, KeepsExact, SameMap};
+ghost use Rattle.layout_check.specs.Mending.{MendsDisk, PutsRight};
 ghost use Rattle.layout_check.specs.Survey.{IsToldBy};
 
 use crate::maps::check_bits;
@@ -56,15 +56,10 @@ fn map_of(old: &[u8; 256], owners: &Owners) -> [u8; 256]
 pub(crate) fn mend_map<D: Sectors>(disk: &mut D, found: &Survey) -> Result<(), Fault>
     requires { IsToldBy (D.history.image disk.old) found.now }
     ensures map { OnOk result (HasMap (D.history.image disk.new)) }
-    ensures layouts { OnOk result (KeepsLayouts (D.history.image disk.old) (D.history.image disk.new)) }
-    ensures failures { TellsDevice D.history disk.old disk.new result }
-    ensures mends { Mends D.history disk.old disk.new 1 }
+    ensures mending { MendsDisk D.history disk.old disk.new 1 result }
     // the map is written once at most, and only where it is wrong, also where the device fails
-    ensures over { (l : Layout) → IsLayout (D.history.image disk.old) l
-        → GoesOver D.history disk.old disk.new (IsRight l) (map_place ∷ []) }
-    ensures made { OnOk result
-        ((l : Layout) → IsLayout (D.history.image disk.old) l
-        → AreMade (IsRight l) (map_place ∷ []) (D.history.image disk.old) (D.history.image disk.new)) }
+    ensures right { (l : Layout) → IsLayout (D.history.image disk.old) l
+        → PutsRight D.history disk.old disk.new l (map_place ∷ []) result }
     // in a map that is written, the bits past the tracks' last sectors are 0
     ensures spare { ClearsSpare (D.history.image disk.old) (D.history.image disk.new) }
     // a map that is right is not written
@@ -91,16 +86,11 @@ fn mend_sides<D: Sectors>(
     requires few { length sides.now ≤ 6 }
     ensures exact { OnOk result (AreExactSides (D.history.image disk.new) slot.now blocks.now sides.now) }
     ensures others { OnOk result (KeepsExact (D.history.image disk.old) (D.history.image disk.new)) }
-    ensures layouts { OnOk result (KeepsLayouts (D.history.image disk.old) (D.history.image disk.new)) }
     ensures map { OnOk result (SameMap (D.history.image disk.old) (D.history.image disk.new)) }
-    ensures failures { TellsDevice D.history disk.old disk.new result }
-    ensures mends { Mends D.history disk.old disk.new 6 }
+    ensures mending { MendsDisk D.history disk.old disk.new 6 result }
     // side sector by side sector, each written once where it isn't right
-    ensures over { (l : Layout) → IsLayout (D.history.image disk.old) l
-        → GoesOver D.history disk.old disk.new (IsRight l) sides.now }
-    ensures made { OnOk result
-        ((l : Layout) → IsLayout (D.history.image disk.old) l
-        → AreMade (IsRight l) sides.now (D.history.image disk.old) (D.history.image disk.new)) }
+    ensures right { (l : Layout) → IsLayout (D.history.image disk.old) l
+        → PutsRight D.history disk.old disk.new l sides.now result }
     // side sectors that are right are not written
     ensures quiet { AreExactSides (D.history.image disk.old) slot.now blocks.now sides.now
         → WritesNothing D.history disk.old disk.new }
@@ -123,16 +113,11 @@ fn mend_relative<D: Sectors>(disk: &mut D, slot: &Slot, parts: &mut Parts) -> Re
     requires rel { IsTrue (is_rel slot.now) }
     ensures exact { OnOk result (IsExactFor (D.history.image disk.old) (D.history.image disk.new) slot.now) }
     ensures others { OnOk result (KeepsExact (D.history.image disk.old) (D.history.image disk.new)) }
-    ensures layouts { OnOk result (KeepsLayouts (D.history.image disk.old) (D.history.image disk.new)) }
     ensures map { OnOk result (SameMap (D.history.image disk.old) (D.history.image disk.new)) }
-    ensures failures { TellsDevice D.history disk.old disk.new result }
-    ensures mends { Mends D.history disk.old disk.new 6 }
+    ensures mending { MendsDisk D.history disk.old disk.new 6 result }
     // side sector by side sector of the entry's file, each written once where it isn't right
-    ensures over { (l : Layout) (f : File) → IsLayout (D.history.image disk.old) l → Contains l.files f → f.slot ≡ slot.now
-        → GoesOver D.history disk.old disk.new (IsRight l) f.sides }
-    ensures made { OnOk result
-        ((l : Layout) (f : File) → IsLayout (D.history.image disk.old) l → Contains l.files f → f.slot ≡ slot.now
-        → AreMade (IsRight l) f.sides (D.history.image disk.old) (D.history.image disk.new)) }
+    ensures right { (l : Layout) (f : File) → IsLayout (D.history.image disk.old) l → Contains l.files f → f.slot ≡ slot.now
+        → PutsRight D.history disk.old disk.new l f.sides result }
     // side sectors that are right are not written
     ensures quiet { IsExactFor (D.history.image disk.old) (D.history.image disk.old) slot.now
         → WritesNothing D.history disk.old disk.new }
@@ -148,16 +133,11 @@ fn mend_relative<D: Sectors>(disk: &mut D, slot: &Slot, parts: &mut Parts) -> Re
 pub(crate) fn mend_entries<D: Sectors>(disk: &mut D) -> Result<(), Fault>
     requires { IsSound (D.history.image disk.old) }
     ensures exact { OnOk result (AreExactFor (D.history.image disk.old) (D.history.image disk.new)) }
-    ensures layouts { OnOk result (KeepsLayouts (D.history.image disk.old) (D.history.image disk.new)) }
     ensures map { OnOk result (SameMap (D.history.image disk.old) (D.history.image disk.new)) }
-    ensures failures { TellsDevice D.history disk.old disk.new result }
-    ensures mends { Mends D.history disk.old disk.new 864 }
+    ensures mending { MendsDisk D.history disk.old disk.new 864 result }
     // side sector by side sector in the order of the directory, each written once where it isn't right
-    ensures over { (l : Layout) → IsLayout (D.history.image disk.old) l
-        → GoesOver D.history disk.old disk.new (IsRight l) (sides_of l.files) }
-    ensures made { OnOk result
-        ((l : Layout) → IsLayout (D.history.image disk.old) l
-        → AreMade (IsRight l) (sides_of l.files) (D.history.image disk.old) (D.history.image disk.new)) }
+    ensures right { (l : Layout) → IsLayout (D.history.image disk.old) l
+        → PutsRight D.history disk.old disk.new l (sides_of l.files) result }
     // side sectors that are right are not written
     ensures quiet { AreExactFor (D.history.image disk.old) (D.history.image disk.old)
         → WritesNothing D.history disk.old disk.new }

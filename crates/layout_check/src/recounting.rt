@@ -4,14 +4,14 @@ ghost use Rattle.d64_image.specs.History.{Changes, WritesNothing};
 ghost use Rattle.d64_image.specs.Images.{sector};
 ghost use Rattle.disk_layout.specs.Directory.{IsDirectory, slot_in};
 ghost use Rattle.disk_layout.specs.Entries.{IsRecounted};
-ghost use Rattle.disk_layout.specs.InOrder.{AreMade, GoesOver, WritesOther};
+ghost use Rattle.disk_layout.specs.InOrder.{WritesOther};
 ghost use Rattle.disk_layout.specs.Layout.{IsLayout, IsSound, Layout, is_rel};
 ghost use Rattle.disk_layout.specs.declared.slot.Slot.{Slot};
 ghost use Rattle.d64_image.specs.declared.place.Place.{Place};
 ghost use Rattle.layout_check.specs.Calls.{Passes, TellsUnsound};
 ghost use Rattle.layout_check.specs.Entry.{IsEntry};
-ghost use Rattle.layout_check.specs.RepairOrder.{IsRight};
 ghost use Rattle.layout_check.specs.Mended.{TellsDevice};
+ghost use Rattle.layout_check.specs.Mending.{PutsRight};
 ghost use Rattle.layout_check.specs.Recounted.{AreCounted, AreRightIn, IsCountOf, IsCountedAs, IsInDirectory, IsRightAt, KeepsButCounts, OldOrMended};
 
 use crate::parts::Parts;
@@ -132,11 +132,8 @@ pub(crate) fn mend_counts<D: Sectors>(disk: &mut D) -> Result<(), Fault>
     // every image held, the last one too, has the same files
     ensures moments { Changes D.history disk.old disk.new 18 (KeepsButCounts (D.history.image disk.old)) }
     // a sector is written where a count in it is wrong, once, in the order of the directory
-    ensures over { (l : Layout) → IsLayout (D.history.image disk.old) l
-        → GoesOver D.history disk.old disk.new (IsRight l) l.directory }
-    ensures made { OnOk result
-        ((l : Layout) → IsLayout (D.history.image disk.old) l
-        → AreMade (IsRight l) l.directory (D.history.image disk.old) (D.history.image disk.new)) }
+    ensures right { (l : Layout) → IsLayout (D.history.image disk.old) l
+        → PutsRight D.history disk.old disk.new l l.directory result }
     ensures quiet { AreCounted (D.history.image disk.old) → WritesNothing D.history disk.old disk.new }
     ensures failures { TellsDevice D.history disk.old disk.new result }
 {

@@ -62,14 +62,14 @@ loop-slot-preserved g c =
           let done = w.in_ok-mend_relative.ensures in
           let d = w.mend_relative.new.disk in
           record {
-            layouts = rw w.disk-is (λ l h. done.layouts l (old.layouts l h));
+            layouts = rw w.disk-is (λ l h. done.mending.layouts l (old.layouts l h));
             map = rw w.disk-is (done.map ∙ old.map);
             exact = rw w.disk-is (below_more _ _ (λ k low s there rel. exact-kept _ _ _ s old.layouts done.others (old.exact k low s there rel))
                 (exact-read _ _ items c.loop-slot.slot-index c.slot-item.result c.loop-slot-test.true c.slot-item.is (λ _. exact-made _ _ _ c.slot-item.result old.layouts done.exact)));
-            mends = rw w.disk-is (mends_then S a b d _ 6 _ (omega arith) old.mends done.mends);
-            over = rw w.disk-is (λ l h. let (f, there, slot) = file l h in file_over S a l h n f there b d (old.made l h) (old.over l h) (done.over l f (old.layouts l h) (get-contains l.files n f there) slot));
-            made = rw w.disk-is (λ l h. let (f, there, slot) = file l h in file_made S a l h n f there b d (old.made l h) (done.made l f (old.layouts l h) (get-contains l.files n f there) slot));
-            failures = rw w.disk-is (done.failures ∙ old.failures);
+            mends = rw w.disk-is (mends_then S a b d _ 6 _ (omega arith) old.mends done.mending.mends);
+            over = rw w.disk-is (λ l h. let (f, there, slot) = file l h in file_over S a l h n f there b d (old.made l h) (old.over l h) (done.right l f (old.layouts l h) (get-contains l.files n f there) slot).over);
+            made = rw w.disk-is (λ l h. let (f, there, slot) = file l h in file_made S a l h n f there b d (old.made l h) (done.right l f (old.layouts l h) (get-contains l.files n f there) slot).made);
+            failures = rw w.disk-is (done.mending.failures ∙ old.failures);
             quiet = rw w.disk-is (λ exact. let so_far = old.quiet exact in no_write_then S a b d so_far (done.quiet (exact-same _ _ c.slot-item.result so_far.image exact)));
           }
       | else-is_relative w ↦ record {
@@ -91,13 +91,17 @@ returns-in_err-read_directory g c =
     let p = err_from_is_err_and c.from_residual.result c.from_residual.ensures.1 in
     record {
       exact = rw p.1 tt;
-      layouts = rw p.1 tt;
+      mending = record {
+        layouts = rw p.1 tt;
+        mends = mends_read S c.args.disk.now c.read_directory.new.disk 18 864 c.in_err-read_directory.ensures.reads;
+        failures = rw (p.1, p.2) (sound-device S (Unit {0}) c.args.disk.now c.read_directory.new.disk 738 _ c.requires
+            (directory-tells S (Unit {0}) c.args.disk.now c.read_directory.new.disk _ c.in_err-read_directory.ensures.reads c.in_err-read_directory.ensures.failures c.in_err-read_directory.ensures.err));
+      };
       map = rw p.1 tt;
-      failures = rw (p.1, p.2) (sound-device S (Unit {0}) c.args.disk.now c.read_directory.new.disk 738 _ c.requires
-          (directory-tells S (Unit {0}) c.args.disk.now c.read_directory.new.disk _ c.in_err-read_directory.ensures.reads c.in_err-read_directory.ensures.failures c.in_err-read_directory.ensures.err));
-      mends = mends_read S c.args.disk.now c.read_directory.new.disk 18 864 c.in_err-read_directory.ensures.reads;
-      over = λ l h. over_none S (IsRight l) (sides_of l.files) c.args.disk.now c.read_directory.new.disk 18 c.in_err-read_directory.ensures.reads;
-      made = rw p.1 tt;
+      right = λ l h. record {
+        over = over_none S (IsRight l) (sides_of l.files) c.args.disk.now c.read_directory.new.disk 18 c.in_err-read_directory.ensures.reads;
+        made = rw p.1 tt;
+      };
       quiet = λ exact. reads_no_write S c.args.disk.now c.read_directory.new.disk 18 c.in_err-read_directory.ensures.reads;
     }
 
@@ -107,19 +111,22 @@ returns-in_err-mend_relative g c =
     let p = err_from_is_err_and c.from_residual-in_err-mend_relative.result c.from_residual-in_err-mend_relative.ensures.1 in
     record {
       exact = rw p.1 tt;
-      layouts = rw p.1 tt;
+      mending = record {
+        layouts = rw p.1 tt;
+        mends = mends_then S c.args.disk.now c.loop-slot.disk c.mend_relative.new.disk _ 6 864 (omega (arith, c.loop-slot-test.true, c.as_slice-slot-items.ensures.fits)) c.loop-slot.invariant.mends c.in_err-mend_relative.ensures.mending.mends;
+        failures = rw (p.1, p.2) (device_later S (Unit {0}) c.args.disk.now c.loop-slot.disk c.mend_relative.new.disk (Err _) c.loop-slot.invariant.failures c.in_err-mend_relative.ensures.mending.failures);
+      };
       map = rw p.1 tt;
-      failures = rw (p.1, p.2) (device_later S (Unit {0}) c.args.disk.now c.loop-slot.disk c.mend_relative.new.disk (Err _) c.loop-slot.invariant.failures c.in_err-mend_relative.ensures.failures);
-      mends = mends_then S c.args.disk.now c.loop-slot.disk c.mend_relative.new.disk _ 6 864 (omega (arith, c.loop-slot-test.true, c.as_slice-slot-items.ensures.fits)) c.loop-slot.invariant.mends c.in_err-mend_relative.ensures.mends;
-      over = λ l h.
-          let n = c.loop-slot.slot-index in
-          let d = c.in_ok-read_directory.ensures.ok in
-          let items = c.as_slice-slot-items.result.now in
-          let old = c.loop-slot.invariant in
-          let (f, there, slot) = file-at _ l d.0 items n c.slot-item.result h (listed-as _ d.0 c.read_directory.new.slots.items items c.as_slice-slot-items.ensures.value d.1) c.loop-slot-test.true c.slot-item.is in
-          let here = c.in_err-mend_relative.ensures.over l f (old.layouts l h) (get-contains l.files n f there) slot in
-          over_files S c.args.disk.now c.mend_relative.new.disk (n + 1) (IsRight l) l.files (file_over S c.args.disk.now l h n f there c.loop-slot.disk c.mend_relative.new.disk (old.made l h) (old.over l h) here);
-      made = rw p.1 tt;
+      right = λ l h. record {
+        over = let n = c.loop-slot.slot-index in
+            let d = c.in_ok-read_directory.ensures.ok in
+            let items = c.as_slice-slot-items.result.now in
+            let old = c.loop-slot.invariant in
+            let (f, there, slot) = file-at _ l d.0 items n c.slot-item.result h (listed-as _ d.0 c.read_directory.new.slots.items items c.as_slice-slot-items.ensures.value d.1) c.loop-slot-test.true c.slot-item.is in
+            let here = (c.in_err-mend_relative.ensures.right l f (old.layouts l h) (get-contains l.files n f there) slot).over in
+            over_files S c.args.disk.now c.mend_relative.new.disk (n + 1) (IsRight l) l.files (file_over S c.args.disk.now l h n f there c.loop-slot.disk c.mend_relative.new.disk (old.made l h) (old.over l h) here);
+        made = rw p.1 tt;
+      };
       quiet = λ exact.
           let so_far = c.loop-slot.invariant.quiet exact in
           no_write_then S c.args.disk.now c.loop-slot.disk c.mend_relative.new.disk so_far (c.in_err-mend_relative.ensures.quiet (exact-same _ _ c.slot-item.result so_far.image exact));
@@ -131,15 +138,18 @@ returns g c =
     record {
       exact = let d = c.in_ok-read_directory.ensures.ok in
           exact-entries _ _ d.0 c.as_slice-slot-items.result.now c.loop-slot.slot-index (listed-as _ d.0 c.read_directory.new.slots.items c.as_slice-slot-items.result.now c.as_slice-slot-items.ensures.value d.1) c.loop-slot-test.false c.loop-slot.invariant.exact;
-      layouts = c.loop-slot.invariant.layouts;
+      mending = record {
+        layouts = c.loop-slot.invariant.layouts;
+        mends = mends_weaker S c.args.disk.now c.loop-slot.disk _ 864 (omega (arith, c.loop-slot.auto, c.as_slice-slot-items.ensures.fits)) c.loop-slot.invariant.mends;
+        failures = c.loop-slot.invariant.failures;
+      };
       map = c.loop-slot.invariant.map;
-      failures = c.loop-slot.invariant.failures;
-      mends = mends_weaker S c.args.disk.now c.loop-slot.disk _ 864 (omega (arith, c.loop-slot.auto, c.as_slice-slot-items.ensures.fits)) c.loop-slot.invariant.mends;
-      over = λ l h. over_files S c.args.disk.now c.loop-slot.disk c.loop-slot.slot-index (IsRight l) l.files (c.loop-slot.invariant.over l h);
-      made = λ l h.
-          let d = c.in_ok-read_directory.ensures.ok in
-          let items = c.as_slice-slot-items.result.now in
-          let P : List Place → Type 0 = λ xs. AreMade (IsRight l) xs (S.image c.args.disk.now) (S.image c.loop-slot.disk) in
-          subst P (sides-all _ l d.0 items c.loop-slot.slot-index h (listed-as _ d.0 c.read_directory.new.slots.items items c.as_slice-slot-items.ensures.value d.1) c.loop-slot-test.false) (c.loop-slot.invariant.made l h);
+      right = λ l h. record {
+        over = over_files S c.args.disk.now c.loop-slot.disk c.loop-slot.slot-index (IsRight l) l.files (c.loop-slot.invariant.over l h);
+        made = let d = c.in_ok-read_directory.ensures.ok in
+            let items = c.as_slice-slot-items.result.now in
+            let P : List Place → Type 0 = λ xs. AreMade (IsRight l) xs (S.image c.args.disk.now) (S.image c.loop-slot.disk) in
+            subst P (sides-all _ l d.0 items c.loop-slot.slot-index h (listed-as _ d.0 c.read_directory.new.slots.items items c.as_slice-slot-items.ensures.value d.1) c.loop-slot-test.false) (c.loop-slot.invariant.made l h);
+      };
       quiet = c.loop-slot.invariant.quiet;
     }

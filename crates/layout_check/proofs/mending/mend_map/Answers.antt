@@ -20,29 +20,14 @@ use Rattle.layout_check.specs.Made.{HasNoSpare}
 use Rattle.layout_check.specs.Mended.{KeepsLayouts}
 use Rattle.layout_check.proofs.mending.mend_map.Goals as goal
 
-pub returns-in_err-read_sector-clause-failures : goal.returns-in_err-read_sector-clause-failures
-returns-in_err-read_sector-clause-failures g c =
-    let S = g.D.Sectors.history in
-    let p = err_from_is_err_and c.from_residual.result c.from_residual.ensures.1 in
-    rw (p.1, p.2) (device_told S (Unit {0}) c.args.disk.now c.read_sector.new.disk c.map_place.result _ c.in_err-read_sector.ensures.told c.in_err-read_sector.ensures.failures c.in_err-read_sector.ensures.failed)
-
 pub returns-in_err-read_sector-clause-quiet : goal.returns-in_err-read_sector-clause-quiet
 returns-in_err-read_sector-clause-quiet g c has = reads_no_write g.D.Sectors.history c.args.disk.now c.read_sector.new.disk 1 c.in_err-read_sector.ensures.reads
-
-pub returns-in_err-read_sector-clause-mends : goal.returns-in_err-read_sector-clause-mends
-returns-in_err-read_sector-clause-mends g c = mends_read g.D.Sectors.history c.args.disk.now c.read_sector.new.disk 1 1 c.in_err-read_sector.ensures.reads
 
 pub returns-then-is_ok-clause-map : goal.returns-then-is_ok-clause-map
 returns-then-is_ok-clause-map g c =
     let same = c.in_ok-read_sector.ensures.reads.image in
     let e = c.in_ok-read_sector.ensures.sector ∙ ap (λ (p : Place). sector (g.D.Sectors.history.image c.args.disk.now) p) c.map_place.ensures ∙ ap (λ (i : Image). sector i map_place) (sym same) in
     map-right _ c.args.found.now c.read_sector.new.to (told-at _ _ c.args.found.now same c.requires) e (rw (← c.owners.ensures) (ok-holds c.check_bits.result _ (sym c.is_ok.ensures.value ∙ c.if-is_ok.true) c.check_bits.ensures.ok))
-
-pub returns-then-is_ok-clause-layouts : goal.returns-then-is_ok-clause-layouts
-returns-then-is_ok-clause-layouts g c l h = let P : Image → Type 0 = λ i. IsLayout i l in subst P (sym c.in_ok-read_sector.ensures.reads.image) h
-
-pub returns-then-is_ok-clause-mends : goal.returns-then-is_ok-clause-mends
-returns-then-is_ok-clause-mends g c = mends_read g.D.Sectors.history c.args.disk.now c.read_sector.new.disk 1 1 c.in_ok-read_sector.ensures.reads
 
 pub returns-then-is_ok-clause-quiet : goal.returns-then-is_ok-clause-quiet
 returns-then-is_ok-clause-quiet g c has = reads_no_write g.D.Sectors.history c.args.disk.now c.read_sector.new.disk 1 c.in_ok-read_sector.ensures.reads
@@ -51,14 +36,42 @@ pub write_other-requires : goal.write_other-requires
 write_other-requires g c =
     c.in_ok-read_sector.ensures.sector ∙ ap (λ (i : Image). sector i c.map_place.result) (sym c.in_ok-read_sector.ensures.reads.image) ∙ ap (λ (p : Place). sector (g.D.Sectors.history.image c.read_sector.new.disk) p) (c.map_place.ensures ∙ sym c.map_place-2.ensures)
 
-pub returns-in_err-read_sector-clause-over : goal.returns-in_err-read_sector-clause-over
-returns-in_err-read_sector-clause-over g c l is = over_none g.D.Sectors.history (IsRight l) (map_place ∷ []) c.args.disk.now c.read_sector.new.disk 1 c.in_err-read_sector.ensures.reads
+pub returns-in_err-read_sector-clause-mending : goal.returns-in_err-read_sector-clause-mending
+returns-in_err-read_sector-clause-mending g c =
+    let S = g.D.Sectors.history in
+    let p = err_from_is_err_and c.from_residual.result c.from_residual.ensures.1 in
+    let read = c.in_err-read_sector.ensures in
+    record {
+      layouts = rw p.1 tt;
+      mends = mends_read S c.args.disk.now c.read_sector.new.disk 1 1 read.reads;
+      failures = rw (p.1, p.2)
+          (device_told S (Unit {0}) c.args.disk.now c.read_sector.new.disk c.map_place.result _ read.told read.failures read.failed);
+    }
 
-pub returns-then-is_ok-clause-over : goal.returns-then-is_ok-clause-over
-returns-then-is_ok-clause-over g c l is = over_none g.D.Sectors.history (IsRight l) (map_place ∷ []) c.args.disk.now c.read_sector.new.disk 1 c.in_ok-read_sector.ensures.reads
+pub returns-in_err-read_sector-clause-right : goal.returns-in_err-read_sector-clause-right
+returns-in_err-read_sector-clause-right g c l is =
+    let p = err_from_is_err_and c.from_residual.result c.from_residual.ensures.1 in
+    record {
+      over = over_none g.D.Sectors.history (IsRight l) (map_place ∷ []) c.args.disk.now c.read_sector.new.disk 1
+          c.in_err-read_sector.ensures.reads;
+      made = rw p.1 tt;
+    }
 
-pub returns-then-is_ok-clause-made : goal.returns-then-is_ok-clause-made
-returns-then-is_ok-clause-made g c l is = made-passed _ _ l c.in_ok-read_sector.ensures.reads.image (returns-then-is_ok-clause-map g c) is
+pub returns-then-is_ok-clause-mending : goal.returns-then-is_ok-clause-mending
+returns-then-is_ok-clause-mending g c =
+    let read = c.in_ok-read_sector.ensures in
+    record {
+      layouts = λ l h. let P : Image → Type 0 = λ i. IsLayout i l in subst P (sym read.reads.image) h;
+      mends = mends_read g.D.Sectors.history c.args.disk.now c.read_sector.new.disk 1 1 read.reads;
+      failures = read.failures;
+    }
+
+pub returns-then-is_ok-clause-right : goal.returns-then-is_ok-clause-right
+returns-then-is_ok-clause-right g c l is = record {
+  over = over_none g.D.Sectors.history (IsRight l) (map_place ∷ []) c.args.disk.now c.read_sector.new.disk 1
+      c.in_ok-read_sector.ensures.reads;
+  made = made-passed _ _ l c.in_ok-read_sector.ensures.reads.image (returns-then-is_ok-clause-map g c) is;
+}
 
 pub returns : goal.returns
 returns g c =
@@ -66,25 +79,28 @@ returns g c =
     record {
       map = let same = c.in_ok-read_sector.ensures.reads.image in
           on_ok c.write_other.result _ _ (λ h. written HasMap _ (S.image c.read_sector.new.disk) c.map_place-2.result c.map_of-wanted.result h c.map_place-2.ensures (map-put (S.image c.read_sector.new.disk) c.args.found.now c.map_of-wanted.result (S.whole c.read_sector.new.disk).size (told-at _ _ c.args.found.now same c.requires) (rw (← c.owners-2.ensures) c.map_of-wanted.ensures.right))) c.write_other.ensures.write.ok;
-      layouts = on_ok c.write_other.result _ _ (λ h. written (KeepsLayouts (S.image c.args.disk.now)) _ (S.image c.read_sector.new.disk) c.map_place-2.result c.map_of-wanted.result h c.map_place-2.ensures (layouts-put (S.image c.args.disk.now) (S.image c.read_sector.new.disk) c.map_of-wanted.result c.in_ok-read_sector.ensures.reads.image)) c.write_other.ensures.write.ok;
-      failures = device_later S (Unit {0}) c.args.disk.now c.read_sector.new.disk c.write_other.new.disk c.write_other.result c.in_ok-read_sector.ensures.failures (write_device S (Unit {0}) c.read_sector.new.disk c.write_other.new.disk c.map_place-2.result c.map_of-wanted.result c.write_other.result c.write_other.ensures.write);
-      mends = let read = c.in_ok-read_sector.ensures.sector ∙ ap (λ (p : Place). sector (S.image c.args.disk.now) p) c.map_place.ensures ∙ ap (λ (i : Image). sector i map_place) (sym c.in_ok-read_sector.ensures.reads.image) in
-          mends_write S c.args.disk.now c.read_sector.new.disk c.write_other.new.disk 1 map_place c.map_of-wanted.result c.in_ok-read_sector.ensures.reads (rw c.map_place-2.ensures at (write_changes S c.read_sector.new.disk c.write_other.new.disk c.map_place-2.result c.map_of-wanted.result _ c.write_other.result c.write_other.ensures.write))
-          (λ i l h. mended-map i l (S.image c.read_sector.new.disk) c.map_of-wanted.result (S.whole c.read_sector.new.disk).size (rw (← read) c.map_of-wanted.ensures.header) h);
-      over = λ l is.
-          let a = c.args.disk.now in
-          let b = c.read_sector.new.disk in
-          let read = c.in_ok-read_sector.ensures.sector ∙ ap (λ (p : Place). sector (S.image a) p) c.map_place.ensures in
-          let wrong = err-holds c.check_bits.result _ (sym c.is_ok.ensures.value ∙ c.if-is_ok.false) c.check_bits.ensures.err in
-          let made = made-written (S.image a) (S.image b) c.args.found.now c.read_sector.new.to c.map_of-wanted.result l (S.whole a).size c.in_ok-read_sector.ensures.reads.image c.requires read (rw (← c.owners.ensures) wrong) (rw (← c.owners-2.ensures) c.map_of-wanted.ensures.right) is in
-          let write = (rw c.map_place-2.ensures at c.write_other.ensures) in
-          over_read_write S a b c.write_other.new.disk 1 c.in_ok-read_sector.ensures.reads map_place c.map_of-wanted.result write.write.held (IsRight l) made write.once;
-      made = let a = c.args.disk.now in
-          let b = c.read_sector.new.disk in
-          let read = c.in_ok-read_sector.ensures.sector ∙ ap (λ (p : Place). sector (S.image a) p) c.map_place.ensures in
-          let wrong = err-holds c.check_bits.result _ (sym c.is_ok.ensures.value ∙ c.if-is_ok.false) c.check_bits.ensures.err in
-          on_ok c.write_other.result _ _ (λ h l is. written (AreMade (IsRight l) (map_place ∷ []) (S.image a)) _ (S.image b) c.map_place-2.result c.map_of-wanted.result h c.map_place-2.ensures
-          (made-written (S.image a) (S.image b) c.args.found.now c.read_sector.new.to c.map_of-wanted.result l (S.whole a).size c.in_ok-read_sector.ensures.reads.image c.requires read (rw (← c.owners.ensures) wrong) (rw (← c.owners-2.ensures) c.map_of-wanted.ensures.right) is)) c.write_other.ensures.write.ok;
+      mending = record {
+        layouts = on_ok c.write_other.result _ _ (λ h. written (KeepsLayouts (S.image c.args.disk.now)) _ (S.image c.read_sector.new.disk) c.map_place-2.result c.map_of-wanted.result h c.map_place-2.ensures (layouts-put (S.image c.args.disk.now) (S.image c.read_sector.new.disk) c.map_of-wanted.result c.in_ok-read_sector.ensures.reads.image)) c.write_other.ensures.write.ok;
+        mends = let read = c.in_ok-read_sector.ensures.sector ∙ ap (λ (p : Place). sector (S.image c.args.disk.now) p) c.map_place.ensures ∙ ap (λ (i : Image). sector i map_place) (sym c.in_ok-read_sector.ensures.reads.image) in
+            mends_write S c.args.disk.now c.read_sector.new.disk c.write_other.new.disk 1 map_place c.map_of-wanted.result c.in_ok-read_sector.ensures.reads (rw c.map_place-2.ensures at (write_changes S c.read_sector.new.disk c.write_other.new.disk c.map_place-2.result c.map_of-wanted.result _ c.write_other.result c.write_other.ensures.write))
+            (λ i l h. mended-map i l (S.image c.read_sector.new.disk) c.map_of-wanted.result (S.whole c.read_sector.new.disk).size (rw (← read) c.map_of-wanted.ensures.header) h);
+        failures = device_later S (Unit {0}) c.args.disk.now c.read_sector.new.disk c.write_other.new.disk c.write_other.result c.in_ok-read_sector.ensures.failures (write_device S (Unit {0}) c.read_sector.new.disk c.write_other.new.disk c.map_place-2.result c.map_of-wanted.result c.write_other.result c.write_other.ensures.write);
+      };
+      right = λ l is. record {
+        over = let a = c.args.disk.now in
+            let b = c.read_sector.new.disk in
+            let read = c.in_ok-read_sector.ensures.sector ∙ ap (λ (p : Place). sector (S.image a) p) c.map_place.ensures in
+            let wrong = err-holds c.check_bits.result _ (sym c.is_ok.ensures.value ∙ c.if-is_ok.false) c.check_bits.ensures.err in
+            let made = made-written (S.image a) (S.image b) c.args.found.now c.read_sector.new.to c.map_of-wanted.result l (S.whole a).size c.in_ok-read_sector.ensures.reads.image c.requires read (rw (← c.owners.ensures) wrong) (rw (← c.owners-2.ensures) c.map_of-wanted.ensures.right) is in
+            let write = (rw c.map_place-2.ensures at c.write_other.ensures) in
+            over_read_write S a b c.write_other.new.disk 1 c.in_ok-read_sector.ensures.reads map_place c.map_of-wanted.result write.write.held (IsRight l) made write.once;
+        made = let a = c.args.disk.now in
+            let b = c.read_sector.new.disk in
+            let read = c.in_ok-read_sector.ensures.sector ∙ ap (λ (p : Place). sector (S.image a) p) c.map_place.ensures in
+            let wrong = err-holds c.check_bits.result _ (sym c.is_ok.ensures.value ∙ c.if-is_ok.false) c.check_bits.ensures.err in
+            on_ok c.write_other.result _ _ (λ h. written (AreMade (IsRight l) (map_place ∷ []) (S.image a)) _ (S.image b) c.map_place-2.result c.map_of-wanted.result h c.map_place-2.ensures
+            (made-written (S.image a) (S.image b) c.args.found.now c.read_sector.new.to c.map_of-wanted.result l (S.whole a).size c.in_ok-read_sector.ensures.reads.image c.requires read (rw (← c.owners.ensures) wrong) (rw (← c.owners-2.ensures) c.map_of-wanted.ensures.right) is)) c.write_other.ensures.write.ok;
+      };
       spare = λ changed track low high.
           let held = (rw c.map_place-2.ensures at c.write_other.ensures.write.held) in
           changed_written S c.args.disk.now c.read_sector.new.disk c.write_other.new.disk 1 c.in_ok-read_sector.ensures.reads map_place c.map_of-wanted.result held (λ x. HasNoSpare x track) (c.map_of-wanted.ensures.spare track low high) changed;

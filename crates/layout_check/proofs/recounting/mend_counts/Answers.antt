@@ -70,8 +70,10 @@ returns-in_err-find_directory g c =
       moments = let (l, h) = c.requires.sound in
           all_moments S c.args.disk.now c.find_directory.new.disk l.directory 0 (omega arith) (λ m is. ap (λ (x : Layout). x.directory) (IsLayout-one (S.image c.args.disk.now) l m h is))
           (first_moments S c.args.disk.now c.find_directory.new.disk l.directory 683 c.in_err-find_directory.ensures.err.reads);
-      over = λ l h. over_none S (IsRight l) l.directory c.args.disk.now c.find_directory.new.disk 683 c.in_err-find_directory.ensures.err.reads;
-      made = rw p.1 tt;
+      right = λ l h. record {
+        over = over_none S (IsRight l) l.directory c.args.disk.now c.find_directory.new.disk 683 c.in_err-find_directory.ensures.err.reads;
+        made = rw p.1 tt;
+      };
       quiet = λ all. reads_no_write S c.args.disk.now c.find_directory.new.disk 683 c.in_err-find_directory.ensures.err.reads;
       failures = rw (p.1, p.2) (sound-device S (Unit {0}) c.args.disk.now c.find_directory.new.disk 683 _ c.requires.sound c.in_err-find_directory.ensures.err);
     }
@@ -88,15 +90,16 @@ returns-in_err-mend_sector g c =
           all_moments S c.args.disk.now c.mend_sector.new.disk items (k + 1) (omega (arith, c.loop-place-test.true, few-of (S.image c.args.disk.now) items c.requires.sound same)) same
           (step_moments S c.args.disk.now c.loop-place.disk c.mend_sector.new.disk items k c.place-item.result
           (get-contains items k c.place-item.result (read-there items k c.place-item.result c.loop-place-test.true c.place-item.is)) c.loop-place.invariant.moments c.in_err-mend_sector.ensures.moments);
-      over = λ l h.
-          let items = c.as_slice-place-items.result.now in
-          let k = c.loop-place.place-index in
-          let old = c.loop-place.invariant in
-          let now = c.in_err-mend_sector.ensures in
-          let same : items ≡ l.directory = c.as_slice-place-items.ensures.value ∙ c.in_ok-find_directory.ensures.directory l.directory _ h.directory in
-          over_directory S c.args.disk.now l h items same c.mend_sector.new.disk (k + 1)
-          (over_step S c.args.disk.now l h items same c.loop-place.disk c.mend_sector.new.disk k c.place-item.result c.loop-place-test.true c.place-item.is old.moments now.moments now.once (old.over l h) (old.made l h));
-      made = rw p.1 tt;
+      right = λ l h. record {
+        over = let items = c.as_slice-place-items.result.now in
+            let k = c.loop-place.place-index in
+            let old = c.loop-place.invariant in
+            let now = c.in_err-mend_sector.ensures in
+            let same : items ≡ l.directory = c.as_slice-place-items.ensures.value ∙ c.in_ok-find_directory.ensures.directory l.directory _ h.directory in
+            over_directory S c.args.disk.now l h items same c.mend_sector.new.disk (k + 1)
+            (over_step S c.args.disk.now l h items same c.loop-place.disk c.mend_sector.new.disk k c.place-item.result c.loop-place-test.true c.place-item.is old.moments now.moments now.once (old.over l h) (old.made l h));
+        made = rw p.1 tt;
+      };
       quiet = step_quiet S c.args.disk.now c.loop-place.disk c.mend_sector.new.disk c.place-item.result c.loop-place.invariant.quiet c.in_err-mend_sector.ensures.quiet;
       failures = rw (p.1, p.2) (device_later S (Unit {0}) c.args.disk.now c.loop-place.disk c.mend_sector.new.disk (Err _) c.loop-place.invariant.failures c.in_err-mend_sector.ensures.failures);
     }
@@ -113,8 +116,10 @@ returns g c =
       moments = let items = c.as_slice-place-items.result.now in
           let same : (l : Layout) → IsLayout (S.image c.args.disk.now) l → items ≡ l.directory = λ l h. c.as_slice-place-items.ensures.value ∙ c.in_ok-find_directory.ensures.directory l.directory _ h.directory in
           all_moments S c.args.disk.now c.loop-place.disk items c.loop-place.place-index (omega (arith, c.loop-place.auto, few-of (S.image c.args.disk.now) items c.requires.sound same)) same c.loop-place.invariant.moments;
-      over = λ l h. over_directory S c.args.disk.now l h c.as_slice-place-items.result.now (c.as_slice-place-items.ensures.value ∙ c.in_ok-find_directory.ensures.directory l.directory _ h.directory) c.loop-place.disk c.loop-place.place-index (c.loop-place.invariant.over l h);
-      made = λ l h. made_directory S c.args.disk.now l h c.as_slice-place-items.result.now (c.as_slice-place-items.ensures.value ∙ c.in_ok-find_directory.ensures.directory l.directory _ h.directory) c.loop-place.disk c.loop-place.place-index (omega (arith, c.loop-place-test.false)) (c.loop-place.invariant.made l h);
+      right = λ l h. record {
+        over = over_directory S c.args.disk.now l h c.as_slice-place-items.result.now (c.as_slice-place-items.ensures.value ∙ c.in_ok-find_directory.ensures.directory l.directory _ h.directory) c.loop-place.disk c.loop-place.place-index (c.loop-place.invariant.over l h);
+        made = made_directory S c.args.disk.now l h c.as_slice-place-items.result.now (c.as_slice-place-items.ensures.value ∙ c.in_ok-find_directory.ensures.directory l.directory _ h.directory) c.loop-place.disk c.loop-place.place-index (omega (arith, c.loop-place-test.false)) (c.loop-place.invariant.made l h);
+      };
       quiet = c.loop-place.invariant.quiet;
       failures = c.loop-place.invariant.failures;
     }
