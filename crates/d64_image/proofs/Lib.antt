@@ -1,5 +1,6 @@
 pub mod Chunks
 pub mod Examples
+pub mod FileRuns
 pub mod Fused
 pub mod Images
 pub mod Mirrored

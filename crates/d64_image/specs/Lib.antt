@@ -1,9 +1,13 @@
 pub mod Calls
 pub mod Faults
+pub mod FileHistories
+pub mod FileMirrors
 pub mod Fuses
 pub mod Geometry
 pub mod History
 pub mod Images
+pub mod Keeps
+pub mod KeptDisks
 pub mod Memory
 pub mod Meters
 pub mod Mirrors

@@ -1,0 +1,106 @@
+//! A disk in memory whose sectors a file keeps.
+ghost use Rattle.std.specs.Prelude.{◌≡◌, true};
+ghost use Rattle.d64_image.specs.Keeps.{Agrees};
+ghost use Rattle.d64_image.specs.Memory.{disk_image};
+ghost use Rattle.std.proofs.Props.{props};
+
+use crate::count::Count;
+use crate::faults::DeviceFault;
+use crate::mem_disk::MemDisk;
+use crate::place::Place;
+use crate::sector_file::SectorFile;
+use crate::sectors::Sectors;
+
+/// A disk in memory, and a file that keeps the same image. Each sector is handed to the file before memory takes it. Where
+/// the file fails, memory stays, and each call fails from then on: whether the file keeps that sector isn't known, and what
+/// came after it would part the two for good.
+#[derive(Drop)]
+pub struct FileMirror<F: SectorFile> {
+    file: F,
+    disk: MemDisk,
+    broken: bool,
+    taken: Count,
+    ghost agrees: { (broken ≡ true → ⊥) → Agrees (F.keeps.kept file) (disk_image disk) } by { Prim.hlevel props },
+}
+
+impl<F: SectorFile> FileMirror<F> {
+    ghost use Rattle.std.specs.Prelude.{◌↔◌};
+    ghost use Rattle.d64_image.specs.FileMirrors.{file_under, is_failed, memory_of, sectors_taken};
+
+    /// A mirror of a disk in a file that keeps the same image, or of which that isn't known. Neither is touched.
+    pub fn new(file: F, disk: MemDisk) -> FileMirror<F>
+        requires agrees { Agrees (F.keeps.kept file) (disk_image disk) }
+        ensures file { file_under result ≡ file }
+        ensures disk { memory_of result ≡ disk }
+        ensures whole { is_failed result → ⊥ }
+        ensures untaken { sectors_taken result ≡ 0 }
+    {
+        FileMirror {
+            file,
+            disk,
+            broken: false,
+            taken: Count::zero(),
+        }
+    }
+
+    /// Whether the file failed.
+    pub fn is_broken(&self) -> bool
+        ensures { result ≡ true ↔ is_failed self.now }
+    {
+        self.broken
+    }
+
+    /// The file, and the disk in memory.
+    pub fn into_inner(self) -> (F, MemDisk)
+        ensures file { result.0 ≡ file_under self }
+        ensures disk { result.1 ≡ memory_of self }
+    {
+        let FileMirror {
+            file,
+            disk,
+            broken: _,
+            taken: _,
+        } = self;
+        (file, disk)
+    }
+}
+
+impl<F: SectorFile> Sectors for FileMirror<F> {
+    ghost use Rattle.std.specs.Prelude.{IsErr, IsOk, OnErr};
+    ghost use Rattle.d64_image.specs.Calls.{ReadsSector, WritesSector};
+    ghost use Rattle.d64_image.specs.Faults.{device_fault};
+    ghost use Rattle.d64_image.specs.FileMirrors.{file_under, is_failed, keeper, memory_of};
+
+    ghost history = { keeper };
+
+    /// Reads memory alone.
+    fn read(&mut self, place: Place, to: &mut [u8; 256]) -> Result<(), DeviceFault>
+        ensures device { ReadsSector keeper self.old self.new place to.new device_fault result }
+        // it fails exactly where it is broken
+        ensures broken { is_failed self.old → IsErr result }
+        ensures whole { (is_failed self.old → ⊥) → IsOk result }
+        ensures file { file_under self.new ≡ file_under self.old }
+    {
+        if self.broken {
+            return Err(DeviceFault);
+        }
+        self.disk.read(place, to)
+    }
+
+    /// Hands the sector to the file, and then to memory. Where the file fails, memory is as before.
+    // In line: a return right behind a call of the system is dear.
+    #[inline(always)]
+    fn write(&mut self, place: Place, from: &[u8; 256]) -> Result<(), DeviceFault>
+        ensures device { WritesSector keeper self.old self.new place from.now device_fault result }
+        // a broken mirror hands nothing over
+        ensures broken { is_failed self.old → IsErr result × (file_under self.new ≡ file_under self.old) }
+        ensures kept { OnErr result (is_failed self.new × (memory_of self.new ≡ memory_of self.old)) }
+    {
+        if self.broken || self.file.keep(place, from).is_err() {
+            self.broken = true;
+            return Err(DeviceFault);
+        }
+        self.taken.add_one();
+        self.disk.write(place, from)
+    }
+}
