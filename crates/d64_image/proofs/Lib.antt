@@ -3,8 +3,8 @@ pub mod Examples
 pub mod FileRuns
 pub mod Fused
 pub mod Images
-pub mod Mirrored
 pub mod Moments
+pub mod Offsets
 pub mod Once
 pub mod OneCalls
 pub mod Places

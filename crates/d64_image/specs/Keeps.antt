@@ -1,5 +1,5 @@
 -- What a file keeps of a disk, where that is known, now and at the moments before; and what keeping a sector promises. Our own.
-use Rattle.std.specs.Prelude.{ℕ, ◌≡◌, ◌<◌, ◌≤◌, ◌⊎◌, Option, Some, None, Result, Ok, Err, OnErr, OnOk, refl}
+use Rattle.std.specs.Prelude.{ℕ, ◌≡◌, ◌<◌, ◌≤◌, ◌+◌, ◌⊎◌, Option, Some, None, Result, Ok, Err, OnErr, OnOk, refl}
 use Rattle.std.proofs.Common.{arith}
 use Rattle.std.proofs.lemmas.Option.{none-some}
 use Rattle.d64_image.specs.Images.{Image, IsImage, Sector, put}
@@ -12,6 +12,8 @@ pub record Keeps (F : Type 0) : Type 1 where
   pub moment : F → ℕ
   -- what it may have kept at some moment from that one on
   pub held : F → ℕ → Image → Type 0
+  -- how many sectors it took
+  pub writes : F → ℕ
   -- how many calls have failed, and the last value of that count, where it is spent
   pub failures : F → ℕ
   pub last : ℕ
@@ -75,18 +77,22 @@ pub record KeepsSector {F T E : Type 0} (K : Keeps F) (old new : F) (p : Place) 
   pub ok : OnOk result (K.kept new ≡ put_kept (K.kept old) p bytes)
   pub err : OnErr result ((K.kept new ≡ K.kept old) ⊎ (K.kept new ≡ put_kept (K.kept old) p bytes))
   pub held : KeptOnly K old new (λ c. (K.kept old ≡ Some c) ⊎ (put_kept (K.kept old) p bytes ≡ Some c))
+  -- a sector is counted at most once, and at Ok alone
+  pub counted : OnOk result (K.writes new ≤ K.writes old + 1)
+  pub uncounted : OnErr result (K.writes new ≡ K.writes old)
   pub failures : TellsFileFailure K old new result
 
 pub none_kept : {c : Image} {A : Type 0} → None ≡ Some c → A
 none_kept {c} e = absurd (none-some c e)
 
--- A file of which nothing is known but that it is the same file, by this relation, and how many of its calls have failed.
-abbrev pub unknown : {F : Type 0} (failures : F → ℕ) (last : ℕ) → ((f : F) → failures f ≤ last) → (same : F → F → Type 0) → ((f : F) → same f f)
+-- A file of which nothing is known but that it is the same file, by this relation, and how many of its calls passed and failed.
+abbrev pub unknown : {F : Type 0} (writes failures : F → ℕ) (last : ℕ) → ((f : F) → failures f ≤ last) → (same : F → F → Type 0) → ((f : F) → same f f)
     → ((a b c : F) → same a b → same b c → same a c) → Keeps F
-unknown failures last up_to_last same itself then = record {
+unknown writes failures last up_to_last same itself then = record {
   kept = λ _. None;
   moment = λ _. 0;
   held = λ _ _ _. ⊥;
+  writes = writes;
   failures = failures;
   last = last;
   whole = λ f c e. none_kept e;

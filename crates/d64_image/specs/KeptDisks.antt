@@ -16,6 +16,7 @@ keeps_device h = record {
   kept = λ f. Some (h.image f.disk);
   moment = λ f. h.moment f.disk;
   held = λ f. h.held f.disk;
+  writes = λ f. h.writes f.disk;
   failures = λ f. h.failures f.disk;
   last = h.last;
   whole = λ f c e. subst IsImage (ap (λ o. kept_or o c) e) (h.whole f.disk);

@@ -1,7 +1,6 @@
 pub mod Calls
 pub mod Faults
-pub mod FileHistories
-pub mod FileMirrors
+pub mod FileDisks
 pub mod Fuses
 pub mod Geometry
 pub mod History
@@ -11,5 +10,6 @@ pub mod KeptDisks
 pub mod Memory
 pub mod Meters
 pub mod Mirrors
+pub mod Offsets
 pub mod OneFaults
 pub mod Places

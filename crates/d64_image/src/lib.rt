@@ -3,7 +3,6 @@
 
 mod count;
 mod faults;
-mod file_mirror;
 mod fuse;
 mod kept_disk;
 mod mem_disk;
@@ -15,7 +14,6 @@ mod sector_file;
 mod sectors;
 
 pub use faults::{DeviceFault, ImageFault};
-pub use file_mirror::FileMirror;
 pub use fuse::Fuse;
 pub use kept_disk::KeptDisk;
 pub use mem_disk::MemDisk;

@@ -1,5 +1,8 @@
 pub mod Examples
 pub mod Lines
+pub mod FileChains
+pub mod FileEnds
+pub mod FileScripts
 pub mod Listings
 mod PlayEnds
 pub mod Replies

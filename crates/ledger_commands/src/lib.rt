@@ -18,10 +18,10 @@ mod texts;
 
 pub use dry_run::{DryFault, dry};
 pub use faults::RunFault;
-pub use formatting::{format_file, format_image, write_image};
+pub use formatting::{format_image, write_image};
 pub use judging::check_image;
 pub use listing::list_image;
-pub use placed::Placed;
+pub use placed::{Placed, WritesAt};
 pub use playing::{play_file, play_image};
 pub use reading::{read_image, read_script};
 pub use replaced::{EndedFile, OpensFile, Replaced};
