@@ -68,6 +68,13 @@ impl<D: Sectors> Drive<D> {
         disk
     }
 
+    /// The disk, lent.
+    pub fn disk(&self) -> &D
+        ensures { result.now ≡ self.now.disk }
+    {
+        &self.disk
+    }
+
     /// What the last call came to, as reading the error channel gives it; it is 00 from then on.
     pub fn status(&mut self) -> Result<Status, Dead>
         ensures serves { Serves D.history self.old self.new result }

@@ -40,6 +40,8 @@ pub mod WholeMessages
 pub mod Totals
 pub mod Runs
 pub mod EventRuns
+pub mod Chained
+pub mod Looped
 pub mod RunOpenings
 pub mod Reports
 pub mod PlainRuns

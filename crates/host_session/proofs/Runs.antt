@@ -225,6 +225,19 @@ module _ {D : Type 0} (h : History D) where
         moments_more s ms m old mid new told e.later p e.moments,
       )
 
+  -- the shop after no message, and after one more
+  pub now_none : (s : Shop) (old new : D) (held : HeldOnly h old new (λ i. IsShop i s)) (later : h.failures old ≤ h.failures new) (settled : IsSettled (h.image new) s)
+      → now_of s [] old new [] (none_played s old new held later settled) ≡ s
+  unfolding none_played
+  now_none s old new held later settled = ap (λ state. with_state s state) (plain_nil (start_of s))
+
+  pub now_more : (s : Shop) (ms : List Message) (m : Message) (old mid new : D) (told : List Reply) (reply : Reply)
+      → (p : HasPlayed s ms old mid told) → (e : IsEvent h (now_of s ms old mid told p) m mid new (GoesOn h (now_of s ms old mid told p) m reply new))
+      → now_of s (ms ++ m ∷ []) old new (told ++ reply ∷ []) (one_played s ms m old mid new told reply p e)
+      ≡ with_state (now_of s ms old mid told p) (after_all (start_of (now_of s ms old mid told p)) (now_of s ms old mid told p).state e.counted)
+  unfolding one_played
+  now_more s ms m old mid new told reply p e = ap (λ state. with_state s state) (state_more (start_of s) p.0.counted e.counted)
+
   -- moments of a beginning are moments of the whole
   held_of_more : (s : Shop) (ms rest all : List Message) (old new : D) → ms ++ rest ≡ all → HeldBeginnings h s ms old new → HeldBeginnings h s all old new
   held_of_more s ms rest all old new is held = weaker h old new (IsSomeBeginning s ms (IsBlamed h old new)) (IsSomeBeginning s all (IsBlamed h old new))

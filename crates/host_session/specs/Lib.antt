@@ -20,3 +20,8 @@ pub mod OneEvent
 pub mod Runs
 pub mod Faults
 pub mod ScriptRuns
+pub mod Chains
+pub mod Asking
+pub mod Telling
+pub mod Loops
+pub mod Outputs

@@ -1,6 +1,7 @@
 //! A shop on a disk: what the disk stands for at each moment, its opening, its requests, and runs of them with resets.
 #![tactic(auto)]
 
+mod asking;
 mod completing;
 mod cutting;
 mod deciding;
@@ -12,9 +13,12 @@ mod handling;
 mod intents;
 mod judgment;
 mod laws;
+mod listing;
+mod looping;
 mod migrating;
 mod opening;
 mod playing;
+mod printing;
 mod putting;
 mod reading;
 mod recovery;
@@ -23,10 +27,15 @@ mod session;
 mod settling;
 mod shop_drive;
 mod starting;
+mod telling;
 
+pub use asking::{Asks, Next, OfEvents, OfScript};
 pub use faults::OpenFault;
 pub use laws::{both_ends, last_two, one_shop, refused_no_shop};
+pub use looping::{RunFault, run};
 pub use playing::{PlayFault, play};
+pub use printing::Printer;
 pub use running::{ScriptFault, run_script};
 pub use script_lines::{Cut, Event};
 pub use session::Session;
+pub use telling::{NotTaken, Tells};

@@ -9,9 +9,9 @@ ghost use Rattle.host_session.specs.Shop.{IsShop, Shop};
 ghost use Rattle.host_session.specs.declared.faults.OpenFault.{OpenFault};
 ghost use Rattle.request_cards.specs.declared.reply.Reply.{Reply};
 
-use crate::cutting::{cut_event, is_media, whole_message};
+use crate::asking::OfEvents;
 use crate::faults::OpenFault;
-use crate::session::Session;
+use crate::looping::{RunFault, run};
 use d64_image::Sectors;
 use request_cards::Reply;
 use script_lines::Event;
@@ -85,28 +85,11 @@ pub fn play<D: Sectors>(
         Ok(()) => {}
         Err(_) => return Err((PlayFault::NoMemory, disk)),
     }
-    let mut session = match Session::open(disk) {
-        Ok(session) => session,
-        Err((fault, disk)) => return Err((PlayFault::Open(fault), disk)),
-    };
-    for event in events {
-        match &event.cut {
-            None => {
-                let reply = whole_message(&mut session, event.message);
-                replies.push_reserved(reply);
-                if is_media(reply) {
-                    return Err((PlayFault::Device, session.close()));
-                }
-            }
-            Some(cut) => {
-                let next = cut_event(session, event.message, cut);
-                replies.push_reserved(Reply::Cut);
-                session = match next {
-                    Ok(next) => next,
-                    Err(disk) => return Err((PlayFault::Device, disk)),
-                };
-            }
-        }
+    let mut asks = OfEvents::new(events);
+    match run(disk, &mut asks, replies) {
+        Ok(disk) => Ok(disk),
+        Err((RunFault::Open(fault), disk)) => Err((PlayFault::Open(fault), disk)),
+        // the events are here, and so is room for their replies
+        Err((RunFault::Device | RunFault::Input | RunFault::Output, disk)) => Err((PlayFault::Device, disk)),
     }
-    Ok(session.close())
 }

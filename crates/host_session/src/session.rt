@@ -66,6 +66,13 @@ impl<D: Sectors> Session<D> {
         self.tills
     }
 
+    /// The disk, lent.
+    pub fn disk(&self) -> &D
+        ensures { result.now ≡ self.now.disk }
+    {
+        self.drive.disk()
+    }
+
     /// The disk.
     pub fn close(self) -> D
         ensures { result ≡ self.disk }

@@ -85,6 +85,13 @@ impl<D: Sectors> ShopDrive<D> {
         }
     }
 
+    /// The disk, lent.
+    pub(crate) fn disk(&self) -> &D
+        ensures { result.now ≡ self.now.disk }
+    {
+        self.drive.disk()
+    }
+
     /// The disk.
     pub(crate) fn into_disk(self) -> D
         ensures { result ≡ self.disk }

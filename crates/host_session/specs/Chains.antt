@@ -1,0 +1,50 @@
+-- A run as a chain of events. All of it is our own.
+use Rattle.std.specs.Prelude.{◌≡◌, ◌≤◌, List, [], ◌∷◌, ◌++◌, map}
+use Rattle.d64_image.specs.Images.{Image}
+use Rattle.d64_image.specs.History.{HeldOnly, History}
+use Rattle.request_cards.specs.declared.reply.Reply.{Reply}
+use Rattle.host_session.specs.Counted.{after_all}
+use Rattle.host_session.specs.Events.{Message}
+use Rattle.host_session.specs.OneEvent.{EndsFailed, GoesOn, IsEvent}
+use Rattle.host_session.specs.Shop.{IsSettled, IsShop, Shop, start_of, with_state}
+
+-- One event after another: each begins on the disk and the shop on which the one before it ended, and ends at rest, on
+-- the disk that stands beside its reply. What was held between the two is of that event alone.
+abbrev pub IsChain : {D : Type 0} → History D → Shop → List Message → List (Reply × D) → D → Shop → D → Type 0
+IsChain h s [] [] old t new = (t ≡ s) × (new ≡ old)
+IsChain h s (m ∷ ms) (x ∷ xs) old t new =
+    (e : IsEvent h s m old x.1 (GoesOn h s m x.0 x.1))
+    × IsChain h (with_state s (after_all (start_of s) s.state e.counted)) ms xs x.1 t new
+IsChain h s _ _ old t new = ⊥
+
+-- A run up to here: the shop's disk was opened, and from there the events are a chain to this shop on this disk. Beside
+-- each reply stands the disk that its event left.
+pub record HasRun {D : Type 0} (h : History D) (s : Shop) (ms : List Message) (turns : List (Reply × D))
+    (old new : D) : Type 0 where
+  -- the disk as it was opened
+  pub first : D
+  pub opening : HeldOnly h old first (λ i. IsShop i s)
+  pub later : h.failures old ≤ h.failures first
+  pub rests : IsSettled (h.image first) s
+  -- the shop as it is now
+  pub now : Shop
+  pub chain : IsChain h s ms turns first now new
+
+-- A run of these messages, in the last of which the device failed.
+pub record HasRunToFailure {D : Type 0} (h : History D) (s : Shop) (ms : List Message) (turns : List (Reply × D))
+    (last : Reply) (old new : D) : Type 0 where
+  pub before : List Message
+  pub message : Message
+  pub parts : before ++ message ∷ [] ≡ ms
+  -- the disk before the last one
+  pub at : D
+  pub run : HasRun h s before turns old at
+  pub failed : IsEvent h run.now message at new (EndsFailed h run.now message last new)
+
+-- the replies alone
+abbrev pub told_in : {X : Type 0} → List (Reply × X) → List Reply
+told_in turns = map (λ x. x.0) turns
+
+-- each reply with what the disk beside it holds
+abbrev pub over_images : {D : Type 0} → History D → List (Reply × D) → List (Reply × Image)
+over_images h turns = map (λ x. (x.0, h.image x.1)) turns

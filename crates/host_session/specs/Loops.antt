@@ -1,0 +1,124 @@
+-- What comes of a run over a source of events and an output. All of it is our own.
+use Rattle.std.specs.Prelude.{◌≡◌, ◌≢◌, ℕ, ◌<◌, ◌≤◌, ◌+◌, ◌⊎◌, List, [], ◌∷◌, ◌++◌, IfErr, IfOk, IsSome, Ok, Err, Result, false, length}
+use Rattle.d64_image.specs.Images.{Image}
+use Rattle.d64_image.specs.History.{Failed, History, NeverFailed}
+use Rattle.request_cards.specs.declared.reply.Reply.{Reply}
+use Rattle.host_session.specs.Asking.{Source}
+use Rattle.host_session.specs.Chains.{HasRun, HasRunToFailure, over_images}
+use Rattle.host_session.specs.Events.{Message}
+use Rattle.host_session.specs.Opening.{IsAShop, disk_of}
+use Rattle.host_session.specs.Runs.{HeldBeginnings, IsRefused}
+use Rattle.host_session.specs.Shop.{IsShop, Shop}
+use Rattle.host_session.specs.Standing.{View}
+use Rattle.host_session.specs.Telling.{Output}
+use Rattle.host_session.specs.declared.faults.OpenFault.{OpenFault}
+use Rattle.host_session.specs.declared.looping.RunFault.{RunFault}
+use Rattle.host_session.specs.declared.looping.RunFault.TheVariants as faults
+use Rattle.host_session.specs.declared.looping.Stretch.{Stretch}
+use Rattle.host_session.specs.declared.looping.Stretch.TheVariants as stretches
+
+-- These messages were run, and each reply was told over the disk that its message left, before the next one began.
+pub record IsToldWhole {D T : Type 0} (h : History D) (o : Output T) (s : Shop) (ms : List Message) (disk left : D)
+    (old new : T) : Type 0 where
+  pub turns : List (Reply × D)
+  pub run : HasRun h s ms turns disk left
+  pub told : o.told old new (over_images h turns)
+
+-- The same of all replies but the last, which was broken off, and nothing else was told.
+pub record IsToldToOutput {D T : Type 0} (h : History D) (o : Output T) (s : Shop) (ms : List Message) (disk left : D)
+    (old new : T) : Type 0 where
+  pub turns : List (Reply × D)
+  pub last : Reply × D
+  pub run : HasRun h s ms (turns ++ last ∷ []) disk left
+  pub told : o.broken_off old new (over_images h turns) last.0
+
+-- These messages were run, in the last of which the device failed. Its reply was told over what the device then held, or
+-- broken off; the replies before it were told as ever, and nothing else was.
+pub record IsToldToDevice {D T : Type 0} (h : History D) (o : Output T) (s : Shop) (ms : List Message) (disk left : D)
+    (old new : T) : Type 0 where
+  pub turns : List (Reply × D)
+  pub last : Reply
+  pub run : HasRunToFailure h s ms turns last disk left
+  pub told : o.told old new (over_images h turns ++ (last, h.image left) ∷ [])
+      ⊎ o.broken_off old new (over_images h turns) last
+
+-- What a run began with: the shop on its disk, the source and the output.
+pub record Origin (D A T : Type 0) : Type 0 where
+  pub shop : Shop
+  pub disk : D
+  pub asks : A
+  pub out : T
+
+-- A run is under way: what it took of the source has P, it was run and told, and the output had room for as much.
+pub record IsUnderWay {D A T : Type 0} (h : History D) (o : Output T) (from : Origin D A T) (disk : D) (out : T)
+    (P : List Message → Type 0) : Type 0 where
+  pub messages : List Message
+  pub taken : P messages
+  pub whole : IsToldWhole h o from.shop messages from.disk disk from.out out
+  pub room : o.room from.out ≤ o.room out + length messages
+
+-- all that was taken of the source was run and told
+abbrev pub HasCome : {D A T : Type 0} → History D → Source A → Output T → Origin D A T → D → A → T → Type 0
+HasCome h a o from disk asks out = IsUnderWay h o from disk out (λ ms. a.gives from.asks asks ms)
+
+-- all but the message that was taken last
+abbrev pub HasComeBut : {D A T : Type 0} → History D → Source A → Output T → Origin D A T → D → A → T → Type 0
+HasComeBut h a o from disk asks out = IsUnderWay h o from disk out (λ ms. a.gives from.asks asks (ms ++ a.here asks ∷ []))
+
+-- how a run ends that this fault ended
+abbrev pub EndsBy : {D A T : Type 0} → History D → Source A → Output T → Origin D A T → A → T → D → RunFault → Type 0
+EndsBy h a o from asks out left (faults.Open f) = ⊥
+EndsBy h a o from asks out left faults.Input = (ms : List Message) × a.gives from.asks asks ms × a.has_failed asks
+    × IsToldWhole h o from.shop ms from.disk left from.out out
+EndsBy h a o from asks out left faults.Output = (ms : List Message) × a.gives from.asks asks ms × (o.room from.out < length ms)
+    × IsToldToOutput h o from.shop ms from.disk left from.out out
+EndsBy h a o from asks out left faults.Device = (ms : List Message) × a.gives from.asks asks ms
+    × IsToldToDevice h o from.shop ms from.disk left from.out out
+
+-- how a run ends that was opened
+abbrev pub Ends : {D A T : Type 0} → History D → Source A → Output T → Origin D A T → A → T → Result D (RunFault × D) → Type 0
+Ends h a o from asks out (Ok left) = (ms : List Message) × a.gives from.asks asks ms × a.is_over asks
+    × IsToldWhole h o from.shop ms from.disk left from.out out
+Ends h a o from asks out (Err e) = EndsBy h a o from asks out e.1 e.0
+
+-- the end of a run, with its disk
+abbrev pub with_disk : {D : Type 0} → D → Result Unit RunFault → Result D (RunFault × D)
+with_disk disk (Ok _) = Ok disk
+with_disk disk (Err fault) = Err (fault, disk)
+
+-- what a stretch of whole messages came to
+abbrev pub IsStretch : {D A T : Type 0} → History D → Source A → Output T → Origin D A T → View D → A → T → Stretch → Type 0
+IsStretch h a o from session asks out stretches.Cut = (session.dead ≡ false) × HasComeBut h a o from session.disk asks out
+IsStretch h a o from session asks out (stretches.Ended end) = Ends h a o from asks out (with_disk session.disk end)
+
+-- What comes of a run over a source and an output that were `asked` and `old`, and are `asks` and `new`.
+pub record IsRun {D A T : Type 0} (h : History D) (a : Source A) (o : Output T) (disk : D) (asked asks : A) (old new : T)
+    (result : Result D (RunFault × D)) : Type 0 where
+  -- the messages that were taken of the source, and nothing beside them
+  pub taken : List Message
+  pub takes : a.gives asked asks taken
+  -- A shop alone is run, and up to the end of the source.
+  pub shop : IfOk result (λ _. IsAShop (h.image disk) × a.is_over asks)
+  -- Each event was run, and its reply told over the disk that it left, before the next one began.
+  pub ok : (s : Shop) → IsShop (h.image disk) s → IfOk result (λ d. IsToldWhole h o s taken disk d old new)
+  -- The input failed: the same of the events that it gave.
+  pub input : (s : Shop) → IsShop (h.image disk) s → IfErr result (λ e. e.0 ≡ faults.Input
+      → a.has_failed asks × IsToldWhole h o s taken disk e.1 old new)
+  -- The output failed: the last reply was broken off, those before it were told, and nothing else. An output that had
+  -- room for all of them doesn't fail.
+  pub output : (s : Shop) → IsShop (h.image disk) s → IfErr result (λ e. e.0 ≡ faults.Output
+      → (o.room old < length taken) × IsToldToOutput h o s taken disk e.1 old new)
+  -- The device failed in the last event that was taken. The replies before its own were told, and nothing else.
+  pub device : (s : Shop) → IsShop (h.image disk) s → IfErr result (λ e. e.0 ≡ faults.Device
+      → IsToldToDevice h o s taken disk e.1 old new)
+  -- At each moment the shop is that of a counted list of some beginning of the events.
+  pub moments : (s : Shop) → IsShop (h.image disk) s → HeldBeginnings h s taken disk (disk_of (λ d. d) result)
+  -- On a shop whose device doesn't fail it answers Ok, unless the input or the output fails.
+  pub plays : IsAShop (h.image disk) → NeverFailed h disk (disk_of (λ d. d) result)
+      → IfErr result (λ e. (e.0 ≡ faults.Input) ⊎ (e.0 ≡ faults.Output))
+  -- What an opening refuses is handed on, and then nothing was taken or told.
+  pub «open» : IfErr result (λ e. (f : OpenFault) → e.0 ≡ faults.Open f
+      → IsRefused h disk f e.1 × (taken ≡ []) × (asks ≡ asked) × (new ≡ old))
+  -- The device is told of on a shop, where it failed; and so are the input and the output.
+  pub cause : IfErr result (λ e. e.0 ≡ faults.Device → IsAShop (h.image disk) × Failed h disk e.1)
+  pub after : IfErr result (λ e. (e.0 ≡ faults.Input) ⊎ (e.0 ≡ faults.Output) → IsAShop (h.image disk))

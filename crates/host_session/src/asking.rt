@@ -1,0 +1,137 @@
+//! Where the events of a run come from.
+ghost use Rattle.std.specs.Prelude.{◌≡◌, option_map};
+ghost use Rattle.host_session.specs.Asking.{IsNext, Source};
+
+use script_lines::{Cut, Event, event_at, next_line};
+
+/// What asking for the next event comes to.
+#[derive(Clone, Copy, Debug, PartialEq, Eq)]
+pub enum Next {
+    /// An event was taken.
+    Event,
+    /// None is left.
+    End,
+    /// The input failed.
+    Failed,
+}
+
+/// Where the events of a run come from, one by one.
+pub trait Asks {
+    /// What this source says of the messages that it gives.
+    ghost source: { Source Self };
+
+    /// Takes the next event.
+    fn next(&mut self) -> Next
+        ensures { IsNext source self.old self.new result };
+
+    /// The message of the event that was taken last.
+    fn message(&self) -> &[u8]
+        ensures { result.now ≡ (source.here self.now).bytes };
+
+    /// The reset in it, where there is one.
+    fn cut(&self) -> Option<&Cut>
+        ensures { option_map (λ c. c.now.after) result ≡ (source.here self.now).cut_after };
+}
+
+/// The lines of a script, none of which is bad.
+#[derive(Drop)]
+pub struct OfScript<'a> {
+    left: &'a [u8],
+    message: &'a [u8],
+    cut: Option<Cut>,
+}
+
+/// A list of events.
+#[derive(Drop)]
+pub struct OfEvents<'a> {
+    left: &'a [Event<'a>],
+    here: Option<&'a Event<'a>>,
+}
+
+impl<'a> OfScript<'a> {
+    /// All lines of this script.
+    pub fn new(script: &'a [u8]) -> OfScript<'a>
+        ensures { result.left.entry ≡ script }
+    {
+        OfScript {
+            left: script,
+            message: script,
+            cut: None,
+        }
+    }
+}
+
+impl<'a> OfEvents<'a> {
+    /// All of these events.
+    pub fn new(events: &'a [Event<'a>]) -> OfEvents<'a> {
+        OfEvents {
+            left: events,
+            here: None,
+        }
+    }
+}
+
+/// The event of a line that begins with @, which isn't bad.
+// Out of line, so that a line without a reset is only looked at.
+#[inline(never)]
+fn reset_of(line: &[u8]) -> (&[u8], Option<Cut>) {
+    match event_at(line) {
+        Some(Event { message, cut }) => (message, cut),
+        None => (line, None),
+    }
+}
+
+impl<'a> Asks for OfScript<'a> {
+    ghost source = { of_script };
+
+    fn next(&mut self) -> Next {
+        let Some((line, more)) = next_line(self.left) else {
+            return Next::End;
+        };
+        self.left = more;
+        self.message = line;
+        if let Some(b'@') = line.first() {
+            let (message, cut) = reset_of(line);
+            self.message = message;
+            self.cut = cut;
+        } else if self.cut.is_some() {
+            self.cut = None;
+        }
+        Next::Event
+    }
+
+    fn message(&self) -> &[u8] {
+        self.message
+    }
+
+    fn cut(&self) -> Option<&Cut> {
+        self.cut.as_ref()
+    }
+}
+
+impl<'a> Asks for OfEvents<'a> {
+    ghost source = { of_events };
+
+    fn next(&mut self) -> Next {
+        let Some((event, more)) = self.left.split_first() else {
+            return Next::End;
+        };
+        self.left = more;
+        self.here = Some(event);
+        Next::Event
+    }
+
+    fn message(&self) -> &[u8] {
+        match self.here {
+            Some(event) => event.message,
+            None => &[],
+        }
+    }
+
+    fn cut(&self) -> Option<&Cut> {
+        match self.here {
+            Some(event) => event.cut.as_ref(),
+            None => None,
+        }
+    }
+}

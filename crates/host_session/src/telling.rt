@@ -1,0 +1,24 @@
+//! Who is told the replies of a run.
+ghost use Rattle.host_session.specs.Telling.{IsTold, Output, TellsNone};
+
+use d64_image::Sectors;
+use request_cards::Reply;
+
+/// The reply wasn't taken, or only in part.
+#[derive(Clone, Copy, Debug, PartialEq, Eq)]
+pub struct NotTaken;
+
+/// Who is told the replies of a run, one by one, each over the disk that its message left.
+pub trait Tells<D: Sectors> {
+    /// What this output says of what it was told.
+    ghost output: { Output Self };
+
+    /// Tells this reply. The disk is lent as it is then. Where the reply isn't taken, a part of it may have been told, or all
+    /// of it.
+    fn tell(&mut self, reply: &Reply, disk: &D) -> Result<(), NotTaken>
+        ensures { IsTold output self.old self.new reply.now (D.history.image disk.now) result };
+
+    /// Hands on what is held back. What was told stays told.
+    fn hand_on(&mut self) -> Result<(), NotTaken>
+        ensures { TellsNone output self.old self.new };
+}
