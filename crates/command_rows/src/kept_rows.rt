@@ -87,5 +87,9 @@ fn a_refused_script_leaves_the_file(rt: HostRuntime) {
     let (ended, recorder) = played_over(&rt, image.as_slice(), b"@", u32::MAX, false, &mut out);
     same_at(&rt, ended, Err(RunFault::BadLine(1)), out.bytes.len());
     same_at(&rt, recorder.moments(), 0, out.bytes.len());
-    holds(&rt, recorder.into_inner().bytes() == image.as_slice(), "the file");
+    holds(
+        &rt,
+        recorder.into_inner().bytes() == image.as_slice(),
+        "the file",
+    );
 }

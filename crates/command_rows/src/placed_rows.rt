@@ -42,7 +42,12 @@ fn sectors_go_to_their_places(rt: HostRuntime) {
 /// Sees that a file that takes so many bytes keeps a sector, or doesn't.
 fn is_kept(rt: &(impl AllocGlobal + Abort), room: usize, kept: bool) {
     let mut file = Placed::new(new_tape(rt, &[], room));
-    same_at(rt, file.keep(Place::default(), &[7; 256]).is_ok(), kept, room);
+    same_at(
+        rt,
+        file.keep(Place::default(), &[7; 256]).is_ok(),
+        kept,
+        room,
+    );
 }
 
 #[test]
