@@ -1,17 +1,20 @@
 -- What a chain of events says of its run.
-use Rattle.d64_image.specs.Images.{Image}
-use Rattle.std.proofs.Common.{◌≡◌, ◌≢◌, ◌≤◌, List, [], ◌∷◌, ◌++◌, refl, sym, subst, ◌∙◌, ap, arith, append_assoc, append-nil, le_refl, le_trans, length, map, suc, zero, ℕ}
+use Rattle.std.proofs.Common.{◌≡◌, ◌≢◌, ◌≤◌, List, [], ◌∷◌, ◌++◌, refl, sym, subst, ◌∙◌, ap, arith, append_assoc, append-nil, le_refl, le_trans, length}
 use Rattle.d64_image.specs.History.{Failed, History, HeldOnly}
 use Rattle.d64_image.proofs.Moments.{start}
 use Rattle.request_cards.specs.declared.reply.Reply.{Reply}
-use Rattle.request_cards.specs.Ledgers.{plain}
 use Rattle.host_session.proofs.Runs.{HasPlayed, and_no_more, none_played, now_more, now_none, now_of, one_played, stopped}
-use Rattle.host_session.specs.Counted.{after_all, all_of}
+use Rattle.host_session.specs.Counted.{after_all}
 use Rattle.host_session.specs.Events.{Message}
 use Rattle.host_session.specs.OneEvent.{EndsFailed, GoesOn, IsEvent}
 use Rattle.host_session.specs.Runs.{HeldBeginnings, IsPlayedWhole, StoppedByDevice, StoppedByOutput}
 use Rattle.host_session.specs.Shop.{IsSettled, IsShop, Shop, start_of, with_state}
-use Rattle.host_session.specs.Chains.{HasRun, HasRunToFailure, IsChain, told_in}
+use Rattle.host_session.specs.Chains.{HasRun, HasRunToFailure, IsChain, over_images, told_in}
+
+-- the replies, told over what the disks beside them hold
+pub told_over : {D : Type 0} (h : History D) (turns : List (Reply × D)) → told_in (over_images h turns) ≡ told_in turns
+told_over h [] = refl
+told_over h (x ∷ xs) = ap (λ rs. x.0 ∷ rs) (told_over h xs)
 
 module _ {D : Type 0} (h : History D) where
   -- one event more at the end
@@ -20,7 +23,7 @@ module _ {D : Type 0} (h : History D) where
       → IsChain h s (ms ++ m ∷ []) (xs ++ (reply, new) ∷ []) old (with_state t (after_all (start_of t) t.state e.counted)) new
   chain_more s [] [] old mid new t m reply c e =
       let P : Shop → D → Type 0 = λ u d. (x : IsEvent h u m d new (GoesOn h u m reply new))
-          → IsChain h s (m ∷ []) ((reply, new) ∷ []) old (with_state u (after_all (start_of u) u.state x.counted)) new in
+      → IsChain h s (m ∷ []) ((reply, new) ∷ []) old (with_state u (after_all (start_of u) u.state x.counted)) new in
       subst (λ u. P u mid) (sym c.0) (subst (λ d. P s d) (sym c.1) (λ x. (x, (refl, refl)))) e
   chain_more s (n ∷ ms) (x ∷ xs) old mid new t m reply c e =
       (c.0, chain_more (with_state s (after_all (start_of s) s.state c.0.counted)) ms xs x.1 mid new t m reply c.1 e)
@@ -53,7 +56,7 @@ module _ {D : Type 0} (h : History D) where
   chain_played s before old at told p (m ∷ ms) (x ∷ xs) new t c =
       let q : HasPlayed h s (before ++ m ∷ []) old x.1 (told ++ x.0 ∷ []) = one_played h s before m old at x.1 told x.0 p c.0 in
       let rest : IsChain h (now_of h s (before ++ m ∷ []) old x.1 (told ++ x.0 ∷ []) q) ms xs x.1 t new =
-          subst (λ u. IsChain h u ms xs x.1 t new) (sym (now_more h s before m old at x.1 told x.0 p c.0)) c.1 in
+      subst (λ u. IsChain h u ms xs x.1 t new) (sym (now_more h s before m old at x.1 told x.0 p c.0)) c.1 in
       let r = chain_played s (before ++ m ∷ []) old x.1 (told ++ x.0 ∷ []) q ms xs new t rest in
       subst (λ b. PlayedTo s b old new (told ++ (x.0 ∷ told_in xs)) t) (append_assoc before (m ∷ []) ms)
       (subst (λ b. PlayedTo s ((before ++ m ∷ []) ++ ms) old new b t) (append_assoc told (x.0 ∷ []) (told_in xs)) r)
@@ -109,15 +112,18 @@ module _ {D : Type 0} (h : History D) where
       → (q : IsCutBehind s ms ns xs ys old t new) × IsSettled (h.image q.mid) q.now × HeldBeginnings h q.now ns q.mid new
   only_grows s ms ns xs ys old t new same rests c =
       let q = cut_chain s ms ns xs ys old t new same c in
-      let settled = chain_rests s ms xs old q.mid q.now rests q.before in
-      (q, settled, (whole q.now ns ys q.mid new (record {
-        first = q.mid;
-        opening = start h q.mid (λ i. IsShop i q.now) settled.shop;
-        later = le_refl (h.failures q.mid);
-        rests = settled;
-        now = t;
-        chain = q.behind;
-      })).1)
+      let settled = chain_rests s ms xs old q.mid q.now rests q.before in (
+        q,
+        settled,
+        (whole q.now ns ys q.mid new (record {
+          first = q.mid;
+          opening = start h q.mid (λ i. IsShop i q.now) settled.shop;
+          later = le_refl (h.failures q.mid);
+          rests = settled;
+          now = t;
+          chain = q.behind;
+        })).1,
+      )
 
   -- the loop's turn: one event more
   pub run_more : (s : Shop) (ms : List Message) (xs : List (Reply × D)) (old mid new : D) (m : Message) (reply : Reply)

@@ -39,9 +39,11 @@ pub mod Cuts
 pub mod WholeMessages
 pub mod Totals
 pub mod Runs
-pub mod EventRuns
 pub mod Chained
 pub mod Looped
+pub mod Printed
+pub mod ScriptEnds
+pub mod EventEnds
 pub mod RunOpenings
 pub mod Reports
 pub mod PlainRuns

@@ -110,8 +110,8 @@ module _ {D A T : Type 0} (h : History D) (a : Source A) (o : Output T) (from : 
         let e = event r.now (run_rests h from.shop w.messages w.whole.turns from.disk mid r) in (
           w.messages ++ a.here asks ∷ [],
           w.taken,
-          omega (arith, w.room, breaks.1, length-append w.messages (a.here asks ∷ [])),
           record {
+            full = omega (arith, w.room, breaks.1, length-append w.messages (a.here asks ∷ []));
             turns = w.whole.turns;
             last = (reply, new);
             run = run_more h from.shop w.messages w.whole.turns from.disk mid new (a.here asks) reply r e.1;
@@ -143,9 +143,12 @@ module _ {D A T : Type 0} (h : History D) (a : Source A) (o : Output T) (from : 
         )
       where
         pick : {E : Type 0} (result : Result Unit E) → IsTold o out told reply (h.image new) result
-            → o.told from.out told (over_images h w.whole.turns ++ (reply, h.image new) ∷ []) ⊎ o.broken_off from.out told (over_images h w.whole.turns) reply
+            → o.told from.out told (over_images h w.whole.turns ++ (reply, h.image new) ∷ []) ⊎ (o.broken_off from.out told (over_images h w.whole.turns) reply × (o.room from.out < length (w.messages ++ a.here asks ∷ [])))
         pick (Ok x) tells = inl (tells.0 from.out (over_images h w.whole.turns) w.whole.told)
-        pick (Err x) tells = inr (tells.0 from.out (over_images h w.whole.turns) w.whole.told)
+        pick (Err x) tells = inr (
+          tells.0 from.out (over_images h w.whole.turns) w.whole.told,
+          omega (arith, w.room, tells.1, length-append w.messages (a.here asks ∷ [])),
+        )
 
   module _ (asks : A) (out : T) (is_shop : IsShop (h.image from.disk) from.shop) where
     same : (s : Shop) → IsShop (h.image from.disk) s → from.shop ≡ s
@@ -174,10 +177,10 @@ module _ {D A T : Type 0} (h : History D) (a : Source A) (o : Output T) (from : 
       shop = tt;
       ok = λ s is. tt;
       input = λ s is (is_output : faults.Output ≡ faults.Input). cc;
-      output = λ s is _. (e.2, subst (λ t. IsToldToOutput h o t e.0 from.disk left from.out out) (same s is) e.3);
+      output = λ s is _. subst (λ t. IsToldToOutput h o t e.0 from.disk left from.out out) (same s is) e.2;
       device = λ s is (is_output : faults.Output ≡ faults.Device). cc;
       moments = λ s is. subst (λ t. HeldBeginnings h t e.0 from.disk left) (same s is)
-          (whole h from.shop e.0 (e.3.turns ++ e.3.last ∷ []) from.disk left e.3.run).1;
+          (whole h from.shop e.0 (e.2.turns ++ e.2.last ∷ []) from.disk left e.2.run).1;
       plays = λ shop never. inr refl;
       «open» = λ f (is_output : faults.Output ≡ faults.Open f). cc;
       cause = λ (is_output : faults.Output ≡ faults.Device). cc;

@@ -1,6 +1,6 @@
 -- A run without resets: each message has its reply over the messages before it.
-use Rattle.std.proofs.Common.{◌≡◌, ◌≢◌, ◌+◌, ℕ, Bool, true, false, List, [], ◌∷◌, ◌++◌, Option, Some, None, refl, subst, ◌∙◌, ap, ne_eqb}
-use Rattle.std.specs.Prelude.{if◌then◌else◌, option_map, option_to_list, flat_map, map, slice_index}
+use Rattle.std.proofs.Common.{◌≡◌, ◌≢◌, ℕ, Bool, true, false, List, [], ◌∷◌, ◌++◌, Option, Some, None, refl, subst, ◌∙◌, ap, ne_eqb}
+use Rattle.std.specs.Prelude.{option_to_list, flat_map, map, slice_index}
 use Rattle.std.specs.List.{AllByRecursion}
 use Rattle.d64_image.specs.History.{History}
 use Rattle.request_cards.specs.declared.reply.Reply.{Reply}
@@ -8,12 +8,10 @@ use Rattle.request_cards.specs.Requests.{Ask}
 use Rattle.request_cards.specs.Ledgers.{Start, State, plain, reply_in, replies}
 use Rattle.request_cards.specs.Reading.{request_of}
 use Rattle.host_session.specs.Counted.{IsCounted, MayCount, NoneGotMedia, all_of, answer, answers}
-use Rattle.host_session.specs.Events.{HasNoReset, message_in, messages_of, requests_of, uncut}
+use Rattle.host_session.specs.Events.{HasNoReset, messages_of, requests_of, uncut}
 use Rattle.host_session.specs.Runs.{IsPlayedWhole}
 use Rattle.host_session.specs.Shop.{IsSettled, Shop, start_of, with_state}
-use Rattle.script_lines.proofs.Plain.{line_plain as own_message}
-use Rattle.script_lines.specs.Lines.{first_reset, is_reset}
-use Rattle.script_lines.specs.Resets.{first_bad, line_of}
+use Rattle.script_lines.specs.Resets.{line_of}
 
 part_whole : (top : ℕ) (state : State) (o : Option Ask) (f : Bool) (c : List Ask) → f ≡ false → MayCount top state o None f c → c ≡ option_to_list o
 part_whole top state None f c e h = h
@@ -60,24 +58,4 @@ plain_played h s ls old new told none p =
     let q = answers_plain (start_of s) [] ls p.fails p.counted is (subst (λ ms. NoneGotMedia ms p.fails) all p.whole) in (
       p.told_is ∙ ap (λ ms. answers (start_of s) [] ms p.fails p.counted) all ∙ q.0,
       subst (λ xs. IsSettled (h.image new) (with_state s (plain (start_of s) xs))) q.1 p.ends,
-    )
-
--- no line from here on begins with @
-none_left : (t : Bool) (o : Option ℕ) → (if t then Some 1 else option_map (λ n. n + 1) o) ≡ None → (t ≡ false) × (o ≡ None)
-none_left true o e = cc
-none_left false None e = (refl, refl)
-none_left false (Some n) e = cc
-
--- so none is bad
-pub none_bad : (ls : List (List ℕ)) → first_reset ls ≡ None → first_bad ls ≡ None
-none_bad [] none = refl
-none_bad (l ∷ ls) none = let x = none_left (is_reset l) (first_reset ls) none in rw (own_message l x.0, none_bad ls x.1) refl
-
--- and the messages that are left are the next line, whole, and those of the lines behind it
-pub plain_next : (ls rest : List (List ℕ)) (line : List ℕ) → ls ≡ line ∷ rest → first_reset ls ≡ None
-    → (messages_of ls ≡ uncut line ∷ messages_of rest) × (first_reset rest ≡ None)
-plain_next ls rest line cut none =
-    let x = none_left (is_reset line) (first_reset rest) (subst (λ xs. first_reset xs ≡ None) cut none) in (
-      ap messages_of cut ∙ ap (λ o. option_to_list (option_map message_in o) ++ messages_of rest) (own_message line x.0),
-      x.1,
     )

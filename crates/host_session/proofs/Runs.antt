@@ -239,7 +239,7 @@ module _ {D : Type 0} (h : History D) where
   now_more s ms m old mid new told reply p e = ap (λ state. with_state s state) (state_more (start_of s) p.0.counted e.counted)
 
   -- moments of a beginning are moments of the whole
-  held_of_more : (s : Shop) (ms rest all : List Message) (old new : D) → ms ++ rest ≡ all → HeldBeginnings h s ms old new → HeldBeginnings h s all old new
+  pub held_of_more : (s : Shop) (ms rest all : List Message) (old new : D) → ms ++ rest ≡ all → HeldBeginnings h s ms old new → HeldBeginnings h s all old new
   held_of_more s ms rest all old new is held = weaker h old new (IsSomeBeginning s ms (IsBlamed h old new)) (IsSomeBeginning s all (IsBlamed h old new))
       (λ i x. record {
         begun = x.begun;

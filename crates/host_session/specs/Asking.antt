@@ -1,5 +1,5 @@
 -- Where the events of a run come from. All of it is our own.
-use Rattle.std.specs.Prelude.{◌≡◌, ℕ, ◌<◌, List, [], ◌∷◌, ◌++◌, None, Some, Option, length, map, option_map, refl}
+use Rattle.std.specs.Prelude.{◌≡◌, ℕ, ◌<◌, ◌≤◌, ◌-◌, ◌==◌, if◌then◌else◌, drop, slice_get, List, [], ◌∷◌, ◌++◌, None, Some, Option, length, map, option_map, refl}
 use Rattle.script_lines.specs.Lines.{lines}
 use Rattle.script_lines.specs.Resets.{first_bad}
 use Rattle.script_lines.specs.declared.events.Event.{Event}
@@ -49,7 +49,10 @@ of_script = record {
   none = λ _ good. (good, refl);
 }
 
--- the event that was taken last
+-- the event that was taken last, where so many were
+abbrev pub last_taken : ℕ → List Event → Option Event
+last_taken n events = if n == 0 then None else slice_get events (n - 1)
+
 abbrev pub message_here : Option Event → Message
 message_here None = uncut []
 message_here (Some e) = message_of e
@@ -57,10 +60,11 @@ message_here (Some e) = message_of e
 -- the events that were taken of a list
 abbrev pub of_events : Source OfEvents
 of_events = record {
-  gives = λ first now ms. map message_of first.left.now ≡ ms ++ map message_of now.left.now;
-  here = λ now. message_here (option_map (λ e. e.now) now.here);
-  is_over = λ now. now.left.now ≡ [];
+  gives = λ first now ms. (now.events.now ≡ first.events.now)
+      × (map message_of (drop first.taken first.events.now) ≡ ms ++ map message_of (drop now.taken first.events.now));
+  here = λ now. message_here (last_taken now.taken now.events.now);
+  is_over = λ now. length now.events.now ≤ now.taken;
   has_failed = λ _. ⊥;
-  fuel = λ now. length now.left.now;
-  none = λ _. refl;
+  fuel = λ now. length now.events.now - now.taken;
+  none = λ _. (refl, refl);
 }

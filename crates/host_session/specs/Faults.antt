@@ -1,5 +1,7 @@
--- The numbers under which the faults of runs are told. All of it is our own.
+-- The faults of runs, and the numbers under which they are told. All of it is our own.
 use Rattle.std.specs.Prelude.{ℕ}
+use Rattle.host_session.specs.declared.looping.RunFault.{RunFault}
+use Rattle.host_session.specs.declared.looping.RunFault.TheVariants as runs
 use Rattle.host_session.specs.declared.playing.PlayFault.{PlayFault}
 use Rattle.host_session.specs.declared.playing.PlayFault.TheVariants as plays
 use Rattle.host_session.specs.declared.running.ScriptFault.{ScriptFault}
@@ -17,3 +19,14 @@ script_number (scripts.Open fault) = 1
 script_number (scripts.BadLine line) = 2
 script_number scripts.Output = 3
 script_number scripts.Device = 4
+
+-- what is told of events whose run this fault ended
+abbrev pub play_fault : RunFault → PlayFault
+play_fault (runs.Open fault) = plays.Open fault
+play_fault _ = plays.Device
+
+-- and of a script
+abbrev pub script_fault : RunFault → ScriptFault
+script_fault (runs.Open fault) = scripts.Open fault
+script_fault runs.Output = scripts.Output
+script_fault _ = scripts.Device

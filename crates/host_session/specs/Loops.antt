@@ -1,6 +1,5 @@
 -- What comes of a run over a source of events and an output. All of it is our own.
-use Rattle.std.specs.Prelude.{◌≡◌, ◌≢◌, ℕ, ◌<◌, ◌≤◌, ◌+◌, ◌⊎◌, List, [], ◌∷◌, ◌++◌, IfErr, IfOk, IsSome, Ok, Err, Result, false, length}
-use Rattle.d64_image.specs.Images.{Image}
+use Rattle.std.specs.Prelude.{◌≡◌, ◌<◌, ◌≤◌, ◌+◌, ◌⊎◌, List, [], ◌∷◌, ◌++◌, IfErr, IfOk, Ok, Err, Result, false, length}
 use Rattle.d64_image.specs.History.{Failed, History, NeverFailed}
 use Rattle.request_cards.specs.declared.reply.Reply.{Reply}
 use Rattle.host_session.specs.Asking.{Source}
@@ -24,13 +23,15 @@ pub record IsToldWhole {D T : Type 0} (h : History D) (o : Output T) (s : Shop) 
   pub run : HasRun h s ms turns disk left
   pub told : o.told old new (over_images h turns)
 
--- The same of all replies but the last, which was broken off, and nothing else was told.
+-- The same of all replies but the last, which was broken off, and nothing else was told. An output that has room for all
+-- of them takes them.
 pub record IsToldToOutput {D T : Type 0} (h : History D) (o : Output T) (s : Shop) (ms : List Message) (disk left : D)
     (old new : T) : Type 0 where
   pub turns : List (Reply × D)
   pub last : Reply × D
   pub run : HasRun h s ms (turns ++ last ∷ []) disk left
   pub told : o.broken_off old new (over_images h turns) last.0
+  pub full : o.room old < length ms
 
 -- These messages were run, in the last of which the device failed. Its reply was told over what the device then held, or
 -- broken off; the replies before it were told as ever, and nothing else was.
@@ -40,7 +41,7 @@ pub record IsToldToDevice {D T : Type 0} (h : History D) (o : Output T) (s : Sho
   pub last : Reply
   pub run : HasRunToFailure h s ms turns last disk left
   pub told : o.told old new (over_images h turns ++ (last, h.image left) ∷ [])
-      ⊎ o.broken_off old new (over_images h turns) last
+      ⊎ (o.broken_off old new (over_images h turns) last × (o.room old < length ms))
 
 -- What a run began with: the shop on its disk, the source and the output.
 pub record Origin (D A T : Type 0) : Type 0 where
@@ -70,7 +71,7 @@ abbrev pub EndsBy : {D A T : Type 0} → History D → Source A → Output T →
 EndsBy h a o from asks out left (faults.Open f) = ⊥
 EndsBy h a o from asks out left faults.Input = (ms : List Message) × a.gives from.asks asks ms × a.has_failed asks
     × IsToldWhole h o from.shop ms from.disk left from.out out
-EndsBy h a o from asks out left faults.Output = (ms : List Message) × a.gives from.asks asks ms × (o.room from.out < length ms)
+EndsBy h a o from asks out left faults.Output = (ms : List Message) × a.gives from.asks asks ms
     × IsToldToOutput h o from.shop ms from.disk left from.out out
 EndsBy h a o from asks out left faults.Device = (ms : List Message) × a.gives from.asks asks ms
     × IsToldToDevice h o from.shop ms from.disk left from.out out
@@ -104,10 +105,9 @@ pub record IsRun {D A T : Type 0} (h : History D) (a : Source A) (o : Output T) 
   -- The input failed: the same of the events that it gave.
   pub input : (s : Shop) → IsShop (h.image disk) s → IfErr result (λ e. e.0 ≡ faults.Input
       → a.has_failed asks × IsToldWhole h o s taken disk e.1 old new)
-  -- The output failed: the last reply was broken off, those before it were told, and nothing else. An output that had
-  -- room for all of them doesn't fail.
+  -- The output failed: the last reply was broken off, those before it were told, and nothing else.
   pub output : (s : Shop) → IsShop (h.image disk) s → IfErr result (λ e. e.0 ≡ faults.Output
-      → (o.room old < length taken) × IsToldToOutput h o s taken disk e.1 old new)
+      → IsToldToOutput h o s taken disk e.1 old new)
   -- The device failed in the last event that was taken. The replies before its own were told, and nothing else.
   pub device : (s : Shop) → IsShop (h.image disk) s → IfErr result (λ e. e.0 ≡ faults.Device
       → IsToldToDevice h o s taken disk e.1 old new)

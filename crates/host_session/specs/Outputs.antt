@@ -1,9 +1,9 @@
 -- What the outputs of this crate say of what they were told. All of it is our own.
-use Rattle.std.specs.Prelude.{◌≡◌, ℕ, ◌-◌, List, [], ◌++◌, Option, Vec, codes, take, vec_capacity, vec_len}
+use Rattle.std.specs.Prelude.{◌≡◌, ℕ, ◌-◌, List, ◌++◌, Option, Vec, codes, take, vec_capacity, vec_len}
 use Rattle.std.proofs.KnownBytes.{Appends-nil}
 use Rattle.std.proofs.Common.{append-nil, sym}
 use Rattle.std.specs.Io.KnownBytes.{Appends}
-use Rattle.d64_image.specs.Images.{Image}
+use Rattle.std.specs.declared.alloc.Global.{Global}
 use Rattle.request_cards.specs.Ledgers.{report}
 use Rattle.request_cards.specs.Texts.{reply_text}
 use Rattle.request_cards.specs.declared.reply.Reply.{Reply}
@@ -30,7 +30,7 @@ printed contents = record {
 }
 
 -- Replies were put in a list, behind those that it had.
-abbrev pub listed : Output (Vec Reply)
+abbrev pub listed : Output (Vec Reply Global)
 listed = record {
   told = λ old new turns. new.items ≡ old.items ++ told_in turns;
   broken_off = λ old new turns reply. new.items ≡ old.items ++ told_in turns;

@@ -1,10 +1,9 @@
 -- What a run of events promises. All of it is our own.
-use Rattle.std.specs.Prelude.{◌≡◌, ◌≢◌, ℕ, ◌<◌, ◌≤◌, ◌+◌, Bool, List, [], ◌++◌, ◌∷◌, Option, if◌then◌else◌}
-use Rattle.std.specs.Io.KnownBytes.{Appends}
+use Rattle.std.specs.Prelude.{◌≡◌, ◌≢◌, ℕ, ◌<◌, ◌≤◌, ◌+◌, Bool, List, [], ◌++◌, ◌∷◌, if◌then◌else◌}
 use Rattle.d64_image.specs.Images.{Image}
 use Rattle.d64_image.specs.History.{Changes, Failed, HeldOnly, History}
 use Rattle.request_cards.specs.declared.reply.Reply.{Reply}
-use Rattle.request_cards.specs.Ledgers.{State, plain, report}
+use Rattle.request_cards.specs.Ledgers.{State, plain}
 use Rattle.request_cards.specs.Requests.{Ask}
 use Rattle.request_cards.specs.Sums.{SumsAgree}
 use Rattle.host_session.specs.Counted.{FailsAtLast, IsCounted, NoneGotMedia, all_of, answers}
@@ -71,15 +70,6 @@ pub record StoppedByOutput {D : Type 0} (h : History D) (s : Shop) (messages : L
   pub parts : begun ++ rest ≡ messages
   pub some : begun ≢ []
   pub played : IsPlayedWhole h s begun old new told
-
--- The output took all of these replies but the last, each on a line of its own, and was then handed the last one.
-pub record IsPrintedUpToLast {W : Type 0} (contents : W → Option (List ℕ)) (old : W) (told : List Reply) : Type 0 where
-  pub before : List Reply
-  pub last : Reply
-  pub parts : told ≡ before ++ last ∷ []
-  -- the output as it was when the last one came
-  pub at : W
-  pub printed : Appends (contents old) (contents at) (report before)
 
 -- at each moment of a run the shop is that of some beginning
 abbrev pub HeldBeginnings : {D : Type 0} → History D → Shop → List Message → D → D → Type 0

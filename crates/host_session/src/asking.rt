@@ -1,6 +1,8 @@
 //! Where the events of a run come from.
-ghost use Rattle.std.specs.Prelude.{◌≡◌, option_map};
-ghost use Rattle.host_session.specs.Asking.{IsNext, Source};
+ghost use Rattle.std.specs.Prelude.{◌≡◌, Some, option_map};
+ghost use Rattle.host_session.specs.Asking.{IsNext, Source, last_taken, of_events, of_script};
+ghost use Rattle.host_session.specs.Events.{message_in};
+ghost use Rattle.script_lines.specs.Resets.{Line, line_of};
 
 use script_lines::{Cut, Event, event_at, next_line};
 
@@ -43,15 +45,16 @@ pub struct OfScript<'a> {
 
 /// A list of events.
 #[derive(Drop)]
-pub struct OfEvents<'a> {
-    left: &'a [Event<'a>],
-    here: Option<&'a Event<'a>>,
+pub struct OfEvents<'a, 'b> {
+    events: &'a [Event<'b>],
+    /// How many were taken.
+    taken: usize,
 }
 
 impl<'a> OfScript<'a> {
     /// All lines of this script.
     pub fn new(script: &'a [u8]) -> OfScript<'a>
-        ensures { result.left.entry ≡ script }
+        ensures { result.left.now ≡ script.now }
     {
         OfScript {
             left: script,
@@ -61,20 +64,33 @@ impl<'a> OfScript<'a> {
     }
 }
 
-impl<'a> OfEvents<'a> {
+impl<'a, 'b> OfEvents<'a, 'b> {
     /// All of these events.
-    pub fn new(events: &'a [Event<'a>]) -> OfEvents<'a> {
-        OfEvents {
-            left: events,
-            here: None,
+    pub fn new(events: &'a [Event<'b>]) -> OfEvents<'a, 'b>
+        ensures events { result.events.now ≡ events.now }
+        ensures none { result.taken ≡ 0 }
+    {
+        OfEvents { events, taken: 0 }
+    }
+
+    /// The event that was taken last.
+    fn here(&self) -> Option<&Event<'b>>
+        ensures { option_map (λ e. e.now) result ≡ last_taken self.now.taken self.now.events.now }
+    {
+        if self.taken == 0 {
+            return None;
         }
+        self.events.get(self.taken - 1)
     }
 }
 
 /// The event of a line that begins with @, which isn't bad.
 // Out of line, so that a line without a reset is only looked at.
 #[inline(never)]
-fn reset_of(line: &[u8]) -> (&[u8], Option<Cut>) {
+fn reset_of(line: &[u8]) -> (&[u8], Option<Cut>)
+    ensures { (l : Line) → line_of line.now ≡ Some l
+        → message_in l ≡ record { bytes = result.0.now; cut_after = option_map (λ c. c.after) result.1 } }
+{
     match event_at(line) {
         Some(Event { message, cut }) => (message, cut),
         None => (line, None),
@@ -109,27 +125,26 @@ impl<'a> Asks for OfScript<'a> {
     }
 }
 
-impl<'a> Asks for OfEvents<'a> {
+impl<'a, 'b> Asks for OfEvents<'a, 'b> {
     ghost source = { of_events };
 
     fn next(&mut self) -> Next {
-        let Some((event, more)) = self.left.split_first() else {
+        if self.taken >= self.events.len() {
             return Next::End;
-        };
-        self.left = more;
-        self.here = Some(event);
+        }
+        self.taken += 1;
         Next::Event
     }
 
     fn message(&self) -> &[u8] {
-        match self.here {
+        match self.here() {
             Some(event) => event.message,
             None => &[],
         }
     }
 
     fn cut(&self) -> Option<&Cut> {
-        match self.here {
+        match self.here() {
             Some(event) => event.cut.as_ref(),
             None => None,
         }

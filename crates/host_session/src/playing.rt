@@ -2,7 +2,7 @@
 ghost use Rattle.std.specs.Prelude.{◌≡◌, ◌≢◌, ◌<◌, ◌++◌, ◌+◌, IfErr, IfOk, List, length, map, vec_capacity};
 ghost use Rattle.d64_image.specs.History.{Failed, NeverFailed};
 ghost use Rattle.host_session.specs.Events.{message_of};
-ghost use Rattle.host_session.specs.Faults.{play_number};
+ghost use Rattle.host_session.specs.Faults.{play_fault, play_number};
 ghost use Rattle.host_session.specs.Opening.{IsAShop, disk_of};
 ghost use Rattle.host_session.specs.Runs.{HeldBeginnings, IsPlayedWhole, IsRefused, StoppedByDevice};
 ghost use Rattle.host_session.specs.Shop.{IsShop, Shop};
@@ -41,6 +41,16 @@ impl PlayFault {
             PlayFault::NoMemory => 2,
             PlayFault::Device => 3,
         }
+    }
+}
+
+/// What is told of events whose run this fault ended. They are here, and so is the room for their replies.
+fn fault_of(fault: RunFault) -> PlayFault
+    ensures { result ≡ play_fault fault }
+{
+    match fault {
+        RunFault::Open(fault) => PlayFault::Open(fault),
+        RunFault::Device | RunFault::Input | RunFault::Output => PlayFault::Device,
     }
 }
 
@@ -88,8 +98,6 @@ pub fn play<D: Sectors>(
     let mut asks = OfEvents::new(events);
     match run(disk, &mut asks, replies) {
         Ok(disk) => Ok(disk),
-        Err((RunFault::Open(fault), disk)) => Err((PlayFault::Open(fault), disk)),
-        // the events are here, and so is room for their replies
-        Err((RunFault::Device | RunFault::Input | RunFault::Output, disk)) => Err((PlayFault::Device, disk)),
+        Err((fault, disk)) => Err((fault_of(fault), disk)),
     }
 }

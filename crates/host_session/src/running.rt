@@ -1,6 +1,6 @@
 //! Runs of scripts.
 ghost use Rattle.std.specs.Prelude.{◌≡◌};
-ghost use Rattle.host_session.specs.Faults.{script_number};
+ghost use Rattle.host_session.specs.Faults.{script_fault, script_number};
 ghost use Rattle.host_session.specs.ScriptRuns.{IsScriptRun};
 
 use crate::asking::OfScript;
@@ -42,6 +42,17 @@ impl ScriptFault {
     }
 }
 
+/// What is told of a script whose run this fault ended. Its input is here, and doesn't fail.
+fn fault_of(fault: RunFault) -> ScriptFault
+    ensures { result ≡ script_fault fault }
+{
+    match fault {
+        RunFault::Open(fault) => ScriptFault::Open(fault),
+        RunFault::Output => ScriptFault::Output,
+        RunFault::Device | RunFault::Input => ScriptFault::Device,
+    }
+}
+
 /// Plays the lines of a script one after another, as `play` plays events, and tells each reply before the next line is
 /// played. What comes of it are the clauses of `IsScriptRun`.
 ///
@@ -61,9 +72,6 @@ pub fn run_script<D: Sectors, T: Tells<D>>(
     let mut asks = OfScript::new(script);
     match run(disk, &mut asks, out) {
         Ok(disk) => Ok(disk),
-        Err((RunFault::Open(fault), disk)) => Err((ScriptFault::Open(fault), disk)),
-        Err((RunFault::Output, disk)) => Err((ScriptFault::Output, disk)),
-        // the input is here, and doesn't fail
-        Err((RunFault::Device | RunFault::Input, disk)) => Err((ScriptFault::Device, disk)),
+        Err((fault, disk)) => Err((fault_of(fault), disk)),
     }
 }

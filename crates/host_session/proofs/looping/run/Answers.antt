@@ -1,10 +1,9 @@
 -- A run that is refused, and one that is opened.
-use Rattle.std.proofs.Common.{◌≡◌, ◌≤◌, ◌∙◌, [], arith, ap, subst, sym}
+use Rattle.std.proofs.Common.{◌≤◌, ◌∙◌, [], arith, ap, subst, sym}
 use Rattle.host_session.proofs.Looped.{has_none, run_ended, run_refused}
 use Rattle.host_session.proofs.RunOpenings.{opening_failed, opening_later, opening_refused}
 use Rattle.host_session.proofs.Runs.{held_none}
-use Rattle.host_session.specs.Loops.{Ends, HasCome, IsStretch, Origin, with_disk}
-use Rattle.host_session.proofs.looping.run.Given.{Over}
+use Rattle.host_session.specs.Loops.{Ends, IsStretch, Origin, with_disk}
 use Rattle.host_session.proofs.looping.run.Goals as goal
 
 pub returns-in-Err : goal.returns-in-Err

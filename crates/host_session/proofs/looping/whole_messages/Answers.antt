@@ -1,13 +1,10 @@
 -- One whole message more.
-use Rattle.std.proofs.Common.{◌≡◌, ◌∙◌, ◌<◌, ◌≤◌, false, None, arith, le_refl, not, ap, subst, sym}
+use Rattle.std.proofs.Common.{◌≡◌, ◌∙◌, false, arith, le_refl, not, ap, subst, sym}
 use Rattle.std.proofs.lemmas.Bool.{false≢true}
 use Rattle.host_session.proofs.Looped.{at_end, at_fault, breaks_off, fails, goes_on, is_whole, no_cut, some_cut, takes_one, was_broken, was_told}
-use Rattle.host_session.specs.Asking.{IsNext, TakesOne}
-use Rattle.host_session.specs.Loops.{HasComeBut, Origin}
+use Rattle.host_session.specs.Asking.{IsNext}
 use Rattle.host_session.specs.OneEvent.{EndsFailed, GoesOn, IsEvent}
-use Rattle.host_session.specs.Shop.{IsSettled, Shop}
 use Rattle.host_session.specs.Telling.{IsTold}
-use Rattle.host_session.proofs.looping.whole_messages.Given.{Over}
 use Rattle.host_session.proofs.looping.whole_messages.Goals as goal
 
 pub loop-asks-init : goal.loop-asks-init

@@ -1,0 +1,62 @@
+-- The ends of a run of events.
+use Rattle.std.proofs.Common.{◌≡◌, ◌++◌, ◌∙◌, List, arith, le_refl, map, subst, sym}
+use Rattle.d64_image.proofs.Moments.{start}
+use Rattle.request_cards.specs.declared.reply.Reply.{Reply}
+use Rattle.host_session.proofs.EventEnds.{IsEventsEnd, faulted, whole_run}
+use Rattle.host_session.proofs.Runs.{held_none}
+use Rattle.host_session.specs.Asking.{of_events}
+use Rattle.host_session.specs.Events.{message_of}
+use Rattle.host_session.specs.Loops.{IsRun}
+use Rattle.host_session.specs.Outputs.{listed}
+use Rattle.host_session.specs.Shop.{IsShop}
+use Rattle.host_session.proofs.playing.play.Goals as goal
+
+pub returns-in-Err-clause-moments : goal.returns-in-Err-clause-moments
+returns-in-Err-clause-moments g c = λ s shop.
+    let h = g.D.Sectors.history in
+    held_none h s (map message_of c.args.events.now) c.args.disk c.args.disk (start h c.args.disk (λ i. IsShop i s) shop) (le_refl (h.failures c.args.disk))
+
+pub returns-in-Ok-run : goal.returns-in-Ok-run
+returns-in-Ok-run g c =
+    let h = g.D.Sectors.history in
+    let old = c.try_reserve.new.self in
+    let new = c.run.new.out in
+    let k = subst (IsRun h of_events listed c.args.disk c.new-asks.result c.run.new.asks old new) c.in-Ok-run.is c.run.ensures in
+    let w = whole_run h c.args.disk c.args.events.now c.new-asks.result c.run.new.asks old new c.new-asks.ensures.events c.new-asks.ensures.none
+    (omega (arith, c.in-Ok.ensures.ok)) c.in-Ok-run.disk k in
+    record {
+      shop = k.shop.0;
+      ok = λ s shop.
+          let x = w.0 s shop in
+          (x.0, subst (λ (xs : List Reply). new.items ≡ xs ++ x.0) c.in-Ok.ensures.items x.1, x.2);
+      device = λ s shop. tt;
+      moments = w.1;
+      plays = λ shop never. tt;
+      «open» = tt;
+      cause = tt;
+      memory = tt;
+      silent = tt;
+    }
+
+pub returns-in-Err-run : goal.returns-in-Err-run
+returns-in-Err-run g c =
+    let h = g.D.Sectors.history in
+    let old = c.try_reserve.new.self in
+    let new = c.run.new.out in
+    let k = subst (IsRun h of_events listed c.args.disk c.new-asks.result c.run.new.asks old new) c.in-Err-run.is c.run.ensures in
+    let e = subst (IsEventsEnd h c.args.disk c.in-Err-run.disk (map message_of c.args.events.now) old.items new.items) (sym c.fault_of.ensures)
+    (faulted h c.args.disk c.args.events.now c.new-asks.result c.run.new.asks old new c.new-asks.ensures.events c.new-asks.ensures.none
+    (omega (arith, c.in-Ok.ensures.ok)) c.in-Err-run.disk c.in-Err-run.fault k) in
+    record {
+      shop = tt;
+      ok = λ s shop. tt;
+      device = λ s shop is.
+          let x = e.device s shop is in
+          (x.0, subst (λ (xs : List Reply). new.items ≡ xs ++ x.0) c.in-Ok.ensures.items x.1, x.2);
+      moments = e.moments;
+      plays = e.plays;
+      «open» = e.«open»;
+      cause = e.cause;
+      memory = λ is. absurd (e.memory is);
+      silent = λ other. e.silent other ∙ c.in-Ok.ensures.items;
+    }
