@@ -113,6 +113,7 @@ module _ {F T : Type 0} {G : Ghosts F} (o : Output T) (start : Mirror F G) (whol
           run = subst (λ turns. HasRun file_run s p.begun turns (file_disk start) (file_disk b)) more
               (run_of_file start whole s p.begun (p.run.turns ++ p.run.last ∷ []) b p.run.run);
           told = subst (λ xs. o.broken_off old new xs p.run.last.0) (same_images start whole p.run.turns) p.run.told;
+          full = p.run.full;
         };
         stopped = record {
           begun = p.stopped.begun;
@@ -135,7 +136,7 @@ module _ {F T : Type 0} {G : Ghosts F} (o : Output T) (start : Mirror F G) (whol
       run = failing_of_file start whole s p.begun p.run.turns p.run.last b p.run.run;
       told = ⊎_elim
           (λ t. inl (subst (λ xs. o.told old new (xs ++ (p.run.last, mirror.image b) ∷ [])) (same_images start whole p.run.turns) t))
-          (λ t. inr (subst (λ xs. o.broken_off old new xs p.run.last) (same_images start whole p.run.turns) t))
+          (λ t. inr (subst (λ xs. o.broken_off old new xs p.run.last) (same_images start whole p.run.turns) t.0, t.1))
           p.run.told;
     };
     stopped = record {

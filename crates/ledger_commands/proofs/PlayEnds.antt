@@ -43,7 +43,7 @@ module _ {D T : Type 0} (h : History D) (o : Output T) (disk : D) (script : List
     begun = p.begun;
     rest = p.rest;
     parts = p.parts;
-    run = record { turns = p.run.turns; last = p.run.last; run = p.run.run; told = kept.1 old _ _ p.run.told };
+    run = record { turns = p.run.turns; last = p.run.last; run = p.run.run; told = kept.1 old _ _ p.run.told; full = p.run.full };
     stopped = p.stopped;
   }
 
@@ -56,7 +56,7 @@ module _ {D T : Type 0} (h : History D) (o : Output T) (disk : D) (script : List
       turns = p.run.turns;
       last = p.run.last;
       run = p.run.run;
-      told = ⊎_elim (λ t. inl (kept.0 old _ t)) (λ t. inr (kept.1 old _ _ t)) p.run.told;
+      told = ⊎_elim (λ t. inl (kept.0 old _ t)) (λ t. inr (kept.1 old _ _ t.0, t.1)) p.run.told;
     };
     stopped = p.stopped;
   }
