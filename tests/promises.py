@@ -15,16 +15,22 @@ WORD = r"[A-Za-z_]\w*"
 
 
 def record_fields():
-    """The fields of each record of specs/."""
-    found = {}
+    """The fields of each record of specs/ and the words of their types, with those of the records among these."""
+    found, cited = {}, {}
     for file in TOP.glob("crates/*/specs/**/*.antt"):
         name = None
         for line in file.read_text().split("\n"):
             head = re.match(rf"pub record ({WORD})", line)
-            field = re.match(rf"  pub «?({WORD})»? :", line)
+            field = re.match(rf" +pub «?({WORD})»? :", line)
             name = head[1] if head else name if line.startswith(" ") or not line else None
             if name and field:
                 found.setdefault(name, set()).add(field[1])
+            if name and not head:
+                cited.setdefault(name, set()).update(re.findall(WORD, re.sub(r"--.*", "", line)))
+    for _ in range(3):  # records within records within records
+        for name, words in cited.items():
+            beneath = [found[it] for it in words if it in found and it != name]
+            found.setdefault(name, set()).update(words, *beneath)
     return found
 
 

@@ -1,5 +1,5 @@
 //! Files and outputs of the rows, in memory, also such as fail.
-use ledger_commands::EndedFile;
+use ledger_commands::{EndedFile, WritesAt};
 use std::io::{self, Cursor, Seek, SeekFrom, Write};
 use std::process::Abort;
 
@@ -75,6 +75,13 @@ impl Write for Tape {
 impl Seek for Tape {
     fn seek(&mut self, to: SeekFrom) -> io::Result<u64> {
         self.bytes.seek(to)
+    }
+}
+
+impl WritesAt for Tape {
+    fn write_all_at(&mut self, bytes: &[u8], at: u64) -> io::Result<()> {
+        self.bytes.seek(SeekFrom::Start(at))?;
+        self.write_all(bytes)
     }
 }
 

@@ -4,8 +4,7 @@ use crate::files::{Full, filled};
 use crate::images::{
     Bytes, S17_0, S17_1, S17_2, S17_3, S17_4, S18_0, S18_1, S19_13, formatted, patch, put,
 };
-use ledger_commands::{RunFault, format_file, format_image};
-use std::fs::File;
+use ledger_commands::{RunFault, format_image};
 use std::process::Abort;
 
 /// What an image has for two tills beside the records and zeros.
@@ -127,12 +126,4 @@ fn a_file_or_an_output_that_fails_is_told(rt: HostRuntime) {
     is_not_formatted(&rt, full(174848, false), full(100, true), 100);
     is_not_formatted(&rt, full(174848, true), full(9, true), 0);
     is_not_formatted(&rt, full(174848, true), full(10, false), 0);
-}
-
-#[test]
-fn nothing_is_formatted_without_a_file(rt: HostRuntime) {
-    let mut out = Vec::new(rt.alloc());
-    let none: Option<File> = None;
-    let ended = format_file(rt.alloc(), 2, none, &mut out);
-    same(&rt, (ended, out.is_empty()), (Err(RunFault::File), true));
 }

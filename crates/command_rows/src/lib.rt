@@ -18,6 +18,8 @@ mod format_rows;
 #[cfg(test)]
 mod images;
 #[cfg(test)]
+mod kept_rows;
+#[cfg(test)]
 mod listing_rows;
 #[cfg(test)]
 mod placed_rows;

@@ -1,67 +1,58 @@
-//! The file of `play`: where its writes go.
-use crate::comparing::{same, same_at};
+//! The file of `play`: where its sectors go.
+use crate::comparing::{holds, same, same_at};
+use crate::files::{filled, new_tape};
+use d64_image::{Place, SectorFile};
 use ledger_commands::Placed;
-use std::cell::Cell;
-use std::io::{self, Seek, SeekFrom, Write};
-use std::os::unix::fs::FileExt;
 use std::process::Abort;
 
-/// A file that takes three bytes a write, and each write only at the place that is its first byte's number. It counts the
-/// bytes that it took; a write is interrupted where it was told so before.
-#[derive(Drop)]
-struct Numbered<'a> {
-    taken: &'a Cell<usize>,
-    interrupts: &'a Cell<bool>,
-}
+// The offsets are those of the published table: track 18 begins at $16500.
+const ROWS: [(u8, u8, usize); 6] = [
+    (18, 1, 0x16600),
+    (17, 20, 0x16400),
+    (18, 0, 0x16500),
+    (35, 16, 0x2AA00),
+    (1, 0, 0),
+    (1, 1, 256),
+];
 
-impl FileExt for Numbered<'_> {
-    fn read_at(&self, _: &mut [u8], _: u64) -> io::Result<usize> {
-        Ok(0)
+/// Sees that a file of zeros that keeps these sectors, each filled with its track, has them there alone.
+fn are_placed(rt: &(impl AllocGlobal + Abort), rows: &[(u8, u8, usize)]) {
+    let zeros = filled(rt, 0, 174_848);
+    let mut file = Placed::new(new_tape(rt, zeros.as_slice(), usize::MAX));
+    for (track, sector, _) in rows {
+        let place = Place::new(*track, *sector).unwrap_or_default();
+        same(rt, file.keep(place, &[*track; 256]).is_ok(), true);
     }
-
-    fn write_at(&self, buf: &[u8], offset: u64) -> io::Result<usize> {
-        if self.interrupts.replace(false) {
-            return Err(io::Error::from(io::ErrorKind::Interrupted));
-        }
-        match buf {
-            [first, ..] if u64::from(*first) == offset => {
-                let taken = buf.len().min(3);
-                self.taken.set(self.taken.get().saturating_add(taken));
-                Ok(taken)
-            }
-            _ => Err(io::Error::from(io::ErrorKind::InvalidInput)),
+    let tape = file.into_inner();
+    same(rt, tape.bytes().len(), 174_848);
+    let mut wanted = zeros;
+    for (track, _, at) in rows {
+        for byte in wanted.as_mut_slice().iter_mut().skip(*at).take(256) {
+            *byte = *track;
         }
     }
-}
-
-/// Sees whether the file takes these bytes where it stands.
-fn writes(rt: &impl Abort, file: &mut Placed<Numbered<'_>>, bytes: &[u8], taken: bool) {
-    same_at(rt, file.write_all(bytes).is_ok(), taken, bytes);
-}
-
-/// Sees where the file stands once it is sent there.
-fn goes(rt: &impl Abort, file: &mut Placed<Numbered<'_>>, to: SeekFrom, at: Option<u64>) {
-    same(rt, file.seek(to).ok(), at);
+    holds(rt, tape.bytes() == wanted.as_slice(), "the file");
 }
 
 #[test]
-fn writes_go_on_where_they_ended(rt: HostRuntime) {
-    let (taken, interrupts) = (Cell::new(0), Cell::new(false));
-    let mut file = Placed::new(Numbered {
-        taken: &taken,
-        interrupts: &interrupts,
-    });
-    writes(&rt, &mut file, &[0, 1, 2, 3, 4, 5, 6], true);
-    writes(&rt, &mut file, &[7, 8], true);
-    goes(&rt, &mut file, SeekFrom::Start(200), Some(200));
-    writes(&rt, &mut file, &[200, 201, 202, 203], true);
-    goes(&rt, &mut file, SeekFrom::Current(-4), Some(200));
-    writes(&rt, &mut file, &[200], true);
-    goes(&rt, &mut file, SeekFrom::End(0), None);
-    writes(&rt, &mut file, &[9], false);
-    interrupts.set(true);
-    writes(&rt, &mut file, &[201, 202], true);
-    same(&rt, file.stream_position().ok(), Some(203));
-    // 7, 2, 4 and 1, and the 2 that were interrupted
-    same(&rt, taken.get(), 16);
+fn sectors_go_to_their_places(rt: HostRuntime) {
+    are_placed(&rt, &ROWS);
+}
+
+/// Sees that a file that takes so many bytes keeps a sector, or doesn't.
+fn is_kept(rt: &(impl AllocGlobal + Abort), room: usize, kept: bool) {
+    let mut file = Placed::new(new_tape(rt, &[], room));
+    same_at(
+        rt,
+        file.keep(Place::default(), &[7; 256]).is_ok(),
+        kept,
+        room,
+    );
+}
+
+#[test]
+fn a_sector_is_kept_whole(rt: HostRuntime) {
+    is_kept(&rt, 256, true);
+    is_kept(&rt, 255, false);
+    is_kept(&rt, 0, false);
 }

@@ -1,9 +1,9 @@
 //! Scripts and images that are refused: what is told, and that nothing is written.
-use crate::comparing::{holds, same, same_at};
-use crate::files::{Tape, filled};
+use crate::comparing::{holds, same_at};
+use crate::files::filled;
 use crate::images::{Bytes, S17_0, S17_2, S18_1, changed, formatted};
 use crate::runs::{is_told, played};
-use ledger_commands::{RunFault, play_file, show_image};
+use ledger_commands::{RunFault, show_image};
 use std::process::Abort;
 
 /// Scripts with a line that can't be played, and what is told of each.
@@ -100,12 +100,4 @@ fn other_sizes_are_refused(rt: HostRuntime) {
     is_no_disk(&rt, image.as_slice(), 0);
     is_no_disk(&rt, image.as_slice(), 174_847);
     is_no_disk(&rt, image.as_slice(), 175_531);
-}
-
-#[test]
-fn nothing_is_played_without_a_file(rt: HostRuntime) {
-    let mut out = Vec::new(rt.alloc());
-    let file: Option<Tape> = None;
-    let ended = play_file(rt.alloc(), &[0; 100], b"@", file, &mut out);
-    same(&rt, (ended, out.is_empty()), (Err(RunFault::File), true));
 }

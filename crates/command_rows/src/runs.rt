@@ -1,28 +1,41 @@
 //! Runs of the commands: what they print, show and tell.
 use crate::comparing::{holds, same};
 use crate::files::{Paper, Tape, new_tape};
-use ledger_commands::{RunFault, check_image, play_image, show_image};
+use host_session::Printer;
+use ledger_commands::{Placed, RunFault, check_image, play_file, show_image};
 use std::fmt::Display;
 use std::io::Write;
 use std::process::Abort;
 
 /// How a run ended, and the file that it handed back.
-fn parted(run: Result<Tape, (RunFault, Tape)>) -> (Result<(), RunFault>, Tape) {
+fn parted(run: Result<Placed<Tape>, (RunFault, Placed<Tape>)>) -> (Result<(), RunFault>, Tape) {
     match run {
-        Ok(file) => (Ok(()), file),
-        Err((fault, file)) => (Err(fault), file),
+        Ok(file) => (Ok(()), file.into_inner()),
+        Err((fault, file)) => (Err(fault), file.into_inner()),
     }
 }
 
-/// Plays a script on the image, over a file that takes all: how it ends, and the file.
+/// Plays a script on the image, over a file that takes so many bytes: how it ends, and the file.
+pub(crate) fn played_within<W: Write>(
+    rt: &(impl AllocGlobal + Abort),
+    image: &[u8],
+    script: &[u8],
+    room: usize,
+    out: &mut W,
+) -> (Result<(), RunFault>, Tape) {
+    let file = Placed::new(new_tape(rt, image, room));
+    let mut printer = Printer::new(out);
+    parted(play_file(rt.alloc(), image, script, file, &mut printer))
+}
+
+/// The same over a file that takes all.
 pub(crate) fn played<W: Write>(
     rt: &(impl AllocGlobal + Abort),
     image: &[u8],
     script: &[u8],
     out: &mut W,
 ) -> (Result<(), RunFault>, Tape) {
-    let file = new_tape(rt, image, usize::MAX);
-    parted(play_image(rt.alloc(), image, script, file, out))
+    played_within(rt, image, script, usize::MAX, out)
 }
 
 /// Sees that this was printed, and handed on by a flush.
@@ -36,7 +49,12 @@ pub(crate) fn is_shown(rt: &(impl AllocGlobal + Abort), image: &[u8], shown: &[u
     let mut out = Vec::new(rt.alloc());
     let found = check_image(rt.alloc(), image, &mut out);
     same(rt, (found, out.as_slice()), (Ok(None), b"OK\n"));
-    out.clear();
+    shows(rt, image, shown);
+}
+
+/// Sees that this is shown of the image.
+pub(crate) fn shows(rt: &(impl AllocGlobal + Abort), image: &[u8], shown: &[u8]) {
+    let mut out = Vec::new(rt.alloc());
     let ended = show_image(rt.alloc(), image, &mut out);
     same(rt, (ended, out.as_slice()), (Ok(()), shown));
 }

@@ -1,9 +1,9 @@
 //! Scripts played over a file or an output that fails, and what stands then.
 use crate::comparing::{same, same_at};
-use crate::files::{Full, blank_paper, new_tape};
+use crate::files::{Full, blank_paper};
 use crate::images::formatted;
-use crate::runs::{is_printed, is_shown, played};
-use ledger_commands::{RunFault, play_file, show_image};
+use crate::runs::{is_printed, is_shown, played, played_within};
+use ledger_commands::{RunFault, show_image};
 use std::io::Write;
 use std::process::Abort;
 
@@ -26,8 +26,7 @@ fn is_stopped<W: Write>(
     room: usize,
     out: &mut W,
 ) {
-    let file = Some(new_tape(rt, image, room));
-    let ended = play_file(rt.alloc(), image, script, file, out);
+    let (ended, _) = played_within(rt, image, script, room, out);
     same_at(rt, ended, Err(RunFault::Device), script);
 }
 

@@ -1,5 +1,5 @@
 -- Worked examples of this crate's definitions, each named by what it shows. The numbers are those of the D64 layout.
-use Rattle.std.proofs.Common.{ℕ, ◌+◌, ◌≡◌, ◌<◌, ◌≤◌, ◌≢◌, List, [], ◌∷◌, Option, Some, None, Err, true, inl, refl, sym, ◌∙◌, lit<, lit≤, ⊎_elim, arith}
+use Rattle.std.proofs.Common.{◌+◌, ◌≡◌, ◌<◌, ◌≤◌, ◌≢◌, [], ◌∷◌, Some, None, Err, true, inl, refl, sym, ◌∙◌, lit<, lit≤, ⊎_elim, arith}
 use Rattle.std.proofs.lemmas.Option.{none-some, same_Some}
 use Rattle.d64_image.specs.declared.place.Place.{Place}
 use Rattle.d64_image.specs.Geometry.{sectors_on, sectors_below}
@@ -10,7 +10,10 @@ use Rattle.d64_image.specs.Faults.{device_fault}
 use Rattle.d64_image.specs.Fuses.{fuse, fuse_left}
 use Rattle.d64_image.specs.History.{History, HeldOnly, Failed, IfCounted, OnlyReads, OldOr, WritesNothing}
 use Rattle.d64_image.specs.Memory.{memory}
-use Rattle.d64_image.specs.Mirrors.{IsHanded, with_sectors, IsSought, mirror, offset_of, overwritten, TookSectors, is_broken, mirror_file}
+use Rattle.d64_image.specs.Keeps.{Agrees, put_kept}
+use Rattle.d64_image.specs.Mirrors.{IsMirrored, is_broken, mirror, mirror_file, mirror_writes}
+use Rattle.d64_image.specs.Offsets.{offset_of, overwritten}
+use Rattle.d64_image.specs.declared.sector_file.SectorFile.{Ghosts}
 use Rattle.d64_image.specs.OneFaults.{calls_left, fault_place, is_due, one_fault}
 use Rattle.d64_image.specs.declared.fuse.Fuse.{Fuse}
 use Rattle.d64_image.specs.declared.mem_disk.MemDisk.{MemDisk}
@@ -124,35 +127,27 @@ map_is_at_16500_of_the_file = refl
 pub two_bytes_are_overwritten : overwritten (1 ∷ 2 ∷ 3 ∷ 4 ∷ []) 1 (5 ∷ 6 ∷ []) ≡ 1 ∷ 5 ∷ 6 ∷ 4 ∷ []
 two_bytes_are_overwritten = refl
 
--- a file that stands elsewhere isn't handed a sector without a seek
-pub file_that_stands_elsewhere_is_sought : {F : Type 0} (position : F → Option ℕ) (bytes contents : F → Option (List ℕ)) (old new : F) (handed : List ℕ)
-    → (x : IsHanded position bytes contents (Some 512) old new 256 handed) → IsSought position bytes old x.ready 256
-file_that_stands_elsewhere_is_sought position bytes contents old new handed x = ⊎_elim
-    (λ there. absurd (omega (arith, same_Some 512 256 there.0)))
-    (λ sought. sought.1)
-    x.there
+-- of a file of which nothing is known each image is one that it may keep, and a sector more makes nothing known
+pub unknown_agrees_with_each_image : (img : Image) → Agrees None img
+unknown_agrees_with_each_image img = refl
 
--- and one that stands there is handed it without one
-pub file_that_stands_there_is_not_sought : {F : Type 0} (position : F → Option ℕ) (bytes contents : F → Option (List ℕ)) (old new : F) (handed : List ℕ)
-    → (x : IsHanded position bytes contents (Some 256) old new 256 handed) → x.ready ≡ old
-file_that_stands_there_is_not_sought position bytes contents old new handed x = ⊎_elim (λ there. there.1) (λ sought. absurd (sought.0 refl)) x.there
+pub unknown_stays_unknown : (p : Place) (bytes : Sector) → put_kept None p bytes ≡ None
+unknown_stays_unknown p bytes = refl
 
--- a mirror whose file failed fails everywhere
-pub broken_mirror_fails_everywhere : {F : Type 0} (position : F → Option ℕ) (bytes contents : F → Option (List ℕ)) (m : Mirror F) (p : Place)
-    → m.broken ≡ true → (mirror position bytes contents).failed_at m p
-broken_mirror_fails_everywhere position bytes contents m p broken = broken
+-- and one that keeps an image agrees with no other
+pub known_agrees_with_its_image : (img other : Image) → Agrees (Some img) other → img ≡ other
+known_agrees_with_its_image img other agrees = agrees
 
-pub two_sectors_are_in_it : (img : Image) (p q : Place) (a b : Sector)
-    → with_sectors img (record { place = p; bytes = a } ∷ record { place = q; bytes = b } ∷ []) ≡ put (put img p a) q b
-two_sectors_are_in_it img p q a b = refl
+module _ {F : Type 0} {G : Ghosts F} where
+  -- a mirror whose file failed fails everywhere
+  pub broken_mirror_fails_everywhere : (m : Mirror F G) (p : Place) → m.broken ≡ true → mirror.failed_at m p
+  broken_mirror_fails_everywhere m p broken = broken
 
--- a mirror that took no sector left its file alone
-pub mirror_that_took_nothing_left_its_file : {F : Type 0} (position : F → Option ℕ) (bytes contents : F → Option (List ℕ)) (old new : Mirror F)
-    → TookSectors position bytes contents old new [] → ¬ (is_broken new) → mirror_file new ≡ mirror_file old
-mirror_that_took_nothing_left_its_file position bytes contents old new took whole = ⊎_elim
-    (λ broken. absurd (whole broken))
-    (λ same. same.0 ∙ took.handed)
-    took.end
+  -- a mirror that took no sector left its file alone
+  pub mirror_that_took_nothing_left_its_file : (old new : Mirror F G) → IsMirrored old new → mirror_writes old ≡ 0 → mirror_writes new ≡ 0
+      → ¬ (is_broken new) → mirror_file new ≡ mirror_file old
+  mirror_that_took_nothing_left_its_file old new x none still whole =
+      ⊎_elim (λ broken. absurd (whole broken)) (λ same. same) (x.quiet (still ∙ sym none) (omega (arith, still)))
 
 -- a fault that comes at the next call but one isn't due, and neither is one that is past
 pub fault_after_one_call_is_not_due : {D : Type 0} (f : OneFault D) → calls_left f ≡ 1 → ¬ (is_due f)

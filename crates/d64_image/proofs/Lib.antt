@@ -1,9 +1,10 @@
 pub mod Chunks
 pub mod Examples
+pub mod FileRuns
 pub mod Fused
 pub mod Images
-pub mod Mirrored
 pub mod Moments
+pub mod Offsets
 pub mod Once
 pub mod OneCalls
 pub mod Places

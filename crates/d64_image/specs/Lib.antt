@@ -1,11 +1,15 @@
 pub mod Calls
 pub mod Faults
+pub mod FileDisks
 pub mod Fuses
 pub mod Geometry
 pub mod History
 pub mod Images
+pub mod Keeps
+pub mod KeptDisks
 pub mod Memory
 pub mod Meters
 pub mod Mirrors
+pub mod Offsets
 pub mod OneFaults
 pub mod Places

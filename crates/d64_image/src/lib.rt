@@ -4,18 +4,22 @@
 mod count;
 mod faults;
 mod fuse;
+mod kept_disk;
 mod mem_disk;
 mod meter;
 mod mirror;
 mod one_fault;
 mod place;
+mod sector_file;
 mod sectors;
 
 pub use faults::{DeviceFault, ImageFault};
 pub use fuse::Fuse;
+pub use kept_disk::KeptDisk;
 pub use mem_disk::MemDisk;
 pub use meter::Meter;
 pub use mirror::Mirror;
 pub use one_fault::OneFault;
 pub use place::Place;
+pub use sector_file::SectorFile;
 pub use sectors::Sectors;

@@ -1,109 +1,82 @@
 //! A mirror over a file in memory, also where that fails, and a disk of which one call fails.
 use crate::comparing::{same, same_at};
 use crate::disks::{at, sector};
-use d64_image::{DeviceFault, MemDisk, Mirror, OneFault, Place, Sectors};
-use std::io::{self, Cursor, Seek, SeekFrom, Write};
+use d64_image::{DeviceFault, KeptDisk, MemDisk, Mirror, OneFault, Place, Sectors};
+use recorder::Recorder;
 use std::test::Fail;
 
-/// A file in memory that counts its seeks, and fails once it has taken so many bytes.
-#[derive(Drop)]
-struct Tape {
-    bytes: Cursor<Vec<u8>>,
-    room: usize,
-    seeks: u32,
-}
-
-impl Write for Tape {
-    fn write(&mut self, buf: &[u8]) -> io::Result<usize> {
-        let room = buf.len().min(self.room);
-        if room == 0 {
-            return Err(io::Error::from(io::ErrorKind::StorageFull));
-        }
-        let taken = self.bytes.write(&buf[..room])?;
-        self.room = self.room.saturating_sub(taken);
-        Ok(taken)
-    }
-
-    fn flush(&mut self) -> io::Result<()> {
-        Ok(())
-    }
-}
-
-impl Seek for Tape {
-    fn seek(&mut self, to: SeekFrom) -> io::Result<u64> {
-        self.seeks = self.seeks.saturating_add(1);
-        self.bytes.seek(to)
-    }
-}
-
-/// A disk of zeros, mirrored in a file of zeros that takes so many bytes.
-fn mirrored(rt: &HostRuntime, room: usize) -> Result<Mirror<Tape>, Fail> {
+/// A disk of zeros, mirrored in a device that records each image, and of which one call fails.
+fn mirrored(
+    rt: &HostRuntime,
+    fails_at: u32,
+    done: bool,
+) -> Result<Mirror<KeptDisk<OneFault<Recorder<MemDisk>>>>, Fail> {
     let bytes = vec![in rt.alloc(); 0; 174_848]?;
     let disk = MemDisk::load(rt.alloc(), bytes.as_slice())?;
-    let file = Tape {
-        bytes: Cursor::new(bytes),
-        room,
-        seeks: 0,
-    };
-    Ok(Mirror::new(file, disk))
+    let kept = MemDisk::load(rt.alloc(), bytes.as_slice())?;
+    let file = OneFault::new(Recorder::new(rt.alloc(), kept), fails_at, done);
+    Ok(Mirror::new(KeptDisk::new(file), disk))
 }
 
-// The offsets are those of the published table: track 18 begins at $16500.
+/// The first byte of the sector when so many changes were recorded.
+fn first_at(recorder: &mut Recorder<MemDisk>, moment: usize, place: Place) -> u8 {
+    let mut bytes = [0xEE; 256];
+    let _ = recorder.read_at(moment, place, &mut bytes);
+    bytes[0]
+}
+
+// The rows: the sector, and what its first byte is then.
 #[test]
-fn a_sector_goes_to_its_place_in_the_file(rt: HostRuntime) -> Result<(), Fail> {
-    let rows = [
-        (18, 1, 0x16600),
-        (17, 20, 0x16400),
-        (18, 0, 0x16500),
-        (35, 16, 0x2AA00),
-        (1, 0, 0),
-        (1, 1, 256),
-    ];
-    let mut mirror = mirrored(&rt, 174_848)?;
-    for (track, sector, _) in rows {
-        mirror.write(at(track, sector), &[track + sector; 256])?;
+fn each_sector_goes_to_the_file_in_its_turn(rt: HostRuntime) -> Result<(), Fail> {
+    let rows = [(18, 1, 1), (17, 20, 2), (18, 1, 3), (1, 0, 4)];
+    let mut mirror = mirrored(&rt, 1000, false)?;
+    for (track, sector, byte) in rows {
+        mirror.write(at(track, sector), &[byte; 256])?;
     }
+    same(&rt, mirror.is_broken(), false);
     let (file, disk) = mirror.into_inner();
-    let bytes = file.bytes.into_inner();
-    same(&rt, bytes.as_slice(), disk.bytes());
-    for (track, sector, at) in rows {
-        let held = bytes.as_slice().get(at).copied();
-        same_at(&rt, held, Some(track + sector), (track, sector));
+    let mut recorder = file.into_inner().into_inner();
+    for (moment, byte) in [(0, 0), (1, 1), (2, 1), (3, 3), (4, 3)] {
+        same_at(
+            &rt,
+            first_at(&mut recorder, moment, at(18, 1)),
+            byte,
+            moment,
+        );
     }
-    // none for 18/0 behind 17/20, and none for 1/1 behind 1/0
-    same(&rt, file.seeks, 4);
+    same(&rt, recorder.moments(), 4);
+    same(&rt, recorder.into_inner().bytes(), disk.bytes());
     Ok(())
 }
 
+// The file may have taken the sector at which it failed; memory hasn't.
 #[test]
 fn a_file_that_fails_leaves_memory(rt: HostRuntime) -> Result<(), Fail> {
-    // room for two sectors, and for a part of the third
-    let mut mirror = mirrored(&rt, 612)?;
-    let mut bytes = [7; 256];
-    let answers = [
-        mirror.write(at(18, 0), &[1; 256]),
-        mirror.write(at(17, 4), &[2; 256]),
-        mirror.write(at(17, 0), &[3; 256]),
-        mirror.write(at(18, 1), &[4; 256]),
-        mirror.read(at(18, 0), &mut bytes),
-    ];
-    let failed = Err(DeviceFault);
-    same(&rt, answers, [Ok(()), Ok(()), failed, failed, failed]);
-    let (file, mut disk) = mirror.into_inner();
-    for (place, first) in [
-        (at(18, 0), 1),
-        (at(17, 4), 2),
-        (at(17, 0), 0),
-        (at(18, 1), 0),
-    ] {
-        same_at(&rt, sector(&mut disk, place)[0], first, place);
+    for (done, first) in [(false, 0), (true, 3)] {
+        let mut mirror = mirrored(&rt, 2, done)?;
+        let mut bytes = [7; 256];
+        let answers = [
+            mirror.write(at(18, 0), &[1; 256]),
+            mirror.write(at(17, 4), &[2; 256]),
+            mirror.write(at(17, 0), &[3; 256]),
+            mirror.write(at(18, 1), &[4; 256]),
+            mirror.read(at(18, 0), &mut bytes),
+        ];
+        let failed = Err(DeviceFault);
+        same(&rt, answers, [Ok(()), Ok(()), failed, failed, failed]);
+        same(&rt, mirror.is_broken(), true);
+        let (file, mut disk) = mirror.into_inner();
+        let mut kept = file.into_inner().into_inner().into_inner();
+        for (place, in_memory, in_file) in [
+            (at(18, 0), 1, 1),
+            (at(17, 4), 2, 2),
+            (at(17, 0), 0, first),
+            (at(18, 1), 0, 0),
+        ] {
+            let there = (sector(&mut disk, place)[0], sector(&mut kept, place)[0]);
+            same_at(&rt, there, (in_memory, in_file), (place, done));
+        }
     }
-    // it had taken a part of the sector on 17/0
-    same(
-        &rt,
-        file.bytes.into_inner().as_slice().get(0x15000),
-        Some(&3),
-    );
     Ok(())
 }
 

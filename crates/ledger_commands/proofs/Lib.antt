@@ -1,6 +1,9 @@
 pub mod Examples
 pub mod FreshShops
 pub mod Lines
+pub mod FileChains
+pub mod FileEnds
+pub mod FileScripts
 pub mod Listings
 mod PlayEnds
 pub mod Replies

@@ -38,13 +38,6 @@ pub record IsHandedOver {F : Type 0} (contents : F → Option (List ℕ)) (tills
   pub fresh : AreFreshBytes tills bytes
   pub appended : Appends (contents old) (contents new) bytes
 
--- the same of a file that is there
-pub record IsHandedTo {F : Type 0} (contents : F → Option (List ℕ)) (tills : ℕ) (file : Option F) : Type 0 where
-  pub before : F
-  pub is : file ≡ Some before
-  pub after : F
-  pub image : IsHandedOver contents tills before after
-
 -- the image's directory, of an image that has the size of a disk
 pub record HasDirectory (image : List ℕ) : Type 0 where
   pub size : length image ≡ 174848

@@ -1,24 +1,32 @@
--- A file that is written at the places to which it is sent. Our own.
-use Rattle.std.specs.Prelude.{◌≡◌, ◌<◌, ◌+◌, ◌-◌, ◌^◌, ℕ, Result, Ok, Err}
+-- A file that keeps the sectors of a disk at their places. Our own.
+use Rattle.std.specs.Prelude.{◌≡◌, ◌≤◌, ◌+◌, ℕ, List, None, Option, Some, Result, Ok, Err, length, take, ⊤}
+use Rattle.std.proofs.Common.{arith, le_refl}
+use Rattle.d64_image.specs.Keeps.{Keeps, unknown}
+use Rattle.d64_image.specs.Offsets.{overwritten}
 use Rattle.ledger_commands.specs.declared.placed.Placed.{Placed}
 
--- the file, and the place at which it is written next
+-- the file
 abbrev pub placed_file : {F : Type 0} → Placed F → F
 placed_file p = p.file
 
-abbrev pub placed_at : {F : Type 0} → Placed F → ℕ
-placed_at p = p.at
+-- In a file of which the bytes are known, and which is as long, these stand in place of those from n on, and nothing else
+-- changed.
+abbrev pub IsOverwritten : (old new : Option (List ℕ)) → ℕ → List ℕ → Type 0
+IsOverwritten None new n bytes = ⊤
+IsOverwritten (Some all) new n bytes = n + length bytes ≤ length all → new ≡ Some (overwritten all n bytes)
 
--- so many bytes were taken: the place stands behind them
-abbrev pub StandsBehind : {F : Type 0} → Placed F → Placed F → ℕ → Type 0
-StandsBehind old new count = placed_at old + count < 2 ^ 64 → placed_at new ≡ placed_at old + count
+-- at an error a beginning of them stands there
+abbrev pub WritesOver : {E : Type 0} → (old new : Option (List ℕ)) → ℕ → List ℕ → Result Unit E → Type 0
+WritesOver old new n bytes (Ok _) = IsOverwritten old new n bytes
+WritesOver old new n bytes (Err _) = (count : ℕ) × IsOverwritten old new n (take count bytes)
 
--- how many of so many bytes a write that ended so didn't take
-abbrev pub rest_after : {E : Type 0} → Result ℕ E → ℕ → ℕ
-rest_after (Ok n) count = count - n
-rest_after (Err _) count = count
+-- The counts only grow.
+pub record GrowsOn {F : Type 0} (old new : Placed F) : Type 0 where
+  pub taken : old.taken ≤ new.taken
+  pub failed : old.failed ≤ new.failed
 
--- a write goes on where the one before it ended: the place moves by the bytes that the file took, and stays at an error
-abbrev pub MovesOn : {F E : Type 0} → Placed F → Placed F → Result ℕ E → Type 0
-MovesOn old new (Ok n) = StandsBehind old new n
-MovesOn old new (Err _) = placed_at new ≡ placed_at old
+-- What such a file keeps isn't known: a sector that it took in part would be neither the old one nor the new.
+abbrev pub placed : {F : Type 0} → Keeps (Placed F)
+placed = unknown (λ p. p.taken) (λ p. p.failed) 18446744073709551615 (λ p. p.fits) GrowsOn
+    (λ p. record { taken = le_refl p.taken; failed = le_refl p.failed })
+    (λ a b c x y. record { taken = omega (arith, x.taken, y.taken); failed = omega (arith, x.failed, y.failed) })

@@ -1,8 +1,8 @@
 //! Making the image of an empty shop.
-ghost use Rattle.std.specs.Prelude.{◌≡◌, ◌≤◌, ◌⊎◌, Err, IfErr, IfOk, None, OnOk, codes};
+ghost use Rattle.std.specs.Prelude.{◌≡◌, ◌≤◌, ◌⊎◌, Err, IfErr, IfOk, OnOk, codes};
 ghost use Rattle.std.specs.Io.KnownBytes.{Appends};
 ghost use Rattle.d64_image.specs.Memory.{disk_image};
-ghost use Rattle.ledger_commands.specs.Images.{IsFormatFault, IsFreshDisk, IsHandedOver, IsHandedTo};
+ghost use Rattle.ledger_commands.specs.Images.{IsFormatFault, IsFreshDisk, IsHandedOver};
 ghost use Rattle.ledger_commands.specs.declared.faults.RunFault.TheVariants as faults;
 
 use crate::bytes::{flush, put_line, write_whole};
@@ -72,27 +72,4 @@ pub fn format_image<F: Write, W: Write>(
     write_image(alloc, tills, file)?;
     put_line(out, "FORMATTED")?;
     flush(out)
-}
-
-/// The same with the file that was handed in, which is let go afterwards. `File` where there is none.
-pub fn format_file<F: Write + Drop, W: Write>(
-    alloc: Global,
-    tills: u8,
-    file: Option<F>,
-    out: &mut W,
-) -> Result<(), RunFault>
-    requires some { 1 ≤ tills }
-    requires few { tills ≤ 64 }
-    ensures made { OnOk result (IsHandedTo F.contents tills file) }
-    ensures ok { OnOk result
-        (Appends (W.contents out.old) (W.contents out.new) (codes "FORMATTED\n")) }
-    // Nothing is said before the file has the whole image, and nothing where there is no file.
-    ensures first { (out.new ≡ out.old) ⊎ IsHandedTo F.contents tills file }
-    ensures no_file { file ≡ None → (result ≡ Err faults.File) × (out.new ≡ out.old) }
-    ensures err { IfErr result IsFormatFault }
-{
-    let Some(mut file) = file else {
-        return Err(RunFault::File);
-    };
-    format_image(alloc, tills, &mut file, out)
 }

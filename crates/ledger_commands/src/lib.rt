@@ -19,11 +19,11 @@ mod texts;
 
 pub use dry_run::{DryFault, dry};
 pub use faults::RunFault;
-pub use formatting::{format_file, format_image, write_image};
+pub use formatting::{format_image, write_image};
 pub use judging::check_image;
 pub use laws::{dry_is_play, fresh_is_a_shop, run_tells_dry};
 pub use listing::list_image;
-pub use placed::Placed;
+pub use placed::{Placed, WritesAt};
 pub use playing::{play_file, play_image};
 pub use reading::{read_image, read_script};
 pub use replaced::{EndedFile, OpensFile, Replaced};

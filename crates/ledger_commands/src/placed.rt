@@ -1,103 +1,91 @@
-//! A file that is written at the places to which it is sent.
-use std::io::{self, Seek, SeekFrom, Write};
+//! A file that keeps the sectors of a disk at their places.
+ghost use Rattle.std.specs.Prelude.{◌≤◌, List, None, Option, ℕ};
+
+use d64_image::{Place, SectorFile};
+use std::fs::File;
+use std::io;
 use std::os::unix::fs::FileExt;
 
-/// A file, and the place at which it is written next. Being sent to a place asks the system for nothing, and a write says
-/// where it goes, so a sector is handed over by one call of the system.
+/// A file that is written at places.
+pub trait WritesAt {
+    ghost use Rattle.ledger_commands.specs.Placed.{WritesOver};
+
+    // the bytes that it holds, where they are known
+    ghost held: { Self → Option (List ℕ) } = { λ _. None };
+
+    /// Writes all these bytes over those from that place on, in bytes from the file's start. At an error a beginning of them
+    /// was written.
+    fn write_all_at(&mut self, bytes: &[u8], at: u64) -> io::Result<()>
+        ensures written { WritesOver (held self.old) (held self.new) at bytes.now result };
+}
+
+impl WritesAt for File {
+    // In line, as all on the way to the file is: a return right behind a call of the system is dear.
+    #[inline(always)]
+    fn write_all_at(&mut self, bytes: &[u8], at: u64) -> io::Result<()> {
+        FileExt::write_all_at(self, bytes, at)
+    }
+}
+
+/// A file that has a sector at 256 times its index. Being written to a place needs no seek, so a sector is handed over by one
+/// call of the system, where that takes it at once.
 #[derive(Drop)]
 pub struct Placed<F> {
     file: F,
-    at: u64,
+    taken: u64,
+    failed: u64,
+    ghost fits: { failed ≤ 18446744073709551615 },
 }
 
-impl<F: FileExt> Placed<F> {
-    ghost use Rattle.std.specs.Prelude.{◌≡◌, OnOk, length};
-    ghost use Rattle.std.specs.Io.{WritesAtMost};
-    ghost use Rattle.ledger_commands.specs.Placed.{StandsBehind, placed_at, placed_file, rest_after};
+impl<F: WritesAt> Placed<F> {
+    ghost use Rattle.std.specs.Prelude.{◌≡◌};
+    ghost use Rattle.ledger_commands.specs.Placed.{placed, placed_file};
 
-    /// The file, to be written from its start.
+    /// The file. It took no sector, and hasn't failed.
     pub fn new(file: F) -> Placed<F>
-        ensures at { placed_at result ≡ 0 }
         ensures file { placed_file result ≡ file }
+        ensures untaken { placed.writes result ≡ 0 }
+        ensures unfailed { placed.failures result ≡ 0 }
     {
-        Placed { file, at: 0 }
+        Placed {
+            file,
+            taken: 0,
+            failed: 0,
+        }
     }
 
-    /// Writes what a write that ended so didn't take of these bytes, if it may go on.
-    // Not in line: a file takes a sector whole by one call, as a rule.
-    #[inline(never)]
-    fn go_on(&mut self, buf: &[u8], ended: io::Result<usize>) -> io::Result<()>
-        requires bound { WritesAtMost ended buf.now }
-        ensures at { OnOk result (StandsBehind self.old self.new (rest_after ended (length buf.now))) }
-        ensures file { placed_file self.new ≡ placed_file self.old }
+    /// The file.
+    pub fn into_inner(self) -> F
+        ensures { result ≡ placed_file self }
     {
-        let rest = match ended {
-            Ok(written) => &buf[written..],
-            Err(error) if error.kind() == io::ErrorKind::Interrupted => buf,
-            Err(error) => return Err(error),
-        };
-        self.file.write_all_at(rest, self.at)?;
-        self.at = self.at.saturating_add(rest.len() as u64);
-        Ok(())
+        let Placed {
+            file,
+            taken: _,
+            failed: _,
+        } = self;
+        file
     }
 }
 
-impl<F: FileExt> Write for Placed<F> {
-    ghost use Rattle.std.specs.Prelude.{◌≡◌, None, OnOk, length};
-    ghost use Rattle.std.specs.Io.KnownBytes.{WriteAppends};
-    ghost use Rattle.std.specs.Io.{WritesAtMost};
-    ghost use Rattle.ledger_commands.specs.Placed.{MovesOn, StandsBehind, placed_file};
+impl<F: WritesAt> SectorFile for Placed<F> {
+    ghost use Rattle.d64_image.specs.Keeps.{KeepsSector};
+    ghost use Rattle.d64_image.specs.Offsets.{offset_of};
+    ghost use Rattle.ledger_commands.specs.Placed.{WritesOver, placed, placed_file};
 
-    fn write(&mut self, buf: &[u8]) -> io::Result<usize>
-        ensures bound { WritesAtMost result buf.now }
-        ensures bytes { WriteAppends None None result buf.now }
-        ensures at { MovesOn self.old self.new result }
-        ensures file { placed_file self.new ≡ placed_file self.old }
-    {
-        let written = self.file.write_at(buf, self.at)?;
-        self.at = self.at.saturating_add(written as u64);
-        Ok(written)
-    }
+    ghost keeps = { placed };
 
-    /// Writes all these bytes, by one call of the system where the file takes them at once. At an error the place is where the
-    /// first call left it, and bytes behind it may have been written.
-    // In line: of a sector that the file takes whole by one call no error is left to be looked for.
     #[inline(always)]
-    fn write_all(&mut self, buf: &[u8]) -> io::Result<()>
-        ensures at { OnOk result (StandsBehind self.old self.new (length buf.now)) }
-        ensures file { placed_file self.new ≡ placed_file self.old }
+    fn keep(&mut self, place: Place, from: &[u8; 256]) -> io::Result<()>
+        ensures keeps { KeepsSector placed self.old self.new place from.now result }
+        // the sector was written at 256 times its index, and nothing else; at an error a beginning of it was
+        ensures written { WritesOver (F.held (placed_file self.old)) (F.held (placed_file self.new)) (offset_of place)
+            from.now result }
     {
-        match self.write(buf) {
-            Ok(written) if written == buf.len() => Ok(()),
-            ended => self.go_on(buf, ended),
+        let written = self.file.write_all_at(from, 256 * place.index() as u64);
+        match &written {
+            Ok(()) => self.taken = self.taken.saturating_add(1),
+            Err(_) => self.failed = self.failed.saturating_add(1),
         }
-    }
-
-    /// Nothing is held back.
-    fn flush(&mut self) -> io::Result<()> {
-        Ok(())
-    }
-}
-
-impl<F: FileExt> Seek for Placed<F> {
-    ghost use Rattle.std.specs.Prelude.{Some};
-    ghost use Rattle.ledger_commands.specs.Placed.{placed_at};
-
-    ghost stream_position = { λ p. Some (placed_at p) };
-
-    /// A place counted from the file's end isn't known here.
-    fn seek(&mut self, to: SeekFrom) -> io::Result<u64> {
-        let target = match to {
-            SeekFrom::Start(at) => Some(at),
-            SeekFrom::Current(offset) => self.at.checked_add_signed(offset),
-            SeekFrom::End(_) => None,
-        };
-        match target {
-            Some(at) => {
-                self.at = at;
-                Ok(at)
-            }
-            None => Err(io::Error::from(io::ErrorKind::InvalidInput)),
-        }
+        written
     }
 }

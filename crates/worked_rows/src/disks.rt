@@ -1,6 +1,7 @@
 //! The disks of the rows. Where one can't be made, or isn't what it is to be, the test ends there: on the way out of a `?`
 //! all that a row holds would be let go, and proved.
 ghost use Rattle.std.specs.Prelude.{◌≡◌, ◌≤◌};
+ghost use Rattle.d64_image.specs.Memory.{disk_image, sectors_in};
 ghost use Rattle.disk_layout.specs.Clean.{IsClean};
 ghost use Rattle.disk_layout.specs.Layout.{IsSound};
 ghost use Rattle.rel_records.specs.File.{IsOf, length_of};
@@ -29,7 +30,9 @@ pub(crate) fn fresh(rt: &(impl Abort + AllocGlobal)) -> MemDisk {
 }
 
 /// The disk of these bytes.
-pub(crate) fn loaded(rt: &(impl Abort + AllocGlobal), image: &[u8]) -> MemDisk {
+pub(crate) fn loaded(rt: &(impl Abort + AllocGlobal), image: &[u8]) -> MemDisk
+    ensures { disk_image result ≡ sectors_in image.now }
+{
     MemDisk::load(rt.alloc(), image).expect(rt, "a disk of these bytes")
 }
 

@@ -1,9 +1,8 @@
 //! A shop on a disk whose sectors also go to a file in memory, line by line; and a file that fails.
 use crate::comparing::{holds, same, same_at};
 use crate::disks::{fresh, loaded};
-use crate::sessions::{file_of, handed, handled, mirrored, says, told, unmirrored};
-use d64_image::{MemDisk, Mirror};
-use std::io::{self, Cursor, Seek, SeekFrom, Write};
+use crate::sessions::{handed, handled, mirrored, says, told, unmirrored};
+use d64_image::{KeptDisk, MemDisk, Mirror, OneFault};
 use std::process::Abort;
 
 /// Lines of days, and their replies.
@@ -39,39 +38,12 @@ fn a_file_holds_what_is_told(rt: HostRuntime) {
     are_mirrored(&rt, fresh(&rt), &LINES);
 }
 
-/// A file that takes so many bytes, and then fails.
-#[derive(Drop)]
-struct Full {
-    bytes: Cursor<Vec<u8>>,
-    room: usize,
-}
-
-impl Write for Full {
-    fn write(&mut self, buf: &[u8]) -> io::Result<usize> {
-        if buf.len() > self.room {
-            return Err(io::Error::from(io::ErrorKind::StorageFull));
-        }
-        self.room = self.room.saturating_sub(buf.len());
-        self.bytes.write(buf)
-    }
-
-    fn flush(&mut self) -> io::Result<()> {
-        Ok(())
-    }
-}
-
-impl Seek for Full {
-    fn seek(&mut self, to: SeekFrom) -> io::Result<u64> {
-        self.bytes.seek(to)
-    }
-}
-
-/// The disk in memory and in a file that takes two sectors.
-fn filling(rt: &(impl Abort + AllocGlobal), disk: &MemDisk) -> Mirror<Full> {
-    let file = Full {
-        bytes: file_of(rt, disk.bytes()),
-        room: 512,
-    };
+/// The disk in memory, and in a file that takes two sectors and not the third.
+fn filling(
+    rt: &(impl Abort + AllocGlobal),
+    disk: &MemDisk,
+) -> Mirror<KeptDisk<OneFault<MemDisk>>> {
+    let file = KeptDisk::new(OneFault::new(loaded(rt, disk.bytes()), 2, false));
     Mirror::new(file, loaded(rt, disk.bytes()))
 }
 
@@ -91,10 +63,10 @@ fn a_file_that_fails_is_a_device_that_fails(rt: HostRuntime) {
     let (reply, mirror) = handed(&rt, filling(&rt, &disk), b"1,1,S,15,7");
     holds(&rt, says(reply, b"1,1,MEDIA"), reply);
     let (file, left) = mirror.into_inner();
-    let file = file.bytes.into_inner();
+    let file = file.into_inner().into_inner();
     // 16 tracks of 21 sectors are before 17/0
     only_these(&rt, left.bytes(), disk.bytes(), &[340, 357]);
-    holds(&rt, file.as_slice() == left.bytes(), "the file");
+    holds(&rt, file.bytes() == left.bytes(), "the file");
     let (_, cut) = handled(&rt, &disk, b"1,1,S,15,7", 2);
     holds(&rt, cut.bytes() == left.bytes(), "power that went");
 }

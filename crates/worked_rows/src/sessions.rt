@@ -1,10 +1,9 @@
 //! Sessions on copies of a disk, also where power goes in them.
 use crate::comparing::holds;
 use crate::disks::{clean, fresh, loaded};
-use d64_image::{Fuse, MemDisk, Meter, Mirror, Sectors};
+use d64_image::{Fuse, KeptDisk, MemDisk, Meter, Mirror, Sectors};
 use host_session::{Event, PlayFault, Printer, ScriptFault, Session, play, run_script};
 use request_cards::Reply;
-use std::io::Cursor;
 use std::process::Abort;
 
 /// Power that doesn't go: more writes than any disk takes in a row.
@@ -133,20 +132,16 @@ pub(crate) fn handled(
     passed(left_by(fused(rt, disk, power), message))
 }
 
-/// A file in memory with these bytes.
-pub(crate) fn file_of(rt: &(impl Abort + AllocGlobal), bytes: &[u8]) -> Cursor<Vec<u8>> {
-    Cursor::new(Vec::from_slice(rt.alloc(), bytes).expect(rt, "a file"))
-}
-
-/// The same disk in memory and in a file.
-pub(crate) fn mirrored(rt: &(impl Abort + AllocGlobal), disk: &MemDisk) -> Mirror<Cursor<Vec<u8>>> {
-    Mirror::new(file_of(rt, disk.bytes()), loaded(rt, disk.bytes()))
+/// The same disk in memory, and in the place of a file.
+pub(crate) fn mirrored(rt: &(impl Abort + AllocGlobal), disk: &MemDisk) -> Mirror<KeptDisk<MemDisk>> {
+    let file = KeptDisk::new(loaded(rt, disk.bytes()));
+    Mirror::new(file, loaded(rt, disk.bytes()))
 }
 
 /// The disk of a mirror whose file has the same bytes.
-pub(crate) fn unmirrored(rt: &impl Abort, mirror: Mirror<Cursor<Vec<u8>>>) -> MemDisk {
+pub(crate) fn unmirrored(rt: &impl Abort, mirror: Mirror<KeptDisk<MemDisk>>) -> MemDisk {
     let (file, disk) = mirror.into_inner();
-    holds(rt, file.into_inner().as_slice() == disk.bytes(), "the file");
+    holds(rt, file.into_inner().bytes() == disk.bytes(), "the file");
     disk
 }
 

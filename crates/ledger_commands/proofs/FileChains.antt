@@ -1,0 +1,110 @@
+-- A run over a mirror, as one of its file: event by event.
+use Rattle.std.proofs.Common.{◌≡◌, ◌<◌, ◌≤◌, ◌+◌, ◌∙◌, ℕ, Bool, true, List, [], ◌∷◌, ◌++◌, ap, ap₂, arith, refl, subst, sym}
+use Rattle.std.specs.Prelude.{map}
+use Rattle.d64_image.specs.declared.mirror.Mirror.{Mirror}
+use Rattle.d64_image.specs.declared.sector_file.SectorFile.{Ghosts}
+use Rattle.d64_image.specs.FileDisks.{FileDisk, fails_since, in_run}
+use Rattle.d64_image.specs.History.{HeldOnly, History}
+use Rattle.d64_image.specs.Images.{Image}
+use Rattle.d64_image.specs.Mirrors.{IsMirrored, is_broken, mirror, mirrored_then, one_if}
+use Rattle.d64_image.proofs.FileRuns.{failed_by_file, file_disk, held_by_file, one_if-false, since_grows, since_whole}
+use Rattle.d64_image.proofs.Moments.{weaker}
+use Rattle.host_session.specs.Chains.{HasRun, HasRunToFailure, IsChain, over_images, told_in}
+use Rattle.host_session.specs.Counted.{NoneGotMedia, after_all}
+use Rattle.host_session.specs.Events.{Message}
+use Rattle.host_session.specs.OneEvent.{EndsFailed, GoesOn, IsEvent}
+use Rattle.host_session.specs.Runs.{HeldBeginnings, IsBlamed, IsPlayed, IsSomeBeginning, blamed}
+use Rattle.host_session.specs.Shop.{IsShop, Shop, start_of, with_state}
+use Rattle.request_cards.specs.Ledgers.{State}
+use Rattle.request_cards.specs.declared.reply.Reply.{Reply}
+
+-- the turns of a run, each over the file of its mirror
+abbrev pub over_files : {F : Type 0} {G : Ghosts F} → List (Reply × Mirror F G) → List (Reply × FileDisk G.keeps)
+over_files xs = map (λ x. (x.0, file_disk x.1)) xs
+
+module _ {F : Type 0} {G : Ghosts F} where
+  pub same_told : (xs : List (Reply × Mirror F G)) → told_in xs ≡ told_in (over_files xs)
+  same_told [] = refl
+  same_told (x ∷ xs) = ap (λ rest. x.0 ∷ rest) (same_told xs)
+
+  pub over_files-more : (xs ys : List (Reply × Mirror F G)) → over_files xs ++ over_files ys ≡ over_files (xs ++ ys)
+  over_files-more [] ys = refl
+  over_files-more (x ∷ xs) ys = ap (λ rest. (x.0, file_disk x.1) ∷ rest) (over_files-more xs ys)
+
+  module _ (start : Mirror F G) (whole : is_broken start → ⊥) where
+    -- the file as a disk, in the run that begins with this mirror
+    abbrev pub of_file : History (FileDisk G.keeps)
+    of_file = in_run G.keeps start.file
+
+    pub same_images : (xs : List (Reply × Mirror F G)) → over_images mirror xs ≡ over_images of_file (over_files xs)
+    same_images [] = refl
+    same_images (x ∷ xs) = ap (λ rest. (x.0, mirror.image x.1) ∷ rest) (same_images xs)
+
+    pub blamed_file : (a b : Mirror F G) → IsMirrored start b → IsMirrored a b → (fails : List Bool) → IsBlamed mirror a b fails
+        → IsBlamed of_file (file_disk a) (file_disk b) fails
+    blamed_file a b x y fails blame few =
+        let sound : one_if b.broken ≡ 0 = one_if-false b.broken (since_whole start whole b x few) in
+        let none : one_if a.broken + blamed fails ≤ one_if b.broken = blame (omega (arith, sound)) in
+        omega (arith, none, sound, since_grows G.keeps start.file a.file b.file y.failures)
+
+    -- one event
+    abbrev event_of_file : (s : Shop) (m : Message) (a b : Mirror F G) (Ends NewEnds : Bool → State → Type 0) → ((f : Bool) (t : State) → Ends f t → NewEnds f t)
+        → IsMirrored start a → IsEvent mirror s m a b Ends → IsEvent of_file s m (file_disk a) (file_disk b) NewEnds
+    event_of_file s m a b Ends NewEnds ends x e = record {
+      failed = e.failed;
+      counted = e.counted;
+      is = e.is;
+      blame = λ so. failed_by_file start whole a b (mirrored_then start a b x e.moments.reached) e.moments.reached (e.blame so);
+      later = since_grows G.keeps start.file a.file b.file e.moments.reached.failures;
+      moments = held_by_file start.file a b _ e.moments;
+      ends = ends e.failed _ e.ends;
+    }
+
+    goes_on : (s : Shop) (m : Message) (reply : Reply) (b : Mirror F G) (f : Bool) (t : State) → GoesOn mirror s m reply b f t
+        → GoesOn of_file s m reply (file_disk b) f t
+    goes_on s m reply b f t x = record { told = x.told; answered = x.answered; settled = x.settled }
+
+    ends_failed : (s : Shop) (m : Message) (reply : Reply) (b : Mirror F G) (f : Bool) (t : State) → EndsFailed mirror s m reply b f t
+        → EndsFailed of_file s m reply (file_disk b) f t
+    ends_failed s m reply b f t x = record { told = x.told; asked = x.asked; is_failed = x.is_failed; shop = x.shop }
+
+    pub chain_of_file : (s : Shop) (ms : List Message) (xs : List (Reply × Mirror F G)) (a : Mirror F G) (t : Shop) (b : Mirror F G) → IsMirrored start a
+        → IsChain mirror s ms xs a t b → IsChain of_file s ms (over_files xs) (file_disk a) t (file_disk b)
+    chain_of_file s [] [] a t b x chain = (chain.0, ap file_disk chain.1)
+    chain_of_file s [] (y ∷ ys) a t b x chain = absurd chain
+    chain_of_file s (m ∷ ms) [] a t b x chain = absurd chain
+    chain_of_file s (m ∷ ms) (y ∷ ys) a t b x chain =
+        (event_of_file s m a y.1 _ _ (goes_on s m y.0 y.1) x chain.0,
+        chain_of_file (with_state s (after_all (start_of s) s.state chain.0.counted)) ms ys y.1 t b (mirrored_then start a y.1 x chain.0.moments.reached) chain.1)
+
+    -- the mirrors of a chain come of one another
+    pub chain_reached : (s : Shop) (ms : List Message) (xs : List (Reply × Mirror F G)) (a : Mirror F G) (t : Shop) (b : Mirror F G) → IsMirrored start a
+        → IsChain mirror s ms xs a t b → IsMirrored start b
+    chain_reached s [] [] a t b x chain = subst (λ (m : Mirror F G). IsMirrored start m) (sym chain.1) x
+    chain_reached s [] (y ∷ ys) a t b x chain = absurd chain
+    chain_reached s (m ∷ ms) [] a t b x chain = absurd chain
+    chain_reached s (m ∷ ms) (y ∷ ys) a t b x chain =
+        chain_reached (with_state s (after_all (start_of s) s.state chain.0.counted)) ms ys y.1 t b (mirrored_then start a y.1 x chain.0.moments.reached) chain.1
+
+    abbrev pub run_of_file : (s : Shop) (ms : List Message) (xs : List (Reply × Mirror F G)) (b : Mirror F G) → HasRun mirror s ms xs start b
+        → HasRun of_file s ms (over_files xs) (file_disk start) (file_disk b)
+    run_of_file s ms xs b run = record {
+      first = file_disk run.first;
+      opening = held_by_file start.file start run.first _ run.opening;
+      later = since_grows G.keeps start.file start.file run.first.file run.opening.reached.failures;
+      rests = run.rests;
+      now = run.now;
+      chain = chain_of_file s ms xs run.first run.now b run.opening.reached run.chain;
+    }
+
+    pub failing_of_file : (s : Shop) (ms : List Message) (xs : List (Reply × Mirror F G)) (last : Reply) (b : Mirror F G) → HasRunToFailure mirror s ms xs last start b
+        → HasRunToFailure of_file s ms (over_files xs) last (file_disk start) (file_disk b)
+    failing_of_file s ms xs last b run = record {
+      before = run.before;
+      message = run.message;
+      parts = run.parts;
+      at = file_disk run.at;
+      run = run_of_file s run.before xs run.at run.run;
+      failed = event_of_file run.run.now run.message run.at b _ _ (ends_failed run.run.now run.message last b)
+          (chain_reached s run.before xs run.run.first run.run.now run.at run.run.opening.reached run.run.chain) run.failed;
+    }

@@ -1,0 +1,78 @@
+-- The cases of a play: it came to its end, or a fault ended it; and its file failed, or not.
+use Rattle.std.proofs.Common.{◌≡◌, ◌∙◌, Err, Ok, Result, ap, ap₂, subst, sym, ⊎_elim}
+use Rattle.std.proofs.lemmas.Result.{IfErr-weaker, IfOk-weaker}
+use Rattle.d64_image.specs.Keeps.{kept_or}
+use Rattle.d64_image.specs.Memory.{disk_image, sectors_in}
+use Rattle.d64_image.specs.Mirrors.{mirror_image}
+use Rattle.ledger_commands.specs.Plays.{IsFileFault, IsPlayedFile}
+use Rattle.ledger_commands.specs.declared.faults.RunFault.{RunFault}
+use Rattle.ledger_commands.specs.declared.faults.RunFault.TheVariants as run
+use Rattle.ledger_commands.proofs.FileEnds.{broken_at_err, broken_at_ok, whole_at_err, whole_at_ok}
+use Rattle.ledger_commands.proofs.playing.play_file.Goals as goal
+
+-- what holds of two files holds of those that they are
+of_files : {F : Type 0} (P : F → F → Type 0) {a b c d : F} → a ≡ b → d ≡ c → P a c → P b d
+of_files P {a} {b} {c} {d} first second holds = subst (λ f. P f d) first (subst (λ f. P a f) (sym second) holds)
+
+err_is : {A B : Type 0} {x y : B} → ◌≡◌ {A = Result A B} (Err x) (Err y) → x ≡ y
+err_is same = cc
+
+pub returns-in-Ok-play_image-clause-ok : goal.returns-in-Ok-play_image-clause-ok
+returns-in-Ok-play_image-clause-ok g c =
+    let o = g.T.Tells.output in
+    let image = c.args.image.now in
+    let script = c.args.script.now in
+    let start = c.new.result in
+    let old = c.args.out.now in
+    let new = c.play_image.new.out in
+    let loaded = c.in-Ok.ensures.ok in
+    let holds : mirror_image start ≡ sectors_in image =
+    ap₂ (λ f d. kept_or (g.F.SectorFile.keeps.kept f) d) c.new.ensures.file (ap disk_image c.new.ensures.disk ∙ loaded.1) ∙ c.requires.agrees in
+    let mirror = c.in-Ok-play_image.mirror in
+    IfOk-weaker c.file_of.result _ _ (λ after x.
+    of_files (λ f d. IsPlayedFile g.F.SectorFile.keeps o image script f d old new) c.new.ensures.file x.0
+    (whole_at_ok o image script start c.new.ensures.whole c.new.ensures.untaken loaded.0 holds old new mirror x.1 c.in-Ok-play_image.ensures))
+    c.file_of.ensures.ok
+
+pub returns-in-Ok-play_image-clause-err : goal.returns-in-Ok-play_image-clause-err
+returns-in-Ok-play_image-clause-err g c =
+    let o = g.T.Tells.output in
+    let image = c.args.image.now in
+    let script = c.args.script.now in
+    let start = c.new.result in
+    let old = c.args.out.now in
+    let new = c.play_image.new.out in
+    let loaded = c.in-Ok.ensures.ok in
+    let holds : mirror_image start ≡ sectors_in image =
+    ap₂ (λ f d. kept_or (g.F.SectorFile.keeps.kept f) d) c.new.ensures.file (ap disk_image c.new.ensures.disk ∙ loaded.1) ∙ c.requires.agrees in
+    let mirror = c.in-Ok-play_image.mirror in
+    IfErr-weaker c.file_of.result _ _ (λ e x. ⊎_elim
+    (λ broken. subst (λ (f : RunFault). IsFileFault g.F.SectorFile.keeps o image script c.args.file e.1 old new f) (sym broken.1)
+    (of_files (λ f d. IsFileFault g.F.SectorFile.keeps o image script f d old new run.Device) c.new.ensures.file x.0
+    (broken_at_ok o image script start c.new.ensures.whole c.new.ensures.untaken loaded.0 holds old new mirror broken.0 c.in-Ok-play_image.ensures)))
+    (λ whole. let never = whole.1 in cc)
+    x.1)
+    c.file_of.ensures.err
+
+pub returns-in-Err-play_image-clause-err : goal.returns-in-Err-play_image-clause-err
+returns-in-Err-play_image-clause-err g c =
+    let o = g.T.Tells.output in
+    let image = c.args.image.now in
+    let script = c.args.script.now in
+    let start = c.new.result in
+    let old = c.args.out.now in
+    let new = c.play_image.new.out in
+    let loaded = c.in-Ok.ensures.ok in
+    let holds : mirror_image start ≡ sectors_in image =
+    ap₂ (λ f d. kept_or (g.F.SectorFile.keeps.kept f) d) c.new.ensures.file (ap disk_image c.new.ensures.disk ∙ loaded.1) ∙ c.requires.agrees in
+    let mirror = c.in-Err-play_image.mirror in
+    let fault = c.in-Err-play_image.fault in
+    IfErr-weaker c.file_of-in-Err-play_image.result _ _ (λ e x. ⊎_elim
+    (λ broken. subst (λ (f : RunFault). IsFileFault g.F.SectorFile.keeps o image script c.args.file e.1 old new f) (sym broken.1)
+    (of_files (λ f d. IsFileFault g.F.SectorFile.keeps o image script f d old new run.Device) c.new.ensures.file x.0
+    (broken_at_err o image script start c.new.ensures.whole c.new.ensures.untaken loaded.0 holds old new mirror broken.0 fault c.in-Err-play_image.ensures)))
+    (λ whole. subst (λ (f : RunFault). IsFileFault g.F.SectorFile.keeps o image script c.args.file e.1 old new f) (err_is whole.1)
+    (of_files (λ f d. IsFileFault g.F.SectorFile.keeps o image script f d old new fault) c.new.ensures.file x.0
+    (whole_at_err o image script start c.new.ensures.whole c.new.ensures.untaken loaded.0 holds old new mirror whole.0 fault c.in-Err-play_image.ensures)))
+    x.1)
+    c.file_of-in-Err-play_image.ensures.err
