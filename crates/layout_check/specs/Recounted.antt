@@ -40,6 +40,12 @@ pub record IsCountedAs (old new : Sector) : Type 0 where
   pub long : length new ≡ 256
   pub same : (i : ℕ) → i < 256 → IsCountByte old i ⊎ (slice_index new i ≡ slice_index old i)
 
+-- the bytes of a directory sector got counts that are right in this sense, and nothing else; those that were right are the same
+pub record GetsCounts (Right : Sector → Type 0) (old new : Sector) : Type 0 where
+  pub counts : IsCountedAs old new
+  pub right : Right new
+  pub kept : Right old → new ≡ old
+
 -- the image differs in block counts of relative entries in these directory sectors alone
 pub record IsRecountOf (old new : Image) (ps : List Place) : Type 0 where
   pub counts : (p : Place) → Contains ps p → IsCountedAs (sector old p) (sector new p)
