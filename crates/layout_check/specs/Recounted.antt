@@ -3,7 +3,7 @@ use Rattle.std.specs.Prelude.{ℕ, ◌≡◌, ◌+◌, ◌<◌, ◌⊎◌, List,
 use Rattle.d64_image.specs.Images.{Image, Sector, sector}
 use Rattle.d64_image.specs.declared.place.Place.{Place}
 use Rattle.disk_layout.specs.Directory.{slot_in}
-use Rattle.disk_layout.specs.Layout.{File, IsLayout, Layout, count_field, is_rel, sides_for}
+use Rattle.disk_layout.specs.Layout.{File, IsLayout, IsSound, Layout, count_field, is_rel, sides_for}
 use Rattle.disk_layout.specs.Same.{IsCountByte, SameFiles}
 use Rattle.disk_layout.specs.declared.slot.Slot.{Slot}
 
@@ -65,6 +65,11 @@ KeepsButCounts old new = (l : Layout) → IsLayout old l → IsSameButCounts old
 -- the place is one of the directory
 abbrev pub IsInDirectory : Image → Place → Type 0
 IsInDirectory img p = (l : Layout) → IsLayout img l → Contains l.directory p
+
+-- the place is one of the directory of a sound image
+pub record IsDirectorySector (img : Image) (p : Place) : Type 0 where
+  pub sound : IsSound img
+  pub own : IsInDirectory img p
 
 -- one directory sector has other counts, and all else is the same
 abbrev pub IsRecountAt : Image → Place → Image → Type 0

@@ -12,7 +12,7 @@ ghost use Rattle.layout_check.specs.Calls.{Judges, Passes, TellsUnsound};
 ghost use Rattle.layout_check.specs.Entry.{IsEntry};
 ghost use Rattle.layout_check.specs.Mended.{TellsDevice};
 ghost use Rattle.layout_check.specs.Mending.{PutsRight};
-ghost use Rattle.layout_check.specs.Recounted.{AreCounted, AreRightIn, GetsCounts, IsCountOf, IsInDirectory, IsRightAt, KeepsButCounts, OldOrMended};
+ghost use Rattle.layout_check.specs.Recounted.{AreCounted, AreRightIn, GetsCounts, IsCountOf, IsDirectorySector, IsRightAt, KeepsButCounts, OldOrMended};
 
 use crate::parts::Parts;
 use crate::sides::find_parts;
@@ -42,8 +42,7 @@ fn recount_slot<D: Sectors>(
     bytes: &mut [u8; 256],
     parts: &mut Parts,
 ) -> Result<(), Fault>
-    requires sound { IsSound (D.history.image disk.old) }
-    requires own { IsInDirectory (D.history.image disk.old) place }
+    requires here { IsDirectorySector (D.history.image disk.old) place }
     requires eight { number < 8 }
     requires there { slot_in place bytes.old number ≡ slot_in place (sector (D.history.image disk.old) place) number }
     ensures rest { OnOk result (IsRecounted bytes.old bytes.new number) }
@@ -68,8 +67,7 @@ fn recount_sector<D: Sectors>(
     bytes: &mut [u8; 256],
     parts: &mut Parts,
 ) -> Result<(), Fault>
-    requires sound { IsSound (D.history.image disk.old) }
-    requires own { IsInDirectory (D.history.image disk.old) place }
+    requires here { IsDirectorySector (D.history.image disk.old) place }
     requires there { bytes.old ≡ sector (D.history.image disk.old) place }
     // counts that are right are left as they are
     ensures counted { OnOk result (GetsCounts (AreRightIn (D.history.image disk.old) place) bytes.old bytes.new) }
@@ -84,8 +82,7 @@ fn recount_sector<D: Sectors>(
 /// Makes the block counts right in a directory sector of a sound disk, which is written where one of them is wrong.
 /// `parts` is room for what an entry owns.
 fn mend_sector<D: Sectors>(disk: &mut D, place: Place, parts: &mut Parts) -> Result<(), Fault>
-    requires sound { IsSound (D.history.image disk.old) }
-    requires own { IsInDirectory (D.history.image disk.old) place }
+    requires here { IsDirectorySector (D.history.image disk.old) place }
     ensures right { OnOk result (AreRightIn (D.history.image disk.old) place (sector (D.history.image disk.new) place)) }
     // each image held is the old one, or has right counts in this sector
     ensures moments { Changes D.history disk.old disk.new 1 (OldOrMended (D.history.image disk.old) place) }

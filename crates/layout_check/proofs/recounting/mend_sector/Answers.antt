@@ -9,14 +9,13 @@ use Rattle.layout_check.proofs.Finding.{on_ok}
 use Rattle.layout_check.proofs.MapMends.{device_later, device_told, write_device}
 use Rattle.layout_check.proofs.RightWrites.{mended-read, other_later, reads_moment, right_read, right_written, write_moment}
 use Rattle.layout_check.proofs.SideMends.{sound-device}
-use Rattle.layout_check.specs.Recounted.{AreRightIn, IsInDirectory}
+use Rattle.layout_check.specs.Recounted.{AreRightIn, IsDirectorySector}
 use Rattle.layout_check.proofs.recounting.mend_sector.Goals as goal
 
-pub recount_sector-requires-clause-sound : goal.recount_sector-requires-clause-sound
-recount_sector-requires-clause-sound g c = let P : Image → Type 0 = IsSound in subst P (sym c.read_sector.ensures.reads.image) c.requires.sound
-
-pub recount_sector-requires-clause-own : goal.recount_sector-requires-clause-own
-recount_sector-requires-clause-own g c = let P : Image → Type 0 = λ i. IsInDirectory i c.args.place in subst P (sym c.read_sector.ensures.reads.image) c.requires.own
+pub recount_sector-requires-clause-here : goal.recount_sector-requires-clause-here
+recount_sector-requires-clause-here g c =
+    let P : Image → Type 0 = λ i. IsDirectorySector i c.args.place in
+    subst P (sym c.read_sector.ensures.reads.image) c.requires.here
 
 pub recount_sector-requires-clause-there : goal.recount_sector-requires-clause-there
 recount_sector-requires-clause-there g c = c.in_ok-read_sector.ensures.sector ∙ ap (λ (i : Image). sector i c.args.place) (sym c.read_sector.ensures.reads.image)
@@ -71,5 +70,5 @@ returns-in_err-recount_sector g c =
       failures = let p = err_from_is_err_and c.from_residual-in_err-recount_sector.result c.from_residual-in_err-recount_sector.ensures.1 in
           let P : Image → Type 0 = IsSound in
           rw (p.1, p.2) (device_later S (Unit {0}) c.args.disk.now c.read_sector.new.disk c.recount_sector.new.disk (Err _) c.in_ok-read_sector.ensures.failures
-          (sound-device S (Unit {0}) c.read_sector.new.disk c.recount_sector.new.disk 5856 _ (subst P (sym c.read_sector.ensures.reads.image) c.requires.sound) c.in_err-recount_sector.ensures.judged.err));
+          (sound-device S (Unit {0}) c.read_sector.new.disk c.recount_sector.new.disk 5856 _ (subst P (sym c.read_sector.ensures.reads.image) c.requires.here.sound) c.in_err-recount_sector.ensures.judged.err));
     }

@@ -3,19 +3,17 @@ use Rattle.std.proofs.Common.{ap, arith, subst, sym, ◌∙◌, ◌*◌, ◌+◌
 use Rattle.std.proofs.lemmas.Result.{err_from_is_err_and}
 use Rattle.d64_image.specs.Images.{Image, Sector, sector}
 use Rattle.disk_layout.specs.Directory.{slot_in}
-use Rattle.disk_layout.specs.Layout.{IsSound}
 use Rattle.layout_check.proofs.Calls.{passes_then, passes_weaker, tells_then, passes_none}
 use Rattle.layout_check.proofs.RightCounts.{counted-then, counted-none}
 use Rattle.layout_check.proofs.RightSlots.{other-slot, right-next, right-there}
-use Rattle.layout_check.specs.Recounted.{IsInDirectory}
+use Rattle.layout_check.specs.Recounted.{IsDirectorySector}
 use Rattle.layout_check.proofs.recounting.recount_sector.Goals as goal
 
 -- the disk is the same after the reads so far
-pub recount_slot-requires-clause-sound : goal.recount_slot-requires-clause-sound
-recount_slot-requires-clause-sound g c = let P : Image → Type 0 = IsSound in subst P (sym c.loop-number.invariant.passes.reads.image) c.requires.sound
-
-pub recount_slot-requires-clause-own : goal.recount_slot-requires-clause-own
-recount_slot-requires-clause-own g c = let P : Image → Type 0 = λ i. IsInDirectory i c.args.place in subst P (sym c.loop-number.invariant.passes.reads.image) c.requires.own
+pub recount_slot-requires-clause-here : goal.recount_slot-requires-clause-here
+recount_slot-requires-clause-here g c =
+    let P : Image → Type 0 = λ i. IsDirectorySector i c.args.place in
+    subst P (sym c.loop-number.invariant.passes.reads.image) c.requires.here
 
 pub recount_slot-requires-clause-there : goal.recount_slot-requires-clause-there
 recount_slot-requires-clause-there g c =

@@ -9,7 +9,7 @@ use Rattle.layout_check.proofs.RightCounts.{counted-none}
 use Rattle.layout_check.proofs.recounting.recount_slot.Goals as goal
 
 pub count_owned-requires-clause-entry : goal.count_owned-requires-clause-entry
-count_owned-requires-clause-entry g c = rel-entry-at _ c.args.place c.args.number c.in_sector-slot.result c.requires.sound c.requires.own c.requires.eight (c.in_sector-slot.ensures ∙ c.requires.there) (sym (c.is_relative.ensures ∙ ap (λ (bs : List ℕ). is_rel_type (slice_index bs 2)) c.new.ensures) ∙ c.if-not-is_relative.false)
+count_owned-requires-clause-entry g c = rel-entry-at _ c.args.place c.args.number c.in_sector-slot.result c.requires.here.sound c.requires.here.own c.requires.eight (c.in_sector-slot.ensures ∙ c.requires.there) (sym (c.is_relative.ensures ∙ ap (λ (bs : List ℕ). is_rel_type (slice_index bs 2)) c.new.ensures) ∙ c.if-not-is_relative.false)
 
 pub returns-in_err-count : goal.returns-in_err-count
 returns-in_err-count g c =
@@ -49,8 +49,8 @@ returns g c = record {
     kept = λ right.
         let there = c.in_sector-slot.ensures ∙ c.requires.there in
         let rel = sym (c.is_relative.ensures ∙ ap (λ (bs : List ℕ). is_rel_type (slice_index bs 2)) c.new.ensures) ∙ c.if-not-is_relative.false in
-        let entry = rel-entry-at _ c.args.place c.args.number c.in_sector-slot.result c.requires.sound c.requires.own c.requires.eight there rel in
-        c.put_count.ensures.kept c.args.place (counted-right_at _ c.args.place c.args.bytes.now c.args.number c.in_ok-count.count c.in_sector-slot.result c.requires.sound there entry rel c.in_ok-count.ensures.count right);
+        let entry = rel-entry-at _ c.args.place c.args.number c.in_sector-slot.result c.requires.here.sound c.requires.here.own c.requires.eight there rel in
+        c.put_count.ensures.kept c.args.place (counted-right_at _ c.args.place c.args.bytes.now c.args.number c.in_ok-count.count c.in_sector-slot.result c.requires.here.sound there entry rel c.in_ok-count.ensures.count right);
   };
   judged = record {
     ok = c.in_ok-count.ensures.judged.ok;
