@@ -1,5 +1,5 @@
 -- Calls that read a device and judge what they read. Our own.
-use Rattle.std.specs.Prelude.{ℕ, ◌≡◌, Err}
+use Rattle.std.specs.Prelude.{ℕ, ◌≡◌, Err, IfErr, OnOk, Result}
 use Rattle.d64_image.specs.History.{History, OnlyReads}
 use Rattle.disk_layout.specs.Fault.{Holds, TellsFault}
 use Rattle.disk_layout.specs.declared.faults.Fault.{Fault}
@@ -15,3 +15,8 @@ pub record TellsUnsound {D : Type 0} (S : History D) (old new : D) (n : ℕ) (fa
   pub reads : OnlyReads S old new n
   pub failures : TellsFault {T = ℕ} S old new (Err fault)
   pub holds : Holds (S.failed_at new) (S.image old) fault
+
+-- a call that makes at most n reads and no write, and passes, or tells why the image isn't sound
+pub record Judges {D T : Type 0} (S : History D) (old new : D) (n : ℕ) (result : Result T Fault) : Type 0 where
+  pub ok : OnOk result (Passes S old new n)
+  pub err : IfErr result (TellsUnsound S old new n)

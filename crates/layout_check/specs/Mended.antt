@@ -56,3 +56,8 @@ AreExactFor old new = (s : Slot) → IsExactFor old new s
 -- 18/0 is the same
 abbrev pub SameMap : Image → Image → Type 0
 SameMap old new = sector new map_place ≡ sector old map_place
+
+-- a call that writes side sectors of one entry keeps the exact ones of the others, and 18/0
+pub record KeepsBeside (old new : Image) : Type 0 where
+  pub sides : KeepsExact old new
+  pub map : SameMap old new

@@ -3,7 +3,7 @@ use Rattle.std.specs.Prelude.{ℕ, ◌≡◌, ◌+◌, ◌<◌, ◌⊎◌, List,
 use Rattle.d64_image.specs.Images.{Image, Sector, sector}
 use Rattle.d64_image.specs.declared.place.Place.{Place}
 use Rattle.disk_layout.specs.Directory.{slot_in}
-use Rattle.disk_layout.specs.Layout.{File, IsLayout, Layout, count_field, is_rel, sides_for}
+use Rattle.disk_layout.specs.Layout.{File, IsLayout, IsSound, Layout, count_field, is_rel, sides_for}
 use Rattle.disk_layout.specs.Same.{IsCountByte, SameFiles}
 use Rattle.disk_layout.specs.declared.slot.Slot.{Slot}
 
@@ -40,6 +40,12 @@ pub record IsCountedAs (old new : Sector) : Type 0 where
   pub long : length new ≡ 256
   pub same : (i : ℕ) → i < 256 → IsCountByte old i ⊎ (slice_index new i ≡ slice_index old i)
 
+-- the bytes of a directory sector got counts that are right in this sense, and nothing else; those that were right are the same
+pub record GetsCounts (Right : Sector → Type 0) (old new : Sector) : Type 0 where
+  pub counts : IsCountedAs old new
+  pub right : Right new
+  pub kept : Right old → new ≡ old
+
 -- the image differs in block counts of relative entries in these directory sectors alone
 pub record IsRecountOf (old new : Image) (ps : List Place) : Type 0 where
   pub counts : (p : Place) → Contains ps p → IsCountedAs (sector old p) (sector new p)
@@ -59,6 +65,11 @@ KeepsButCounts old new = (l : Layout) → IsLayout old l → IsSameButCounts old
 -- the place is one of the directory
 abbrev pub IsInDirectory : Image → Place → Type 0
 IsInDirectory img p = (l : Layout) → IsLayout img l → Contains l.directory p
+
+-- the place is one of the directory of a sound image
+pub record IsDirectorySector (img : Image) (p : Place) : Type 0 where
+  pub sound : IsSound img
+  pub own : IsInDirectory img p
 
 -- one directory sector has other counts, and all else is the same
 abbrev pub IsRecountAt : Image → Place → Image → Type 0

@@ -6,10 +6,9 @@ ghost use Rattle.disk_layout.specs.Free.{IsWithoutFree};
 ghost use Rattle.layout_check.specs.Made.{IsMadeMap, IsMadeTrack};
 ghost use Rattle.disk_layout.specs.Directory.{map_place};
 ghost use Rattle.disk_layout.specs.Layout.{File, IsLayout, IsSound, Layout, is_rel};
-ghost use Rattle.layout_check.specs.Entry.{IsEntry};
 ghost use Rattle.layout_check.specs.Exact.{AreExactSides, HasMap, IsFiled};
 ghost use Rattle.layout_check.specs.RepairOrder.{ClearsSpare, sides_of};
-ghost use Rattle.layout_check.specs.Mended.{AreExactFor, IsExactFor, IsPartsOf, KeepsExact, SameMap};
+ghost use Rattle.layout_check.specs.Mended.{AreExactFor, IsExactFor, IsPartsOf, KeepsBeside, SameMap};
 ghost use Rattle.layout_check.specs.Mending.{MendsDisk, PutsRight};
 ghost use Rattle.layout_check.specs.Survey.{IsToldBy};
 
@@ -85,8 +84,7 @@ fn mend_sides<D: Sectors>(
     requires parts { IsPartsOf (D.history.image disk.old) slot.now blocks.now sides.now }
     requires few { length sides.now ≤ 6 }
     ensures exact { OnOk result (AreExactSides (D.history.image disk.new) slot.now blocks.now sides.now) }
-    ensures others { OnOk result (KeepsExact (D.history.image disk.old) (D.history.image disk.new)) }
-    ensures map { OnOk result (SameMap (D.history.image disk.old) (D.history.image disk.new)) }
+    ensures beside { OnOk result (KeepsBeside (D.history.image disk.old) (D.history.image disk.new)) }
     ensures mending { MendsDisk D.history disk.old disk.new 6 result }
     // side sector by side sector, each written once where it isn't right
     ensures right { (l : Layout) → IsLayout (D.history.image disk.old) l
@@ -108,12 +106,10 @@ fn mend_sides<D: Sectors>(
 /// Gives the side sectors of a relative entry of a sound disk the bytes that they are to have. `parts` is filled with what
 /// the entry owns.
 fn mend_relative<D: Sectors>(disk: &mut D, slot: &Slot, parts: &mut Parts) -> Result<(), Fault>
-    requires entry { IsEntry (D.history.image disk.old) slot.now }
     requires filed { IsFiled (D.history.image disk.old) slot.now }
     requires rel { IsTrue (is_rel slot.now) }
     ensures exact { OnOk result (IsExactFor (D.history.image disk.old) (D.history.image disk.new) slot.now) }
-    ensures others { OnOk result (KeepsExact (D.history.image disk.old) (D.history.image disk.new)) }
-    ensures map { OnOk result (SameMap (D.history.image disk.old) (D.history.image disk.new)) }
+    ensures beside { OnOk result (KeepsBeside (D.history.image disk.old) (D.history.image disk.new)) }
     ensures mending { MendsDisk D.history disk.old disk.new 6 result }
     // side sector by side sector of the entry's file, each written once where it isn't right
     ensures right { (l : Layout) (f : File) → IsLayout (D.history.image disk.old) l → Contains l.files f → f.slot ≡ slot.now

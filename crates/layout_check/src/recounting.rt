@@ -8,11 +8,11 @@ ghost use Rattle.disk_layout.specs.InOrder.{WritesOther};
 ghost use Rattle.disk_layout.specs.Layout.{IsLayout, IsSound, Layout, is_rel};
 ghost use Rattle.disk_layout.specs.declared.slot.Slot.{Slot};
 ghost use Rattle.d64_image.specs.declared.place.Place.{Place};
-ghost use Rattle.layout_check.specs.Calls.{Passes, TellsUnsound};
+ghost use Rattle.layout_check.specs.Calls.{Judges, Passes, TellsUnsound};
 ghost use Rattle.layout_check.specs.Entry.{IsEntry};
 ghost use Rattle.layout_check.specs.Mended.{TellsDevice};
 ghost use Rattle.layout_check.specs.Mending.{PutsRight};
-ghost use Rattle.layout_check.specs.Recounted.{AreCounted, AreRightIn, IsCountOf, IsCountedAs, IsInDirectory, IsRightAt, KeepsButCounts, OldOrMended};
+ghost use Rattle.layout_check.specs.Recounted.{AreCounted, AreRightIn, GetsCounts, IsCountOf, IsDirectorySector, IsRightAt, KeepsButCounts, OldOrMended};
 
 use crate::parts::Parts;
 use crate::sides::find_parts;
@@ -28,8 +28,7 @@ fn count_owned<D: Sectors>(disk: &mut D, slot: &Slot, parts: &mut Parts) -> Resu
     requires entry { IsEntry (D.history.image disk.old) slot.now }
     requires rel { IsTrue (is_rel slot.now) }
     ensures count { IfOk result (IsCountOf (D.history.image disk.old) slot.now) }
-    ensures ok { OnOk result (Passes D.history disk.old disk.new 732) }
-    ensures err { IfErr result (TellsUnsound D.history disk.old disk.new 732) }
+    ensures judged { Judges D.history disk.old disk.new 732 result }
 {
     find_parts(disk, slot, parts)?;
     Ok((parts.blocks.len() + parts.sides.len()) as u16)
@@ -43,17 +42,14 @@ fn recount_slot<D: Sectors>(
     bytes: &mut [u8; 256],
     parts: &mut Parts,
 ) -> Result<(), Fault>
-    requires sound { IsSound (D.history.image disk.old) }
-    requires own { IsInDirectory (D.history.image disk.old) place }
+    requires here { IsDirectorySector (D.history.image disk.old) place }
     requires eight { number < 8 }
     requires there { slot_in place bytes.old number ≡ slot_in place (sector (D.history.image disk.old) place) number }
     ensures rest { OnOk result (IsRecounted bytes.old bytes.new number) }
-    ensures counts { OnOk result (IsCountedAs bytes.old bytes.new) }
-    ensures right { OnOk result (IsRightAt (D.history.image disk.old) place bytes.new number) }
     // a count that is right is left as it is
-    ensures kept { OnOk result (IsRightAt (D.history.image disk.old) place bytes.old number → bytes.new ≡ bytes.old) }
-    ensures ok { OnOk result (Passes D.history disk.old disk.new 732) }
-    ensures err { IfErr result (TellsUnsound D.history disk.old disk.new 732) }
+    ensures counted { OnOk result
+        (GetsCounts (λ b. IsRightAt (D.history.image disk.old) place b number) bytes.old bytes.new) }
+    ensures judged { Judges D.history disk.old disk.new 732 result }
 {
     let slot = Slot::in_sector(bytes, place, number);
     if !EntryView::new(&slot.bytes).is_relative() {
@@ -71,15 +67,11 @@ fn recount_sector<D: Sectors>(
     bytes: &mut [u8; 256],
     parts: &mut Parts,
 ) -> Result<(), Fault>
-    requires sound { IsSound (D.history.image disk.old) }
-    requires own { IsInDirectory (D.history.image disk.old) place }
+    requires here { IsDirectorySector (D.history.image disk.old) place }
     requires there { bytes.old ≡ sector (D.history.image disk.old) place }
-    ensures counts { OnOk result (IsCountedAs bytes.old bytes.new) }
-    ensures right { OnOk result (AreRightIn (D.history.image disk.old) place bytes.new) }
     // counts that are right are left as they are
-    ensures kept { OnOk result (AreRightIn (D.history.image disk.old) place bytes.old → bytes.new ≡ bytes.old) }
-    ensures ok { OnOk result (Passes D.history disk.old disk.new 5856) }
-    ensures err { IfErr result (TellsUnsound D.history disk.old disk.new 5856) }
+    ensures counted { OnOk result (GetsCounts (AreRightIn (D.history.image disk.old) place) bytes.old bytes.new) }
+    ensures judged { Judges D.history disk.old disk.new 5856 result }
 {
     for number in 0..8u8 {
         recount_slot(disk, place, number, bytes, parts)?;
@@ -90,8 +82,7 @@ fn recount_sector<D: Sectors>(
 /// Makes the block counts right in a directory sector of a sound disk, which is written where one of them is wrong.
 /// `parts` is room for what an entry owns.
 fn mend_sector<D: Sectors>(disk: &mut D, place: Place, parts: &mut Parts) -> Result<(), Fault>
-    requires sound { IsSound (D.history.image disk.old) }
-    requires own { IsInDirectory (D.history.image disk.old) place }
+    requires here { IsDirectorySector (D.history.image disk.old) place }
     ensures right { OnOk result (AreRightIn (D.history.image disk.old) place (sector (D.history.image disk.new) place)) }
     // each image held is the old one, or has right counts in this sector
     ensures moments { Changes D.history disk.old disk.new 1 (OldOrMended (D.history.image disk.old) place) }

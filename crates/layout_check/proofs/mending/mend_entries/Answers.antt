@@ -11,7 +11,7 @@ use Rattle.disk_layout.proofs.Orders.{made_none, over_none}
 use Rattle.disk_layout.specs.Directory.{map_place}
 use Rattle.disk_layout.specs.InOrder.{AreMade, GoesOver}
 use Rattle.disk_layout.specs.Layout.{IsLayout, Layout, is_rel, is_rel_type}
-use Rattle.layout_check.proofs.EntryMends.{entry-filed, exact-entries, exact-kept, exact-made, exact-read, exact-same, filed-kept}
+use Rattle.layout_check.proofs.EntryMends.{exact-entries, exact-kept, exact-made, exact-read, exact-same, filed-kept}
 use Rattle.layout_check.proofs.MapMends.{device_later, mends_read, mends_then, mends_weaker}
 use Rattle.layout_check.proofs.Progress.{listed-as}
 use Rattle.layout_check.proofs.RightSides.{file-at, file_made, file_over, over_files, plain-sides, sides-all, sides-past}
@@ -41,9 +41,6 @@ mend_relative-requires-clause-filed g c =
     let d = c.in_ok-read_directory.ensures.ok in
     filed-kept _ _ c.slot-item.result c.loop-slot.invariant.layouts (filed-at _ _ d.0 c.as_slice-slot-items.result.now c.loop-slot.slot-index c.slot-item.result refl c.requires (listed-as _ d.0 c.read_directory.new.slots.items c.as_slice-slot-items.result.now c.as_slice-slot-items.ensures.value d.1) c.loop-slot-test.true c.slot-item.is)
 
-pub mend_relative-requires-clause-entry : goal.mend_relative-requires-clause-entry
-mend_relative-requires-clause-entry g c = entry-filed _ c.slot-item.result (mend_relative-requires-clause-filed g c)
-
 pub loop-slot-preserved : goal.loop-slot-preserved
 loop-slot-preserved g c =
     let S = g.D.Sectors.history in
@@ -63,8 +60,8 @@ loop-slot-preserved g c =
           let d = w.mend_relative.new.disk in
           record {
             layouts = rw w.disk-is (λ l h. done.mending.layouts l (old.layouts l h));
-            map = rw w.disk-is (done.map ∙ old.map);
-            exact = rw w.disk-is (below_more _ _ (λ k low s there rel. exact-kept _ _ _ s old.layouts done.others (old.exact k low s there rel))
+            map = rw w.disk-is (done.beside.map ∙ old.map);
+            exact = rw w.disk-is (below_more _ _ (λ k low s there rel. exact-kept _ _ _ s old.layouts done.beside.sides (old.exact k low s there rel))
                 (exact-read _ _ items c.loop-slot.slot-index c.slot-item.result c.loop-slot-test.true c.slot-item.is (λ _. exact-made _ _ _ c.slot-item.result old.layouts done.exact)));
             mends = rw w.disk-is (mends_then S a b d _ 6 _ (omega arith) old.mends done.mending.mends);
             over = rw w.disk-is (λ l h. let (f, there, slot) = file l h in file_over S a l h n f there b d (old.made l h) (old.over l h) (done.right l f (old.layouts l h) (get-contains l.files n f there) slot).over);

@@ -9,18 +9,19 @@ use Rattle.disk_layout.proofs.Orders.{over_none, over_read}
 use Rattle.disk_layout.specs.InOrder.{AreMade, GoesOver}
 use Rattle.disk_layout.specs.Layout.{IsLayout}
 use Rattle.layout_check.proofs.Entries.{rel-closed}
+use Rattle.layout_check.proofs.EntryMends.{entry-filed}
 use Rattle.layout_check.proofs.Finding.{on_ok}
 use Rattle.layout_check.proofs.MapMends.{device_later, mends_read, mends_then}
 use Rattle.layout_check.proofs.RightSides.{file-sides_once, made_exact, sides-found}
 use Rattle.layout_check.proofs.SideMends.{parts-at, parts-exact, parts-here, right-there, sound-device}
 use Rattle.layout_check.specs.Exact.{AreExactSides, ToldOfSides}
 use Rattle.layout_check.specs.RepairOrder.{IsRight}
-use Rattle.layout_check.specs.Mended.{KeepsExact, KeepsLayouts, SameMap}
+use Rattle.layout_check.specs.Mended.{KeepsBeside, KeepsExact, KeepsLayouts}
 use Rattle.disk_layout.specs.Directory.{map_place}
 use Rattle.layout_check.proofs.mending.mend_relative.Goals as goal
 
 pub find_parts-requires-clause-closed : goal.find_parts-requires-clause-closed
-find_parts-requires-clause-closed g c = rel-closed _ c.args.slot.now c.requires.entry c.requires.rel
+find_parts-requires-clause-closed g c = rel-closed _ c.args.slot.now (entry-filed _ c.args.slot.now c.requires.filed) c.requires.rel
 
 pub mend_sides-requires : goal.mend_sides-requires
 mend_sides-requires g c =
@@ -36,13 +37,13 @@ returns-in-Some g c =
     record {
       exact = let found = c.in_ok-find_parts.ensures in
           on_ok c.mend_sides.result _ _ (λ h bs ss i. parts-exact _ _ c.args.slot.now c.find_parts.new.parts.blocks.items c.find_parts.new.parts.sides.items bs ss (parts-here _ c.args.slot.now c.find_parts.new.parts.blocks.items c.find_parts.new.parts.sides.items c.requires.filed c.requires.rel found.parts) (rw (← c.as_slice.ensures.value, ← c.as_slice-in-Some.ensures.value) h) i) c.mend_sides.ensures.exact;
-      others = on_ok c.mend_sides.result _ _ (λ h. let P : Image → Type 0 = λ i. KeepsExact i (S.image c.mend_sides.new.disk) in subst P c.in_ok-find_parts.ensures.ok.reads.image h) c.mend_sides.ensures.others;
+      beside = on_ok c.mend_sides.result _ _ (λ h. let P : Image → Type 0 = λ i. KeepsBeside i (S.image c.mend_sides.new.disk) in
+          subst P c.in_ok-find_parts.ensures.ok.reads.image h) c.mend_sides.ensures.beside;
       mending = record {
         layouts = on_ok c.mend_sides.result _ _ (λ h. let P : Image → Type 0 = λ i. KeepsLayouts i (S.image c.mend_sides.new.disk) in subst P c.in_ok-find_parts.ensures.ok.reads.image h) c.mend_sides.ensures.mending.layouts;
         mends = mends_then S c.args.disk.now c.find_parts.new.disk c.mend_sides.new.disk 0 6 6 (omega arith) (mends_read S c.args.disk.now c.find_parts.new.disk _ 0 c.in_ok-find_parts.ensures.ok.reads) c.mend_sides.ensures.mending.mends;
         failures = device_later S (Unit {0}) c.args.disk.now c.find_parts.new.disk c.mend_sides.new.disk c.mend_sides.result c.in_ok-find_parts.ensures.ok.failures c.mend_sides.ensures.mending.failures;
       };
-      map = on_ok c.mend_sides.result _ _ (λ h. let P : Image → Type 0 = λ i. SameMap i (S.image c.mend_sides.new.disk) in subst P c.in_ok-find_parts.ensures.ok.reads.image h) c.mend_sides.ensures.map;
       right = λ l f is own slot. record {
         over = let found = c.in_ok-find_parts.ensures in
             let same = sides-found (S.image c.args.disk.now) l f c.args.slot.now c.find_parts.new.parts.blocks.items c.find_parts.new.parts.sides.items c.as_slice-in-Some.result.now is own slot c.requires.rel found.parts c.as_slice-in-Some.ensures.value in
@@ -70,13 +71,12 @@ returns-in_err-find_parts g c =
     let p = err_from_is_err_and c.from_residual.result c.from_residual.ensures.1 in
     record {
       exact = rw p.1 tt;
-      others = rw p.1 tt;
       mending = record {
         layouts = rw p.1 tt;
         mends = mends_read g.D.Sectors.history c.args.disk.now c.find_parts.new.disk 732 6 c.in_err-find_parts.ensures.err.reads;
         failures = rw (p.1, p.2) (sound-device g.D.Sectors.history (Unit {0}) c.args.disk.now c.find_parts.new.disk 732 _ (c.requires.filed.layout, c.requires.filed.sound) c.in_err-find_parts.ensures.err);
       };
-      map = rw p.1 tt;
+      beside = rw p.1 tt;
       right = λ l f is own slot. record {
         over = over_none g.D.Sectors.history (IsRight l) f.sides c.args.disk.now c.find_parts.new.disk 732 c.in_err-find_parts.ensures.err.reads;
         made = rw p.1 tt;
@@ -96,13 +96,15 @@ returns-in-None g c =
           let P : Option Place → Type 0 = ToldOfSides old c.args.slot.now blocks sides in
           let Q : Image → Type 0 = λ x. AreExactSides x c.args.slot.now bs ss in
           subst Q (sym found.ok.reads.image) (parts-exact old old c.args.slot.now blocks sides bs ss (parts-here old c.args.slot.now blocks sides c.requires.filed c.requires.rel found.parts) (subst P c.in-None.is found.exact) i);
-      others = let P : Image → Type 0 = KeepsExact (S.image c.args.disk.now) in subst P (sym c.in_ok-find_parts.ensures.ok.reads.image) (λ s bs ss h exact. exact);
+      beside = record {
+        sides = let P : Image → Type 0 = KeepsExact (S.image c.args.disk.now) in subst P (sym c.in_ok-find_parts.ensures.ok.reads.image) (λ s bs ss h exact. exact);
+        map = ap (λ (i : Image). sector i map_place) c.in_ok-find_parts.ensures.ok.reads.image;
+      };
       mending = record {
         layouts = λ l h. let P : Image → Type 0 = λ i. IsLayout i l in subst P (sym c.in_ok-find_parts.ensures.ok.reads.image) h;
         mends = mends_read S c.args.disk.now c.find_parts.new.disk _ 6 c.in_ok-find_parts.ensures.ok.reads;
         failures = c.in_ok-find_parts.ensures.ok.failures;
       };
-      map = ap (λ (i : Image). sector i map_place) c.in_ok-find_parts.ensures.ok.reads.image;
       right = λ l f is own slot. record {
         over = over_none S (IsRight l) f.sides c.args.disk.now c.find_parts.new.disk _ c.in_ok-find_parts.ensures.ok.reads;
         made = let found = c.in_ok-find_parts.ensures in

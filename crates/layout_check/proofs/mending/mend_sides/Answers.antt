@@ -72,14 +72,13 @@ returns-in_err-read_sector g c =
     let p = err_from_is_err_and c.from_residual.result c.from_residual.ensures.1 in
     record {
       exact = rw p.1 tt;
-      others = rw p.1 tt;
       mending = record {
         layouts = rw p.1 tt;
         mends = mends_then S c.args.disk.now c.loop-number.disk c.read_sector.new.disk c.loop-number.number 0 6 (omega (arith, c.loop-number-test.true, c.requires.few)) c.loop-number.invariant.mends (mends_read S c.loop-number.disk c.read_sector.new.disk 1 0 c.in_err-read_sector.ensures.reads);
         failures = rw (p.1, p.2) (device_later S (Unit {0}) c.args.disk.now c.loop-number.disk c.read_sector.new.disk (Err _) c.loop-number.invariant.failures
             (device_told S (Unit {0}) c.loop-number.disk c.read_sector.new.disk c.index-sides-number.result _ c.in_err-read_sector.ensures.told c.in_err-read_sector.ensures.failures c.in_err-read_sector.ensures.failed));
       };
-      map = rw p.1 tt;
+      beside = rw p.1 tt;
       right = λ l h. record {
         over = let old = c.loop-number.invariant in
             over_left S (IsRight l) c.args.sides.now c.loop-number.number c.args.disk.now c.loop-number.disk c.read_sector.new.disk 1 (parts-once (S.image c.args.disk.now) l h c.args.slot.now c.args.blocks.now c.args.sides.now c.requires.parts) (old.over l h) (old.made l h) c.in_err-read_sector.ensures.reads;
@@ -95,7 +94,6 @@ returns-in_err-write_other g c =
     let p = err_from_is_err_and c.from_residual-in_err-write_other.result c.from_residual-in_err-write_other.ensures.1 in
     record {
       exact = rw p.1 tt;
-      others = rw p.1 tt;
       mending = record {
         layouts = rw p.1 tt;
         mends = let wanted = rw (c.record_length-record_length.ensures, c.new.ensures) at c.side_bytes-wanted.ensures in
@@ -107,7 +105,7 @@ returns-in_err-write_other g c =
             (side_mends S c.args.disk.now c.loop-number.disk c.read_sector.new.disk c.write_other.new.disk c.args.slot.now c.args.blocks.now ss c.loop-number.number p c.side_bytes-wanted.result c.requires.parts c.requires.few here old.layouts old.mends c.in_ok-read_sector.ensures.reads wanted (write_changes S c.read_sector.new.disk c.write_other.new.disk _ _ _ (Err _) c.in_err-write_other.ensures.write));
         failures = rw (p.1, p.2) (device_later S (Unit {0}) c.args.disk.now c.read_sector.new.disk c.write_other.new.disk (Err _) (c.in_ok-read_sector.ensures.failures ∙ c.loop-number.invariant.failures) (let w = c.in_err-write_other.ensures.write in (w.failures, (_, w.told, w.failed))));
       };
-      map = rw p.1 tt;
+      beside = rw p.1 tt;
       right = λ l h. record {
         over = let wanted = rw (c.record_length-record_length.ensures, c.new.ensures) at c.side_bytes-wanted.ensures in
             let n = c.loop-number.number in
@@ -135,13 +133,12 @@ returns g c =
     let S = g.D.Sectors.history in
     record {
       exact = λ j p there. c.loop-number.invariant.exact j (omega (arith, c.loop-number-test.false, slice_get_within c.args.sides.now j p there)) p there;
-      others = c.loop-number.invariant.others;
       mending = record {
         layouts = c.loop-number.invariant.layouts;
         mends = mends_weaker S c.args.disk.now c.loop-number.disk c.loop-number.number 6 (omega (arith, c.loop-number.auto, c.requires.few)) c.loop-number.invariant.mends;
         failures = c.loop-number.invariant.failures;
       };
-      map = c.loop-number.invariant.map;
+      beside = record { sides = c.loop-number.invariant.others; map = c.loop-number.invariant.map };
       right = λ l h. record {
         over = over_first S (IsRight l) c.args.sides.now c.loop-number.number c.args.disk.now c.loop-number.disk (c.loop-number.invariant.over l h);
         made = let P : List Place → Type 0 = λ xs. AreMade (IsRight l) xs (S.image c.args.disk.now) (S.image c.loop-number.disk) in

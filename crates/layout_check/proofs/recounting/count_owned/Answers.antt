@@ -10,13 +10,14 @@ returns-in_err-find_parts g c =
     let p = err_from_is_err_and c.from_residual.result c.from_residual.ensures.1 in
     record {
       count = rw p.1 tt;
-      ok = rw p.1 tt;
-      err = rw (p.1, p.2) c.in_err-find_parts.ensures.err;
+      judged = record { ok = rw p.1 tt; err = rw (p.1, p.2) c.in_err-find_parts.ensures.err };
     }
 
 pub returns : goal.returns
 returns g c = record {
   count = count-of_parts _ c.args.slot.now c.find_parts.new.parts.blocks.items c.find_parts.new.parts.sides.items _ c.requires.rel c.in_ok-find_parts.ensures.parts (omega (arith, c.len.ensures.value, c.len-2.ensures.value));
-  ok = passes_weaker g.D.Sectors.history c.args.disk.now c.find_parts.new.disk _ 732 c.in_ok-find_parts.ensures.few c.in_ok-find_parts.ensures.ok;
-  err = tt;
+  judged = record {
+    ok = passes_weaker g.D.Sectors.history c.args.disk.now c.find_parts.new.disk _ 732 c.in_ok-find_parts.ensures.few c.in_ok-find_parts.ensures.ok;
+    err = tt;
+  };
 }

@@ -28,22 +28,25 @@ loop-place-init g c =
       failures = found.failures;
     }
 
-pub mend_sector-requires-clause-sound : goal.mend_sector-requires-clause-sound
-mend_sector-requires-clause-sound g c =
+pub mend_sector-requires : goal.mend_sector-requires
+mend_sector-requires g c =
     let S = g.D.Sectors.history in
     let items = c.as_slice-place-items.result.now in
-    sound-of (S.image c.args.disk.now) (S.image c.loop-place.disk) items (S.whole c.args.disk.now).size c.requires.sound
-    (λ l h. c.as_slice-place-items.ensures.value ∙ c.in_ok-find_directory.ensures.directory l.directory _ h.directory)
-    (at_end S c.args.disk.now c.loop-place.disk (λ i. IsRecountOf (S.image c.args.disk.now) i items) c.loop-place.invariant.moments.held)
-
-pub mend_sector-requires-clause-own : goal.mend_sector-requires-clause-own
-mend_sector-requires-clause-own g c =
-    let S = g.D.Sectors.history in
-    let items = c.as_slice-place-items.result.now in
-    in-of (S.image c.args.disk.now) (S.image c.loop-place.disk) items c.place-item.result (S.whole c.args.disk.now).size c.requires.sound
-    (λ l h. c.as_slice-place-items.ensures.value ∙ c.in_ok-find_directory.ensures.directory l.directory _ h.directory)
-    (at_end S c.args.disk.now c.loop-place.disk (λ i. IsRecountOf (S.image c.args.disk.now) i items) c.loop-place.invariant.moments.held)
-    (get-contains items c.loop-place.place-index c.place-item.result (read-there items c.loop-place.place-index c.place-item.result c.loop-place-test.true c.place-item.is))
+    let old = S.image c.args.disk.now in
+    let now = S.image c.loop-place.disk in
+    let size = (S.whole c.args.disk.now).size in
+    let k = c.loop-place.place-index in
+    let same = λ (l : Layout) (h : IsLayout old l).
+    c.as_slice-place-items.ensures.value ∙ c.in_ok-find_directory.ensures.directory l.directory _ h.directory in
+    let held = at_end S c.args.disk.now c.loop-place.disk (λ i. IsRecountOf old i items) c.loop-place.invariant.moments.held in
+    let there = read-there items k c.place-item.result c.loop-place-test.true c.place-item.is in
+    record {
+      here = record {
+        sound = sound-of old now items size c.requires.sound same held;
+        own = in-of old now items c.place-item.result size c.requires.sound same held
+            (get-contains items k c.place-item.result there);
+      };
+    }
 
 pub loop-place-preserved : goal.loop-place-preserved
 loop-place-preserved g c =

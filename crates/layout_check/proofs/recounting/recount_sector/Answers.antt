@@ -3,19 +3,17 @@ use Rattle.std.proofs.Common.{ap, arith, subst, sym, ◌∙◌, ◌*◌, ◌+◌
 use Rattle.std.proofs.lemmas.Result.{err_from_is_err_and}
 use Rattle.d64_image.specs.Images.{Image, Sector, sector}
 use Rattle.disk_layout.specs.Directory.{slot_in}
-use Rattle.disk_layout.specs.Layout.{IsSound}
 use Rattle.layout_check.proofs.Calls.{passes_then, passes_weaker, tells_then, passes_none}
 use Rattle.layout_check.proofs.RightCounts.{counted-then, counted-none}
 use Rattle.layout_check.proofs.RightSlots.{other-slot, right-next, right-there}
-use Rattle.layout_check.specs.Recounted.{IsInDirectory}
+use Rattle.layout_check.specs.Recounted.{IsDirectorySector}
 use Rattle.layout_check.proofs.recounting.recount_sector.Goals as goal
 
 -- the disk is the same after the reads so far
-pub recount_slot-requires-clause-sound : goal.recount_slot-requires-clause-sound
-recount_slot-requires-clause-sound g c = let P : Image → Type 0 = IsSound in subst P (sym c.loop-number.invariant.passes.reads.image) c.requires.sound
-
-pub recount_slot-requires-clause-own : goal.recount_slot-requires-clause-own
-recount_slot-requires-clause-own g c = let P : Image → Type 0 = λ i. IsInDirectory i c.args.place in subst P (sym c.loop-number.invariant.passes.reads.image) c.requires.own
+pub recount_slot-requires-clause-here : goal.recount_slot-requires-clause-here
+recount_slot-requires-clause-here g c =
+    let P : Image → Type 0 = λ i. IsDirectorySector i c.args.place in
+    subst P (sym c.loop-number.invariant.passes.reads.image) c.requires.here
 
 pub recount_slot-requires-clause-there : goal.recount_slot-requires-clause-there
 recount_slot-requires-clause-there g c =
@@ -29,11 +27,11 @@ pub returns-in_err-recount_slot : goal.returns-in_err-recount_slot
 returns-in_err-recount_slot g c =
     let p = err_from_is_err_and c.from_residual.result c.from_residual.ensures.1 in
     record {
-      counts = rw p.1 tt;
-      right = rw p.1 tt;
-      kept = rw p.1 tt;
-      ok = rw p.1 tt;
-      err = rw (p.1, p.2) (tells_then g.D.Sectors.history c.args.disk.now c.loop-number.disk c.recount_slot.new.disk (732 * c.loop-number.number) 732 5856 _ (omega (arith, c.loop-number-test.true)) c.loop-number.invariant.passes c.in_err-recount_slot.ensures.err);
+      counted = rw p.1 tt;
+      judged = record {
+        ok = rw p.1 tt;
+        err = rw (p.1, p.2) (tells_then g.D.Sectors.history c.args.disk.now c.loop-number.disk c.recount_slot.new.disk (732 * c.loop-number.number) 732 5856 _ (omega (arith, c.loop-number-test.true)) c.loop-number.invariant.passes c.in_err-recount_slot.ensures.judged.err);
+      };
     }
 
 pub loop-number-preserved : goal.loop-number-preserved
@@ -45,11 +43,11 @@ loop-number-preserved g c =
     let eight = c.loop-number-test.true in
     record {
       few = omega (arith, eight);
-      passes = passes_then S c.args.disk.now c.loop-number.disk c.recount_slot.new.disk (732 * n) 732 (732 * (n + 1)) (omega arith) old.passes now.ok;
-      counts = counted-then c.args.bytes.now c.loop-number.bytes c.recount_slot.new.bytes old.counts now.counts;
+      passes = passes_then S c.args.disk.now c.loop-number.disk c.recount_slot.new.disk (732 * n) 732 (732 * (n + 1)) (omega arith) old.passes now.judged.ok;
+      counts = counted-then c.args.bytes.now c.loop-number.bytes c.recount_slot.new.bytes old.counts now.counted.counts;
       later = λ k above low. other-slot c.args.place c.loop-number.bytes c.recount_slot.new.bytes n k now.rest low (λ e. omega (arith, e, above)) ∙ old.later k (omega (arith, above)) low;
-      right = right-next _ _ c.args.place c.loop-number.bytes c.recount_slot.new.bytes n old.passes.reads.image eight now.rest old.right now.right;
-      kept = λ all. let e = old.kept all in now.kept (right-there _ _ c.args.place c.args.bytes.now c.loop-number.bytes n old.passes.reads.image eight e all) ∙ e;
+      right = right-next _ _ c.args.place c.loop-number.bytes c.recount_slot.new.bytes n old.passes.reads.image eight now.rest old.right now.counted.right;
+      kept = λ all. let e = old.kept all in now.counted.kept (right-there _ _ c.args.place c.args.bytes.now c.loop-number.bytes n old.passes.reads.image eight e all) ∙ e;
     }
 
 pub loop-number-init : goal.loop-number-init
@@ -64,9 +62,13 @@ loop-number-init g c = record {
 
 pub returns : goal.returns
 returns g c = record {
-  counts = c.loop-number.invariant.counts;
-  right = λ n low. c.loop-number.invariant.right n (omega (arith, low, c.loop-number-test.false));
-  kept = c.loop-number.invariant.kept;
-  ok = passes_weaker g.D.Sectors.history c.args.disk.now c.loop-number.disk (732 * c.loop-number.number) 5856 (omega (arith, c.loop-number.invariant.few)) c.loop-number.invariant.passes;
-  err = tt;
+  counted = record {
+    counts = c.loop-number.invariant.counts;
+    right = λ n low. c.loop-number.invariant.right n (omega (arith, low, c.loop-number-test.false));
+    kept = c.loop-number.invariant.kept;
+  };
+  judged = record {
+    ok = passes_weaker g.D.Sectors.history c.args.disk.now c.loop-number.disk (732 * c.loop-number.number) 5856 (omega (arith, c.loop-number.invariant.few)) c.loop-number.invariant.passes;
+    err = tt;
+  };
 }
