@@ -1,8 +1,9 @@
 //! Records read in order: the block that was read last is kept, and its link names the next one.
 ghost use Rattle.std.specs.Prelude.{◌≡◌, ◌+◌, ◌<◌, ◌≤◌, None, Some};
+ghost use Rattle.d64_image.specs.History.{OnlyReads};
 ghost use Rattle.rel_records.specs.Calls.{HasRead, ReadsAtMost, ReadsRecord};
 ghost use Rattle.rel_records.specs.File.{IsOf, blocks_of, records_in};
-ghost use Rattle.rel_records.specs.Kept.{IsKept, number_kept};
+ghost use Rattle.rel_records.specs.Kept.{IsKept, ReadsNear, number_kept};
 
 use crate::counting::has_records;
 use crate::faults::RelFault;
@@ -66,6 +67,7 @@ fn bring<D: Sectors>(
     requires there { block < blocks_of file.now }
     requires kept { IsKept (D.history.image disk.old) file.now last.old }
     ensures here { ReadsAtMost D.history disk.old disk.new 2 result (λ done. number_kept last.new ≡ Some block) }
+    ensures quiet { number_kept last.old ≡ Some block → OnlyReads D.history disk.old disk.new 0 }
     ensures kept { IsKept (D.history.image disk.old) file.now last.new }
 {
     if let Some(here) = last.number {
@@ -100,6 +102,7 @@ fn next_there<D: Sectors>(
     ensures text { ReadsAtMost D.history disk.old disk.new 3 result
         (λ done. HasRead (D.history.image disk.old) file.now number text.new.items) }
     ensures kept { IsKept (D.history.image disk.old) file.now last.new }
+    ensures near { ReadsNear D.history disk.old disk.new last.old file.now number }
 {
     let size = file.size as usize;
     let start = (number as usize - 1) * size;
@@ -129,6 +132,7 @@ pub fn read_next<D: Sectors>(
     ensures text { ReadsRecord D.history disk.old disk.new file.now number text.new.items 3 result }
     // what is kept is of the file as it was
     ensures kept { IsKept (D.history.image disk.old) file.now last.new }
+    ensures near { ReadsNear D.history disk.old disk.new last.old file.now number }
 {
     if number == 0 {
         return Err(RelFault::NotPresent);

@@ -1,8 +1,9 @@
 -- The block is kept already, or lies behind the one that is, or is looked up.
-use Rattle.std.proofs.Common.{arith, ap, refl, ◌∙◌, ◌≡◌, ◌+◌, Some}
+use Rattle.std.proofs.Common.{arith, ap, refl, ◌∙◌, ◌≡◌, ◌+◌, Some, None, Option, sym, ℕ}
 use Rattle.d64_image.proofs.Moments.{no_reads, reads_weaker}
 use Rattle.rel_records.proofs.Told.{fault-is, if-so, none-done, passed-on}
 use Rattle.rel_records.proofs.in_order.bring.Goals as goal
+use Rattle.rel_records.proofs.in_order.bring.Goals.{in-Some+else-here-block+else-here-block-2, in_default}
 
 pub returns-then-here-block-clause-here : goal.returns-then-here-block-clause-here
 returns-then-here-block-clause-here g c =
@@ -76,3 +77,33 @@ returns-clause-here g c =
       reads = c.read_block.ensures.reads;
       failures = c.in_ok-read_block.ensures.failures;
     }
+
+-- a block that is another one, or none, isn't the one that is kept
+same-number : (a b : ℕ) → ◌≡◌ {A = Option ℕ} (Some a) (Some b) → a ≡ b
+same-number a b e = cc
+
+no-number : (b : ℕ) → ◌≡◌ {A = Option ℕ} None (Some b) → ⊥
+no-number b e = cc
+
+pub returns-then-here-block-clause-quiet : goal.returns-then-here-block-clause-quiet
+returns-then-here-block-clause-quiet g c kept = no_reads g.D.Sectors.history c.args.disk.now
+
+pub returns-then-block-here-eq1-clause-quiet : goal.returns-then-block-here-eq1-clause-quiet
+returns-then-block-here-eq1-clause-quiet g c kept =
+    absurd (c.if-here-block.false (same-number _ _ (sym c.in-Some.is ∙ kept)))
+
+pub returns-in_err-read_block-clause-quiet : goal.returns-in_err-read_block-clause-quiet
+returns-in_err-read_block-clause-quiet g c kept =
+    elim c.match-last.branch [
+      | in-Some+else-here-block+else-here-block-2 w ↦ absurd
+          (w.if-here-block.false (same-number _ _ (sym w.in-Some.is ∙ kept)))
+      | in_default w ↦ absurd (no-number _ (sym w.in_default.is ∙ kept))
+    ]
+
+pub returns-clause-quiet : goal.returns-clause-quiet
+returns-clause-quiet g c kept =
+    elim c.match-last.branch [
+      | in-Some+else-here-block+else-here-block-2 w ↦ absurd
+          (w.if-here-block.false (same-number _ _ (sym w.in-Some.is ∙ kept)))
+      | in_default w ↦ absurd (no-number _ (sym w.in_default.is ∙ kept))
+    ]

@@ -1,13 +1,14 @@
 -- The record's bytes are those of the block that is kept, and of the one behind it.
-use Rattle.std.proofs.Common.{Option, ap, arith, length, subst, sym, ℕ, ◌∙◌, ◌≡◌, refl}
-use Rattle.std.specs.Prelude.{IfSome}
+use Rattle.std.proofs.Common.{Option, ap, arith, length, subst, sym, ℕ, ◌∙◌, ◌≡◌, refl, ◌+◌, ◌-◌, ◌*◌, ◌%◌, ◌<◌, ◌≤◌}
+use Rattle.std.proofs.lemmas.Bool.{lt-ltb}
+use Rattle.std.specs.Prelude.{IfSome, if◌then◌else◌}
 use Rattle.d64_image.specs.Images.{Image, IsImage, Sector}
 use Rattle.disk_layout.proofs.Joined.{sector-long}
 use Rattle.disk_layout.specs.Layout.{File}
 use Rattle.rel_records.proofs.Readings.{inside-of, has-read, record-read}
 use Rattle.rel_records.specs.Block.{IsBlock}
-use Rattle.rel_records.specs.File.{IsOf}
-use Rattle.rel_records.specs.Kept.{IsKept}
+use Rattle.rel_records.specs.File.{IsOf, length_of}
+use Rattle.rel_records.specs.Kept.{IsKept, next_reads}
 use Rattle.d64_image.proofs.Moments.{reads_then, reads_weaker}
 use Rattle.rel_records.proofs.Told.{fault-is, none-done, passed-on}
 use Rattle.rel_records.proofs.in_order.next_there.Goals as goal
@@ -116,3 +117,29 @@ returns-in_err-bring-clause-kept g c = c.bring.ensures.kept
 
 pub returns-then-start-size-le-DATA-clause-kept : goal.returns-then-start-size-le-DATA-clause-kept
 returns-then-start-size-le-DATA-clause-kept g c = c.bring.ensures.kept
+
+pub returns-in_err-bring-clause-near : goal.returns-in_err-bring-clause-near
+returns-in_err-bring-clause-near g c kept = reads_weaker g.D.Sectors.history _ _ 0 _ (omega arith)
+    (c.bring.ensures.quiet kept)
+
+pub returns-then-start-size-le-DATA-clause-near : goal.returns-then-start-size-le-DATA-clause-near
+returns-then-start-size-le-DATA-clause-near g c kept =
+    reads_weaker g.D.Sectors.history _ _ 0 _ (omega arith) (c.bring.ensures.quiet kept)
+
+pub returns-in_err-go_on-clause-near : goal.returns-in_err-go_on-clause-near
+returns-in_err-go_on-clause-near g c kept =
+    let S = g.D.Sectors.history in
+    let L = length_of c.args.file.now in
+    let over : 254 < (c.args.number - 1) * L % 254 + L = omega (arith, c.if-start-size-le-DATA.false) in
+    let once : 0 + 1 ≤ next_reads L c.args.number = omega
+    (arith, ap {B = ℕ} (λ b. if b then 1 else 0) (lt-ltb 254 ((c.args.number - 1) * L % 254 + L) over)) in
+    reads_then S _ _ _ 0 1 _ once (c.bring.ensures.quiet kept) c.go_on.ensures.next.reads
+
+pub returns-clause-near : goal.returns-clause-near
+returns-clause-near g c kept =
+    let S = g.D.Sectors.history in
+    let L = length_of c.args.file.now in
+    let over : 254 < (c.args.number - 1) * L % 254 + L = omega (arith, c.if-start-size-le-DATA.false) in
+    let once : 0 + 1 ≤ next_reads L c.args.number = omega
+    (arith, ap {B = ℕ} (λ b. if b then 1 else 0) (lt-ltb 254 ((c.args.number - 1) * L % 254 + L) over)) in
+    reads_then S _ _ _ 0 1 _ once (c.bring.ensures.quiet kept) c.go_on.ensures.next.reads

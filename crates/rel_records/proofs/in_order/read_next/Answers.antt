@@ -65,3 +65,16 @@ returns-then-not-has_records-clause-kept g c = c.requires.kept
 
 pub returns-clause-kept : goal.returns-clause-kept
 returns-clause-kept g c = c.next_there.ensures.kept
+
+pub returns-then-number-eq0-clause-near : goal.returns-then-number-eq0-clause-near
+returns-then-number-eq0-clause-near g c kept =
+    reads_weaker g.D.Sectors.history c.args.disk.now c.args.disk.now 0 _ (omega arith)
+    (no_reads g.D.Sectors.history c.args.disk.now)
+
+pub returns-then-not-has_records-clause-near : goal.returns-then-not-has_records-clause-near
+returns-then-not-has_records-clause-near g c kept =
+    reads_weaker g.D.Sectors.history c.args.disk.now c.args.disk.now 0 _ (omega arith)
+    (no_reads g.D.Sectors.history c.args.disk.now)
+
+pub returns-clause-near : goal.returns-clause-near
+returns-clause-near g c kept = c.next_there.ensures.near kept
