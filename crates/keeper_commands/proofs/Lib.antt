@@ -1,0 +1,4 @@
+pub mod Blocks
+pub mod Entries
+pub mod Files
+pub mod Printing

@@ -1,0 +1,3 @@
+pub mod Bytes
+pub mod Faults
+pub mod Records
