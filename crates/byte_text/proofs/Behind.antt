@@ -1,8 +1,8 @@
 -- A line of a record is cut at its first comma, and its text may be between quotation marks.
-use Rattle.std.proofs.Common.{◌≡◌, ◌≢◌, ◌≤◌, ◌+◌, ◌/◌, ◌%◌, ◌⊎◌, inl, inr, ⊎_elim, ℕ, List, [], ◌∷◌, ◌++◌, Option, Some, None, Bool, true, false, length, drop, get_or, refl, subst, sym, ap, ◌∙◌, arith, length-append}
+use Rattle.std.proofs.Common.{◌≡◌, ◌≤◌, ◌/◌, ◌%◌, ◌⊎◌, inl, inr, ⊎_elim, ℕ, List, [], ◌∷◌, ◌++◌, Option, Some, None, Bool, true, false, length, drop, get_or, refl, subst, sym, ap, ◌∙◌, arith}
 use Rattle.std.specs.Prelude.{decimal, if◌then◌else◌}
 use Rattle.std.proofs.lemmas.List.{append_cancel_right}
-use Rattle.byte_text.specs.Texts.{AreBytes, byte_text, digit, is_plain, text_of}
+use Rattle.byte_text.specs.Texts.{byte_text, digit, is_plain, text_of}
 use Rattle.byte_text.specs.Lines.{IsLineOf, IsQuoted}
 use Rattle.request_cards.proofs.Fields.{before_read, before_spells}
 use Rattle.request_cards.specs.Reading.{number_before}

@@ -1,10 +1,10 @@
 -- What is printed of a record is read and stored as that record.
-use Rattle.std.proofs.Common.{◌≡◌, ◌≤◌, ◌+◌, ◌-◌, ◌⊎◌, inl, inr, ⊎_elim, ℕ, zero, suc, List, [], ◌∷◌, ◌++◌, Some, Option, length, take, drop, replicate, refl, subst, sym, ap, ap₂, ◌∙◌, arith, length-append}
-use Rattle.std.specs.Prelude.{codes, decimal}
+use Rattle.std.proofs.Common.{◌≡◌, ◌≤◌, ◌-◌, ◌⊎◌, inl, ⊎_elim, ℕ, zero, suc, List, [], ◌∷◌, ◌++◌, Some, Option, length, take, drop, replicate, refl, subst, sym, ap, ◌∙◌, arith}
+use Rattle.std.specs.Prelude.{decimal}
 use Rattle.std.proofs.lemmas.List.{append_assoc, append_cancel_right}
 use Rattle.byte_text.proofs.Texts.{one-text}
 use Rattle.byte_text.specs.Texts.{kept_before, record_line, text_of, trimmed}
-use Rattle.byte_text.proofs.Behind.{behind-number, IsBehindNumber, no-mark}
+use Rattle.byte_text.proofs.Behind.{behind-number, no-mark}
 use Rattle.byte_text.specs.Lines.{IsLineOf, IsQuoted, padded}
 use Rattle.request_cards.specs.Reading.{number_before}
 

@@ -1,19 +1,13 @@
 -- Bytes and their texts: one text for each list of bytes.
-use Rattle.std.proofs.Common.{◌≡◌, ◌≢◌, ◌<◌, ◌≤◌, ◌+◌, ◌/◌, ◌%◌, ℕ, List, [], ◌∷◌, ◌++◌, Option, length, take, drop, get_or, Bool, true, false, length-append, refl, subst, sym, ap, ap₂, ◌∙◌, arith}
-use Rattle.std.specs.Prelude.{codes, decimal, flat_map, if◌then◌else◌}
+use Rattle.std.proofs.Common.{◌≡◌, ◌≢◌, ◌<◌, ◌≤◌, ◌+◌, ◌-◌, ◌/◌, ◌%◌, ℕ, suc, List, [], ◌∷◌, ◌++◌, Option, length, take, drop, get_or, Bool, true, false, length-append, refl, subst, sym, ap, ap₂, ◌∙◌, arith}
+use Rattle.std.specs.Prelude.{codes, decimal, if◌then◌else◌, slice_index, slice_range}
 use Rattle.std.specs.Io.KnownBytes.{Appends}
 use Rattle.std.proofs.Math.Seq.{get_or-append_seam}
 use Rattle.std.proofs.KnownBytes.{Appends-trans}
-use Rattle.std.proofs.lemmas.List.{append_assoc, append-nil, flat_map_more, take_more}
+use Rattle.std.proofs.Math.Seq.{take-append-add}
+use Rattle.std.proofs.lemmas.Grind.{flat_map-append}
+use Rattle.std.proofs.lemmas.List.{append_assoc, append-nil, get_or-drop, get_or-take, length-take, length-take-le, take-append-drop}
 use Rattle.byte_text.specs.Texts.{AreBytes, byte_text, digit, is_plain, record_line, text_of, trimmed}
-
--- one byte's text more
-pub byte-more : (a b c : Option (List ℕ)) (bytes : List ℕ) (i n : ℕ) → i < length bytes → get_or bytes i n ≡ n
-    → Appends a b (flat_map byte_text (take i bytes)) → Appends b c (byte_text n) → Appends a c (flat_map byte_text (take (i + 1) bytes))
-byte-more a b c bytes i n inside here before more =
-    let taken : take (i + 1) bytes ≡ take i bytes ++ n ∷ [] = take_more bytes i n inside ∙ ap (λ (x : ℕ). take i bytes ++ x ∷ []) here in
-    subst (Appends a c) (flat_map_more byte_text [] (take i bytes) n ∙ ap (flat_map byte_text) (sym taken))
-    (Appends-trans a b c _ _ before more)
 
 -- a digit is of one number
 digit-one : (m n : ℕ) → digit m ≡ digit n → m ≡ n
@@ -21,6 +15,40 @@ digit-one m n same = grind arith
 
 abbrev chosen : Bool → ℕ → List ℕ
 chosen plain b = if plain then b ∷ [] else 92 ∷ digit (b / 16) ∷ digit (b % 16) ∷ []
+
+plain-byte : (b : ℕ) → is_plain b ≡ true → byte_text b ≡ b ∷ []
+plain-byte b plain = ap (λ (p : Bool). chosen p b) plain
+
+-- bytes that stand for themselves are their own text
+text-plain : (xs : List ℕ) → ((i : ℕ) → i < length xs → is_plain (get_or xs i 0) ≡ true) → text_of xs ≡ xs
+text-plain [] plain = refl
+text-plain (x ∷ xs) plain =
+    let here : byte_text x ≡ x ∷ [] = plain-byte x (plain 0 (omega arith)) in
+    let rest : text_of xs ≡ xs = text-plain xs (λ i lt. plain (suc i) (omega (arith, lt))) in
+    ap₂ (λ (a b : List ℕ). a ++ b) here rest
+
+-- the same of a part of them
+pub range-plain : (xs : List ℕ) (start end : ℕ) → start ≤ end → end ≤ length xs
+    → ((i : ℕ) → start ≤ i → i < end → is_plain (slice_index xs i) ≡ true) → text_of (slice_range xs start end) ≡ slice_range xs start end
+range-plain xs start end low high plain =
+    let long : length (slice_range xs start end) ≤ end - start = omega (arith, length-take (end - start) (drop start xs)) in
+    text-plain (slice_range xs start end) (λ i lt.
+    let inside : i < end - start = omega (arith, lt, long) in
+    let here : get_or (slice_range xs start end) i 0 ≡ slice_index xs (start + i) =
+    get_or-take (end - start) (drop start xs) i 0 inside ∙ get_or-drop start xs i 0 in
+    ap is_plain here ∙ plain (start + i) (omega arith) (omega (arith, inside)))
+
+-- the texts of two parts, written one after the other
+pub text-more : (a b c : Option (List ℕ)) (xs : List ℕ) (start end : ℕ) → start ≤ end → end ≤ length xs
+    → Appends a b (text_of (take start xs)) → Appends b c (text_of (slice_range xs start end)) → Appends a c (text_of (take end xs))
+text-more a b c xs start end low high before more =
+    let first : length (take start xs) ≡ start = length-take-le start xs (omega (arith, low, high)) in
+    let last : length (take start xs) + (end - start) ≡ end = omega (arith, first, low) in
+    let both : take end xs ≡ take start xs ++ slice_range xs start end =
+    ap₂ (λ (n : ℕ) (ys : List ℕ). take n ys) (sym last) (sym (take-append-drop start xs))
+    ∙ take-append-add (take start xs) (drop start xs) (end - start) in
+    subst (Appends a c) (sym (ap text_of both ∙ flat_map-append byte_text (take start xs) (slice_range xs start end)))
+    (Appends-trans a b c _ _ before more)
 
 at : (i : ℕ) (xs ys : List ℕ) → xs ≡ ys → get_or xs i 0 ≡ get_or ys i 0
 at i xs ys same = ap (λ (zs : List ℕ). get_or zs i 0) same

@@ -8,11 +8,9 @@ fn end_of(bytes: &[u8]) -> usize
     ensures zeros { (i : ℕ) → result ≤ i → slice_index bytes.now i ≡ 0 }
     ensures last { (result ≡ 0) ⊎ (slice_index bytes.now (result - 1) ≢ 0) }
 {
-    let mut end = 0;
-    for i in 0..bytes.len() {
-        if bytes[i] != 0 {
-            end = i + 1;
-        }
+    let mut end = bytes.len();
+    while end > 0 && bytes[end - 1] == 0 {
+        end -= 1;
     }
     end
 }

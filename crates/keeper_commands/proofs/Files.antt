@@ -1,6 +1,5 @@
 -- What is known of the file of a name when its bytes are printed.
-use Rattle.std.proofs.Common.{◌≡◌, List, Some, get_or, length, refl, subst, sym, ℕ}
-use Rattle.std.specs.Prelude.{slice_get}
+use Rattle.std.proofs.Common.{◌≡◌, List, get_or, length, refl, subst, sym, ℕ}
 use Rattle.std.proofs.lemmas.Option.{slice_get_read, slice_get_within}
 use Rattle.d64_image.specs.Images.{Image}
 use Rattle.d64_image.specs.Memory.{sectors_in}

@@ -1,4 +1,4 @@
-use Rattle.std.proofs.Common.{refl, sym, ◌∙◌}
+use Rattle.std.proofs.Common.{refl}
 use Rattle.byte_text.proofs.Behind.{line-found, line-refused, text-refused}
 use Rattle.byte_text.proofs.line_reading.read_line.Goals as goal
 

@@ -1,8 +1,9 @@
--- Behind the end so far the bytes so far are 0, and the one before it isn't.
-use Rattle.std.proofs.Common.{◌≡◌, ◌≢◌, ◌⊎◌, ◌-◌, ◌<◌, ◌≤◌, ℕ, slice_index}
+-- From the end on all bytes are 0.
+use Rattle.std.proofs.Common.{◌≡◌, ◌≤◌, ℕ, length, slice_index}
 use Rattle.byte_text.proofs.trimming.end_of.Given as goal
 
-abbrev pub invariant-loop-i : goal.invariant-loop-i
-invariant-loop-i l = (l.end ≤ l.i)
-    × ((j : ℕ) → l.end ≤ j → j < l.i → slice_index l.bytes j ≡ 0)
-    × ((l.end ≡ 0) ⊎ (slice_index l.bytes (l.end - 1) ≢ 0))
+abbrev pub invariant-loop-end : goal.invariant-loop-end
+invariant-loop-end l = (l.end ≤ length l.bytes) × ((j : ℕ) → l.end ≤ j → slice_index l.bytes j ≡ 0)
+
+abbrev pub decreases-loop-end : goal.decreases-loop-end
+decreases-loop-end l = l.end

@@ -1,5 +1,5 @@
 -- The file was found and walked, and its bytes were printed; or why not.
-use Rattle.std.proofs.Common.{◌∙◌, Err, List, ap, inr, subst, sym, ℕ}
+use Rattle.std.proofs.Common.{◌∙◌, Err, List, ap, inr, subst, sym}
 use Rattle.std.proofs.lemmas.Result.{IfErr-weaker, err_from_is_err_and}
 use Rattle.std.proofs.KnownBytes.{Appends-kept}
 use Rattle.std.specs.Io.KnownBytes.{Appends}

@@ -1,5 +1,5 @@
 -- One block's bytes more.
-use Rattle.std.proofs.Common.{◌∙◌, List, ap, arith, length, refl, subst, sym, take, ℕ, ◌++◌}
+use Rattle.std.proofs.Common.{◌∙◌, refl, subst, sym}
 use Rattle.std.proofs.KnownBytes.{Appends-nil}
 use Rattle.std.specs.Io.KnownBytes.{Appends}
 use Rattle.d64_image.specs.Memory.{disk_image}

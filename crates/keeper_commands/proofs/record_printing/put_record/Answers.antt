@@ -1,5 +1,5 @@
 -- The record is there, and its line was printed.
-use Rattle.std.proofs.Common.{◌≡◌, List, ℕ, subst, sym, ◌∙◌, ap, true, false}
+use Rattle.std.proofs.Common.{◌≡◌, List, ℕ, subst, sym, ◌∙◌, true, false}
 use Rattle.std.specs.Prelude.{is_err}
 use Rattle.std.specs.Io.KnownBytes.{Appends}
 use Rattle.byte_text.specs.Texts.{record_line}
