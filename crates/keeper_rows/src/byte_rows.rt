@@ -4,6 +4,7 @@ use crate::comparing::same_at;
 use crate::disks::{Change, changed};
 use crate::outputs::{Full, is_told};
 use keeper_commands::{KeepFault, bytes_image};
+use std::io::Write;
 use std::process::Abort;
 
 /// Bytes 2 to 20 of a slot: closed and a program, in 17/6, with a shifted space in its name.
@@ -95,12 +96,13 @@ fn are_printed(rt: &(impl Abort + AllocGlobal), rows: &[Row]) {
             bytes_image(rt.alloc(), disk.bytes(), name, &mut out),
             "",
         );
-        let got = out.as_slice();
-        same_at(rt, got.len(), front.len() + zeros + end.len(), changes);
-        same_at(rt, got.strip_prefix(front).is_some(), true, front);
-        same_at(rt, got.strip_suffix(end).is_some(), true, end);
-        let middle = got.iter().skip(front.len()).take(zeros);
-        same_at(rt, middle.filter(|byte| **byte != 0).count(), 0, changes);
+        let mut wanted = Vec::new(rt.alloc());
+        let _ = wanted.write_all(front);
+        for _ in 0..zeros {
+            let _ = wanted.write_all(b"\0");
+        }
+        let _ = wanted.write_all(end);
+        same_at(rt, out.as_slice(), wanted.as_slice(), changes);
     }
 }
 

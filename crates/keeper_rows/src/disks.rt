@@ -1,12 +1,13 @@
 //! The disks of the rows: blank disks for two tills, with files made and bytes changed.
-ghost use Rattle.std.specs.Prelude.{◌≤◌};
+ghost use Rattle.std.specs.Prelude.{◌≤◌, length};
 ghost use Rattle.d64_image.specs.Memory.{disk_image};
 ghost use Rattle.disk_layout.specs.Clean.{IsClean};
+ghost use Rattle.rel_records.specs.File.{IsOf};
 
 use d64_image::{MemDisk, Place, Sectors};
 use disk_layout::blank_image;
 use layout_check::check;
-use rel_records::{create, find, write_record};
+use rel_records::{RelFile, create, find, write_record};
 use std::process::Abort;
 
 /// The blank disk for two tills: STOCK in 17/0 (18 bytes a record, 14 of them) with the side sector 17/1, REQUESTS in 17/2
@@ -29,6 +30,7 @@ fn clean(rt: &impl Abort, disk: &mut MemDisk)
 
 /// Makes a relative file with records of so many bytes.
 fn make(rt: &impl Abort, disk: &mut MemDisk, name: &[u8], size: u8)
+    requires name { length name.now ≤ 16 }
     requires low { 1 ≤ size }
     requires high { size ≤ 254 }
 {
@@ -36,13 +38,16 @@ fn make(rt: &impl Abort, disk: &mut MemDisk, name: &[u8], size: u8)
     create(disk, name, size).expect(rt, "a new file");
 }
 
-/// Writes a record of a relative file, which grows to it.
-fn write(rt: &impl Abort, disk: &mut MemDisk, name: &[u8], number: u32, text: &[u8])
-    requires { 1 ≤ number }
+/// The file of this name, of a clean disk.
+fn found(rt: &impl Abort, disk: &mut MemDisk, name: &[u8]) -> RelFile
+    ensures clean { IsClean (disk_image disk.new) }
+    ensures of { IsOf (disk_image disk.new) result }
 {
     clean(rt, disk);
-    let mut file = find(disk, name).expect(rt, "the file");
-    write_record(disk, &mut file, number, 1, text).expect(rt, "room for the record");
+    match find(disk, name) {
+        Ok(file) => file,
+        Err(fault) => panic!(rt; "the file isn't found: {fault:?}"),
+    }
 }
 
 /// The blank disk with a relative file in which this record was written.
@@ -53,13 +58,15 @@ pub(crate) fn with_record(
     number: u32,
     text: &[u8],
 ) -> MemDisk
+    requires name { length name.now ≤ 16 }
     requires low { 1 ≤ size }
     requires high { size ≤ 254 }
     requires number { 1 ≤ number }
 {
     let mut disk = fresh(rt);
     make(rt, &mut disk, name, size);
-    write(rt, &mut disk, name, number, text);
+    let mut file = found(rt, &mut disk, name);
+    write_record(&mut disk, &mut file, number, 1, text).expect(rt, "room for the record");
     disk
 }
 

@@ -15,4 +15,6 @@ mod outputs;
 #[cfg(test)]
 mod record_rows;
 #[cfg(test)]
+mod repair_rows;
+#[cfg(test)]
 mod text_rows;

@@ -48,7 +48,7 @@ fn lines(rt: &impl AllocGlobal, count: u32, written: u32, text: &str) -> Vec<u8>
 fn are_printed(rt: &(impl Abort + AllocGlobal), rows: &[Made]) {
     for &(name, size, number, bytes, text, count) in rows {
         assert!(rt;
-            size >= 1 && size <= 254 && number >= 1,
+            name.len() <= 16 && size >= 1 && size <= 254 && number >= 1,
             "there is no such record"
         );
         let disk = with_record(rt, name, size, number, bytes);
