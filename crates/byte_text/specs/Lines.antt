@@ -2,8 +2,8 @@
 use Rattle.std.specs.Prelude.{◌≡◌, ◌⊎◌, ℕ, List, [], ◌∷◌, ◌++◌, decimal, replicate, take}
 use Rattle.byte_text.specs.Texts.{text_of}
 
--- A line, without its end, is of record n with these bytes. The quotation marks may be left out, as a spreadsheet leaves them
--- out.
+-- A line, without its end, is of record n with these bytes. The quotation marks may be left out, as a spreadsheet
+-- leaves them out.
 abbrev pub IsLineOf : List ℕ → ℕ → List ℕ → Type 0
 IsLineOf line n bytes =
     (line ≡ decimal n ++ (44 ∷ (34 ∷ (text_of bytes ++ 34 ∷ []))))

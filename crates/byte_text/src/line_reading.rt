@@ -12,7 +12,8 @@ const LAST_RECORD: u32 = 182_880;
 
 /// What stands between quotation marks, where there are two at the ends; else the same.
 fn unquoted(text: &[u8]) -> &[u8]
-    ensures { IsQuoted text.now result.now ⊎ ((result.now ≡ text.now) × ((inner : List ℕ) → ¬ (IsQuoted text.now inner))) }
+    ensures { IsQuoted text.now result.now
+        ⊎ ((result.now ≡ text.now) × ((inner : List ℕ) → ¬ (IsQuoted text.now inner))) }
 {
     match text {
         [b'"', inner @ .., b'"'] => inner,

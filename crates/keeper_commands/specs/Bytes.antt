@@ -1,5 +1,5 @@
--- The bytes of a file of any type, of an image that may be hurt elsewhere (1541 User's Guide, how files are stored). Which
--- entry counts is our own.
+-- The bytes of a file of any type, of an image that may be hurt elsewhere (1541 User's Guide, how files are stored).
+-- Which entry counts is our own.
 use Rattle.std.specs.Prelude.{◌≡◌, ◌≢◌, ◌⊎◌, ◌<◌, ◌≤◌, ◌*◌, ◌+◌, ◌-◌, ℕ, List, [], Option, Some, IsFalse, length, max, slice_get, slice_index, slice_range, take}
 use Rattle.std.specs.Io.KnownBytes.{Appends}
 use Rattle.d64_image.specs.Images.{Image}
@@ -77,8 +77,8 @@ pub record AreBytesPrinted {W : Type 0} (contents : W → Option (List ℕ)) (im
   pub file : HasFile image name
   pub printed : Appends (contents old) (contents new) (file_bytes (sectors_in image) file.blocks file.last)
 
--- why bytes aren't printed: nothing but the directory and the file's own chain is judged. Where the output failed, there is
--- such a file
+-- why bytes aren't printed: nothing but the directory and the file's own chain is judged. Where the output failed,
+-- there is such a file
 abbrev pub IsBytesFault : List ℕ → List ℕ → KeepFault → Type 0
 IsBytesFault image name keep.ImageSize = length image ≢ 174848
 IsBytesFault image name keep.NoMemory = length image ≡ 174848

@@ -47,8 +47,8 @@ abbrev pub repair_fault : Fault → KeepFault
 repair_fault (Device p) = keep.Device
 repair_fault fault = keep.Layout fault
 
--- Whatever the disk held on the way is sound and has the same files, no right sector was written, the others once at most, in
--- the order of a repair.
+-- Whatever the disk held on the way is sound and has the same files, no right sector was written, the others once at
+-- most, in the order of a repair.
 pub record IsRepairRun {D : Type 0} (S : History D) (image : List ℕ) (old new : D) : Type 0 where
   pub size : length image ≡ 174848
   pub moments : MendsFrom S old new 883
@@ -66,7 +66,8 @@ pub record IsRepairDone {D W : Type 0} (S : History D) (contents : W → Option 
   pub mended : IsMendedDisk S image old new
   pub printed : Appends (contents before) (contents after) (mended_text (S.image old) (S.image new))
 
--- why a disk isn't repaired, or that not told. Only where the output or the device failed something may have been printed
+-- why a disk isn't repaired, or that not told. Only where the output or the device failed something may have been
+-- printed
 abbrev pub IsRepairFault : {D W : Type 0} → History D → List ℕ → D → D → W → W → KeepFault → Type 0
 IsRepairFault S image old new before after keep.ImageSize = (length image ≢ 174848) × (new ≡ old) × (after ≡ before)
 IsRepairFault S image old new before after keep.NoMemory = (length image ≡ 174848) × (new ≡ old) × (after ≡ before)

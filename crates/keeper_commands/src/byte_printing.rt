@@ -13,13 +13,14 @@ use disk_layout::read_directory;
 use std::alloc::Global;
 use std::io::Write;
 
-/// Prints the bytes of the first closed entry of this name, whatever its type is: 254 of each of its blocks, and of the last
-/// one those up to its last index. `name` has no shifted spaces at its end; one of more than sixteen bytes is never found.
+/// Prints the bytes of the first closed entry of this name, whatever its type is: 254 of each of its blocks, and of
+/// the last one those up to its last index. `name` has no shifted spaces at its end; one of more than sixteen bytes
+/// is never found.
 ///
 /// Nothing but the directory and the file's own chain is judged, so that a file can be taken from a disk that is hurt
-/// elsewhere. `ImageSize`; `NoMemory`; `Layout` where the directory's sectors aren't a chain on track 18, or the entry's
-/// blocks aren't one; `NoFile` where no closed entry has the name. Nothing was printed then. `File` where the output
-/// failed, which may then have a part.
+/// elsewhere. `ImageSize`; `NoMemory`; `Layout` where the directory's sectors aren't a chain on track 18, or the
+/// entry's blocks aren't one; `NoFile` where no closed entry has the name. Nothing was printed then. `File` where the
+/// output failed, which may then have a part.
 pub fn bytes_image<W: Write>(
     alloc: Global,
     image: &[u8],

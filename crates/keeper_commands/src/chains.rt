@@ -22,8 +22,8 @@ fn names_no_block(slot: &Slot) -> bool
     !entry.is_relative() && !entry.has_first_block()
 }
 
-/// Fills `blocks` with the blocks of the entry's file in order. The answer is the index of the last used byte in the last
-/// one.
+/// Fills `blocks` with the blocks of the entry's file in order. The answer is the index of the last used byte in the
+/// last one.
 pub(crate) fn walk_file(
     disk: &mut MemDisk,
     slot: &Slot,
@@ -65,7 +65,8 @@ fn put_block<W: Write>(
 
 /// Prints the bytes of blocks that others follow.
 fn put_blocks<W: Write>(out: &mut W, disk: &mut MemDisk, places: &[Place]) -> Result<(), KeepFault>
-    ensures ok { OnOk result (Appends (W.contents out.old) (W.contents out.new) (joined (disk_image disk.old) places.now)) }
+    ensures ok { OnOk result (Appends (W.contents out.old) (W.contents out.new)
+        (joined (disk_image disk.old) places.now)) }
     ensures same { disk_image disk.new ≡ disk_image disk.old }
     ensures err { IfErr result (λ fault. fault ≡ faults.File) }
 {

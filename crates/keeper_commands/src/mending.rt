@@ -131,13 +131,13 @@ fn refusal(fault: Fault) -> KeepFault
     }
 }
 
-/// Repairs the disk, and prints `MENDED t/s` for each sector that it changed, by track and sector, and then `OK`. `image` is
-/// what the disk holds: its 174,848 bytes. A sound disk is made clean, with the same files: each sector that isn't right is
-/// written once, and every image that the disk holds on the way is sound and has the same files.
+/// Repairs the disk, and prints `MENDED t/s` for each sector that it changed, by track and sector, and then `OK`.
+/// `image` is what the disk holds: its 174,848 bytes. A sound disk is made clean, with the same files: each sector
+/// that isn't right is written once, and every image that the disk holds on the way is sound and has the same files.
 ///
-/// `ImageSize`, `NoMemory`, and `Layout` where the disk isn't sound, for a fault that holds: nothing was written or printed
-/// then. `Device` where the device failed; what was mended until then stays, and what was printed is open. `File` where the
-/// output failed: the disk is mended.
+/// `ImageSize`, `NoMemory`, and `Layout` where the disk isn't sound, for a fault that holds: nothing was written or
+/// printed then. `Device` where the device failed; what was mended until then stays, and what was printed is open.
+/// `File` where the output failed: the disk is mended.
 pub fn repair_image<D: Sectors, W: Write>(
     alloc: Global,
     image: &[u8],

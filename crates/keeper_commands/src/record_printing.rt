@@ -64,9 +64,9 @@ fn put_records<W: Write>(out: &mut W, disk: &mut MemDisk, file: &RelFile) -> Res
     Ok(())
 }
 
-/// Prints the records of the first closed relative file of this name, one a line, record 1 first: its number, a comma, and
-/// the text of its bytes up to the last one that isn't 0. `ImageSize`, `NoMemory`; `Layout` where the image isn't sound;
-/// `NoFile`; `File` where the output failed, which may then have a part.
+/// Prints the records of the first closed relative file of this name, one a line, record 1 first: its number, a
+/// comma, and the text of its bytes up to the last one that isn't 0. `ImageSize`, `NoMemory`; `Layout` where the
+/// image isn't sound; `NoFile`; `File` where the output failed, which may then have a part.
 pub fn records_image<W: Write>(
     alloc: Global,
     image: &[u8],

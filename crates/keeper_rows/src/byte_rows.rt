@@ -1,5 +1,5 @@
-//! The bytes of files, printed: of program files put onto the blank disk for two tills by hand, and what is refused. Its
-//! directory has two entries, so the third begins at byte 64 of 18/1; sectors 17/6 and 17/7 are free.
+//! The bytes of files, printed: of program files put onto the blank disk for two tills by hand, and what is refused.
+//! Its directory has two entries, so the third begins at byte 64 of 18/1; sectors 17/6 and 17/7 are free.
 use crate::comparing::same_at;
 use crate::disks::{Change, changed};
 use crate::outputs::{Full, is_told};
@@ -111,8 +111,9 @@ fn bytes_are_printed(rt: HostRuntime) {
     are_printed(&rt, &PRINTED);
 }
 
-/// Changes of the blank disk, and what is told of the bytes of `GAME`: there is none, it isn't closed, its first block is no
-/// place, its chain comes back or leads nowhere, it is relative and names no block, the directory comes back.
+/// Changes of the blank disk, and what is told of the bytes of `GAME`: there is none, it isn't closed, its first
+/// block is no place, its chain comes back or leads nowhere, it is relative and names no block, the directory comes
+/// back.
 const REFUSED: [(&[Change], &str); 7] = [
     (&[], "NO FILE"),
     (&[(18, 1, 66, GAME), (18, 1, 66, b"\x02")], "NO FILE"),

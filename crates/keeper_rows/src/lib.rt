@@ -1,5 +1,6 @@
-//! Worked rows of bytes as text, of records as lines, and of what is printed of an image's files. Tests only: no program
-//! stands on this crate. They stand here and not in the crates that they test so that the gate proves those once.
+//! Worked rows of bytes as text, of records as lines, and of what is printed of an image's files. Tests only: no
+//! program stands on this crate. They stand here and not in the crates that they test so that the gate proves those
+//! once.
 #![tactic(auto)]
 
 #[cfg(test)]

@@ -1,5 +1,5 @@
-//! Lines of records, worked out from their form: what is printed of a record, the two spellings that are read of it, and what
-//! is no record's line.
+//! Lines of records, worked out from their form: what is printed of a record, the two spellings that are read of it,
+//! and what is no record's line.
 use crate::comparing::same_at;
 use byte_text::{read_line, write_line};
 use std::process::Abort;
@@ -7,8 +7,8 @@ use std::process::Abort;
 /// A record's number and bytes, and its line without the LF.
 type Row = (u32, &'static [u8], &'static [u8]);
 
-/// An empty record, one of zeros alone, fields that end in CR, a comma and a quotation mark within, zeros within; and the
-/// greatest number that a record can have, and the first that 16 bits don't hold.
+/// An empty record, one of zeros alone, fields that end in CR, a comma and a quotation mark within, zeros within; and
+/// the greatest number that a record can have, and the first that 16 bits don't hold.
 const PRINTED: [Row; 7] = [
     (1, b"\xFF\0\0", b"1,\"\\ff\""),
     (2, b"\0\0\0", b"2,\"\""),
@@ -19,8 +19,8 @@ const PRINTED: [Row; 7] = [
     (182880, b"=A1", b"182880,\"=A1\""),
 ];
 
-/// Lines that are read as these records, though none is printed so: without the quotation marks, as spreadsheets leave them
-/// out, and with zeros at the end.
+/// Lines that are read as these records, though none is printed so: without the quotation marks, as spreadsheets
+/// leave them out, and with zeros at the end.
 const READ: [Row; 5] = [
     (40, b"\xFFx\"", b"40,\\ffx\\22"),
     (7, b"", b"7,"),
@@ -29,8 +29,8 @@ const READ: [Row; 5] = [
     (182880, b"=A1", b"182880,=A1"),
 ];
 
-/// A byte order mark, numbers that no record has, also with a sign, a zero or a space before them, no comma, one quotation
-/// mark, two where the form has one, a text that is none, and what is left of an end.
+/// A byte order mark, numbers that no record has, also with a sign, a zero or a space before them, no comma, one
+/// quotation mark, two where the form has one, a text that is none, and what is left of an end.
 const NO_LINES: [&[u8]; 16] = [
     b"\xEF\xBB\xBF1,\"A\"",
     b"",

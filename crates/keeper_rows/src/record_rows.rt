@@ -1,5 +1,5 @@
-//! What is printed of relative files: records of 1, 2, 100, 127 and 254 bytes, one of which was written, also one that goes
-//! on in the next block; files without records; and what is refused.
+//! What is printed of relative files: records of 1, 2, 100, 127 and 254 bytes, one of which was written, also one
+//! that goes on in the next block; files without records; and what is refused.
 use crate::comparing::same_at;
 use crate::disks::{Change, changed, with_record};
 use crate::outputs::{Full, is_told};
@@ -7,8 +7,8 @@ use keeper_commands::{KeepFault, records_image};
 use std::io::Write;
 use std::process::Abort;
 
-/// A file's name, how long a record is, the one that is written, its bytes and their text, and how many records there are
-/// then: all whole ones in the blocks that the file has.
+/// A file's name, how long a record is, the one that is written, its bytes and their text, and how many records there
+/// are then: all whole ones in the blocks that the file has.
 type Made = (&'static [u8], u8, u32, &'static [u8], &'static str, u32);
 
 const MADE: [Made; 6] = [
@@ -65,8 +65,8 @@ fn records_are_printed(rt: HostRuntime) {
     are_printed(&rt, &MADE);
 }
 
-/// Changes of the blank disk, the name that is asked for, and what is told. Where a last index is below 2 the file has no
-/// record, and nothing is printed; the loop and the links are in a file that isn't asked for.
+/// Changes of the blank disk, the name that is asked for, and what is told. Where a last index is below 2 the file
+/// has no record, and nothing is printed; the loop and the links are in a file that isn't asked for.
 const REFUSED: [(&[Change], &[u8], &str); 9] = [
     (&[(17, 0, 1, &[1])], b"STOCK", ""),
     (&[(17, 0, 1, &[0])], b"STOCK", ""),

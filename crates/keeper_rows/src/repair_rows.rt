@@ -7,8 +7,8 @@ use keeper_commands::{KeepFault, repair_image};
 use std::io::Write;
 use std::process::Abort;
 
-/// Changes, what is printed, and what is told: a clean disk; track 1's count in the map, the block count of STOCK, a pointer
-/// of its side sector behind those to its blocks, and all three; a loop; an open entry beside a wrong map.
+/// Changes, what is printed, and what is told: a clean disk; track 1's count in the map, the block count of STOCK, a
+/// pointer of its side sector behind those to its blocks, and all three; a loop; an open entry beside a wrong map.
 const REPAIRED: [(&[Change], &str, &str); 7] = [
     (&[], "OK\n", ""),
     (&[(18, 0, 4, &[20])], "MENDED 18/0\nOK\n", ""),
@@ -43,7 +43,8 @@ fn repaired<W: Write>(
     }
 }
 
-/// Sees that this is printed and told of each disk. Where it is mended it is the blank disk again, else it is as it was.
+/// Sees that this is printed and told of each disk. Where it is mended it is the blank disk again, else it is as it
+/// was.
 fn are_repaired(rt: &(impl Abort + AllocGlobal), rows: &[(&[Change], &str, &str)]) {
     let blank = changed(rt, &[]);
     for &(changes, printed, told) in rows {

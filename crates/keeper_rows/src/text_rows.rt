@@ -3,8 +3,8 @@ use crate::comparing::same_at;
 use byte_text::{read_text, write_text};
 use std::process::Abort;
 
-/// Bytes and their text: letters and signs of the names of disks, shifted letters, a shifted space within, the bytes at both
-/// ends of those that stand for themselves, and those two among them that don't.
+/// Bytes and their text: letters and signs of the names of disks, shifted letters, a shifted space within, the bytes
+/// at both ends of those that stand for themselves, and those two among them that don't.
 const TEXTS: [(&[u8], &[u8]); 9] = [
     (b"", b""),
     (b"<SCRIPT>&", b"<SCRIPT>&"),
@@ -17,8 +17,8 @@ const TEXTS: [(&[u8], &[u8]); 9] = [
     (b"\xFF\xFF0", b"\\ff\\ff0"),
 ];
 
-/// What is no text: a byte that stands for itself by its number, digits in capitals, too few of them, none, and bytes that
-/// stand for themselves nowhere.
+/// What is no text: a byte that stands for itself by its number, digits in capitals, too few of them, none, and bytes
+/// that stand for themselves nowhere.
 const NO_TEXTS: [&[u8]; 11] = [
     b"\\41", b"\\20", b"\\FF", b"\\f", b"\\", b"A\\g0", b"\"", b"A\n", b"\x7F", b"\xA0", b"\0",
 ];
