@@ -1,0 +1,4 @@
+pub mod Behind
+pub mod Stored
+pub mod Texts
+pub mod Trims

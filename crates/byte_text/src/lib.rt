@@ -1,0 +1,16 @@
+//! Bytes as text that an editor or a spreadsheet takes, and records as lines of such text, read back as they were.
+#![tactic(auto)]
+
+mod laws;
+mod line_reading;
+mod line_writing;
+mod reading;
+mod trimming;
+mod writing;
+
+pub use laws::{lines_give_records, texts_differ};
+pub use line_reading::read_line;
+pub use line_writing::write_line;
+pub use reading::read_text;
+pub use trimming::trim;
+pub use writing::write_text;

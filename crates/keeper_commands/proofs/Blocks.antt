@@ -1,0 +1,65 @@
+-- The bytes of a file, block by block.
+use Rattle.std.proofs.Common.{◌≡◌, ◌∙◌, ◌*◌, ◌+◌, ◌-◌, ◌<◌, ◌≤◌, ℕ, List, [], ◌∷◌, ◌++◌, Option, ap, arith, drop, get_or, length, length-append, length-drop, max, subst, sym, take}
+use Rattle.std.specs.Io.KnownBytes.{Appends}
+use Rattle.std.proofs.KnownBytes.{Appends-trans}
+use Rattle.std.proofs.Math.Seq.{take-append-add, take-nil}
+use Rattle.std.proofs.lemmas.List.{append-nil, take_all, take_more}
+use Rattle.d64_image.specs.Images.{Image, IsImage, sector}
+use Rattle.d64_image.specs.declared.place.Place.{Place}
+use Rattle.disk_layout.proofs.GrowthRecords.{joined-append}
+use Rattle.disk_layout.proofs.Joined.{joined-cons, joined-nil, length-joined, sector-long}
+use Rattle.disk_layout.specs.Records.{joined}
+use Rattle.keeper_commands.specs.Bytes.{file_bytes}
+
+joined-one : (img : Image) (p : Place) → joined img (p ∷ []) ≡ drop 2 (sector img p)
+joined-one img p = joined-cons img p [] ∙ ap (λ (zs : List ℕ). drop 2 (sector img p) ++ zs) (joined-nil img) ∙ append-nil (drop 2 (sector img p))
+
+-- a block that another follows gives all of its bytes
+pub whole-block : (img : Image) (p : Place) → IsImage img → take 254 (drop 2 (sector img p)) ≡ drop 2 (sector img p)
+whole-block img p w = take_all 254 (drop 2 (sector img p)) (omega (arith, length-drop 2 (sector img p), sector-long img p w))
+
+-- one block more
+pub joined-more : (img : Image) (ps : List Place) (p : Place) → joined img (ps ++ p ∷ []) ≡ joined img ps ++ drop 2 (sector img p)
+joined-more img ps p = joined-append img ps (p ∷ []) ∙ ap (λ (zs : List ℕ). joined img ps ++ zs) (joined-one img p)
+
+-- the blocks before the last give all of their bytes, and the last one those up to its last index
+pub file-split : (img : Image) (front : List Place) (p : Place) (u : ℕ) → IsImage img
+    → file_bytes img (front ++ p ∷ []) u ≡ joined img front ++ take (max u 1 - 1) (drop 2 (sector img p))
+unfolding file_bytes
+file-split img front p u w =
+    let count : 254 * (length (front ++ p ∷ []) - 1) + max u 1 - 1 ≡ length (joined img front) + (max u 1 - 1) =
+    omega (arith, length-append front (p ∷ []), length-joined img front w) in
+    rw (count, joined-more img front p) (take-append-add (joined img front) (drop 2 (sector img p)) (max u 1 - 1))
+
+-- a file without blocks has no bytes
+pub file-none : (img : Image) (blocks : List Place) (u : ℕ) → length blocks ≤ 0 → [] ≡ file_bytes img blocks u
+unfolding file_bytes
+file-none img [] u none = sym (ap (take (254 * (0 - 1) + max u 1 - 1)) (joined-nil img) ∙ take-nil (254 * (0 - 1) + max u 1 - 1))
+file-none img (p ∷ ps) u none = absurd (omega (arith, none))
+
+-- one block's bytes more, printed
+pub block-more : (a b c : Option (List ℕ)) (img here : Image) (ps : List Place) (i : ℕ) (p : Place) → IsImage img → here ≡ img
+    → i < length ps → get_or ps i p ≡ p → Appends a b (joined img (take i ps))
+    → Appends b c (take (max 255 1 - 1) (drop 2 (sector here p))) → Appends a c (joined img (take (i + 1) ps))
+block-more a b c img here ps i p w same inside is before more =
+    let taken : take (i + 1) ps ≡ take i ps ++ p ∷ [] = take_more ps i p inside ∙ ap (λ (q : Place). take i ps ++ q ∷ []) is in
+    let whole : take (max 255 1 - 1) (drop 2 (sector here p)) ≡ drop 2 (sector img p) =
+    ap (λ (x : Image). take 254 (drop 2 (sector x p))) same ∙ whole-block img p w in
+    let both : joined img (take i ps) ++ take (max 255 1 - 1) (drop 2 (sector here p)) ≡ joined img (take (i + 1) ps) =
+    ap (λ (zs : List ℕ). joined img (take i ps) ++ zs) whole ∙ sym (ap (joined img) taken ∙ joined-more img (take i ps) p) in
+    subst (Appends a c) both (Appends-trans a b c _ _ before more)
+
+-- the whole blocks and the last one, printed
+pub file-printed : (a b c : Option (List ℕ)) (img here : Image) (blocks : List Place) (p : Place) (u : ℕ) → IsImage img → here ≡ img
+    → 1 ≤ length blocks → get_or blocks (length blocks - 1) p ≡ p → Appends a b (joined img (take (length blocks - 1) blocks))
+    → Appends b c (take (max u 1 - 1) (drop 2 (sector here p))) → Appends a c (file_bytes img blocks u)
+file-printed a b c img here blocks p u w same some is before last =
+    let front : List Place = take (length blocks - 1) blocks in
+    let whole : blocks ≡ front ++ p ∷ [] =
+    sym (take_all ((length blocks - 1) + 1) blocks (omega (arith, some)))
+    ∙ take_more blocks (length blocks - 1) p (omega (arith, some)) ∙ ap (λ (q : Place). front ++ q ∷ []) is in
+    let end : take (max u 1 - 1) (drop 2 (sector here p)) ≡ take (max u 1 - 1) (drop 2 (sector img p)) =
+    ap (λ (x : Image). take (max u 1 - 1) (drop 2 (sector x p))) same in
+    let both : joined img front ++ take (max u 1 - 1) (drop 2 (sector here p)) ≡ file_bytes img blocks u =
+    ap (λ (zs : List ℕ). joined img front ++ zs) end ∙ sym (ap (λ (ps : List Place). file_bytes img ps u) whole ∙ file-split img front p u w) in
+    subst (Appends a c) both (Appends-trans a b c _ _ before last)

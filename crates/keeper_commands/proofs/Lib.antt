@@ -1,0 +1,6 @@
+pub mod Blocks
+pub mod Entries
+pub mod Files
+pub mod Mendings
+pub mod Printing
+pub mod Repairs

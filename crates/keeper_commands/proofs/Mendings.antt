@@ -1,0 +1,57 @@
+-- What is printed of a repair, line by line, and what a failure on the way tells.
+use Rattle.std.proofs.Common.{◌≡◌, ◌+◌, ◌-◌, ℕ, suc, List, Option, Result, Ok, Err, arith, subst, sym, ◌∙◌}
+use Rattle.std.specs.Prelude.{codes}
+use Rattle.std.specs.Io.KnownBytes.{Appends, Keeps}
+use Rattle.std.proofs.KnownBytes.{Appends-kept, Appends-nil, Appends-trans}
+use Rattle.d64_image.proofs.Moments.{failed_later}
+use Rattle.d64_image.specs.History.{History}
+use Rattle.d64_image.specs.Images.{Image}
+use Rattle.d64_image.specs.Places.{place_at}
+use Rattle.keeper_commands.specs.Repairs.{TellsKeep, mended_at, mended_on, mended_text, up_to}
+use Rattle.keeper_commands.specs.declared.faults.KeepFault.{KeepFault}
+use Rattle.keeper_commands.specs.declared.faults.KeepFault.TheVariants as keep
+
+pub none-yet : (a : Option (List ℕ)) (line : ℕ → List ℕ) → Appends a a (up_to 0 line)
+unfolding up_to
+none-yet a line = Appends-nil a
+
+-- the lines of one number more
+one-more : (a b c : Option (List ℕ)) (n : ℕ) (line : ℕ → List ℕ) → Appends a b (up_to n line) → Appends b c (line (n + 1))
+    → Appends a c (up_to (n + 1) line)
+unfolding up_to
+one-more a b c n line before more =
+    let next : n + 1 ≡ suc n = omega arith in
+    subst (λ (m : ℕ). Appends a c (up_to m line)) (sym next)
+    (Appends-trans a b c (up_to n line) (line (suc n)) before (subst (λ (m : ℕ). Appends b c (line m)) next more))
+
+module _ (a b c : Option (List ℕ)) (old new old' new' : Image) (same : old' ≡ old) (same' : new' ≡ new) where
+  pub sector-more : (track n : ℕ) → Appends a b (up_to n (λ n. mended_at old new (place_at track (n - 1))))
+      → Appends b c (mended_at old' new' (place_at track n)) → Appends a c (up_to (n + 1) (λ n. mended_at old new (place_at track (n - 1))))
+  sector-more track n before more =
+      let here : n ≡ n + 1 - 1 = omega arith in
+      one-more a b c n (λ n. mended_at old new (place_at track (n - 1))) before
+      (subst (λ (m : ℕ). Appends b c (mended_at old new (place_at track m))) here
+      (subst (λ (img : Image). Appends b c (mended_at img new (place_at track n))) same
+      (subst (λ (img : Image). Appends b c (mended_at old' img (place_at track n))) same' more)))
+
+  pub track-more : (n : ℕ) → Appends a b (up_to n (mended_on old new))
+      → Appends b c (mended_on old' new' (n + 1)) → Appends a c (up_to (n + 1) (mended_on old new))
+  track-more n before more =
+      one-more a b c n (mended_on old new) before
+      (subst (λ (img : Image). Appends b c (mended_on img new (n + 1))) same
+      (subst (λ (img : Image). Appends b c (mended_on old' img (n + 1))) same' more))
+
+pub all-printed : (a b c d : Option (List ℕ)) (old new : Image) → Appends a b (up_to 35 (mended_on old new)) → Appends b c (codes "OK\n")
+    → Keeps c d → Appends a d (mended_text old new)
+unfolding mended_text
+all-printed a b c d old new tracks ok kept = Appends-kept a c d _ (Appends-trans a b c (up_to 35 (mended_on old new)) (codes "OK\n") tracks ok) kept
+
+-- what a call tells behind others that met no failure
+pub tells-after : {D T : Type 0} (S : History D) (a b c : D) (r : Result T KeepFault) → S.failures b ≡ S.failures a → TellsKeep S b c r → TellsKeep S a c r
+tells-after S a b c (Ok x) same told = told ∙ same
+tells-after S a b c (Err keep.File) same told = told ∙ same
+tells-after S a b c (Err keep.Device) same told = failed_later S a b c same told
+tells-after S a b c (Err keep.ImageSize) same told = absurd told
+tells-after S a b c (Err (keep.Layout fault)) same told = absurd told
+tells-after S a b c (Err keep.NoFile) same told = absurd told
+tells-after S a b c (Err keep.NoMemory) same told = absurd told

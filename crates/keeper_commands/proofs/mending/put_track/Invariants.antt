@@ -1,0 +1,17 @@
+-- The lines of the sectors so far were printed, and the disks stay.
+use Rattle.std.proofs.Common.{◌≡◌, ◌-◌}
+use Rattle.std.specs.Io.KnownBytes.{Appends}
+use Rattle.d64_image.specs.History.{WritesNothing}
+use Rattle.d64_image.specs.Memory.{disk_image}
+use Rattle.d64_image.specs.Places.{place_at}
+use Rattle.keeper_commands.specs.Repairs.{mended_at, up_to}
+use Rattle.keeper_commands.proofs.mending.put_track.Given as goal
+
+abbrev pub invariant-loop-sector : goal.invariant-loop-sector
+invariant-loop-sector g l = record {
+  printed : Appends (g.W.Write.contents l.fn.out) (g.W.Write.contents l.out)
+      (up_to l.sector (λ n. mended_at (disk_image l.fn.before) (g.D.Sectors.history.image l.fn.after) (place_at l.track (n - 1))));
+  same : disk_image l.before ≡ disk_image l.fn.before;
+  quiet : WritesNothing g.D.Sectors.history l.fn.after l.after;
+  failures : g.D.Sectors.history.failures l.after ≡ g.D.Sectors.history.failures l.fn.after;
+}

@@ -1,0 +1,29 @@
+-- What is told of a job that isn't done, and its exit status. Our own.
+use Rattle.std.specs.Prelude.{◌≡◌, ◌≢◌, ℕ, ◌++◌, List, codes, length}
+use Rattle.disk_layout.specs.Texts.{fault_text}
+use Rattle.keeper_commands.specs.declared.faults.KeepFault.{KeepFault}
+use Rattle.keeper_commands.specs.declared.faults.KeepFault.TheVariants as keep
+
+-- the exit status: 1 for what the image holds, 3 for a file, the output or memory
+abbrev pub keep_status : KeepFault → ℕ
+keep_status keep.ImageSize = 1
+keep_status (keep.Layout fault) = 1
+keep_status keep.NoFile = 1
+keep_status keep.File = 3
+keep_status keep.NoMemory = 3
+keep_status keep.Device = 3
+
+-- what is told
+abbrev pub keep_text : KeepFault → List ℕ
+keep_text keep.ImageSize = codes "IMAGE SIZE"
+keep_text (keep.Layout fault) = codes "LAYOUT " ++ fault_text fault
+keep_text keep.NoFile = codes "NO FILE"
+keep_text keep.File = codes "FILE"
+keep_text keep.NoMemory = codes "NO MEMORY"
+keep_text keep.Device = codes "DEVICE"
+
+-- why an image isn't taken into memory
+abbrev pub IsLoadFault : List ℕ → KeepFault → Type 0
+IsLoadFault image keep.ImageSize = length image ≢ 174848
+IsLoadFault image keep.NoMemory = length image ≡ 174848
+IsLoadFault image _ = ⊥

@@ -1,0 +1,51 @@
+-- What is printed of the records of a relative file of an image. All of it is our own.
+use Rattle.std.specs.Prelude.{◌≡◌, ◌≢◌, ℕ, zero, suc, ◌+◌, ◌++◌, List, [], Option, Some, get_or, length, slice_get}
+use Rattle.std.specs.Io.KnownBytes.{Appends}
+use Rattle.byte_text.specs.Texts.{record_line}
+use Rattle.d64_image.specs.Memory.{sectors_in}
+use Rattle.disk_layout.specs.Fault.{Holds, nowhere}
+use Rattle.disk_layout.specs.Layout.{File, IsLayout, Layout}
+use Rattle.disk_layout.specs.Records.{records}
+use Rattle.disk_layout.specs.Rest.{IsFirst, IsNamed}
+use Rattle.keeper_commands.specs.declared.faults.KeepFault.{KeepFault}
+use Rattle.keeper_commands.specs.declared.faults.KeepFault.TheVariants as keep
+
+-- the lines of the first n of these records, record 1 first
+abbrev pub lines_to : List (List ℕ) → ℕ → List ℕ
+lines_to rs zero = []
+lines_to rs (suc n) = lines_to rs n ++ record_line (n + 1) (get_or rs n [])
+
+-- the lines of all of them
+unfoldable pub records_text : List (List ℕ) → List ℕ
+records_text rs = lines_to rs (length rs)
+
+-- the image is sound, and this is its first closed relative file of that name
+pub record IsRecordFile (image name : List ℕ) (file : File) : Type 0 where
+  pub size : length image ≡ 174848
+  pub layout : Layout
+  pub is_layout : IsLayout (sectors_in image) layout
+  -- its number among the entries
+  pub number : ℕ
+  pub first : IsFirst layout name number file
+
+-- the lines of that file's records, and nothing else, were handed to an output that held `old` and holds `new`
+pub record AreRecordsPrinted {W : Type 0} (contents : W → Option (List ℕ)) (image name : List ℕ) (old new : W) : Type 0 where
+  pub file : File
+  pub is_file : IsRecordFile image name file
+  pub printed : Appends (contents old) (contents new) (records_text (records (sectors_in image) file))
+
+-- the image is sound, and no closed relative file has this name
+pub record HasNoRecordFile (image name : List ℕ) : Type 0 where
+  pub size : length image ≡ 174848
+  pub layout : Layout
+  pub is_layout : IsLayout (sectors_in image) layout
+  pub none : (k : ℕ) (f : File) → slice_get layout.files k ≡ Some f → ¬ (IsNamed name f)
+
+-- why records aren't printed. Where the output failed, there is such a file
+abbrev pub IsRecordsFault : List ℕ → List ℕ → KeepFault → Type 0
+IsRecordsFault image name keep.ImageSize = length image ≢ 174848
+IsRecordsFault image name keep.NoMemory = length image ≡ 174848
+IsRecordsFault image name (keep.Layout fault) = (length image ≡ 174848) × Holds nowhere (sectors_in image) fault
+IsRecordsFault image name keep.NoFile = HasNoRecordFile image name
+IsRecordsFault image name keep.File = (file : File) × IsRecordFile image name file
+IsRecordsFault image name _ = ⊥

@@ -1,0 +1,97 @@
+//! The blocks of a file, and their bytes as they are printed.
+ghost use Rattle.std.specs.Prelude.{◌≡◌, ◌↔◌, ◌-◌, IfErr, IfOk, IsTrue, OnOk, drop, max, take};
+ghost use Rattle.std.specs.Io.KnownBytes.{Appends};
+ghost use Rattle.d64_image.specs.Images.{sector};
+ghost use Rattle.d64_image.specs.Memory.{disk_image};
+ghost use Rattle.disk_layout.specs.Records.{joined};
+ghost use Rattle.keeper_commands.specs.Bytes.{HasFileBlocks, HoldsOfFile, NamesNoBlock, file_bytes};
+ghost use Rattle.keeper_commands.specs.declared.faults.KeepFault.TheVariants as faults;
+
+use crate::faults::KeepFault;
+use crate::output::put;
+use arrayvec::ArrayVec;
+use d64_image::{MemDisk, Place, Sectors};
+use disk_layout::{EntryView, Fault, Slot, walk_chain};
+use std::io::Write;
+
+/// Whether the entry names no block and may do so: its file has no bytes then.
+fn names_no_block(slot: &Slot) -> bool
+    ensures { IsTrue result ↔ NamesNoBlock slot.now }
+{
+    let entry = EntryView::new(&slot.bytes);
+    !entry.is_relative() && !entry.has_first_block()
+}
+
+/// Fills `blocks` with the blocks of the entry's file in order. The answer is the index of the last used byte in the
+/// last one.
+pub(crate) fn walk_file(
+    disk: &mut MemDisk,
+    slot: &Slot,
+    blocks: &mut ArrayVec<Place, 720>,
+) -> Result<u8, Fault>
+    ensures ok { IfOk result (HasFileBlocks (disk_image disk.old) slot.now blocks.new.items) }
+    ensures err { IfErr result (HoldsOfFile (disk_image disk.old) slot.now) }
+    ensures same { disk_image disk.new ≡ disk_image disk.old }
+{
+    if names_no_block(slot) {
+        blocks.clear();
+        return Ok(0);
+    }
+    let Some(first) = EntryView::new(&slot.bytes).first_block() else {
+        return Err(Fault::BadLink(slot.sector));
+    };
+    walk_chain(disk, first, blocks)
+}
+
+/// Prints the bytes of a block up to the one with this index.
+fn put_block<W: Write>(
+    out: &mut W,
+    disk: &mut MemDisk,
+    place: Place,
+    last: u8,
+) -> Result<(), KeepFault>
+    ensures ok { OnOk result (Appends (W.contents out.old) (W.contents out.new)
+        (take (max last 1 - 1) (drop 2 (sector (disk_image disk.old) place)))) }
+    ensures same { disk_image disk.new ≡ disk_image disk.old }
+    ensures err { IfErr result (λ fault. fault ≡ faults.File) }
+{
+    let mut bytes = [0; 256];
+    if disk.read(place, &mut bytes).is_err() {
+        return Err(KeepFault::Device);
+    }
+    let end = (last as usize).max(1) + 1;
+    put(out, &bytes[2..end])
+}
+
+/// Prints the bytes of blocks that others follow.
+fn put_blocks<W: Write>(out: &mut W, disk: &mut MemDisk, places: &[Place]) -> Result<(), KeepFault>
+    ensures ok { OnOk result (Appends (W.contents out.old) (W.contents out.new)
+        (joined (disk_image disk.old) places.now)) }
+    ensures same { disk_image disk.new ≡ disk_image disk.old }
+    ensures err { IfErr result (λ fault. fault ≡ faults.File) }
+{
+    for &place in places {
+        put_block(out, disk, place, 255)?;
+    }
+    Ok(())
+}
+
+/// Prints the bytes of a file with these blocks, up to the index `last` of the last one.
+pub(crate) fn put_file<W: Write>(
+    out: &mut W,
+    disk: &mut MemDisk,
+    blocks: &[Place],
+    last: u8,
+) -> Result<(), KeepFault>
+    ensures ok { OnOk result (Appends (W.contents out.old) (W.contents out.new)
+        (file_bytes (disk_image disk.old) blocks.now last)) }
+    ensures err { IfErr result (λ fault. fault ≡ faults.File) }
+{
+    match blocks {
+        [] => Ok(()),
+        [front @ .., end] => {
+            put_blocks(out, disk, front)?;
+            put_block(out, disk, *end, last)
+        }
+    }
+}

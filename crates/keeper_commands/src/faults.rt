@@ -1,0 +1,53 @@
+//! Why a job over the files of an image isn't done.
+ghost use Rattle.std.specs.Prelude.{◌≡◌, Some};
+ghost use Rattle.keeper_commands.specs.Faults.{keep_status, keep_text};
+
+use disk_layout::Fault;
+use std::error::Error;
+use std::fmt::{self, Display, Formatter};
+
+/// Why a job over the files of an image isn't done, as it is told on standard error.
+#[derive(Clone, Copy, Debug, PartialEq, Eq)]
+pub enum KeepFault {
+    /// The image hasn't the 174,848 bytes of a disk of 35 tracks.
+    ImageSize,
+    /// What the layout of the image has wrong, and where.
+    Layout(Fault),
+    /// The image has no closed file of this name, or none of the kind that is asked for.
+    NoFile,
+    /// A file couldn't be opened or read, or the output not written.
+    File,
+    /// There was no memory.
+    NoMemory,
+    /// A sector couldn't be read or written. A disk in memory has no such fault.
+    Device,
+}
+
+impl KeepFault {
+    /// The exit status: 1 for what the image holds, 3 for a file, the output or memory.
+    pub fn status(&self) -> u8
+        ensures { result ≡ keep_status self.now }
+    {
+        match self {
+            KeepFault::ImageSize | KeepFault::Layout(_) | KeepFault::NoFile => 1,
+            KeepFault::File | KeepFault::NoMemory | KeepFault::Device => 3,
+        }
+    }
+}
+
+impl Display for KeepFault {
+    ghost output = { λ fault. Some (keep_text fault) };
+
+    fn fmt<W: fmt::Write>(&self, f: &mut Formatter<W>) -> fmt::Result {
+        match self {
+            KeepFault::ImageSize => f.write_str("IMAGE SIZE"),
+            KeepFault::Layout(fault) => write!(f, "LAYOUT {fault}"),
+            KeepFault::NoFile => f.write_str("NO FILE"),
+            KeepFault::File => f.write_str("FILE"),
+            KeepFault::NoMemory => f.write_str("NO MEMORY"),
+            KeepFault::Device => f.write_str("DEVICE"),
+        }
+    }
+}
+
+impl Error for KeepFault {}

@@ -1,0 +1,16 @@
+//! What a keeper of disks does with an image: its records as lines, the bytes of a file, and its repair.
+#![tactic(auto)]
+
+mod byte_printing;
+mod chains;
+mod faults;
+mod loading;
+mod mending;
+mod naming;
+mod output;
+mod record_printing;
+
+pub use byte_printing::bytes_image;
+pub use faults::KeepFault;
+pub use mending::repair_image;
+pub use record_printing::records_image;

@@ -1,0 +1,88 @@
+//! The records of a relative file, as they are printed.
+ghost use Rattle.std.specs.Prelude.{◌≡◌, ◌≢◌, ◌≤◌, ◌-◌, ℕ, List, [], IfErr, IfOk, OnOk, get_or, length};
+ghost use Rattle.std.specs.Io.KnownBytes.{Appends};
+ghost use Rattle.d64_image.specs.Memory.{disk_image};
+ghost use Rattle.disk_layout.specs.Records as records_of;
+ghost use Rattle.keeper_commands.specs.Records.{AreRecordsPrinted, IsRecordsFault, records_text};
+ghost use Rattle.keeper_commands.specs.declared.faults.KeepFault.TheVariants as faults;
+ghost use Rattle.rel_records.specs.File.{IsOf, OfItsFile};
+ghost use Rattle.rel_records.specs.Kept.{IsKept};
+ghost use Rattle.byte_text.specs.Texts.{record_line};
+
+use crate::faults::KeepFault;
+use crate::loading::load_sound;
+use crate::output::flush;
+use arrayvec::ArrayVec;
+use byte_text::write_line;
+use d64_image::MemDisk;
+use rel_records::{LastBlock, RelFault, RelFile, find, read_next, records};
+use std::alloc::Global;
+use std::io::Write;
+
+/// Prints the line of a record that is there. `last` is the block that was read last, `bytes` is room for the record.
+fn put_record<W: Write>(
+    out: &mut W,
+    disk: &mut MemDisk,
+    file: &RelFile,
+    last: &mut LastBlock,
+    bytes: &mut ArrayVec<u8, 254>,
+    number: u32,
+) -> Result<(), KeepFault>
+    requires of { IsOf (disk_image disk.old) file.now }
+    requires kept { IsKept (disk_image disk.old) file.now last.old }
+    requires there { OfItsFile (disk_image disk.old) file.now (λ l n f.
+        (1 ≤ number) × (number ≤ length (records_of.records (disk_image disk.old) f))) }
+    ensures ok { OfItsFile (disk_image disk.old) file.now (λ l n f.
+        OnOk result (Appends (W.contents out.old) (W.contents out.new)
+        (record_line number (get_or (records_of.records (disk_image disk.old) f) (number - 1) [])))) }
+    ensures same { disk_image disk.new ≡ disk_image disk.old }
+    ensures kept { IsKept (disk_image disk.old) file.now last.new }
+    ensures err { IfErr result (λ fault. fault ≡ faults.File) }
+{
+    if read_next(disk, file, last, number, bytes).is_err() {
+        return Err(KeepFault::Device);
+    }
+    if write_line(out, number, bytes.as_slice()).is_err() {
+        return Err(KeepFault::File);
+    }
+    Ok(())
+}
+
+/// Prints the lines of the records of a file, record 1 first.
+fn put_records<W: Write>(out: &mut W, disk: &mut MemDisk, file: &RelFile) -> Result<(), KeepFault>
+    requires of { IsOf (disk_image disk.old) file.now }
+    ensures ok { OfItsFile (disk_image disk.old) file.now (λ l n f.
+        OnOk result (Appends (W.contents out.old) (W.contents out.new)
+        (records_text (records_of.records (disk_image disk.old) f)))) }
+    ensures err { IfErr result (λ fault. fault ≡ faults.File) }
+{
+    let mut last = LastBlock::none();
+    let mut bytes = ArrayVec::new();
+    for before in 0..records(file) {
+        put_record(out, disk, file, &mut last, &mut bytes, before + 1)?;
+    }
+    Ok(())
+}
+
+/// Prints the records of the first closed relative file of this name, one a line, record 1 first: its number, a
+/// comma, and the text of its bytes up to the last one that isn't 0. `ImageSize`, `NoMemory`; `Layout` where the
+/// image isn't sound; `NoFile`; `File` where the output failed, which may then have a part.
+pub fn records_image<W: Write>(
+    alloc: Global,
+    image: &[u8],
+    name: &[u8],
+    out: &mut W,
+) -> Result<(), KeepFault>
+    ensures ok { OnOk result (AreRecordsPrinted W.contents image.now name.now out.old out.new) }
+    ensures err { IfErr result (IsRecordsFault image.now name.now) }
+    ensures untouched { IfErr result (λ fault. (fault ≢ faults.File) → out.new ≡ out.old) }
+{
+    let mut disk = load_sound(alloc, image)?;
+    let file = match find(&mut disk, name) {
+        Ok(file) => file,
+        Err(RelFault::NotFound) => return Err(KeepFault::NoFile),
+        Err(_) => return Err(KeepFault::Device),
+    };
+    put_records(out, &mut disk, &file)?;
+    flush(out)
+}

@@ -1,0 +1,21 @@
+//! Worked rows of bytes as text, of records as lines, and of what is printed of an image's files. Tests only: no
+//! program stands on this crate. They stand here and not in the crates that they test so that the gate proves those
+//! once.
+#![tactic(auto)]
+
+#[cfg(test)]
+mod byte_rows;
+#[cfg(test)]
+mod comparing;
+#[cfg(test)]
+mod disks;
+#[cfg(test)]
+mod line_rows;
+#[cfg(test)]
+mod outputs;
+#[cfg(test)]
+mod record_rows;
+#[cfg(test)]
+mod repair_rows;
+#[cfg(test)]
+mod text_rows;

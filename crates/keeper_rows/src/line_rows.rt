@@ -1,0 +1,89 @@
+//! Lines of records, worked out from their form: what is printed of a record, the two spellings that are read of it,
+//! and what is no record's line.
+use crate::comparing::same_at;
+use byte_text::{read_line, write_line};
+use std::process::Abort;
+
+/// A record's number and bytes, and its line without the LF.
+type Row = (u32, &'static [u8], &'static [u8]);
+
+/// An empty record, one of zeros alone, fields that end in CR, a comma and a quotation mark within, zeros within; and
+/// the greatest number that a record can have, and the first that 16 bits don't hold.
+const PRINTED: [Row; 7] = [
+    (1, b"\xFF\0\0", b"1,\"\\ff\""),
+    (2, b"\0\0\0", b"2,\"\""),
+    (3, b"MILK\r12\r\0", b"3,\"MILK\\0d12\\0d\""),
+    (40, b"\xFFx\"", b"40,\"\\ffx\\22\""),
+    (41, b"A,\0B", b"41,\"A,\\00B\""),
+    (65536, b"1-2", b"65536,\"1-2\""),
+    (182880, b"=A1", b"182880,\"=A1\""),
+];
+
+/// Lines that are read as these records, though none is printed so: without the quotation marks, as spreadsheets
+/// leave them out, and with zeros at the end.
+const READ: [Row; 5] = [
+    (40, b"\xFFx\"", b"40,\\ffx\\22"),
+    (7, b"", b"7,"),
+    (8, b"A,B", b"8,A,B"),
+    (9, b"A\0", b"9,\"A\\00\""),
+    (182880, b"=A1", b"182880,=A1"),
+];
+
+/// A byte order mark, numbers that no record has, also with a sign, a zero or a space before them, no comma, one
+/// quotation mark, two where the form has one, a text that is none, and what is left of an end.
+const NO_LINES: [&[u8]; 16] = [
+    b"\xEF\xBB\xBF1,\"A\"",
+    b"",
+    b"0,\"A\"",
+    b"182881,\"A\"",
+    b"01,\"A\"",
+    b"+1,\"A\"",
+    b" 1,\"A\"",
+    b"1 ,\"A\"",
+    b"1;\"A\"",
+    b"1",
+    b"\"1\",\"A\"",
+    b"1,\"A",
+    b"1,A\"",
+    b"1,\"A\"\"\"",
+    b"1,\"\\41\"",
+    b"1,\"A\"\r",
+];
+
+/// Sees that each line is read as its record: up to so many zeros at its end.
+fn are_read(rt: &impl Abort, rows: &[Row], as_printed: bool) {
+    for &(number, bytes, line) in rows {
+        let bytes = if as_printed {
+            byte_text::trim(bytes)
+        } else {
+            bytes
+        };
+        let found = read_line(line);
+        let told = found.as_ref().map(|found| (found.0, found.1.as_slice()));
+        same_at(rt, told, Some((number, bytes)), line);
+    }
+}
+
+/// Sees that each record is printed so.
+fn are_printed(rt: &(impl Abort + AllocGlobal), rows: &[Row]) {
+    for &(number, bytes, line) in rows {
+        let mut out = Vec::new(rt.alloc());
+        let _ = write_line(&mut out, number, bytes);
+        same_at(rt, out.as_slice().strip_suffix(b"\n"), Some(line), number);
+    }
+}
+
+/// Sees that none of them is read.
+fn are_no_lines(rt: &impl Abort, rows: &[&[u8]]) {
+    for &line in rows {
+        same_at(rt, read_line(line).is_none(), true, line);
+    }
+}
+
+#[test]
+fn lines(rt: HostRuntime) {
+    are_printed(&rt, &PRINTED);
+    are_read(&rt, &PRINTED, true);
+    are_read(&rt, &READ, false);
+    are_no_lines(&rt, &NO_LINES);
+}

@@ -1,0 +1,105 @@
+//! What is printed of relative files: records of 1, 2, 100, 127 and 254 bytes, one of which was written, also one
+//! that goes on in the next block; files without records; and what is refused.
+use crate::comparing::same_at;
+use crate::disks::{Change, changed, with_record};
+use crate::outputs::{Full, is_told};
+use keeper_commands::{KeepFault, records_image};
+use std::io::Write;
+use std::process::Abort;
+
+/// A file's name, how long a record is, the one that is written, its bytes and their text, and how many records there
+/// are then: all whole ones in the blocks that the file has.
+type Made = (&'static [u8], u8, u32, &'static [u8], &'static str, u32);
+
+const MADE: [Made; 6] = [
+    (b"ONES", 1, 300, b"\"", "\\22", 508),
+    (b"\xD4WOS", 2, 200, b"A\0", "A", 254),
+    (
+        b"<SCRIPT>",
+        100,
+        3,
+        b"0123456789012345678901234567890123456789012345678901234567890123456789012345678901234567890123456789",
+        "0123456789012345678901234567890123456789012345678901234567890123456789012345678901234567890123456789",
+        5,
+    ),
+    (
+        b"\"A\" \xA0,8,1",
+        127,
+        3,
+        b"MILK\r12\r",
+        "MILK\\0d12\\0d",
+        4,
+    ),
+    (b"254", 254, 3, b"\xFFZ", "\\ffZ", 3),
+    (b"SIXTEEN LETTERS!", 254, 1, b"", "", 1),
+];
+
+/// The lines of so many records: one was written, all others are empty.
+fn lines(rt: &impl AllocGlobal, count: u32, written: u32, text: &str) -> Vec<u8> {
+    let mut lines = Vec::new(rt.alloc());
+    for number in 1..=count {
+        let text = if number == written { text } else { "\\ff" };
+        let _ = write!(lines, "{number},\"{text}\"\n");
+    }
+    lines
+}
+
+/// Sees that the records of each file are printed.
+fn are_printed(rt: &(impl Abort + AllocGlobal), rows: &[Made]) {
+    for &(name, size, number, bytes, text, count) in rows {
+        assert!(rt;
+            name.len() <= 16 && size >= 1 && size <= 254 && number >= 1,
+            "there is no such record"
+        );
+        let disk = with_record(rt, name, size, number, bytes);
+        let mut out = Vec::new(rt.alloc());
+        let ended = records_image(rt.alloc(), disk.bytes(), name, &mut out);
+        same_at(rt, ended, Ok(()), name);
+        let wanted = lines(rt, count, number, text);
+        same_at(rt, out.as_slice(), wanted.as_slice(), name);
+    }
+}
+
+#[test]
+fn records_are_printed(rt: HostRuntime) {
+    are_printed(&rt, &MADE);
+}
+
+/// Changes of the blank disk, the name that is asked for, and what is told. Where a last index is below 2 the file
+/// has no record, and nothing is printed; the loop and the links are in a file that isn't asked for.
+const REFUSED: [(&[Change], &[u8], &str); 9] = [
+    (&[(17, 0, 1, &[1])], b"STOCK", ""),
+    (&[(17, 0, 1, &[0])], b"STOCK", ""),
+    (&[], b"STOC", "NO FILE"),
+    (&[], b"STOCK\0", "NO FILE"),
+    (&[], b"SEVENTEEN LETTERS", "NO FILE"),
+    // closed, and of another type
+    (&[(18, 1, 2, &[0x82])], b"STOCK", "NO FILE"),
+    (&[(17, 2, 0, &[17, 2])], b"STOCK", "LAYOUT LOOP 17/2"),
+    (&[(17, 2, 0, &[36, 0])], b"NONE", "LAYOUT BADLINK 17/2"),
+    (&[(18, 1, 2, &[0x04])], b"STOCK", "LAYOUT UNCLOSED 18/1"),
+];
+
+/// Sees that this is told of each disk, and nothing printed.
+fn are_refused(rt: &(impl Abort + AllocGlobal), rows: &[(&[Change], &[u8], &str)]) {
+    for &(changes, name, told) in rows {
+        let disk = changed(rt, changes);
+        let mut out = Vec::new(rt.alloc());
+        let ended = records_image(rt.alloc(), disk.bytes(), name, &mut out);
+        is_told(rt, ended, told);
+        same_at(rt, out.as_slice(), b"", name);
+    }
+}
+
+// An image of another size is refused before its name is looked for; an output that fails is told.
+#[test]
+fn records_are_refused(rt: HostRuntime) {
+    are_refused(&rt, &REFUSED);
+    let disk = changed(&rt, &[]);
+    let mut out = Vec::new(rt.alloc());
+    let ended = records_image(rt.alloc(), &disk.bytes()[1..], b"NONE", &mut out);
+    same_at(&rt, ended, Err(KeepFault::ImageSize), "size");
+    let mut full = Full { room: 20 };
+    let ended = records_image(rt.alloc(), disk.bytes(), b"STOCK", &mut full);
+    is_told(&rt, ended, "FILE");
+}
