@@ -13,7 +13,7 @@ unwrap-bytes-requires g c =
     let (f, a) = c.requires.of in
     let is = c.in-Ok.ensures.text.ok a.has.layout a.has.stock_place a.has.stock_file a.stock_of in
     let read = item-read (S.image c.args.disk.now) (S.whole c.args.disk.now) f c.args.files.now a c.from.result
-        c.read_next.new.text.items is in
+    c.read_next.new.text.items is in
     c.first_chunk.ensures.variant.1 (omega (arith, read.1, ap length c.as_slice.ensures.value))
 
 pub returns-in-Ok-clause-ok : goal.returns-in-Ok-clause-ok
@@ -21,9 +21,9 @@ returns-in-Ok-clause-ok g c = λ f a.
     let S = g.D.Sectors.history in
     let is = c.in-Ok.ensures.text.ok a.has.layout a.has.stock_place a.has.stock_file a.stock_of in
     let read = item-read (S.image c.args.disk.now) (S.whole c.args.disk.now) f c.args.files.now a c.from.result
-        c.read_next.new.text.items is in
+    c.read_next.new.text.items is in
     let chunk = match-some _ _ c.first_chunk.result c.unwrap-bytes.result c.unwrap-bytes.ensures
-        c.first_chunk.ensures.cases in
+    c.first_chunk.ensures.cases in
     let same = whole-chunk _ _ 18 (ap length c.as_slice.ensures.value ∙ read.1) chunk ∙ c.as_slice.ensures.value in (
       c.unwrap-bytes.result.now,
       ap (λ r. record_at f.stock r) (sym c.from.ensures) ∙ read.0 ∙ ap Some (sym same),
@@ -34,6 +34,9 @@ returns-in-Ok-clause-ok g c = λ f a.
 pub returns-in-Err-NotPresent-clause-ok : goal.returns-in-Err-NotPresent-clause-ok
 returns-in-Err-NotPresent-clause-ok g c = λ f a.
     let absent = c.in-Err-NotPresent.ensures.text.not_present a.has.layout a.has.stock_place a.has.stock_file a.stock_of
-        c.in-Err-NotPresent.field-0-is in
-    omega (arith, past-last _ f.stock c.from.result a.has.stock (omega (arith, c.requires.low, c.from.ensures)) absent,
-        c.from.ensures)
+    c.in-Err-NotPresent.field-0-is in
+    omega (
+      arith,
+      past-last _ f.stock c.from.result a.has.stock (omega (arith, c.requires.low, c.from.ensures)) absent,
+      c.from.ensures,
+    )
