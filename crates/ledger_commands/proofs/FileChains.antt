@@ -73,9 +73,10 @@ module _ {F : Type 0} {G : Ghosts F} where
     chain_of_file s [] [] a t b x chain = (chain.0, ap file_disk chain.1)
     chain_of_file s [] (y ∷ ys) a t b x chain = absurd chain
     chain_of_file s (m ∷ ms) [] a t b x chain = absurd chain
-    chain_of_file s (m ∷ ms) (y ∷ ys) a t b x chain =
-        (event_of_file s m a y.1 _ _ (goes_on s m y.0 y.1) x chain.0,
-        chain_of_file (with_state s (after_all (start_of s) s.state chain.0.counted)) ms ys y.1 t b (mirrored_then start a y.1 x chain.0.moments.reached) chain.1)
+    chain_of_file s (m ∷ ms) (y ∷ ys) a t b x chain = (
+      event_of_file s m a y.1 _ _ (goes_on s m y.0 y.1) x chain.0,
+      chain_of_file (with_state s (after_all (start_of s) s.state chain.0.counted)) ms ys y.1 t b (mirrored_then start a y.1 x chain.0.moments.reached) chain.1,
+    )
 
     -- the mirrors of a chain come of one another
     pub chain_reached : (s : Shop) (ms : List Message) (xs : List (Reply × Mirror F G)) (a : Mirror F G) (t : Shop) (b : Mirror F G) → IsMirrored start a

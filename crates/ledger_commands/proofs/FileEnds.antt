@@ -142,6 +142,7 @@ module _ {F T : Type 0} {G : Ghosts F} (o : Output T) (image script : List ℕ) 
 
   pub broken_at_err : is_broken m → (fault : RunFault) → IsPlayEnd mirror o start script old new (Err (fault, m))
       → IsStopped G.keeps o image script start.file m.file old new
-  broken_at_err broken fault x =
-      (⊎_elim (λ y. file_failed start sound m (reached_at_ok y.1) broken) (λ y. failed_at_err broken y.0 y.2) x,
-      inr (fault, taken_up (over_file (Err (fault, m)) x)))
+  broken_at_err broken fault x = (
+    ⊎_elim (λ y. file_failed start sound m (reached_at_ok y.1) broken) (λ y. failed_at_err broken y.0 y.2) x,
+    inr (fault, taken_up (over_file (Err (fault, m)) x)),
+  )

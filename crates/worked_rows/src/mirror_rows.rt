@@ -39,10 +39,7 @@ fn a_file_holds_what_is_told(rt: HostRuntime) {
 }
 
 /// The disk in memory, and in a file that takes two sectors and not the third.
-fn filling(
-    rt: &(impl Abort + AllocGlobal),
-    disk: &MemDisk,
-) -> Mirror<KeptDisk<OneFault<MemDisk>>> {
+fn filling(rt: &(impl Abort + AllocGlobal), disk: &MemDisk) -> Mirror<KeptDisk<OneFault<MemDisk>>> {
     let file = KeptDisk::new(OneFault::new(loaded(rt, disk.bytes()), 2, false));
     Mirror::new(file, loaded(rt, disk.bytes()))
 }

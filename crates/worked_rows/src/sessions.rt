@@ -133,7 +133,10 @@ pub(crate) fn handled(
 }
 
 /// The same disk in memory, and in the place of a file.
-pub(crate) fn mirrored(rt: &(impl Abort + AllocGlobal), disk: &MemDisk) -> Mirror<KeptDisk<MemDisk>> {
+pub(crate) fn mirrored(
+    rt: &(impl Abort + AllocGlobal),
+    disk: &MemDisk,
+) -> Mirror<KeptDisk<MemDisk>> {
     let file = KeptDisk::new(loaded(rt, disk.bytes()));
     Mirror::new(file, loaded(rt, disk.bytes()))
 }

@@ -10,11 +10,17 @@ returns-in-Ok-hand_on g c =
 
 pub returns-in-Err-hand_on : goal.returns-in-Err-hand_on
 returns-in-Err-hand_on g c =
-    inl (refl, handed_on g.D.Sectors.history g.T.Tells.output c.args.disk c.args.script.now c.args.out.now c.run_script.new.out c.hand_on.new.self
-    c.hand_on.ensures c.in-Ok.left c.in-Ok.ensures)
+    inl (
+      refl,
+      handed_on g.D.Sectors.history g.T.Tells.output c.args.disk c.args.script.now c.args.out.now c.run_script.new.out c.hand_on.new.self
+          c.hand_on.ensures c.in-Ok.left c.in-Ok.ensures,
+    )
 
 pub returns-in-Err : goal.returns-in-Err
 returns-in-Err g c =
-    inr (c.in-Err.fault, c.told.ensures.value,
-    fault_handed_on g.D.Sectors.history g.T.Tells.output c.args.disk c.args.script.now c.args.out.now c.run_script.new.out c.told.new.out
-    c.told.ensures.told (c.in-Err.fault, c.in-Err.left) c.told.ensures.silent c.in-Err.ensures)
+    inr (
+      c.in-Err.fault,
+      c.told.ensures.value,
+      fault_handed_on g.D.Sectors.history g.T.Tells.output c.args.disk c.args.script.now c.args.out.now c.run_script.new.out c.told.new.out
+          c.told.ensures.told (c.in-Err.fault, c.in-Err.left) c.told.ensures.silent c.in-Err.ensures,
+    )
