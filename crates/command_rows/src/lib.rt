@@ -4,6 +4,8 @@
 #![tactic(auto)]
 
 #[cfg(test)]
+mod blame_rows;
+#[cfg(test)]
 mod card_rows;
 #[cfg(test)]
 mod check_rows;
@@ -35,3 +37,5 @@ mod script_rows;
 mod stopped_rows;
 #[cfg(test)]
 mod till_rows;
+#[cfg(test)]
+mod write_rows;

@@ -112,3 +112,20 @@ fn requests_are_cut(rt: HostRuntime) {
     is_cut_everywhere(&rt, &MOVE);
     is_cut_everywhere(&rt, &REFUSED);
 }
+
+/// Where the record of item 1 stands in an image: 336 sectors are before 17/0, whose link has two bytes.
+const ITEM_1: usize = 336 * 256 + 2;
+
+/// Sees that this is the record of item 1 where power went in the move after so many writes.
+fn has_first(rt: &(impl Abort + AllocGlobal), disk: &MemDisk, power: u32, card: &[u8]) {
+    let (_, cut) = handled(rt, disk, MOVE.message, power);
+    same_at(rt, cut.bytes().get(ITEM_1..ITEM_1 + 18), Some(card), power);
+}
+
+// The first write is the intent's. The card of the item to go to takes two, and comes behind.
+#[test]
+fn the_item_that_goods_leave_is_written_first(rt: HostRuntime) {
+    let disk = after(&rt, MOVE.before);
+    has_first(&rt, &disk, 1, b"K,00001,000000010\r");
+    has_first(&rt, &disk, 2, b"K,00001,000000006\r");
+}

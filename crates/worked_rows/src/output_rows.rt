@@ -1,7 +1,7 @@
 //! An output that stops in the middle of a run.
-use crate::comparing::same_at;
+use crate::comparing::{holds, same_at};
 use crate::disks::fresh;
-use crate::sessions::{asked, says};
+use crate::sessions::{after, asked, says};
 use d64_image::MemDisk;
 use host_session::{Printer, ScriptFault, run_script};
 use std::io::{self, Write};
@@ -30,11 +30,11 @@ impl Write for Stopping {
     }
 }
 
-/// Plays the script into an output that takes 13 bytes, and gives what is on the disk then.
+/// Plays the script into an output that takes as many bytes as this reply, and gives what is on the disk then.
 fn stopped(rt: &(impl Abort + AllocGlobal), script: &[u8], reply: &[u8]) -> MemDisk {
     let mut out = Printer::new(Stopping {
         taken: Vec::new(rt.alloc()),
-        room: 13,
+        room: reply.len(),
     });
     match run_script(fresh(rt), script, &mut out) {
         Ok(_) => panic!(rt; "the script is played"),
@@ -54,4 +54,19 @@ fn an_output_takes_13_bytes(rt: HostRuntime) {
     let (reply, _, recovery, writes) = asked(&rt, &left, b"2,1,R,42,5");
     let told = (says(reply, b"2,1,DONE,125"), recovery, writes);
     same_at(&rt, told, (true, 0, 0), "sent again");
+}
+
+/// Sees that the script leaves the disk that it has where its replies are taken.
+fn is_done(rt: &(impl Abort + AllocGlobal), script: &[u8]) {
+    let left = stopped(rt, script, b"");
+    holds(rt, left.bytes() == after(rt, script).bytes(), script);
+}
+
+// A line is handled, in whole or as far as power goes, before anything of its reply is handed on.
+#[test]
+fn an_output_takes_nothing(rt: HostRuntime) {
+    is_done(&rt, b"1,1,S,1,5\n");
+    is_done(&rt, b"@0/0 1,1,S,1,5\n");
+    is_done(&rt, b"@1 1,1,S,1,5\n");
+    is_done(&rt, b"@99999 1,1,S,1,5\n");
 }

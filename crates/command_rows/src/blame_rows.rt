@@ -1,0 +1,134 @@
+//! Long scripts, a full directory, and each number of tills: nothing is blamed where nothing failed.
+use crate::comparing::{holds, same};
+use crate::files::{blank_paper, filled};
+use crate::images::{S18_1, formatted, put};
+use crate::runs::{is_printed, is_shown, played};
+use ledger_commands::{dry, list_image};
+use std::io::Write;
+use std::process::Abort;
+
+/// A script of 5,000 requests, which set an item to none and then receive one of it each; and their replies.
+fn received(rt: &impl AllocGlobal) -> (Vec<u8>, Vec<u8>) {
+    let (mut script, mut replies) = (Vec::new(rt.alloc()), Vec::new(rt.alloc()));
+    let _ = script.extend_from_slice(b"1,1,S,7,0\n");
+    let _ = replies.extend_from_slice(b"1,1,DONE,0\n");
+    for on_hand in 1..5000u32 {
+        let number = on_hand + 1;
+        let _ = writeln!(script, "1,{number},R,7,1");
+        let _ = writeln!(replies, "1,{number},DONE,{on_hand}");
+    }
+    (script, replies)
+}
+
+/// A script of 2,100,013 bytes, lines of letters and a request behind them; and their replies.
+fn lettered(rt: &(impl AllocGlobal + Abort)) -> (Vec<u8>, Vec<u8>) {
+    let letters = filled(rt, b'x', 99);
+    let (mut script, mut replies) = (Vec::new(rt.alloc()), Vec::new(rt.alloc()));
+    for _ in 0..21_000usize {
+        let _ = script.extend_from_slice(letters.as_slice());
+        let _ = script.extend_from_slice(b"\n");
+        let _ = replies.extend_from_slice(b"30,SYNTAX ERROR,00,00\n");
+    }
+    let _ = script.extend_from_slice(b"1,1,S,42,120\n");
+    let _ = replies.extend_from_slice(b"1,1,DONE,120\n");
+    (script, replies)
+}
+
+/// Sees that the script has these replies, without a disk and on a fresh one for 64 tills.
+fn is_answered(rt: &(impl AllocGlobal + Abort), script: &[u8], replies: &[u8]) {
+    let mut out = blank_paper(rt);
+    same(rt, dry(script, &mut out), Ok(()));
+    holds(rt, out.bytes.as_slice() == replies, "the dry run");
+    let mut out = blank_paper(rt);
+    let (ended, _) = played(rt, formatted(rt, 64).as_slice(), script, &mut out);
+    same(rt, ended, Ok(()));
+    holds(rt, out.bytes.as_slice() == replies, "the disk");
+}
+
+#[test]
+fn long_scripts_have_all_their_replies(rt: HostRuntime) {
+    let (script, replies) = received(&rt);
+    is_answered(&rt, script.as_slice(), replies.as_slice());
+    let (script, replies) = lettered(&rt);
+    is_answered(&rt, script.as_slice(), replies.as_slice());
+}
+
+/// Writes the entry of this number as a program of so many blocks, and the link of its sector in the first of eight.
+fn put_entry(image: &mut Vec<u8>, number: u8, name: [u8; 2]) {
+    let sector = number / 8;
+    let at = S18_1 + 256 * usize::from(sector) + 32 * usize::from(number % 8);
+    put(image, at + 2, &[0x82, 17, 0, name[0], name[1], 0xA0]);
+    put(image, at + 30, &[number, 0]);
+    if number % 8 == 0 && sector < 17 {
+        put(image, at, &[18, sector + 2]);
+    } else if number % 8 == 0 {
+        put(image, at, &[0, 0xFF]);
+    }
+}
+
+/// A disk with the 144 entries that a directory has room for, and its listing.
+fn full_directory(rt: &(impl AllocGlobal + Abort)) -> (Vec<u8>, Vec<u8>) {
+    let mut image = formatted(rt, 2);
+    let mut listing = Vec::new(rt.alloc());
+    let _ = listing.extend_from_slice(b"0 \"STOCK LEDGER\" 01 2A\n");
+    for number in 0..144u8 {
+        let name = [b'A' + number / 12, b'A' + number % 12];
+        put_entry(&mut image, number, name);
+        let _ = write!(listing, "{number} \"");
+        let _ = listing.extend_from_slice(&name);
+        let _ = listing.extend_from_slice(b"\" PRG\n");
+    }
+    let _ = listing.extend_from_slice(b"660 BLOCKS FREE\n");
+    (image, listing)
+}
+
+#[test]
+fn a_full_directory_is_listed(rt: HostRuntime) {
+    let (image, listing) = full_directory(&rt);
+    let mut out = blank_paper(&rt);
+    let ended = list_image(rt.alloc(), image.as_slice(), &mut out);
+    same(&rt, ended, Ok(()));
+    is_printed(&rt, &out, listing.as_slice());
+}
+
+/// What is shown of a fresh shop for so many tills. Two tills have a block. STOCK may take the 663 sectors outside track 18
+/// that are left but for the side sector of REQUESTS, six of them as side sectors; a record has 18 bytes.
+fn fresh_shop(rt: &impl AllocGlobal, tills: u8) -> Vec<u8> {
+    let blocks = 663 - 6 - (u32::from(tills.min(64)) + 1) / 2;
+    let top = blocks * 254 / 18;
+    let mut shown = Vec::new(rt.alloc());
+    let _ = writeln!(shown, "TOP {top}");
+    shown
+}
+
+#[test]
+fn the_shop_of_each_number_of_tills_is_shown(rt: HostRuntime) {
+    for tills in 1..65u8 {
+        let shown = fresh_shop(&rt, tills);
+        is_shown(&rt, formatted(&rt, tills).as_slice(), shown.as_slice());
+    }
+}
+
+/// A request of each of 64 tills, which sets the item of its number to that many; and what is shown of the shop then.
+fn day_of_64(rt: &impl AllocGlobal) -> (Vec<u8>, Vec<u8>) {
+    let (mut script, mut shown) = (Vec::new(rt.alloc()), Vec::new(rt.alloc()));
+    let _ = shown.extend_from_slice(b"TOP 8819\n");
+    for till in 1..65u8 {
+        let _ = writeln!(script, "{till},1,S,{till},{till}");
+        let _ = writeln!(shown, "CARD {till},{till}");
+    }
+    for till in 1..65u8 {
+        let _ = writeln!(shown, "TILL {till},1,S,{till},{till},DONE,{till}");
+    }
+    (script, shown)
+}
+
+#[test]
+fn the_requests_of_64_tills_are_shown(rt: HostRuntime) {
+    let (script, shown) = day_of_64(&rt);
+    let mut out = blank_paper(&rt);
+    let image = formatted(&rt, 64);
+    let (ended, file) = played(&rt, image.as_slice(), script.as_slice(), &mut out);
+    same(&rt, ended, Ok(()));
+    is_shown(&rt, file.bytes(), shown.as_slice());
+}

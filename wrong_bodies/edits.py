@@ -1,0 +1,81 @@
+"""Wrong bodies as they are kept: what they replace, in which function, and at which values their reader says that they are wrong."""
+
+import re
+
+FUNCTION = re.compile(r"( *)(?:pub(?:\([a-z]+\))? )?(?:const )?fn (\w+)")
+
+
+class Edit:
+    """One wrong body: its name, and for each text that it replaces the file, the old text and the new one. `values` is what its line
+    `false: CLAUSE: VALUES` says, None where it has none."""
+
+    def __init__(self, path):
+        self.name = path.stem
+        self.pairs = []
+        self.values = None
+        file = old = None
+        for line in path.read_text(encoding="utf-8").split("\n"):
+            if line.startswith("file: "):
+                file = line[len("file: "):].strip()
+            elif line.startswith("old: "):
+                old = line[len("old: "):]
+            elif line.startswith("new:"):
+                self.pairs.append((file, old, line[len("new:"):].removeprefix(" ")))
+            elif line.startswith("false: "):
+                self.values = line[len("false: "):].strip()
+
+    def place(self, crate):
+        """The one function that it edits: file, name, first and last line. None where it edits something else."""
+        places = {function_around(crate, file, old) for file, old, _ in self.pairs}
+        return places.pop() if len(places) == 1 else None
+
+    def fits(self, crate):
+        """Whether each old text stands in its file once."""
+        return bool(self.pairs) and all((crate / file).is_file() and (crate / file).read_text(encoding="utf-8").count(old) == 1
+                                        for file, old, _ in self.pairs)
+
+
+def function_around(crate, file, old):
+    """The function of this file that has the text."""
+    if not file.startswith("src/"):
+        return None
+    text = (crate / file).read_text(encoding="utf-8")
+    lines = text.split("\n")
+    at = text.find(old) + len(old) - len(old.lstrip())
+    first = last = text[:at].count("\n")
+    while first >= 0 and not FUNCTION.match(lines[first]):
+        first -= 1
+    if first < 0:
+        return None
+    indent, name = FUNCTION.match(lines[first]).groups()
+    end = next((n for n in range(first, len(lines)) if lines[n] in (indent + "}", indent + "{}")), -1)
+    if last > end:
+        return None
+    while first and lines[first - 1].strip().startswith(("#[", "//")):
+        first -= 1
+    return file, name, first + 1, end + 1
+
+
+def edited(crate, edits):
+    """The texts of the files that these edits change."""
+    texts = {}
+    for edit in edits:
+        for file, old, new in edit.pairs:
+            text = texts.get(file) or (crate / file).read_text(encoding="utf-8")
+            texts[file] = text.replace(old, new)
+    return texts
+
+
+def in_rounds(crate, edits):
+    """Edits in rounds, of which none has two edits of one function; and those that are to be checked alone."""
+    rounds, by_themselves = [], []
+    for edit in edits:
+        place = edit.place(crate)
+        if not place:
+            by_themselves.append(edit)
+            continue
+        free = next((it for it in rounds if all(place[:2] != other[:2] for _, other in it)), None)
+        if free is None:
+            rounds.append(free := [])
+        free.append((edit, place))
+    return rounds, by_themselves

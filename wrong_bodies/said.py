@@ -1,0 +1,125 @@
+"""What a check says of a wrong body, and the word for it."""
+
+import re
+
+# what antt says of a goal that it found values for: they were checked, so that no answer closes it
+FALSE = "allow values at which this goal is false"
+GOAL = re.compile(r"(?:note: |error: )?(?:\./)?(src/\S+?):(\d+):\d+: (?:it is not proved that (.*?)|`search` found no proof)"
+                  r" \(`([^`]+)`\)(.*)")
+ANSWER = re.compile(r"(?:so far: )?(?:error: )?(?:\./)?(proofs/\S+\.antt):\d+:\d+: error: (?:`([^`]+)`: )?(.*)")
+# what says that a proof names something that is no longer there
+LOST_NAME = re.compile(r"has no field|is not in scope|has no `|was not admitted")
+# what says that the checker has no proof rules for the form of a body, whatever it means
+FORM = re.compile(r"\[(?:borrow-|unsupported-|linear-)|not covered|not supported")
+SOURCE = re.compile(r"(?:error: )?(?:\./)?(?:src|specs)/\S+?:\d+:\d+: error")
+DIFFERENCE = re.compile(r"one has `(.*?)`\s*\(expected\).*?the other has `(.*?)`\s*\(found\)", re.S)
+
+
+class Goal:
+    """An open goal: the clause that it is of, or what else, and whether it is false at values."""
+
+    def __init__(self, what, name, rest):
+        what = what or "the invariant of the value's type holds"
+        self.name = name
+        self.false = FALSE in rest
+        self.of_loop = "loop" in what
+        label = re.search(r"-clause-([\w-]+)$", name)
+        if what.startswith("what the function ensures"):
+            self.clause = f"ensures {label[1]}" if label else "ensures"
+        else:
+            self.clause = what.replace(" holds at this call", "").removeprefix("what ").removesuffix(" holds")
+
+
+class Told:
+    """What is told of one function: its open goals, and the answers that don't fit as (file, name, why)."""
+
+    def __init__(self, said, place):
+        self.goals = []
+        self.answers = []
+        for number, line in enumerate(said):
+            goal, answer = GOAL.match(line), ANSWER.match(line)
+            if goal and is_in(place, goal[1], int(goal[2])):
+                self.goals.append(Goal(goal[3], goal[4], goal[5]))
+            elif answer and is_of(place, answer[1]):
+                self.answers.append((answer[1], answer[2], "\n".join(said[number:number + 6])))
+
+    def false_goal(self):
+        """A goal that is false at values, and not an invariant of the proof's own."""
+        return next((it for it in self.goals if it.false and not it.of_loop), None)
+
+    def clause(self):
+        """A clause that is open."""
+        return next((it for it in self.goals if not it.of_loop), None)
+
+
+def is_in(place, file, line):
+    """Whether the line is one of the function; of anything, where no place is asked for."""
+    return place is None or (file == place[0] and place[2] <= line <= place[3])
+
+
+def is_of(place, file):
+    """Whether the proof file is the function's."""
+    if place is None:
+        return True
+    module = re.sub(r"^src/|\.rt$", "", place[0])
+    return bool(re.fullmatch(rf"proofs/{module}/(?:.*/)?{place[1]}/\w+\.antt", file))
+
+
+def without(text, names):
+    """An answers file without the declarations of these names; without any where a name is None."""
+    kept, leaves = [], None in names
+    for line in text.split("\n"):
+        head = re.match(r"(?:abbrev |unfoldable )?(?:pub )?([^\s:]+) ", line)
+        if head and not line.startswith(("use ", "--")):
+            leaves = None in names or head[1] in names
+        if not leaves or line.startswith(("use ", "--")):
+            kept.append(line)
+    return "\n".join(kept)
+
+
+def is_unread(said):
+    """Why the check came to no goal: the word for it, None where it did."""
+    if any(line.startswith("logic=") for line in said):
+        return None
+    errors = [line for line in said if SOURCE.match(line)]
+    if errors and all(FORM.search(line) for line in errors):
+        return "form not covered  ", errors[0][:160]
+    return "no longer applies ", (errors or said[-1:] or [""])[0][:160]
+
+
+def difference(why):
+    """What the kept answer shows and the goal asks, where the check tells it in few words."""
+    computed = why[why.find("computed as far"):] if "computed as far" in why else why
+    found = DIFFERENCE.search(computed)
+    if not found or max(len(found[1]), len(found[2])) > 80:
+        return "the kept answer doesn't fit"
+    return f"the goal has {found[1]} where the kept answer has {found[2]}"
+
+
+def verdict(edit, kept, aside):
+    """The word for an edit, and what it rests on. `kept` is what was told with the answers as they are, `aside` what was told
+    with those set aside that don't fit."""
+    false = kept.false_goal() or aside.false_goal()
+    if false:
+        return "refused           ", f"{false.clause} ({false.name}) is false at values that the facts there allow"
+    open_clause = aside.clause() or kept.clause()
+    # where an answer that was set aside isn't needed, its clause holds
+    names = {it.clause for it in aside.goals} | {goal_clause(name) for _, name, _ in aside.answers if name}
+    of_loop = any(it.of_loop for it in aside.goals)
+    if edit.values and (of_loop or any(edit.values.startswith(name + ":") for name in names)):
+        return "refused           ", f"{edit.values} (by its reader; the check leaves it open)"
+    where = "no clause, only what the proof says of a loop or of names"
+    if open_clause:
+        where = f"{open_clause.clause} ({open_clause.name})"
+    if not kept.answers:
+        return "not found         ", f"{where} is open, and not said to be false"
+    if all(LOST_NAME.search(why.split("\n")[0]) for _, _, why in kept.answers):
+        return "by a name         ", f"open with the answers set aside that name what is gone: {where}"
+    other = next(why for _, _, why in kept.answers if not LOST_NAME.search(why.split("\n")[0]))
+    return "by a stale answer ", f"open with the answers set aside: {where}; {difference(other)}"
+
+
+def goal_clause(name):
+    """The clause that an answer of this name is of."""
+    label = re.search(r"-clause-([\w-]+)$", name)
+    return f"ensures {label[1]}" if label else "ensures"
