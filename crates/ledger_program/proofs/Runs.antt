@@ -2,8 +2,12 @@
 use Rattle.std.proofs.Common.{◌≡◌, ◌≢◌, ◌⊎◌, ◌↔◌, ◌∙◌, ℕ, List, Result, Ok, Err, refl, ap, arith, inl, inr, subst, sym}
 use Rattle.std.proofs.lemmas.Bool.{false≢true}
 use Rattle.std.proofs.lemmas.Option.{none-some}
-use Rattle.std.specs.Prelude.{IfErr, IfOk, IsOk, IsSome, None, OnOk, Option, Some, codes, is_some, length}
+use Rattle.std.specs.Prelude.{IfErr, IfOk, IfSome, IsOk, IsSome, None, OnOk, Option, Some, codes, is_some, length}
 use Rattle.std.specs.Io.KnownBytes.{Appends}
+use Rattle.std.specs.IoError.{error_kind}
+use Rattle.std.specs.declared.io.Error.{Error}
+use Rattle.std.specs.declared.io.ErrorKind.{ErrorKind}
+use Rattle.std.specs.declared.io.ErrorKind.TheVariants as kinds
 use Rattle.d64_image.specs.Memory.{sectors_in}
 use Rattle.disk_layout.proofs.Unclean.{told-unclean}
 use Rattle.disk_layout.specs.declared.faults.Fault.{Fault}
@@ -11,11 +15,12 @@ use Rattle.host_session.proofs.Judging.{refused-no_shop}
 use Rattle.ledger_commands.specs.Plays.{IsPlayFault, IsScriptPlayed, IsUntouched, Known}
 use Rattle.ledger_commands.specs.Shops.{IsOpenRefusal, IsShowFault, IsShown}
 use Rattle.ledger_commands.specs.Images.{IsCheckFault, IsFormatFault, IsHandedOver, IsListFault, IsListed, IsVerdict}
-use Rattle.ledger_commands.specs.Faults.{IsDryFault, run_status}
+use Rattle.ledger_commands.specs.Faults.{IsDryFault, io_fault, run_status}
 use Rattle.ledger_commands.specs.Tables.{dry_report}
 use Rattle.ledger_commands.specs.Texts.{verdict_text}
 use Rattle.ledger_program.specs.Ends.{Ended, dry_end, end_of, exit_status}
-use Rattle.ledger_program.specs.Runs.{HoldsOfBytes, IsCheckRun, IsDryRefusal, IsDryRun, IsFormatRun, IsListRun, IsPlayRun, IsQuiet, IsReadingRun, IsShowRun}
+use Rattle.ledger_program.specs.Jobs.{needed}
+use Rattle.ledger_program.specs.Runs.{HoldsOfBytes, IsCheckRun, IsDryRefusal, IsDryRun, IsFormatRun, IsListRun, IsPlayRun, IsQuiet, IsReadingOf, IsReadingRun, IsShowRun}
 use Rattle.ledger_program.specs.declared.jobs.Reading.{Reading}
 use Rattle.script_lines.specs.Lines.{first_reset, lines}
 use Rattle.ledger_commands.specs.declared.dry_run.DryFault.{DryFault}
@@ -385,3 +390,27 @@ reading-as contents what at bytes old new ended end is told run fault quiet =
     (sym is)
     (subst (λ (e : Ended). IsReadingRun contents at bytes old new (exit_status e) × IfErr e (HoldsOfBytes at bytes) × IsQuiet at bytes e) (sym told)
     (run, fault, quiet))
+
+-- the system's failures are told by two words
+two-words : (kind : ErrorKind) → (io_fault kind ≡ run.File) ⊎ (io_fault kind ≡ run.NoMemory)
+two-words kinds.OutOfMemory = inr refl
+two-words _ = inl refl
+
+-- what is asked of a file, from what was read of it
+pub reading-of : {W B : Type 0} (contents : W → Option (List ℕ)) (items : B → List ℕ) (what : Reading) (all : Option (List ℕ))
+    (read : Result B Error) (old new : W) (ended : Ended)
+    → IfOk read (λ b. IfSome all (λ bytes. items b ≡ needed what bytes))
+    → IfErr read (λ e. (ended ≡ Err (io_fault (error_kind e))) × (new ≡ old))
+    → IfOk read (λ b. IsReadingRun contents what (items b) old new (exit_status ended))
+    → IfSome all (λ bytes. IsReadingOf contents what (needed what bytes) old new ended)
+reading-of contents items what None read old new ended known failed done = tt
+reading-of contents items what (Some bytes) (Ok b) old new ended known failed done =
+    inl (subst (λ (xs : List ℕ). IsReadingRun contents what xs old new (exit_status ended)) known done)
+reading-of contents items what (Some bytes) (Err e) old new ended known failed done =
+    inr (
+      failed.1,
+      elim (two-words (error_kind e)) [
+        | inl file ↦ inl (failed.0 ∙ ap Err file)
+        | inr memory ↦ inr (failed.0 ∙ ap Err memory)
+      ],
+    )

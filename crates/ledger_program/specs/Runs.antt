@@ -1,5 +1,5 @@
 -- What a run of the program ends with, and what it leaves of the output and of the file. All of it is our own.
-use Rattle.std.specs.Prelude.{◌≡◌, ◌≢◌, ◌↔◌, ◌⊎◌, ℕ, List, None, Some, IfErr, IsOk, Option, IsSome, codes, length}
+use Rattle.std.specs.Prelude.{◌≡◌, ◌≢◌, ◌↔◌, ◌⊎◌, ℕ, List, None, Some, Err, IfErr, IsOk, Option, IsSome, codes, length}
 use Rattle.std.specs.Io.KnownBytes.{Appends}
 use Rattle.d64_image.specs.Memory.{sectors_in}
 use Rattle.disk_layout.specs.Clean.{IsClean}
@@ -130,3 +130,10 @@ HoldsOfBytes readings.Dry bytes fault = IsDryRefusal bytes fault
 abbrev pub IsQuiet : Reading → (bytes : List ℕ) → Ended → Type 0
 IsQuiet readings.Check bytes ended = length bytes ≡ 174848 → exit_status ended ≢ 3 → IsOk ended
 IsQuiet _ bytes ended = IsOk ended ↔ (exit_status ended ≡ 0)
+
+-- what comes of what is asked of a file that has these bytes: they were read; or the reader failed with an error of this kind, and
+-- then nothing was written
+abbrev pub IsReadingOf : {W : Type 0} → (W → Option (List ℕ)) → Reading → (bytes : List ℕ) → W → W → Ended → Type 0
+IsReadingOf contents what bytes old new ended =
+    IsReadingRun contents what bytes old new (exit_status ended)
+    ⊎ ((new ≡ old) × ((ended ≡ Err refusals.File) ⊎ (ended ≡ Err refusals.NoMemory)))

@@ -1,35 +1,97 @@
 //! Doing a job: its files are opened and read, and what is printed goes to an output.
-ghost use Rattle.ledger_program.specs.Jobs.{HasTills};
+ghost use Rattle.std.specs.Prelude.{◌≡◌, IfErr, IfOk, IfSome, Err, vec_items};
+ghost use Rattle.std.specs.IoError.{error_kind};
+ghost use Rattle.ledger_commands.specs.Faults.{io_fault};
+ghost use Rattle.ledger_program.specs.Ends.{exit_status, told_of};
+ghost use Rattle.ledger_program.specs.Jobs.{HasTills, needed};
+ghost use Rattle.ledger_program.specs.Runs.{IsReadingOf, IsReadingRun};
 
-use crate::files::{AtPath, image_at, opened, script_at};
+use crate::files::{AtPath, STANDARD_INPUT, opened, room_for, script_at};
 use crate::jobs::{Job, Reading};
 use crate::running::{format_run, play_run, reading_run};
 use disk_layout::Fault;
-use ledger_commands::{EndedFile, Placed, Replaced, RunFault, read_image};
+use ledger_commands::{EndedFile, Placed, Replaced, RunFault, read_image, read_script};
+use std::alloc::Global;
+use std::fs::File;
 use std::io::{self, Read, Write};
 use std::os::unix::fs::FileExt;
 use std::rt::Files;
 
 /// What came of the system's part of a job, as it is told.
-fn told<T>(taken: io::Result<T>) -> Result<T, RunFault> {
+fn told<T>(taken: io::Result<T>) -> Result<T, RunFault>
+    ensures { result ≡ told_of taken }
+{
     match taken {
         Ok(it) => Ok(it),
         Err(error) => Err(RunFault::of_io(&error)),
     }
 }
 
-/// Does what is asked of the file at a path.
+/// What is needed of the bytes that a reader has: of an image 174,849 at most, and a script whole. `room` is how many bytes memory
+/// is taken for at once for a script.
+fn bytes_of<R: Read + Drop>(
+    alloc: Global,
+    what: Reading,
+    reader: R,
+    room: usize,
+) -> io::Result<Vec<u8>>
+    ensures { IfOk result (λ bytes. IfSome (R.remaining reader) (λ all. vec_items bytes ≡ needed what all)) }
+{
+    match what {
+        Reading::Dry => read_script(alloc, reader, room),
+        Reading::List | Reading::Check | Reading::Show => read_image(alloc, reader),
+    }
+}
+
+/// Does what is asked of these bytes, where they could be read; else tells why they couldn't.
+fn over_read<W: Write>(
+    alloc: Global,
+    what: Reading,
+    read: io::Result<Vec<u8>>,
+    out: &mut W,
+) -> Result<Option<Fault>, RunFault>
+    ensures unread { IfErr read (λ e. (result ≡ Err (io_fault (error_kind e))) × (out.new ≡ out.old)) }
+    ensures run { IfOk read
+        (λ bytes. IsReadingRun W.contents what (vec_items bytes) out.old out.new (exit_status result)) }
+{
+    match read {
+        Ok(bytes) => reading_run(alloc, what, bytes.as_slice(), out),
+        Err(error) => Err(RunFault::of_io(&error)),
+    }
+}
+
+/// Does what is asked of the bytes that a reader has, where it could be opened; else tells why it couldn't. `File` where the
+/// file couldn't be opened or read, or the output failed; `NoMemory`; and what is wrong with the bytes.
+pub fn do_over<R: Read + Drop, W: Write>(
+    alloc: Global,
+    what: Reading,
+    opened: io::Result<R>,
+    room: usize,
+    out: &mut W,
+) -> Result<Option<Fault>, RunFault>
+    ensures unopened { IfErr opened (λ e. (result ≡ Err (io_fault (error_kind e))) × (out.new ≡ out.old)) }
+    ensures run { IfOk opened (λ reader. IfSome (R.remaining reader)
+        (λ all. IsReadingOf W.contents what (needed what all) out.old out.new result)) }
+{
+    match opened {
+        Ok(reader) => over_read(alloc, what, bytes_of(alloc, what, reader, room), out),
+        Err(error) => Err(RunFault::of_io(&error)),
+    }
+}
+
+/// Does what is asked of the file at a path, or of standard input.
 fn do_reading<R: Files + Input + AllocGlobal, W: Write>(
     rt: &R,
     what: Reading,
     path: &str,
     out: &mut W,
 ) -> Result<Option<Fault>, RunFault> {
-    let bytes = match what {
-        Reading::Dry => told(script_at(rt, path))?,
-        Reading::List | Reading::Check | Reading::Show => told(image_at(rt, path))?,
-    };
-    reading_run(rt.alloc(), what, bytes.as_slice(), out)
+    if path == STANDARD_INPUT {
+        return do_over(rt.alloc(), what, Ok(rt.reader()), 0, out);
+    }
+    let opened = File::open(rt, path);
+    let room = room_for(&opened);
+    do_over(rt.alloc(), what, opened, room, out)
 }
 
 /// Plays the script at a path on the image at another, over its file.

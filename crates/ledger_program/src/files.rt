@@ -1,26 +1,19 @@
 //! The files that a job names, opened and read.
-use ledger_commands::{EndedFile, OpensFile, read_image, read_script};
+use ledger_commands::{EndedFile, OpensFile, read_script};
 use std::fs::{File, OpenFile, OpenOptions};
 use std::io;
 use std::rt::Files;
 
-/// The name under which standard input is read.
-const STANDARD_INPUT: &str = "/dev/stdin";
+/// The name under which standard input is read. It is read as it is, since the program may not be allowed to open it again.
+pub(crate) const STANDARD_INPUT: &str = "/dev/stdin";
 
-/// The bytes of an image's file: 174,849 at most. Standard input is read as it is under its usual name, since the program may
-/// not be allowed to open it again.
-pub(crate) fn image_at<R: Files + Input + AllocGlobal>(rt: &R, path: &str) -> io::Result<Vec<u8>> {
-    if path == STANDARD_INPUT {
-        read_image(rt.alloc(), rt.reader())
-    } else {
-        read_image(rt.alloc(), File::open(rt, path)?)
-    }
-}
-
-/// How many bytes the file has, and one more; 0 where the system doesn't tell.
-fn room_for<F: OpenFile>(file: &F) -> usize {
-    match file.metadata() {
-        Ok(told) => told.len().saturating_add(1) as usize,
+/// How many bytes the file has, and one more; 0 where it isn't opened, or the system doesn't tell.
+pub(crate) fn room_for<F: OpenFile>(opened: &io::Result<F>) -> usize {
+    match opened {
+        Ok(file) => match file.metadata() {
+            Ok(told) => told.len().saturating_add(1) as usize,
+            Err(_) => 0,
+        },
         Err(_) => 0,
     }
 }
@@ -30,9 +23,9 @@ pub(crate) fn script_at<R: Files + Input + AllocGlobal>(rt: &R, path: &str) -> i
     if path == STANDARD_INPUT {
         return read_script(rt.alloc(), rt.reader(), 0);
     }
-    let file = File::open(rt, path)?;
-    let room = room_for(&file);
-    read_script(rt.alloc(), file, room)
+    let opened = File::open(rt, path);
+    let room = room_for(&opened);
+    read_script(rt.alloc(), opened?, room)
 }
 
 /// The file of an image that is read and then written, and neither made nor cut.

@@ -7,7 +7,7 @@ mod jobs;
 mod running;
 mod telling;
 
-pub use doing::do_job;
+pub use doing::{do_job, do_over};
 pub use jobs::{Job, Reading};
 pub use running::{format_run, play_run, reading_run};
 pub use telling::{end, tell};
