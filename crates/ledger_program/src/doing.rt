@@ -75,7 +75,7 @@ pub fn do_over<R: Read + Drop, W: Write>(
 {
     match opened {
         Ok(reader) => over_read(alloc, what, bytes_of(alloc, what, reader, room), out),
-        Err(error) => Err(RunFault::of_io(&error)),
+        Err(unopened) => Err(RunFault::of_io(&unopened)),
     }
 }
 
