@@ -32,10 +32,19 @@ pub(crate) fn put(rt: &impl Abort, at: &Stored, kind: Kind, bytes: &[u8]) {
     holds(rt, at.hold(kind, bytes), "there is memory");
 }
 
+/// Sees that both are the same bytes, which are shown where they are few.
+fn are_same(rt: &impl Abort, got: &[u8], wanted: &[u8], row: &str) {
+    if wanted.len() < 4096 && got.len() < 4096 {
+        same_at(rt, got, wanted, row);
+    } else {
+        holds(rt, got == wanted, row);
+    }
+}
+
 /// Sees that what was written are these bytes.
 fn wrote(rt: &impl Abort, to: &RefCell<Vec<u8>>, wanted: &[u8], row: &str) {
     match to.try_borrow() {
-        Ok(held) => same_at(rt, held.as_slice(), wanted, row),
+        Ok(held) => are_same(rt, held.as_slice(), wanted, row),
         Err(_) => holds(rt, false, "it is free"),
     }
 }
