@@ -1,4 +1,6 @@
 //! Outputs that are full, or don't hand on what they took, and image files that fail while they are written.
+ghost use Rattle.ledger_program.specs.Jobs.{HasTills};
+
 use crate::comparing::{holds, same, same_at};
 use crate::memory::{Memory, Runtime};
 use crate::scenes::{CHECK, DRY, FILE, FORMAT, LIST, PLAY, SHOW, Words, empty_shop, ends, put};
@@ -51,47 +53,47 @@ impl Write for Kept {
     }
 }
 
-/// Sees that each job ends with status 3 over an output that hands nothing on.
-fn each_hands_on(rt: &(impl AllocGlobal + Abort), jobs: &[(Job<'static>, usize)], shop: &[u8]) {
-    for (job, printed) in jobs {
-        let memory = Memory::new(rt.alloc(), &[], b"");
-        put(rt, &memory.image, Kind::Plain, shop);
-        put(rt, &memory.script, Kind::Plain, b"1,1,S,1,5\n");
-        let mut out = Kept(0);
-        let mut told = Vec::new(rt.alloc());
-        let status = end(do_job(&Runtime(&memory), job, &mut out), &mut told);
-        same(rt, (status, told.as_slice()), (3, b"FILE\n".as_slice()));
-        same_at(rt, out.0, *printed, "bytes taken");
-    }
+/// Sees that the job ends with status 3 over an output that hands nothing on.
+fn hands_on(rt: &(impl AllocGlobal + Abort), job: &Job<'static>, printed: usize, shop: &[u8])
+    requires { HasTills job.now }
+{
+    let memory = Memory::new(rt.alloc(), &[], b"");
+    put(rt, &memory.image, Kind::Plain, shop);
+    put(rt, &memory.script, Kind::Plain, b"1,1,S,1,5\n");
+    let mut out = Kept(0);
+    let mut told = Vec::new(rt.alloc());
+    let status = end(do_job(&Runtime(&memory), job, &mut out), &mut told);
+    same(rt, (status, told.as_slice()), (3, b"FILE\n".as_slice()));
+    same_at(rt, out.0, printed, "bytes taken");
 }
 
-/// What is asked of the image.
-const fn of_image(what: Reading) -> Job<'static> {
-    Job::Read {
-        what,
-        path: "a.d64",
-    }
-}
+const LIST_JOB: Job<'static> = Job::Read {
+    what: Reading::List,
+    path: "a.d64",
+};
+
+const CHECK_JOB: Job<'static> = Job::Read {
+    what: Reading::Check,
+    path: "a.d64",
+};
+
+const DRY_JOB: Job<'static> = Job::Read {
+    what: Reading::Dry,
+    path: "s.txt",
+};
+
+const PLAY_JOB: Job<'static> = Job::Play {
+    image: "a.d64",
+    script: "s.txt",
+};
 
 #[test]
 fn outputs_that_hand_nothing_on_are_told(rt: HostRuntime) {
     let shop = empty_shop(&rt);
-    let dry = Job::Read {
-        what: Reading::Dry,
-        path: "s.txt",
-    };
-    let play = Job::Play {
-        image: "a.d64",
-        script: "s.txt",
-    };
-    let jobs = [
-        (of_image(Reading::List), 70),
-        (of_image(Reading::Check), 3),
-        (of_image(Reading::Show), 9),
-        (dry, 11),
-        (play, 11),
-    ];
-    each_hands_on(&rt, &jobs, shop.as_slice());
+    hands_on(&rt, &LIST_JOB, 70, shop.as_slice());
+    hands_on(&rt, &CHECK_JOB, 3, shop.as_slice());
+    hands_on(&rt, &DRY_JOB, 11, shop.as_slice());
+    hands_on(&rt, &PLAY_JOB, 11, shop.as_slice());
 }
 
 /// A script, how many bytes the image's file takes before it fails, and the status, what is printed and what is told then.

@@ -1,4 +1,7 @@
 //! Files in memory, and how they are opened, read and written.
+ghost use Rattle.std.specs.Prelude.{IsErr};
+ghost use Rattle.std.specs.Io.{ReadsAtMost, WritesAtMost};
+
 use ledger_commands::EndedFile;
 use std::alloc::Global;
 use std::cell::{Cell, RefCell};
@@ -33,7 +36,9 @@ pub(crate) struct Stored {
 }
 
 /// The error of this kind.
-pub(crate) fn failed<T>(kind: ErrorKind) -> io::Result<T> {
+pub(crate) fn failed<T>(kind: ErrorKind) -> io::Result<T>
+    ensures { IsErr result }
+{
     Err(io::Error::from(kind))
 }
 
@@ -90,7 +95,9 @@ impl Stored {
     }
 
     /// Reads from a place on.
-    fn read_from(&self, buf: &mut [u8], at: u64) -> io::Result<usize> {
+    fn read_from(&self, buf: &mut [u8], at: u64) -> io::Result<usize>
+        ensures bound { ReadsAtMost result buf.new }
+    {
         match self.bytes.try_borrow() {
             Ok(held) => {
                 let bytes = held.get_ref().as_slice();
@@ -103,7 +110,9 @@ impl Stored {
     }
 
     /// Writes from a place on, as far as there is room.
-    fn write_from(&self, buf: &[u8], at: u64) -> io::Result<usize> {
+    fn write_from(&self, buf: &[u8], at: u64) -> io::Result<usize>
+        ensures bound { WritesAtMost result buf.now }
+    {
         let room = self.room.get();
         let taken = buf.len().min(room);
         self.room.set(room.saturating_sub(taken));
