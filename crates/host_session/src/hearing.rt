@@ -53,7 +53,10 @@ impl Tells<MemDisk> for Heard {
         let Ok(bytes) = Vec::from_slice(self.alloc, disk.bytes()) else {
             return Err(NotTaken);
         };
-        match self.turns.push(Turn { reply: *reply, bytes }) {
+        match self.turns.push(Turn {
+            reply: *reply,
+            bytes,
+        }) {
             Ok(()) => Ok(()),
             Err(_) => Err(NotTaken),
         }

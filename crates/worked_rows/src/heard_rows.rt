@@ -38,9 +38,24 @@ fn an_output_takes_one_reply(rt: HostRuntime) {
     let Err((fault, left)) = run_script(fresh(&rt), DAY, &mut out) else {
         return;
     };
-    same_at(&rt, (fault, out.turns().len()), (ScriptFault::Output, 1), "told");
+    same_at(
+        &rt,
+        (fault, out.turns().len()),
+        (ScriptFault::Output, 1),
+        "told",
+    );
     let (reply, _, recovery, writes) = asked(&rt, &left, b"2,1,R,42,5");
-    same_at(&rt, (says(reply, b"2,1,DONE,125"), recovery, writes), (true, 0, 0), "sent again");
+    same_at(
+        &rt,
+        (says(reply, b"2,1,DONE,125"), recovery, writes),
+        (true, 0, 0),
+        "sent again",
+    );
     let (reply, _, _, writes) = asked(&rt, &left, b"1,2,I,42,200");
-    same_at(&rt, (says(reply, b"1,2,SHORT,125"), writes), (true, 1), "not yet");
+    same_at(
+        &rt,
+        (says(reply, b"1,2,SHORT,125"), writes),
+        (true, 1),
+        "not yet",
+    );
 }

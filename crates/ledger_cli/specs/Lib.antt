@@ -1,4 +1,0 @@
-pub mod Faults
-pub mod Grammar
-pub mod Jobs
-pub mod Runs

@@ -1,0 +1,53 @@
+//! The files that a job names, opened and read.
+use ledger_commands::{EndedFile, OpensFile, read_script};
+use std::fs::{File, OpenFile, OpenOptions};
+use std::io;
+use std::rt::Files;
+
+/// The name under which standard input is read. It is read as it is, since the program may not be allowed to open it again.
+pub(crate) const STANDARD_INPUT: &str = "/dev/stdin";
+
+/// How many bytes the file has, and one more; 0 where it isn't opened, or the system doesn't tell.
+pub(crate) fn room_for<F: OpenFile>(opened: &io::Result<F>) -> usize {
+    match opened {
+        Ok(file) => match file.metadata() {
+            Ok(told) => told.len().saturating_add(1) as usize,
+            Err(_) => 0,
+        },
+        Err(_) => 0,
+    }
+}
+
+/// All bytes of a script's file, or of standard input.
+pub(crate) fn script_at<R: Files + Input + AllocGlobal>(rt: &R, path: &str) -> io::Result<Vec<u8>> {
+    if path == STANDARD_INPUT {
+        return read_script(rt.alloc(), rt.reader(), 0);
+    }
+    let opened = File::open(rt, path);
+    let room = room_for(&opened);
+    read_script(rt.alloc(), opened?, room)
+}
+
+/// The file of an image that is read and then written, and neither made nor cut.
+pub(crate) fn opened<R: Files>(rt: &R, path: &str) -> io::Result<R::File> {
+    OpenOptions::new().read(true).write(true).open(rt, path)
+}
+
+/// The file at a path, which is written over: made where there is none, and not cut.
+#[derive(Drop)]
+pub(crate) struct AtPath<'a, R> {
+    pub(crate) rt: &'a R,
+    pub(crate) path: &'a str,
+}
+
+impl<F: EndedFile + Drop, R: Files<File = F>> OpensFile for AtPath<'_, R> {
+    type File = F;
+
+    fn open(&mut self) -> io::Result<F> {
+        OpenOptions::new()
+            .write(true)
+            .create(true)
+            .truncate(false)
+            .open(self.rt, self.path)
+    }
+}

@@ -1,0 +1,40 @@
+//! What the program can be asked to do.
+
+/// What is asked of the bytes of one file, which isn't written.
+#[derive(Clone, Copy, Debug, PartialEq, Eq)]
+pub enum Reading {
+    /// The directory of an image.
+    List,
+    /// Whether the layout of an image is clean, and else what is wrong with it.
+    Check,
+    /// What an image holds of a shop: how far new cards may go, the cards, and the last two requests of each till.
+    Show,
+    /// The replies to the messages of a script, from no cards on and without a disk.
+    Dry,
+}
+
+/// What the words of a command line ask for.
+#[derive(Clone, Copy)]
+pub enum Job<'a> {
+    /// The image of an empty shop, in place of whatever the file held.
+    Format {
+        /// The image's path.
+        image: &'a str,
+        /// How many tills the shop has, 1 to 64. Who makes a job sees to it.
+        tills: u8,
+    },
+    /// What is asked of a file that is read.
+    Read {
+        /// What is asked of it.
+        what: Reading,
+        /// The path of the image, or of the script of a dry run.
+        path: &'a str,
+    },
+    /// The messages of a script, played on the shop of an image.
+    Play {
+        /// The image's path.
+        image: &'a str,
+        /// The script's path.
+        script: &'a str,
+    },
+}

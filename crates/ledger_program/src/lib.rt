@@ -1,0 +1,13 @@
+//! The program over a runtime: its jobs, the files that they open, and how they end.
+#![tactic(auto)]
+
+mod doing;
+mod files;
+mod jobs;
+mod running;
+mod telling;
+
+pub use doing::{do_job, do_over};
+pub use jobs::{Job, Reading};
+pub use running::{format_run, play_run, reading_run};
+pub use telling::{end, tell};

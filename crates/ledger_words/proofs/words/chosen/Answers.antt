@@ -1,0 +1,58 @@
+-- The job is that of the subcommand that was met, with the values of its arguments.
+use Rattle.std.proofs.Common.{ap, inl, refl, sym, ◌∙◌}
+use Rattle.request_cards.specs.Reading.{number_in}
+use Rattle.ledger_words.proofs.Parses.{met-has}
+use Rattle.ledger_words.proofs.words.chosen.Goals as goal
+
+pub returns-in_default : goal.returns-in_default
+returns-in_default c = record { job = inl c.from.ensures; tills = tt }
+
+pub returns-in_default-name : goal.returns-in_default-name
+returns-in_default-name c = record { job = inl c.from-in_default-name.ensures; tills = tt }
+
+pub returns-in-Some-tills_of : goal.returns-in-Some-tills_of
+returns-in-Some-tills_of c = record {
+  job = met-has c.met.result _ c.in-Some.name c.in-Some.found _ _ c.met.ensures c.in-Some.is c.in-format.is
+      (c.value_of-image.ensures, ap (number_in 1 64) (sym c.value_of.ensures) ∙ sym c.in-Some-tills_of.ensures.exact);
+  tills = c.in-Some-tills_of.ensures.range;
+}
+
+pub returns-in-None : goal.returns-in-None
+returns-in-None c = record {
+  job = (
+    refl,
+    met-has c.met.result _ c.in-Some.name c.in-Some.found _ _ c.met.ensures c.in-Some.is c.in-format.is
+        (ap (number_in 1 64) (sym c.value_of.ensures) ∙ sym c.in-None.ensures.exact),
+  );
+  tills = tt;
+}
+
+pub returns-in-list : goal.returns-in-list
+returns-in-list c = record {
+  job = met-has c.met.result _ c.in-Some.name c.in-Some.found _ _ c.met.ensures c.in-Some.is c.in-list.is c.value_of-image.ensures;
+  tills = tt;
+}
+
+pub returns-in-check : goal.returns-in-check
+returns-in-check c = record {
+  job = met-has c.met.result _ c.in-Some.name c.in-Some.found _ _ c.met.ensures c.in-Some.is c.in-check.is c.value_of-image.ensures;
+  tills = tt;
+}
+
+pub returns-in-show : goal.returns-in-show
+returns-in-show c = record {
+  job = met-has c.met.result _ c.in-Some.name c.in-Some.found _ _ c.met.ensures c.in-Some.is c.in-show.is c.value_of-image.ensures;
+  tills = tt;
+}
+
+pub returns-in-play : goal.returns-in-play
+returns-in-play c = record {
+  job = met-has c.met.result _ c.in-Some.name c.in-Some.found _ _ c.met.ensures c.in-Some.is c.in-play.is (c.value_of-image.ensures, c.value_of-script.ensures);
+  tills = tt;
+}
+
+pub returns-in-dry : goal.returns-in-dry
+returns-in-dry c = record {
+  job = met-has c.met.result _ c.in-Some.name c.in-Some.found _ _ c.met.ensures c.in-Some.is c.in-dry.is c.value_of-script.ensures;
+  tills = tt;
+}

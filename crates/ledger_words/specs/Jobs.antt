@@ -1,0 +1,52 @@
+-- What the words of a command line ask for (our own).
+use Rattle.std.specs.Prelude.{◌≡◌, ℕ, List, Option, Some, None, [], codes}
+use Rattle.clap.specs.Words.{HasKind, Kinds, Row, Text, subcommand_rows_of}
+use Rattle.clap.specs.declared.parser.matches.ArgMatches.{ArgMatches}
+use Rattle.request_cards.specs.Reading.{number_in}
+use Rattle.ledger_words.specs.Grammar.{value}
+use Rattle.ledger_program.specs.declared.jobs.Job.{Job}
+use Rattle.ledger_program.specs.declared.jobs.Job.TheVariants as jobs
+use Rattle.ledger_program.specs.declared.jobs.Reading.{Reading}
+use Rattle.ledger_program.specs.declared.jobs.Reading.TheVariants as readings
+use Rattle.ledger_words.specs.declared.faults.JobFault.{JobFault}
+use Rattle.ledger_words.specs.declared.faults.JobFault.TheVariants as faults
+
+-- the subcommand is this one, and of its values this holds
+pub record Has (found : Option (Text × List Row)) (name : Text) (P : List Row → Type 0) : Type 0 where
+  pub rows : List Row
+  pub is : found ≡ Some (name, rows)
+  pub holds : P rows
+
+-- a parse of words in which nothing is wrong, and whose subcommand and values are these
+pub record IsParse (kinds : Kinds) (found : Option (Text × List Row)) (matches : ArgMatches) : Type 0 where
+  pub fine : kinds ≡ []
+  pub is : subcommand_rows_of matches ≡ found
+
+-- the number of tills that the words give: 1 to 64, without leading zeros
+abbrev pub tills_in : List Row → Option ℕ
+tills_in rows = number_in 1 64 (value (codes "T") rows)
+
+-- the subcommand that asks this of a file
+abbrev pub word_of : Reading → Text
+word_of readings.List = codes "list"
+word_of readings.Check = codes "check"
+word_of readings.Show = codes "show"
+word_of readings.Dry = codes "dry"
+
+-- what its value is called: the file is an image, and a dry run's a script
+abbrev pub file_of : Reading → Text
+file_of readings.Dry = codes "SCRIPT"
+file_of _ = codes "IMAGE"
+
+-- the job of a subcommand and its values
+abbrev pub IsJob : Option (Text × List Row) → Job → Type 0
+IsJob found (jobs.Format image tills) = Has found (codes "format")
+    (λ rows. (image.now ≡ value (codes "IMAGE") rows) × (tills_in rows ≡ Some tills))
+IsJob found (jobs.Read what path) = Has found (word_of what) (λ rows. path.now ≡ value (file_of what) rows)
+IsJob found (jobs.Play image script) = Has found (codes "play")
+    (λ rows. (image.now ≡ value (codes "IMAGE") rows) × (script.now ≡ value (codes "SCRIPT") rows))
+
+-- why there is none: the words are refused for one of these kinds, or memory ran out; or the number of tills is none
+abbrev pub IsNoJob : Kinds → Option (Text × List Row) → JobFault → Type 0
+IsNoJob kinds found (faults.Words e) = HasKind kinds e
+IsNoJob kinds found faults.Tills = (kinds ≡ []) × Has found (codes "format") (λ rows. tills_in rows ≡ None)

@@ -1,0 +1,12 @@
+//! The words of the command line, and the whole program as one call over a runtime.
+#![tactic(auto)]
+
+mod faults;
+mod grammar;
+mod obeying;
+mod words;
+
+pub use faults::JobFault;
+pub use grammar::ledger_command;
+pub use obeying::program;
+pub use words::job;

@@ -1,0 +1,104 @@
+//! Reading the words of the command line.
+ghost use Rattle.std.specs.Prelude.{◌≡◌, ◌≤◌, IfErr, IfOk, IfSome, List, MatchResult, [], map, option_map};
+ghost use Rattle.clap.specs.Words.{HasKind, fault_of, found_of, rows_of, subcommand_of, subcommand_rows_of};
+ghost use Rattle.ledger_words.specs.Grammar.{ledger, value};
+ghost use Rattle.request_cards.specs.Reading.{number_in};
+ghost use Rattle.ledger_program.specs.Jobs.{HasTills};
+ghost use Rattle.ledger_words.specs.Jobs.{IsJob, IsNoJob, IsParse};
+
+use crate::faults::JobFault;
+use crate::grammar::ledger_command;
+use clap::{ArgMatches, Error};
+use ledger_program::{Job, Reading};
+use request_cards::number;
+use std::alloc::{AllocError, Global};
+
+/// The subcommand that was met, with its values.
+fn met<'m, 'a>(matches: &'m ArgMatches<'a>) -> Option<(&'a str, &'m ArgMatches<'a>)>
+    ensures { option_map (λ p. (p.0.now, rows_of (found_of p.1.now))) result
+        ≡ subcommand_rows_of matches.now }
+{
+    matches.subcommand()
+}
+
+/// The value of a required argument.
+fn value_of<'a>(matches: &ArgMatches<'a>, name: &str) -> &'a str
+    ensures { result.now ≡ value name.now (rows_of (found_of matches.now)) }
+{
+    matches.get_str(name).unwrap_or("")
+}
+
+/// The number of tills that a text spells: 1 to 64, in decimal digits without leading zeros.
+fn tills_of(text: &str) -> Option<u8>
+    ensures exact { result ≡ number_in 1 64 text.now }
+    ensures range { IfSome result (λ tills. (1 ≤ tills) × (tills ≤ 64)) }
+{
+    match number(text.as_bytes(), 1, 64) {
+        Some(tills) => Some(tills as u8),
+        None => None,
+    }
+}
+
+/// The job of the subcommand that was met.
+fn chosen<'a>(matches: &ArgMatches<'a>) -> Result<Job<'a>, JobFault>
+    ensures job { MatchResult result (IsJob (subcommand_rows_of matches.now))
+        (IsNoJob [] (subcommand_rows_of matches.now)) }
+    ensures tills { IfOk result HasTills }
+{
+    let Some((name, found)) = met(matches) else {
+        // A parse without a subcommand is refused.
+        return Err(JobFault::Words(Error::from(AllocError)));
+    };
+    let image = value_of(found, "IMAGE");
+    let script = value_of(found, "SCRIPT");
+    match name {
+        "format" => match tills_of(value_of(found, "T")) {
+            Some(tills) => Ok(Job::Format { image, tills }),
+            None => Err(JobFault::Tills),
+        },
+        "list" => Ok(Job::Read {
+            what: Reading::List,
+            path: image,
+        }),
+        "check" => Ok(Job::Read {
+            what: Reading::Check,
+            path: image,
+        }),
+        "show" => Ok(Job::Read {
+            what: Reading::Show,
+            path: image,
+        }),
+        "play" => Ok(Job::Play { image, script }),
+        "dry" => Ok(Job::Read {
+            what: Reading::Dry,
+            path: script,
+        }),
+        // No other subcommand can be met.
+        _ => Err(JobFault::Words(Error::from(AllocError))),
+    }
+}
+
+/// What the command line finds in the words.
+fn parsed<'a>(alloc: Global, words: &'a [&'a str]) -> Result<ArgMatches<'a>, Error>
+    ensures { let texts = map (λ word. word.now) words.entry.now in
+        MatchResult result (IsParse (fault_of ledger texts) (subcommand_of ledger texts)) (HasKind (fault_of ledger texts)) }
+{
+    ledger_command(alloc)?.try_get_matches_from(words)
+}
+
+/// The job that the words ask for. The first word is the program's name.
+pub fn job<'a>(alloc: Global, words: &'a [&'a str]) -> Result<Job<'a>, JobFault>
+    // A job comes only where no word is refused, and is that of the subcommand and its values.
+    ensures ok { let texts = map (λ word. word.now) words.entry.now in
+        IfOk result (λ j. (fault_of ledger texts ≡ []) × IsJob (subcommand_of ledger texts) j) }
+    ensures tills { IfOk result HasTills }
+    // Words are refused for one of the reasons that the command line gives, or for want of memory,
+    // or for a number of tills that is none of 1 to 64, where nothing else is wrong.
+    ensures err { let texts = map (λ word. word.now) words.entry.now in
+        IfErr result (IsNoJob (fault_of ledger texts) (subcommand_of ledger texts)) }
+{
+    match parsed(alloc, words) {
+        Ok(matches) => chosen(&matches),
+        Err(e) => Err(JobFault::Words(e)),
+    }
+}

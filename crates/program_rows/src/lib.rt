@@ -1,0 +1,21 @@
+//! Worked rows of the whole program over a runtime in memory: its words, its files, its input and output, what it tells and its
+//! exit status. Tests only: no program stands on this crate. They stand here and not in the crates that they test so that the
+//! gate proves those once.
+#![tactic(auto)]
+
+#[cfg(test)]
+mod comparing;
+#[cfg(test)]
+mod day_rows;
+#[cfg(test)]
+mod file_rows;
+#[cfg(test)]
+mod memory;
+#[cfg(test)]
+mod output_rows;
+#[cfg(test)]
+mod scenes;
+#[cfg(test)]
+mod stored;
+#[cfg(test)]
+mod word_rows;

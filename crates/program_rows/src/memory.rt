@@ -1,0 +1,221 @@
+//! A runtime in memory: the words of a command line, two files, standard input, an output and standard error.
+use crate::stored::{Kind, Opened, Stored, failed};
+use std::alloc::{Allocator, Global};
+use std::cell::{Cell, RefCell};
+use std::env::FillError;
+use std::fmt::{Display, Write as _};
+use std::fs::{Metadata, OpenOptions};
+use std::io::{self, BufRead, ErrorKind, Lines, Write};
+use std::rt::{Env, Files};
+
+/// What a program finds, and what it leaves.
+#[derive(Drop)]
+pub(crate) struct Memory<'a> {
+    pub(crate) alloc: Global,
+    /// The words of the command line, of which the first is the program's name.
+    pub(crate) words: &'static [&'static [u8]],
+    /// What stands at `a.d64`.
+    pub(crate) image: Stored,
+    /// What stands at `s.txt`.
+    pub(crate) script: Stored,
+    /// Standard input, and whether it was taken: it can be once.
+    pub(crate) input: &'a [u8],
+    pub(crate) taken: Cell<bool>,
+    pub(crate) out: RefCell<Vec<u8>>,
+    /// How many bytes the output takes until it fails.
+    pub(crate) room: Cell<usize>,
+    pub(crate) err: RefCell<Vec<u8>>,
+}
+
+impl<'a> Memory<'a> {
+    /// A runtime with these words and this input, no files, and an output without end.
+    pub(crate) fn new(
+        alloc: Global,
+        words: &'static [&'static [u8]],
+        input: &'a [u8],
+    ) -> Memory<'a> {
+        Memory {
+            alloc,
+            words,
+            image: Stored::new(alloc),
+            script: Stored::new(alloc),
+            input,
+            taken: Cell::new(false),
+            out: RefCell::new(Vec::new(alloc)),
+            room: Cell::new(usize::MAX),
+            err: RefCell::new(Vec::new(alloc)),
+        }
+    }
+}
+
+/// Adds bytes to what was written.
+fn add(to: &RefCell<Vec<u8>>, bytes: &[u8]) -> io::Result<()> {
+    match to.try_borrow_mut() {
+        Ok(mut held) => {
+            held.extend_from_slice(bytes)?;
+            Ok(())
+        }
+        Err(_) => failed(ErrorKind::Other),
+    }
+}
+
+/// Standard error.
+#[derive(Drop)]
+pub(crate) struct Errors<'a>(pub(crate) &'a RefCell<Vec<u8>>);
+
+impl Write for Errors<'_> {
+    fn write(&mut self, buf: &[u8]) -> io::Result<usize> {
+        add(self.0, buf)?;
+        Ok(buf.len())
+    }
+
+    fn flush(&mut self) -> io::Result<()> {
+        Ok(())
+    }
+}
+
+/// The runtime over it.
+#[derive(Clone, Copy)]
+pub(crate) struct Runtime<'a>(pub(crate) &'a Memory<'a>);
+
+impl Alloc for Runtime<'_> {
+    type A = Global;
+
+    fn alloc(&self) -> Global {
+        self.0.alloc
+    }
+}
+
+impl Env for Runtime<'_> {
+    fn arg(&self, i: usize, buf: &mut [u8]) -> Result<usize, FillError> {
+        let Some(word) = self.0.words.get(i) else {
+            return Err(FillError::NotPresent);
+        };
+        if word.len() > buf.len() {
+            return Err(FillError::TooLong);
+        }
+        buf[..word.len()].copy_from_slice(word);
+        Ok(word.len())
+    }
+
+    fn var(&self, _name: &str, _buf: &mut [u8]) -> Result<usize, FillError> {
+        Err(FillError::NotPresent)
+    }
+
+    fn var_at(&self, _i: usize, _buf: &mut [u8]) -> Result<usize, FillError> {
+        Err(FillError::NotPresent)
+    }
+}
+
+impl<'a> Files for Runtime<'a> {
+    type File = Opened<'a>;
+
+    type Dir = Opened<'a>;
+
+    fn open_file(&self, how: &OpenOptions, path: &str) -> io::Result<Opened<'a>> {
+        match path {
+            "a.d64" => self.0.image.open(how),
+            "s.txt" => self.0.script.open(how),
+            _ => failed(ErrorKind::NotFound),
+        }
+    }
+
+    fn open_dir(&self, _path: &str) -> io::Result<Opened<'a>> {
+        failed(ErrorKind::Unsupported)
+    }
+
+    fn metadata(&self, _path: &str) -> io::Result<Metadata> {
+        failed(ErrorKind::Unsupported)
+    }
+
+    fn symlink_metadata(&self, _path: &str) -> io::Result<Metadata> {
+        failed(ErrorKind::Unsupported)
+    }
+
+    fn copy(&self, _from: &str, _to: &str) -> io::Result<u64> {
+        failed(ErrorKind::Unsupported)
+    }
+
+    fn rename(&self, _from: &str, _to: &str) -> io::Result<()> {
+        failed(ErrorKind::Unsupported)
+    }
+
+    fn remove_file(&self, _path: &str) -> io::Result<()> {
+        failed(ErrorKind::Unsupported)
+    }
+
+    fn create_dir(&self, _path: &str) -> io::Result<()> {
+        failed(ErrorKind::Unsupported)
+    }
+
+    fn remove_dir(&self, _path: &str) -> io::Result<()> {
+        failed(ErrorKind::Unsupported)
+    }
+
+    fn remove_dir_all<B: Allocator>(&self, _alloc: B, _path: &str) -> io::Result<()> {
+        failed(ErrorKind::Unsupported)
+    }
+}
+
+impl<'a> Input for Runtime<'a> {
+    type Reader = &'a [u8];
+
+    fn read_line<A: Allocator + Clone>(&self, _buf: &mut String<A>) -> io::Result<usize> {
+        failed(ErrorKind::Unsupported)
+    }
+
+    fn lines<A: Allocator>(&self, alloc: A) -> Lines<&'a [u8], A> {
+        self.reader().lines(alloc)
+    }
+
+    fn reader(&self) -> &'a [u8] {
+        if self.0.taken.replace(true) {
+            &[]
+        } else {
+            self.0.input
+        }
+    }
+}
+
+impl Print for Runtime<'_> {
+    fn print<D: Display + Drop>(&self, value: D) -> io::Result<()> {
+        let mut text = String::new(self.0.alloc);
+        if write!(text, "{value}").is_err() {
+            return failed(ErrorKind::OutOfMemory);
+        }
+        Print::write_all(self, text.as_bytes())
+    }
+
+    fn println<D: Display + Drop>(&self, value: D) -> io::Result<()> {
+        self.print(value)?;
+        Print::write_all(self, b"\n")
+    }
+
+    fn write_all(&self, bytes: &[u8]) -> io::Result<()> {
+        let taken = self.write_some(bytes)?;
+        if taken < bytes.len() {
+            return failed(ErrorKind::StorageFull);
+        }
+        Ok(())
+    }
+
+    fn write_some(&self, bytes: &[u8]) -> io::Result<usize> {
+        let taken = bytes.len().min(self.0.room.get());
+        if taken == 0 && bytes.len() > 0 {
+            return failed(ErrorKind::StorageFull);
+        }
+        self.0.room.set(self.0.room.get().saturating_sub(taken));
+        add(&self.0.out, &bytes[..taken])?;
+        Ok(taken)
+    }
+}
+
+impl Eprint for Runtime<'_> {
+    fn eprint<D: Display + Drop>(&self, value: D) -> io::Result<()> {
+        write!(Errors(&self.0.err), "{value}")
+    }
+
+    fn eprintln<D: Display + Drop>(&self, value: D) -> io::Result<()> {
+        writeln!(Errors(&self.0.err), "{value}")
+    }
+}

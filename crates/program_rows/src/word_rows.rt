@@ -1,0 +1,190 @@
+//! The words of the command line: the jobs that they ask for, and how they are refused.
+use crate::comparing::{holds, same_at};
+use crate::memory::Memory;
+use crate::scenes::{Words, ends, status_of};
+use ledger_program::{Job, Reading};
+use ledger_words::job;
+use std::cell::RefCell;
+use std::process::Abort;
+
+/// A job: its subcommand, its image, its script and its tills, where it has them.
+type Row<'a> = (&'a str, &'a str, &'a str, u8);
+
+/// What the words ask for, or the number of the fault and the status that they end with.
+fn asked<'a>(rt: &impl AllocGlobal, words: &'a [&'a str]) -> Result<Row<'a>, (u8, u8)> {
+    match job(rt.alloc(), words) {
+        Ok(Job::Format { image, tills }) => Ok(("format", image, "", tills)),
+        Ok(Job::Read { what, path }) => Ok(match what {
+            Reading::List => ("list", path, "", 0),
+            Reading::Check => ("check", path, "", 0),
+            Reading::Show => ("show", path, "", 0),
+            Reading::Dry => ("dry", "", path, 0),
+        }),
+        Ok(Job::Play { image, script }) => Ok(("play", image, script, 0)),
+        Err(fault) => Err((fault.number(), fault.status())),
+    }
+}
+/// Sees that these words ask for this job.
+fn each_asks(rt: &(impl AllocGlobal + Abort), rows: &[(&[&str], Row<'static>)]) {
+    for (words, row) in rows {
+        same_at(rt, asked(rt, words), Ok(*row), *words);
+    }
+}
+
+#[test]
+fn words_ask_for_a_job(rt: HostRuntime) {
+    each_asks(
+        &rt,
+        &[
+            (&["ledger", "dry", "s.txt"], ("dry", "", "s.txt", 0)),
+            (&["ledger", "list", "a.d64"], ("list", "a.d64", "", 0)),
+            (&["ledger", "check", "a.d64"], ("check", "a.d64", "", 0)),
+            (&["ledger", "show", "a.d64"], ("show", "a.d64", "", 0)),
+            (
+                &["ledger", "play", "a.d64", "s.txt"],
+                ("play", "a.d64", "s.txt", 0),
+            ),
+            (
+                &["ledger", "format", "a.d64", "--tills", "1"],
+                ("format", "a.d64", "", 1),
+            ),
+            (
+                &["ledger", "format", "--tills", "64", "a.d64"],
+                ("format", "a.d64", "", 64),
+            ),
+            (
+                &["ledger", "format", "--tills=20", "a.d64"],
+                ("format", "a.d64", "", 20),
+            ),
+        ],
+    );
+}
+
+/// Sees that these words are refused, and end with this status.
+fn each_is_refused(rt: &(impl AllocGlobal + Abort), rows: &[(&[&str], u8)]) {
+    for (words, status) in rows {
+        same_at(rt, asked(rt, words), Err((1, *status)), *words);
+    }
+}
+
+#[test]
+fn other_words_are_refused(rt: HostRuntime) {
+    each_is_refused(
+        &rt,
+        &[
+            (&["ledger"], 2),
+            (&["ledger", "dry"], 2),
+            (&["ledger", "wet", "a.txt"], 2),
+            (&["ledger", "dry", "a.txt", "b.txt"], 2),
+            (&["ledger", "list"], 2),
+            (&["ledger", "format", "a.d64"], 2),
+            (&["ledger", "format", "--tills", "2"], 2),
+            (&["ledger", "list", "a.d64", "--tills", "2"], 2),
+            (&["ledger", "show"], 2),
+            (&["ledger", "play", "a.d64"], 2),
+            (&["ledger", "show", "a.d64", "s.txt"], 2),
+            (&["ledger", "play", "a.d64", "s.txt", "t.txt"], 2),
+            (&["ledger", "--help"], 0),
+            (&["ledger", "--version"], 0),
+            (&["ledger", "format", "--help"], 0),
+        ],
+    );
+}
+
+/// Sees that none of these is a number of tills.
+fn none_is_a_number(rt: &(impl AllocGlobal + Abort), texts: &[&str]) {
+    for text in texts {
+        let words = ["ledger", "format", "a.d64", "--tills", *text];
+        same_at(rt, asked(rt, &words), Err((2, 2)), *text);
+    }
+}
+
+#[test]
+fn tills_are_one_to_sixty_four(rt: HostRuntime) {
+    none_is_a_number(
+        &rt,
+        &["0", "65", "01", "x", "", "1 ", "+1", "256", "4294967297"],
+    );
+}
+
+/// Words, the status that the program ends with, what it prints and what it tells, where that is ours to say.
+const TOLD: [(Words, (u8, &[u8], &[u8]), &str); 5] = [
+    (
+        &[b"ledger_cli", b"--version"],
+        (0, b"ledger_cli 0.1.0\n", b""),
+        "the version",
+    ),
+    (
+        &[b"ledger_cli", b"format", b"a.d64", b"--tills", b"65"],
+        (2, b"", b"TILLS\n"),
+        "too many tills",
+    ),
+    (
+        &[b"ledger_cli", b"format", b"a.d64", b"--tills", b"01"],
+        (2, b"", b"TILLS\n"),
+        "a leading zero",
+    ),
+    (
+        &[b"ledger_cli", b"dry", b"\xff"],
+        (
+            2,
+            b"",
+            b"error: invalid UTF-8 was detected in one or more arguments\n",
+        ),
+        "no UTF-8",
+    ),
+    (
+        &[b"ledger_cli", b"dry", b"no such file"],
+        (3, b"", b"FILE\n"),
+        "another name",
+    ),
+];
+
+/// Sees that the program ends so with each of these words, and makes no file.
+fn each_is_told(rt: &(impl AllocGlobal + Abort), rows: &[(Words, (u8, &[u8], &[u8]), &str)]) {
+    for (words, wanted, row) in rows {
+        let memory = Memory::new(rt.alloc(), *words, b"");
+        ends(rt, &memory, *wanted, *row);
+        same_at(rt, memory.image.size(), 0, *row);
+    }
+}
+
+#[test]
+fn words_are_told(rt: HostRuntime) {
+    each_is_told(&rt, &TOLD);
+}
+
+/// Whether what was written has this text in it. An empty text: whether nothing was written.
+fn has(held: &[u8], text: &str) -> bool {
+    match std::str::from_utf8(held) {
+        Ok(told) if text.is_empty() => told.is_empty(),
+        Ok(told) => told.contains(text),
+        Err(_) => false,
+    }
+}
+
+/// Sees that what was written has this text in it.
+fn wrote(rt: &impl Abort, to: &RefCell<Vec<u8>>, text: &str) {
+    match to.try_borrow() {
+        Ok(held) => holds(rt, has(held.as_slice(), text), text),
+        Err(_) => holds(rt, false, "it is free"),
+    }
+}
+
+/// Sees that the program ends with this status, and that this stands in its output and this on standard error.
+fn says(rt: &(impl AllocGlobal + Abort), words: Words, status: u8, out: &str, err: &str) {
+    let memory = Memory::new(rt.alloc(), words, b"");
+    same_at(rt, status_of(&memory), status, out);
+    wrote(rt, &memory.out, out);
+    wrote(rt, &memory.err, err);
+}
+
+#[test]
+fn help_is_printed_and_refusals_are_told(rt: HostRuntime) {
+    says(&rt, &[b"ledger_cli", b"--help"], 0, "README.md", "");
+    says(&rt, &[b"ledger_cli", b"play", b"--help"], 0, "SCRIPT", "");
+    says(&rt, &[b"ledger_cli"], 2, "", "subcommand");
+    says(&rt, &[], 2, "", "subcommand");
+    says(&rt, &[b"ledger_cli", b"wet", b"a.txt"], 2, "", "wet");
+    says(&rt, &[b"ledger_cli", b"dry"], 2, "", "SCRIPT");
+}
