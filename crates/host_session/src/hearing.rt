@@ -10,7 +10,9 @@ use std::alloc::Global;
 /// A reply, and the bytes of the image over which it was told.
 #[derive(Drop)]
 pub struct Turn {
+    /// The reply.
     pub reply: Reply,
+    /// The 174,848 bytes of the disk that its message left.
     pub bytes: Vec<u8>,
 }
 
@@ -26,7 +28,8 @@ pub struct Heard {
 impl Heard {
     /// Takes so many replies at most.
     pub fn new(alloc: Global, most: usize) -> Heard
-        ensures { turns_of result ≡ [] }
+        ensures turns { turns_of result ≡ [] }
+        ensures most { result.most ≡ most }
     {
         Heard {
             turns: Vec::new(alloc),

@@ -22,7 +22,7 @@ use Rattle.ledger_commands.specs.Tables.{dry_report}
 use Rattle.ledger_commands.specs.Texts.{verdict_text}
 use Rattle.ledger_program.specs.Ends.{Ended, dry_end, end_of, exit_status}
 use Rattle.ledger_program.specs.Jobs.{needed}
-use Rattle.ledger_program.specs.Runs.{HoldsOfBytes, IsCheckRun, IsDryRefusal, IsDryRun, IsFormatRun, IsListRun, IsPlayRun, IsQuiet, IsReadingOf, IsReadingRun, IsShowRun}
+use Rattle.ledger_program.specs.Runs.{HoldsOfBytes, IsCheckRun, IsDryRefusal, IsDryRun, IsFormatRun, IsListRun, IsPlayRun, IsQuiet, IsReadingEnd, IsReadingOf, IsReadingRun, IsShowRun}
 use Rattle.ledger_program.specs.declared.jobs.Reading.{Reading}
 use Rattle.script_lines.specs.Lines.{first_reset, lines}
 use Rattle.ledger_commands.specs.declared.dry_run.DryFault.{DryFault}
@@ -247,6 +247,7 @@ play-refused K o image script file new_file old new fault one refusal untouched 
   shop = λ _ _ _ s. refused-no_shop _ refusal.opening s.0 refusal.refuses s.1;
   untouched = λ _. untouched;
   statuses = inr (inl one);
+  quiet = λ ok. absurd (false≢true ok);
 }
 
 -- the output or the file failed, or there was no memory
@@ -261,6 +262,7 @@ play-stopped K o image script file new_file old new fault three size end = recor
   shop = λ one. absurd (omega (arith, one, three));
   untouched = λ one. absurd (omega (arith, one, three));
   statuses = inr (inr three);
+  quiet = λ ok. absurd (false≢true ok);
 }
 
 -- a script that wasn't played to its end
@@ -274,6 +276,7 @@ play-failed K o image script file new_file old new run.ImageSize end = record {
   shop = λ _ same. absurd (end.0 same);
   untouched = λ _. end.1;
   statuses = inr (inl refl);
+  quiet = λ ok. absurd (false≢true ok);
 }
 play-failed K o image script file new_file old new (run.BadLine line) end = record {
   done = λ zero'. absurd (omega (arith, zero'));
@@ -283,6 +286,7 @@ play-failed K o image script file new_file old new (run.BadLine line) end = reco
   shop = λ _ _ good _. none-some line (sym good ∙ end.1);
   untouched = λ _. end.2;
   statuses = inr (inl refl);
+  quiet = λ ok. absurd (false≢true ok);
 }
 play-failed K o image script file new_file old new run.NoMemory end = play-stopped K o image script file new_file old new _ refl end.0 end
 play-failed K o image script file new_file old new run.File end = play-stopped K o image script file new_file old new _ refl end.1.size end
@@ -307,6 +311,7 @@ play-done K o image script file new_file old new end = record {
   shop = λ one. absurd (omega (arith, one));
   untouched = λ one. absurd (omega (arith, one));
   statuses = inl refl;
+  quiet = λ _. refl;
 }
 
 -- a run without a disk
@@ -405,11 +410,11 @@ pub reading-of : {W B : Type 0} (contents : W → Option (List ℕ)) (items : B 
     (read : Result B Error) (old new : W) (ended : Ended)
     → IfOk read (λ b. IfSome all (λ bytes. items b ≡ needed what bytes))
     → IfErr read (λ e. (ended ≡ Err (io_fault (error_kind e))) × (new ≡ old))
-    → IfOk read (λ b. IsReadingRun contents what (items b) old new (exit_status ended))
+    → IfOk read (λ b. IsReadingEnd contents what (items b) old new ended)
     → IfSome all (λ bytes. IsReadingOf contents what (needed what bytes) old new ended)
 reading-of contents items what None read old new ended known failed done = tt
 reading-of contents items what (Some bytes) (Ok b) old new ended known failed done =
-    inl (subst (λ (xs : List ℕ). IsReadingRun contents what xs old new (exit_status ended)) known done)
+    inl (subst (λ (xs : List ℕ). IsReadingEnd contents what xs old new ended) known done)
 reading-of contents items what (Some bytes) (Err e) old new ended known failed done =
     inr (
       failed.1,

@@ -107,6 +107,8 @@ pub record IsPlayRun {F T : Type 0} (K : Keeps F) (o : Output T) (image script :
   pub untouched : exit_status ended ≡ 1 → IsUntouched file new_file old new
   -- 3: the file or the output failed, or there was no memory
   pub statuses : (exit_status ended ≡ 0) ⊎ ((exit_status ended ≡ 1) ⊎ (exit_status ended ≡ 3))
+  -- else a fault is told: a play prints none of a layout's
+  pub quiet : IsOk ended → exit_status ended ≡ 0
 
 -- what comes of what is asked of the bytes of a file
 abbrev pub IsReadingRun : {W : Type 0} → (W → Option (List ℕ)) → Reading → (bytes : List ℕ) → W → W → ℕ → Type 0
@@ -133,9 +135,16 @@ abbrev pub IsQuiet : Reading → (bytes : List ℕ) → Ended → Type 0
 IsQuiet readings.Check bytes ended = length bytes ≡ 174848 → exit_status ended ≢ 3 → IsOk ended
 IsQuiet _ bytes ended = IsOk ended ↔ (exit_status ended ≡ 0)
 
--- what comes of what is asked of a file that has these bytes: they were read; or the reader failed with an error of this kind, and
--- then nothing was written
+-- What was asked of these bytes ended so: with its status and what it printed, and what is told of it holds.
+pub record IsReadingEnd {W : Type 0} (contents : W → Option (List ℕ)) (what : Reading) (bytes : List ℕ) (old new : W)
+    (ended : Ended) : Type 0 where
+  pub run : IsReadingRun contents what bytes old new (exit_status ended)
+  pub fault : IfErr ended (HoldsOfBytes what bytes)
+  pub quiet : IsQuiet what bytes ended
+
+-- what comes of what is asked of a file that has these bytes: they were read; or `File` or `NoMemory` was told, and nothing was
+-- written
 abbrev pub IsReadingOf : {W : Type 0} → (W → Option (List ℕ)) → Reading → (bytes : List ℕ) → W → W → Ended → Type 0
 IsReadingOf contents what bytes old new ended =
-    IsReadingRun contents what bytes old new (exit_status ended)
+    IsReadingEnd contents what bytes old new ended
     ⊎ ((new ≡ old) × ((ended ≡ Err refusals.File) ⊎ (ended ≡ Err refusals.NoMemory)))

@@ -2,9 +2,9 @@
 ghost use Rattle.std.specs.Prelude.{◌≡◌, IfErr, IfOk, IfSome, Err, vec_items};
 ghost use Rattle.std.specs.IoError.{error_kind};
 ghost use Rattle.ledger_commands.specs.Faults.{io_fault};
-ghost use Rattle.ledger_program.specs.Ends.{exit_status, told_of};
+ghost use Rattle.ledger_program.specs.Ends.{told_of};
 ghost use Rattle.ledger_program.specs.Jobs.{HasTills, needed};
-ghost use Rattle.ledger_program.specs.Runs.{IsReadingOf, IsReadingRun};
+ghost use Rattle.ledger_program.specs.Runs.{IsReadingEnd, IsReadingOf};
 
 use crate::files::{AtPath, STANDARD_INPUT, opened, room_for, script_at};
 use crate::jobs::{Job, Reading};
@@ -52,7 +52,7 @@ fn over_read<W: Write>(
 ) -> Result<Option<Fault>, RunFault>
     ensures unread { IfErr read (λ e. (result ≡ Err (io_fault (error_kind e))) × (out.new ≡ out.old)) }
     ensures run { IfOk read
-        (λ bytes. IsReadingRun W.contents what (vec_items bytes) out.old out.new (exit_status result)) }
+        (λ bytes. IsReadingEnd W.contents what (vec_items bytes) out.old out.new result) }
 {
     match read {
         Ok(bytes) => reading_run(alloc, what, bytes.as_slice(), out),

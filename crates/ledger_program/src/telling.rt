@@ -18,8 +18,8 @@ pub fn tell<E: Write>(err: &mut E, fault: RunFault) -> io::Result<()>
 
 /// The exit status of a job that ended so: 1 also where a check told a fault, on the output. Tells why the job isn't done,
 /// where it isn't, in one line: with status 1 what the image or the script has wrong, as `IMAGE SIZE`,
-/// `LAYOUT LOOP 17/0`, `BAD CARD 3` or `SCRIPT LINE 2`; with status 3 `FILE` where a file couldn't be opened, or a file or the
-/// output failed, `DEVICE` where the file of `play` failed, or `NO MEMORY`.
+/// `LAYOUT LOOP 17/0`, `BAD CARD 3` or `SCRIPT LINE 2`; with status 3 `FILE` where a file couldn't be opened or read, the
+/// image not made, or the output failed, `DEVICE` where the file of `play` failed, or `NO MEMORY`.
 pub fn end<E: Write>(ended: Result<Option<Fault>, RunFault>, err: &mut E) -> u8
     ensures status { result ≡ exit_status ended }
     ensures quiet { IsOk ended → err.new ≡ err.old }

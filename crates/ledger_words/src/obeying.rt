@@ -100,7 +100,8 @@ fn words_of<R: Env + AllocGlobal, E: Write>(rt: &R, err: &mut E) -> Result<Vec<S
 }
 
 /// The whole program: does what the words of its command line ask for, and answers its exit status. What it prints goes to the
-/// runtime's output; what it tells goes to `err`, which is the runtime's standard error.
+/// runtime's output; what it tells goes to `err`, which is the runtime's standard error, where what refused words are told goes
+/// at any rate.
 pub fn program<F, R, E>(rt: &R, err: &mut E) -> u8
 where
     F: EndedFile + Read + WritesAt + Drop,
