@@ -1,5 +1,5 @@
 -- A run as a chain of events. All of it is our own.
-use Rattle.std.specs.Prelude.{◌≡◌, ◌≤◌, List, [], ◌∷◌, ◌++◌, map}
+use Rattle.std.specs.Prelude.{◌≡◌, ◌≤◌, List, [], ◌∷◌, ◌++◌, map, zip}
 use Rattle.d64_image.specs.Images.{Image}
 use Rattle.d64_image.specs.History.{HeldOnly, History}
 use Rattle.request_cards.specs.declared.reply.Reply.{Reply}
@@ -44,6 +44,11 @@ pub record HasRunToFailure {D : Type 0} (h : History D) (s : Shop) (ms : List Me
 -- the replies alone
 abbrev pub told_in : {X : Type 0} → List (Reply × X) → List Reply
 told_in turns = map (λ x. x.0) turns
+
+-- Each message with what the disk held when it was asked for: the first over the disk as it was opened, each other over the
+-- disk that stands beside the reply to the one before it.
+abbrev pub asked_over : {D : Type 0} → History D → D → List (Reply × D) → List Message → List (Message × Image)
+asked_over h first turns ms = zip ms (h.image first ∷ map (λ x. h.image x.1) turns)
 
 -- each reply with what the disk beside it holds
 abbrev pub over_images : {D : Type 0} → History D → List (Reply × D) → List (Reply × Image)

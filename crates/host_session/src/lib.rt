@@ -34,7 +34,7 @@ pub use asking::{Asks, Next, OfEvents, OfScript};
 pub use faults::OpenFault;
 pub use hearing::{Heard, Turn};
 pub use laws::{blank_is_a_shop, both_ends, last_two, one_shop, refused_no_shop};
-pub use looping::{RunFault, run};
+pub use looping::{LoopFault, run};
 pub use playing::{PlayFault, play};
 pub use printing::Printer;
 pub use running::{ScriptFault, run_script};

@@ -64,6 +64,7 @@ impl<D: Sectors, W: Write> Tells<D> for Printer<W> {
         write_whole(&mut self.out, &room[start..])
     }
 
+    // What a flush does with what the writer holds back no contract says.
     fn hand_on(&mut self) -> Result<(), NotTaken> {
         match self.out.flush() {
             Ok(()) => Ok(()),
