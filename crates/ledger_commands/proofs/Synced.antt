@@ -1,6 +1,5 @@
 -- Sectors that are written and then brought to the disk.
-use Rattle.std.proofs.Common.{◌≡◌, ℕ, List, Option, Some, None, Result, Ok, Err, length, subst, sym}
-use Rattle.std.specs.Prelude.{take}
+use Rattle.std.proofs.Common.{◌≡◌, ℕ, List, Option, Result, Ok, Err, length, subst, sym}
 use Rattle.std.proofs.Math.Seq.{take-length}
 use Rattle.ledger_commands.specs.Durable.{IsOverwritten, WritesOver}
 
