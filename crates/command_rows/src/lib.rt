@@ -24,6 +24,8 @@ mod kept_rows;
 #[cfg(test)]
 mod listing_rows;
 #[cfg(test)]
+mod pieces;
+#[cfg(test)]
 mod placed_rows;
 #[cfg(test)]
 mod play_rows;
@@ -33,6 +35,8 @@ mod refusal_rows;
 mod runs;
 #[cfg(test)]
 mod script_rows;
+#[cfg(test)]
+mod serve_rows;
 #[cfg(test)]
 mod stopped_rows;
 #[cfg(test)]

@@ -8,7 +8,9 @@ use std::io::Write;
 use std::process::Abort;
 
 /// How a run ended, and the file that it handed back.
-fn parted(run: Result<Placed<Tape>, (RunFault, Placed<Tape>)>) -> (Result<(), RunFault>, Tape) {
+pub(crate) fn parted(
+    run: Result<Placed<Tape>, (RunFault, Placed<Tape>)>,
+) -> (Result<(), RunFault>, Tape) {
     match run {
         Ok(file) => (Ok(()), file.into_inner()),
         Err((fault, file)) => (Err(fault), file.into_inner()),
