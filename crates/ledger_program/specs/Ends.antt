@@ -1,9 +1,10 @@
 -- How a job ends, and the program's exit status then. All of it is our own.
-use Rattle.std.specs.Prelude.{ℕ, Option, Some, None, Result, Ok, Err}
+use Rattle.std.specs.Prelude.{ℕ, List, ◌++◌, Option, Some, None, Result, Ok, Err, codes}
 use Rattle.std.specs.IoError.{error_kind}
 use Rattle.std.specs.declared.io.Error.{Error}
 use Rattle.disk_layout.specs.declared.faults.Fault.{Fault}
 use Rattle.ledger_commands.specs.Faults.{io_fault, run_status}
+use Rattle.ledger_commands.specs.Texts.{refusal_text}
 use Rattle.ledger_commands.specs.declared.dry_run.DryFault.{DryFault}
 use Rattle.ledger_commands.specs.declared.dry_run.DryFault.TheVariants as dry
 use Rattle.ledger_commands.specs.declared.faults.RunFault.{RunFault}
@@ -18,6 +19,10 @@ abbrev pub exit_status : Ended → ℕ
 exit_status (Ok None) = 0
 exit_status (Ok (Some _)) = 1
 exit_status (Err fault) = run_status fault
+
+-- the line in which a fault is told
+abbrev pub fault_line : RunFault → List ℕ
+fault_line fault = refusal_text fault ++ codes "\n"
 
 -- the end of a job that prints no fault
 abbrev pub end_of : Result Unit RunFault → Ended
