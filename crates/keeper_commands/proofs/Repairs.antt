@@ -98,6 +98,9 @@ module _ {D : Type 0} (S : History D) where
   load-refused image a w keep.NoMemory told = (told, refl, refl)
   load-refused image a w (keep.Layout fault) told = absurd told
   load-refused image a w keep.NoFile told = absurd told
+  load-refused image a w keep.FileExists told = absurd told
+  load-refused image a w (keep.BadLine n) told = absurd told
+  load-refused image a w keep.DiskFull told = absurd told
   load-refused image a w keep.File told = absurd told
   load-refused image a w keep.Device told = absurd told
 
@@ -110,4 +113,7 @@ module _ {D : Type 0} (S : History D) where
   print-refused image a b c v w (Err keep.ImageSize) mended same told = absurd told
   print-refused image a b c v w (Err (keep.Layout fault)) mended same told = absurd told
   print-refused image a b c v w (Err keep.NoFile) mended same told = absurd told
+  print-refused image a b c v w (Err keep.FileExists) mended same told = absurd told
+  print-refused image a b c v w (Err (keep.BadLine n)) mended same told = absurd told
+  print-refused image a b c v w (Err keep.DiskFull) mended same told = absurd told
   print-refused image a b c v w (Err keep.NoMemory) mended same told = absurd told
