@@ -4,8 +4,10 @@ pub mod Lines
 pub mod FileChains
 pub mod FileEnds
 pub mod FileScripts
+pub mod Formats
 pub mod Listings
 mod PlayEnds
 pub mod Replies
 mod Showings
+mod Synced
 pub mod Tables
