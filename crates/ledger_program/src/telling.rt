@@ -10,8 +10,8 @@ use host_session::{NotTaken, write_whole};
 use ledger_commands::RunFault;
 use std::io::Write;
 
-/// Tells a fault in one line. Its error where standard error failed, which then has a beginning of the line: there is nobody
-/// left to tell.
+/// Tells a fault in one line. Its error where standard error failed, which then has a beginning of the line: there is
+/// nobody left to tell.
 pub fn tell<E: Write>(err: &mut E, fault: RunFault) -> Result<(), NotTaken>
     ensures told { OnOk result (Appends (E.contents err.old) (E.contents err.new) (fault_line fault)) }
     ensures part { OnErr result (AppendsPart (E.contents err.old) (E.contents err.new) (fault_line fault)) }
@@ -24,10 +24,10 @@ pub fn tell<E: Write>(err: &mut E, fault: RunFault) -> Result<(), NotTaken>
     write_whole(err, line.as_slice())
 }
 
-/// The exit status of a job that ended so: 1 also where a check told a fault, on the output. Tells why the job isn't done,
-/// where it isn't, in one line: with status 1 what the image or the script has wrong, as `IMAGE SIZE`,
-/// `LAYOUT LOOP 17/0`, `BAD CARD 3` or `SCRIPT LINE 2`; with status 3 `FILE` where a file couldn't be opened or read, the
-/// image not made, or the output failed, `DEVICE` where the file of `play` failed, or `NO MEMORY`. Where standard error fails
+/// The exit status of a job that ended so: 1 also where a check told a fault, on the output. Tells why the job isn't
+/// done, where it isn't, in one line: with status 1 what the image or the script has wrong, as `IMAGE SIZE`, `LAYOUT
+/// LOOP 17/0`, `BAD CARD 3` or `SCRIPT LINE 2`; with status 3 `FILE` where a file couldn't be opened or read, the image
+/// not made, or the output failed, `DEVICE` where the file of `play` failed, or `NO MEMORY`. Where standard error fails
 /// it has a beginning of the line.
 pub fn end<E: Write>(ended: Result<Option<Fault>, RunFault>, err: &mut E) -> u8
     ensures status { result ≡ exit_status ended }
