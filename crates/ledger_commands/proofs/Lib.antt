@@ -9,4 +9,5 @@ pub mod Listings
 mod PlayEnds
 pub mod Replies
 mod Showings
+mod Synced
 pub mod Tables

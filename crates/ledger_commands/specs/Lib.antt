@@ -1,3 +1,4 @@
+pub mod Durable
 pub mod Faults
 pub mod FreshShops
 pub mod Images

@@ -4,10 +4,13 @@
 mod doing;
 mod files;
 mod jobs;
+mod owning;
+mod refusals;
 mod running;
 mod telling;
 
 pub use doing::{do_job, do_over};
 pub use jobs::{Job, Reading};
+pub use refusals::Refusal;
 pub use running::{format_run, play_run, reading_run};
 pub use telling::{end, tell};

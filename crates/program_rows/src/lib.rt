@@ -10,6 +10,8 @@ mod day_rows;
 #[cfg(test)]
 mod file_rows;
 #[cfg(test)]
+mod lock_rows;
+#[cfg(test)]
 mod memory;
 #[cfg(test)]
 mod output_rows;

@@ -18,6 +18,8 @@ pub(crate) struct Memory<'a> {
     pub(crate) image: Stored,
     /// What stands at `s.txt`.
     pub(crate) script: Stored,
+    /// The folder of both.
+    pub(crate) folder: Stored,
     /// Standard input, and whether it was taken: it can be once.
     pub(crate) input: &'a [u8],
     pub(crate) taken: Cell<bool>,
@@ -39,6 +41,7 @@ impl<'a> Memory<'a> {
             words,
             image: Stored::new(alloc),
             script: Stored::new(alloc),
+            folder: Stored::folder(alloc),
             input,
             taken: Cell::new(false),
             out: RefCell::new(Vec::new(alloc)),
@@ -116,6 +119,7 @@ impl<'a> Files for Runtime<'a> {
         match path {
             "a.d64" => self.0.image.open(how),
             "s.txt" => self.0.script.open(how),
+            "." => self.0.folder.open(how),
             _ => failed(ErrorKind::NotFound),
         }
     }

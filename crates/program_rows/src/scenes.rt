@@ -61,6 +61,7 @@ pub(crate) fn ends(rt: &impl Abort, memory: &Memory<'_>, wanted: End<'_>, row: &
     wrote(rt, &memory.err, told, row);
     same_at(rt, status, want, row);
     wrote(rt, &memory.out, printed, row);
+    same_at(rt, memory.image.unlocked.get(), false, row);
 }
 
 /// Runs the program with these words over an image and a script, and sees that it ends so. Answers what it left.

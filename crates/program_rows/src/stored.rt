@@ -2,10 +2,10 @@
 ghost use Rattle.std.specs.Prelude.{IsErr};
 ghost use Rattle.std.specs.Io.{ReadsAtMost, WritesAtMost};
 
-use ledger_commands::{EndedFile, WritesAt};
+use ledger_commands::{EndedFile, Locks, WritesAt};
 use std::alloc::Global;
 use std::cell::{Cell, RefCell};
-use std::fs::{Metadata, OpenFile, OpenOptions};
+use std::fs::{Metadata, OpenFile, OpenOptions, TryLockError};
 use std::io::{self, Cursor, ErrorKind, Read, Seek, SeekFrom, Write};
 use std::os::unix::fs::FileExt;
 
@@ -33,6 +33,35 @@ pub(crate) struct Stored {
     taken: Cell<u64>,
     /// How many bytes are taken of what is written, until it fails.
     pub(crate) room: Cell<usize>,
+    /// Whether another program has it alone, or reads it.
+    pub(crate) others: Cell<Others>,
+    /// How it is locked by whoever opened it.
+    pub(crate) lock: Cell<Lock>,
+    /// Whether it was read or changed without a lock that allows it.
+    pub(crate) unlocked: Cell<bool>,
+    /// How often it was brought to the disk, also before it was read first, and the number of the call that fails.
+    pub(crate) syncs: Cell<usize>,
+    pub(crate) syncs_before: Cell<usize>,
+    pub(crate) bad_sync: Cell<usize>,
+}
+
+/// What other programs do with it.
+#[derive(Clone, Copy, Debug, PartialEq, Eq)]
+pub(crate) enum Others {
+    /// Nothing.
+    Away,
+    /// They read it.
+    Reading,
+    /// One of them has it alone.
+    Alone,
+}
+
+/// How it is locked.
+#[derive(Clone, Copy, Debug, PartialEq, Eq)]
+pub(crate) enum Lock {
+    None,
+    Shared,
+    Alone,
 }
 
 /// The error of this kind.
@@ -50,7 +79,46 @@ impl Stored {
             bytes: RefCell::new(Cursor::new(Vec::new(alloc))),
             taken: Cell::new(0),
             room: Cell::new(usize::MAX),
+            others: Cell::new(Others::Away),
+            lock: Cell::new(Lock::None),
+            unlocked: Cell::new(false),
+            syncs: Cell::new(0),
+            syncs_before: Cell::new(0),
+            bad_sync: Cell::new(0),
         }
+    }
+
+    /// A place where a folder stands.
+    pub(crate) fn folder(alloc: Global) -> Stored {
+        let at = Stored::new(alloc);
+        at.kind.set(Kind::Folder);
+        at
+    }
+
+    /// Notes that it is read.
+    fn note_read(&self) {
+        if self.lock.get() == Lock::None {
+            self.unlocked.set(true);
+        }
+        if self.taken.get() == 0 {
+            self.syncs_before.set(self.syncs.get());
+        }
+    }
+
+    /// Notes that it is changed.
+    fn note_change(&self) {
+        if self.lock.get() != Lock::Alone {
+            self.unlocked.set(true);
+        }
+    }
+
+    /// Brings it to the disk.
+    fn sync(&self) -> io::Result<()> {
+        self.syncs.set(self.syncs.get().saturating_add(1));
+        if self.syncs.get() == self.bad_sync.get() {
+            return failed(ErrorKind::Other);
+        }
+        Ok(())
     }
 
     /// Puts such a thing with these bytes there. Whether there was memory for them.
@@ -85,6 +153,7 @@ impl Stored {
 
     /// Cuts what stands there, or adds zeros to it.
     fn resize(&self, size: u64) -> io::Result<()> {
+        self.note_change();
         match self.bytes.try_borrow_mut() {
             Ok(mut held) => {
                 held.get_mut().resize(size as usize, 0)?;
@@ -113,6 +182,7 @@ impl Stored {
     fn write_from(&self, buf: &[u8], at: u64) -> io::Result<usize>
         ensures bound { WritesAtMost result buf.now }
     {
+        self.note_change();
         let room = self.room.get();
         let taken = buf.len().min(room);
         self.room.set(room.saturating_sub(taken));
@@ -178,6 +248,7 @@ impl Read for Opened<'_> {
         if !self.reads {
             return failed(ErrorKind::PermissionDenied);
         }
+        self.stored.note_read();
         let got = self.stored.read_from(buf, self.begins())?;
         self.at = self.at.saturating_add(got as u64);
         let taken = &self.stored.taken;
@@ -202,6 +273,28 @@ impl FileExt for Opened<'_> {
 impl WritesAt for Opened<'_> {
     fn write_all_at(&mut self, bytes: &[u8], at: u64) -> io::Result<()> {
         FileExt::write_all_at(self, bytes, at)
+    }
+
+    fn sync(&mut self) -> io::Result<()> {
+        self.stored.sync()
+    }
+}
+
+impl Locks for Opened<'_> {
+    fn lock_alone(&mut self) -> Result<(), TryLockError> {
+        if self.stored.others.get() != Others::Away {
+            return Err(TryLockError::WouldBlock);
+        }
+        self.stored.lock.set(Lock::Alone);
+        Ok(())
+    }
+
+    fn lock_shared(&mut self) -> Result<(), TryLockError> {
+        if self.stored.others.get() == Others::Alone {
+            return Err(TryLockError::WouldBlock);
+        }
+        self.stored.lock.set(Lock::Shared);
+        Ok(())
     }
 }
 
@@ -251,16 +344,20 @@ impl OpenFile for Opened<'_> {
     }
 
     fn sync_all(&self) -> io::Result<()> {
-        Ok(())
+        self.stored.sync()
     }
 
     fn sync_data(&self) -> io::Result<()> {
-        Ok(())
+        self.stored.sync()
     }
 }
 
 impl EndedFile for Opened<'_> {
     fn end_at(&mut self, bytes: u64) -> io::Result<()> {
         self.set_len(bytes)
+    }
+
+    fn sync_whole(&mut self) -> io::Result<()> {
+        self.stored.sync()
     }
 }

@@ -4,7 +4,7 @@ use Rattle.std.proofs.lemmas.List.{take_all}
 use Rattle.std.specs.Prelude.{IfErr, OnErr, OnOk}
 use Rattle.std.specs.Io.KnownBytes.{Appends}
 use Rattle.host_session.specs.Outputs.{AppendsPart}
-use Rattle.ledger_program.specs.Ends.{Ended, fault_line}
+use Rattle.ledger_program.specs.Ends.{JobEnd, refusal_line}
 use Rattle.ledger_program.proofs.telling.end.Goals as goal
 
 -- all of it is a part of it
@@ -17,5 +17,5 @@ pub returns-in-Err-clause-told : goal.returns-in-Err-clause-told
 returns-in-Err-clause-told g c =
     let old = g.E.Write.contents c.args.err.now in
     let new = g.E.Write.contents c.tell.new.err in
-    subst (λ (e : Ended). IfErr e (λ fault. AppendsPart old new (fault_line fault))) (sym c.in-Err.is)
-    (whole_or_part c.tell.result old new (fault_line c.in-Err.fault) c.tell.ensures.told c.tell.ensures.part)
+    subst (λ (e : JobEnd). IfErr e (λ refusal. AppendsPart old new (refusal_line refusal))) (sym c.in-Err.is)
+    (whole_or_part c.tell.result old new (refusal_line c.in-Err.refusal) c.tell.ensures.told c.tell.ensures.part)
