@@ -1,3 +1,4 @@
 pub mod Ends
 pub mod Jobs
 pub mod Runs
+pub mod Serves

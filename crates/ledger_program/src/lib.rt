@@ -7,10 +7,12 @@ mod jobs;
 mod owning;
 mod refusals;
 mod running;
+mod serving_runs;
 mod telling;
 
 pub use doing::{do_job, do_over};
 pub use jobs::{Job, Reading};
 pub use refusals::Refusal;
 pub use running::{format_run, play_run, reading_run};
+pub use serving_runs::serve_run;
 pub use telling::{end, tell};
