@@ -27,7 +27,7 @@ use Rattle.ledger_commands.proofs.FileScripts.{end_of_file, refused_reached, ref
 use Rattle.ledger_commands.proofs.PlayEnds.{fault_in, left_in, none-of}
 
 -- a file failed, or it didn't
-failed_stably : {F : Type 0} (K : Keeps F) (a b : F) → ((FileFailed K a b → ⊥) → ⊥) → FileFailed K a b
+pub failed_stably : {F : Type 0} (K : Keeps F) (a b : F) → ((FileFailed K a b → ⊥) → ⊥) → FileFailed K a b
 failed_stably K a b not_never = record {
   later = ⊎_elim
       (λ (less : K.failures b < K.failures a). absurd (not_never (λ f. omega (arith, less, f.later))))

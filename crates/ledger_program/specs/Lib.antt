@@ -1,3 +1,5 @@
 pub mod Ends
 pub mod Jobs
+pub mod Keeping
+pub mod Names
 pub mod Runs

@@ -4,13 +4,17 @@
 mod doing;
 mod files;
 mod jobs;
+mod keeping;
+mod names;
 mod owning;
 mod refusals;
 mod running;
 mod telling;
 
 pub use doing::{do_job, do_over};
-pub use jobs::{Job, Reading};
+pub use jobs::{Job, Reading, Taking};
+pub use keeping::{repair_run, taking_run};
+pub use names::Name;
 pub use refusals::Refusal;
 pub use running::{format_run, play_run, reading_run};
 pub use telling::{end, tell};
