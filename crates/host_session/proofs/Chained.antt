@@ -9,7 +9,7 @@ use Rattle.host_session.specs.Events.{Message}
 use Rattle.host_session.specs.OneEvent.{EndsFailed, GoesOn, IsEvent}
 use Rattle.host_session.specs.Runs.{HeldBeginnings, IsPlayedWhole, StoppedByDevice, StoppedByOutput}
 use Rattle.host_session.specs.Shop.{IsSettled, IsShop, Shop, start_of, with_state}
-use Rattle.host_session.specs.Chains.{HasRun, HasRunToFailure, IsChain, asked_over, over_images, told_in}
+use Rattle.host_session.specs.Chains.{GrowsFrom, HasRun, HasRunToFailure, IsChain, asked_over, over_images, told_in}
 
 -- the replies, told over what the disks beside them hold
 pub told_over : {D : Type 0} (h : History D) (turns : List (Reply × D)) → told_in (over_images h turns) ≡ told_in turns
@@ -134,6 +134,24 @@ module _ {D : Type 0} (h : History D) where
           chain = q.behind;
         })).1,
       )
+
+  pub run_grows : (s : Shop) (ms ns : List Message) (xs ys : List (Reply × D)) (old new : D) → length ms ≡ length xs
+      → HasRun h s (ms ++ ns) (xs ++ ys) old new → GrowsFrom h s ms ns xs old new
+  run_grows s ms ns xs ys old new same r =
+      let q = only_grows s ms ns xs ys r.first r.now new same r.rests r.chain in
+      record {
+        at = q.0.mid;
+        run = record {
+          first = r.first;
+          opening = r.opening;
+          later = r.later;
+          rests = r.rests;
+          now = q.0.now;
+          chain = q.0.before;
+        };
+        rests = q.1;
+        behind = q.2;
+      }
 
   -- the loop's turn: one event more
   pub run_more : (s : Shop) (ms : List Message) (xs : List (Reply × D)) (old mid new : D) (m : Message) (reply : Reply)

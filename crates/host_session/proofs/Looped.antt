@@ -181,8 +181,8 @@ module _ {D A T : Type 0} (h : History D) (a : Source A) (o : Output T) (from : 
       where
         pick : {E : Type 0} (result : Result Unit E) → IsTold o out told reply (h.image new) result
             → o.told from.out told (over_images h w.whole.0.turns ++ (reply, h.image new) ∷ [])
-                ⊎ (o.broken_off from.out told (over_images h w.whole.0.turns) reply
-                    × (o.room from.out < length (messages_in w.taken ++ a.here asks ∷ [])))
+            ⊎ (o.broken_off from.out told (over_images h w.whole.0.turns) reply
+            × (o.room from.out < length (messages_in w.taken ++ a.here asks ∷ [])))
         pick (Ok x) tells = inl (tells.0 from.out (over_images h w.whole.0.turns) w.whole.0.told)
         pick (Err x) tells = inr (
           tells.0 from.out (over_images h w.whole.0.turns) w.whole.0.told,

@@ -1,6 +1,9 @@
 -- Where the events of a run come from. All of it is our own.
-use Rattle.std.specs.Prelude.{◌≡◌, ℕ, ◌<◌, ◌≤◌, ◌-◌, ◌==◌, if◌then◌else◌, drop, slice_get, List, [], ◌∷◌, ◌++◌, None, Some, Option, length, map, option_map, refl}
+use Rattle.std.specs.Prelude.{◌≡◌, ◌⊎◌, ℕ, true, Vec, ◌<◌, ◌≤◌, ◌-◌, ◌==◌, if◌then◌else◌, drop, slice_get, List, [], ◌∷◌, ◌++◌, None, Some, Option, length, map, option_map, refl}
+use Rattle.std.proofs.Common.{append-nil, sym}
+use Rattle.std.specs.declared.alloc.Global.{Global}
 use Rattle.d64_image.specs.Images.{Image}
+use Rattle.d64_image.specs.Memory.{sectors_in}
 use Rattle.script_lines.specs.Lines.{lines}
 use Rattle.script_lines.specs.Resets.{first_bad}
 use Rattle.script_lines.specs.declared.events.Event.{Event}
@@ -9,6 +12,7 @@ use Rattle.host_session.specs.declared.asking.Next.{Next}
 use Rattle.host_session.specs.declared.asking.Next.TheVariants as next
 use Rattle.host_session.specs.declared.asking.OfEvents.{OfEvents}
 use Rattle.host_session.specs.declared.asking.OfScript.{OfScript}
+use Rattle.host_session.specs.declared.noting.Noted.{Noted}
 
 -- the messages alone
 abbrev pub messages_in : {X : Type 0} → List (Message × X) → List Message
@@ -75,4 +79,19 @@ of_events = record {
   has_failed = λ _. ⊥;
   fuel = λ now. length now.events.now - now.taken;
   none = λ _. (refl, refl);
+}
+
+-- what the disk held when each event was asked for
+abbrev pub noted_in : {A : Type 0} → Noted A → List Image
+noted_in now = map (λ (v : Vec ℕ Global). sectors_in v.items) now.disks.items
+
+-- the events that were taken of a source, each noted with what the disk held
+abbrev pub noted : {A : Type 0} → Source A → Source (Noted A)
+noted a = record {
+  gives = λ first now xs. a.gives first.asks now.asks xs × (noted_in now ≡ noted_in first ++ map (λ x. x.1) xs);
+  here = λ now. a.here now.asks;
+  is_over = λ now. a.is_over now.asks;
+  has_failed = λ now. (now.full ≡ true) ⊎ a.has_failed now.asks;
+  fuel = λ now. a.fuel now.asks;
+  none = λ now. (a.none now.asks, sym (append-nil (noted_in now)));
 }

@@ -4,6 +4,7 @@ pub mod Lines
 pub mod FileChains
 pub mod FileEnds
 pub mod FileScripts
+pub mod Formats
 pub mod Listings
 mod PlayEnds
 pub mod Replies

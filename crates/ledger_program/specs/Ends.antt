@@ -1,5 +1,5 @@
 -- How a job ends, and the program's exit status then. All of it is our own.
-use Rattle.std.specs.Prelude.{ℕ, List, Option, Some, None, Result, Ok, Err, codes}
+use Rattle.std.specs.Prelude.{ℕ, List, ◌++◌, Option, Some, None, Result, Ok, Err, codes}
 use Rattle.std.specs.IoError.{error_kind}
 use Rattle.std.specs.declared.fs.locks.TryLockError.{TryLockError}
 use Rattle.std.specs.declared.fs.locks.TryLockError.TheVariants as locks
@@ -27,6 +27,10 @@ abbrev pub refusal_text : Refusal → List ℕ
 refusal_text (refusals.Run fault) = run_text fault
 refusal_text (refusals.Keep fault) = keep_text fault
 refusal_text refusals.InUse = codes "IN USE"
+
+-- the line in which it is told
+abbrev pub refusal_line : Refusal → List ℕ
+refusal_line refusal = refusal_text refusal ++ codes "\n"
 
 -- what is told where a file isn't locked
 abbrev pub lock_refusal : TryLockError → Refusal

@@ -2,7 +2,7 @@
 use crate::comparing::same_at;
 use crate::disks::{fresh, loaded};
 use crate::sessions::{asked, says};
-use host_session::{Heard, ScriptFault, Turn, run_script};
+use host_session::{Heard, Noted, OfScript, ScriptFault, Turn, run, run_script};
 use std::process::Abort;
 
 /// A day on which power goes once: line 2 is cut behind its first write, and asked again.
@@ -13,6 +13,14 @@ fn holds(rt: &(impl Abort + AllocGlobal), turn: &Turn, message: &[u8], reply: &[
     let disk = loaded(rt, turn.bytes.as_slice());
     let (told, _, recovery, writes) = asked(rt, &disk, message);
     same_at(rt, (says(told, reply), recovery, writes), (true, 0, 0), row);
+}
+
+/// Whether the lines behind the first were asked for over the disks beside these replies.
+fn asked_over(asks: &Noted<OfScript<'_>>, turns: [&Turn; 3]) -> bool {
+    let [_, second, third, last] = asks.disks() else {
+        return false;
+    };
+    [second.as_slice(), third.as_slice(), last.as_slice()] == turns.map(|turn| turn.bytes.as_slice())
 }
 
 #[test]
@@ -29,6 +37,20 @@ fn each_reply_is_told_over_its_own_disk(rt: HostRuntime) {
     holds(&rt, short, b"1,2,I,42,200", b"1,2,SHORT,125", 4);
     same_at(&rt, says(cut.reply, b"CUT"), true, "cut");
     same_at(&rt, says(short.reply, b"1,2,SHORT,125"), true, "short");
+}
+
+// The first line is asked for over the disk as it was opened, each other over the disk that the line before it left.
+#[test]
+fn each_line_is_asked_for_over_what_the_last_one_left(rt: HostRuntime) {
+    let mut asks = Noted::new(rt.alloc(), OfScript::new(DAY));
+    let mut out = Heard::new(rt.alloc(), 9);
+    let ran = run(fresh(&rt), &mut asks, &mut out).is_ok();
+    same_at(&rt, (ran, out.turns().len()), (true, 4), "told");
+    let ([before, ..], [first, cut, again, _]) = (asks.disks(), out.turns()) else {
+        return;
+    };
+    same_at(&rt, before.as_slice() == fresh(&rt).bytes(), true, "opened");
+    same_at(&rt, asked_over(&asks, [first, cut, again]), true, "left");
 }
 
 // It takes one reply; the second line is handled, and nothing is handled behind it.
