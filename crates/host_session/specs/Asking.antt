@@ -1,6 +1,9 @@
 -- Where the events of a run come from. All of it is our own.
-use Rattle.std.specs.Prelude.{◌≡◌, ℕ, ◌<◌, ◌≤◌, ◌-◌, ◌==◌, if◌then◌else◌, drop, slice_get, List, [], ◌∷◌, ◌++◌, None, Some, Option, length, map, option_map, refl}
+use Rattle.std.specs.Prelude.{◌≡◌, ◌⊎◌, ℕ, true, Vec, ◌<◌, ◌≤◌, ◌-◌, ◌==◌, if◌then◌else◌, drop, slice_get, List, [], ◌∷◌, ◌++◌, None, Some, Option, length, map, option_map, refl}
+use Rattle.std.proofs.Common.{append-nil, sym}
+use Rattle.std.specs.declared.alloc.Global.{Global}
 use Rattle.d64_image.specs.Images.{Image}
+use Rattle.d64_image.specs.Memory.{sectors_in}
 use Rattle.script_lines.specs.Lines.{lines}
 use Rattle.script_lines.specs.Resets.{first_bad}
 use Rattle.script_lines.specs.declared.events.Event.{Event}
@@ -9,6 +12,7 @@ use Rattle.host_session.specs.declared.asking.Next.{Next}
 use Rattle.host_session.specs.declared.asking.Next.TheVariants as next
 use Rattle.host_session.specs.declared.asking.OfEvents.{OfEvents}
 use Rattle.host_session.specs.declared.asking.OfScript.{OfScript}
+use Rattle.host_session.specs.declared.noting.Noted.{Noted}
 
 -- the messages alone
 abbrev pub messages_in : {X : Type 0} → List (Message × X) → List Message
@@ -16,8 +20,8 @@ messages_in taken = map (λ x. x.0) taken
 
 -- What a source says of the messages that it gives.
 pub record Source (A : Type 0) : Type 1 where
-  -- from the first to the second these messages were taken, each while the disk held this image, in this order, and nothing
-  -- else
+  -- from the first to the second these messages were taken, each while the disk held this image, in this order, and
+  -- nothing else
   pub gives : A → A → List (Message × Image) → Type 0
   -- the message that was taken last
   pub here : A → Message
@@ -69,10 +73,26 @@ message_here (Some e) = message_of e
 abbrev pub of_events : Source OfEvents
 of_events = record {
   gives = λ first now xs. (now.events.now ≡ first.events.now)
-      × (map message_of (drop first.taken first.events.now) ≡ messages_in xs ++ map message_of (drop now.taken first.events.now));
+      × (map message_of (drop first.taken first.events.now)
+          ≡ messages_in xs ++ map message_of (drop now.taken first.events.now));
   here = λ now. message_here (last_taken now.taken now.events.now);
   is_over = λ now. length now.events.now ≤ now.taken;
   has_failed = λ _. ⊥;
   fuel = λ now. length now.events.now - now.taken;
   none = λ _. (refl, refl);
+}
+
+-- what the disk held when each event was asked for
+abbrev pub noted_in : {A : Type 0} → Noted A → List Image
+noted_in now = map (λ (v : Vec ℕ Global). sectors_in v.items) now.disks.items
+
+-- the events that were taken of a source, each noted with what the disk held
+abbrev pub noted : {A : Type 0} → Source A → Source (Noted A)
+noted a = record {
+  gives = λ first now xs. a.gives first.asks now.asks xs × (noted_in now ≡ noted_in first ++ map (λ x. x.1) xs);
+  here = λ now. a.here now.asks;
+  is_over = λ now. a.is_over now.asks;
+  has_failed = λ now. (now.full ≡ true) ⊎ a.has_failed now.asks;
+  fuel = λ now. a.fuel now.asks;
+  none = λ now. (a.none now.asks, sym (append-nil (noted_in now)));
 }

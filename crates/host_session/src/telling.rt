@@ -5,7 +5,7 @@ ghost use Rattle.host_session.specs.Telling.{IsTold, Output, TellsNone};
 use d64_image::Sectors;
 use request_cards::Reply;
 
-/// The reply wasn't taken, or only in part.
+/// What was to be told, a reply or other bytes, wasn't taken, or only in part.
 #[derive(Clone, Copy, Debug, PartialEq, Eq)]
 pub struct NotTaken;
 

@@ -13,6 +13,7 @@ mod record_printing;
 
 pub use byte_printing::bytes_image;
 pub use faults::KeepFault;
+pub use loading::load;
 pub use making::{is_new_name, make_image};
 pub use mending::repair_image;
 pub use record_printing::records_image;

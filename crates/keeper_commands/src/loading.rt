@@ -13,7 +13,7 @@ use layout_check::{check, survey};
 use std::alloc::Global;
 
 /// The disk in memory that holds the image.
-pub(crate) fn load(alloc: Global, image: &[u8]) -> Result<MemDisk, KeepFault>
+pub fn load(alloc: Global, image: &[u8]) -> Result<MemDisk, KeepFault>
     ensures ok { IfOk result (λ disk. (length image.now ≡ 174848)
         × (disk_image disk ≡ sectors_in image.now)) }
     ensures err { IfErr result (IsLoadFault image.now) }

@@ -5,6 +5,7 @@ pub mod FileChains
 pub mod FileEnds
 pub mod FileScripts
 pub mod FileServes
+pub mod Formats
 pub mod Listings
 mod PlayEnds
 pub mod Replies

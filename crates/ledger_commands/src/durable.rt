@@ -17,8 +17,9 @@ pub trait WritesAt {
     // the bytes that stay where the machine loses power, where they are known
     ghost lasting: { Self → Option (List ℕ) } = { λ _. None };
 
-    // nobody else writes it
-    ghost IsLocked: { Self → Type 0 } = { λ _. ⊤ };
+    // nobody else writes it; and nobody else reads it either
+    ghost IsShared: { Self → Type 0 } = { λ _. ⊤ };
+    ghost IsOwned: { Self → Type 0 } = { λ _. ⊤ };
 
     /// Writes all these bytes over those from that place on, in bytes from the file's start. At an error a beginning of them
     /// was written.
@@ -30,7 +31,7 @@ pub trait WritesAt {
     fn sync(&mut self) -> io::Result<()>
         ensures same { held self.new ≡ held self.old }
         ensures lasting { OnOk result (lasting self.new ≡ held self.new) }
-        ensures locked { IsLocked self.old → IsLocked self.new };
+        ensures owned { IsOwned self.old → IsOwned self.new };
 }
 
 impl WritesAt for File {

@@ -9,11 +9,11 @@ pub trait Locks: WritesAt {
 
     /// Locks the file for this program alone. `WouldBlock` where another has a lock on it.
     fn lock_alone(&mut self) -> Result<(), TryLockError>
-        ensures locked { OnOk result (Self.IsLocked self.new) };
+        ensures owned { OnOk result (Self.IsOwned self.new) };
 
     /// Locks the file so that others may read it too, and none writes it. `WouldBlock` where another has it alone.
     fn lock_shared(&mut self) -> Result<(), TryLockError>
-        ensures locked { OnOk result (Self.IsLocked self.new) };
+        ensures shared { OnOk result (Self.IsShared self.new) };
 }
 
 impl Locks for File {

@@ -1,10 +1,12 @@
 -- How a job ends, and the program's exit status then. All of it is our own.
-use Rattle.std.specs.Prelude.{ℕ, List, Option, Some, None, Result, Ok, Err, codes}
+use Rattle.std.specs.Prelude.{ℕ, List, ◌++◌, Option, Some, None, Result, Ok, Err, codes}
 use Rattle.std.specs.IoError.{error_kind}
 use Rattle.std.specs.declared.fs.locks.TryLockError.{TryLockError}
 use Rattle.std.specs.declared.fs.locks.TryLockError.TheVariants as locks
 use Rattle.std.specs.declared.io.Error.{Error}
 use Rattle.disk_layout.specs.declared.faults.Fault.{Fault}
+use Rattle.keeper_commands.specs.Faults.{keep_status, keep_text}
+use Rattle.keeper_commands.specs.declared.faults.KeepFault.{KeepFault}
 use Rattle.ledger_commands.specs.Faults.{io_fault, run_status}
 use Rattle.ledger_commands.specs.declared.dry_run.DryFault.{DryFault}
 use Rattle.ledger_commands.specs.declared.dry_run.DryFault.TheVariants as dry
@@ -17,12 +19,18 @@ use Rattle.ledger_program.specs.declared.refusals.Refusal.TheVariants as refusal
 -- the exit status of a job that isn't done
 abbrev pub refusal_status : Refusal → ℕ
 refusal_status (refusals.Run fault) = run_status fault
+refusal_status (refusals.Keep fault) = keep_status fault
 refusal_status refusals.InUse = 3
 
 -- what is told of it
 abbrev pub refusal_text : Refusal → List ℕ
 refusal_text (refusals.Run fault) = run_text fault
+refusal_text (refusals.Keep fault) = keep_text fault
 refusal_text refusals.InUse = codes "IN USE"
+
+-- the line in which it is told
+abbrev pub refusal_line : Refusal → List ℕ
+refusal_line refusal = refusal_text refusal ++ codes "\n"
 
 -- what is told where a file isn't locked
 abbrev pub lock_refusal : TryLockError → Refusal
@@ -70,3 +78,8 @@ told_of (Err error) = Err (refusals.Run (io_fault (error_kind error)))
 abbrev pub as_job : Ended → JobEnd
 as_job (Ok printed) = Ok printed
 as_job (Err fault) = Err (refusals.Run fault)
+
+-- what came of a run over the files of an image, as a job's end
+abbrev pub as_kept : Result Unit KeepFault → JobEnd
+as_kept (Ok _) = Ok None
+as_kept (Err fault) = Err (refusals.Keep fault)

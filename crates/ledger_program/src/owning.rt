@@ -13,7 +13,7 @@ use std::io::{self, Read};
 /// Locks an image's file for this program alone. Where each sector is brought to the disk, so is first what the file holds:
 /// an earlier program's writes may still be on their way. `InUse`; `Device` where that failed. Nothing was read or changed.
 pub(crate) fn own<F: Locks>(file: &mut F, durability: Durability) -> Result<(), Refusal>
-    ensures locked { OnOk result (F.IsLocked file.new) }
+    ensures owned { OnOk result (F.IsOwned file.new) }
     ensures synced { OnOk result (IsSynced F.held F.lasting durability file.new) }
 {
     if let Err(error) = file.lock_alone() {
@@ -25,13 +25,31 @@ pub(crate) fn own<F: Locks>(file: &mut F, durability: Durability) -> Result<(), 
     Ok(())
 }
 
-/// The bytes of an image that nobody else writes, and which are on the disk where each sector is brought there.
+/// Locks an image's file so that nobody writes it while it is read. `InUse`: nothing was read.
+pub(crate) fn share<F: Locks>(file: &mut F) -> Result<(), Refusal>
+    ensures shared { OnOk result (F.IsShared file.new) }
+{
+    match file.lock_shared() {
+        Ok(()) => Ok(()),
+        Err(error) => Err(Refusal::of_lock(&error)),
+    }
+}
+
+/// The bytes of an image that nobody writes while it is read.
+pub(crate) fn read_shared<F: Read + Locks>(alloc: Global, file: &mut F) -> io::Result<Vec<u8>>
+    requires shared { F.IsShared file.old }
+    ensures { IfOk result (λ bytes. IfSome (F.remaining file.old) (λ all. vec_items bytes ≡ take 174849 all)) }
+{
+    read_image(alloc, file)
+}
+
+/// The bytes of an image that this program has alone, and which are on the disk where each sector is brought there.
 pub(crate) fn read_own<F: Read + Locks>(
     alloc: Global,
     file: &mut F,
     durability: Durability,
 ) -> io::Result<Vec<u8>>
-    requires locked { F.IsLocked file.old }
+    requires owned { F.IsOwned file.old }
     requires synced { IsSynced F.held F.lasting durability file.old }
     ensures { IfOk result (λ bytes. IfSome (F.remaining file.old) (λ all. vec_items bytes ≡ take 174849 all)) }
 {

@@ -2,6 +2,7 @@
 ghost use Rattle.std.specs.Prelude.{◌≡◌, Some};
 ghost use Rattle.ledger_program.specs.Ends.{lock_refusal, refusal_status, refusal_text};
 
+use keeper_commands::KeepFault;
 use ledger_commands::RunFault;
 use std::error::Error;
 use std::fmt::{self, Display, Formatter};
@@ -12,6 +13,8 @@ use std::fs::TryLockError;
 pub enum Refusal {
     /// What is wrong with the image or the script; or a file, the output or memory.
     Run(RunFault),
+    /// The same of a job over the files of an image.
+    Keep(KeepFault),
     /// Another program has the image. Nothing was read or changed.
     InUse,
 }
@@ -23,6 +26,7 @@ impl Refusal {
     {
         match self {
             Refusal::Run(fault) => fault.status(),
+            Refusal::Keep(fault) => fault.status(),
             Refusal::InUse => 3,
         }
     }
@@ -45,6 +49,7 @@ impl Display for Refusal {
     fn fmt<W: fmt::Write>(&self, f: &mut Formatter<W>) -> fmt::Result {
         match self {
             Refusal::Run(fault) => write!(f, "{fault}"),
+            Refusal::Keep(fault) => write!(f, "{fault}"),
             Refusal::InUse => f.write_str("IN USE"),
         }
     }

@@ -32,7 +32,7 @@ fn refuse_words<R: Print + Eprint, E: Write>(rt: &R, fault: &JobFault, err: &mut
             return end(Err(Refusal::Run(RunFault::NoMemory)), err);
         }
         JobFault::Words(error) => error.print(rt),
-        JobFault::Tills => writeln!(err, "{fault}"),
+        JobFault::Tills | JobFault::Name => writeln!(err, "{fault}"),
     };
     match told {
         // Help that can't be printed is an output that failed.

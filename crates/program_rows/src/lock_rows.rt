@@ -2,7 +2,8 @@
 use crate::comparing::{holds, same_at};
 use crate::memory::Memory;
 use crate::scenes::{
-    CHECK, End, FILE, FORMAT, LIST, PLAY, SHOW, Words, bytes_at, empty_shop, ends, put, ran,
+    BYTES, CHECK, End, FILE, FORMAT, LIST, PLAY, PLAY_SYNC, RECORDS, REPAIR, SHOW, Words, bytes_at,
+    empty_shop, ends, put, ran,
 };
 use crate::stored::{Kind, Others};
 use std::process::Abort;
@@ -11,7 +12,17 @@ use std::process::Abort;
 const IN_USE: End<'static> = (3, b"", b"IN USE\n");
 
 /// Words, what others do with the image, and how the program ends.
-const LOCKED: [(Words, Others, End<'static>, &str); 9] = [
+const LOCKED: [(Words, Others, End<'static>, &str); 14] = [
+    (REPAIR, Others::Alone, IN_USE, "repair of an image in use"),
+    (REPAIR, Others::Reading, IN_USE, "repair of one that is read"),
+    (RECORDS, Others::Alone, IN_USE, "records of an image in use"),
+    (BYTES, Others::Alone, IN_USE, "bytes of an image in use"),
+    (
+        RECORDS,
+        Others::Reading,
+        (0, b"1,\"\\ff\"\n2,\"\\ff\"\n", b""),
+        "records of one that is read",
+    ),
     (LIST, Others::Alone, IN_USE, "list of an image in use"),
     (CHECK, Others::Alone, IN_USE, "check of an image in use"),
     (SHOW, Others::Alone, IN_USE, "show of an image in use"),
@@ -61,28 +72,43 @@ fn images_in_use_are_told(rt: HostRuntime) {
     each_is_locked(&rt, &LOCKED, shop.as_slice());
 }
 
-/// How often a play brings its image to the disk, and how often that fails there: the script, the number of the sync that
-/// fails (0: none), how the play ends, and how many there were.
-const SYNCED: [(&[u8], usize, End<'static>, usize); 4] = [
-    (b"1,1,S,42,120\n", 0, (0, b"1,1,DONE,120\n", b""), 1),
-    (b"1,1,S,42,120\n", 1, (3, b"1,1,DONE,120\n", b"DEVICE\n"), 1),
-    (b"", 0, (0, b"", b""), 1),
-    (b"@01 x\n", 0, (1, b"", b"SCRIPT LINE 1\n"), 0),
+/// A play's words and script, the number of the sync that fails (0: none), how it ends, and how many syncs there were; None
+/// where there was one behind each write and one before the first.
+type Synced = (
+    Words,
+    &'static [u8],
+    usize,
+    End<'static>,
+    Option<usize>,
+);
+
+const SYNCED: [Synced; 7] = [
+    (PLAY, b"1,1,S,42,120\n", 0, (0, b"1,1,DONE,120\n", b""), Some(1)),
+    (PLAY, b"1,1,S,42,120\n", 1, (3, b"1,1,DONE,120\n", b"DEVICE\n"), Some(1)),
+    (PLAY, b"@01 x\n", 0, (1, b"", b"SCRIPT LINE 1\n"), Some(0)),
+    (PLAY_SYNC, b"1,1,S,42,120\n", 0, (0, b"1,1,DONE,120\n", b""), None),
+    (PLAY_SYNC, b"1,1,S,42,120\n", 1, (3, b"", b"DEVICE\n"), Some(1)),
+    (PLAY_SYNC, b"1,1,S,42,120\n", 3, (3, b"1,1,MEDIA\n", b"DEVICE\n"), Some(3)),
+    (PLAY_SYNC, b"", 0, (0, b"", b""), Some(1)),
 ];
 
-/// Sees that each script ends so, after so many syncs.
-fn each_is_synced(
-    rt: &(impl AllocGlobal + Abort),
-    shop: &[u8],
-    rows: &[(&[u8], usize, End<'static>, usize)],
-) {
-    for (script, bad, wanted, syncs) in rows {
-        let memory = Memory::new(rt.alloc(), PLAY, b"");
+/// Sees that each play ends so, and that another of the same script gives the answer then.
+fn each_is_synced(rt: &(impl AllocGlobal + Abort), shop: &[u8], rows: &[Synced]) {
+    for (words, script, bad, wanted, syncs) in rows {
+        let memory = Memory::new(rt.alloc(), *words, b"");
         put(rt, &memory.image, Kind::Plain, shop);
         put(rt, &memory.script, Kind::Plain, script);
         memory.image.bad_sync.set(*bad);
         ends(rt, &memory, *wanted, "a play that is synced");
-        same_at(rt, memory.image.syncs.get(), *syncs, *bad);
+        let counted = memory.image.writes.get().saturating_add(1);
+        same_at(rt, memory.image.syncs.get(), syncs.unwrap_or(counted), *bad);
+        if syncs.is_none() {
+            same_at(rt, memory.image.most_waiting.get(), 1, *bad);
+        }
+        if wanted.0 == 3 {
+            let left = bytes_at(rt, &memory.image);
+            ran(rt, PLAY, left.as_slice(), script, (0, b"1,1,DONE,120\n", b""));
+        }
     }
 }
 
@@ -90,26 +116,6 @@ fn each_is_synced(
 fn a_play_is_brought_to_the_disk(rt: HostRuntime) {
     let shop = empty_shop(&rt);
     each_is_synced(&rt, shop.as_slice(), &SYNCED);
-    // What a sync didn't bring to the disk is asked for again, and answered.
-    let memory = Memory::new(rt.alloc(), PLAY, b"");
-    put(&rt, &memory.image, Kind::Plain, shop.as_slice());
-    put(&rt, &memory.script, Kind::Plain, b"1,1,S,42,120\n");
-    memory.image.bad_sync.set(1);
-    ends(
-        &rt,
-        &memory,
-        (3, b"1,1,DONE,120\n", b"DEVICE\n"),
-        "not synced",
-    );
-    let left = bytes_at(&rt, &memory.image);
-    let again = b"1,1,DONE,120\n";
-    ran(
-        &rt,
-        PLAY,
-        left.as_slice(),
-        b"1,1,S,42,120\n",
-        (0, again, b""),
-    );
 }
 
 /// Sees that an image is brought to the disk with its folder before that it is made is said, and that one that can't be isn't

@@ -1,5 +1,6 @@
 //! A runtime in memory: the words of a command line, two files, standard input, an output and standard error.
-use crate::stored::{Kind, Opened, Stored, failed};
+use crate::opened::{Opened, open_stored};
+use crate::stored::{Kind, Stored, failed};
 use std::alloc::{Allocator, Global};
 use std::cell::{Cell, RefCell};
 use std::env::FillError;
@@ -117,9 +118,9 @@ impl<'a> Files for Runtime<'a> {
 
     fn open_file(&self, how: &OpenOptions, path: &str) -> io::Result<Opened<'a>> {
         match path {
-            "a.d64" => self.0.image.open(how),
-            "s.txt" => self.0.script.open(how),
-            "." => self.0.folder.open(how),
+            "a.d64" => open_stored(&self.0.image, how),
+            "s.txt" => open_stored(&self.0.script, how),
+            "." => open_stored(&self.0.folder, how),
             _ => failed(ErrorKind::NotFound),
         }
     }
