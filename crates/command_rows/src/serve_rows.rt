@@ -3,25 +3,25 @@ use crate::comparing::{same, same_at};
 use crate::files::{Full, Tape, blank_paper, new_tape};
 use crate::images::formatted;
 use crate::pieces::Piece::{self, Bytes, Failed, Interrupted};
-use crate::pieces::Pieces;
+use crate::pieces::{Line, Pieces, Talk};
 use crate::runs::{is_printed, is_shown, parted};
 use host_session::Printer;
 use ledger_commands::{Placed, RunFault, serve_file};
-use std::io::Write;
+use std::cell::Cell;
+use std::io::{BufRead, Write};
 use std::process::Abort;
 
 /// Serves the shop of the image over a file that takes so many bytes: how it ends, and the file.
-fn served<W: Write>(
+fn served<R: BufRead, W: Write>(
     rt: &(impl AllocGlobal + Abort),
     image: &[u8],
-    pieces: &'static [Piece],
+    input: &mut R,
     room: usize,
     out: &mut W,
 ) -> (Result<(), RunFault>, Tape) {
     let file = Placed::new(new_tape(rt, image, room));
-    let mut input = Pieces::new(pieces);
     let mut printer = Printer::new(out);
-    parted(serve_file(rt.alloc(), image, file, &mut input, &mut printer))
+    parted(serve_file(rt.alloc(), image, file, input, &mut printer))
 }
 
 /// An input, whether it can be read to its end, the replies on a disk for two tills, and what is shown then.
@@ -89,7 +89,8 @@ static SERVICES: [Service; 7] = [
 fn are_served(rt: &(impl AllocGlobal + Abort), image: &[u8], services: &[Service]) {
     for (pieces, whole, replies, shown) in services {
         let mut out = blank_paper(rt);
-        let (ended, file) = served(rt, image, pieces, usize::MAX, &mut out);
+        let mut input = Pieces::new(pieces);
+        let (ended, file) = served(rt, image, &mut input, usize::MAX, &mut out);
         let wanted = if *whole { Ok(()) } else { Err(RunFault::File) };
         same_at(rt, ended, wanted, replies);
         is_printed(rt, &out, replies);
@@ -106,8 +107,8 @@ fn lines_are_served_in_turn(rt: HostRuntime) {
 /// Sees that an output that takes so many bytes, or doesn't flush, ends the service, and that the line stands.
 fn is_told_full(rt: &(impl AllocGlobal + Abort), image: &[u8], room: usize, flushes: bool) {
     let mut full = Full { room, flushes };
-    let input: &'static [Piece] = &[Bytes(b"1,1,S,42,120\n1,2,I,42,1\n")];
-    let (ended, file) = served(rt, image, input, usize::MAX, &mut full);
+    let mut input = Pieces::new(&[Bytes(b"1,1,S,42,120\n1,2,I,42,1\n")]);
+    let (ended, file) = served(rt, image, &mut input, usize::MAX, &mut full);
     same_at(rt, ended, Err(RunFault::File), room);
     is_shown(rt, file.bytes(), SET);
 }
@@ -119,17 +120,31 @@ fn an_output_that_fails_ends_the_service(rt: HostRuntime) {
     is_told_full(&rt, image.as_slice(), 1000, false);
 }
 
+/// Lines, and how many bytes of the replies are to be handed on before each is asked for.
+static TALK: [(&[u8], usize); 4] = [
+    (b"1,1,S,42,120\n", 0),
+    (b"\n", 13),
+    (b"1,2,I,42,20\n", 35),
+    (b"1,2,I,42,20\n", 48),
+];
+
+#[test]
+fn a_line_is_asked_for_behind_the_reply_before(rt: HostRuntime) {
+    let image = formatted(&rt, 2);
+    let handed = Cell::new(0);
+    let mut input = Talk::new(&TALK, &handed);
+    let mut out = Line::new(&handed);
+    let (ended, _) = served(&rt, image.as_slice(), &mut input, usize::MAX, &mut out);
+    same(&rt, ended, Ok(()));
+    same(&rt, handed.get(), 61);
+}
+
 #[test]
 fn a_file_that_fails_ends_the_service(rt: HostRuntime) {
     let image = formatted(&rt, 2);
     let mut out = blank_paper(&rt);
-    let (ended, _) = served(
-        &rt,
-        image.as_slice(),
-        &[Bytes(b"x\n1,1,S,15,7\n1,1,S,15,7\n")],
-        300,
-        &mut out,
-    );
+    let mut input = Pieces::new(&[Bytes(b"x\n1,1,S,15,7\n1,1,S,15,7\n")]);
+    let (ended, _) = served(&rt, image.as_slice(), &mut input, 300, &mut out);
     same(&rt, ended, Err(RunFault::Device));
     is_printed(&rt, &out, b"30,SYNTAX ERROR,00,00\n1,1,MEDIA\n");
 }
