@@ -3,3 +3,4 @@ pub mod Marks
 pub mod Owning
 pub mod Paddings
 pub mod Printing
+pub mod Rows
