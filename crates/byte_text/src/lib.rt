@@ -5,6 +5,7 @@ mod laws;
 mod line_reading;
 mod line_writing;
 mod reading;
+mod text;
 mod trimming;
 mod writing;
 
@@ -12,5 +13,6 @@ pub use laws::{lines_give_records, texts_differ};
 pub use line_reading::read_line;
 pub use line_writing::write_line;
 pub use reading::read_text;
+pub use text::Text;
 pub use trimming::trim;
 pub use writing::write_text;

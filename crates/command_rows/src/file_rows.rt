@@ -57,6 +57,10 @@ impl<'a> OpensFile for Older<'a> {
             None => Err(io::Error::from(io::ErrorKind::NotFound)),
         }
     }
+
+    fn sync_folder(&mut self) -> io::Result<()> {
+        Ok(())
+    }
 }
 
 /// Sees that a file of so many bytes has this image's alone once it was written over, and isn't opened before there is

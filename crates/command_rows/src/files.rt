@@ -83,6 +83,10 @@ impl WritesAt for Tape {
         self.bytes.seek(SeekFrom::Start(at))?;
         self.write_all(bytes)
     }
+
+    fn sync(&mut self) -> io::Result<()> {
+        Ok(())
+    }
 }
 
 impl EndedFile for &mut Tape {
@@ -90,6 +94,10 @@ impl EndedFile for &mut Tape {
         if let Ok(length) = usize::try_from(bytes) {
             self.bytes.get_mut().truncate(length);
         }
+        Ok(())
+    }
+
+    fn sync_whole(&mut self) -> io::Result<()> {
         Ok(())
     }
 }

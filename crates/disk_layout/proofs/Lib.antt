@@ -1,4 +1,5 @@
 pub mod Agree
+pub mod AsFar
 pub mod Bits
 pub mod BlankClean
 pub mod BlankPlaces

@@ -1,3 +1,4 @@
+pub mod AsFar
 pub mod Blank
 pub mod BlankLayout
 pub mod Chain

@@ -2,6 +2,7 @@
 #![tactic(auto)]
 
 mod access;
+mod as_far;
 mod bam;
 mod blank;
 mod blank_map;
@@ -17,6 +18,7 @@ mod views;
 mod visited;
 
 pub use access::{read_sector, write_other, write_sector};
+pub use as_far::walk_as_far;
 pub use bam::Bam;
 pub use blank::blank_image;
 pub use chain::walk_chain;

@@ -9,7 +9,7 @@ use Rattle.host_session.specs.Events.{Message}
 use Rattle.host_session.specs.OneEvent.{EndsFailed, GoesOn, IsEvent}
 use Rattle.host_session.specs.Runs.{HeldBeginnings, IsPlayedWhole, StoppedByDevice, StoppedByOutput}
 use Rattle.host_session.specs.Shop.{IsSettled, IsShop, Shop, start_of, with_state}
-use Rattle.host_session.specs.Chains.{HasRun, HasRunToFailure, IsChain, over_images, told_in}
+use Rattle.host_session.specs.Chains.{GrowsFrom, HasRun, HasRunToFailure, IsChain, asked_over, over_images, told_in}
 
 -- the replies, told over what the disks beside them hold
 pub told_over : {D : Type 0} (h : History D) (turns : List (Reply × D)) → told_in (over_images h turns) ≡ told_in turns
@@ -39,6 +39,17 @@ module _ {D : Type 0} (h : History D) where
       chain_rests (with_state s (after_all (start_of s) s.state c.0.counted)) ms xs x.1 new t c.0.ends.settled c.1
   chain_rests s [] (x ∷ xs) old new t rests c = absurd c
   chain_rests s (m ∷ ms) [] old new t rests c = absurd c
+
+  -- the next message is asked for over the disk on which a chain ended, whatever turns come after
+  pub asked_more : (s : Shop) (ms : List Message) (xs ys : List (Reply × D)) (old mid : D) (t : Shop) (m : Message)
+      → IsChain h s ms xs old t mid
+      → asked_over h old (xs ++ ys) (ms ++ m ∷ []) ≡ asked_over h old xs ms ++ (m, h.image mid) ∷ []
+  asked_more s [] [] ys old mid t m c = ap (λ d. (m, h.image d) ∷ []) (sym c.1)
+  asked_more s (n ∷ ms) (x ∷ xs) ys old mid t m c =
+      let rest = asked_more (with_state s (after_all (start_of s) s.state c.0.counted)) ms xs ys x.1 mid t m c.1 in
+      ap (λ asked. (n, h.image old) ∷ asked) rest
+  asked_more s [] (x ∷ xs) ys old mid t m c = absurd c
+  asked_more s (n ∷ ms) [] ys old mid t m c = absurd c
 
   -- what was played, with the shop on which the next message finds itself
   abbrev PlayedTo : Shop → List Message → D → D → List Reply → Shop → Type 0
@@ -125,6 +136,24 @@ module _ {D : Type 0} (h : History D) where
         })).1,
       )
 
+  pub run_grows : (s : Shop) (ms ns : List Message) (xs ys : List (Reply × D)) (old new : D) → length ms ≡ length xs
+      → HasRun h s (ms ++ ns) (xs ++ ys) old new → GrowsFrom h s ms ns xs old new
+  run_grows s ms ns xs ys old new same r =
+      let q = only_grows s ms ns xs ys r.first r.now new same r.rests r.chain in
+      record {
+        at = q.0.mid;
+        run = record {
+          first = r.first;
+          opening = r.opening;
+          later = r.later;
+          rests = r.rests;
+          now = q.0.now;
+          chain = q.0.before;
+        };
+        rests = q.1;
+        behind = q.2;
+      }
+
   -- the loop's turn: one event more
   pub run_more : (s : Shop) (ms : List Message) (xs : List (Reply × D)) (old mid new : D) (m : Message) (reply : Reply)
       → (r : HasRun h s ms xs old mid) → IsEvent h r.now m mid new (GoesOn h r.now m reply new)
@@ -137,6 +166,13 @@ module _ {D : Type 0} (h : History D) where
     now = with_state r.now (after_all (start_of r.now) r.now.state e.counted);
     chain = chain_more s ms xs r.first mid new r.now m reply r.chain e;
   }
+
+  -- it began on the same disk
+  pub run_more-first : (s : Shop) (ms : List Message) (xs : List (Reply × D)) (old mid new : D) (m : Message)
+      (reply : Reply) → (r : HasRun h s ms xs old mid) (e : IsEvent h r.now m mid new (GoesOn h r.now m reply new))
+      → (run_more s ms xs old mid new m reply r e).first ≡ r.first
+  unfolding run_more
+  run_more-first s ms xs old mid new m reply r e = refl
 
   -- before the first one
   pub run_none : (s : Shop) (old first : D) → HeldOnly h old first (λ i. IsShop i s) → h.failures old ≤ h.failures first → IsSettled (h.image first) s

@@ -4,15 +4,16 @@ use Rattle.std.specs.Prelude.{Vec, slice_get, vec_capacity, vec_len}
 use Rattle.std.specs.declared.alloc.Global.{Global}
 use Rattle.std.proofs.lemmas.List.{drop_all}
 use Rattle.d64_image.specs.History.{Failed, History, NeverFailed}
+use Rattle.d64_image.specs.Images.{Image}
 use Rattle.request_cards.specs.declared.reply.Reply.{Reply}
 use Rattle.script_lines.specs.declared.events.Event.{Event}
 use Rattle.host_session.proofs.Chained.{at_device, told_over, whole}
 use Rattle.host_session.proofs.Printed.{told_more}
 use Rattle.host_session.proofs.Runs.{held_of_more}
-use Rattle.host_session.specs.Asking.{last_taken, message_here, of_events}
+use Rattle.host_session.specs.Asking.{last_taken, message_here, messages_in, of_events}
 use Rattle.host_session.specs.Chains.{over_images, told_in}
 use Rattle.host_session.specs.Events.{Message, message_of}
-use Rattle.host_session.specs.Faults.{play_fault}
+use Rattle.host_session.specs.Faults.{play_fault_of}
 use Rattle.host_session.specs.Loops.{IsRun, IsToldWhole}
 use Rattle.host_session.specs.Opening.{IsAShop}
 use Rattle.host_session.specs.Outputs.{listed}
@@ -21,8 +22,8 @@ use Rattle.host_session.specs.Shop.{IsShop, Shop}
 use Rattle.host_session.specs.declared.asking.OfEvents.{OfEvents}
 use Rattle.host_session.specs.declared.faults.OpenFault.{OpenFault}
 use Rattle.host_session.specs.declared.faults.OpenFault.TheVariants as openings
-use Rattle.host_session.specs.declared.looping.RunFault.{RunFault}
-use Rattle.host_session.specs.declared.looping.RunFault.TheVariants as runs
+use Rattle.host_session.specs.declared.looping.LoopFault.{LoopFault}
+use Rattle.host_session.specs.declared.looping.LoopFault.TheVariants as runs
 use Rattle.host_session.specs.declared.playing.PlayFault.{PlayFault}
 use Rattle.host_session.specs.declared.playing.PlayFault.TheVariants as ends
 
@@ -63,15 +64,16 @@ pub record IsEventsEnd {D : Type 0} (h : History D) (disk left : D) (ms : List M
 
 module _ {D : Type 0} (h : History D) (disk : D) (events : List Event) (asked asks : OfEvents) (old new : Vec Reply Global)
     (is_all : asked.events.now ≡ events) (from : asked.taken ≡ 0) (room : length events ≤ vec_capacity old - vec_len old) where
-  parts : (taken : List Message) → of_events.gives asked asks taken
-      → taken ++ map message_of (drop asks.taken asked.events.now) ≡ map message_of events
+  parts : (taken : List (Message × Image)) → of_events.gives asked asks taken
+      → messages_in taken ++ map message_of (drop asks.taken asked.events.now) ≡ map message_of events
   parts taken takes = sym takes.1 ∙ ap (λ n. map message_of (drop n asked.events.now)) from ∙ ap (map message_of) is_all
 
   -- there was room for all
-  too_many : (taken : List Message) → of_events.gives asked asks taken → vec_capacity old - vec_len old < length taken → ⊥
+  too_many : (taken : List (Message × Image)) → of_events.gives asked asks taken
+      → vec_capacity old - vec_len old < length (messages_in taken) → ⊥
   too_many taken takes less =
       let all = ap length (parts taken takes) in
-      let both = length-append taken (map message_of (drop asks.taken asked.events.now)) in
+      let both = length-append (messages_in taken) (map message_of (drop asks.taken asked.events.now)) in
       omega (arith, all, both, room, less, length_messages events)
 
   -- all were taken
@@ -80,10 +82,11 @@ module _ {D : Type 0} (h : History D) (disk : D) (events : List Event) (asked as
       × ((s : Shop) → IsShop (h.image disk) s → HeldBeginnings h s (map message_of events) disk left)
   whole_run left k =
       let none : drop asks.taken asked.events.now ≡ [] = drop_all asks.taken asked.events.now (omega (arith, k.shop.1, ap length k.takes.0)) in
-      let all : k.taken ≡ map message_of events = sym (ap (λ es. k.taken ++ map message_of es) none ∙ append-nil k.taken) ∙ parts k.taken k.takes in (
+      let all : messages_in k.taken ≡ map message_of events =
+      sym (ap (λ es. messages_in k.taken ++ map message_of es) none ∙ append-nil (messages_in k.taken)) ∙ parts k.taken k.takes in (
         λ s is.
             let run : IsToldWhole h listed s (map message_of events) disk left old new =
-            subst (λ ms. IsToldWhole h listed s ms disk left old new) all (k.ok s is) in
+            subst (λ ms. IsToldWhole h listed s ms disk left old new) all (k.ok s is).0 in
             (told_in run.turns, run.told ∙ ap (λ rs. old.items ++ rs) (told_over h run.turns), (whole h s (map message_of events) run.turns disk left run.run).0),
         λ s is. subst (λ ms. HeldBeginnings h s ms disk left) all (k.moments s is),
       )
@@ -92,7 +95,7 @@ module _ {D : Type 0} (h : History D) (disk : D) (events : List Event) (asked as
       → IsEventsEnd h disk left (map message_of events) old.items new.items (ends.Open f)
   refused left f k = record {
     device = λ s is (e : ends.Open f ≡ ends.Device). cc;
-    moments = λ s is. held_of_more h s k.taken (map message_of (drop asks.taken asked.events.now)) (map message_of events) disk left (parts k.taken k.takes) (k.moments s is);
+    moments = λ s is. held_of_more h s (messages_in k.taken) (map message_of (drop asks.taken asked.events.now)) (map message_of events) disk left (parts k.taken k.takes) (k.moments s is);
     plays = λ shop never. ⊎_elim (λ (e : runs.Open f ≡ runs.Input). cc) (λ (e : runs.Open f ≡ runs.Output). cc) (k.plays shop never);
     «open» = λ x e. (k.«open» x (ap runs.Open (ap opened_with e))).0;
     cause = λ (e : ends.Open f ≡ ends.Device). cc;
@@ -104,15 +107,15 @@ module _ {D : Type 0} (h : History D) (disk : D) (events : List Event) (asked as
       → IsEventsEnd h disk left (map message_of events) old.items new.items ends.Device
   stopped left k = record {
     device = λ s is _.
-        let x = k.device s is refl in (
+        let x = (k.device s is refl).0 in (
           told_in x.turns ++ x.last ∷ [],
           ⊎_elim
               (λ t. t ∙ ap (λ rs. old.items ++ rs) (told_more (over_images h x.turns) (x.last, h.image left) ∙ ap (λ rs. rs ++ x.last ∷ []) (told_over h x.turns)))
               (λ t. absurd (too_many k.taken k.takes t.1))
               x.told,
-          (at_device h s k.taken (map message_of (drop asks.taken asked.events.now)) (map message_of events) x.turns x.last disk left (parts k.taken k.takes) x.run).0,
+          (at_device h s (messages_in k.taken) (map message_of (drop asks.taken asked.events.now)) (map message_of events) x.turns x.last disk left (parts k.taken k.takes) x.run).0,
         );
-    moments = λ s is. held_of_more h s k.taken (map message_of (drop asks.taken asked.events.now)) (map message_of events) disk left (parts k.taken k.takes) (k.moments s is);
+    moments = λ s is. held_of_more h s (messages_in k.taken) (map message_of (drop asks.taken asked.events.now)) (map message_of events) disk left (parts k.taken k.takes) (k.moments s is);
     plays = λ shop never. ⊎_elim (λ (e : runs.Device ≡ runs.Input). cc) (λ (e : runs.Device ≡ runs.Output). cc) (k.plays shop never);
     «open» = λ f (e : ends.Device ≡ ends.Open f). cc;
     cause = λ _. k.cause refl;
@@ -121,9 +124,9 @@ module _ {D : Type 0} (h : History D) (disk : D) (events : List Event) (asked as
   }
 
   -- whatever fault ended it: neither the input nor the list failed
-  pub faulted : (left : D) (f : RunFault) → IsRun h of_events listed disk asked asks old new (Err (f, left))
-      → IsEventsEnd h disk left (map message_of events) old.items new.items (play_fault f)
+  pub faulted : (left : D) (f : LoopFault) → IsRun h of_events listed disk asked asks old new (Err (f, left))
+      → IsEventsEnd h disk left (map message_of events) old.items new.items (play_fault_of f)
   faulted left (runs.Open f) k = refused left f k
   faulted left runs.Input k = let shop = k.after (inl refl) in absurd (k.input shop.0 shop.1 refl).0
-  faulted left runs.Output k = let shop = k.after (inr refl) in absurd (too_many k.taken k.takes (k.output shop.0 shop.1 refl).full)
+  faulted left runs.Output k = let shop = k.after (inr refl) in absurd (too_many k.taken k.takes (k.output shop.0 shop.1 refl).0.full)
   faulted left runs.Device k = stopped left k

@@ -1,13 +1,16 @@
 -- One reply more, written on a line of its own.
 use Rattle.std.proofs.Common.{◌≡◌, ℕ, ◌+◌, List, [], ◌∷◌, ◌++◌, Option, Some, None, refl, subst, sym, ◌∙◌, ap, append_assoc, append-nil, Ok, Err, true}
+use Rattle.std.proofs.lemmas.List.{map-append}
 use Rattle.std.specs.Prelude.{IsSome, codes, if◌then◌else◌, is_none, option_map, option_to_list, OnOk, is_ok, Result}
 use Rattle.std.specs.Io.KnownBytes.{Appends}
 use Rattle.std.proofs.KnownBytes.{Appends-trans}
+use Rattle.d64_image.specs.Images.{Image}
 use Rattle.request_cards.specs.Ledgers.{report}
 use Rattle.request_cards.specs.Texts.{reply_text}
 use Rattle.request_cards.specs.declared.reply.Reply.{Reply}
 use Rattle.script_lines.specs.declared.events.Cut.{Cut}
 use Rattle.script_lines.specs.declared.events.Event.{Event}
+use Rattle.host_session.specs.Asking.{messages_in}
 use Rattle.host_session.specs.Events.{Message, message_in, message_of, messages_of}
 use Rattle.script_lines.specs.Resets.{Line, first_bad, line_in, line_of}
 
@@ -55,3 +58,10 @@ line_taken ls rest line m cut is none =
         → option_to_list (option_map message_in o) ++ messages_of rest ≡ m ∷ messages_of rest
     pick None some is = cc
     pick (Some l) some is = ap (λ x. x ∷ messages_of rest) (is l refl)
+
+-- one message more was taken
+pub taken_on : (xs : List (Message × Image)) (all left more : List Message) (m : Message) (i : Image)
+    → all ≡ messages_in xs ++ left → left ≡ m ∷ more → all ≡ messages_in (xs ++ (m, i) ∷ []) ++ more
+taken_on xs all left more m i is next =
+    is ∙ ap (λ rest. messages_in xs ++ rest) next ∙ sym (append_assoc (messages_in xs) (m ∷ []) more)
+    ∙ ap (λ ms. ms ++ more) (sym (map-append (λ x. x.0) xs ((m, i) ∷ [])))

@@ -2,12 +2,13 @@
 use Rattle.std.proofs.Common.{◌≡◌, ◌≢◌, ◌++◌, ◌∙◌, ⊎_elim, ℕ, List, [], ◌∷◌, None, Some, Ok, Err, refl, sym, subst, ap, arith, inl, inr, length, append-nil}
 use Rattle.std.proofs.lemmas.Option.{none-some}
 use Rattle.d64_image.specs.History.{History}
+use Rattle.d64_image.specs.Images.{Image}
 use Rattle.script_lines.specs.Lines.{lines}
 use Rattle.script_lines.specs.Resets.{first_bad}
 use Rattle.host_session.proofs.Chained.{at_device, at_output, told_over, whole}
 use Rattle.host_session.proofs.PlainRuns.{plain_played}
 use Rattle.host_session.proofs.Runs.{held_of_more}
-use Rattle.host_session.specs.Asking.{of_script}
+use Rattle.host_session.specs.Asking.{messages_in, of_script}
 use Rattle.host_session.specs.Chains.{over_images, told_in}
 use Rattle.host_session.specs.Events.{Message, messages_of}
 use Rattle.host_session.specs.Loops.{IsRun, IsToldWhole}
@@ -17,9 +18,9 @@ use Rattle.host_session.specs.Telling.{Output}
 use Rattle.host_session.specs.declared.asking.OfScript.{OfScript}
 use Rattle.host_session.specs.declared.faults.OpenFault.{OpenFault}
 use Rattle.host_session.specs.declared.faults.OpenFault.TheVariants as openings
-use Rattle.host_session.specs.Faults.{script_fault}
-use Rattle.host_session.specs.declared.looping.RunFault.{RunFault}
-use Rattle.host_session.specs.declared.looping.RunFault.TheVariants as runs
+use Rattle.host_session.specs.Faults.{script_fault_of}
+use Rattle.host_session.specs.declared.looping.LoopFault.{LoopFault}
+use Rattle.host_session.specs.declared.looping.LoopFault.TheVariants as runs
 use Rattle.host_session.specs.declared.running.ScriptFault.{ScriptFault}
 use Rattle.host_session.specs.declared.running.ScriptFault.TheVariants as ends
 
@@ -31,7 +32,8 @@ opened_with _ = openings.Device
 module _ {D T : Type 0} (h : History D) (o : Output T) (disk : D) (script : List ℕ) (asked asks : OfScript) (old new : T)
     (is_all : asked.left.now ≡ script) (none : first_bad (lines script) ≡ None) where
   -- the messages that were taken, and those of the lines that are left
-  parts : (taken : List Message) → of_script.gives asked asks taken → taken ++ messages_of (lines asks.left.now) ≡ messages_of (lines script)
+  parts : (taken : List (Message × Image)) → of_script.gives asked asks taken
+      → messages_in taken ++ messages_of (lines asks.left.now) ≡ messages_of (lines script)
   parts taken takes = sym (takes (ap (λ xs. first_bad (lines xs)) is_all ∙ none)).1 ∙ ap (λ xs. messages_of (lines xs)) is_all
 
   no_line : (n : ℕ) → first_bad (lines script) ≡ Some n → ⊥
@@ -39,19 +41,19 @@ module _ {D T : Type 0} (h : History D) (o : Output T) (disk : D) (script : List
 
   pub played_out : (left : D) → IsRun h of_script o disk asked asks old new (Ok left) → IsScriptRun h o disk script old new (Ok left)
   played_out left k =
-      let all : k.taken ≡ messages_of (lines script) =
-      sym (ap (λ ls. k.taken ++ messages_of ls) k.shop.1 ∙ append-nil k.taken) ∙ parts k.taken k.takes in
+      let all : messages_in k.taken ≡ messages_of (lines script) =
+      sym (ap (λ ls. messages_in k.taken ++ messages_of ls) k.shop.1 ∙ append-nil (messages_in k.taken)) ∙ parts k.taken k.takes in
       record {
         bad_line = λ n e. absurd (no_line n e);
         good = tt;
         shop = k.shop.0;
         ok = λ s is.
             let run : IsToldWhole h o s (messages_of (lines script)) disk left old new =
-            subst (λ ms. IsToldWhole h o s ms disk left old new) all (k.ok s is) in
+            subst (λ ms. IsToldWhole h o s ms disk left old new) all (k.ok s is).0 in
             record { run = run; played = (whole h s (messages_of (lines script)) run.turns disk left run.run).0 };
         without_resets = λ s is no.
             let run : IsToldWhole h o s (messages_of (lines script)) disk left old new =
-            subst (λ ms. IsToldWhole h o s ms disk left old new) all (k.ok s is) in
+            subst (λ ms. IsToldWhole h o s ms disk left old new) all (k.ok s is).0 in
             let q = plain_played h s (lines script) disk left (told_in run.turns) no (whole h s (messages_of (lines script)) run.turns disk left run.run).0 in
             (record { turns = over_images h run.turns; is = run.told; replies = told_over h run.turns ∙ q.0 }, q.1);
         output = λ s is. tt;
@@ -73,7 +75,7 @@ module _ {D T : Type 0} (h : History D) (o : Output T) (disk : D) (script : List
     without_resets = λ s is no. tt;
     output = λ s is (e : ends.Open f ≡ ends.Output). cc;
     device = λ s is (e : ends.Open f ≡ ends.Device). cc;
-    moments = λ s is. held_of_more h s k.taken (messages_of (lines asks.left.now)) (messages_of (lines script)) disk left (parts k.taken k.takes) (k.moments s is);
+    moments = λ s is. held_of_more h s (messages_in k.taken) (messages_of (lines asks.left.now)) (messages_of (lines script)) disk left (parts k.taken k.takes) (k.moments s is);
     plays = λ shop never. ⊎_elim (λ (e : runs.Open f ≡ runs.Input). cc) (λ (e : runs.Open f ≡ runs.Output). cc) (k.plays shop never);
     «open» = λ x e. let y = k.«open» x (ap runs.Open (ap opened_with e)) in (y.0, y.3);
     cause = λ (e : ends.Open f ≡ ends.Device). cc;
@@ -89,18 +91,18 @@ module _ {D T : Type 0} (h : History D) (o : Output T) (disk : D) (script : List
     ok = λ s is. tt;
     without_resets = λ s is no. tt;
     output = λ s is _.
-        let x = k.output s is refl in
-        let some : k.taken ≢ [] = λ e. omega (arith, x.full, ap length e) in
+        let x = (k.output s is refl).0 in
+        let some : messages_in k.taken ≢ [] = λ e. omega (arith, x.full, ap length e) in
         record {
-          begun = k.taken;
+          begun = messages_in k.taken;
           rest = messages_of (lines asks.left.now);
           parts = parts k.taken k.takes;
           run = x;
-          stopped = (at_output h s k.taken (messages_of (lines asks.left.now)) (messages_of (lines script)) (x.turns ++ x.last ∷ []) disk left
+          stopped = (at_output h s (messages_in k.taken) (messages_of (lines asks.left.now)) (messages_of (lines script)) (x.turns ++ x.last ∷ []) disk left
               (parts k.taken k.takes) some x.run).0;
         };
     device = λ s is (e : ends.Output ≡ ends.Device). cc;
-    moments = λ s is. held_of_more h s k.taken (messages_of (lines asks.left.now)) (messages_of (lines script)) disk left (parts k.taken k.takes) (k.moments s is);
+    moments = λ s is. held_of_more h s (messages_in k.taken) (messages_of (lines asks.left.now)) (messages_of (lines script)) disk left (parts k.taken k.takes) (k.moments s is);
     plays = λ shop never. inr refl;
     «open» = λ f (e : ends.Output ≡ ends.Open f). cc;
     cause = λ (e : ends.Output ≡ ends.Device). cc;
@@ -117,16 +119,16 @@ module _ {D T : Type 0} (h : History D) (o : Output T) (disk : D) (script : List
     without_resets = λ s is no. tt;
     output = λ s is (e : ends.Device ≡ ends.Output). cc;
     device = λ s is _.
-        let x = k.device s is refl in
+        let x = (k.device s is refl).0 in
         record {
-          begun = k.taken;
+          begun = messages_in k.taken;
           rest = messages_of (lines asks.left.now);
           parts = parts k.taken k.takes;
           run = x;
-          stopped = (at_device h s k.taken (messages_of (lines asks.left.now)) (messages_of (lines script)) x.turns x.last disk left
+          stopped = (at_device h s (messages_in k.taken) (messages_of (lines asks.left.now)) (messages_of (lines script)) x.turns x.last disk left
               (parts k.taken k.takes) x.run).0;
         };
-    moments = λ s is. held_of_more h s k.taken (messages_of (lines asks.left.now)) (messages_of (lines script)) disk left (parts k.taken k.takes) (k.moments s is);
+    moments = λ s is. held_of_more h s (messages_in k.taken) (messages_of (lines asks.left.now)) (messages_of (lines script)) disk left (parts k.taken k.takes) (k.moments s is);
     plays = λ shop never. ⊎_elim (λ (e : runs.Device ≡ runs.Input). cc) (λ (e : runs.Device ≡ runs.Output). cc) (k.plays shop never);
     «open» = λ f (e : ends.Device ≡ ends.Open f). cc;
     cause = λ _. k.cause refl;
@@ -134,8 +136,8 @@ module _ {D T : Type 0} (h : History D) (o : Output T) (disk : D) (script : List
   }
 
   -- whatever fault ended it: the input didn't fail
-  pub faulted : (left : D) (f : RunFault) → IsRun h of_script o disk asked asks old new (Err (f, left))
-      → IsScriptRun h o disk script old new (Err (script_fault f, left))
+  pub faulted : (left : D) (f : LoopFault) → IsRun h of_script o disk asked asks old new (Err (f, left))
+      → IsScriptRun h o disk script old new (Err (script_fault_of f, left))
   faulted left (runs.Open f) k = refused left f k
   faulted left runs.Input k = let shop = k.after (inl refl) in absurd (k.input shop.0 shop.1 refl).0
   faulted left runs.Output k = unprinted left k

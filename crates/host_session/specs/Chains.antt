@@ -1,11 +1,12 @@
 -- A run as a chain of events. All of it is our own.
-use Rattle.std.specs.Prelude.{◌≡◌, ◌≤◌, List, [], ◌∷◌, ◌++◌, map}
+use Rattle.std.specs.Prelude.{◌≡◌, ◌≤◌, List, [], ◌∷◌, ◌++◌, map, zip}
 use Rattle.d64_image.specs.Images.{Image}
 use Rattle.d64_image.specs.History.{HeldOnly, History}
 use Rattle.request_cards.specs.declared.reply.Reply.{Reply}
 use Rattle.host_session.specs.Counted.{after_all}
 use Rattle.host_session.specs.Events.{Message}
 use Rattle.host_session.specs.OneEvent.{EndsFailed, GoesOn, IsEvent}
+use Rattle.host_session.specs.Runs.{HeldBeginnings}
 use Rattle.host_session.specs.Shop.{IsSettled, IsShop, Shop, start_of, with_state}
 
 -- One event after another: each begins on the disk and the shop on which the one before it ended, and ends at rest, on
@@ -41,9 +42,23 @@ pub record HasRunToFailure {D : Type 0} (h : History D) (s : Shop) (ms : List Me
   pub run : HasRun h s before turns old at
   pub failed : IsEvent h run.now message at new (EndsFailed h run.now message last new)
 
+-- Behind these messages, on the disk that stands beside the reply to the last of them, a run was at rest; and from
+-- there on only images of beginnings of those behind were held, from its shop then on.
+pub record GrowsFrom {D : Type 0} (h : History D) (s : Shop) (ms ns : List Message) (turns : List (Reply × D))
+    (old new : D) : Type 0 where
+  pub at : D
+  pub run : HasRun h s ms turns old at
+  pub rests : IsSettled (h.image at) run.now
+  pub behind : HeldBeginnings h run.now ns at new
+
 -- the replies alone
 abbrev pub told_in : {X : Type 0} → List (Reply × X) → List Reply
 told_in turns = map (λ x. x.0) turns
+
+-- Each message with what the disk held when it was asked for: the first over the disk as it was opened, each other over
+-- the disk that stands beside the reply to the one before it.
+abbrev pub asked_over : {D : Type 0} → History D → D → List (Reply × D) → List Message → List (Message × Image)
+asked_over h first turns ms = zip ms (h.image first ∷ map (λ x. h.image x.1) turns)
 
 -- each reply with what the disk beside it holds
 abbrev pub over_images : {D : Type 0} → History D → List (Reply × D) → List (Reply × Image)

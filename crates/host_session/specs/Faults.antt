@@ -1,7 +1,7 @@
 -- The faults of runs, and the numbers under which they are told. All of it is our own.
 use Rattle.std.specs.Prelude.{ℕ}
-use Rattle.host_session.specs.declared.looping.RunFault.{RunFault}
-use Rattle.host_session.specs.declared.looping.RunFault.TheVariants as runs
+use Rattle.host_session.specs.declared.looping.LoopFault.{LoopFault}
+use Rattle.host_session.specs.declared.looping.LoopFault.TheVariants as runs
 use Rattle.host_session.specs.declared.playing.PlayFault.{PlayFault}
 use Rattle.host_session.specs.declared.playing.PlayFault.TheVariants as plays
 use Rattle.host_session.specs.declared.running.ScriptFault.{ScriptFault}
@@ -21,12 +21,12 @@ script_number scripts.Output = 3
 script_number scripts.Device = 4
 
 -- what is told of events whose run this fault ended
-abbrev pub play_fault : RunFault → PlayFault
-play_fault (runs.Open fault) = plays.Open fault
-play_fault _ = plays.Device
+abbrev pub play_fault_of : LoopFault → PlayFault
+play_fault_of (runs.Open fault) = plays.Open fault
+play_fault_of _ = plays.Device
 
 -- and of a script
-abbrev pub script_fault : RunFault → ScriptFault
-script_fault (runs.Open fault) = scripts.Open fault
-script_fault runs.Output = scripts.Output
-script_fault _ = scripts.Device
+abbrev pub script_fault_of : LoopFault → ScriptFault
+script_fault_of (runs.Open fault) = scripts.Open fault
+script_fault_of runs.Output = scripts.Output
+script_fault_of _ = scripts.Device

@@ -1,9 +1,10 @@
 -- What comes of a run over a source of events and an output. All of it is our own.
 use Rattle.std.specs.Prelude.{◌≡◌, ◌<◌, ◌≤◌, ◌+◌, ◌⊎◌, List, [], ◌∷◌, ◌++◌, IfErr, IfOk, Ok, Err, Result, false, length}
 use Rattle.d64_image.specs.History.{Failed, History, NeverFailed}
+use Rattle.d64_image.specs.Images.{Image}
 use Rattle.request_cards.specs.declared.reply.Reply.{Reply}
-use Rattle.host_session.specs.Asking.{Source}
-use Rattle.host_session.specs.Chains.{HasRun, HasRunToFailure, over_images}
+use Rattle.host_session.specs.Asking.{Source, messages_in}
+use Rattle.host_session.specs.Chains.{HasRun, HasRunToFailure, asked_over, over_images}
 use Rattle.host_session.specs.Events.{Message}
 use Rattle.host_session.specs.Opening.{IsAShop, disk_of}
 use Rattle.host_session.specs.Runs.{HeldBeginnings, IsRefused}
@@ -11,8 +12,8 @@ use Rattle.host_session.specs.Shop.{IsShop, Shop}
 use Rattle.host_session.specs.Standing.{View}
 use Rattle.host_session.specs.Telling.{Output}
 use Rattle.host_session.specs.declared.faults.OpenFault.{OpenFault}
-use Rattle.host_session.specs.declared.looping.RunFault.{RunFault}
-use Rattle.host_session.specs.declared.looping.RunFault.TheVariants as faults
+use Rattle.host_session.specs.declared.looping.LoopFault.{LoopFault}
+use Rattle.host_session.specs.declared.looping.LoopFault.TheVariants as faults
 use Rattle.host_session.specs.declared.looping.Stretch.{Stretch}
 use Rattle.host_session.specs.declared.looping.Stretch.TheVariants as stretches
 
@@ -23,8 +24,8 @@ pub record IsToldWhole {D T : Type 0} (h : History D) (o : Output T) (s : Shop) 
   pub run : HasRun h s ms turns disk left
   pub told : o.told old new (over_images h turns)
 
--- The same of all replies but the last, which was broken off, and nothing else was told. An output that has room for all
--- of them takes them.
+-- The same of all replies but the last, which was broken off, and nothing else was told. An output that has room for
+-- all of them takes them.
 pub record IsToldToOutput {D T : Type 0} (h : History D) (o : Output T) (s : Shop) (ms : List Message) (disk left : D)
     (old new : T) : Type 0 where
   pub turns : List (Reply × D)
@@ -33,8 +34,8 @@ pub record IsToldToOutput {D T : Type 0} (h : History D) (o : Output T) (s : Sho
   pub told : o.broken_off old new (over_images h turns) last.0
   pub full : o.room old < length ms
 
--- These messages were run, in the last of which the device failed. Its reply was told over what the device then held, or
--- broken off; the replies before it were told as ever, and nothing else was.
+-- These messages were run, in the last of which the device failed. Its reply was told over what the device then held,
+-- or broken off; the replies before it were told as ever, and nothing else was.
 pub record IsToldToDevice {D T : Type 0} (h : History D) (o : Output T) (s : Shop) (ms : List Message) (disk left : D)
     (old new : T) : Type 0 where
   pub turns : List (Reply × D)
@@ -42,6 +43,22 @@ pub record IsToldToDevice {D T : Type 0} (h : History D) (o : Output T) (s : Sho
   pub run : HasRunToFailure h s ms turns last disk left
   pub told : o.told old new (over_images h turns ++ (last, h.image left) ∷ [])
       ⊎ (o.broken_off old new (over_images h turns) last × (o.room old < length ms))
+
+-- The same of messages that were taken so: the first while the disk was as it was opened, each other while it was as it
+-- stands beside the reply that was told before.
+abbrev pub IsRunWhole : {D T : Type 0} → History D → Output T → Shop → List (Message × Image) → D → D → T → T → Type 0
+IsRunWhole h o s taken disk left old new = (x : IsToldWhole h o s (messages_in taken) disk left old new)
+    × (taken ≡ asked_over h x.run.first x.turns (messages_in taken))
+
+abbrev pub IsRunToOutput : {D T : Type 0} → History D → Output T → Shop → List (Message × Image) → D → D → T → T
+    → Type 0
+IsRunToOutput h o s taken disk left old new = (x : IsToldToOutput h o s (messages_in taken) disk left old new)
+    × (taken ≡ asked_over h x.run.first x.turns (messages_in taken))
+
+abbrev pub IsRunToDevice : {D T : Type 0} → History D → Output T → Shop → List (Message × Image) → D → D → T → T
+    → Type 0
+IsRunToDevice h o s taken disk left old new = (x : IsToldToDevice h o s (messages_in taken) disk left old new)
+    × (taken ≡ asked_over h x.run.run.first x.turns (messages_in taken))
 
 -- What a run began with: the shop on its disk, the source and the output.
 pub record Origin (D A T : Type 0) : Type 0 where
@@ -52,38 +69,39 @@ pub record Origin (D A T : Type 0) : Type 0 where
 
 -- A run is under way: what it took of the source has P, it was run and told, and the output had room for as much.
 pub record IsUnderWay {D A T : Type 0} (h : History D) (o : Output T) (from : Origin D A T) (disk : D) (out : T)
-    (P : List Message → Type 0) : Type 0 where
-  pub messages : List Message
-  pub taken : P messages
-  pub whole : IsToldWhole h o from.shop messages from.disk disk from.out out
-  pub room : o.room from.out ≤ o.room out + length messages
+    (P : List (Message × Image) → Type 0) : Type 0 where
+  pub taken : List (Message × Image)
+  pub is : P taken
+  pub whole : IsRunWhole h o from.shop taken from.disk disk from.out out
+  pub room : o.room from.out ≤ o.room out + length (messages_in taken)
 
 -- all that was taken of the source was run and told
 abbrev pub HasCome : {D A T : Type 0} → History D → Source A → Output T → Origin D A T → D → A → T → Type 0
-HasCome h a o from disk asks out = IsUnderWay h o from disk out (λ ms. a.gives from.asks asks ms)
+HasCome h a o from disk asks out = IsUnderWay h o from disk out (λ xs. a.gives from.asks asks xs)
 
--- all but the message that was taken last
+-- all but the message that was taken last, while the disk was as it is
 abbrev pub HasComeBut : {D A T : Type 0} → History D → Source A → Output T → Origin D A T → D → A → T → Type 0
-HasComeBut h a o from disk asks out = IsUnderWay h o from disk out (λ ms. a.gives from.asks asks (ms ++ a.here asks ∷ []))
+HasComeBut h a o from disk asks out =
+    IsUnderWay h o from disk out (λ xs. a.gives from.asks asks (xs ++ (a.here asks, h.image disk) ∷ []))
 
 -- how a run ends that this fault ended
-abbrev pub EndsBy : {D A T : Type 0} → History D → Source A → Output T → Origin D A T → A → T → D → RunFault → Type 0
+abbrev pub EndsBy : {D A T : Type 0} → History D → Source A → Output T → Origin D A T → A → T → D → LoopFault → Type 0
 EndsBy h a o from asks out left (faults.Open f) = ⊥
-EndsBy h a o from asks out left faults.Input = (ms : List Message) × a.gives from.asks asks ms × a.has_failed asks
-    × IsToldWhole h o from.shop ms from.disk left from.out out
-EndsBy h a o from asks out left faults.Output = (ms : List Message) × a.gives from.asks asks ms
-    × IsToldToOutput h o from.shop ms from.disk left from.out out
-EndsBy h a o from asks out left faults.Device = (ms : List Message) × a.gives from.asks asks ms
-    × IsToldToDevice h o from.shop ms from.disk left from.out out
+EndsBy h a o from asks out left faults.Input = (taken : List (Message × Image)) × a.gives from.asks asks taken
+    × a.has_failed asks × IsRunWhole h o from.shop taken from.disk left from.out out
+EndsBy h a o from asks out left faults.Output = (taken : List (Message × Image)) × a.gives from.asks asks taken
+    × IsRunToOutput h o from.shop taken from.disk left from.out out
+EndsBy h a o from asks out left faults.Device = (taken : List (Message × Image)) × a.gives from.asks asks taken
+    × IsRunToDevice h o from.shop taken from.disk left from.out out
 
 -- how a run ends that was opened
-abbrev pub Ends : {D A T : Type 0} → History D → Source A → Output T → Origin D A T → A → T → Result D (RunFault × D) → Type 0
-Ends h a o from asks out (Ok left) = (ms : List Message) × a.gives from.asks asks ms × a.is_over asks
-    × IsToldWhole h o from.shop ms from.disk left from.out out
+abbrev pub Ends : {D A T : Type 0} → History D → Source A → Output T → Origin D A T → A → T → Result D (LoopFault × D) → Type 0
+Ends h a o from asks out (Ok left) = (taken : List (Message × Image)) × a.gives from.asks asks taken × a.is_over asks
+    × IsRunWhole h o from.shop taken from.disk left from.out out
 Ends h a o from asks out (Err e) = EndsBy h a o from asks out e.1 e.0
 
 -- the end of a run, with its disk
-abbrev pub with_disk : {D : Type 0} → D → Result Unit RunFault → Result D (RunFault × D)
+abbrev pub with_disk : {D : Type 0} → D → Result Unit LoopFault → Result D (LoopFault × D)
 with_disk disk (Ok _) = Ok disk
 with_disk disk (Err fault) = Err (fault, disk)
 
@@ -94,25 +112,27 @@ IsStretch h a o from session asks out (stretches.Ended end) = Ends h a o from as
 
 -- What comes of a run over a source and an output that were `asked` and `old`, and are `asks` and `new`.
 pub record IsRun {D A T : Type 0} (h : History D) (a : Source A) (o : Output T) (disk : D) (asked asks : A) (old new : T)
-    (result : Result D (RunFault × D)) : Type 0 where
-  -- the messages that were taken of the source, and nothing beside them
-  pub taken : List Message
+    (result : Result D (LoopFault × D)) : Type 0 where
+  -- the messages that were taken of the source, each with what the disk held then, and nothing beside them
+  pub taken : List (Message × Image)
   pub takes : a.gives asked asks taken
   -- A shop alone is run, and up to the end of the source.
   pub shop : IfOk result (λ _. IsAShop (h.image disk) × a.is_over asks)
-  -- Each event was run, and its reply told over the disk that it left, before the next one began.
-  pub ok : (s : Shop) → IsShop (h.image disk) s → IfOk result (λ d. IsToldWhole h o s taken disk d old new)
+  -- Each event was taken when the one before it was done and told, and run, and its reply told over the disk that it
+  -- left.
+  pub ok : (s : Shop) → IsShop (h.image disk) s → IfOk result (λ d. IsRunWhole h o s taken disk d old new)
   -- The input failed: the same of the events that it gave.
   pub input : (s : Shop) → IsShop (h.image disk) s → IfErr result (λ e. e.0 ≡ faults.Input
-      → a.has_failed asks × IsToldWhole h o s taken disk e.1 old new)
+      → a.has_failed asks × IsRunWhole h o s taken disk e.1 old new)
   -- The output failed: the last reply was broken off, those before it were told, and nothing else.
   pub output : (s : Shop) → IsShop (h.image disk) s → IfErr result (λ e. e.0 ≡ faults.Output
-      → IsToldToOutput h o s taken disk e.1 old new)
+      → IsRunToOutput h o s taken disk e.1 old new)
   -- The device failed in the last event that was taken. The replies before its own were told, and nothing else.
   pub device : (s : Shop) → IsShop (h.image disk) s → IfErr result (λ e. e.0 ≡ faults.Device
-      → IsToldToDevice h o s taken disk e.1 old new)
+      → IsRunToDevice h o s taken disk e.1 old new)
   -- At each moment the shop is that of a counted list of some beginning of the events.
-  pub moments : (s : Shop) → IsShop (h.image disk) s → HeldBeginnings h s taken disk (disk_of (λ d. d) result)
+  pub moments : (s : Shop) → IsShop (h.image disk) s
+      → HeldBeginnings h s (messages_in taken) disk (disk_of (λ d. d) result)
   -- On a shop whose device doesn't fail it answers Ok, unless the input or the output fails.
   pub plays : IsAShop (h.image disk) → NeverFailed h disk (disk_of (λ d. d) result)
       → IfErr result (λ e. (e.0 ≡ faults.Input) ⊎ (e.0 ≡ faults.Output))

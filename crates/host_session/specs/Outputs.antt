@@ -1,5 +1,5 @@
 -- What the outputs of this crate say of what they were told. All of it is our own.
-use Rattle.std.specs.Prelude.{◌≡◌, ℕ, ◌-◌, List, ◌++◌, Option, Vec, codes, take, vec_capacity, vec_len, map}
+use Rattle.std.specs.Prelude.{◌≡◌, ⊤, ℕ, ◌-◌, List, ◌++◌, Option, Vec, codes, take, vec_capacity, vec_len, map}
 use Rattle.std.proofs.KnownBytes.{Appends-nil}
 use Rattle.std.proofs.Common.{append-nil, sym}
 use Rattle.std.specs.Io.KnownBytes.{Appends}
@@ -23,21 +23,28 @@ printer_out p = p.out
 abbrev pub line_of : Reply → List ℕ
 line_of reply = reply_text reply ++ codes "\n"
 
--- Replies were printed, each on a line of its own. A last one that was broken off is there up to some byte.
+-- a beginning of these bytes was written behind what is known, or all of them
+abbrev pub AppendsPart : Option (List ℕ) → Option (List ℕ) → List ℕ → Type 0
+AppendsPart old new bytes = (n : ℕ) × Appends old new (take n bytes)
+
+-- Replies were printed, each on a line of its own. A last one that was broken off is there up to some byte. What a
+-- writer holds back no contract of it says.
 abbrev pub printed : {W : Type 0} → (W → Option (List ℕ)) → Output (Printer W)
 printed contents = record {
   told = λ old new turns. Appends (contents (printer_out old)) (contents (printer_out new)) (report (told_in turns));
   broken_off = λ old new turns reply. (n : ℕ)
       × Appends (contents (printer_out old)) (contents (printer_out new)) (report (told_in turns) ++ take n (line_of reply));
+  is_handed_on = λ _. ⊤;
   room = λ _. 0;
   none = λ p. Appends-nil (contents (printer_out p));
 }
 
--- Replies were put in a list, behind those that it had.
+-- Replies were put in a list, behind those that it had, and nowhere else.
 abbrev pub listed : Output (Vec Reply Global)
 listed = record {
   told = λ old new turns. new.items ≡ old.items ++ told_in turns;
   broken_off = λ old new turns reply. new.items ≡ old.items ++ told_in turns;
+  is_handed_on = λ _. ⊤;
   room = λ v. vec_capacity v - vec_len v;
   none = λ v. sym (append-nil v.items);
 }
@@ -50,11 +57,12 @@ turn_of t = (t.reply, sectors_in t.bytes.items)
 abbrev pub turns_of : Heard → List (Reply × Image)
 turns_of h = map turn_of h.turns.items
 
--- Replies were kept, each with a copy of the disk. One that isn't taken isn't kept.
+-- Replies were kept, each with a copy of the disk, and so many of them handed on. One that isn't taken isn't kept.
 abbrev pub heard : Output Heard
 heard = record {
   told = λ old new turns. turns_of new ≡ turns_of old ++ turns;
   broken_off = λ old new turns reply. turns_of new ≡ turns_of old ++ turns;
+  is_handed_on = λ h. h.handed ≡ vec_len h.turns;
   room = λ _. 0;
   none = λ h. sym (append-nil (turns_of h));
 }

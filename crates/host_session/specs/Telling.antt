@@ -9,6 +9,8 @@ pub record Output (T : Type 0) : Type 1 where
   pub told : T → T → List (Reply × Image) → Type 0
   -- these were told so, and then this one in part, not at all, or whole; and nothing else
   pub broken_off : T → T → List (Reply × Image) → Reply → Type 0
+  -- nothing that was told is held back
+  pub is_handed_on : T → Type 0
   -- how many more it surely takes
   pub room : T → ℕ
   pub none : (x : T) → told x x []

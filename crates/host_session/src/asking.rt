@@ -4,6 +4,7 @@ ghost use Rattle.host_session.specs.Asking.{IsNext, Source, last_taken, of_event
 ghost use Rattle.host_session.specs.Events.{message_in};
 ghost use Rattle.script_lines.specs.Resets.{Line, line_of};
 
+use d64_image::Sectors;
 use script_lines::{Cut, Event, event_at, next_line};
 
 /// What asking for the next event comes to.
@@ -17,14 +18,14 @@ pub enum Next {
     Failed,
 }
 
-/// Where the events of a run come from, one by one.
-pub trait Asks {
+/// Where the events of a run come from, one by one, each asked for over the disk that the one before it left.
+pub trait Asks<D: Sectors> {
     /// What this source says of the messages that it gives.
     ghost source: { Source Self };
 
-    /// Takes the next event.
-    fn next(&mut self) -> Next
-        ensures { IsNext source self.old self.new result };
+    /// Takes the next event. The disk is lent as it is then.
+    fn next(&mut self, disk: &D) -> Next
+        ensures { IsNext source self.old self.new (D.history.image disk.now) result };
 
     /// The message of the event that was taken last.
     fn message(&self) -> &[u8]
@@ -97,10 +98,10 @@ fn reset_of(line: &[u8]) -> (&[u8], Option<Cut>)
     }
 }
 
-impl<'a> Asks for OfScript<'a> {
+impl<'a, D: Sectors> Asks<D> for OfScript<'a> {
     ghost source = { of_script };
 
-    fn next(&mut self) -> Next {
+    fn next(&mut self, _disk: &D) -> Next {
         let Some((line, more)) = next_line(self.left) else {
             return Next::End;
         };
@@ -125,10 +126,10 @@ impl<'a> Asks for OfScript<'a> {
     }
 }
 
-impl<'a, 'b> Asks for OfEvents<'a, 'b> {
+impl<'a, 'b, D: Sectors> Asks<D> for OfEvents<'a, 'b> {
     ghost source = { of_events };
 
-    fn next(&mut self) -> Next {
+    fn next(&mut self, _disk: &D) -> Next {
         if self.taken >= self.events.len() {
             return Next::End;
         }

@@ -22,6 +22,8 @@ pub struct Heard {
     turns: Vec<Turn>,
     /// How many replies it takes at most.
     most: usize,
+    /// How many of them were handed on.
+    handed: usize,
     alloc: Global,
 }
 
@@ -30,10 +32,12 @@ impl Heard {
     pub fn new(alloc: Global, most: usize) -> Heard
         ensures turns { turns_of result ≡ [] }
         ensures most { result.most ≡ most }
+        ensures none { result.handed ≡ 0 }
     {
         Heard {
             turns: Vec::new(alloc),
             most,
+            handed: 0,
             alloc,
         }
     }
@@ -43,6 +47,13 @@ impl Heard {
         ensures { result.now ≡ self.now.turns.items }
     {
         self.turns.as_slice()
+    }
+
+    /// How many of them were handed on.
+    pub fn handed(&self) -> usize
+        ensures { result ≡ self.now.handed }
+    {
+        self.handed
     }
 }
 
@@ -66,6 +77,7 @@ impl Tells<MemDisk> for Heard {
     }
 
     fn hand_on(&mut self) -> Result<(), NotTaken> {
+        self.handed = self.turns.len();
         Ok(())
     }
 }

@@ -5,7 +5,7 @@ use crate::telling::{NotTaken, Tells};
 use d64_image::Sectors;
 use request_cards::Reply;
 
-/// A list takes replies as far as it has room, and no memory.
+/// A list takes replies as far as it has room, and no memory. It holds none back.
 impl<D: Sectors> Tells<D> for Vec<Reply> {
     ghost output = { listed };
 

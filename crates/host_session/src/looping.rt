@@ -12,7 +12,7 @@ use request_cards::Reply;
 
 /// Why a run ended before its last event.
 #[derive(Clone, Copy, Debug, PartialEq, Eq)]
-pub enum RunFault {
+pub enum LoopFault {
     /// The disk wasn't opened, and no event was taken.
     Open(OpenFault),
     /// The input failed. All events that it gave were run.
@@ -28,11 +28,11 @@ enum Stretch {
     /// Power goes in the event that was taken last, which isn't handled yet.
     Cut,
     /// The run is over.
-    Ended(Result<(), RunFault>),
+    Ended(Result<(), LoopFault>),
 }
 
 /// Handles messages up to the next event with a reset, and tells each reply before the next event is taken.
-fn whole_messages<D: Sectors, A: Asks, T: Tells<D>>(
+fn whole_messages<D: Sectors, A: Asks<D>, T: Tells<D>>(
     session: &mut Session<D>,
     asks: &mut A,
     out: &mut T,
@@ -44,10 +44,10 @@ fn whole_messages<D: Sectors, A: Asks, T: Tells<D>>(
         × (A.source.fuel asks.new < A.source.fuel asks.old) }
 {
     loop {
-        match asks.next() {
+        match asks.next(session.disk()) {
             Next::Event => {}
             Next::End => return Stretch::Ended(Ok(())),
-            Next::Failed => return Stretch::Ended(Err(RunFault::Input)),
+            Next::Failed => return Stretch::Ended(Err(LoopFault::Input)),
         }
         if asks.cut().is_some() {
             return Stretch::Cut;
@@ -55,16 +55,16 @@ fn whole_messages<D: Sectors, A: Asks, T: Tells<D>>(
         let reply = whole_message(session, asks.message());
         let taken = out.tell(&reply, session.disk());
         if is_media(reply) {
-            return Stretch::Ended(Err(RunFault::Device));
+            return Stretch::Ended(Err(LoopFault::Device));
         }
         if taken.is_err() {
-            return Stretch::Ended(Err(RunFault::Output));
+            return Stretch::Ended(Err(LoopFault::Output));
         }
     }
 }
 
 /// The end of a run, with its disk.
-fn ended<D>(disk: D, end: Result<(), RunFault>) -> Result<D, (RunFault, D)>
+fn ended<D>(disk: D, end: Result<(), LoopFault>) -> Result<D, (LoopFault, D)>
     ensures { result ≡ with_disk disk end }
 {
     match end {
@@ -76,11 +76,11 @@ fn ended<D>(disk: D, end: Result<(), RunFault>) -> Result<D, (RunFault, D)>
 /// The run from an event with a reset on, which was taken and isn't handled yet.
 // Out of line: a call takes the room of all its sessions at once, and a run without a reset has use for one alone.
 #[inline(never)]
-fn run_on<D: Sectors, A: Asks, T: Tells<D>>(
+fn run_on<D: Sectors, A: Asks<D>, T: Tells<D>>(
     session: Session<D>,
     asks: &mut A,
     out: &mut T,
-) -> Result<D, (RunFault, D)>
+) -> Result<D, (LoopFault, D)>
     requires { IsSome (A.source.here asks.old).cut_after }
     ensures { (from : Origin D A T) → HasComeBut D.history A.source T.output from session.disk asks.old out.old
         → session.dead ≡ false → Ends D.history A.source T.output from asks.new out.new result }
@@ -93,11 +93,11 @@ fn run_on<D: Sectors, A: Asks, T: Tells<D>>(
             Err(disk) => {
                 // the device failed, whatever comes of this
                 let _ = out.tell(&Reply::Cut, &disk);
-                return Err((RunFault::Device, disk));
+                return Err((LoopFault::Device, disk));
             }
         };
         if out.tell(&Reply::Cut, session.disk()).is_err() {
-            return Err((RunFault::Output, session.close()));
+            return Err((LoopFault::Output, session.close()));
         }
         match whole_messages(&mut session, asks, out) {
             Stretch::Cut => {}
@@ -108,16 +108,16 @@ fn run_on<D: Sectors, A: Asks, T: Tells<D>>(
 
 /// Runs the events one after another on a disk that is opened first, and tells each reply before the next event is taken.
 /// What comes of it are the clauses of `IsRun`.
-pub fn run<D: Sectors, A: Asks, T: Tells<D>>(
+pub fn run<D: Sectors, A: Asks<D>, T: Tells<D>>(
     disk: D,
     asks: &mut A,
     out: &mut T,
-) -> Result<D, (RunFault, D)>
+) -> Result<D, (LoopFault, D)>
     ensures { IsRun D.history A.source T.output disk asks.old asks.new out.old out.new result }
 {
     let mut session = match Session::open(disk) {
         Ok(session) => session,
-        Err((fault, disk)) => return Err((RunFault::Open(fault), disk)),
+        Err((fault, disk)) => return Err((LoopFault::Open(fault), disk)),
     };
     match whole_messages(&mut session, asks, out) {
         Stretch::Cut => run_on(session, asks, out),

@@ -2,7 +2,7 @@
 ghost use Rattle.std.specs.Prelude.{◌≡◌, ◌≢◌, ◌<◌, ◌++◌, ◌+◌, IfErr, IfOk, List, length, map, vec_capacity};
 ghost use Rattle.d64_image.specs.History.{Failed, NeverFailed};
 ghost use Rattle.host_session.specs.Events.{message_of};
-ghost use Rattle.host_session.specs.Faults.{play_fault, play_number};
+ghost use Rattle.host_session.specs.Faults.{play_fault_of, play_number};
 ghost use Rattle.host_session.specs.Opening.{IsAShop, disk_of};
 ghost use Rattle.host_session.specs.Runs.{HeldBeginnings, IsPlayedWhole, IsRefused, StoppedByDevice};
 ghost use Rattle.host_session.specs.Shop.{IsShop, Shop};
@@ -11,7 +11,7 @@ ghost use Rattle.request_cards.specs.declared.reply.Reply.{Reply};
 
 use crate::asking::OfEvents;
 use crate::faults::OpenFault;
-use crate::looping::{RunFault, run};
+use crate::looping::{LoopFault, run};
 use d64_image::Sectors;
 use request_cards::Reply;
 use script_lines::Event;
@@ -45,12 +45,12 @@ impl PlayFault {
 }
 
 /// What is told of events whose run this fault ended. They are here, and so is the room for their replies.
-fn fault_of(fault: RunFault) -> PlayFault
-    ensures { result ≡ play_fault fault }
+fn fault_of(fault: LoopFault) -> PlayFault
+    ensures { result ≡ play_fault_of fault }
 {
     match fault {
-        RunFault::Open(fault) => PlayFault::Open(fault),
-        RunFault::Device | RunFault::Input | RunFault::Output => PlayFault::Device,
+        LoopFault::Open(fault) => PlayFault::Open(fault),
+        LoopFault::Device | LoopFault::Input | LoopFault::Output => PlayFault::Device,
     }
 }
 

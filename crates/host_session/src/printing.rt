@@ -1,7 +1,7 @@
 //! Replies that are printed.
-ghost use Rattle.std.specs.Prelude.{◌≡◌, ◌≤◌, ℕ, OnErr, OnOk, length, take};
+ghost use Rattle.std.specs.Prelude.{◌≡◌, OnErr, OnOk};
 ghost use Rattle.std.specs.Io.KnownBytes.{Appends};
-ghost use Rattle.host_session.specs.Outputs.{printed, printer_out};
+ghost use Rattle.host_session.specs.Outputs.{AppendsPart, printed, printer_out};
 
 use crate::telling::{NotTaken, Tells};
 use d64_image::Sectors;
@@ -30,12 +30,12 @@ impl<W> Printer<W> {
     }
 }
 
-/// Writes all of these bytes: at once, as a writer takes them, and the rest of them where it took a part. At an error a
-/// beginning of them was written.
+/// Writes all of these bytes: at once, as a writer takes them, and the rest of them where it took a part. At an error,
+/// which comes where the writer failed or took none, a beginning of them was written.
 #[inline(always)]
-fn write_whole<W: Write>(out: &mut W, bytes: &[u8]) -> Result<(), NotTaken>
+pub fn write_whole<W: Write>(out: &mut W, bytes: &[u8]) -> Result<(), NotTaken>
     ensures ok { OnOk result (Appends (W.contents out.old) (W.contents out.new) bytes.now) }
-    ensures err { OnErr result ((n : ℕ) × Appends (W.contents out.old) (W.contents out.new) (take n bytes.now)) }
+    ensures err { OnErr result (AppendsPart (W.contents out.old) (W.contents out.new) bytes.now) }
 {
     let mut written = 0;
     for _ in 0..u64::MAX {
@@ -64,6 +64,7 @@ impl<D: Sectors, W: Write> Tells<D> for Printer<W> {
         write_whole(&mut self.out, &room[start..])
     }
 
+    // What a flush does with what the writer holds back no contract says.
     fn hand_on(&mut self) -> Result<(), NotTaken> {
         match self.out.flush() {
             Ok(()) => Ok(()),

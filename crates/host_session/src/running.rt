@@ -1,11 +1,11 @@
 //! Runs of scripts.
 ghost use Rattle.std.specs.Prelude.{◌≡◌};
-ghost use Rattle.host_session.specs.Faults.{script_fault, script_number};
+ghost use Rattle.host_session.specs.Faults.{script_fault_of, script_number};
 ghost use Rattle.host_session.specs.ScriptRuns.{IsScriptRun};
 
 use crate::asking::OfScript;
 use crate::faults::OpenFault;
-use crate::looping::{RunFault, run};
+use crate::looping::{LoopFault, run};
 use crate::telling::Tells;
 use d64_image::Sectors;
 use script_lines::first_bad_line;
@@ -43,13 +43,13 @@ impl ScriptFault {
 }
 
 /// What is told of a script whose run this fault ended. Its input is here, and doesn't fail.
-fn fault_of(fault: RunFault) -> ScriptFault
-    ensures { result ≡ script_fault fault }
+fn fault_of(fault: LoopFault) -> ScriptFault
+    ensures { result ≡ script_fault_of fault }
 {
     match fault {
-        RunFault::Open(fault) => ScriptFault::Open(fault),
-        RunFault::Output => ScriptFault::Output,
-        RunFault::Device | RunFault::Input => ScriptFault::Device,
+        LoopFault::Open(fault) => ScriptFault::Open(fault),
+        LoopFault::Output => ScriptFault::Output,
+        LoopFault::Device | LoopFault::Input => ScriptFault::Device,
     }
 }
 

@@ -1,10 +1,11 @@
 //! Who is told the replies of a run.
+ghost use Rattle.std.specs.Prelude.{OnOk};
 ghost use Rattle.host_session.specs.Telling.{IsTold, Output, TellsNone};
 
 use d64_image::Sectors;
 use request_cards::Reply;
 
-/// The reply wasn't taken, or only in part.
+/// What was to be told, a reply or other bytes, wasn't taken, or only in part.
 #[derive(Clone, Copy, Debug, PartialEq, Eq)]
 pub struct NotTaken;
 
@@ -18,7 +19,8 @@ pub trait Tells<D: Sectors> {
     fn tell(&mut self, reply: &Reply, disk: &D) -> Result<(), NotTaken>
         ensures { IsTold output self.old self.new reply.now (D.history.image disk.now) result };
 
-    /// Hands on what is held back. What was told stays told.
+    /// Hands on what is held back. What was told stays told, and where it is done nothing of it is held back any more.
     fn hand_on(&mut self) -> Result<(), NotTaken>
-        ensures { TellsNone output self.old self.new };
+        ensures kept { TellsNone output self.old self.new }
+        ensures ok { OnOk result (output.is_handed_on self.new) };
 }

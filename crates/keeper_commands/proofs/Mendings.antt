@@ -54,4 +54,7 @@ tells-after S a b c (Err keep.Device) same told = failed_later S a b c same told
 tells-after S a b c (Err keep.ImageSize) same told = absurd told
 tells-after S a b c (Err (keep.Layout fault)) same told = absurd told
 tells-after S a b c (Err keep.NoFile) same told = absurd told
+tells-after S a b c (Err keep.FileExists) same told = absurd told
+tells-after S a b c (Err (keep.BadLine n)) same told = absurd told
+tells-after S a b c (Err keep.DiskFull) same told = absurd told
 tells-after S a b c (Err keep.NoMemory) same told = absurd told

@@ -1,5 +1,5 @@
 -- What comes of the repair of a disk, from what the repair tells and what is read afterwards.
-use Rattle.std.proofs.Common.{◌≡◌, ◌≢◌, ◌≤◌, ◌+◌, ℕ, List, Result, Ok, Err, length, refl, subst, sym}
+use Rattle.std.proofs.Common.{◌≡◌, ◌≢◌, ◌≤◌, ◌+◌, ℕ, List, Result, Ok, Err, arith, length, refl, subst, sym}
 use Rattle.std.specs.Prelude.{IfErr}
 use Rattle.d64_image.proofs.Moments.{at_end, failed_later, reads_no_write, then, weaker}
 use Rattle.d64_image.specs.History.{Changes, HeldOnly, History, OnlyReads, WritesNothing}
@@ -44,17 +44,26 @@ module _ {D : Type 0} (S : History D) where
   }
 
   module _ (image : List ℕ) (a b : D) (size : length image ≡ 174848) (moments : MendsFrom S a b 883)
-      (order : (l : Layout) → IsLayout (S.image a) l → GoesOver S a b (IsRight l) (repair_order l)) where
+      (order : (l : Layout) → IsLayout (S.image a) l → GoesOver S a b (IsRight l) (repair_order l))
+      (unsound : (IsSound (S.image a) → ⊥) → OnlyReads S a b 2114) where
+    -- a disk that isn't sound is only read
+    left-alone : (IsSound (S.image a) → ⊥) → Changes S a b 0 (λ c. c ≡ S.image a)
+    left-alone no_layout =
+        let reads = unsound no_layout in
+        let same : S.writes b ≡ S.writes a = reads.writes in
+        record { held = reads.held; writes = omega (arith, same) }
+
     -- a repair, and what was read afterwards
     pub run-quiet : (c : D) → WritesNothing S b c → IsRepairRun S image a c
     run-quiet c quiet = record {
       size = size;
       moments = λ l is. changes-quiet a b c 883 (IsMended (S.image a) l) (moments l is) quiet;
       order = λ l is. over-quiet a b c (IsRight l) (repair_order l) (order l is) quiet;
+      unsound = λ no_layout. changes-quiet a b c 0 (λ i. i ≡ S.image a) (left-alone no_layout) quiet;
     }
 
     pub run-only : IsRepairRun S image a b
-    run-only = record { size = size; moments = moments; order = order }
+    run-only = record { size = size; moments = moments; order = order; unsound = left-alone }
 
     pub mended-quiet : (c : D) → WritesNothing S b c → (s : Survey) → IsRepaired (S.image a) (S.image b) s
         → ClearsSpare (S.image a) (S.image b) → IsMendedDisk S image a c
@@ -98,6 +107,9 @@ module _ {D : Type 0} (S : History D) where
   load-refused image a w keep.NoMemory told = (told, refl, refl)
   load-refused image a w (keep.Layout fault) told = absurd told
   load-refused image a w keep.NoFile told = absurd told
+  load-refused image a w keep.FileExists told = absurd told
+  load-refused image a w (keep.BadLine n) told = absurd told
+  load-refused image a w keep.DiskFull told = absurd told
   load-refused image a w keep.File told = absurd told
   load-refused image a w keep.Device told = absurd told
 
@@ -110,4 +122,7 @@ module _ {D : Type 0} (S : History D) where
   print-refused image a b c v w (Err keep.ImageSize) mended same told = absurd told
   print-refused image a b c v w (Err (keep.Layout fault)) mended same told = absurd told
   print-refused image a b c v w (Err keep.NoFile) mended same told = absurd told
+  print-refused image a b c v w (Err keep.FileExists) mended same told = absurd told
+  print-refused image a b c v w (Err (keep.BadLine n)) mended same told = absurd told
+  print-refused image a b c v w (Err keep.DiskFull) mended same told = absurd told
   print-refused image a b c v w (Err keep.NoMemory) mended same told = absurd told

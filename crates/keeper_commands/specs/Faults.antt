@@ -1,5 +1,7 @@
 -- What is told of a job that isn't done, and its exit status. Our own.
-use Rattle.std.specs.Prelude.{◌≡◌, ◌≢◌, ℕ, ◌++◌, List, codes, length}
+use Rattle.std.specs.Prelude.{◌≡◌, ◌≢◌, ℕ, ◌++◌, List, codes, decimal, length}
+use Rattle.d64_image.specs.Memory.{sectors_in}
+use Rattle.disk_layout.specs.Fault.{HoldsOfClean, nowhere}
 use Rattle.disk_layout.specs.Texts.{fault_text}
 use Rattle.keeper_commands.specs.declared.faults.KeepFault.{KeepFault}
 use Rattle.keeper_commands.specs.declared.faults.KeepFault.TheVariants as keep
@@ -9,6 +11,9 @@ abbrev pub keep_status : KeepFault → ℕ
 keep_status keep.ImageSize = 1
 keep_status (keep.Layout fault) = 1
 keep_status keep.NoFile = 1
+keep_status keep.FileExists = 1
+keep_status (keep.BadLine n) = 1
+keep_status keep.DiskFull = 1
 keep_status keep.File = 3
 keep_status keep.NoMemory = 3
 keep_status keep.Device = 3
@@ -18,6 +23,9 @@ abbrev pub keep_text : KeepFault → List ℕ
 keep_text keep.ImageSize = codes "IMAGE SIZE"
 keep_text (keep.Layout fault) = codes "LAYOUT " ++ fault_text fault
 keep_text keep.NoFile = codes "NO FILE"
+keep_text keep.FileExists = codes "FILE EXISTS"
+keep_text (keep.BadLine n) = codes "RECORDS LINE " ++ decimal n
+keep_text keep.DiskFull = codes "DISK FULL"
 keep_text keep.File = codes "FILE"
 keep_text keep.NoMemory = codes "NO MEMORY"
 keep_text keep.Device = codes "DEVICE"
@@ -27,3 +35,10 @@ abbrev pub IsLoadFault : List ℕ → KeepFault → Type 0
 IsLoadFault image keep.ImageSize = length image ≢ 174848
 IsLoadFault image keep.NoMemory = length image ≡ 174848
 IsLoadFault image _ = ⊥
+
+-- why an image isn't that of a clean disk
+abbrev pub IsCleanFault : List ℕ → KeepFault → Type 0
+IsCleanFault image keep.ImageSize = length image ≢ 174848
+IsCleanFault image keep.NoMemory = length image ≡ 174848
+IsCleanFault image (keep.Layout fault) = (length image ≡ 174848) × HoldsOfClean nowhere (sectors_in image) fault
+IsCleanFault image _ = ⊥

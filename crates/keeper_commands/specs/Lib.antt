@@ -1,4 +1,6 @@
 pub mod Bytes
 pub mod Faults
+pub mod Makes
 pub mod Records
+pub mod Refusals
 pub mod Repairs

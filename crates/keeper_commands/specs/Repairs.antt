@@ -1,13 +1,13 @@
 -- What comes of the repair of a disk, and what is printed of it. Our own.
 use Rattle.std.specs.Prelude.{◌≡◌, ◌≢◌, ℕ, zero, suc, ◌-◌, ◌++◌, List, [], Option, Some, None, Result, Ok, Err, if◌then◌else◌, codes, length, bytes_eq}
 use Rattle.std.specs.Io.KnownBytes.{Appends}
-use Rattle.d64_image.specs.History.{Failed, History, WritesNothing}
+use Rattle.d64_image.specs.History.{Changes, Failed, History, WritesNothing}
 use Rattle.d64_image.specs.Images.{Image, sector}
 use Rattle.d64_image.specs.Places.{place_at}
 use Rattle.d64_image.specs.declared.place.Place.{Place}
 use Rattle.disk_layout.specs.Fault.{Holds, nowhere}
 use Rattle.disk_layout.specs.InOrder.{GoesOver}
-use Rattle.disk_layout.specs.Layout.{IsLayout, Layout}
+use Rattle.disk_layout.specs.Layout.{IsLayout, IsSound, Layout}
 use Rattle.disk_layout.specs.Texts.{place_text}
 use Rattle.disk_layout.specs.declared.faults.Fault.{Fault}
 use Rattle.disk_layout.specs.declared.faults.Fault.TheVariants.{Device}
@@ -48,11 +48,12 @@ repair_fault (Device p) = keep.Device
 repair_fault fault = keep.Layout fault
 
 -- Whatever the disk held on the way is sound and has the same files, no right sector was written, the others once at
--- most, in the order of a repair.
+-- most, in the order of a repair. A disk that isn't sound was left as it is.
 pub record IsRepairRun {D : Type 0} (S : History D) (image : List ℕ) (old new : D) : Type 0 where
   pub size : length image ≡ 174848
   pub moments : MendsFrom S old new 883
   pub order : (l : Layout) → IsLayout (S.image old) l → GoesOver S old new (IsRight l) (repair_order l)
+  pub unsound : ¬ (IsSound (S.image old)) → Changes S old new 0 (λ c. c ≡ S.image old)
 
 -- And the disk is clean, with the same files.
 pub record IsMendedDisk {D : Type 0} (S : History D) (image : List ℕ) (old new : D) : Type 0 where

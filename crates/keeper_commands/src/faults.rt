@@ -15,6 +15,12 @@ pub enum KeepFault {
     Layout(Fault),
     /// The image has no closed file of this name, or none of the kind that is asked for.
     NoFile,
+    /// An entry of the directory has the name already.
+    FileExists,
+    /// This line, counted from 1, is the first that is of no record that the file has or can have.
+    BadLine(usize),
+    /// The disk has too few free sectors, or no room in its directory.
+    DiskFull,
     /// A file couldn't be opened or read, or the output not written.
     File,
     /// There was no memory.
@@ -30,6 +36,7 @@ impl KeepFault {
     {
         match self {
             KeepFault::ImageSize | KeepFault::Layout(_) | KeepFault::NoFile => 1,
+            KeepFault::FileExists | KeepFault::BadLine(_) | KeepFault::DiskFull => 1,
             KeepFault::File | KeepFault::NoMemory | KeepFault::Device => 3,
         }
     }
@@ -43,6 +50,9 @@ impl Display for KeepFault {
             KeepFault::ImageSize => f.write_str("IMAGE SIZE"),
             KeepFault::Layout(fault) => write!(f, "LAYOUT {fault}"),
             KeepFault::NoFile => f.write_str("NO FILE"),
+            KeepFault::FileExists => f.write_str("FILE EXISTS"),
+            KeepFault::BadLine(number) => write!(f, "RECORDS LINE {number}"),
+            KeepFault::DiskFull => f.write_str("DISK FULL"),
             KeepFault::File => f.write_str("FILE"),
             KeepFault::NoMemory => f.write_str("NO MEMORY"),
             KeepFault::Device => f.write_str("DEVICE"),

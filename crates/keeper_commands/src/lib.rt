@@ -1,10 +1,11 @@
-//! What a keeper of disks does with an image: its records as lines, the bytes of a file, and its repair.
+//! What a keeper of disks does with an image: its records as lines, the bytes of a file, its repair, new files.
 #![tactic(auto)]
 
 mod byte_printing;
 mod chains;
 mod faults;
 mod loading;
+mod making;
 mod mending;
 mod naming;
 mod output;
@@ -12,5 +13,7 @@ mod record_printing;
 
 pub use byte_printing::bytes_image;
 pub use faults::KeepFault;
+pub use loading::load;
+pub use making::{is_new_name, make_image};
 pub use mending::repair_image;
 pub use record_printing::records_image;

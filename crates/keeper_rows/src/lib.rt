@@ -12,6 +12,8 @@ mod disks;
 #[cfg(test)]
 mod line_rows;
 #[cfg(test)]
+mod making_rows;
+#[cfg(test)]
 mod outputs;
 #[cfg(test)]
 mod record_rows;

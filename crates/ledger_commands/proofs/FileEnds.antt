@@ -27,7 +27,7 @@ use Rattle.ledger_commands.proofs.FileScripts.{end_of_file, refused_reached, ref
 use Rattle.ledger_commands.proofs.PlayEnds.{fault_in, left_in, none-of}
 
 -- a file failed, or it didn't
-failed_stably : {F : Type 0} (K : Keeps F) (a b : F) → ((FileFailed K a b → ⊥) → ⊥) → FileFailed K a b
+pub failed_stably : {F : Type 0} (K : Keeps F) (a b : F) → ((FileFailed K a b → ⊥) → ⊥) → FileFailed K a b
 failed_stably K a b not_never = record {
   later = ⊎_elim
       (λ (less : K.failures b < K.failures a). absurd (not_never (λ f. omega (arith, less, f.later))))
@@ -54,7 +54,7 @@ module _ {F T : Type 0} {G : Ghosts F} (o : Output T) (image script : List ℕ) 
 
   over_file : (r : Result (Mirror F G) (RunFault × Mirror F G)) → IsPlayEnd mirror o start script old new r
       → IsPlayEnd (in_run G.keeps start.file) o (file_disk start) script old new (end_of_file r)
-  over_file (Ok left) x = script_of_file o start sound untaken old new script (Ok left) x
+  over_file (Ok left) x = (script_of_file o start sound untaken old new script (Ok left) x.0, x.1)
   over_file (Err e) x = ⊎_elim
       (λ y. inl (y.0, script_of_file o start sound untaken old new script (Ok e.1) y.1))
       (λ y. inr (y.0, y.1, script_of_file o start sound untaken old new script (Err (y.0, e.1)) y.2))
@@ -79,7 +79,7 @@ module _ {F T : Type 0} {G : Ghosts F} (o : Output T) (image script : List ℕ) 
 
   -- each line was played, and the file is whole
   pub whole_at_ok : (is_broken m → ⊥) → IsPlayEnd mirror o start script old new (Ok m) → IsPlayedFile G.keeps o image script start.file m.file old new
-  whole_at_ok whole x = ((reached_at_ok x).unfailed whole, taken_up (over_file (Ok m) x))
+  whole_at_ok whole x = ((reached_at_ok x.0).unfailed whole, taken_up (over_file (Ok m) x))
 
   file_at : (is_broken m → ⊥) → IsMirrored start m → IsPlayEnd mirror o start script old new (Err (run.File, m))
       → IsFileFault G.keeps o image script start.file m.file old new run.File
@@ -138,7 +138,7 @@ module _ {F T : Type 0} {G : Ghosts F} (o : Output T) (image script : List ℕ) 
 
   -- the file failed
   pub broken_at_ok : is_broken m → IsPlayEnd mirror o start script old new (Ok m) → IsStopped G.keeps o image script start.file m.file old new
-  broken_at_ok broken x = (file_failed start sound m (reached_at_ok x) broken, inl (taken_up (over_file (Ok m) x)))
+  broken_at_ok broken x = (file_failed start sound m (reached_at_ok x.0) broken, inl (taken_up (over_file (Ok m) x)))
 
   pub broken_at_err : is_broken m → (fault : RunFault) → IsPlayEnd mirror o start script old new (Err (fault, m))
       → IsStopped G.keeps o image script start.file m.file old new

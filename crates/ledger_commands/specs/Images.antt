@@ -1,5 +1,5 @@
 -- What the commands over an image make and find. The names of a fresh disk are our own.
-use Rattle.std.specs.Prelude.{◌≡◌, ◌≢◌, ◌⊎◌, ℕ, List, None, Option, Some, codes, length, slice_index}
+use Rattle.std.specs.Prelude.{◌≡◌, ◌≢◌, ◌⊎◌, ℕ, List, None, Option, Some, Err, Ok, Result, codes, length, slice_index}
 use Rattle.std.specs.Io.KnownBytes.{Appends}
 use Rattle.d64_image.specs.Images.{Image, IsImage, sector}
 use Rattle.d64_image.specs.Memory.{bytes_of, sectors_in}
@@ -10,6 +10,7 @@ use Rattle.disk_layout.specs.Clean.{IsClean}
 use Rattle.disk_layout.specs.Fault.{HoldsOfClean, HoldsOfDirectory, nowhere}
 use Rattle.disk_layout.specs.declared.faults.Fault.{Fault}
 use Rattle.disk_layout.specs.declared.slot.Slot.{Slot}
+use Rattle.host_session.specs.Outputs.{AppendsPart}
 use Rattle.ledger_commands.specs.Texts.{listing}
 use Rattle.ledger_commands.specs.declared.faults.RunFault.{RunFault}
 use Rattle.ledger_commands.specs.declared.faults.RunFault.TheVariants as run
@@ -38,6 +39,38 @@ pub record IsHandedOver {F : Type 0} (contents : F → Option (List ℕ)) (tills
   pub fresh : AreFreshBytes tills bytes
   pub appended : Appends (contents old) (contents new) bytes
 
+-- it was handed a beginning of such an image, or all of it, and nothing else
+pub record IsHandedPart {F : Type 0} (contents : F → Option (List ℕ)) (tills : ℕ) (old new : F) : Type 0 where
+  pub bytes : List ℕ
+  pub fresh : AreFreshBytes tills bytes
+  pub appended : AppendsPart (contents old) (contents new) bytes
+
+-- what writing such an image came to: it was handed over whole, or in part where the file failed, or there was no
+-- memory, and nothing was done
+abbrev pub IsWritten : {F : Type 0} → (F → Option (List ℕ)) → ℕ → F → F → Result Unit RunFault → Type 0
+IsWritten contents tills old new (Ok _) = IsHandedOver contents tills old new
+IsWritten contents tills old new (Err run.File) = IsHandedPart contents tills old new
+IsWritten contents tills old new (Err run.NoMemory) = new ≡ old
+IsWritten contents tills old new (Err _) = ⊥
+
+-- the file or the output failed: the file was handed a part of the image, and nothing was said; or all of it, and a
+-- part of what is said then
+abbrev pub IsFormattedPart : {F W : Type 0} → (F → Option (List ℕ)) → (W → Option (List ℕ)) → ℕ → F → F → W → W → Type 0
+IsFormattedPart into contents tills file new_file old new =
+    (IsHandedPart into tills file new_file × (new ≡ old))
+    ⊎ (IsHandedOver into tills file new_file × AppendsPart (contents old) (contents new) (codes "FORMATTED\n"))
+
+-- what making such an image and saying so came to: the file was handed all of it, and that was said; or in part; or
+-- there was no memory, and nothing was done
+abbrev pub IsFormatted : {F W : Type 0} → (F → Option (List ℕ)) → (W → Option (List ℕ)) → ℕ → F → F → W → W
+    → Result Unit RunFault → Type 0
+IsFormatted into contents tills file new_file old new (Ok _) =
+    IsHandedOver into tills file new_file × Appends (contents old) (contents new) (codes "FORMATTED\n")
+IsFormatted into contents tills file new_file old new (Err run.File) =
+    IsFormattedPart into contents tills file new_file old new
+IsFormatted into contents tills file new_file old new (Err run.NoMemory) = (new_file ≡ file) × (new ≡ old)
+IsFormatted into contents tills file new_file old new (Err _) = ⊥
+
 -- the image's directory, of an image that has the size of a disk
 pub record HasDirectory (image : List ℕ) : Type 0 where
   pub size : length image ≡ 174848
@@ -45,7 +78,8 @@ pub record HasDirectory (image : List ℕ) : Type 0 where
   pub entries : List Slot
   pub directory : IsDirectory (sectors_in image) sectors entries
 
--- the image was listed on an output that held `old` and holds `new`: it has a directory, and its listing was handed over
+-- the image was listed on an output that held `old` and holds `new`: it has a directory, and its listing was handed
+-- over
 pub record IsListed {W : Type 0} (contents : W → Option (List ℕ)) (image : List ℕ) (old new : W) : Type 0 where
   pub listed : HasDirectory image
   pub printed : Appends (contents old) (contents new) (listing (sector (sectors_in image) map_place) listed.entries)

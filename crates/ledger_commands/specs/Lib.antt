@@ -1,8 +1,10 @@
+pub mod Durable
 pub mod Faults
 pub mod FreshShops
 pub mod Images
 pub mod Placed
 pub mod Plays
+pub mod Serves
 pub mod Shops
 pub mod Shows
 pub mod Tables

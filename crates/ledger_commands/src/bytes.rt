@@ -2,11 +2,13 @@
 ghost use Rattle.std.specs.Prelude.{◌≡◌, ◌++◌, IfErr, IfOk, IfSome, OnOk, codes, length};
 ghost use Rattle.std.specs.Io.KnownBytes.{Appends, Keeps};
 ghost use Rattle.d64_image.specs.Memory.{disk_image, sectors_in};
+ghost use Rattle.host_session.specs.Outputs.{AppendsPart};
 ghost use Rattle.ledger_commands.specs.Images.{IsLoadFault};
 ghost use Rattle.ledger_commands.specs.declared.faults.RunFault.TheVariants as faults;
 
 use crate::faults::RunFault;
 use d64_image::{ImageFault, MemDisk};
+use host_session::write_whole;
 use std::alloc::Global;
 use std::fmt::Display;
 use std::io::Write;
@@ -37,13 +39,16 @@ pub fn put<W: Write>(out: &mut W, bytes: &[u8]) -> Result<(), RunFault>
 }
 
 /// Hands all of these bytes to the writer, and those that it still holds back to where it keeps
-/// them. `File` where it failed.
-pub fn write_whole<W: Write>(out: &mut W, bytes: &[u8]) -> Result<(), RunFault>
+/// them. `File` where it failed, which then has a beginning of them, or all.
+pub fn put_whole<W: Write>(out: &mut W, bytes: &[u8]) -> Result<(), RunFault>
     ensures ok { OnOk result (Appends (W.contents out.old) (W.contents out.new) bytes.now) }
-    ensures err { IfErr result (λ fault. fault ≡ faults.File) }
+    ensures err { IfErr result (λ fault.
+        (fault ≡ faults.File) × AppendsPart (W.contents out.old) (W.contents out.new) bytes.now) }
 {
-    put(out, bytes)?;
-    flush(out)
+    match write_whole(out, bytes) {
+        Ok(()) => flush(out),
+        Err(_) => Err(RunFault::File),
+    }
 }
 
 /// Prints this on a line of its own. `File` where the writer failed.

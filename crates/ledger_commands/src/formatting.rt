@@ -1,11 +1,10 @@
 //! Making the image of an empty shop.
-ghost use Rattle.std.specs.Prelude.{◌≡◌, ◌≤◌, ◌⊎◌, Err, IfErr, IfOk, OnOk, codes};
-ghost use Rattle.std.specs.Io.KnownBytes.{Appends};
+ghost use Rattle.std.specs.Prelude.{◌≡◌, ◌≤◌, IfErr, IfOk};
 ghost use Rattle.d64_image.specs.Memory.{disk_image};
-ghost use Rattle.ledger_commands.specs.Images.{IsFormatFault, IsFreshDisk, IsHandedOver};
+ghost use Rattle.ledger_commands.specs.Images.{IsFormatted, IsFreshDisk, IsWritten};
 ghost use Rattle.ledger_commands.specs.declared.faults.RunFault.TheVariants as faults;
 
-use crate::bytes::{flush, put_line, write_whole};
+use crate::bytes::put_whole;
 use crate::faults::RunFault;
 use d64_image::MemDisk;
 use disk_layout::blank_image;
@@ -34,24 +33,22 @@ fn fresh_disk(alloc: Global, tills: u8) -> Result<MemDisk, RunFault>
     }
 }
 
-/// Makes the disk of an empty shop with 1 to 64 tills (`NoMemory` before anything is written), and
-/// hands all 174,848 bytes of its image to the file (`File` where the file fails, which may then
-/// hold a part of them). An odd number of tills gives one more.
-pub fn write_image<F: Write>(alloc: Global, tills: u8, file: &mut F) -> Result<(), RunFault>
+/// Makes the disk of an empty shop with 1 to 64 tills, and hands all 174,848 bytes of its image to the file. An odd
+/// number of tills gives one more.
+fn write_image<F: Write>(alloc: Global, tills: u8, file: &mut F) -> Result<(), RunFault>
     requires some { 1 ≤ tills }
     requires few { tills ≤ 64 }
-    // The bytes are those of the blank image over zeros.
-    ensures ok { OnOk result (IsHandedOver F.contents tills file.old file.new) }
-    ensures err { IfErr result IsFormatFault }
-    ensures untouched { result ≡ Err faults.NoMemory → file.new ≡ file.old }
+    ensures { IsWritten F.contents tills file.old file.new result }
 {
     let disk = fresh_disk(alloc, tills)?;
-    write_whole(file, disk.bytes())
+    put_whole(file, disk.bytes())
 }
 
-/// Makes the disk of an empty shop with 1 to 64 tills, hands its image to the file, and says so on
-/// `out` once the file has all of it. `NoMemory` before anything is written; `File` where the file or
-/// `out` failed, which may then have a part.
+/// Makes the disk of an empty shop with 1 to 64 tills (an odd number gives one more), hands all 174,848 bytes of its
+/// image to the file, and says so on `out` once the file has all of them.
+///
+/// `NoMemory` before anything is written; `File` where the file failed, which then has a beginning of the image and
+/// nothing is said, or `out`, which then has a beginning of what is said.
 pub fn format_image<F: Write, W: Write>(
     alloc: Global,
     tills: u8,
@@ -60,16 +57,8 @@ pub fn format_image<F: Write, W: Write>(
 ) -> Result<(), RunFault>
     requires some { 1 ≤ tills }
     requires few { tills ≤ 64 }
-    ensures made { OnOk result (IsHandedOver F.contents tills file.old file.new) }
-    ensures ok { OnOk result
-        (Appends (W.contents out.old) (W.contents out.new) (codes "FORMATTED\n")) }
-    // Nothing is said before the file has the whole image.
-    ensures first { (out.new ≡ out.old) ⊎ IsHandedOver F.contents tills file.old file.new }
-    ensures err { IfErr result IsFormatFault }
-    ensures untouched { result ≡ Err faults.NoMemory
-        → (file.new ≡ file.old) × (out.new ≡ out.old) }
+    ensures { IsFormatted F.contents W.contents tills file.old file.new out.old out.new result }
 {
     write_image(alloc, tills, file)?;
-    put_line(out, "FORMATTED")?;
-    flush(out)
+    put_whole(out, b"FORMATTED\n")
 }

@@ -3,28 +3,34 @@
 
 mod bytes;
 mod dry_run;
+mod durable;
 mod faults;
 mod formatting;
 mod judging;
 mod laws;
 mod listing;
+mod locks;
 mod placed;
 mod playing;
 mod reading;
 mod replaced;
+mod serving_files;
 mod showing;
 mod shows;
 mod table;
 mod texts;
 
 pub use dry_run::{DryFault, dry};
+pub use durable::{Durability, WritesAt};
 pub use faults::RunFault;
-pub use formatting::{format_image, write_image};
+pub use formatting::format_image;
 pub use judging::check_image;
 pub use laws::{dry_is_play, fresh_is_a_shop, run_tells_dry};
 pub use listing::list_image;
-pub use placed::{Placed, WritesAt};
+pub use locks::Locks;
+pub use placed::Placed;
 pub use playing::{play_file, play_image};
 pub use reading::{read_image, read_script};
 pub use replaced::{EndedFile, OpensFile, Replaced};
+pub use serving_files::serve_file;
 pub use showing::show_image;

@@ -9,14 +9,26 @@ pub trait EndedFile: Write + Seek {
     // Nothing stands behind the place at which the file was ended last.
     ghost IsEnded: { Self → Type 0 } = { λ _. ⊤ };
 
+    // what it holds stays where the machine loses power
+    ghost IsOnDisk: { Self → Type 0 } = { λ _. ⊤ };
+
     /// Ends the file behind this many bytes: what it held after them is gone.
     fn end_at(&mut self, bytes: u64) -> io::Result<()>
         ensures ended { OnOk result (IsEnded self.new) };
+
+    /// Brings all that it holds, and its length, to the disk.
+    fn sync_whole(&mut self) -> io::Result<()>
+        ensures ended { IsEnded self.old → IsEnded self.new }
+        ensures on_disk { OnOk result (IsOnDisk self.new) };
 }
 
 impl EndedFile for File {
     fn end_at(&mut self, bytes: u64) -> io::Result<()> {
         self.set_len(bytes)
+    }
+
+    fn sync_whole(&mut self) -> io::Result<()> {
+        self.sync_all()
     }
 }
 
@@ -27,30 +39,40 @@ pub trait OpensFile {
 
     /// Opens the file.
     fn open(&mut self) -> io::Result<Self::File>;
+
+    /// Brings the folder to the disk in which the file stands, so that its name stays where the machine loses power.
+    fn sync_folder(&mut self) -> io::Result<()>;
 }
 
 /// A file that is written over from its start. It is opened at the first use; until then nothing is
 /// touched. Flushing it ends it behind the last byte that was written, so that nothing stays of what it
-/// held before; until then only what was written over is lost.
+/// held before, and brings it and its folder to the disk; until then only what was written over is lost.
 #[derive(Drop)]
 pub struct Replaced<O: OpensFile> {
     opens: O,
     file: Option<O::File>,
 }
 
-/// Hands on all that was written, and ends the file behind it.
+/// Hands on all that was written, ends the file behind it, and brings it to the disk.
 fn end_here<F: EndedFile>(file: &mut F) -> io::Result<()>
     ensures ended { OnOk result (F.IsEnded file.new) }
+    ensures on_disk { OnOk result (F.IsOnDisk file.new) }
 {
     file.flush()?;
     let end = file.stream_position()?;
-    file.end_at(end)
+    file.end_at(end)?;
+    file.sync_whole()
 }
 
 impl<O: OpensFile> Replaced<O> {
     /// The file that is opened so, and isn't opened yet.
     pub fn new(opens: O) -> Replaced<O> {
         Replaced { opens, file: None }
+    }
+
+    /// How the file is opened.
+    pub fn opener(&self) -> &O {
+        &self.opens
     }
 
     /// The file, opened.
@@ -72,7 +94,8 @@ impl<O: OpensFile> Write for Replaced<O> {
     }
 
     fn flush(&mut self) -> io::Result<()> {
-        end_here(self.opened()?)
+        end_here(self.opened()?)?;
+        self.opens.sync_folder()
     }
 }
 

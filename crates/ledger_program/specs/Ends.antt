@@ -1,15 +1,54 @@
 -- How a job ends, and the program's exit status then. All of it is our own.
-use Rattle.std.specs.Prelude.{ℕ, Option, Some, None, Result, Ok, Err}
+use Rattle.std.specs.Prelude.{ℕ, List, ◌++◌, Option, Some, None, Result, Ok, Err, codes}
 use Rattle.std.specs.IoError.{error_kind}
+use Rattle.std.specs.declared.fs.locks.TryLockError.{TryLockError}
+use Rattle.std.specs.declared.fs.locks.TryLockError.TheVariants as locks
 use Rattle.std.specs.declared.io.Error.{Error}
 use Rattle.disk_layout.specs.declared.faults.Fault.{Fault}
+use Rattle.keeper_commands.specs.Faults.{keep_status, keep_text}
+use Rattle.keeper_commands.specs.declared.faults.KeepFault.{KeepFault}
 use Rattle.ledger_commands.specs.Faults.{io_fault, run_status}
 use Rattle.ledger_commands.specs.declared.dry_run.DryFault.{DryFault}
 use Rattle.ledger_commands.specs.declared.dry_run.DryFault.TheVariants as dry
 use Rattle.ledger_commands.specs.declared.faults.RunFault.{RunFault}
 use Rattle.ledger_commands.specs.declared.faults.RunFault.TheVariants as run
+use Rattle.ledger_commands.specs.Texts.{refusal_text as run_text}
+use Rattle.ledger_program.specs.declared.refusals.Refusal.{Refusal}
+use Rattle.ledger_program.specs.declared.refusals.Refusal.TheVariants as refusals
 
--- a job is done, with the fault of the layout that it printed, where it printed one; or it isn't, for a fault
+-- the exit status of a job that isn't done
+abbrev pub refusal_status : Refusal → ℕ
+refusal_status (refusals.Run fault) = run_status fault
+refusal_status (refusals.Keep fault) = keep_status fault
+refusal_status refusals.InUse = 3
+
+-- what is told of it
+abbrev pub refusal_text : Refusal → List ℕ
+refusal_text (refusals.Run fault) = run_text fault
+refusal_text (refusals.Keep fault) = keep_text fault
+refusal_text refusals.InUse = codes "IN USE"
+
+-- the line in which it is told
+abbrev pub refusal_line : Refusal → List ℕ
+refusal_line refusal = refusal_text refusal ++ codes "\n"
+
+-- what is told where a file isn't locked
+abbrev pub lock_refusal : TryLockError → Refusal
+lock_refusal locks.WouldBlock = refusals.InUse
+lock_refusal (locks.Error error) = refusals.Run (io_fault (error_kind error))
+
+-- a job is done, with the fault of the layout that it printed, where it printed one; or it isn't, for this reason
+abbrev pub JobEnd : Type 0
+JobEnd = Result (Option Fault) Refusal
+
+-- the exit status: 1 also where a fault was printed
+abbrev pub end_status : JobEnd → ℕ
+end_status (Ok None) = 0
+end_status (Ok (Some _)) = 1
+end_status (Err refusal) = refusal_status refusal
+
+-- a run over the bytes of a job's files is done, with the fault of the layout that it printed, where it printed one; or it
+-- isn't, for a fault
 abbrev pub Ended : Type 0
 Ended = Result (Option Fault) RunFault
 
@@ -31,6 +70,16 @@ dry_end (Err (dry.BadLine line)) = Err (run.BadLine line)
 dry_end (Err dry.Output) = Err run.File
 
 -- what came of asking the system, as it is told
-abbrev pub told_of : {T : Type 0} → Result T Error → Result T RunFault
+abbrev pub told_of : {T : Type 0} → Result T Error → Result T Refusal
 told_of (Ok it) = Ok it
-told_of (Err error) = Err (io_fault (error_kind error))
+told_of (Err error) = Err (refusals.Run (io_fault (error_kind error)))
+
+-- what came of a run, as a job's end
+abbrev pub as_job : Ended → JobEnd
+as_job (Ok printed) = Ok printed
+as_job (Err fault) = Err (refusals.Run fault)
+
+-- what came of a run over the files of an image, as a job's end
+abbrev pub as_kept : Result Unit KeepFault → JobEnd
+as_kept (Ok _) = Ok None
+as_kept (Err fault) = Err (refusals.Keep fault)

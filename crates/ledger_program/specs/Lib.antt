@@ -1,3 +1,6 @@
 pub mod Ends
 pub mod Jobs
+pub mod Keeping
+pub mod Names
 pub mod Runs
+pub mod Serves

@@ -1,29 +1,56 @@
 //! Doing a job: its files are opened and read, and what is printed goes to an output.
-ghost use Rattle.std.specs.Prelude.{◌≡◌, IfErr, IfOk, IfSome, Err, vec_items};
+ghost use Rattle.std.specs.Prelude.{◌≡◌, ◌≤◌, IfErr, IfOk, IfSome, Err, vec_items};
 ghost use Rattle.std.specs.IoError.{error_kind};
 ghost use Rattle.ledger_commands.specs.Faults.{io_fault};
-ghost use Rattle.ledger_program.specs.Ends.{told_of};
+ghost use Rattle.ledger_program.specs.Ends.{as_job, as_kept, told_of};
 ghost use Rattle.ledger_program.specs.Jobs.{HasTills, needed};
 ghost use Rattle.ledger_program.specs.Runs.{IsReadingEnd, IsReadingOf};
 
 use crate::files::{AtPath, STANDARD_INPUT, opened, room_for, script_at};
-use crate::jobs::{Job, Reading};
+use crate::jobs::{Job, Reading, Taking};
+use crate::keeping::{repair_run, taking_run};
+use crate::names::Name;
+use crate::owning::{finished, own, read_own, read_shared, share};
+use crate::refusals::Refusal;
 use crate::running::{format_run, play_run, reading_run};
 use disk_layout::Fault;
 use host_session::Printer;
-use ledger_commands::{EndedFile, Placed, Replaced, RunFault, WritesAt, read_image, read_script};
+use keeper_commands::KeepFault;
+use ledger_commands::{
+    Durability, EndedFile, Locks, Placed, Replaced, RunFault, read_image, read_script,
+};
 use std::alloc::Global;
-use std::fs::File;
+use std::fs::{File, OpenFile};
 use std::io::{self, Read, Write};
 use std::rt::Files;
 
 /// What came of the system's part of a job, as it is told.
-fn told<T>(taken: io::Result<T>) -> Result<T, RunFault>
+fn told<T>(taken: io::Result<T>) -> Result<T, Refusal>
     ensures { result ≡ told_of taken }
 {
     match taken {
         Ok(it) => Ok(it),
-        Err(error) => Err(RunFault::of_io(&error)),
+        Err(error) => Err(Refusal::Run(RunFault::of_io(&error))),
+    }
+}
+
+/// What came of a run, as a job's end.
+fn job_end(ended: Result<Option<Fault>, RunFault>) -> Result<Option<Fault>, Refusal>
+    ensures { result ≡ as_job ended }
+{
+    match ended {
+        Ok(printed) => Ok(printed),
+        Err(fault) => Err(Refusal::Run(fault)),
+    }
+}
+
+/// What came of a run over the files of an image, as a job's end.
+fn kept_end(ended: Result<(), KeepFault>) -> Result<Option<Fault>, Refusal>
+    ensures { result ≡ as_kept ended }
+{
+    match ended {
+        Ok(()) => Ok(None),
+        Err(fault) => Err(Refusal::Keep(fault)),
     }
 }
 
@@ -79,19 +106,50 @@ pub fn do_over<R: Read + Drop, W: Write>(
     }
 }
 
+/// Locks an image, where it could be opened, so that nobody writes it while it is read. A script isn't locked.
+fn lock_opened<F: Locks>(what: Reading, opened: &mut io::Result<F>) -> Result<(), Refusal> {
+    match (what, opened) {
+        (Reading::Dry, _) | (_, Err(_)) => Ok(()),
+        (_, Ok(file)) => share(file),
+    }
+}
+
 /// Does what is asked of the file at a path, or of standard input.
-fn do_reading<R: Files + Input + AllocGlobal, W: Write>(
+fn do_reading<F, R, W>(
     rt: &R,
     what: Reading,
     path: &str,
     out: &mut W,
-) -> Result<Option<Fault>, RunFault> {
+) -> Result<Option<Fault>, Refusal>
+where
+    F: Read + Locks + OpenFile + Drop,
+    R: Files<File = F> + Input + AllocGlobal,
+    W: Write,
+{
     if path == STANDARD_INPUT {
-        return do_over(rt.alloc(), what, Ok(rt.reader()), 0, out);
+        return job_end(do_over(rt.alloc(), what, Ok(rt.reader()), 0, out));
     }
-    let opened = File::open(rt, path);
+    let mut opened = File::open(rt, path);
+    lock_opened(what, &mut opened)?;
     let room = room_for(&opened);
-    do_over(rt.alloc(), what, opened, room, out)
+    job_end(do_over(rt.alloc(), what, opened, room, out))
+}
+
+/// Makes the image at a path.
+fn do_format<F, R, W>(rt: &R, path: &str, tills: u8, out: &mut W) -> Result<Option<Fault>, Refusal>
+where
+    F: EndedFile + Locks + Drop,
+    R: Files<File = F> + AllocGlobal,
+    W: Write,
+    requires some { 1 ≤ tills }
+    requires few { tills ≤ 64 }
+{
+    let mut file = Replaced::new(AtPath::new(rt, path));
+    let ended = format_run(rt.alloc(), tills, &mut file, out);
+    match file.opener().unlocked() {
+        Some(refusal) => Err(refusal),
+        None => job_end(ended),
+    }
 }
 
 /// Plays the script at a path on the image at another, over its file.
@@ -99,43 +157,102 @@ fn do_playing<F, R, W>(
     rt: &R,
     path: &str,
     script: &str,
+    durability: Durability,
     out: &mut W,
-) -> Result<Option<Fault>, RunFault>
+) -> Result<Option<Fault>, Refusal>
 where
-    F: Read + WritesAt + Drop,
+    F: Read + Locks + Drop,
     R: Files<File = F> + Input + AllocGlobal,
     W: Write,
 {
     let mut file = told(opened(rt, path))?;
-    let image = told(read_image(rt.alloc(), &mut file))?;
+    own(&mut file, durability)?;
+    let image = told(read_own(rt.alloc(), &mut file, durability))?;
     let script = told(script_at(rt, script))?;
-    let file = Placed::new(file);
+    let file = Placed::lasting(file, durability);
     let mut printer = Printer::new(out);
-    let (_, ended) = play_run(
+    let (mut file, ended) = play_run(
         rt.alloc(),
         image.as_slice(),
         script.as_slice(),
         file,
         &mut printer,
     );
-    ended
+    job_end(finished(&mut file, ended))
 }
 
-/// Opens or reads the job's files and does it; what is printed goes to `out`, which is flushed at the end. `File` where a file
-/// couldn't be opened or read, and the faults of `reading_run`, `format_run` and `play_run`.
-pub fn do_job<F, R, W>(rt: &R, job: &Job<'_>, out: &mut W) -> Result<Option<Fault>, RunFault>
+/// Repairs the image at a path, over its file. Each sector is brought to the disk before the next is written.
+fn do_repair<F, R, W>(rt: &R, path: &str, out: &mut W) -> Result<Option<Fault>, Refusal>
 where
-    F: EndedFile + Read + WritesAt + Drop,
+    F: Read + Locks + Drop,
+    R: Files<File = F> + AllocGlobal,
+    W: Write,
+{
+    let durability = Durability::EachSector;
+    let mut file = told(opened(rt, path))?;
+    own(&mut file, durability)?;
+    let image = told(read_own(rt.alloc(), &mut file, durability))?;
+    let file = Placed::lasting(file, durability);
+    let (_, ended) = repair_run(rt.alloc(), image.as_slice(), file, out);
+    kept_end(ended)
+}
+
+/// The bytes of the image at a path, which nobody writes while it is read, or of standard input.
+fn image_at<F, R>(rt: &R, path: &str) -> Result<Vec<u8>, Refusal>
+where
+    F: Read + Locks + Drop,
+    R: Files<File = F> + Input + AllocGlobal,
+{
+    if path == STANDARD_INPUT {
+        return told(read_image(rt.alloc(), rt.reader()));
+    }
+    let mut file = told(File::open(rt, path))?;
+    share(&mut file)?;
+    told(read_shared(rt.alloc(), &mut file))
+}
+
+/// Prints what is taken out of the image at a path.
+fn do_taking<F, R, W>(
+    rt: &R,
+    what: Taking,
+    path: &str,
+    name: &Name,
+    out: &mut W,
+) -> Result<Option<Fault>, Refusal>
+where
+    F: Read + Locks + Drop,
+    R: Files<File = F> + Input + AllocGlobal,
+    W: Write,
+{
+    let image = image_at(rt, path)?;
+    kept_end(taking_run(
+        rt.alloc(),
+        what,
+        image.as_slice(),
+        name.as_bytes(),
+        out,
+    ))
+}
+
+/// Opens or reads the job's files and does it; what is printed goes to `out`, which is flushed at the end. An image is locked
+/// before anything of it is read or changed: alone where it is written. `InUse` where another program has it; `File` where a
+/// file couldn't be opened or read, and the faults of `reading_run`, `format_run`, `play_run`, `repair_run` and `taking_run`.
+pub fn do_job<F, R, W>(rt: &R, job: &Job<'_>, out: &mut W) -> Result<Option<Fault>, Refusal>
+where
+    F: EndedFile + Read + Locks + OpenFile + Drop,
     R: Files<File = F> + Input + AllocGlobal,
     W: Write,
     requires { HasTills job.now }
 {
     match job {
-        Job::Format { image, tills } => {
-            let mut file = Replaced::new(AtPath { rt, path: image });
-            format_run(rt.alloc(), *tills, &mut file, out)
-        }
+        Job::Format { image, tills } => do_format(rt, image, *tills, out),
         Job::Read { what, path } => do_reading(rt, *what, path, out),
-        Job::Play { image, script } => do_playing(rt, image, script, out),
+        Job::Play {
+            image,
+            script,
+            durability,
+        } => do_playing(rt, image, script, *durability, out),
+        Job::Repair { image } => do_repair(rt, image, out),
+        Job::Take { what, image, name } => do_taking(rt, *what, image, name, out),
     }
 }

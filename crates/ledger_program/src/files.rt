@@ -1,5 +1,6 @@
 //! The files that a job names, opened and read.
-use ledger_commands::{EndedFile, OpensFile, read_script};
+use crate::refusals::Refusal;
+use ledger_commands::{EndedFile, Locks, OpensFile, read_script};
 use std::fs::{File, OpenFile, OpenOptions};
 use std::io;
 use std::rt::Files;
@@ -33,21 +34,58 @@ pub(crate) fn opened<R: Files>(rt: &R, path: &str) -> io::Result<R::File> {
     OpenOptions::new().read(true).write(true).open(rt, path)
 }
 
-/// The file at a path, which is written over: made where there is none, and not cut.
-#[derive(Drop)]
-pub(crate) struct AtPath<'a, R> {
-    pub(crate) rt: &'a R,
-    pub(crate) path: &'a str,
+/// The folder in which the file at a path stands.
+fn folder_of(path: &str) -> &str {
+    match path.rsplit_once('/') {
+        None => ".",
+        Some(("", _)) => "/",
+        Some((folder, _)) => folder,
+    }
 }
 
-impl<F: EndedFile + Drop, R: Files<File = F>> OpensFile for AtPath<'_, R> {
+/// The file at a path, which is written over: made where there is none, and not cut; and why it wasn't locked.
+#[derive(Drop)]
+pub(crate) struct AtPath<'a, R> {
+    rt: &'a R,
+    path: &'a str,
+    unlocked: Option<Refusal>,
+}
+
+impl<'a, R> AtPath<'a, R> {
+    /// The file at this path, which isn't opened yet.
+    pub(crate) fn new(rt: &'a R, path: &'a str) -> AtPath<'a, R> {
+        AtPath {
+            rt,
+            path,
+            unlocked: None,
+        }
+    }
+
+    /// Why it wasn't locked, where it was opened and that failed.
+    pub(crate) fn unlocked(&self) -> Option<Refusal> {
+        self.unlocked
+    }
+}
+
+impl<F: EndedFile + Locks + Drop, R: Files<File = F>> OpensFile for AtPath<'_, R> {
     type File = F;
 
     fn open(&mut self) -> io::Result<F> {
-        OpenOptions::new()
+        let mut file = OpenOptions::new()
             .write(true)
             .create(true)
             .truncate(false)
-            .open(self.rt, self.path)
+            .open(self.rt, self.path)?;
+        match file.lock_alone() {
+            Ok(()) => Ok(file),
+            Err(error) => {
+                self.unlocked = Some(Refusal::of_lock(&error));
+                Err(io::Error::from(error))
+            }
+        }
+    }
+
+    fn sync_folder(&mut self) -> io::Result<()> {
+        File::open(self.rt, folder_of(self.path))?.sync_whole()
     }
 }

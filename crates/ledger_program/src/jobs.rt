@@ -1,4 +1,6 @@
 //! What the program can be asked to do.
+use crate::names::Name;
+use ledger_commands::Durability;
 
 /// What is asked of the bytes of one file, which isn't written.
 #[derive(Clone, Copy, Debug, PartialEq, Eq)]
@@ -13,8 +15,17 @@ pub enum Reading {
     Dry,
 }
 
+/// What is taken out of an image, of the first file of a name.
+#[derive(Clone, Copy, Debug, PartialEq, Eq)]
+pub enum Taking {
+    /// The records of a closed relative file, a line each.
+    Records,
+    /// The bytes of a closed file of any type.
+    Bytes,
+}
+
 /// What the words of a command line ask for.
-#[derive(Clone, Copy)]
+#[derive(Drop)]
 pub enum Job<'a> {
     /// The image of an empty shop, in place of whatever the file held.
     Format {
@@ -36,5 +47,21 @@ pub enum Job<'a> {
         image: &'a str,
         /// The script's path.
         script: &'a str,
+        /// When its sectors are brought to the disk.
+        durability: Durability,
+    },
+    /// The map, the side sectors and the block counts of an image, made right.
+    Repair {
+        /// The image's path.
+        image: &'a str,
+    },
+    /// What is taken out of an image that is read.
+    Take {
+        /// What is taken.
+        what: Taking,
+        /// The image's path.
+        image: &'a str,
+        /// The name of the file.
+        name: Name,
     },
 }

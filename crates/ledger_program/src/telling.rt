@@ -1,35 +1,45 @@
 //! How a job ends: what is told of it on standard error, and the exit status.
-ghost use Rattle.std.specs.Prelude.{◌≡◌, ◌++◌, IsOk, OnOk, codes};
+ghost use Rattle.std.specs.Prelude.{◌≡◌, IfErr, IsOk, OnErr, OnOk};
 ghost use Rattle.std.specs.Io.KnownBytes.{Appends};
-ghost use Rattle.ledger_commands.specs.Texts.{refusal_text};
-ghost use Rattle.ledger_program.specs.Ends.{Ended, exit_status};
+ghost use Rattle.host_session.specs.Outputs.{AppendsPart};
+ghost use Rattle.ledger_program.specs.Ends.{end_status, refusal_line};
 
+use crate::refusals::Refusal;
+use arrayvec::ArrayVec;
 use disk_layout::Fault;
-use ledger_commands::RunFault;
-use std::io::{self, Write};
+use host_session::{NotTaken, write_whole};
+use std::io::Write;
 
-/// Tells a fault in one line. Its error where standard error failed: then there is nobody left to tell.
-pub fn tell<E: Write>(err: &mut E, fault: RunFault) -> io::Result<()>
-    ensures told { OnOk result
-        (Appends (E.contents err.old) (E.contents err.new) (refusal_text fault ++ codes "\n")) }
+/// Tells a refusal in one line. Its error where standard error failed, which then has a beginning of the line: there is nobody
+/// left to tell.
+pub fn tell<E: Write>(err: &mut E, refusal: Refusal) -> Result<(), NotTaken>
+    ensures told { OnOk result (Appends (E.contents err.old) (E.contents err.new) (refusal_line refusal)) }
+    ensures part { OnErr result (AppendsPart (E.contents err.old) (E.contents err.new) (refusal_line refusal)) }
 {
-    writeln!(err, "{fault}")
+    // the longest is `SCRIPT LINE` with a number of 20 digits
+    let mut line = ArrayVec::<u8, 40>::new();
+    if writeln!(line, "{refusal}").is_err() {
+        return Err(NotTaken);
+    }
+    write_whole(err, line.as_slice())
 }
 
 /// The exit status of a job that ended so: 1 also where a check told a fault, on the output. Tells why the job isn't done,
 /// where it isn't, in one line: with status 1 what the image or the script has wrong, as `IMAGE SIZE`,
 /// `LAYOUT LOOP 17/0`, `BAD CARD 3` or `SCRIPT LINE 2`; with status 3 `FILE` where a file couldn't be opened or read, the
-/// image not made, or the output failed, `DEVICE` where the file of `play` failed, or `NO MEMORY`.
-pub fn end<E: Write>(ended: Result<Option<Fault>, RunFault>, err: &mut E) -> u8
-    ensures status { result ≡ exit_status ended }
+/// image not made, or the output failed, `DEVICE` where the file of `play` failed, `IN USE` where another program has the
+/// image, or `NO MEMORY`. Where standard error fails it has a beginning of the line.
+pub fn end<E: Write>(ended: Result<Option<Fault>, Refusal>, err: &mut E) -> u8
+    ensures status { result ≡ end_status ended }
     ensures quiet { IsOk ended → err.new ≡ err.old }
+    ensures told { IfErr ended (λ refusal. AppendsPart (E.contents err.old) (E.contents err.new) (refusal_line refusal)) }
 {
     match ended {
         Ok(None) => 0,
         Ok(Some(_)) => 1,
-        Err(fault) => {
-            let _ = tell(err, fault);
-            fault.status()
+        Err(refusal) => {
+            let _ = tell(err, refusal);
+            refusal.status()
         }
     }
 }

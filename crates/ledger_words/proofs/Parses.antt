@@ -1,13 +1,18 @@
 -- What a job is where its words are parsed.
 use Rattle.std.proofs.Common.{◌≡◌, Bor, List, Option, Some, true, refl, ap, sym, ◌∙◌, subst, []}
-use Rattle.std.specs.Prelude.{Result, Ok, Err, IfErr, IfOk, MatchResult, option_map}
+use Rattle.std.specs.Prelude.{Result, Ok, Err, IfErr, IfOk, MatchResult, codes, option_map}
 use Rattle.clap.specs.Words.{App, FailsBy, HasKind, HasMatchesOf, Kinds, Row, Text, fault_of, found_of, is_simple, is_simple_and_free, rows_of, subcommand_of}
 use Rattle.clap.specs.declared.error.Error.{Error}
 use Rattle.clap.specs.declared.parser.matches.ArgMatches.{ArgMatches}
-use Rattle.ledger_words.specs.Grammar.{ledger}
-use Rattle.ledger_words.specs.Jobs.{Has, IsJob, IsNoJob, IsParse}
+use Rattle.ledger_words.specs.Grammar.{ledger, value}
+use Rattle.ledger_words.specs.Jobs.{Has, HasNoName, IsJob, IsNoJob, IsParse, IsTakingJob, word_of_taking}
+use Rattle.ledger_program.specs.Jobs.{HasTills}
+use Rattle.ledger_program.specs.Names.{IsNameOf, name_bytes}
 use Rattle.ledger_program.specs.declared.jobs.Job.{Job}
+use Rattle.ledger_program.specs.declared.jobs.Job.TheVariants as jobs
+use Rattle.ledger_program.specs.declared.jobs.Taking.{Taking}
 use Rattle.ledger_words.specs.declared.faults.JobFault.{JobFault}
+use Rattle.ledger_words.specs.declared.faults.JobFault.TheVariants as faults
 
 -- the command line is a simple one, so words are refused for one of its reasons
 parse-known : (app : App) (texts : List Text) (r : Result ArgMatches Error) → is_simple app ≡ true → FailsBy (fault_of app texts) r
@@ -50,3 +55,21 @@ met-has o found name at word P told some is holds =
       is = sym told ∙ ap (option_map f) some ∙ ap (λ (n : Text). Some (n, rows_of (found_of at.now))) is;
       holds = holds;
     }
+
+-- what it takes out of an image is the job of a subcommand that was met, or its name is none
+pub taking-met : (o : Option (Bor Text × Bor ArgMatches)) (found : Option (Text × List Row)) (name : Bor Text) (at : Bor ArgMatches)
+    (what : Taking) (image : Text) (r : Result Job JobFault) → option_map (λ (p : Bor Text × Bor ArgMatches). (p.0.now, rows_of (found_of p.1.now))) o ≡ found
+    → o ≡ Some (name, at) → name.now ≡ word_of_taking what → image ≡ value (codes "IMAGE") (rows_of (found_of at.now))
+    → IsTakingJob (rows_of (found_of at.now)) what image r → MatchResult r (IsJob found) (IsNoJob [] found) × IfOk r HasTills
+taking-met o found name at what image (Ok (jobs.Take asked path text)) told some is by-image taking =
+    (subst (λ (w : Taking). Has found (word_of_taking w) (λ rows. (path.now ≡ value (codes "IMAGE") rows) × IsNameOf (value (codes "NAME") rows) (name_bytes text)))
+    (sym taking.0)
+    (met-has o found name at (word_of_taking what) _ told some is (taking.1 ∙ by-image, taking.2)), tt)
+taking-met o found name at what image (Ok (jobs.Format path tills)) told some is by-image taking = absurd taking
+taking-met o found name at what image (Ok (jobs.Read asked path)) told some is by-image taking = absurd taking
+taking-met o found name at what image (Ok (jobs.Play path script durability)) told some is by-image taking = absurd taking
+taking-met o found name at what image (Ok (jobs.Repair path)) told some is by-image taking = absurd taking
+taking-met o found name at what image (Err faults.Name) told some is by-image taking =
+    ((refl, what, met-has o found name at (word_of_taking what) HasNoName told some is taking), tt)
+taking-met o found name at what image (Err faults.Tills) told some is by-image taking = absurd taking
+taking-met o found name at what image (Err (faults.Words e)) told some is by-image taking = absurd taking

@@ -1,8 +1,10 @@
 -- The words that the program takes (our own), as `clap` reads a command line.
-use Rattle.std.specs.Prelude.{List, Result, Ok, Err, Some, true, [], codes}
+use Rattle.std.specs.Prelude.{◌≡◌, List, Result, Ok, Err, Some, false, true, [], codes}
 use Rattle.std.specs.Prelude.{unwrap_or}
+use Rattle.clap.specs.declared.builder.action.ArgAction.TheVariants.{SetTrue}
 use Rattle.clap.specs.declared.builder.command.Command.{Command}
-use Rattle.clap.specs.Words.{AddsSubcommand, App, Row, Rule, Text, first_of, new_app, new_rule, with_rule, with_subcommand}
+use Rattle.clap.specs.declared.builder.command.Command.TheViews.{out-Command}
+use Rattle.clap.specs.Words.{AddsSubcommand, App, Row, Rule, Text, app_of, first_of, new_app, new_rule, with_rule, with_subcommand}
 
 -- a value that is required, shown by this name
 abbrev pub required : Text → Rule
@@ -11,6 +13,10 @@ required id = record (new_rule id) { required = true }
 -- a value that is required behind two hyphens and this word: --tills T
 abbrev pub required_behind : Text → Text → Rule
 required_behind word id = record (required id) { long = Some word }
+
+-- a word behind two hyphens that may stand there or not: --sync
+abbrev pub flag : Text → Rule
+flag word = record (new_rule word) { long = Some word; action = Some SetTrue }
 
 -- a subcommand over an image: check IMAGE
 abbrev pub over_image : Text → App
@@ -32,9 +38,21 @@ check = over_image (codes "check")
 abbrev pub show : App
 show = over_image (codes "show")
 
--- play IMAGE SCRIPT
+-- play IMAGE SCRIPT [--sync]
 abbrev pub play : App
-play = with_rule (over_image (codes "play")) (required (codes "SCRIPT"))
+play = with_rule (with_rule (over_image (codes "play")) (required (codes "SCRIPT"))) (flag (codes "sync"))
+
+-- repair IMAGE
+abbrev pub repair : App
+repair = over_image (codes "repair")
+
+-- records IMAGE NAME
+abbrev pub records : App
+records = with_rule (over_image (codes "records")) (required (codes "NAME"))
+
+-- bytes IMAGE NAME
+abbrev pub bytes : App
+bytes = with_rule (over_image (codes "bytes")) (required (codes "NAME"))
 
 -- dry SCRIPT
 abbrev pub dry : App
@@ -55,7 +73,13 @@ bare = with_required_subcommand (with_version (new_app (codes "ledger_cli")))
 -- the program with its subcommands
 abbrev pub ledger : App
 ledger = with_subcommand (with_subcommand (with_subcommand (with_subcommand (with_subcommand (with_subcommand
-    bare format.top) list.top) check.top) show.top) play.top) dry.top
+    (with_subcommand (with_subcommand (with_subcommand bare format.top) list.top) check.top) show.top) play.top)
+    repair.top) records.top) bytes.top) dry.top
+
+-- this is that subcommand, and none of its values is one of the program's
+pub record IsSubcommand (app : App) (c : Command) : Type 0 where
+  pub is : app_of c ≡ app
+  pub own : (out-Command c).has_globals ≡ false
 
 -- the value of an argument, or an empty text where it has none
 abbrev pub value : Text → List Row → Text

@@ -1,13 +1,19 @@
 -- What the words of a command line ask for (our own).
-use Rattle.std.specs.Prelude.{◌≡◌, ℕ, List, Option, Some, None, [], codes}
+use Rattle.std.specs.Prelude.{◌≡◌, ℕ, Bool, List, Option, Some, None, Result, Ok, Err, [], bytes_eq, codes, if◌then◌else◌}
 use Rattle.clap.specs.Words.{HasKind, Kinds, Row, Text, subcommand_rows_of}
 use Rattle.clap.specs.declared.parser.matches.ArgMatches.{ArgMatches}
+use Rattle.byte_text.specs.Texts.{AreBytes}
 use Rattle.request_cards.specs.Reading.{number_in}
+use Rattle.ledger_commands.specs.declared.durable.Durability.{Durability}
+use Rattle.ledger_commands.specs.declared.durable.Durability.TheVariants as durabilities
 use Rattle.ledger_words.specs.Grammar.{value}
 use Rattle.ledger_program.specs.declared.jobs.Job.{Job}
 use Rattle.ledger_program.specs.declared.jobs.Job.TheVariants as jobs
+use Rattle.ledger_program.specs.Names.{IsNameOf, name_bytes}
 use Rattle.ledger_program.specs.declared.jobs.Reading.{Reading}
 use Rattle.ledger_program.specs.declared.jobs.Reading.TheVariants as readings
+use Rattle.ledger_program.specs.declared.jobs.Taking.{Taking}
+use Rattle.ledger_program.specs.declared.jobs.Taking.TheVariants as takings
 use Rattle.ledger_words.specs.declared.faults.JobFault.{JobFault}
 use Rattle.ledger_words.specs.declared.faults.JobFault.TheVariants as faults
 
@@ -38,15 +44,45 @@ abbrev pub file_of : Reading → Text
 file_of readings.Dry = codes "SCRIPT"
 file_of _ = codes "IMAGE"
 
+-- the subcommand that takes this out of an image
+abbrev pub word_of_taking : Taking → Text
+word_of_taking takings.Records = codes "records"
+word_of_taking takings.Bytes = codes "bytes"
+
+-- a flag is among the words
+abbrev pub is_given : Text → List Row → Bool
+is_given flag rows = bytes_eq (value flag rows) (codes "true")
+
+-- when the image of a play is brought to the disk: at its end, but with --sync behind each sector
+abbrev pub play_durability : List Row → Durability
+play_durability rows = if is_given (codes "sync") rows then durabilities.EachSector else durabilities.AtEnd
+
+-- what a file of a disk is called by this text: no bytes
+abbrev pub HasNoName : List Row → Type 0
+HasNoName rows = (bytes : List ℕ) → AreBytes bytes → ¬ (IsNameOf (value (codes "NAME") rows) bytes)
+
 -- the job of a subcommand and its values
 abbrev pub IsJob : Option (Text × List Row) → Job → Type 0
 IsJob found (jobs.Format image tills) = Has found (codes "format")
     (λ rows. (image.now ≡ value (codes "IMAGE") rows) × (tills_in rows ≡ Some tills))
 IsJob found (jobs.Read what path) = Has found (word_of what) (λ rows. path.now ≡ value (file_of what) rows)
-IsJob found (jobs.Play image script) = Has found (codes "play")
-    (λ rows. (image.now ≡ value (codes "IMAGE") rows) × (script.now ≡ value (codes "SCRIPT") rows))
+IsJob found (jobs.Play image script durability) = Has found (codes "play")
+    (λ rows. (image.now ≡ value (codes "IMAGE") rows) × (script.now ≡ value (codes "SCRIPT") rows) × (durability ≡ play_durability rows))
+IsJob found (jobs.Repair image) = Has found (codes "repair") (λ rows. image.now ≡ value (codes "IMAGE") rows)
+IsJob found (jobs.Take what image name) = Has found (word_of_taking what)
+    (λ rows. (image.now ≡ value (codes "IMAGE") rows) × IsNameOf (value (codes "NAME") rows) (name_bytes name))
 
--- why there is none: the words are refused for one of these kinds, or memory ran out; or the number of tills is none
+-- the job, or why there is none, of a subcommand that takes this out of an image and has these values
+abbrev pub IsTakingJob : List Row → Taking → Text → Result Job JobFault → Type 0
+IsTakingJob rows what image (Ok (jobs.Take asked path name)) =
+    (asked ≡ what) × (path.now ≡ image) × IsNameOf (value (codes "NAME") rows) (name_bytes name)
+IsTakingJob rows what image (Ok _) = ⊥
+IsTakingJob rows what image (Err faults.Name) = HasNoName rows
+IsTakingJob rows what image (Err _) = ⊥
+
+-- why there is none: the words are refused for one of these kinds, or memory ran out; or the number of tills is none, or the
+-- name of a file
 abbrev pub IsNoJob : Kinds → Option (Text × List Row) → JobFault → Type 0
 IsNoJob kinds found (faults.Words e) = HasKind kinds e
 IsNoJob kinds found faults.Tills = (kinds ≡ []) × Has found (codes "format") (λ rows. tills_in rows ≡ None)
+IsNoJob kinds found faults.Name = (kinds ≡ []) × (what : Taking) × Has found (word_of_taking what) HasNoName

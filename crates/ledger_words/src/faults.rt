@@ -14,16 +14,20 @@ pub enum JobFault {
     /// The number of tills isn't one of 1 to 64, in decimal digits without leading zeros.
     #[error("TILLS")]
     Tills,
+    /// The name of a file isn't the text of at most sixteen bytes, of which the last isn't a shifted space.
+    #[error("NAME")]
+    Name,
 }
 
 impl JobFault {
-    /// The fault's number: 1 for `Words`, 2 for `Tills`.
+    /// The fault's number: 1 for `Words`, 2 for `Tills`, 3 for `Name`.
     pub fn number(&self) -> u8
         ensures { result ≡ job_number self.now }
     {
         match self {
             JobFault::Words(_) => 1,
             JobFault::Tills => 2,
+            JobFault::Name => 3,
         }
     }
 
@@ -37,7 +41,7 @@ impl JobFault {
                 ErrorKind::DisplayHelp | ErrorKind::DisplayVersion => 0,
                 _ => 2,
             },
-            JobFault::Tills => 2,
+            JobFault::Tills | JobFault::Name => 2,
         }
     }
 }

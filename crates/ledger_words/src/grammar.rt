@@ -1,10 +1,10 @@
 //! The command line that the program takes: one function a subcommand.
 ghost use Rattle.std.specs.Prelude.{◌≡◌, IfOk, codes, false};
-ghost use Rattle.clap.specs.Words.{app_of, new_app, rule_of, with_rule};
+ghost use Rattle.clap.specs.Words.{App, app_of, new_app, rule_of, with_rule};
 ghost use Rattle.clap.specs.declared.builder.command.Command.TheViews.{out-Command};
 ghost use Rattle.ledger_words.specs.Grammar as grammar;
 
-use clap::{Arg, Command};
+use clap::{Arg, ArgAction, Command};
 use std::alloc::{AllocError, Global};
 
 /// The version that `--version` prints.
@@ -26,6 +26,17 @@ fn required_behind<'a>(alloc: Global, word: &'a str, name: &'a str, help: &'a st
     required(alloc, name, help).long(word)
 }
 
+/// A word behind two hyphens that may stand there or not.
+fn flag<'a>(alloc: Global, word: &'a str, help: &'a str) -> Arg<'a>
+    ensures rule { rule_of result ≡ grammar.flag word.entry.now }
+    ensures local { result.global ≡ false }
+{
+    Arg::new(alloc, word)
+        .long(word)
+        .action(ArgAction::SetTrue)
+        .help(help)
+}
+
 /// A command with this name, and what help says of it.
 fn named<'a>(alloc: Global, name: &'a str, about: &'a str) -> Command<'a>
     ensures app { app_of result ≡ new_app name.entry.now }
@@ -42,16 +53,26 @@ fn with_value<'a>(
     value: Arg<'a>,
 ) -> Result<Command<'a>, AllocError>
     requires { value.global ≡ false }
-    ensures app { IfOk result (λ c. app_of c ≡ with_rule (new_app name.entry.now) (rule_of value.entry)) }
-    ensures local { IfOk result (λ c. (out-Command c).has_globals ≡ false) }
+    ensures { IfOk result (grammar.IsSubcommand (with_rule (new_app name.entry.now) (rule_of value.entry))) }
 {
     named(alloc, name, about).arg(value)
 }
 
+/// Adds a value or a flag to a subcommand, where there was memory for it.
+fn takes<'a>(
+    subcommand: Result<Command<'a>, AllocError>,
+    value: Arg<'a>,
+) -> Result<Command<'a>, AllocError>
+    requires { value.global ≡ false }
+    ensures { (before : App) → IfOk subcommand.entry (grammar.IsSubcommand before)
+        → IfOk result (grammar.IsSubcommand (with_rule before (rule_of value.entry))) }
+{
+    subcommand?.arg(value)
+}
+
 /// A subcommand over an image.
 fn over_image<'a>(alloc: Global, name: &'a str, about: &'a str) -> Result<Command<'a>, AllocError>
-    ensures app { IfOk result (λ c. app_of c ≡ grammar.over_image name.entry.now) }
-    ensures local { IfOk result (λ c. (out-Command c).has_globals ≡ false) }
+    ensures { IfOk result (grammar.IsSubcommand (grammar.over_image name.entry.now)) }
 {
     let image = required(alloc, "IMAGE", "The disk's image, a D64 file of 35 tracks");
     with_value(alloc, name, about, image)
@@ -59,26 +80,26 @@ fn over_image<'a>(alloc: Global, name: &'a str, about: &'a str) -> Result<Comman
 
 /// `format IMAGE --tills T`
 fn format_command<'a>(alloc: Global) -> Result<Command<'a>, AllocError>
-    ensures app { IfOk result (λ c. app_of c ≡ grammar.format) }
-    ensures local { IfOk result (λ c. (out-Command c).has_globals ≡ false) }
+    ensures { IfOk result (grammar.IsSubcommand grammar.format) }
 {
     let about = "Makes the image of an empty shop, or replaces it";
     let help = "How many tills the shop has, 1 to 64";
-    over_image(alloc, "format", about)?.arg(required_behind(alloc, "tills", "T", help))
+    takes(
+        over_image(alloc, "format", about),
+        required_behind(alloc, "tills", "T", help),
+    )
 }
 
 /// `list IMAGE`
 fn list_command<'a>(alloc: Global) -> Result<Command<'a>, AllocError>
-    ensures app { IfOk result (λ c. app_of c ≡ grammar.list) }
-    ensures local { IfOk result (λ c. (out-Command c).has_globals ≡ false) }
+    ensures { IfOk result (grammar.IsSubcommand grammar.list) }
 {
     over_image(alloc, "list", "Prints the directory of the image")
 }
 
 /// `check IMAGE`
 fn check_command<'a>(alloc: Global) -> Result<Command<'a>, AllocError>
-    ensures app { IfOk result (λ c. app_of c ≡ grammar.check) }
-    ensures local { IfOk result (λ c. (out-Command c).has_globals ≡ false) }
+    ensures { IfOk result (grammar.IsSubcommand grammar.check) }
 {
     over_image(
         alloc,
@@ -101,8 +122,7 @@ fn script_of<'a>(alloc: Global) -> Arg<'a>
 
 /// `show IMAGE`
 fn show_command<'a>(alloc: Global) -> Result<Command<'a>, AllocError>
-    ensures app { IfOk result (λ c. app_of c ≡ grammar.show) }
-    ensures local { IfOk result (λ c. (out-Command c).has_globals ≡ false) }
+    ensures { IfOk result (grammar.IsSubcommand grammar.show) }
 {
     over_image(
         alloc,
@@ -111,19 +131,58 @@ fn show_command<'a>(alloc: Global) -> Result<Command<'a>, AllocError>
     )
 }
 
-/// `play IMAGE SCRIPT`
+/// `play IMAGE SCRIPT [--sync]`
 fn play_command<'a>(alloc: Global) -> Result<Command<'a>, AllocError>
-    ensures app { IfOk result (λ c. app_of c ≡ grammar.play) }
-    ensures local { IfOk result (λ c. (out-Command c).has_globals ≡ false) }
+    ensures { IfOk result (grammar.IsSubcommand grammar.play) }
 {
     let about = "Plays the messages of a script on the image, and prints the reply to each";
-    over_image(alloc, "play", about)?.arg(script_of(alloc))
+    let help = "Brings each sector to the disk before the next is written, and not all at the end";
+    let play = takes(over_image(alloc, "play", about), script_of(alloc));
+    takes(play, flag(alloc, "sync", help))
+}
+
+/// `repair IMAGE`
+fn repair_command<'a>(alloc: Global) -> Result<Command<'a>, AllocError>
+    ensures { IfOk result (grammar.IsSubcommand grammar.repair) }
+{
+    over_image(
+        alloc,
+        "repair",
+        "Makes the map, the side sectors and the block counts of a sound disk right",
+    )
+}
+
+/// The name of a file on the disk.
+fn name_of<'a>(alloc: Global) -> Arg<'a>
+    ensures rule { rule_of result ≡ grammar.required (codes "NAME") }
+    ensures local { result.global ≡ false }
+{
+    required(
+        alloc,
+        "NAME",
+        "The file's name; a byte that isn't plain text is a backslash and two digits, as \\c1",
+    )
+}
+
+/// `records IMAGE NAME`
+fn records_command<'a>(alloc: Global) -> Result<Command<'a>, AllocError>
+    ensures { IfOk result (grammar.IsSubcommand grammar.records) }
+{
+    let about = "Prints the records of a relative file, a line each";
+    takes(over_image(alloc, "records", about), name_of(alloc))
+}
+
+/// `bytes IMAGE NAME`
+fn bytes_command<'a>(alloc: Global) -> Result<Command<'a>, AllocError>
+    ensures { IfOk result (grammar.IsSubcommand grammar.bytes) }
+{
+    let about = "Prints the bytes of a file of any type";
+    takes(over_image(alloc, "bytes", about), name_of(alloc))
 }
 
 /// `dry SCRIPT`
 fn dry_command<'a>(alloc: Global) -> Result<Command<'a>, AllocError>
-    ensures app { IfOk result (λ c. app_of c ≡ grammar.dry) }
-    ensures local { IfOk result (λ c. (out-Command c).has_globals ≡ false) }
+    ensures { IfOk result (grammar.IsSubcommand grammar.dry) }
 {
     let about =
         "Prints the reply to each message of a script, from an empty shop on, without a disk";
@@ -168,5 +227,8 @@ pub fn ledger_command<'a>(alloc: Global) -> Result<Command<'a>, AllocError>
     let program = adds(program, check_command(alloc));
     let program = adds(program, show_command(alloc));
     let program = adds(program, play_command(alloc));
+    let program = adds(program, repair_command(alloc));
+    let program = adds(program, records_command(alloc));
+    let program = adds(program, bytes_command(alloc));
     adds(program, dry_command(alloc))
 }

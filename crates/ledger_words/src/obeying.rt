@@ -4,10 +4,11 @@ ghost use Rattle.ledger_program.specs.Jobs.{HasTills};
 
 use crate::faults::JobFault;
 use crate::words::job;
-use ledger_commands::{EndedFile, RunFault, WritesAt};
-use ledger_program::{Job, do_job, end};
+use ledger_commands::{EndedFile, Locks, RunFault};
+use ledger_program::{Job, Refusal, do_job, end};
 use std::alloc::{AllocError, Global};
 use std::env;
+use std::fs::OpenFile;
 use std::io::{self, BufWriter, Read, Write};
 use std::rt::{Env, Files};
 
@@ -19,7 +20,7 @@ const OUTPUT_ROOM: usize = 32768;
 
 /// Tells a failure of the system, and answers its exit status.
 fn refuse<E: Write>(err: &mut E, error: &io::Error) -> u8 {
-    end(Err(RunFault::of_io(error)), err)
+    end(Err(Refusal::Run(RunFault::of_io(error))), err)
 }
 
 /// Tells why the words ask for nothing, or gives the help that they ask for, and answers the exit status.
@@ -28,10 +29,10 @@ fn refuse_words<R: Print + Eprint, E: Write>(rt: &R, fault: &JobFault, err: &mut
     let told = match fault {
         // For want of memory there may be no text.
         JobFault::Words(_) if status == RunFault::NoMemory.status() => {
-            return end(Err(RunFault::NoMemory), err);
+            return end(Err(Refusal::Run(RunFault::NoMemory)), err);
         }
         JobFault::Words(error) => error.print(rt),
-        JobFault::Tills => writeln!(err, "{fault}"),
+        JobFault::Tills | JobFault::Name => writeln!(err, "{fault}"),
     };
     match told {
         // Help that can't be printed is an output that failed.
@@ -43,7 +44,7 @@ fn refuse_words<R: Print + Eprint, E: Write>(rt: &R, fault: &JobFault, err: &mut
 /// Does a job over an output that is gathered, and answers the exit status.
 fn obey_job<F, R, E>(rt: &R, job: &Job<'_>, err: &mut E) -> u8
 where
-    F: EndedFile + Read + WritesAt + Drop,
+    F: EndedFile + Read + Locks + OpenFile + Drop,
     R: Files<File = F> + Input + Print + AllocGlobal,
     E: Write,
     requires { HasTills job.now }
@@ -66,7 +67,7 @@ fn texts_of<'a>(alloc: Global, words: &'a [String]) -> Result<Vec<&'a str>, Allo
 /// Does what these words ask for, and answers the exit status.
 fn obey<F, R, E>(rt: &R, words: &[String], err: &mut E) -> u8
 where
-    F: EndedFile + Read + WritesAt + Drop,
+    F: EndedFile + Read + Locks + OpenFile + Drop,
     R: Files<File = F> + Input + Print + Eprint + AllocGlobal,
     E: Write,
 {
@@ -104,7 +105,7 @@ fn words_of<R: Env + AllocGlobal, E: Write>(rt: &R, err: &mut E) -> Result<Vec<S
 /// at any rate.
 pub fn program<F, R, E>(rt: &R, err: &mut E) -> u8
 where
-    F: EndedFile + Read + WritesAt + Drop,
+    F: EndedFile + Read + Locks + OpenFile + Drop,
     R: Files<File = F> + Env + Input + Print + Eprint + AllocGlobal,
     E: Write,
 {

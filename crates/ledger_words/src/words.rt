@@ -4,12 +4,14 @@ ghost use Rattle.clap.specs.Words.{HasKind, fault_of, found_of, rows_of, subcomm
 ghost use Rattle.ledger_words.specs.Grammar.{ledger, value};
 ghost use Rattle.request_cards.specs.Reading.{number_in};
 ghost use Rattle.ledger_program.specs.Jobs.{HasTills};
-ghost use Rattle.ledger_words.specs.Jobs.{IsJob, IsNoJob, IsParse};
+ghost use Rattle.ledger_words.specs.Jobs.{IsJob, IsNoJob, IsParse, IsTakingJob, play_durability};
+ghost use Rattle.ledger_words.specs.Jobs.{is_given as given};
 
 use crate::faults::JobFault;
 use crate::grammar::ledger_command;
 use clap::{ArgMatches, Error};
-use ledger_program::{Job, Reading};
+use ledger_commands::Durability;
+use ledger_program::{Job, Name, Reading, Taking};
 use request_cards::number;
 use std::alloc::{AllocError, Global};
 
@@ -36,6 +38,34 @@ fn tills_of(text: &str) -> Option<u8>
     match number(text.as_bytes(), 1, 64) {
         Some(tills) => Some(tills as u8),
         None => None,
+    }
+}
+
+/// Whether a flag is among the words.
+fn is_given<'a>(matches: &ArgMatches<'a>, flag: &str) -> bool
+    ensures { result ≡ given flag.now (rows_of (found_of matches.now)) }
+{
+    value_of(matches, flag) == "true"
+}
+
+/// When the image of a play is brought to the disk.
+fn durability_of<'a>(matches: &ArgMatches<'a>) -> Durability
+    ensures { result ≡ play_durability (rows_of (found_of matches.now)) }
+{
+    if is_given(matches, "sync") {
+        Durability::EachSector
+    } else {
+        Durability::AtEnd
+    }
+}
+
+/// The job that takes this out of an image, of the file of a name.
+fn taking<'a>(matches: &ArgMatches<'a>, what: Taking, image: &'a str) -> Result<Job<'a>, JobFault>
+    ensures { IsTakingJob (rows_of (found_of matches.now)) what image.now result }
+{
+    match Name::read(value_of(matches, "NAME")) {
+        Some(name) => Ok(Job::Take { what, image, name }),
+        None => Err(JobFault::Name),
     }
 }
 
@@ -68,7 +98,14 @@ fn chosen<'a>(matches: &ArgMatches<'a>) -> Result<Job<'a>, JobFault>
             what: Reading::Show,
             path: image,
         }),
-        "play" => Ok(Job::Play { image, script }),
+        "play" => Ok(Job::Play {
+            image,
+            script,
+            durability: durability_of(found),
+        }),
+        "repair" => Ok(Job::Repair { image }),
+        "records" => taking(found, Taking::Records, image),
+        "bytes" => taking(found, Taking::Bytes, image),
         "dry" => Ok(Job::Read {
             what: Reading::Dry,
             path: script,
@@ -93,7 +130,7 @@ pub fn job<'a>(alloc: Global, words: &'a [&'a str]) -> Result<Job<'a>, JobFault>
         IfOk result (λ j. (fault_of ledger texts ≡ []) × IsJob (subcommand_of ledger texts) j) }
     ensures tills { IfOk result HasTills }
     // Words are refused for one of the reasons that the command line gives, or for want of memory,
-    // or for a number of tills that is none of 1 to 64, where nothing else is wrong.
+    // or for a number of tills that is none of 1 to 64, or a name that no file has, where nothing else is wrong.
     ensures err { let texts = map (λ word. word.now) words.entry.now in
         IfErr result (IsNoJob (fault_of ledger texts) (subcommand_of ledger texts)) }
 {

@@ -1,6 +1,8 @@
 //! Scripts played by the whole program, what is shown then, and what is refused.
 use crate::comparing::holds;
-use crate::scenes::{CHECK, DRY, LIST, PLAY, SHOW, bytes_at, empty_shop, ran};
+use crate::scenes::{
+    Bytes, CHECK, DRY, LIST, PLAY, SHOW, bytes_at, changed, empty_shop, ran,
+};
 use std::process::Abort;
 
 /// Scripts on an empty shop, what is printed of each, and what is shown of the image then.
@@ -37,21 +39,6 @@ fn scripts_are_played(rt: HostRuntime) {
         b"0 \"STOCK LEDGER\" 01 2A\n2 \"STOCK\" REL\n2 \"REQUESTS\" REL\n660 BLOCKS FREE\n";
     ran(&rt, LIST, shop.as_slice(), b"", (0, listing, b""));
     ran(&rt, SHOW, shop.as_slice(), b"", (0, b"TOP 9256\n", b""));
-}
-
-/// Bytes, and where in an image they stand.
-type Bytes = (usize, &'static [u8]);
-
-/// The image with these bytes over its own.
-fn changed(rt: &(impl AllocGlobal + Abort), shop: &[u8], changes: &[Bytes]) -> Vec<u8> {
-    let mut image = Vec::new(rt.alloc());
-    holds(rt, image.extend_from_slice(shop).is_ok(), "there is memory");
-    for (at, bytes) in changes {
-        for (place, byte) in image.iter_mut().skip(*at).zip(bytes.iter()) {
-            *place = *byte;
-        }
-    }
-    image
 }
 
 /// Changes of the image of an empty shop, and why the image is none then.

@@ -2,14 +2,23 @@
 use crate::comparing::{holds, same_at};
 use crate::memory::Memory;
 use crate::scenes::{
-    CHECK, DRY, End, FILE, FORMAT, LIST, PLAY, SHOW, Words, bytes_at, empty_shop, ends, put, ran,
-    repeated,
+    BYTES, CHECK, DRY, End, FILE, FORMAT, LIST, PLAY, RECORDS, REPAIR, SHOW, Words, bytes_at,
+    empty_shop, ends, put, ran, repeated,
 };
 use crate::stored::Kind;
 use std::process::Abort;
 
 /// Words, and what stands at the image's path and at the script's, so that a file can't be opened, read or written.
-const CLOSED: [(Words, Kind, Kind, &str); 15] = [
+const CLOSED: [(Words, Kind, Kind, &str); 19] = [
+    (REPAIR, Kind::Missing, Kind::Plain, "repair of no image"),
+    (
+        REPAIR,
+        Kind::ReadOnly,
+        Kind::Plain,
+        "repair of an image that may not be written",
+    ),
+    (RECORDS, Kind::Missing, Kind::Plain, "records of no image"),
+    (BYTES, Kind::Folder, Kind::Plain, "bytes of a folder"),
     (LIST, Kind::Missing, Kind::Plain, "list of no image"),
     (CHECK, Kind::Missing, Kind::Plain, "check of no image"),
     (SHOW, Kind::Missing, Kind::Plain, "show of no image"),
@@ -89,7 +98,7 @@ fn an_image_replaces_a_file(rt: HostRuntime) {
 
 /// Sees that an image of another size is refused by each job, and left as it is.
 fn is_no_image(rt: &(impl AllocGlobal + Abort), image: &[u8]) {
-    for words in [LIST, CHECK, SHOW, PLAY] {
+    for words in [LIST, CHECK, SHOW, PLAY, REPAIR, RECORDS, BYTES] {
         let memory = Memory::new(rt.alloc(), words, b"");
         put(rt, &memory.image, Kind::Plain, image);
         put(rt, &memory.script, Kind::Plain, b"1,1,S,1,5\n");

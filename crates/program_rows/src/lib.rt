@@ -10,7 +10,13 @@ mod day_rows;
 #[cfg(test)]
 mod file_rows;
 #[cfg(test)]
+mod keeper_rows;
+#[cfg(test)]
+mod lock_rows;
+#[cfg(test)]
 mod memory;
+#[cfg(test)]
+mod opened;
 #[cfg(test)]
 mod output_rows;
 #[cfg(test)]

@@ -1,5 +1,6 @@
 //! A runtime in memory: the words of a command line, two files, standard input, an output and standard error.
-use crate::stored::{Kind, Opened, Stored, failed};
+use crate::opened::{Opened, open_stored};
+use crate::stored::{Kind, Stored, failed};
 use std::alloc::{Allocator, Global};
 use std::cell::{Cell, RefCell};
 use std::env::FillError;
@@ -18,6 +19,8 @@ pub(crate) struct Memory<'a> {
     pub(crate) image: Stored,
     /// What stands at `s.txt`.
     pub(crate) script: Stored,
+    /// The folder of both.
+    pub(crate) folder: Stored,
     /// Standard input, and whether it was taken: it can be once.
     pub(crate) input: &'a [u8],
     pub(crate) taken: Cell<bool>,
@@ -39,6 +42,7 @@ impl<'a> Memory<'a> {
             words,
             image: Stored::new(alloc),
             script: Stored::new(alloc),
+            folder: Stored::folder(alloc),
             input,
             taken: Cell::new(false),
             out: RefCell::new(Vec::new(alloc)),
@@ -114,8 +118,9 @@ impl<'a> Files for Runtime<'a> {
 
     fn open_file(&self, how: &OpenOptions, path: &str) -> io::Result<Opened<'a>> {
         match path {
-            "a.d64" => self.0.image.open(how),
-            "s.txt" => self.0.script.open(how),
+            "a.d64" => open_stored(&self.0.image, how),
+            "s.txt" => open_stored(&self.0.script, how),
+            "." => open_stored(&self.0.folder, how),
             _ => failed(ErrorKind::NotFound),
         }
     }

@@ -3,14 +3,20 @@ ghost use Rattle.ledger_program.specs.Jobs.{HasTills};
 
 use crate::comparing::{holds, same, same_at};
 use crate::memory::{Memory, Runtime};
-use crate::scenes::{CHECK, DRY, FILE, FORMAT, LIST, PLAY, SHOW, Words, empty_shop, ends, put};
+use crate::scenes::{
+    BYTES, CHECK, DRY, FILE, FORMAT, LIST, PLAY, RECORDS, REPAIR, SHOW, Words, empty_shop, ends, put,
+};
 use crate::stored::Kind;
+use ledger_commands::Durability;
 use ledger_program::{Job, Reading, do_job, end};
 use std::io::{self, Write};
 use std::process::Abort;
 
 /// Words, how many bytes the output takes, and what it has then.
-const FULL: [(Words, usize, &[u8]); 8] = [
+const FULL: [(Words, usize, &[u8]); 11] = [
+    (REPAIR, 2, b"OK"),
+    (RECORDS, 5, b"1,\"\\f"),
+    (BYTES, 1, b"\xff"),
     (LIST, 10, b"0 \"STOCK L"),
     (CHECK, 2, b"OK"),
     (SHOW, 0, b""),
@@ -85,6 +91,7 @@ const DRY_JOB: Job<'static> = Job::Read {
 const PLAY_JOB: Job<'static> = Job::Play {
     image: "a.d64",
     script: "s.txt",
+    durability: Durability::AtEnd,
 };
 
 #[test]

@@ -19,6 +19,15 @@ pub(crate) const SHOW: Words = &[b"ledger_cli", b"show", b"a.d64"];
 
 pub(crate) const PLAY: Words = &[b"ledger_cli", b"play", b"a.d64", b"s.txt"];
 
+pub(crate) const PLAY_SYNC: Words =
+    &[b"ledger_cli", b"play", b"--sync", b"a.d64", b"s.txt"];
+
+pub(crate) const REPAIR: Words = &[b"ledger_cli", b"repair", b"a.d64"];
+
+pub(crate) const RECORDS: Words = &[b"ledger_cli", b"records", b"a.d64", b"REQUESTS"];
+
+pub(crate) const BYTES: Words = &[b"ledger_cli", b"bytes", b"a.d64", b"REQUESTS"];
+
 pub(crate) const DRY: Words = &[b"ledger_cli", b"dry", b"s.txt"];
 
 /// A status, what is printed, and what is told on standard error.
@@ -61,6 +70,7 @@ pub(crate) fn ends(rt: &impl Abort, memory: &Memory<'_>, wanted: End<'_>, row: &
     wrote(rt, &memory.err, told, row);
     same_at(rt, status, want, row);
     wrote(rt, &memory.out, printed, row);
+    same_at(rt, memory.image.unlocked.get(), false, row);
 }
 
 /// Runs the program with these words over an image and a script, and sees that it ends so. Answers what it left.
@@ -76,6 +86,25 @@ pub(crate) fn ran(
     put(rt, &memory.script, Kind::Plain, script);
     ends(rt, &memory, wanted, "");
     memory
+}
+
+/// Bytes, and where in an image they stand.
+pub(crate) type Bytes = (usize, &'static [u8]);
+
+/// The image with these bytes over its own.
+pub(crate) fn changed(
+    rt: &(impl AllocGlobal + Abort),
+    shop: &[u8],
+    changes: &[Bytes],
+) -> Vec<u8> {
+    let mut image = Vec::new(rt.alloc());
+    holds(rt, image.extend_from_slice(shop).is_ok(), "there is memory");
+    for (at, bytes) in changes {
+        for (place, byte) in image.iter_mut().skip(*at).zip(bytes.iter()) {
+            *place = *byte;
+        }
+    }
+    image
 }
 
 /// The bytes that stand there.

@@ -1,13 +1,10 @@
-//! Files in memory, and how they are opened, read and written.
+//! Files in memory, and what was done with them.
 ghost use Rattle.std.specs.Prelude.{IsErr};
 ghost use Rattle.std.specs.Io.{ReadsAtMost, WritesAtMost};
 
-use ledger_commands::{EndedFile, WritesAt};
 use std::alloc::Global;
 use std::cell::{Cell, RefCell};
-use std::fs::{Metadata, OpenFile, OpenOptions};
-use std::io::{self, Cursor, ErrorKind, Read, Seek, SeekFrom, Write};
-use std::os::unix::fs::FileExt;
+use std::io::{self, Cursor, ErrorKind, Read, Write};
 
 /// What stands at a path.
 #[derive(Clone, Copy, Debug, PartialEq, Eq)]
@@ -30,9 +27,42 @@ pub(crate) struct Stored {
     pub(crate) kind: Cell<Kind>,
     pub(crate) bytes: RefCell<Cursor<Vec<u8>>>,
     /// How many bytes a stream gave.
-    taken: Cell<u64>,
+    pub(crate) taken: Cell<u64>,
     /// How many bytes are taken of what is written, until it fails.
     pub(crate) room: Cell<usize>,
+    /// Whether another program has it alone, or reads it.
+    pub(crate) others: Cell<Others>,
+    /// How it is locked by whoever opened it.
+    pub(crate) lock: Cell<Lock>,
+    /// Whether it was read or changed without a lock that allows it.
+    pub(crate) unlocked: Cell<bool>,
+    /// How often it was brought to the disk, also before it was read first, and the number of the call that fails.
+    pub(crate) syncs: Cell<usize>,
+    pub(crate) syncs_before: Cell<usize>,
+    pub(crate) bad_sync: Cell<usize>,
+    /// How many writes there were; how many weren't brought to the disk yet, and how many of these there were at most.
+    pub(crate) writes: Cell<usize>,
+    pub(crate) waiting: Cell<usize>,
+    pub(crate) most_waiting: Cell<usize>,
+}
+
+/// What other programs do with it.
+#[derive(Clone, Copy, Debug, PartialEq, Eq)]
+pub(crate) enum Others {
+    /// Nothing.
+    Away,
+    /// They read it.
+    Reading,
+    /// One of them has it alone.
+    Alone,
+}
+
+/// How it is locked.
+#[derive(Clone, Copy, Debug, PartialEq, Eq)]
+pub(crate) enum Lock {
+    None,
+    Shared,
+    Alone,
 }
 
 /// The error of this kind.
@@ -50,7 +80,50 @@ impl Stored {
             bytes: RefCell::new(Cursor::new(Vec::new(alloc))),
             taken: Cell::new(0),
             room: Cell::new(usize::MAX),
+            others: Cell::new(Others::Away),
+            lock: Cell::new(Lock::None),
+            unlocked: Cell::new(false),
+            syncs: Cell::new(0),
+            syncs_before: Cell::new(0),
+            bad_sync: Cell::new(0),
+            writes: Cell::new(0),
+            waiting: Cell::new(0),
+            most_waiting: Cell::new(0),
         }
+    }
+
+    /// A place where a folder stands.
+    pub(crate) fn folder(alloc: Global) -> Stored {
+        let at = Stored::new(alloc);
+        at.kind.set(Kind::Folder);
+        at
+    }
+
+    /// Notes that it is read.
+    pub(crate) fn note_read(&self) {
+        if self.lock.get() == Lock::None {
+            self.unlocked.set(true);
+        }
+        if self.taken.get() == 0 {
+            self.syncs_before.set(self.syncs.get());
+        }
+    }
+
+    /// Notes that it is changed.
+    fn note_change(&self) {
+        if self.lock.get() != Lock::Alone {
+            self.unlocked.set(true);
+        }
+    }
+
+    /// Brings it to the disk.
+    pub(crate) fn sync(&self) -> io::Result<()> {
+        self.syncs.set(self.syncs.get().saturating_add(1));
+        if self.syncs.get() == self.bad_sync.get() {
+            return failed(ErrorKind::Other);
+        }
+        self.waiting.set(0);
+        Ok(())
     }
 
     /// Puts such a thing with these bytes there. Whether there was memory for them.
@@ -84,7 +157,8 @@ impl Stored {
     }
 
     /// Cuts what stands there, or adds zeros to it.
-    fn resize(&self, size: u64) -> io::Result<()> {
+    pub(crate) fn resize(&self, size: u64) -> io::Result<()> {
+        self.note_change();
         match self.bytes.try_borrow_mut() {
             Ok(mut held) => {
                 held.get_mut().resize(size as usize, 0)?;
@@ -95,7 +169,7 @@ impl Stored {
     }
 
     /// Reads from a place on.
-    fn read_from(&self, buf: &mut [u8], at: u64) -> io::Result<usize>
+    pub(crate) fn read_from(&self, buf: &mut [u8], at: u64) -> io::Result<usize>
         ensures bound { ReadsAtMost result buf.new }
     {
         match self.bytes.try_borrow() {
@@ -109,10 +183,20 @@ impl Stored {
         }
     }
 
+    /// Notes a write.
+    fn note_write(&self) {
+        self.note_change();
+        self.writes.set(self.writes.get().saturating_add(1));
+        let waiting = self.waiting.get().saturating_add(1);
+        self.waiting.set(waiting);
+        self.most_waiting.set(self.most_waiting.get().max(waiting));
+    }
+
     /// Writes from a place on, as far as there is room.
-    fn write_from(&self, buf: &[u8], at: u64) -> io::Result<usize>
+    pub(crate) fn write_from(&self, buf: &[u8], at: u64) -> io::Result<usize>
         ensures bound { WritesAtMost result buf.now }
     {
+        self.note_write();
         let room = self.room.get();
         let taken = buf.len().min(room);
         self.room.set(room.saturating_sub(taken));
@@ -127,140 +211,5 @@ impl Stored {
             }
             Err(_) => failed(ErrorKind::Other),
         }
-    }
-
-    /// What comes of opening it so.
-    pub(crate) fn open<'a>(&'a self, how: &OpenOptions) -> io::Result<Opened<'a>> {
-        how.check()?;
-        match self.kind.get() {
-            Kind::Missing if !how.asks_create() => return failed(ErrorKind::NotFound),
-            Kind::Missing => self.kind.set(Kind::Plain),
-            Kind::Folder if how.asks_write() => return failed(ErrorKind::IsADirectory),
-            Kind::ReadOnly if how.asks_write() => return failed(ErrorKind::PermissionDenied),
-            _ => {}
-        }
-        if how.asks_truncate() {
-            self.resize(0)?;
-        }
-        Ok(Opened {
-            stored: self,
-            at: 0,
-            reads: how.asks_read(),
-            writes: how.asks_write(),
-        })
-    }
-}
-
-/// An open file.
-#[derive(Drop)]
-pub(crate) struct Opened<'a> {
-    stored: &'a Stored,
-    at: u64,
-    reads: bool,
-    writes: bool,
-}
-
-impl Opened<'_> {
-    /// Where the next read begins.
-    fn begins(&self) -> u64 {
-        match self.stored.kind.get() {
-            Kind::Stream => self.stored.taken.get(),
-            _ => self.at,
-        }
-    }
-}
-
-impl Read for Opened<'_> {
-    fn read(&mut self, buf: &mut [u8]) -> io::Result<usize> {
-        if self.stored.kind.get() == Kind::Folder {
-            return failed(ErrorKind::IsADirectory);
-        }
-        if !self.reads {
-            return failed(ErrorKind::PermissionDenied);
-        }
-        let got = self.stored.read_from(buf, self.begins())?;
-        self.at = self.at.saturating_add(got as u64);
-        let taken = &self.stored.taken;
-        taken.set(taken.get().saturating_add(got as u64));
-        Ok(got)
-    }
-}
-
-impl FileExt for Opened<'_> {
-    fn read_at(&self, buf: &mut [u8], offset: u64) -> io::Result<usize> {
-        self.stored.read_from(buf, offset)
-    }
-
-    fn write_at(&self, buf: &[u8], offset: u64) -> io::Result<usize> {
-        if !self.writes {
-            return failed(ErrorKind::PermissionDenied);
-        }
-        self.stored.write_from(buf, offset)
-    }
-}
-
-impl WritesAt for Opened<'_> {
-    fn write_all_at(&mut self, bytes: &[u8], at: u64) -> io::Result<()> {
-        FileExt::write_all_at(self, bytes, at)
-    }
-}
-
-impl Write for Opened<'_> {
-    fn write(&mut self, buf: &[u8]) -> io::Result<usize> {
-        let written = self.write_at(buf, self.at)?;
-        self.at = self.at.saturating_add(written as u64);
-        Ok(written)
-    }
-
-    fn flush(&mut self) -> io::Result<()> {
-        Ok(())
-    }
-}
-
-impl Seek for Opened<'_> {
-    fn seek(&mut self, to: SeekFrom) -> io::Result<u64> {
-        let target = match to {
-            SeekFrom::Start(at) => Some(at),
-            SeekFrom::Current(offset) => self.at.checked_add_signed(offset),
-            SeekFrom::End(_) => None,
-        };
-        match target {
-            Some(at) => {
-                self.at = at;
-                Ok(at)
-            }
-            None => failed(ErrorKind::InvalidInput),
-        }
-    }
-}
-
-impl OpenFile for Opened<'_> {
-    fn metadata(&self) -> io::Result<Metadata> {
-        match self.stored.kind.get() {
-            Kind::Folder => Ok(Metadata::of_dir()),
-            Kind::Stream => Ok(Metadata::of_file(0)),
-            _ => Ok(Metadata::of_file(self.stored.size() as u64)),
-        }
-    }
-
-    fn set_len(&self, size: u64) -> io::Result<()> {
-        if !self.writes {
-            return failed(ErrorKind::PermissionDenied);
-        }
-        self.stored.resize(size)
-    }
-
-    fn sync_all(&self) -> io::Result<()> {
-        Ok(())
-    }
-
-    fn sync_data(&self) -> io::Result<()> {
-        Ok(())
-    }
-}
-
-impl EndedFile for Opened<'_> {
-    fn end_at(&mut self, bytes: u64) -> io::Result<()> {
-        self.set_len(bytes)
     }
 }

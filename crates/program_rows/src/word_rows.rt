@@ -2,12 +2,13 @@
 use crate::comparing::{holds, same_at};
 use crate::memory::Memory;
 use crate::scenes::{Words, ends, status_of};
-use ledger_program::{Job, Reading};
+use ledger_commands::Durability;
+use ledger_program::{Job, Reading, Taking};
 use ledger_words::job;
 use std::cell::RefCell;
 use std::process::Abort;
 
-/// A job: its subcommand, its image, its script and its tills, where it has them.
+/// A job: its subcommand, its image, its script, and its tills or how many bytes its name has, where it has them.
 type Row<'a> = (&'a str, &'a str, &'a str, u8);
 
 /// What the words ask for, or the number of the fault and the status that they end with.
@@ -20,7 +21,22 @@ fn asked<'a>(rt: &impl AllocGlobal, words: &'a [&'a str]) -> Result<Row<'a>, (u8
             Reading::Show => ("show", path, "", 0),
             Reading::Dry => ("dry", "", path, 0),
         }),
-        Ok(Job::Play { image, script }) => Ok(("play", image, script, 0)),
+        Ok(Job::Play {
+            image,
+            script,
+            durability,
+        }) => Ok(match durability {
+            Durability::EachSector => ("play --sync", image, script, 0),
+            Durability::AtEnd => ("play", image, script, 0),
+        }),
+        Ok(Job::Repair { image }) => Ok(("repair", image, "", 0)),
+        Ok(Job::Take { what, image, name }) => {
+            let length = name.as_bytes().len() as u8;
+            Ok(match what {
+                Taking::Records => ("records", image, "", length),
+                Taking::Bytes => ("bytes", image, "", length),
+            })
+        }
         Err(fault) => Err((fault.number(), fault.status())),
     }
 }
@@ -44,6 +60,24 @@ fn words_ask_for_a_job(rt: HostRuntime) {
                 &["ledger", "play", "a.d64", "s.txt"],
                 ("play", "a.d64", "s.txt", 0),
             ),
+            (
+                &["ledger", "play", "--sync", "a.d64", "s.txt"],
+                ("play --sync", "a.d64", "s.txt", 0),
+            ),
+            (&["ledger", "repair", "a.d64"], ("repair", "a.d64", "", 0)),
+            (
+                &["ledger", "records", "a.d64", "ADD\\c1"],
+                ("records", "a.d64", "", 4),
+            ),
+            (
+                &["ledger", "bytes", "a.d64", "GAME\\a0,8,1"],
+                ("bytes", "a.d64", "", 9),
+            ),
+            (
+                &["ledger", "bytes", "a.d64", "ABCDEFGHIJKLMNOP"],
+                ("bytes", "a.d64", "", 16),
+            ),
+            (&["ledger", "records", "a.d64", ""], ("records", "a.d64", "", 0)),
             (
                 &["ledger", "format", "a.d64", "--tills", "1"],
                 ("format", "a.d64", "", 1),
@@ -84,6 +118,10 @@ fn other_words_are_refused(rt: HostRuntime) {
             (&["ledger", "play", "a.d64"], 2),
             (&["ledger", "show", "a.d64", "s.txt"], 2),
             (&["ledger", "play", "a.d64", "s.txt", "t.txt"], 2),
+            (&["ledger", "play", "a.d64", "s.txt", "--unsynced"], 2),
+            (&["ledger", "repair", "a.d64", "--sync"], 2),
+            (&["ledger", "records", "a.d64"], 2),
+            (&["ledger", "bytes"], 2),
             (&["ledger", "--help"], 0),
             (&["ledger", "--version"], 0),
             (&["ledger", "format", "--help"], 0),
@@ -107,8 +145,40 @@ fn tills_are_one_to_sixty_four(rt: HostRuntime) {
     );
 }
 
+/// Sees that none of these is the name of a file.
+fn none_is_a_name(rt: &(impl AllocGlobal + Abort), texts: &[&str]) {
+    for text in texts {
+        let records = ["ledger", "records", "a.d64", *text];
+        same_at(rt, asked(rt, &records), Err((3, 2)), *text);
+        let bytes = ["ledger", "bytes", "a.d64", *text];
+        same_at(rt, asked(rt, &bytes), Err((3, 2)), *text);
+    }
+}
+
+// Capital digits, a plain byte in digits, a quotation mark, a digit too few, a shifted space at the end, seventeen bytes.
+#[test]
+fn names_are_texts(rt: HostRuntime) {
+    none_is_a_name(
+        &rt,
+        &[
+            "\\C1",
+            "\\4f",
+            "\"",
+            "A\\c",
+            "A\\a0",
+            "ABCDEFGHIJKLMNOPQ",
+            "\u{e9}",
+        ],
+    );
+}
+
 /// Words, the status that the program ends with, what it prints and what it tells, where that is ours to say.
-const TOLD: [(Words, (u8, &[u8], &[u8]), &str); 5] = [
+const TOLD: [(Words, (u8, &[u8], &[u8]), &str); 6] = [
+    (
+        &[b"ledger_cli", b"records", b"a.d64", b"\\C1"],
+        (2, b"", b"NAME\n"),
+        "no name",
+    ),
     (
         &[b"ledger_cli", b"--version"],
         (0, b"ledger_cli 0.1.0\n", b""),

@@ -2,7 +2,7 @@
 use crate::comparing::same_at;
 use crate::disks::{fresh, loaded};
 use crate::sessions::{asked, says};
-use host_session::{Heard, ScriptFault, Turn, run_script};
+use host_session::{Heard, Noted, OfScript, ScriptFault, Turn, run, run_script};
 use std::process::Abort;
 
 /// A day on which power goes once: line 2 is cut behind its first write, and asked again.
@@ -29,6 +29,31 @@ fn each_reply_is_told_over_its_own_disk(rt: HostRuntime) {
     holds(&rt, short, b"1,2,I,42,200", b"1,2,SHORT,125", 4);
     same_at(&rt, says(cut.reply, b"CUT"), true, "cut");
     same_at(&rt, says(short.reply, b"1,2,SHORT,125"), true, "short");
+}
+
+// The first line is asked for over the disk as it was opened, each other over the disk that the line before it left.
+#[test]
+fn each_line_is_asked_for_over_what_the_last_one_left(rt: HostRuntime) {
+    let mut asks = Noted::new(rt.alloc(), OfScript::new(DAY));
+    let mut out = Heard::new(rt.alloc(), 9);
+    let ran = run(fresh(&rt), &mut asks, &mut out).is_ok();
+    let counts = (ran, asks.disks().len(), out.turns().len());
+    same_at(&rt, counts, (true, 4, 4), "told");
+    let [opened, second, third, last] = asks.disks() else {
+        return;
+    };
+    let [first, cut, again, _] = out.turns() else {
+        return;
+    };
+    same_at(&rt, opened.as_slice() == fresh(&rt).bytes(), true, "opened");
+    same_at(
+        &rt,
+        second.as_slice() == first.bytes.as_slice(),
+        true,
+        "second",
+    );
+    same_at(&rt, third.as_slice() == cut.bytes.as_slice(), true, "third");
+    same_at(&rt, last.as_slice() == again.bytes.as_slice(), true, "last");
 }
 
 // It takes one reply; the second line is handled, and nothing is handled behind it.

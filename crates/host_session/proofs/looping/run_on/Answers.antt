@@ -4,7 +4,7 @@ use Rattle.request_cards.specs.declared.reply.Reply.TheVariants.{Cut}
 use Rattle.host_session.proofs.Looped.{breaks_off, cut_is, fails, goes_on, is_reset, was_broken, was_told}
 use Rattle.host_session.specs.Loops.{Ends, EndsBy, IsStretch, with_disk}
 use Rattle.host_session.specs.OneEvent.{EndsFailed, GoesOn, IsEvent}
-use Rattle.host_session.specs.declared.looping.RunFault.TheVariants as faults
+use Rattle.host_session.specs.declared.looping.LoopFault.TheVariants as faults
 use Rattle.host_session.specs.Telling.{IsTold}
 use Rattle.host_session.proofs.looping.run_on.Goals as goal
 

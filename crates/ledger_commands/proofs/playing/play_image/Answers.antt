@@ -4,16 +4,18 @@ use Rattle.ledger_commands.proofs.PlayEnds.{fault_handed_on, handed_on}
 use Rattle.ledger_commands.proofs.playing.play_image.Goals as goal
 
 pub returns-in-Ok-hand_on : goal.returns-in-Ok-hand_on
-returns-in-Ok-hand_on g c =
-    handed_on g.D.Sectors.history g.T.Tells.output c.args.disk c.args.script.now c.args.out.now c.run_script.new.out c.hand_on.new.self
-    c.hand_on.ensures c.in-Ok.left c.in-Ok.ensures
+returns-in-Ok-hand_on g c = (
+  handed_on g.D.Sectors.history g.T.Tells.output c.args.disk c.args.script.now c.args.out.now c.run_script.new.out c.hand_on.new.self
+      c.hand_on.ensures.kept c.in-Ok.left c.in-Ok.ensures,
+  c.in-Ok-hand_on.ensures.ok,
+)
 
 pub returns-in-Err-hand_on : goal.returns-in-Err-hand_on
 returns-in-Err-hand_on g c =
     inl (
       refl,
       handed_on g.D.Sectors.history g.T.Tells.output c.args.disk c.args.script.now c.args.out.now c.run_script.new.out c.hand_on.new.self
-          c.hand_on.ensures c.in-Ok.left c.in-Ok.ensures,
+          c.hand_on.ensures.kept c.in-Ok.left c.in-Ok.ensures,
     )
 
 pub returns-in-Err : goal.returns-in-Err

@@ -1,6 +1,6 @@
 -- How the image was made is told by how the command ended.
 use Rattle.std.proofs.Common.{subst, sym}
-use Rattle.ledger_program.proofs.Runs.{format-run}
+use Rattle.ledger_program.proofs.Formats.{format-run}
 use Rattle.ledger_program.specs.Ends.{Ended}
 use Rattle.ledger_program.specs.Runs.{IsFormatRun}
 use Rattle.ledger_program.proofs.running.format_run.Goals as goal
@@ -9,6 +9,5 @@ pub returns : goal.returns
 returns g c = record {
   run = subst (λ (e : Ended). IsFormatRun g.F.Write.contents g.W.Write.contents c.args.tills c.args.file.now c.format_image.new.file c.args.out.now c.format_image.new.out e)
       (sym c.ended.ensures)
-      (format-run _ _ c.args.tills _ _ _ _ c.format_image.result c.format_image.ensures.made c.format_image.ensures.ok
-      c.format_image.ensures.first c.format_image.ensures.err c.format_image.ensures.untouched);
+      (format-run _ _ c.args.tills _ _ _ _ c.format_image.result c.format_image.ensures);
 }

@@ -1,5 +1,5 @@
 -- How the script was played is told by how the command ended.
-use Rattle.ledger_program.proofs.Runs.{play-done, play-failed}
+use Rattle.ledger_program.proofs.Plays.{play-done, play-failed}
 use Rattle.ledger_program.proofs.running.play_run.Goals as goal
 
 pub returns-in-Ok : goal.returns-in-Ok

@@ -1,6 +1,11 @@
 -- What is asked of the bytes is told by how the command ended.
 use Rattle.std.proofs.Common.{refl}
-use Rattle.ledger_program.proofs.Runs.{check-quiet, check-run, dry-fault, dry-quiet, dry-run, end-fault, end-quiet, list-run, reading-as, show-run}
+use Rattle.ledger_program.proofs.Checks.{check-quiet, check-run}
+use Rattle.ledger_program.proofs.DryRuns.{dry-fault, dry-run}
+use Rattle.ledger_program.proofs.Ends.{dry-quiet, end-fault, end-quiet}
+use Rattle.ledger_program.proofs.Lists.{list-run}
+use Rattle.ledger_program.proofs.Runs.{reading-as}
+use Rattle.ledger_program.proofs.Shows.{show-run}
 use Rattle.ledger_program.proofs.running.reading_run.Goals as goal
 
 pub returns-in-List : goal.returns-in-List

@@ -7,14 +7,20 @@ use Rattle.ledger_words.proofs.grammar.ledger_command.Goals as goal
 pub returns : goal.returns
 returns c =
     let with_format = adds-known grammar.bare grammar.format (Ok c.bare.result) c.format_command.result c.adds-program.result
-    c.bare.ensures c.format_command.ensures.app c.format_command.ensures.local c.adds-program.ensures in
+    c.bare.ensures c.format_command.ensures c.adds-program.ensures in
     let with_list = adds-known _ grammar.list c.adds-program.result c.list_command.result c.adds-program-2.result
-    with_format c.list_command.ensures.app c.list_command.ensures.local c.adds-program-2.ensures in
+    with_format c.list_command.ensures c.adds-program-2.ensures in
     let with_check = adds-known _ grammar.check c.adds-program-2.result c.check_command.result c.adds-program-3.result
-    with_list c.check_command.ensures.app c.check_command.ensures.local c.adds-program-3.ensures in
+    with_list c.check_command.ensures c.adds-program-3.ensures in
     let with_show = adds-known _ grammar.show c.adds-program-3.result c.show_command.result c.adds-program-4.result
-    with_check c.show_command.ensures.app c.show_command.ensures.local c.adds-program-4.ensures in
+    with_check c.show_command.ensures c.adds-program-4.ensures in
     let with_play = adds-known _ grammar.play c.adds-program-4.result c.play_command.result c.adds-program-5.result
-    with_show c.play_command.ensures.app c.play_command.ensures.local c.adds-program-5.ensures in
-    adds-known _ grammar.dry c.adds-program-5.result c.dry_command.result c.adds.result
-    with_play c.dry_command.ensures.app c.dry_command.ensures.local c.adds.ensures
+    with_show c.play_command.ensures c.adds-program-5.ensures in
+    let with_repair = adds-known _ grammar.repair c.adds-program-5.result c.repair_command.result c.adds-program-6.result
+    with_play c.repair_command.ensures c.adds-program-6.ensures in
+    let with_records = adds-known _ grammar.records c.adds-program-6.result c.records_command.result c.adds-program-7.result
+    with_repair c.records_command.ensures c.adds-program-7.ensures in
+    let with_bytes = adds-known _ grammar.bytes c.adds-program-7.result c.bytes_command.result c.adds-program-8.result
+    with_records c.bytes_command.ensures c.adds-program-8.ensures in
+    adds-known _ grammar.dry c.adds-program-8.result c.dry_command.result c.adds.result
+    with_bytes c.dry_command.ensures c.adds.ensures

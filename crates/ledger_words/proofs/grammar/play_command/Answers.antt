@@ -1,17 +1,14 @@
--- A subcommand over an image has one value more.
+-- A subcommand over an image has one value more, and a flag.
 use Rattle.std.specs.Prelude.{codes}
-use Rattle.std.proofs.lemmas.Result.{err_from_is_err_and}
+use Rattle.clap.specs.Words.{with_rule}
 use Rattle.ledger_words.specs.Grammar as grammar
-use Rattle.ledger_words.proofs.Grammars.{arg-made}
+use Rattle.ledger_words.proofs.Grammars.{of-rule}
 use Rattle.ledger_words.proofs.grammar.play_command.Goals as goal
-
-pub returns-in_err-over_image : goal.returns-in_err-over_image
-returns-in_err-over_image c =
-    let p = err_from_is_err_and c.from_residual.result c.from_residual.ensures.1 in
-    record { app = rw p.1 tt; local = rw p.1 tt }
 
 pub returns : goal.returns
 returns c =
-    let made = arg-made c.in_ok-over_image.field-0 c.script_of.result c.arg.result (grammar.over_image (codes "play")) (grammar.required (codes "SCRIPT"))
-    c.in_ok-over_image.ensures.app c.in_ok-over_image.ensures.local c.script_of.ensures.rule c.script_of.ensures.local c.arg.ensures in
-    record { app = made.0; local = made.1 }
+    let image = grammar.over_image (codes "play") in
+    let script = grammar.required (codes "SCRIPT") in
+    of-rule (with_rule image script) _ (grammar.flag (codes "sync")) c.takes.result c.flag.ensures.rule
+    (c.takes.ensures (with_rule image script)
+    (of-rule image _ script c.takes-play.result c.script_of.ensures.rule (c.takes-play.ensures image c.over_image.ensures)))

@@ -1,7 +1,8 @@
 -- The job is that of the subcommand that was met, with the values of its arguments.
 use Rattle.std.proofs.Common.{ap, inl, refl, sym, ◌∙◌}
 use Rattle.request_cards.specs.Reading.{number_in}
-use Rattle.ledger_words.proofs.Parses.{met-has}
+use Rattle.ledger_program.specs.declared.jobs.Taking.TheVariants as takings
+use Rattle.ledger_words.proofs.Parses.{met-has, taking-met}
 use Rattle.ledger_words.proofs.words.chosen.Goals as goal
 
 pub returns-in_default : goal.returns-in_default
@@ -47,7 +48,7 @@ returns-in-show c = record {
 
 pub returns-in-play : goal.returns-in-play
 returns-in-play c = record {
-  job = met-has c.met.result _ c.in-Some.name c.in-Some.found _ _ c.met.ensures c.in-Some.is c.in-play.is (c.value_of-image.ensures, c.value_of-script.ensures);
+  job = met-has c.met.result _ c.in-Some.name c.in-Some.found _ _ c.met.ensures c.in-Some.is c.in-play.is (c.value_of-image.ensures, c.value_of-script.ensures, c.durability_of.ensures);
   tills = tt;
 }
 
@@ -56,3 +57,21 @@ returns-in-dry c = record {
   job = met-has c.met.result _ c.in-Some.name c.in-Some.found _ _ c.met.ensures c.in-Some.is c.in-dry.is c.value_of-script.ensures;
   tills = tt;
 }
+
+pub returns-in-repair : goal.returns-in-repair
+returns-in-repair c = record {
+  job = met-has c.met.result _ c.in-Some.name c.in-Some.found _ _ c.met.ensures c.in-Some.is c.in-repair.is c.value_of-image.ensures;
+  tills = tt;
+}
+
+pub returns-in-records : goal.returns-in-records
+returns-in-records c =
+    let met = taking-met c.met.result _ c.in-Some.name c.in-Some.found takings.Records _ c.taking.result c.met.ensures c.in-Some.is c.in-records.is
+    c.value_of-image.ensures c.taking.ensures in
+    record { job = met.0; tills = met.1 }
+
+pub returns-in-bytes : goal.returns-in-bytes
+returns-in-bytes c =
+    let met = taking-met c.met.result _ c.in-Some.name c.in-Some.found takings.Bytes _ c.taking-in-bytes.result c.met.ensures c.in-Some.is c.in-bytes.is
+    c.value_of-image.ensures c.taking-in-bytes.ensures in
+    record { job = met.0; tills = met.1 }

@@ -1,20 +1,22 @@
 -- An event more was taken.
-use Rattle.std.proofs.Common.{◌<◌, ◌+◌, ◌++◌, ◌∙◌, [], ◌∷◌, List, ap, append_assoc, arith, drop, length, map, sym}
+use Rattle.std.proofs.Common.{◌<◌, ◌+◌, ◌∙◌, ◌∷◌, List, ap, arith, drop, length, map, sym}
 use Rattle.host_session.proofs.EventEnds.{next_taken, taken_last}
+use Rattle.host_session.proofs.Reports.{taken_on}
 use Rattle.host_session.specs.Asking.{last_taken, message_here}
 use Rattle.host_session.specs.Events.{Message, message_of}
 use Rattle.host_session.proofs.asking.OfEventsAsks.next.Goals as goal
 
 pub returns : goal.returns
-returns c =
+returns g c =
     let n = c.args.self.now.taken in
     let es = c.args.self.now.events.now in (
-      λ first ms given.
+      λ first xs given.
           let below : n < length first.events.now = omega (arith, ap length given.0) in
-          let here = ap (λ xs. message_here (last_taken (n + 1) xs)) given.0 ∙ ap message_here (taken_last first.events.now n) in
+          let here = ap (λ es. message_here (last_taken (n + 1) es)) given.0 ∙ ap message_here (taken_last first.events.now n) in
           let left : List Message = map message_of (drop (n + 1) first.events.now) in (
             given.0,
-            given.1 ∙ ap (λ rest. ms ++ rest) (next_taken first.events.now n below ∙ ap (λ m. m ∷ left) (sym here)) ∙ sym (append_assoc ms (_ ∷ []) left),
+            taken_on xs _ _ _ _ (g.D.Sectors.history.image c.args._disk.now) given.1
+                (next_taken first.events.now n below ∙ ap (λ m. m ∷ left) (sym here)),
           ),
       omega arith,
     )

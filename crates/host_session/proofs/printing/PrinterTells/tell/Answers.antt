@@ -4,7 +4,7 @@ use Rattle.std.specs.Prelude.{OnErr, OnOk}
 use Rattle.std.specs.Io.KnownBytes.{Appends}
 use Rattle.std.proofs.lemmas.List.{take_all}
 use Rattle.host_session.proofs.Printed.{is_printed}
-use Rattle.host_session.specs.Outputs.{line_of, printer_out}
+use Rattle.host_session.specs.Outputs.{AppendsPart, line_of, printer_out}
 use Rattle.host_session.proofs.printing.PrinterTells.tell.Goals as goal
 
 pub returns : goal.returns
@@ -18,4 +18,4 @@ returns g c =
     let b = contents c.write_whole.new.out in
     is_printed contents c.args.self.now (record { out = c.write_whole.new.out }) c.args.reply.now (g.D.Sectors.history.image c.args._disk.now) c.write_whole.result
     (subst (λ xs. OnOk c.write_whole.result (Appends a b xs)) line c.write_whole.ensures.ok)
-    (subst (λ xs. OnErr c.write_whole.result ((n : ℕ) × Appends a b (take n xs))) line c.write_whole.ensures.err)
+    (subst (λ xs. OnErr c.write_whole.result (AppendsPart a b xs)) line c.write_whole.ensures.err)

@@ -1,0 +1,64 @@
+-- Lines printed one after another.
+use Rattle.std.proofs.Common.{◌≡◌, ◌<◌, ◌+◌, ◌++◌, ℕ, suc, List, [], ◌∷◌, get_or, length, map, take, refl, subst, sym, ap, append_assoc, ◌∙◌, arith}
+use Rattle.std.specs.Prelude.{OnOk, Option, Result, Ok, Err}
+use Rattle.std.specs.Io.KnownBytes.{Appends}
+use Rattle.std.specs.Char.{encode_utf8}
+use Rattle.std.proofs.lemmas.Bool.{lt-ltb}
+use Rattle.std.proofs.KnownBytes.{Appends-nil, Appends-trans}
+use Rattle.std.proofs.lemmas.List.{append-nil, length-map, length-take-le, map_more}
+use Rattle.disk_pictures.specs.Texts.{each_below, numbered}
+
+-- one line more
+pub below-more : (a b c : Option (List ℕ)) (n : ℕ) (line : ℕ → List ℕ) → Appends a b (each_below n line) → Appends b c (line n)
+    → Appends a c (each_below (n + 1) line)
+unfolding each_below
+below-more a b c n line before more =
+    let next : n + 1 ≡ suc n = omega arith in
+    subst (λ (m : ℕ). Appends a c (each_below m line)) (sym next) (Appends-trans a b c (each_below n line) (line n) before more)
+
+numbered-push : {X : Type 0} (line : ℕ → X → List ℕ) (k : ℕ) (xs : List X) (x : X)
+    → numbered line k (xs ++ x ∷ []) ≡ numbered line k xs ++ line (k + length xs) x
+unfolding numbered
+numbered-push line k [] x = let here : k ≡ k + 0 = omega arith in append-nil (line k x) ∙ ap (λ (m : ℕ). line m x) here
+numbered-push line k (y ∷ ys) x =
+    let next : k + 1 + length ys ≡ k + suc (length ys) = omega arith in
+    ap (λ (t : List ℕ). line k y ++ t) (numbered-push line (k + 1) ys x)
+    ∙ sym (append_assoc (line k y) (numbered line (k + 1) ys) (line (k + 1 + length ys) x))
+    ∙ ap (λ (m : ℕ). (line k y ++ numbered line (k + 1) ys) ++ line m x) next
+
+-- the line of one item more, where each item is seen as `view` sees it
+pub item-more : {X Y : Type 0} (view : X → Y) (line : ℕ → Y → List ℕ) (a b c : Option (List ℕ)) (xs : List X) (i : ℕ) (x : X)
+    → i < length xs → get_or xs i x ≡ x → Appends a b (numbered line 0 (map view (take i xs))) → Appends b c (line i (view x))
+    → Appends a c (numbered line 0 (map view (take (i + 1) xs)))
+item-more view line a b c xs i x inside here before more =
+    let taken : map view (take (i + 1) xs) ≡ map view (take i xs) ++ view x ∷ [] =
+    map_more view xs i x inside ∙ ap (λ y. map view (take i xs) ++ view y ∷ []) here in
+    let long : length (map view (take i xs)) ≡ i = length-map (take i xs) view ∙ length-take-le i xs (omega (arith, inside)) in
+    let here' : i ≡ 0 + length (map view (take i xs)) = omega (arith, long) in
+    subst (Appends a c)
+    (ap (λ (m : ℕ). numbered line 0 (map view (take i xs)) ++ line m (view x)) here'
+    ∙ sym (numbered-push line 0 (map view (take i xs)) (view x)) ∙ ap (numbered line 0) (sym taken))
+    (Appends-trans a b c _ _ before more)
+
+-- nothing was printed so far
+pub none-below : (a : Option (List ℕ)) (line : ℕ → List ℕ) → Appends a a (each_below 0 line)
+unfolding each_below
+none-below a line = Appends-nil a
+
+pub no-items : {Y : Type 0} (line : ℕ → Y → List ℕ) (a : Option (List ℕ)) (ys : List Y) → ys ≡ [] → Appends a a (numbered line 0 ys)
+unfolding numbered
+no-items line a ys none = subst (λ xs. Appends a a (numbered line 0 xs)) (sym none) (Appends-nil a)
+
+-- three texts, one after another
+pub three : (a b c d : Option (List ℕ)) (x y z : List ℕ) → Appends a b x → Appends b c y → Appends c d z → Appends a d (x ++ (y ++ z))
+three a b c d x y z first second third = Appends-trans a b d x (y ++ z) first (Appends-trans b c d y z second third)
+
+-- a character of ASCII is its own byte
+pub ascii : (c : ℕ) → c < 128 → encode_utf8 c ≡ c ∷ []
+unfolding encode_utf8
+ascii c small = rw (lt-ltb c 128 small) refl
+
+-- what holds in any case holds at Ok
+pub at-ok : {T E P : Type 0} (r : Result T E) → P → OnOk r P
+at-ok (Ok x) p = p
+at-ok (Err e) p = tt

@@ -1,0 +1,28 @@
+-- The head, the tracks, the entries and the verdict are the map.
+use Rattle.std.proofs.Common.{◌+◌, List, ℕ, map, subst}
+use Rattle.std.specs.Prelude.{Option, codes}
+use Rattle.std.specs.Io.KnownBytes.{Appends, Keeps}
+use Rattle.std.proofs.KnownBytes.{Appends-kept, Appends-trans}
+use Rattle.d64_image.specs.Images.{Sector}
+use Rattle.disk_layout.specs.Layout.{Layout}
+use Rattle.disk_layout.specs.declared.faults.Fault.{Fault}
+use Rattle.disk_pictures.proofs.Printing.{at-ok, three}
+use Rattle.disk_pictures.specs.Drawings.{drawn_in, file_in}
+use Rattle.disk_pictures.specs.Maps.{entry_line, map_head, map_text, track_line}
+use Rattle.disk_pictures.specs.Texts.{each_below, numbered, verdict_text}
+use Rattle.disk_pictures.proofs.map_printing.put_map.Goals as goal
+
+all-printed : (a b c d e f h : Option (List ℕ)) (v : Option Fault) (bytes : Sector) (l : Layout) → Appends a b map_head
+    → Appends b c (each_below 35 (λ n. track_line v bytes l (n + 1))) → Appends c d (numbered entry_line 0 l.files)
+    → Appends d e (verdict_text v) → Appends e f (codes "\n") → Keeps f h → Appends a h (map_text v bytes l)
+unfolding map_text
+all-printed a b c d e f h v bytes l head tracks entries verdict end kept =
+    Appends-kept a f h _ (Appends-trans a b f _ _ head (Appends-trans b c f _ _ tracks (three c d e f _ _ _ entries verdict end))) kept
+
+pub returns-clause-ok : goal.returns-clause-ok
+returns-clause-ok g c =
+    let d = c.args.drawing.now in
+    let entries = subst (λ fs. Appends (g.W.Write.contents c.put_tracks.new.out) (g.W.Write.contents c.put_entries.new.out)
+    (numbered entry_line 0 (map file_in fs))) c.as_slice.ensures.value c.in_ok-put_entries.ensures.ok in
+    at-ok c.flush.result (all-printed _ _ _ _ _ _ _ c.args.found d.map (drawn_in d) c.in_ok-put.ensures.ok c.in_ok-put_tracks.ensures.ok
+    entries c.in_ok-put-2.ensures.ok c.in_ok-put-3.ensures.ok c.flush.ensures.kept)

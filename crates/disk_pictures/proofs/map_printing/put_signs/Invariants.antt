@@ -1,0 +1,12 @@
+-- The marks of the sectors so far were printed.
+use Rattle.std.proofs.Common.{[], ◌∷◌}
+use Rattle.std.specs.Io.KnownBytes.{Appends}
+use Rattle.d64_image.specs.Places.{place_at}
+use Rattle.disk_pictures.specs.Drawings.{drawn_in}
+use Rattle.disk_pictures.specs.Maps.{mark_of}
+use Rattle.disk_pictures.specs.Texts.{at_place, each_below}
+use Rattle.disk_pictures.proofs.map_printing.put_signs.Given as goal
+
+abbrev pub invariant-loop-sector : goal.invariant-loop-sector
+invariant-loop-sector g l = Appends (g.W.Write.contents l.fn.out) (g.W.Write.contents l.out)
+    (each_below l.sector (λ s. at_place (λ p. mark_of l.found l.drawing.map (drawn_in l.drawing) p ∷ []) (place_at l.track s)))

@@ -1,0 +1,53 @@
+-- What comes of drawing an image, and why it isn't drawn. Our own.
+use Rattle.std.specs.Prelude.{◌≡◌, ◌≢◌, List, ℕ, Option, Some, None, length}
+use Rattle.std.specs.Io.KnownBytes.{Appends}
+use Rattle.d64_image.specs.Images.{Image, Sector, sector}
+use Rattle.d64_image.specs.Memory.{sectors_in}
+use Rattle.disk_layout.specs.Clean.{IsClean}
+use Rattle.disk_layout.specs.Directory.{map_place}
+use Rattle.disk_layout.specs.Fault.{HoldsOfClean, HoldsOfDirectory, nowhere}
+use Rattle.disk_layout.specs.Layout.{Layout}
+use Rattle.disk_layout.specs.declared.faults.Fault.{Fault}
+use Rattle.disk_pictures.specs.Drawings.{IsDrawn, drawn_in}
+use Rattle.disk_pictures.specs.Maps.{map_text}
+use Rattle.disk_pictures.specs.declared.drawing.Drawing.{Drawing}
+use Rattle.disk_pictures.specs.declared.faults.PictureFault.{PictureFault}
+use Rattle.disk_pictures.specs.declared.faults.PictureFault.TheVariants as faults
+
+-- what a check of the image tells: a fault that holds, or none of a clean image
+abbrev pub IsVerdict : Image → Option Fault → Type 0
+IsVerdict img None = IsClean img
+IsVerdict img (Some fault) = HoldsOfClean nowhere img fault
+
+-- the 18/0 of an image
+abbrev pub map_in : List ℕ → Sector
+map_in image = sector (sectors_in image) map_place
+
+-- the image has the size of a disk and a directory; this is drawn of it, and this a check tells
+pub record IsDrawnAndJudged (image : List ℕ) (l : Layout) (found : Option Fault) : Type 0 where
+  pub size : length image ≡ 174848
+  pub drawn : IsDrawn (sectors_in image) l
+  pub verdict : IsVerdict (sectors_in image) found
+
+-- the same of a drawing as the code holds it
+pub record IsJudged (image : List ℕ) (drawing : Drawing) (found : Option Fault) : Type 0 where
+  pub judged : IsDrawnAndJudged image (drawn_in drawing) found
+  pub map : drawing.map ≡ map_in image
+
+-- the map of the image, and nothing else, was handed to an output that held `old` and holds `new`
+pub record IsMapPrinted {W : Type 0} (contents : W → Option (List ℕ)) (image : List ℕ) (old new : W) (found : Option Fault) : Type 0 where
+  pub layout : Layout
+  pub judged : IsDrawnAndJudged image layout found
+  pub printed : Appends (contents old) (contents new) (map_text found (map_in image) layout)
+
+-- the image has a directory, and is drawn
+abbrev pub IsDrawable : List ℕ → Type 0
+IsDrawable image = (l : Layout) × (found : Option Fault) × IsDrawnAndJudged image l found
+
+-- why an image isn't drawn; where the output failed, it could be
+abbrev pub IsPictureFault : List ℕ → PictureFault → Type 0
+IsPictureFault image faults.ImageSize = length image ≢ 174848
+IsPictureFault image faults.NoMemory = length image ≡ 174848
+IsPictureFault image (faults.Layout fault) = (length image ≡ 174848) × HoldsOfDirectory nowhere (sectors_in image) fault
+IsPictureFault image faults.File = IsDrawable image
+IsPictureFault image faults.Device = ⊥

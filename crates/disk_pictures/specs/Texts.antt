@@ -1,0 +1,78 @@
+-- What is printed of a disk beside its sectors. All of it is our own but the types (1541 User's Guide, directory format).
+use Rattle.std.specs.Prelude.{ℕ, zero, suc, ◌+◌, ◌*◌, ◌-◌, ◌/◌, ◌%◌, ◌&&◌, Bool, false, not, List, [], ◌∷◌, ◌++◌, Option, Some, None, if◌then◌else◌, codes, length, max, nat_eq, nat_lt}
+use Rattle.std.specs.Int.{bit_at}
+use Rattle.d64_image.specs.Images.{Sector}
+use Rattle.d64_image.specs.declared.place.Place.{Place}
+use Rattle.disk_layout.specs.Layout.{File, is_rel, record_length}
+use Rattle.disk_layout.specs.Map.{map_bit}
+use Rattle.disk_layout.specs.Texts.{fault_text}
+use Rattle.disk_layout.specs.declared.faults.Fault.{Fault}
+use Rattle.disk_layout.specs.declared.faults.Fault.TheVariants as fault
+use Rattle.disk_pictures.specs.Drawings.{is_place}
+
+-- the lines of 0, 1 and so on below n
+unfoldable pub each_below : ℕ → (ℕ → List ℕ) → List ℕ
+each_below zero line = []
+each_below (suc n) line = each_below n line ++ line n
+
+-- the lines of these, the first of them with the number k
+unfoldable pub numbered : {X : Type 0} → (ℕ → X → List ℕ) → ℕ → List X → List ℕ
+numbered line k [] = []
+numbered line k (x ∷ xs) = line k x ++ numbered line (k + 1) xs
+
+-- the line of a place, where there is one
+abbrev pub at_place : (Place → List ℕ) → Option Place → List ℕ
+at_place line None = []
+at_place line (Some p) = line p
+
+-- the map calls the sector free
+abbrev pub is_free : Sector → Place → Bool
+is_free map p = nat_eq (map_bit map p.track p.sector) 1
+
+-- where a fault is
+abbrev pub place_of : Fault → Place
+place_of (fault.BadLink p) = p
+place_of (fault.Loop p) = p
+place_of (fault.OwnedTwice p) = p
+place_of (fault.BadType p) = p
+place_of (fault.Unclosed p) = p
+place_of (fault.BadSide p) = p
+place_of (fault.BadLength p) = p
+place_of (fault.CountWrong p) = p
+place_of (fault.MapWrong p) = p
+place_of (fault.Device p) = p
+
+-- the fault that was told is at this place
+abbrev pub is_fault_at : Option Fault → Place → Bool
+is_fault_at None p = false
+is_fault_at (Some f) p = is_place (place_of f) p
+
+-- what a check told: OK where nothing is wrong
+abbrev pub verdict_text : Option Fault → List ℕ
+verdict_text None = codes "OK"
+verdict_text (Some f) = fault_text f
+
+-- the types by their numbers, the low six bits of a type byte
+abbrev pub type_name : ℕ → List ℕ
+type_name kind =
+    if nat_eq kind 0 then codes "DEL"
+    else (if nat_eq kind 1 then codes "SEQ"
+    else (if nat_eq kind 2 then codes "PRG"
+    else (if nat_eq kind 3 then codes "USR"
+    else (if nat_eq kind 4 then codes "REL"
+    else codes "???"))))
+
+-- a type: a star stands before it where the file isn't closed, and this mark behind it where it is locked
+abbrev pub type_text : List ℕ → ℕ → List ℕ
+type_text mark byte =
+    (if nat_lt byte 128 then codes "*" else [])
+    ++ (type_name (byte % 64)
+    ++ (if nat_eq (bit_at byte 6) 1 then mark else []))
+
+-- record length and records are told: of a relative entry that has both a length and a block
+abbrev pub has_records : File → Bool
+has_records f = is_rel f.slot && (not (nat_eq (length f.blocks) 0) && not (nat_eq (record_length f.slot) 0))
+
+-- how many whole records the blocks have: 254 bytes each, the last one up to its last index
+abbrev pub records_in : File → ℕ
+records_in f = (254 * (length f.blocks - 1) + (max f.last 1 - 1)) / record_length f.slot

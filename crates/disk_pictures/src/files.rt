@@ -1,0 +1,108 @@
+//! What is drawn of an entry: the sectors that its links come to.
+ghost use Rattle.std.specs.Prelude.{◌≡◌, ◌≤◌, IfErr, IfOk, IsFalse, IsTrue, MatchOption, [], length};
+ghost use Rattle.d64_image.specs.Memory.{disk_image};
+ghost use Rattle.disk_layout.specs.AsFar.{IsWalk};
+ghost use Rattle.disk_layout.specs.Layout.{is_rel};
+ghost use Rattle.disk_pictures.specs.Drawings.{AreDrawnSides, IsDrawnFile, file_in};
+ghost use Rattle.disk_pictures.specs.Faults.{IsMemoryFault};
+
+use crate::drawing::DrawnFile;
+use crate::faults::PictureFault;
+use arrayvec::ArrayVec;
+use d64_image::{MemDisk, Place};
+use disk_layout::{EntryView, POINTERS, Slot, walk_as_far};
+use std::alloc::Global;
+
+/// Room for the sectors of a walk.
+pub(crate) type Places = ArrayVec<Place, 720>;
+
+/// A list of these places.
+pub(crate) fn list_of(alloc: Global, places: &[Place]) -> Result<Vec<Place>, PictureFault>
+    ensures ok { IfOk result (λ list. list.items ≡ places.now) }
+    ensures err { IfErr result IsMemoryFault }
+{
+    match Vec::from_slice(alloc, places) {
+        Ok(list) => Ok(list),
+        Err(_) => Err(PictureFault::NoMemory),
+    }
+}
+
+/// Fills `places` with the sectors that the links come to from `first`, and answers the last index, as `walk_as_far`
+/// does; with none where there is no first one.
+pub(crate) fn walk(
+    disk: &mut MemDisk,
+    first: Option<Place>,
+    places: &mut Places,
+) -> Result<u8, PictureFault>
+    ensures ok { IfOk result (λ last. MatchOption first ((places.new.items ≡ []) × (last ≡ 0))
+        (λ place. IsWalk (disk_image disk.old) place places.new.items last)) }
+    ensures few { length places.new.items ≤ 720 }
+    ensures same { disk_image disk.new ≡ disk_image disk.old }
+    ensures err { IfErr result IsMemoryFault }
+{
+    places.clear();
+    let Some(first) = first else {
+        return Ok(0);
+    };
+    match walk_as_far(disk, first, places) {
+        Ok(last) => Ok(last),
+        Err(_) => Err(PictureFault::Device),
+    }
+}
+
+/// What is drawn of the side sectors of an entry with so many blocks.
+fn draw_sides(
+    alloc: Global,
+    disk: &mut MemDisk,
+    slot: &Slot,
+    blocks: usize,
+    places: &mut Places,
+) -> Result<Vec<Place>, PictureFault>
+    requires { blocks ≤ 720 }
+    ensures plain { IfOk result (λ sides. IsFalse (is_rel slot.now) → sides.items ≡ []) }
+    ensures relative { IfOk result (λ sides. IsTrue (is_rel slot.now)
+        → AreDrawnSides (disk_image disk.old) slot.now.bytes blocks sides.items) }
+    ensures same { disk_image disk.new ≡ disk_image disk.old }
+    ensures err { IfErr result IsMemoryFault }
+{
+    let entry = EntryView::new(&slot.bytes);
+    if !entry.is_relative() {
+        return Ok(Vec::new(alloc));
+    }
+    walk(disk, entry.first_side(), places)?;
+    let found = places.as_slice();
+    let needed = (blocks + POINTERS - 1) / POINTERS;
+    list_of(alloc, &found[..needed.min(found.len())])
+}
+
+/// What is drawn of an entry, with room for the sectors of a walk. `NoMemory` alone is told.
+pub(crate) fn draw_file(
+    alloc: Global,
+    disk: &mut MemDisk,
+    slot: &Slot,
+    places: &mut Places,
+) -> Result<DrawnFile, PictureFault>
+    ensures slot { IfOk result (λ file. file.slot ≡ slot.now) }
+    ensures ok { IfOk result (λ file. IsDrawnFile (disk_image disk.old) (file_in file)) }
+    ensures same { disk_image disk.new ≡ disk_image disk.old }
+    ensures err { IfErr result IsMemoryFault }
+{
+    let entry = EntryView::new(&slot.bytes);
+    if entry.type_byte() < 128 {
+        return Ok(DrawnFile {
+            slot: *slot,
+            blocks: Vec::new(alloc),
+            last: 0,
+            sides: Vec::new(alloc),
+        });
+    }
+    let last = walk(disk, entry.first_block(), places)?;
+    let blocks = list_of(alloc, places.as_slice())?;
+    let sides = draw_sides(alloc, disk, slot, blocks.as_slice().len(), places)?;
+    Ok(DrawnFile {
+        slot: *slot,
+        blocks,
+        last,
+        sides,
+    })
+}

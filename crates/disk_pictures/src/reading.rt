@@ -1,0 +1,75 @@
+//! A disk read as far as it is drawn.
+ghost use Rattle.std.specs.Prelude.{◌≡◌, ◌≤◌, IfErr, IfOk, length, map};
+ghost use Rattle.d64_image.specs.Images.{sector};
+ghost use Rattle.d64_image.specs.Memory.{disk_image};
+ghost use Rattle.disk_layout.specs.Directory.{map_place as map_at};
+ghost use Rattle.disk_pictures.specs.Drawings.{AreDrawn, IsDrawn, drawn_in, file_in};
+ghost use Rattle.disk_pictures.specs.Faults.{IsDrawFault, IsMemoryFault};
+
+use crate::drawing::{Drawing, DrawnFile};
+use crate::faults::PictureFault;
+use crate::files::{Places, draw_file, list_of, walk};
+use arrayvec::ArrayVec;
+use d64_image::{MemDisk, Sectors};
+use disk_layout::{Slot, directory_start, map_place, read_directory};
+use std::alloc::Global;
+
+/// The bytes of 18/0. A disk in memory gives them always.
+fn read_map(disk: &mut MemDisk) -> Result<[u8; 256], PictureFault>
+    ensures ok { IfOk result (λ bytes. bytes ≡ sector (disk_image disk.old) map_at) }
+    ensures same { disk_image disk.new ≡ disk_image disk.old }
+    ensures err { IfErr result IsMemoryFault }
+{
+    let mut map = [0; 256];
+    if disk.read(map_place(), &mut map).is_err() {
+        return Err(PictureFault::Device);
+    }
+    Ok(map)
+}
+
+/// What is drawn of these entries, with room for the sectors of a walk.
+fn draw_files(
+    alloc: Global,
+    disk: &mut MemDisk,
+    slots: &[Slot],
+    places: &mut Places,
+) -> Result<Vec<DrawnFile>, PictureFault>
+    requires { length slots.now ≤ 144 }
+    ensures ok { IfOk result
+        (λ files. AreDrawn (disk_image disk.old) slots.now (map file_in files.items)) }
+    ensures few { IfOk result (λ files. length files.items ≤ 144) }
+    ensures same { disk_image disk.new ≡ disk_image disk.old }
+    ensures err { IfErr result IsMemoryFault }
+{
+    let mut files = Vec::new(alloc);
+    for slot in slots {
+        let file = draw_file(alloc, disk, slot, places)?;
+        if files.push(file).is_err() {
+            return Err(PictureFault::NoMemory);
+        }
+    }
+    Ok(files)
+}
+
+/// What is drawn of the disk. `Layout` where the directory's sectors aren't a chain on track 18, or `NoMemory`.
+pub(crate) fn draw(alloc: Global, disk: &mut MemDisk) -> Result<Drawing, PictureFault>
+    ensures ok { IfOk result (λ drawing. IsDrawn (disk_image disk.old) (drawn_in drawing)) }
+    ensures map { IfOk result (λ drawing. drawing.map ≡ sector (disk_image disk.old) map_at) }
+    ensures same { disk_image disk.new ≡ disk_image disk.old }
+    ensures err { IfErr result (IsDrawFault (disk_image disk.old)) }
+{
+    let mut slots = ArrayVec::new();
+    if let Err(fault) = read_directory(disk, &mut slots) {
+        return Err(PictureFault::Layout(fault));
+    }
+    let mut places = ArrayVec::new();
+    walk(disk, Some(directory_start()), &mut places)?;
+    let directory = list_of(alloc, places.as_slice())?;
+    let map = read_map(disk)?;
+    let files = draw_files(alloc, disk, slots.as_slice(), &mut places)?;
+    Ok(Drawing {
+        map,
+        directory,
+        files,
+    })
+}

@@ -1,0 +1,110 @@
+//! What is printed of a disk beside its sectors.
+ghost use Rattle.std.specs.Prelude.{◌≡◌, IsTrue, Some};
+ghost use Rattle.disk_pictures.specs.Drawings.{file_in};
+ghost use Rattle.disk_pictures.specs.Texts.{has_records, records_in, type_text, verdict_text};
+ghost use Rattle.disk_pictures.specs.Texts.{is_fault_at as fault_at, place_of, type_name as name_of_type};
+
+use crate::drawing::DrawnFile;
+use d64_image::Place;
+use disk_layout::{EntryView, Fault};
+use std::fmt::{self, Display, Formatter};
+
+/// Where a fault is.
+fn fault_place(fault: Fault) -> Place
+    ensures { result ≡ place_of fault }
+{
+    match fault {
+        Fault::BadLink(place)
+        | Fault::Loop(place)
+        | Fault::OwnedTwice(place)
+        | Fault::BadType(place)
+        | Fault::Unclosed(place)
+        | Fault::BadSide(place)
+        | Fault::BadLength(place)
+        | Fault::CountWrong(place)
+        | Fault::MapWrong(place)
+        | Fault::Device(place) => place,
+    }
+}
+
+/// Whether the fault that was told is at this place.
+pub(crate) fn is_fault_at(found: Option<Fault>, place: Place) -> bool
+    ensures { result ≡ fault_at found place }
+{
+    match found {
+        None => false,
+        Some(fault) => place == fault_place(fault),
+    }
+}
+
+/// What a check told, as it is printed.
+#[derive(Clone, Copy)]
+pub(crate) struct VerdictText(pub Option<Fault>);
+
+impl Display for VerdictText {
+    ghost output = { λ text. Some (verdict_text text.0) };
+
+    fn fmt<W: fmt::Write>(&self, f: &mut Formatter<W>) -> fmt::Result {
+        match self.0 {
+            None => f.write_str("OK"),
+            Some(fault) => write!(f, "{fault}"),
+        }
+    }
+}
+
+/// The name of a type, by its number: the low six bits of its byte.
+fn type_name(kind: u8) -> &'static str
+    ensures { result.now ≡ name_of_type kind }
+{
+    match kind {
+        0 => "DEL",
+        1 => "SEQ",
+        2 => "PRG",
+        3 => "USR",
+        4 => "REL",
+        _ => "???",
+    }
+}
+
+/// A type byte as it is printed: a star before the type's name where the file isn't closed (bit 7 is 0), and a mark
+/// behind it where the file is locked (bit 6 is 1).
+#[derive(Clone, Copy)]
+pub(crate) struct TypeText {
+    /// The type byte.
+    pub byte: u8,
+    /// The mark of a locked file.
+    pub locked: &'static str,
+}
+
+impl Display for TypeText {
+    ghost output = { λ text. Some (type_text text.locked.now text.byte) };
+
+    fn fmt<W: fmt::Write>(&self, f: &mut Formatter<W>) -> fmt::Result {
+        let open = if self.byte < 0x80 { "*" } else { "" };
+        let locked = if (self.byte >> 6) & 1 == 1 {
+            self.locked
+        } else {
+            ""
+        };
+        write!(f, "{open}{}{locked}", type_name(self.byte % 64))
+    }
+}
+
+impl DrawnFile {
+    /// Whether its record length and its number of records are told: it is relative, and has a length and a block.
+    pub(crate) fn has_records(&self) -> bool
+        ensures { result ≡ has_records (file_in self.now) }
+    {
+        let entry = EntryView::new(&self.slot.bytes);
+        entry.is_relative() && !self.blocks.is_empty() && entry.record_length() != 0
+    }
+
+    /// How many whole records its blocks have, where these are told.
+    pub(crate) fn records(&self) -> usize
+        requires { IsTrue (has_records (file_in self.now)) }
+        ensures { result ≡ records_in (file_in self.now) }
+    {
+        let bytes = 254 * self.blocks.len().saturating_sub(1) + (self.last as usize).max(1) - 1;
+        bytes / EntryView::new(&self.slot.bytes).record_length() as usize
+    }
+}

@@ -1,0 +1,36 @@
+//! An image taken into memory, drawn and judged.
+ghost use Rattle.std.specs.Prelude.{◌≡◌, ◌≢◌, IfErr, IfOk};
+ghost use Rattle.d64_image.specs.Memory.{disk_image};
+ghost use Rattle.disk_pictures.specs.Outcomes.{IsJudged, IsPictureFault, IsVerdict};
+ghost use Rattle.disk_pictures.specs.declared.faults.PictureFault.TheVariants as faults;
+
+use crate::drawing::Drawing;
+use crate::faults::PictureFault;
+use crate::loading::load;
+use crate::reading::draw;
+use d64_image::MemDisk;
+use disk_layout::Fault;
+use layout_check::check;
+use std::alloc::Global;
+
+/// What a check of the disk tells; None where it is clean. Its survey isn't kept.
+fn verdict(disk: &mut MemDisk) -> Option<Fault>
+    ensures { IsVerdict (disk_image disk.old) result }
+{
+    match check(disk) {
+        Ok(_) => None,
+        Err(fault) => Some(fault),
+    }
+}
+
+/// What is drawn of the image, and what a check of it tells.
+pub(crate) fn judged(alloc: Global, image: &[u8]) -> Result<(Drawing, Option<Fault>), PictureFault>
+    ensures ok { IfOk result (λ (drawing, found). IsJudged image.now drawing found) }
+    ensures err { IfErr result (IsPictureFault image.now) }
+    ensures not_file { IfErr result (λ fault. fault ≢ faults.File) }
+{
+    let mut disk = load(alloc, image)?;
+    let drawing = draw(alloc, &mut disk)?;
+    let found = verdict(&mut disk);
+    Ok((drawing, found))
+}

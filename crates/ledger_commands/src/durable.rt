@@ -1,0 +1,74 @@
+//! Files that are written at places, and brought to the disk.
+ghost use Rattle.std.specs.Prelude.{List, None, OnOk, Option, ℕ, ⊤};
+ghost use Rattle.ledger_commands.specs.Durable.{IsSynced, WritesOver};
+
+use std::fs::File;
+use std::io;
+use std::os::unix::fs::FileExt;
+
+/// A file that is written at places.
+pub trait WritesAt {
+    ghost use Rattle.std.specs.Prelude.{◌≡◌, OnOk};
+    ghost use Rattle.ledger_commands.specs.Durable.{WritesOver};
+
+    // the bytes that it holds, where they are known
+    ghost held: { Self → Option (List ℕ) } = { λ _. None };
+
+    // the bytes that stay where the machine loses power, where they are known
+    ghost lasting: { Self → Option (List ℕ) } = { λ _. None };
+
+    // nobody else writes it; and nobody else reads it either
+    ghost IsShared: { Self → Type 0 } = { λ _. ⊤ };
+    ghost IsOwned: { Self → Type 0 } = { λ _. ⊤ };
+
+    /// Writes all these bytes over those from that place on, in bytes from the file's start. At an error a beginning of them
+    /// was written.
+    fn write_all_at(&mut self, bytes: &[u8], at: u64) -> io::Result<()>
+        ensures written { WritesOver (held self.old) (held self.new) at bytes.now result };
+
+    /// Brings what it holds to the disk, whoever wrote it. At an error any of what wasn't there may be, or not, and asking
+    /// again tells nothing: who asks doesn't go on.
+    fn sync(&mut self) -> io::Result<()>
+        ensures same { held self.new ≡ held self.old }
+        ensures lasting { OnOk result (lasting self.new ≡ held self.new) }
+        ensures owned { IsOwned self.old → IsOwned self.new };
+}
+
+impl WritesAt for File {
+    // In line, as all on the way to the file is: a return right behind a call of the system is dear.
+    #[inline(always)]
+    fn write_all_at(&mut self, bytes: &[u8], at: u64) -> io::Result<()> {
+        FileExt::write_all_at(self, bytes, at)
+    }
+
+    fn sync(&mut self) -> io::Result<()> {
+        self.sync_data()
+    }
+}
+
+/// When what is written to a file is brought to the disk, where it stays though the machine loses power.
+#[derive(Clone, Copy, Debug, PartialEq, Eq)]
+pub enum Durability {
+    /// Each sector before anything else is done.
+    EachSector,
+    /// Not before the end, and then all of it.
+    AtEnd,
+}
+
+/// Writes the bytes of a sector from a place on, and brings them to the disk where each one is.
+#[inline(always)]
+pub(crate) fn write_sector<F: WritesAt>(
+    file: &mut F,
+    durability: Durability,
+    bytes: &[u8; 256],
+    at: u64,
+) -> io::Result<()>
+    ensures written { WritesOver (F.held file.old) (F.held file.new) at bytes.now result }
+    ensures lasting { OnOk result (IsSynced F.held F.lasting durability file.new) }
+{
+    file.write_all_at(bytes, at)?;
+    match durability {
+        Durability::EachSector => file.sync(),
+        Durability::AtEnd => Ok(()),
+    }
+}

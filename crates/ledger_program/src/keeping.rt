@@ -1,0 +1,66 @@
+//! What a keeper asks of an image, done over its bytes and its file.
+ghost use Rattle.std.specs.Prelude.{◌≡◌, ◌⊎◌, Err};
+ghost use Rattle.d64_image.specs.Keeps.{Agrees};
+ghost use Rattle.d64_image.specs.Memory.{sectors_in};
+ghost use Rattle.d64_image.specs.Mirrors.{is_broken, mirror_file};
+ghost use Rattle.keeper_commands.specs.declared.faults.KeepFault.TheVariants as faults;
+ghost use Rattle.ledger_program.specs.Keeping.{IsRepairOver, IsTakingRun};
+
+use crate::jobs::Taking;
+use d64_image::{Mirror, SectorFile};
+use keeper_commands::{KeepFault, bytes_image, load, records_image, repair_image};
+use std::alloc::Global;
+use std::io::Write;
+
+/// Prints what is asked for of the file of this name in an image. `name` has no shifted spaces at its end.
+pub fn taking_run<W: Write>(
+    alloc: Global,
+    what: Taking,
+    image: &[u8],
+    name: &[u8],
+    out: &mut W,
+) -> Result<(), KeepFault>
+    ensures run { IsTakingRun W.contents what image.now name.now out.old out.new result }
+{
+    match what {
+        Taking::Records => records_image(alloc, image, name, out),
+        Taking::Bytes => bytes_image(alloc, image, name, out),
+    }
+}
+
+/// The file of a mirror whose repair ended so: `Device` where the file failed.
+fn file_of<F: SectorFile>(
+    mirror: Mirror<F>,
+    ended: Result<(), KeepFault>,
+) -> (F, Result<(), KeepFault>)
+    ensures file { result.0 ≡ mirror_file mirror }
+    ensures end { (is_broken mirror × (result.1 ≡ Err faults.Device)) ⊎ ((is_broken mirror → ⊥) × (result.1 ≡ ended)) }
+{
+    let failed = mirror.is_broken();
+    let (file, _) = mirror.into_inner();
+    if failed {
+        return (file, Err(KeepFault::Device));
+    }
+    (file, ended)
+}
+
+/// Repairs the disk of the image that the file keeps, prints what was mended, and hands the file back. Each sector is handed
+/// to the file before memory takes it. `Device` where the file failed, `File` where the output did.
+pub fn repair_run<F: SectorFile, W: Write>(
+    alloc: Global,
+    image: &[u8],
+    file: F,
+    out: &mut W,
+) -> (F, Result<(), KeepFault>)
+    // where it is known what the file keeps, it is this image
+    requires agrees { Agrees (F.keeps.kept file) (sectors_in image.now) }
+    ensures run { IsRepairOver F.keeps W.contents image.now file result.0 out.old out.new result.1 }
+{
+    let disk = match load(alloc, image) {
+        Ok(disk) => disk,
+        Err(fault) => return (file, Err(fault)),
+    };
+    let mut mirror = Mirror::new(file, disk);
+    let ended = repair_image(alloc, image, &mut mirror, out);
+    file_of(mirror, ended)
+}

@@ -1,0 +1,78 @@
+//! Image files that a job locks, reads, writes and brings to the disk.
+ghost use Rattle.std.specs.Prelude.{◌≡◌, ◌⊎◌, Err, IfErr, IfOk, IfSome, IsOk, OnOk, take, vec_items};
+ghost use Rattle.ledger_commands.specs.Durable.{IsSynced};
+ghost use Rattle.ledger_commands.specs.Placed.{placed_durability, placed_file};
+ghost use Rattle.ledger_commands.specs.declared.faults.RunFault.TheVariants as faults;
+
+use crate::refusals::Refusal;
+use disk_layout::Fault;
+use ledger_commands::{Durability, Locks, Placed, RunFault, WritesAt, read_image};
+use std::alloc::Global;
+use std::io::{self, Read};
+
+/// Locks an image's file for this program alone. Where each sector is brought to the disk, so is first what the file holds:
+/// an earlier program's writes may still be on their way. `InUse`; `Device` where that failed. Nothing was read or changed.
+pub(crate) fn own<F: Locks>(file: &mut F, durability: Durability) -> Result<(), Refusal>
+    ensures owned { OnOk result (F.IsOwned file.new) }
+    ensures synced { OnOk result (IsSynced F.held F.lasting durability file.new) }
+{
+    if let Err(error) = file.lock_alone() {
+        return Err(Refusal::of_lock(&error));
+    }
+    if durability == Durability::EachSector && file.sync().is_err() {
+        return Err(Refusal::Run(RunFault::Device));
+    }
+    Ok(())
+}
+
+/// Locks an image's file so that nobody writes it while it is read. `InUse`: nothing was read.
+pub(crate) fn share<F: Locks>(file: &mut F) -> Result<(), Refusal>
+    ensures shared { OnOk result (F.IsShared file.new) }
+{
+    match file.lock_shared() {
+        Ok(()) => Ok(()),
+        Err(error) => Err(Refusal::of_lock(&error)),
+    }
+}
+
+/// The bytes of an image that nobody writes while it is read.
+pub(crate) fn read_shared<F: Read + Locks>(alloc: Global, file: &mut F) -> io::Result<Vec<u8>>
+    requires shared { F.IsShared file.old }
+    ensures { IfOk result (λ bytes. IfSome (F.remaining file.old) (λ all. vec_items bytes ≡ take 174849 all)) }
+{
+    read_image(alloc, file)
+}
+
+/// The bytes of an image that this program has alone, and which are on the disk where each sector is brought there.
+pub(crate) fn read_own<F: Read + Locks>(
+    alloc: Global,
+    file: &mut F,
+    durability: Durability,
+) -> io::Result<Vec<u8>>
+    requires owned { F.IsOwned file.old }
+    requires synced { IsSynced F.held F.lasting durability file.old }
+    ensures { IfOk result (λ bytes. IfSome (F.remaining file.old) (λ all. vec_items bytes ≡ take 174849 all)) }
+{
+    read_image(alloc, file)
+}
+
+/// How a run over a file ends once the rest of what it wrote is brought to the disk. `Device` where it was done, or its
+/// output alone failed, and that fails; a fault of the image or the script leaves nothing to bring there, and a file that
+/// failed isn't asked again.
+pub(crate) fn finished<F: WritesAt>(
+    file: &mut Placed<F>,
+    ended: Result<Option<Fault>, RunFault>,
+) -> Result<Option<Fault>, RunFault>
+    ensures lasting { OnOk result (placed_durability file.old ≡ Durability.AtEnd
+        → F.lasting (placed_file file.new) ≡ F.held (placed_file file.new)) }
+    ensures told { (result ≡ ended) ⊎ (result ≡ Err faults.Device) }
+    ensures fault { IfErr ended (λ fault. (fault ≡ faults.File → IsOk result → ⊥)) }
+{
+    match &ended {
+        Ok(_) | Err(RunFault::File) => match file.finish() {
+            Ok(()) => ended,
+            Err(_) => Err(RunFault::Device),
+        },
+        Err(_) => ended,
+    }
+}

@@ -1,0 +1,58 @@
+//! Why a job isn't done.
+ghost use Rattle.std.specs.Prelude.{◌≡◌, Some};
+ghost use Rattle.ledger_program.specs.Ends.{lock_refusal, refusal_status, refusal_text};
+
+use keeper_commands::KeepFault;
+use ledger_commands::RunFault;
+use std::error::Error;
+use std::fmt::{self, Display, Formatter};
+use std::fs::TryLockError;
+
+/// Why a job isn't done, as it is told on standard error.
+#[derive(Clone, Copy, Debug, PartialEq, Eq)]
+pub enum Refusal {
+    /// What is wrong with the image or the script; or a file, the output or memory.
+    Run(RunFault),
+    /// The same of a job over the files of an image.
+    Keep(KeepFault),
+    /// Another program has the image. Nothing was read or changed.
+    InUse,
+}
+
+impl Refusal {
+    /// The exit status: 1 for what the image or the script holds, 3 for a file, the output, memory or another program.
+    pub fn status(&self) -> u8
+        ensures { result ≡ refusal_status self.now }
+    {
+        match self {
+            Refusal::Run(fault) => fault.status(),
+            Refusal::Keep(fault) => fault.status(),
+            Refusal::InUse => 3,
+        }
+    }
+
+    /// What is told where a file isn't locked for this reason: `InUse` where another program has it, else that it can't be
+    /// used.
+    pub(crate) fn of_lock(error: &TryLockError) -> Refusal
+        ensures { result ≡ lock_refusal error.now }
+    {
+        match error {
+            TryLockError::WouldBlock => Refusal::InUse,
+            TryLockError::Error(error) => Refusal::Run(RunFault::of_io(error)),
+        }
+    }
+}
+
+impl Display for Refusal {
+    ghost output = { λ refusal. Some (refusal_text refusal) };
+
+    fn fmt<W: fmt::Write>(&self, f: &mut Formatter<W>) -> fmt::Result {
+        match self {
+            Refusal::Run(fault) => write!(f, "{fault}"),
+            Refusal::Keep(fault) => write!(f, "{fault}"),
+            Refusal::InUse => f.write_str("IN USE"),
+        }
+    }
+}
+
+impl Error for Refusal {}

@@ -1,0 +1,124 @@
+//! What a keeper asks of an image: its repair, and what is taken out of it.
+use crate::comparing::{holds, same_at};
+use crate::memory::Memory;
+use crate::scenes::{
+    BYTES, Bytes, End, RECORDS, REPAIR, Words, bytes_at, changed, empty_shop, ends, put, ran,
+};
+use crate::stored::Kind;
+use std::process::Abort;
+
+/// 17/0 links to itself.
+const LOOP: &[Bytes] = &[(86016, b"\x11\x00")];
+
+/// Track 1 has a free sector too few in the map at 18/0, and the entry of STOCK in 18/1 a block too many.
+const MAP: Bytes = (91396, b"\x14");
+
+const COUNT: Bytes = (91678, b"\x03");
+
+/// Changes of the image of an empty shop, the number of the sync that fails (0: none), how a repair ends, how many syncs there
+/// were, and whether the image is as it was before the changes.
+const REPAIRED: [(&[Bytes], usize, End<'static>, usize, bool); 6] = [
+    (&[], 0, (0, b"OK\n", b""), 1, true),
+    (&[MAP], 0, (0, b"MENDED 18/0\nOK\n", b""), 2, true),
+    (
+        &[COUNT, MAP],
+        0,
+        (0, b"MENDED 18/0\nMENDED 18/1\nOK\n", b""),
+        3,
+        true,
+    ),
+    (LOOP, 0, (1, b"", b"LAYOUT LOOP 17/0\n"), 1, false),
+    (&[MAP], 1, (3, b"", b"DEVICE\n"), 1, false),
+    (&[COUNT, MAP], 2, (3, b"", b"DEVICE\n"), 2, false),
+];
+
+/// Sees that each of these images is repaired so, each sector brought to the disk before the next is written.
+fn each_is_repaired(
+    rt: &(impl AllocGlobal + Abort),
+    shop: &[u8],
+    rows: &[(&[Bytes], usize, End<'static>, usize, bool)],
+) {
+    for (changes, bad, wanted, syncs, mended) in rows {
+        let image = changed(rt, shop, *changes);
+        let memory = Memory::new(rt.alloc(), REPAIR, b"");
+        put(rt, &memory.image, Kind::Plain, image.as_slice());
+        memory.image.bad_sync.set(*bad);
+        ends(rt, &memory, *wanted, "a repair");
+        same_at(rt, memory.image.syncs.get(), *syncs, *bad);
+        // It is read behind the first sync, or not at all.
+        holds(
+            rt,
+            memory.image.syncs_before.get() == 1 || *bad == 1,
+            *bad,
+        );
+        holds(rt, memory.image.most_waiting.get() <= 1, *bad);
+        same_at(rt, memory.image.holds(shop), *mended, *bad);
+        let left = bytes_at(rt, &memory.image);
+        same_at(rt, left.len(), 174848, *bad);
+    }
+}
+
+#[test]
+fn images_are_repaired(rt: HostRuntime) {
+    let shop = empty_shop(&rt);
+    each_is_repaired(&rt, shop.as_slice(), &REPAIRED);
+}
+
+/// The two records of REQUESTS of an empty shop for two tills.
+const TWO: &[u8] = b"1,\"\\ff\"\n2,\"\\ff\"\n";
+
+/// Words, changes of the image of an empty shop, and how the program ends.
+const TAKEN: [(Words, &[Bytes], End<'static>); 5] = [
+    (RECORDS, &[], (0, TWO, b"")),
+    (RECORDS, LOOP, (1, b"", b"LAYOUT LOOP 17/0\n")),
+    (
+        &[b"ledger_cli", b"records", b"a.d64", b"REQUEST"],
+        &[],
+        (1, b"", b"NO FILE\n"),
+    ),
+    (
+        &[b"ledger_cli", b"bytes", b"a.d64", b"\\ff"],
+        LOOP,
+        (1, b"", b"NO FILE\n"),
+    ),
+    (
+        &[b"ledger_cli", b"bytes", b"a.d64", b"STOCK"],
+        LOOP,
+        (1, b"", b"LAYOUT LOOP 17/0\n"),
+    ),
+];
+
+/// Sees that this is taken out of each image, or why it isn't.
+fn each_is_taken(
+    rt: &(impl AllocGlobal + Abort),
+    shop: &[u8],
+    rows: &[(Words, &[Bytes], End<'static>)],
+) {
+    for (words, changes, wanted) in rows {
+        let image = changed(rt, shop, *changes);
+        let memory = ran(rt, *words, image.as_slice(), b"", *wanted);
+        holds(rt, memory.image.holds(image.as_slice()), "it stays");
+        same_at(rt, memory.image.syncs.get(), 0, "nothing is synced");
+    }
+}
+
+/// Two records of 127 bytes that were never written: FF and zeros.
+fn empty_records(rt: &(impl AllocGlobal + Abort)) -> Vec<u8> {
+    let mut bytes = Vec::new(rt.alloc());
+    holds(rt, bytes.resize(254, 0).is_ok(), "there is memory");
+    changed(rt, bytes.as_slice(), &[(0, b"\xff"), (127, b"\xff")])
+}
+
+#[test]
+fn files_are_taken_out(rt: HostRuntime) {
+    let shop = empty_shop(&rt);
+    each_is_taken(&rt, shop.as_slice(), &TAKEN);
+    // A whole file comes from a disk that is hurt elsewhere, also from standard input.
+    let hurt = changed(&rt, shop.as_slice(), LOOP);
+    let requests = empty_records(&rt);
+    let whole = (0, requests.as_slice(), b"".as_slice());
+    ran(&rt, BYTES, hurt.as_slice(), b"", whole);
+    let words: Words = &[b"ledger_cli", b"bytes", b"/dev/stdin", b"REQUESTS"];
+    let memory = Memory::new(rt.alloc(), words, hurt.as_slice());
+    ends(&rt, &memory, whole, "bytes from standard input");
+}

@@ -1,0 +1,152 @@
+-- What a run over the lines of an input comes to, where each reply is handed on by itself.
+use Rattle.std.proofs.Common.{◌≡◌, ◌<◌, ⊎_elim, ◌∙◌, ℕ, List, [], ◌∷◌, ◌++◌, Option, Ok, Err, Result, map, refl, sym, subst, ap, inl, inr, append-nil, length}
+use Rattle.std.proofs.lemmas.List.{length-map}
+use Rattle.d64_image.specs.History.{History}
+use Rattle.d64_image.specs.Images.{Image}
+use Rattle.host_session.proofs.Chained.{at_device, whole}
+use Rattle.host_session.specs.Asking.{messages_in}
+use Rattle.host_session.specs.Events.{Message}
+use Rattle.host_session.specs.Loops.{IsRun, IsRunToDevice, IsRunToOutput, IsRunWhole}
+use Rattle.host_session.specs.Runs.{HeldBeginnings}
+use Rattle.host_session.specs.Shop.{IsShop, Shop}
+use Rattle.host_session.specs.Telling.{Output}
+use Rattle.host_session.specs.declared.asking.Next.TheVariants as next
+use Rattle.host_session.specs.declared.looping.LoopFault.{LoopFault}
+use Rattle.host_session.specs.declared.looping.LoopFault.TheVariants as faults
+use Rattle.serving.specs.AtOnce.{at_once, lent}
+use Rattle.serving.specs.Inputs.{HasTaken, asked_in, line_messages, of_input}
+use Rattle.serving.specs.Serves.{AreServed, AreServedToDevice, AreServedToOutput, IsServed}
+use Rattle.serving.specs.declared.at_once.AtOnce.{AtOnce}
+use Rattle.serving.specs.declared.inputs.OfInput.{OfInput}
+use Rattle.serving.proofs.Handled.{handled_run}
+use Rattle.serving.proofs.Same.{same_run, same_run_to_failure}
+
+module _ {D R T : Type 0} (h : History D) (remaining : R → Option (List ℕ)) (o : Output T) (disk : D) (asked asks : OfInput R) (old new : AtOnce T) where
+  abbrev Ran : Result D (LoopFault × D) → Type 0
+  Ran r = IsRun h (of_input remaining) (lent (at_once o)) disk asked asks old new r
+
+  -- the output is still the one that was lent
+  still_lent : (r : Result D (LoopFault × D)) → Ran r → new.out.ghost_name ≡ old.out.ghost_name
+  still_lent (Ok left) k = let s = k.shop.0 in (k.ok s.0 s.1).0.told.0
+  still_lent (Err (faults.Open f, left)) k = ap (λ (x : AtOnce T). x.out.ghost_name) (k.«open» f refl).3
+  still_lent (Err (faults.Input, left)) k = let s = k.after (inl refl) in (k.input s.0 s.1 refl).1.0.told.0
+  still_lent (Err (faults.Output, left)) k = let s = k.after (inr refl) in (k.output s.0 s.1 refl).0.told.0
+  still_lent (Err (faults.Device, left)) k =
+      let s = (k.cause refl).0 in ⊎_elim (λ t. t.0) (λ t. t.0.0) (k.device s.0 s.1 refl).0.told
+
+  module _ (taken : List (Message × Image)) (x : HasTaken remaining asked asks (messages_in taken)) (s : Shop) (left : D) where
+    abbrev Lines : List Message
+    Lines = line_messages x.handled
+
+    served : IsRunWhole h (lent (at_once o)) s taken disk left old new
+        → AreServed h o s x.handled disk left old.out.now new.out.now × HeldBeginnings h s Lines disk left
+    served k =
+        let run = same_run h s (messages_in taken) Lines k.0.turns disk left x.asks k.0.run in (
+          record { turns = k.0.turns; handled = handled_run h s x.handled k.0.turns disk left run; told = k.0.told.1 },
+          (whole h s Lines k.0.turns disk left run).1,
+        )
+
+    served_to_output : IsRunToOutput h (lent (at_once o)) s taken disk left old new
+        → AreServedToOutput h o s x.handled disk left old.out.now new.out.now × HeldBeginnings h s Lines disk left
+    served_to_output k =
+        let turns = k.0.turns ++ k.0.last ∷ [] in
+        let run = same_run h s (messages_in taken) Lines turns disk left x.asks k.0.run in (
+          record {
+            turns = k.0.turns;
+            last = k.0.last;
+            handled = handled_run h s x.handled turns disk left run;
+            told = k.0.told.1;
+          },
+          (whole h s Lines turns disk left run).1,
+        )
+
+    served_to_device : IsRunToDevice h (lent (at_once o)) s taken disk left old new
+        → AreServedToDevice h o s x.handled disk left old.out.now new.out.now × HeldBeginnings h s Lines disk left
+    served_to_device k =
+        let run = same_run_to_failure h s (messages_in taken) Lines k.0.turns k.0.last disk left x.asks k.0.run in
+        let q = at_device h s Lines [] Lines k.0.turns k.0.last disk left (append-nil Lines) run in
+        let same : length (messages_in taken) ≡ length Lines =
+        sym (length-map (messages_in taken) asked_in) ∙ ap length x.asks ∙ length-map Lines asked_in in (
+          record {
+            run = record {
+              turns = k.0.turns;
+              last = k.0.last;
+              run = run;
+              told = ⊎_elim (λ t. inl t.1) (λ t. inr (t.0.1, subst (λ n. 0 < n) same t.1)) k.0.told;
+            };
+            stopped = q.0;
+          },
+          q.1,
+        )
+
+  -- no message asks the same as none
+  none_asked : (ms : List Message) → [] ≡ map asked_in ms → [] ≡ ms
+  none_asked [] e = refl
+  none_asked (m ∷ ms) e = cc
+
+  -- the moments of a run that this fault ended
+  held_at : (e : LoopFault × D) (k : Ran (Err e)) (fault : LoopFault) → e.0 ≡ fault → (s : Shop) → IsShop (h.image disk) s
+      → HeldBeginnings h s (line_messages k.takes.handled) disk e.1
+  held_at e k (faults.Open f) is s shop =
+      let none : messages_in k.taken ≡ [] = ap messages_in (k.«open» f is).1 in
+      let same : messages_in k.taken ≡ line_messages k.takes.handled =
+      none ∙ none_asked (line_messages k.takes.handled) (ap (map asked_in) (sym none) ∙ k.takes.asks) in
+      subst (λ ms. HeldBeginnings h s ms disk e.1) same (k.moments s shop)
+  held_at e k faults.Input is s shop = (served k.taken k.takes s e.1 (k.input s shop is).1).1
+  held_at e k faults.Output is s shop = (served_to_output k.taken k.takes s e.1 (k.output s shop is)).1
+  held_at e k faults.Device is s shop = (served_to_device k.taken k.takes s e.1 (k.device s shop is)).1
+
+  pub is_served : (r : Result D (LoopFault × D)) → asked.said ≡ next.Event → Ran r
+      → IsServed h remaining o disk asked.input.now asks.input.now old.out.now new.out.now r
+  is_served (Ok left) fresh k = record {
+    handled = k.takes.handled;
+    rest = k.takes.rest;
+    whole = k.takes.whole;
+    lacks = k.takes.lacks;
+    read = k.takes.read;
+    shop = k.shop.0;
+    end = ⊎_elim (λ over. absurd (let e = sym fresh ∙ over in cc)) (λ end. end) (k.takes.end k.shop.1);
+    ok = λ s is. (served k.taken k.takes s left (k.ok s is)).0;
+    input = λ s is. tt;
+    output = λ s is. tt;
+    device = λ s is. tt;
+    moments = λ s is. (served k.taken k.takes s left (k.ok s is)).1;
+    plays = λ shop never. tt;
+    «open» = tt;
+    cause = tt;
+    after = tt;
+  }
+  is_served (Err e) fresh k = record {
+    handled = k.takes.handled;
+    rest = k.takes.rest;
+    whole = k.takes.whole;
+    lacks = k.takes.lacks;
+    read = k.takes.read;
+    shop = tt;
+    end = tt;
+    ok = λ s is. tt;
+    input = λ s is told. (served k.taken k.takes s e.1 (k.input s is told).1).0;
+    output = λ s is told. (served_to_output k.taken k.takes s e.1 (k.output s is told)).0;
+    device = λ s is told. (served_to_device k.taken k.takes s e.1 (k.device s is told)).0;
+    moments = λ s is. held_at e k e.0 refl s is;
+    plays = k.plays;
+    «open» = λ f is. (
+      (k.«open» f is).0,
+      ap (λ (a : OfInput R). a.input.now) (k.«open» f is).2,
+      ap (λ (a : AtOnce T). a.out.now) (k.«open» f is).3,
+    );
+    cause = k.cause;
+    after = k.after;
+  }
+
+  -- and so for what the input and the output end as
+  pub served_over : (r : Result D (LoopFault × D)) → asked.said ≡ next.Event → Ran r → (first_in last_in : R) (first last : T)
+      → asked.input.now ≡ first_in → (asked.input.ghost_name ≡ asks.input.ghost_name → last_in ≡ asks.input.now)
+      → old.out.now ≡ first → (old.out.ghost_name ≡ new.out.ghost_name → last ≡ new.out.now)
+      → IsServed h remaining o disk first_in last_in first last r
+  served_over r fresh k first_in last_in first last was_in is_in was is =
+      subst (λ a. IsServed h remaining o disk a last_in first last r) was_in
+      (subst (λ a. IsServed h remaining o disk asked.input.now a first last r) (sym (is_in (sym k.takes.same)))
+      (subst (λ a. IsServed h remaining o disk asked.input.now asks.input.now a last r) was
+      (subst (λ a. IsServed h remaining o disk asked.input.now asks.input.now old.out.now a r) (sym (is (sym (still_lent r k))))
+      (is_served r fresh k))))

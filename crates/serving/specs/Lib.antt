@@ -1,0 +1,4 @@
+pub mod Read
+pub mod Inputs
+pub mod AtOnce
+pub mod Serves

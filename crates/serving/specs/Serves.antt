@@ -1,0 +1,101 @@
+-- What comes of a shop that is served line by line. All of it is our own.
+use Rattle.std.specs.Prelude.{◌≡◌, ◌⊎◌, ℕ, IfErr, IfOk, List, [], ◌∷◌, ◌++◌, OnSome, Option, Result, option_to_list}
+use Rattle.std.specs.Io.KnownBytes.{Consumes, IsAtEnd}
+use Rattle.d64_image.specs.History.{Failed, History, NeverFailed}
+use Rattle.d64_image.specs.Images.{Image}
+use Rattle.request_cards.specs.Ledgers.{plain, replies}
+use Rattle.request_cards.specs.Reading.{request_of}
+use Rattle.request_cards.specs.Requests.{Ask}
+use Rattle.request_cards.specs.declared.reply.Reply.{Reply}
+use Rattle.script_lines.specs.Lines.{lines}
+use Rattle.host_session.specs.Chains.{HasRun, over_images, told_in}
+use Rattle.host_session.specs.Events.{requests_of}
+use Rattle.host_session.specs.Loops.{IsToldToDevice}
+use Rattle.host_session.specs.Opening.{IsAShop, disk_of}
+use Rattle.host_session.specs.Runs.{HeldBeginnings, IsPlayedWhole, IsRefused, StoppedByDevice}
+use Rattle.host_session.specs.Shop.{IsSettled, IsShop, Shop, start_of, with_state}
+use Rattle.host_session.specs.Telling.{Output}
+use Rattle.host_session.specs.declared.faults.OpenFault.{OpenFault}
+use Rattle.host_session.specs.declared.looping.LoopFault.{LoopFault}
+use Rattle.host_session.specs.declared.looping.LoopFault.TheVariants as faults
+use Rattle.serving.specs.AtOnce.{at_once}
+use Rattle.serving.specs.Inputs.{line_messages}
+use Rattle.serving.specs.Read.{AreWhole, LacksLf}
+
+-- When each line's reply was told, behind the requests `before`, the image was the shop's after that line, at rest.
+abbrev pub SettledInTurn : Shop → (before : List Ask) → List (List ℕ) → List (Reply × Image) → Type 0
+SettledInTurn s before [] [] = Unit {0}
+SettledInTurn s before (l ∷ ls) (t ∷ ts) =
+    IsSettled t.1 (with_state s (plain (start_of s) (before ++ option_to_list (request_of l))))
+    × SettledInTurn s (before ++ option_to_list (request_of l)) ls ts
+SettledInTurn s before _ _ = ⊥
+
+-- The lines of these bytes were handled one after another. Beside the reply to each, over the lines before it, stands
+-- the disk that it left.
+pub record AreHandled {D : Type 0} (h : History D) (s : Shop) (bytes : List ℕ) (turns : List (Reply × D))
+    (disk left : D) : Type 0 where
+  pub run : HasRun h s (line_messages bytes) turns disk left
+  pub replies_are : told_in turns ≡ replies (start_of s) [] (lines bytes)
+  pub in_turn : SettledInTurn s [] (lines bytes) (over_images h turns)
+  -- each of them counts, and the shop is at rest
+  pub played : IsPlayedWhole h s (line_messages bytes) disk left (told_in turns)
+  pub rests : IsSettled (h.image left) (with_state s (plain (start_of s) (requests_of (lines bytes))))
+
+-- The lines of these bytes were served: each reply was told over the disk that its line left, and handed on before the
+-- next one was told; and nothing else was.
+pub record AreServed {D T : Type 0} (h : History D) (o : Output T) (s : Shop) (bytes : List ℕ) (disk left : D)
+    (old new : T) : Type 0 where
+  pub turns : List (Reply × D)
+  pub handled : AreHandled h s bytes turns disk left
+  pub told : (at_once o).told old new (over_images h turns)
+
+-- The same of all replies but the last, which was broken off, or couldn't be handed on; and nothing else was told.
+pub record AreServedToOutput {D T : Type 0} (h : History D) (o : Output T) (s : Shop) (bytes : List ℕ) (disk left : D)
+    (old new : T) : Type 0 where
+  pub turns : List (Reply × D)
+  pub last : Reply × D
+  pub handled : AreHandled h s bytes (turns ++ last ∷ []) disk left
+  pub told : (at_once o).broken_off old new (over_images h turns) last.0
+
+-- The lines of these bytes were handled up to the last, in which the device failed. The replies before its own were
+-- told and handed on, and nothing else but that one, or a part of it.
+pub record AreServedToDevice {D T : Type 0} (h : History D) (o : Output T) (s : Shop) (bytes : List ℕ) (disk left : D)
+    (old new : T) : Type 0 where
+  pub run : IsToldToDevice h (at_once o) s (line_messages bytes) disk left old new
+  pub stopped : StoppedByDevice h s (line_messages bytes) disk left (told_in run.turns ++ run.last ∷ [])
+
+-- The shop of a disk was served over an input and an output that were `old_in` and `old`, and are `new_in` and `new`.
+pub record IsServed {D R T : Type 0} (h : History D) (remaining : R → Option (List ℕ)) (o : Output T) (disk : D)
+    (old_in new_in : R) (old new : T) (result : Result D (LoopFault × D)) : Type 0 where
+  -- the lines that were handled, each with its LF, and what was read behind them, which is no line
+  pub handled : List ℕ
+  pub rest : List ℕ
+  pub whole : AreWhole handled
+  pub lacks : LacksLf rest
+  pub read : Consumes (remaining old_in) (remaining new_in) (handled ++ rest)
+  -- A shop alone is served, and up to the end of the input.
+  pub shop : IfOk result (λ _. IsAShop (h.image disk))
+  pub end : IfOk result (λ _. OnSome (remaining old_in) (IsAtEnd (remaining new_in)))
+  -- At Ok each line was served.
+  pub ok : (s : Shop) → IsShop (h.image disk) s → IfOk result (λ left. AreServed h o s handled disk left old new)
+  -- The input failed: so was each line that it gave.
+  pub input : (s : Shop) → IsShop (h.image disk) s → IfErr result (λ e. e.0 ≡ faults.Input
+      → AreServed h o s handled disk e.1 old new)
+  -- The output failed: each line was handled, and all replies but the last were handed on.
+  pub output : (s : Shop) → IsShop (h.image disk) s → IfErr result (λ e. e.0 ≡ faults.Output
+      → AreServedToOutput h o s handled disk e.1 old new)
+  -- The device failed, in the last line.
+  pub device : (s : Shop) → IsShop (h.image disk) s → IfErr result (λ e. e.0 ≡ faults.Device
+      → AreServedToDevice h o s handled disk e.1 old new)
+  -- At each moment the shop is that of a counted list of some beginning of the lines.
+  pub moments : (s : Shop) → IsShop (h.image disk) s
+      → HeldBeginnings h s (line_messages handled) disk (disk_of (λ d. d) result)
+  -- On a shop whose device doesn't fail it answers Ok, unless the input or the output fails.
+  pub plays : IsAShop (h.image disk) → NeverFailed h disk (disk_of (λ d. d) result)
+      → IfErr result (λ e. (e.0 ≡ faults.Input) ⊎ (e.0 ≡ faults.Output))
+  -- What an opening refuses is handed on, and then nothing was read or told.
+  pub «open» : IfErr result (λ e. (f : OpenFault) → e.0 ≡ faults.Open f
+      → IsRefused h disk f e.1 × (new_in ≡ old_in) × (new ≡ old))
+  -- The device is told of on a shop, where it failed; and so are the input and the output.
+  pub cause : IfErr result (λ e. e.0 ≡ faults.Device → IsAShop (h.image disk) × Failed h disk e.1)
+  pub after : IfErr result (λ e. (e.0 ≡ faults.Input) ⊎ (e.0 ≡ faults.Output) → IsAShop (h.image disk))

@@ -1,0 +1,90 @@
+//! An input as a source of messages, a line each.
+ghost use Rattle.std.specs.Prelude.{◌≡◌};
+ghost use Rattle.host_session.specs.declared.asking.Next.TheVariants as answers;
+ghost use Rattle.script_lines.specs.Lines.{without_cr};
+ghost use Rattle.serving.specs.Inputs.{IsLineTaken, of_input};
+
+use crate::reading::read_line;
+use arrayvec::ArrayVec;
+use d64_image::Sectors;
+use host_session::{Asks, Cut, Next};
+use std::io::BufRead;
+
+/// The lines of an input, as a source of messages. A line counts only with its LF, and one CR before that is dropped;
+/// what stands behind the last LF is no line. No line is a reset. 40 bytes of a line are kept, more than a request can
+/// have, so that no memory grows with the input; a longer line is no request, and neither is what is kept of it. A
+/// read that is interrupted is tried again. All of it is our own.
+#[derive(Drop)]
+pub struct OfInput<'a, R> {
+    input: &'a mut R,
+    /// What was kept of the line that was taken last.
+    line: ArrayVec<u8, 40>,
+    /// What asking last came to. Behind an end or a failure the input isn't read again.
+    said: Next,
+    /// How many lines more are taken.
+    left: u64,
+}
+
+impl<'a, R> OfInput<'a, R> {
+    /// All lines of this input, of which 2^64 - 1 are taken at most.
+    pub fn new(input: &'a mut R) -> OfInput<'a, R>
+        ensures same { result.input.ghost_name ≡ input.entry.ghost_name }
+        ensures input { result.input.now ≡ input.old }
+        ensures fresh { result.said ≡ answers.Event }
+    {
+        OfInput {
+            input,
+            line: ArrayVec::new(),
+            said: Next::Event,
+            left: u64::MAX,
+        }
+    }
+}
+
+/// Drops one CR at the end of a line.
+fn drop_cr(line: &mut ArrayVec<u8, 40>)
+    ensures { line.new.items ≡ without_cr line.old.items }
+{
+    if let Some(&b'\r') = line.as_slice().last() {
+        let _ = line.pop();
+    }
+}
+
+/// Takes the next line of an input, without its LF and one CR before that.
+fn take_line<R: BufRead>(input: &mut R, line: &mut ArrayVec<u8, 40>) -> Next
+    ensures { IsLineTaken (R.remaining input.old) (R.remaining input.new) line.new.items result }
+{
+    match read_line(input, line) {
+        Ok(true) => {
+            drop_cr(line);
+            Next::Event
+        }
+        Ok(false) => Next::End,
+        Err(_) => Next::Failed,
+    }
+}
+
+impl<'a, D: Sectors, R: BufRead> Asks<D> for OfInput<'a, R> {
+    ghost source = { of_input R.remaining };
+
+    fn next(&mut self, _disk: &D) -> Next {
+        let Next::Event = self.said else {
+            return self.said;
+        };
+        let Some(left) = self.left.checked_sub(1) else {
+            self.said = Next::Failed;
+            return Next::Failed;
+        };
+        self.left = left;
+        self.said = take_line(self.input, &mut self.line);
+        self.said
+    }
+
+    fn message(&self) -> &[u8] {
+        self.line.as_slice()
+    }
+
+    fn cut(&self) -> Option<&Cut> {
+        None
+    }
+}

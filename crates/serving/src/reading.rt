@@ -1,0 +1,83 @@
+//! Lines of an input, one after another, of which only as much is kept as a message can have.
+ghost use Rattle.std.specs.Prelude.{◌≡◌, ◌≢◌, ◌++◌, ◌<◌, ◌≤◌, ℕ, List, IfOk, OnErr, OnSome};
+ghost use Rattle.std.specs.Prelude.{[], false, length, slice_index, take};
+ghost use Rattle.std.specs.Io.KnownBytes.{Consumes, IsAtEnd};
+ghost use Rattle.serving.specs.Read.{LacksLf, TookPart, lf_after};
+
+use arrayvec::ArrayVec;
+use std::io::{self, BufRead, Error, ErrorKind};
+
+/// Where a look at the input ended.
+#[derive(Clone, Copy)]
+pub(crate) enum Part {
+    /// Before the line's LF.
+    More,
+    /// Behind the line's LF.
+    Ended,
+    /// At the end of the input.
+    Over,
+}
+
+/// How many of these bytes stand before the first LF.
+fn before_lf(bytes: &[u8]) -> usize
+    ensures bound { result ≤ length bytes.now }
+    ensures before { (k : ℕ) → k < result → slice_index bytes.now k ≢ 10 }
+    ensures here { result < length bytes.now → slice_index bytes.now result ≡ 10 }
+{
+    for (i, &byte) in bytes.iter().enumerate() {
+        if byte == b'\n' {
+            return i;
+        }
+    }
+    bytes.len()
+}
+
+/// Appends these bytes, as far as there is room.
+fn keep(line: &mut ArrayVec<u8, 40>, bytes: &[u8])
+    ensures { line.new.items ≡ take 40 (line.old.items ++ bytes.now) }
+{
+    let count = bytes.len().min(line.remaining_capacity());
+    let _ = line.try_extend_from_slice(&bytes[..count]);
+}
+
+/// Takes what the input has at hand, up to the first LF and that with it.
+fn take_part<R: BufRead>(input: &mut R, line: &mut ArrayVec<u8, 40>) -> io::Result<Part>
+    ensures ok { IfOk result
+        (TookPart (R.remaining input.old) (R.remaining input.new) line.old.items line.new.items) }
+    ensures err { OnErr result (Consumes (R.remaining input.old) (R.remaining input.new) []) }
+{
+    let available = match input.fill_buf() {
+        Ok(available) => available,
+        Err(error) if error.kind() == ErrorKind::Interrupted => return Ok(Part::More),
+        Err(error) => return Err(error),
+    };
+    let count = before_lf(available);
+    keep(line, &available[..count]);
+    if count < available.len() {
+        input.consume(count + 1);
+        return Ok(Part::Ended);
+    }
+    let part = if count == 0 { Part::Over } else { Part::More };
+    input.consume(count);
+    Ok(part)
+}
+
+/// Reads the next line up to its LF, and keeps its first 40 bytes. False where the input ended first: what came behind
+/// its last LF is no line. A read that is interrupted is tried again.
+pub(crate) fn read_line<R: BufRead>(input: &mut R, line: &mut ArrayVec<u8, 40>) -> io::Result<bool>
+    ensures ok { IfOk result (λ ended. (raw : List ℕ) × LacksLf raw × (line.new.items ≡ take 40 raw)
+        × Consumes (R.remaining input.old) (R.remaining input.new) (raw ++ lf_after ended)
+        × (ended ≡ false → OnSome (R.remaining input.old) (IsAtEnd (R.remaining input.new)))) }
+    ensures err { OnErr result ((raw : List ℕ) × LacksLf raw
+        × Consumes (R.remaining input.old) (R.remaining input.new) raw) }
+{
+    line.clear();
+    for _ in 0..u64::MAX {
+        match take_part(input, line)? {
+            Part::More => {}
+            Part::Ended => return Ok(true),
+            Part::Over => return Ok(false),
+        }
+    }
+    Err(Error::from(ErrorKind::TimedOut))
+}
