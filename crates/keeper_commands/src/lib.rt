@@ -4,12 +4,14 @@
 mod byte_printing;
 mod chains;
 mod faults;
+mod judging;
 mod loading;
 mod making;
 mod mending;
 mod naming;
 mod output;
 mod record_printing;
+mod storing;
 
 pub use byte_printing::bytes_image;
 pub use faults::KeepFault;
