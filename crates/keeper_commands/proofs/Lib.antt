@@ -4,6 +4,8 @@ pub mod Entries
 pub mod Files
 pub mod Folds
 pub mod Judged
+pub mod LineStored
+pub mod LinesStored
 pub mod Made
 pub mod Mendings
 pub mod OneStored

@@ -63,9 +63,10 @@ fn store_line<D: Sectors, W: Write>(
     let Some((number, bytes)) = read_line(line) else {
         return Ok(());
     };
-    if store_record(disk, file, number, bytes.as_slice())?
-        && write_line(out, number, bytes.as_slice()).is_err()
-    {
+    if !store_record(disk, file, number, bytes.as_slice())? {
+        return Ok(());
+    }
+    if write_line(out, number, bytes.as_slice()).is_err() {
         return Err(KeepFault::File);
     }
     Ok(())
