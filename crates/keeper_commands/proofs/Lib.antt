@@ -12,3 +12,4 @@ pub mod OneStored
 pub mod Padded
 pub mod Printing
 pub mod Repairs
+pub mod TextStored

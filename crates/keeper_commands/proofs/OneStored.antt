@@ -36,7 +36,7 @@ none-added L c r le = rw (le-leb r c le) refl
 none-written : (f : File) (r : ℕ) → r ≤ records_had f → growth_writes f r ≡ 0
 none-written f r le = rw (le-leb r (records_had f) le) refl
 
-grown-none : (img : Image) (f : File) (r : ℕ) → r ≤ records_had f → grown_to img f r ≡ records img f
+pub grown-none : (img : Image) (f : File) (r : ℕ) → r ≤ records_had f → grown_to img f r ≡ records img f
 grown-none img f r le =
     ap (λ (m : ℕ). grown_by (record_length f.slot) m (records img f)) (none-added (record_length f.slot) (records_had f) r le)
     ∙ append-nil (records img f)

@@ -73,13 +73,13 @@ pub record IsStoreRun {D : Type 0} (S : History D) (image name text : List ℕ) 
   pub first : IsFirst layout name number file
   pub all : List NewRecord
   pub are_lines : AreLinesOf (record_length file.slot) (records_had file) (lines text) all
-  pub fits : ¬ (IsFull (S.image old) file (greatest all))
   pub moments : Changes S old new (growth_writes file (greatest all) + 2 * length all)
       (IsStoring (S.image old) layout number file all)
 
--- And all of them are stored, and the disk is clean; where all were so already nothing was written.
+-- And there was room, all of them are stored, and the disk is clean; where all were so already nothing was written.
 pub record IsStoredDisk {D : Type 0} (S : History D) (image name text : List ℕ) (old new : D) : Type 0 where
   pub run : IsStoreRun S image name text old new
+  pub fits : ¬ (IsFull (S.image old) run.file (greatest run.all))
   pub clean : IsClean (S.image new)
   pub has : HasRecords (S.image old) (S.image new) run.layout run.number
       (stored (record_length run.file.slot) run.all (grown_to (S.image old) run.file (greatest run.all)))
