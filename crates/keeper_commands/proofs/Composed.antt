@@ -1,11 +1,11 @@
 -- Lines stored one after another: what is left, held, printed and told of all of them.
-use Rattle.std.proofs.Common.{◌≡◌, ◌≤◌, ℕ, ◌+◌, ◌*◌, List, [], ◌∷◌, ◌++◌, Option, Result, Ok, Err, length, refl, subst, sym, ap, ap₂, ◌∙◌, arith}
-use Rattle.std.specs.Prelude.{IfErr, OnOk, slice_get}
+use Rattle.std.proofs.Common.{◌≡◌, ℕ, ◌*◌, List, [], ◌++◌, Option, Result, Ok, Err, length, refl, subst, sym, ap, ap₂, ◌∙◌, arith}
+use Rattle.std.specs.Prelude.{OnOk}
 use Rattle.std.specs.Io.KnownBytes.{Appends}
 use Rattle.std.proofs.KnownBytes.{Appends-nil, Appends-trans}
 use Rattle.std.proofs.lemmas.List.{length-append}
 use Rattle.d64_image.proofs.Moments.{changes_then, changes_weaker, no_change, no_write, no_write_then}
-use Rattle.d64_image.specs.History.{Changes, History, WritesNothing}
+use Rattle.d64_image.specs.History.{History}
 use Rattle.d64_image.specs.Images.{Image}
 use Rattle.disk_layout.proofs.Layouts.{IsLayout-one}
 use Rattle.disk_layout.proofs.Pieces.{length-pieces}
@@ -16,15 +16,13 @@ use Rattle.rel_records.proofs.Grown.{size-kept}
 use Rattle.rel_records.proofs.Kept.{has_same, keeps_same, leaves_leaves, leaves_then, places-stay}
 use Rattle.rel_records.specs.File.{IsFileOf, length_of, records_in}
 use Rattle.rel_records.specs.Growth.{records_had}
-use Rattle.rel_records.specs.Others.{HasRecords, LeavesRecords}
+use Rattle.rel_records.specs.Others.{LeavesRecords}
 use Rattle.rel_records.specs.declared.rel_file.RelFile.{RelFile}
-use Rattle.keeper_commands.proofs.Folds.{changed-append, long-stored, part-behind, part-front, part-none, so-behind, so-front, so-stored, stored-append}
+use Rattle.keeper_commands.proofs.Folds.{changed-append, long-stored, part-behind, part-front, so-behind, so-front, so-stored, stored-append}
 use Rattle.keeper_commands.proofs.Mendings.{tells-after}
-use Rattle.keeper_commands.specs.Repairs.{TellsKeep}
 use Rattle.keeper_commands.specs.Stores.{AreSo, IsPartStored, NewRecord, changed_text, stored}
 use Rattle.keeper_commands.specs.Storing.{IsStoringOver, StoresLines}
 use Rattle.keeper_commands.specs.declared.faults.KeepFault.{KeepFault}
-use Rattle.keeper_commands.specs.declared.faults.KeepFault.TheVariants as keep
 
 -- how many records a file has, by what is kept of it
 pub had-is : (img : Image) (l : Layout) (n : ℕ) (f : File) (v : RelFile) → IsFileOf img l n f v → records_in v ≡ records_had f
@@ -114,8 +112,8 @@ module _ {D W : Type 0} (S : History D) (contents : W → Option (List ℕ)) (l 
       behind i (ts, part, has) = (
         ts,
         part-behind (record_length f.slot) xs ys (records (S.image a) f) ts
-        (subst (λ (rs : List (List ℕ)). IsPartStored (record_length f.slot) ys rs ts) left.records
-        (subst (λ (L : ℕ). IsPartStored L ys (records (S.image b) left.file) ts) same-length part)),
+            (subst (λ (rs : List (List ℕ)). IsPartStored (record_length f.slot) ys rs ts) left.records
+            (subst (λ (L : ℕ). IsPartStored L ys (records (S.image b) left.file) ts) same-length part)),
         leaves_then (S.image a) (S.image b) i l n _ ts w left has,
       )
 
@@ -146,7 +144,7 @@ module _ {D W : Type 0} (S : History D) (contents : W → Option (List ℕ)) (l 
           both (Err e) done = tt
           both (Ok t) done = (
             subst (λ (rs : List (List ℕ)). LeavesRecords (S.image a) (S.image c) l n rs x) both-stored
-            (leaves_leaves (S.image a) (S.image b) (S.image c) l n _ _ w x left done.0),
+                (leaves_leaves (S.image a) (S.image b) (S.image c) l n _ _ w x left done.0),
             done.1 ∙ first.ok.1,
             subst (Appends (contents o) (contents q)) both-text (Appends-trans _ _ _ _ _ first.ok.2 done.2),
           )

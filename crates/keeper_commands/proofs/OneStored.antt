@@ -1,15 +1,15 @@
 -- One record that is there, stored: what is left and held, where it is so already and where it is written.
-use Rattle.std.proofs.Common.{◌≡◌, ◌≢◌, ◌≤◌, ◌<◌, ◌⊎◌, ⊎_elim, inl, inr, ℕ, zero, suc, ◌+◌, ◌-◌, ◌*◌, ◌/◌, List, [], ◌∷◌, ◌++◌, Option, Some, Result, Ok, Err, Bool, true, false, length, replicate, refl, subst, sym, ap, ap₂, ◌∙◌, arith}
+use Rattle.std.proofs.Common.{◌≡◌, ◌≢◌, ◌≤◌, ◌⊎◌, ⊎_elim, inl, inr, ℕ, zero, suc, ◌+◌, ◌-◌, ◌*◌, ◌/◌, List, [], ◌∷◌, Result, Ok, Err, true, false, length, refl, subst, sym, ap, ◌∙◌, arith}
 use Rattle.std.specs.Prelude.{is_err}
 use Rattle.std.proofs.Math.Nat.{suc-mul}
 use Rattle.std.proofs.lemmas.Bool.{le-leb}
 use Rattle.std.proofs.lemmas.List.{append-nil}
 use Rattle.d64_image.proofs.Moments.{changes_weaker, failed_later, reads_change, reads_no_write}
-use Rattle.d64_image.specs.History.{Changes, Failed, History, OnlyReads}
+use Rattle.d64_image.specs.History.{Changes, Failed, History}
 use Rattle.d64_image.specs.Images.{Image}
 use Rattle.disk_layout.specs.Clean.{IsClean}
 use Rattle.disk_layout.specs.Layout.{File, Layout, record_length}
-use Rattle.disk_layout.specs.Records.{empty_record, records}
+use Rattle.disk_layout.specs.Records.{records}
 use Rattle.rel_records.proofs.Composed.{reads_first}
 use Rattle.rel_records.proofs.Kept.{has_same}
 use Rattle.rel_records.specs.Calls.{ReadsRecord, WritesRecord}
@@ -65,12 +65,16 @@ writing-over : (i c : Image) (l : Layout) (n : ℕ) (f : File) (x : NewRecord) �
 writing-over i c l n f x le (inl (k, few, has)) =
     let none : k ≡ 0 = omega (arith, few, none-added (record_length f.slot) (records_had f) x.number le) in
     (records i f, inl refl, subst (HasRecords i c l n) (ap (λ (m : ℕ). grown_by (record_length f.slot) m (records i f)) none ∙ append-nil (records i f)) has)
-writing-over i c l n f x le (inr (inl has)) =
-    (with_half (record_length f.slot) x.number 1 x.bytes (records i f), inr (inl refl),
-    subst (λ (rs : List (List ℕ)). HasRecords i c l n (with_half (record_length f.slot) x.number 1 x.bytes rs)) (grown-none i f x.number le) has)
-writing-over i c l n f x le (inr (inr has)) =
-    (with_stored (record_length f.slot) x (records i f), inr (inr refl),
-    subst (λ (rs : List (List ℕ)). HasRecords i c l n (with_written (record_length f.slot) x.number 1 x.bytes rs)) (grown-none i f x.number le) has)
+writing-over i c l n f x le (inr (inl has)) = (
+  with_half (record_length f.slot) x.number 1 x.bytes (records i f),
+  inr (inl refl),
+  subst (λ (rs : List (List ℕ)). HasRecords i c l n (with_half (record_length f.slot) x.number 1 x.bytes rs)) (grown-none i f x.number le) has,
+)
+writing-over i c l n f x le (inr (inr has)) = (
+  with_stored (record_length f.slot) x (records i f),
+  inr (inr refl),
+  subst (λ (rs : List (List ℕ)). HasRecords i c l n (with_written (record_length f.slot) x.number 1 x.bytes rs)) (grown-none i f x.number le) has,
+)
 
 is-done : (r : Result (Unit {0}) RelFault) → is_err r ≡ false → IsDone r
 is-done (Ok x) ok = tt
@@ -135,10 +139,10 @@ module _ {D : Type 0} (S : History D) (a b : D) (l : Layout) (n : ℕ) (f : File
     not-stored same = record {
       ok = (
         subst (λ (i : Image). LeavesRecords (S.image a) i l n (with_stored (record_length f.slot) x (records (S.image a) f)) v) (sym read.reads.image)
-        (subst (λ (rs : List (List ℕ)). LeavesRecords (S.image a) (S.image a) l n rs v)
-        (sym (so-stored_one (record_length f.slot) (records (S.image a) f) x
-        (so-there (record_length f.slot) (records (S.image a) f) x text there.there long fits same)))
-        (leaves-same (S.image a) l n f v clean of)),
+            (subst (λ (rs : List (List ℕ)). LeavesRecords (S.image a) (S.image a) l n rs v)
+            (sym (so-stored_one (record_length f.slot) (records (S.image a) f) x
+            (so-there (record_length f.slot) (records (S.image a) f) x text there.there long fits same)))
+            (leaves-same (S.image a) l n f v clean of)),
         refl,
         sym (so-unchanged (record_length f.slot) (records (S.image a) f) x text there.there long fits same),
       );
@@ -176,8 +180,8 @@ module _ {D : Type 0} (S : History D) (a b : D) (l : Layout) (n : ℕ) (f : File
       is-stored done = record {
         ok = (
           subst (λ (i : Image). LeavesRecords i (S.image d) l n (with_stored (record_length f.slot) x (records i f)) w) read.reads.image
-          (subst (λ (rs : List (List ℕ)). LeavesRecords (S.image b) (S.image d) l n (with_stored (record_length f.slot) x rs) w) (grown-none (S.image b) f x.number reached)
-          ((wrote.file l n f of-read).done (is-done s done))),
+              (subst (λ (rs : List (List ℕ)). LeavesRecords (S.image b) (S.image d) l n (with_stored (record_length f.slot) x rs) w) (grown-none (S.image b) f x.number reached)
+              ((wrote.file l n f of-read).done (is-done s done))),
           wrote.same (is-done s done),
           sym (other-changed (record_length f.slot) (records (S.image a) f) x text there.there long fits other),
         );

@@ -1,6 +1,6 @@
 -- A text stored: the file is found, grows, and then has the records of its lines; or why not.
-use Rattle.std.proofs.Common.{◌≡◌, ◌≢◌, ◌≤◌, ◌<◌, ◌⊎◌, ⊎_elim, inl, inr, ℕ, ◌+◌, ◌-◌, ◌*◌, List, [], ◌∷◌, Option, Some, Result, Ok, Err, length, refl, subst, sym, ap, ap₂, ◌∙◌, arith}
-use Rattle.std.specs.Prelude.{max, slice_get}
+use Rattle.std.proofs.Common.{◌≡◌, ◌≢◌, ◌≤◌, ◌<◌, ◌⊎◌, ⊎_elim, inl, inr, ℕ, ◌+◌, ◌-◌, ◌*◌, List, [], ◌∷◌, Option, Result, Ok, Err, length, refl, subst, sym, ap, ap₂, ◌∙◌, arith}
+use Rattle.std.specs.Prelude.{max}
 use Rattle.std.specs.Io.KnownBytes.{Appends, Keeps}
 use Rattle.std.proofs.KnownBytes.{Appends-kept}
 use Rattle.std.proofs.lemmas.Bool.{cases_lt}
@@ -8,19 +8,18 @@ use Rattle.std.proofs.lemmas.Option.{slice_get_within}
 use Rattle.d64_image.proofs.Moments.{changes_then, changes_weaker, failed_later, no_write_then, reads_no_write}
 use Rattle.d64_image.specs.History.{Changes, Failed, History, WritesNothing}
 use Rattle.d64_image.specs.Images.{Image}
-use Rattle.disk_layout.specs.Clean.{IsClean, IsCleanLayout}
+use Rattle.disk_layout.specs.Clean.{IsClean}
 use Rattle.disk_layout.specs.Layout.{File, Layout, record_length}
 use Rattle.disk_layout.specs.Records.{records}
-use Rattle.disk_layout.specs.Rest.{IsFirst, IsNamed}
+use Rattle.disk_layout.specs.Rest.{IsFirst}
 use Rattle.rel_records.proofs.Composed.{reads_first}
 use Rattle.rel_records.proofs.Grown.{size-kept}
-use Rattle.rel_records.proofs.Kept.{growing_same, leaves_has, leaves_leaves, leaves_then}
+use Rattle.rel_records.proofs.Kept.{growing_same, leaves_has, leaves_then}
 use Rattle.rel_records.specs.Calls.{FindsFile, Grows}
-use Rattle.rel_records.specs.Faults.{TellsRelFault}
 use Rattle.rel_records.specs.File.{IsFileOf, entry_of, length_of, records_in}
-use Rattle.rel_records.specs.Growth.{IsFull, IsTooLarge, added, blocks_for, growth_writes, records_had}
+use Rattle.rel_records.specs.Growth.{IsFull, IsTooLarge, blocks_for, growth_writes, records_had}
 use Rattle.rel_records.specs.Others.{HasRecords, LeavesRecords}
-use Rattle.rel_records.specs.Written.{IsGrowingTo, grown_to}
+use Rattle.rel_records.specs.Written.{grown_to}
 use Rattle.rel_records.specs.declared.faults.RelFault.{RelFault}
 use Rattle.rel_records.specs.declared.faults.RelFault.TheVariants as rel
 use Rattle.rel_records.specs.declared.rel_file.RelFile.{RelFile}
@@ -29,7 +28,6 @@ use Rattle.keeper_commands.proofs.Composed.{count-is, had-is}
 use Rattle.keeper_commands.proofs.OneStored.{grown-none}
 use Rattle.keeper_commands.specs.Faults.{IsCleanFault, keep_fault}
 use Rattle.keeper_commands.specs.Refusals.{IsLeft}
-use Rattle.keeper_commands.specs.Repairs.{TellsKeep}
 use Rattle.keeper_commands.specs.Stores.{AreLinesOf, AreSo, CanHave, IsFirstBad, IsPartStored, NewRecord, changed_text, greatest, stored}
 use Rattle.keeper_commands.specs.Storing.{IsStoreDone, IsStoreFault, IsStoreRun, IsStoredDisk, IsStoring, IsStoringOver, StoresLines}
 use Rattle.keeper_commands.specs.declared.faults.KeepFault.{KeepFault}
@@ -122,18 +120,26 @@ module _ {D W : Type 0} (S : History D) (image name text : List ℕ) (a b : D) (
 
     -- a line is bad
     pub bad-line : (k : ℕ) → IsFirstBad (length_of v) (records_in v) (lines text) k → IsStoreFault S image name text a b o o (keep.BadLine k)
-    bad-line k bad = left b
-        (entry_of v, it.0, it.1,
-        subst (λ (L : ℕ). IsFirstBad L (records_had it.0) (lines text) k) it.2.shows.size
-        (subst (λ (had : ℕ). IsFirstBad (length_of v) had (lines text) k) (had-is (S.image a) clean.0 (entry_of v) it.0 v it.2) bad))
+    bad-line k bad = left b (
+      entry_of v,
+      it.0,
+      it.1,
+      subst (λ (L : ℕ). IsFirstBad L (records_had it.0) (lines text) k) it.2.shows.size
+          (subst (λ (had : ℕ). IsFirstBad (length_of v) had (lines text) k) (had-is (S.image a) clean.0 (entry_of v) it.0 v it.2) bad),
+    )
         (reads_no_write S a b 702 found.reads)
 
     module _ (xs : List NewRecord) (are : AreLinesOf (length_of v) (records_in v) (lines text) xs) (c : D) (w : RelFile) where
       -- there is no room
       no-room : Grows S b c v w (greatest xs) (Err rel.Full) → IsStoreFault S image name text a c o o keep.DiskFull
-      no-room grows = left c
-          (entry_of v, it.0, xs, it.1, file-lines (lines text) xs are,
-          subst (λ (i : Image). IsFull i it.0 (greatest xs)) found.reads.image ((grows.file clean.0 (entry_of v) it.0 of-b).full refl))
+      no-room grows = left c (
+        entry_of v,
+        it.0,
+        xs,
+        it.1,
+        file-lines (lines text) xs are,
+        subst (λ (i : Image). IsFull i it.0 (greatest xs)) found.reads.image ((grows.file clean.0 (entry_of v) it.0 of-b).full refl),
+      )
           (no_write_then S a b c (reads_no_write S a b 702 found.reads) (reads_no_write S b c 1 (grows.refused (λ e. cc)).1))
 
       abbrev run-over : (d : D) → Changes S b d (growth_writes it.0 (greatest xs) + 2 * length xs) (IsStoring (S.image b) clean.0 (entry_of v) it.0 xs)
@@ -204,7 +210,7 @@ module _ {D W : Type 0} (S : History D) (image name text : List ℕ) (a b : D) (
           over i (ts, part, has) = inr (
             ts,
             subst (λ (rs : List (List ℕ)). IsPartStored (record_length it.0.slot) xs rs ts) grown.records
-            (subst (λ (L : ℕ). IsPartStored L xs (records (S.image c) grown.file) ts) same-length part),
+                (subst (λ (L : ℕ). IsPartStored L xs (records (S.image c) grown.file) ts) same-length part),
             leaves_then (S.image b) (S.image c) i clean.0 (entry_of v) _ ts w grown has,
           )
 

@@ -1,5 +1,5 @@
 -- What comes of records that are stored from their lines. All of it is our own.
-use Rattle.std.specs.Prelude.{◌≡◌, ◌≤◌, ◌⊎◌, Bool, ℕ, ◌+◌, ◌-◌, ◌++◌, List, [], ◌∷◌, Option, Some, bytes_eq, get_or, if◌then◌else◌, length, max, not, slice_get}
+use Rattle.std.specs.Prelude.{◌≡◌, ◌≤◌, ◌⊎◌, Bool, ℕ, ◌+◌, ◌-◌, ◌++◌, List, [], ◌∷◌, Some, bytes_eq, get_or, if◌then◌else◌, length, max, not, slice_get}
 use Rattle.std.specs.List.{AllByRecursion}
 use Rattle.byte_text.specs.Lines.{IsLineOf, padded}
 use Rattle.byte_text.specs.Texts.{AreBytes, record_line}

@@ -16,7 +16,7 @@ pub loop-line-preserved-then-number-most : goal.loop-line-preserved-then-number-
 loop-line-preserved-then-number-most c =
     let v = c.args.file.now in
     let to = judged-more (length_of v) (records_in v) (lines c.args.text.now) (lines c.loop-line.rest.now) c.loop-line.count c.loop-line.most
-        c.loop-line.invariant.judged c.in-Some.line.now (lines c.in-Some.more.now) c.in-Some-number_of.number c.in-Some.ensures.0 c.in-Some-number_of.ensures.found in
+    c.loop-line.invariant.judged c.in-Some.line.now (lines c.in-Some.more.now) c.in-Some-number_of.number c.in-Some.ensures.0 c.in-Some-number_of.ensures.found in
     let greater : max c.loop-line.most c.in-Some-number_of.number ≡ c.in-Some-number_of.number = omega (arith, c.if-number-most.true) in
     record {
       room = omega (arith, c.loop-line.invariant.room, c.in-Some.ensures.1);
@@ -27,7 +27,7 @@ pub loop-line-preserved : goal.loop-line-preserved
 loop-line-preserved c =
     let v = c.args.file.now in
     let to = judged-more (length_of v) (records_in v) (lines c.args.text.now) (lines c.loop-line.rest.now) c.loop-line.count c.loop-line.most
-        c.loop-line.invariant.judged c.in-Some.line.now (lines c.in-Some.more.now) c.in-Some-number_of.number c.in-Some.ensures.0 c.in-Some-number_of.ensures.found in
+    c.loop-line.invariant.judged c.in-Some.line.now (lines c.in-Some.more.now) c.in-Some-number_of.number c.in-Some.ensures.0 c.in-Some-number_of.ensures.found in
     let same : max c.loop-line.most c.in-Some-number_of.number ≡ c.loop-line.most = omega (arith, c.if-number-most.false) in
     record {
       room = omega (arith, c.loop-line.invariant.room, c.in-Some.ensures.1);
@@ -40,7 +40,7 @@ returns-in_default-number_of-clause-err c =
       c.loop-line.count + 1,
       refl,
       judged-bad (length_of v) (records_in v) (lines c.args.text.now) (lines c.loop-line.rest.now) c.loop-line.count c.loop-line.most
-      c.loop-line.invariant.judged c.in-Some.line.now (lines c.in-Some.more.now) c.in-Some.ensures.0 (c.in_default-number_of.ensures.none refl),
+          c.loop-line.invariant.judged c.in-Some.line.now (lines c.in-Some.more.now) c.in-Some.ensures.0 (c.in_default-number_of.ensures.none refl),
     )
 
 pub returns-clause-ok : goal.returns-clause-ok

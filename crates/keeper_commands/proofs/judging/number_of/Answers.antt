@@ -27,8 +27,7 @@ returns-then-not-can_have-clause-none c = λ _ x can is.
 pub returns-clause-found : goal.returns-clause-found
 returns-clause-found c =
     let found = c.in_ok-number.ensures.found in
-    let view : c.as_slice.result.now ≡ c.in_ok-number.bytes.items = c.as_slice.ensures.value in
-    (
+    let view : c.as_slice.result.now ≡ c.in_ok-number.bytes.items = c.as_slice.ensures.value in (
       c.in_ok-number.bytes.items,
       found.2,
       record {

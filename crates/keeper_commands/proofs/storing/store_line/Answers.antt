@@ -1,5 +1,5 @@
 -- The line is of the one record, which was stored, and its line printed where it was otherwise.
-use Rattle.std.proofs.Common.{◌≡◌, ◌≤◌, ◌∷◌, [], Err, Result, List, ℕ, Bool, Ok, true, false, arith, length, refl, sym, subst, ap, ◌∙◌}
+use Rattle.std.proofs.Common.{◌≡◌, ◌≤◌, ◌∷◌, [], Err, Result, List, ℕ, Bool, Ok, arith, length, refl, sym, subst, ap, ◌∙◌}
 use Rattle.std.specs.Io.KnownBytes.{Appends}
 use Rattle.std.proofs.lemmas.Result.{err_from_is_err_and}
 use Rattle.rel_records.specs.File.{length_of, records_in}

@@ -1,9 +1,9 @@
 -- The records of the lines so far are stored, and one more in each turn.
-use Rattle.std.proofs.Common.{◌≡◌, Ok, Err, Result, [], refl, sym, subst, ap, ◌∙◌}
+use Rattle.std.proofs.Common.{Ok, Err, Result, [], refl, sym, subst, ap, ◌∙◌}
 use Rattle.std.proofs.lemmas.Result.{err_from_is_err_and}
 use Rattle.script_lines.specs.Lines.{lines}
 use Rattle.keeper_commands.proofs.Composed.{none-stored}
-use Rattle.keeper_commands.proofs.LinesStored.{StoringTo, all-stored, next-clean, next-file, next-line, one-failed, one-more}
+use Rattle.keeper_commands.proofs.LinesStored.{all-stored, next-clean, next-file, next-line, one-failed, one-more}
 use Rattle.keeper_commands.specs.Storing.{StoresLines}
 use Rattle.keeper_commands.specs.declared.faults.KeepFault.{KeepFault}
 use Rattle.keeper_commands.proofs.storing.store_lines.Goals as goal

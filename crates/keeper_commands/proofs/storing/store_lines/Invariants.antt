@@ -1,5 +1,5 @@
 -- A beginning of the records is stored, and the lines of the others are left.
-use Rattle.std.proofs.Common.{◌≡◌, ◌≤◌, ℕ, List, length}
+use Rattle.std.proofs.Common.{◌≤◌, ℕ, List, length}
 use Rattle.disk_layout.specs.Layout.{File, Layout}
 use Rattle.rel_records.specs.File.{IsFileOf, length_of, records_in}
 use Rattle.script_lines.specs.Lines.{lines}
