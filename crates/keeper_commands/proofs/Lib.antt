@@ -1,3 +1,4 @@
+pub mod Again
 pub mod Blocks
 pub mod Composed
 pub mod Entries

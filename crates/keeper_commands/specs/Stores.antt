@@ -1,5 +1,5 @@
 -- What comes of records that are stored from their lines. All of it is our own.
-use Rattle.std.specs.Prelude.{◌≡◌, ◌≤◌, ◌⊎◌, Bool, ℕ, ◌+◌, ◌-◌, ◌++◌, List, [], ◌∷◌, Some, bytes_eq, get_or, if◌then◌else◌, length, max, not, slice_get}
+use Rattle.std.specs.Prelude.{◌≡◌, ◌≢◌, ◌≤◌, ◌⊎◌, Bool, ℕ, ◌+◌, ◌-◌, ◌++◌, List, [], ◌∷◌, Some, bytes_eq, get_or, if◌then◌else◌, length, max, not, slice_get}
 use Rattle.std.specs.List.{AllByRecursion}
 use Rattle.byte_text.specs.Lines.{IsLineOf, padded}
 use Rattle.byte_text.specs.Texts.{AreBytes, record_line}
@@ -43,6 +43,11 @@ pub record IsFirstBad (L had : ℕ) (lines : List (List ℕ)) (k : ℕ) : Type 0
   pub count : k ≡ length front + 1
   pub good : (xs : List NewRecord) × AreLinesOf L had front xs
   pub bad : (x : NewRecord) → CanStore L had x → ¬ (IsLineOf line x.number x.bytes)
+
+-- no two of these are of one record
+abbrev pub AreApart : List NewRecord → Type 0
+AreApart [] = Unit {0}
+AreApart (x ∷ xs) = AllByRecursion (λ y. y.number ≢ x.number) xs × AreApart xs
 
 -- the greatest of the numbers
 abbrev pub greatest : List NewRecord → ℕ

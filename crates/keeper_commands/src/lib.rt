@@ -6,6 +6,7 @@ mod byte_printing;
 mod chains;
 mod faults;
 mod judging;
+mod laws;
 mod loading;
 mod making;
 mod mending;
@@ -17,6 +18,7 @@ mod storing;
 
 pub use byte_printing::bytes_image;
 pub use faults::KeepFault;
+pub use laws::stored_records_are_so;
 pub use making::{is_new_name, make_image};
 pub use mending::repair_image;
 pub use record_printing::records_image;
