@@ -12,5 +12,6 @@ pub mod Mendings
 pub mod OneStored
 pub mod Padded
 pub mod Printing
+pub mod Reached
 pub mod Repairs
 pub mod TextStored

@@ -1,10 +1,7 @@
 -- A text stored: the file is found, grows, and then has the records of its lines; or why not.
-use Rattle.std.proofs.Common.{◌≡◌, ◌≢◌, ◌≤◌, ◌<◌, ◌⊎◌, ⊎_elim, inl, inr, ℕ, ◌+◌, ◌-◌, ◌*◌, List, [], ◌∷◌, Option, Result, Ok, Err, length, refl, subst, sym, ap, ap₂, ◌∙◌, arith}
-use Rattle.std.specs.Prelude.{max}
+use Rattle.std.proofs.Common.{◌≡◌, ◌≢◌, ◌≤◌, ◌⊎◌, ⊎_elim, inl, inr, ℕ, ◌+◌, ◌*◌, List, Option, Result, Ok, Err, length, refl, subst, sym, ap, ap₂, ◌∙◌, arith}
 use Rattle.std.specs.Io.KnownBytes.{Appends, Keeps}
 use Rattle.std.proofs.KnownBytes.{Appends-kept}
-use Rattle.std.proofs.lemmas.Bool.{cases_lt}
-use Rattle.std.proofs.lemmas.Option.{slice_get_within}
 use Rattle.d64_image.proofs.Moments.{changes_then, changes_weaker, failed_later, no_write_then, reads_no_write}
 use Rattle.d64_image.specs.History.{Changes, Failed, History, WritesNothing}
 use Rattle.d64_image.specs.Images.{Image}
@@ -17,7 +14,7 @@ use Rattle.rel_records.proofs.Grown.{size-kept}
 use Rattle.rel_records.proofs.Kept.{growing_same, leaves_has, leaves_then}
 use Rattle.rel_records.specs.Calls.{FindsFile, Grows}
 use Rattle.rel_records.specs.File.{IsFileOf, entry_of, length_of, records_in}
-use Rattle.rel_records.specs.Growth.{IsFull, IsTooLarge, blocks_for, growth_writes, records_had}
+use Rattle.rel_records.specs.Growth.{IsFull, growth_writes, records_had}
 use Rattle.rel_records.specs.Others.{HasRecords, LeavesRecords}
 use Rattle.rel_records.specs.Written.{grown_to}
 use Rattle.rel_records.specs.declared.faults.RelFault.{RelFault}
@@ -26,53 +23,13 @@ use Rattle.rel_records.specs.declared.rel_file.RelFile.{RelFile}
 use Rattle.script_lines.specs.Lines.{lines}
 use Rattle.keeper_commands.proofs.Composed.{count-is, had-is}
 use Rattle.keeper_commands.proofs.OneStored.{grown-none}
-use Rattle.keeper_commands.specs.Faults.{IsCleanFault, keep_fault}
+use Rattle.keeper_commands.proofs.Reached.{not-too-large, so-there}
+use Rattle.keeper_commands.specs.Faults.{keep_fault}
 use Rattle.keeper_commands.specs.Refusals.{IsLeft}
-use Rattle.keeper_commands.specs.Stores.{AreLinesOf, AreSo, CanHave, IsFirstBad, IsPartStored, NewRecord, changed_text, greatest, stored}
+use Rattle.keeper_commands.specs.Stores.{AreLinesOf, AreSo, IsFirstBad, IsPartStored, NewRecord, changed_text, greatest, stored}
 use Rattle.keeper_commands.specs.Storing.{IsStoreDone, IsStoreFault, IsStoreRun, IsStoredDisk, IsStoring, IsStoringOver, StoresLines}
 use Rattle.keeper_commands.specs.declared.faults.KeepFault.{KeepFault}
 use Rattle.keeper_commands.specs.declared.faults.KeepFault.TheVariants as keep
-
--- the image isn't that of a clean disk
-pub store-unclean : {D W : Type 0} (S : History D) (image name text : List ℕ) (a : D) (o : W) (fault : KeepFault) → IsCleanFault image fault
-    → IsStoreFault S image name text a a o o fault
-store-unclean S image name text a o keep.ImageSize told = (told, refl, refl)
-store-unclean S image name text a o keep.NoMemory told = (told, refl, refl)
-store-unclean S image name text a o (keep.Layout fault) told = (told.0, told.1, refl, refl)
-store-unclean S image name text a o keep.NoFile told = absurd told
-store-unclean S image name text a o keep.FileExists told = absurd told
-store-unclean S image name text a o (keep.BadLine n) told = absurd told
-store-unclean S image name text a o keep.DiskFull told = absurd told
-store-unclean S image name text a o keep.File told = absurd told
-store-unclean S image name text a o keep.Device told = absurd told
-
--- the greatest number that lines give is one that the file can have
-greatest-can : (L had : ℕ) (ls : List (List ℕ)) (xs : List NewRecord) → AreLinesOf L had ls xs → CanHave L had (greatest xs)
-greatest-can L had [] [] are = inl (omega arith)
-greatest-can L had [] (x ∷ xs) are = absurd are
-greatest-can L had (l ∷ ls) [] are = absurd are
-greatest-can L had (l ∷ ls) (x ∷ xs) are = ⊎_elim
-    (λ (lt : x.number < greatest xs).
-    let e : greatest xs ≡ max x.number (greatest xs) = omega (arith, lt) in
-    subst (CanHave L had) e (greatest-can L had ls xs are.2))
-    (λ (le : greatest xs ≤ x.number).
-    let e : x.number ≡ max x.number (greatest xs) = omega (arith, le) in
-    subst (CanHave L had) e are.1.reach)
-    (cases_lt x.number (greatest xs))
-
-too-large-no : (L had r : ℕ) → CanHave L had r → had < r → (720 < blocks_for L r) ⊎ (65535 < r) → ⊥
-too-large-no L had r (inl le) lt big = omega (arith, le, lt)
-too-large-no L had r (inr (few, blocks)) lt (inl big) = omega (arith, blocks, big)
-too-large-no L had r (inr (few, blocks)) lt (inr big) = omega (arith, few, big)
-
-not-too-large : (f : File) (ls : List (List ℕ)) (xs : List NewRecord) → AreLinesOf (record_length f.slot) (records_had f) ls xs → ¬ (IsTooLarge f (greatest xs))
-not-too-large f ls xs are (lt, big) = too-large-no (record_length f.slot) (records_had f) (greatest xs) (greatest-can (record_length f.slot) (records_had f) ls xs are) lt big
-
--- records that are so already are there
-so-there : (L : ℕ) (rs : List (List ℕ)) (xs : List NewRecord) → AreSo L rs xs → greatest xs ≤ length rs
-so-there L rs [] so = omega arith
-so-there L rs (x ∷ xs) so =
-    omega (arith, slice_get_within rs (x.number - 1) _ so.0, so-there L rs xs so.1)
 
 module _ {D W : Type 0} (S : History D) (image name text : List ℕ) (a b : D) (size : length image ≡ 174848)
     (clean : IsClean (S.image a)) (o : W) where
