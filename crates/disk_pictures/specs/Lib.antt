@@ -2,6 +2,7 @@ pub mod Drawings
 pub mod Faults
 pub mod Html
 pub mod Maps
+pub mod Markup
 pub mod Names
 pub mod Outcomes
 pub mod Pictures

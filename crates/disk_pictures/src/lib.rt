@@ -6,6 +6,7 @@ mod drawing;
 mod faults;
 mod files;
 mod html;
+mod laws;
 mod loading;
 mod map_printing;
 mod names;
@@ -18,5 +19,6 @@ mod texts;
 mod verdicts;
 
 pub use faults::PictureFault;
+pub use laws::names_bring_no_markup;
 pub use map_printing::map_image;
 pub use picture_printing::picture_image;
