@@ -67,7 +67,7 @@ module _ {F T : Type 0} {G : Ghosts F} (o : Output T) (start : Mirror F G) (whol
     ends = p.ends;
   }
 
-  moments_of_file : (s : Shop) (ms : List Message) (b : Mirror F G) → HeldBeginnings mirror s ms start b → HeldBeginnings file_run s ms (file_disk start) (file_disk b)
+  pub moments_of_file : (s : Shop) (ms : List Message) (b : Mirror F G) → HeldBeginnings mirror s ms start b → HeldBeginnings file_run s ms (file_disk start) (file_disk b)
   moments_of_file s ms b held = weaker file_run (file_disk start) (file_disk b) (IsSomeBeginning s ms (IsBlamed mirror start b)) _
       (λ c x. record {
         begun = x.begun;
@@ -163,7 +163,7 @@ module _ {F T : Type 0} {G : Ghosts F} (o : Output T) (start : Mirror F G) (whol
     rose = λ few. absurd (refused_reached b fault x (λ y. omega (arith, few, (failed_by_file start whole start b y y failed).rose few)));
   }
 
-  refused_of_file : (b : Mirror F G) (fault : OpenFault) → IsRefused mirror start fault b → IsRefused file_run (file_disk start) fault (file_disk b)
+  pub refused_of_file : (b : Mirror F G) (fault : OpenFault) → IsRefused mirror start fault b → IsRefused file_run (file_disk start) fault (file_disk b)
   refused_of_file b fault x = record {
     refused = refuses_so _ _ (mirror.image start) fault (refused_failed b fault x) x.refused;
     same = λ s is. changes_of_file b 952 _ (omega arith) (x.same s is);

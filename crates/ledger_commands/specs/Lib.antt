@@ -4,6 +4,7 @@ pub mod FreshShops
 pub mod Images
 pub mod Placed
 pub mod Plays
+pub mod Serves
 pub mod Shops
 pub mod Shows
 pub mod Tables

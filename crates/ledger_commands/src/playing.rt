@@ -52,8 +52,11 @@ pub fn play_image<D: Sectors, T: Tells<D>>(
     }
 }
 
-/// The file of a mirror whose play ended so: `Device` where the file failed.
-fn file_of<F: SectorFile>(mirror: Mirror<F>, end: Result<(), RunFault>) -> Result<F, (RunFault, F)>
+/// The file of a mirror whose run ended so: `Device` where the file failed.
+pub(crate) fn file_of<F: SectorFile>(
+    mirror: Mirror<F>,
+    end: Result<(), RunFault>,
+) -> Result<F, (RunFault, F)>
     ensures ok { IfOk result (λ file. (file ≡ mirror_file mirror) × ¬ (is_broken mirror) × IsOk end) }
     ensures err { IfErr result (λ e. (e.1 ≡ mirror_file mirror)
         × ((is_broken mirror × (e.0 ≡ faults.Device)) ⊎ (¬ (is_broken mirror) × (end ≡ Err e.0)))) }

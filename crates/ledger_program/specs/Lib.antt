@@ -3,3 +3,4 @@ pub mod Jobs
 pub mod Keeping
 pub mod Names
 pub mod Runs
+pub mod Serves

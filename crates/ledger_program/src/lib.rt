@@ -9,6 +9,7 @@ mod names;
 mod owning;
 mod refusals;
 mod running;
+mod serving_runs;
 mod telling;
 
 pub use doing::{do_job, do_over};
@@ -17,4 +18,5 @@ pub use keeping::{repair_run, taking_run};
 pub use names::Name;
 pub use refusals::Refusal;
 pub use running::{format_run, play_run, reading_run};
+pub use serving_runs::serve_run;
 pub use telling::{end, tell};

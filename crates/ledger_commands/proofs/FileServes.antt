@@ -1,0 +1,111 @@
+-- A shop that was served over a mirror, as one over its file.
+use Rattle.std.proofs.Common.{◌≡◌, ⊎_elim, ℕ, List, [], ◌∷◌, ◌++◌, Option, Ok, Err, Result, inl, inr, subst, sym, append-nil}
+use Rattle.d64_image.specs.declared.mirror.Mirror.{Mirror}
+use Rattle.d64_image.specs.declared.sector_file.SectorFile.{Ghosts}
+use Rattle.d64_image.specs.FileDisks.{FileDisk, in_run}
+use Rattle.d64_image.specs.History.{History}
+use Rattle.d64_image.specs.Images.{Image}
+use Rattle.d64_image.specs.Mirrors.{is_broken, mirror}
+use Rattle.d64_image.proofs.FileRuns.{failed_by_file, file_disk, never_failed}
+use Rattle.request_cards.specs.declared.reply.Reply.{Reply}
+use Rattle.host_session.proofs.Chained.{at_device}
+use Rattle.host_session.specs.Events.{Message}
+use Rattle.host_session.specs.Shop.{Shop}
+use Rattle.host_session.specs.Telling.{Output}
+use Rattle.host_session.specs.declared.looping.LoopFault.{LoopFault}
+use Rattle.serving.proofs.Handled.{handled_run}
+use Rattle.serving.specs.AtOnce.{at_once}
+use Rattle.serving.specs.Inputs.{line_messages}
+use Rattle.serving.specs.Serves.{AreHandled, AreServed, AreServedToDevice, AreServedToOutput, IsServed}
+use Rattle.ledger_commands.proofs.FileChains.{failing_of_file, over_files, over_files-more, run_of_file, same_images}
+use Rattle.ledger_commands.proofs.FileScripts.{end_of_file, moments_of_file, refused_of_file}
+
+module _ {F T : Type 0} {G : Ghosts F} (o : Output T) (start : Mirror F G) (whole : is_broken start → ⊥) (untaken : start.taken.n ≡ 0) (old new : T) where
+  abbrev file_run : History (FileDisk G.keeps)
+  file_run = in_run G.keeps start.file
+
+  handled_of_file : (s : Shop) (bytes : List ℕ) (turns : List (Reply × Mirror F G)) (b : Mirror F G) → AreHandled mirror s bytes turns start b
+      → AreHandled file_run s bytes (over_files turns) (file_disk start) (file_disk b)
+  handled_of_file s bytes turns b x =
+      handled_run file_run s bytes (over_files turns) (file_disk start) (file_disk b) (run_of_file start whole s (line_messages bytes) turns b x.run)
+
+  served_of_file : (s : Shop) (bytes : List ℕ) (b : Mirror F G) → AreServed mirror o s bytes start b old new
+      → AreServed file_run o s bytes (file_disk start) (file_disk b) old new
+  served_of_file s bytes b x = record {
+    turns = over_files x.turns;
+    handled = handled_of_file s bytes x.turns b x.handled;
+    told = subst ((at_once o).told old new) (same_images start whole x.turns) x.told;
+  }
+
+  output_of_file : (s : Shop) (bytes : List ℕ) (b : Mirror F G) → AreServedToOutput mirror o s bytes start b old new
+      → AreServedToOutput file_run o s bytes (file_disk start) (file_disk b) old new
+  output_of_file s bytes b x = record {
+    turns = over_files x.turns;
+    last = (x.last.0, file_disk x.last.1);
+    handled = subst (λ turns. AreHandled file_run s bytes turns (file_disk start) (file_disk b)) (sym (over_files-more x.turns (x.last ∷ [])))
+        (handled_of_file s bytes (x.turns ++ x.last ∷ []) b x.handled);
+    told = subst (λ turns. (at_once o).broken_off old new turns x.last.0) (same_images start whole x.turns) x.told;
+  }
+
+  device_of_file : (s : Shop) (bytes : List ℕ) (b : Mirror F G) → AreServedToDevice mirror o s bytes start b old new
+      → AreServedToDevice file_run o s bytes (file_disk start) (file_disk b) old new
+  device_of_file s bytes b x =
+      let ms : List Message = line_messages bytes in
+      let last : List (Reply × Image) = (x.run.last, mirror.image b) ∷ [] in
+      let run = failing_of_file start whole s ms x.run.turns x.run.last b x.run.run in
+      record {
+        run = record {
+          turns = over_files x.run.turns;
+          last = x.run.last;
+          run = run;
+          told = ⊎_elim
+              (λ t. inl (subst (λ turns. (at_once o).told old new (turns ++ last)) (same_images start whole x.run.turns) t))
+              (λ t. inr (subst (λ turns. (at_once o).broken_off old new turns x.run.last) (same_images start whole x.run.turns) t.0, t.1))
+              x.run.told;
+        };
+        stopped = (at_device file_run s ms [] ms (over_files x.run.turns) x.run.last (file_disk start) (file_disk b) (append-nil ms) run).0;
+      }
+
+  -- a service over a mirror is one over its file
+  pub service_of_file : {R : Type 0} (remaining : R → Option (List ℕ)) (old_in new_in : R) (r : Result (Mirror F G) (LoopFault × Mirror F G))
+      → IsServed mirror remaining o start old_in new_in old new r
+      → IsServed file_run remaining o (file_disk start) old_in new_in old new (end_of_file r)
+  service_of_file remaining old_in new_in (Ok b) x = record {
+    handled = x.handled;
+    rest = x.rest;
+    whole = x.whole;
+    lacks = x.lacks;
+    read = x.read;
+    shop = x.shop;
+    end = x.end;
+    ok = λ s is. served_of_file s x.handled b (x.ok s is);
+    input = λ _ _. tt;
+    output = λ _ _. tt;
+    device = λ _ _. tt;
+    moments = λ s is. moments_of_file o start whole untaken old new s (line_messages x.handled) b (x.moments s is);
+    plays = λ _ _. tt;
+    «open» = tt;
+    cause = tt;
+    after = tt;
+  }
+  service_of_file remaining old_in new_in (Err e) x = record {
+    handled = x.handled;
+    rest = x.rest;
+    whole = x.whole;
+    lacks = x.lacks;
+    read = x.read;
+    shop = tt;
+    end = tt;
+    ok = λ _ _. tt;
+    input = λ s is told. served_of_file s x.handled e.1 (x.input s is told);
+    output = λ s is told. output_of_file s x.handled e.1 (x.output s is told);
+    device = λ s is told. device_of_file s x.handled e.1 (x.device s is told);
+    moments = λ s is. moments_of_file o start whole untaken old new s (line_messages x.handled) e.1 (x.moments s is);
+    plays = λ shop never. x.plays shop (never_failed start whole e.1 (x.moments shop.0 shop.1).reached never);
+    «open» = λ f is. let y = x.«open» f is in (refused_of_file o start whole untaken old new e.1 f y.0, y.1, y.2);
+    cause = λ is.
+        let c = x.cause is in
+        let y = (x.moments c.0.0 c.0.1).reached in
+        (c.0, failed_by_file start whole start e.1 y y c.1);
+    after = x.after;
+  }
