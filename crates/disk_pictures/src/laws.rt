@@ -19,9 +19,9 @@ pub fn names_bring_no_markup()
         → markup_of (picture_page v map l) ≡ markup_of (page_text (λ _. []) v map l) }
 {}
 
-/// Of what is drawn of an image each sector of the disk has the one owner that it is drawn as, which has it, and no
-/// entry, nor the directory, has a sector twice: so each of the 683 sectors stands once among the sectors of a picture
-/// or of a map. What is drawn as of nobody is of nothing drawn.
+/// Of what is drawn of an image each sector of the disk has the one owner that it is drawn as, which has it; and neither
+/// the directory nor an entry's blocks nor its side sectors have a sector twice. A sector that is drawn as of nobody is
+/// in none of these.
 pub fn sectors_are_drawn_once()
     ensures { (img : Image) (l : Layout) → IsDrawn img l → (p : Place) → IsDrawnOnce l p (owner_of l p) }
 {}
