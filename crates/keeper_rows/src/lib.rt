@@ -1,6 +1,6 @@
-//! Worked rows of bytes as text, of records as lines, and of what is printed of an image's files. Tests only: no
-//! program stands on this crate. They stand here and not in the crates that they test so that the gate proves those
-//! once.
+//! Worked rows of bytes as text, of records as lines, of what is printed of an image's files, and of its map and its
+//! picture. Tests only: no program stands on this crate. They stand here and not in the crates that they test so that
+//! the gate proves those once.
 #![tactic(auto)]
 
 #[cfg(test)]
@@ -16,8 +16,12 @@ mod making_rows;
 #[cfg(test)]
 mod outputs;
 #[cfg(test)]
+mod picture_rows;
+#[cfg(test)]
 mod record_rows;
 #[cfg(test)]
 mod repair_rows;
+#[cfg(test)]
+mod storing_rows;
 #[cfg(test)]
 mod text_rows;

@@ -21,13 +21,19 @@ fn asked<'a>(rt: &impl AllocGlobal, words: &'a [&'a str]) -> Result<Row<'a>, (u8
             Reading::Show => ("show", path, "", 0),
             Reading::Dry => ("dry", "", path, 0),
         }),
-        Ok(Job::Play {
-            image,
-            script,
-            durability,
-        }) => Ok(match durability {
+        Ok(
+            Job::Play {
+                image,
+                script,
+                durability,
+            },
+        ) => Ok(match durability {
             Durability::EachSector => ("play --sync", image, script, 0),
             Durability::AtEnd => ("play", image, script, 0),
+        }),
+        Ok(Job::Serve { image, durability }) => Ok(match durability {
+            Durability::EachSector => ("serve", image, "", 0),
+            Durability::AtEnd => ("serve --unsynced", image, "", 0),
         }),
         Ok(Job::Repair { image }) => Ok(("repair", image, "", 0)),
         Ok(Job::Take { what, image, name }) => {
@@ -64,6 +70,11 @@ fn words_ask_for_a_job(rt: HostRuntime) {
                 &["ledger", "play", "--sync", "a.d64", "s.txt"],
                 ("play --sync", "a.d64", "s.txt", 0),
             ),
+            (&["ledger", "serve", "a.d64"], ("serve", "a.d64", "", 0)),
+            (
+                &["ledger", "serve", "a.d64", "--unsynced"],
+                ("serve --unsynced", "a.d64", "", 0),
+            ),
             (&["ledger", "repair", "a.d64"], ("repair", "a.d64", "", 0)),
             (
                 &["ledger", "records", "a.d64", "ADD\\c1"],
@@ -77,7 +88,10 @@ fn words_ask_for_a_job(rt: HostRuntime) {
                 &["ledger", "bytes", "a.d64", "ABCDEFGHIJKLMNOP"],
                 ("bytes", "a.d64", "", 16),
             ),
-            (&["ledger", "records", "a.d64", ""], ("records", "a.d64", "", 0)),
+            (
+                &["ledger", "records", "a.d64", ""],
+                ("records", "a.d64", "", 0),
+            ),
             (
                 &["ledger", "format", "a.d64", "--tills", "1"],
                 ("format", "a.d64", "", 1),
@@ -119,6 +133,7 @@ fn other_words_are_refused(rt: HostRuntime) {
             (&["ledger", "show", "a.d64", "s.txt"], 2),
             (&["ledger", "play", "a.d64", "s.txt", "t.txt"], 2),
             (&["ledger", "play", "a.d64", "s.txt", "--unsynced"], 2),
+            (&["ledger", "serve", "a.d64", "--sync"], 2),
             (&["ledger", "repair", "a.d64", "--sync"], 2),
             (&["ledger", "records", "a.d64"], 2),
             (&["ledger", "bytes"], 2),

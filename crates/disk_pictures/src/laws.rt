@@ -1,0 +1,27 @@
+//! Laws of maps and pages, each the contract of a function that does nothing.
+ghost use Rattle.std.specs.Prelude.{◌≡◌, [], ℕ, List, Option};
+ghost use Rattle.d64_image.specs.Images.{Image, Sector};
+ghost use Rattle.d64_image.specs.declared.place.Place.{Place};
+ghost use Rattle.disk_layout.specs.Layout.{Layout};
+ghost use Rattle.disk_layout.specs.declared.faults.Fault.{Fault};
+ghost use Rattle.disk_pictures.specs.Drawings.{IsDrawn, IsDrawnOnce, owner_of};
+ghost use Rattle.disk_pictures.specs.Html.{html_of};
+ghost use Rattle.disk_pictures.specs.Markup.{IsEscaped, markup_of};
+ghost use Rattle.disk_pictures.specs.Pictures.{page_text, picture_page};
+
+/// Bytes of a disk have no quotation mark, no `<` and no `>` where they are shown in a page, and each `&` of theirs
+/// begins an escape. So the markup of the page of an image, whatever its bytes are, is that of the page in which none
+/// of them is shown: names, id and version of a disk bring in nothing but text.
+pub fn names_bring_no_markup()
+    ensures none { (bytes : List ℕ) → markup_of (html_of bytes) ≡ [] }
+    ensures escaped { (bytes : List ℕ) → IsEscaped (html_of bytes) }
+    ensures page { (v : Option Fault) (map : Sector) (l : Layout)
+        → markup_of (picture_page v map l) ≡ markup_of (page_text (λ _. []) v map l) }
+{}
+
+/// Of what is drawn of an image each sector of the disk has the one owner that it is drawn as, which has it; and neither
+/// the directory nor an entry's blocks nor its side sectors have a sector twice. A sector that is drawn as of nobody is
+/// in none of these.
+pub fn sectors_are_drawn_once()
+    ensures { (img : Image) (l : Layout) → IsDrawn img l → (p : Place) → IsDrawnOnce l p (owner_of l p) }
+{}
