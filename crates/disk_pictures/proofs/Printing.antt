@@ -5,7 +5,7 @@ use Rattle.std.specs.Io.KnownBytes.{Appends}
 use Rattle.std.specs.Char.{encode_utf8}
 use Rattle.std.proofs.lemmas.Bool.{lt-ltb}
 use Rattle.std.proofs.KnownBytes.{Appends-nil, Appends-trans}
-use Rattle.std.proofs.lemmas.List.{append-nil, length-map, length-take-le, map_more}
+use Rattle.std.proofs.lemmas.List.{append-nil, length-map, length-take-le, map_more, take_more}
 use Rattle.disk_pictures.specs.Texts.{each_below, numbered}
 
 -- one line more
@@ -40,6 +40,18 @@ item-more view line a b c xs i x inside here before more =
     ∙ sym (numbered-push line 0 (map view (take i xs)) (view x)) ∙ ap (numbered line 0) (sym taken))
     (Appends-trans a b c _ _ before more)
 
+-- the same of items that are taken as they are
+pub plain-more : {X : Type 0} (line : ℕ → X → List ℕ) (a b c : Option (List ℕ)) (xs : List X) (i : ℕ) (x : X)
+    → i < length xs → get_or xs i x ≡ x → Appends a b (numbered line 0 (take i xs)) → Appends b c (line i x)
+    → Appends a c (numbered line 0 (take (i + 1) xs))
+plain-more line a b c xs i x inside here before more =
+    let taken = take_more xs i x inside ∙ ap (λ y. take i xs ++ y ∷ []) here in
+    let long : length (take i xs) ≡ i = length-take-le i xs (omega (arith, inside)) in
+    let here' : i ≡ 0 + length (take i xs) = omega (arith, long) in
+    subst (Appends a c)
+    (ap (λ (m : ℕ). numbered line 0 (take i xs) ++ line m x) here' ∙ sym (numbered-push line 0 (take i xs) x) ∙ ap (numbered line 0) (sym taken))
+    (Appends-trans a b c _ _ before more)
+
 -- nothing was printed so far
 pub none-below : (a : Option (List ℕ)) (line : ℕ → List ℕ) → Appends a a (each_below 0 line)
 unfolding each_below
@@ -62,3 +74,12 @@ ascii c small = rw (lt-ltb c 128 small) refl
 pub at-ok : {T E P : Type 0} (r : Result T E) → P → OnOk r P
 at-ok (Ok x) p = p
 at-ok (Err e) p = tt
+
+-- four texts, one after another
+pub four : (a b c d e : Option (List ℕ)) (x y z u : List ℕ) → Appends a b x → Appends b c y → Appends c d z → Appends d e u
+    → Appends a e (x ++ (y ++ (z ++ u)))
+four a b c d e x y z u first second third last = Appends-trans a b e x (y ++ (z ++ u)) first (three b c d e y z u second third last)
+
+-- the lines of all
+pub all-below : (a b : Option (List ℕ)) (n m : ℕ) (line : ℕ → List ℕ) → n ≡ m → Appends a b (each_below n line) → Appends a b (each_below m line)
+all-below a b n m line all lines = subst (λ (k : ℕ). Appends a b (each_below k line)) all lines

@@ -1,6 +1,9 @@
 pub mod Drawings
 pub mod Faults
+pub mod Html
 pub mod Maps
+pub mod Markup
 pub mod Names
 pub mod Outcomes
+pub mod Pictures
 pub mod Texts

@@ -1,17 +1,24 @@
 //! Pictures of a disk: which sector is whose, as a map for a terminal and as a page with a drawing. Hurt disks too.
 #![tactic(auto)]
 
+mod arcs;
 mod drawing;
 mod faults;
 mod files;
+mod html;
+mod laws;
 mod loading;
 mod map_printing;
 mod names;
 mod output;
 mod owners;
+mod page;
+mod picture_printing;
 mod reading;
 mod texts;
 mod verdicts;
 
 pub use faults::PictureFault;
+pub use laws::names_bring_no_markup;
 pub use map_printing::map_image;
+pub use picture_printing::picture_image;

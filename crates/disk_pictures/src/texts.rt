@@ -10,7 +10,7 @@ use disk_layout::{EntryView, Fault};
 use std::fmt::{self, Display, Formatter};
 
 /// Where a fault is.
-fn fault_place(fault: Fault) -> Place
+pub(crate) fn fault_place(fault: Fault) -> Place
     ensures { result ≡ place_of fault }
 {
     match fault {

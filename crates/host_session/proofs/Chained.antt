@@ -42,7 +42,8 @@ module _ {D : Type 0} (h : History D) where
 
   -- the next message is asked for over the disk on which a chain ended, whatever turns come after
   pub asked_more : (s : Shop) (ms : List Message) (xs ys : List (Reply × D)) (old mid : D) (t : Shop) (m : Message)
-      → IsChain h s ms xs old t mid → asked_over h old (xs ++ ys) (ms ++ m ∷ []) ≡ asked_over h old xs ms ++ (m, h.image mid) ∷ []
+      → IsChain h s ms xs old t mid
+      → asked_over h old (xs ++ ys) (ms ++ m ∷ []) ≡ asked_over h old xs ms ++ (m, h.image mid) ∷ []
   asked_more s [] [] ys old mid t m c = ap (λ d. (m, h.image d) ∷ []) (sym c.1)
   asked_more s (n ∷ ms) (x ∷ xs) ys old mid t m c =
       let rest = asked_more (with_state s (after_all (start_of s) s.state c.0.counted)) ms xs ys x.1 mid t m c.1 in
@@ -167,8 +168,8 @@ module _ {D : Type 0} (h : History D) where
   }
 
   -- it began on the same disk
-  pub run_more-first : (s : Shop) (ms : List Message) (xs : List (Reply × D)) (old mid new : D) (m : Message) (reply : Reply)
-      → (r : HasRun h s ms xs old mid) (e : IsEvent h r.now m mid new (GoesOn h r.now m reply new))
+  pub run_more-first : (s : Shop) (ms : List Message) (xs : List (Reply × D)) (old mid new : D) (m : Message)
+      (reply : Reply) → (r : HasRun h s ms xs old mid) (e : IsEvent h r.now m mid new (GoesOn h r.now m reply new))
       → (run_more s ms xs old mid new m reply r e).first ≡ r.first
   unfolding run_more
   run_more-first s ms xs old mid new m reply r e = refl

@@ -6,12 +6,14 @@ use Rattle.d64_image.proofs.Moments.{never_failed}
 use Rattle.d64_image.specs.History.{HeldOnly, History, NeverFailed}
 use Rattle.d64_image.specs.Images.{Image}
 use Rattle.request_cards.specs.declared.reply.Reply.{Reply}
-use Rattle.host_session.proofs.Chained.{asked_more, at_device, run_failed, run_more, run_more-first, run_none, run_rests, whole}
+use Rattle.host_session.proofs.Chained.{asked_more, at_device, run_failed, run_more, run_more-first}
+use Rattle.host_session.proofs.Chained.{run_none, run_rests, whole}
 use Rattle.host_session.proofs.Shops.{IsShop-one}
 use Rattle.host_session.specs.Asking.{IsNext, Source, TakesNone, TakesOne, messages_in}
 use Rattle.host_session.specs.Chains.{asked_over, over_images}
 use Rattle.host_session.specs.Events.{Message, cut_at, uncut}
-use Rattle.host_session.specs.Loops.{Ends, EndsBy, HasCome, HasComeBut, IsRun, IsRunToDevice, IsRunToOutput, IsRunWhole, IsToldToDevice, IsToldToOutput, IsToldWhole, Origin}
+use Rattle.host_session.specs.Loops.{Ends, EndsBy, HasCome, HasComeBut, IsRun, Origin}
+use Rattle.host_session.specs.Loops.{IsRunToDevice, IsRunToOutput, IsRunWhole, IsToldToDevice, IsToldToOutput, IsToldWhole}
 use Rattle.host_session.specs.OneEvent.{EndsFailed, GoesOn, IsEvent}
 use Rattle.host_session.specs.Opening.{IsAShop}
 use Rattle.host_session.specs.Runs.{HeldBeginnings, IsRefused}
@@ -44,8 +46,8 @@ pub cut_is : {X : Type 0} (f : X → ℕ) (r : Option X) (x : X) (o : Option ℕ
 cut_is f r x o is same = sym (ap (option_map f) is) ∙ same
 
 -- what asking came to, by what was answered and the disk that was lent
-pub was_asked : {D A : Type 0} (h : History D) (a : Source A) (old new : A) (lent disk : D) (r answered : Next) → lent ≡ disk
-    → r ≡ answered → IsNext a old new (h.image lent) r → IsNext a old new (h.image disk) answered
+pub was_asked : {D A : Type 0} (h : History D) (a : Source A) (old new : A) (lent disk : D) (r answered : Next)
+    → lent ≡ disk → r ≡ answered → IsNext a old new (h.image lent) r → IsNext a old new (h.image disk) answered
 was_asked h a old new lent disk r answered is told asked =
     subst (λ n. IsNext a old new (h.image disk) n) told (subst (λ d. IsNext a old new (h.image d) r) is asked)
 
@@ -72,7 +74,10 @@ module _ {D A T : Type 0} (h : History D) (a : Source A) (o : Output T) (from : 
   has_none first held later rests = record {
     taken = [];
     is = a.none from.asks;
-    whole = (record { turns = []; run = run_none h from.shop from.disk first held later rests; told = o.none from.out }, refl);
+    whole = (
+      record { turns = []; run = run_none h from.shop from.disk first held later rests; told = o.none from.out },
+      refl,
+    );
     room = omega arith;
   }
 
@@ -92,11 +97,13 @@ module _ {D A T : Type 0} (h : History D) (a : Source A) (o : Output T) (from : 
     abbrev TakenNow : HasComeBut h a o from mid asks out → List (Message × Image)
     TakenNow w = w.taken ++ (a.here asks, h.image mid) ∷ []
 
-    messages_now : (w : HasComeBut h a o from mid asks out) → messages_in (TakenNow w) ≡ messages_in w.taken ++ a.here asks ∷ []
+    messages_now : (w : HasComeBut h a o from mid asks out)
+        → messages_in (TakenNow w) ≡ messages_in w.taken ++ a.here asks ∷ []
     messages_now w = map-append (λ x. x.0) w.taken ((a.here asks, h.image mid) ∷ [])
 
     -- it was asked for over the disk that the ones before it left
-    over_now : (w : HasComeBut h a o from mid asks out) (ys : List (Reply × D)) (first : D) → first ≡ w.whole.0.run.first
+    over_now : (w : HasComeBut h a o from mid asks out) (ys : List (Reply × D)) (first : D)
+        → first ≡ w.whole.0.run.first
         → TakenNow w ≡ asked_over h first (w.whole.0.turns ++ ys) (messages_in w.taken ++ a.here asks ∷ [])
     over_now w ys first same =
         let r = w.whole.0.run in
@@ -121,7 +128,8 @@ module _ {D A T : Type 0} (h : History D) (a : Source A) (o : Output T) (from : 
             told = subst (λ xs. o.told from.out told xs) (sym (over_more h x.turns reply new))
                 (tells.0 from.out (over_images h x.turns) x.told);
           },
-          over_now w last _ (run_more-first h from.shop (messages_in w.taken) x.turns from.disk mid new (a.here asks) reply x.run e.1),
+          over_now w last _
+              (run_more-first h from.shop (messages_in w.taken) x.turns from.disk mid new (a.here asks) reply x.run e.1),
           omega (arith, w.room, tells.1, length-append (messages_in w.taken) (a.here asks ∷ [])),
         ) in
         (e.0, record { taken = TakenNow w; is = w.is; whole = (y.0, y.1); room = y.2 })
@@ -134,7 +142,8 @@ module _ {D A T : Type 0} (h : History D) (a : Source A) (o : Output T) (from : 
         let x = w.whole.0 in
         let e = event x.run.now (run_rests h from.shop (messages_in w.taken) x.turns from.disk mid x.run) in
         let run = run_more h from.shop (messages_in w.taken) x.turns from.disk mid new (a.here asks) reply x.run e.1 in
-        let same = run_more-first h from.shop (messages_in w.taken) x.turns from.disk mid new (a.here asks) reply x.run e.1 in
+        let same =
+        run_more-first h from.shop (messages_in w.taken) x.turns from.disk mid new (a.here asks) reply x.run e.1 in
         let Told : List Message → Type 0 = λ ms. (y : IsToldToOutput h o from.shop ms from.disk new from.out told)
         × (TakenNow w ≡ asked_over h y.run.first y.turns ms) in (
           TakenNow w,
@@ -147,7 +156,8 @@ module _ {D A T : Type 0} (h : History D) (a : Source A) (o : Output T) (from : 
               run = run;
               told = breaks.0 from.out (over_images h x.turns) x.told;
             },
-            over_now w [] _ same ∙ ap (λ turns. asked_over h run.first turns (messages_in w.taken ++ a.here asks ∷ [])) (append-nil x.turns),
+            over_now w [] _ same
+            ∙ ap (λ turns. asked_over h run.first turns (messages_in w.taken ++ a.here asks ∷ [])) (append-nil x.turns),
           ),
         )
 
@@ -175,7 +185,8 @@ module _ {D A T : Type 0} (h : History D) (a : Source A) (o : Output T) (from : 
               };
               told = pick result tells;
             },
-            over_now w [] x.run.first refl ∙ ap (λ turns. asked_over h x.run.first turns (messages_in w.taken ++ a.here asks ∷ [])) (append-nil x.turns),
+            over_now w [] x.run.first refl
+            ∙ ap (λ turns. asked_over h x.run.first turns (messages_in w.taken ++ a.here asks ∷ [])) (append-nil x.turns),
           ),
         )
       where

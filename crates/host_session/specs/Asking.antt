@@ -20,8 +20,8 @@ messages_in taken = map (λ x. x.0) taken
 
 -- What a source says of the messages that it gives.
 pub record Source (A : Type 0) : Type 1 where
-  -- from the first to the second these messages were taken, each while the disk held this image, in this order, and nothing
-  -- else
+  -- from the first to the second these messages were taken, each while the disk held this image, in this order, and
+  -- nothing else
   pub gives : A → A → List (Message × Image) → Type 0
   -- the message that was taken last
   pub here : A → Message
@@ -73,7 +73,8 @@ message_here (Some e) = message_of e
 abbrev pub of_events : Source OfEvents
 of_events = record {
   gives = λ first now xs. (now.events.now ≡ first.events.now)
-      × (map message_of (drop first.taken first.events.now) ≡ messages_in xs ++ map message_of (drop now.taken first.events.now));
+      × (map message_of (drop first.taken first.events.now)
+          ≡ messages_in xs ++ map message_of (drop now.taken first.events.now));
   here = λ now. message_here (last_taken now.taken now.events.now);
   is_over = λ now. length now.events.now ≤ now.taken;
   has_failed = λ _. ⊥;

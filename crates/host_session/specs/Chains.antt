@@ -42,8 +42,8 @@ pub record HasRunToFailure {D : Type 0} (h : History D) (s : Shop) (ms : List Me
   pub run : HasRun h s before turns old at
   pub failed : IsEvent h run.now message at new (EndsFailed h run.now message last new)
 
--- Behind these messages, on the disk that stands beside the reply to the last of them, a run was at rest; and from there on
--- only images of beginnings of those behind were held, from its shop then on.
+-- Behind these messages, on the disk that stands beside the reply to the last of them, a run was at rest; and from
+-- there on only images of beginnings of those behind were held, from its shop then on.
 pub record GrowsFrom {D : Type 0} (h : History D) (s : Shop) (ms ns : List Message) (turns : List (Reply × D))
     (old new : D) : Type 0 where
   pub at : D
@@ -55,8 +55,8 @@ pub record GrowsFrom {D : Type 0} (h : History D) (s : Shop) (ms ns : List Messa
 abbrev pub told_in : {X : Type 0} → List (Reply × X) → List Reply
 told_in turns = map (λ x. x.0) turns
 
--- Each message with what the disk held when it was asked for: the first over the disk as it was opened, each other over the
--- disk that stands beside the reply to the one before it.
+-- Each message with what the disk held when it was asked for: the first over the disk as it was opened, each other over
+-- the disk that stands beside the reply to the one before it.
 abbrev pub asked_over : {D : Type 0} → History D → D → List (Reply × D) → List Message → List (Message × Image)
 asked_over h first turns ms = zip ms (h.image first ∷ map (λ x. h.image x.1) turns)
 

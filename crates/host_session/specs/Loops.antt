@@ -24,8 +24,8 @@ pub record IsToldWhole {D T : Type 0} (h : History D) (o : Output T) (s : Shop) 
   pub run : HasRun h s ms turns disk left
   pub told : o.told old new (over_images h turns)
 
--- The same of all replies but the last, which was broken off, and nothing else was told. An output that has room for all
--- of them takes them.
+-- The same of all replies but the last, which was broken off, and nothing else was told. An output that has room for
+-- all of them takes them.
 pub record IsToldToOutput {D T : Type 0} (h : History D) (o : Output T) (s : Shop) (ms : List Message) (disk left : D)
     (old new : T) : Type 0 where
   pub turns : List (Reply × D)
@@ -34,8 +34,8 @@ pub record IsToldToOutput {D T : Type 0} (h : History D) (o : Output T) (s : Sho
   pub told : o.broken_off old new (over_images h turns) last.0
   pub full : o.room old < length ms
 
--- These messages were run, in the last of which the device failed. Its reply was told over what the device then held, or
--- broken off; the replies before it were told as ever, and nothing else was.
+-- These messages were run, in the last of which the device failed. Its reply was told over what the device then held,
+-- or broken off; the replies before it were told as ever, and nothing else was.
 pub record IsToldToDevice {D T : Type 0} (h : History D) (o : Output T) (s : Shop) (ms : List Message) (disk left : D)
     (old new : T) : Type 0 where
   pub turns : List (Reply × D)
@@ -44,17 +44,19 @@ pub record IsToldToDevice {D T : Type 0} (h : History D) (o : Output T) (s : Sho
   pub told : o.told old new (over_images h turns ++ (last, h.image left) ∷ [])
       ⊎ (o.broken_off old new (over_images h turns) last × (o.room old < length ms))
 
--- The same of messages that were taken so: the first while the disk was as it was opened, each other while it was as it stands
--- beside the reply that was told before.
+-- The same of messages that were taken so: the first while the disk was as it was opened, each other while it was as it
+-- stands beside the reply that was told before.
 abbrev pub IsRunWhole : {D T : Type 0} → History D → Output T → Shop → List (Message × Image) → D → D → T → T → Type 0
 IsRunWhole h o s taken disk left old new = (x : IsToldWhole h o s (messages_in taken) disk left old new)
     × (taken ≡ asked_over h x.run.first x.turns (messages_in taken))
 
-abbrev pub IsRunToOutput : {D T : Type 0} → History D → Output T → Shop → List (Message × Image) → D → D → T → T → Type 0
+abbrev pub IsRunToOutput : {D T : Type 0} → History D → Output T → Shop → List (Message × Image) → D → D → T → T
+    → Type 0
 IsRunToOutput h o s taken disk left old new = (x : IsToldToOutput h o s (messages_in taken) disk left old new)
     × (taken ≡ asked_over h x.run.first x.turns (messages_in taken))
 
-abbrev pub IsRunToDevice : {D T : Type 0} → History D → Output T → Shop → List (Message × Image) → D → D → T → T → Type 0
+abbrev pub IsRunToDevice : {D T : Type 0} → History D → Output T → Shop → List (Message × Image) → D → D → T → T
+    → Type 0
 IsRunToDevice h o s taken disk left old new = (x : IsToldToDevice h o s (messages_in taken) disk left old new)
     × (taken ≡ asked_over h x.run.run.first x.turns (messages_in taken))
 
@@ -116,7 +118,8 @@ pub record IsRun {D A T : Type 0} (h : History D) (a : Source A) (o : Output T) 
   pub takes : a.gives asked asks taken
   -- A shop alone is run, and up to the end of the source.
   pub shop : IfOk result (λ _. IsAShop (h.image disk) × a.is_over asks)
-  -- Each event was taken when the one before it was done and told, and run, and its reply told over the disk that it left.
+  -- Each event was taken when the one before it was done and told, and run, and its reply told over the disk that it
+  -- left.
   pub ok : (s : Shop) → IsShop (h.image disk) s → IfOk result (λ d. IsRunWhole h o s taken disk d old new)
   -- The input failed: the same of the events that it gave.
   pub input : (s : Shop) → IsShop (h.image disk) s → IfErr result (λ e. e.0 ≡ faults.Input
@@ -128,7 +131,8 @@ pub record IsRun {D A T : Type 0} (h : History D) (a : Source A) (o : Output T) 
   pub device : (s : Shop) → IsShop (h.image disk) s → IfErr result (λ e. e.0 ≡ faults.Device
       → IsRunToDevice h o s taken disk e.1 old new)
   -- At each moment the shop is that of a counted list of some beginning of the events.
-  pub moments : (s : Shop) → IsShop (h.image disk) s → HeldBeginnings h s (messages_in taken) disk (disk_of (λ d. d) result)
+  pub moments : (s : Shop) → IsShop (h.image disk) s
+      → HeldBeginnings h s (messages_in taken) disk (disk_of (λ d. d) result)
   -- On a shop whose device doesn't fail it answers Ok, unless the input or the output fails.
   pub plays : IsAShop (h.image disk) → NeverFailed h disk (disk_of (λ d. d) result)
       → IfErr result (λ e. (e.0 ≡ faults.Input) ⊎ (e.0 ≡ faults.Output))

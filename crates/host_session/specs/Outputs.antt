@@ -27,8 +27,8 @@ line_of reply = reply_text reply ++ codes "\n"
 abbrev pub AppendsPart : Option (List ℕ) → Option (List ℕ) → List ℕ → Type 0
 AppendsPart old new bytes = (n : ℕ) × Appends old new (take n bytes)
 
--- Replies were printed, each on a line of its own. A last one that was broken off is there up to some byte. What a writer holds
--- back no contract of it says.
+-- Replies were printed, each on a line of its own. A last one that was broken off is there up to some byte. What a
+-- writer holds back no contract of it says.
 abbrev pub printed : {W : Type 0} → (W → Option (List ℕ)) → Output (Printer W)
 printed contents = record {
   told = λ old new turns. Appends (contents (printer_out old)) (contents (printer_out new)) (report (told_in turns));

@@ -32,17 +32,17 @@ pub fn last_two()
         → KeepsLastTwo (start_of s) asks till }
 {}
 
-/// Whatever messages to a shop and replies are lost, repeated or reordered, and wherever power fails: each till has heard
-/// its new requests with their answers, in order and each once, at most one more of its requests is new, and it was never
-/// told that it went astray.
+/// Whatever messages to a shop and replies are lost, repeated or reordered, and wherever power fails: each till has
+/// heard its new requests with their answers, in order and each once, at most one more of its requests is new, and it
+/// was never told that it went astray.
 pub fn both_ends()
     ensures { (s : Shop) (steps : List Step) (till : ℕ)
         → HoldsAtBothEnds (start_of s) (after_steps (start_of s) steps) till }
 {}
 
 /// Beginnings only grow in a run: behind any of its events the disk is at rest, and from then on it holds no image of a
-/// beginning before that one. So no write is taken back and made again, and no reply that was told is lost on the way. A run
-/// that a device ended is such a run up to its last event.
+/// beginning before that one. So no write is taken back and made again, and no reply that was told is lost on the way.
+/// A run that a device ended is such a run up to its last event.
 pub fn only_grows<D: Sectors>()
     ensures { (s : Shop) (ms ns : List Message) (xs ys : List (Reply × D)) (old new : D) → length ms ≡ length xs
         → HasRun D.history s (ms ++ ns) (xs ++ ys) old new → GrowsFrom D.history s ms ns xs old new }

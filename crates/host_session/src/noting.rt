@@ -7,8 +7,8 @@ use d64_image::MemDisk;
 use script_lines::Cut;
 use std::alloc::Global;
 
-/// A source of events that keeps, of each, a copy of what the disk held when it was asked for. Where there is no memory for a
-/// copy the input fails, and no event is taken.
+/// A source of events that keeps, of each, a copy of what the disk held when it was asked for. Where there is no memory
+/// for a copy the input fails, and no event is taken.
 #[derive(Drop)]
 pub struct Noted<A> {
     asks: A,

@@ -30,8 +30,8 @@ impl<W> Printer<W> {
     }
 }
 
-/// Writes all of these bytes: at once, as a writer takes them, and the rest of them where it took a part. At an error, which
-/// comes where the writer failed or took none, a beginning of them was written.
+/// Writes all of these bytes: at once, as a writer takes them, and the rest of them where it took a part. At an error,
+/// which comes where the writer failed or took none, a beginning of them was written.
 #[inline(always)]
 pub fn write_whole<W: Write>(out: &mut W, bytes: &[u8]) -> Result<(), NotTaken>
     ensures ok { OnOk result (Appends (W.contents out.old) (W.contents out.new) bytes.now) }

@@ -1,19 +1,26 @@
-//! What a keeper of disks does with an image: its records as lines, the bytes of a file, its repair, new files.
+//! What a keeper of disks does with an image: its records as lines and back, the bytes of a file, its repair, new
+//! files.
 #![tactic(auto)]
 
 mod byte_printing;
 mod chains;
 mod faults;
+mod judging;
+mod laws;
 mod loading;
 mod making;
 mod mending;
 mod naming;
 mod output;
 mod record_printing;
+mod record_storing;
+mod storing;
 
 pub use byte_printing::bytes_image;
 pub use faults::KeepFault;
+pub use laws::stored_records_are_so;
 pub use loading::load;
 pub use making::{is_new_name, make_image};
 pub use mending::repair_image;
 pub use record_printing::records_image;
+pub use record_storing::store_image;

@@ -20,4 +20,6 @@ mod record_rows;
 #[cfg(test)]
 mod repair_rows;
 #[cfg(test)]
+mod storing_rows;
+#[cfg(test)]
 mod text_rows;

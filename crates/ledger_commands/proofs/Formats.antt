@@ -13,28 +13,31 @@ on_ok (Ok _) P holds = holds
 on_ok (Err _) P holds = tt
 
 -- there was no memory for the disk
-pub no_memory : {F : Type 0} (into : F → Option (List ℕ)) (tills : ℕ) (file : F) (result : Result Unit RunFault) (fault : RunFault)
-    → result ≡ Err fault → fault ≡ run.NoMemory → IsWritten into tills file file result
+pub no_memory : {F : Type 0} (into : F → Option (List ℕ)) (tills : ℕ) (file : F) (result : Result Unit RunFault)
+    (fault : RunFault) → result ≡ Err fault → fault ≡ run.NoMemory → IsWritten into tills file file result
 no_memory into tills file result fault told is =
-    subst (IsWritten into tills file file) (sym told) (subst (λ f. IsWritten into tills file file (Err f)) (sym is) refl)
+    subst (IsWritten into tills file file) (sym told)
+    (subst (λ f. IsWritten into tills file file (Err f)) (sym is) refl)
 
 -- the bytes of a disk were handed over, or a part of them
-pub written : {F : Type 0} (into : F → Option (List ℕ)) (tills : ℕ) (file new_file : F) (bytes : List ℕ) → AreFreshBytes tills bytes
-    → (result : Result Unit RunFault) → OnOk result (Appends (into file) (into new_file) bytes)
+pub written : {F : Type 0} (into : F → Option (List ℕ)) (tills : ℕ) (file new_file : F) (bytes : List ℕ)
+    → AreFreshBytes tills bytes → (result : Result Unit RunFault) → OnOk result (Appends (into file) (into new_file) bytes)
     → IfErr result (λ fault. (fault ≡ run.File) × AppendsPart (into file) (into new_file) bytes)
     → IsWritten into tills file new_file result
 written into tills file new_file bytes fresh (Ok _) all part = record { bytes = bytes; fresh = fresh; appended = all }
 written into tills file new_file bytes fresh (Err fault) all part =
-    subst (λ f. IsWritten into tills file new_file (Err f)) (sym part.0) (record { bytes = bytes; fresh = fresh; appended = part.1 })
+    subst (λ f. IsWritten into tills file new_file (Err f)) (sym part.0)
+    (record { bytes = bytes; fresh = fresh; appended = part.1 })
 
 -- the image wasn't written whole, and nothing was said
-pub not_written : {F W : Type 0} (into : F → Option (List ℕ)) (contents : W → Option (List ℕ)) (tills : ℕ) (file new_file : F) (out : W)
-    (result : Result Unit RunFault) (fault : RunFault) → result ≡ Err fault → IsWritten into tills file new_file (Err fault)
-    → IsFormatted into contents tills file new_file out out result
+pub not_written : {F W : Type 0} (into : F → Option (List ℕ)) (contents : W → Option (List ℕ)) (tills : ℕ)
+    (file new_file : F) (out : W) (result : Result Unit RunFault) (fault : RunFault) → result ≡ Err fault
+    → IsWritten into tills file new_file (Err fault) → IsFormatted into contents tills file new_file out out result
 not_written {F} {W} into contents tills file new_file out result fault told is =
     subst (IsFormatted into contents tills file new_file out out) (sym told) (so fault is)
   where
-    so : (f : RunFault) → IsWritten into tills file new_file (Err f) → IsFormatted into contents tills file new_file out out (Err f)
+    so : (f : RunFault) → IsWritten into tills file new_file (Err f)
+        → IsFormatted into contents tills file new_file out out (Err f)
     so run.File part = inl (part, refl)
     so run.NoMemory same = (same, refl)
     so run.ImageSize never = absurd never
@@ -48,8 +51,8 @@ not_written {F} {W} into contents tills file new_file out result fault told is =
     so run.Device never = absurd never
 
 -- it was, and that was said, or a part of it
-pub formatted : {F W : Type 0} (into : F → Option (List ℕ)) (contents : W → Option (List ℕ)) (tills : ℕ) (file new_file : F) (old new : W)
-    → IsHandedOver into tills file new_file → (result : Result Unit RunFault)
+pub formatted : {F W : Type 0} (into : F → Option (List ℕ)) (contents : W → Option (List ℕ)) (tills : ℕ)
+    (file new_file : F) (old new : W) → IsHandedOver into tills file new_file → (result : Result Unit RunFault)
     → OnOk result (Appends (contents old) (contents new) (codes "FORMATTED\n"))
     → IfErr result (λ fault. (fault ≡ run.File) × AppendsPart (contents old) (contents new) (codes "FORMATTED\n"))
     → IsFormatted into contents tills file new_file old new result

@@ -45,28 +45,29 @@ pub record IsHandedPart {F : Type 0} (contents : F → Option (List ℕ)) (tills
   pub fresh : AreFreshBytes tills bytes
   pub appended : AppendsPart (contents old) (contents new) bytes
 
--- what writing such an image came to: it was handed over whole, or in part where the file failed, or there was no memory, and
--- nothing was done
+-- what writing such an image came to: it was handed over whole, or in part where the file failed, or there was no
+-- memory, and nothing was done
 abbrev pub IsWritten : {F : Type 0} → (F → Option (List ℕ)) → ℕ → F → F → Result Unit RunFault → Type 0
 IsWritten contents tills old new (Ok _) = IsHandedOver contents tills old new
 IsWritten contents tills old new (Err run.File) = IsHandedPart contents tills old new
 IsWritten contents tills old new (Err run.NoMemory) = new ≡ old
 IsWritten contents tills old new (Err _) = ⊥
 
--- the file or the output failed: the file was handed a part of the image, and nothing was said; or all of it, and a part of
--- what is said then
+-- the file or the output failed: the file was handed a part of the image, and nothing was said; or all of it, and a
+-- part of what is said then
 abbrev pub IsFormattedPart : {F W : Type 0} → (F → Option (List ℕ)) → (W → Option (List ℕ)) → ℕ → F → F → W → W → Type 0
 IsFormattedPart into contents tills file new_file old new =
     (IsHandedPart into tills file new_file × (new ≡ old))
     ⊎ (IsHandedOver into tills file new_file × AppendsPart (contents old) (contents new) (codes "FORMATTED\n"))
 
--- what making such an image and saying so came to: the file was handed all of it, and that was said; or in part; or there was
--- no memory, and nothing was done
+-- what making such an image and saying so came to: the file was handed all of it, and that was said; or in part; or
+-- there was no memory, and nothing was done
 abbrev pub IsFormatted : {F W : Type 0} → (F → Option (List ℕ)) → (W → Option (List ℕ)) → ℕ → F → F → W → W
     → Result Unit RunFault → Type 0
 IsFormatted into contents tills file new_file old new (Ok _) =
     IsHandedOver into tills file new_file × Appends (contents old) (contents new) (codes "FORMATTED\n")
-IsFormatted into contents tills file new_file old new (Err run.File) = IsFormattedPart into contents tills file new_file old new
+IsFormatted into contents tills file new_file old new (Err run.File) =
+    IsFormattedPart into contents tills file new_file old new
 IsFormatted into contents tills file new_file old new (Err run.NoMemory) = (new_file ≡ file) × (new ≡ old)
 IsFormatted into contents tills file new_file old new (Err _) = ⊥
 
@@ -77,7 +78,8 @@ pub record HasDirectory (image : List ℕ) : Type 0 where
   pub entries : List Slot
   pub directory : IsDirectory (sectors_in image) sectors entries
 
--- the image was listed on an output that held `old` and holds `new`: it has a directory, and its listing was handed over
+-- the image was listed on an output that held `old` and holds `new`: it has a directory, and its listing was handed
+-- over
 pub record IsListed {W : Type 0} (contents : W → Option (List ℕ)) (image : List ℕ) (old new : W) : Type 0 where
   pub listed : HasDirectory image
   pub printed : Appends (contents old) (contents new) (listing (sector (sectors_in image) map_place) listed.entries)

@@ -14,8 +14,8 @@ use Rattle.ledger_commands.specs.Shops.{IsOpenRefusal}
 use Rattle.ledger_commands.specs.declared.faults.RunFault.{RunFault}
 use Rattle.ledger_commands.specs.declared.faults.RunFault.TheVariants as run
 
--- A play of a script ended so: the run of the script did, and at its end what was told was handed on; or each line was played
--- and told, but what was told wasn't handed on.
+-- A play of a script ended so: the run of the script did, and at its end what was told was handed on; or each line was
+-- played and told, but what was told wasn't handed on.
 abbrev pub IsPlayEnd : {D T : Type 0} → History D → Output T → D → List ℕ → T → T → Result D (RunFault × D) → Type 0
 IsPlayEnd h o disk script old new (Ok left) = IsScriptRun h o disk script old new (Ok left) × o.is_handed_on new
 IsPlayEnd h o disk script old new (Err e) =
@@ -57,8 +57,8 @@ IsStopped {F} {T} K o image script file after old new =
 abbrev pub IsUntouched : {F T : Type 0} → F → F → T → T → Type 0
 IsUntouched file after old new = (after ≡ file) × (new ≡ old)
 
--- Why a script isn't played to its end: its size, memory, a bad line or that it is no shop's, and then nothing was done; the
--- output; or the file.
+-- Why a script isn't played to its end: its size, memory, a bad line or that it is no shop's, and then nothing was
+-- done; the output; or the file.
 abbrev pub IsFileFault : {F T : Type 0} → Keeps F → Output T → (image script : List ℕ) → F → F → T → T → RunFault → Type 0
 IsFileFault K o image script file after old new run.ImageSize = (length image ≢ 174848) × IsUntouched file after old new
 IsFileFault K o image script file after old new run.NoMemory = (length image ≡ 174848) × IsUntouched file after old new

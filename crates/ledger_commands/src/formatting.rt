@@ -33,8 +33,8 @@ fn fresh_disk(alloc: Global, tills: u8) -> Result<MemDisk, RunFault>
     }
 }
 
-/// Makes the disk of an empty shop with 1 to 64 tills, and hands all 174,848 bytes of its image to the file. An odd number of
-/// tills gives one more.
+/// Makes the disk of an empty shop with 1 to 64 tills, and hands all 174,848 bytes of its image to the file. An odd
+/// number of tills gives one more.
 fn write_image<F: Write>(alloc: Global, tills: u8, file: &mut F) -> Result<(), RunFault>
     requires some { 1 ≤ tills }
     requires few { tills ≤ 64 }
@@ -44,11 +44,11 @@ fn write_image<F: Write>(alloc: Global, tills: u8, file: &mut F) -> Result<(), R
     put_whole(file, disk.bytes())
 }
 
-/// Makes the disk of an empty shop with 1 to 64 tills (an odd number gives one more), hands all 174,848 bytes of its image to
-/// the file, and says so on `out` once the file has all of them.
+/// Makes the disk of an empty shop with 1 to 64 tills (an odd number gives one more), hands all 174,848 bytes of its
+/// image to the file, and says so on `out` once the file has all of them.
 ///
-/// `NoMemory` before anything is written; `File` where the file failed, which then has a beginning of the image and nothing
-/// is said, or `out`, which then has a beginning of what is said.
+/// `NoMemory` before anything is written; `File` where the file failed, which then has a beginning of the image and
+/// nothing is said, or `out`, which then has a beginning of what is said.
 pub fn format_image<F: Write, W: Write>(
     alloc: Global,
     tills: u8,

@@ -40,8 +40,8 @@ pub record IsFormatRun {F W : Type 0} (into : F → Option (List ℕ)) (contents
       → IsHandedOver into tills file new_file × Appends (contents old) (contents new) (codes "FORMATTED\n")
   -- nothing is said before
   pub first : (new ≡ old) ⊎ IsHandedOver into tills file new_file
-  -- 3: the file or the output failed, and then they have a beginning of what they were to be handed; or there was no memory,
-  -- and then nothing was touched
+  -- 3: the file or the output failed, and then they have a beginning of what they were to be handed; or there was no
+  -- memory, and then nothing was touched
   pub statuses : (exit_status ended ≡ 0) ⊎ (exit_status ended ≡ 3)
   pub fault : IfErr ended IsFormatFault
   pub part : IfErr ended (λ fault. fault ≡ refusals.File → IsFormattedPart into contents tills file new_file old new)
@@ -132,7 +132,8 @@ HoldsOfBytes readings.Check bytes fault = IsCheckFault bytes fault
 HoldsOfBytes readings.Show bytes fault = IsShowFault bytes fault
 HoldsOfBytes readings.Dry bytes fault = IsDryRefusal bytes fault
 
--- where nothing is told on standard error: at status 0, and where what is wrong with a disk's layout is what was asked for
+-- where nothing is told on standard error: at status 0, and where what is wrong with a disk's layout is what was asked
+-- for
 abbrev pub IsQuiet : Reading → (bytes : List ℕ) → Ended → Type 0
 IsQuiet readings.Check bytes ended = length bytes ≡ 174848 → exit_status ended ≢ 3 → IsOk ended
 IsQuiet _ bytes ended = IsOk ended ↔ (exit_status ended ≡ 0)
@@ -144,8 +145,8 @@ pub record IsReadingEnd {W : Type 0} (contents : W → Option (List ℕ)) (what 
   pub fault : IfErr ended (HoldsOfBytes what bytes)
   pub quiet : IsQuiet what bytes ended
 
--- what comes of what is asked of a file that has these bytes: they were read; or `File` or `NoMemory` was told, and nothing was
--- written
+-- what comes of what is asked of a file that has these bytes: they were read; or `File` or `NoMemory` was told, and
+-- nothing was written
 abbrev pub IsReadingOf : {W : Type 0} → (W → Option (List ℕ)) → Reading → (bytes : List ℕ) → W → W → Ended → Type 0
 IsReadingOf contents what bytes old new ended =
     IsReadingEnd contents what bytes old new ended

@@ -15,14 +15,6 @@ fn holds(rt: &(impl Abort + AllocGlobal), turn: &Turn, message: &[u8], reply: &[
     same_at(rt, (says(told, reply), recovery, writes), (true, 0, 0), row);
 }
 
-/// Whether the lines behind the first were asked for over the disks beside these replies.
-fn asked_over(asks: &Noted<OfScript<'_>>, turns: [&Turn; 3]) -> bool {
-    let [_, second, third, last] = asks.disks() else {
-        return false;
-    };
-    [second.as_slice(), third.as_slice(), last.as_slice()] == turns.map(|turn| turn.bytes.as_slice())
-}
-
 #[test]
 fn each_reply_is_told_over_its_own_disk(rt: HostRuntime) {
     let mut out = Heard::new(rt.alloc(), 9);
@@ -45,12 +37,23 @@ fn each_line_is_asked_for_over_what_the_last_one_left(rt: HostRuntime) {
     let mut asks = Noted::new(rt.alloc(), OfScript::new(DAY));
     let mut out = Heard::new(rt.alloc(), 9);
     let ran = run(fresh(&rt), &mut asks, &mut out).is_ok();
-    same_at(&rt, (ran, out.turns().len()), (true, 4), "told");
-    let ([before, ..], [first, cut, again, _]) = (asks.disks(), out.turns()) else {
+    let counts = (ran, asks.disks().len(), out.turns().len());
+    same_at(&rt, counts, (true, 4, 4), "told");
+    let [opened, second, third, last] = asks.disks() else {
         return;
     };
-    same_at(&rt, before.as_slice() == fresh(&rt).bytes(), true, "opened");
-    same_at(&rt, asked_over(&asks, [first, cut, again]), true, "left");
+    let [first, cut, again, _] = out.turns() else {
+        return;
+    };
+    same_at(&rt, opened.as_slice() == fresh(&rt).bytes(), true, "opened");
+    same_at(
+        &rt,
+        second.as_slice() == first.bytes.as_slice(),
+        true,
+        "second",
+    );
+    same_at(&rt, third.as_slice() == cut.bytes.as_slice(), true, "third");
+    same_at(&rt, last.as_slice() == again.bytes.as_slice(), true, "last");
 }
 
 // It takes one reply; the second line is handled, and nothing is handled behind it.

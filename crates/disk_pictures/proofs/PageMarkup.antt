@@ -1,0 +1,103 @@
+-- The markup of a page is the same, however bytes of the disk are shown, where what is shown has the same markup.
+use Rattle.std.proofs.Common.{◌≡◌, ◌+◌, ℕ, List, [], ◌∷◌, ◌++◌, Bool, true, false, length, refl, sym, ap₂, ◌∙◌}
+use Rattle.std.specs.Prelude.{Option, codes, decimal, if◌then◌else◌, slice_range}
+use Rattle.std.proofs.lemmas.List.Elements.{filter-append}
+use Rattle.d64_image.specs.Images.{Sector}
+use Rattle.d64_image.specs.declared.place.Place.{Place}
+use Rattle.disk_layout.specs.Layout.{File, Layout, count_field}
+use Rattle.disk_layout.specs.Texts.{place_text}
+use Rattle.disk_layout.specs.declared.faults.Fault.{Fault}
+use Rattle.disk_pictures.specs.Drawings.{owner_of}
+use Rattle.disk_pictures.specs.Markup.{is_markup, markup_of}
+use Rattle.disk_pictures.specs.Names.{disk_name, name_of}
+use Rattle.disk_pictures.specs.Pictures.{Show, block_arc, colour, drawing_text, file_group, group_head, is_blocks, is_sides, legend_text, link_text, own_block, own_side, page_text, ring_of, row_text, side_arc, style, title_text, told_text}
+use Rattle.disk_pictures.specs.Texts.{numbered}
+
+-- the two have the same markup
+pub record IsSameMarkup (a b : List ℕ) : Type 0 where
+  pub same : markup_of a ≡ markup_of b
+
+alike : (a : List ℕ) → IsSameMarkup a a
+alike a = record { same = refl }
+
+both : (a b x y : List ℕ) → IsSameMarkup a b → IsSameMarkup x y → IsSameMarkup (a ++ x) (b ++ y)
+both a b x y p q = record {
+  same = filter-append is_markup a x ∙ ap₂ (λ (s t : List ℕ). s ++ t) p.same q.same ∙ sym (filter-append is_markup b y);
+}
+
+behind : (a x y : List ℕ) → IsSameMarkup x y → IsSameMarkup (a ++ x) (a ++ y)
+behind a x y p = both a a x y (alike a) p
+
+before : (a b x : List ℕ) → IsSameMarkup a b → IsSameMarkup (a ++ x) (b ++ x)
+before a b x p = both a b x x p (alike x)
+
+where-so : (t : Bool) (a b : List ℕ) → IsSameMarkup a b → IsSameMarkup (if t then a else []) (if t then b else [])
+where-so true a b p = p
+where-so false a b p = alike []
+
+each : {X : Type 0} (f g : ℕ → X → List ℕ) → ((n : ℕ) (x : X) → IsSameMarkup (f n x) (g n x)) → (k : ℕ) (xs : List X)
+    → IsSameMarkup (numbered f k xs) (numbered g k xs)
+unfolding numbered
+each f g same k [] = alike []
+each f g same k (x ∷ xs) = both _ _ _ _ (same k x) (each f g same (k + 1) xs)
+
+module _ (f g : Show) (same : (bytes : List ℕ) → IsSameMarkup (f bytes) (g bytes)) where
+  on-block : (k : ℕ) (name : List ℕ) (o n : ℕ) (p : Place) → IsSameMarkup (block_arc f k name o n p) (block_arc g k name o n p)
+  unfolding block_arc
+  on-block k name o n p =
+      behind (ring_of p) _ _ (behind (codes " stroke=\"") _ _ (behind (colour k 0) _ _ (behind (codes "\"><title>") _ _ (behind (place_text p) _ _
+      (behind (codes " ") _ _ (before (f name) (g name) _ (same name)))))))
+
+  on-side : (k : ℕ) (name : List ℕ) (j : ℕ) (p : Place) → IsSameMarkup (side_arc f k name j p) (side_arc g k name j p)
+  unfolding side_arc
+  on-side k name j p =
+      behind (ring_of p) _ _ (behind (codes " stroke=\"") _ _ (behind (colour k 18) _ _ (behind (codes "\"><title>") _ _ (behind (place_text p) _ _
+      (behind (codes " ") _ _ (before (f name) (g name) _ (same name)))))))
+
+  on-file : (l : Layout) (k : ℕ) (d : File) → IsSameMarkup (file_group f l k d) (file_group g l k d)
+  unfolding file_group
+  on-file l k d =
+      let blocks = each (own_block f l k d) (own_block g l k d)
+          (λ n p. where-so (is_blocks k (owner_of l p)) _ _ (on-block k (name_of d.slot) (n + 1) (length d.blocks) p)) 0 d.blocks in
+      let sides = each (own_side f l k d) (own_side g l k d)
+          (λ n p. where-so (is_sides k (owner_of l p)) _ _ (on-side k (name_of d.slot) n p)) 0 d.sides in
+      behind (group_head k) _ _ (both _ _ _ _ blocks (before _ _ (codes "</g>\n") sides))
+
+  on-drawing : (v : Option Fault) (map : Sector) (l : Layout) → IsSameMarkup (drawing_text f v map l) (drawing_text g v map l)
+  unfolding drawing_text
+  on-drawing v map l = behind _ _ _ (before _ _ _ (each (file_group f l) (file_group g l) (on-file l) 0 l.files))
+
+  on-title : (map : Sector) → IsSameMarkup (title_text f map) (title_text g map)
+  unfolding title_text
+  on-title map =
+      let name = disk_name map in
+      behind (codes "<!DOCTYPE html>\n<html lang=\"en\">\n<meta charset=\"utf-8\">\n<title>") _ _ (both (f name) (g name) _ _ (same name)
+      (behind (codes "</title>\n<style>") _ _ (behind style _ _ (behind (codes "</style>\n<h1>") _ _ (before (f name) (g name) _ (same name))))))
+
+  on-told : (v : Option Fault) (map : Sector) → IsSameMarkup (told_text f v map) (told_text g v map)
+  unfolding told_text
+  on-told v map =
+      let id = slice_range map 162 164 in
+      let version = slice_range map 165 167 in
+      both (f id) (g id) _ _ (same id) (behind (codes " ") _ _ (before (f version) (g version) _ (same version)))
+
+  on-legend : (map : Sector) → IsSameMarkup (legend_text f map) (legend_text g map)
+  unfolding legend_text
+  on-legend map = behind (codes "</g>\n<text y=\"400\">") _ _ (before (f (disk_name map)) (g (disk_name map)) _ (same (disk_name map)))
+
+  on-link : (k : ℕ) (name : List ℕ) → IsSameMarkup (link_text f k name) (link_text g k name)
+  unfolding link_text
+  on-link k name =
+      behind (codes "<a href=\"#f") _ _ (behind (decimal k) _ _ (behind (codes "\">") _ _ (before (f name) (g name) _ (same name))))
+
+  on-row : (k : ℕ) (d : File) → IsSameMarkup (row_text f k d) (row_text g k d)
+  unfolding row_text
+  on-row k d =
+      behind (codes "<tr><td><i style=\"background:") _ _ (behind (colour k 0) _ _ (behind (codes "\"></i></td><td>") _ _
+      (behind (decimal (count_field d.slot)) _ _ (behind (codes "</td><td class=\"n\">") _ _
+      (before (link_text f k (name_of d.slot)) (link_text g k (name_of d.slot)) _ (on-link k (name_of d.slot)))))))
+
+  pub on-page : (v : Option Fault) (map : Sector) (l : Layout) → IsSameMarkup (page_text f v map l) (page_text g v map l)
+  unfolding page_text
+  on-page v map l = both _ _ _ _ (on-title map) (both _ _ _ _ (on-told v map) (both _ _ _ _ (on-drawing v map l)
+      (both _ _ _ _ (on-legend map) (before _ _ _ (each (row_text f) (row_text g) on-row 0 l.files)))))

@@ -1,0 +1,11 @@
+-- The sectors so far were printed.
+use Rattle.disk_pictures.specs.Texts.{at_place, each_below}
+use Rattle.d64_image.specs.Places.{place_at}
+use Rattle.disk_pictures.specs.Drawings.{drawn_in}
+use Rattle.disk_pictures.specs.Pictures.{layer_arc}
+use Rattle.std.specs.Io.KnownBytes.{Appends}
+use Rattle.disk_pictures.proofs.picture_printing.put_layer_on.Given as goal
+
+abbrev pub invariant-loop-sector : goal.invariant-loop-sector
+invariant-loop-sector g l = Appends (g.W.Write.contents l.fn.out) (g.W.Write.contents l.out)
+    (each_below l.sector (λ s. at_place (layer_arc l.layer l.drawing.map (drawn_in l.drawing)) (place_at l.track s)))

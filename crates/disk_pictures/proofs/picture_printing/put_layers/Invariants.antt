@@ -1,0 +1,12 @@
+-- The tracks so far were printed.
+use Rattle.std.proofs.Common.{◌+◌}
+use Rattle.disk_pictures.specs.Texts.{at_place, each_below}
+use Rattle.d64_image.specs.Places.{place_at}
+use Rattle.disk_pictures.specs.Drawings.{drawn_in}
+use Rattle.disk_pictures.specs.Pictures.{layer_arc}
+use Rattle.std.specs.Io.KnownBytes.{Appends}
+use Rattle.disk_pictures.proofs.picture_printing.put_layers.Given as goal
+
+abbrev pub invariant-loop-below : goal.invariant-loop-below
+invariant-loop-below g l = Appends (g.W.Write.contents l.fn.out) (g.W.Write.contents l.out)
+    (each_below l.below (λ b. each_below 21 (λ s. at_place (layer_arc l.layer l.drawing.map (drawn_in l.drawing)) (place_at (b + 1) s))))

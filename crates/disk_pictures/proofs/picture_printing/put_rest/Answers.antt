@@ -1,0 +1,10 @@
+-- Two layers in a group.
+use Rattle.std.proofs.lemmas.Result.{on_ok_weaker}
+use Rattle.disk_pictures.proofs.Printing.{four}
+use Rattle.disk_pictures.specs.Pictures.{rest_group}
+use Rattle.disk_pictures.proofs.picture_printing.put_rest.Goals as goal
+
+pub returns-clause-ok : goal.returns-clause-ok
+unfolding rest_group
+returns-clause-ok g c = on_ok_weaker c.put-2.result
+    (λ end. four _ _ _ _ _ _ _ _ _ c.in_ok-put.ensures.ok c.in_ok-put_layers.ensures.ok c.in_ok-put_layers-2.ensures.ok end) c.put-2.ensures.ok

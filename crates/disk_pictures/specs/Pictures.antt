@@ -1,0 +1,204 @@
+-- The picture of a disk: an HTML page with an SVG drawing. All of it is our own. Bytes of the disk stand in it as `show`
+-- shows them, and in no other way; the page that is printed shows them by `html_of`.
+use Rattle.std.specs.Prelude.{ℕ, ◌+◌, ◌*◌, ◌-◌, ◌/◌, ◌%◌, Bool, true, false, List, [], ◌++◌, Option, Some, None, if◌then◌else◌, codes, decimal, flat_map, length, nat_eq, slice_range}
+use Rattle.d64_image.specs.Geometry.{sectors_on}
+use Rattle.d64_image.specs.Images.{Sector}
+use Rattle.d64_image.specs.Places.{place_at}
+use Rattle.d64_image.specs.declared.place.Place.{Place}
+use Rattle.disk_layout.specs.Directory.{map_place, type_byte}
+use Rattle.disk_layout.specs.Layout.{File, Layout, count_field, record_length}
+use Rattle.disk_layout.specs.Texts.{fault_text, place_text}
+use Rattle.disk_layout.specs.View.{blocks_free}
+use Rattle.disk_layout.specs.declared.faults.Fault.{Fault}
+use Rattle.disk_pictures.specs.Drawings.{owner_of}
+use Rattle.disk_pictures.specs.Html.{html_of}
+use Rattle.disk_pictures.specs.Names.{disk_name, name_of}
+use Rattle.disk_pictures.specs.Texts.{at_place, each_below, has_records, is_free, numbered, place_of, records_in, type_text, verdict_text}
+use Rattle.disk_pictures.specs.declared.drawing.Owner.{Owner}
+use Rattle.disk_pictures.specs.declared.drawing.Owner.TheVariants as owner
+use Rattle.disk_pictures.specs.declared.arcs.Layer.{Layer}
+use Rattle.disk_pictures.specs.declared.arcs.Layer.TheVariants as layer
+
+-- how bytes of the disk are shown
+abbrev pub Show : Type 0
+Show = List ℕ → List ℕ
+
+-- the colour of entry k, less bright by this: hues far from each other for neighbours, three brightnesses
+abbrev pub hue : ℕ → ℕ
+hue k = 30 + (170 + 137 * (k % 300)) % 300
+
+abbrev pub brightness : ℕ → ℕ
+brightness k = if nat_eq (k % 3) 0 then 38 else (if nat_eq (k % 3) 1 then 54 else 46)
+
+unfoldable pub colour : ℕ → ℕ → List ℕ
+colour k less = codes "hsl(" ++ (decimal (hue k) ++ (codes ",62%," ++ (decimal (brightness k - less) ++ codes "%)")))
+
+-- how long the arc of a sector is on a ring of this radius with n sectors: 355/113 is pi
+abbrev pub arc : ℕ → ℕ → ℕ
+arc r n = 710 * r / (113 * n)
+
+-- the radius of a track's ring: track 1 is outside
+abbrev pub radius : ℕ → ℕ
+radius t = 35400 - 800 * t
+
+-- the beginning of a sector's circle on a ring of this radius: its one dash is the sector
+unfoldable pub ring_text : ℕ → Place → List ℕ
+ring_text r p =
+    codes "<circle r=\"" ++ (decimal r ++ (codes "\" stroke-dasharray=\"" ++ (decimal (arc r (sectors_on p.track) - 200)
+    ++ (codes " 300000\" stroke-dashoffset=\"-" ++ (decimal (p.sector * arc r (sectors_on p.track)) ++ codes "\"")))))
+
+-- the same on the sector's own track
+abbrev pub ring_of : Place → List ℕ
+ring_of p = ring_text (radius p.track) p
+
+-- 18/0
+unfoldable pub map_arc : List ℕ
+map_arc = ring_of map_place ++ codes " class=\"map\"><title>18/0 map</title></circle>\n"
+
+-- a sector of the directory
+unfoldable pub directory_arc : Place → List ℕ
+directory_arc p = ring_of p ++ (codes " class=\"dir\"><title>" ++ (place_text p ++ codes " directory</title></circle>\n"))
+
+-- block number o, from 1, of the n blocks of entry k of this name
+unfoldable pub block_arc : Show → ℕ → List ℕ → ℕ → ℕ → Place → List ℕ
+block_arc show k name o n p =
+    ring_of p ++ (codes " stroke=\"" ++ (colour k 0 ++ (codes "\"><title>" ++ (place_text p ++ (codes " " ++ (show name
+    ++ (codes ", block " ++ (decimal o ++ (codes " of " ++ (decimal n ++ codes "</title></circle>\n"))))))))))
+
+-- side sector j of entry k
+unfoldable pub side_arc : Show → ℕ → List ℕ → ℕ → Place → List ℕ
+side_arc show k name j p =
+    ring_of p ++ (codes " stroke=\"" ++ (colour k 18 ++ (codes "\"><title>" ++ (place_text p ++ (codes " " ++ (show name
+    ++ (codes ", side sector " ++ (decimal j ++ codes "</title></circle>\n"))))))))
+
+-- a free sector, one that is taken in the map and of nobody, and a white line over one in use that the map calls free
+unfoldable pub free_arc : Place → List ℕ
+free_arc p = ring_of p ++ (codes " class=\"free\"><title>" ++ (place_text p ++ codes " free</title></circle>\n"))
+
+unfoldable pub lost_arc : Place → List ℕ
+lost_arc p = ring_of p ++ (codes " class=\"lost\"><title>" ++ (place_text p ++ codes " taken, of no file</title></circle>\n"))
+
+unfoldable pub open_arc : Place → List ℕ
+open_arc p = ring_of p ++ (codes " class=\"open\"><title>" ++ (place_text p ++ codes " in use, and free in the map</title></circle>\n"))
+
+-- whose it is
+abbrev pub is_blocks : ℕ → Owner → Bool
+is_blocks k (owner.Blocks j) = nat_eq j k
+is_blocks k o = false
+
+abbrev pub is_sides : ℕ → Owner → Bool
+is_sides k (owner.Sides j) = nat_eq j k
+is_sides k o = false
+
+abbrev pub is_nobody : Owner → Bool
+is_nobody owner.Nobody = true
+is_nobody o = false
+
+-- a sector of an entry is drawn with it where it is drawn as the entry's
+abbrev pub own_block : Show → Layout → ℕ → File → ℕ → Place → List ℕ
+own_block show l k f n p = if is_blocks k (owner_of l p) then block_arc show k (name_of f.slot) (n + 1) (length f.blocks) p else []
+
+abbrev pub own_side : Show → Layout → ℕ → File → ℕ → Place → List ℕ
+own_side show l k f n p = if is_sides k (owner_of l p) then side_arc show k (name_of f.slot) n p else []
+
+-- the beginning of the group of entry k
+abbrev pub group_head : ℕ → List ℕ
+group_head k = codes "<g id=\"f" ++ (decimal k ++ codes "\">\n")
+
+-- the group of entry k: its blocks in their order, then its side sectors
+unfoldable pub file_group : Show → Layout → ℕ → File → List ℕ
+file_group show l k f =
+    group_head k ++ (numbered (own_block show l k f) 0 f.blocks ++ (numbered (own_side show l k f) 0 f.sides ++ codes "</g>\n"))
+
+-- the group of the map and the directory
+unfoldable pub system_group : Layout → List ℕ
+system_group l = codes "<g id=\"m\">\n" ++ (map_arc ++ (flat_map directory_arc l.directory ++ codes "</g>\n"))
+
+-- what a layer has at a sector: all that is of nobody; or over what is of somebody, a line where the map calls it free
+abbrev pub layer_arc : Layer → Sector → Layout → Place → List ℕ
+layer_arc layer.Others map l p = if is_nobody (owner_of l p) then (if is_free map p then free_arc p else lost_arc p) else []
+layer_arc layer.Open map l p = if is_nobody (owner_of l p) then [] else (if is_free map p then open_arc p else [])
+
+-- the text of each sector, track by track
+unfoldable pub each_place : (Place → List ℕ) → List ℕ
+each_place line = each_below 35 (λ b. each_below 21 (λ s. at_place line (place_at (b + 1) s)))
+
+-- the group of all other sectors, and the white lines
+unfoldable pub rest_group : Sector → Layout → List ℕ
+rest_group map l =
+    codes "<g id=\"r\">\n" ++ (each_place (layer_arc layer.Others map l) ++ (each_place (layer_arc layer.Open map l) ++ codes "</g>\n"))
+
+-- the group of a fault: its sector in red, and a mark at the rim
+unfoldable pub fault_sector : Fault → List ℕ
+fault_sector f =
+    codes "<g id=\"f\">\n" ++ (ring_of (place_of f) ++ (codes " class=\"edge\"><title>" ++ (fault_text f
+    ++ (codes "</title></circle>\n" ++ (ring_of (place_of f) ++ (codes " class=\"fault\"><title>" ++ (fault_text f
+    ++ (codes "</title></circle>\n" ++ (ring_text 35700 (place_of f) ++ codes " class=\"fault\"/>\n</g>\n")))))))))
+
+-- where one was told
+abbrev pub fault_group : Option Fault → List ℕ
+fault_group None = []
+fault_group (Some f) = fault_sector f
+
+-- the page's style
+unfoldable pub style : List ℕ
+style = codes "body{margin:24px;background:#fbfaf7;color:#222;font:14px/1.4 ui-monospace,Menlo,Consolas,\"DejaVu Sans Mono\",monospace}h1{font-size:20px;margin:0}p{margin:4px 0 16px}main{display:flex;flex-wrap:wrap;gap:32px;align-items:flex-start}svg{width:720px;max-width:100%;height:auto}main>div{max-width:440px}circle{fill:none;stroke-width:700}.free{stroke:#e2ded3}.lost{stroke:#9a9384}.map{stroke:#111}.dir{stroke:#5b5b5b}.edge{stroke:#fff;stroke-width:1500}.fault{stroke:#e00000;stroke-width:1100}.open{stroke:#fff;stroke-width:200}.bad{color:#d00;font-weight:bold}.good{color:#17692b;font-weight:bold}text{font:1100px ui-monospace,Menlo,Consolas,\"DejaVu Sans Mono\",monospace;fill:#444;text-anchor:middle}table{border-collapse:collapse}td,th{padding:1px 8px;text-align:right;white-space:pre}td.n,th.n{text-align:left}i{display:inline-block;width:12px;height:12px;margin:0 4px 0 0}ul{list-style:none;padding:0;margin:0 0 12px}li{margin:0 0 2px}.map i{background:#111}.dir i{background:#5b5b5b}.free i{background:#e2ded3}.lost i{background:#9a9384}tr a{color:inherit;text-decoration:none}tr a:hover{text-decoration:underline}g:target circle{stroke-width:800}svg:has(g:target) g g:not(:target):not(#f){opacity:.15}"
+
+-- how what a check told is styled
+abbrev pub verdict_class : Option Fault → List ℕ
+verdict_class None = codes "good"
+verdict_class (Some f) = codes "bad"
+
+-- the head of the page: the disk's name and the style
+unfoldable pub title_text : Show → Sector → List ℕ
+title_text show map =
+    codes "<!DOCTYPE html>\n<html lang=\"en\">\n<meta charset=\"utf-8\">\n<title>" ++ (show (disk_name map)
+    ++ (codes "</title>\n<style>" ++ (style ++ (codes "</style>\n<h1>" ++ (show (disk_name map) ++ codes "</h1>\n<p>")))))
+
+-- what follows: id, version, free blocks as the map counts them, what a check told, and the beginning of the drawing
+unfoldable pub told_text : Show → Option Fault → Sector → List ℕ
+told_text show v map =
+    show (slice_range map 162 164) ++ (codes " " ++ (show (slice_range map 165 167) ++ (codes ", " ++ (decimal (blocks_free map)
+    ++ (codes " blocks free, <span class=\"" ++ (verdict_class v ++ (codes "\">" ++ (verdict_text v
+    ++ codes "</span></p>\n<main>\n<svg viewBox=\"-36600 -36600 73200 73200\">\n<g transform=\"rotate(-90)\">\n"))))))))
+
+-- the end of the drawing, the meaning of the colours, and the head of the table
+unfoldable pub legend_text : Show → Sector → List ℕ
+legend_text show map =
+    codes "</g>\n<text y=\"400\">" ++ (show (disk_name map)
+    ++ codes "</text>\n</svg>\n<div>\n<ul>\n<li class=\"map\"><i></i>map</li>\n<li class=\"dir\"><i></i>directory</li>\n<li class=\"free\"><i></i>free</li>\n<li class=\"lost\"><i></i>taken in the map, of no file</li>\n</ul>\n<table>\n<tr><th></th><th>blocks</th><th class=\"n\">name</th><th class=\"n\">type</th><th>length</th><th>records</th></tr>\n")
+
+-- record length and number of records in two cells, where they are told
+abbrev pub cells_text : File → List ℕ
+cells_text f =
+    if has_records f then decimal (record_length f.slot) ++ (codes "</td><td>" ++ decimal (records_in f))
+    else codes "</td><td>"
+
+-- the name of entry k, which leads to its group
+unfoldable pub link_text : Show → ℕ → List ℕ → List ℕ
+link_text show k name = codes "<a href=\"#f" ++ (decimal k ++ (codes "\">" ++ (show name ++ codes "</a>")))
+
+-- the row of entry k in the table
+unfoldable pub row_text : Show → ℕ → File → List ℕ
+row_text show k f =
+    codes "<tr><td><i style=\"background:" ++ (colour k 0 ++ (codes "\"></i></td><td>" ++ (decimal (count_field f.slot)
+    ++ (codes "</td><td class=\"n\">" ++ (link_text show k (name_of f.slot) ++ (codes "</td><td class=\"n\">"
+    ++ (type_text (codes "&lt;") (type_byte f.slot) ++ (codes "</td><td>" ++ (cells_text f ++ codes "</td></tr>\n")))))))))
+
+-- the end of the page
+unfoldable pub end_text : List ℕ
+end_text = codes "</table>\n<p>Track 1 is outside, 35 inside; sector 0 begins at the top, clockwise.<br>A darker piece is a side sector, a white line a sector in use that the map calls free.<br>Point at a sector for its place and block; click a name to see its file alone.</p>\n</div>\n</main>\n"
+
+-- the groups of the drawing
+unfoldable pub drawing_text : Show → Option Fault → Sector → Layout → List ℕ
+drawing_text show v map l = system_group l ++ (numbered (file_group show l) 0 l.files ++ (rest_group map l ++ fault_group v))
+
+-- the page
+unfoldable pub page_text : Show → Option Fault → Sector → Layout → List ℕ
+page_text show v map l =
+    title_text show map ++ (told_text show v map ++ (drawing_text show v map l ++ (legend_text show map
+    ++ (numbered (row_text show) 0 l.files ++ end_text))))
+
+-- the picture of a disk
+abbrev pub picture_page : Option Fault → Sector → Layout → List ℕ
+picture_page v map l = page_text html_of v map l

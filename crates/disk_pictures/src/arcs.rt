@@ -1,0 +1,302 @@
+//! The sectors of a picture: each is a circle whose one dash is the sector.
+ghost use Rattle.std.specs.Prelude.{◌≡◌, ◌≤◌, ◌*◌, Some};
+ghost use Rattle.d64_image.specs.Geometry.{sectors_on};
+ghost use Rattle.d64_image.specs.Places.{track_of};
+ghost use Rattle.disk_layout.specs.Texts.{place_text};
+ghost use Rattle.disk_pictures.specs.Html.{html_of};
+ghost use Rattle.disk_pictures.specs.Pictures.{arc, block_arc, brightness as brightness_of, colour, directory_arc, fault_sector, free_arc, hue as hue_of, lost_arc, map_arc, open_arc, radius as radius_of, ring_text, side_arc};
+
+use crate::html::Html;
+use crate::texts::fault_place;
+use d64_image::Place;
+use disk_layout::{Fault, map_place};
+use std::fmt::{self, Display, Formatter};
+
+/// A layer of a picture over all sectors.
+#[derive(Clone, Copy, Debug, PartialEq, Eq)]
+pub(crate) enum Layer {
+    /// The sectors of nobody.
+    Others,
+    /// White lines over those of somebody that the map calls free.
+    Open,
+}
+
+/// The radius of the mark at the rim.
+const RIM: u16 = 35_700;
+
+/// How many sectors a track has, and 0 where there is no such track.
+fn sectors(track: u8) -> u8
+    ensures { result ≡ sectors_on track }
+{
+    match track {
+        1..=17 => 21,
+        18..=24 => 19,
+        25..=30 => 18,
+        31..=35 => 17,
+        _ => 0,
+    }
+}
+
+/// How long the arc of the sector is on a ring of this radius.
+fn arc_length(radius: u16, place: Place) -> u32
+    ensures value { result ≡ arc radius (sectors_on (track_of place)) }
+    ensures small { result ≤ 710 * radius }
+{
+    710 * radius as u32 / (113 * sectors(place.track()) as u32)
+}
+
+/// The radius of a track's ring.
+fn radius(track: u8) -> u16
+    ensures { result ≡ radius_of track }
+{
+    35_400_u32.saturating_sub(800 * track as u32) as u16
+}
+
+/// A sector's place.
+#[derive(Clone, Copy)]
+struct PlaceText(Place);
+
+impl Display for PlaceText {
+    ghost output = { λ text. Some (place_text text.0) };
+
+    fn fmt<W: fmt::Write>(&self, f: &mut Formatter<W>) -> fmt::Result {
+        write!(f, "{}/{}", self.0.track(), self.0.sector())
+    }
+}
+
+/// The beginning of a sector's circle on a ring of this radius.
+#[derive(Clone, Copy)]
+struct Ring {
+    radius: u16,
+    place: Place,
+}
+
+impl Ring {
+    /// On the ring of its own track.
+    fn of(place: Place) -> Ring
+        ensures radius { result.radius ≡ radius_of (track_of place) }
+        ensures place { result.place ≡ place }
+    {
+        Ring {
+            radius: radius(place.track()),
+            place,
+        }
+    }
+}
+
+impl Display for Ring {
+    ghost output = { λ ring. Some (ring_text ring.radius ring.place) };
+
+    fn fmt<W: fmt::Write>(&self, f: &mut Formatter<W>) -> fmt::Result {
+        let length = arc_length(self.radius, self.place);
+        write!(
+            f,
+            "<circle r=\"{}\" stroke-dasharray=\"{} 300000\" stroke-dashoffset=\"-{}\"",
+            self.radius,
+            length.saturating_sub(200),
+            self.place.sector() as u64 * length as u64
+        )
+    }
+}
+
+/// The hue of an entry's colour.
+fn hue(number: usize) -> usize
+    ensures { result ≡ hue_of number }
+{
+    30 + (170 + 137 * (number % 300)) % 300
+}
+
+/// The brightness of an entry's colour.
+fn brightness(number: usize) -> u8
+    ensures { result ≡ brightness_of number }
+{
+    match number % 3 {
+        0 => 38,
+        1 => 54,
+        _ => 46,
+    }
+}
+
+/// The colour of an entry, less bright by this.
+#[derive(Clone, Copy)]
+pub(crate) struct Colour {
+    /// The entry's number.
+    pub number: usize,
+    /// How much less bright.
+    pub less: u8,
+}
+
+impl Display for Colour {
+    ghost output = { λ entry. Some (colour entry.number entry.less) };
+
+    fn fmt<W: fmt::Write>(&self, f: &mut Formatter<W>) -> fmt::Result {
+        let (hue, brightness) = (hue(self.number), brightness(self.number));
+        write!(
+            f,
+            "hsl({hue},62%,{}%)",
+            brightness.saturating_sub(self.less)
+        )
+    }
+}
+
+/// 18/0.
+#[derive(Clone, Copy)]
+pub(crate) struct MapArc;
+
+impl Display for MapArc {
+    ghost output = { λ _. Some map_arc };
+
+    fn fmt<W: fmt::Write>(&self, f: &mut Formatter<W>) -> fmt::Result {
+        writeln!(
+            f,
+            "{} class=\"map\"><title>18/0 map</title></circle>",
+            Ring::of(map_place())
+        )
+    }
+}
+
+/// A sector of the directory.
+#[derive(Clone, Copy)]
+pub(crate) struct DirectoryArc(pub Place);
+
+impl Display for DirectoryArc {
+    ghost output = { λ sector. Some (directory_arc sector.0) };
+
+    fn fmt<W: fmt::Write>(&self, f: &mut Formatter<W>) -> fmt::Result {
+        writeln!(
+            f,
+            "{} class=\"dir\"><title>{} directory</title></circle>",
+            Ring::of(self.0),
+            PlaceText(self.0)
+        )
+    }
+}
+
+/// A block of an entry.
+#[derive(Clone, Copy)]
+pub(crate) struct BlockArc<'a> {
+    /// The entry's number and its name.
+    pub entry: (usize, &'a [u8]),
+    /// The block's number, from 1.
+    pub number: usize,
+    /// How many blocks there are.
+    pub blocks: usize,
+    /// Where it is.
+    pub place: Place,
+}
+
+impl Display for BlockArc<'_> {
+    ghost output = { λ block. Some (block_arc html_of block.entry.0 block.entry.1.now block.number block.blocks block.place) };
+
+    fn fmt<W: fmt::Write>(&self, f: &mut Formatter<W>) -> fmt::Result {
+        let (number, name) = self.entry;
+        writeln!(
+            f,
+            "{} stroke=\"{}\"><title>{} {}, block {} of {}</title></circle>",
+            Ring::of(self.place),
+            Colour { number, less: 0 },
+            PlaceText(self.place),
+            Html(name),
+            self.number,
+            self.blocks
+        )
+    }
+}
+
+/// A side sector of an entry.
+#[derive(Clone, Copy)]
+pub(crate) struct SideArc<'a> {
+    /// The entry's number and its name.
+    pub entry: (usize, &'a [u8]),
+    /// The side sector's number, from 0.
+    pub number: usize,
+    /// Where it is.
+    pub place: Place,
+}
+
+impl Display for SideArc<'_> {
+    ghost output = { λ side. Some (side_arc html_of side.entry.0 side.entry.1.now side.number side.place) };
+
+    fn fmt<W: fmt::Write>(&self, f: &mut Formatter<W>) -> fmt::Result {
+        let (number, name) = self.entry;
+        writeln!(
+            f,
+            "{} stroke=\"{}\"><title>{} {}, side sector {}</title></circle>",
+            Ring::of(self.place),
+            Colour { number, less: 18 },
+            PlaceText(self.place),
+            Html(name),
+            self.number
+        )
+    }
+}
+
+/// A free sector.
+#[derive(Clone, Copy)]
+pub(crate) struct FreeArc(pub Place);
+
+impl Display for FreeArc {
+    ghost output = { λ sector. Some (free_arc sector.0) };
+
+    fn fmt<W: fmt::Write>(&self, f: &mut Formatter<W>) -> fmt::Result {
+        writeln!(
+            f,
+            "{} class=\"free\"><title>{} free</title></circle>",
+            Ring::of(self.0),
+            PlaceText(self.0)
+        )
+    }
+}
+
+/// A sector that is taken in the map and of nobody.
+#[derive(Clone, Copy)]
+pub(crate) struct LostArc(pub Place);
+
+impl Display for LostArc {
+    ghost output = { λ sector. Some (lost_arc sector.0) };
+
+    fn fmt<W: fmt::Write>(&self, f: &mut Formatter<W>) -> fmt::Result {
+        writeln!(
+            f,
+            "{} class=\"lost\"><title>{} taken, of no file</title></circle>",
+            Ring::of(self.0),
+            PlaceText(self.0)
+        )
+    }
+}
+
+/// A line over a sector in use that the map calls free.
+#[derive(Clone, Copy)]
+pub(crate) struct OpenArc(pub Place);
+
+impl Display for OpenArc {
+    ghost output = { λ sector. Some (open_arc sector.0) };
+
+    fn fmt<W: fmt::Write>(&self, f: &mut Formatter<W>) -> fmt::Result {
+        writeln!(
+            f,
+            "{} class=\"open\"><title>{} in use, and free in the map</title></circle>",
+            Ring::of(self.0),
+            PlaceText(self.0)
+        )
+    }
+}
+
+/// The group of a fault.
+#[derive(Clone, Copy)]
+pub(crate) struct FaultGroup(pub Fault);
+
+impl Display for FaultGroup {
+    ghost output = { λ group. Some (fault_sector group.0) };
+
+    fn fmt<W: fmt::Write>(&self, f: &mut Formatter<W>) -> fmt::Result {
+        let told = self.0;
+        let place = fault_place(told);
+        let ring = Ring::of(place);
+        let rim = Ring { radius: RIM, place };
+        writeln!(
+            f,
+            "<g id=\"f\">\n{ring} class=\"edge\"><title>{told}</title></circle>\n{ring} class=\"fault\"><title>{told}</title></circle>\n{rim} class=\"fault\"/>\n</g>"
+        )
+    }
+}

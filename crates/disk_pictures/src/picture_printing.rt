@@ -1,0 +1,361 @@
+//! The picture of a disk, as an HTML page with an SVG drawing.
+ghost use Rattle.std.specs.Prelude.{◌≡◌, ◌≢◌, ◌≤◌, IfErr, IfOk, OnOk, Some, flat_map, map};
+ghost use Rattle.std.specs.Io.KnownBytes.{Appends};
+ghost use Rattle.d64_image.specs.Places.{place_at};
+ghost use Rattle.disk_pictures.specs.Drawings.{drawn_in, file_in};
+ghost use Rattle.disk_pictures.specs.Html.{html_of};
+ghost use Rattle.disk_pictures.specs.Outcomes.{IsPictureFault, IsPicturePrinted};
+ghost use Rattle.disk_pictures.specs.Pictures.{directory_arc, drawing_text, each_place, fault_group, file_group, group_head, layer_arc, own_block, own_side, picture_page, rest_group, row_text, system_group};
+ghost use Rattle.disk_pictures.specs.Texts.{at_place, each_below, numbered};
+ghost use Rattle.disk_pictures.specs.declared.faults.PictureFault.TheVariants as faults;
+
+use crate::arcs::{
+    BlockArc, DirectoryArc, FaultGroup, FreeArc, Layer, LostArc, MapArc, OpenArc, SideArc,
+};
+use crate::drawing::{Drawing, DrawnFile, Owner};
+use crate::faults::PictureFault;
+use crate::names::entry_name;
+use crate::output::{flush, put};
+use crate::page::{END, Legend, Row, Title, Told};
+use crate::verdicts::judged;
+use d64_image::Place;
+use disk_layout::{BamView, Fault};
+use std::alloc::Global;
+use std::fmt::{self, Display, Formatter};
+use std::io::Write;
+
+/// How many tracks a disk has.
+const TRACKS: u8 = 35;
+
+/// How many sectors a track has at most.
+const SECTORS: u8 = 21;
+
+/// The end of a group.
+const GROUP_END: &str = "</g>\n";
+
+/// Prints the sectors of the directory.
+fn put_directory<W: Write>(out: &mut W, places: &[Place]) -> Result<(), PictureFault>
+    ensures ok { OnOk result (Appends (W.contents out.old) (W.contents out.new)
+        (flat_map directory_arc places.now)) }
+    ensures err { IfErr result (λ fault. fault ≡ faults.File) }
+{
+    for &place in places {
+        put(out, DirectoryArc(place))?;
+    }
+    Ok(())
+}
+
+/// Prints the group of the map and the directory.
+fn put_system<W: Write>(out: &mut W, drawing: &Drawing) -> Result<(), PictureFault>
+    ensures ok { OnOk result (Appends (W.contents out.old) (W.contents out.new)
+        (system_group (drawn_in drawing.now))) }
+    ensures err { IfErr result (λ fault. fault ≡ faults.File) }
+{
+    put(out, "<g id=\"m\">\n")?;
+    put(out, MapArc)?;
+    put_directory(out, drawing.directory.as_slice())?;
+    put(out, GROUP_END)
+}
+
+/// Prints block `index` of an entry, where the sector is drawn as the entry's.
+fn put_block<W: Write>(
+    out: &mut W,
+    drawing: &Drawing,
+    number: usize,
+    file: &DrawnFile,
+    index: usize,
+    place: Place,
+) -> Result<(), PictureFault>
+    requires { index ≤ 720 }
+    ensures ok { OnOk result (Appends (W.contents out.old) (W.contents out.new)
+        (own_block html_of (drawn_in drawing.now) number (file_in file.now) index place)) }
+    ensures err { IfErr result (λ fault. fault ≡ faults.File) }
+{
+    match drawing.owner(place) {
+        Owner::Blocks(owner) if owner == number => put(
+            out,
+            BlockArc {
+                entry: (number, entry_name(&file.slot)),
+                number: index + 1,
+                blocks: file.blocks.as_slice().len(),
+                place,
+            },
+        ),
+        _ => Ok(()),
+    }
+}
+
+/// Prints the blocks of an entry.
+fn put_blocks<W: Write>(
+    out: &mut W,
+    drawing: &Drawing,
+    number: usize,
+    file: &DrawnFile,
+) -> Result<(), PictureFault>
+    ensures ok { OnOk result (Appends (W.contents out.old) (W.contents out.new)
+        (numbered (own_block html_of (drawn_in drawing.now) number (file_in file.now)) 0 file.now.blocks.items)) }
+    ensures err { IfErr result (λ fault. fault ≡ faults.File) }
+{
+    let blocks = file.blocks.as_slice();
+    for (index, &place) in blocks.iter().enumerate() {
+        put_block(out, drawing, number, file, index, place)?;
+    }
+    Ok(())
+}
+
+/// Prints side sector `index` of an entry, where the sector is drawn as the entry's.
+fn put_side<W: Write>(
+    out: &mut W,
+    drawing: &Drawing,
+    number: usize,
+    file: &DrawnFile,
+    index: usize,
+    place: Place,
+) -> Result<(), PictureFault>
+    ensures ok { OnOk result (Appends (W.contents out.old) (W.contents out.new)
+        (own_side html_of (drawn_in drawing.now) number (file_in file.now) index place)) }
+    ensures err { IfErr result (λ fault. fault ≡ faults.File) }
+{
+    match drawing.owner(place) {
+        Owner::Sides(owner) if owner == number => put(
+            out,
+            SideArc {
+                entry: (number, entry_name(&file.slot)),
+                number: index,
+                place,
+            },
+        ),
+        _ => Ok(()),
+    }
+}
+
+/// Prints the side sectors of an entry.
+fn put_sides<W: Write>(
+    out: &mut W,
+    drawing: &Drawing,
+    number: usize,
+    file: &DrawnFile,
+) -> Result<(), PictureFault>
+    ensures ok { OnOk result (Appends (W.contents out.old) (W.contents out.new)
+        (numbered (own_side html_of (drawn_in drawing.now) number (file_in file.now)) 0 file.now.sides.items)) }
+    ensures err { IfErr result (λ fault. fault ≡ faults.File) }
+{
+    let sides = file.sides.as_slice();
+    for (index, &place) in sides.iter().enumerate() {
+        put_side(out, drawing, number, file, index, place)?;
+    }
+    Ok(())
+}
+
+/// The beginning of an entry's group.
+#[derive(Clone, Copy)]
+struct GroupHead(usize);
+
+impl Display for GroupHead {
+    ghost output = { λ head. Some (group_head head.0) };
+
+    fn fmt<W: fmt::Write>(&self, f: &mut Formatter<W>) -> fmt::Result {
+        writeln!(f, "<g id=\"f{}\">", self.0)
+    }
+}
+
+/// Prints the group of an entry.
+fn put_file<W: Write>(
+    out: &mut W,
+    drawing: &Drawing,
+    number: usize,
+    file: &DrawnFile,
+) -> Result<(), PictureFault>
+    ensures ok { OnOk result (Appends (W.contents out.old) (W.contents out.new)
+        (file_group html_of (drawn_in drawing.now) number (file_in file.now))) }
+    ensures err { IfErr result (λ fault. fault ≡ faults.File) }
+{
+    put(out, GroupHead(number))?;
+    put_blocks(out, drawing, number, file)?;
+    put_sides(out, drawing, number, file)?;
+    put(out, GROUP_END)
+}
+
+/// Prints the groups of the entries.
+fn put_files<W: Write>(out: &mut W, drawing: &Drawing) -> Result<(), PictureFault>
+    ensures ok { OnOk result (Appends (W.contents out.old) (W.contents out.new)
+        (numbered (file_group html_of (drawn_in drawing.now)) 0 (map file_in drawing.now.files.items))) }
+    ensures err { IfErr result (λ fault. fault ≡ faults.File) }
+{
+    let files = drawing.files.as_slice();
+    for (number, file) in files.iter().enumerate() {
+        put_file(out, drawing, number, file)?;
+    }
+    Ok(())
+}
+
+/// Prints what a layer has at a sector.
+fn put_layer<W: Write>(
+    out: &mut W,
+    layer: Layer,
+    drawing: &Drawing,
+    place: Place,
+) -> Result<(), PictureFault>
+    ensures ok { OnOk result (Appends (W.contents out.old) (W.contents out.new)
+        (layer_arc layer drawing.now.map (drawn_in drawing.now) place)) }
+    ensures err { IfErr result (λ fault. fault ≡ faults.File) }
+{
+    let free = BamView::new(&drawing.map).is_free(place);
+    match (layer, drawing.owner(place)) {
+        (Layer::Others, Owner::Nobody) => {
+            if free {
+                put(out, FreeArc(place))
+            } else {
+                put(out, LostArc(place))
+            }
+        }
+        (Layer::Others, _) | (Layer::Open, Owner::Nobody) => Ok(()),
+        (Layer::Open, _) => {
+            if free {
+                put(out, OpenArc(place))
+            } else {
+                Ok(())
+            }
+        }
+    }
+}
+
+/// Prints what a layer has at a sector, where the track has it.
+fn put_layer_at<W: Write>(
+    out: &mut W,
+    layer: Layer,
+    drawing: &Drawing,
+    track: u8,
+    sector: u8,
+) -> Result<(), PictureFault>
+    ensures ok { OnOk result (Appends (W.contents out.old) (W.contents out.new)
+        (at_place (layer_arc layer drawing.now.map (drawn_in drawing.now)) (place_at track sector))) }
+    ensures err { IfErr result (λ fault. fault ≡ faults.File) }
+{
+    match Place::new(track, sector) {
+        Some(place) => put_layer(out, layer, drawing, place),
+        None => Ok(()),
+    }
+}
+
+/// Prints what a layer has on a track.
+fn put_layer_on<W: Write>(
+    out: &mut W,
+    layer: Layer,
+    drawing: &Drawing,
+    track: u8,
+) -> Result<(), PictureFault>
+    ensures ok { OnOk result (Appends (W.contents out.old) (W.contents out.new)
+        (each_below 21 (λ sector. at_place (layer_arc layer drawing.now.map (drawn_in drawing.now)) (place_at track sector)))) }
+    ensures err { IfErr result (λ fault. fault ≡ faults.File) }
+{
+    for sector in 0..SECTORS {
+        put_layer_at(out, layer, drawing, track, sector)?;
+    }
+    Ok(())
+}
+
+/// Prints a layer.
+fn put_layers<W: Write>(out: &mut W, layer: Layer, drawing: &Drawing) -> Result<(), PictureFault>
+    ensures ok { OnOk result (Appends (W.contents out.old) (W.contents out.new)
+        (each_place (layer_arc layer drawing.now.map (drawn_in drawing.now)))) }
+    ensures err { IfErr result (λ fault. fault ≡ faults.File) }
+{
+    for below in 0..TRACKS {
+        put_layer_on(out, layer, drawing, below + 1)?;
+    }
+    Ok(())
+}
+
+/// Prints the group of all other sectors, and the white lines.
+fn put_rest<W: Write>(out: &mut W, drawing: &Drawing) -> Result<(), PictureFault>
+    ensures ok { OnOk result (Appends (W.contents out.old) (W.contents out.new)
+        (rest_group drawing.now.map (drawn_in drawing.now))) }
+    ensures err { IfErr result (λ fault. fault ≡ faults.File) }
+{
+    put(out, "<g id=\"r\">\n")?;
+    put_layers(out, Layer::Others, drawing)?;
+    put_layers(out, Layer::Open, drawing)?;
+    put(out, GROUP_END)
+}
+
+/// Prints the rows of the table.
+fn put_rows<W: Write>(out: &mut W, files: &[DrawnFile]) -> Result<(), PictureFault>
+    ensures ok { OnOk result (Appends (W.contents out.old) (W.contents out.new)
+        (numbered (row_text html_of) 0 (map file_in files.now))) }
+    ensures err { IfErr result (λ fault. fault ≡ faults.File) }
+{
+    for (number, file) in files.iter().enumerate() {
+        put(out, Row { number, file })?;
+    }
+    Ok(())
+}
+
+/// Prints the group of the fault, where one was told.
+fn put_fault<W: Write>(out: &mut W, found: Option<Fault>) -> Result<(), PictureFault>
+    ensures ok { OnOk result (Appends (W.contents out.old) (W.contents out.new) (fault_group found)) }
+    ensures err { IfErr result (λ fault. fault ≡ faults.File) }
+{
+    match found {
+        None => Ok(()),
+        Some(fault) => put(out, FaultGroup(fault)),
+    }
+}
+
+/// Prints the groups of the drawing.
+fn put_drawing<W: Write>(
+    out: &mut W,
+    found: Option<Fault>,
+    drawing: &Drawing,
+) -> Result<(), PictureFault>
+    ensures ok { OnOk result (Appends (W.contents out.old) (W.contents out.new)
+        (drawing_text html_of found drawing.now.map (drawn_in drawing.now))) }
+    ensures err { IfErr result (λ fault. fault ≡ faults.File) }
+{
+    put_system(out, drawing)?;
+    put_files(out, drawing)?;
+    put_rest(out, drawing)?;
+    put_fault(out, found)
+}
+
+/// Prints the page.
+fn put_page<W: Write>(
+    out: &mut W,
+    found: Option<Fault>,
+    drawing: &Drawing,
+) -> Result<(), PictureFault>
+    ensures ok { OnOk result (Appends (W.contents out.old) (W.contents out.new)
+        (picture_page found drawing.now.map (drawn_in drawing.now))) }
+    ensures err { IfErr result (λ fault. fault ≡ faults.File) }
+{
+    let map = &drawing.map;
+    put(out, Title(map))?;
+    put(out, Told { map, found })?;
+    put_drawing(out, found, drawing)?;
+    put(out, Legend(map))?;
+    put_rows(out, drawing.files.as_slice())?;
+    put(out, END)?;
+    flush(out)
+}
+
+/// Prints the disk as one HTML page with an SVG drawing: 35 rings, an arc for each sector, a colour for each entry, its
+/// side sectors darker, the fault in red. Each sector tells its place and whose it is where one points at it, and a
+/// click on a name shows that entry alone. The page has no script and loads nothing, and names of the disk stand in it
+/// as text alone. What a check of the disk tells stands in it, and is answered too. A disk that is hurt is drawn as far
+/// as its links go.
+///
+/// `ImageSize`; `NoMemory`; `Layout` where the directory's sectors aren't a chain on track 18: nothing was printed then.
+/// `File` where the output failed, which may then have a part.
+pub fn picture_image<W: Write>(
+    alloc: Global,
+    image: &[u8],
+    out: &mut W,
+) -> Result<Option<Fault>, PictureFault>
+    ensures ok { IfOk result (IsPicturePrinted W.contents image.now out.old out.new) }
+    ensures err { IfErr result (IsPictureFault image.now) }
+    ensures untouched { IfErr result (λ fault. (fault ≢ faults.File) → out.new ≡ out.old) }
+{
+    let (drawing, found) = judged(alloc, image)?;
+    put_page(out, found, &drawing)?;
+    Ok(found)
+}

@@ -1,0 +1,116 @@
+//! Records stored from a text on the blank disk for two tills, of whose STOCK 14 records of 18 bytes are there, none of
+//! them written: what is printed and told, and what the disk has then.
+use crate::comparing::same_at;
+use crate::disks::{Change, changed};
+use crate::outputs::{Full, is_told};
+use d64_image::MemDisk;
+use keeper_commands::{KeepFault, records_image, store_image};
+use std::io::Write;
+use std::process::Abort;
+
+/// Stores a text in a file of a disk in memory that holds this image: how that ends, and its bytes.
+fn stored<W: Write>(
+    rt: &(impl Abort + AllocGlobal),
+    image: &[u8],
+    name: &[u8],
+    text: &str,
+    out: &mut W,
+) -> (Result<(), KeepFault>, MemDisk) {
+    match MemDisk::load(rt.alloc(), image) {
+        Ok(disk) => {
+            let mut disk = disk;
+            let ended = store_image(rt.alloc(), image, name, text.as_bytes(), &mut disk, out);
+            (ended, disk)
+        }
+        Err(fault) => panic!(rt; "the image isn't taken: {fault:?}"),
+    }
+}
+
+/// Sees that this is printed of the text, told, and that the file has these lines first then.
+fn is_stored(
+    rt: &(impl Abort + AllocGlobal),
+    before: &MemDisk,
+    text: &str,
+    printed: &str,
+    first: &str,
+) -> MemDisk {
+    let mut out = Vec::new(rt.alloc());
+    let (ended, after) = stored(rt, before.bytes(), b"STOCK", text, &mut out);
+    is_told(rt, ended, "");
+    same_at(rt, out.as_slice(), printed.as_bytes(), text);
+    let mut lines = Vec::new(rt.alloc());
+    is_told(
+        rt,
+        records_image(rt.alloc(), after.bytes(), b"STOCK", &mut lines),
+        "",
+    );
+    same_at(
+        rt,
+        lines.as_slice().starts_with(first.as_bytes()),
+        true,
+        text,
+    );
+    after
+}
+
+/// Sees that this is told of the text, and nothing printed or written.
+fn is_refused(rt: &(impl Abort + AllocGlobal), before: &MemDisk, text: &str, told: &str) {
+    let mut out = Vec::new(rt.alloc());
+    let (ended, after) = stored(rt, before.bytes(), b"STOCK", text, &mut out);
+    is_told(rt, ended, told);
+    same_at(rt, out.as_slice(), b"", told);
+    same_at(rt, after.bytes() == before.bytes(), true, told);
+}
+
+// A line as it is printed, one without quotation marks and with a CR, one behind the last record: 28 records of 18
+// bytes are in two blocks. Stored again, nothing is printed or written.
+#[test]
+fn records_are_stored(rt: HostRuntime) {
+    let text = "3,\"MILK\\0d\"\n1,\\ffx\\22\r\n15,\"A,B\"\n3,\"MILK\\0d\\00\"\n";
+    let first = "1,\"\\ffx\\22\"\n2,\"\\ff\"\n3,\"MILK\\0d\"\n4,\"\\ff\"\n";
+    let disk = is_stored(
+        &rt,
+        &changed(&rt, &[]),
+        text,
+        "3,\"MILK\\0d\"\n1,\"\\ffx\\22\"\n15,\"A,B\"\n",
+        first,
+    );
+    let again = is_stored(&rt, &disk, text, "", first);
+    same_at(&rt, again.bytes() == disk.bytes(), true, "again");
+    let none = is_stored(&rt, &disk, "", "", first);
+    same_at(&rt, none.bytes() == disk.bytes(), true, "no line");
+    let mut full = Full { room: 3 };
+    let (ended, _) = stored(&rt, disk.bytes(), b"STOCK", "1,Y", &mut full);
+    is_told(&rt, ended, "FILE");
+}
+
+/// Texts and what is told: a second line that is no record's, of nineteen bytes, of number 0, behind a byte order mark,
+/// past the last record that a file of 720 blocks has, and so many that the 660 free blocks don't suffice.
+const REFUSED: [(&str, &str); 6] = [
+    ("1,\"A\"\n1;\"B\"\n", "RECORDS LINE 2"),
+    ("1,\"A\"\n2,0123456789012345678\n", "RECORDS LINE 2"),
+    ("0,\"A\"\n", "RECORDS LINE 1"),
+    ("\u{FEFF}1,\"A\"\n", "RECORDS LINE 1"),
+    ("1,A\n2,B\n10161,C", "RECORDS LINE 3"),
+    ("1,A\n10160,B\n", "DISK FULL"),
+];
+
+/// Changes of the blank disk, and what is told: the map's count of track 1, and STOCK an entry of another type.
+const NOT_CLEAN: [(&[Change], &str); 2] = [
+    (&[(18, 0, 4, &[20])], "LAYOUT MAPWRONG 18/0"),
+    (&[(17, 2, 0, &[17, 2])], "LAYOUT LOOP 17/2"),
+];
+
+#[test]
+fn records_are_not_stored(rt: HostRuntime) {
+    let blank = changed(&rt, &[]);
+    for &(text, told) in &REFUSED {
+        is_refused(&rt, &blank, text, told);
+    }
+    for &(changes, told) in &NOT_CLEAN {
+        is_refused(&rt, &changed(&rt, changes), "1,A\n", told);
+    }
+    let mut out = Vec::new(rt.alloc());
+    let (ended, _) = stored(&rt, blank.bytes(), b"STOC", "1;A", &mut out);
+    is_told(&rt, ended, "NO FILE");
+}
