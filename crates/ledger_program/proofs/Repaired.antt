@@ -124,9 +124,9 @@ module _ {F : Type 0} {G : Ghosts F} (start : Mirror F G) (sound : is_broken sta
   failed_file : (image : List ℕ) → is_broken b → IsRepairRun mirror image start b → FileFailed G.keeps start.file b.file
   failed_file image broken x = failed_stably G.keeps start.file b.file
       (λ never.
-          let no_layout : IsSound (mirror_image start) → ⊥ =
-          λ s. never (file_failed start sound b (x.moments s.0 s.1).held.reached broken) in
-          never (file_failed start sound b (x.unsound no_layout).held.reached broken))
+      let no_layout : IsSound (mirror_image start) → ⊥ =
+      λ s. never (file_failed start sound b (x.moments s.0 s.1).held.reached broken) in
+      never (file_failed start sound b (x.unsound no_layout).held.reached broken))
 
   module _ {W : Type 0} (contents : W → Option (List ℕ)) (image : List ℕ) (size : length image ≡ 174848)
       (holds : mirror_image start ≡ sectors_in image) (old new : W) where
@@ -211,8 +211,8 @@ module _ {F : Type 0} {G : Ghosts F} (start : Mirror F G) (sound : is_broken sta
         → IsRepairOver G.keeps contents image file out.0 old new out.1
     file-ended file r out first after ok err end =
         let from : (e : Result Unit KeepFault) → out.1 ≡ e → IsRepairOver G.keeps contents image start.file b.file old new e
-            → IsRepairOver G.keeps contents image file out.0 old new out.1 =
+        → IsRepairOver G.keeps contents image file out.0 old new out.1 =
         λ e is over. subst (λ f. IsRepairOver G.keeps contents image f out.0 old new out.1) first
-            (subst (λ a. IsRepairOver G.keeps contents image start.file a old new out.1) (sym after)
-            (subst (λ x. IsRepairOver G.keeps contents image start.file b.file old new x) (sym is) over)) in
+        (subst (λ a. IsRepairOver G.keeps contents image start.file a old new out.1) (sym after)
+        (subst (λ x. IsRepairOver G.keeps contents image start.file b.file old new x) (sym is) over)) in
         ⊎_elim (λ x. from _ x.1 (broken-ended x.0 r ok err)) (λ x. from r x.1 (whole-ended x.0 r ok err)) end

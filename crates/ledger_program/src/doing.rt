@@ -201,13 +201,7 @@ where
     let mut input = told(BufReader::new(rt.alloc(), rt.reader()))?;
     let file = Placed::lasting(file, durability);
     let mut printer = Printer::new(out);
-    let (mut file, ended) = serve_run(
-        rt.alloc(),
-        image.as_slice(),
-        file,
-        &mut input,
-        &mut printer,
-    );
+    let (mut file, ended) = serve_run(rt.alloc(), image.as_slice(), file, &mut input, &mut printer);
     job_end(finished(&mut file, ended))
 }
 
@@ -255,13 +249,7 @@ where
     W: Write,
 {
     let image = image_at(rt, path)?;
-    kept_end(taking_run(
-        rt.alloc(),
-        what,
-        image.as_slice(),
-        name.as_bytes(),
-        out,
-    ))
+    kept_end(taking_run(rt.alloc(), what, image.as_slice(), name.as_bytes(), out))
 }
 
 /// Opens or reads the job's files and does it; what is printed goes to `out`, which is flushed at the end. An image is locked

@@ -61,10 +61,12 @@ pub taking-met : (o : Option (Bor Text × Bor ArgMatches)) (found : Option (Text
     (what : Taking) (image : Text) (r : Result Job JobFault) → option_map (λ (p : Bor Text × Bor ArgMatches). (p.0.now, rows_of (found_of p.1.now))) o ≡ found
     → o ≡ Some (name, at) → name.now ≡ word_of_taking what → image ≡ value (codes "IMAGE") (rows_of (found_of at.now))
     → IsTakingJob (rows_of (found_of at.now)) what image r → MatchResult r (IsJob found) (IsNoJob [] found) × IfOk r HasTills
-taking-met o found name at what image (Ok (jobs.Take asked path text)) told some is by-image taking =
-    (subst (λ (w : Taking). Has found (word_of_taking w) (λ rows. (path.now ≡ value (codes "IMAGE") rows) × IsNameOf (value (codes "NAME") rows) (name_bytes text)))
-    (sym taking.0)
-    (met-has o found name at (word_of_taking what) _ told some is (taking.1 ∙ by-image, taking.2)), tt)
+taking-met o found name at what image (Ok (jobs.Take asked path text)) told some is by-image taking = (
+  subst (λ (w : Taking). Has found (word_of_taking w) (λ rows. (path.now ≡ value (codes "IMAGE") rows) × IsNameOf (value (codes "NAME") rows) (name_bytes text)))
+      (sym taking.0)
+      (met-has o found name at (word_of_taking what) _ told some is (taking.1 ∙ by-image, taking.2)),
+  tt,
+)
 taking-met o found name at what image (Ok (jobs.Format path tills)) told some is by-image taking = absurd taking
 taking-met o found name at what image (Ok (jobs.Read asked path)) told some is by-image taking = absurd taking
 taking-met o found name at what image (Ok (jobs.Play path script durability)) told some is by-image taking = absurd taking

@@ -90,7 +90,8 @@ fn what_is_no_shop_is_told(rt: HostRuntime) {
 const SERVED: &[u8] =
     b"1,1,S,42,120\n1,1,S,42,120\r\n@1 x\n\n1,2,I,42,1                              \n1,2,I,42,1";
 
-const REPLIES: &[u8] = b"1,1,DONE,120\n1,1,DONE,120\n30,SYNTAX ERROR,00,00\n30,SYNTAX ERROR,00,00\n30,SYNTAX ERROR,00,00\n";
+const REPLIES: &[u8] =
+    b"1,1,DONE,120\n1,1,DONE,120\n30,SYNTAX ERROR,00,00\n30,SYNTAX ERROR,00,00\n30,SYNTAX ERROR,00,00\n";
 
 #[test]
 fn lines_are_served(rt: HostRuntime) {

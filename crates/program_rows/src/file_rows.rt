@@ -2,8 +2,8 @@
 use crate::comparing::{holds, same_at};
 use crate::memory::Memory;
 use crate::scenes::{
-    BYTES, CHECK, DRY, End, FILE, FORMAT, LIST, PLAY, RECORDS, REPAIR, SERVE, SHOW, Words, bytes_at,
-    empty_shop, ends, put, ran, repeated,
+    BYTES, CHECK, DRY, End, FILE, FORMAT, LIST, PLAY, RECORDS, REPAIR, SERVE, SHOW, Words,
+    bytes_at, empty_shop, ends, put, ran, repeated,
 };
 use crate::stored::Kind;
 use std::process::Abort;

@@ -46,11 +46,7 @@ fn each_is_repaired(
         ends(rt, &memory, *wanted, "a repair");
         same_at(rt, memory.image.syncs.get(), *syncs, *bad);
         // It is read behind the first sync, or not at all.
-        holds(
-            rt,
-            memory.image.syncs_before.get() == 1 || *bad == 1,
-            *bad,
-        );
+        holds(rt, memory.image.syncs_before.get() == 1 || *bad == 1, *bad);
         holds(rt, memory.image.most_waiting.get() <= 1, *bad);
         same_at(rt, memory.image.holds(shop), *mended, *bad);
         let left = bytes_at(rt, &memory.image);

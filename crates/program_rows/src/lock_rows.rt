@@ -16,7 +16,12 @@ const LOCKED: [(Words, Others, End<'static>, &str); 16] = [
     (SERVE, Others::Alone, IN_USE, "serve of an image in use"),
     (SERVE, Others::Reading, IN_USE, "serve of one that is read"),
     (REPAIR, Others::Alone, IN_USE, "repair of an image in use"),
-    (REPAIR, Others::Reading, IN_USE, "repair of one that is read"),
+    (
+        REPAIR,
+        Others::Reading,
+        IN_USE,
+        "repair of one that is read",
+    ),
     (RECORDS, Others::Alone, IN_USE, "records of an image in use"),
     (BYTES, Others::Alone, IN_USE, "bytes of an image in use"),
     (
@@ -76,27 +81,69 @@ fn images_in_use_are_told(rt: HostRuntime) {
 
 /// Words, the messages that are played or served, the number of the sync that fails (0: none), how it ends, and how many syncs there were; None
 /// where there was one behind each write and one before the first.
-type Synced = (
-    Words,
-    &'static [u8],
-    usize,
-    End<'static>,
-    Option<usize>,
-);
+type Synced = (Words, &'static [u8], usize, End<'static>, Option<usize>);
 
 const UNSYNCED: Words = &[b"ledger_cli", b"serve", b"a.d64", b"--unsynced"];
 
 const SYNCED: [Synced; 11] = [
-    (SERVE, b"1,1,S,42,120\n", 0, (0, b"1,1,DONE,120\n", b""), None),
+    (
+        SERVE,
+        b"1,1,S,42,120\n",
+        0,
+        (0, b"1,1,DONE,120\n", b""),
+        None,
+    ),
     (SERVE, b"1,1,S,42,120\n", 1, (3, b"", b"DEVICE\n"), Some(1)),
-    (SERVE, b"1,1,S,42,120\n", 3, (3, b"1,1,MEDIA\n", b"DEVICE\n"), Some(3)),
-    (UNSYNCED, b"1,1,S,42,120\n", 0, (0, b"1,1,DONE,120\n", b""), Some(1)),
-    (PLAY, b"1,1,S,42,120\n", 0, (0, b"1,1,DONE,120\n", b""), Some(1)),
-    (PLAY, b"1,1,S,42,120\n", 1, (3, b"1,1,DONE,120\n", b"DEVICE\n"), Some(1)),
+    (
+        SERVE,
+        b"1,1,S,42,120\n",
+        3,
+        (3, b"1,1,MEDIA\n", b"DEVICE\n"),
+        Some(3),
+    ),
+    (
+        UNSYNCED,
+        b"1,1,S,42,120\n",
+        0,
+        (0, b"1,1,DONE,120\n", b""),
+        Some(1),
+    ),
+    (
+        PLAY,
+        b"1,1,S,42,120\n",
+        0,
+        (0, b"1,1,DONE,120\n", b""),
+        Some(1),
+    ),
+    (
+        PLAY,
+        b"1,1,S,42,120\n",
+        1,
+        (3, b"1,1,DONE,120\n", b"DEVICE\n"),
+        Some(1),
+    ),
     (PLAY, b"@01 x\n", 0, (1, b"", b"SCRIPT LINE 1\n"), Some(0)),
-    (PLAY_SYNC, b"1,1,S,42,120\n", 0, (0, b"1,1,DONE,120\n", b""), None),
-    (PLAY_SYNC, b"1,1,S,42,120\n", 1, (3, b"", b"DEVICE\n"), Some(1)),
-    (PLAY_SYNC, b"1,1,S,42,120\n", 3, (3, b"1,1,MEDIA\n", b"DEVICE\n"), Some(3)),
+    (
+        PLAY_SYNC,
+        b"1,1,S,42,120\n",
+        0,
+        (0, b"1,1,DONE,120\n", b""),
+        None,
+    ),
+    (
+        PLAY_SYNC,
+        b"1,1,S,42,120\n",
+        1,
+        (3, b"", b"DEVICE\n"),
+        Some(1),
+    ),
+    (
+        PLAY_SYNC,
+        b"1,1,S,42,120\n",
+        3,
+        (3, b"1,1,MEDIA\n", b"DEVICE\n"),
+        Some(3),
+    ),
     (PLAY_SYNC, b"", 0, (0, b"", b""), Some(1)),
 ];
 
@@ -115,7 +162,13 @@ fn each_is_synced(rt: &(impl AllocGlobal + Abort), shop: &[u8], rows: &[Synced])
         }
         if wanted.0 == 3 {
             let left = bytes_at(rt, &memory.image);
-            ran(rt, PLAY, left.as_slice(), script, (0, b"1,1,DONE,120\n", b""));
+            ran(
+                rt,
+                PLAY,
+                left.as_slice(),
+                script,
+                (0, b"1,1,DONE,120\n", b""),
+            );
         }
     }
 }

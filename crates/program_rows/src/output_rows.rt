@@ -4,7 +4,8 @@ ghost use Rattle.ledger_program.specs.Jobs.{HasTills};
 use crate::comparing::{holds, same, same_at};
 use crate::memory::{Memory, Runtime};
 use crate::scenes::{
-    BYTES, CHECK, DRY, FILE, FORMAT, LIST, PLAY, RECORDS, REPAIR, SERVE, SHOW, Words, empty_shop, ends, put,
+    BYTES, CHECK, DRY, FILE, FORMAT, LIST, PLAY, RECORDS, REPAIR, SERVE, SHOW, Words, empty_shop,
+    ends, put,
 };
 use crate::stored::Kind;
 use ledger_commands::Durability;

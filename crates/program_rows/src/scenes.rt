@@ -19,8 +19,7 @@ pub(crate) const SHOW: Words = &[b"ledger_cli", b"show", b"a.d64"];
 
 pub(crate) const PLAY: Words = &[b"ledger_cli", b"play", b"a.d64", b"s.txt"];
 
-pub(crate) const PLAY_SYNC: Words =
-    &[b"ledger_cli", b"play", b"--sync", b"a.d64", b"s.txt"];
+pub(crate) const PLAY_SYNC: Words = &[b"ledger_cli", b"play", b"--sync", b"a.d64", b"s.txt"];
 
 pub(crate) const SERVE: Words = &[b"ledger_cli", b"serve", b"a.d64"];
 
@@ -94,11 +93,7 @@ pub(crate) fn ran(
 pub(crate) type Bytes = (usize, &'static [u8]);
 
 /// The image with these bytes over its own.
-pub(crate) fn changed(
-    rt: &(impl AllocGlobal + Abort),
-    shop: &[u8],
-    changes: &[Bytes],
-) -> Vec<u8> {
+pub(crate) fn changed(rt: &(impl AllocGlobal + Abort), shop: &[u8], changes: &[Bytes]) -> Vec<u8> {
     let mut image = Vec::new(rt.alloc());
     holds(rt, image.extend_from_slice(shop).is_ok(), "there is memory");
     for (at, bytes) in changes {

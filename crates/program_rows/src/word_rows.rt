@@ -21,11 +21,13 @@ fn asked<'a>(rt: &impl AllocGlobal, words: &'a [&'a str]) -> Result<Row<'a>, (u8
             Reading::Show => ("show", path, "", 0),
             Reading::Dry => ("dry", "", path, 0),
         }),
-        Ok(Job::Play {
-            image,
-            script,
-            durability,
-        }) => Ok(match durability {
+        Ok(
+            Job::Play {
+                image,
+                script,
+                durability,
+            },
+        ) => Ok(match durability {
             Durability::EachSector => ("play --sync", image, script, 0),
             Durability::AtEnd => ("play", image, script, 0),
         }),
@@ -86,7 +88,10 @@ fn words_ask_for_a_job(rt: HostRuntime) {
                 &["ledger", "bytes", "a.d64", "ABCDEFGHIJKLMNOP"],
                 ("bytes", "a.d64", "", 16),
             ),
-            (&["ledger", "records", "a.d64", ""], ("records", "a.d64", "", 0)),
+            (
+                &["ledger", "records", "a.d64", ""],
+                ("records", "a.d64", "", 0),
+            ),
             (
                 &["ledger", "format", "a.d64", "--tills", "1"],
                 ("format", "a.d64", "", 1),
