@@ -1,4 +1,5 @@
 pub mod Drawn
+pub mod DrawnOnce
 pub mod Marks
 pub mod Markups
 pub mod Owning

@@ -58,9 +58,9 @@ module _ (f g : Show) (same : (bytes : List ℕ) → IsSameMarkup (f bytes) (g b
   unfolding file_group
   on-file l k d =
       let blocks = each (own_block f l k d) (own_block g l k d)
-          (λ n p. where-so (is_blocks k (owner_of l p)) _ _ (on-block k (name_of d.slot) (n + 1) (length d.blocks) p)) 0 d.blocks in
+      (λ n p. where-so (is_blocks k (owner_of l p)) _ _ (on-block k (name_of d.slot) (n + 1) (length d.blocks) p)) 0 d.blocks in
       let sides = each (own_side f l k d) (own_side g l k d)
-          (λ n p. where-so (is_sides k (owner_of l p)) _ _ (on-side k (name_of d.slot) n p)) 0 d.sides in
+      (λ n p. where-so (is_sides k (owner_of l p)) _ _ (on-side k (name_of d.slot) n p)) 0 d.sides in
       behind (group_head k) _ _ (both _ _ _ _ blocks (before _ _ (codes "</g>\n") sides))
 
   on-drawing : (v : Option Fault) (map : Sector) (l : Layout) → IsSameMarkup (drawing_text f v map l) (drawing_text g v map l)

@@ -1,10 +1,10 @@
 -- What is drawn of a disk, sound or hurt: its directory, and of each entry what its links come to. Our own.
-use Rattle.std.specs.Prelude.{◌≡◌, ◌⊎◌, ℕ, ◌+◌, ◌<◌, ◌≤◌, Bool, ◌&&◌, List, [], ◌∷◌, map, length, take, if◌then◌else◌, nat_eq, IsTrue, IsFalse}
+use Rattle.std.specs.Prelude.{◌≡◌, ◌≢◌, ◌⊎◌, ℕ, Contains, Some, slice_get, ◌+◌, ◌<◌, ◌≤◌, Bool, ◌&&◌, List, [], ◌∷◌, map, length, take, if◌then◌else◌, nat_eq, IsTrue, IsFalse}
 use Rattle.std.specs.List.{AllByRecursion, list_any}
 use Rattle.d64_image.specs.Images.{Image, Sector}
 use Rattle.d64_image.specs.declared.place.Place.{Place}
 use Rattle.disk_layout.specs.AsFar.{IsWalk}
-use Rattle.disk_layout.specs.Chain.{Names, NamesNone}
+use Rattle.disk_layout.specs.Chain.{EachOnce, Names, NamesNone}
 use Rattle.disk_layout.specs.Directory.{IsDirectory, map_place, type_byte}
 use Rattle.disk_layout.specs.Layout.{File, Layout, OwnsNothing, is_rel, sides_for}
 use Rattle.disk_layout.specs.declared.slot.Slot.{Slot}
@@ -69,3 +69,13 @@ file_in f = record { slot = f.slot; blocks = f.blocks.items; last = f.last; side
 -- a drawing as the code holds it
 abbrev pub drawn_in : Drawing → Layout
 drawn_in d = record { directory = d.directory.items; files = map file_in d.files.items }
+
+-- the sector is drawn with this owner, and once: no owner has it twice; and as of nobody where nothing drawn has it
+abbrev pub IsDrawnOnce : Layout → Place → Owner → Type 0
+IsDrawnOnce l p owner.Map = p ≡ map_place
+IsDrawnOnce l p owner.Directory = Contains l.directory p × EachOnce l.directory
+IsDrawnOnce l p (owner.Blocks k) = (f : File) × (slice_get l.files k ≡ Some f) × Contains f.blocks p × EachOnce f.blocks
+IsDrawnOnce l p (owner.Sides k) = (f : File) × (slice_get l.files k ≡ Some f) × Contains f.sides p × EachOnce f.sides
+IsDrawnOnce l p owner.Nobody =
+    (p ≢ map_place) × ¬ (Contains l.directory p)
+    × ((f : File) → Contains l.files f → ¬ (Contains f.blocks p) × ¬ (Contains f.sides p))

@@ -1,8 +1,10 @@
-//! A law of pages, as the contract of a function that does nothing: names bring no markup.
+//! Laws of maps and pages, each the contract of a function that does nothing.
 ghost use Rattle.std.specs.Prelude.{◌≡◌, [], ℕ, List, Option};
-ghost use Rattle.d64_image.specs.Images.{Sector};
+ghost use Rattle.d64_image.specs.Images.{Image, Sector};
+ghost use Rattle.d64_image.specs.declared.place.Place.{Place};
 ghost use Rattle.disk_layout.specs.Layout.{Layout};
 ghost use Rattle.disk_layout.specs.declared.faults.Fault.{Fault};
+ghost use Rattle.disk_pictures.specs.Drawings.{IsDrawn, IsDrawnOnce, owner_of};
 ghost use Rattle.disk_pictures.specs.Html.{html_of};
 ghost use Rattle.disk_pictures.specs.Markup.{IsEscaped, markup_of};
 ghost use Rattle.disk_pictures.specs.Pictures.{page_text, picture_page};
@@ -15,4 +17,11 @@ pub fn names_bring_no_markup()
     ensures escaped { (bytes : List ℕ) → IsEscaped (html_of bytes) }
     ensures page { (v : Option Fault) (map : Sector) (l : Layout)
         → markup_of (picture_page v map l) ≡ markup_of (page_text (λ _. []) v map l) }
+{}
+
+/// Of what is drawn of an image each sector of the disk has the one owner that it is drawn as, which has it; and neither
+/// the directory nor an entry's blocks nor its side sectors have a sector twice. A sector that is drawn as of nobody is
+/// in none of these.
+pub fn sectors_are_drawn_once()
+    ensures { (img : Image) (l : Layout) → IsDrawn img l → (p : Place) → IsDrawnOnce l p (owner_of l p) }
 {}

@@ -1,6 +1,6 @@
-//! Worked rows of bytes as text, of records as lines, and of what is printed of an image's files. Tests only: no
-//! program stands on this crate. They stand here and not in the crates that they test so that the gate proves those
-//! once.
+//! Worked rows of bytes as text, of records as lines, of what is printed of an image's files, and of its map and its
+//! picture. Tests only: no program stands on this crate. They stand here and not in the crates that they test so that
+//! the gate proves those once.
 #![tactic(auto)]
 
 #[cfg(test)]
@@ -15,6 +15,8 @@ mod line_rows;
 mod making_rows;
 #[cfg(test)]
 mod outputs;
+#[cfg(test)]
+mod picture_rows;
 #[cfg(test)]
 mod record_rows;
 #[cfg(test)]

@@ -1,5 +1,5 @@
 -- The file was found and walked, and its bytes were printed; or why not.
-use Rattle.std.proofs.Common.{◌∙◌, Err, List, ap, inr, subst, sym}
+use Rattle.std.proofs.Common.{◌∙◌, Err, List, ℕ, ap, inr, subst, sym}
 use Rattle.std.proofs.lemmas.Result.{IfErr-weaker, err_from_is_err_and}
 use Rattle.std.proofs.KnownBytes.{Appends-kept}
 use Rattle.std.specs.Io.KnownBytes.{Appends}
@@ -8,7 +8,10 @@ use Rattle.d64_image.specs.Memory.{disk_image}
 use Rattle.d64_image.specs.declared.place.Place.{Place}
 use Rattle.keeper_commands.proofs.Files.{fault-there, file-there, has-entries}
 use Rattle.keeper_commands.proofs.Printing.{at-ok}
-use Rattle.keeper_commands.specs.Bytes.{file_bytes}
+use Rattle.keeper_commands.specs.Bytes.{IsBytesFault, file_bytes}
+use Rattle.keeper_commands.specs.Faults.{IsLoadFault}
+use Rattle.keeper_commands.specs.declared.faults.KeepFault.{KeepFault}
+use Rattle.keeper_commands.specs.declared.faults.KeepFault.TheVariants as keep
 use Rattle.keeper_commands.proofs.byte_printing.bytes_image.Goals as goal
 
 pub returns-in-Err-walk_file-clause-err : goal.returns-in-Err-walk_file-clause-err
@@ -61,3 +64,19 @@ returns-clause-ok g c =
           (c.walk_file.ensures.same ∙ same)
           (subst (λ (bs : List Place). Appends before after (file_bytes (disk_image c.walk_file.new.disk) bs c.in-Ok.last)) c.as_slice.ensures.value printed);
     })
+
+load-refused : (image name : List ℕ) (fault : KeepFault) → IsLoadFault image fault → IsBytesFault image name fault
+load-refused image name keep.ImageSize told = told
+load-refused image name keep.NoMemory told = told
+load-refused image name (keep.Layout fault) told = absurd told
+load-refused image name keep.NoFile told = absurd told
+load-refused image name keep.FileExists told = absurd told
+load-refused image name (keep.BadLine k) told = absurd told
+load-refused image name keep.DiskFull told = absurd told
+load-refused image name keep.File told = absurd told
+load-refused image name keep.Device told = absurd told
+
+pub returns-in_err-disk-clause-err : goal.returns-in_err-disk-clause-err
+returns-in_err-disk-clause-err g c =
+    let p = err_from_is_err_and c.from_residual.result c.from_residual.ensures.1 in
+    rw (p.1 ∙ ap Err p.2) (load-refused c.args.image.now c.args.name.now _ c.in_err-disk.ensures.err)
