@@ -3,49 +3,14 @@
 //!   play_plain show IMAGE
 use std::fs::{self, File, OpenOptions};
 use std::io::{self, Write};
-use std::os::unix::fs::FileExt;
 use std::process::exit;
 
 mod plain;
 
 use plain::files::*;
 use plain::messages::*;
-use plain::places::*;
+use plain::mirror::*;
 use plain::shop::{Image, Shop};
-
-/// A disk in memory, each sector of which is written to a file before.
-struct Mirror {
-    file: File,
-    disk: MemDisk,
-}
-
-impl Sectors for Mirror {
-    fn read(&mut self, place: Place, to: &mut Sector) -> Result<(), Fault> {
-        self.disk.read(place, to)
-    }
-
-    fn write(&mut self, place: Place, from: &Sector) -> Result<(), Fault> {
-        self.file.write_all_at(from, 256 * place.index() as u64).map_err(|_| Fault::Device)?;
-        self.disk.write(place, from)
-    }
-}
-
-impl Image for Mirror {
-    fn sectors(&self) -> &[Sector] {
-        self.disk.sectors()
-    }
-}
-
-fn load(path: &str) -> MemDisk {
-    let image = fs::read(path).expect("the image is readable");
-    assert!(image.len() == IMAGE_SIZE, "the image has another size");
-    MemDisk { sectors: image.as_chunks().0.to_vec() }
-}
-
-fn comma_and<W: Write>(out: &mut Out<W>, number: u32) {
-    out.text(b",");
-    out.number(number);
-}
 
 fn play<D: Sectors + Image, W: Write>(shop: &mut Shop<D>, script: &[u8], out: &mut Out<W>) {
     let mut at = 0;
@@ -53,23 +18,7 @@ fn play<D: Sectors + Image, W: Write>(shop: &mut Shop<D>, script: &[u8], out: &m
         if out.used > ROOM - 64 {
             out.flush();
         }
-        let Some((till, number, body, end)) = request(script, at) else {
-            out.text(SYNTAX);
-            at = next_line(script, at);
-            continue;
-        };
-        at = end;
-        out.number(till as u32);
-        comma_and(out, number);
-        out.text(b",");
-        if till > shop.count {
-            out.text(b"NO TILL");
-        } else if let Some(old) = shop.tills.old(till, number, body) {
-            tell_old(out, old);
-        } else {
-            tell(out, shop.trade(till, number, body).expect("the file is written"));
-        }
-        out.text(b"\n");
+        at = play_line(shop, script, at, out);
     }
     out.flush();
 }
@@ -127,10 +76,13 @@ fn main() {
         ["play", image, script] => {
             let script = fs::read(script).expect("the script is readable");
             let file = OpenOptions::new().read(true).write(true).open(image).expect("the image is writable");
-            let mut shop = Shop::open(Mirror { file, disk: load(image) }).expect("a clean shop");
+            let mut shop = Shop::open(Mirror::load(file, false)).expect("a clean shop");
             play(&mut shop, &script, &mut out);
         }
-        ["show", image] => show(&Shop::open(load(image)).expect("a clean shop"), &mut out),
+        ["show", image] => {
+            let file = File::open(image).expect("the image is readable");
+            show(&Shop::open(Mirror::load(file, false)).expect("a clean shop"), &mut out)
+        }
         _ => {
             eprintln!("play_plain play IMAGE SCRIPT | show IMAGE");
             exit(2);

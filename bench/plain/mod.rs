@@ -5,5 +5,6 @@ pub mod checking;
 pub mod files;
 pub mod full_disk;
 pub mod messages;
+pub mod mirror;
 pub mod places;
 pub mod shop;

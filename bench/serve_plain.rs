@@ -1,0 +1,75 @@
+//! What `ledger serve IMAGE [--unsynced]` does and prints, as plain Rust without proofs: the yardstick of serve.sh.
+//! The image has to be a clean shop; the calls of the system are those of the program.
+use std::fs::OpenOptions;
+use std::io::{self, BufRead, Write};
+use std::process::exit;
+
+mod plain;
+
+use plain::messages::*;
+use plain::mirror::*;
+use plain::shop::Shop;
+
+/// How much of a line is kept.
+const KEPT: usize = 40;
+
+fn refuse(text: &str) -> ! {
+    eprintln!("{text}");
+    exit(3)
+}
+
+/// Reads up to the next LF into `line`, of which it keeps so much; false at the end of the input, also behind the
+/// last LF.
+fn read_line<R: BufRead>(input: &mut R, line: &mut Vec<u8>) -> bool {
+    line.clear();
+    loop {
+        let bytes = match input.fill_buf() {
+            Ok(bytes) => bytes,
+            Err(error) if error.kind() == io::ErrorKind::Interrupted => continue,
+            Err(_) => refuse("FILE"),
+        };
+        if bytes.is_empty() {
+            return false;
+        }
+        let end = bytes.iter().position(|&byte| byte == b'\n').map(|at| at + 1);
+        let length = end.unwrap_or(bytes.len());
+        let room = length.min(KEPT + 2 - line.len());
+        line.extend_from_slice(&bytes[..room]);
+        input.consume(length);
+        if end.is_some() {
+            return true;
+        }
+    }
+}
+
+fn serve(image: &str, syncs: bool) {
+    let file = OpenOptions::new().read(true).write(true).open(image).unwrap_or_else(|_| refuse("FILE"));
+    if file.try_lock().is_err() {
+        refuse("IN USE");
+    }
+    if syncs {
+        file.sync_data().unwrap_or_else(|_| refuse("DEVICE"));
+    }
+    let mut shop = Shop::open(Mirror::load(file, syncs)).expect("a clean shop");
+    let mut out = Out { inner: io::stdout().lock(), buffer: [0; ROOM], used: 0 };
+    let mut input = io::stdin().lock();
+    let mut line = Vec::with_capacity(KEPT + 2);
+    while read_line(&mut input, &mut line) {
+        play_line(&mut shop, &line, 0, &mut out);
+        out.flush();
+        let _ = out.inner.flush();
+    }
+}
+
+fn main() {
+    let words: Vec<String> = std::env::args().skip(1).collect();
+    let words: Vec<&str> = words.iter().map(String::as_str).collect();
+    match words[..] {
+        ["serve", image] => serve(image, true),
+        ["serve", image, "--unsynced"] => serve(image, false),
+        _ => {
+            eprintln!("serve_plain serve IMAGE [--unsynced]");
+            exit(2);
+        }
+    }
+}

@@ -1,0 +1,58 @@
+#!/usr/bin/env python3
+"""A shop in SQLite that serves lines as `serve` does, for bench/serve.sh to time beside it:
+
+    bench/serve_sqlite.py DATABASE wal|delete
+
+One table has what is on hand, one the last two requests of each till with their answers; a request that is kept is
+one transaction, which is on the disk before its reply is printed: with the write-ahead log and synchronous=FULL, or
+with the rollback journal that SQLite has by itself."""
+
+import sqlite3
+import sys
+from pathlib import Path
+
+sys.path.insert(0, str(Path(__file__).resolve().parent.parent / "tests"))
+from shop_rule import Shop
+
+TABLES = """
+create table if not exists stock (item integer primary key, quantity integer not null);
+create table if not exists kept (till integer, number integer, kind text, item integer, quantity integer, there integer,
+    answer text, primary key (till, number)) without rowid;
+"""
+
+
+class Database(Shop):
+    """A shop in the two tables."""
+
+    def __init__(self, path, journal):
+        super().__init__()
+        self.base = sqlite3.connect(path, isolation_level=None)
+        self.base.execute(f"pragma journal_mode={journal}")
+        self.base.execute("pragma synchronous=FULL")
+        self.base.executescript(TABLES)
+
+    def on_hand(self, item):
+        row = self.base.execute("select quantity from stock where item = ?", (item,)).fetchone()
+        return row and row[0]
+
+    def last_two(self, till):
+        rows = self.base.execute("select * from kept where till = ? order by number desc", (till,))
+        return [(number, tuple(body), answer) for _, number, *body, answer in rows]
+
+    def keep(self, till, number, body, answer, changes):
+        self.base.execute("begin immediate")
+        self.base.execute("delete from kept where till = ? and number < ?", (till, number - 1))
+        self.base.execute("insert into kept values (?, ?, ?, ?, ?, ?, ?)", (till, number, *body, answer))
+        self.base.executemany("insert or replace into stock values (?, ?)", changes.items())
+        self.base.execute("commit")
+
+
+def main():
+    if len(sys.argv) != 3 or sys.argv[2] not in ("wal", "delete"):
+        sys.exit(__doc__)
+    shop = Database(*sys.argv[1:])
+    for line in sys.stdin:
+        print(shop.reply(line.removesuffix("\n").removesuffix("\r")), flush=True)
+
+
+main()

@@ -1,0 +1,266 @@
+#!/usr/bin/env python3
+"""Tries how the built program begins and ends to serve, where no contract sees it:
+
+    tests/serve_ends.py PROGRAM
+
+PROGRAM is `crates/ledger_cli/out/ledger_cli` (`./ledger --help` makes it). It prints a line for each thing tried:
+- a reply comes while the input stays open, and the lines are answered in order, however they come;
+- unfinished, empty, long and `@` lines, bytes that are no text; a line of many megabytes takes no memory;
+- two programs on one image, a holder that was killed, readers beside readers;
+- an output that is full or closed, an input that is a folder, images that are none;
+- with `strace` installed: each write and each sync of a request fails once (EIO): `MEDIA` and `DEVICE` are told, it
+  isn't tried again, and the next `serve` answers the repeat.
+The status is 1 at the first difference."""
+
+import fcntl
+import os
+import shutil
+import subprocess
+import sys
+import tempfile
+from pathlib import Path
+
+from served import Served, run, script, sure, want
+
+SYNTAX = "30,SYNTAX ERROR,00,00"
+# a request that grows STOCK, changes a card in two sectors, and is kept: nine writes
+GROWS = "1,1,S,15,7"
+# the words that only read an image, and what stands behind it
+READING = [["show"], ["check"], ["list"], ["records", "STOCK"], ["bytes", "STOCK"]]
+
+
+class Ends:
+    def __init__(self, program, folder):
+        self.program, self.folder = program, folder
+        self.image = folder / "shop.d64"
+
+    def fresh(self):
+        sure(self.program, "format", self.image, "--tills", 4)
+
+    def serve(self, *words, **more):
+        return Served(self.program, self.image, *words, **more)
+
+    def served(self, stdin, *words, **more):
+        return run(self.program, "serve", self.image, *words, stdin=stdin, **more)
+
+    def writing(self):
+        """The words that write an image, and what stands behind it; `format` last, which changes it."""
+        empty = script(self.folder, [])
+        return [["serve"], ["play", empty], ["play", empty, "--sync"], ["repair"], ["format", "--tills", 8]]
+
+    def show(self):
+        return sure(self.program, "show", self.image)
+
+    def answered(self, line, reply):
+        """A `serve` from here on answers the line so, and ends well."""
+        want(self.served(f"{line}\n".encode()) == (0, [reply], ""), f"{line} isn't answered {reply}")
+
+    # --- lines
+    # ---------------------------------------------------------------------------------------------------------
+
+    def reply_while_open(self):
+        """Each reply comes while the input stays open, and nothing comes before its line has ended."""
+        self.fresh()
+        for words in [[], ["--unsynced"]]:
+            served = self.serve(*words)
+            for line, reply in [("1,1,S,7,5", "1,1,DONE,5"), ("1,1,S,7,5", "1,1,DONE,5"), ("", SYNTAX)]:
+                served.process.stdin.write(line.encode())
+                served.process.stdin.flush()
+                want(served.silent(0.05), "a reply comes before its line has ended")
+                served.send([""])
+                want(not served.silent(10), "no reply comes while the input stays open")
+                want(served.reply() == reply, f"{line} isn't answered {reply}")
+            want(served.finish() == (0, [], ""), "the end isn't quiet")
+
+    def in_order(self):
+        """Lines that come all at once, and a byte at a time."""
+        lines = [f"{till},{number},R,3,1" for number in range(1, 50) for till in (1, 2, 3)]
+        replies = sure(self.program, "dry", script(self.folder, lines))
+        text = "".join(line + "\n" for line in lines).encode()
+        self.fresh()
+        want(self.served(text) == (0, replies, ""), "lines that come at once are answered otherwise")
+        self.fresh()
+        served = self.serve()
+        for byte in text:
+            os.write(served.process.stdin.fileno(), bytes([byte]))
+        want(served.finish() == (0, replies, ""), "lines that come by the byte are answered otherwise")
+
+    def unfinished(self):
+        """What stands behind the last LF is no line: a message that broke off isn't handled as it stands."""
+        self.fresh()
+        want(self.served(b"1,1,S,42,10\n1,2,I,42,1") == (0, ["1,1,DONE,10"], ""), "an unfinished line is answered")
+        want("CARD 42,10" in self.show(), "an unfinished line is handled")
+        self.answered("1,2,I,42,10", "1,2,DONE,0")
+        want(self.served(b"") == (0, [], ""), "an empty input isn't quiet")
+
+    def odd_lines(self):
+        """Lines outside the grammar have one reply each and change nothing."""
+        self.fresh()
+        longest = b"64,999999999,M,65535,999999999,65534"
+        odd = [b"", b"@0 1,1,S,1,1", b"@3/2 1,1,S,1,1", b"@", b"hello", b"1,1,S,1,1 ", b" 1,1,S,1,1", b"\xff\x00\xfe"]
+        odd += [b"1,1,S,1,1\r\r", longest + b"0", b"1,1,S,1,1," + b"0" * 31]
+        odd += [b"7" * length for length in (40, 41, 42, 64, 8191, 8192, 8193)]
+        before = self.show()
+        replies = self.served(b"\n".join(odd) + b"\n")
+        want(replies == (0, [SYNTAX] * len(odd), ""), "lines outside the grammar are answered otherwise")
+        want(self.show() == before, "a line outside the grammar has changed the shop")
+        want(self.served(longest + b"\r\n") == (0, ["64,999999999,NO TILL"], ""), "the longest message isn't read")
+        want(self.served(b"1,1,S,1,1\r\n") == (0, ["1,1,DONE,1"], ""), "CR LF isn't the end of a line")
+
+    def long_line(self):
+        """A line of ten megabytes takes no memory."""
+        self.fresh()
+        served = self.serve()
+        want(served.ask("1,1,S,1,1") == "1,1,DONE,1", "1,1,S,1,1 isn't answered")
+        before = peak(served.process.pid)
+        want(served.ask("1" * 10_000_000) == SYNTAX, "a long line isn't answered")
+        want(served.ask("1,2,S,1,2") == "1,2,DONE,2", "the line behind a long one isn't answered")
+        grown = peak(served.process.pid) - before
+        want(grown < 100, f"a line of ten megabytes takes {grown} kB")
+        want(served.finish() == (0, [], ""), "the end isn't quiet")
+
+    # --- the lock
+    # ------------------------------------------------------------------------------------------------------
+
+    def in_use(self):
+        """Every word beside a `serve` is refused, and changes nothing; when it has ended, or was killed, none is."""
+        self.fresh()
+        holder = self.serve()
+        want(holder.ask("1,1,S,1,1") == "1,1,DONE,1", "1,1,S,1,1 isn't answered")
+        held = self.image.read_bytes()
+        for word, *rest in [*READING, *self.writing()]:
+            got = run(self.program, word, self.image, *rest, stdin=b"1,2,S,1,9\n")
+            want(got == (3, [], "IN USE"), f"{word} beside a serve: {got}")
+            want(self.image.read_bytes() == held, f"{word} beside a serve has changed the image")
+        want(holder.ask("1,2,R,1,1") == "1,2,DONE,2", "the holder doesn't serve on")
+        want(holder.finish() == (0, [], ""), "the end isn't quiet")
+        self.answered("1,2,R,1,1", "1,2,DONE,2")
+        killed = self.serve()
+        want(killed.ask("1,3,R,1,1") == "1,3,DONE,3", "1,3,R,1,1 isn't answered")
+        killed.kill()
+        self.answered("1,3,R,1,1", "1,3,DONE,3")
+
+    def readers(self):
+        """Beside one that reads, the words that only read run and those that write are refused; beside one that
+        writes, all are."""
+        self.fresh()
+        for mode, refused in [(fcntl.LOCK_SH, False), (fcntl.LOCK_EX, True)]:
+            with open(self.image, "rb") as other:
+                fcntl.flock(other, mode)
+                beside = "a writer" if refused else "a reader"
+                for words in [*READING, *self.writing()]:
+                    status, _, err = run(self.program, words[0], self.image, *words[1:])
+                    wanted = (3, "IN USE") if refused or words not in READING else (0, "")
+                    want((status, err) == wanted, f"{words[0]} beside {beside}: {status}, {err}")
+
+    # --- files
+    # ---------------------------------------------------------------------------------------------------------
+
+    def output_fails(self):
+        """An output that is full, or that nobody reads: `FILE`; the line stands, and its repeat is answered."""
+        self.fresh()
+        with open("/dev/full", "w") as full:
+            served = self.serve(stdout=full)
+        served.send(["1,1,S,1,5"])
+        told = served.process.wait(10), served.process.stderr.read()
+        want(told == (3, b"FILE\n"), f"an output that is full: {told}")
+        self.answered("1,1,S,1,5", "1,1,DONE,5")
+        served = self.serve()
+        want(served.ask("1,2,R,1,1") == "1,2,DONE,6", "1,2,R,1,1 isn't answered")
+        served.process.stdout.close()
+        served.send(["1,3,R,1,1"])
+        want(served.process.wait(10) in (3, -13), "it serves on though nobody reads")
+        self.answered("1,3,R,1,1", "1,3,DONE,7")
+
+    def input_fails(self):
+        """An input that is a folder."""
+        self.fresh()
+        folder = os.open(self.folder, os.O_RDONLY)
+        served = self.serve(stdin=folder)
+        os.close(folder)
+        want(served.process.wait(10) == 3, "an input that is a folder doesn't end in status 3")
+        told = served.process.stderr.read().decode().strip()
+        want(told == "FILE", f"an input that is a folder: {told}")
+        self.answered("1,1,S,1,1", "1,1,DONE,1")
+
+    def no_image(self):
+        """Images that are none: told as `play` tells them, and nothing is read or changed."""
+        self.fresh()
+        whole = self.image.read_bytes()
+        # the first block of STOCK links to a track that there isn't
+        broken = bytearray(whole)
+        broken[256 * 336] = 40
+        size, broken_link = "IMAGE SIZE", "LAYOUT BADLINK 17/0"
+        for held, fault in [(whole[:-1], size), (whole + b"\0", size), (b"", size), (bytes(broken), broken_link)]:
+            self.image.write_bytes(held)
+            by_play = run(self.program, "play", self.image, script(self.folder, []))
+            by_serve = self.served(b"1,1,S,1,1\n")
+            want(by_serve == by_play == (1, [], fault), f"{fault} is told as {by_serve}, and by play as {by_play}")
+            want(self.image.read_bytes() == held, "an image that is refused has changed")
+        for path in [self.folder / "none.d64", self.folder]:
+            got = run(self.program, "serve", path, stdin=b"1,1,S,1,1\n")
+            want(got == (3, [], "FILE"), f"serve {path}: {got}")
+        want(not (self.folder / "none.d64").exists(), "an image that isn't there was made")
+
+    # --- a medium that fails
+    # -------------------------------------------------------------------------------------------
+
+    def device_fails(self, call, first):
+        """The call fails once, at its first time, its second, and so on, until a whole run has no more of them; how
+        often."""
+        times = 0
+        while True:
+            times += 1
+            self.fresh()
+            shown = self.show()
+            served = Served(self.program, self.image, before=injecting(call, times))
+            reply = served.ask(GROWS)
+            status, out, err = served.finish()
+            if (status, reply) == (0, "1,1,DONE,7"):
+                return times - 1
+            where = f"{call} fails at its time {times}"
+            if reply is None:
+                want(times == first and (status, err) == (3, "DEVICE"), f"{where}: status {status}, {err}")
+                want(self.show() == shown, f"{where}: the shop has changed before a line was read")
+            else:
+                ended = reply, out, status, err
+                want(ended == ("1,1,MEDIA", [], 3, "DEVICE"), f"{where}: {ended}")
+            self.answered(GROWS, "1,1,DONE,7")
+            want(sure(self.program, "check", self.image) == ["OK"], f"{where}: check isn't OK behind it")
+
+
+def injecting(call, times):
+    inject = f"inject={call}:error=EIO:when={times}"
+    return ["strace", "-f", "-qq", "-o", os.devnull, "-e", f"trace={call}", "-e", inject]
+
+
+def peak(process):
+    """The most memory in kB that a process has had."""
+    status = Path(f"/proc/{process}/status").read_text()
+    return int(status.split("VmHWM:")[1].split()[0])
+
+
+def try_device(ends):
+    if not shutil.which("strace"):
+        print("writes and syncs that fail: not tried, there is no strace (Debian's package strace)")
+        return
+    writes = ends.device_fails("pwrite64", None)
+    syncs = ends.device_fails("fdatasync", 1)
+    want(writes > 0 and syncs > writes, f"{writes} writes and {syncs} syncs")
+    each = f"each of {writes} writes and {syncs} syncs of a request"
+    print(f"{each} fails once: MEDIA, DEVICE, and the repeat is answered")
+
+
+def main():
+    if len(sys.argv) < 2:
+        sys.exit(__doc__)
+    with tempfile.TemporaryDirectory() as folder:
+        ends = Ends(str(Path(sys.argv[1]).resolve()), Path(folder))
+        lines = [ends.reply_while_open, ends.in_order, ends.unfinished, ends.odd_lines, ends.long_line]
+        for tried in [*lines, ends.in_use, ends.readers, ends.output_fails, ends.input_fails, ends.no_image]:
+            tried()
+            print(f"{tried.__name__}: {' '.join(tried.__doc__.split())}", flush=True)
+        try_device(ends)
+
+
+main()

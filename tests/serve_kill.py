@@ -1,0 +1,119 @@
+#!/usr/bin/env python3
+"""Kills the built program while it serves a day of requests, and looks at what it left:
+
+    tests/serve_kill.py PROGRAM [KILLS] [SEED]
+
+PROGRAM is `crates/ledger_cli/out/ledger_cli` (`./ledger --help` makes it). A client sends the lines of days of 1,500
+lines of 64 tills, one at a time or up to eight ahead; `serve`, synced or not, is killed (SIGKILL) at random moments,
+also while it opens the shop, and started again at once: it is never told `IN USE`, for the lock falls with the
+process. What wasn't answered is sent again.
+- Each reply is the one that `dry` gives, in order, and `show` after a kill tells a shop.
+- Behind each day `check` says OK, and `show` prints the same as of a disk on which the day was played without a kill.
+It prints how much was tried. The status is 1 at the first difference."""
+
+import os
+import random
+import signal
+import sys
+import tempfile
+import threading
+import time
+from pathlib import Path
+
+from days import TILLS, day
+from served import Served, script, sure, want
+
+
+class Client:
+    """Sends lines to a `serve` that is killed now and then, until each has its reply."""
+
+    def __init__(self, program, folder, draw, words):
+        self.program, self.folder, self.draw, self.words = program, folder, draw, words
+        self.image = folder / "shop.d64"
+        self.kills = self.missed = self.lines = 0
+        # the seconds that a turn takes
+        self.turn = 0.005
+
+    def killer(self, served, answered):
+        """Kills within the time of an opening, or of two turns."""
+        return threading.Timer(self.draw.uniform(0, 2 * self.turn if answered else 0.01), served.process.kill)
+
+    def live(self, lines, replies, mortal):
+        """One life of `serve`: how many of the lines were answered before it was killed, or all."""
+        ahead, doomed = self.draw.choice([1, 1, 8]), self.draw.choice([0, self.draw.randint(1, 40)])
+        served, killer, answered, sent = Served(self.program, self.image, *self.words), None, 0, 0
+        while answered < len(lines):
+            if mortal and killer is None and answered >= doomed:
+                killer = self.killer(served, answered)
+                killer.start()
+            started = time.monotonic()
+            sent = min(answered + ahead, len(lines))
+            answered += self.turn_of(served, lines[answered:sent], replies[answered:sent])
+            if answered < sent:
+                break
+            self.turn = 0.9 * self.turn + 0.1 * (time.monotonic() - started)
+        if killer:
+            killer.join()
+        self.buried(served, answered, sent, len(lines))
+        return answered
+
+    def turn_of(self, served, lines, replies):
+        """Sends these lines and reads their replies; how many there were."""
+        served.send(lines)
+        for told, (line, reply) in enumerate(zip(lines, replies)):
+            heard = served.reply()
+            if heard is None:
+                return told
+            want(heard == reply, f"{line!r} is told {heard!r}, not {reply!r}")
+        return len(lines)
+
+    def buried(self, served, answered, sent, count):
+        """Judges the end of a life."""
+        status, out, err = served.finish()
+        want(not out, f"{out} is printed for no line")
+        if status == -signal.SIGKILL:
+            self.kills += 1
+            self.missed += answered < sent
+            sure(self.program, "show", self.image)
+        else:
+            want(status == 0 and answered == count, f"status {status}, {err}, with {answered} of {count} answered")
+
+    def one_day(self, kills):
+        """A day with so many kills at most."""
+        lines = day(self.draw)
+        replies = sure(self.program, "dry", script(self.folder, lines))
+        sure(self.program, "format", self.image, "--tills", TILLS)
+        before, answered = self.kills, 0
+        while answered < len(lines):
+            mortal = self.kills - before < kills
+            answered += self.live(lines[answered:], replies[answered:], mortal)
+        self.lines += len(lines)
+        self.judge(lines)
+
+    def judge(self, lines):
+        """Compares the disk with one on which the lines were played without a kill."""
+        other = self.folder / "other.d64"
+        sure(self.program, "format", other, "--tills", TILLS)
+        sure(self.program, "play", other, script(self.folder, lines, "played.txt"))
+        shown = [sure(self.program, "show", image) for image in (self.image, other)]
+        want(shown[0] == shown[1], "the shop isn't that of the same day without a kill")
+        want(sure(self.program, "check", self.image) == ["OK"], "check isn't OK")
+
+
+def main():
+    if len(sys.argv) < 2:
+        sys.exit(__doc__)
+    program = str(Path(sys.argv[1]).resolve())
+    kills = int(sys.argv[2]) if len(sys.argv) > 2 else 1000
+    draw = random.Random(int(sys.argv[3]) if len(sys.argv) > 3 else 1541)
+    with tempfile.TemporaryDirectory() as folder:
+        for words in [[], ["--unsynced"]]:
+            client = Client(program, Path(folder), draw, words)
+            while client.kills < kills // 2:
+                client.one_day(min(100, kills // 2 - client.kills))
+            how = " ".join(["serve", *words])
+            missed = f"{client.missed} of them left lines without a reply"
+            print(f"{how}: {client.kills} kills, {missed}, {client.lines} lines: no difference", flush=True)
+
+
+main()

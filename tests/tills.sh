@@ -1,0 +1,34 @@
+#!/bin/sh
+# Tills, bridges and `serve` over brokers, all of which are killed now and then:
+#   tests/tills.sh PROGRAM [full]
+# PROGRAM is `crates/ledger_cli/out/ledger_cli` (`./ledger --help` makes it). Without `full` 8 tills with 40 wishes
+# each over RabbitMQ and over MQTT, some two minutes; with it 64 tills and 20,000 wishes over RabbitMQ, and 64 and
+# 3,200 over MQTT. It wants Debian's packages rabbitmq-server, mosquitto, python3-pika and python3-paho-mqtt, and
+# installs nothing; the brokers are its own, on the loopback address. tests/tills.py says what is compared. The status
+# is 1 at the first difference.
+set -eu
+top="$(CDPATH= cd -- "$(dirname -- "$0")/.." && pwd)"
+program="${1:?"which program?"}"
+for file in /usr/lib/rabbitmq/bin/rabbitmq-server /usr/sbin/mosquitto; do
+    [ -e "$file" ] || { echo "tills: there is no $file (Debian's rabbitmq-server and mosquitto)" >&2; exit 1; }
+done
+/usr/bin/python3 -c "import pika, paho.mqtt.client" 2>/dev/null ||
+    { echo "tills: Debian's python3-pika and python3-paho-mqtt aren't there" >&2; exit 1; }
+
+# a till and a bridge without a broker
+work=$(mktemp -d)
+trap 'rm -rf "$work"' EXIT
+printf 'S,1,10\nI,1,3\nI,1,8\n' >"$work/wishes"
+"$program" format "$work/shop.d64" --tills 4 >/dev/null
+"$top/examples/tills/till.py" 2 --book "$work/book" --wishes "$work/wishes" \
+    --pipe "'$top/examples/tills/bridge.py' '$work/shop.d64' --pipes --program '$program'" >"$work/answers"
+printf '1 S,1,10 DONE,10\n2 I,1,3 DONE,7\n3 I,1,8 SHORT,7\n' | cmp - "$work/answers"
+echo "a till and a bridge over pipes: no difference"
+
+if [ "${2:-}" = full ]; then
+    "$top/tests/tills.py" "$program" --over rabbit --tills 64 --wishes 313 --every 30 --longest 3600 --timed 2000
+    "$top/tests/tills.py" "$program" --over mqtt --tills 64 --wishes 50 --every 30 --longest 3600 --timed 2000
+else
+    "$top/tests/tills.py" "$program" --over rabbit
+    "$top/tests/tills.py" "$program" --over mqtt
+fi
