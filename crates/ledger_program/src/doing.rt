@@ -13,6 +13,7 @@ use crate::names::Name;
 use crate::owning::{finished, own, read_own, read_shared, share};
 use crate::refusals::Refusal;
 use crate::running::{format_run, play_run, reading_run};
+use crate::serving_runs::serve_run;
 use disk_layout::Fault;
 use host_session::Printer;
 use keeper_commands::KeepFault;
@@ -21,7 +22,7 @@ use ledger_commands::{
 };
 use std::alloc::Global;
 use std::fs::{File, OpenFile};
-use std::io::{self, Read, Write};
+use std::io::{self, BufReader, Read, Write};
 use std::rt::Files;
 
 /// What came of the system's part of a job, as it is told.
@@ -181,6 +182,35 @@ where
     job_end(finished(&mut file, ended))
 }
 
+/// Serves the shop of the image at a path, over its file, to what comes on standard input.
+fn do_serving<F, R, W>(
+    rt: &R,
+    path: &str,
+    durability: Durability,
+    out: &mut W,
+) -> Result<Option<Fault>, Refusal>
+where
+    F: Read + Locks + Drop,
+    R: Files<File = F> + Input + AllocGlobal,
+    W: Write,
+{
+    let mut file = told(opened(rt, path))?;
+    own(&mut file, durability)?;
+    let image = told(read_own(rt.alloc(), &mut file, durability))?;
+    // A bare reader of standard input reads a byte a call.
+    let mut input = told(BufReader::new(rt.alloc(), rt.reader()))?;
+    let file = Placed::lasting(file, durability);
+    let mut printer = Printer::new(out);
+    let (mut file, ended) = serve_run(
+        rt.alloc(),
+        image.as_slice(),
+        file,
+        &mut input,
+        &mut printer,
+    );
+    job_end(finished(&mut file, ended))
+}
+
 /// Repairs the image at a path, over its file. Each sector is brought to the disk before the next is written.
 fn do_repair<F, R, W>(rt: &R, path: &str, out: &mut W) -> Result<Option<Fault>, Refusal>
 where
@@ -236,7 +266,8 @@ where
 
 /// Opens or reads the job's files and does it; what is printed goes to `out`, which is flushed at the end. An image is locked
 /// before anything of it is read or changed: alone where it is written. `InUse` where another program has it; `File` where a
-/// file couldn't be opened or read, and the faults of `reading_run`, `format_run`, `play_run`, `repair_run` and `taking_run`.
+/// file couldn't be opened or read, and the faults of `reading_run`, `format_run`, `play_run`, `serve_run`,
+/// `repair_run` and `taking_run`.
 pub fn do_job<F, R, W>(rt: &R, job: &Job<'_>, out: &mut W) -> Result<Option<Fault>, Refusal>
 where
     F: EndedFile + Read + Locks + OpenFile + Drop,
@@ -252,6 +283,7 @@ where
             script,
             durability,
         } => do_playing(rt, image, script, *durability, out),
+        Job::Serve { image, durability } => do_serving(rt, image, *durability, out),
         Job::Repair { image } => do_repair(rt, image, out),
         Job::Take { what, image, name } => do_taking(rt, *what, image, name, out),
     }

@@ -50,6 +50,13 @@ pub enum Job<'a> {
         /// When its sectors are brought to the disk.
         durability: Durability,
     },
+    /// The requests that come on standard input, line by line, to the shop of an image.
+    Serve {
+        /// The image's path.
+        image: &'a str,
+        /// When its sectors are brought to the disk.
+        durability: Durability,
+    },
     /// The map, the side sectors and the block counts of an image, made right.
     Repair {
         /// The image's path.

@@ -42,6 +42,10 @@ show = over_image (codes "show")
 abbrev pub play : App
 play = with_rule (with_rule (over_image (codes "play")) (required (codes "SCRIPT"))) (flag (codes "sync"))
 
+-- serve IMAGE [--unsynced]
+abbrev pub serve : App
+serve = with_rule (over_image (codes "serve")) (flag (codes "unsynced"))
+
 -- repair IMAGE
 abbrev pub repair : App
 repair = over_image (codes "repair")
@@ -73,8 +77,8 @@ bare = with_required_subcommand (with_version (new_app (codes "ledger_cli")))
 -- the program with its subcommands
 abbrev pub ledger : App
 ledger = with_subcommand (with_subcommand (with_subcommand (with_subcommand (with_subcommand (with_subcommand
-    (with_subcommand (with_subcommand (with_subcommand bare format.top) list.top) check.top) show.top) play.top)
-    repair.top) records.top) bytes.top) dry.top
+    (with_subcommand (with_subcommand (with_subcommand (with_subcommand bare format.top) list.top) check.top) show.top)
+    play.top) serve.top) repair.top) records.top) bytes.top) dry.top
 
 -- this is that subcommand, and none of its values is one of the program's
 pub record IsSubcommand (app : App) (c : Command) : Type 0 where

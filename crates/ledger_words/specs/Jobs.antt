@@ -57,7 +57,11 @@ is_given flag rows = bytes_eq (value flag rows) (codes "true")
 abbrev pub play_durability : List Row → Durability
 play_durability rows = if is_given (codes "sync") rows then durabilities.EachSector else durabilities.AtEnd
 
--- what a file of a disk is called by this text: no bytes
+-- and that of a shop that is served: behind each sector, but with --unsynced at the end
+abbrev pub serve_durability : List Row → Durability
+serve_durability rows = if is_given (codes "unsynced") rows then durabilities.AtEnd else durabilities.EachSector
+
+-- the text of NAME is no file's name
 abbrev pub HasNoName : List Row → Type 0
 HasNoName rows = (bytes : List ℕ) → AreBytes bytes → ¬ (IsNameOf (value (codes "NAME") rows) bytes)
 
@@ -68,6 +72,8 @@ IsJob found (jobs.Format image tills) = Has found (codes "format")
 IsJob found (jobs.Read what path) = Has found (word_of what) (λ rows. path.now ≡ value (file_of what) rows)
 IsJob found (jobs.Play image script durability) = Has found (codes "play")
     (λ rows. (image.now ≡ value (codes "IMAGE") rows) × (script.now ≡ value (codes "SCRIPT") rows) × (durability ≡ play_durability rows))
+IsJob found (jobs.Serve image durability) = Has found (codes "serve")
+    (λ rows. (image.now ≡ value (codes "IMAGE") rows) × (durability ≡ serve_durability rows))
 IsJob found (jobs.Repair image) = Has found (codes "repair") (λ rows. image.now ≡ value (codes "IMAGE") rows)
 IsJob found (jobs.Take what image name) = Has found (word_of_taking what)
     (λ rows. (image.now ≡ value (codes "IMAGE") rows) × IsNameOf (value (codes "NAME") rows) (name_bytes name))

@@ -141,6 +141,16 @@ fn play_command<'a>(alloc: Global) -> Result<Command<'a>, AllocError>
     takes(play, flag(alloc, "sync", help))
 }
 
+/// `serve IMAGE [--unsynced]`
+fn serve_command<'a>(alloc: Global) -> Result<Command<'a>, AllocError>
+    ensures { IfOk result (grammar.IsSubcommand grammar.serve) }
+{
+    let about = "Answers the messages that come on standard input, each before the next is read";
+    let help = "Leaves it to the system when sectors come to the disk";
+    let unsynced = flag(alloc, "unsynced", help);
+    takes(over_image(alloc, "serve", about), unsynced)
+}
+
 /// `repair IMAGE`
 fn repair_command<'a>(alloc: Global) -> Result<Command<'a>, AllocError>
     ensures { IfOk result (grammar.IsSubcommand grammar.repair) }
@@ -227,6 +237,7 @@ pub fn ledger_command<'a>(alloc: Global) -> Result<Command<'a>, AllocError>
     let program = adds(program, check_command(alloc));
     let program = adds(program, show_command(alloc));
     let program = adds(program, play_command(alloc));
+    let program = adds(program, serve_command(alloc));
     let program = adds(program, repair_command(alloc));
     let program = adds(program, records_command(alloc));
     let program = adds(program, bytes_command(alloc));

@@ -4,8 +4,8 @@ ghost use Rattle.clap.specs.Words.{HasKind, fault_of, found_of, rows_of, subcomm
 ghost use Rattle.ledger_words.specs.Grammar.{ledger, value};
 ghost use Rattle.request_cards.specs.Reading.{number_in};
 ghost use Rattle.ledger_program.specs.Jobs.{HasTills};
-ghost use Rattle.ledger_words.specs.Jobs.{IsJob, IsNoJob, IsParse, IsTakingJob, play_durability};
-ghost use Rattle.ledger_words.specs.Jobs.{is_given as given};
+ghost use Rattle.ledger_words.specs.Jobs.{IsJob, IsNoJob, IsParse, IsTakingJob};
+ghost use Rattle.ledger_words.specs.Jobs.{is_given as given, play_durability as of_play, serve_durability as of_serve};
 
 use crate::faults::JobFault;
 use crate::grammar::ledger_command;
@@ -49,13 +49,24 @@ fn is_given<'a>(matches: &ArgMatches<'a>, flag: &str) -> bool
 }
 
 /// When the image of a play is brought to the disk.
-fn durability_of<'a>(matches: &ArgMatches<'a>) -> Durability
-    ensures { result ≡ play_durability (rows_of (found_of matches.now)) }
+fn play_durability<'a>(matches: &ArgMatches<'a>) -> Durability
+    ensures { result ≡ of_play (rows_of (found_of matches.now)) }
 {
     if is_given(matches, "sync") {
         Durability::EachSector
     } else {
         Durability::AtEnd
+    }
+}
+
+/// When the image that is served is brought to the disk.
+fn serve_durability<'a>(matches: &ArgMatches<'a>) -> Durability
+    ensures { result ≡ of_serve (rows_of (found_of matches.now)) }
+{
+    if is_given(matches, "unsynced") {
+        Durability::AtEnd
+    } else {
+        Durability::EachSector
     }
 }
 
@@ -101,7 +112,11 @@ fn chosen<'a>(matches: &ArgMatches<'a>) -> Result<Job<'a>, JobFault>
         "play" => Ok(Job::Play {
             image,
             script,
-            durability: durability_of(found),
+            durability: play_durability(found),
+        }),
+        "serve" => Ok(Job::Serve {
+            image,
+            durability: serve_durability(found),
         }),
         "repair" => Ok(Job::Repair { image }),
         "records" => taking(found, Taking::Records, image),

@@ -1,8 +1,10 @@
 //! Scripts played by the whole program, what is shown then, and what is refused.
-use crate::comparing::holds;
+use crate::comparing::{holds, same_at};
+use crate::memory::Memory;
 use crate::scenes::{
-    Bytes, CHECK, DRY, LIST, PLAY, SHOW, bytes_at, changed, empty_shop, ran,
+    Bytes, CHECK, DRY, LIST, PLAY, SERVE, SHOW, bytes_at, changed, empty_shop, ends, put, ran,
 };
+use crate::stored::Kind;
 use std::process::Abort;
 
 /// Scripts on an empty shop, what is printed of each, and what is shown of the image then.
@@ -72,6 +74,7 @@ fn each_is_no_shop(rt: &(impl AllocGlobal + Abort), shop: &[u8], rows: &[(&[Byte
     for (changes, told) in rows {
         let image = changed(rt, shop, *changes);
         ran(rt, SHOW, image.as_slice(), b"", (1, b"", *told));
+        ran(rt, SERVE, image.as_slice(), b"", (1, b"", *told));
         not_played(rt, image.as_slice(), b"1,1,S,1,5\n", *told);
     }
 }
@@ -80,6 +83,25 @@ fn each_is_no_shop(rt: &(impl AllocGlobal + Abort), shop: &[u8], rows: &[(&[Byte
 fn what_is_no_shop_is_told(rt: HostRuntime) {
     let shop = empty_shop(&rt);
     each_is_no_shop(&rt, shop.as_slice(), &NO_SHOPS);
+}
+
+/// Messages as they come, and the replies: a repeat, a line that begins with `@`, an empty one, one that is too long; what
+/// lacks its end of line isn't handled.
+const SERVED: &[u8] =
+    b"1,1,S,42,120\n1,1,S,42,120\r\n@1 x\n\n1,2,I,42,1                              \n1,2,I,42,1";
+
+const REPLIES: &[u8] = b"1,1,DONE,120\n1,1,DONE,120\n30,SYNTAX ERROR,00,00\n30,SYNTAX ERROR,00,00\n30,SYNTAX ERROR,00,00\n";
+
+#[test]
+fn lines_are_served(rt: HostRuntime) {
+    let shop = empty_shop(&rt);
+    let memory = Memory::new(rt.alloc(), SERVE, SERVED);
+    put(&rt, &memory.image, Kind::Plain, shop.as_slice());
+    ends(&rt, &memory, (0, REPLIES, b""), "lines as they come");
+    same_at(&rt, memory.prints.get(), 5, "a write each");
+    let after = bytes_at(&rt, &memory.image);
+    let shown = b"TOP 9256\nCARD 42,120\nTILL 1,1,S,42,120,DONE,120\n";
+    ran(&rt, SHOW, after.as_slice(), b"", (0, shown, b""));
 }
 
 #[test]

@@ -2,14 +2,15 @@
 use crate::comparing::{holds, same_at};
 use crate::memory::Memory;
 use crate::scenes::{
-    BYTES, CHECK, DRY, End, FILE, FORMAT, LIST, PLAY, RECORDS, REPAIR, SHOW, Words, bytes_at,
+    BYTES, CHECK, DRY, End, FILE, FORMAT, LIST, PLAY, RECORDS, REPAIR, SERVE, SHOW, Words, bytes_at,
     empty_shop, ends, put, ran, repeated,
 };
 use crate::stored::Kind;
 use std::process::Abort;
 
 /// Words, and what stands at the image's path and at the script's, so that a file can't be opened, read or written.
-const CLOSED: [(Words, Kind, Kind, &str); 19] = [
+const CLOSED: [(Words, Kind, Kind, &str); 20] = [
+    (SERVE, Kind::Missing, Kind::Plain, "serve of no image"),
     (REPAIR, Kind::Missing, Kind::Plain, "repair of no image"),
     (
         REPAIR,
@@ -98,7 +99,7 @@ fn an_image_replaces_a_file(rt: HostRuntime) {
 
 /// Sees that an image of another size is refused by each job, and left as it is.
 fn is_no_image(rt: &(impl AllocGlobal + Abort), image: &[u8]) {
-    for words in [LIST, CHECK, SHOW, PLAY, REPAIR, RECORDS, BYTES] {
+    for words in [LIST, CHECK, SHOW, PLAY, SERVE, REPAIR, RECORDS, BYTES] {
         let memory = Memory::new(rt.alloc(), words, b"");
         put(rt, &memory.image, Kind::Plain, image);
         put(rt, &memory.script, Kind::Plain, b"1,1,S,1,5\n");

@@ -2,8 +2,8 @@
 use crate::comparing::{holds, same_at};
 use crate::memory::Memory;
 use crate::scenes::{
-    BYTES, CHECK, End, FILE, FORMAT, LIST, PLAY, PLAY_SYNC, RECORDS, REPAIR, SHOW, Words, bytes_at,
-    empty_shop, ends, put, ran,
+    BYTES, CHECK, End, FILE, FORMAT, LIST, PLAY, PLAY_SYNC, RECORDS, REPAIR, SERVE, SHOW, Words,
+    bytes_at, empty_shop, ends, put, ran,
 };
 use crate::stored::{Kind, Others};
 use std::process::Abort;
@@ -12,7 +12,9 @@ use std::process::Abort;
 const IN_USE: End<'static> = (3, b"", b"IN USE\n");
 
 /// Words, what others do with the image, and how the program ends.
-const LOCKED: [(Words, Others, End<'static>, &str); 14] = [
+const LOCKED: [(Words, Others, End<'static>, &str); 16] = [
+    (SERVE, Others::Alone, IN_USE, "serve of an image in use"),
+    (SERVE, Others::Reading, IN_USE, "serve of one that is read"),
     (REPAIR, Others::Alone, IN_USE, "repair of an image in use"),
     (REPAIR, Others::Reading, IN_USE, "repair of one that is read"),
     (RECORDS, Others::Alone, IN_USE, "records of an image in use"),
@@ -72,7 +74,7 @@ fn images_in_use_are_told(rt: HostRuntime) {
     each_is_locked(&rt, &LOCKED, shop.as_slice());
 }
 
-/// A play's words and script, the number of the sync that fails (0: none), how it ends, and how many syncs there were; None
+/// Words, the messages that are played or served, the number of the sync that fails (0: none), how it ends, and how many syncs there were; None
 /// where there was one behind each write and one before the first.
 type Synced = (
     Words,
@@ -82,7 +84,13 @@ type Synced = (
     Option<usize>,
 );
 
-const SYNCED: [Synced; 7] = [
+const UNSYNCED: Words = &[b"ledger_cli", b"serve", b"a.d64", b"--unsynced"];
+
+const SYNCED: [Synced; 11] = [
+    (SERVE, b"1,1,S,42,120\n", 0, (0, b"1,1,DONE,120\n", b""), None),
+    (SERVE, b"1,1,S,42,120\n", 1, (3, b"", b"DEVICE\n"), Some(1)),
+    (SERVE, b"1,1,S,42,120\n", 3, (3, b"1,1,MEDIA\n", b"DEVICE\n"), Some(3)),
+    (UNSYNCED, b"1,1,S,42,120\n", 0, (0, b"1,1,DONE,120\n", b""), Some(1)),
     (PLAY, b"1,1,S,42,120\n", 0, (0, b"1,1,DONE,120\n", b""), Some(1)),
     (PLAY, b"1,1,S,42,120\n", 1, (3, b"1,1,DONE,120\n", b"DEVICE\n"), Some(1)),
     (PLAY, b"@01 x\n", 0, (1, b"", b"SCRIPT LINE 1\n"), Some(0)),
@@ -92,10 +100,10 @@ const SYNCED: [Synced; 7] = [
     (PLAY_SYNC, b"", 0, (0, b"", b""), Some(1)),
 ];
 
-/// Sees that each play ends so, and that another of the same script gives the answer then.
+/// Sees that each ends so, and that a play of the same messages gives the answer then.
 fn each_is_synced(rt: &(impl AllocGlobal + Abort), shop: &[u8], rows: &[Synced]) {
     for (words, script, bad, wanted, syncs) in rows {
-        let memory = Memory::new(rt.alloc(), *words, b"");
+        let memory = Memory::new(rt.alloc(), *words, script);
         put(rt, &memory.image, Kind::Plain, shop);
         put(rt, &memory.script, Kind::Plain, script);
         memory.image.bad_sync.set(*bad);

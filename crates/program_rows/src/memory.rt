@@ -25,8 +25,9 @@ pub(crate) struct Memory<'a> {
     pub(crate) input: &'a [u8],
     pub(crate) taken: Cell<bool>,
     pub(crate) out: RefCell<Vec<u8>>,
-    /// How many bytes the output takes until it fails.
+    /// How many bytes the output takes until it fails, and in how many writes it took some.
     pub(crate) room: Cell<usize>,
+    pub(crate) prints: Cell<usize>,
     pub(crate) err: RefCell<Vec<u8>>,
 }
 
@@ -47,6 +48,7 @@ impl<'a> Memory<'a> {
             taken: Cell::new(false),
             out: RefCell::new(Vec::new(alloc)),
             room: Cell::new(usize::MAX),
+            prints: Cell::new(0),
             err: RefCell::new(Vec::new(alloc)),
         }
     }
@@ -210,6 +212,9 @@ impl Print for Runtime<'_> {
             return failed(ErrorKind::StorageFull);
         }
         self.0.room.set(self.0.room.get().saturating_sub(taken));
+        if taken > 0 {
+            self.0.prints.set(self.0.prints.get().saturating_add(1));
+        }
         add(&self.0.out, &bytes[..taken])?;
         Ok(taken)
     }

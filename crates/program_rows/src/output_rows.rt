@@ -4,7 +4,7 @@ ghost use Rattle.ledger_program.specs.Jobs.{HasTills};
 use crate::comparing::{holds, same, same_at};
 use crate::memory::{Memory, Runtime};
 use crate::scenes::{
-    BYTES, CHECK, DRY, FILE, FORMAT, LIST, PLAY, RECORDS, REPAIR, SHOW, Words, empty_shop, ends, put,
+    BYTES, CHECK, DRY, FILE, FORMAT, LIST, PLAY, RECORDS, REPAIR, SERVE, SHOW, Words, empty_shop, ends, put,
 };
 use crate::stored::Kind;
 use ledger_commands::Durability;
@@ -13,7 +13,8 @@ use std::io::{self, Write};
 use std::process::Abort;
 
 /// Words, how many bytes the output takes, and what it has then.
-const FULL: [(Words, usize, &[u8]); 11] = [
+const FULL: [(Words, usize, &[u8]); 12] = [
+    (SERVE, 12, b"1,1,DONE,5\n1"),
     (REPAIR, 2, b"OK"),
     (RECORDS, 5, b"1,\"\\f"),
     (BYTES, 1, b"\xff"),
@@ -30,9 +31,10 @@ const FULL: [(Words, usize, &[u8]); 11] = [
 /// Sees that each ends with `FILE` where its output is full.
 fn each_is_full(rt: &(impl AllocGlobal + Abort), rows: &[(Words, usize, &[u8])], shop: &[u8]) {
     for (words, room, printed) in rows {
-        let memory = Memory::new(rt.alloc(), *words, b"");
+        let messages = b"1,1,S,1,5\n1,2,S,1,6\n";
+        let memory = Memory::new(rt.alloc(), *words, messages);
         put(rt, &memory.image, Kind::Plain, shop);
-        put(rt, &memory.script, Kind::Plain, b"1,1,S,1,5\n1,2,S,1,6\n");
+        put(rt, &memory.script, Kind::Plain, messages);
         memory.room.set(*room);
         ends(rt, &memory, (3, *printed, b"FILE\n"), "a full output");
     }

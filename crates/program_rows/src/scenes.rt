@@ -22,6 +22,8 @@ pub(crate) const PLAY: Words = &[b"ledger_cli", b"play", b"a.d64", b"s.txt"];
 pub(crate) const PLAY_SYNC: Words =
     &[b"ledger_cli", b"play", b"--sync", b"a.d64", b"s.txt"];
 
+pub(crate) const SERVE: Words = &[b"ledger_cli", b"serve", b"a.d64"];
+
 pub(crate) const REPAIR: Words = &[b"ledger_cli", b"repair", b"a.d64"];
 
 pub(crate) const RECORDS: Words = &[b"ledger_cli", b"records", b"a.d64", b"REQUESTS"];

@@ -29,6 +29,10 @@ fn asked<'a>(rt: &impl AllocGlobal, words: &'a [&'a str]) -> Result<Row<'a>, (u8
             Durability::EachSector => ("play --sync", image, script, 0),
             Durability::AtEnd => ("play", image, script, 0),
         }),
+        Ok(Job::Serve { image, durability }) => Ok(match durability {
+            Durability::EachSector => ("serve", image, "", 0),
+            Durability::AtEnd => ("serve --unsynced", image, "", 0),
+        }),
         Ok(Job::Repair { image }) => Ok(("repair", image, "", 0)),
         Ok(Job::Take { what, image, name }) => {
             let length = name.as_bytes().len() as u8;
@@ -63,6 +67,11 @@ fn words_ask_for_a_job(rt: HostRuntime) {
             (
                 &["ledger", "play", "--sync", "a.d64", "s.txt"],
                 ("play --sync", "a.d64", "s.txt", 0),
+            ),
+            (&["ledger", "serve", "a.d64"], ("serve", "a.d64", "", 0)),
+            (
+                &["ledger", "serve", "a.d64", "--unsynced"],
+                ("serve --unsynced", "a.d64", "", 0),
             ),
             (&["ledger", "repair", "a.d64"], ("repair", "a.d64", "", 0)),
             (
@@ -119,6 +128,7 @@ fn other_words_are_refused(rt: HostRuntime) {
             (&["ledger", "show", "a.d64", "s.txt"], 2),
             (&["ledger", "play", "a.d64", "s.txt", "t.txt"], 2),
             (&["ledger", "play", "a.d64", "s.txt", "--unsynced"], 2),
+            (&["ledger", "serve", "a.d64", "--sync"], 2),
             (&["ledger", "repair", "a.d64", "--sync"], 2),
             (&["ledger", "records", "a.d64"], 2),
             (&["ledger", "bytes"], 2),

@@ -16,11 +16,13 @@ returns c =
     with_check c.show_command.ensures c.adds-program-4.ensures in
     let with_play = adds-known _ grammar.play c.adds-program-4.result c.play_command.result c.adds-program-5.result
     with_show c.play_command.ensures c.adds-program-5.ensures in
-    let with_repair = adds-known _ grammar.repair c.adds-program-5.result c.repair_command.result c.adds-program-6.result
-    with_play c.repair_command.ensures c.adds-program-6.ensures in
-    let with_records = adds-known _ grammar.records c.adds-program-6.result c.records_command.result c.adds-program-7.result
-    with_repair c.records_command.ensures c.adds-program-7.ensures in
-    let with_bytes = adds-known _ grammar.bytes c.adds-program-7.result c.bytes_command.result c.adds-program-8.result
-    with_records c.bytes_command.ensures c.adds-program-8.ensures in
-    adds-known _ grammar.dry c.adds-program-8.result c.dry_command.result c.adds.result
+    let with_serve = adds-known _ grammar.serve c.adds-program-5.result c.serve_command.result c.adds-program-6.result
+    with_play c.serve_command.ensures c.adds-program-6.ensures in
+    let with_repair = adds-known _ grammar.repair c.adds-program-6.result c.repair_command.result c.adds-program-7.result
+    with_serve c.repair_command.ensures c.adds-program-7.ensures in
+    let with_records = adds-known _ grammar.records c.adds-program-7.result c.records_command.result c.adds-program-8.result
+    with_repair c.records_command.ensures c.adds-program-8.ensures in
+    let with_bytes = adds-known _ grammar.bytes c.adds-program-8.result c.bytes_command.result c.adds-program-9.result
+    with_records c.bytes_command.ensures c.adds-program-9.ensures in
+    adds-known _ grammar.dry c.adds-program-9.result c.dry_command.result c.adds.result
     with_bytes c.dry_command.ensures c.adds.ensures

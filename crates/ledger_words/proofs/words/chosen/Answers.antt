@@ -48,13 +48,19 @@ returns-in-show c = record {
 
 pub returns-in-play : goal.returns-in-play
 returns-in-play c = record {
-  job = met-has c.met.result _ c.in-Some.name c.in-Some.found _ _ c.met.ensures c.in-Some.is c.in-play.is (c.value_of-image.ensures, c.value_of-script.ensures, c.durability_of.ensures);
+  job = met-has c.met.result _ c.in-Some.name c.in-Some.found _ _ c.met.ensures c.in-Some.is c.in-play.is (c.value_of-image.ensures, c.value_of-script.ensures, c.play_durability.ensures);
   tills = tt;
 }
 
 pub returns-in-dry : goal.returns-in-dry
 returns-in-dry c = record {
   job = met-has c.met.result _ c.in-Some.name c.in-Some.found _ _ c.met.ensures c.in-Some.is c.in-dry.is c.value_of-script.ensures;
+  tills = tt;
+}
+
+pub returns-in-serve : goal.returns-in-serve
+returns-in-serve c = record {
+  job = met-has c.met.result _ c.in-Some.name c.in-Some.found _ _ c.met.ensures c.in-Some.is c.in-serve.is (c.value_of-image.ensures, c.serve_durability.ensures);
   tills = tt;
 }
 
