@@ -1,7 +1,15 @@
 pub mod Blocks
+pub mod Composed
 pub mod Entries
 pub mod Files
+pub mod Folds
+pub mod Judged
+pub mod LineStored
+pub mod LinesStored
 pub mod Made
 pub mod Mendings
+pub mod OneStored
+pub mod Padded
 pub mod Printing
 pub mod Repairs
+pub mod TextStored

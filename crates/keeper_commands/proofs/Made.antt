@@ -8,8 +8,8 @@ use Rattle.rel_records.specs.Calls.{Creates}
 use Rattle.rel_records.specs.declared.faults.RelFault.{RelFault}
 use Rattle.rel_records.specs.declared.faults.RelFault.TheVariants as rel
 use Rattle.rel_records.specs.declared.rel_file.RelFile.{RelFile}
-use Rattle.keeper_commands.specs.Faults.{IsCleanFault}
-use Rattle.keeper_commands.specs.Makes.{IsMadeDisk, IsMakeFault, IsMakeRun, make_fault}
+use Rattle.keeper_commands.specs.Faults.{IsCleanFault, keep_fault}
+use Rattle.keeper_commands.specs.Makes.{IsMadeDisk, IsMakeFault, IsMakeRun}
 use Rattle.keeper_commands.specs.Refusals.{IsLeft}
 use Rattle.keeper_commands.specs.declared.faults.KeepFault.{KeepFault}
 use Rattle.keeper_commands.specs.declared.faults.KeepFault.TheVariants as keep
@@ -48,7 +48,7 @@ module _ {D : Type 0} (S : History D) (image name : List ℕ) (L : ℕ) (a b : D
         → (fault ≡ rel.Exists) ⊎ ((fault ≡ rel.Full) ⊎ (fault ≡ rel.Device)) → ⊥
     no-other fault x y z told = ⊎_elim x (⊎_elim y z) told
 
-    pub make-refused : (fault : RelFault) → Creates S a b name L (Err fault) → IsMakeFault S image name L a b w w (make_fault fault)
+    pub make-refused : (fault : RelFault) → Creates S a b name L (Err fault) → IsMakeFault S image name L a b w w (keep_fault fault)
     make-refused rel.Exists c = left rel.Exists _ (λ e. cc) ((c.refuses.layout clean.0 clean.1.layout).exists refl) c
     make-refused rel.Full c = left rel.Full _ (λ e. cc) ((c.refuses.layout clean.0 clean.1.layout).full refl) c
     make-refused rel.Device c = (make-run (Err rel.Device) c, c.refuses.failures, refl)

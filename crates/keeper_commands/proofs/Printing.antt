@@ -4,7 +4,7 @@ use Rattle.std.specs.Prelude.{IfErr, OnOk, is_err, slice_get}
 use Rattle.std.specs.Io.KnownBytes.{Appends}
 use Rattle.std.proofs.KnownBytes.{Appends-trans}
 use Rattle.std.proofs.lemmas.Option.{get_or_from_slice_get}
-use Rattle.d64_image.specs.History.{Failed}
+use Rattle.d64_image.specs.History.{Failed, History}
 use Rattle.d64_image.specs.Images.{Image}
 use Rattle.d64_image.specs.Memory.{memory}
 use Rattle.d64_image.specs.declared.mem_disk.MemDisk.{MemDisk}
@@ -33,18 +33,24 @@ other-no x a b told = elim told [
   | inr e ↦ b e
 ]
 
+-- a record that is there isn't read only where the device failed
+pub read-fails : {D : Type 0} (S : History D) (r : Result Unit RelFault) (a b : D) (rs : List (List ℕ)) (number : ℕ) → TellsRelFault S a b r
+    → IfErr r (λ fault. (fault ≡ rel.NotPresent) ⊎ (fault ≡ rel.Device)) → IfErr r (λ fault. fault ≡ rel.NotPresent → IsAbsent rs number)
+    → 1 ≤ number → number ≤ length rs → is_err r ≡ true → Failed S a b
+read-fails S (Ok x) a b rs number tells told absent low high err = cc
+read-fails S (Err rel.NotPresent) a b rs number tells told absent low high err = absurd (absent-no rs number low high (absent refl))
+read-fails S (Err rel.Device) a b rs number tells told absent low high err = tells
+read-fails S (Err rel.NotFound) a b rs number tells told absent low high err = absurd (other-no rel.NotFound (λ e. cc) (λ e. cc) told)
+read-fails S (Err rel.Overflow) a b rs number tells told absent low high err = absurd (other-no rel.Overflow (λ e. cc) (λ e. cc) told)
+read-fails S (Err rel.TooLarge) a b rs number tells told absent low high err = absurd (other-no rel.TooLarge (λ e. cc) (λ e. cc) told)
+read-fails S (Err rel.Full) a b rs number tells told absent low high err = absurd (other-no rel.Full (λ e. cc) (λ e. cc) told)
+read-fails S (Err rel.Exists) a b rs number tells told absent low high err = absurd (other-no rel.Exists (λ e. cc) (λ e. cc) told)
+
 -- a disk in memory gives each record that is there
 pub read-done : (r : Result Unit RelFault) (a b : MemDisk) (rs : List (List ℕ)) (number : ℕ) → TellsRelFault memory a b r
     → IfErr r (λ fault. (fault ≡ rel.NotPresent) ⊎ (fault ≡ rel.Device)) → IfErr r (λ fault. fault ≡ rel.NotPresent → IsAbsent rs number)
     → 1 ≤ number → number ≤ length rs → is_err r ≡ true → ⊥
-read-done (Ok x) a b rs number tells told absent low high err = cc
-read-done (Err rel.NotPresent) a b rs number tells told absent low high err = absent-no rs number low high (absent refl)
-read-done (Err rel.Device) a b rs number tells told absent low high err = memory-never a b tells
-read-done (Err rel.NotFound) a b rs number tells told absent low high err = other-no rel.NotFound (λ e. cc) (λ e. cc) told
-read-done (Err rel.Overflow) a b rs number tells told absent low high err = other-no rel.Overflow (λ e. cc) (λ e. cc) told
-read-done (Err rel.TooLarge) a b rs number tells told absent low high err = other-no rel.TooLarge (λ e. cc) (λ e. cc) told
-read-done (Err rel.Full) a b rs number tells told absent low high err = other-no rel.Full (λ e. cc) (λ e. cc) told
-read-done (Err rel.Exists) a b rs number tells told absent low high err = other-no rel.Exists (λ e. cc) (λ e. cc) told
+read-done r a b rs number tells told absent low high err = memory-never a b (read-fails memory r a b rs number tells told absent low high err)
 
 pub not-err : {T E P : Type 0} (r : Result T E) → is_err r ≡ false → OnOk r P → P
 not-err (Ok x) e p = p

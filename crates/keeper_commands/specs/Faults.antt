@@ -3,6 +3,8 @@ use Rattle.std.specs.Prelude.{◌≡◌, ◌≢◌, ℕ, ◌++◌, List, codes, 
 use Rattle.d64_image.specs.Memory.{sectors_in}
 use Rattle.disk_layout.specs.Fault.{HoldsOfClean, nowhere}
 use Rattle.disk_layout.specs.Texts.{fault_text}
+use Rattle.rel_records.specs.declared.faults.RelFault.{RelFault}
+use Rattle.rel_records.specs.declared.faults.RelFault.TheVariants.{Exists, Full, NotFound}
 use Rattle.keeper_commands.specs.declared.faults.KeepFault.{KeepFault}
 use Rattle.keeper_commands.specs.declared.faults.KeepFault.TheVariants as keep
 
@@ -29,6 +31,13 @@ keep_text keep.DiskFull = codes "DISK FULL"
 keep_text keep.File = codes "FILE"
 keep_text keep.NoMemory = codes "NO MEMORY"
 keep_text keep.Device = codes "DEVICE"
+
+-- what is told where a call on a relative file isn't done for this fault
+abbrev pub keep_fault : RelFault → KeepFault
+keep_fault NotFound = keep.NoFile
+keep_fault Exists = keep.FileExists
+keep_fault Full = keep.DiskFull
+keep_fault fault = keep.Device
 
 -- why an image isn't taken into memory
 abbrev pub IsLoadFault : List ℕ → KeepFault → Type 0

@@ -4,3 +4,5 @@ pub mod Makes
 pub mod Records
 pub mod Refusals
 pub mod Repairs
+pub mod Stores
+pub mod Storing

@@ -7,8 +7,6 @@ use Rattle.disk_layout.specs.Clean.{IsCleanLayout}
 use Rattle.disk_layout.specs.Fault.{HoldsOfClean, nowhere}
 use Rattle.disk_layout.specs.Layout.{Layout}
 use Rattle.rel_records.specs.Made.{HasFileMore, HasNoRoom, IsCreating, IsTakenName, creation_writes}
-use Rattle.rel_records.specs.declared.faults.RelFault.{RelFault}
-use Rattle.rel_records.specs.declared.faults.RelFault.TheVariants.{Exists, Full}
 use Rattle.keeper_commands.specs.Refusals.{IsLeft}
 use Rattle.keeper_commands.specs.declared.faults.KeepFault.{KeepFault}
 use Rattle.keeper_commands.specs.declared.faults.KeepFault.TheVariants as keep
@@ -18,12 +16,6 @@ pub record IsNewName (name : List ℕ) : Type 0 where
   pub some : 1 ≤ length name
   pub few : length name ≤ 16
   pub last : slice_index name (length name - 1) ≢ 160
-
--- what is told where a file isn't made for this fault
-abbrev pub make_fault : RelFault → KeepFault
-make_fault Exists = keep.FileExists
-make_fault Full = keep.DiskFull
-make_fault fault = keep.Device
 
 -- The disk was clean, and whatever it held on the way has its files, or those and the new one with records of L bytes.
 pub record IsMakeRun {D : Type 0} (S : History D) (image name : List ℕ) (L : ℕ) (old new : D) : Type 0 where

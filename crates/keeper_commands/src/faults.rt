@@ -1,8 +1,9 @@
 //! Why a job over the files of an image isn't done.
 ghost use Rattle.std.specs.Prelude.{◌≡◌, Some};
-ghost use Rattle.keeper_commands.specs.Faults.{keep_status, keep_text};
+ghost use Rattle.keeper_commands.specs.Faults.{keep_fault, keep_status, keep_text};
 
 use disk_layout::Fault;
+use rel_records::RelFault;
 use std::error::Error;
 use std::fmt::{self, Display, Formatter};
 
@@ -61,3 +62,15 @@ impl Display for KeepFault {
 }
 
 impl Error for KeepFault {}
+
+/// What is told where a call on a relative file isn't done for this fault.
+pub(crate) fn refusal(fault: RelFault) -> KeepFault
+    ensures { result ≡ keep_fault fault }
+{
+    match fault {
+        RelFault::NotFound => KeepFault::NoFile,
+        RelFault::Exists => KeepFault::FileExists,
+        RelFault::Full => KeepFault::DiskFull,
+        _ => KeepFault::Device,
+    }
+}

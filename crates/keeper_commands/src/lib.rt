@@ -1,15 +1,19 @@
-//! What a keeper of disks does with an image: its records as lines, the bytes of a file, its repair, new files.
+//! What a keeper of disks does with an image: its records as lines and back, the bytes of a file, its repair, new
+//! files.
 #![tactic(auto)]
 
 mod byte_printing;
 mod chains;
 mod faults;
+mod judging;
 mod loading;
 mod making;
 mod mending;
 mod naming;
 mod output;
 mod record_printing;
+mod record_storing;
+mod storing;
 
 pub use byte_printing::bytes_image;
 pub use faults::KeepFault;
@@ -17,3 +21,4 @@ pub use loading::load;
 pub use making::{is_new_name, make_image};
 pub use mending::repair_image;
 pub use record_printing::records_image;
+pub use record_storing::store_image;

@@ -1,14 +1,14 @@
 //! A relative file made on a clean disk.
 ghost use Rattle.std.specs.Prelude.{◌≡◌, ◌↔◌, IfErr, IsTrue, OnOk};
 ghost use Rattle.d64_image.specs.Memory.{sectors_in};
-ghost use Rattle.keeper_commands.specs.Makes.{IsMakeDone, IsMakeFault, IsNewName, make_fault};
+ghost use Rattle.keeper_commands.specs.Makes.{IsMakeDone, IsMakeFault, IsNewName};
 ghost use Rattle.rel_records.specs.File.{IsLength};
 
-use crate::faults::KeepFault;
+use crate::faults::{KeepFault, refusal};
 use crate::loading::check_image;
 use crate::output::{flush, put};
 use d64_image::Sectors;
-use rel_records::{RelFault, create};
+use rel_records::create;
 use std::alloc::Global;
 use std::io::Write;
 
@@ -18,17 +18,6 @@ pub fn is_new_name(name: &[u8]) -> bool
     ensures { IsTrue result ↔ IsNewName name.now }
 {
     !name.is_empty() && name.len() <= 16 && name[name.len() - 1] != 0xA0
-}
-
-/// What is told where a file isn't made for this fault.
-fn refusal(fault: RelFault) -> KeepFault
-    ensures { result ≡ make_fault fault }
-{
-    match fault {
-        RelFault::Exists => KeepFault::FileExists,
-        RelFault::Full => KeepFault::DiskFull,
-        _ => KeepFault::Device,
-    }
 }
 
 /// Makes a relative file of this name on a clean disk, with records of `length` bytes, and prints `MADE`. It has one

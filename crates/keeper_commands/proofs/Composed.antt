@@ -1,0 +1,150 @@
+-- Lines stored one after another: what is left, held, printed and told of all of them.
+use Rattle.std.proofs.Common.{◌≡◌, ℕ, ◌*◌, List, [], ◌++◌, Option, Result, Ok, Err, length, refl, subst, sym, ap, ap₂, ◌∙◌, arith}
+use Rattle.std.specs.Prelude.{OnOk}
+use Rattle.std.specs.Io.KnownBytes.{Appends}
+use Rattle.std.proofs.KnownBytes.{Appends-nil, Appends-trans}
+use Rattle.std.proofs.lemmas.List.{length-append}
+use Rattle.d64_image.proofs.Moments.{changes_then, changes_weaker, no_change, no_write, no_write_then}
+use Rattle.d64_image.specs.History.{History}
+use Rattle.d64_image.specs.Images.{Image}
+use Rattle.disk_layout.proofs.Layouts.{IsLayout-one}
+use Rattle.disk_layout.proofs.Pieces.{length-pieces}
+use Rattle.disk_layout.specs.Clean.{IsClean, IsCleanLayout}
+use Rattle.disk_layout.specs.Layout.{File, IsLayout, Layout, record_length}
+use Rattle.disk_layout.specs.Records.{record_count, records}
+use Rattle.rel_records.proofs.Grown.{size-kept}
+use Rattle.rel_records.proofs.Kept.{has_same, keeps_same, leaves_leaves, leaves_then, places-stay}
+use Rattle.rel_records.specs.File.{IsFileOf, length_of, records_in}
+use Rattle.rel_records.specs.Growth.{records_had}
+use Rattle.rel_records.specs.Others.{LeavesRecords}
+use Rattle.rel_records.specs.declared.rel_file.RelFile.{RelFile}
+use Rattle.keeper_commands.proofs.Folds.{changed-append, long-stored, part-behind, part-front, so-behind, so-front, so-stored, stored-append}
+use Rattle.keeper_commands.proofs.Mendings.{tells-after}
+use Rattle.keeper_commands.specs.Stores.{AreSo, IsPartStored, NewRecord, changed_text, stored}
+use Rattle.keeper_commands.specs.Storing.{IsStoringOver, StoresLines}
+use Rattle.keeper_commands.specs.declared.faults.KeepFault.{KeepFault}
+
+-- how many records a file has, by what is kept of it
+pub had-is : (img : Image) (l : Layout) (n : ℕ) (f : File) (v : RelFile) → IsFileOf img l n f v → records_in v ≡ records_had f
+had-is img l n f v of =
+    ap (λ (b : ℕ). record_count b v.last v.size) of.shows.blocks
+    ∙ ap (λ (u : ℕ). record_count (length f.blocks) u v.size) of.shows.last
+    ∙ ap (λ (L : ℕ). record_count (length f.blocks) f.last L) of.shows.size
+
+pub count-is : (img : Image) (f : File) → length (records img f) ≡ records_had f
+unfolding records
+count-is img f = length-pieces _ _ _
+
+pub clean-layout : (img : Image) (l : Layout) → IsClean img → IsLayout img l → IsCleanLayout img l
+clean-layout img l clean is = subst (λ (m : Layout). IsCleanLayout img m) (IsLayout-one img clean.0 l clean.1.layout is) clean.1
+
+-- nothing is done
+pub leaves-same : (img : Image) (l : Layout) (n : ℕ) (f : File) (v : RelFile) → IsClean img → IsFileOf img l n f v → LeavesRecords img img l n (records img f) v
+leaves-same img l n f v clean of = record {
+  layout = l;
+  clean = clean-layout img l clean of.layout;
+  others = keeps_same img l n;
+  file = f;
+  of = of;
+  records = refl;
+  places = places-stay img l n f (records img f) of.there (omega arith);
+}
+
+-- as many records are there as before
+pub had-kept : (a b : Image) (l : Layout) (n : ℕ) (f : File) (v w : RelFile) (L : ℕ) (xs : List NewRecord) → IsFileOf a l n f v
+    → LeavesRecords a b l n (stored L xs (records a f)) w → records_in w ≡ records_in v
+had-kept a b l n f v w L xs of h =
+    had-is b h.layout n h.file w h.of
+    ∙ sym (count-is b h.file)
+    ∙ ap (λ (rs : List (List ℕ)). length rs) h.records
+    ∙ long-stored L xs (records a f)
+    ∙ count-is a f
+    ∙ sym (had-is a l n f v of)
+
+module _ {D W : Type 0} (S : History D) (contents : W → Option (List ℕ)) (l : Layout) (n : ℕ) (f : File) where
+  pub none-stored : (a : D) (o : W) (v : RelFile) → IsClean (S.image a) → IsFileOf (S.image a) l n f v
+      → StoresLines S contents a a o o l n f v v [] (Ok tt)
+  none-stored a o v clean of = record {
+    ok = (leaves-same (S.image a) l n f v clean of, refl, Appends-nil (contents o));
+    moments = no_change S a _ (records (S.image a) f, refl, has_same (S.image a) l n f v of);
+    quiet = λ so. no_write S a;
+    clean = tt;
+    told = refl;
+  }
+
+  -- a beginning of more lines, that ends with a fault
+  pub stored-longer : (a c : D) (o p : W) (v w : RelFile) (xs ys : List NewRecord) (fault : KeepFault)
+      → StoresLines S contents a c o p l n f v w xs (Err fault) → StoresLines S contents a c o p l n f v w (xs ++ ys) (Err fault)
+  stored-longer a c o p v w xs ys fault s = record {
+    ok = tt;
+    moments = changes_weaker S a c (2 * length xs) (2 * length (xs ++ ys)) _ _ (omega (arith, length-append xs ys))
+        (λ i (ts, part, has). (ts, part-front (record_length f.slot) xs ys (records (S.image a) f) ts part, has)) s.moments;
+    quiet = λ so. s.quiet (so-front (record_length f.slot) (records (S.image a) f) xs ys so);
+    clean = s.clean;
+    told = s.told;
+  }
+
+  module _ (a b c : D) (o p q : W) (v w x : RelFile) (xs ys : List NewRecord) (of : IsFileOf (S.image a) l n f v)
+      (first : StoresLines S contents a b o p l n f v w xs (Ok tt)) where
+    -- the file as the first lines leave it
+    abbrev left : LeavesRecords (S.image a) (S.image b) l n (stored (record_length f.slot) xs (records (S.image a) f)) w
+    left = first.ok.0
+
+    pub same-length : record_length left.file.slot ≡ record_length f.slot
+    same-length = size-kept (S.image a) (S.image b) l left.layout n n f left.file v w of left.of first.ok.1
+
+    both-stored : stored (record_length left.file.slot) ys (records (S.image b) left.file) ≡ stored (record_length f.slot) (xs ++ ys) (records (S.image a) f)
+    both-stored =
+        ap₂ (λ (L : ℕ) (rs : List (List ℕ)). stored L ys rs) same-length left.records
+        ∙ sym (stored-append (record_length f.slot) xs ys (records (S.image a) f))
+
+    both-text : changed_text (record_length f.slot) xs (records (S.image a) f) ++ changed_text (record_length left.file.slot) ys (records (S.image b) left.file)
+        ≡ changed_text (record_length f.slot) (xs ++ ys) (records (S.image a) f)
+    both-text =
+        ap (λ (t : List ℕ). changed_text (record_length f.slot) xs (records (S.image a) f) ++ t)
+        (ap₂ (λ (L : ℕ) (rs : List (List ℕ)). changed_text L ys rs) same-length left.records)
+        ∙ sym (changed-append (record_length f.slot) xs ys (records (S.image a) f))
+
+    module _ (r : Result (Unit {0}) KeepFault)
+        (second : StoresLines S contents b c p q left.layout n left.file w x ys r) where
+      behind : (i : Image) → IsStoringOver (S.image b) left.layout n (record_length left.file.slot) ys (records (S.image b) left.file) i
+          → IsStoringOver (S.image a) l n (record_length f.slot) (xs ++ ys) (records (S.image a) f) i
+      behind i (ts, part, has) = (
+        ts,
+        part-behind (record_length f.slot) xs ys (records (S.image a) f) ts
+            (subst (λ (rs : List (List ℕ)). IsPartStored (record_length f.slot) ys rs ts) left.records
+            (subst (λ (L : ℕ). IsPartStored L ys (records (S.image b) left.file) ts) same-length part)),
+        leaves_then (S.image a) (S.image b) i l n _ ts w left has,
+      )
+
+      both-so : AreSo (record_length f.slot) (records (S.image a) f) (xs ++ ys) → AreSo (record_length left.file.slot) (records (S.image b) left.file) ys
+      both-so so =
+          let same = left.records ∙ so-stored (record_length f.slot) (records (S.image a) f) xs (so-front (record_length f.slot) (records (S.image a) f) xs ys so) in
+          subst (λ (L : ℕ). AreSo L (records (S.image b) left.file) ys) (sym same-length)
+          (subst (λ (rs : List (List ℕ)). AreSo (record_length f.slot) rs ys) (sym same) (so-behind (record_length f.slot) (records (S.image a) f) xs ys so))
+
+      pub stored-then : StoresLines S contents a c o q l n f v x (xs ++ ys) r
+      stored-then = record {
+        ok = both r second.ok;
+        moments = changes_then S a b c (2 * length xs) (2 * length ys) (2 * length (xs ++ ys)) _ (omega (arith, length-append xs ys))
+            (changes_weaker S a b (2 * length xs) (2 * length xs) _ _ (omega arith)
+            (λ i (ts, part, has). (ts, part-front (record_length f.slot) xs ys (records (S.image a) f) ts part, has)) first.moments)
+            (changes_weaker S b c (2 * length ys) (2 * length ys) _ _ (omega arith) behind second.moments);
+        quiet = λ so. no_write_then S a b c
+            (first.quiet (so-front (record_length f.slot) (records (S.image a) f) xs ys so)) (second.quiet (both-so so));
+        clean = second.clean;
+        told = tells-after S a b c r first.told second.told;
+      }
+        where
+          both : (r : Result (Unit {0}) KeepFault)
+              → OnOk r (LeavesRecords (S.image b) (S.image c) left.layout n (stored (record_length left.file.slot) ys (records (S.image b) left.file)) x
+              × (length_of x ≡ length_of w) × Appends (contents p) (contents q) (changed_text (record_length left.file.slot) ys (records (S.image b) left.file)))
+              → OnOk r (LeavesRecords (S.image a) (S.image c) l n (stored (record_length f.slot) (xs ++ ys) (records (S.image a) f)) x
+              × (length_of x ≡ length_of v) × Appends (contents o) (contents q) (changed_text (record_length f.slot) (xs ++ ys) (records (S.image a) f)))
+          both (Err e) done = tt
+          both (Ok t) done = (
+            subst (λ (rs : List (List ℕ)). LeavesRecords (S.image a) (S.image c) l n rs x) both-stored
+                (leaves_leaves (S.image a) (S.image b) (S.image c) l n _ _ w x left done.0),
+            done.1 ∙ first.ok.1,
+            subst (Appends (contents o) (contents q)) both-text (Appends-trans _ _ _ _ _ first.ok.2 done.2),
+          )

@@ -1,0 +1,85 @@
+-- The record of one line stored, and its line printed where it was otherwise.
+use Rattle.std.proofs.Common.{◌≡◌, ◌≤◌, ℕ, ◌*◌, List, [], ◌∷◌, ◌++◌, Option, Ok, Err, Bool, true, false, length, subst, sym, ap, ◌∙◌, arith}
+use Rattle.std.specs.Prelude.{if◌then◌else◌}
+use Rattle.std.specs.Io.KnownBytes.{Appends}
+use Rattle.std.proofs.KnownBytes.{Appends-nil}
+use Rattle.std.proofs.lemmas.List.{append-nil}
+use Rattle.d64_image.proofs.Moments.{changes_weaker}
+use Rattle.d64_image.specs.History.{Changes, History}
+use Rattle.disk_layout.specs.Layout.{File, Layout, record_length}
+use Rattle.disk_layout.specs.Records.{records}
+use Rattle.byte_text.proofs.Stored.{one-line}
+use Rattle.byte_text.specs.Lines.{IsLineOf}
+use Rattle.byte_text.specs.Texts.{record_line}
+use Rattle.rel_records.specs.declared.rel_file.RelFile.{RelFile}
+use Rattle.keeper_commands.specs.Repairs.{TellsKeep}
+use Rattle.keeper_commands.specs.Stores.{CanStore, NewRecord, changed_text, is_changed, new_record}
+use Rattle.keeper_commands.specs.Storing.{IsStoringOver, StoresLines, StoresOne}
+use Rattle.keeper_commands.specs.declared.faults.KeepFault.{KeepFault}
+use Rattle.keeper_commands.specs.declared.faults.KeepFault.TheVariants as keep
+
+-- a line is of one record
+pub line-record : (line bytes : List ℕ) (n L h : ℕ) (x : NewRecord) → (1 ≤ n) × (n ≤ 182880) × IsLineOf line n bytes
+    → IsLineOf line x.number x.bytes → CanStore L h x → new_record n bytes ≡ x
+line-record line bytes n L h x found is can =
+    let same = one-line line n x.number bytes x.bytes found.0 found.1 can.low can.high found.2 is in
+    λ i. record { number = same.0 i; bytes = same.1 i }
+
+-- what is printed of one record
+one-same : (L : ℕ) (x : NewRecord) (rs : List (List ℕ)) → false ≡ is_changed L x rs → [] ≡ changed_text L (x ∷ []) rs
+one-same L x rs is = ap (λ (t : Bool). (if t then record_line x.number x.bytes else []) ++ []) is
+
+one-line_text : (L : ℕ) (x : NewRecord) (rs : List (List ℕ)) → true ≡ is_changed L x rs → record_line x.number x.bytes ≡ changed_text L (x ∷ []) rs
+one-line_text L x rs is =
+    sym (append-nil (record_line x.number x.bytes)) ∙ ap (λ (t : Bool). (if t then record_line x.number x.bytes else []) ++ []) is
+
+device-no-file : (fault : KeepFault) → fault ≡ keep.Device → fault ≡ keep.File → ⊥
+device-no-file fault is other = cc
+
+module _ {D W : Type 0} (S : History D) (contents : W → Option (List ℕ)) (a d : D) (o p : W) (l : Layout) (n : ℕ) (f : File)
+    (v w : RelFile) (x : NewRecord) where
+  moments-one : Changes S a d 2 (IsStoringOver (S.image a) l n (record_length f.slot) (x ∷ []) (records (S.image a) f))
+      → Changes S a d (2 * length (x ∷ [])) (IsStoringOver (S.image a) l n (record_length f.slot) (x ∷ []) (records (S.image a) f))
+  moments-one m = changes_weaker S a d 2 (2 * length (x ∷ [])) _ _ (omega arith) (λ i h. h) m
+
+  -- the device failed
+  pub line-failed : (fault : KeepFault) → StoresOne S a d l n f v w x (Err fault) → StoresLines S contents a d o o l n f v w (x ∷ []) (Err fault)
+  line-failed fault one = record {
+    ok = tt;
+    moments = moments-one one.moments;
+    quiet = λ so. one.quiet so.0;
+    clean = λ e. absurd (device-no-file fault one.err e);
+    told = subst (λ (e : KeepFault). TellsKeep {T = Unit {0}} S a d (Err e)) (sym one.err)
+        (subst (λ (e : KeepFault). TellsKeep {T = Bool} S a d (Err e)) one.err one.told);
+  }
+
+  -- it was so already
+  pub line-same : StoresOne S a d l n f v w x (Ok false) → StoresLines S contents a d o o l n f v w (x ∷ []) (Ok tt)
+  line-same one = record {
+    ok = (one.ok.0, one.ok.1, subst (Appends (contents o) (contents o)) (one-same (record_length f.slot) x (records (S.image a) f) one.ok.2) (Appends-nil (contents o)));
+    moments = moments-one one.moments;
+    quiet = λ so. one.quiet so.0;
+    clean = tt;
+    told = one.told;
+  }
+
+  -- it was stored, and its line printed
+  pub line-printed : StoresOne S a d l n f v w x (Ok true) → Appends (contents o) (contents p) (record_line x.number x.bytes)
+      → StoresLines S contents a d o p l n f v w (x ∷ []) (Ok tt)
+  line-printed one printed = record {
+    ok = (one.ok.0, one.ok.1, subst (Appends (contents o) (contents p)) (one-line_text (record_length f.slot) x (records (S.image a) f) one.ok.2) printed);
+    moments = moments-one one.moments;
+    quiet = λ so. one.quiet so.0;
+    clean = tt;
+    told = one.told;
+  }
+
+  -- it was stored, and the output failed
+  pub line-unprinted : StoresOne S a d l n f v w x (Ok true) → StoresLines S contents a d o p l n f v w (x ∷ []) (Err keep.File)
+  line-unprinted one = record {
+    ok = tt;
+    moments = moments-one one.moments;
+    quiet = λ so. one.quiet so.0;
+    clean = λ e. (one.ok.0.layout, one.ok.0.clean);
+    told = one.told;
+  }

@@ -1,0 +1,15 @@
+-- The lines so far are of records that the file has or can have, and each took a byte of the text.
+use Rattle.std.proofs.Common.{◌≤◌, ◌+◌, length}
+use Rattle.rel_records.specs.File.{length_of, records_in}
+use Rattle.script_lines.specs.Lines.{lines}
+use Rattle.keeper_commands.proofs.Judged.{JudgedTo}
+use Rattle.keeper_commands.proofs.judging.judge.Given as goal
+
+abbrev pub invariant-loop-line : goal.invariant-loop-line
+invariant-loop-line l = record {
+  room : l.count + length l.rest ≤ length l.text;
+  judged : JudgedTo (length_of l.file) (records_in l.file) (lines l.text) (lines l.rest) l.count l.most;
+}
+
+abbrev pub decreases-loop-line : goal.decreases-loop-line
+decreases-loop-line l = length l.rest

@@ -1,0 +1,128 @@
+-- What a disk holds while records are stored from their lines, and what is left and told in the end. Our own.
+use Rattle.std.specs.Prelude.{◌≡◌, ◌≢◌, ◌⊎◌, Bool, ℕ, ◌+◌, ◌*◌, List, [], ◌∷◌, Option, Result, Some, IfErr, IfOk, OnOk, length, slice_get}
+use Rattle.std.specs.Io.KnownBytes.{Appends}
+use Rattle.d64_image.specs.History.{Changes, Failed, History, WritesNothing}
+use Rattle.d64_image.specs.Images.{Image}
+use Rattle.d64_image.specs.Memory.{sectors_in}
+use Rattle.disk_layout.specs.Clean.{IsClean, IsCleanLayout}
+use Rattle.disk_layout.specs.Fault.{HoldsOfClean, nowhere}
+use Rattle.disk_layout.specs.Layout.{File, Layout, record_length}
+use Rattle.disk_layout.specs.Records.{records}
+use Rattle.disk_layout.specs.Rest.{IsFirst, IsNamed}
+use Rattle.rel_records.specs.File.{length_of}
+use Rattle.rel_records.specs.Growth.{IsFull, growth_writes, records_had}
+use Rattle.rel_records.specs.Others.{HasRecords, LeavesRecords}
+use Rattle.rel_records.specs.Written.{IsGrowingTo, grown_to}
+use Rattle.rel_records.specs.declared.rel_file.RelFile.{RelFile}
+use Rattle.script_lines.specs.Lines.{lines}
+use Rattle.keeper_commands.specs.Refusals.{IsLeft}
+use Rattle.keeper_commands.specs.Repairs.{TellsKeep}
+use Rattle.keeper_commands.specs.Stores.{AreLinesOf, AreSo, IsFirstBad, IsPartStored, IsSo, NewRecord, changed_text, greatest, is_changed, stored, with_stored}
+use Rattle.keeper_commands.specs.declared.faults.KeepFault.{KeepFault}
+use Rattle.keeper_commands.specs.declared.faults.KeepFault.TheVariants as keep
+
+-- an image held while these are stored over rs, the records of the file at place n: a beginning of them is, and perhaps
+-- the first part of the next
+abbrev pub IsStoringOver : Image → Layout → ℕ → ℕ → List NewRecord → List (List ℕ) → Image → Type 0
+IsStoringOver old l n L xs rs c = (ts : List (List ℕ)) × IsPartStored L xs rs ts × HasRecords old c l n ts
+
+-- One record of f, the file at place n of the layout l, was stored, where it wasn't so; the answer tells whether it was
+-- otherwise. Of the file v was kept, and w is now.
+pub record StoresOne {D : Type 0} (S : History D) (old new : D) (l : Layout) (n : ℕ) (f : File) (v w : RelFile)
+    (x : NewRecord) (result : Result Bool KeepFault) : Type 0 where
+  pub ok : IfOk result (λ changed.
+      LeavesRecords (S.image old) (S.image new) l n (with_stored (record_length f.slot) x (records (S.image old) f)) w
+      × (length_of w ≡ length_of v) × (changed ≡ is_changed (record_length f.slot) x (records (S.image old) f)))
+  pub moments : Changes S old new 2
+      (IsStoringOver (S.image old) l n (record_length f.slot) (x ∷ []) (records (S.image old) f))
+  pub quiet : IsSo (record_length f.slot) (records (S.image old) f) x → WritesNothing S old new
+  pub err : IfErr result (λ fault. fault ≡ keep.Device)
+  pub told : TellsKeep S old new result
+
+-- Records of f were stored, one after another, and the lines of those that were otherwise were printed. Of the file v
+-- was kept, and w is now.
+pub record StoresLines {D W : Type 0} (S : History D) (contents : W → Option (List ℕ)) (old new : D) (before after : W)
+    (l : Layout) (n : ℕ) (f : File) (v w : RelFile) (xs : List NewRecord) (result : Result (Unit {0}) KeepFault) : Type 0
+  where
+    pub ok : OnOk result (
+        LeavesRecords (S.image old) (S.image new) l n (stored (record_length f.slot) xs (records (S.image old) f)) w
+        × (length_of w ≡ length_of v)
+        × Appends (contents before) (contents after) (changed_text (record_length f.slot) xs (records (S.image old) f)))
+    pub moments : Changes S old new (2 * length xs)
+        (IsStoringOver (S.image old) l n (record_length f.slot) xs (records (S.image old) f))
+    pub quiet : AreSo (record_length f.slot) (records (S.image old) f) xs → WritesNothing S old new
+    -- where the output failed the disk is clean
+    pub clean : IfErr result (λ fault. fault ≡ keep.File → IsClean (S.image new))
+    pub told : TellsKeep S old new result
+
+-- an image held in the whole: the file grows to the greatest record, and then they are stored
+abbrev pub IsStoring : Image → Layout → ℕ → File → List NewRecord → Image → Type 0
+IsStoring old l n f xs c =
+    IsGrowingTo old l n f (greatest xs) c
+    ⊎ IsStoringOver old l n (record_length f.slot) xs (grown_to old f (greatest xs)) c
+
+-- The disk is clean, `file` is the first closed relative file of the name, the text's lines are of these records, which
+-- it has or can have, and whatever the disk held on the way is sound, with a beginning of them.
+pub record IsStoreRun {D : Type 0} (S : History D) (image name text : List ℕ) (old new : D) : Type 0 where
+  pub size : length image ≡ 174848
+  pub layout : Layout
+  pub clean : IsCleanLayout (S.image old) layout
+  -- its number among the entries
+  pub number : ℕ
+  pub file : File
+  pub first : IsFirst layout name number file
+  pub all : List NewRecord
+  pub are_lines : AreLinesOf (record_length file.slot) (records_had file) (lines text) all
+  pub moments : Changes S old new (growth_writes file (greatest all) + 2 * length all)
+      (IsStoring (S.image old) layout number file all)
+
+-- And there was room, all of them are stored, and the disk is clean; where all were so already nothing was written.
+pub record IsStoredDisk {D : Type 0} (S : History D) (image name text : List ℕ) (old new : D) : Type 0 where
+  pub run : IsStoreRun S image name text old new
+  pub fits : ¬ (IsFull (S.image old) run.file (greatest run.all))
+  pub clean : IsClean (S.image new)
+  pub has : HasRecords (S.image old) (S.image new) run.layout run.number
+      (stored (record_length run.file.slot) run.all (grown_to (S.image old) run.file (greatest run.all)))
+  pub quiet : AreSo (record_length run.file.slot) (records (S.image old) run.file) run.all → WritesNothing S old new
+
+-- and the lines of those that were otherwise, and nothing else, were printed, in order
+pub record IsStoreDone {D W : Type 0} (S : History D) (contents : W → Option (List ℕ)) (image name text : List ℕ)
+    (old new : D) (before after : W) : Type 0 where
+  pub disk : IsStoredDisk S image name text old new
+  pub printed : Appends (contents before) (contents after)
+      (changed_text (record_length disk.run.file.slot) disk.run.all
+      (grown_to (S.image old) disk.run.file (greatest disk.run.all)))
+
+-- the lines aren't stored, since one is of no record that the file of the name has or can have: this one is the first
+abbrev pub HasBadLine : List ℕ → List ℕ → ℕ → Layout → Type 0
+HasBadLine name text k l = (n : ℕ) × (f : File) × IsFirst l name n f
+    × IsFirstBad (record_length f.slot) (records_had f) (lines text) k
+
+-- nor are they, since there is no room for the greatest record
+abbrev pub HasNoStoreRoom : Image → List ℕ → List ℕ → Layout → Type 0
+HasNoStoreRoom img name text l = (n : ℕ) × (f : File) × (xs : List NewRecord) × IsFirst l name n f
+    × AreLinesOf (record_length f.slot) (records_had f) (lines text) xs × IsFull img f (greatest xs)
+
+-- why records aren't stored, or that not told. Only where the output or the device failed something may have been
+-- printed
+abbrev pub IsStoreFault : {D W : Type 0} → History D → List ℕ → List ℕ → List ℕ → D → D → W → W → KeepFault → Type 0
+IsStoreFault S image name text old new before after keep.ImageSize =
+    (length image ≢ 174848) × (new ≡ old) × (after ≡ before)
+IsStoreFault S image name text old new before after keep.NoMemory =
+    (length image ≡ 174848) × (new ≡ old) × (after ≡ before)
+IsStoreFault S image name text old new before after (keep.Layout fault) =
+    (length image ≡ 174848) × HoldsOfClean nowhere (sectors_in image) fault × (new ≡ old) × (after ≡ before)
+IsStoreFault S image name text old new before after keep.NoFile = IsLeft S image old new before after
+    (λ l. (k : ℕ) (f : File) → slice_get l.files k ≡ Some f → ¬ (IsNamed name f))
+IsStoreFault S image name text old new before after (keep.BadLine k) =
+    IsLeft S image old new before after (HasBadLine name text k)
+IsStoreFault S image name text old new before after keep.DiskFull =
+    IsLeft S image old new before after (HasNoStoreRoom (S.image old) name text)
+-- the output failed: what was stored until then stays, and the disk is clean
+IsStoreFault S image name text old new before after keep.File =
+    IsStoreRun S image name text old new × IsClean (S.image new)
+-- the device failed, when the file was looked for or behind that
+IsStoreFault S image name text old new before after keep.Device =
+    Failed S old new
+    × (IsLeft S image old new before after (λ l. Unit {0}) ⊎ IsStoreRun S image name text old new)
+IsStoreFault S image name text old new before after _ = ⊥

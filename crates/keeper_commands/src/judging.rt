@@ -1,0 +1,69 @@
+//! Lines of records judged before any is stored.
+ghost use Rattle.std.specs.Prelude.{◌≡◌, ◌↔◌, ◌≤◌, length, ℕ, List, IfErr, IfOk, IfSome, IsNone, IsTrue};
+ghost use Rattle.byte_text.specs.Lines.{IsLineOf};
+ghost use Rattle.byte_text.specs.Texts.{AreBytes};
+ghost use Rattle.keeper_commands.specs.Stores.{AreLinesOf, CanHave, CanStore, IsFirstBad, NewRecord, greatest, new_record};
+ghost use Rattle.keeper_commands.specs.declared.faults.KeepFault.TheVariants as faults;
+ghost use Rattle.rel_records.specs.File.{length_of, records_in};
+ghost use Rattle.script_lines.specs.Lines.{lines};
+
+use crate::faults::KeepFault;
+use byte_text::read_line;
+use rel_records::{RelFile, blocks_for, has_records};
+use script_lines::next_line;
+
+/// Whether the file has this record, or can have it.
+fn can_have(file: &RelFile, number: u32) -> bool
+    ensures { IsTrue result ↔ CanHave (length_of file.now) (records_in file.now) number }
+{
+    has_records(file, number) || blocks_for(number, file.length()).is_some()
+}
+
+/// Whether a record of the file has room for these bytes, each of which is below 256.
+fn has_room(file: &RelFile, bytes: &[u8]) -> bool
+    ensures room { IsTrue result ↔ (length bytes.now ≤ length_of file.now) }
+    ensures bytes { AreBytes bytes.now }
+{
+    bytes.len() <= file.length() as usize
+}
+
+/// The number of the record that the line is of, where the file has this record or can have it, and its bytes fit.
+fn number_of(line: &[u8], file: &RelFile) -> Option<u32>
+    ensures found { IfSome result (λ number. (bytes : List ℕ) × IsLineOf line.now number bytes
+        × CanStore (length_of file.now) (records_in file.now) (new_record number bytes)) }
+    ensures none { IsNone result → (x : NewRecord) → CanStore (length_of file.now) (records_in file.now) x
+        → ¬ (IsLineOf line.now x.number x.bytes) }
+{
+    let (number, bytes) = read_line(line)?;
+    if !has_room(file, bytes.as_slice()) {
+        return None;
+    }
+    if !can_have(file, number) {
+        return None;
+    }
+    Some(number)
+}
+
+/// Judges the lines of the text, and tells the greatest of their numbers, 0 where there is no line. `BadLine` for the
+/// first that is of no record that the file has or can have.
+pub(crate) fn judge(text: &[u8], file: &RelFile) -> Result<u32, KeepFault>
+    ensures ok { IfOk result (λ most. (xs : List NewRecord)
+        × AreLinesOf (length_of file.now) (records_in file.now) (lines text.now) xs × (most ≡ greatest xs)) }
+    ensures err { IfErr result (λ fault. (k : ℕ) × (fault ≡ faults.BadLine k)
+        × IsFirstBad (length_of file.now) (records_in file.now) (lines text.now) k) }
+{
+    let mut most = 0;
+    let mut count = 0;
+    let mut rest = text;
+    while let Some((line, more)) = next_line(rest) {
+        count += 1;
+        let Some(number) = number_of(line, file) else {
+            return Err(KeepFault::BadLine(count));
+        };
+        if number > most {
+            most = number;
+        }
+        rest = more;
+    }
+    Ok(most)
+}

@@ -1,0 +1,98 @@
+//! Records stored from their lines in a relative file.
+ghost use Rattle.std.specs.Prelude.{◌≡◌, ◌≤◌, ◌∷◌, [], ℕ, List, length};
+ghost use Rattle.byte_text.specs.Lines.{IsLineOf};
+ghost use Rattle.disk_layout.specs.Clean.{IsClean};
+ghost use Rattle.keeper_commands.specs.Stores.{AreLinesOf, CanStore, NewRecord, greatest, new_record};
+ghost use Rattle.keeper_commands.specs.Storing.{StoresLines, StoresOne};
+ghost use Rattle.rel_records.specs.File.{IsOf, OfItsFile, length_of, records_in};
+ghost use Rattle.script_lines.specs.Lines.{lines};
+
+use crate::faults::KeepFault;
+use arrayvec::ArrayVec;
+use byte_text::{read_line, trim, write_line};
+use d64_image::Sectors;
+use rel_records::{RelFile, read_record, write_record};
+use script_lines::next_line;
+use std::io::Write;
+
+/// Stores a record that is there, where it isn't so yet: the bytes, and zeros behind them. Tells whether it was
+/// otherwise.
+fn store_record<D: Sectors>(
+    disk: &mut D,
+    file: &mut RelFile,
+    number: u32,
+    bytes: &[u8],
+) -> Result<bool, KeepFault>
+    requires clean { IsClean (D.history.image disk.old) }
+    requires of { IsOf (D.history.image disk.old) file.old }
+    requires low { 1 ≤ number }
+    requires high { number ≤ records_in file.old }
+    requires short { length bytes.now ≤ length_of file.old }
+    ensures { OfItsFile (D.history.image disk.old) file.old (λ l n f.
+        StoresOne D.history disk.old disk.new l n f file.old file.new (new_record number bytes.now) result) }
+{
+    let mut old = ArrayVec::new();
+    if read_record(disk, file, number, &mut old).is_err() {
+        return Err(KeepFault::Device);
+    }
+    if trim(old.as_slice()) == trim(bytes) {
+        return Ok(false);
+    }
+    if write_record(disk, file, number, 1, bytes).is_err() {
+        return Err(KeepFault::Device);
+    }
+    Ok(true)
+}
+
+/// Stores the record that the line is of, which is there, and prints its line where it was otherwise.
+fn store_line<D: Sectors, W: Write>(
+    disk: &mut D,
+    file: &mut RelFile,
+    line: &[u8],
+    out: &mut W,
+) -> Result<(), KeepFault>
+    requires clean { IsClean (D.history.image disk.old) }
+    requires of { IsOf (D.history.image disk.old) file.old }
+    requires line { (h : ℕ) × (x : NewRecord) × IsLineOf line.now x.number x.bytes × CanStore (length_of file.old) h x
+        × (x.number ≤ records_in file.old) }
+    ensures { OfItsFile (D.history.image disk.old) file.old (λ l n f.
+        (h : ℕ) (x : NewRecord) → IsLineOf line.now x.number x.bytes → CanStore (length_of file.old) h x
+        → x.number ≤ records_in file.old
+        → StoresLines D.history W.contents disk.old disk.new out.old out.new l n f file.old file.new (x ∷ []) result) }
+{
+    let Some((number, bytes)) = read_line(line) else {
+        return Ok(());
+    };
+    if !store_record(disk, file, number, bytes.as_slice())? {
+        return Ok(());
+    }
+    if write_line(out, number, bytes.as_slice()).is_err() {
+        return Err(KeepFault::File);
+    }
+    Ok(())
+}
+
+/// Stores the records of the text's lines, which are all there, in order, and prints the lines of those that were
+/// otherwise.
+pub(crate) fn store_lines<D: Sectors, W: Write>(
+    disk: &mut D,
+    file: &mut RelFile,
+    text: &[u8],
+    out: &mut W,
+) -> Result<(), KeepFault>
+    requires clean { IsClean (D.history.image disk.old) }
+    requires of { IsOf (D.history.image disk.old) file.old }
+    requires lines { (h : ℕ) × (xs : List NewRecord) × AreLinesOf (length_of file.old) h (lines text.now) xs
+        × (greatest xs ≤ records_in file.old) }
+    ensures { OfItsFile (D.history.image disk.old) file.old (λ l n f.
+        (h : ℕ) (xs : List NewRecord) → AreLinesOf (length_of file.old) h (lines text.now) xs
+        → greatest xs ≤ records_in file.old
+        → StoresLines D.history W.contents disk.old disk.new out.old out.new l n f file.old file.new xs result) }
+{
+    let mut rest = text;
+    while let Some((line, more)) = next_line(rest) {
+        store_line(disk, file, line, out)?;
+        rest = more;
+    }
+    Ok(())
+}
