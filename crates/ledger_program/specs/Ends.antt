@@ -5,6 +5,8 @@ use Rattle.std.specs.declared.fs.locks.TryLockError.{TryLockError}
 use Rattle.std.specs.declared.fs.locks.TryLockError.TheVariants as locks
 use Rattle.std.specs.declared.io.Error.{Error}
 use Rattle.disk_layout.specs.declared.faults.Fault.{Fault}
+use Rattle.disk_pictures.specs.Faults.{picture_status, picture_text}
+use Rattle.disk_pictures.specs.declared.faults.PictureFault.{PictureFault}
 use Rattle.keeper_commands.specs.Faults.{keep_status, keep_text}
 use Rattle.keeper_commands.specs.declared.faults.KeepFault.{KeepFault}
 use Rattle.ledger_commands.specs.Faults.{io_fault, run_status}
@@ -20,12 +22,14 @@ use Rattle.ledger_program.specs.declared.refusals.Refusal.TheVariants as refusal
 abbrev pub refusal_status : Refusal → ℕ
 refusal_status (refusals.Run fault) = run_status fault
 refusal_status (refusals.Keep fault) = keep_status fault
+refusal_status (refusals.Draw fault) = picture_status fault
 refusal_status refusals.InUse = 3
 
 -- what is told of it
 abbrev pub refusal_text : Refusal → List ℕ
 refusal_text (refusals.Run fault) = run_text fault
 refusal_text (refusals.Keep fault) = keep_text fault
+refusal_text (refusals.Draw fault) = picture_text fault
 refusal_text refusals.InUse = codes "IN USE"
 
 -- the line in which it is told
@@ -83,3 +87,8 @@ as_job (Err fault) = Err (refusals.Run fault)
 abbrev pub as_kept : Result Unit KeepFault → JobEnd
 as_kept (Ok _) = Ok None
 as_kept (Err fault) = Err (refusals.Keep fault)
+
+-- what came of a drawing, as a job's end
+abbrev pub as_drawn : Result (Option Fault) PictureFault → JobEnd
+as_drawn (Ok printed) = Ok printed
+as_drawn (Err fault) = Err (refusals.Draw fault)

@@ -1,3 +1,4 @@
+pub mod Drawings
 pub mod Ends
 pub mod Jobs
 pub mod Keeping

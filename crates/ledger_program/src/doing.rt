@@ -2,12 +2,13 @@
 ghost use Rattle.std.specs.Prelude.{◌≡◌, ◌≤◌, IfErr, IfOk, IfSome, Err, vec_items};
 ghost use Rattle.std.specs.IoError.{error_kind};
 ghost use Rattle.ledger_commands.specs.Faults.{io_fault};
-ghost use Rattle.ledger_program.specs.Ends.{as_job, as_kept, told_of};
+ghost use Rattle.ledger_program.specs.Ends.{as_drawn, as_job, as_kept, told_of};
 ghost use Rattle.ledger_program.specs.Jobs.{HasTills, needed};
 ghost use Rattle.ledger_program.specs.Runs.{IsReadingEnd, IsReadingOf};
 
+use crate::drawing::drawing_run;
 use crate::files::{AtPath, STANDARD_INPUT, opened, room_for, script_at};
-use crate::jobs::{Job, Reading, Taking};
+use crate::jobs::{Drawing, Job, Reading, Taking};
 use crate::keeping::{repair_run, taking_run};
 use crate::names::Name;
 use crate::owning::{finished, own, read_own, read_shared, share};
@@ -15,6 +16,7 @@ use crate::refusals::Refusal;
 use crate::running::{format_run, play_run, reading_run};
 use crate::serving_runs::serve_run;
 use disk_layout::Fault;
+use disk_pictures::PictureFault;
 use host_session::Printer;
 use keeper_commands::KeepFault;
 use ledger_commands::{
@@ -52,6 +54,16 @@ fn kept_end(ended: Result<(), KeepFault>) -> Result<Option<Fault>, Refusal>
     match ended {
         Ok(()) => Ok(None),
         Err(fault) => Err(Refusal::Keep(fault)),
+    }
+}
+
+/// What came of a drawing, as a job's end.
+fn drawn_end(ended: Result<Option<Fault>, PictureFault>) -> Result<Option<Fault>, Refusal>
+    ensures { result ≡ as_drawn ended }
+{
+    match ended {
+        Ok(printed) => Ok(printed),
+        Err(fault) => Err(Refusal::Draw(fault)),
     }
 }
 
@@ -252,10 +264,26 @@ where
     kept_end(taking_run(rt.alloc(), what, image.as_slice(), name.as_bytes(), out))
 }
 
+/// Draws the image at a path.
+fn do_drawing<F, R, W>(
+    rt: &R,
+    what: Drawing,
+    path: &str,
+    out: &mut W,
+) -> Result<Option<Fault>, Refusal>
+where
+    F: Read + Locks + Drop,
+    R: Files<File = F> + Input + AllocGlobal,
+    W: Write,
+{
+    let image = image_at(rt, path)?;
+    drawn_end(drawing_run(rt.alloc(), what, image.as_slice(), out))
+}
+
 /// Opens or reads the job's files and does it; what is printed goes to `out`, which is flushed at the end. An image is locked
 /// before anything of it is read or changed: alone where it is written. `InUse` where another program has it; `File` where a
 /// file couldn't be opened or read, and the faults of `reading_run`, `format_run`, `play_run`, `serve_run`,
-/// `repair_run` and `taking_run`.
+/// `repair_run`, `taking_run` and `drawing_run`.
 pub fn do_job<F, R, W>(rt: &R, job: &Job<'_>, out: &mut W) -> Result<Option<Fault>, Refusal>
 where
     F: EndedFile + Read + Locks + OpenFile + Drop,
@@ -274,5 +302,6 @@ where
         Job::Serve { image, durability } => do_serving(rt, image, *durability, out),
         Job::Repair { image } => do_repair(rt, image, out),
         Job::Take { what, image, name } => do_taking(rt, *what, image, name, out),
+        Job::Draw { what, image } => do_drawing(rt, *what, image, out),
     }
 }

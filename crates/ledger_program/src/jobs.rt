@@ -24,6 +24,15 @@ pub enum Taking {
     Bytes,
 }
 
+/// How an image is drawn: which sector is whose, and what a check of it tells.
+#[derive(Clone, Copy, Debug, PartialEq, Eq)]
+pub enum Drawing {
+    /// A line for each track, for a terminal.
+    Map,
+    /// An HTML page with a drawing of the disk.
+    Picture,
+}
+
 /// What the words of a command line ask for.
 #[derive(Drop)]
 pub enum Job<'a> {
@@ -70,5 +79,12 @@ pub enum Job<'a> {
         image: &'a str,
         /// The name of the file.
         name: Name,
+    },
+    /// An image that is read, drawn.
+    Draw {
+        /// How it is drawn.
+        what: Drawing,
+        /// The image's path.
+        image: &'a str,
     },
 }

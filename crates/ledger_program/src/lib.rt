@@ -2,6 +2,7 @@
 #![tactic(auto)]
 
 mod doing;
+mod drawing;
 mod files;
 mod jobs;
 mod keeping;
@@ -13,7 +14,8 @@ mod serving_runs;
 mod telling;
 
 pub use doing::{do_job, do_over};
-pub use jobs::{Job, Reading, Taking};
+pub use drawing::drawing_run;
+pub use jobs::{Drawing, Job, Reading, Taking};
 pub use keeping::{repair_run, taking_run};
 pub use names::Name;
 pub use refusals::Refusal;

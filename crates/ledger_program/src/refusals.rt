@@ -2,6 +2,7 @@
 ghost use Rattle.std.specs.Prelude.{◌≡◌, Some};
 ghost use Rattle.ledger_program.specs.Ends.{lock_refusal, refusal_status, refusal_text};
 
+use disk_pictures::PictureFault;
 use keeper_commands::KeepFault;
 use ledger_commands::RunFault;
 use std::error::Error;
@@ -15,6 +16,8 @@ pub enum Refusal {
     Run(RunFault),
     /// The same of a job over the files of an image.
     Keep(KeepFault),
+    /// The same of a job that draws an image.
+    Draw(PictureFault),
     /// Another program has the image. Nothing was read or changed.
     InUse,
 }
@@ -27,6 +30,7 @@ impl Refusal {
         match self {
             Refusal::Run(fault) => fault.status(),
             Refusal::Keep(fault) => fault.status(),
+            Refusal::Draw(fault) => fault.status(),
             Refusal::InUse => 3,
         }
     }
@@ -50,6 +54,7 @@ impl Display for Refusal {
         match self {
             Refusal::Run(fault) => write!(f, "{fault}"),
             Refusal::Keep(fault) => write!(f, "{fault}"),
+            Refusal::Draw(fault) => write!(f, "{fault}"),
             Refusal::InUse => f.write_str("IN USE"),
         }
     }

@@ -72,6 +72,7 @@ taking-met o found name at what image (Ok (jobs.Read asked path)) told some is b
 taking-met o found name at what image (Ok (jobs.Play path script durability)) told some is by-image taking = absurd taking
 taking-met o found name at what image (Ok (jobs.Serve path durability)) told some is by-image taking = absurd taking
 taking-met o found name at what image (Ok (jobs.Repair path)) told some is by-image taking = absurd taking
+taking-met o found name at what image (Ok (jobs.Draw asked path)) told some is by-image taking = absurd taking
 taking-met o found name at what image (Err faults.Name) told some is by-image taking =
     ((refl, what, met-has o found name at (word_of_taking what) HasNoName told some is taking), tt)
 taking-met o found name at what image (Err faults.Tills) told some is by-image taking = absurd taking

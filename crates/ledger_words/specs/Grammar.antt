@@ -58,6 +58,14 @@ records = with_rule (over_image (codes "records")) (required (codes "NAME"))
 abbrev pub bytes : App
 bytes = with_rule (over_image (codes "bytes")) (required (codes "NAME"))
 
+-- map IMAGE
+abbrev pub map : App
+map = over_image (codes "map")
+
+-- picture IMAGE
+abbrev pub picture : App
+picture = over_image (codes "picture")
+
 -- dry SCRIPT
 abbrev pub dry : App
 dry = with_rule (new_app (codes "dry")) (required (codes "SCRIPT"))
@@ -77,8 +85,8 @@ bare = with_required_subcommand (with_version (new_app (codes "ledger_cli")))
 -- the program with its subcommands
 abbrev pub ledger : App
 ledger = with_subcommand (with_subcommand (with_subcommand (with_subcommand (with_subcommand (with_subcommand
-    (with_subcommand (with_subcommand (with_subcommand (with_subcommand bare format.top) list.top) check.top) show.top)
-    play.top) serve.top) repair.top) records.top) bytes.top) dry.top
+    (with_subcommand (with_subcommand (with_subcommand (with_subcommand (with_subcommand (with_subcommand bare format.top)
+    list.top) check.top) show.top) play.top) serve.top) repair.top) records.top) bytes.top) map.top) picture.top) dry.top
 
 -- this is that subcommand, and none of its values is one of the program's
 pub record IsSubcommand (app : App) (c : Command) : Type 0 where

@@ -7,6 +7,8 @@ use Rattle.request_cards.specs.Reading.{number_in}
 use Rattle.ledger_commands.specs.declared.durable.Durability.{Durability}
 use Rattle.ledger_commands.specs.declared.durable.Durability.TheVariants as durabilities
 use Rattle.ledger_words.specs.Grammar.{value}
+use Rattle.ledger_program.specs.declared.jobs.Drawing.{Drawing}
+use Rattle.ledger_program.specs.declared.jobs.Drawing.TheVariants as drawings
 use Rattle.ledger_program.specs.declared.jobs.Job.{Job}
 use Rattle.ledger_program.specs.declared.jobs.Job.TheVariants as jobs
 use Rattle.ledger_program.specs.Names.{IsNameOf, name_bytes}
@@ -49,6 +51,11 @@ abbrev pub word_of_taking : Taking → Text
 word_of_taking takings.Records = codes "records"
 word_of_taking takings.Bytes = codes "bytes"
 
+-- the subcommand that draws an image so
+abbrev pub word_of_drawing : Drawing → Text
+word_of_drawing drawings.Map = codes "map"
+word_of_drawing drawings.Picture = codes "picture"
+
 -- a flag is among the words
 abbrev pub is_given : Text → List Row → Bool
 is_given flag rows = bytes_eq (value flag rows) (codes "true")
@@ -77,6 +84,7 @@ IsJob found (jobs.Serve image durability) = Has found (codes "serve")
 IsJob found (jobs.Repair image) = Has found (codes "repair") (λ rows. image.now ≡ value (codes "IMAGE") rows)
 IsJob found (jobs.Take what image name) = Has found (word_of_taking what)
     (λ rows. (image.now ≡ value (codes "IMAGE") rows) × IsNameOf (value (codes "NAME") rows) (name_bytes name))
+IsJob found (jobs.Draw what image) = Has found (word_of_drawing what) (λ rows. image.now ≡ value (codes "IMAGE") rows)
 
 -- the job, or why there is none, of a subcommand that takes this out of an image and has these values
 abbrev pub IsTakingJob : List Row → Taking → Text → Result Job JobFault → Type 0

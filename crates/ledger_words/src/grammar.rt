@@ -190,6 +190,28 @@ fn bytes_command<'a>(alloc: Global) -> Result<Command<'a>, AllocError>
     takes(over_image(alloc, "bytes", about), name_of(alloc))
 }
 
+/// `map IMAGE`
+fn map_command<'a>(alloc: Global) -> Result<Command<'a>, AllocError>
+    ensures { IfOk result (grammar.IsSubcommand grammar.map) }
+{
+    over_image(
+        alloc,
+        "map",
+        "Prints which sector is whose: a line for each track, then the files and what a check tells",
+    )
+}
+
+/// `picture IMAGE`
+fn picture_command<'a>(alloc: Global) -> Result<Command<'a>, AllocError>
+    ensures { IfOk result (grammar.IsSubcommand grammar.picture) }
+{
+    over_image(
+        alloc,
+        "picture",
+        "Prints a drawing of the disk, as an HTML page",
+    )
+}
+
 /// `dry SCRIPT`
 fn dry_command<'a>(alloc: Global) -> Result<Command<'a>, AllocError>
     ensures { IfOk result (grammar.IsSubcommand grammar.dry) }
@@ -241,5 +263,7 @@ pub fn ledger_command<'a>(alloc: Global) -> Result<Command<'a>, AllocError>
     let program = adds(program, repair_command(alloc));
     let program = adds(program, records_command(alloc));
     let program = adds(program, bytes_command(alloc));
+    let program = adds(program, map_command(alloc));
+    let program = adds(program, picture_command(alloc));
     adds(program, dry_command(alloc))
 }

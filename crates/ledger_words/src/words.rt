@@ -11,7 +11,7 @@ use crate::faults::JobFault;
 use crate::grammar::ledger_command;
 use clap::{ArgMatches, Error};
 use ledger_commands::Durability;
-use ledger_program::{Job, Name, Reading, Taking};
+use ledger_program::{Drawing, Job, Name, Reading, Taking};
 use request_cards::number;
 use std::alloc::{AllocError, Global};
 
@@ -121,6 +121,14 @@ fn chosen<'a>(matches: &ArgMatches<'a>) -> Result<Job<'a>, JobFault>
         "repair" => Ok(Job::Repair { image }),
         "records" => taking(found, Taking::Records, image),
         "bytes" => taking(found, Taking::Bytes, image),
+        "map" => Ok(Job::Draw {
+            what: Drawing::Map,
+            image,
+        }),
+        "picture" => Ok(Job::Draw {
+            what: Drawing::Picture,
+            image,
+        }),
         "dry" => Ok(Job::Read {
             what: Reading::Dry,
             path: script,

@@ -81,3 +81,15 @@ returns-in-bytes c =
     let met = taking-met c.met.result _ c.in-Some.name c.in-Some.found takings.Bytes _ c.taking-in-bytes.result c.met.ensures c.in-Some.is c.in-bytes.is
     c.value_of-image.ensures c.taking-in-bytes.ensures in
     record { job = met.0; tills = met.1 }
+
+pub returns-in-map : goal.returns-in-map
+returns-in-map c = record {
+  job = met-has c.met.result _ c.in-Some.name c.in-Some.found _ _ c.met.ensures c.in-Some.is c.in-map.is c.value_of-image.ensures;
+  tills = tt;
+}
+
+pub returns-in-picture : goal.returns-in-picture
+returns-in-picture c = record {
+  job = met-has c.met.result _ c.in-Some.name c.in-Some.found _ _ c.met.ensures c.in-Some.is c.in-picture.is c.value_of-image.ensures;
+  tills = tt;
+}
