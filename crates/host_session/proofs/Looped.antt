@@ -157,7 +157,7 @@ module _ {D A T : Type 0} (h : History D) (a : Source A) (o : Output T) (from : 
               told = breaks.0 from.out (over_images h x.turns) x.told;
             },
             over_now w [] _ same
-            ∙ ap (λ turns. asked_over h run.first turns (messages_in w.taken ++ a.here asks ∷ [])) (append-nil x.turns),
+                ∙ ap (λ turns. asked_over h run.first turns (messages_in w.taken ++ a.here asks ∷ [])) (append-nil x.turns),
           ),
         )
 
@@ -186,7 +186,7 @@ module _ {D A T : Type 0} (h : History D) (a : Source A) (o : Output T) (from : 
               told = pick result tells;
             },
             over_now w [] x.run.first refl
-            ∙ ap (λ turns. asked_over h x.run.first turns (messages_in w.taken ++ a.here asks ∷ [])) (append-nil x.turns),
+                ∙ ap (λ turns. asked_over h x.run.first turns (messages_in w.taken ++ a.here asks ∷ [])) (append-nil x.turns),
           ),
         )
       where

@@ -74,7 +74,7 @@ abbrev pub of_events : Source OfEvents
 of_events = record {
   gives = λ first now xs. (now.events.now ≡ first.events.now)
       × (map message_of (drop first.taken first.events.now)
-          ≡ messages_in xs ++ map message_of (drop now.taken first.events.now));
+      ≡ messages_in xs ++ map message_of (drop now.taken first.events.now));
   here = λ now. message_here (last_taken now.taken now.events.now);
   is_over = λ now. length now.events.now ≤ now.taken;
   has_failed = λ _. ⊥;

@@ -19,6 +19,7 @@ pub trait WritesAt {
 
     // nobody else writes it; and nobody else reads it either
     ghost IsShared: { Self → Type 0 } = { λ _. ⊤ };
+
     ghost IsOwned: { Self → Type 0 } = { λ _. ⊤ };
 
     /// Writes all these bytes over those from that place on, in bytes from the file's start. At an error a beginning of them

@@ -14,20 +14,20 @@ returns-in-End-clause-way g c = λ from w alive.
     at_end g.D.Sectors.history g.A.Asks.source g.T.Tells.output from c.loop-asks.session.disk c.loop-asks.asks c.next.new.self c.loop-asks.out
     (c.loop-asks.invariant.way from w alive).1
     (was_asked g.D.Sectors.history g.A.Asks.source c.loop-asks.asks c.next.new.self c.disk.result.now
-        c.loop-asks.session.disk _ _ c.disk.ensures c.in-End.is c.next.ensures)
+    c.loop-asks.session.disk _ _ c.disk.ensures c.in-End.is c.next.ensures)
 
 pub returns-in-Failed-clause-way : goal.returns-in-Failed-clause-way
 returns-in-Failed-clause-way g c = λ from w alive.
     at_fault g.D.Sectors.history g.A.Asks.source g.T.Tells.output from c.loop-asks.session.disk c.loop-asks.asks c.next.new.self c.loop-asks.out
     (c.loop-asks.invariant.way from w alive).1
     (was_asked g.D.Sectors.history g.A.Asks.source c.loop-asks.asks c.next.new.self c.disk.result.now
-        c.loop-asks.session.disk _ _ c.disk.ensures c.in-Failed.is c.next.ensures)
+    c.loop-asks.session.disk _ _ c.disk.ensures c.in-Failed.is c.next.ensures)
 
 pub returns-then-is_some-clause-way : goal.returns-then-is_some-clause-way
 returns-then-is_some-clause-way g c = λ from w alive.
     let before = c.loop-asks.invariant.way from w alive in
     let took = was_asked g.D.Sectors.history g.A.Asks.source c.loop-asks.asks c.next.new.self c.disk.result.now
-        c.loop-asks.session.disk _ _ c.disk.ensures c.in-Event.is c.next.ensures in (
+    c.loop-asks.session.disk _ _ c.disk.ensures c.in-Event.is c.next.ensures in (
       before.0,
       takes_one g.D.Sectors.history g.A.Asks.source g.T.Tells.output from c.loop-asks.session.disk c.loop-asks.asks c.next.new.self c.loop-asks.out
           before.1 took.0,
@@ -36,7 +36,7 @@ returns-then-is_some-clause-way g c = λ from w alive.
 pub returns-then-is_some-clause-cut : goal.returns-then-is_some-clause-cut
 returns-then-is_some-clause-cut g c = λ _.
     let took = was_asked g.D.Sectors.history g.A.Asks.source c.loop-asks.asks c.next.new.self c.disk.result.now
-        c.loop-asks.session.disk _ _ c.disk.ensures c.in-Event.is c.next.ensures in
+    c.loop-asks.session.disk _ _ c.disk.ensures c.in-Event.is c.next.ensures in
     let fuel = took.1 in
     (some_cut _ c.cut.result _ c.cut.ensures (sym c.is_some.ensures ∙ c.if-is_some.true), omega (arith, c.loop-asks.invariant.fuel, fuel))
 
@@ -47,14 +47,14 @@ returns-then-is_media-clause-way g c = λ from w alive.
     let o = g.T.Tells.output in
     let before = c.loop-asks.invariant.way from w alive in
     let took = was_asked g.D.Sectors.history g.A.Asks.source c.loop-asks.asks c.next.new.self c.disk.result.now
-        c.loop-asks.session.disk _ _ c.disk.ensures c.in-Event.is c.next.ensures in
+    c.loop-asks.session.disk _ _ c.disk.ensures c.in-Event.is c.next.ensures in
     let x = c.loop-asks.session.disk in
     let y = c.whole_message-reply.new.session.disk in
     let reply = c.whole_message-reply.result in
     let m = a.here c.next.new.self in
     fails h a o from x y c.next.new.self reply c.loop-asks.out c.tell-taken.new.self c.tell-taken.result
     (subst (λ d. IsTold o c.loop-asks.out c.tell-taken.new.self reply (h.image d) c.tell-taken.result)
-        c.disk-in-loop-asks.ensures c.tell-taken.ensures)
+    c.disk-in-loop-asks.ensures c.tell-taken.ensures)
     (λ t settled. subst (λ n. IsEvent h t n x y (EndsFailed h t n reply y))
     (is_whole m c.message.result.now c.message.ensures (no_cut _ c.cut.result _ c.cut.ensures (sym c.is_some.ensures ∙ c.if-is_some.false)))
     (c.whole_message-reply.ensures.stopped t settled before.0 (c.is_media.ensures.0 c.if-is_media.true)))
@@ -67,7 +67,7 @@ returns-then-is_err-clause-way g c = λ from w alive.
     let o = g.T.Tells.output in
     let before = c.loop-asks.invariant.way from w alive in
     let took = was_asked g.D.Sectors.history g.A.Asks.source c.loop-asks.asks c.next.new.self c.disk.result.now
-        c.loop-asks.session.disk _ _ c.disk.ensures c.in-Event.is c.next.ensures in
+    c.loop-asks.session.disk _ _ c.disk.ensures c.in-Event.is c.next.ensures in
     let x = c.loop-asks.session.disk in
     let y = c.whole_message-reply.new.session.disk in
     let reply = c.whole_message-reply.result in
@@ -75,7 +75,7 @@ returns-then-is_err-clause-way g c = λ from w alive.
     breaks_off h a o from x y c.next.new.self reply c.loop-asks.out c.tell-taken.new.self (c.whole_message-reply.new.session.dead ≡ false)
     (was_broken o c.loop-asks.out c.tell-taken.new.self reply (h.image y) c.tell-taken.result (sym c.is_err.ensures.value ∙ c.if-is_err.true)
     (subst (λ d. IsTold o c.loop-asks.out c.tell-taken.new.self reply (h.image d) c.tell-taken.result)
-        c.disk-in-loop-asks.ensures c.tell-taken.ensures))
+    c.disk-in-loop-asks.ensures c.tell-taken.ensures))
     (λ t settled.
     let e = c.whole_message-reply.ensures.done t settled before.0 (λ is. false≢true (sym c.if-is_media.false ∙ c.is_media.ensures.1 is)) in (
       e.0,
@@ -90,7 +90,7 @@ loop-asks-preserved g c =
     let a = g.A.Asks.source in
     let o = g.T.Tells.output in
     let took = was_asked g.D.Sectors.history g.A.Asks.source c.loop-asks.asks c.next.new.self c.disk.result.now
-        c.loop-asks.session.disk _ _ c.disk.ensures c.in-Event.is c.next.ensures in
+    c.loop-asks.session.disk _ _ c.disk.ensures c.in-Event.is c.next.ensures in
     let fuel = took.1 in
     let x = c.loop-asks.session.disk in
     let y = c.whole_message-reply.new.session.disk in
@@ -103,7 +103,7 @@ loop-asks-preserved g c =
           goes_on h a o from x y c.next.new.self reply c.loop-asks.out c.tell-taken.new.self (c.whole_message-reply.new.session.dead ≡ false)
           (was_told o c.loop-asks.out c.tell-taken.new.self reply (h.image y) c.tell-taken.result (c.is_err.ensures.negation ∙ ap not c.if-is_err.false)
           (subst (λ d. IsTold o c.loop-asks.out c.tell-taken.new.self reply (h.image d) c.tell-taken.result)
-        c.disk-in-loop-asks.ensures c.tell-taken.ensures))
+          c.disk-in-loop-asks.ensures c.tell-taken.ensures))
           (λ t settled.
           let e = c.whole_message-reply.ensures.done t settled before.0 (λ is. false≢true (sym c.if-is_media.false ∙ c.is_media.ensures.1 is)) in (
             e.0,
