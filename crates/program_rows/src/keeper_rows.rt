@@ -1,8 +1,9 @@
-//! What a keeper asks of an image: its repair, and what is taken out of it.
+//! What a keeper asks of an image: its repair, what is taken out of it, and how it is drawn.
 use crate::comparing::{holds, same_at};
 use crate::memory::Memory;
 use crate::scenes::{
-    BYTES, Bytes, End, RECORDS, REPAIR, Words, bytes_at, changed, empty_shop, ends, put, ran,
+    BYTES, Bytes, End, MAP, PICTURE, RECORDS, REPAIR, Words, bytes_at, changed, empty_shop, ends, put, ran,
+    status_of,
 };
 use crate::stored::Kind;
 use std::process::Abort;
@@ -11,7 +12,7 @@ use std::process::Abort;
 const LOOP: &[Bytes] = &[(86016, b"\x11\x00")];
 
 /// Track 1 has a free sector too few in the map at 18/0, and the entry of STOCK in 18/1 a block too many.
-const MAP: Bytes = (91396, b"\x14");
+const WRONG_MAP: Bytes = (91396, b"\x14");
 
 const COUNT: Bytes = (91678, b"\x03");
 
@@ -19,17 +20,17 @@ const COUNT: Bytes = (91678, b"\x03");
 /// were, and whether the image is as it was before the changes.
 const REPAIRED: [(&[Bytes], usize, End<'static>, usize, bool); 6] = [
     (&[], 0, (0, b"OK\n", b""), 1, true),
-    (&[MAP], 0, (0, b"MENDED 18/0\nOK\n", b""), 2, true),
+    (&[WRONG_MAP], 0, (0, b"MENDED 18/0\nOK\n", b""), 2, true),
     (
-        &[COUNT, MAP],
+        &[COUNT, WRONG_MAP],
         0,
         (0, b"MENDED 18/0\nMENDED 18/1\nOK\n", b""),
         3,
         true,
     ),
     (LOOP, 0, (1, b"", b"LAYOUT LOOP 17/0\n"), 1, false),
-    (&[MAP], 1, (3, b"", b"DEVICE\n"), 1, false),
-    (&[COUNT, MAP], 2, (3, b"", b"DEVICE\n"), 2, false),
+    (&[WRONG_MAP], 1, (3, b"", b"DEVICE\n"), 1, false),
+    (&[COUNT, WRONG_MAP], 2, (3, b"", b"DEVICE\n"), 2, false),
 ];
 
 /// Sees that each of these images is repaired so, each sector brought to the disk before the next is written.
@@ -117,4 +118,38 @@ fn files_are_taken_out(rt: HostRuntime) {
     let words: Words = &[b"ledger_cli", b"bytes", b"/dev/stdin", b"REQUESTS"];
     let memory = Memory::new(rt.alloc(), words, hurt.as_slice());
     ends(&rt, &memory, whole, "bytes from standard input");
+}
+
+/// What a map begins with where track 1 is free: the numbers of the sectors, and 21 of them.
+const FIRST_LINES: &[u8] =
+    b"   0         1         2\n   012345678901234567890\n 1 .....................\n";
+
+/// Sees that an image is drawn with such an end and such a beginning, and nothing is told.
+fn is_drawn(
+    rt: &(impl AllocGlobal + Abort),
+    words: Words,
+    image: &[u8],
+    status: u8,
+    first: &[u8],
+) {
+    let memory = Memory::new(rt.alloc(), words, b"");
+    put(rt, &memory.image, Kind::Plain, image);
+    same_at(rt, status_of(&memory), status, "its end");
+    match (memory.out.try_borrow(), memory.err.try_borrow()) {
+        (Ok(out), Ok(err)) => {
+            holds(rt, out.as_slice().starts_with(first), "its first lines");
+            holds(rt, err.is_empty(), "nothing is told");
+        }
+        _ => holds(rt, false, "they are free"),
+    }
+}
+
+#[test]
+fn images_are_drawn(rt: HostRuntime) {
+    let shop = empty_shop(&rt);
+    let hurt = changed(&rt, shop.as_slice(), LOOP);
+    is_drawn(&rt, MAP, shop.as_slice(), 0, FIRST_LINES);
+    is_drawn(&rt, MAP, hurt.as_slice(), 1, FIRST_LINES);
+    is_drawn(&rt, PICTURE, shop.as_slice(), 0, b"<!DOCTYPE html>");
+    ran(&rt, MAP, b"", b"", (1, b"", b"IMAGE SIZE\n"));
 }

@@ -29,6 +29,10 @@ pub(crate) const RECORDS: Words = &[b"ledger_cli", b"records", b"a.d64", b"REQUE
 
 pub(crate) const BYTES: Words = &[b"ledger_cli", b"bytes", b"a.d64", b"REQUESTS"];
 
+pub(crate) const MAP: Words = &[b"ledger_cli", b"map", b"a.d64"];
+
+pub(crate) const PICTURE: Words = &[b"ledger_cli", b"picture", b"a.d64"];
+
 pub(crate) const DRY: Words = &[b"ledger_cli", b"dry", b"s.txt"];
 
 /// A status, what is printed, and what is told on standard error.

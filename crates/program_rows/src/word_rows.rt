@@ -3,7 +3,7 @@ use crate::comparing::{holds, same_at};
 use crate::memory::Memory;
 use crate::scenes::{Words, ends, status_of};
 use ledger_commands::Durability;
-use ledger_program::{Job, Reading, Taking};
+use ledger_program::{Drawing, Job, Reading, Taking};
 use ledger_words::job;
 use std::cell::RefCell;
 use std::process::Abort;
@@ -43,6 +43,10 @@ fn asked<'a>(rt: &impl AllocGlobal, words: &'a [&'a str]) -> Result<Row<'a>, (u8
                 Taking::Bytes => ("bytes", image, "", length),
             })
         }
+        Ok(Job::Draw { what, image }) => Ok(match what {
+            Drawing::Map => ("map", image, "", 0),
+            Drawing::Picture => ("picture", image, "", 0),
+        }),
         Err(fault) => Err((fault.number(), fault.status())),
     }
 }
@@ -60,6 +64,8 @@ fn words_ask_for_a_job(rt: HostRuntime) {
         &[
             (&["ledger", "dry", "s.txt"], ("dry", "", "s.txt", 0)),
             (&["ledger", "list", "a.d64"], ("list", "a.d64", "", 0)),
+            (&["ledger", "map", "a.d64"], ("map", "a.d64", "", 0)),
+            (&["ledger", "picture", "a.d64"], ("picture", "a.d64", "", 0)),
             (&["ledger", "check", "a.d64"], ("check", "a.d64", "", 0)),
             (&["ledger", "show", "a.d64"], ("show", "a.d64", "", 0)),
             (
