@@ -2,8 +2,8 @@
 use crate::comparing::{holds, same_at};
 use crate::memory::Memory;
 use crate::scenes::{
-    BYTES, Bytes, End, MAP, PICTURE, RECORDS, REPAIR, Words, bytes_at, changed, empty_shop, ends, put, ran,
-    status_of,
+    BYTES, Bytes, End, MAP, PICTURE, RECORDS, REPAIR, Words, bytes_at, changed, empty_shop, ends,
+    put, ran, status_of,
 };
 use crate::stored::Kind;
 use std::process::Abort;
@@ -125,13 +125,7 @@ const FIRST_LINES: &[u8] =
     b"   0         1         2\n   012345678901234567890\n 1 .....................\n";
 
 /// Sees that an image is drawn with such an end and such a beginning, and nothing is told.
-fn is_drawn(
-    rt: &(impl AllocGlobal + Abort),
-    words: Words,
-    image: &[u8],
-    status: u8,
-    first: &[u8],
-) {
+fn is_drawn(rt: &(impl AllocGlobal + Abort), words: Words, image: &[u8], status: u8, first: &[u8]) {
     let memory = Memory::new(rt.alloc(), words, b"");
     put(rt, &memory.image, Kind::Plain, image);
     same_at(rt, status_of(&memory), status, "its end");
