@@ -85,17 +85,8 @@ def main():
     parser.add_argument("--broker", action="append", help="an AMQP URL; more than once for the nodes of a cluster")
     parser.add_argument("--pipes", action="store_true", help="take messages from standard input, without a broker")
     given = parser.parse_args()
-    serve = shop.serve_of(given)
-    try:
-        if given.pipes:
-            over_pipes(serve)
-        else:
-            Bridge(given.broker or ["amqp://127.0.0.1/"], given.shop, serve).run()
-    except shop.Gone as gone:
-        shop.say(f"{given.image}: {gone}")
-        sys.exit(gone.exit_status())
-    except KeyboardInterrupt:
-        serve.end()
+    brokers = given.broker or ["amqp://127.0.0.1/"]
+    shop.served(given, over_pipes if given.pipes else lambda serve: Bridge(brokers, given.shop, serve).run())
 
 
 if __name__ == "__main__":

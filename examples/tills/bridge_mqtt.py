@@ -12,7 +12,6 @@ where the image is no shop."""
 
 import argparse
 import os
-import sys
 
 import paho.mqtt.client as mqtt
 
@@ -62,14 +61,7 @@ def main():
     parser = shop.words(argparse.ArgumentParser(description=__doc__.splitlines()[0]))
     parser.add_argument("--broker", default="127.0.0.1:1883", help="HOST:PORT of the MQTT broker")
     given = parser.parse_args()
-    serve = shop.serve_of(given)
-    try:
-        Bridge(given.broker, given.shop, serve).run()
-    except shop.Gone as gone:
-        shop.say(f"{given.image}: {gone}")
-        sys.exit(gone.exit_status())
-    except KeyboardInterrupt:
-        serve.end()
+    shop.served(given, lambda serve: Bridge(given.broker, given.shop, serve).run())
 
 
 if __name__ == "__main__":

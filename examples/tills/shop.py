@@ -153,3 +153,16 @@ def serve_of(given):
 
 def say(text):
     print(text, file=sys.stderr, flush=True)
+
+
+def served(given, work):
+    """Starts `serve` for a bridge and does its work with it, until the service is gone: then says so, and ends with the
+    status that a supervisor goes by."""
+    serve = serve_of(given)
+    try:
+        work(serve)
+    except Gone as gone:
+        say(f"{given.image}: {gone}")
+        sys.exit(gone.exit_status())
+    except KeyboardInterrupt:
+        serve.end()
