@@ -2,9 +2,8 @@
 """Makes docs/DEFINITIONS.md from the comments over the definitions in crates/*/specs/.
 
 It has a line for each definition that a contract of a public function, trait or type cites, and for each on which such a one
-rests and that is a type or a record, or has an example or a source of its own: its name, the comment over it, its source where
-the heading of its file doesn't name it, and the example that decides it. All others on which they rest are named.
-Examples, further sources, and sentences for definitions without a comment of their own stand in docs/definitions.txt.
+rests and that has an example: its name, the comment over it, its source where the heading of its file doesn't name it, and the
+example that decides it. Examples, further sources, and sentences for definitions without a comment of their own stand in docs/definitions.txt.
 
 Without words the page is written. With `--check` nothing is written, and the status is 1 where the page isn't up to date.
 In both cases the status is 1 where the side table names what isn't on the page, or a definition has no sentence."""
@@ -21,13 +20,12 @@ OWN = r" *(All of it is our own|Our own|All of it is ours)\.$| \(our own\)"
 HEAD = """# Definitions
 
 What the contracts say rests on these definitions; each is read against its source. `tests/definitions.py` makes this page from
-the comments in `specs/` and from `definitions.txt`, and with `--check` tells whether it is up to date. A line stands here for
-each definition that a contract of a public call or type cites, and for each on which one of these rests, if it is a type or a
-record of facts, or has an example or a source of its own. In brackets stands the example that decides it: a theorem of the
-crate's `proofs/Examples.antt` (or another file of examples there) that the checker computes, or a row of a test. What else is
-rested on is named as *beneath*; the file, `crates/CRATE/specs/NAME.antt`, has a comment over each. The heading of a file names
-its source: "the Guide" is the 1541 User's Guide, and what names no source is this project's own. In `disk_layout` *the disk
-with STOCK* is a disk with one relative file of one block."""
+the comments in `specs/` and from `definitions.txt`; with `--check` it tells whether the page is up to date. A line stands here
+for each definition that a contract of a public call or type cites, and for each on which one of these rests, if it has an
+example or a source of its own; what else they rest on stands in the same files, `crates/CRATE/specs/NAME.antt`, with a comment
+over each. In brackets stands the example that decides it: a theorem of the crate's `proofs/Examples.antt` (or another file of
+examples there) that the checker computes, or a row of a test. "The Guide" is the 1541 User's Guide; what names no source is
+this project's own. In `disk_layout` *the disk with STOCK* is a disk with one relative file of one block."""
 
 
 def without_comments(text, mark):
@@ -184,6 +182,11 @@ def sentence(text):
     return kept, source[1] if source and source[1] != "own" else ""
 
 
+def first_sentence(heading):
+    """What a file of specs/ is about, with its source, without what its heading says beyond that."""
+    return re.split(r"(?<=\.) (?=[A-Z`])", heading)[0]
+
+
 def page():
     """The page, and what is wrong with its sources."""
     wanted, below = rested_on()
@@ -195,22 +198,20 @@ def page():
         lines += [f"\n## `{crate}`"] if modules else []
         for module in modules:
             heading, found = comments(crate, module)
-            lines.append(f"\n**`{module}`** {re.sub(OWN, '', heading)}\n")
-            others = []
+            rows = []
             for name in [it for it in found if (crate, module, it) in below]:
                 text, source = sentence(side.get((crate, name, "="), found[name][0]))
                 source = side.get((crate, name, "<"), source)
                 example = side.get((crate, name, ":"), "")
-                is_in_side = any((crate, name, mark) in side for mark in "=<:")
-                if not (is_in_side or source or found[name][1] or (crate, module, name) in wanted):
-                    others.append(f"`{name}`")
+                is_told = any((crate, name, mark) in side for mark in "=<:")
+                if not (is_told or source or (crate, module, name) in wanted):
                     continue
                 used |= {(crate, name, mark) for mark in "=<:"}
                 if not text:
                     faults.append(f"no sentence: {crate}/{module}/{name}")
                 shown = [f"source: {source}"] * bool(source) + [example] * bool(example)
-                lines.append(f"- `{name}`: {text}." + f" [{'; '.join(shown)}]" * bool(shown))
-            lines += [f"- *beneath:* {', '.join(others)}"] if others else []
+                rows.append(f"- `{name}`: {text}." + f" [{'; '.join(shown)}]" * bool(shown))
+            lines += [f"\n**`{module}`** {first_sentence(re.sub(OWN, '', heading))}\n", *rows] if rows else []
     faults += unknown_examples(side)
     faults += [f"not on the page: {crate}/{name}" for crate, name, mark in sorted(set(side) - used)]
     return "\n".join(lines) + "\n", faults

@@ -2,16 +2,16 @@
 # Tries every moment of whole days: `tests/every_cut.sh [SEEDS]`, where SEEDS says how many days of each kind are drawn.
 # A day is played on a disk; each image that the disk held is opened, and each image of that opening again, two openings
 # deep; each time the cards and the kept requests are those of the messages so far, each repeat has its kept answer, and
-# `check` is OK. crates/every_cut/README.md says what is compared. It prints how much was tried, and stops at the first
+# `check` is OK. crates/tool_every_cut/README.md says what is compared. It prints how much was tried, and stops at the first
 # difference with status 1. The gate has one small day of it. Run it from anywhere.
 set -eu
 top="$(cd "$(dirname "$0")/.." && pwd)"
 seeds="${1:-5}"
-program="$top/crates/every_cut/out/every_cut"
+program="$top/crates/tool_every_cut/out/tool_every_cut"
 if [ ! -x "$program" ]; then
-    echo "every_cut: proving and building first" >&2
-    (cd "$top/crates/every_cut" && rt run >/dev/null 2>&1) || true
-    [ -x "$program" ] || { echo "every_cut: rt run failed in crates/every_cut" >&2; exit 1; }
+    echo "tool_every_cut: proving and building first" >&2
+    (cd "$top/crates/tool_every_cut" && rt run >/dev/null 2>&1) || true
+    [ -x "$program" ] || { echo "tool_every_cut: rt run failed in crates/tool_every_cut" >&2; exit 1; }
 fi
 work=$(mktemp -d)
 trap 'rm -rf "$work"' EXIT

@@ -3,7 +3,7 @@
 
     tests/refused_memory.py PROGRAM [CUTS]
 
-PROGRAM is `crates/ledger_cli/out/ledger_cli`, and CUTS `crates/every_cut/out/every_cut`. Each of its words is run over and
+PROGRAM is `crates/ledger_cli/out/ledger_cli`, and CUTS `crates/tool_every_cut/out/tool_every_cut`. Each of its words is run over and
 over: the first request for memory is refused, then the second, and so on, until a run has none left to refuse. Each time
 - it ends with status 3 and `NO MEMORY`, with nothing printed and no file changed;
 - or, where it can do without, it does and prints what it does with all its memory.
@@ -134,7 +134,7 @@ def main():
             print(f"{word}: {count} requests for memory refused in turn")
         if len(sys.argv) > 2:
             count = trial.each([Path(sys.argv[2]).resolve(), "6", "1", "20"], lambda: None, no_memory_for_a_day)
-            print(f"every_cut: {count} requests for memory refused in turn")
+            print(f"tool_every_cut: {count} requests for memory refused in turn")
         print(f"{trial.tried} refusals, no difference")
 
 

@@ -1,12 +1,12 @@
 #!/bin/sh
 # Plays a day on disks that other programs made (Debian's packages cc1541 and cbmconvert), opens each image that they held
-# on the way, and each image of those openings, two deep: nothing but `every_cut` over an image of someone else's. The
+# on the way, and each image of those openings, two deep: nothing but `tool_every_cut` over an image of someone else's. The
 # shop's files stand behind and between others there, in other sectors, in the other order in the directory, with a last
 # block that isn't full, and on a disk with little room. Not part of the gate. Run it from anywhere.
 . "$(dirname "$0")/common.sh"
-program="$top/crates/every_cut/out/every_cut"
-[ -x "$program" ] || (cd "$top/crates/every_cut" && rt run >/dev/null 2>&1) || true
-[ -x "$program" ] || { echo "foreign_cuts: rt run failed in crates/every_cut" >&2; exit 1; }
+program="$top/crates/tool_every_cut/out/tool_every_cut"
+[ -x "$program" ] || (cd "$top/crates/tool_every_cut" && rt run >/dev/null 2>&1) || true
+[ -x "$program" ] || { echo "foreign_cuts: rt run failed in crates/tool_every_cut" >&2; exit 1; }
 
 # an empty record of this length, so many times
 empty_records() {

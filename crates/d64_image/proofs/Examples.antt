@@ -1,5 +1,25 @@
 -- Worked examples of this crate's definitions, each named by what it shows. The numbers are those of the D64 layout.
-use Rattle.std.proofs.Common.{◌+◌, ◌≡◌, ◌<◌, ◌≤◌, ◌≢◌, [], ◌∷◌, Some, None, Err, true, inl, refl, sym, ◌∙◌, lit<, lit≤, ⊎_elim, arith}
+use Rattle.std.proofs.Common.{
+  ◌+◌,
+  ◌≡◌,
+  ◌<◌,
+  ◌≤◌,
+  ◌≢◌,
+  [],
+  ◌∷◌,
+  Some,
+  None,
+  Err,
+  true,
+  inl,
+  refl,
+  sym,
+  ◌∙◌,
+  lit<,
+  lit≤,
+  ⊎_elim,
+  arith,
+}
 use Rattle.std.proofs.lemmas.Option.{none-some, same_Some}
 use Rattle.d64_image.specs.declared.place.Place.{Place}
 use Rattle.d64_image.specs.Geometry.{sectors_on, sectors_below}
@@ -28,7 +48,8 @@ map_sector = record { track = 18; sector = 0; on_disk = lit< tt }
 abbrev pub last_sector : Place
 last_sector = record { track = 35; sector = 16; on_disk = lit< tt }
 
-pub four_zones : (sectors_on 1 ≡ 21) × (sectors_on 17 ≡ 21) × (sectors_on 18 ≡ 19) × (sectors_on 25 ≡ 18) × (sectors_on 31 ≡ 17) × (sectors_on 35 ≡ 17)
+pub four_zones : (sectors_on 1 ≡ 21) × (sectors_on 17 ≡ 21) × (sectors_on 18 ≡ 19) × (sectors_on 25 ≡ 18)
+    × (sectors_on 31 ≡ 17) × (sectors_on 35 ≡ 17)
 four_zones = (refl, refl, refl, refl, refl, refl)
 
 pub no_track_36_and_no_track_0 : (sectors_on 36 ≡ 0) × (sectors_on 0 ≡ 0)
@@ -82,11 +103,14 @@ module _ {D : Type 0} (S : History D) (old new : D) where
   pub spent_count_is_a_failure : S.failures new ≡ S.failures old → S.failures new ≡ S.last → Failed S old new
   spent_count_is_a_failure e spent = record { later = omega (arith, e); rose = λ lt. absurd (omega (arith, lt, spent)) }
 
-  pub count_below_its_last_that_stays_is_none : S.failures new ≡ S.failures old → S.failures new < S.last → Failed S old new → ⊥
-  count_below_its_last_that_stays_is_none e lt f = let rose : S.failures old < S.failures new = f.rose lt in omega (arith, e, rose)
+  pub count_below_its_last_that_stays_is_none : S.failures new ≡ S.failures old → S.failures new < S.last
+      → Failed S old new → ⊥
+  count_below_its_last_that_stays_is_none e lt f = let rose : S.failures old < S.failures new = f.rose lt in
+      omega (arith, e, rose)
 
   -- what was held since the call began is the old image or the new one: a third one was not
-  pub third_image_was_not_held : (a b c : Image) → c ≢ a → c ≢ b → HeldOnly S old new (OldOr a b) → S.held new (S.moment old) c → ⊥
+  pub third_image_was_not_held : (a b c : Image) → c ≢ a → c ≢ b → HeldOnly S old new (OldOr a b)
+      → S.held new (S.moment old) c → ⊥
   third_image_was_not_held a b c na nb h held = ⊎_elim na nb (h.each c held)
 
   -- a call that only reads at most two sectors is one that makes no write
@@ -98,14 +122,17 @@ module _ {D : Type 0} (S : History D) (old new : D) where
   counted_write_is_one e w = let same : S.writes new ≡ S.writes old = w.writes in omega (arith, e, same)
 
   -- a write that was counted left the new image
-  pub counted_write_left_the_new_image : (b : Image) → IfCounted S old new (λ c. c ≡ b) → S.writes new ≡ S.writes old + 1 → S.image new ≡ b
+  pub counted_write_left_the_new_image : (b : Image) → IfCounted S old new (λ c. c ≡ b)
+      → S.writes new ≡ S.writes old + 1 → S.image new ≡ b
   counted_write_left_the_new_image b done e = done (omega (arith, e))
 
   -- an error of a read at a place is a failure there, and one of a write too
-  pub read_failed_there : (p : Place) (bytes : Sector) → ReadsSector {T = Unit {0}} S old new p bytes device_fault (Err device_fault) → S.failed_at new p
+  pub read_failed_there : (p : Place) (bytes : Sector) → ReadsSector {T = Unit {0}} S old new p bytes device_fault
+      (Err device_fault) → S.failed_at new p
   read_failed_there p bytes r = r.failed
 
-  pub write_failed_there : (p : Place) (bytes : Sector) → WritesSector {T = Unit {0}} S old new p bytes device_fault (Err device_fault) → S.failed_at new p
+  pub write_failed_there : (p : Place) (bytes : Sector) → WritesSector {T = Unit {0}} S old new p bytes device_fault
+      (Err device_fault) → S.failed_at new p
   write_failed_there p bytes w = w.failed
 
 -- memory fails nowhere
@@ -113,7 +140,8 @@ pub memory_fails_nowhere : (d : MemDisk) (p : Place) → ¬ (memory.failed_at d 
 memory_fails_nowhere d p never = never
 
 -- a fuse that has blown fails everywhere, and one that hasn't only where the disk beneath failed
-pub blown_fuse_fails_everywhere : {D : Type 0} (h : History D) (f : Fuse D) (p : Place) → fuse_left f ≡ 0 → (fuse h).failed_at f p
+pub blown_fuse_fails_everywhere : {D : Type 0} (h : History D) (f : Fuse D) (p : Place) → fuse_left f ≡ 0
+    → (fuse h).failed_at f p
 blown_fuse_fails_everywhere h f p blown = inl blown
 
 pub whole_fuse_fails_beneath : (f : Fuse MemDisk) (p : Place) → fuse_left f ≡ 1 → ¬ ((fuse memory).failed_at f p)
@@ -144,7 +172,8 @@ module _ {F : Type 0} {G : Ghosts F} where
   broken_mirror_fails_everywhere m p broken = broken
 
   -- a mirror that took no sector left its file alone
-  pub mirror_that_took_nothing_left_its_file : (old new : Mirror F G) → IsMirrored old new → mirror_writes old ≡ 0 → mirror_writes new ≡ 0
+  pub mirror_that_took_nothing_left_its_file : (old new : Mirror F G) → IsMirrored old new → mirror_writes old ≡ 0
+      → mirror_writes new ≡ 0
       → ¬ (is_broken new) → mirror_file new ≡ mirror_file old
   mirror_that_took_nothing_left_its_file old new x none still whole =
       ⊎_elim (λ broken. absurd (whole broken)) (λ same. same) (x.quiet (still ∙ sym none) (omega (arith, still)))
@@ -157,5 +186,6 @@ pub past_fault_is_not_due : {D : Type 0} (f : OneFault D) (p : Place) → fault_
 past_fault_is_not_due f p past due = none-some p (sym due.0 ∙ past)
 
 -- over memory it fails at one place alone
-pub one_fault_fails_at_one_place : (f : OneFault MemDisk) (p q : Place) → fault_place f ≡ Some p → (one_fault memory).failed_at f q → q ≡ p
+pub one_fault_fails_at_one_place : (f : OneFault MemDisk) (p q : Place) → fault_place f ≡ Some p
+    → (one_fault memory).failed_at f q → q ≡ p
 one_fault_fails_at_one_place f p q past = ⊎_elim (λ there. same_Some q p (sym there ∙ past)) (λ never. absurd never)

@@ -1,5 +1,22 @@
 -- What a run over a mirror says of its file.
-use Rattle.std.proofs.Common.{Bool, true, false, ◌≡◌, ◌<◌, ◌≤◌, None, Option, Some, arith, inl, inr, refl, subst, sym, ⊎_elim}
+use Rattle.std.proofs.Common.{
+  Bool,
+  true,
+  false,
+  ◌≡◌,
+  ◌<◌,
+  ◌≤◌,
+  None,
+  Option,
+  Some,
+  arith,
+  inl,
+  inr,
+  refl,
+  subst,
+  sym,
+  ⊎_elim,
+}
 use Rattle.std.proofs.lemmas.Bool.Decides.{nat_tests}
 use Rattle.d64_image.specs.declared.mirror.Mirror.{Mirror}
 use Rattle.d64_image.specs.declared.sector_file.SectorFile.{Ghosts}
@@ -17,7 +34,8 @@ agrees_with_itself (Some c) img = refl
 since_failed : {F : Type 0} (K : Keeps F) (first file : F) → FileFailed K first file → fails_since K first file ≡ 1
 since_failed K first file failed = grind (arith, nat_tests, failed.rose)
 
-pub since_grows : {F : Type 0} (K : Keeps F) (first a b : F) → K.failures a ≤ K.failures b → fails_since K first a ≤ fails_since K first b
+pub since_grows : {F : Type 0} (K : Keeps F) (first a b : F) → K.failures a ≤ K.failures b
+    → fails_since K first a ≤ fails_since K first b
 since_grows K first a b le = grind (arith, nat_tests)
 
 pub one_if-false : (b : Bool) → (b ≡ true → ⊥) → one_if b ≡ 0
@@ -35,7 +53,8 @@ module _ {F : Type 0} {G : Ghosts F} where
   }
 
   -- the file kept only what the mirror held
-  pub kept_only : (a b : Mirror F G) (P : Image → Type 0) → P (mirror_image a) → HeldOnly mirror a b P → KeptOnly G.keeps a.file b.file P
+  pub kept_only : (a b : Mirror F G) (P : Image → Type 0) → P (mirror_image a) → HeldOnly mirror a b P
+      → KeptOnly G.keeps a.file b.file P
   kept_only a b P first x = record {
     reached = x.reached.file;
     later = x.later;
@@ -63,9 +82,11 @@ module _ {F : Type 0} {G : Ghosts F} where
     file_failed b x broken = ⊎_elim (λ (h : is_broken start). absurd (whole h)) (λ f. f) (x.failed broken)
 
     -- a mirror whose file hasn't failed since is whole
-    pub since_whole : (b : Mirror F G) → IsMirrored start b → fails_since G.keeps start.file b.file < 1 → is_broken b → ⊥
+    pub since_whole : (b : Mirror F G) → IsMirrored start b → fails_since G.keeps start.file b.file < 1 → is_broken b
+        → ⊥
     since_whole b x few broken =
-        let one : fails_since G.keeps start.file b.file ≡ 1 = since_failed G.keeps start.file b.file (file_failed b x broken) in
+        let one : fails_since G.keeps start.file b.file ≡ 1 =
+        since_failed G.keeps start.file b.file (file_failed b x broken) in
         omega (arith, one, few)
 
     -- a failure of the mirror in the run is one of the file's
@@ -80,7 +101,8 @@ module _ {F : Type 0} {G : Ghosts F} where
     }
 
     -- where the file doesn't fail, the mirror doesn't
-    pub never_failed : (b : Mirror F G) → IsMirrored start b → NeverFailed (in_run G.keeps start.file) (file_disk start) (file_disk b)
+    pub never_failed : (b : Mirror F G) → IsMirrored start b → NeverFailed (in_run G.keeps start.file) (file_disk start)
+        (file_disk b)
         → NeverFailed mirror start b
     never_failed b x never =
         let none : one_if b.broken ≡ 0 = one_if-false b.broken (since_whole b x never.not_spent) in

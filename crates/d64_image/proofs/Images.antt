@@ -1,6 +1,14 @@
 -- What a sector of an image is after a write.
 use Rattle.std.proofs.Common.{ℕ, ◌<◌, ◌≡◌, ◌≢◌, [], ◌∙◌, sym, subst, ⊎_elim, length, get_or, set, arith}
-use Rattle.std.proofs.lemmas.List.{length-set, get_or-set_same, get_or-set_other, set-set, set_comm, set-get_or, ext_get_or}
+use Rattle.std.proofs.lemmas.List.{
+  length-set,
+  get_or-set_same,
+  get_or-set_other,
+  set-set,
+  set_comm,
+  set-get_or,
+  ext_get_or,
+}
 use Rattle.std.proofs.lemmas.Bool.{cases_eq}
 use Rattle.std.proofs.lemmas.Grind.{get_or-set_at}
 use Rattle.d64_image.specs.declared.place.Place.{Place}
@@ -15,7 +23,8 @@ sector-put_same img p bytes size = get_or-set_same img (index_of p) bytes [] (om
 -- p is the place that was written
 pub sector-put_other : (img : Image) (p q : Place) (bytes : Sector) → p ≢ q → sector (put img p bytes) q ≡ sector img q
 unfolding sector put
-sector-put_other img p q bytes other = get_or-set_other img (index_of p) (index_of q) bytes [] (λ e. other_index p q other (sym e))
+sector-put_other img p q bytes other = get_or-set_other img (index_of p) (index_of q) bytes []
+    (λ e. other_index p q other (sym e))
 
 pub length-put : (img : Image) (p : Place) (bytes : Sector) → length (put img p bytes) ≡ length img
 unfolding put
@@ -38,7 +47,8 @@ unfolding sector
 is_sector img p is = is.each (index_of p) (index_below p)
 
 -- one of the places of an image of n sectors, after a write
-set_each : (img : Image) (n i k : ℕ) (bytes : Sector) → length img ≡ n → i < n → k < n → IsSector (get_or img k []) → IsSector bytes → IsSector (get_or (set img i bytes) k [])
+set_each : (img : Image) (n i k : ℕ) (bytes : Sector) → length img ≡ n → i < n → k < n → IsSector (get_or img k [])
+    → IsSector bytes → IsSector (get_or (set img i bytes) k [])
 set_each img n i k bytes size i_below k_below old new = ⊎_elim
     (λ (e : k ≡ i). subst IsSector (sym (get_or-set_at img i k bytes [] e (omega (arith, i_below, size)))) new)
     (λ (ne : k ≢ i). subst IsSector (sym (get_or-set_other img i k bytes [] ne)) old)

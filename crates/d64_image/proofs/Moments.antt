@@ -1,10 +1,43 @@
 -- How the words on moments, counts and failures go on from one call to the next.
-use Rattle.std.proofs.Common.{ℕ, ◌≡◌, ◌≤◌, ◌<◌, ◌+◌, ◌⊎◌, ⊎_elim, inl, inr, sym, ◌∙◌, subst, refl, le_refl, Result, Ok, Err, IsOk, OnOk, OnErr, arith}
+use Rattle.std.proofs.Common.{
+  ℕ,
+  ◌≡◌,
+  ◌≤◌,
+  ◌<◌,
+  ◌+◌,
+  ◌⊎◌,
+  ⊎_elim,
+  inl,
+  inr,
+  sym,
+  ◌∙◌,
+  subst,
+  refl,
+  le_refl,
+  Result,
+  Ok,
+  Err,
+  IsOk,
+  OnOk,
+  OnErr,
+  arith,
+}
 use Rattle.std.proofs.Math.Nat.{add-le-add, le_of_eq, le_trans, lt_of_le_of_lt, lt_of_lt_of_le}
 use Rattle.std.proofs.lemmas.Bool.{cases_lt}
 use Rattle.d64_image.specs.Calls.{WritesSector}
 use Rattle.d64_image.specs.Images.{Image, Sector, put}
-use Rattle.d64_image.specs.History.{History, HeldOnly, Failed, NeverFailed, OnlyReads, OldOr, Changes, TellsFailure, WritesNothing, IfCounted}
+use Rattle.d64_image.specs.History.{
+  History,
+  HeldOnly,
+  Failed,
+  NeverFailed,
+  OnlyReads,
+  OldOr,
+  Changes,
+  TellsFailure,
+  WritesNothing,
+  IfCounted,
+}
 use Rattle.d64_image.specs.declared.place.Place.{Place}
 
 -- counts that rise by so much at most, one after another
@@ -35,7 +68,12 @@ falls same lt = omega (arith, same, lt)
 
 module _ {D : Type 0} (S : History D) where
   pub start : (d : D) (P : Image → Type 0) → P (S.image d) → HeldOnly S d d P
-  start d P p = record { reached = S.reached_same d; later = le_refl (S.moment d); each = λ c h. subst P (sym (S.only_now d c h)) p; before = λ t c le h. inl h }
+  start d P p = record {
+    reached = S.reached_same d;
+    later = le_refl (S.moment d);
+    each = λ c h. subst P (sym (S.only_now d c h)) p;
+    before = λ t c le h. inl h;
+  }
 
   -- one call after another
   pub then : (a b c : D) (P : Image → Type 0) → HeldOnly S a b P → HeldOnly S b c P → HeldOnly S a c P
@@ -55,7 +93,8 @@ module _ {D : Type 0} (S : History D) where
   }
 
   -- a run that began earlier, and what came after it
-  pub then_or : (a b c : D) (P Q : Image → Type 0) → HeldOnly S a b P → HeldOnly S b c Q → HeldOnly S a c (λ i. P i ⊎ Q i)
+  pub then_or : (a b c : D) (P Q : Image → Type 0) → HeldOnly S a b P → HeldOnly S b c Q
+      → HeldOnly S a c (λ i. P i ⊎ Q i)
   then_or a b c P Q first second = then a b c (λ i. P i ⊎ Q i)
       (weaker a b P (λ i. P i ⊎ Q i) (λ i p. inl p) first)
       (weaker b c Q (λ i. P i ⊎ Q i) (λ i q. inr q) second)
@@ -73,10 +112,15 @@ module _ {D : Type 0} (S : History D) where
   writing a b i j P h p q = weaker a b (OldOr i j) P (λ c. ⊎_elim (λ e. subst P (sym e) p) (λ e. subst P (sym e) q)) h
 
   -- with the count of writes
-  pub changes_weaker : (a b : D) (m n : ℕ) (P Q : Image → Type 0) → m ≤ n → ((c : Image) → P c → Q c) → Changes S a b m P → Changes S a b n Q
-  changes_weaker a b m n P Q le f h = record { held = weaker a b P Q f h.held; writes = rises_less (S.writes a) le h.writes }
+  pub changes_weaker : (a b : D) (m n : ℕ) (P Q : Image → Type 0) → m ≤ n → ((c : Image) → P c → Q c)
+      → Changes S a b m P → Changes S a b n Q
+  changes_weaker a b m n P Q le f h = record {
+    held = weaker a b P Q f h.held;
+    writes = rises_less (S.writes a) le h.writes;
+  }
 
-  pub changes_then : (a b c : D) (k m n : ℕ) (P : Image → Type 0) → k + m ≤ n → Changes S a b k P → Changes S b c m P → Changes S a c n P
+  pub changes_then : (a b c : D) (k m n : ℕ) (P : Image → Type 0) → k + m ≤ n → Changes S a b k P → Changes S b c m P
+      → Changes S a c n P
   changes_then a b c k m n P le first second = record {
     held = then a b c P first.held second.held;
     writes = rises (S.writes a) k m le first.writes second.writes;
@@ -88,13 +132,16 @@ module _ {D : Type 0} (S : History D) where
   pub reads_change : (a b : D) (n : ℕ) (P : Image → Type 0) → OnlyReads S a b n → P (S.image a) → Changes S a b 0 P
   reads_change a b n P r p = record { held = reading a b n P r p; writes = stays 0 r.writes }
 
-  pub write_change : (a b : D) (i j : Image) (P : Image → Type 0) → HeldOnly S a b (OldOr i j) → S.writes b ≤ S.writes a + 1 → P i → P j → Changes S a b 1 P
+  pub write_change : (a b : D) (i j : Image) (P : Image → Type 0) → HeldOnly S a b (OldOr i j)
+      → S.writes b ≤ S.writes a + 1 → P i → P j → Changes S a b 1 P
   write_change a b i j P h counted p q = record { held = writing a b i j P h p q; writes = counted }
 
   -- one turn more of a loop of writes
-  pub one_write_more : (a b c : D) (n : ℕ) (i j : Image) (P : Image → Type 0) → Changes S a b n P → HeldOnly S b c (OldOr i j) → S.writes c ≤ S.writes b + 1
+  pub one_write_more : (a b c : D) (n : ℕ) (i j : Image) (P : Image → Type 0) → Changes S a b n P
+      → HeldOnly S b c (OldOr i j) → S.writes c ≤ S.writes b + 1
       → P i → P j → Changes S a c (n + 1) P
-  one_write_more a b c n i j P so_far h counted p q = changes_then a b c n 1 (n + 1) P (le_refl (n + 1)) so_far (write_change b c i j P h counted p q)
+  one_write_more a b c n i j P so_far h counted p q = changes_then a b c n 1 (n + 1) P (le_refl (n + 1)) so_far
+      (write_change b c i j P h counted p q)
 
   -- reads alone
   pub no_reads : (d : D) → OnlyReads S d d 0
@@ -103,13 +150,19 @@ module _ {D : Type 0} (S : History D) where
   pub reads_then : (a b c : D) (k m n : ℕ) → k + m ≤ n → OnlyReads S a b k → OnlyReads S b c m → OnlyReads S a c n
   reads_then a b c k m n le first second = record {
     image = second.image ∙ first.image;
-    held = then a b c (λ i. i ≡ S.image a) first.held (weaker b c (λ i. i ≡ S.image b) (λ i. i ≡ S.image a) (λ i e. e ∙ first.image) second.held);
+    held = then a b c (λ i. i ≡ S.image a) first.held (weaker b c (λ i. i ≡ S.image b) (λ i. i ≡ S.image a) (λ i e. e
+        ∙ first.image) second.held);
     reads = rises (S.reads a) k m le first.reads second.reads;
     writes = second.writes ∙ first.writes;
   }
 
   pub reads_weaker : (a b : D) (m n : ℕ) → m ≤ n → OnlyReads S a b m → OnlyReads S a b n
-  reads_weaker a b m n le r = record { image = r.image; held = r.held; reads = rises_less (S.reads a) le r.reads; writes = r.writes }
+  reads_weaker a b m n le r = record {
+    image = r.image;
+    held = r.held;
+    reads = rises_less (S.reads a) le r.reads;
+    writes = r.writes;
+  }
 
   -- nothing is written
   pub no_write : (d : D) → WritesNothing S d d
@@ -121,15 +174,20 @@ module _ {D : Type 0} (S : History D) where
   pub no_write_then : (a b c : D) → WritesNothing S a b → WritesNothing S b c → WritesNothing S a c
   no_write_then a b c first second = record {
     image = second.image ∙ first.image;
-    held = then a b c (λ i. i ≡ S.image a) first.held (weaker b c (λ i. i ≡ S.image b) (λ i. i ≡ S.image a) (λ i e. e ∙ first.image) second.held);
+    held = then a b c (λ i. i ≡ S.image a) first.held (weaker b c (λ i. i ≡ S.image b) (λ i. i ≡ S.image a) (λ i e. e
+        ∙ first.image) second.held);
     writes = second.writes ∙ first.writes;
   }
 
   pub no_write_change : (a b : D) (P : Image → Type 0) → WritesNothing S a b → P (S.image a) → Changes S a b 0 P
-  no_write_change a b P w p = record { held = weaker a b (λ c. c ≡ S.image a) P (λ c e. subst P (sym e) p) w.held; writes = stays 0 w.writes }
+  no_write_change a b P w p = record {
+    held = weaker a b (λ c. c ≡ S.image a) P (λ c e. subst P (sym e) p) w.held;
+    writes = stays 0 w.writes;
+  }
 
   -- a write is counted at most once, however it ends
-  pub counted_once : {T E : Type 0} (a b : D) (result : Result T E) → OnOk result (S.writes b ≤ S.writes a + 1) → OnErr result (S.writes b ≡ S.writes a)
+  pub counted_once : {T E : Type 0} (a b : D) (result : Result T E) → OnOk result (S.writes b ≤ S.writes a + 1)
+      → OnErr result (S.writes b ≡ S.writes a)
       → S.writes b ≤ S.writes a + 1
   counted_once a b (Ok _) counted uncounted = counted
   counted_once a b (Err _) counted uncounted = stays 1 uncounted
@@ -138,16 +196,19 @@ module _ {D : Type 0} (S : History D) where
   pub none_counted : (a b : D) (P : Image → Type 0) → S.writes b ≡ S.writes a → IfCounted S a b P
   none_counted a b P same = λ (lt : S.writes a < S.writes b). absurd (falls same lt)
 
-  pub write_counted : {T E : Type 0} (a b : D) (p : Place) (bytes : Sector) (fault : E) (result : Result T E) → WritesSector S a b p bytes fault result
+  pub write_counted : {T E : Type 0} (a b : D) (p : Place) (bytes : Sector) (fault : E) (result : Result T E)
+      → WritesSector S a b p bytes fault result
       → IfCounted S a b (λ c. c ≡ put (S.image a) p bytes)
   write_counted a b p bytes fault (Ok _) w = λ lt. w.ok
   write_counted a b p bytes fault (Err _) w = none_counted a b (λ c. c ≡ put (S.image a) p bytes) w.uncounted
 
-  pub counted_weaker : (a b : D) (P Q : Image → Type 0) → (P (S.image b) → Q (S.image b)) → IfCounted S a b P → IfCounted S a b Q
+  pub counted_weaker : (a b : D) (P Q : Image → Type 0) → (P (S.image b) → Q (S.image b)) → IfCounted S a b P
+      → IfCounted S a b Q
   counted_weaker a b P Q f done = λ lt. f (done lt)
 
   -- what comes after keeps it where it was so
-  pub counted_then : (a b c : D) (P Q : Image → Type 0) → (P (S.image b) → Q (S.image c)) → IfCounted S a b P → IfCounted S b c Q → IfCounted S a c Q
+  pub counted_then : (a b c : D) (P Q : Image → Type 0) → (P (S.image b) → Q (S.image c)) → IfCounted S a b P
+      → IfCounted S b c Q → IfCounted S a c Q
   counted_then a b c P Q keeps first second = λ (lt : S.writes a < S.writes c). ⊎_elim
       (λ (before : S.writes a < S.writes b). keeps (first before))
       (λ (none : S.writes b ≤ S.writes a). second (lt_of_le_of_lt none lt))
@@ -157,31 +218,42 @@ module _ {D : Type 0} (S : History D) where
   counted_after a b c P w done = λ (lt : S.writes a < S.writes c). done (rises_before w.writes lt)
 
   pub counted_before : (a b c : D) (P : Image → Type 0) → IfCounted S a b P → WritesNothing S b c → IfCounted S a c P
-  counted_before a b c P done w = λ (lt : S.writes a < S.writes c). subst P (sym w.image) (done (lt_of_lt_of_le lt (le_of_eq w.writes)))
+  counted_before a b c P done w = λ (lt : S.writes a < S.writes c). subst P (sym w.image)
+      (done (lt_of_lt_of_le lt (le_of_eq w.writes)))
 
   -- failures
   pub failed_later : (a b c : D) → S.failures b ≡ S.failures a → Failed S b c → Failed S a c
-  failed_later a b c same f = record { later = le_trans (le_of_eq (sym same)) f.later; rose = λ lt. rises_later same (f.rose lt) }
+  failed_later a b c same f = record {
+    later = le_trans (le_of_eq (sym same)) f.later;
+    rose = λ lt. rises_later same (f.rose lt);
+  }
 
   pub failed_before : (a b c : D) → Failed S a b → S.failures b ≤ S.failures c → Failed S a c
-  failed_before a b c f le = record { later = le_trans f.later le; rose = λ lt. lt_of_lt_of_le (f.rose (lt_of_le_of_lt le lt)) le }
+  failed_before a b c f le = record {
+    later = le_trans f.later le;
+    rose = λ lt. lt_of_lt_of_le (f.rose (lt_of_le_of_lt le lt)) le;
+  }
 
   pub never_failed : (a b : D) → NeverFailed S a b → Failed S a b → ⊥
   never_failed a b n f = falls n.same (f.rose n.not_spent)
 
   -- a premise on a whole run holds of its parts
-  pub never_failed_first : (a b c : D) → S.failures a ≤ S.failures b → S.failures b ≤ S.failures c → NeverFailed S a c → NeverFailed S a b
+  pub never_failed_first : (a b c : D) → S.failures a ≤ S.failures b → S.failures b ≤ S.failures c → NeverFailed S a c
+      → NeverFailed S a b
   never_failed_first a b c ab bc n = record { same = between ab bc n.same; not_spent = lt_of_le_of_lt bc n.not_spent }
 
-  pub never_failed_rest : (a b c : D) → S.failures a ≤ S.failures b → S.failures b ≤ S.failures c → NeverFailed S a c → NeverFailed S b c
+  pub never_failed_rest : (a b c : D) → S.failures a ≤ S.failures b → S.failures b ≤ S.failures c → NeverFailed S a c
+      → NeverFailed S b c
   never_failed_rest a b c ab bc n = record { same = between_rest ab bc n.same; not_spent = n.not_spent }
 
   -- the count of failures doesn't fall
-  pub told_later : {T E : Type 0} (a b : D) (result : Result T E) → TellsFailure S a b result → S.failures a ≤ S.failures b
+  pub told_later : {T E : Type 0} (a b : D) (result : Result T E) → TellsFailure S a b result
+      → S.failures a ≤ S.failures b
   told_later a b (Ok _) tells = le_of_eq (sym tells)
   told_later a b (Err _) tells = tells.later
 
   -- where the device doesn't fail, the answer is Ok
-  pub told_ok : {T E : Type 0} (a b : D) (result : Result T E) → TellsFailure S a b result → NeverFailed S a b → IsOk result
+  pub told_ok : {T E : Type 0} (a b : D) (result : Result T E) → TellsFailure S a b result → NeverFailed S a b
+      → IsOk result
   told_ok a b (Ok _) tells n = refl
   told_ok a b (Err _) tells n = absurd (never_failed a b n tells)

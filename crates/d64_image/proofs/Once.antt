@@ -12,7 +12,8 @@ module _ {D : Type 0} (h : History D) (a b : OneFault D) (P : Image → Type 0) 
   held_beneath = record { reached = x.reached.beneath; later = x.later; each = x.each; before = x.before }
 
   -- once its fault is past, it fails only where the disk beneath failed
-  pub no_second_fault : (p : Place) → fault_place a ≡ Some p → faulty_failures b < (one_fault h).last → Failed (one_fault h) a b
+  pub no_second_fault : (p : Place) → fault_place a ≡ Some p → faulty_failures b < (one_fault h).last
+      → Failed (one_fault h) a b
       → Failed h (faulty_disk a) (faulty_disk b)
   no_second_fault p past fresh failed = ⊎_elim
       (λ (same : faulty_failures b ≡ faulty_failures a). absurd (omega (arith, same, failed.rose fresh)))

@@ -18,7 +18,8 @@ IsOneMore old new = new.n ≡ min (old.n + 1) 18446744073709551615
 pub one_more : (a b c : Count) → b ≡ a → IsOneMore b c → IsOneMore a c
 one_more a b c same more = subst (λ (x : Count). IsOneMore x c) same more
 
-module _ {D T E : Type 0} (h : History D) (a b c : D) (same : b ≡ a) (p : Place) (bytes : Sector) (fault : E) (r : Result T E) where
+module _ {D T E : Type 0} (h : History D) (a b c : D) (same : b ≡ a) (p : Place) (bytes : Sector) (fault : E)
+    (r : Result T E) where
   -- the disk beneath answered as it was before the call was counted
   pub read_beneath : ReadsSector h b c p bytes fault r → ReadsSector h a c p bytes fault r
   read_beneath x = subst (λ (d : D). ReadsSector h d c p bytes fault r) same x
@@ -37,7 +38,8 @@ module _ {D : Type 0} (h : History D) (a b : OneFault D) where
   }
 
   -- so it held nothing else
-  stays : (P : Image → Type 0) → IsOnce h a b → faulty_disk b ≡ faulty_disk a → P (h.image a.disk) → HeldOnly (one_fault h) a b P
+  stays : (P : Image → Type 0) → IsOnce h a b → faulty_disk b ≡ faulty_disk a → P (h.image a.disk)
+      → HeldOnly (one_fault h) a b P
   stays P once disk holds = record {
     reached = once;
     later = le_of_eq (ap h.moment (sym disk));
@@ -46,8 +48,10 @@ module _ {D : Type 0} (h : History D) (a b : OneFault D) where
   }
 
   -- the read that fails
-  pub refuses_read : (p : Place) (to : Sector) {T E : Type 0} (fault : E) (r : Result T E) → IsErrOf r fault → is_due a → fault_place b ≡ Some p
-      → faulty_disk b ≡ faulty_disk a → b.written ≡ a.written → IsOneMore a.failed b.failed → ReadsSector (one_fault h) a b p to fault r
+  pub refuses_read : (p : Place) (to : Sector) {T E : Type 0} (fault : E) (r : Result T E) → IsErrOf r fault → is_due a
+      → fault_place b ≡ Some p
+      → faulty_disk b ≡ faulty_disk a → b.written ≡ a.written → IsOneMore a.failed b.failed
+      → ReadsSector (one_fault h) a b p to fault r
   refuses_read p to fault (Ok _) is due place disk written more = cc
   refuses_read p to fault (Err _) is due place disk written more = record {
     sector = tt;
@@ -63,8 +67,10 @@ module _ {D : Type 0} (h : History D) (a b : OneFault D) where
   }
 
   -- a read that the disk beneath answers
-  pub passes_read : (p : Place) (to : Sector) {T E : Type 0} (fault : E) (r : Result T E) → ReadsSector h (faulty_disk a) (faulty_disk b) p to fault r
-      → fault_place b ≡ fault_place a → b.written ≡ a.written → OnOk r (b.failed ≡ a.failed) → OnErr r (IsOneMore a.failed b.failed)
+  pub passes_read : (p : Place) (to : Sector) {T E : Type 0} (fault : E) (r : Result T E)
+      → ReadsSector h (faulty_disk a) (faulty_disk b) p to fault r
+      → fault_place b ≡ fault_place a → b.written ≡ a.written → OnOk r (b.failed ≡ a.failed)
+      → OnErr r (IsOneMore a.failed b.failed)
       → ReadsSector (one_fault h) a b p to fault r
   passes_read p to fault (Ok _) x place written unfailed more = record {
     sector = x.sector;

@@ -1,5 +1,32 @@
 -- The places of the disk, in their order.
-use Rattle.std.proofs.Common.{ℕ, zero, suc, ◌+◌, ◌-◌, ◌*◌, ◌<◌, ◌≤◌, ◌≡◌, ◌≢◌, ◌⊎◌, Some, None, ap, ap₂, sym, subst, refl, inl, inr, ⊎_elim, add-suc, le_refl, le_of_suc-le-suc, lit≤, arith}
+use Rattle.std.proofs.Common.{
+  ℕ,
+  zero,
+  suc,
+  ◌+◌,
+  ◌-◌,
+  ◌*◌,
+  ◌<◌,
+  ◌≤◌,
+  ◌≡◌,
+  ◌≢◌,
+  ◌⊎◌,
+  Some,
+  None,
+  ap,
+  ap₂,
+  sym,
+  subst,
+  refl,
+  inl,
+  inr,
+  ⊎_elim,
+  add-suc,
+  le_refl,
+  le_of_suc-le-suc,
+  lit≤,
+  arith,
+}
 use Rattle.std.proofs.lemmas.Bool.{cases_eq, cases_lt, cases_order}
 use Rattle.std.proofs.lemmas.Bool.Decides.{nat_tests}
 use Rattle.std.proofs.Math.Decide.{dec_lt}
@@ -58,7 +85,8 @@ pub below_grows : (t u : ℕ) → t < u → sectors_below t + sectors_on t ≤ s
 unfolding sectors_below
 below_grows t zero lt = absurd (omega (arith, lt))
 below_grows t (suc u) lt = ⊎_elim
-    (λ (e : t ≡ u). subst (λ (v : ℕ). sectors_below t + sectors_on t ≤ sectors_below v + sectors_on v) e (le_refl (sectors_below t + sectors_on t)))
+    (λ (e : t ≡ u). subst (λ (v : ℕ). sectors_below t + sectors_on t ≤ sectors_below v + sectors_on v) e
+    (le_refl (sectors_below t + sectors_on t)))
     (λ (less : t < u). omega (arith, below_grows t u less))
     (eq-or-lt_of_le (le_of_suc-le-suc lt))
 

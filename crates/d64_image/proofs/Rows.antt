@@ -1,11 +1,33 @@
 -- The table of the sectors below each track, row by row.
-use Rattle.std.proofs.Common.{ℕ, zero, suc, Bool, true, false, ◌≡◌, ◌<◌, ◌∷◌, [], List, refl, sym, subst, ⊎_elim, nat_eq, if◌then◌else◌, slice_index_or, le_of_suc-le-suc, arith}
+use Rattle.std.proofs.Common.{
+  ℕ,
+  zero,
+  suc,
+  Bool,
+  true,
+  false,
+  ◌≡◌,
+  ◌<◌,
+  ◌∷◌,
+  [],
+  List,
+  refl,
+  sym,
+  subst,
+  ⊎_elim,
+  nat_eq,
+  if◌then◌else◌,
+  slice_index_or,
+  le_of_suc-le-suc,
+  arith,
+}
 use Rattle.std.proofs.lemmas.Bool.Decides.{nat_tests}
 use Rattle.std.proofs.Math.Nat.{eq-or-lt_of_le}
 use Rattle.d64_image.specs.Geometry.{sectors_below}
 
 abbrev pub rows : List ℕ
-rows = 0 ∷ 0 ∷ 21 ∷ 42 ∷ 63 ∷ 84 ∷ 105 ∷ 126 ∷ 147 ∷ 168 ∷ 189 ∷ 210 ∷ 231 ∷ 252 ∷ 273 ∷ 294 ∷ 315 ∷ 336 ∷ 357 ∷ 376 ∷ 395 ∷ 414 ∷ 433 ∷ 452 ∷ 471 ∷ 490 ∷ 508 ∷ 526 ∷ 544 ∷ 562 ∷ 580 ∷ 598 ∷ 615 ∷ 632 ∷ 649 ∷ 666 ∷ []
+rows = 0 ∷ 0 ∷ 21 ∷ 42 ∷ 63 ∷ 84 ∷ 105 ∷ 126 ∷ 147 ∷ 168 ∷ 189 ∷ 210 ∷ 231 ∷ 252 ∷ 273 ∷ 294 ∷ 315 ∷ 336 ∷ 357 ∷ 376 ∷
+    395 ∷ 414 ∷ 433 ∷ 452 ∷ 471 ∷ 490 ∷ 508 ∷ 526 ∷ 544 ∷ 562 ∷ 580 ∷ 598 ∷ 615 ∷ 632 ∷ 649 ∷ 666 ∷ []
 
 -- whether the rows below n are right
 are_right : ℕ → Bool

@@ -5,7 +5,8 @@ use Rattle.d64_image.specs.History.{History, HeldOnly, OldOr, OnlyReads, TellsFa
 use Rattle.d64_image.specs.Images.{Sector, put, sector}
 
 -- Ok answers the bytes that stand at p; an error is this fault, and comes of a failure at p. The disk is the same.
-pub record ReadsSector {D T E : Type 0} (S : History D) (old new : D) (p : Place) (bytes : Sector) (fault : E) (result : Result T E) : Type 0 where
+pub record ReadsSector {D T E : Type 0} (S : History D) (old new : D) (p : Place) (bytes : Sector) (fault : E)
+    (result : Result T E) : Type 0 where
   pub sector : OnOk result (bytes ≡ sector (S.image old) p)
   pub reads : OnlyReads S old new 1
   pub failures : TellsFailure S old new result
@@ -14,7 +15,8 @@ pub record ReadsSector {D T E : Type 0} (S : History D) (old new : D) (p : Place
 
 -- At Ok the bytes stand at p. At an error, which is this fault and comes of a failure at p, they do or p is as before;
 -- nothing else changes, and nothing else was ever held.
-pub record WritesSector {D T E : Type 0} (S : History D) (old new : D) (p : Place) (bytes : Sector) (fault : E) (result : Result T E) : Type 0 where
+pub record WritesSector {D T E : Type 0} (S : History D) (old new : D) (p : Place) (bytes : Sector) (fault : E)
+    (result : Result T E) : Type 0 where
   pub ok : OnOk result (S.image new ≡ put (S.image old) p bytes)
   pub err : OnErr result (OldOr (S.image old) (put (S.image old) p bytes) (S.image new))
   -- during the call

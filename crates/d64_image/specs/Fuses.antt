@@ -51,7 +51,10 @@ failed_from : {D : Type 0} (h : History D) (a b c : D) → h.failures a ≤ h.fa
 failed_from h a b c le f = record { later = omega (arith, le, f.later); rose = λ lt. omega (arith, le, f.rose lt) }
 
 failed_to : {D : Type 0} (h : History D) (a b c : D) → Failed h a b → h.failures b ≤ h.failures c → Failed h a c
-failed_to h a b c f le = record { later = omega (arith, f.later, le); rose = λ lt. omega (arith, f.rose (omega (arith, lt, le)), le) }
+failed_to h a b c f le = record {
+  later = omega (arith, f.later, le);
+  rose = λ lt. omega (arith, f.rose (omega (arith, lt, le)), le);
+}
 
 pub fused_then : {D : Type 0} (h : History D) (a b c : Fuse D) → IsFused h a b → IsFused h b c → IsFused h a c
 fused_then h a b c x y = record {
@@ -77,7 +80,8 @@ fused_then h a b c x y = record {
 abbrev pub fails_at : {D : Type 0} → History D → Fuse D → Place → Type 0
 fails_at h f p = (fuse_left f ≡ 0) ⊎ h.failed_at (fuse_disk f) p
 
-pub fails_still : {D : Type 0} (h : History D) (a b : Fuse D) (p : Place) → IsFused h a b → fails_at h a p → fails_at h b p
+pub fails_still : {D : Type 0} (h : History D) (a b : Fuse D) (p : Place) → IsFused h a b → fails_at h a p
+    → fails_at h b p
 fails_still h a b p x failed = ⊎_elim
     (λ (blown : fuse_left a ≡ 0). inl (omega (arith, blown, x.limit, x.passed)))
     (λ beneath. inr (h.failed_stays a.disk b.disk p x.beneath beneath))

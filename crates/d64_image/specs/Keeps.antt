@@ -1,4 +1,5 @@
--- What a file keeps of a disk, where that is known, now and at the moments before; and what keeping a sector promises. Our own.
+-- What a file keeps of a disk, where that is known, now and at the moments before; and what keeping a sector promises.
+-- Our own.
 use Rattle.std.specs.Prelude.{ℕ, ◌≡◌, ◌<◌, ◌≤◌, ◌+◌, ◌⊎◌, Option, Some, None, Result, Ok, Err, OnErr, OnOk, refl}
 use Rattle.std.proofs.Common.{arith}
 use Rattle.std.proofs.lemmas.Option.{none-some}
@@ -61,7 +62,8 @@ kept_or (Some c) img = c
 abbrev pub Agrees : Option Image → Image → Type 0
 Agrees kept img = kept_or kept img ≡ img
 
-pub kept_whole : (img : Image) → IsImage img → (o : Option Image) → ((c : Image) → o ≡ Some c → IsImage c) → IsImage (kept_or o img)
+pub kept_whole : (img : Image) → IsImage img → (o : Option Image) → ((c : Image) → o ≡ Some c → IsImage c)
+    → IsImage (kept_or o img)
 kept_whole img is None each = is
 kept_whole img is (Some c) each = each c refl
 
@@ -70,10 +72,14 @@ module _ {F : Type 0} (K : Keeps F) (a b c : F) where
   failed_from le f = record { later = omega (arith, le, f.later); rose = λ lt. omega (arith, le, f.rose lt) }
 
   pub failed_to : FileFailed K a b → K.failures b ≤ K.failures c → FileFailed K a c
-  failed_to f le = record { later = omega (arith, f.later, le); rose = λ lt. omega (arith, f.rose (omega (arith, lt, le)), le) }
+  failed_to f le = record {
+    later = omega (arith, f.later, le);
+    rose = λ lt. omega (arith, f.rose (omega (arith, lt, le)), le);
+  }
 
 -- At Ok the bytes stand at p, and are kept. At an error they are, or p is as before. Nothing else was kept on the way.
-pub record KeepsSector {F T E : Type 0} (K : Keeps F) (old new : F) (p : Place) (bytes : Sector) (result : Result T E) : Type 0 where
+pub record KeepsSector {F T E : Type 0} (K : Keeps F) (old new : F) (p : Place) (bytes : Sector)
+    (result : Result T E) : Type 0 where
   pub ok : OnOk result (K.kept new ≡ put_kept (K.kept old) p bytes)
   pub err : OnErr result ((K.kept new ≡ K.kept old) ⊎ (K.kept new ≡ put_kept (K.kept old) p bytes))
   pub held : KeptOnly K old new (λ c. (K.kept old ≡ Some c) ⊎ (put_kept (K.kept old) p bytes ≡ Some c))
@@ -85,8 +91,10 @@ pub record KeepsSector {F T E : Type 0} (K : Keeps F) (old new : F) (p : Place) 
 pub none_kept : {c : Image} {A : Type 0} → None ≡ Some c → A
 none_kept {c} e = absurd (none-some c e)
 
--- A file of which nothing is known but that it is the same file, by this relation, and how many of its calls passed and failed.
-abbrev pub unknown : {F : Type 0} (writes failures : F → ℕ) (last : ℕ) → ((f : F) → failures f ≤ last) → (same : F → F → Type 0) → ((f : F) → same f f)
+-- A file of which nothing is known but that it is the same file, by this relation, and how many of its calls passed and
+-- failed.
+abbrev pub unknown : {F : Type 0} (writes failures : F → ℕ) (last : ℕ) → ((f : F) → failures f ≤ last)
+    → (same : F → F → Type 0) → ((f : F) → same f f)
     → ((a b c : F) → same a b → same b c → same a c) → Keeps F
 unknown writes failures last up_to_last same itself then = record {
   kept = λ _. None;

@@ -38,8 +38,10 @@ module _ {F : Type 0} {G : Ghosts F} where
   abbrev pub mirror_image : Mirror F G → Image
   mirror_image m = kept_or (G.keeps.kept m.file) (disk_image m.disk)
 
-  -- From old to new: the file is one that comes of it by sectors that it was to keep. A broken mirror stays so, with its file
-  -- as it is; it is broken where its file failed, and only there; and it did nothing to the file where it took no sector.
+  -- From old to new: the file is one that comes of it by sectors that it was to keep. A broken mirror stays so, with
+  -- its file
+  -- as it is; it is broken where its file failed, and only there; and it did nothing to the file where it took no
+  -- sector.
   pub record IsMirrored (old new : Mirror F G) : Type 0 where
     pub file : G.keeps.reached old.file new.file
     pub failures : G.keeps.failures old.file ≤ G.keeps.failures new.file
@@ -48,7 +50,8 @@ module _ {F : Type 0} {G : Ghosts F} where
     pub failed : is_broken new → is_broken old ⊎ FileFailed G.keeps old.file new.file
     pub taken : old.taken.n ≤ new.taken.n
     -- the file counts no sector that the mirror doesn't
-    pub counted : new.taken.n < 18446744073709551615 → G.keeps.writes new.file + old.taken.n ≤ G.keeps.writes old.file + new.taken.n
+    pub counted : new.taken.n < 18446744073709551615 → G.keeps.writes new.file + old.taken.n ≤ G.keeps.writes old.file
+        + new.taken.n
     pub quiet : new.taken.n ≡ old.taken.n → new.taken.n < 18446744073709551615 → is_broken new ⊎ (new.file ≡ old.file)
 
   pub mirrored_same : (m : Mirror F G) → IsMirrored m m
@@ -90,7 +93,8 @@ module _ {F : Type 0} {G : Ghosts F} where
         (x.quiet first (omega (arith, few, second)));
   }
 
-  -- What it holds is what its file keeps, and what its memory holds where that isn't known. Its failures are spent with the
+  -- What it holds is what its file keeps, and what its memory holds where that isn't known. Its failures are spent with
+  -- the
   -- first: from then on each call fails.
   abbrev pub mirror : History (Mirror F G)
   mirror = record {

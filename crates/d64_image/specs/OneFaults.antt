@@ -48,13 +48,21 @@ pub record IsOnce {D : Type 0} (h : History D) (old new : OneFault D) : Type 0 w
       ⊎ (((fault_place old ≡ None) × (fault_place new ≢ None)) ⊎ Failed h (faulty_disk old) (faulty_disk new))
 
 pub once_same : {D : Type 0} (h : History D) (f : OneFault D) → IsOnce h f f
-once_same h f = record { beneath = h.reached_same f.disk; failures = le_refl (h.failures f.disk); past = λ p e. e; cause = inl refl }
+once_same h f = record {
+  beneath = h.reached_same f.disk;
+  failures = le_refl (h.failures f.disk);
+  past = λ p e. e;
+  cause = inl refl;
+}
 
 failed_from : {D : Type 0} (h : History D) (a b c : D) → h.failures a ≤ h.failures b → Failed h b c → Failed h a c
 failed_from h a b c le f = record { later = omega (arith, le, f.later); rose = λ lt. omega (arith, le, f.rose lt) }
 
 failed_to : {D : Type 0} (h : History D) (a b c : D) → Failed h a b → h.failures b ≤ h.failures c → Failed h a c
-failed_to h a b c f le = record { later = omega (arith, f.later, le); rose = λ lt. omega (arith, f.rose (omega (arith, lt, le)), le) }
+failed_to h a b c f le = record {
+  later = omega (arith, f.later, le);
+  rose = λ lt. omega (arith, f.rose (omega (arith, lt, le)), le);
+}
 
 -- a fault that is still to come was to come before
 was_to_come : (a b : Option Place) → ((p : Place) → a ≡ Some p → b ≡ Some p) → b ≡ None → a ≡ None
@@ -85,7 +93,8 @@ once_then h a b c x y = record {
 abbrev pub fails_there : {D : Type 0} → History D → OneFault D → Place → Type 0
 fails_there h f p = (fault_place f ≡ Some p) ⊎ h.failed_at (faulty_disk f) p
 
-pub failed_still : {D : Type 0} (h : History D) (a b : OneFault D) (p : Place) → IsOnce h a b → fails_there h a p → fails_there h b p
+pub failed_still : {D : Type 0} (h : History D) (a b : OneFault D) (p : Place) → IsOnce h a b → fails_there h a p
+    → fails_there h b p
 failed_still h a b p x failed = ⊎_elim
     (λ e. inl (x.past p e))
     (λ f. inr (h.failed_stays a.disk b.disk p x.beneath f))

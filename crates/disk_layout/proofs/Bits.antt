@@ -1,5 +1,34 @@
 -- One bit of the map turned over, and its track's count replaced.
-use Rattle.std.proofs.Common.{List, ap, arith, bit_xor, drop, get_or, get_or-set_other, get_or-set_same, inl, inr, length, refl, set, suc, sym, take, zero, ℕ, ◌*◌, ◌+◌, ◌-◌, ◌<◌, ◌∙◌, ◌≡◌, ◌≢◌, ◌≤◌, ◌⊎◌, min}
+use Rattle.std.proofs.Common.{
+  List,
+  ap,
+  arith,
+  bit_xor,
+  drop,
+  get_or,
+  get_or-set_other,
+  get_or-set_same,
+  inl,
+  inr,
+  length,
+  refl,
+  set,
+  suc,
+  sym,
+  take,
+  zero,
+  ℕ,
+  ◌*◌,
+  ◌+◌,
+  ◌-◌,
+  ◌<◌,
+  ◌∙◌,
+  ◌≡◌,
+  ◌≢◌,
+  ◌≤◌,
+  ◌⊎◌,
+  min,
+}
 use Rattle.std.proofs.lemmas.Bool.{cases_eq}
 use Rattle.std.proofs.lemmas.Bool.Decides.{nat_tests}
 use Rattle.std.proofs.lemmas.Grind.{same_number_lists}
@@ -30,7 +59,8 @@ pow-small (suc (suc (suc (suc (suc (suc (suc (suc k)))))))) h = absurd (omega ar
 
 -- the map after the two stores: the count is n, and the bit is the other one
 abbrev pub turned : List ℕ → ℕ → ℕ → ℕ → List ℕ
-turned x t s n = set (set x (4 * t) n) (4 * t + 1 + s / 8) (bit_xor (get_or (set x (4 * t) n) (4 * t + 1 + s / 8) 0) (1 * 2 ^ (s % 8) % 256))
+turned x t s n = set (set x (4 * t) n) (4 * t + 1 + s / 8) (bit_xor (get_or (set x (4 * t) n) (4 * t + 1 + s / 8) 0)
+    (1 * 2 ^ (s % 8) % 256))
 
 module _ (x : List ℕ) (p : Place) (n : ℕ) (long : length x ≡ 256) where
   abbrev t : ℕ
@@ -57,15 +87,18 @@ module _ (x : List ℕ) (p : Place) (n : ℕ) (long : length x ≡ 256) where
   byte-at : get_or (turned x t s n) at 0 ≡ bit_xor (get_or x at 0) (2 ^ (s % 8))
   byte-at =
       let inside : at < length y = omega (arith, length-set x (4 * t) n, long, low, small) in
-      get_or-set_same y at (bit_xor (get_or y at 0) (1 * 2 ^ (s % 8) % 256)) 0 inside ∙ cc (y-at, pow-small (s % 8) (omega arith))
+      get_or-set_same y at (bit_xor (get_or y at 0) (1 * 2 ^ (s % 8) % 256)) 0 inside
+      ∙ cc (y-at, pow-small (s % 8) (omega arith))
 
   byte-other : (i : ℕ) → i ≢ at → i ≢ 4 * t → get_or (turned x t s n) i 0 ≡ get_or x i 0
-  byte-other i a b = get_or-set_other y at i (bit_xor (get_or y at 0) (1 * 2 ^ (s % 8) % 256)) 0 a ∙ get_or-set_other x (4 * t) i n 0 b
+  byte-other i a b = get_or-set_other y at i (bit_xor (get_or y at 0) (1 * 2 ^ (s % 8) % 256)) 0 a
+      ∙ get_or-set_other x (4 * t) i n 0 b
 
   pub count-now : map_count (turned x t s n) t ≡ n
   count-now =
       let inside : 4 * t < length x = omega (arith, long, low) in
-      get_or-set_other y at (4 * t) (bit_xor (get_or y at 0) (1 * 2 ^ (s % 8) % 256)) 0 (omega arith) ∙ get_or-set_same x (4 * t) n 0 inside
+      get_or-set_other y at (4 * t) (bit_xor (get_or y at 0) (1 * 2 ^ (s % 8) % 256)) 0 (omega arith)
+      ∙ get_or-set_same x (4 * t) n 0 inside
 
   pub bit-now : map_bit (turned x t s n) t s ≡ (map_bit x t s + 1) % 2
   bit-now =
@@ -111,16 +144,19 @@ module _ (x : List ℕ) (p : Place) (n : ℕ) (long : length x ≡ 256) where
   }
     where
       head : take 4 (turned x t s n) ≡ take 4 x
-      head = same_number_lists (take 4 (turned x t s n)) (take 4 x) (length-take 4 (turned x t s n) ∙ cc (long, long-now) ∙ sym (length-take 4 x)) (λ j h.
+      head = same_number_lists (take 4 (turned x t s n)) (take 4 x) (length-take 4 (turned x t s n)
+          ∙ cc (long, long-now) ∙ sym (length-take 4 x)) (λ j h.
           let below : j < 4 = omega (arith, h, length-take 4 (turned x t s n)) in
           get_or-take 4 (turned x t s n) j 0 below ∙ bytes-same j (inl below) ∙ sym (get_or-take 4 x j 0 below))
 
       tail : drop 144 (turned x t s n) ≡ drop 144 x
-      tail = same_number_lists (drop 144 (turned x t s n)) (drop 144 x) (length-drop 144 (turned x t s n) ∙ cc (long, long-now) ∙ sym (length-drop 144 x)) (λ j h.
+      tail = same_number_lists (drop 144 (turned x t s n)) (drop 144 x) (length-drop 144 (turned x t s n)
+          ∙ cc (long, long-now) ∙ sym (length-drop 144 x)) (λ j h.
           get_or-drop 144 (turned x t s n) j 0 ∙ bytes-same (144 + j) (inr (omega arith)) ∙ sym (get_or-drop 144 x j 0))
 
 -- a free sector is taken
-pub turned-taken : (x : List ℕ) (p : Place) (n : ℕ) → length x ≡ 256 → IsFree x p → n ≡ map_count x p.track - 1 → IsTaken x (turned x p.track p.sector n) p
+pub turned-taken : (x : List ℕ) (p : Place) (n : ℕ) → length x ≡ 256 → IsFree x p → n ≡ map_count x p.track - 1
+    → IsTaken x (turned x p.track p.sector n) p
 turned-taken x p n long free count = record {
   bit = bit-now x p n long ∙ ap (λ b. (b + 1) % 2) free;
   count = count-now x p n long ∙ count;
@@ -128,7 +164,8 @@ turned-taken x p n long free count = record {
 }
 
 -- a sector that isn't free is given back
-pub turned-given : (x : List ℕ) (p : Place) (n : ℕ) → length x ≡ 256 → ¬ (IsFree x p) → n ≡ min (map_count x p.track + 1) 255 → IsGiven x (turned x p.track p.sector n) p
+pub turned-given : (x : List ℕ) (p : Place) (n : ℕ) → length x ≡ 256 → ¬ (IsFree x p)
+    → n ≡ min (map_count x p.track + 1) 255 → IsGiven x (turned x p.track p.sector n) p
 turned-given x p n long not count = record {
   bit = bit-now x p n long ∙ ap (λ b. (b + 1) % 2) zero-bit;
   count = count-now x p n long ∙ count;

@@ -1,5 +1,30 @@
 -- The places that the blank image's files own: each once, and exactly those that its map calls taken.
-use Rattle.std.proofs.Common.{List, [], ap, arith, inl, inr, length, lit<, min, refl, sym, zero, suc, ℕ, ◌++◌, ◌+◌, ◌-◌, ◌<◌, ◌∙◌, ◌∷◌, ◌≡◌, ◌≢◌, ◌≤◌, ◌⊎◌}
+use Rattle.std.proofs.Common.{
+  List,
+  [],
+  ap,
+  arith,
+  inl,
+  inr,
+  length,
+  lit<,
+  min,
+  refl,
+  sym,
+  zero,
+  suc,
+  ℕ,
+  ◌++◌,
+  ◌+◌,
+  ◌-◌,
+  ◌<◌,
+  ◌∙◌,
+  ◌∷◌,
+  ◌≡◌,
+  ◌≢◌,
+  ◌≤◌,
+  ◌⊎◌,
+}
 use Rattle.std.proofs.lemmas.Bool.{cases_eq}
 use Rattle.std.proofs.lemmas.Bool.Decides.{nat_tests}
 use Rattle.std.proofs.lemmas.List.Elements.{Contains-append_cases, Contains-append_left, Contains-append_right}
@@ -11,7 +36,17 @@ use Rattle.disk_layout.proofs.Exact.{get-lt}
 use Rattle.disk_layout.proofs.Layouts.{get-contains}
 use Rattle.disk_layout.proofs.Lists.{contains-get, numbered-once}
 use Rattle.disk_layout.proofs.Once.{Contains-cases, Contains-here, Contains-nil, Contains-there, EachOnce-push}
-use Rattle.disk_layout.specs.Blank.{AreRequestPlaces, IsRequestPlace, request_sector, request_track, requests_block, requests_side, stock_block, stock_side, taken_on}
+use Rattle.disk_layout.specs.Blank.{
+  AreRequestPlaces,
+  IsRequestPlace,
+  request_sector,
+  request_track,
+  requests_block,
+  requests_side,
+  stock_block,
+  stock_side,
+  taken_on,
+}
 use Rattle.disk_layout.specs.Chain.{EachOnce}
 use Rattle.disk_layout.specs.Directory.{directory_start, map_place}
 
@@ -35,7 +70,8 @@ abbrev last_owners : List Place → List Place
 last_owners blocks = blocks ++ requests_side ∷ []
 
 -- a place of a lower number is not at the front
-past : (x y : Place) (ys : List Place) → number_at x.track x.sector < number_at y.track y.sector → ¬ (Contains ys x) → ¬ (Contains (y ∷ ys) x)
+past : (x y : Place) (ys : List Place) → number_at x.track x.sector < number_at y.track y.sector → ¬ (Contains ys x)
+    → ¬ (Contains (y ∷ ys) x)
 past x y ys lt out c = elim (Contains-cases x y ys c) [
   | inl e ↦ omega (arith, lt, ap (λ (p : Place). number_at p.track p.sector) e)
   | inr d ↦ out d
@@ -45,7 +81,8 @@ past x y ys lt out c = elim (Contains-cases x y ys c) [
 request-taken : (n k : ℕ) → k < n → request_sector k < taken_on n (request_track k)
 request-taken n k lt = grind (arith, nat_tests)
 
-on-17 : (n s : ℕ) → 1 ≤ n → s < min (n + 3) 21 → ((s ≡ 0) ⊎ ((s ≡ 1) ⊎ (s ≡ 3))) ⊎ ((k : ℕ) × (k < n) × (17 ≡ request_track k) × (s ≡ request_sector k))
+on-17 : (n s : ℕ) → 1 ≤ n → s < min (n + 3) 21 → ((s ≡ 0) ⊎ ((s ≡ 1) ⊎ (s ≡ 3)))
+    ⊎ ((k : ℕ) × (k < n) × (17 ≡ request_track k) × (s ≡ request_sector k))
 on-17 n zero some h = inl (inl refl)
 on-17 n (suc zero) some h = inl (inr (inl refl))
 on-17 n (suc (suc zero)) some h = inr (0, omega arith, refl, refl)
@@ -58,9 +95,14 @@ on-17 n (suc (suc (suc (suc s)))) some h =
 on-19 : (n s : ℕ) → s < n - 18 → (k : ℕ) × (k < n) × (19 ≡ request_track k) × (s ≡ request_sector k)
 on-19 n s h = (s + 18, omega arith, grind (arith, nat_tests), grind (arith, nat_tests))
 
-taken-cases : (n t s : ℕ) → 1 ≤ n → s < taken_on n t → ((t ≡ 18) × ((s ≡ 0) ⊎ (s ≡ 1))) ⊎ (((t ≡ 17) × ((s ≡ 0) ⊎ ((s ≡ 1) ⊎ (s ≡ 3)))) ⊎ ((k : ℕ) × (k < n) × ((t ≡ request_track k) × (s ≡ request_sector k))))
+taken-cases : (n t s : ℕ) → 1 ≤ n → s < taken_on n t → ((t ≡ 18) × ((s ≡ 0) ⊎ (s ≡ 1)))
+    ⊎ (((t ≡ 17) × ((s ≡ 0) ⊎ ((s ≡ 1) ⊎ (s ≡ 3))))
+    ⊎ ((k : ℕ) × (k < n) × ((t ≡ request_track k) × (s ≡ request_sector k))))
 taken-cases n t s some h = elim (cases_eq t 17) [
-  | inl e ↦ elim (on-17 n s some (rw e at h)) [ inl z ↦ inr (inl (e, z)) | inr z ↦ inr (inr (z.0, z.1, (e ∙ z.2, z.3))) ]
+  | inl e ↦ elim (on-17 n s some (rw e at h)) [
+    | inl z ↦ inr (inl (e, z))
+    | inr z ↦ inr (inr (z.0, z.1, (e ∙ z.2, z.3)))
+  ]
   | inr a ↦ elim (cases_eq t 18) [
     | inl e ↦ let two : s < 2 = rw e at h in inl (e, small s two)
     | inr b ↦ elim (cases_eq t 19) [
@@ -96,10 +138,14 @@ module _ (blocks : List Place) (n : ℕ) (are : AreRequestPlaces blocks n) where
 
   pub blank-once : EachOnce (map_place ∷ blank_owners blocks)
   blank-once =
-      let ends : EachOnce (blocks ++ requests_side ∷ []) = EachOnce-push blocks requests_side (numbered-once (λ (p : Place). number_at p.track p.sector) 5 blocks block-number) (λ c. let h : 5 ≤ 4 = in-block requests_side c in omega (arith, h)) in (
-        past map_place directory_start (file_owners blocks) (lit< tt) (past map_place stock_block (side_owners blocks) (lit< tt) (past map_place stock_side (last_owners blocks) (lit< tt) (low map_place (lit< tt)))),
+      let ends : EachOnce (blocks ++ requests_side ∷ []) =
+      EachOnce-push blocks requests_side (numbered-once (λ (p : Place). number_at p.track p.sector) 5 blocks
+      block-number) (λ c. let h : 5 ≤ 4 = in-block requests_side c in omega (arith, h)) in (
+        past map_place directory_start (file_owners blocks) (lit< tt) (past map_place stock_block (side_owners blocks)
+            (lit< tt) (past map_place stock_side (last_owners blocks) (lit< tt) (low map_place (lit< tt)))),
         (
-          past directory_start stock_block (side_owners blocks) (lit< tt) (past directory_start stock_side (last_owners blocks) (lit< tt) (low directory_start (lit< tt))),
+          past directory_start stock_block (side_owners blocks) (lit< tt)
+              (past directory_start stock_side (last_owners blocks) (lit< tt) (low directory_start (lit< tt))),
           (
             past stock_block stock_side (last_owners blocks) (lit< tt) (low stock_block (lit< tt)),
             (low stock_side (lit< tt), ends),
@@ -110,7 +156,8 @@ module _ (blocks : List Place) (n : ℕ) (are : AreRequestPlaces blocks n) where
   pub blank-first : 1 ≤ n → (rest : List Place) × (blocks ≡ requests_block ∷ rest)
   blank-first h = first blocks are.count are.each
     where
-      first : (ps : List Place) → length ps ≡ n → ((k : ℕ) (p : Place) → slice_get ps k ≡ Some p → IsRequestPlace k p) → (rest : List Place) × (ps ≡ requests_block ∷ rest)
+      first : (ps : List Place) → length ps ≡ n → ((k : ℕ) (p : Place) → slice_get ps k ≡ Some p → IsRequestPlace k p)
+          → (rest : List Place) × (ps ≡ requests_block ∷ rest)
       first [] e each = absurd (omega (arith, e))
       first (p ∷ ps) e each =
           let here = each 0 p refl in
@@ -128,7 +175,10 @@ module _ (blocks : List Place) (n : ℕ) (are : AreRequestPlaces blocks n) where
           | inl e ↦ rw (← e) (few 1 (lit< tt))
           | inr c ↦ elim (Contains-append_cases blocks (requests_side ∷ []) p c) [
             | inl d ↦ let (k, g) = contains-get blocks p d in block k p g
-            | inr d ↦ elim (Contains-cases p requests_side [] d) [ inl e ↦ rw (← e) (few 3 (lit< tt)) | inr d ↦ absurd (Contains-nil p d) ]
+            | inr d ↦ elim (Contains-cases p requests_side [] d) [
+              | inl e ↦ rw (← e) (few 3 (lit< tt))
+              | inr d ↦ absurd (Contains-nil p d)
+            ]
           ]
         ]
       ]
@@ -148,26 +198,35 @@ module _ (blocks : List Place) (n : ℕ) (are : AreRequestPlaces blocks n) where
   taken-owned some p lt = elim (taken-cases n p.track p.sector some lt) [
     | inl z ↦ elim z.1 [
       | inl s ↦ rw (same_place p map_place z.0 s) (Contains-here map_place (blank_owners blocks))
-      | inr s ↦ rw (same_place p directory_start z.0 s) (Contains-there directory_start map_place (blank_owners blocks) (Contains-here directory_start (file_owners blocks)))
+      | inr s ↦ rw (same_place p directory_start z.0 s) (Contains-there directory_start map_place (blank_owners blocks)
+          (Contains-here directory_start (file_owners blocks)))
     ]
     | inr z ↦ elim z [
       | inl w ↦ elim w.1 [
-        | inl s ↦ rw (same_place p stock_block w.0 s) (Contains-there stock_block map_place (blank_owners blocks) (Contains-there stock_block directory_start (file_owners blocks) (Contains-here stock_block (side_owners blocks))))
+        | inl s ↦ rw (same_place p stock_block w.0 s) (Contains-there stock_block map_place (blank_owners blocks)
+            (Contains-there stock_block directory_start (file_owners blocks)
+            (Contains-here stock_block (side_owners blocks))))
         | inr y ↦ elim y [
-          | inl s ↦ rw (same_place p stock_side w.0 s) (behind stock_side (Contains-here stock_side (last_owners blocks)))
-          | inr s ↦ rw (same_place p requests_side w.0 s) (behind requests_side (Contains-there requests_side stock_side (last_owners blocks) (Contains-append_right blocks (requests_side ∷ []) requests_side (Contains-here requests_side []))))
+          | inl s ↦ rw (same_place p stock_side w.0 s)
+              (behind stock_side (Contains-here stock_side (last_owners blocks)))
+          | inr s ↦ rw (same_place p requests_side w.0 s)
+              (behind requests_side (Contains-there requests_side stock_side (last_owners blocks)
+              (Contains-append_right blocks (requests_side ∷ []) requests_side (Contains-here requests_side []))))
         ]
       ]
       | inr w ↦ block w.0 w.1 w.2
     ]
   ]
     where
-      behind : (q : Place) → Contains (stock_side ∷ (blocks ++ requests_side ∷ [])) q → Contains (map_place ∷ blank_owners blocks) q
-      behind q c = Contains-there q map_place (blank_owners blocks) (Contains-there q directory_start (file_owners blocks) (Contains-there q stock_block (side_owners blocks) c))
+      behind : (q : Place) → Contains (stock_side ∷ (blocks ++ requests_side ∷ [])) q
+          → Contains (map_place ∷ blank_owners blocks) q
+      behind q c = Contains-there q map_place (blank_owners blocks)
+          (Contains-there q directory_start (file_owners blocks) (Contains-there q stock_block (side_owners blocks) c))
 
       block : (k : ℕ) → k < n → IsRequestPlace k p → Contains (map_place ∷ blank_owners blocks) p
       block k lt is =
           let (q, g) = get-some blocks k (omega (arith, lt, are.count)) in
           let there = are.each k q g in
           let same : q ≡ p = same_place q p (there.0 ∙ sym is.0) (there.1 ∙ sym is.1) in
-          behind p (Contains-there p stock_side (last_owners blocks) (Contains-append_left blocks (requests_side ∷ []) p (rw (← same) (get-contains blocks k q g))))
+          behind p (Contains-there p stock_side (last_owners blocks) (Contains-append_left blocks (requests_side ∷ []) p
+          (rw (← same) (get-contains blocks k q g))))

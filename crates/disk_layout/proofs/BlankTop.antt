@@ -1,5 +1,29 @@
 -- How far STOCK can grow on the blank image.
-use Rattle.std.proofs.Common.{ℕ, ◌≡◌, ◌≢◌, ◌≤◌, ◌+◌, ◌-◌, ◌*◌, ◌/◌, inl, inr, true, List, [], ◌∷◌, ◌++◌, length, refl, sym, ◌∙◌, ap, arith, append-nil, length-append}
+use Rattle.std.proofs.Common.{
+  ℕ,
+  ◌≡◌,
+  ◌≢◌,
+  ◌≤◌,
+  ◌+◌,
+  ◌-◌,
+  ◌*◌,
+  ◌/◌,
+  inl,
+  inr,
+  true,
+  List,
+  [],
+  ◌∷◌,
+  ◌++◌,
+  length,
+  refl,
+  sym,
+  ◌∙◌,
+  ap,
+  arith,
+  append-nil,
+  length-append,
+}
 use Rattle.std.specs.Prelude.{Contains, filter, nat_eq, not}
 use Rattle.std.proofs.lemmas.Bool.Decides.{nat_tests}
 use Rattle.std.proofs.lemmas.List.Elements.{Contains-append_cases}
@@ -13,17 +37,20 @@ use Rattle.disk_layout.specs.BlankLayout.{BlankHasTop, blank_layout, stock_file}
 use Rattle.disk_layout.specs.Rest.{IsTop, taken_by_others}
 
 -- where all are outside track 18, none is left out
-all-outside : (ps : List Place) → ((p : Place) → Contains ps p → p.track ≢ 18) → filter (λ p. not (nat_eq p.track 18)) ps ≡ ps
+all-outside : (ps : List Place) → ((p : Place) → Contains ps p → p.track ≢ 18)
+    → filter (λ p. not (nat_eq p.track 18)) ps ≡ ps
 all-outside [] off = refl
 all-outside (p ∷ ps) off =
     let here : not (nat_eq p.track 18) ≡ true = let ne = off p (Contains-here p ps) in grind (arith, nat_tests) in
     rw here (ap (λ qs. p ∷ qs) (all-outside ps (λ q c. off q (Contains-there q p ps c))))
 
 -- the request blocks and their side sector stand on the tracks 17 and 19
-requests-taken : (blocks : List Place) (n : ℕ) → AreRequestPlaces blocks n → taken_by_others (blank_layout n blocks) 0 ≡ n + 1
+requests-taken : (blocks : List Place) (n : ℕ) → AreRequestPlaces blocks n
+    → taken_by_others (blank_layout n blocks) 0 ≡ n + 1
 unfolding taken_by_others
 requests-taken blocks n are =
-    ap (λ (ps : List Place). length (filter (λ p. not (nat_eq p.track 18)) ps)) (append-nil (blocks ++ requests_side ∷ []))
+    ap (λ (ps : List Place). length (filter (λ p. not (nat_eq p.track 18)) ps))
+    (append-nil (blocks ++ requests_side ∷ []))
     ∙ ap (λ (ps : List Place). length ps) (all-outside (blocks ++ requests_side ∷ []) off)
     ∙ length-append blocks (requests_side ∷ [])
     ∙ ap (λ k. k + 1) are.count
@@ -40,7 +67,8 @@ requests-taken blocks n are =
       ]
     ]
 
-blank-top : (blocks : List Place) (n : ℕ) → 1 ≤ n → n ≤ 32 → AreRequestPlaces blocks n → IsTop (blank_layout n blocks) 0 (254 * (664 - (n + 1) - 6) / 18)
+blank-top : (blocks : List Place) (n : ℕ) → 1 ≤ n → n ≤ 32 → AreRequestPlaces blocks n
+    → IsTop (blank_layout n blocks) 0 (254 * (664 - (n + 1) - 6) / 18)
 blank-top blocks n some few are =
     let taken = requests-taken blocks n are in
     IsTop-last (blank_layout n blocks) 0 (254 * (664 - (n + 1) - 6) / 18)

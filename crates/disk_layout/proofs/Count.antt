@@ -1,5 +1,27 @@
 -- Distinct places are at most 683.
-use Rattle.std.proofs.Common.{◌≡◌, ℕ, suc, ◌<◌, ◌≤◌, ◌⊎◌, inl, inr, Bool, true, false, ◌||◌, List, [], ◌∷◌, map, length, refl, ap, arith, eqb}
+use Rattle.std.proofs.Common.{
+  ◌≡◌,
+  ℕ,
+  suc,
+  ◌<◌,
+  ◌≤◌,
+  ◌⊎◌,
+  inl,
+  inr,
+  Bool,
+  true,
+  false,
+  ◌||◌,
+  List,
+  [],
+  ◌∷◌,
+  map,
+  length,
+  refl,
+  ap,
+  arith,
+  eqb,
+}
 use Rattle.std.specs.Prelude.{Contains}
 use Rattle.std.specs.List.{AllByRecursion, IsDistinct, list_any}
 use Rattle.std.proofs.lemmas.Bool.{false≢true}
@@ -15,10 +37,12 @@ not-eqb : (b : Bool) (P : Type 0) → (b ≡ true → P) → ¬ P → b ≡ fals
 not-eqb true P h n = absurd (n (h refl))
 not-eqb false P h n = refl
 
-differ : (p : Place) (ps : List Place) → ¬ (Contains ps p) → AllByRecursion (λ y. eqb (index_of p) y ≡ false) (map index_of ps)
+differ : (p : Place) (ps : List Place) → ¬ (Contains ps p)
+    → AllByRecursion (λ y. eqb (index_of p) y ≡ false) (map index_of ps)
 differ p [] n = tt
 differ p (q ∷ ps) n = (
-  not-eqb (eqb (index_of p) (index_of q)) (index_of p ≡ index_of q) (Decides-eqb (index_of p) (index_of q)).0 (λ e. let s : p ≡ q = same_index p q e in n (rw s (Contains-here q ps))),
+  not-eqb (eqb (index_of p) (index_of q)) (index_of p ≡ index_of q) (Decides-eqb (index_of p) (index_of q)).0
+      (λ e. let s : p ≡ q = same_index p q e in n (rw s (Contains-here q ps))),
   differ p ps (λ c. n (Contains-there p q ps c)),
 )
 
@@ -35,7 +59,8 @@ below : (ps : List Place) (q : ℕ) → list_any (eqb q) (map index_of ps) ≡ t
 below [] q h = absurd (false≢true h)
 below (p ∷ ps) q h = step (below ps q) (or-cases (eqb q (index_of p)) (list_any (eqb q) (map index_of ps)) h)
   where
-    step : (list_any (eqb q) (map index_of ps) ≡ true → q < 683) → (eqb q (index_of p) ≡ true) ⊎ (list_any (eqb q) (map index_of ps) ≡ true) → q < 683
+    step : (list_any (eqb q) (map index_of ps) ≡ true → q < 683) → (eqb q (index_of p) ≡ true)
+        ⊎ (list_any (eqb q) (map index_of ps) ≡ true) → q < 683
     step more (inl e) = omega (arith, (Decides-eqb q (index_of p)).0 e, index_below p)
     step more (inr t) = more t
 
@@ -45,4 +70,9 @@ length-map_index (p ∷ ps) = ap suc (length-map_index ps)
 
 -- distinct places are at most as many as the sectors of the disk
 pub places-few : (ps : List Place) → EachOnce ps → length ps ≤ 683
-places-few ps once = omega (arith, length-map_index ps, length-le_from_distinct_below (map index_of ps) 683 (distinct ps once) (below ps))
+places-few ps once = omega (
+  arith,
+  length-map_index ps,
+  length-le_from_distinct_below (map index_of ps) 683
+      (distinct ps once) (below ps),
+)

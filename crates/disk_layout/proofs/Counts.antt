@@ -1,5 +1,34 @@
 -- The write of a block count.
-use Rattle.std.proofs.Common.{IsTrue, List, [], ap, arith, drop, get_or, inl, inr, length, map, refl, slice_index, sym, take, true, ℕ, ◌*◌, ◌++◌, ◌+◌, ◌-◌, ◌<◌, ◌∙◌, ◌∷◌, ◌≡◌, ◌≢◌, ◌≤◌, ◌⊎◌}
+use Rattle.std.proofs.Common.{
+  IsTrue,
+  List,
+  [],
+  ap,
+  arith,
+  drop,
+  get_or,
+  inl,
+  inr,
+  length,
+  map,
+  refl,
+  slice_index,
+  sym,
+  take,
+  true,
+  ℕ,
+  ◌*◌,
+  ◌++◌,
+  ◌+◌,
+  ◌-◌,
+  ◌<◌,
+  ◌∙◌,
+  ◌∷◌,
+  ◌≡◌,
+  ◌≢◌,
+  ◌≤◌,
+  ◌⊎◌,
+}
 use Rattle.std.proofs.lemmas.Bool.{cases_eq, cases_lt}
 use Rattle.std.proofs.lemmas.Grind.{flat_map-append, same_number_lists}
 use Rattle.std.proofs.lemmas.List.{drop-take, get_or-take, length-take}
@@ -27,8 +56,10 @@ use Rattle.disk_layout.specs.Layout.{File, IsFile, IsLayout, Layout, exchanged, 
 use Rattle.disk_layout.specs.Rest.{kept_of}
 use Rattle.disk_layout.specs.declared.slot.Slot.{Slot}
 
-uncounted-byte : (s t : Slot) → uncounted s ≡ uncounted t → (i : ℕ) → i < 30 → slice_index s.bytes i ≡ slice_index t.bytes i
-uncounted-byte s t e i h = sym (get_or-take 30 s.bytes i 0 h) ∙ ap (λ x. get_or x.bytes i 0) e ∙ get_or-take 30 t.bytes i 0 h
+uncounted-byte : (s t : Slot) → uncounted s ≡ uncounted t → (i : ℕ) → i < 30
+    → slice_index s.bytes i ≡ slice_index t.bytes i
+uncounted-byte s t e i h = sym (get_or-take 30 s.bytes i 0 h) ∙ ap (λ x. get_or x.bytes i 0) e
+    ∙ get_or-take 30 t.bytes i 0 h
 
 -- the same entry, its count aside, has the same face
 pub uncounted-face : (s t : Slot) → uncounted s ≡ uncounted t → SameFace s t
@@ -49,7 +80,8 @@ uncounted-name s t e = name s ∙ ap (λ x. slice_range x.bytes 5 21) e ∙ sym 
     name s = sym (ap (take 16) (drop-take 5 25 s.bytes) ∙ take-take 16 25 (drop 5 s.bytes) (omega arith))
 
 -- so all that is asked to stay of a file stays under such a slot
-pub kept-slot : (img : Image) (f : File) (s : Slot) → uncounted f.slot ≡ uncounted s → kept_of img (with_slot f s) ≡ kept_of img f
+pub kept-slot : (img : Image) (f : File) (s : Slot) → uncounted f.slot ≡ uncounted s
+    → kept_of img (with_slot f s) ≡ kept_of img f
 kept-slot img f s e = λ i. record {
   kind = sym (uncounted-face f.slot s e).kind i;
   name = sym (uncounted-name f.slot s e) i;
@@ -60,36 +92,44 @@ kept-slot img f s e = λ i. record {
 }
 
 pub range-piece : (x : List ℕ) (k : ℕ) → slice_range x (32 * k) (32 * k + 32) ≡ piece 32 k x
-range-piece x k = let m : 32 * k + 32 - 32 * k ≡ 32 = omega arith in let c : 32 * k ≡ k * 32 = omega arith in rw (m, c) refl
+range-piece x k = let m : 32 * k + 32 - 32 * k ≡ 32 = omega arith in let c : 32 * k ≡ k * 32 = omega arith in
+    rw (m, c) refl
 
 other-slot : (p : Place) (x y : List ℕ) (n k : ℕ) → IsRecounted x y n → k < 8 → k ≢ n → slot_in p x k ≡ slot_in p y k
 other-slot p x y n k h lt ne =
     let e : slice_range x (32 * k) (32 * k + 32) ≡ slice_range y (32 * k) (32 * k + 32) =
-    range-piece x k ∙ piece-same 32 k x y (omega (arith, h.old_long)) (omega (arith, h.long)) (λ i a b. sym (h.same i (outside i a b))) ∙ sym (range-piece y k) in
+    range-piece x k ∙ piece-same 32 k x y (omega (arith, h.old_long)) (omega (arith, h.long))
+    (λ i a b. sym (h.same i (outside i a b))) ∙ sym (range-piece y k) in
     ap (λ (bs : List ℕ). record { sector = p; number = k; bytes = bs }) e
   where
     outside : (i : ℕ) → k * 32 ≤ i → i < k * 32 + 32 → (i < 32 * n + 30) ⊎ (32 * n + 32 ≤ i)
     outside i a b = elim (cases_lt k n) [ inl c ↦ inl (omega arith) | inr c ↦ inr (omega arith) ]
 
 -- the slot itself is the same entry, its count aside
-pub recounted-slot : (p : Place) (x y : List ℕ) (n : ℕ) → IsRecounted x y n → n < 8 → uncounted (slot_in p x n) ≡ uncounted (slot_in p y n)
+pub recounted-slot : (p : Place) (x y : List ℕ) (n : ℕ) → IsRecounted x y n → n < 8
+    → uncounted (slot_in p x n) ≡ uncounted (slot_in p y n)
 recounted-slot p x y n h lt =
     let lx = length-piece 32 n x (omega (arith, h.old_long)) in
     let ly = length-piece 32 n y (omega (arith, h.long)) in
     let e : take 30 (slice_range x (32 * n) (32 * n + 32)) ≡ take 30 (slice_range y (32 * n) (32 * n + 32)) =
     ap (take 30) (range-piece x n)
-    ∙ same_number_lists (take 30 (piece 32 n x)) (take 30 (piece 32 n y)) (length-take 30 (piece 32 n x) ∙ cc (lx, ly) ∙ sym (length-take 30 (piece 32 n y)))
+    ∙ same_number_lists (take 30 (piece 32 n x)) (take 30 (piece 32 n y)) (length-take 30 (piece 32 n x) ∙ cc (lx, ly)
+    ∙ sym (length-take 30 (piece 32 n y)))
     (λ j d. let below : j < 30 = omega (arith, length-take 30 (piece 32 n x), d) in
-    get_or-take 30 (piece 32 n x) j 0 below ∙ piece-byte 32 n x j (omega arith) ∙ sym (h.same (n * 32 + j) (inl (omega arith))) ∙ sym (get_or-take 30 (piece 32 n y) j 0 below ∙ piece-byte 32 n y j (omega arith)))
+    get_or-take 30 (piece 32 n x) j 0 below ∙ piece-byte 32 n x j (omega arith)
+    ∙ sym (h.same (n * 32 + j) (inl (omega arith))) ∙ sym (get_or-take 30 (piece 32 n y) j 0 below
+    ∙ piece-byte 32 n y j (omega arith)))
     ∙ sym (ap (take 30) (range-piece y n)) in
     ap (λ (bs : List ℕ). record { sector = p; number = n; bytes = bs }) e
 
-all-slots-of : (fs gs : List File) (f : File) → map (λ x. x.slot) (fs ++ f ∷ gs) ≡ map (λ x. x.slot) fs ++ f.slot ∷ map (λ x. x.slot) gs
+all-slots-of : (fs gs : List File) (f : File) → map (λ x. x.slot) (fs ++ f ∷ gs) ≡ map (λ x. x.slot) fs ++ f.slot ∷ map
+    (λ x. x.slot) gs
 all-slots-of [] gs f = refl
 all-slots-of (g ∷ fs) gs f = ap (λ xs. g.slot ∷ xs) (all-slots-of fs gs f)
 
 -- a file that owns a block is the one file of its slot
-module _ (a : Image) (l : Layout) (before after : List File) (f : File) (h : IsLayout a l) (split : l.files ≡ before ++ f ∷ after) (rel : IsTrue (is_rel f.slot)) where
+module _ (a : Image) (l : Layout) (before after : List File) (f : File) (h : IsLayout a l)
+    (split : l.files ≡ before ++ f ∷ after) (rel : IsTrue (is_rel f.slot)) where
   files : AllByRecursion (IsFile a) (before ++ f ∷ after)
   files = rw split at h.files
 
@@ -103,31 +143,40 @@ module _ (a : Image) (l : Layout) (before after : List File) (f : File) (h : IsL
   last = (file.rel rel).chain.2.last
 
   mine : Contains (file_owns f) last
-  mine = Contains-append_left f.blocks f.sides last (chain-last a (file.rel rel).chain.0 f.blocks f.last (file.rel rel).chain.2)
+  mine = Contains-append_left f.blocks f.sides last (chain-last a (file.rel rel).chain.0 f.blocks f.last
+      (file.rel rel).chain.2)
 
   only : IsAlone l before after last
   only = alone l before after f once last mine
 
-  owns-in : (fs : List File) (g : File) → Contains fs g → IsFile a g → g.slot ≡ f.slot → Contains (flat_map file_owns fs) last
+  owns-in : (fs : List File) (g : File) → Contains fs g → IsFile a g → g.slot ≡ f.slot
+      → Contains (flat_map file_owns fs) last
   owns-in fs g c is e =
       let one : g ≡ f = IsFile-one a g f e is file in
       flat_map-in file_owns fs g last c (rw one mine)
 
-  slot-once : (fs : List File) → AllByRecursion (IsFile a) fs → ¬ (Contains (flat_map file_owns fs) last) → ¬ (Contains (map (λ x. x.slot) fs) f.slot)
+  slot-once : (fs : List File) → AllByRecursion (IsFile a) fs → ¬ (Contains (flat_map file_owns fs) last)
+      → ¬ (Contains (map (λ x. x.slot) fs) f.slot)
   slot-once fs all free c =
       let (g, there, e) = map-in (λ x. x.slot) fs f.slot c in
       free (owns-in fs g there (all-in (IsFile a) fs g all there) e)
 
   pub slot-alone : (¬ (Contains (map (λ x. x.slot) before) f.slot)) × (¬ (Contains (map (λ x. x.slot) after) f.slot))
-  slot-alone = (slot-once before (all-left (IsFile a) before (f ∷ after) files) only.before, slot-once after (all-right (IsFile a) before (f ∷ after) files).1 only.after)
+  slot-alone = (
+    slot-once before (all-left (IsFile a) before (f ∷ after) files) only.before,
+    slot-once after (all-right (IsFile a) before (f ∷ after) files).1 only.after,
+  )
 
   abbrev p : Place
   p = f.slot.sector
 
   has-slot : Contains (used_slots a l.directory) f.slot
-  has-slot = rw (← h.directory.slots, split, all-slots-of before after f) (Contains-append_right (map (λ x. x.slot) before) (f.slot ∷ map (λ x. x.slot) after) f.slot (Contains-here f.slot (map (λ x. x.slot) after)))
+  has-slot = rw (← h.directory.slots, split, all-slots-of before after f)
+      (Contains-append_right (map (λ x. x.slot) before) (f.slot ∷ map (λ x. x.slot) after) f.slot
+      (Contains-here f.slot (map (λ x. x.slot) after)))
 
-  place : Contains l.directory p × (f.slot.number < 8) × (f.slot ≡ slot_in p (sector a p) f.slot.number) × (is_used f.slot ≡ true)
+  place : Contains l.directory p × (f.slot.number < 8) × (f.slot ≡ slot_in p (sector a p) f.slot.number)
+      × (is_used f.slot ≡ true)
   place = slot-there a l.directory f.slot has-slot
 
   -- the write of a directory sector that changes the block count of the file's slot alone
@@ -143,10 +192,14 @@ module _ (a : Image) (l : Layout) (before after : List File) (f : File) (h : IsL
 
     pub recounted-slots : used_slots (put a p b) l.directory ≡ map (λ x. x.slot) before ++ new ∷ map (λ x. x.slot) after
     recounted-slots =
-        let (xs, ys, e, d) = used_slots-one a l.directory p f.slot.number b full h.directory.chain.once place.0 place.1 (λ k lt ne. other-slot p (sector a p) b f.slot.number k r lt ne) (ap is_used (sym place.2) ∙ place.3) used in
+        let (xs, ys, e, d) = used_slots-one a l.directory p f.slot.number b full h.directory.chain.once place.0 place.1
+        (λ k lt ne. other-slot p (sector a p) b f.slot.number k r lt ne) (ap is_used (sym place.2)
+        ∙ place.3) used in
         let old : xs ++ f.slot ∷ ys ≡ map (λ x. x.slot) before ++ f.slot ∷ map (λ x. x.slot) after =
-        ap (λ s. xs ++ s ∷ ys) place.2 ∙ sym e ∙ sym h.directory.slots ∙ ap (map (λ x. x.slot)) split ∙ all-slots-of before after f in
-        let both = split-one xs ys (map (λ x. x.slot) before) (map (λ x. x.slot) after) f.slot old slot-alone.0 slot-alone.1 in
+        ap (λ s. xs ++ s ∷ ys) place.2 ∙ sym e ∙ sym h.directory.slots ∙ ap (map (λ x. x.slot)) split
+        ∙ all-slots-of before after f in
+        let both = split-one xs ys (map (λ x. x.slot) before) (map (λ x. x.slot) after) f.slot old slot-alone.0
+        slot-alone.1 in
         d ∙ ap (λ zs. zs ++ new ∷ ys) both.0 ∙ ap (λ zs. map (λ x. x.slot) before ++ new ∷ zs) both.1
 
     links : SameLinks a (put a p b) l.directory
@@ -166,13 +219,17 @@ module _ (a : Image) (l : Layout) (before after : List File) (f : File) (h : IsL
     unowned = EachOnce-apart l.directory (flat_map file_owns l.files) h.once.1 p place.0
 
     same-owns : flat_map file_owns (before ++ with_slot f new ∷ after) ≡ flat_map file_owns l.files
-    same-owns = flat_map-append file_owns before (with_slot f new ∷ after) ∙ sym (ap (flat_map file_owns) split ∙ flat_map-append file_owns before (f ∷ after))
+    same-owns = flat_map-append file_owns before (with_slot f new ∷ after)
+        ∙ sym (ap (flat_map file_owns) split ∙ flat_map-append file_owns before (f ∷ after))
 
     pub IsLayout-recount : IsLayout (put a p b) (exchanged l before (with_slot f new) after)
     IsLayout-recount =
-        let now : AllByRecursion (IsFile (put a p b)) (before ++ f ∷ after) = rw split at (files-frame a (put a p b) l.files (keeps-other a p b l.files unowned) h.files) in
+        let now : AllByRecursion (IsFile (put a p b)) (before ++ f ∷ after) =
+        rw split at (files-frame a (put a p b) l.files (keeps-other a p b l.files unowned) h.files) in
         let behind = all-right (IsFile (put a p b)) before (f ∷ after) now in
         IsLayout-directory a (put a p b) l (before ++ with_slot f new ∷ after) h links
         (all-slots-of before after (with_slot f new) ∙ sym recounted-slots)
-        (all-join (IsFile (put a p b)) before (with_slot f new ∷ after) (all-left (IsFile (put a p b)) before (f ∷ after) now) (IsFile-slot (put a p b) f new (uncounted-face f.slot new new-slot) behind.0, behind.1))
+        (all-join (IsFile (put a p b)) before (with_slot f new ∷ after)
+        (all-left (IsFile (put a p b)) before (f ∷ after) now)
+        (IsFile-slot (put a p b) f new (uncounted-face f.slot new new-slot) behind.0, behind.1))
         same-owns

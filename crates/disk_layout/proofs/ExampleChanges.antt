@@ -1,11 +1,61 @@
 -- What repair, creation, growth and a request leave, on a disk with one small relative file.
-use Rattle.std.proofs.Common.{List, [], ap, arith, drop, inl, inr, lit<, lit≤, refl, replicate, set, sym, take, true, ℕ, zero, suc, ◌*◌, ◌+◌, ◌++◌, ◌<◌, ◌≤◌, ◌∙◌, ◌∷◌, ◌≡◌, ◌≢◌, ◌⊎◌, Bool}
+use Rattle.std.proofs.Common.{
+  List,
+  [],
+  ap,
+  arith,
+  drop,
+  inl,
+  inr,
+  lit<,
+  lit≤,
+  refl,
+  replicate,
+  set,
+  sym,
+  take,
+  true,
+  ℕ,
+  zero,
+  suc,
+  ◌*◌,
+  ◌+◌,
+  ◌++◌,
+  ◌<◌,
+  ◌≤◌,
+  ◌∙◌,
+  ◌∷◌,
+  ◌≡◌,
+  ◌≢◌,
+  ◌⊎◌,
+  Bool,
+}
 use Rattle.std.proofs.lemmas.Bool.{agree_below, agree_below_at, cases_eq, eqb-true, lt-ltb}
 use Rattle.std.proofs.lemmas.List.{get_or-set_other}
 use Rattle.std.specs.Prelude.{nat_eq, nat_lt, slice_index}
 use Rattle.d64_image.proofs.Places.{same_or_other}
 use Rattle.d64_image.specs.Images.{Image, Sector, sector}
-use Rattle.disk_layout.proofs.ExampleDisk.{IsStockSide, at_block, at_entry, at_map, at_other, disk, entry_bytes, entry_slot, exact_side, lower_sector, lower_track, not-in, stock-is_layout, stock-records-1, stock-records-2, stock_disk, stock_file, stock_layout, two_records}
+use Rattle.disk_layout.proofs.ExampleDisk.{
+  IsStockSide,
+  at_block,
+  at_entry,
+  at_map,
+  at_other,
+  disk,
+  entry_bytes,
+  entry_slot,
+  exact_side,
+  lower_sector,
+  lower_track,
+  not-in,
+  stock-is_layout,
+  stock-records-1,
+  stock-records-2,
+  stock_disk,
+  stock_file,
+  stock_layout,
+  two_records,
+}
 use Rattle.disk_layout.proofs.ExampleFaults.{changed_side}
 use Rattle.disk_layout.proofs.ExampleMap.{map_bytes}
 use Rattle.disk_layout.proofs.Examples.{block_0, block_1, top-alone, zero_sector}
@@ -51,35 +101,48 @@ abbrev right_disk : Image
 right_disk = stock_disk 37 2 two_records exact_side (map_bytes 19 252)
 
 block-same : sector right_disk block_0 ≡ sector wrong_disk block_0
-block-same = at_block (entry_bytes 132 1 18 2) (0 ∷ 37 ∷ two_records) exact_side (map_bytes 19 252) ∙ sym (at_block (entry_bytes 132 1 18 3) (0 ∷ 37 ∷ two_records) changed_side (map_bytes 18 253))
+block-same = at_block (entry_bytes 132 1 18 2) (0 ∷ 37 ∷ two_records) exact_side (map_bytes 19 252)
+    ∙ sym (at_block (entry_bytes 132 1 18 3) (0 ∷ 37 ∷ two_records) changed_side (map_bytes 18 253))
 
 count-byte : (i : ℕ) → i ≡ 30 → IsCountByte (entry_bytes 132 1 18 3) i
 unfolding entry_bytes
 count-byte i e = rw e (lit≤ tt, inl refl)
 
-entry-bytes : (i : ℕ) → i < 256 → IsCountByte (entry_bytes 132 1 18 3) i ⊎ (slice_index (entry_bytes 132 1 18 2) i ≡ slice_index (entry_bytes 132 1 18 3) i)
+entry-bytes : (i : ℕ) → i < 256 → IsCountByte (entry_bytes 132 1 18 3) i
+    ⊎ (slice_index (entry_bytes 132 1 18 2) i ≡ slice_index (entry_bytes 132 1 18 3) i)
 entry-bytes i low = elim (cases_eq i 30) [ inl e ↦ inl (count-byte i e) | inr ne ↦ inr (other-byte 3 2 i ne) ]
 
 entry-same : SameButCounts wrong_disk right_disk directory_start
-entry-same = rw (at_entry (entry_bytes 132 1 18 2) (0 ∷ 37 ∷ two_records) exact_side (map_bytes 19 252), at_entry (entry_bytes 132 1 18 3) (0 ∷ 37 ∷ two_records) changed_side (map_bytes 18 253)) entry-bytes
+entry-same = rw (
+  at_entry (entry_bytes 132 1 18 2) (0 ∷ 37 ∷ two_records) exact_side (map_bytes 19 252),
+  at_entry (entry_bytes 132 1 18 3) (0 ∷ 37 ∷ two_records) changed_side (map_bytes 18 253),
+) entry-bytes
 
 header-same : header_of right_disk ≡ header_of wrong_disk
 unfolding map_bytes
-header-same = rw (at_map (entry_bytes 132 1 18 2) (0 ∷ 37 ∷ two_records) exact_side (map_bytes 19 252), at_map (entry_bytes 132 1 18 3) (0 ∷ 37 ∷ two_records) changed_side (map_bytes 18 253)) refl
+header-same = rw (
+  at_map (entry_bytes 132 1 18 2) (0 ∷ 37 ∷ two_records) exact_side (map_bytes 19 252),
+  at_map (entry_bytes 132 1 18 3) (0 ∷ 37 ∷ two_records) changed_side (map_bytes 18 253),
+) refl
 
 pub repaired : SameFiles wrong_disk right_disk (stock_layout 37 3) (stock_layout 37 2)
 unfolding entry_bytes
 repaired = record {
   directory = refl;
   files = rw block-same refl;
-  entries = λ p c. elim (Contains-cases p directory_start [] c) [ inl e ↦ rw (← e) entry-same | inr d ↦ absurd (Contains-nil p d) ];
+  entries = λ p c. elim (Contains-cases p directory_start [] c) [
+    | inl e ↦ rw (← e) entry-same
+    | inr d ↦ absurd (Contains-nil p d)
+  ];
   header = header-same;
   elsewhere = λ p z d s. elim (same_or_other p block_0) [
     | inl e ↦ rw e block-same
     | inr x ↦
         let out : p ≢ directory_start = λ e. d (0, lit< tt, sym e) in
         let side : p ≢ block_1 = λ e. s (0, lit< tt, sym e) in
-        at_other (entry_bytes 132 1 18 2) (0 ∷ 37 ∷ two_records) exact_side (map_bytes 19 252) p out x side z ∙ sym (at_other (entry_bytes 132 1 18 3) (0 ∷ 37 ∷ two_records) changed_side (map_bytes 18 253) p out x side z)
+        at_other (entry_bytes 132 1 18 2) (0 ∷ 37 ∷ two_records) exact_side (map_bytes 19 252) p out x side z
+        ∙ sym (at_other (entry_bytes 132 1 18 3) (0 ∷ 37 ∷ two_records) changed_side (map_bytes 18 253) p out x side
+        z)
   ];
 }
 
@@ -92,26 +155,36 @@ unfolding two_letters two_records
 other-letters e = let b : ◌≡◌ {A = ℕ} 66 255 = ap (λ (x : Sector). slice_index x 20) e in omega (arith, b)
 
 -- what repair may not do: change a data block
-pub changed_block : (n : ℕ) (s m : Sector) → ¬ (SameFiles (stock_disk 37 n two_records s m) (stock_disk 37 n two_letters s m) (stock_layout 37 n) (stock_layout 37 n))
+pub changed_block : (n : ℕ) (s m : Sector)
+    → ¬ (SameFiles (stock_disk 37 n two_records s m) (stock_disk 37 n two_letters s m) (stock_layout 37 n)
+    (stock_layout 37 n))
 changed_block n s m h =
     let same = h.elsewhere block_0 (lower_track block_0 map_place (lit< tt)).0
     (not-in block_0 directory_start [] (lower_track block_0 directory_start (lit< tt)).1 (Contains-nil block_0))
     (not-in block_0 block_1 [] (lower_sector block_0 block_1 (lit< tt)).1 (Contains-nil block_0)) in
-    other-letters (sym (at_block (entry_bytes 132 1 18 n) (0 ∷ 37 ∷ two_letters) s m) ∙ (same ∙ at_block (entry_bytes 132 1 18 n) (0 ∷ 37 ∷ two_records) s m))
+    other-letters (sym (at_block (entry_bytes 132 1 18 n) (0 ∷ 37 ∷ two_letters) s m)
+    ∙ (same ∙ at_block (entry_bytes 132 1 18 n) (0 ∷ 37 ∷ two_records) s m))
 
 -- a creation: no entry before, this file after
-pub created : (s m : Sector) → AddsFile (disk zero_sector (0 ∷ 37 ∷ two_records) s m) (stock_disk 37 2 two_records s m) (record { directory = directory_start ∷ []; files = [] }) (stock_layout 37 2) (stock_file 37 2)
+pub created : (s m : Sector) → AddsFile (disk zero_sector (0 ∷ 37 ∷ two_records) s m) (stock_disk 37 2 two_records s m)
+    (record { directory = directory_start ∷ []; files = [] }) (stock_layout 37 2) (stock_file 37 2)
 created s m = record {
   before = [];
   after = [];
   had = refl;
   has = refl;
   added = Contains-here (stock_file 37 2) [];
-  header = rw (at_map (entry_bytes 132 1 18 2) (0 ∷ 37 ∷ two_records) s m, at_map zero_sector (0 ∷ 37 ∷ two_records) s m) refl;
+  header = rw (
+    at_map (entry_bytes 132 1 18 2) (0 ∷ 37 ∷ two_records) s m,
+    at_map zero_sector (0 ∷ 37 ∷ two_records) s
+        m,
+  ) refl;
 }
 
 -- a growth: from one record to two, the second empty
-pub growing : (s m : Sector) → IsStockSide s → IsGrowing (stock_disk 19 2 two_records s m) (stock_disk 37 2 two_records s m) (stock_layout 19 2) [] [] (stock_file 19 2) 1
+pub growing : (s m : Sector) → IsStockSide s
+    → IsGrowing (stock_disk 19 2 two_records s m) (stock_disk 37 2 two_records s m) (stock_layout 19 2) [] []
+    (stock_file 19 2) 1
 unfolding entry_bytes
 growing s m side = record {
   file = stock_file 37 2;
@@ -120,10 +193,15 @@ growing s m side = record {
   grows = inr (rw (stock-records-1 2 s m, stock-records-2 2 s m) refl);
   before_kept = refl;
   after_kept = refl;
-  header = rw (at_map (entry_bytes 132 1 18 2) (0 ∷ 37 ∷ two_records) s m, at_map (entry_bytes 132 1 18 2) (0 ∷ 19 ∷ two_records) s m) refl;
+  header = rw (
+    at_map (entry_bytes 132 1 18 2) (0 ∷ 37 ∷ two_records) s m,
+    at_map (entry_bytes 132 1 18 2) (0 ∷ 19 ∷ two_records) s m,
+  ) refl;
 }
 
-pub grown : (s m : Sector) → IsStockSide s → HasGrown (stock_disk 19 2 two_records s m) (stock_disk 37 2 two_records s m) (stock_layout 19 2) [] [] (stock_file 19 2) 3
+pub grown : (s m : Sector) → IsStockSide s
+    → HasGrown (stock_disk 19 2 two_records s m) (stock_disk 37 2 two_records s m) (stock_layout 19 2) [] []
+    (stock_file 19 2) 3
 unfolding entry_bytes
 grown s m side = record {
   file = stock_file 37 2;
@@ -134,7 +212,10 @@ grown s m side = record {
   grows = rw (stock-records-1 2 s m, stock-records-2 2 s m) refl;
   before_kept = refl;
   after_kept = refl;
-  header = rw (at_map (entry_bytes 132 1 18 2) (0 ∷ 37 ∷ two_records) s m, at_map (entry_bytes 132 1 18 2) (0 ∷ 19 ∷ two_records) s m) refl;
+  header = rw (
+    at_map (entry_bytes 132 1 18 2) (0 ∷ 37 ∷ two_records) s m,
+    at_map (entry_bytes 132 1 18 2) (0 ∷ 19 ∷ two_records) s m,
+  ) refl;
 }
 
 -- a request that names STOCK: a record with another letter, in the same block, is not of the rest
@@ -145,11 +226,16 @@ first-stock : (n : ℕ) → IsFirst (stock_layout 37 n) stock_name 0 (stock_file
 unfolding entry_bytes
 first-stock n = record { file = refl; named = (refl, refl); first = λ k g h. absurd (omega (arith, h)) }
 
-rest-same : (n : ℕ) (s m : Sector) → rest_of (stock_disk 37 n two_records s m) (stock_layout 37 n) 0 0 (stock_file 37 n) ≡ rest_of (stock_disk 37 n two_letters s m) (stock_layout 37 n) 0 0 (stock_file 37 n)
+rest-same : (n : ℕ) (s m : Sector) → rest_of (stock_disk 37 n two_records s m) (stock_layout 37 n) 0 0 (stock_file 37 n)
+    ≡ rest_of (stock_disk 37 n two_letters s m) (stock_layout 37 n) 0 0 (stock_file 37 n)
 unfolding entry_bytes rest_of records joined record_count two_records two_letters
-rest-same n s m = rw (at_map (entry_bytes 132 1 18 n) (0 ∷ 37 ∷ two_records) s m, at_map (entry_bytes 132 1 18 n) (0 ∷ 37 ∷ two_letters) s m) refl
+rest-same n s m = rw (
+  at_map (entry_bytes 132 1 18 n) (0 ∷ 37 ∷ two_records) s m,
+  at_map (entry_bytes 132 1 18 n) (0 ∷ 37 ∷ two_letters) s m,
+) refl
 
-pub rest-kept : (n : ℕ) (s m : Sector) → IsStockSide s → KeepsRest (stock_disk 37 n two_records s m) (stock_disk 37 n two_letters s m) stock_name stock_name
+pub rest-kept : (n : ℕ) (s m : Sector) → IsStockSide s
+    → KeepsRest (stock_disk 37 n two_records s m) (stock_disk 37 n two_letters s m) stock_name stock_name
 rest-kept n s m side = record {
   before = stock_layout 37 n;
   is_before = stock-is_layout 37 n two_records s m side;
@@ -184,15 +270,19 @@ rest-header : (old new : Image) (x y : List ℕ) → KeepsRest old new x y → h
 unfolding rest_of
 rest-header old new x y h = ap (λ (r : Rest). r.header) h.same
 
-other-name : header_of (disk zero_sector [] [] (map_bytes 19 252)) ≢ header_of (disk zero_sector [] [] (set (map_bytes 19 252) 144 65))
+other-name : header_of (disk zero_sector [] [] (map_bytes 19 252)) ≢ header_of
+    (disk zero_sector [] [] (set (map_bytes 19 252) 144 65))
 unfolding map_bytes
 other-name e =
-    let h : ◌≡◌ {A = List ℕ} (take 4 (map_bytes 19 252) ++ drop 144 (map_bytes 19 252)) (take 4 (map_bytes 19 252) ++ drop 144 (set (map_bytes 19 252) 144 65))
+    let h : ◌≡◌ {A = List ℕ} (take 4 (map_bytes 19 252) ++ drop 144 (map_bytes 19 252))
+    (take 4 (map_bytes 19 252) ++ drop 144 (set (map_bytes 19 252) 144 65))
     = rw (at_map zero_sector [] [] (map_bytes 19 252), at_map zero_sector [] [] (set (map_bytes 19 252) 144 65)) at e in
     let b : ◌≡◌ {A = ℕ} 0 65 = ap (λ (x : List ℕ). slice_index x 4) h in
     omega (arith, b)
 
-pub rest-renamed : (x y : List ℕ) → ¬ (KeepsRest (disk zero_sector [] [] (map_bytes 19 252)) (disk zero_sector [] [] (set (map_bytes 19 252) 144 65)) x y)
+pub rest-renamed : (x y : List ℕ)
+    → ¬ (KeepsRest (disk zero_sector [] [] (map_bytes 19 252)) (disk zero_sector [] [] (set (map_bytes 19 252) 144 65))
+    x y)
 rest-renamed x y h = other-name (rest-header _ _ x y h)
 
 -- 14 records of 18 bytes in one block become 28 in two: record 15 begins with the old block's last two bytes
@@ -232,7 +322,8 @@ tail-row j high low = elim (cases_eq j 252) [
   | inr ne ↦ let e : j ≡ 253 = omega (arith, ne, high, low) in rw e refl
 ]
 
-pub filled : (n : ℕ) (s m : Sector) → IsFilled (stock_disk 253 n full s m) (stock_file 253 n) [] block_0 14 28 filled_last filled_fresh
+pub filled : (n : ℕ) (s m : Sector) → IsFilled (stock_disk 253 n full s m) (stock_file 253 n) [] block_0 14 28
+    filled_last filled_fresh
 unfolding entry_bytes record_count
 filled n s m = record {
   positive = lit< tt;
@@ -241,7 +332,9 @@ filled n s m = record {
   from_last = lit≤ tt;
   inside = lit≤ tt;
   within = lit≤ tt;
-  kept = λ j high low. rw (at_block (entry_bytes 132 1 18 n) (0 ∷ 253 ∷ full) s m) (eqb-true _ _ (agree_below_at kept-row (λ j. nat_lt j 252) 254 j kept-hold high ∙ lt-ltb j 252 (omega (arith, low))));
+  kept = λ j high low. rw (at_block (entry_bytes 132 1 18 n) (0 ∷ 253 ∷ full) s m)
+      (eqb-true _ _ (agree_below_at kept-row (λ j. nat_lt j 252) 254 j kept-hold high
+      ∙ lt-ltb j 252 (omega (arith, low))));
   tail = λ j high low. tail-row j high (omega (arith, low));
   block = λ j high. eqb-true _ _ (agree_below_at fresh-row (λ j. true) 254 j fresh-hold high);
 }

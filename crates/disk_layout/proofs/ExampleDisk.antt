@@ -1,6 +1,32 @@
--- A disk with one small relative file, STOCK: its entry in 18/1, its block in 17/0, its side sector in 17/1, the map in 18/0.
+-- A disk with one small relative file, STOCK: its entry in 18/1, its block in 17/0, its side sector in 17/1, the map in
+-- 18/0.
 -- The four sectors are arguments, so that each example changes what it is about.
-use Rattle.std.proofs.Common.{List, [], ap, arith, inl, inr, length, lit<, lit≤, refl, replicate, subst, sym, ℕ, zero, suc, ◌*◌, ◌+◌, ◌++◌, ◌<◌, ◌∙◌, ◌∷◌, ◌≡◌, ◌≢◌}
+use Rattle.std.proofs.Common.{
+  List,
+  [],
+  ap,
+  arith,
+  inl,
+  inr,
+  length,
+  lit<,
+  lit≤,
+  refl,
+  replicate,
+  subst,
+  sym,
+  ℕ,
+  zero,
+  suc,
+  ◌*◌,
+  ◌+◌,
+  ◌++◌,
+  ◌<◌,
+  ◌∙◌,
+  ◌∷◌,
+  ◌≡◌,
+  ◌≢◌,
+}
 use Rattle.std.proofs.lemmas.Bool.{false≢true, true≢false}
 use Rattle.std.specs.Prelude.{Contains, Some, slice_get, slice_index}
 use Rattle.d64_image.proofs.Images.{length-put, sector-put_other, sector-put_same}
@@ -15,7 +41,8 @@ use Rattle.disk_layout.specs.Records.{empty_record, joined, record_count, record
 use Rattle.disk_layout.specs.Side.{padded, side_sector}
 use Rattle.disk_layout.specs.declared.slot.Slot.{Slot}
 
--- a directory sector whose one entry has this type, its first side sector on track 17, this record length and this count
+-- a directory sector whose one entry has this type, its first side sector on track 17, this record length and this
+-- count
 unfoldable pub entry_bytes : (kind side len count : ℕ) → Sector
 entry_bytes kind side len count =
     (0 ∷ 255 ∷ kind ∷ 17 ∷ 0 ∷ 83 ∷ 84 ∷ 79 ∷ 67 ∷ 75 ∷ []) ++ (replicate 11 160
@@ -27,7 +54,8 @@ entry_slot kind side len count = slot_in directory_start (entry_bytes kind side 
 
 -- the disk
 unfoldable pub disk : (entry block side map : Sector) → Image
-disk entry block side map = put (put (put (put zero_image map_place map) block_1 side) block_0 block) directory_start entry
+disk entry block side map = put (put (put (put zero_image map_place map) block_1 side) block_0 block) directory_start
+    entry
 
 -- places on two tracks, or two sectors, are two
 pub lower_track : (p q : Place) → p.track < q.track → (p ≢ q) × (q ≢ p)
@@ -59,7 +87,8 @@ module _ (e b s m : Sector) where
 
   pub at_block : sector (disk e b s m) block_0 ≡ b
   unfolding disk
-  at_block = sector-put_other _ directory_start block_0 e (lower_track block_0 directory_start (lit< tt)).1 ∙ sector-put_same _ block_0 b long-2
+  at_block = sector-put_other _ directory_start block_0 e (lower_track block_0 directory_start (lit< tt)).1
+      ∙ sector-put_same _ block_0 b long-2
 
   pub at_side : sector (disk e b s m) block_1 ≡ s
   unfolding disk
@@ -77,7 +106,8 @@ module _ (e b s m : Sector) where
       ∙ sector-put_same _ map_place m zero-long))
 
   -- all else is the image of zeros
-  pub at_other : (p : Place) → p ≢ directory_start → p ≢ block_0 → p ≢ block_1 → p ≢ map_place → sector (disk e b s m) p ≡ sector zero_image p
+  pub at_other : (p : Place) → p ≢ directory_start → p ≢ block_0 → p ≢ block_1 → p ≢ map_place
+      → sector (disk e b s m) p ≡ sector zero_image p
   unfolding disk
   at_other p d x y z =
       sector-put_other _ directory_start p e (λ h. d (sym h))
@@ -95,7 +125,12 @@ not-in x y ys ne out c = elim (Contains-cases x y ys c) [ inl e ↦ ne e | inr d
 
 -- the file, with the index of its last used byte and its entry's count
 abbrev pub stock_file : (last count : ℕ) → File
-stock_file last count = record { slot = entry_slot 132 1 18 count; blocks = block_0 ∷ []; last = last; sides = block_1 ∷ [] }
+stock_file last count = record {
+  slot = entry_slot 132 1 18 count;
+  blocks = block_0 ∷ [];
+  last = last;
+  sides = block_1 ∷ [];
+}
 
 abbrev pub stock_layout : (last count : ℕ) → Layout
 stock_layout last count = record { directory = directory_start ∷ []; files = stock_file last count ∷ [] }
@@ -135,8 +170,10 @@ once-each =
     (not-in map_place block_1 [] (lower_track block_1 map_place (lit< tt)).0 (Contains-nil map_place))) in
     let directory-apart : ¬ (Contains (block_0 ∷ block_1 ∷ []) directory_start) =
     not-in directory_start block_0 (block_1 ∷ []) (lower_track block_0 directory_start (lit< tt)).0
-    (not-in directory_start block_1 [] (lower_track block_1 directory_start (lit< tt)).0 (Contains-nil directory_start)) in
-    let block-apart : ¬ (Contains (block_1 ∷ []) block_0) = not-in block_0 block_1 [] (lower_sector block_0 block_1 (lit< tt)).1 (Contains-nil block_0) in
+    (not-in directory_start block_1 [] (lower_track block_1 directory_start (lit< tt)).0
+    (Contains-nil directory_start)) in
+    let block-apart : ¬ (Contains (block_1 ∷ []) block_0) =
+    not-in block_0 block_1 [] (lower_sector block_0 block_1 (lit< tt)).1 (Contains-nil block_0) in
     (map-apart, (directory-apart, (block-apart, (Contains-nil block_1, tt))))
 
 -- the disk whose block ends with index u and whose entry counts n
@@ -156,7 +193,8 @@ module _ (u n : ℕ) (rest s m : Sector) (side : IsStockSide s) where
     link = λ q e. absurd (cc);
     pointers = λ k q h e.
         let z : 120 * 0 + k ≡ k = omega arith in
-        rw sides_at (only (λ k q. Names s (16 + 2 * k) q) block_0 side.pointer k q (subst (λ j. slice_get (block_0 ∷ []) j ≡ Some q) z e));
+        rw sides_at (only (λ k q. Names s (16 + 2 * k) q) block_0 side.pointer k q
+        (subst (λ j. slice_get (block_0 ∷ []) j ≡ Some q) z e));
   }
 
   pub stock-is_rel_file : IsRelFile (stock_disk u n rest s m) (stock_file u n)
@@ -189,7 +227,8 @@ module _ (u n : ℕ) (rest s m : Sector) (side : IsStockSide s) where
         once = (Contains-nil directory_start, tt);
       };
       on_track = (refl, tt);
-      not_map = not-in map_place directory_start [] (lower_sector map_place directory_start (lit< tt)).1 (Contains-nil map_place);
+      not_map = not-in map_place directory_start [] (lower_sector map_place directory_start (lit< tt)).1
+          (Contains-nil map_place);
       slots = slots;
     };
     files = (
@@ -212,20 +251,28 @@ unfoldable pub two_records : List ℕ
 two_records = (65 ∷ replicate 17 0) ++ (255 ∷ replicate 17 0)
 
 -- with last index 37 the block has both, and with 19 the first alone
-pub stock-records-2 : (n : ℕ) (s m : Sector) → records (stock_disk 37 n two_records s m) (stock_file 37 n) ≡ (65 ∷ replicate 17 0) ∷ empty_record 18 ∷ []
+pub stock-records-2 : (n : ℕ) (s m : Sector) → records (stock_disk 37 n two_records s m) (stock_file 37 n)
+    ≡ (65 ∷ replicate 17 0) ∷ empty_record 18 ∷ []
 unfolding entry_bytes records joined record_count two_records
 stock-records-2 n s m = rw (at_block (entry_bytes 132 1 18 n) (0 ∷ 37 ∷ two_records) s m) refl
 
-pub stock-records-1 : (n : ℕ) (s m : Sector) → records (stock_disk 19 n two_records s m) (stock_file 19 n) ≡ (65 ∷ replicate 17 0) ∷ []
+pub stock-records-1 : (n : ℕ) (s m : Sector) → records (stock_disk 19 n two_records s m) (stock_file 19 n)
+    ≡ (65 ∷ replicate 17 0) ∷ []
 unfolding entry_bytes records joined record_count two_records
 stock-records-1 n s m = rw (at_block (entry_bytes 132 1 18 n) (0 ∷ 19 ∷ two_records) s m) refl
 
 -- the same entry as a program has a chain and no side sectors, and a deleted entry that names no block owns nothing
-pub program : (len n : ℕ) (rest s m : Sector) → IsPlainFile (disk (entry_bytes 130 0 len n) (0 ∷ 37 ∷ rest) s m) (record { slot = entry_slot 130 0 len n; blocks = block_0 ∷ []; last = 37; sides = [] })
+pub program : (len n : ℕ) (rest s m : Sector) → IsPlainFile (disk (entry_bytes 130 0 len n) (0 ∷ 37 ∷ rest) s m)
+    (record { slot = entry_slot 130 0 len n; blocks = block_0 ∷ []; last = 37; sides = [] })
 unfolding entry_bytes
 program len n rest s m = ((block_0, (refl, refl), one-chain (entry_bytes 130 0 len n) 37 rest s m), refl)
 
-pub deleted : (img : Image) → IsFile img (record { slot = slot_in directory_start (0 ∷ 0 ∷ 128 ∷ 0 ∷ []) 0; blocks = []; last = 0; sides = [] })
+pub deleted : (img : Image) → IsFile img (record {
+  slot = slot_in directory_start (0 ∷ 0 ∷ 128 ∷ 0 ∷ []) 0;
+  blocks = [];
+  last = 0;
+  sides = [];
+})
 deleted img = record {
   closed = inl (lit≤ tt, lit≤ tt);
   rel = λ rel. absurd (false≢true rel);

@@ -1,5 +1,28 @@
 -- A map of free sectors at work: tables over all tracks and sectors, which the checker computes.
-use Rattle.std.proofs.Common.{List, [], Bool, true, false, arith, inl, inr, lit<, refl, sym, replicate, ℕ, zero, suc, ◌++◌, ◌<◌, ◌⊎◌, ◌∙◌, ◌∷◌, ◌≡◌, ◌≢◌}
+use Rattle.std.proofs.Common.{
+  List,
+  [],
+  Bool,
+  true,
+  false,
+  arith,
+  inl,
+  inr,
+  lit<,
+  refl,
+  sym,
+  replicate,
+  ℕ,
+  zero,
+  suc,
+  ◌++◌,
+  ◌<◌,
+  ◌⊎◌,
+  ◌∙◌,
+  ◌∷◌,
+  ◌≡◌,
+  ◌≢◌,
+}
 use Rattle.std.proofs.lemmas.Bool.{agree_below, agree_below_at, cases_Bool, eq-eqb, eqb-true, false≢true}
 use Rattle.std.proofs.lemmas.Bool.Decides.{nat_tests}
 use Rattle.std.specs.Prelude.{Contains, ◌&&◌, ◌||◌, nat_eq, nat_lt, not, sum_by}
@@ -18,7 +41,8 @@ abbrev tracks : ℕ → List ℕ → List ℕ
 tracks zero bytes = []
 tracks (suc n) bytes = bytes ++ tracks n bytes
 
--- the map of a disk on which sectors 0 and 1 of track 18 are taken, and all else is free but for track 17, which has this count and this first byte of bits
+-- the map of a disk on which sectors 0 and 1 of track 18 are taken, and all else is free but for track 17, which has
+-- this count and this first byte of bits
 unfoldable pub map_bytes : (count bits : ℕ) → Sector
 map_bytes count bits =
     (18 ∷ 1 ∷ 65 ∷ 0 ∷ [])
@@ -86,18 +110,26 @@ owned-taken p c = elim (Contains-cases p map_place (directory_start ∷ block_0 
 -- the map is that of a disk on which these four are owned
 pub map-is : IsMapOf (map_bytes 19 252) owned
 map-is = record {
-  marked = λ p. (λ one c. false≢true (sym (owned-taken p c) ∙ (sym (marked-free p.track p.sector p.on_disk) ∙ eq-eqb _ _ one)), λ out. marked p out (cases_Bool (is_free p.track p.sector)));
+  marked = λ p. (
+    λ one c. false≢true (sym (owned-taken p c) ∙ (sym (marked-free p.track p.sector p.on_disk)
+        ∙ eq-eqb _ _ one)),
+    λ out. marked p out (cases_Bool (is_free p.track p.sector)),
+  );
   counts = λ t low high. elim (cases_Bool (nat_eq t 0)) [
     | inl z ↦ absurd (omega (arith, eqb-true t 0 z))
-    | inr n ↦ eqb-true _ _ (from t n (agree_below_at (counts_of (map_bytes 19 252)) (λ _. true) 36 t counts-hold (omega arith)))
+    | inr n ↦ eqb-true _ _ (from t n (agree_below_at (counts_of (map_bytes 19 252)) (λ _. true) 36 t counts-hold
+        (omega arith)))
   ];
 }
   where
-    marked : (p : Place) → ¬ (Contains owned p) → (is_free p.track p.sector ≡ true) ⊎ (is_free p.track p.sector ≡ false) → map_bit (map_bytes 19 252) p.track p.sector ≡ 1
+    marked : (p : Place) → ¬ (Contains owned p) → (is_free p.track p.sector ≡ true) ⊎ (is_free p.track p.sector ≡ false)
+        → map_bit (map_bytes 19 252) p.track p.sector ≡ 1
     marked p out (inl e) = eqb-true _ _ (marked-free p.track p.sector p.on_disk ∙ e)
     marked p out (inr e) = absurd (out (taken-owned p e))
 
-    from : (t : ℕ) → nat_eq t 0 ≡ false → counts_of (map_bytes 19 252) t ≡ true → nat_eq (map_count (map_bytes 19 252) t) (sum_by (map_bit (map_bytes 19 252) t) (numbers_below (sectors_on t))) ≡ true
+    from : (t : ℕ) → nat_eq t 0 ≡ false → counts_of (map_bytes 19 252) t ≡ true
+        → nat_eq (map_count (map_bytes 19 252) t) (sum_by (map_bit (map_bytes 19 252) t) (numbers_below (sectors_on t)))
+        ≡ true
     from t n h = rw n at h
 
 -- with the bit of 17/0 set the map is wrong there, and with another count of track 17 at 18/0

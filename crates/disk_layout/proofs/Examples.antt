@@ -1,5 +1,27 @@
 -- The definitions at work on small values: what each says is computed here, or shown in a few lines.
-use Rattle.std.proofs.Common.{List, [], ap, arith, drop, false, inl, inr, length, lit<, refl, replicate, sym, take, true, ℕ, ◌++◌, ◌∙◌, ◌∷◌, ◌≡◌, ◌≢◌}
+use Rattle.std.proofs.Common.{
+  List,
+  [],
+  ap,
+  arith,
+  drop,
+  false,
+  inl,
+  inr,
+  length,
+  lit<,
+  refl,
+  replicate,
+  sym,
+  take,
+  true,
+  ℕ,
+  ◌++◌,
+  ◌∙◌,
+  ◌∷◌,
+  ◌≡◌,
+  ◌≢◌,
+}
 use Rattle.std.proofs.lemmas.List.{get_or-replicate, length-replicate}
 use Rattle.std.specs.Prelude.{Contains, Some, filter, slice_range}
 use Rattle.d64_image.proofs.Images.{length-put, sector-put_other, sector-put_same}
@@ -15,7 +37,17 @@ use Rattle.disk_layout.specs.Chain.{IsChain, Names, NamesNone, byte, named_at}
 use Rattle.disk_layout.specs.Directory.{directory_start, is_used, map_place, slot_in, slots_in, used_slots}
 use Rattle.disk_layout.specs.Entries.{uncounted}
 use Rattle.disk_layout.specs.Fault.{Holds, HoldsOfChain, nowhere}
-use Rattle.disk_layout.specs.Layout.{File, IsClosedType, IsSound, count_field, is_rel, is_rel_type, owners, record_length, sides_for}
+use Rattle.disk_layout.specs.Layout.{
+  File,
+  IsClosedType,
+  IsSound,
+  count_field,
+  is_rel,
+  is_rel_type,
+  owners,
+  record_length,
+  sides_for,
+}
 use Rattle.disk_layout.specs.Records.{empty_record, filler, pieces, record_count}
 use Rattle.disk_layout.specs.Rest.{IsTop, others, slot_name, taken_by_others}
 use Rattle.disk_layout.specs.Side.{padded, side_sector}
@@ -43,7 +75,8 @@ no_slots p = refl
 
 none_used : used_slots zero_image (directory_start ∷ []) ≡ []
 unfolding used_slots
-none_used = let e : sector zero_image directory_start ≡ zero_sector = zeros directory_start in rw e (no_slots directory_start)
+none_used = let e : sector zero_image directory_start ≡ zero_sector = zeros directory_start in
+    rw e (no_slots directory_start)
 
 zero_bytes : (p : Place) → (byte zero_image p 0 ≡ 0) × (byte zero_image p 1 ≡ 0)
 unfolding zero_sector
@@ -59,7 +92,14 @@ zero-sound = (
   record {
     directory = record {
       last = 0;
-      chain = record { front = []; last = directory_start; places = refl; leads = refl; ends = zero_bytes directory_start; once = (Contains-nil directory_start, tt) };
+      chain = record {
+        front = [];
+        last = directory_start;
+        places = refl;
+        leads = refl;
+        ends = zero_bytes directory_start;
+        once = (Contains-nil directory_start, tt);
+      };
       on_track = (refl, tt);
       not_map = other;
       slots = sym none_used;
@@ -70,7 +110,10 @@ zero-sound = (
 )
   where
     other : ¬ (Contains (directory_start ∷ []) map_place)
-    other c = elim (Contains-cases map_place directory_start [] c) [ inl e ↦ apart e | inr d ↦ Contains-nil map_place d ]
+    other c = elim (Contains-cases map_place directory_start [] c) [
+      | inl e ↦ apart e
+      | inr d ↦ Contains-nil map_place d
+    ]
 
 -- 17/0, 17/1 and 17/2
 abbrev pub block_0 : Place
@@ -106,10 +149,12 @@ apart_1_0 : block_1 ≢ block_0
 apart_1_0 e = apart_0_1 (sym e)
 
 at_0 : sector two_linked block_0 ≡ 17 ∷ 1 ∷ []
-at_0 = sector-put_other (put zero_image block_0 (17 ∷ 1 ∷ [])) block_1 block_0 (0 ∷ 5 ∷ []) apart_1_0 ∙ sector-put_same zero_image block_0 (17 ∷ 1 ∷ []) zero-long
+at_0 = sector-put_other (put zero_image block_0 (17 ∷ 1 ∷ [])) block_1 block_0 (0 ∷ 5 ∷ []) apart_1_0
+    ∙ sector-put_same zero_image block_0 (17 ∷ 1 ∷ []) zero-long
 
 at_1 : sector two_linked block_1 ≡ 0 ∷ 5 ∷ []
-at_1 = sector-put_same (put zero_image block_0 (17 ∷ 1 ∷ [])) block_1 (0 ∷ 5 ∷ []) (length-put zero_image block_0 (17 ∷ 1 ∷ []) ∙ zero-long)
+at_1 = sector-put_same (put zero_image block_0 (17 ∷ 1 ∷ [])) block_1 (0 ∷ 5 ∷ [])
+    (length-put zero_image block_0 (17 ∷ 1 ∷ []) ∙ zero-long)
 
 pub chain_of_two : IsChain two_linked block_0 (block_0 ∷ block_1 ∷ []) 5
 chain_of_two = record {
@@ -118,7 +163,10 @@ chain_of_two = record {
   places = refl;
   leads = (block_1, refl, rw at_0 (refl, refl), refl);
   ends = rw at_1 (refl, refl);
-  once = (λ c. elim (Contains-cases block_0 block_1 [] c) [ inl e ↦ apart_1_0 e | inr d ↦ Contains-nil block_0 d ], (Contains-nil block_1, tt));
+  once = (
+    λ c. elim (Contains-cases block_0 block_1 [] c) [ inl e ↦ apart_1_0 e | inr d ↦ Contains-nil block_0 d ],
+    (Contains-nil block_1, tt),
+  );
 }
 
 -- a sector that links to itself is told as Loop there
@@ -129,7 +177,14 @@ at_self : sector self_linked block_0 ≡ 17 ∷ 0 ∷ []
 at_self = sector-put_same zero_image block_0 (17 ∷ 0 ∷ []) zero-long
 
 pub loop_of_one : HoldsOfChain nowhere self_linked block_0 (Loop block_0)
-loop_of_one = (block_0 ∷ [], ((block_0, refl, rw at_self (refl, refl), refl), (Contains-nil block_0, tt), Contains-here block_0 []))
+loop_of_one = (
+  block_0 ∷ [],
+  (
+    (block_0, refl, rw at_self (refl, refl), refl),
+    (Contains-nil block_0, tt),
+    Contains-here block_0 [],
+  ),
+)
 
 -- a link to track 36 is told as BadLink at the sector that has it
 abbrev linked_off : Image
@@ -152,7 +207,15 @@ at_directory : sector directory_looped directory_start ≡ 18 ∷ 1 ∷ []
 at_directory = sector-put_same zero_image directory_start (18 ∷ 1 ∷ []) zero-long
 
 pub loop_of_directory : Holds nowhere directory_looped (Loop directory_start)
-loop_of_directory = inl (directory_start ∷ [], ((directory_start, refl, rw at_directory (refl, refl), refl), (Contains-nil directory_start, tt), Contains-here directory_start []), ((refl, apart), tt))
+loop_of_directory = inl (
+  directory_start ∷ [],
+  (
+    (directory_start, refl, rw at_directory (refl, refl), refl),
+    (Contains-nil directory_start, tt),
+    Contains-here directory_start [],
+  ),
+  ((refl, apart), tt),
+)
 
 pub directory_looped-unsound : ¬ (IsSound directory_looped)
 directory_looped-unsound = told-unsound directory_looped (Loop directory_start) loop_of_directory
@@ -162,7 +225,8 @@ abbrev stock_name : List ℕ
 stock_name = 83 ∷ 84 ∷ 79 ∷ 67 ∷ 75 ∷ []
 
 abbrev stock_bytes : List ℕ
-stock_bytes = (0 ∷ 255 ∷ 132 ∷ 17 ∷ 0 ∷ 83 ∷ 84 ∷ 79 ∷ 67 ∷ 75 ∷ []) ++ (replicate 11 160 ++ (17 ∷ 1 ∷ 18 ∷ 0 ∷ 0 ∷ 0 ∷ 0 ∷ 0 ∷ 0 ∷ 2 ∷ 0 ∷ []))
+stock_bytes = (0 ∷ 255 ∷ 132 ∷ 17 ∷ 0 ∷ 83 ∷ 84 ∷ 79 ∷ 67 ∷ 75 ∷ [])
+    ++ (replicate 11 160 ++ (17 ∷ 1 ∷ 18 ∷ 0 ∷ 0 ∷ 0 ∷ 0 ∷ 0 ∷ 0 ∷ 2 ∷ 0 ∷ []))
 
 abbrev stock_slot : Slot
 stock_slot = slot_in directory_start (stock_bytes ++ replicate 224 0) 0
@@ -192,7 +256,8 @@ pub stock-count : count_field stock_slot ≡ 2
 stock-count = refl
 
 -- the other seven slots of that sector are free
-pub stock-alone : slots_in directory_start (stock_bytes ++ replicate 224 0) ≡ stock_slot ∷ drop 1 (slots_in directory_start (stock_bytes ++ replicate 224 0))
+pub stock-alone : slots_in directory_start (stock_bytes ++ replicate 224 0) ≡ stock_slot ∷ drop 1
+    (slots_in directory_start (stock_bytes ++ replicate 224 0))
 unfolding slots_in
 stock-alone = refl
 
@@ -212,7 +277,8 @@ pub sides_for-720 : sides_for 720 ≡ 6
 sides_for-720 = refl
 
 -- the side sector of that entry: it ends with index 17, and names 17/1 as side sector and 17/0 as block
-pub stock-side_sector : take 18 (side_sector 0 (block_0 ∷ []) (block_1 ∷ []) 18) ≡ 0 ∷ 17 ∷ 0 ∷ 18 ∷ 17 ∷ 1 ∷ 0 ∷ 0 ∷ 0 ∷ 0 ∷ 0 ∷ 0 ∷ 0 ∷ 0 ∷ 0 ∷ 0 ∷ 17 ∷ 0 ∷ []
+pub stock-side_sector : take 18 (side_sector 0 (block_0 ∷ []) (block_1 ∷ []) 18) ≡ 0 ∷ 17 ∷ 0 ∷ 18 ∷ 17 ∷ 1 ∷ 0 ∷ 0 ∷ 0
+    ∷ 0 ∷ 0 ∷ 0 ∷ 0 ∷ 0 ∷ 0 ∷ 0 ∷ 17 ∷ 0 ∷ []
 unfolding side_sector padded
 stock-side_sector = refl
 
@@ -221,11 +287,13 @@ unfolding side_sector padded
 stock-side_rest = refl
 
 -- with 121 blocks the first side sector links to the second, and both list both
-pub first_of_two : take 8 (side_sector 0 (replicate 121 block_0) (block_1 ∷ block_2 ∷ []) 18) ≡ 17 ∷ 2 ∷ 0 ∷ 18 ∷ 17 ∷ 1 ∷ 17 ∷ 2 ∷ []
+pub first_of_two : take 8 (side_sector 0 (replicate 121 block_0) (block_1 ∷ block_2 ∷ []) 18) ≡ 17 ∷ 2 ∷ 0 ∷ 18 ∷ 17 ∷ 1
+    ∷ 17 ∷ 2 ∷ []
 unfolding side_sector padded
 first_of_two = refl
 
-pub second_of_two : take 8 (side_sector 1 (replicate 121 block_0) (block_1 ∷ block_2 ∷ []) 18) ≡ 0 ∷ 17 ∷ 1 ∷ 18 ∷ 17 ∷ 1 ∷ 17 ∷ 2 ∷ []
+pub second_of_two : take 8 (side_sector 1 (replicate 121 block_0) (block_1 ∷ block_2 ∷ []) 18) ≡ 0 ∷ 17 ∷ 1 ∷ 18 ∷ 17 ∷
+    1 ∷ 17 ∷ 2 ∷ []
 unfolding side_sector padded
 second_of_two = refl
 
@@ -258,7 +326,8 @@ pub empty-3 : empty_record 3 ≡ 255 ∷ 0 ∷ 0 ∷ []
 empty-3 = refl
 
 -- the bytes of empty records: FF where a record begins, 00 elsewhere and behind the last
-pub filler-3 : filler 3 2 0 ∷ filler 3 2 1 ∷ filler 3 2 2 ∷ filler 3 2 3 ∷ filler 3 2 4 ∷ filler 3 2 5 ∷ filler 3 2 6 ∷ [] ≡ 255 ∷ 0 ∷ 0 ∷ 255 ∷ 0 ∷ 0 ∷ 0 ∷ []
+pub filler-3 : filler 3 2 0 ∷ filler 3 2 1 ∷ filler 3 2 2 ∷ filler 3 2 3 ∷ filler 3 2 4 ∷ filler 3 2 5 ∷ filler 3 2 6 ∷
+    [] ≡ 255 ∷ 0 ∷ 0 ∷ 255 ∷ 0 ∷ 0 ∷ 0 ∷ []
 filler-3 = refl
 
 -- the entry without its block count
@@ -282,5 +351,6 @@ pub blank-tops : blank_top 1 ∷ blank_top 2 ∷ blank_top 3 ∷ blank_top 64 �
 blank-tops = refl
 
 -- 84 and C4 are relative, 82 (a program) and 04 (an open relative file) are not
-pub rel-types : is_rel_type 132 ∷ is_rel_type 196 ∷ is_rel_type 130 ∷ is_rel_type 4 ∷ [] ≡ true ∷ true ∷ false ∷ false ∷ []
+pub rel-types : is_rel_type 132 ∷ is_rel_type 196 ∷ is_rel_type 130 ∷ is_rel_type 4 ∷ [] ≡ true ∷ true ∷ false ∷ false ∷
+    []
 rel-types = refl

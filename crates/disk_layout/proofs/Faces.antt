@@ -7,7 +7,19 @@ use Rattle.d64_image.specs.declared.place.Place.{Place}
 use Rattle.disk_layout.proofs.Chains.{IsChain-frame, SameLinks}
 use Rattle.disk_layout.specs.Chain.{EachOnce}
 use Rattle.disk_layout.specs.Directory.{directory_start, map_place, type_byte, used_slots}
-use Rattle.disk_layout.specs.Layout.{File, HasChain, IsFile, IsLayout, IsRelFile, IsSide, Layout, file_owns, is_rel, owners, record_length}
+use Rattle.disk_layout.specs.Layout.{
+  File,
+  HasChain,
+  IsFile,
+  IsLayout,
+  IsRelFile,
+  IsSide,
+  Layout,
+  file_owns,
+  is_rel,
+  owners,
+  record_length,
+}
 use Rattle.disk_layout.specs.declared.slot.Slot.{Slot}
 
 -- the bytes that a layout judges are the same: type, first block, first side sector, record length
@@ -24,10 +36,21 @@ abbrev pub with_slot : File → Slot → File
 with_slot f s = record { slot = s; blocks = f.blocks; last = f.last; sides = f.sides }
 
 chain-slot : (img : Image) (f : File) (s : Slot) → SameFace f.slot s → HasChain img f → HasChain img (with_slot f s)
-chain-slot img f s same (p, named, chain) = (p, (sym same.first_track ∙ named.0, sym same.first_sector ∙ named.1), chain)
+chain-slot img f s same (p, named, chain) = (
+  p,
+  (sym same.first_track ∙ named.0, sym same.first_sector ∙ named.1),
+  chain,
+)
 
-side-slot : (img : Image) (f : File) (s : Slot) (j : ℕ) (p : Place) → SameFace f.slot s → IsSide img f j p → IsSide img (with_slot f s) j p
-side-slot img f s j p same h = record { number = h.number; length_byte = h.length_byte ∙ same.length; sides = h.sides; link = h.link; pointers = h.pointers }
+side-slot : (img : Image) (f : File) (s : Slot) (j : ℕ) (p : Place) → SameFace f.slot s → IsSide img f j p
+    → IsSide img (with_slot f s) j p
+side-slot img f s j p same h = record {
+  number = h.number;
+  length_byte = h.length_byte ∙ same.length;
+  sides = h.sides;
+  link = h.link;
+  pointers = h.pointers;
+}
 
 rel-slot : (img : Image) (f : File) (s : Slot) → SameFace f.slot s → IsRelFile img f → IsRelFile img (with_slot f s)
 rel-slot img f s same r = record {
@@ -47,11 +70,14 @@ IsFile-slot img f s same h = record {
   closed = rw (← same.kind) h.closed;
   rel = λ t. rel-slot img f s same (h.rel (same-rel f.slot s same ∙ t));
   empty = λ t z. h.empty (same-rel f.slot s same ∙ t) (same.first_track ∙ z);
-  plain = λ t n. let p = h.plain (same-rel f.slot s same ∙ t) (λ z. n (sym same.first_track ∙ z)) in (chain-slot img f s same p.0, p.1);
+  plain = λ t n. let p = h.plain (same-rel f.slot s same ∙ t) (λ z. n (sym same.first_track ∙ z)) in
+      (chain-slot img f s same p.0, p.1);
 }
 
 -- a directory rewritten with the same links, whose slots are those of these files
-pub IsLayout-directory : (a b : Image) (l : Layout) (fs : List File) → IsLayout a l → SameLinks a b l.directory → map (λ f. f.slot) fs ≡ used_slots b l.directory → AllByRecursion (IsFile b) fs → flat_map file_owns fs ≡ flat_map file_owns l.files → IsLayout b (record { directory = l.directory; files = fs })
+pub IsLayout-directory : (a b : Image) (l : Layout) (fs : List File) → IsLayout a l → SameLinks a b l.directory
+    → map (λ f. f.slot) fs ≡ used_slots b l.directory → AllByRecursion (IsFile b) fs
+    → flat_map file_owns fs ≡ flat_map file_owns l.files → IsLayout b (record { directory = l.directory; files = fs })
 unfolding owners
 IsLayout-directory a b l fs h links slots files same = record {
   directory = record {

@@ -1,12 +1,40 @@
 -- Records appended by bytes: where the bytes behind are FF at each record's start and 00 elsewhere.
-use Rattle.std.proofs.Common.{List, ap, arith, drop, get_or, length, suc, sym, zero, ℕ, ◌*◌, ◌++◌, ◌+◌, ◌-◌, ◌<◌, ◌∙◌, ◌≡◌, ◌≤◌}
+use Rattle.std.proofs.Common.{
+  List,
+  ap,
+  arith,
+  drop,
+  get_or,
+  length,
+  suc,
+  sym,
+  zero,
+  ℕ,
+  ◌*◌,
+  ◌++◌,
+  ◌+◌,
+  ◌-◌,
+  ◌<◌,
+  ◌∙◌,
+  ◌≡◌,
+  ◌≤◌,
+}
 use Rattle.std.proofs.Math.Nat.{mul-mod_left}
 use Rattle.std.proofs.lemmas.Bool.Decides.{nat_tests}
 use Rattle.std.proofs.lemmas.Grind.{same_number_lists}
 use Rattle.std.proofs.lemmas.List.{get_or-drop, get_or-replicate, length-drop, length-replicate, same_lists}
 use Rattle.std.proofs.lemmas.Nat.{mod-mul-add}
 use Rattle.std.specs.Prelude.{replicate, ◌%◌}
-use Rattle.disk_layout.proofs.Pieces.{length-piece, length-pieces, piece, piece-byte, pieces-at, pieces-more, pieces-same, row-le}
+use Rattle.disk_layout.proofs.Pieces.{
+  length-piece,
+  length-pieces,
+  piece,
+  piece-byte,
+  pieces-at,
+  pieces-more,
+  pieces-same,
+  row-le,
+}
 use Rattle.disk_layout.specs.Records.{empty_record, filler, pieces}
 
 -- where a record begins
@@ -25,13 +53,21 @@ empty-long : (L : ℕ) → 0 < L → length (empty_record L) ≡ L
 empty-long L pos = omega (arith, length-replicate {A = ℕ} (L - 1) 0)
 
 empty-byte : (L total k j : ℕ) → j < L → k < total → get_or (empty_record L) j 0 ≡ filler L total (k * L + j)
-empty-byte L total k zero h below = let e : k * L + 0 ≡ k * L = omega arith in rw e (sym (filler-first L total k below (omega arith)))
-empty-byte L total k (suc j) h below = get_or-replicate (L - 1) j 0 0 (omega arith) ∙ sym (filler-rest L total k (suc j) (omega arith) h)
+empty-byte L total k zero h below = let e : k * L + 0 ≡ k * L = omega arith in
+    rw e (sym (filler-first L total k below (omega arith)))
+empty-byte L total k (suc j) h below = get_or-replicate (L - 1) j 0 0 (omega arith)
+    ∙ sym (filler-rest L total k (suc j) (omega arith) h)
 
 -- a file whose bytes stay up to its records and are the filler's from there on has its records and empty ones
-pub pieces-fill : (L c m : ℕ) (xs ys : List ℕ) → 0 < L → c * L ≤ length xs → (c + m) * L ≤ length ys → ((i : ℕ) → i < c * L → get_or xs i 0 ≡ get_or ys i 0) → ((i : ℕ) → c * L ≤ i → i < (c + m) * L → get_or ys i 0 ≡ filler L (c + m) i) → pieces L (c + m) ys ≡ pieces L c xs ++ replicate m (empty_record L)
+pub pieces-fill : (L c m : ℕ) (xs ys : List ℕ) → 0 < L → c * L ≤ length xs → (c + m) * L ≤ length ys
+    → ((i : ℕ) → i < c * L → get_or xs i 0 ≡ get_or ys i 0) → ((i : ℕ) → c * L ≤ i → i < (c + m) * L
+    → get_or ys i 0 ≡ filler L (c + m) i) → pieces L (c + m) ys ≡ pieces L c xs ++ replicate m (empty_record L)
 pieces-fill L c m xs ys pos fx fy low high =
-    pieces-more L c m ys ∙ cc (pieces-same L c xs ys fx (omega (arith, part)) low, same_lists (pieces L m zs) (replicate m (empty_record L)) (length-pieces L m zs ∙ sym (length-replicate {A = List ℕ} m (empty_record L))) each)
+    pieces-more L c m ys ∙ cc (
+      pieces-same L c xs ys fx (omega (arith, part)) low,
+      same_lists (pieces L m zs) (replicate m (empty_record L)) (length-pieces L m zs
+          ∙ sym (length-replicate {A = List ℕ} m (empty_record L))) each,
+    )
   where
     zs : List ℕ
     zs = drop (c * L) ys
@@ -39,7 +75,8 @@ pieces-fill L c m xs ys pos fx fy low high =
     part : (c + m) * L ≡ c * L + m * L
     part = grind arith
 
-    each : (k : ℕ) (d : List ℕ) → k < length (pieces L m zs) → get_or (pieces L m zs) k d ≡ get_or (replicate m (empty_record L)) k d
+    each : (k : ℕ) (d : List ℕ) → k < length (pieces L m zs)
+        → get_or (pieces L m zs) k d ≡ get_or (replicate m (empty_record L)) k d
     each k d h =
         let below : k < m = rw length-pieces at h in
         let row = row-le k m L below in

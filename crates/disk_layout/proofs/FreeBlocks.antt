@@ -14,10 +14,12 @@ use Rattle.disk_layout.specs.Map.{IsFree, IsFullDisk, IsMapOf, IsTaken, map_bit,
 use Rattle.disk_layout.specs.View.{blocks_free, data_count}
 
 -- a free sector is one of those that its track counts
-pub taken-count : (old new : Sector) (ps : List Place) (p : Place) → IsMapOf old ps → IsFree old p → IsTaken old new p → map_count new p.track + 1 ≡ map_count old p.track
+pub taken-count : (old new : Sector) (ps : List Place) (p : Place) → IsMapOf old ps → IsFree old p → IsTaken old new p
+    → map_count new p.track + 1 ≡ map_count old p.track
 taken-count old new ps p map free take =
     let less = sum-less (map_bit old p.track) (map_bit new p.track) (sectors_on p.track) p.sector p.on_disk
-    (free ∙ sym (ap (λ n. n + 1) take.bit)) (λ k lt ne. sym (take.rest.bits p.track k (in-bits p.track k lt) (inr ne))) in
+    (free ∙ sym (ap (λ n. n + 1) take.bit))
+    (λ k lt ne. sym (take.rest.bits p.track k (in-bits p.track k lt) (inr ne))) in
     omega (arith, less, map.counts p.track (track_from_1 p) (omega (arith, track_fits p)), take.count)
 
 data-here : (bytes : Sector) (t : ℕ) → t ≢ 18 → data_count bytes t ≡ map_count bytes t
@@ -27,10 +29,12 @@ data-same : (old new : Sector) (t : ℕ) → map_count new t ≡ map_count old t
 data-same old new t same = grind (arith, nat_tests)
 
 -- a data block is taken: one block less is free
-pub taken-block : (old new : Sector) (ps : List Place) (p : Place) → IsMapOf old ps → IsFree old p → p.track ≢ 18 → IsTaken old new p → blocks_free new + 1 ≡ blocks_free old
+pub taken-block : (old new : Sector) (ps : List Place) (p : Place) → IsMapOf old ps → IsFree old p → p.track ≢ 18
+    → IsTaken old new p → blocks_free new + 1 ≡ blocks_free old
 unfolding blocks_free
 taken-block old new ps p map free ne take =
-    sym (sum-less (λ n. data_count old (n + 1)) (λ n. data_count new (n + 1)) 35 (p.track - 1) (omega (arith, track_fits p, track_from_1 p)) here there)
+    sym (sum-less (λ n. data_count old (n + 1)) (λ n. data_count new (n + 1)) 35 (p.track - 1)
+    (omega (arith, track_fits p, track_from_1 p)) here there)
   where
     at : p.track - 1 + 1 ≡ p.track
     at = omega (arith, track_from_1 p)
@@ -38,7 +42,8 @@ taken-block old new ps p map free ne take =
     here : data_count old (p.track - 1 + 1) ≡ data_count new (p.track - 1 + 1) + 1
     here =
         let P : ℕ → Type 0 = λ t. data_count old t ≡ data_count new t + 1 in
-        subst P (sym at) (data-here old p.track ne ∙ sym (taken-count old new ps p map free take) ∙ ap (λ n. n + 1) (sym (data-here new p.track ne)))
+        subst P (sym at) (data-here old p.track ne ∙ sym (taken-count old new ps p map free take)
+        ∙ ap (λ n. n + 1) (sym (data-here new p.track ne)))
 
     there : (k : ℕ) → k < 35 → k ≢ p.track - 1 → data_count old (k + 1) ≡ data_count new (k + 1)
     there k lt other = sym (data-same old new (k + 1) (take.rest.counts (k + 1) (omega (arith, other, track_from_1 p))))

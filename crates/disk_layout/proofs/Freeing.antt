@@ -1,5 +1,35 @@
 -- The sectors of a track freed one by one.
-use Rattle.std.proofs.Common.{List, [], None, Some, ap, ap₂, arith, inl, inr, min, refl, sym, ℕ, ◌+◌, ◌-◌, ◌<◌, ◌∙◌, ◌≡◌, ◌≢◌, ◌≤◌, drop, get_or, length, replicate, subst, take, ◌*◌, ◌++◌, ◌∷◌}
+use Rattle.std.proofs.Common.{
+  List,
+  [],
+  None,
+  Some,
+  ap,
+  ap₂,
+  arith,
+  inl,
+  inr,
+  min,
+  refl,
+  sym,
+  ℕ,
+  ◌+◌,
+  ◌-◌,
+  ◌<◌,
+  ◌∙◌,
+  ◌≡◌,
+  ◌≢◌,
+  ◌≤◌,
+  drop,
+  get_or,
+  length,
+  replicate,
+  subst,
+  take,
+  ◌*◌,
+  ◌++◌,
+  ◌∷◌,
+}
 use Rattle.std.proofs.lemmas.Bool.{cases_eq, cases_lt}
 use Rattle.std.proofs.lemmas.Bool.Decides.{nat_tests}
 use Rattle.std.proofs.Math.ListN.{get_or-append}
@@ -41,7 +71,8 @@ free-start bytes t from none = record {
     empty : (s : ℕ) → bit from (min from (sectors_on t)) s ≡ 0
     empty s = grind (arith, nat_tests)
 
-pub free-past : (old now : List ℕ) (t from i : ℕ) → IsFreeFrom old now t from i → sectors_on t ≤ i → IsFreeFrom old now t from (i + 1)
+pub free-past : (old now : List ℕ) (t from i : ℕ) → IsFreeFrom old now t from i → sectors_on t ≤ i
+    → IsFreeFrom old now t from (i + 1)
 free-past old now t from i h past = record {
   count = h.count ∙ ap (λ e. e - from) same;
   bits = λ s lt. h.bits s lt ∙ ap (λ e. bit from e s) same;
@@ -54,20 +85,32 @@ free-past old now t from i h past = record {
     same = omega (arith, past)
 
 -- the next sector isn't free yet
-pub not-yet : (old now : List ℕ) (t from i : ℕ) (p : Place) → IsFreeFrom old now t from i → place_at t i ≡ Some p → ¬ (IsFree now p)
+pub not-yet : (old now : List ℕ) (t from i : ℕ) (p : Place) → IsFreeFrom old now t from i → place_at t i ≡ Some p
+    → ¬ (IsFree now p)
 not-yet old now t from i p h at free =
     let here = place_at-some t i p at in
     let lt : p.sector < 24 = omega (arith, p.on_disk, few_sectors p.track) in
-    let was : map_bit now t p.sector ≡ 0 = h.bits p.sector lt ∙ bit-below from (min i (sectors_on t)) p.sector (omega (arith, here.1)) in
+    let was : map_bit now t p.sector ≡ 0 = h.bits p.sector lt
+    ∙ bit-below from (min i (sectors_on t)) p.sector (omega (arith, here.1)) in
     let same : map_bit now p.track p.sector ≡ 0 = rw here.0 was in
     omega (arith, free, same)
 
-pub free-next : (old now new : List ℕ) (t from i : ℕ) (p : Place) → from ≤ i → IsFreeFrom old now t from i → place_at t i ≡ Some p → IsGiven now new p → IsFreeFrom old new t from (i + 1)
+pub free-next : (old now new : List ℕ) (t from i : ℕ) (p : Place) → from ≤ i → IsFreeFrom old now t from i
+    → place_at t i ≡ Some p → IsGiven now new p → IsFreeFrom old new t from (i + 1)
 free-next old now new t from i p le h at given = by (sym (place_at-some t i p at).0) (sym (place_at-some t i p at).1)
   where
     by : t ≡ p.track → i ≡ p.sector → IsFreeFrom old new t from (i + 1)
     by track sector = record {
-      count = omega (arith, ap (map_count new) track, ap (map_count now) track, given.count, h.count, within, le, few_sectors t);
+      count = omega (
+        arith,
+        ap (map_count new) track,
+        ap (map_count now) track,
+        given.count,
+        h.count,
+        within,
+        le,
+        few_sectors t,
+      );
       bits = bits;
       counts = λ u ne. given.rest.counts u (λ e. ne (e ∙ sym track)) ∙ h.counts u ne;
       others = λ u s ne lt. given.rest.bits u s lt (inl (λ e. ne (e ∙ sym track))) ∙ h.others u s ne lt;
@@ -81,7 +124,8 @@ free-next old now new t from i p le h at given = by (sym (place_at-some t i p at
         bits s lt = elim (cases_eq s i) [
           | inl e ↦
               let last : min (i + 1) (sectors_on t) ≡ i + 1 = omega (arith, within) in
-              ap (λ k. map_bit new t k) e ∙ ap₂ (map_bit new) track sector ∙ given.bit ∙ sym (bit-here from i le) ∙ ap₂ (bit from) (sym last) (sym e)
+              ap (λ k. map_bit new t k) e ∙ ap₂ (map_bit new) track sector ∙ given.bit ∙ sym (bit-here from i le)
+              ∙ ap₂ (bit from) (sym last) (sym e)
           | inr ne ↦
               let was : min i (sectors_on t) ≡ i = omega (arith, within) in
               let last : min (i + 1) (sectors_on t) ≡ i + 1 = omega (arith, within) in
@@ -100,7 +144,8 @@ pub record IsMadeTo (bytes name id : List ℕ) (blocks n : ℕ) : Type 0 where
   pub none : (t : ℕ) → n < t → t ≤ 35 → IsWithoutFree bytes t
   pub names : drop 144 bytes ≡ names_of name id
 
-pub made-track : (old new name id : List ℕ) (blocks n : ℕ) → IsMadeTo old name id blocks n → IsFreeFrom old new (n + 1) (taken_on blocks (n + 1)) 24 → IsMadeTo new name id blocks (n + 1)
+pub made-track : (old new name id : List ℕ) (blocks n : ℕ) → IsMadeTo old name id blocks n
+    → IsFreeFrom old new (n + 1) (taken_on blocks (n + 1)) 24 → IsMadeTo new name id blocks (n + 1)
 made-track old new name id blocks n h f = record {
   start = f.header.0 ∙ h.start;
   counts = λ t lo hi. elim (cases_eq t (n + 1)) [
@@ -135,7 +180,8 @@ past-track t s none = elim (cases_lt s (sectors_on t)) [
 abbrev pub header : List ℕ → List ℕ → List ℕ
 header name id = (18 ∷ 1 ∷ 65 ∷ 0 ∷ []) ++ (replicate 140 0 ++ names_of name id)
 
-middle : (front back : List ℕ) (n i : ℕ) → length front ≤ i → i < length front + n → get_or (front ++ (replicate n 0 ++ back)) i 0 ≡ 0
+middle : (front back : List ℕ) (n i : ℕ) → length front ≤ i → i < length front + n
+    → get_or (front ++ (replicate n 0 ++ back)) i 0 ≡ 0
 middle front back n i lo hi =
     get_or-append_right front (replicate n 0 ++ back) (length front) i 0 refl lo
     ∙ get_or-append (replicate n 0) back 0 (i - length front) (omega (arith, lo, hi, length-replicate {A = ℕ} n 0))
@@ -148,7 +194,8 @@ made-none name id blocks = record {
   bits = λ t s lo hi lt. absurd (omega arith);
   none = λ t lo hi. record {
     count = zeros (4 * t) (omega (arith, lo)) (omega (arith, hi));
-    bits = λ s lt. ap (λ b. bit_at b (s % 8)) (zeros (4 * t + 1 + s / 8) (omega (arith, lo)) (omega (arith, hi, lt))) ∙ bit_at-zero (s % 8);
+    bits = λ s lt. ap (λ b. bit_at b (s % 8)) (zeros (4 * t + 1 + s / 8) (omega (arith, lo)) (omega (arith, hi, lt)))
+        ∙ bit_at-zero (s % 8);
   };
   names = refl;
 }

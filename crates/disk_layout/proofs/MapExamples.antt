@@ -16,7 +16,8 @@ fresh-1 = (refl, refl, refl, refl)
 system : List ℕ
 system = 18 ∷ 1 ∷ 65 ∷ 0 ∷ 17 ∷ 252 ∷ 255 ∷ 7 ∷ []
 
-system-1 : (map_count system 1 ≡ 17) × (map_bit system 1 1 ≡ 0) × (map_bit system 1 2 ≡ 1) × (map_bit system 1 18 ≡ 1) × (map_bit system 1 19 ≡ 0)
+system-1 : (map_count system 1 ≡ 17) × (map_bit system 1 1 ≡ 0) × (map_bit system 1 2 ≡ 1) × (map_bit system 1 18 ≡ 1)
+    × (map_bit system 1 19 ≡ 0)
 unfolding system
 system-1 = (refl, refl, refl, refl, refl)
 
@@ -47,7 +48,8 @@ before-16 : IsBefore last_of_19 first_of_16
 unfolding last_of_19 first_of_16
 before-16 = inl (lit< tt)
 
--- for 64 tills 32 blocks: 17/2, 17/4, .. 17/20, 19/0, .. 19/13; all of track 17 and fourteen sectors of track 19 are taken
+-- for 64 tills 32 blocks: 17/2, 17/4, .. 17/20, 19/0, .. 19/13; all of track 17 and fourteen sectors of track 19 are
+-- taken
 blocks-64 : (request_blocks 1 ≡ 1) × (request_blocks 3 ≡ 2) × (request_blocks 64 ≡ 32)
 blocks-64 = (refl, refl, refl)
 

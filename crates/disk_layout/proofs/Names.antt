@@ -12,7 +12,8 @@ pub named-is : (bytes : Sector) (i : ℕ) (p : Place) → Names bytes i p → na
 named-is bytes i p h = ap₂ place_at h.0 h.1 ∙ place_at-self p
 
 pub named-names : (bytes : Sector) (i : ℕ) (p : Place) → named_at bytes i ≡ Some p → Names bytes i p
-named-names bytes i p e = let h = place_at-some (slice_index bytes i) (slice_index bytes (i + 1)) p e in (sym h.0, sym h.1)
+named-names bytes i p e = let h = place_at-some (slice_index bytes i) (slice_index bytes (i + 1)) p e in
+    (sym h.0, sym h.1)
 
 -- no value, no place
 pub named-none : (bytes : Sector) (i : ℕ) → named_at bytes i ≡ None → NamesNone bytes i
@@ -26,6 +27,7 @@ none-named bytes i h = by (named_at bytes i) refl
     by (Some q) e = absurd (h q (named-names bytes i q e))
 
 -- what a view of these bytes gives
-pub named-match : (bytes viewed : Sector) (i : ℕ) (o : Option Place) → viewed ≡ bytes → o ≡ named_at viewed i → MatchOption o (NamesNone bytes i) (λ p. Names bytes i p)
+pub named-match : (bytes viewed : Sector) (i : ℕ) (o : Option Place) → viewed ≡ bytes → o ≡ named_at viewed i
+    → MatchOption o (NamesNone bytes i) (λ p. Names bytes i p)
 named-match bytes viewed i None same e = named-none bytes i (sym (e ∙ ap (λ (bs : Sector). named_at bs i) same))
 named-match bytes viewed i (Some p) same e = named-names bytes i p (sym (e ∙ ap (λ (bs : Sector). named_at bs i) same))

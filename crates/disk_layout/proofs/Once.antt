@@ -35,7 +35,8 @@ EachOnce-apart (y ∷ xs) ys h x c d =
       | inr b ↦ EachOnce-apart xs ys h.1 x b d
     ]
 
-pub EachOnce-join : {X : Type 0} (xs ys : List X) → EachOnce xs → EachOnce ys → ((x : X) → Contains xs x → ¬ (Contains ys x)) → EachOnce (xs ++ ys)
+pub EachOnce-join : {X : Type 0} (xs ys : List X) → EachOnce xs → EachOnce ys
+    → ((x : X) → Contains xs x → ¬ (Contains ys x)) → EachOnce (xs ++ ys)
 EachOnce-join [] ys a b h = b
 EachOnce-join (x ∷ xs) ys a b h = (
   λ c. elim (Contains-append_cases xs ys x c) [ inl d ↦ a.0 d | inr d ↦ h x (Contains-here x xs) d ],
@@ -47,7 +48,8 @@ EachOnce-push xs x a n = EachOnce-join xs (x ∷ []) a (Contains-nil x, tt)
     (λ y c d. elim (Contains-cases y x [] d) [ inl e ↦ n (rw e c) | inr b ↦ Contains-nil y b ])
 
 -- what is in a list made of another
-pub flat_map-in : {X Y : Type 0} (f : X → List Y) (xs : List X) (x : X) (y : Y) → Contains xs x → Contains (f x) y → Contains (flat_map f xs) y
+pub flat_map-in : {X Y : Type 0} (f : X → List Y) (xs : List X) (x : X) (y : Y) → Contains xs x → Contains (f x) y
+    → Contains (flat_map f xs) y
 flat_map-in f [] x y c d = absurd (Contains-nil x c)
 flat_map-in f (z ∷ xs) x y c d =
     elim (Contains-cases x z xs c) [
@@ -55,15 +57,24 @@ flat_map-in f (z ∷ xs) x y c d =
       | inr r ↦ Contains-append_right (f z) (flat_map f xs) y (flat_map-in f xs x y r d)
     ]
 
-pub filter-in : {X : Type 0} (t : X → Bool) (xs : List X) (x : X) → Contains xs x → t x ≡ true → Contains (filter t xs) x
+pub filter-in : {X : Type 0} (t : X → Bool) (xs : List X) (x : X) → Contains xs x → t x ≡ true
+    → Contains (filter t xs) x
 filter-in t [] x c e = absurd (Contains-nil x c)
 filter-in {X} t (z ∷ xs) x c e = step (filter-in t xs x) (t z) refl
   where
-    step : (Contains xs x → t x ≡ true → Contains (filter t xs) x) → (b : Bool) → t z ≡ b → Contains (cond b (z ∷ filter t xs) (filter t xs)) x
-    step more true h = elim (Contains-cases x z xs c) [ inl s ↦ rw (← s) (Contains-here z (filter t xs)) | inr r ↦ Contains-there x z (filter t xs) (more r e) ]
-    step more false h = elim (Contains-cases x z xs c) [ inl s ↦ absurd (false≢true (sym h ∙ ap t s ∙ e)) | inr r ↦ more r e ]
+    step : (Contains xs x → t x ≡ true → Contains (filter t xs) x) → (b : Bool) → t z ≡ b
+        → Contains (cond b (z ∷ filter t xs) (filter t xs)) x
+    step more true h = elim (Contains-cases x z xs c) [
+      | inl s ↦ rw (← s) (Contains-here z (filter t xs))
+      | inr r ↦ Contains-there x z (filter t xs) (more r e)
+    ]
+    step more false h = elim (Contains-cases x z xs c) [
+      | inl s ↦ absurd (false≢true (sym h ∙ ap t s ∙ e))
+      | inr r ↦ more r e
+    ]
 
-pub map-in : {X Y : Type 0} (f : X → Y) (xs : List X) (y : Y) → Contains (map f xs) y → (x : X) × Contains xs x × (f x ≡ y)
+pub map-in : {X Y : Type 0} (f : X → Y) (xs : List X) (y : Y) → Contains (map f xs) y → (x : X) × Contains xs x
+    × (f x ≡ y)
 map-in f [] y c = absurd (Contains-nil y c)
 map-in f (x ∷ xs) y c =
     elim (Contains-cases y (f x) (map f xs) c) [
@@ -76,9 +87,13 @@ all-in P [] x h c = absurd (Contains-nil x c)
 all-in P (y ∷ xs) x h c = elim (Contains-cases x y xs c) [ inl e ↦ subst P e h.0 | inr r ↦ all-in P xs x h.1 r ]
 
 -- one more element, which was not there
-pub EachOnce-insert : {X : Type 0} (xs ys : List X) (x : X) → EachOnce (xs ++ ys) → ¬ (Contains (xs ++ ys) x) → EachOnce (xs ++ x ∷ ys)
+pub EachOnce-insert : {X : Type 0} (xs ys : List X) (x : X) → EachOnce (xs ++ ys) → ¬ (Contains (xs ++ ys) x)
+    → EachOnce (xs ++ x ∷ ys)
 EachOnce-insert [] ys x once new = (new, once)
-EachOnce-insert (z ∷ xs) ys x once new = (λ c. fresh (Contains-append_cases xs (x ∷ ys) z c), EachOnce-insert xs ys x once.1 (λ c. new (Contains-there x z (xs ++ ys) c)))
+EachOnce-insert (z ∷ xs) ys x once new = (
+  λ c. fresh (Contains-append_cases xs (x ∷ ys) z c),
+  EachOnce-insert xs ys x once.1 (λ c. new (Contains-there x z (xs ++ ys) c)),
+)
   where
     fresh : Contains xs z ⊎ Contains (x ∷ ys) z → ⊥
     fresh (inl d) = once.0 (Contains-append_left xs ys z d)

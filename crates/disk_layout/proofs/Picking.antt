@@ -1,5 +1,29 @@
 -- The search for a free sector, on one track and from track to track.
-use Rattle.std.proofs.Common.{ℕ, List, Option, Some, ap, ap₂, arith, inl, inr, slice_index, sym, subst, w8, ◌%◌, ◌*◌, ◌+◌, ◌-◌, ◌/◌, ◌<◌, ◌≡◌, ◌≢◌, ◌≤◌, ◌∙◌}
+use Rattle.std.proofs.Common.{
+  ℕ,
+  List,
+  Option,
+  Some,
+  ap,
+  ap₂,
+  arith,
+  inl,
+  inr,
+  slice_index,
+  sym,
+  subst,
+  w8,
+  ◌%◌,
+  ◌*◌,
+  ◌+◌,
+  ◌-◌,
+  ◌/◌,
+  ◌<◌,
+  ◌≡◌,
+  ◌≢◌,
+  ◌≤◌,
+  ◌∙◌,
+}
 use Rattle.std.specs.Int.{bit_at, trailing_zeros}
 use Rattle.std.specs.Prelude.{MatchOption}
 use Rattle.std.proofs.lemmas.Nat.{div-mul-add, mod-mul-add}
@@ -16,7 +40,8 @@ abbrev pub NoneBelow : List ℕ → ℕ → ℕ → Type 0
 NoneBelow bytes t s = (q : Place) → q.track ≡ t → q.sector < s → ¬ (IsFree bytes q)
 
 -- the bits below z of a byte of the map are 0
-pub more_below : (bytes : List ℕ) (t k z : ℕ) → z ≤ 8 → NoneBelow bytes t (8 * k) → ((i : ℕ) → i < z → bit_at (slice_index bytes (4 * t + 1 + k)) i ≡ 0) → NoneBelow bytes t (8 * k + z)
+pub more_below : (bytes : List ℕ) (t k z : ℕ) → z ≤ 8 → NoneBelow bytes t (8 * k)
+    → ((i : ℕ) → i < z → bit_at (slice_index bytes (4 * t + 1 + k)) i ≡ 0) → NoneBelow bytes t (8 * k + z)
 more_below bytes t k z few below zeros q track lt free = elim (cases_lt q.sector (8 * k)) [
   | inl less ↦ below q track less free
   | inr there ↦
@@ -25,19 +50,24 @@ more_below bytes t k z few below zeros q track lt free = elim (cases_lt q.sector
       let at : q.sector ≡ k * 8 + i = omega (arith, there) in
       let byte : q.sector / 8 ≡ k = ap (λ (n : ℕ). n / 8) at ∙ div-mul-add k 8 i low in
       let bit : q.sector % 8 ≡ i = ap (λ (n : ℕ). n % 8) at ∙ mod-mul-add k 8 i low in
-      let same : map_bit bytes q.track q.sector ≡ bit_at (slice_index bytes (4 * t + 1 + k)) i = ap₂ (λ (n m : ℕ). bit_at (slice_index bytes (4 * n + 1 + q.sector / 8)) m) track bit ∙ ap (λ (n : ℕ). bit_at (slice_index bytes (4 * t + 1 + n)) i) byte in
+      let same : map_bit bytes q.track q.sector ≡ bit_at (slice_index bytes (4 * t + 1 + k)) i =
+      ap₂ (λ (n m : ℕ). bit_at (slice_index bytes (4 * n + 1 + q.sector / 8)) m) track bit
+      ∙ ap (λ (n : ℕ). bit_at (slice_index bytes (4 * t + 1 + n)) i) byte in
       omega (arith, free, same, zeros i (omega (arith, lt, there)))
 ]
 
 -- a byte of the map with a 1: its lowest is the track's first free sector, if the disk has that sector
-pub first_in : (bytes : List ℕ) (t k : ℕ) (r : Option Place) → let n = slice_index bytes (4 * t + 1 + k) in let s = 8 * k + trailing_zeros w8 n in n ≢ 0 → n < 256 → r ≡ place_at t s → NoneBelow bytes t (8 * k) → MatchOption r (IsFullTrack bytes t) (IsFirstOn bytes t)
+pub first_in : (bytes : List ℕ) (t k : ℕ) (r : Option Place) → let n = slice_index bytes (4 * t + 1 + k) in let s =
+    8 * k + trailing_zeros w8 n in n ≢ 0 → n < 256 → r ≡ place_at t s → NoneBelow bytes t (8 * k)
+    → MatchOption r (IsFullTrack bytes t) (IsFirstOn bytes t)
 first_in bytes t k r some fits is below =
     let P : Option Place → Type 0 = λ o. MatchOption o (IsFullTrack bytes t) (IsFirstOn bytes t) in
     elim (cases_lt s (sectors_on t)) [
       | inl there ↦
           let found = place_at-found t s there in
           subst P (sym (is ∙ found.1)) (first found.0 found.1)
-      | inr past ↦ subst P (sym (is ∙ place_at-none t s past)) (λ q track. none q track (omega (arith, q.on_disk, past, ap sectors_on track)))
+      | inr past ↦ subst P (sym (is ∙ place_at-none t s past))
+          (λ q track. none q track (omega (arith, q.on_disk, past, ap sectors_on track)))
     ]
   where
     n : ℕ
@@ -63,7 +93,8 @@ first_in bytes t k r some fits is below =
         let bit : p.sector % 8 ≡ z = ap (λ (m : ℕ). m % 8) sector ∙ mod-mul-add k 8 z lowest.0 in
         record {
           track = here.0;
-          free = ap₂ (λ (u v : ℕ). bit_at (slice_index bytes (4 * u + 1 + p.sector / 8)) v) here.0 bit ∙ ap (λ (m : ℕ). bit_at (slice_index bytes (4 * t + 1 + m)) z) byte ∙ lowest.1;
+          free = ap₂ (λ (u v : ℕ). bit_at (slice_index bytes (4 * u + 1 + p.sector / 8)) v) here.0 bit
+              ∙ ap (λ (m : ℕ). bit_at (slice_index bytes (4 * t + 1 + m)) z) byte ∙ lowest.1;
           first = λ q track lt. none q track (omega (arith, lt, here.1));
         }
 
@@ -71,7 +102,8 @@ first_in bytes t k r some fits is below =
 abbrev pub NoneNearer : List ℕ → ℕ → Type 0
 NoneNearer bytes d = (q : Place) → q.track ≢ 18 → distance q.track < d → ¬ (IsFree bytes q)
 
-pub found_lower : (bytes : List ℕ) (d : ℕ) (p : Place) → 1 ≤ d → d < 18 → NoneNearer bytes d → IsFirstOn bytes (18 - d) p → IsFirstFree bytes p
+pub found_lower : (bytes : List ℕ) (d : ℕ) (p : Place) → 1 ≤ d → d < 18 → NoneNearer bytes d
+    → IsFirstOn bytes (18 - d) p → IsFirstFree bytes p
 found_lower bytes d p low high nearer here = record {
   track = λ e. omega (arith, e, here.track);
   free = here.free;
@@ -83,7 +115,8 @@ found_lower bytes d p low high nearer here = record {
     before q out (inr (same, inl lower)) = absurd (omega (arith, same, lower, here.track))
     before q out (inr (same, inr (track, less))) = here.first q (track ∙ here.track) less
 
-pub found_upper : (bytes : List ℕ) (d : ℕ) (p : Place) → 1 ≤ d → d < 18 → NoneNearer bytes d → IsFullTrack bytes (18 - d) → IsFirstOn bytes (18 + d) p → IsFirstFree bytes p
+pub found_upper : (bytes : List ℕ) (d : ℕ) (p : Place) → 1 ≤ d → d < 18 → NoneNearer bytes d
+    → IsFullTrack bytes (18 - d) → IsFirstOn bytes (18 + d) p → IsFirstFree bytes p
 found_upper bytes d p low high nearer full here = record {
   track = λ e. omega (arith, e, here.track);
   free = here.free;
@@ -95,7 +128,8 @@ found_upper bytes d p low high nearer full here = record {
     before q out (inr (same, inl lower)) = full q (omega (arith, same, lower, here.track))
     before q out (inr (same, inr (track, less))) = here.first q (track ∙ here.track) less
 
-pub both_full : (bytes : List ℕ) (d : ℕ) → NoneNearer bytes d → IsFullTrack bytes (18 - d) → IsFullTrack bytes (18 + d) → NoneNearer bytes (d + 1)
+pub both_full : (bytes : List ℕ) (d : ℕ) → NoneNearer bytes d → IsFullTrack bytes (18 - d) → IsFullTrack bytes (18 + d)
+    → NoneNearer bytes (d + 1)
 both_full bytes d nearer lower upper q out less = elim (cases_lt (distance q.track) d) [
   | inl near ↦ nearer q out near
   | inr far ↦ elim (cases_lt q.track 18) [

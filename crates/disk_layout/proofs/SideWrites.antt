@@ -1,5 +1,27 @@
 -- A side sector rewritten as a longer file asks.
-use Rattle.std.proofs.Common.{◌≡◌, ℕ, zero, suc, ◌+◌, ◌*◌, inl, inr, true, false, List, [], ◌∷◌, ◌++◌, refl, sym, ◌∙◌, ap, subst, IsTrue, IsFalse}
+use Rattle.std.proofs.Common.{
+  ◌≡◌,
+  ℕ,
+  zero,
+  suc,
+  ◌+◌,
+  ◌*◌,
+  inl,
+  inr,
+  true,
+  false,
+  List,
+  [],
+  ◌∷◌,
+  ◌++◌,
+  refl,
+  sym,
+  ◌∙◌,
+  ap,
+  subst,
+  IsTrue,
+  IsFalse,
+}
 use Rattle.std.specs.Prelude.{Contains, slice_get, Some}
 use Rattle.std.specs.List.{AllByRecursion}
 use Rattle.std.proofs.lemmas.Bool.{cases_eq}
@@ -14,7 +36,19 @@ use Rattle.disk_layout.proofs.Layouts.{HasChain-frame, IsSide-frame, get-contain
 use Rattle.disk_layout.proofs.Once.{EachOnce-apart}
 use Rattle.disk_layout.specs.Chain.{EachOnce}
 use Rattle.disk_layout.specs.Directory.{map_place}
-use Rattle.disk_layout.specs.Layout.{File, IsFile, IsLayout, IsRelFile, IsSide, Layout, exchanged, file_owns, is_rel, owners, record_length}
+use Rattle.disk_layout.specs.Layout.{
+  File,
+  IsFile,
+  IsLayout,
+  IsRelFile,
+  IsSide,
+  Layout,
+  exchanged,
+  file_owns,
+  is_rel,
+  owners,
+  record_length,
+}
 
 -- the second file has the blocks and the side sectors of the first, each at its number, and perhaps more
 pub record IsLonger (f g : File) : Type 0 where
@@ -22,7 +56,8 @@ pub record IsLonger (f g : File) : Type 0 where
   pub blocks : (k : ℕ) (q : Place) → slice_get f.blocks k ≡ Some q → slice_get g.blocks k ≡ Some q
   pub sides : (k : ℕ) (q : Place) → slice_get f.sides k ≡ Some q → slice_get g.sides k ≡ Some q
 
-pub get-append : {X : Type 0} (xs ys : List X) (k : ℕ) (x : X) → slice_get xs k ≡ Some x → slice_get (xs ++ ys) k ≡ Some x
+pub get-append : {X : Type 0} (xs ys : List X) (k : ℕ) (x : X) → slice_get xs k ≡ Some x
+    → slice_get (xs ++ ys) k ≡ Some x
 get-append [] ys k x e = cc
 get-append (z ∷ xs) ys zero x e = e
 get-append (z ∷ xs) ys (suc k) x e = get-append xs ys k x e
@@ -37,14 +72,20 @@ IsSide-shorter img f g j p long s = record {
   pointers = λ k q h e. s.pointers k q h (long.blocks (120 * j + k) q e);
 }
 
-pub same-layout : (l : Layout) (before after : List File) (f : File) → l.files ≡ before ++ f ∷ after → exchanged l before f after ≡ l
+pub same-layout : (l : Layout) (before after : List File) (f : File) → l.files ≡ before ++ f ∷ after
+    → exchanged l before f after ≡ l
 same-layout l before after f split = λ i. record { directory = l.directory; files = sym split i }
 
-pub file-there : (a : Image) (l : Layout) (before after : List File) (f : File) → IsLayout a l → l.files ≡ before ++ f ∷ after → IsFile a f
-file-there a l before after f h split = (all-right (IsFile a) before (f ∷ after) (let P : List File → Type 0 = λ fs. AllByRecursion (IsFile a) fs in subst P split h.files)).0
+pub file-there : (a : Image) (l : Layout) (before after : List File) (f : File) → IsLayout a l
+    → l.files ≡ before ++ f ∷ after → IsFile a f
+file-there a l before after f h split =
+    (all-right (IsFile a) before (f ∷ after) (let P : List File → Type 0 = λ fs. AllByRecursion (IsFile a) fs in
+    subst P split h.files)).0
 
 -- a write of side sector j that leaves it as a longer file asks keeps the layout
-pub IsLayout-put_side : (a : Image) (l : Layout) (before after : List File) (f g : File) (j : ℕ) (p : Place) (b : List ℕ) → IsLayout a l → l.files ≡ before ++ f ∷ after → IsTrue (is_rel f.slot) → slice_get f.sides j ≡ Some p → IsLonger f g → IsSide (put a p b) g j p → IsLayout (put a p b) l
+pub IsLayout-put_side : (a : Image) (l : Layout) (before after : List File) (f g : File) (j : ℕ) (p : Place)
+    (b : List ℕ) → IsLayout a l → l.files ≡ before ++ f ∷ after → IsTrue (is_rel f.slot) → slice_get f.sides j ≡ Some p
+    → IsLonger f g → IsSide (put a p b) g j p → IsLayout (put a p b) l
 IsLayout-put_side a l before after f g j p b h split rel at long side =
     let same = same-layout l before after f split in
     let once : EachOnce (map_place ∷ owners (exchanged l before f after)) = rw same h.once in
@@ -55,7 +96,9 @@ IsLayout-put_side a l before after f g j p b h split rel at long side =
     let old = file-there a l before after f h split in
     let r = old.rel rel in
     let file : IsRelFile (put a p b) f = record {
-      chain = HasChain-frame a (put a p b) f (links-agree a (put a p b) f.blocks (λ q c. unless-same a p q b (λ e. EachOnce-apart f.blocks f.sides each q c (rw (← e) mine)))) r.chain;
+      chain = HasChain-frame a (put a p b) f
+          (links-agree a (put a p b) f.blocks
+          (λ q c. unless-same a p q b (λ e. EachOnce-apart f.blocks f.sides each q c (rw (← e) mine)))) r.chain;
       length_low = r.length_low;
       length_high = r.length_high;
       count = r.count;
@@ -67,7 +110,12 @@ IsLayout-put_side a l before after f g j p b h split rel at long side =
     (λ q c. unless-same a p q b (λ e. only.directory (rw e c)))
     (keeps-other a p b before only.before)
     (keeps-other a p b after only.after)
-    (record { closed = old.closed; rel = λ t. file; empty = λ t z. absurd (differ t rel); plain = λ t z. absurd (differ t rel) })
+    (record {
+      closed = old.closed;
+      rel = λ t. file;
+      empty = λ t z. absurd (differ t rel);
+      plain = λ t z. absurd (differ t rel);
+    })
     once)
   where
     differ : IsFalse (is_rel f.slot) → IsTrue (is_rel f.slot) → ⊥

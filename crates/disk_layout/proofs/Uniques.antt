@@ -8,7 +8,8 @@ use Rattle.disk_layout.specs.Rest.{IsFirst, IsTop, KeepsRest, rest_of}
 use Rattle.disk_layout.specs.Room.{IsTopOf}
 
 -- the first file of a name is one file, at one place of the list
-pub IsFirst-one : (l : Layout) (name : List ℕ) (m n : ℕ) (f g : File) → IsFirst l name m f → IsFirst l name n g → (m ≡ n) × (f ≡ g)
+pub IsFirst-one : (l : Layout) (name : List ℕ) (m n : ℕ) (f g : File) → IsFirst l name m f → IsFirst l name n g
+    → (m ≡ n) × (f ≡ g)
 IsFirst-one l name m n f g x y =
     let low : ¬ (m < n) = λ h. y.first m f h x.file x.named in
     let high : ¬ (n < m) = λ h. x.first n g h y.file y.named in
@@ -32,21 +33,41 @@ IsTopOf-one img name r s x y =
     IsTop-one x.layout x.place r s x.top (subst R place.0 (subst Q l y.top))
 
 -- the rest of a disk beside two files
-rest-same : (img : Image) (l m : Layout) (a c b d : ℕ) (f g : File) → l ≡ m → a ≡ c → b ≡ d → f ≡ g → rest_of img l a b f ≡ rest_of img m c d g
+rest-same : (img : Image) (l m : Layout) (a c b d : ℕ) (f g : File) → l ≡ m → a ≡ c → b ≡ d → f ≡ g
+    → rest_of img l a b f ≡ rest_of img m c d g
 rest-same img l m a c b d f g el ea eb ef = λ i. rest_of img (el i) (ea i) (eb i) (ef i)
 
 -- an image keeps its own rest
-pub KeepsRest-same : (img : Image) (stock requests : List ℕ) (l : Layout) (a b : ℕ) (f g : File) → IsLayout img l → IsFirst l stock a f → IsFirst l requests b g → KeepsRest img img stock requests
-KeepsRest-same img stock requests l a b f g h x y = record { before = l; is_before = h; after = l; is_after = h; a = a; b = b; card_file = f; request_file = g; card_file' = f; request_file' = g; cards = x; answers = y; cards' = x; answers' = y; same = refl }
+pub KeepsRest-same : (img : Image) (stock requests : List ℕ) (l : Layout) (a b : ℕ) (f g : File) → IsLayout img l
+    → IsFirst l stock a f → IsFirst l requests b g → KeepsRest img img stock requests
+KeepsRest-same img stock requests l a b f g h x y = record {
+  before = l;
+  is_before = h;
+  after = l;
+  is_after = h;
+  a = a;
+  b = b;
+  card_file = f;
+  request_file = g;
+  card_file' = f;
+  request_file' = g;
+  cards = x;
+  answers = y;
+  cards' = x;
+  answers' = y;
+  same = refl;
+}
 
 -- and what is kept twice is kept
-pub KeepsRest-then : (old mid new : Image) (stock requests : List ℕ) → KeepsRest old mid stock requests → KeepsRest mid new stock requests → KeepsRest old new stock requests
+pub KeepsRest-then : (old mid new : Image) (stock requests : List ℕ) → KeepsRest old mid stock requests
+    → KeepsRest mid new stock requests → KeepsRest old new stock requests
 KeepsRest-then old mid new stock requests x y =
     let l : y.before ≡ x.after = IsLayout-one mid y.before x.after y.is_before x.is_after in
     let P : Layout → Type 0 = λ k. IsFirst k stock y.a y.card_file in
     let Q : Layout → Type 0 = λ k. IsFirst k requests y.b y.request_file in
     let cards = IsFirst-one x.after stock x.a y.a x.card_file' y.card_file x.cards' (subst P l y.cards) in
-    let answers = IsFirst-one x.after requests x.b y.b x.request_file' y.request_file x.answers' (subst Q l y.answers) in
+    let answers = IsFirst-one x.after requests x.b y.b x.request_file' y.request_file x.answers'
+    (subst Q l y.answers) in
     let R : ℕ → Type 0 = λ n. IsFirst y.after stock n y.card_file' in
     let S : ℕ → Type 0 = λ n. IsFirst y.after requests n y.request_file' in
     record {
@@ -65,7 +86,9 @@ KeepsRest-then old mid new stock requests x y =
       cards' = subst R (sym cards.0) y.cards';
       answers' = subst S (sym answers.0) y.answers';
       same = x.same
-          ∙ rest-same mid x.after y.before x.a y.a x.b y.b x.request_file' y.request_file (sym l) cards.0 answers.0 answers.1
+          ∙ rest-same mid x.after y.before x.a y.a x.b y.b x.request_file' y.request_file (sym l) cards.0 answers.0
+          answers.1
           ∙ y.same
-          ∙ rest-same new y.after y.after y.a x.a y.b x.b y.request_file' y.request_file' refl (sym cards.0) (sym answers.0) refl;
+          ∙ rest-same new y.after y.after y.a x.a y.b x.b y.request_file' y.request_file' refl (sym cards.0)
+          (sym answers.0) refl;
     }

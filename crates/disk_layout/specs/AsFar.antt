@@ -6,7 +6,8 @@ use Rattle.disk_layout.specs.Chain.{EachOnce, EndsAt, Leads, LinksNowhere, Links
 use Rattle.disk_layout.specs.declared.faults.Fault.{Fault}
 use Rattle.disk_layout.specs.declared.faults.Fault.TheVariants.{Device}
 
--- a walk over these sectors ends at the last one: it ends the chain with index u; or it links to no place of the disk or
+-- a walk over these sectors ends at the last one: it ends the chain with index u; or it links to no place of the disk
+-- or
 -- back to one of them, and u is 0
 abbrev pub StopsAt : Image → List Place → Place → ℕ → Type 0
 StopsAt img ps last u =

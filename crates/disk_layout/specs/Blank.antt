@@ -1,5 +1,35 @@
 -- The blank image: an empty disk with the two files of a ledger (1541 User's Guide for the formats; which files, own).
-use Rattle.std.specs.Prelude.{◌≡◌, ◌⊎◌, ℕ, ◌+◌, ◌-◌, ◌/◌, ◌<◌, ◌≤◌, ◌&&◌, codes, drop, if◌then◌else◌, length, List, [], ◌∷◌, ◌++◌, min, nat_eq, nat_le, nat_lt, None, Option, replicate, slice_get, slice_index, Some, take, Contains}
+use Rattle.std.specs.Prelude.{
+  ◌≡◌,
+  ◌⊎◌,
+  ℕ,
+  ◌+◌,
+  ◌-◌,
+  ◌/◌,
+  ◌<◌,
+  ◌≤◌,
+  ◌&&◌,
+  codes,
+  drop,
+  if◌then◌else◌,
+  length,
+  List,
+  [],
+  ◌∷◌,
+  ◌++◌,
+  min,
+  nat_eq,
+  nat_le,
+  nat_lt,
+  None,
+  Option,
+  replicate,
+  slice_get,
+  slice_index,
+  Some,
+  take,
+  Contains,
+}
 use Rattle.std.proofs.Common.{lit<}
 use Rattle.byteorder.specs.Endian.{little_bytes}
 use Rattle.d64_image.specs.Geometry.{sectors_on}
@@ -15,7 +45,8 @@ use Rattle.disk_layout.specs.Side.{link_bytes, place_bytes, side_sector}
 -- bytes 0, block count. 84 11 00, `STOCK` and eleven A0, 11 01 12, six 00, 02 00
 unfoldable pub rel_entry : List ℕ → Place → Place → ℕ → ℕ → List ℕ
 rel_entry name first side length' blocks =
-    (132 ∷ place_bytes first) ++ (slot_name name ++ (place_bytes side ++ ((length' ∷ replicate 6 0) ++ little_bytes 2 blocks)))
+    (132 ∷ place_bytes first)
+    ++ (slot_name name ++ (place_bytes side ++ ((length' ∷ replicate 6 0) ++ little_bytes 2 blocks)))
 
 -- STOCK: a data block of 14 empty records of 18 bytes at 17/0, and its side sector at 17/1
 abbrev pub stock_block : Place
@@ -63,7 +94,8 @@ names_of name id = slot_name name ++ (160 ∷ 160 ∷ (id ++ (160 ∷ 50 ∷ 65 
 pub record IsBlankMap (bytes : Sector) (name id : List ℕ) (n : ℕ) : Type 0 where
   pub start : take 4 bytes ≡ 18 ∷ 1 ∷ 65 ∷ 0 ∷ []
   pub counts : (t : ℕ) → 1 ≤ t → t ≤ 35 → map_count bytes t ≡ sectors_on t - taken_on n t
-  pub bits : (t s : ℕ) → 1 ≤ t → t ≤ 35 → s < 24 → map_bit bytes t s ≡ (if (nat_le (taken_on n t) s && nat_lt s (sectors_on t)) then 1 else 0)
+  pub bits : (t s : ℕ) → 1 ≤ t → t ≤ 35 → s < 24
+      → map_bit bytes t s ≡ (if (nat_le (taken_on n t) s && nat_lt s (sectors_on t)) then 1 else 0)
   pub names : drop 144 bytes ≡ names_of name id
 
 -- 18/1: no further sector, and the two entries
@@ -95,6 +127,7 @@ pub record IsBlank (old new : Image) (name id : List ℕ) (tills : ℕ) : Type 0
   pub directory : sector new directory_start ≡ blank_directory (request_blocks tills)
   pub stock : IsEmptyBlock (sector new stock_block) None 253 18 14
   pub stock_side : sector new stock_side ≡ side_sector 0 (stock_block ∷ []) (stock_side ∷ []) 18
-  pub requests : (k : ℕ) (p : Place) → slice_get blocks k ≡ Some p → IsEmptyBlock (sector new p) (slice_get blocks (k + 1)) 255 127 2
+  pub requests : (k : ℕ) (p : Place) → slice_get blocks k ≡ Some p
+      → IsEmptyBlock (sector new p) (slice_get blocks (k + 1)) 255 127 2
   pub requests_side : sector new requests_side ≡ side_sector 0 blocks (requests_side ∷ []) 127
   pub rest : SameElsewhere (request_blocks tills) old new

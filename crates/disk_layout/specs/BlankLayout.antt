@@ -12,11 +12,21 @@ use Rattle.disk_layout.specs.Room.{IsTopOf}
 
 -- STOCK: its block ends with index 253, behind 14 records of 18 bytes
 abbrev pub stock_file : ℕ → File
-stock_file n = record { slot = slot_in directory_start (blank_directory n) 0; blocks = stock_block ∷ []; last = 253; sides = stock_side ∷ [] }
+stock_file n = record {
+  slot = slot_in directory_start (blank_directory n) 0;
+  blocks = stock_block ∷ [];
+  last = 253;
+  sides = stock_side ∷ [];
+}
 
 -- REQUESTS with n data blocks: the last one is full
 abbrev pub requests_file : ℕ → List Place → File
-requests_file n blocks = record { slot = slot_in directory_start (blank_directory n) 1; blocks = blocks; last = 255; sides = requests_side ∷ [] }
+requests_file n blocks = record {
+  slot = slot_in directory_start (blank_directory n) 1;
+  blocks = blocks;
+  last = 255;
+  sides = requests_side ∷ [];
+}
 
 -- a directory of one sector, and the two files
 abbrev pub blank_layout : ℕ → List Place → Layout
@@ -32,13 +42,16 @@ pub record IsCleanBlank (img : Image) (n : ℕ) (blocks : List Place) : Type 0 w
 
 -- each blank image is clean, whatever the disk held before
 abbrev pub BlankIsClean : Type 0
-BlankIsClean = (old new : Image) (name id : List ℕ) (tills : ℕ) → 1 ≤ tills → tills ≤ 64 → IsImage new → (blank : IsBlank old new name id tills) → IsCleanBlank new (request_blocks tills) blank.blocks
+BlankIsClean = (old new : Image) (name id : List ℕ) (tills : ℕ) → 1 ≤ tills → tills ≤ 64 → IsImage new
+    → (blank : IsBlank old new name id tills) → IsCleanBlank new (request_blocks tills) blank.blocks
 
--- the greatest record number of STOCK on the blank image, with so many tills: of the 664 sectors outside track 18 REQUESTS
+-- the greatest record number of STOCK on the blank image, with so many tills: of the 664 sectors outside track 18
+-- REQUESTS
 -- owns its data blocks and one side sector, and so many data blocks of STOCK need six. 9256 for 1 till, 8819 for 64
 abbrev pub blank_top : ℕ → ℕ
 blank_top tills = 254 * (664 - (request_blocks tills + 1) - 6) / 18
 
 -- so far STOCK can grow on each blank image
 abbrev pub BlankHasTop : Type 0
-BlankHasTop = (old new : Image) (name id : List ℕ) (tills : ℕ) → 1 ≤ tills → tills ≤ 64 → IsImage new → IsBlank old new name id tills → IsTopOf new (codes "STOCK") (blank_top tills)
+BlankHasTop = (old new : Image) (name id : List ℕ) (tills : ℕ) → 1 ≤ tills → tills ≤ 64 → IsImage new
+    → IsBlank old new name id tills → IsTopOf new (codes "STOCK") (blank_top tills)

@@ -1,4 +1,5 @@
--- A clean image: sound, with exact side sectors, block counts and map (1541 User's Guide, relative files and block availability map).
+-- A clean image: sound, with exact side sectors, block counts and map (1541 User's Guide, relative files and block
+-- availability map).
 use Rattle.std.specs.Prelude.{◌≡◌, ℕ, ◌+◌, ◌∷◌, length, slice_get, Some, IsTrue}
 use Rattle.std.specs.List.{AllByRecursion}
 use Rattle.d64_image.specs.Images.{Image, sector}
@@ -10,7 +11,8 @@ use Rattle.disk_layout.specs.Side.{side_sector}
 
 -- each side sector has its exact bytes, and the entry its count
 pub record IsExactFile (img : Image) (f : File) : Type 0 where
-  pub sides : (j : ℕ) (q : Place) → slice_get f.sides j ≡ Some q → sector img q ≡ side_sector j f.blocks f.sides (record_length f.slot)
+  pub sides : (j : ℕ) (q : Place) → slice_get f.sides j ≡ Some q
+      → sector img q ≡ side_sector j f.blocks f.sides (record_length f.slot)
   pub count : count_field f.slot ≡ length f.blocks + sides_for (length f.blocks)
 
 -- the layout of a clean image: relative files are exact, and the map is that of what is owned

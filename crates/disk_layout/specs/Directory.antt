@@ -1,5 +1,23 @@
 -- The directory: a chain on track 18, eight slots of 32 bytes a sector (1541 User's Guide, directory format).
-use Rattle.std.specs.Prelude.{◌≡◌, ◌≢◌, ℕ, ◌+◌, ◌*◌, Bool, not, List, [], ◌∷◌, map, slice_index, slice_range, Contains, filter, flat_map, nat_eq}
+use Rattle.std.specs.Prelude.{
+  ◌≡◌,
+  ◌≢◌,
+  ℕ,
+  ◌+◌,
+  ◌*◌,
+  Bool,
+  not,
+  List,
+  [],
+  ◌∷◌,
+  map,
+  slice_index,
+  slice_range,
+  Contains,
+  filter,
+  flat_map,
+  nat_eq,
+}
 use Rattle.std.specs.List.{AllByRecursion}
 use Rattle.std.proofs.Common.{lit<}
 use Rattle.d64_image.specs.Images.{Image, Sector, sector}

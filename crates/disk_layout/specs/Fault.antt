@@ -1,5 +1,26 @@
 -- What a told fault means at its place. Our own: each is a fact of the image, said without the walk that found it.
-use Rattle.std.specs.Prelude.{◌≡◌, ◌≢◌, ◌⊎◌, ℕ, ◌+◌, ◌*◌, ◌<◌, ◌≤◌, List, [], ◌∷◌, ◌++◌, length, slice_index, slice_get, Some, Contains, IsTrue, sum_by, ◌↔◌}
+use Rattle.std.specs.Prelude.{
+  ◌≡◌,
+  ◌≢◌,
+  ◌⊎◌,
+  ℕ,
+  ◌+◌,
+  ◌*◌,
+  ◌<◌,
+  ◌≤◌,
+  List,
+  [],
+  ◌∷◌,
+  ◌++◌,
+  length,
+  slice_index,
+  slice_get,
+  Some,
+  Contains,
+  IsTrue,
+  sum_by,
+  ◌↔◌,
+}
 use Rattle.std.specs.Prelude.{Result, Ok, Err}
 use Rattle.std.specs.List.{AllByRecursion}
 use Rattle.d64_image.specs.Geometry.{sectors_on}
@@ -8,11 +29,32 @@ use Rattle.d64_image.specs.Images.{Image, sector}
 use Rattle.d64_image.specs.declared.place.Place.{Place}
 use Rattle.disk_layout.specs.Chain.{ComesBack, IsChain, Leads, LinksNowhere, LinksTo, Names, NamesNone, Visits, byte}
 use Rattle.disk_layout.specs.Directory.{IsDirectoryPlace, directory_start, map_place, slots_in, type_byte}
-use Rattle.disk_layout.specs.Layout.{File, IsClosedType, IsLayout, Layout, count_field, is_rel, owners, record_length, sides_for}
+use Rattle.disk_layout.specs.Layout.{
+  File,
+  IsClosedType,
+  IsLayout,
+  Layout,
+  count_field,
+  is_rel,
+  owners,
+  record_length,
+  sides_for,
+}
 use Rattle.disk_layout.specs.Map.{map_bit, map_count, numbers_below}
 use Rattle.disk_layout.specs.Side.{side_sector}
 use Rattle.disk_layout.specs.declared.faults.Fault.{Fault}
-use Rattle.disk_layout.specs.declared.faults.Fault.TheVariants.{BadLength, BadLink, BadSide, BadType, CountWrong, Device, Loop, MapWrong, OwnedTwice, Unclosed}
+use Rattle.disk_layout.specs.declared.faults.Fault.TheVariants.{
+  BadLength,
+  BadLink,
+  BadSide,
+  BadType,
+  CountWrong,
+  Device,
+  Loop,
+  MapWrong,
+  OwnedTwice,
+  Unclosed,
+}
 use Rattle.disk_layout.specs.declared.slot.Slot.{Slot}
 
 -- p is a sector of the directory, as far as its chain is good
@@ -38,7 +80,8 @@ pub record IsBlock (img : Image) (s : Slot) (p : Place) : Type 0 where
   pub before : List Place
   pub visits : Visits img first before p
 
--- p is side sector j of a closed REL entry whose chain has these blocks, as far as the links of its side sectors are good
+-- p is side sector j of a closed REL entry whose chain has these blocks, as far as the links of its side sectors are
+-- good
 pub record IsSideSector (img : Image) (s : Slot) (blocks : List Place) (j : ℕ) (p : Place) : Type 0 where
   pub first_block : Place
   pub named_block : Names s.bytes 3 first_block
@@ -62,15 +105,18 @@ abbrev pub Owns : Image → Owner → Place → Type 0
 Owns img map_itself p = p ≡ map_place
 Owns img the_directory p = IsDirectorySector img p
 Owns img (blocks_of s) p = (q : Place) × IsClosed img q s × IsBlock img s p
-Owns img (sides_of s) p = (q : Place) × IsClosed img q s × IsTrue (is_rel s) × (blocks : List Place) × (j : ℕ) × IsSideSector img s blocks j p
+Owns img (sides_of s) p = (q : Place) × IsClosed img q s × IsTrue (is_rel s) × (blocks : List Place) × (j : ℕ)
+    × IsSideSector img s blocks j p
 
 -- the sector at p, side sector j of the entry, is not as a sound image has it
 pub data IsBadSide (img : Image) (s : Slot) (blocks : List Place) (j : ℕ) (p : Place) : Type 0 where
   number : byte img p 2 ≢ j → IsBadSide img s blocks j p
   length_byte : byte img p 3 ≢ record_length s → IsBadSide img s blocks j p
   link : j + 1 < sides_for (length blocks) → NamesNone (sector img p) 0 → IsBadSide img s blocks j p
-  listed : (k : ℕ) (q : Place) → IsSideSector img s blocks k q → ¬ (Names (sector img p) (4 + 2 * k) q) → IsBadSide img s blocks j p
-  pointer : (k : ℕ) (q : Place) → k < 120 → slice_get blocks (120 * j + k) ≡ Some q → ¬ (Names (sector img p) (16 + 2 * k) q) → IsBadSide img s blocks j p
+  listed : (k : ℕ) (q : Place) → IsSideSector img s blocks k q → ¬ (Names (sector img p) (4 + 2 * k) q)
+      → IsBadSide img s blocks j p
+  pointer : (k : ℕ) (q : Place) → k < 120 → slice_get blocks (120 * j + k) ≡ Some q
+      → ¬ (Names (sector img p) (16 + 2 * k) q) → IsBadSide img s blocks j p
 
 -- a closed REL file of a layout whose slot is in p
 pub record IsRelOf (l : Layout) (p : Place) (f : File) : Type 0 where
@@ -91,27 +137,37 @@ Holds failed_at img (BadLink p) =
     ⊎ ((q : Place) × (s : Slot) × IsClosed img q s × IsBlock img s p × LinksNowhere img p)
 Holds failed_at img (Loop p) =
     ((vs : List Place) × ComesBack img directory_start vs p × AllByRecursion IsDirectoryPlace vs)
-    ⊎ ((q : Place) × (s : Slot) × IsClosed img q s × (first : Place) × Names s.bytes 3 first × (vs : List Place) × ComesBack img first vs p)
+    ⊎ ((q : Place) × (s : Slot) × IsClosed img q s × (first : Place) × Names s.bytes 3 first × (vs : List Place)
+    × ComesBack img first vs p)
 Holds failed_at img (OwnedTwice p) =
     ((a : Owner) × (b : Owner) × (a ≢ b) × Owns img a p × Owns img b p)
-    ⊎ ((q : Place) × (s : Slot) × IsClosed img q s × IsTrue (is_rel s) × (blocks : List Place) × (j : ℕ) × (k : ℕ) × (j ≢ k) × IsSideSector img s blocks j p × IsSideSector img s blocks k p)
+    ⊎ ((q : Place) × (s : Slot) × IsClosed img q s × IsTrue (is_rel s) × (blocks : List Place) × (j : ℕ) × (k : ℕ)
+    × (j ≢ k) × IsSideSector img s blocks j p × IsSideSector img s blocks k p)
 Holds failed_at img (BadType p) = (s : Slot) × IsClosed img p s × ¬ (IsClosedType (type_byte s))
 Holds failed_at img (Unclosed p) = (s : Slot) × IsSlot img p s × (type_byte s ≢ 0) × (type_byte s < 128)
 Holds failed_at img (BadSide p) =
     ((s : Slot) × IsClosed img p s × IsTrue (is_rel s) × NamesNone s.bytes 21)
-    ⊎ ((q : Place) × (s : Slot) × IsClosed img q s × IsTrue (is_rel s) × (blocks : List Place) × (j : ℕ) × IsSideSector img s blocks j p × IsBadSide img s blocks j p)
-Holds failed_at img (BadLength p) = (s : Slot) × IsClosed img p s × IsTrue (is_rel s) × ((record_length s ≡ 0) ⊎ (record_length s ≡ 255))
+    ⊎ ((q : Place) × (s : Slot) × IsClosed img q s × IsTrue (is_rel s) × (blocks : List Place) × (j : ℕ)
+    × IsSideSector img s blocks j p × IsBadSide img s blocks j p)
+Holds failed_at img (BadLength p) = (s : Slot) × IsClosed img p s × IsTrue (is_rel s)
+    × ((record_length s ≡ 0) ⊎ (record_length s ≡ 255))
 Holds failed_at img (CountWrong p) = ⊥
 Holds failed_at img (MapWrong p) = ⊥
 Holds failed_at img (Device p) = failed_at p
 
 -- what check may tell as well
 abbrev pub HoldsOfClean : (Place → Type 0) → Image → Fault → Type 0
-HoldsOfClean failed_at img (BadSide p) = Holds failed_at img (BadSide p) ⊎ ((l : Layout) × IsLayout img l × (f : File) × Contains l.files f × IsTrue (is_rel f.slot) × (j : ℕ) × (slice_get f.sides j ≡ Some p) × (sector img p ≢ side_sector j f.blocks f.sides (record_length f.slot)))
-HoldsOfClean failed_at img (CountWrong p) = (l : Layout) × IsLayout img l × (f : File) × IsRelOf l p f × (count_field f.slot ≢ length f.blocks + sides_for (length f.blocks))
+HoldsOfClean failed_at img (BadSide p) = Holds failed_at img (BadSide p) ⊎ ((l : Layout) × IsLayout img l × (f : File)
+    × Contains l.files f × IsTrue (is_rel f.slot) × (j : ℕ) × (slice_get f.sides j ≡ Some p)
+    × (sector img p ≢ side_sector j f.blocks f.sides (record_length f.slot)))
+HoldsOfClean failed_at img (CountWrong p) = (l : Layout) × IsLayout img l × (f : File) × IsRelOf l p f
+    × (count_field f.slot ≢ length f.blocks + sides_for (length f.blocks))
 HoldsOfClean failed_at img (MapWrong p) = (l : Layout) × IsLayout img l × (
     ¬ ((map_bit (sector img map_place) p.track p.sector ≡ 1) ↔ ¬ (Contains (map_place ∷ owners l) p))
-    ⊎ ((p ≡ map_place) × ((t : ℕ) × (1 ≤ t) × (t ≤ 35) × (map_count (sector img map_place) t ≢ sum_by (map_bit (sector img map_place) t) (numbers_below (sectors_on t))))))
+    ⊎ ((p ≡ map_place)
+    × ((t : ℕ) × (1 ≤ t) × (t ≤ 35)
+    × (map_count (sector img map_place) t ≢ sum_by (map_bit (sector img map_place) t)
+    (numbers_below (sectors_on t))))))
 HoldsOfClean failed_at img fault = Holds failed_at img fault
 
 -- the fault holds of the chain from first
@@ -123,8 +179,10 @@ HoldsOfChain failed_at img first _ = ⊥
 
 -- the fault holds of the directory's chain
 abbrev pub HoldsOfDirectory : (Place → Type 0) → Image → Fault → Type 0
-HoldsOfDirectory failed_at img (BadLink p) = IsDirectorySector img p × (LinksNowhere img p ⊎ ((q : Place) × LinksTo img p q × ¬ (IsDirectoryPlace q)))
-HoldsOfDirectory failed_at img (Loop p) = (vs : List Place) × ComesBack img directory_start vs p × AllByRecursion IsDirectoryPlace vs
+HoldsOfDirectory failed_at img (BadLink p) = IsDirectorySector img p
+    × (LinksNowhere img p ⊎ ((q : Place) × LinksTo img p q × ¬ (IsDirectoryPlace q)))
+HoldsOfDirectory failed_at img (Loop p) = (vs : List Place) × ComesBack img directory_start vs p
+    × AllByRecursion IsDirectoryPlace vs
 HoldsOfDirectory failed_at img (Device p) = failed_at p
 HoldsOfDirectory failed_at img _ = ⊥
 

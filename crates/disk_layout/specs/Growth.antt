@@ -6,12 +6,14 @@ use Rattle.disk_layout.specs.Layout.{File, IsLayout, Layout, exchanged, record_l
 use Rattle.disk_layout.specs.Records.{empty_record, records}
 use Rattle.disk_layout.specs.Rest.{header_of, kept_of}
 
--- c is sound, with the file's records as in a, or with m empty ones behind them, and with all else that is asked to stay
+-- c is sound, with the file's records as in a, or with m empty ones behind them, and with all else that is asked to
+-- stay
 pub record IsGrowing (a c : Image) (l : Layout) (before after : List File) (f : File) (m : ℕ) : Type 0 where
   pub file : File
   pub entry : uncounted file.slot ≡ uncounted f.slot
   pub layout : IsLayout c (exchanged l before file after)
-  pub grows : (records c file ≡ records a f) ⊎ (records c file ≡ records a f ++ replicate m (empty_record (record_length f.slot)))
+  pub grows : (records c file ≡ records a f)
+      ⊎ (records c file ≡ records a f ++ replicate m (empty_record (record_length f.slot)))
   pub before_kept : map (kept_of c) before ≡ map (kept_of a) before
   pub after_kept : map (kept_of c) after ≡ map (kept_of a) after
   pub header : header_of c ≡ header_of a

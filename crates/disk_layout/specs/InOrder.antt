@@ -20,7 +20,8 @@ pub record IsUnderWay (Right : Place → Sector → Type 0) (ps : List Place) (o
 
 -- a call that makes no write, or one that leaves another sector at p
 abbrev pub WritesOther : {D : Type 0} → History D → D → D → Place → Type 0
-WritesOther S old new p = (S.writes new ≡ S.writes old) ⊎ ((sector (S.image new) p ≢ sector (S.image old) p) × (S.writes new ≤ S.writes old + 1))
+WritesOther S old new p = (S.writes new ≡ S.writes old) ⊎ ((sector (S.image new) p ≢ sector (S.image old) p)
+    × (S.writes new ≤ S.writes old + 1))
 
 -- a call that makes no more writes than one for each sector that it leaves another
 pub record WritesOnce {D : Type 0} (S : History D) (old new : D) : Type 0 where
@@ -30,6 +31,7 @@ pub record WritesOnce {D : Type 0} (S : History D) (old new : D) : Type 0 where
   pub writes : S.writes new ≤ S.writes old + length written
 
 -- a call that goes over these sectors in their order, and writes those that aren't right, each once
-pub record GoesOver {D : Type 0} (S : History D) (old new : D) (Right : Place → Sector → Type 0) (ps : List Place) : Type 0 where
+pub record GoesOver {D : Type 0} (S : History D) (old new : D) (Right : Place → Sector
+    → Type 0) (ps : List Place) : Type 0 where
   pub held : HeldOnly S old new (IsUnderWay Right ps (S.image old))
   pub once : WritesOnce S old new

@@ -1,6 +1,32 @@
 -- The layout of an image: its directory, its files, and who owns which sector.
 -- Entries, relative files and side sectors are those of the 1541 User's Guide (directory format, relative file format).
-use Rattle.std.specs.Prelude.{◌≡◌, ◌≢◌, ℕ, ◌+◌, ◌*◌, ◌/◌, ◌≤◌, ◌<◌, ◌⊎◌, Bool, ◌||◌, List, [], ◌∷◌, ◌++◌, map, length, slice_index, slice_range, slice_get, Some, flat_map, IsTrue, IsFalse, nat_eq}
+use Rattle.std.specs.Prelude.{
+  ◌≡◌,
+  ◌≢◌,
+  ℕ,
+  ◌+◌,
+  ◌*◌,
+  ◌/◌,
+  ◌≤◌,
+  ◌<◌,
+  ◌⊎◌,
+  Bool,
+  ◌||◌,
+  List,
+  [],
+  ◌∷◌,
+  ◌++◌,
+  map,
+  length,
+  slice_index,
+  slice_range,
+  slice_get,
+  Some,
+  flat_map,
+  IsTrue,
+  IsFalse,
+  nat_eq,
+}
 use Rattle.std.specs.List.{AllByRecursion}
 use Rattle.byteorder.specs.Endian.{little_number}
 use Rattle.d64_image.specs.Images.{Image, sector}
@@ -45,7 +71,8 @@ pub record IsSide (img : Image) (f : File) (j : ℕ) (p : Place) : Type 0 where
   pub length_byte : byte img p 3 ≡ record_length f.slot
   pub sides : (k : ℕ) (q : Place) → slice_get f.sides k ≡ Some q → Names (sector img p) (4 + 2 * k) q
   pub link : (q : Place) → slice_get f.sides (j + 1) ≡ Some q → LinksTo img p q
-  pub pointers : (k : ℕ) (q : Place) → k < 120 → slice_get f.blocks (120 * j + k) ≡ Some q → Names (sector img p) (16 + 2 * k) q
+  pub pointers : (k : ℕ) (q : Place) → k < 120 → slice_get f.blocks (120 * j + k) ≡ Some q
+      → Names (sector img p) (16 + 2 * k) q
 
 -- the blocks are the chain from the place that bytes 3-4 of the slot name
 abbrev pub HasChain : Image → File → Type 0

@@ -1,6 +1,30 @@
 -- The map of free sectors in 18/0 (1541 User's Guide, block availability map): bytes 4t to 4t + 3 belong to track t,
 -- first its count of free sectors, then three bytes with a bit for each of its sectors.
-use Rattle.std.specs.Prelude.{◌≡◌, ◌≢◌, ◌↔◌, ℕ, zero, suc, ◌+◌, ◌-◌, ◌*◌, ◌/◌, ◌%◌, ◌<◌, ◌≤◌, ◌⊎◌, min, List, [], ◌∷◌, take, drop, slice_index, sum_by, Contains}
+use Rattle.std.specs.Prelude.{
+  ◌≡◌,
+  ◌≢◌,
+  ◌↔◌,
+  ℕ,
+  zero,
+  suc,
+  ◌+◌,
+  ◌-◌,
+  ◌*◌,
+  ◌/◌,
+  ◌%◌,
+  ◌<◌,
+  ◌≤◌,
+  ◌⊎◌,
+  min,
+  List,
+  [],
+  ◌∷◌,
+  take,
+  drop,
+  slice_index,
+  sum_by,
+  Contains,
+}
 use Rattle.std.specs.Int.{bit_at}
 use Rattle.d64_image.specs.Geometry.{sectors_on}
 use Rattle.d64_image.specs.Images.{Sector}
@@ -10,7 +34,8 @@ use Rattle.d64_image.specs.declared.place.Place.{Place}
 abbrev pub map_count : Sector → ℕ → ℕ
 map_count bytes t = slice_index bytes (4 * t)
 
--- the bit of sector s of track t, 1 for free: bit s mod 8 of byte s / 8. In 11 FC FF 07 it is 0 for the sectors 0 and 1,
+-- the bit of sector s of track t, 1 for free: bit s mod 8 of byte s / 8. In 11 FC FF 07 it is 0 for the sectors 0 and
+-- 1,
 -- and 1 for the sectors 2 to 18
 abbrev pub map_bit : Sector → ℕ → ℕ → ℕ
 map_bit bytes t s = bit_at (slice_index bytes (4 * t + 1 + s / 8)) (s % 8)
@@ -24,7 +49,8 @@ abbrev pub numbers_below : ℕ → List ℕ
 numbers_below zero = []
 numbers_below (suc n) = n ∷ numbers_below n
 
--- the map of a disk on which these places are taken: the bits of the sectors that exist, and each track's count of its ones
+-- the map of a disk on which these places are taken: the bits of the sectors that exist, and each track's count of its
+-- ones
 pub record IsMapOf (bytes : Sector) (owned : List Place) : Type 0 where
   pub marked : (p : Place) → IsFree bytes p ↔ ¬ (Contains owned p)
   pub counts : (t : ℕ) → 1 ≤ t → t ≤ 35 → map_count bytes t ≡ sum_by (map_bit bytes t) (numbers_below (sectors_on t))
@@ -41,7 +67,8 @@ pub record IsTaken (old new : Sector) (p : Place) : Type 0 where
   pub count : map_count new p.track ≡ map_count old p.track - 1
   pub rest : IsSameBut old new p
 
--- the sector at p was given back: 10 E0 FF 1F becomes 11 F0 FF 1F by sector 4. A count of FF, the most that a byte holds, stays
+-- the sector at p was given back: 10 E0 FF 1F becomes 11 F0 FF 1F by sector 4. A count of FF, the most that a byte
+-- holds, stays
 pub record IsGiven (old new : Sector) (p : Place) : Type 0 where
   pub bit : map_bit new p.track p.sector ≡ 1
   pub count : map_count new p.track ≡ min (map_count old p.track + 1) 255
@@ -51,7 +78,8 @@ pub record IsGiven (old new : Sector) (p : Place) : Type 0 where
 abbrev pub distance : ℕ → ℕ
 distance t = (t - 18) + (18 - t)
 
--- the order in which data blocks are picked (our own): by the distance of the track from track 18, so that the head moves
+-- the order in which data blocks are picked (our own): by the distance of the track from track 18, so that the head
+-- moves
 -- little; at one distance the lower track first; on a track by sector. 17/20 is before 19/0, and 19/18 before 16/0
 abbrev pub IsBefore : Place → Place → Type 0
 IsBefore p q =

@@ -1,7 +1,18 @@
 -- The numbers of the faults. Our own.
 use Rattle.std.specs.Prelude.{ℕ}
 use Rattle.disk_layout.specs.declared.faults.Fault.{Fault}
-use Rattle.disk_layout.specs.declared.faults.Fault.TheVariants.{BadLength, BadLink, BadSide, BadType, CountWrong, Device, Loop, MapWrong, OwnedTwice, Unclosed}
+use Rattle.disk_layout.specs.declared.faults.Fault.TheVariants.{
+  BadLength,
+  BadLink,
+  BadSide,
+  BadType,
+  CountWrong,
+  Device,
+  Loop,
+  MapWrong,
+  OwnedTwice,
+  Unclosed,
+}
 
 abbrev pub number_of : Fault → ℕ
 number_of (BadLink _) = 1

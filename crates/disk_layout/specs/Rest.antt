@@ -1,5 +1,33 @@
 -- What an operation on two named files leaves alone, and how far a file can grow.
-use Rattle.std.specs.Prelude.{◌≡◌, ◌-◌, ◌<◌, replicate, slice_get, Some, IsTrue, ℕ, suc, ◌+◌, ◌*◌, ◌/◌, ◌≤◌, not, ◌&&◌, List, [], ◌∷◌, ◌++◌, map, length, take, drop, filter, flat_map, slice_range, nat_eq}
+use Rattle.std.specs.Prelude.{
+  ◌≡◌,
+  ◌-◌,
+  ◌<◌,
+  replicate,
+  slice_get,
+  Some,
+  IsTrue,
+  ℕ,
+  suc,
+  ◌+◌,
+  ◌*◌,
+  ◌/◌,
+  ◌≤◌,
+  not,
+  ◌&&◌,
+  List,
+  [],
+  ◌∷◌,
+  ◌++◌,
+  map,
+  length,
+  take,
+  drop,
+  filter,
+  flat_map,
+  slice_range,
+  nat_eq,
+}
 use Rattle.d64_image.specs.Images.{Image, Sector, sector}
 use Rattle.d64_image.specs.declared.place.Place.{Place}
 use Rattle.disk_layout.specs.Directory.{map_place, type_byte}

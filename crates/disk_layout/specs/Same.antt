@@ -1,5 +1,24 @@
 -- What repair, growth and creation leave of the directory and of the files.
-use Rattle.std.specs.Prelude.{◌≡◌, ◌≢◌, ℕ, ◌+◌, ◌*◌, ◌/◌, ◌%◌, ◌≤◌, ◌<◌, ◌⊎◌, List, ◌∷◌, ◌++◌, map, slice_index, slice_range, Contains, flat_map}
+use Rattle.std.specs.Prelude.{
+  ◌≡◌,
+  ◌≢◌,
+  ℕ,
+  ◌+◌,
+  ◌*◌,
+  ◌/◌,
+  ◌%◌,
+  ◌≤◌,
+  ◌<◌,
+  ◌⊎◌,
+  List,
+  ◌∷◌,
+  ◌++◌,
+  map,
+  slice_index,
+  slice_range,
+  Contains,
+  flat_map,
+}
 use Rattle.d64_image.specs.Images.{Image, Sector, sector}
 use Rattle.d64_image.specs.declared.place.Place.{Place}
 use Rattle.disk_layout.specs.Chain.{byte}
@@ -7,7 +26,8 @@ use Rattle.disk_layout.specs.Directory.{map_place}
 use Rattle.disk_layout.specs.Layout.{File, Layout}
 use Rattle.disk_layout.specs.Rest.{header_of}
 
--- a file as repair, growth of another and creation leave it: its slot without link and block count, its blocks with their bytes, its last index, its side places
+-- a file as repair, growth of another and creation leave it: its slot without link and block count, its blocks with
+-- their bytes, its last index, its side places
 pub record Stays : Type 0 where
   pub sector : Place
   pub number : ℕ
@@ -30,7 +50,8 @@ stays_of img f = record {
 
 -- byte i of a directory sector belongs to the block count of a closed REL entry
 abbrev pub IsCountByte : List ℕ → ℕ → Type 0
-IsCountByte bytes i = (30 ≤ i % 32) × ((slice_index bytes (32 * (i / 32) + 2) ≡ 132) ⊎ (slice_index bytes (32 * (i / 32) + 2) ≡ 196))
+IsCountByte bytes i = (30 ≤ i % 32) × ((slice_index bytes (32 * (i / 32) + 2) ≡ 132)
+    ⊎ (slice_index bytes (32 * (i / 32) + 2) ≡ 196))
 
 -- the directory sector at p is as it was but for block counts of closed REL entries
 abbrev pub SameButCounts : Image → Image → Place → Type 0
@@ -42,7 +63,8 @@ pub record SameFiles (old new : Image) (l m : Layout) : Type 0 where
   pub files : map (stays_of new) m.files ≡ map (stays_of old) l.files
   pub entries : (p : Place) → Contains l.directory p → SameButCounts old new p
   pub header : header_of new ≡ header_of old
-  pub elsewhere : (p : Place) → p ≢ map_place → ¬ (Contains l.directory p) → ¬ (Contains (flat_map (λ f. f.sides) l.files) p) → sector new p ≡ sector old p
+  pub elsewhere : (p : Place) → p ≢ map_place → ¬ (Contains l.directory p)
+      → ¬ (Contains (flat_map (λ f. f.sides) l.files) p) → sector new p ≡ sector old p
 
 -- new has the files of old and f as well
 pub record AddsFile (old new : Image) (l m : Layout) (f : File) : Type 0 where

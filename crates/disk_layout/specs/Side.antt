@@ -1,5 +1,23 @@
 -- The exact bytes of a side sector (1541 User's Guide, relative file format).
-use Rattle.std.specs.Prelude.{ℕ, ◌+◌, ◌*◌, ◌-◌, List, [], ◌∷◌, ◌++◌, length, replicate, slice_range, slice_get, take, flat_map, Option, Some, None}
+use Rattle.std.specs.Prelude.{
+  ℕ,
+  ◌+◌,
+  ◌*◌,
+  ◌-◌,
+  List,
+  [],
+  ◌∷◌,
+  ◌++◌,
+  length,
+  replicate,
+  slice_range,
+  slice_get,
+  take,
+  flat_map,
+  Option,
+  Some,
+  None,
+}
 use Rattle.d64_image.specs.declared.place.Place.{Place}
 
 -- a place in two bytes

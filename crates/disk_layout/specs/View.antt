@@ -1,5 +1,21 @@
 -- What the sectors of track 18 hold beside the map's bits (1541 User's Guide, directory format and disk name).
-use Rattle.std.specs.Prelude.{◌≡◌, ◌≢◌, ℕ, ◌+◌, ◌*◌, ◌<◌, ◌⊎◌, List, if◌then◌else◌, length, nat_eq, slice_index, slice_range, sum_by, take}
+use Rattle.std.specs.Prelude.{
+  ◌≡◌,
+  ◌≢◌,
+  ℕ,
+  ◌+◌,
+  ◌*◌,
+  ◌<◌,
+  ◌⊎◌,
+  List,
+  if◌then◌else◌,
+  length,
+  nat_eq,
+  slice_index,
+  slice_range,
+  sum_by,
+  take,
+}
 use Rattle.d64_image.specs.Images.{Sector}
 use Rattle.disk_layout.specs.Map.{map_count, numbers_below}
 

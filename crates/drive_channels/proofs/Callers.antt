@@ -12,7 +12,9 @@ some-text [] some = absurd (omega (arith, some))
 some-text (t ∷ ts) some = refl
 
 -- every image on the way is one of the writing of the record
-pub on-the-way : (old : Image) (text : List ℕ) (c : Channel) (l : Layout) (f : File) → 1 ≤ length text → (img : Image) → IsOnTheWay old text c l f img
-    → IsWriting old l c.entry f (added (record_length f.slot) (records_had f) c.record_number) c.record_number c.position text img
+pub on-the-way : (old : Image) (text : List ℕ) (c : Channel) (l : Layout) (f : File) → 1 ≤ length text → (img : Image)
+    → IsOnTheWay old text c l f img
+    → IsWriting old l c.entry f (added (record_length f.slot) (records_had f) c.record_number) c.record_number
+    c.position text img
 on-the-way old [] c l f some img way = absurd (omega (arith, some))
 on-the-way old (t ∷ ts) c l f some img way = way

@@ -1,5 +1,31 @@
 -- The bytes up to the last one that isn't 00.
-use Rattle.std.proofs.Common.{ℕ, suc, ◌≡◌, ◌≢◌, ◌≤◌, ◌-◌, ◌+◌, ◌⊎◌, inl, inr, List, [], ◌∷◌, ◌++◌, length, take, drop, replicate, slice_index, sym, ◌∙◌, ap, ap₂, refl, arith}
+use Rattle.std.proofs.Common.{
+  ℕ,
+  suc,
+  ◌≡◌,
+  ◌≢◌,
+  ◌≤◌,
+  ◌-◌,
+  ◌+◌,
+  ◌⊎◌,
+  inl,
+  inr,
+  List,
+  [],
+  ◌∷◌,
+  ◌++◌,
+  length,
+  take,
+  drop,
+  replicate,
+  slice_index,
+  sym,
+  ◌∙◌,
+  ap,
+  ap₂,
+  refl,
+  arith,
+}
 use Rattle.std.proofs.lemmas.List.{get_or-drop, get_or-take, length-take, take-append-drop}
 use Rattle.drive_channels.specs.Given.{IsGiven}
 
@@ -13,7 +39,9 @@ given-of xs n low high zeros last =
     let long : length (take n xs) ≡ n = omega (arith, length-take n xs) in
     record {
       count = length (drop n xs);
-      zeros = sym (take-append-drop n xs) ∙ ap (λ (ys : List ℕ). take n xs ++ ys) (zeros-are (drop n xs) (λ i. get_or-drop n xs i 0 ∙ zeros (n + i) (omega arith)));
+      zeros = sym (take-append-drop n xs)
+          ∙ ap (λ (ys : List ℕ). take n xs ++ ys) (zeros-are (drop n xs) (λ i. get_or-drop n xs i 0
+          ∙ zeros (n + i) (omega arith)));
       some = omega (arith, long, low);
       ends = rw long (elim last [
         | inl one ↦ inl one

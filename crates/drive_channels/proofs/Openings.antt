@@ -217,7 +217,12 @@ recalled img k k' number text s y low high closed same looked row = past (shown 
           (subst (λ (x : View). OpensFile x number asked y)
           (ap (λ (c : Option Channel). record { image = img; channel = c; status = s; checked = true })
           (looked.closed ∙ sym closed))
-          (subst (λ (b : Bool). OpensFile (record { image = img; channel = channel_of k'.last; status = s; checked = b })
+          (subst (λ (b : Bool). OpensFile (record {
+            image = img;
+            channel = channel_of k'.last;
+            status = s;
+            checked = b;
+          })
           number asked y) looked.checked row))),
     ))
   where

@@ -1,5 +1,28 @@
 -- The rows of an opening, once the disk is seen to be clean.
-use Rattle.std.proofs.Common.{ℕ, ◌≡◌, ◌≢◌, ◌≤◌, inl, inr, Bool, true, false, List, Option, None, Some, IfSome, IsNone, sym, ◌∙◌, ap, ap₂, subst, refl, arith}
+use Rattle.std.proofs.Common.{
+  ℕ,
+  ◌≡◌,
+  ◌≢◌,
+  ◌≤◌,
+  inl,
+  inr,
+  Bool,
+  true,
+  false,
+  List,
+  Option,
+  None,
+  Some,
+  IfSome,
+  IsNone,
+  sym,
+  ◌∙◌,
+  ap,
+  ap₂,
+  subst,
+  refl,
+  arith,
+}
 use Rattle.std.proofs.lemmas.Option.{none-some, same_Some}
 use Rattle.d64_image.specs.Images.{Image}
 use Rattle.disk_layout.proofs.Layouts.{IsLayout-one}
@@ -25,17 +48,22 @@ use Rattle.drive_channels.specs.declared.status.Status.{Status}
 use Rattle.drive_channels.specs.declared.status.Status.TheVariants as statuses
 
 -- the first file of a name has one record length
-one-length : (img : Image) (name : List ℕ) (m n : ℕ) (f g : File) → IsNamedFile img name m f → IsNamedFile img name n g → record_length f.slot ≡ record_length g.slot
+one-length : (img : Image) (name : List ℕ) (m n : ℕ) (f g : File) → IsNamedFile img name m f → IsNamedFile img name n g
+    → record_length f.slot ≡ record_length g.slot
 one-length img name m n f g x y =
     let l : x.0 ≡ y.0 = IsLayout-one img x.0 y.0 x.1 y.1 in
-    ap (λ (h : File). record_length h.slot) (IsFirst-one y.0 name m n f g (subst (λ (l : Layout). IsFirst l name m f) l x.2) y.2).1
+    ap (λ (h : File). record_length h.slot)
+    (IsFirst-one y.0 name m n f g (subst (λ (l : Layout). IsFirst l name m f) l x.2) y.2).1
 
 -- where the file has the length that is asked for, no other one is asked for
-no-other : (img : Image) (name : List ℕ) (length : Option ℕ) (entry : ℕ) (f : File) → IsNamedFile img name entry f → IfSome length (λ l. record_length f.slot ≡ l) → ¬ (HasOther img name length)
+no-other : (img : Image) (name : List ℕ) (length : Option ℕ) (entry : ℕ) (f : File) → IsNamedFile img name entry f
+    → IfSome length (λ l. record_length f.slot ≡ l) → ¬ (HasOther img name length)
 no-other img name None entry f named same other = absurd other
-no-other img name (Some l) entry f named same other = other.3 (one-length img name other.0 entry other.1 f other.2 named ∙ same)
+no-other img name (Some l) entry f named same other = other.3 (one-length img name other.0 entry other.1 f other.2 named
+    ∙ same)
 
-module _ (img : Image) (k : Known) (o : Opened) (name : List ℕ) (known : IsKnown img k) (last : k.last ≡ Some o) (is : o.found.name.items ≡ name) where
+module _ (img : Image) (k : Known) (o : Opened) (name : List ℕ) (known : IsKnown img k) (last : k.last ≡ Some o)
+    (is : o.found.name.items ≡ name) where
   found : IsFound img o.found
   found = found-last img k o known last
 
@@ -43,7 +71,8 @@ module _ (img : Image) (k : Known) (o : Opened) (name : List ℕ) (known : IsKno
   there = found-file img o.found name found is
 
   -- the file is there, and is opened
-  pub opened-row : (new : Known) (length : Option ℕ) (number : ℕ) (s : Status) → IfSome length (λ l. length_of o.found.file ≡ l)
+  pub opened-row : (new : Known) (length : Option ℕ) (number : ℕ) (s : Status)
+      → IfSome length (λ l. length_of o.found.file ≡ l)
       → new.last ≡ Some (record { found = o.found; spot = Some (first_spot number) }) → new.checked ≡ k.checked
       → OpensFile (shown img k s) number (record { name = name; length = length }) (shown img new statuses.Ok)
   opened-row new length number s fits after same =
@@ -61,43 +90,74 @@ module _ (img : Image) (k : Known) (o : Opened) (name : List ℕ) (known : IsKno
                 found.file,
                 f,
                 refl,
-                ap₂ (λ (last : Option Opened) (checked : Bool). record { image = img; channel = channel_of last; status = statuses.Ok; checked = checked }) after same,
+                ap₂ (λ (last : Option Opened) (checked : Bool). record {
+                  image = img;
+                  channel = channel_of last;
+                  status = statuses.Ok;
+                  checked = checked;
+                }) after same,
               ),
             ),
           ),
         ),
       )
     where
-      right : (length : Option ℕ) → IfSome length (λ l. length_of o.found.file ≡ l) → IfSome length (λ l. record_length found.file.slot ≡ l)
+      right : (length : Option ℕ) → IfSome length (λ l. length_of o.found.file ≡ l)
+          → IfSome length (λ l. record_length found.file.slot ≡ l)
       right None h = tt
       right (Some l) h = sym found.of.shows.size ∙ h
 
   -- it has another length
-  pub other-row : (new : Known) (length : Option ℕ) (number : ℕ) (s : Status) → ¬ (IfSome length (λ l. length_of o.found.file ≡ l))
+  pub other-row : (new : Known) (length : Option ℕ) (number : ℕ) (s : Status)
+      → ¬ (IfSome length (λ l. length_of o.found.file ≡ l))
       → new.last ≡ k.last → new.checked ≡ k.checked
-      → OpensFile (shown img k s) number (record { name = name; length = length }) (shown img new statuses.RecordNotPresent)
+      → OpensFile (shown img k s) number (record { name = name; length = length })
+      (shown img new statuses.RecordNotPresent)
   other-row new length number s other kept same = inr (
     (λ h. h.1 there),
     inl (
       wrong length other,
-      ap₂ (λ (last : Option Opened) (checked : Bool). record { image = img; channel = channel_of last; status = statuses.RecordNotPresent; checked = checked }) kept same,
+      ap₂ (λ (last : Option Opened) (checked : Bool). record {
+        image = img;
+        channel = channel_of last;
+        status = statuses.RecordNotPresent;
+        checked = checked;
+      }) kept same,
     ),
   )
     where
       wrong : (length : Option ℕ) → ¬ (IfSome length (λ l. length_of o.found.file ≡ l)) → HasOther img name length
       wrong None other = absurd (other tt)
-      wrong (Some l) other = (entry_of o.found.file, found.file, found-named img o.found name found is, (λ same. other (found.of.shows.size ∙ same)))
+      wrong (Some l) other = (
+        entry_of o.found.file,
+        found.file,
+        found-named img o.found name found is,
+        (λ same. other (found.of.shows.size ∙ same)),
+      )
 
   -- what is known once it is open
-  pub known-opened : (number : ℕ) → 2 ≤ number → number ≤ 14 → IsKnown img (record { last = Some (record { found = o.found; spot = Some (first_spot number) }); before = k.before; checked = k.checked })
+  pub known-opened : (number : ℕ) → 2 ≤ number → number ≤ 14
+      → IsKnown img (record {
+        last = Some (record { found = o.found; spot = Some (first_spot number) });
+        before = k.before;
+        checked = k.checked;
+      })
   known-opened number low high = record {
     fresh = λ off. absurd (none-some o (sym (known.fresh off).0 ∙ last));
     remembered = λ checked. let m = known.remembered checked in record {
       clean = m.clean;
       last_found = found;
-      spot = record { low = low; high = high; record_from = omega arith; up_to = omega arith; from = omega arith; within = o.found.file.size_low };
+      spot = record {
+        low = low;
+        high = high;
+        record_from = omega arith;
+        up_to = omega arith;
+        from = omega arith;
+        within = o.found.file.size_low;
+      };
       before_found = m.before_found;
-      apart = subst (λ (last : Option Opened). IfSome last (λ o. IfSome k.before (λ e. entry_of e.file ≢ entry_of o.found.file))) last m.apart;
+      apart = subst (λ (last : Option Opened). IfSome last
+          (λ o. IfSome k.before (λ e. entry_of e.file ≢ entry_of o.found.file))) last m.apart;
     };
   }
 
@@ -107,20 +167,38 @@ module _ (img : Image) (k : Known) (name : List ℕ) (missing : ¬ (HasFile img 
   none-other None other = absurd other
   none-other (Some l) other = missing (other.0, other.1, other.2)
 
-  pub absent-row : OpensFile (shown img k s) number (record { name = name; length = None }) (shown img k statuses.FileNotFound)
+  pub absent-row : OpensFile (shown img k s) number (record { name = name; length = None })
+      (shown img k statuses.FileNotFound)
   absent-row = inl ((refl, missing), refl)
 
   given : (l : ℕ) → IsNone (Some l) × ¬ (HasFile img name) → ⊥
   given l h = cc
 
-  pub taken-row : (l : ℕ) (old : Image) → old ≡ img → HasEntry img name → OpensFile (shown img k s) number (record { name = name; length = Some l }) (shown old k statuses.TypeMismatch)
-  taken-row l old same taken = inr (given l, inr (none-other (Some l), inl ((missing, taken), ap (λ (i : Image). shown i k statuses.TypeMismatch) same)))
+  pub taken-row : (l : ℕ) (old : Image) → old ≡ img → HasEntry img name
+      → OpensFile (shown img k s) number (record { name = name; length = Some l }) (shown old k statuses.TypeMismatch)
+  taken-row l old same taken =
+      inr (
+        given l,
+        inr (
+          none-other (Some l),
+          inl ((missing, taken), ap (λ (i : Image). shown i k statuses.TypeMismatch) same),
+        ),
+      )
 
-  pub full-row : (l : ℕ) (old : Image) → old ≡ img → ¬ (HasEntry img name) → IsNoRoom img → OpensFile (shown img k s) number (record { name = name; length = Some l }) (shown old k statuses.DiskFull)
-  full-row l old same free full = inr (given l, inr (none-other (Some l), inr ((λ h. free h.1), inl (missing, inl (full, ap (λ (i : Image). shown i k statuses.DiskFull) same)))))
+  pub full-row : (l : ℕ) (old : Image) → old ≡ img → ¬ (HasEntry img name) → IsNoRoom img
+      → OpensFile (shown img k s) number (record { name = name; length = Some l }) (shown old k statuses.DiskFull)
+  full-row l old same free full =
+      inr (
+        given l,
+        inr (
+          none-other (Some l),
+          inr ((λ h. free h.1), inl (missing, inl (full, ap (λ (i : Image). shown i k statuses.DiskFull) same))),
+        ),
+      )
 
   -- it is made
-  pub made-row : (l : ℕ) (new : Image) (after : Known) (entry : ℕ) → ¬ (HasEntry img name) → ¬ (IsNoRoom img) → Makes img new name l entry
+  pub made-row : (l : ℕ) (new : Image) (after : Known) (entry : ℕ) → ¬ (HasEntry img name) → ¬ (IsNoRoom img)
+      → Makes img new name l entry
       → channel_of after.last ≡ Some (channel_at entry (first_spot number)) → after.checked ≡ k.checked
       → OpensFile (shown img k s) number (record { name = name; length = Some l }) (shown new after statuses.Ok)
   made-row l new after entry free room makes open_one same = inr (
@@ -136,7 +214,12 @@ module _ (img : Image) (k : Known) (name : List ℕ) (missing : ¬ (HasFile img 
             (
               entry,
               makes,
-              ap₂ (λ (c : Option Channel) (checked : Bool). record { image = new; channel = c; status = statuses.Ok; checked = checked }) open_one same,
+              ap₂ (λ (c : Option Channel) (checked : Bool). record {
+                image = new;
+                channel = c;
+                status = statuses.Ok;
+                checked = checked;
+              }) open_one same,
             ),
           ),
         ),
@@ -145,12 +228,14 @@ module _ (img : Image) (k : Known) (name : List ℕ) (missing : ¬ (HasFile img 
   )
 
 -- the file that is opened last is the one that was looked for
-pub looked-name : (img : Image) (name : List ℕ) (k : Known) (o : Opened) → HasLooked img name k true → k.last ≡ Some o → o.found.name.items ≡ name
+pub looked-name : (img : Image) (name : List ℕ) (k : Known) (o : Opened) → HasLooked img name k true → k.last ≡ Some o
+    → o.found.name.items ≡ name
 looked-name img name k o looked last =
     let f = looked.found refl in subst (λ (x : Opened). x.found.name.items ≡ name) (same_Some _ _ (sym f.1 ∙ last)) f.2
 
 -- what a creation that is done leaves
-pub makes-of : (old new : Image) (l : Layout) (name : List ℕ) (L : ℕ) (v : RelFile) → IsLayout old l → IsMade old l name L new v → Makes old new name L (entry_of v)
+pub makes-of : (old new : Image) (l : Layout) (name : List ℕ) (L : ℕ) (v : RelFile) → IsLayout old l
+    → IsMade old l name L new v → Makes old new name L (entry_of v)
 makes-of old new l name L v layout made = record {
   layout = l;
   is_layout = layout;
@@ -159,7 +244,8 @@ makes-of old new l name L v layout made = record {
 }
 
 -- and what is known after it
-pub known-made : (old new : Image) (l : Layout) (name : List ℕ) (L : ℕ) (v : RelFile) (e : Found) (s : Spot) (number : ℕ) → IsMade old l name L new v → ¬ (IsTakenName l name) → e.file ≡ v → e.name.items ≡ name → IsName name
+pub known-made : (old new : Image) (l : Layout) (name : List ℕ) (L : ℕ) (v : RelFile) (e : Found) (s : Spot)
+    (number : ℕ) → IsMade old l name L new v → ¬ (IsTakenName l name) → e.file ≡ v → e.name.items ≡ name → IsName name
     → s ≡ first_spot number → 2 ≤ number → number ≤ 14 → (checked : Bool) → checked ≡ true
     → IsKnown new (record { last = Some (record { found = e; spot = Some s }); before = None; checked = checked })
 known-made old new l name L v e s number made free file is named at low high checked yes-checked = record {
@@ -167,8 +253,16 @@ known-made old new l name L v e s number made free file is named at low high che
   remembered = λ _. record {
     clean = (made.more.layout, made.more.clean);
     last_found = found-new new e v name made.more.layout made.more.file file is named
-        (first-made old new l made.more.layout name made.more.file made.more.adds free (entry_of v) made.of.there made.more.named) made.of;
-    spot = subst (IsSpot e) (sym at) (record { low = low; high = high; record_from = omega arith; up_to = omega arith; from = omega arith; within = e.file.size_low });
+        (first-made old new l made.more.layout name made.more.file made.more.adds free (entry_of v) made.of.there
+        made.more.named) made.of;
+    spot = subst (IsSpot e) (sym at) (record {
+      low = low;
+      high = high;
+      record_from = omega arith;
+      up_to = omega arith;
+      from = omega arith;
+      within = e.file.size_low;
+    });
     before_found = tt;
     apart = tt;
   };

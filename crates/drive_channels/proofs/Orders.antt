@@ -1,5 +1,22 @@
 -- Which row of the table a command meets, and what is known after a repair.
-use Rattle.std.proofs.Common.{ℕ, ◌≡◌, inl, inr, Bool, true, false, IsTrue, List, [], ◌∷◌, slice_index, sym, ap, subst, refl}
+use Rattle.std.proofs.Common.{
+  ℕ,
+  ◌≡◌,
+  inl,
+  inr,
+  Bool,
+  true,
+  false,
+  IsTrue,
+  List,
+  [],
+  ◌∷◌,
+  slice_index,
+  sym,
+  ap,
+  subst,
+  refl,
+}
 use Rattle.d64_image.specs.Images.{Image}
 use Rattle.disk_layout.specs.Clean.{IsClean}
 use Rattle.disk_layout.specs.Layout.{IsLayout, Layout}
@@ -25,7 +42,8 @@ not-empty : (x : ℕ) (rest text : List ℕ) → text ≡ x ∷ rest → text �
 not-empty x rest text is none = cc
 
 -- P comes to its own row
-pub meets-p : (x : View) (text : List ℕ) (y : View) → ¬ (IsValidate text) → ¬ (IsInitialize text) → (p : BeginsWithP text) → Moves x text y → Commands x text y
+pub meets-p : (x : View) (text : List ℕ) (y : View) → ¬ (IsValidate text) → ¬ (IsInitialize text)
+    → (p : BeginsWithP text) → Moves x text y → Commands x text y
 meets-p x text y no-v no-i p row = inr (not-empty 80 p.0 text p.1, inr (no-v, inr (no-i, inl (p, row))))
 
 -- and so does V
@@ -37,14 +55,16 @@ some-validate text v none = elim v [
   | inr (inr (inr e)) ↦ not-empty _ _ text e none
 ]
 
-pub meets-v : (x : View) (text : List ℕ) (y : View) → IsValidate text → ValidatesTo x.image y.image y.status → y ≡ record x { image = y.image; status = y.status } → Commands x text y
+pub meets-v : (x : View) (text : List ℕ) (y : View) → IsValidate text → ValidatesTo x.image y.image y.status
+    → y ≡ record x { image = y.image; status = y.status } → Commands x text y
 meets-v x text y v row same = inr (some-validate text v, inl (v, (row, same)))
 
 -- what is known of a clean disk stays, since it isn't written
 pub known-after : (old new : Image) (k : Known) → IsKnown old k → (IsClean old → new ≡ old) → IsKnown new k
 known-after old new k known same = record {
   fresh = known.fresh;
-  remembered = λ checked. let m = known.remembered checked in subst (λ (i : Image). Remembers i k.last k.before) (sym (same m.clean)) m;
+  remembered = λ checked. let m = known.remembered checked in subst (λ (i : Image). Remembers i k.last k.before)
+      (sym (same m.clean)) m;
 }
 
 -- an image is mended from itself
@@ -52,5 +72,11 @@ pub mended-same : (img : Image) (l : Layout) → IsLayout img l → IsMended img
 mended-same img l h = record {
   layout = l;
   sound = h;
-  same = record { directory = refl; files = refl; entries = λ p own i lt. inr refl; header = refl; elsewhere = λ p a b c. refl };
+  same = record {
+    directory = refl;
+    files = refl;
+    entries = λ p own i lt. inr refl;
+    header = refl;
+    elsewhere = λ p a b c. refl;
+  };
 }

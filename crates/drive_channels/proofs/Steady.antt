@@ -1,5 +1,23 @@
 -- What the fields of a drive say of what it shows.
-use Rattle.std.proofs.Common.{ℕ, ◌≡◌, ◌≤◌, Bool, true, false, Option, None, Some, IfSome, Ok, Err, sym, ◌∙◌, ap, subst, refl}
+use Rattle.std.proofs.Common.{
+  ℕ,
+  ◌≡◌,
+  ◌≤◌,
+  Bool,
+  true,
+  false,
+  Option,
+  None,
+  Some,
+  IfSome,
+  Ok,
+  Err,
+  sym,
+  ◌∙◌,
+  ap,
+  subst,
+  refl,
+}
 use Rattle.std.proofs.lemmas.Option.{same_Some, none-some}
 use Rattle.d64_image.specs.History.{Failed, History}
 use Rattle.d64_image.specs.Images.{Image}
@@ -15,7 +33,12 @@ use Rattle.drive_channels.specs.declared.drive.Drive.TheInside.{Inside}
 
 -- the channel of an opened file
 pub channel-right : (img : Image) (e : Found) (s : Spot) → IsFound img e → IsSpot e s
-    → IsChannel img (record { number = s.channel; entry = entry_of e.file; record_number = s.record_number; position = s.position })
+    → IsChannel img (record {
+      number = s.channel;
+      entry = entry_of e.file;
+      record_number = s.record_number;
+      position = s.position;
+    })
 channel-right img e s found spot = record {
   low = spot.low;
   high = spot.high;
@@ -27,12 +50,14 @@ channel-right img e s found spot = record {
   within = subst (λ (L : ℕ). s.position ≤ L) found.of.shows.size spot.within;
 }
 
-pub last-right : (img : Image) (last : Option Opened) (c : Channel) → IfSome last (λ o. IsFound img o.found) → IfSome last (λ o. IfSome o.spot (IsSpot o.found))
+pub last-right : (img : Image) (last : Option Opened) (c : Channel) → IfSome last (λ o. IsFound img o.found)
+    → IfSome last (λ o. IfSome o.spot (IsSpot o.found))
     → channel_of last ≡ Some c → IsChannel img c
 last-right img None c found spot e = absurd (none-some c e)
 last-right img (Some o) c found spot e = at o.spot spot e
   where
-    at : (spot : Option Spot) → IfSome spot (IsSpot o.found) → channel_in (entry_of o.found.file) spot ≡ Some c → IsChannel img c
+    at : (spot : Option Spot) → IfSome spot (IsSpot o.found) → channel_in (entry_of o.found.file) spot ≡ Some c
+        → IsChannel img c
     at None h e = absurd (none-some c e)
     at (Some s) h e = subst (IsChannel img) (same_Some _ _ e) (channel-right img o.found s found h)
 
@@ -41,7 +66,8 @@ pub orderly : {D : Type 0} (S : History D) (d : Inside D) → IsKnown (S.image d
 orderly S d h = record {
   clean = λ checked. (h.remembered checked).clean;
   checked = by d.known.checked refl;
-  channel = λ c e. let m = h.remembered (by d.known.checked refl c e) in last-right (S.image d.disk) d.known.last c m.last_found m.spot e;
+  channel = λ c e. let m = h.remembered (by d.known.checked refl c e) in last-right (S.image d.disk) d.known.last c
+      m.last_found m.spot e;
 }
   where
     by : (b : Bool) → d.known.checked ≡ b → (c : Channel) → channel_of d.known.last ≡ Some c → d.known.checked ≡ true
@@ -49,7 +75,8 @@ orderly S d h = record {
     by false is c e = absurd (none-some c (sym (ap channel_of (h.fresh is).0) ∙ e))
 
 -- an answer of a drive that isn't dead
-pub served : {D T E : Type 0} (S : History D) (old new : Seen D) (x : T) → old.dead ≡ false → new.dead ≡ false → S.failures new.disk ≡ S.failures old.disk
+pub served : {D T E : Type 0} (S : History D) (old new : Seen D) (x : T) → old.dead ≡ false → new.dead ≡ false
+    → S.failures new.disk ≡ S.failures old.disk
     → IsOrderly S new → Serves {E = E} S old new (Ok x)
 served S old new x alive after same right = record {
   dead = λ e. absurd (apart alive e);
@@ -62,7 +89,8 @@ served S old new x alive after same right = record {
     apart f t = cc
 
 -- the device failed in the call
-pub died : {D T E : Type 0} (S : History D) (old new : Seen D) (x : E) → old.dead ≡ false → new.dead ≡ true → Failed S old.disk new.disk → Serves {T = T} S old new (Err x)
+pub died : {D T E : Type 0} (S : History D) (old new : Seen D) (x : E) → old.dead ≡ false → new.dead ≡ true
+    → Failed S old.disk new.disk → Serves {T = T} S old new (Err x)
 died S old new x alive after failed = record {
   dead = λ e. absurd (apart alive e);
   failures = λ _. failed;
@@ -90,5 +118,6 @@ pub found-last : (img : Image) (k : Known) (o : Opened) → IsKnown img k → k.
 found-last img k o known is = by k.checked refl
   where
     by : (b : Bool) → k.checked ≡ b → IsFound img o.found
-    by true checked = subst (λ (last : Option Opened). IfSome last (λ o. IsFound img o.found)) is (known.remembered checked).last_found
+    by true checked = subst (λ (last : Option Opened). IfSome last (λ o. IsFound img o.found)) is
+        (known.remembered checked).last_found
     by false checked = absurd (none-some o (sym (known.fresh checked).0 ∙ is))

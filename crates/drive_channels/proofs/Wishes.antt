@@ -1,5 +1,28 @@
 -- A text of open asks for one thing.
-use Rattle.std.proofs.Common.{ℕ, ◌≡◌, List, [], ◌∷◌, ◌++◌, None, Option, Some, IsTrue, drop, get_or, length, slice_index, length-append, sym, ◌∙◌, ap, ap₂, subst, refl, arith}
+use Rattle.std.proofs.Common.{
+  ℕ,
+  ◌≡◌,
+  List,
+  [],
+  ◌∷◌,
+  ◌++◌,
+  None,
+  Option,
+  Some,
+  IsTrue,
+  drop,
+  get_or,
+  length,
+  slice_index,
+  length-append,
+  sym,
+  ◌∙◌,
+  ap,
+  ap₂,
+  subst,
+  refl,
+  arith,
+}
 use Rattle.std.specs.List.{AllByRecursion}
 use Rattle.drive_channels.specs.Spelling.{IsName, IsSpelled, IsTail, IsWish, Wish, is_name_byte}
 
@@ -14,7 +37,8 @@ no-comma (x ∷ n) rest e a = no-comma n rest e a.1
 
 -- so a name asks for no length
 not-both : (a b : List ℕ) (l : ℕ) (tail : List ℕ) → IsName a → a ≡ b ++ tail → IsTail tail l → ⊥
-not-both a b l tail name e t = no-comma b tail (ap (λ (xs : List ℕ). slice_index xs 0) t.spelled) (subst (AllByRecursion (λ b. IsTrue (is_name_byte b))) e name.bytes)
+not-both a b l tail name e t = no-comma b tail (ap (λ (xs : List ℕ). slice_index xs 0) t.spelled)
+    (subst (AllByRecursion (λ b. IsTrue (is_name_byte b))) e name.bytes)
 
 pub name-plain : (name : List ℕ) → IsName name → (w : Wish) → IsWish name w → w.length ≡ None
 name-plain name h w is = by w.length is.1
@@ -35,7 +59,8 @@ parts (x ∷ a) (y ∷ b) s t long e =
 four : (tail : List ℕ) (l : ℕ) → IsTail tail l → length tail ≡ 4
 four tail l t = ap length t.spelled
 
-one : (text a b : List ℕ) (m n : Option ℕ) → IsName a → IsName b → IsSpelled text a m → IsSpelled text b n → (a ≡ b) × (m ≡ n)
+one : (text a b : List ℕ) (m n : Option ℕ) → IsName a → IsName b → IsSpelled text a m → IsSpelled text b n → (a ≡ b)
+    × (m ≡ n)
 one text a b None None x y e h = (sym e ∙ h, refl)
 one text a b None (Some l) x y e h = absurd (not-both a b l h.0 x (sym e ∙ h.1) h.2)
 one text a b (Some l) None x y e h = absurd (not-both b a l e.0 y (sym h ∙ e.1) e.2)
@@ -45,4 +70,5 @@ one text a b (Some l) (Some k) x y e h =
 
 -- a text asks for one thing
 pub wish-one : (text : List ℕ) (v w : Wish) → IsWish text v → IsWish text w → v ≡ w
-wish-one text v w x y = let p = one text v.name w.name v.length w.length x.0 y.0 x.1 y.1 in ap₂ (λ (name : List ℕ) (length : Option ℕ). record { name = name; length = length }) p.0 p.1
+wish-one text v w x y = let p = one text v.name w.name v.length w.length x.0 y.0 x.1 y.1 in
+    ap₂ (λ (name : List ℕ) (length : Option ℕ). record { name = name; length = length }) p.0 p.1

@@ -151,7 +151,8 @@ module _ {D T E : Type 0} (S : History D) (old new : D) (c : Channel) (l : Layou
 
     -- and those of a writing of any other
     pub written-at : (text : List ℕ) → 1 ≤ length text
-        → Changes S old new (growth_writes f c.record_number + touched (record_length f.slot) c.record_number c.position)
+        → Changes S old new (growth_writes f c.record_number + touched (record_length f.slot) c.record_number
+        c.position)
         (IsWriting (S.image old) l c.entry f (added (record_length f.slot) (records_had f) c.record_number)
         c.record_number c.position text)
         → (c.record_number ≤ records_had f → IsInOneBlock (record_length f.slot) c.record_number

@@ -1,5 +1,31 @@
 -- A write to the channel of a number, and what is known of the files behind it.
-use Rattle.std.proofs.Common.{ℕ, ◌≡◌, ◌≢◌, inl, inr, List, [], ◌∷◌, append-nil, arith, Bool, false, true, Option, None, Some, IfSome, Result, OnOk, Ok, Err, sym, ◌∙◌, subst, refl}
+use Rattle.std.proofs.Common.{
+  ℕ,
+  ◌≡◌,
+  ◌≢◌,
+  inl,
+  inr,
+  List,
+  [],
+  ◌∷◌,
+  append-nil,
+  arith,
+  Bool,
+  false,
+  true,
+  Option,
+  None,
+  Some,
+  IfSome,
+  Result,
+  OnOk,
+  Ok,
+  Err,
+  sym,
+  ◌∙◌,
+  subst,
+  refl,
+}
 use Rattle.std.proofs.lemmas.Option.{same_Some, none-some}
 use Rattle.d64_image.proofs.Moments.{changes_weaker, no_change}
 use Rattle.d64_image.specs.History.{Changes, History}
@@ -11,7 +37,17 @@ use Rattle.rel_records.specs.File.{entry_of}
 use Rattle.rel_records.specs.Others.{HasRecords, KeepsPlaces}
 use Rattle.rel_records.specs.Written.{IsGrowingTo}
 use Rattle.drive_channels.specs.Files.{IsRelAt}
-use Rattle.drive_channels.specs.Inside.{IsFound, IsKnown, IsSpot, KeepsFound, Remembers, at_spot, channel_at, channel_of, shown}
+use Rattle.drive_channels.specs.Inside.{
+  IsFound,
+  IsKnown,
+  IsSpot,
+  KeepsFound,
+  Remembers,
+  at_spot,
+  channel_at,
+  channel_of,
+  shown,
+}
 use Rattle.drive_channels.specs.Moments.{IsOnTheWay, IsWrittenAt, IsWrittenOn}
 use Rattle.drive_channels.specs.State.{Channel, View}
 use Rattle.drive_channels.specs.Tables.{HasOn, InFile, Reads, Writes, WritesIn}
@@ -23,26 +59,37 @@ use Rattle.drive_channels.specs.declared.status.Status.{Status}
 use Rattle.drive_channels.specs.declared.status.Status.TheVariants.{FileNotOpen}
 
 -- a write to the open channel
-pub write-on : (img : Image) (e : Found) (s : Spot) (channel : ℕ) (known : Known) (text : List ℕ) (status : Status) (y : View)
+pub write-on : (img : Image) (e : Found) (s : Spot) (channel : ℕ) (known : Known) (text : List ℕ) (status : Status)
+    (y : View)
     → known.last ≡ Some (record { found = e; spot = Some s }) → s.channel ≡ channel
     → InFile (at_spot img e s status known.checked) (WritesIn (at_spot img e s status known.checked) text y)
     → Writes (shown img known status) channel text y
 write-on img e s channel known text status y is on row =
-    subst (λ (o : Option Opened). Writes (record { image = img; channel = channel_of o; status = status; checked = known.checked }) channel text y) (sym is)
+    subst (λ (o : Option Opened). Writes (record {
+      image = img;
+      channel = channel_of o;
+      status = status;
+      checked = known.checked;
+    }) channel text y) (sym is)
     (inr ((λ no. no (channel_at (entry_of e.file) s, (refl, on))), row))
 
 module _ {D T E : Type 0} (S : History D) (number : ℕ) (text : List ℕ) (result : Result T E) where
   -- its moments
-  pub written-on : (old new : D) (e : Found) (s : Spot) (last : Option Opened) → last ≡ Some (record { found = e; spot = Some s }) → s.channel ≡ number
-      → ((l : Layout) (f : File) → IsRelAt (S.image old) l (entry_of e.file) f → IsWrittenAt S old new (channel_at (entry_of e.file) s) l f text result)
+  pub written-on : (old new : D) (e : Found) (s : Spot) (last : Option Opened)
+      → last ≡ Some (record { found = e; spot = Some s }) → s.channel ≡ number
+      → ((l : Layout) (f : File) → IsRelAt (S.image old) l (entry_of e.file) f
+      → IsWrittenAt S old new (channel_at (entry_of e.file) s) l f text result)
       → IsWrittenOn S old new (channel_of last) number text result
-  written-on old new e s last is on at = subst (λ (o : Option Opened). IsWrittenOn S old new (channel_of o) number text result) (sym is) (record {
-    silent = λ no. absurd (no (channel_at (entry_of e.file) s, (refl, on)));
-    at = λ c l f h rel. subst (λ (c : Channel). IsRelAt (S.image old) l c.entry f → IsWrittenAt S old new c l f text result) (same_Some _ _ h.0) (at l f) rel;
-  })
+  written-on old new e s last is on at =
+      subst (λ (o : Option Opened). IsWrittenOn S old new (channel_of o) number text result) (sym is) (record {
+        silent = λ no. absurd (no (channel_at (entry_of e.file) s, (refl, on)));
+        at = λ c l f h rel. subst (λ (c : Channel). IsRelAt (S.image old) l c.entry f
+            → IsWrittenAt S old new c l f text result) (same_Some _ _ h.0) (at l f) rel;
+      })
 
   -- and where the channel isn't open
-  pub not-written : (d : D) (open_one : Option Channel) → ¬ (HasOn open_one number) → IsWrittenOn S d d open_one number text result
+  pub not-written : (d : D) (open_one : Option Channel) → ¬ (HasOn open_one number)
+      → IsWrittenOn S d d open_one number text result
   not-written d open_one closed = record { silent = λ _. refl; at = λ c l f on rel. absurd (closed (c, on)) }
 
 -- what follows of two facts of an answer that is done
@@ -51,24 +98,31 @@ on-both (Ok x) f a b = f a b
 on-both (Err e) f a b = tt
 
 -- another channel is open, or none
-pub other-open : (e : Found) (s : Spot) (last : Option Opened) (number : ℕ) → last ≡ Some (record { found = e; spot = Some s }) → s.channel ≢ number → ¬ (HasOn (channel_of last) number)
-other-open e s last number is other = subst (λ (o : Option Opened). ¬ (HasOn (channel_of o) number)) (sym is) (λ h. other (away h.0 h.1))
+pub other-open : (e : Found) (s : Spot) (last : Option Opened) (number : ℕ)
+    → last ≡ Some (record { found = e; spot = Some s }) → s.channel ≢ number → ¬ (HasOn (channel_of last) number)
+other-open e s last number is other = subst (λ (o : Option Opened). ¬ (HasOn (channel_of o) number)) (sym is)
+    (λ h. other (away h.0 h.1))
   where
     away : (c : Channel) → (Some (channel_at (entry_of e.file) s) ≡ Some c) × (c.number ≡ number) → s.channel ≡ number
     away c (same, on) = subst (λ (c : Channel). c.number ≡ number) (sym (same_Some _ _ same)) on
 
-pub none-open : (e : Found) (last : Option Opened) (number : ℕ) → last ≡ Some (record { found = e; spot = None }) → ¬ (HasOn (channel_of last) number)
-none-open e last number is = subst (λ (o : Option Opened). ¬ (HasOn (channel_of o) number)) (sym is) (λ h. none-some h.0 h.1.0)
+pub none-open : (e : Found) (last : Option Opened) (number : ℕ) → last ≡ Some (record { found = e; spot = None })
+    → ¬ (HasOn (channel_of last) number)
+none-open e last number is = subst (λ (o : Option Opened). ¬ (HasOn (channel_of o) number)) (sym is)
+    (λ h. none-some h.0 h.1.0)
 
 pub no-file : (last : Option Opened) (number : ℕ) → last ≡ None → ¬ (HasOn (channel_of last) number)
-no-file last number is = subst (λ (o : Option Opened). ¬ (HasOn (channel_of o) number)) (sym is) (λ h. none-some h.0 h.1.0)
+no-file last number is = subst (λ (o : Option Opened). ¬ (HasOn (channel_of o) number)) (sym is)
+    (λ h. none-some h.0 h.1.0)
 
 -- a file opened last, by its parts
-pub parts-of : (k : Known) (o : Opened) (spot : Option Spot) → k.last ≡ Some o → o.spot ≡ spot → k.last ≡ Some (record { found = o.found; spot = spot })
+pub parts-of : (k : Known) (o : Opened) (spot : Option Spot) → k.last ≡ Some o → o.spot ≡ spot
+    → k.last ≡ Some (record { found = o.found; spot = spot })
 parts-of k o spot is at = subst (λ (x : Option Spot). k.last ≡ Some (record { found = o.found; spot = x })) at is
 
 -- what is known of its disk, of the file and of its place
-pub on-spot : (img : Image) (k : Known) (e : Found) (s : Spot) → IsKnown img k → k.last ≡ Some (record { found = e; spot = Some s }) → IsClean img × IsFound img e × IsSpot e s
+pub on-spot : (img : Image) (k : Known) (e : Found) (s : Spot) → IsKnown img k
+    → k.last ≡ Some (record { found = e; spot = Some s }) → IsClean img × IsFound img e × IsSpot e s
 on-spot img k e s known is = by k.checked refl
   where
     by : (b : Bool) → k.checked ≡ b → IsClean img × IsFound img e × IsSpot e s
@@ -81,23 +135,33 @@ on-spot img k e s known is = by k.checked refl
         )
 
 -- a call that only looks at the file opened last leaves what is known
-pub still-known : (img : Image) (k : Known) (last : Option Opened) → k.last ≡ last → IsKnown img k → IsKnown img (record { last = last; before = k.before; checked = k.checked })
-still-known img k last is known = subst (λ (o : Option Opened). IsKnown img (record { last = o; before = k.before; checked = k.checked })) is known
+pub still-known : (img : Image) (k : Known) (last : Option Opened) → k.last ≡ last → IsKnown img k
+    → IsKnown img (record { last = last; before = k.before; checked = k.checked })
+still-known img k last is known =
+    subst (λ (o : Option Opened). IsKnown img (record { last = o; before = k.before; checked = k.checked })) is known
 
 -- a write to a channel that isn't open
-pub closed-row : (img : Image) (k : Known) (last : Option Opened) (number : ℕ) (text : List ℕ) (s : Status) → k.last ≡ last → ¬ (HasOn (channel_of k.last) number)
-    → Writes (shown img k s) number text (shown img (record { last = last; before = k.before; checked = k.checked }) FileNotOpen)
+pub closed-row : (img : Image) (k : Known) (last : Option Opened) (number : ℕ) (text : List ℕ) (s : Status)
+    → k.last ≡ last → ¬ (HasOn (channel_of k.last) number)
+    → Writes (shown img k s) number text (shown img (record { last = last; before = k.before; checked = k.checked })
+    FileNotOpen)
 closed-row img k last number text s is closed =
-    subst (λ (o : Option Opened). Writes (shown img k s) number text (shown img (record { last = o; before = k.before; checked = k.checked }) FileNotOpen)) is (inl (closed, refl))
+    subst (λ (o : Option Opened). Writes (shown img k s) number text
+    (shown img (record { last = o; before = k.before; checked = k.checked }) FileNotOpen)) is (inl (closed, refl))
 
 -- a read of one
-pub closed-read : (img : Image) (k : Known) (last : Option Opened) (number : ℕ) (given : List ℕ) (s : Status) → k.last ≡ last → ¬ (HasOn (channel_of k.last) number) → given ≡ []
-    → Reads (shown img k s) number given (shown img (record { last = last; before = k.before; checked = k.checked }) FileNotOpen)
+pub closed-read : (img : Image) (k : Known) (last : Option Opened) (number : ℕ) (given : List ℕ) (s : Status)
+    → k.last ≡ last → ¬ (HasOn (channel_of k.last) number) → given ≡ []
+    → Reads (shown img k s) number given (shown img (record { last = last; before = k.before; checked = k.checked })
+    FileNotOpen)
 closed-read img k last number given s is closed none =
-    subst (λ (o : Option Opened). Reads (shown img k s) number given (shown img (record { last = o; before = k.before; checked = k.checked }) FileNotOpen)) is (inl (closed, (refl, none)))
+    subst (λ (o : Option Opened). Reads (shown img k s) number given
+    (shown img (record { last = o; before = k.before; checked = k.checked }) FileNotOpen)) is
+    (inl (closed, (refl, none)))
 
 -- what is known after a write to the file that was opened last
-pub known-written : (old new : Image) (k : Known) (o : Opened) (e : Found) (s : Spot) → k.last ≡ Some o → IsKnown old k → KeepsFound old new o.found e → IsSpot e s
+pub known-written : (old new : Image) (k : Known) (o : Opened) (e : Found) (s : Spot) → k.last ≡ Some o → IsKnown old k
+    → KeepsFound old new o.found e → IsSpot e s
     → IsKnown new (record { last = Some (record { found = e; spot = Some s }); before = k.before; checked = k.checked })
 known-written old new k o e s is known keeps spot = record {
   fresh = λ no. absurd (none-some o (sym (known.fresh no).0 ∙ is));
@@ -114,7 +178,8 @@ known-written old new k o e s is known keeps spot = record {
     Apart before = IfSome before (λ e. entry_of e.file ≢ entry_of o.found.file)
 
     beside : Remembers old k.last k.before → Apart k.before
-    beside m = subst (λ (last : Option Opened). IfSome last (λ o. IfSome k.before (λ e. entry_of e.file ≢ entry_of o.found.file))) is m.apart
+    beside m = subst (λ (last : Option Opened). IfSome last
+        (λ o. IfSome k.before (λ e. entry_of e.file ≢ entry_of o.found.file))) is m.apart
 
     others : (before : Option Found) → IfSome before (IsFound old) → Apart before → IfSome before (IsFound new)
     others None h apart = tt
@@ -125,18 +190,26 @@ known-written old new k o e s is known keeps spot = record {
     still (Some b) apart = λ same. apart (same ∙ keeps.entry)
 
 -- the image that a write begins with is on its way
-pub begins : (img : Image) (text : List ℕ) (c : Channel) (l : Layout) (f : File) → IsRelAt img l c.entry f → IsOnTheWay img text c l f img
+pub begins : (img : Image) (text : List ℕ) (c : Channel) (l : Layout) (f : File) → IsRelAt img l c.entry f
+    → IsOnTheWay img text c l f img
 begins img text c l f rel = by text
   where
     has : HasRecords img img l c.entry (records img f)
     has = record {
       layout = l;
       is_layout = rel.layout;
-      others = record { directory = refl; entries = refl; files = λ k g ne h. h; bytes = λ k g ne h. refl; header = refl };
+      others = record {
+        directory = refl;
+        entries = refl;
+        files = λ k g ne h. h;
+        bytes = λ k g ne h. refl;
+        header = refl;
+      };
       file = f;
       there = rel.there;
       records = refl;
-      places = λ g h. subst (λ (x : File). KeepsPlaces img x f (records img f)) (same_Some _ _ (sym rel.there ∙ h)) (omega arith, inl refl);
+      places = λ g h. subst (λ (x : File). KeepsPlaces img x f (records img f)) (same_Some _ _ (sym rel.there ∙ h))
+          (omega arith, inl refl);
     }
 
     grows : IsGrowingTo img l c.entry f c.record_number img

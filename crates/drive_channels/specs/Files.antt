@@ -31,7 +31,8 @@ HasEntry img name = (l : Layout) × IsLayout img l × IsTakenName l name
 abbrev pub IsNoRoom : Image → Type 0
 IsNoRoom img = (l : Layout) × IsLayout img l × HasNoRoom img l
 
--- new has the files of old and, with this entry, one more, of this name and record length, in the first slot that was free
+-- new has the files of old and, with this entry, one more, of this name and record length, in the first slot that was
+-- free
 pub record Makes (old new : Image) (name : List ℕ) (L entry : ℕ) : Type 0 where
   pub layout : Layout
   pub is_layout : IsLayout old layout

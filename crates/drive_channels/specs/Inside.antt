@@ -18,7 +18,12 @@ use Rattle.drive_channels.specs.declared.drive.Drive.TheInside.{Inside}
 
 -- the channel at this place of the file with this entry
 abbrev pub channel_at : ℕ → Spot → Channel
-channel_at entry s = record { number = s.channel; entry = entry; record_number = s.record_number; position = s.position }
+channel_at entry s = record {
+  number = s.channel;
+  entry = entry;
+  record_number = s.record_number;
+  position = s.position;
+}
 
 abbrev pub channel_in : ℕ → Option Spot → Option Channel
 channel_in entry None = None
@@ -31,7 +36,13 @@ channel_of (Some o) = channel_in (entry_of o.found.file) o.spot
 
 -- what a drive shows
 abbrev pub seen_of : {D : Type 0} → Inside D → Seen D
-seen_of d = record { disk = d.disk; channel = channel_of d.known.last; status = d.status; checked = d.known.checked; dead = d.dead }
+seen_of d = record {
+  disk = d.disk;
+  channel = channel_of d.known.last;
+  status = d.status;
+  checked = d.known.checked;
+  dead = d.dead;
+}
 
 -- the first byte of the first record
 abbrev pub first_spot : ℕ → Spot
@@ -43,11 +54,21 @@ next_spot s = record { channel = s.channel; record_number = s.record_number + 1;
 
 -- a drive that knows this and has this status, over this image
 abbrev pub shown : Image → Known → Status → View
-shown img known status = record { image = img; channel = channel_of known.last; status = status; checked = known.checked }
+shown img known status = record {
+  image = img;
+  channel = channel_of known.last;
+  status = status;
+  checked = known.checked;
+}
 
 -- a drive with this file open at this place
 abbrev pub at_spot : Image → Found → Spot → Status → Bool → View
-at_spot img e s status checked = record { image = img; channel = channel_in (entry_of e.file) (Some s); status = status; checked = checked }
+at_spot img e s status checked = record {
+  image = img;
+  channel = channel_in (entry_of e.file) (Some s);
+  status = status;
+  checked = checked;
+}
 
 -- the remembered file is the first closed relative one of its name
 pub record IsFound (img : Image) (e : Found) : Type 0 where
@@ -95,7 +116,8 @@ abbrev pub found_in : Option Opened → Option Found
 found_in None = None
 found_in (Some o) = Some o.found
 
--- after a look for the first closed relative file of a name: where there is one it is the one opened last, with no channel
+-- after a look for the first closed relative file of a name: where there is one it is the one opened last, with no
+-- channel
 pub record HasLooked (img : Image) (name : List ℕ) (k : Known) (there : Bool) : Type 0 where
   pub known : IsKnown img k
   pub checked : k.checked ≡ true

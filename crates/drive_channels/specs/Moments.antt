@@ -1,5 +1,24 @@
 -- What the disk may hold during a call that writes: what it may hold during the record call in it.
-use Rattle.std.specs.Prelude.{ℕ, ◌≡◌, ◌≤◌, ◌+◌, ◌⊎◌, Bool, false, true, if◌then◌else◌, List, [], ◌∷◌, None, OnErr, OnOk, Option, Result, Some}
+use Rattle.std.specs.Prelude.{
+  ℕ,
+  ◌≡◌,
+  ◌≤◌,
+  ◌+◌,
+  ◌⊎◌,
+  Bool,
+  false,
+  true,
+  if◌then◌else◌,
+  List,
+  [],
+  ◌∷◌,
+  None,
+  OnErr,
+  OnOk,
+  Option,
+  Result,
+  Some,
+}
 use Rattle.d64_image.specs.History.{Changes, History, OnlyReads}
 use Rattle.d64_image.specs.Images.{Image}
 use Rattle.disk_layout.specs.Clean.{IsClean}
@@ -16,7 +35,8 @@ use Rattle.drive_channels.specs.Tables.{HasOn, IsOn}
 abbrev pub IsOnTheWay : Image → List ℕ → Channel → Layout → File → Image → Type 0
 IsOnTheWay old [] c l f img = IsGrowingTo old l c.entry f c.record_number img
 IsOnTheWay old text c l f img =
-    IsWriting old l c.entry f (added (record_length f.slot) (records_had f) c.record_number) c.record_number c.position text img
+    IsWriting old l c.entry f (added (record_length f.slot) (records_had f) c.record_number) c.record_number c.position
+    text img
 
 -- on the way of the creation of the file that is asked for
 pub record IsCreatingFor (old : Image) (l : Layout) (w : Wish) (img : Image) : Type 0 where
@@ -32,33 +52,45 @@ abbrev pub is_nil : List ℕ → Bool
 is_nil [] = true
 is_nil (x ∷ xs) = false
 
--- the sector writes of a write: those of the growth, and one for each block that the record's bytes from the position on touch
+-- the sector writes of a write: those of the growth, and one for each block that the record's bytes from the position
+-- on touch
 abbrev pub writes_for : File → Channel → List ℕ → ℕ
-writes_for f c text = growth_writes f c.record_number + (if is_nil text then 0 else touched (record_length f.slot) c.record_number c.position)
+writes_for f c text = growth_writes f c.record_number + (if is_nil text then 0 else touched (record_length f.slot)
+    c.record_number c.position)
 
--- a write at this place of the file f: every image held and the count of writes; and a record that is there and lies in one
+-- a write at this place of the file f: every image held and the count of writes; and a record that is there and lies in
+-- one
 -- block is written at once
-pub record IsWrittenAt {D T E : Type 0} (S : History D) (old new : D) (c : Channel) (l : Layout) (f : File) (text : List ℕ) (result : Result T E) : Type 0 where
+pub record IsWrittenAt {D T E : Type 0} (S : History D) (old new : D) (c : Channel) (l : Layout) (f : File)
+    (text : List ℕ) (result : Result T E) : Type 0 where
   pub moments : Changes S old new (writes_for f c text) (IsOnTheWay (S.image old) text c l f)
-  pub uncounted : c.record_number ≤ records_had f → IsInOneBlock (record_length f.slot) c.record_number → OnErr result (S.writes new ≡ S.writes old)
+  pub uncounted : c.record_number ≤ records_had f → IsInOneBlock (record_length f.slot) c.record_number
+      → OnErr result (S.writes new ≡ S.writes old)
 
 -- a write to the channel of this number: so where it is open, else nothing is done to the disk
-pub record IsWrittenOn {D T E : Type 0} (S : History D) (old new : D) (open_one : Option Channel) (number : ℕ) (text : List ℕ) (result : Result T E) : Type 0 where
+pub record IsWrittenOn {D T E : Type 0} (S : History D) (old new : D) (open_one : Option Channel) (number : ℕ)
+    (text : List ℕ) (result : Result T E) : Type 0 where
   pub silent : ¬ (HasOn open_one number) → new ≡ old
-  pub at : (c : Channel) (l : Layout) (f : File) → IsOn open_one number c → IsRelAt (S.image old) l c.entry f → IsWrittenAt S old new c l f text result
+  pub at : (c : Channel) (l : Layout) (f : File) → IsOn open_one number c → IsRelAt (S.image old) l c.entry f
+      → IsWrittenAt S old new c l f text result
 
--- the opening of what is asked for, after at most n reads: without a length, where the file is there, and where no channel is
+-- the opening of what is asked for, after at most n reads: without a length, where the file is there, and where no
+-- channel is
 -- open afterwards, nothing is written; else every image held is one of the creation, and so is the count of writes
-pub record IsOpenedFor {D T E : Type 0} (S : History D) (old new : D) (n : ℕ) (w : Wish) (after : Option Channel) (result : Result T E) : Type 0 where
+pub record IsOpenedFor {D T E : Type 0} (S : History D) (old new : D) (n : ℕ) (w : Wish) (after : Option Channel)
+    (result : Result T E) : Type 0 where
   pub plain : w.length ≡ None → OnlyReads S old new n
   pub there : HasFile (S.image old) w.name → OnlyReads S old new n
   pub refused : OnOk result (after ≡ None → OnlyReads S old new (n + 55))
-  pub moments : (l : Layout) → IsLayout (S.image old) l → Changes S old new (creation_writes l) (λ img. (img ≡ S.image old) ⊎ IsCreatingFor (S.image old) l w img)
+  pub moments : (l : Layout) → IsLayout (S.image old) l
+      → Changes S old new (creation_writes l) (λ img. (img ≡ S.image old) ⊎ IsCreatingFor (S.image old) l w img)
 
 -- the opening that a text asks for: the check, the look for the file, and its creation
-pub record IsOpenedBy {D T E : Type 0} (S : History D) (old new : D) (text : List ℕ) (before after : Option Channel) (result : Result T E) : Type 0 where
+pub record IsOpenedBy {D T E : Type 0} (S : History D) (old new : D) (text : List ℕ) (before after : Option Channel)
+    (result : Result T E) : Type 0 where
   pub plain : ((w : Wish) → IsWish text w → w.length ≡ None) → OnlyReads S old new 2817
   pub there : (w : Wish) → IsWish text w → HasFile (S.image old) w.name → OnlyReads S old new 2817
   pub refused : OnOk result (after ≡ before → OnlyReads S old new 2872)
   pub unclean : ¬ (IsClean (S.image old)) → OnlyReads S old new 2115
-  pub moments : (l : Layout) → IsLayout (S.image old) l → Changes S old new (creation_writes l) (IsCreatingFrom (S.image old) l text)
+  pub moments : (l : Layout) → IsLayout (S.image old) l
+      → Changes S old new (creation_writes l) (IsCreatingFrom (S.image old) l text)

@@ -1,10 +1,37 @@
 -- Names, the texts of open, and commands (1541 User's Guide, relative files; what of them is taken is our own).
-use Rattle.std.specs.Prelude.{ℕ, ◌≡◌, ◌≤◌, ◌⊎◌, ◌&&◌, ◌%◌, ◌+◌, ◌*◌, not, Bool, List, [], ◌∷◌, ◌++◌, None, Option, Some, IsTrue, codes, length, max, nat_eq, nat_le, slice_index, slice_index_or}
+use Rattle.std.specs.Prelude.{
+  ℕ,
+  ◌≡◌,
+  ◌≤◌,
+  ◌⊎◌,
+  ◌&&◌,
+  ◌%◌,
+  ◌+◌,
+  ◌*◌,
+  not,
+  Bool,
+  List,
+  [],
+  ◌∷◌,
+  ◌++◌,
+  None,
+  Option,
+  Some,
+  IsTrue,
+  codes,
+  length,
+  max,
+  nat_eq,
+  nat_le,
+  slice_index,
+  slice_index_or,
+}
 use Rattle.std.specs.List.{AllByRecursion}
 
 -- a byte of a name: $20 to $5F but " $ * , : = ? @
 abbrev pub is_name_byte : ℕ → Bool
-is_name_byte b = (nat_le 32 b && nat_le b 95) && (not (nat_eq b 34) && (not (nat_eq b 36) && (not (nat_eq b 42) && (not (nat_eq b 44)
+is_name_byte b = (nat_le 32 b && nat_le b 95) &&
+    (not (nat_eq b 34) && (not (nat_eq b 36) && (not (nat_eq b 42) && (not (nat_eq b 44)
     && (not (nat_eq b 58) && (not (nat_eq b 61) && (not (nat_eq b 63) && not (nat_eq b 64))))))))
 
 -- a name has 1 to 16 such bytes
@@ -38,7 +65,8 @@ IsValidate text = (text ≡ codes "V") ⊎ (text ≡ codes "V0") ⊎ (text ≡ c
 
 -- I, I0, INITIALIZE, INITIALIZE0
 abbrev pub IsInitialize : List ℕ → Type 0
-IsInitialize text = (text ≡ codes "I") ⊎ (text ≡ codes "I0") ⊎ (text ≡ codes "INITIALIZE") ⊎ (text ≡ codes "INITIALIZE0")
+IsInitialize text = (text ≡ codes "I") ⊎ (text ≡ codes "I0") ⊎ (text ≡ codes "INITIALIZE")
+    ⊎ (text ≡ codes "INITIALIZE0")
 
 -- it begins with P
 abbrev pub BeginsWithP : List ℕ → Type 0

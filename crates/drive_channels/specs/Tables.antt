@@ -1,6 +1,27 @@
 -- What each call does: the rows of its table, of which the first one that holds counts.
 -- Numbers and rules of relative files are those of the 1541 User's Guide; which case tells which number is our own.
-use Rattle.std.specs.Prelude.{ℕ, ◌≡◌, ◌<◌, ◌+◌, ◌-◌, ◌⊎◌, List, [], None, Option, Some, IsNone, IsSome, drop, false, true, if◌then◌else◌, nat_eq, nat_lt, length}
+use Rattle.std.specs.Prelude.{
+  ℕ,
+  ◌≡◌,
+  ◌<◌,
+  ◌+◌,
+  ◌-◌,
+  ◌⊎◌,
+  List,
+  [],
+  None,
+  Option,
+  Some,
+  IsNone,
+  IsSome,
+  drop,
+  false,
+  true,
+  if◌then◌else◌,
+  nat_eq,
+  nat_lt,
+  length,
+}
 use Rattle.d64_image.specs.Images.{Image}
 use Rattle.disk_layout.specs.Clean.{IsClean}
 use Rattle.disk_layout.specs.Layout.{File, IsSound, Layout, record_length}
@@ -12,10 +33,32 @@ use Rattle.rel_records.specs.Others.{HasRecords}
 use Rattle.rel_records.specs.Written.{IsRecord, grown_to, with_written}
 use Rattle.drive_channels.specs.Files.{HasEntry, HasFile, HasOther, IsNamedFile, IsNoRoom, IsRelAt, Makes}
 use Rattle.drive_channels.specs.Given.{IsGiven}
-use Rattle.drive_channels.specs.Spelling.{BeginsWithP, IsInitialize, IsValidate, IsWish, Wish, wanted_channel, wanted_position, wanted_record}
+use Rattle.drive_channels.specs.Spelling.{
+  BeginsWithP,
+  IsInitialize,
+  IsValidate,
+  IsWish,
+  Wish,
+  wanted_channel,
+  wanted_position,
+  wanted_record,
+}
 use Rattle.drive_channels.specs.State.{Channel, View}
 use Rattle.drive_channels.specs.declared.status.Status.{Status}
-use Rattle.drive_channels.specs.declared.status.Status.TheVariants.{DirError, DiskFull, FileNotFound, FileNotOpen, FileTooLarge, NoChannel, Ok, Overflow, RecordNotPresent, SyntaxError, TypeMismatch, UnknownCommand}
+use Rattle.drive_channels.specs.declared.status.Status.TheVariants.{
+  DirError,
+  DiskFull,
+  FileNotFound,
+  FileNotOpen,
+  FileTooLarge,
+  NoChannel,
+  Ok,
+  Overflow,
+  RecordNotPresent,
+  SyntaxError,
+  TypeMismatch,
+  UnknownCommand,
+}
 
 -- where the condition holds, this; otherwise what the further rows say
 infix 1 when◌then◌otherwise◌
@@ -122,8 +165,10 @@ next_place c = Some (record c { record_number = c.record_number + 1; position = 
 abbrev pub WritesIn : View → List ℕ → View → Channel → Layout → File → Type 0
 WritesIn x text y c l f =
     when IsTooLarge f c.record_number ⊎ IsFull x.image f c.record_number then Tells x FileTooLarge y otherwise
-    when text ≡ [] then (HasRecords x.image y.image l c.entry (grown_to x.image f c.record_number) × (y ≡ record x { image = y.image; status = Ok })) otherwise
-    (HasRecords x.image y.image l c.entry (with_written (record_length f.slot) c.record_number c.position text (grown_to x.image f c.record_number))
+    when text ≡ [] then (HasRecords x.image y.image l c.entry (grown_to x.image f c.record_number)
+    × (y ≡ record x { image = y.image; status = Ok })) otherwise
+    (HasRecords x.image y.image l c.entry (with_written (record_length f.slot) c.record_number c.position text
+    (grown_to x.image f c.record_number))
     × (y ≡ record x {
       image = y.image;
       channel = next_place c;

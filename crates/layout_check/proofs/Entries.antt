@@ -10,7 +10,18 @@ use Rattle.disk_layout.specs.Directory.{type_byte}
 use Rattle.disk_layout.specs.Fault.{Holds, IsClosed, TellsFault}
 use Rattle.disk_layout.specs.Layout.{is_rel}
 use Rattle.disk_layout.specs.declared.faults.Fault.{Fault}
-use Rattle.disk_layout.specs.declared.faults.Fault.TheVariants.{BadLength, BadLink, BadSide, BadType, CountWrong, Device, Loop, MapWrong, OwnedTwice, Unclosed}
+use Rattle.disk_layout.specs.declared.faults.Fault.TheVariants.{
+  BadLength,
+  BadLink,
+  BadSide,
+  BadType,
+  CountWrong,
+  Device,
+  Loop,
+  MapWrong,
+  OwnedTwice,
+  Unclosed,
+}
 use Rattle.disk_layout.specs.declared.slot.Slot.{Slot}
 use Rattle.layout_check.specs.Calls.{TellsUnsound}
 use Rattle.layout_check.specs.Entry.{IsEntry, IsShown}
@@ -19,7 +30,8 @@ pub closed-entry : (img : Image) (s : Slot) → IsEntry img s → 128 ≤ type_b
 closed-entry img s e h = record { slot = e.slot; closed = h }
 
 -- what a slot shows holds of the image that has the slot
-pub shown-holds : (failed : Place → Type 0) (img : Image) (s : Slot) (f : Fault) → IsEntry img s → IsShown s f → Holds failed img f
+pub shown-holds : (failed : Place → Type 0) (img : Image) (s : Slot) (f : Fault) → IsEntry img s → IsShown s f
+    → Holds failed img f
 shown-holds failed img s (BadType p) e (at, high, bad) = (s, rw at (closed-entry img s e high), bad)
 shown-holds failed img s (Unclosed p) e (at, low) = (s, rw at e.slot, e.used, low)
 shown-holds failed img s (BadLength p) e (at, high, rel, out) = (s, rw at (closed-entry img s e high), rel, out)
@@ -51,7 +63,8 @@ module _ {D : Type 0} (S : History D) where
   shown-tells_alone d s (MapWrong p) h = refl
   shown-tells_alone d s (Device p) h = absurd h
 
-  pub shown-tells : (d : D) (n : ℕ) (s : Slot) (f : Fault) → IsEntry (S.image d) s → IsShown s f → TellsUnsound S d d n f
+  pub shown-tells : (d : D) (n : ℕ) (s : Slot) (f : Fault) → IsEntry (S.image d) s → IsShown s f
+      → TellsUnsound S d d n f
   shown-tells d n s f e h = record {
     reads = reads_weaker S d d 0 n (omega arith) (no_reads S d);
     failures = shown-tells_alone d s f h;

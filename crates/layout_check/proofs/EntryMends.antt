@@ -18,15 +18,23 @@ use Rattle.layout_check.specs.Mended.{AreExactFor, IsExactFor, IsPartsOf, KeepsE
 
 -- a file of the old image is one of the new
 pub filed-kept : (a c : Image) (s : Slot) → KeepsLayouts a c → IsFiled a s → IsFiled c s
-filed-kept a c s keeps h = record { layout = h.layout; sound = keeps h.layout h.sound; file = h.file; own = h.own; slot = h.slot }
+filed-kept a c s keeps h = record {
+  layout = h.layout;
+  sound = keeps h.layout h.sound;
+  file = h.file;
+  own = h.own;
+  slot = h.slot;
+}
 
 pub entry-filed : (c : Image) (s : Slot) → IsFiled c s → IsEntry c s
 entry-filed c s h =
-    let listed = entry-listed c h.layout.directory (map (λ f. f.slot) h.layout.files) h.file.slot h.sound.directory (slot-in h.layout.files h.file h.own) in
+    let listed = entry-listed c h.layout.directory (map (λ f. f.slot) h.layout.files) h.file.slot h.sound.directory
+    (slot-in h.layout.files h.file h.own) in
     let P : Slot → Type 0 = IsEntry c in
     subst P h.slot listed
 
-parts-kept : (a c : Image) (s : Slot) (bs ss : List Place) → KeepsLayouts a c → IsPartsOf a s bs ss → IsPartsOf c s bs ss
+parts-kept : (a c : Image) (s : Slot) (bs ss : List Place) → KeepsLayouts a c → IsPartsOf a s bs ss
+    → IsPartsOf c s bs ss
 parts-kept a c s bs ss keeps h = record {
   layout = h.layout;
   sound = keeps h.layout h.sound;
@@ -49,17 +57,23 @@ pub exact-same : (a c : Image) (s : Slot) → c ≡ a → AreExactFor a a → Is
 exact-same a c s same all = let P : Image → Type 0 = λ i. IsExactFor i i s in subst P (sym same) (all s)
 
 -- the entry that was read
-pub exact-read : (a d : Image) (items : List Slot) (k : ℕ) (s : Slot) → k < length items → s ≡ get_or items k s → (IsTrue (is_rel s) → IsExactFor a d s) → (t : Slot) → slice_get items k ≡ Some t → IsTrue (is_rel t) → IsExactFor a d t
+pub exact-read : (a d : Image) (items : List Slot) (k : ℕ) (s : Slot) → k < length items → s ≡ get_or items k s
+    → (IsTrue (is_rel s) → IsExactFor a d s) → (t : Slot) → slice_get items k ≡ Some t → IsTrue (is_rel t)
+    → IsExactFor a d t
 exact-read a d items k s below read h t there =
     let one : s ≡ t = cc (read-there items k s below read) in
     let P : Slot → Type 0 = λ x. IsTrue (is_rel x) → IsExactFor a d x in
     subst P one h
 
 -- each relative entry is among those that were read
-pub exact-entries : (a d : Image) (ps : List Place) (items : List Slot) (n : ℕ) → IsDirectory a ps items → length items ≤ n → ((k : ℕ) → k < n → (s : Slot) → slice_get items k ≡ Some s → IsTrue (is_rel s) → IsExactFor a d s) → AreExactFor a d
+pub exact-entries : (a d : Image) (ps : List Place) (items : List Slot) (n : ℕ) → IsDirectory a ps items
+    → length items ≤ n → ((k : ℕ) → k < n → (s : Slot) → slice_get items k ≡ Some s → IsTrue (is_rel s)
+    → IsExactFor a d s) → AreExactFor a d
 exact-entries a d ps items n dir all exact s bs ss h =
-    let same = (IsDirectory-one a ps h.layout.directory items (map (λ f. f.slot) h.layout.files) dir h.sound.directory).1 in
-    let there = (let P : List Slot → Type 0 = λ xs. Contains xs h.file.slot in subst P (sym same) (slot-in h.layout.files h.file h.own)) in
+    let same = (IsDirectory-one a ps h.layout.directory items (map (λ f. f.slot) h.layout.files) dir
+    h.sound.directory).1 in
+    let there = (let P : List Slot → Type 0 = λ xs. Contains xs h.file.slot in
+    subst P (sym same) (slot-in h.layout.files h.file h.own)) in
     let (k, at) = contains-get items h.file.slot there in
     let P : Slot → Type 0 = λ x. IsExactFor a d x in
     subst P h.slot (exact k (omega (arith, slice_get_within items k h.file.slot at)) h.file.slot at h.rel) bs ss h

@@ -24,16 +24,19 @@ unfolding entry_bytes exact_side
 right-side u n bytes h = h.side (stock_file u n) 0 (Contains-here (stock_file u n) []) refl refl
 
 -- in the directory sector the block count of STOCK has to be 2
-pub right-count : (u n : ℕ) (bytes : Sector) → IsRight (stock_layout u n) directory_start bytes → count_field (slot_in directory_start bytes 0) ≡ 2
+pub right-count : (u n : ℕ) (bytes : Sector) → IsRight (stock_layout u n) directory_start bytes
+    → count_field (slot_in directory_start bytes 0) ≡ 2
 unfolding entry_bytes
 right-count u n bytes h = h.counts (stock_file u n) (Contains-here (stock_file u n) []) refl refl
 
 -- nothing is written before the first sector is right
-pub nothing-before : (Right : Place → Sector → Type 0) (p : Place) (ps : List Place) (a b : Image) → IsUnderWay Right (p ∷ ps) a b → ¬ (Right p (sector b p)) → (q : Place) → sector b q ≡ sector a q
+pub nothing-before : (Right : Place → Sector → Type 0) (p : Place) (ps : List Place) (a b : Image)
+    → IsUnderWay Right (p ∷ ps) a b → ¬ (Right p (sector b p)) → (q : Place) → sector b q ≡ sector a q
 nothing-before Right p ps a b h wrong q = first h.done h.split refl
   where
     first : (ds : List Place) → p ∷ ps ≡ ds ++ h.left → h.done ≡ ds → sector b q ≡ sector a q
-    first [] split same = h.made.rest q (λ c. Contains-nil q (let P : List Place → Type 0 = λ xs. Contains xs q in subst P same c))
+    first [] split same = h.made.rest q (λ c. Contains-nil q (let P : List Place → Type 0 = λ xs. Contains xs q in
+        subst P same c))
     first (d ∷ ds) split same =
         let one : d ≡ p = cc split in
         let P : Place → Type 0 = λ x. Right x (sector b x) in
@@ -47,8 +50,11 @@ module _ {D : Type 0} (S : History D) (a b : D) (h : WritesOnce S a b) where
     where
       none : (ps : List Place) → h.written ≡ ps → S.writes b ≤ S.writes a
       none [] e = omega (arith, h.writes, ap (λ (xs : List Place). length xs) e)
-      none (p ∷ ps) e = absurd (h.other p (let P : List Place → Type 0 = λ xs. Contains xs p in subst P (sym e) (Contains-here p ps)) (same p))
+      none (p ∷ ps) e =
+          absurd (h.other p (let P : List Place → Type 0 = λ xs. Contains xs p in subst P (sym e) (Contains-here p ps))
+          (same p))
 
 -- what may be told of a sound disk is the device's, and no loop
-pub loop-not_of_device : {D : Type 0} (S : History D) (a b : D) (p : Place) → ¬ (TellsDevice {T = ℕ} S a b (Err (Loop p)))
+pub loop-not_of_device : {D : Type 0} (S : History D) (a b : D) (p : Place)
+    → ¬ (TellsDevice {T = ℕ} S a b (Err (Loop p)))
 loop-not_of_device S a b p (failed, (q, e, there)) = cc

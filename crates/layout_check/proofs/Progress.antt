@@ -1,5 +1,38 @@
 -- The steps of a survey: files found one by one, with a table of the owners.
-use Rattle.std.proofs.Common.{ℕ, ◌≡◌, ◌≢◌, ◌<◌, ◌≤◌, ◌+◌, ◌*◌, ◌⊎◌, List, [], ◌∷◌, ◌++◌, length, length-append, get_or, map, take, refl, sym, ◌∙◌, ap, subst, arith, inl, inr, append_assoc, append-nil, drop, ◌↔◌, Err, IsOk, Result}
+use Rattle.std.proofs.Common.{
+  ℕ,
+  ◌≡◌,
+  ◌≢◌,
+  ◌<◌,
+  ◌≤◌,
+  ◌+◌,
+  ◌*◌,
+  ◌⊎◌,
+  List,
+  [],
+  ◌∷◌,
+  ◌++◌,
+  length,
+  length-append,
+  get_or,
+  map,
+  take,
+  refl,
+  sym,
+  ◌∙◌,
+  ap,
+  subst,
+  arith,
+  inl,
+  inr,
+  append_assoc,
+  append-nil,
+  drop,
+  ◌↔◌,
+  Err,
+  IsOk,
+  Result,
+}
 use Rattle.std.specs.Prelude.{Contains, None, Option, flat_map}
 use Rattle.std.specs.Option.{option_or}
 use Rattle.std.proofs.lemmas.Bool.{false≢true}
@@ -40,13 +73,15 @@ abbrev EachOnce-of : List Place → Type 0
 EachOnce-of ps = EachOnce ps
 
 -- the table of the directory
-pub survey-start : (img : Image) (dir : List Place) (es : List Slot) (t : Owners) → IsDirectory img dir es → IsSystem t dir → IsSurveyed img dir [] t
+pub survey-start : (img : Image) (dir : List Place) (es : List Slot) (t : Owners) → IsDirectory img dir es
+    → IsSystem t dir → IsSurveyed img dir [] t
 survey-start img dir es t d s = record {
   files = tt;
   once = subst EachOnce-of (sym none) (d.not_map, d.chain.once);
   table = record {
     owned = λ p. (
-      λ h. let P : List Place → Type 0 = λ ps. Contains ps p in subst P (sym none) (found p h (contains_or_not (map_place ∷ dir) p)),
+      λ h. let P : List Place → Type 0 = λ ps. Contains ps p in
+          subst P (sym none) (found p h (contains_or_not (map_place ∷ dir) p)),
       λ c e. let P : List Place → Type 0 = λ ps. Contains ps p in absurd (omega (arith, e, (s p).0 (subst P none c))),
     );
     system = λ p c. (s p).0 c;
@@ -57,25 +92,36 @@ survey-start img dir es t d s = record {
     none : taken dir [] ≡ map_place ∷ dir
     none = ap (λ ps. map_place ∷ ps) (append-nil dir)
 
-    found : (p : Place) → owner_of t p ≢ 255 → Contains (map_place ∷ dir) p ⊎ ¬ (Contains (map_place ∷ dir) p) → Contains (map_place ∷ dir) p
+    found : (p : Place) → owner_of t p ≢ 255 → Contains (map_place ∷ dir) p ⊎ ¬ (Contains (map_place ∷ dir) p)
+        → Contains (map_place ∷ dir) p
     found p h (inl c) = c
     found p h (inr n) = absurd (h ((s p).1 n))
 
-taken-push : (dir : List Place) (fs : List File) (g : File) → taken dir (fs ++ g ∷ []) ≡ taken dir fs ++ (g.blocks ++ g.sides)
+taken-push : (dir : List Place) (fs : List File) (g : File)
+    → taken dir (fs ++ g ∷ []) ≡ taken dir fs ++ (g.blocks ++ g.sides)
 taken-push dir fs g =
-    ap (λ ps. map_place ∷ ps) (ap (λ ps. dir ++ ps) (flat_map-append file_owns fs (g ∷ []) ∙ ap (λ ps. flat_map file_owns fs ++ ps) (append-nil (g.blocks ++ g.sides)))
+    ap (λ ps. map_place ∷ ps) (ap (λ ps. dir ++ ps) (flat_map-append file_owns fs (g ∷ [])
+    ∙ ap (λ ps. flat_map file_owns fs ++ ps) (append-nil (g.blocks ++ g.sides)))
     ∙ sym (append_assoc dir (flat_map file_owns fs) (g.blocks ++ g.sides)))
 
 -- one more file
-survey-step : (img : Image) (dir : List Place) (fs : List File) (t t1 t2 : Owners) (g : File) (n : ℕ) → IsSurveyed img dir fs t → IsFile img g → n ≡ length fs → n < 254 → IsClaimed t t1 n g.blocks → IsClaimed t1 t2 n g.sides → EachOnce g.blocks → EachOnce g.sides → IsSurveyed img dir (fs ++ g ∷ []) t2
+survey-step : (img : Image) (dir : List Place) (fs : List File) (t t1 t2 : Owners) (g : File) (n : ℕ)
+    → IsSurveyed img dir fs t → IsFile img g → n ≡ length fs → n < 254 → IsClaimed t t1 n g.blocks
+    → IsClaimed t1 t2 n g.sides → EachOnce g.blocks → EachOnce g.sides → IsSurveyed img dir (fs ++ g ∷ []) t2
 survey-step img dir fs t t1 t2 g n s file isn small a b ob os = record {
   files = all-push (IsFile img) fs g s.files file;
-  once = subst EachOnce-of (sym (taken-push dir fs g)) (EachOnce-join O (g.blocks ++ g.sides) s.once (EachOnce-join g.blocks g.sides ob os block_side) old_new);
+  once = subst EachOnce-of (sym (taken-push dir fs g)) (EachOnce-join O (g.blocks ++ g.sides) s.once
+      (EachOnce-join g.blocks g.sides ob os block_side) old_new);
   table = record {
-    owned = λ p. (λ h. let P : List Place → Type 0 = λ ps. Contains ps p in subst P (sym (taken-push dir fs g)) (found p h (contains_or_not g.sides p) (contains_or_not g.blocks p)), λ c. owned p (let P : List Place → Type 0 = λ ps. Contains ps p in subst P (taken-push dir fs g) c));
+    owned = λ p. (
+      λ h. let P : List Place → Type 0 = λ ps. Contains ps p in
+          subst P (sym (taken-push dir fs g)) (found p h (contains_or_not g.sides p) (contains_or_not g.blocks p)),
+      λ c. owned p (let P : List Place → Type 0 = λ ps. Contains ps p in subst P (taken-push dir fs g) c),
+    );
     system = λ p c. stays p (Contains-append_left (map_place ∷ dir) (flat_map file_owns fs) p c) ∙ s.table.system p c;
     own = λ k f p at c. elim (get-push fs g k f at) [
-      | inl h ↦ stays p (Contains-append_right (map_place ∷ dir) (flat_map file_owns fs) p (flat_map-in file_owns fs f p (get-contains fs k f h) c)) ∙ s.table.own k f p h c
+      | inl h ↦ stays p (Contains-append_right (map_place ∷ dir) (flat_map file_owns fs) p
+          (flat_map-in file_owns fs f p (get-contains fs k f h) c)) ∙ s.table.own k f p h c
       | inr h ↦ mine p (rw h.1 c) ∙ isn ∙ sym h.0
     ];
   };
@@ -113,24 +159,30 @@ survey-step img dir fs t t1 t2 g n s file isn small a b ob os = record {
 
     owned : (p : Place) → Contains (O ++ (g.blocks ++ g.sides)) p → owner_of t2 p ≢ 255
     owned p c = elim (Contains-append_cases O (g.blocks ++ g.sides) p c) [
-      | inl d ↦ (λ e. (s.table.owned p).1 d (sym ((a p).1 (no_block p ((s.table.owned p).1 d))) ∙ sym ((b p).1 (no_side p ((s.table.owned p).1 d))) ∙ e))
+      | inl d ↦ (λ e. (s.table.owned p).1 d (sym ((a p).1 (no_block p ((s.table.owned p).1 d)))
+          ∙ sym ((b p).1 (no_side p ((s.table.owned p).1 d))) ∙ e))
       | inr d ↦ elim (Contains-append_cases g.blocks g.sides p d) [
         | inl f ↦ (λ e. some (sym ((a p).0 f).1 ∙ sym ((b p).1 (block_side p f)) ∙ e))
         | inr f ↦ (λ e. some (sym ((b p).0 f).1 ∙ e))
       ]
     ]
 
-    found : (p : Place) → owner_of t2 p ≢ 255 → Contains g.sides p ⊎ ¬ (Contains g.sides p) → Contains g.blocks p ⊎ ¬ (Contains g.blocks p) → Contains (O ++ (g.blocks ++ g.sides)) p
+    found : (p : Place) → owner_of t2 p ≢ 255 → Contains g.sides p ⊎ ¬ (Contains g.sides p) → Contains g.blocks p
+        ⊎ ¬ (Contains g.blocks p) → Contains (O ++ (g.blocks ++ g.sides)) p
     found p h (inl d) o = Contains-append_right O (g.blocks ++ g.sides) p (Contains-append_right g.blocks g.sides p d)
-    found p h (inr d) (inl c) = Contains-append_right O (g.blocks ++ g.sides) p (Contains-append_left g.blocks g.sides p c)
-    found p h (inr d) (inr c) = Contains-append_left O (g.blocks ++ g.sides) p ((s.table.owned p).0 (λ e. h ((b p).1 d ∙ (a p).1 c ∙ e)))
+    found p h (inr d) (inl c) = Contains-append_right O (g.blocks ++ g.sides) p (Contains-append_left g.blocks g.sides p
+        c)
+    found p h (inr d) (inr c) = Contains-append_left O (g.blocks ++ g.sides) p
+        ((s.table.owned p).0 (λ e. h ((b p).1 d ∙ (a p).1 c ∙ e)))
 
 -- how many sectors these files have
 abbrev pub own_of : List File → ℕ
 own_of fs = length (flat_map file_owns fs)
 
 own-push : (fs : List File) (g : File) → own_of (fs ++ g ∷ []) ≡ own_of fs + length (file_owns g)
-own-push fs g = ap length (flat_map-append file_owns fs (g ∷ [])) ∙ length-append (flat_map file_owns fs) (file_owns g ++ []) ∙ omega (arith, length-append {A = Place} (file_owns g) [])
+own-push fs g = ap length (flat_map-append file_owns fs (g ∷ []))
+    ∙ length-append (flat_map file_owns fs) (file_owns g ++ [])
+    ∙ omega (arith, length-append {A = Place} (file_owns g) [])
 
 map-push : (fs : List File) (g : File) → map (λ f. f.slot) (fs ++ g ∷ []) ≡ map (λ f. f.slot) fs ++ g.slot ∷ []
 map-push [] g = refl
@@ -143,12 +195,14 @@ length-slots (f ∷ fs) = omega (arith, length-slots fs)
 pub slot-in : (fs : List File) (f : File) → Contains fs f → Contains (map (λ f. f.slot) fs) f.slot
 slot-in [] f c = absurd (Contains-nil f c)
 slot-in (x ∷ fs) f c = elim (Contains-cases f x fs c) [
-  | inl e ↦ let P : File → Type 0 = λ y. Contains (x.slot ∷ map (λ f. f.slot) fs) y.slot in subst P e (Contains-append_left (x.slot ∷ []) (map (λ f. f.slot) fs) x.slot (0, omega arith, refl))
+  | inl e ↦ let P : File → Type 0 = λ y. Contains (x.slot ∷ map (λ f. f.slot) fs) y.slot in
+      subst P e (Contains-append_left (x.slot ∷ []) (map (λ f. f.slot) fs) x.slot (0, omega arith, refl))
   | inr r ↦ Contains-append_right (x.slot ∷ []) (map (λ f. f.slot) fs) f.slot (slot-in fs f r)
 ]
 
 -- the same list under another name
-pub listed-as : (img : Image) (dir : List Place) (es items : List Slot) → items ≡ es → IsDirectory img dir es → IsDirectory img dir items
+pub listed-as : (img : Image) (dir : List Place) (es items : List Slot) → items ≡ es → IsDirectory img dir es
+    → IsDirectory img dir items
 listed-as img dir es items same d = let P : List Slot → Type 0 = λ xs. IsDirectory img dir xs in subst P (sym same) d
 
 pub same-system : (t : Owners) (items dir : List Place) → items ≡ dir → IsSystem t items → IsSystem t dir
@@ -169,19 +223,36 @@ module _ {D : Type 0} (S : History D) where
     pub judged : ToldOfFiles (S.image a) files kept
     pub passes : Passes S a b (18 + length directory + 2 * own_of files)
 
-  pub far-start : (a b : D) (dir : List Place) (es : List Slot) (t : Owners) → IsDirectory (S.image a) dir es → IsSystem t dir → Passes S a b (18 + length dir) → IsFar a b es 0 t None
-  far-start a b dir es t d s passes = record { directory = dir; listed = d; files = []; slots = refl; surveyed = survey-start (S.image a) dir es t d s; judged = tt; passes = passes_weaker S a b (18 + length dir) _ (omega arith) passes }
+  pub far-start : (a b : D) (dir : List Place) (es : List Slot) (t : Owners) → IsDirectory (S.image a) dir es
+      → IsSystem t dir → Passes S a b (18 + length dir) → IsFar a b es 0 t None
+  far-start a b dir es t d s passes = record {
+    directory = dir;
+    listed = d;
+    files = [];
+    slots = refl;
+    surveyed = survey-start (S.image a) dir es t d s;
+    judged = tt;
+    passes = passes_weaker S a b (18 + length dir) _ (omega arith) passes;
+  }
 
   -- what is owned are 683 sectors at most
-  far-few : (a b : D) (es : List Slot) (n : ℕ) (t : Owners) (kept : Option Fault) → (h : IsFar a b es n t kept) → length h.directory + own_of h.files ≤ 682
-  far-few a b es n t kept h = omega (arith, places-few (taken h.directory h.files) h.surveyed.once, length-append h.directory (flat_map file_owns h.files))
+  far-few : (a b : D) (es : List Slot) (n : ℕ) (t : Owners) (kept : Option Fault) → (h : IsFar a b es n t kept)
+      → length h.directory + own_of h.files ≤ 682
+  far-few a b es n t kept h = omega (
+    arith,
+    places-few (taken h.directory h.files) h.surveyed.once,
+    length-append h.directory (flat_map file_owns h.files),
+  )
 
-  pub far-entry : (a b : D) (es : List Slot) (n : ℕ) (t : Owners) (kept : Option Fault) (s : Slot) → IsFar a b es n t kept → n < length es → s ≡ get_or es n s → IsEntry (S.image b) s
+  pub far-entry : (a b : D) (es : List Slot) (n : ℕ) (t : Owners) (kept : Option Fault) (s : Slot)
+      → IsFar a b es n t kept → n < length es → s ≡ get_or es n s → IsEntry (S.image b) s
   far-entry a b es n t kept s h below read =
       let P : Image → Type 0 = λ i. IsEntry i s in
       subst P (sym h.passes.reads.image) (entry-listed (S.image a) h.directory es s h.listed (n, below, sym read))
 
-  pub far-step : (a b c : D) (es : List Slot) (n : ℕ) (t u : Owners) (kept found : Option Fault) (s : Slot) → IsFar a b es n t kept → n < length es → n < 254 → s ≡ get_or es n s → SurveysEntry S b c s n t u found → IsFar a c es (n + 1) u (option_or kept found)
+  pub far-step : (a b c : D) (es : List Slot) (n : ℕ) (t u : Owners) (kept found : Option Fault) (s : Slot)
+      → IsFar a b es n t kept → n < length es → n < 254 → s ≡ get_or es n s → SurveysEntry S b c s n t u found
+      → IsFar a c es (n + 1) u (option_or kept found)
   far-step a b c es n t u kept found s h below small read (g, is, judged, passes) =
       let file = (let P : Image → Type 0 = λ i. IsFile i g in subst P h.passes.reads.image is.file) in
       let many : n ≡ length h.files = omega (arith, length-slots h.files, ap length h.slots, length-take n es) in
@@ -189,29 +260,41 @@ module _ {D : Type 0} (S : History D) where
         directory = h.directory;
         listed = h.listed;
         files = h.files ++ g ∷ [];
-        slots = map-push h.files g ∙ ap (λ xs. xs ++ g.slot ∷ []) h.slots ∙ ap (λ x. take n es ++ x ∷ []) (is.slot ∙ read) ∙ sym (take_more es n s below);
-        surveyed = survey-step (S.image a) h.directory h.files t is.between u g n h.surveyed file many small is.blocks is.sides is.blocks_once is.sides_once;
-        judged = judged-more (S.image a) h.files g kept found h.judged (judged-at (S.image a) (S.image b) g found h.passes.reads.image judged);
-        passes = passes_then S a b c (18 + length h.directory + 2 * own_of h.files) (2 * length (file_owns g)) _ (omega (arith, own-push h.files g)) h.passes passes;
+        slots = map-push h.files g ∙ ap (λ xs. xs ++ g.slot ∷ []) h.slots ∙ ap (λ x. take n es ++ x ∷ []) (is.slot
+            ∙ read) ∙ sym (take_more es n s below);
+        surveyed = survey-step (S.image a) h.directory h.files t is.between u g n h.surveyed file many small is.blocks
+            is.sides is.blocks_once is.sides_once;
+        judged = judged-more (S.image a) h.files g kept found h.judged (judged-at (S.image a) (S.image b) g found
+            h.passes.reads.image judged);
+        passes = passes_then S a b c (18 + length h.directory + 2 * own_of h.files) (2 * length (file_owns g)) _
+            (omega (arith, own-push h.files g)) h.passes passes;
       }
 
-  pub far-tells : (a b c : D) (es : List Slot) (n : ℕ) (t : Owners) (kept : Option Fault) (s : Slot) (f : Fault) → IsFar a b es n t kept → n < length es → s ≡ get_or es n s → TellsOrClashes S b c s t f → TellsUnsound S a c 2114 f
-  far-tells a b c es n t kept s f h below read (inl tells) = tells_then S a b c _ 732 2114 f (omega (arith, far-few a b es n t kept h)) h.passes tells
+  pub far-tells : (a b c : D) (es : List Slot) (n : ℕ) (t : Owners) (kept : Option Fault) (s : Slot) (f : Fault)
+      → IsFar a b es n t kept → n < length es → s ≡ get_or es n s → TellsOrClashes S b c s t f
+      → TellsUnsound S a c 2114 f
+  far-tells a b c es n t kept s f h below read (inl tells) =
+      tells_then S a b c _ 732 2114 f (omega (arith, far-few a b es n t kept h)) h.passes tells
   far-tells a b c es n t kept s f h below read (inr clash) =
       let passes = passes_then S a b c _ 732 2114 (omega (arith, far-few a b es n t kept h)) h.passes clash.passes in
       let once = entries-once (S.image a) h.directory es h.listed in
       let holds = clash-holds (S.failed_at c) (S.image a) h.directory es h.files s clash.place h.listed h.surveyed.files
-      (λ x there. let in_front : Contains (take n es) x.slot = rw (← h.slots) (slot-in h.files x there) in (before in_front, λ e. not_before es n s below read once (rw (← e) in_front)))
+      (λ x there. let in_front : Contains (take n es) x.slot = rw (← h.slots) (slot-in h.files x there) in
+      (before in_front, λ e. not_before es n s below read once (rw (← e) in_front)))
       ((h.surveyed.table.owned clash.place).0 clash.owned)
-      (let P : Image → Type 0 = λ i. Owns i (blocks_of s) clash.place ⊎ Owns i (sides_of s) clash.place in subst P h.passes.reads.image clash.has) in
+      (let P : Image → Type 0 = λ i. Owns i (blocks_of s) clash.place ⊎ Owns i (sides_of s) clash.place in
+      subst P h.passes.reads.image clash.has) in
       let P : Fault → Type 0 = λ x. TellsUnsound S a c 2114 x in
       subst P (sym clash.told) (twice_tells S a c 2114 clash.place passes holds)
     where
       before : {x : Slot} → Contains (take n es) x → Contains es x
-      before {x} c = let P : List Slot → Type 0 = λ xs. Contains xs x in subst P (take-append-drop n es) (Contains-append_left (take n es) (drop n es) x c)
+      before {x} c = let P : List Slot → Type 0 = λ xs. Contains xs x in
+          subst P (take-append-drop n es) (Contains-append_left (take n es) (drop n es) x c)
 
   -- all entries found: the image is sound, and the survey tells its layout
-  pub far-end : (a b : D) (es : List Slot) (n : ℕ) (t : Owners) (kept : Option Fault) (s : Survey) → IsFar a b es n t kept → length es ≤ n → length es ≤ 144 → s.owners ≡ t → s.entries ≡ length es → Surveys S a b (record { survey = s; unclean = kept })
+  pub far-end : (a b : D) (es : List Slot) (n : ℕ) (t : Owners) (kept : Option Fault) (s : Survey)
+      → IsFar a b es n t kept → length es ≤ n → length es ≤ 144 → s.owners ≡ t → s.entries ≡ length es
+      → Surveys S a b (record { survey = s; unclean = kept })
   unfolding owners
   far-end a b es n t kept s h all small table entries =
       let same : map (λ f. f.slot) h.files ≡ es = h.slots ∙ take_all n es all in (
@@ -229,5 +312,9 @@ module _ {D : Type 0} (S : History D) where
       )
 
   -- where the device doesn't fail, a fault is told exactly where the image isn't sound
-  pub told-sound : (T : Type 0) (a b : D) (n : ℕ) (f : Fault) → TellsUnsound S a b n f → NeverFailed S a b → IsOk (told T f) ↔ IsSound (S.image a)
-  told-sound T a b n f tells never = (λ h. absurd (false≢true h), λ s. absurd (told-unsound (S.image a) f (holds_alone S ℕ a b f never tells.failures tells.holds) s))
+  pub told-sound : (T : Type 0) (a b : D) (n : ℕ) (f : Fault) → TellsUnsound S a b n f → NeverFailed S a b
+      → IsOk (told T f) ↔ IsSound (S.image a)
+  told-sound T a b n f tells never = (
+    λ h. absurd (false≢true h),
+    λ s. absurd (told-unsound (S.image a) f (holds_alone S ℕ a b f never tells.failures tells.holds) s),
+  )

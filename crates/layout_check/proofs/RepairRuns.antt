@@ -28,7 +28,8 @@ err-then (Ok x) P Q f p = tt
 err-then (Err e) P Q f p = f e p
 
 -- map, side sectors and counts in turn: the last image is the repaired one
-pub repaired : (a b c d : Image) (s : Survey) → IsToldBy a s → HasMap b → KeepsLayouts a b → KeepsLayouts b c → SameMap b c → AreExactFor b c
+pub repaired : (a b c d : Image) (s : Survey) → IsToldBy a s → HasMap b → KeepsLayouts a b → KeepsLayouts b c
+    → SameMap b c → AreExactFor b c
     → KeepsButCounts c d → ((l : Layout) → IsLayout a l → IsMended a l d) → AreCounted d → IsRepaired a d s
 repaired a b c d s (l, is, of) right ab bc map exact cd held counted =
     let h = cd l (bc l (ab l is)) in
@@ -36,7 +37,14 @@ repaired a b c d s (l, is, of) right ab bc map exact cd held counted =
     let x = held l is in
     let one : x.layout ≡ h.layout = IsLayout-one d x.layout h.layout x.sound h.sound in
     let same : SameFiles a d l h.layout = (let P : Layout → Type 0 = SameFiles a d l in subst P one x.same) in
-    record { before = l; after = h.layout; sound = is; clean = clean; same = same; told = survey-same a d l h.layout s same h.sound.once of }
+    record {
+      before = l;
+      after = h.layout;
+      sound = is;
+      clean = clean;
+      same = same;
+      told = survey-same a d l h.layout s same h.sound.once of;
+    }
 
 pub sides-at : (a b : Image) → b ≡ a → IsClean a → AreExactFor b b
 sides-at a b e clean = let P : Image → Type 0 = λ i. AreExactFor i i in subst P (sym e) (clean-sides a clean)
@@ -58,7 +66,8 @@ module _ {D : Type 0} (S : History D) where
   mends_after a b c k reads mends l is =
       changes_then S a b c 0 883 883 (IsMended (S.image a) l) (omega arith)
       (reads_change S a b k (IsMended (S.image a) l) reads (mended-start (S.image a) l is))
-      (let P : Image → Type 0 = λ i. (m : Layout) → IsLayout i m → Changes S b c 883 (IsMended i m) in subst P reads.image mends l is)
+      (let P : Image → Type 0 = λ i. (m : Layout) → IsLayout i m → Changes S b c 883 (IsMended i m) in
+      subst P reads.image mends l is)
 
   pub clean_after : (a b : D) (k : ℕ) → OnlyReads S a b k → IsClean (S.image a) → IsClean (S.image b)
   clean_after a b k reads clean = let P : Image → Type 0 = IsClean in subst P (sym reads.image) clean
@@ -66,20 +75,27 @@ module _ {D : Type 0} (S : History D) where
   -- reads alone
   pub mends_none : (a b : D) (k : ℕ) → OnlyReads S a b k → MendsFrom S a b 883
   mends_none a b k reads l is =
-      changes_weaker S a b 0 883 (IsMended (S.image a) l) (IsMended (S.image a) l) (omega arith) (λ c h. h) (reads_change S a b k (IsMended (S.image a) l) reads (mended-start (S.image a) l is))
+      changes_weaker S a b 0 883 (IsMended (S.image a) l) (IsMended (S.image a) l) (omega arith) (λ c h. h)
+      (reads_change S a b k (IsMended (S.image a) l) reads (mended-start (S.image a) l is))
 
   pub told_after : (a b : D) (s : Survey) (k : ℕ) → OnlyReads S a b k → IsToldBy (S.image a) s → IsToldBy (S.image b) s
   told_after a b s k reads told = let P : Image → Type 0 = λ i. IsToldBy i s in subst P (sym reads.image) told
 
-  pub repaired_after : (a b c : D) (s : Survey) (k : ℕ) → OnlyReads S a b k → IsRepaired (S.image b) (S.image c) s → IsRepaired (S.image a) (S.image c) s
+  pub repaired_after : (a b c : D) (s : Survey) (k : ℕ) → OnlyReads S a b k → IsRepaired (S.image b) (S.image c) s
+      → IsRepaired (S.image a) (S.image c) s
   repaired_after a b c s k reads h = let P : Image → Type 0 = λ i. IsRepaired i (S.image c) s in subst P reads.image h
 
   -- a failure of the device behind calls that met none
-  pub device_holds : (a b : D) (img : Image) (f : Fault) → TellsDevice {T = Unit {0}} S a b (Err f) → Holds (S.failed_at b) img f
-  device_holds a b img f (failed, (p, e, there)) = let P : Fault → Type 0 = Holds (S.failed_at b) img in subst P (sym e) there
+  pub device_holds : (a b : D) (img : Image) (f : Fault) → TellsDevice {T = Unit {0}} S a b (Err f)
+      → Holds (S.failed_at b) img f
+  device_holds a b img f (failed, (p, e, there)) = let P : Fault → Type 0 = Holds (S.failed_at b) img in
+      subst P (sym e) there
 
-  pub device_sound : (a b c : D) (f : Fault) → S.failures b ≡ S.failures a → TellsDevice {T = Unit {0}} S b c (Err f) → ¬ (NeverFailed S a c)
+  pub device_sound : (a b c : D) (f : Fault) → S.failures b ≡ S.failures a → TellsDevice {T = Unit {0}} S b c (Err f)
+      → ¬ (NeverFailed S a c)
   device_sound a b c f same (failed, told) never = never_failed S a c never (failed_later S a b c same failed)
 
-  pub device_tells : (T : Type 0) (a b c : D) (f : Fault) → S.failures b ≡ S.failures a → TellsDevice {T = Unit {0}} S b c (Err f) → TellsFault {T = T} S a c (Err f)
-  device_tells T a b c f same (failed, (p, e, there)) = let P : Fault → Type 0 = λ x. TellsFault {T = T} S a c (Err x) in subst P (sym e) (failed_later S a b c same failed)
+  pub device_tells : (T : Type 0) (a b c : D) (f : Fault) → S.failures b ≡ S.failures a
+      → TellsDevice {T = Unit {0}} S b c (Err f) → TellsFault {T = T} S a c (Err f)
+  device_tells T a b c f same (failed, (p, e, there)) = let P : Fault
+      → Type 0 = λ x. TellsFault {T = T} S a c (Err x) in subst P (sym e) (failed_later S a b c same failed)

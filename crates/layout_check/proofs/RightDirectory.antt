@@ -28,19 +28,22 @@ module _ (a : Image) (l : Layout) (is : IsLayout a l) (p : Place) (bytes : Secto
   pub counts-right : Contains l.directory p → AreRightIn a p bytes → IsRight l p bytes
   counts-right on right = record {
     map = λ e. absurd (directory-not_map a l is (let P : Place → Type 0 = λ x. Contains l.directory x in subst P e on));
-    side = λ f j own rel there. absurd (side-not_directory a l is p (flat_map-in (λ g. g.sides) l.files f p own (get-contains f.sides j p there)) on);
+    side = λ f j own rel there. absurd
+        (side-not_directory a l is p (flat_map-in (λ g. g.sides) l.files f p own (get-contains f.sides j p there)) on);
     counts = λ f own rel at.
         let (there, low, same, used) = slot-there a l.directory f.slot (slot-of a l f is own) in
         right f.slot.number low l f is (record { own = own; rel = rel; sector = at; number = refl });
   }
 
 -- a directory sector mended in the image b, in which others may have been mended before
-module _ (a b : Image) (l : Layout) (full : length a ≡ 683) (is : IsLayout a l) (recount : IsRecountOf a b l.directory) (p : Place) (on : Contains l.directory p) where
+module _ (a b : Image) (l : Layout) (full : length a ≡ 683) (is : IsLayout a l) (recount : IsRecountOf a b l.directory)
+    (p : Place) (on : Contains l.directory p) where
   right-now : (bytes : Sector) → IsRight l p bytes → AreRightIn b p bytes
   right-now bytes right n low = right-after a b l full is recount p bytes n (right-counts a l is p bytes right n low)
 
   now-right : (bytes : Sector) → AreRightIn b p bytes → IsRight l p bytes
-  now-right bytes right = counts-right a l is p bytes on (λ n low. right-before a b l full is recount p bytes n (right n low))
+  now-right bytes right = counts-right a l is p bytes on (λ n low. right-before a b l full is recount p bytes n
+      (right n low))
 
   pub mended-made : (c : Image) → IsMendedAt b p c → AreMade (IsRight l) (p ∷ []) b c
   mended-made c m = made_one (IsRight l) p b c
@@ -51,6 +54,7 @@ module _ (a b : Image) (l : Layout) (full : length a ≡ 683) (is : IsLayout a l
   -- also where it was right before
   pub sector-made : (c : Image) → OldOrMended b p c → AreRightIn b p (sector c p) → AreMade (IsRight l) (p ∷ []) b c
   sector-made c old_or right = elim old_or [
-    | inl e ↦ made_one (IsRight l) p b c (λ q ne. ap (λ (i : Image). sector i q) e) (now-right (sector c p) right) (λ x. ap (λ (i : Image). sector i p) e)
+    | inl e ↦ made_one (IsRight l) p b c (λ q ne. ap (λ (i : Image). sector i q) e) (now-right (sector c p) right)
+        (λ x. ap (λ (i : Image). sector i p) e)
     | inr m ↦ mended-made c m
   ]

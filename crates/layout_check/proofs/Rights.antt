@@ -25,7 +25,8 @@ sides-once (f ∷ fs) h =
     let mine = EachOnce-left (file_owns f) (flat_map file_owns fs) h in
     let rest = EachOnce-right (file_owns f) (flat_map file_owns fs) h in
     EachOnce-join f.sides (sides_of fs) (EachOnce-right f.blocks f.sides mine) (sides-once fs rest)
-    (λ p c d. EachOnce-apart (file_owns f) (flat_map file_owns fs) h p (Contains-append_right f.blocks f.sides p c) (sides-owned fs p d))
+    (λ p c d. EachOnce-apart (file_owns f) (flat_map file_owns fs) h p (Contains-append_right f.blocks f.sides p c)
+    (sides-owned fs p d))
 
 module _ (img : Image) (l : Layout) (is : IsLayout img l) where
   once : EachOnce (l.directory ++ flat_map file_owns l.files)
@@ -44,7 +45,8 @@ module _ (img : Image) (l : Layout) (is : IsLayout img l) where
 
   -- the map, the side sectors and the directory's sectors are apart
   pub side-not_map : ¬ (Contains (sides_of l.files) map_place)
-  side-not_map c = fresh (Contains-append_right l.directory (flat_map file_owns l.files) map_place (sides-owned l.files map_place c))
+  side-not_map c = fresh (Contains-append_right l.directory (flat_map file_owns l.files) map_place
+      (sides-owned l.files map_place c))
 
   pub directory-not_map : ¬ (Contains l.directory map_place)
   directory-not_map c = fresh (Contains-append_left l.directory (flat_map file_owns l.files) map_place c)
@@ -54,6 +56,9 @@ module _ (img : Image) (l : Layout) (is : IsLayout img l) where
 
   pub order-once : EachOnce (repair_order l)
   order-once = (
-    λ c. elim (Contains-append_cases (sides_of l.files) l.directory map_place c) [ inl d ↦ side-not_map d | inr d ↦ directory-not_map d ],
+    λ c. elim (Contains-append_cases (sides_of l.files) l.directory map_place c) [
+      | inl d ↦ side-not_map d
+      | inr d ↦ directory-not_map d
+    ],
     EachOnce-join (sides_of l.files) l.directory (sides-once l.files files-once) directory-once side-not_directory,
   )

@@ -9,7 +9,8 @@ pub record Passes {D : Type 0} (S : History D) (old new : D) (n : ℕ) : Type 0 
   pub reads : OnlyReads S old new n
   pub failures : S.failures new ≡ S.failures old
 
--- a call that makes at most n reads, no write, and tells why the image isn't sound: a fault that holds of it. Device is told
+-- a call that makes at most n reads, no write, and tells why the image isn't sound: a fault that holds of it. Device is
+-- told
 -- only where the device failed
 pub record TellsUnsound {D : Type 0} (S : History D) (old new : D) (n : ℕ) (fault : Fault) : Type 0 where
   pub reads : OnlyReads S old new n

@@ -24,7 +24,8 @@ pub record IsProper (s : Slot) : Type 0 where
 abbrev pub IsShown : Slot → Fault → Type 0
 IsShown s (BadType p) = (p ≡ s.sector) × (128 ≤ type_byte s) × ¬ (IsClosedType (type_byte s))
 IsShown s (Unclosed p) = (p ≡ s.sector) × (type_byte s < 128)
-IsShown s (BadLength p) = (p ≡ s.sector) × (128 ≤ type_byte s) × IsTrue (is_rel s) × ((record_length s ≡ 0) ⊎ (record_length s ≡ 255))
+IsShown s (BadLength p) = (p ≡ s.sector) × (128 ≤ type_byte s) × IsTrue (is_rel s)
+    × ((record_length s ≡ 0) ⊎ (record_length s ≡ 255))
 IsShown s _ = ⊥
 
 -- these are the blocks of the chain that the slot names, and the last one ends with index u

@@ -1,5 +1,22 @@
 -- What a check asks of a relative entry beyond what a survey asks. Our own.
-use Rattle.std.specs.Prelude.{ℕ, ◌≡◌, ◌≢◌, ◌+◌, ◌<◌, ◌∷◌, ◌++◌, Contains, Err, IsTrue, List, None, Option, Some, length, slice_get}
+use Rattle.std.specs.Prelude.{
+  ℕ,
+  ◌≡◌,
+  ◌≢◌,
+  ◌+◌,
+  ◌<◌,
+  ◌∷◌,
+  ◌++◌,
+  Contains,
+  Err,
+  IsTrue,
+  List,
+  None,
+  Option,
+  Some,
+  length,
+  slice_get,
+}
 use Rattle.std.specs.List.{AllByRecursion}
 use Rattle.d64_image.specs.History.{History, OnlyReads}
 use Rattle.d64_image.specs.Images.{Image, sector}
@@ -14,7 +31,8 @@ use Rattle.disk_layout.specs.declared.faults.Fault.{Fault}
 use Rattle.disk_layout.specs.declared.faults.Fault.TheVariants.{BadSide, CountWrong}
 use Rattle.disk_layout.specs.declared.slot.Slot.{Slot}
 
--- a call that makes at most n reads, no write, and tells why the image isn't clean: a fault that holds of it. Device is told
+-- a call that makes at most n reads, no write, and tells why the image isn't clean: a fault that holds of it. Device is
+-- told
 -- only where the device failed
 pub record TellsUnclean {D : Type 0} (S : History D) (old new : D) (n : ℕ) (fault : Fault) : Type 0 where
   pub reads : OnlyReads S old new n
@@ -49,7 +67,8 @@ abbrev pub ToldOfSides : Image → Slot → List Place → List Place → Option
 ToldOfSides img s blocks sides (Some p) = IsFirstInexact img s blocks sides p
 ToldOfSides img s blocks sides None = AreExactSides img s blocks sides
 
--- what is told of a relative entry: the side sector that isn't exact, or else the count of an entry that doesn't own so many
+-- what is told of a relative entry: the side sector that isn't exact, or else the count of an entry that doesn't own so
+-- many
 -- sectors; None where it does
 abbrev pub ToldOfEntry : Slot → Option Place → ℕ → Option Fault → Type 0
 ToldOfEntry s (Some p) owned told = told ≡ Some (BadSide p)
@@ -59,7 +78,8 @@ ToldOfEntry s None owned None = count_field s ≡ owned
 -- the file is relative, and isn't exact as the fault says: in a side sector, or in the block count
 abbrev pub IsInexactFile : Image → File → Fault → Type 0
 IsInexactFile img f (BadSide p) = IsTrue (is_rel f.slot) × IsFirstInexact img f.slot f.blocks f.sides p
-IsInexactFile img f (CountWrong p) = IsTrue (is_rel f.slot) × (p ≡ f.slot.sector) × (count_field f.slot ≢ length f.blocks + sides_for (length f.blocks))
+IsInexactFile img f (CountWrong p) = IsTrue (is_rel f.slot) × (p ≡ f.slot.sector)
+    × (count_field f.slot ≢ length f.blocks + sides_for (length f.blocks))
 IsInexactFile img f _ = ⊥
 
 -- the file is exact, if it is relative

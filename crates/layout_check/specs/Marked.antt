@@ -29,4 +29,6 @@ IsRightMap bytes t = (track : ℕ) → 1 ≤ track → track ≤ 35 → IsRightT
 
 -- the fault is told at a sector whose bit is wrong, or at the map's where a count is
 abbrev pub IsWrongMap : Sector → Owners → Fault → Type 0
-IsWrongMap bytes t fault = (p : Place) × (fault ≡ MapWrong p) × (¬ (IsMarked bytes t p) ⊎ ((p ≡ map_place) × ((track : ℕ) × (1 ≤ track) × (track ≤ 35) × (map_count bytes track ≢ ones_on bytes track))))
+IsWrongMap bytes t fault = (p : Place) × (fault ≡ MapWrong p)
+    × (¬ (IsMarked bytes t p)
+    ⊎ ((p ≡ map_place) × ((track : ℕ) × (1 ≤ track) × (track ≤ 35) × (map_count bytes track ≢ ones_on bytes track))))

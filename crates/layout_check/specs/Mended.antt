@@ -43,7 +43,8 @@ pub record IsPartsOf (img : Image) (s : Slot) (blocks sides : List Place) : Type
 
 -- exact side sectors of relative files stay exact
 abbrev pub KeepsExact : Image → Image → Type 0
-KeepsExact old new = (s : Slot) (blocks sides : List Place) → IsPartsOf old s blocks sides → AreExactSides old s blocks sides → AreExactSides new s blocks sides
+KeepsExact old new = (s : Slot) (blocks sides : List Place) → IsPartsOf old s blocks sides
+    → AreExactSides old s blocks sides → AreExactSides new s blocks sides
 
 -- the side sectors of this relative entry, as the old image has it, are exact in the new one
 abbrev pub IsExactFor : Image → Image → Slot → Type 0

@@ -15,7 +15,8 @@ pub record MendsDisk {D T : Type 0} (S : History D) (old new : D) (n : ℕ)
   pub mends : Mends S old new n
   pub failures : TellsDevice S old new result
 
--- these sectors of an image of this layout are gone over in order, each written once and only where it isn't right, also
+-- these sectors of an image of this layout are gone over in order, each written once and only where it isn't right,
+-- also
 -- where the device fails; at Ok all of them are right, and nothing else changed
 pub record PutsRight {D T : Type 0} (S : History D) (old new : D) (l : Layout) (ps : List Place)
     (result : Result T Fault) : Type 0 where

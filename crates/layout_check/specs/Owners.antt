@@ -13,7 +13,8 @@ owner_of t p = slice_index t.numbers (index_of p)
 
 -- these places now carry the number n; none of them was owned before, and no other place has changed
 abbrev pub IsClaimed : Owners → Owners → ℕ → List Place → Type 0
-IsClaimed old new n ps = (p : Place) → (Contains ps p → (owner_of old p ≡ 255) × (owner_of new p ≡ n)) × (¬ (Contains ps p) → owner_of new p ≡ owner_of old p)
+IsClaimed old new n ps = (p : Place) → (Contains ps p → (owner_of old p ≡ 255) × (owner_of new p ≡ n))
+    × (¬ (Contains ps p) → owner_of new p ≡ owner_of old p)
 
 -- the fault is told at one of these places, which has an owner in the table
 abbrev pub IsOwned : Owners → List Place → Fault → Type 0
@@ -21,4 +22,5 @@ IsOwned t ps fault = (p : Place) × (fault ≡ OwnedTwice p) × Contains ps p ×
 
 -- the map and these sectors have the number 254, and no other sector has an owner
 abbrev pub IsSystem : Owners → List Place → Type 0
-IsSystem t dir = (p : Place) → (Contains (map_place ∷ dir) p → owner_of t p ≡ 254) × (¬ (Contains (map_place ∷ dir) p) → owner_of t p ≡ 255)
+IsSystem t dir = (p : Place) → (Contains (map_place ∷ dir) p → owner_of t p ≡ 254)
+    × (¬ (Contains (map_place ∷ dir) p) → owner_of t p ≡ 255)

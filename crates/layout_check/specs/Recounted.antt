@@ -24,7 +24,8 @@ pub record IsRelAt (l : Layout) (p : Place) (n : ℕ) (f : File) : Type 0 where
 
 -- in these bytes of the directory sector at p the block count of slot n is right, where it is a relative entry's
 abbrev pub IsRightAt : Image → Place → Sector → ℕ → Type 0
-IsRightAt img p bytes n = (l : Layout) (f : File) → IsLayout img l → IsRelAt l p n f → count_field (slot_in p bytes n) ≡ owned_count f
+IsRightAt img p bytes n = (l : Layout) (f : File) → IsLayout img l → IsRelAt l p n f
+    → count_field (slot_in p bytes n) ≡ owned_count f
 
 -- and that of each of its eight slots
 abbrev pub AreRightIn : Image → Place → Sector → Type 0
@@ -32,7 +33,8 @@ AreRightIn img p bytes = (n : ℕ) → n < 8 → IsRightAt img p bytes n
 
 -- the block counts of all relative files of the image are right
 abbrev pub AreCounted : Image → Type 0
-AreCounted img = (l : Layout) (f : File) → IsLayout img l → Contains l.files f → IsTrue (is_rel f.slot) → count_field f.slot ≡ owned_count f
+AreCounted img = (l : Layout) (f : File) → IsLayout img l → Contains l.files f → IsTrue (is_rel f.slot)
+    → count_field f.slot ≡ owned_count f
 
 -- the bytes of a directory sector differ in block counts of relative entries alone
 pub record IsCountedAs (old new : Sector) : Type 0 where
@@ -40,7 +42,8 @@ pub record IsCountedAs (old new : Sector) : Type 0 where
   pub long : length new ≡ 256
   pub same : (i : ℕ) → i < 256 → IsCountByte old i ⊎ (slice_index new i ≡ slice_index old i)
 
--- the bytes of a directory sector got counts that are right in this sense, and nothing else; those that were right are the same
+-- the bytes of a directory sector got counts that are right in this sense, and nothing else; those that were right are
+-- the same
 pub record GetsCounts (Right : Sector → Type 0) (old new : Sector) : Type 0 where
   pub counts : IsCountedAs old new
   pub right : Right new

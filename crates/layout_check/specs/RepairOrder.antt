@@ -9,11 +9,14 @@ use Rattle.disk_layout.specs.Side.{side_sector}
 use Rattle.layout_check.specs.Made.{HasNoSpare}
 use Rattle.layout_check.specs.Recounted.{owned_count}
 
--- a check finds nothing wrong in these bytes at p, in an image of this layout: neither in a map, nor in a side sector, nor in the block counts of a directory sector
+-- a check finds nothing wrong in these bytes at p, in an image of this layout: neither in a map, nor in a side sector,
+-- nor in the block counts of a directory sector
 pub record IsRight (l : Layout) (p : Place) (bytes : Sector) : Type 0 where
   pub map : p ≡ map_place → IsMapOf bytes (map_place ∷ owners l)
-  pub side : (f : File) (j : ℕ) → Contains l.files f → IsTrue (is_rel f.slot) → slice_get f.sides j ≡ Some p → bytes ≡ side_sector j f.blocks f.sides (record_length f.slot)
-  pub counts : (f : File) → Contains l.files f → IsTrue (is_rel f.slot) → f.slot.sector ≡ p → count_field (slot_in p bytes f.slot.number) ≡ owned_count f
+  pub side : (f : File) (j : ℕ) → Contains l.files f → IsTrue (is_rel f.slot) → slice_get f.sides j ≡ Some p
+      → bytes ≡ side_sector j f.blocks f.sides (record_length f.slot)
+  pub counts : (f : File) → Contains l.files f → IsTrue (is_rel f.slot) → f.slot.sector ≡ p
+      → count_field (slot_in p bytes f.slot.number) ≡ owned_count f
 
 -- the side sectors of these files, in the order of the directory and by number
 abbrev pub sides_of : List File → List Place
@@ -25,4 +28,5 @@ repair_order l = map_place ∷ (sides_of l.files ++ l.directory)
 
 -- a map that was written has 0 in the bits past the tracks' last sectors
 abbrev pub ClearsSpare : Image → Image → Type 0
-ClearsSpare old new = sector new map_place ≢ sector old map_place → (track : ℕ) → 1 ≤ track → track ≤ 35 → HasNoSpare (sector new map_place) track
+ClearsSpare old new = sector new map_place ≢ sector old map_place → (track : ℕ) → 1 ≤ track → track ≤ 35
+    → HasNoSpare (sector new map_place) track

@@ -1,5 +1,22 @@
 -- What is judged of side sectors, one at a time (1541 User's Guide, relative file format).
-use Rattle.std.specs.Prelude.{ℕ, ◌≡◌, ◌≢◌, ◌⊎◌, ◌<◌, ◌+◌, ◌*◌, List, [], ◌∷◌, ◌++◌, IsTrue, Some, length, slice_get, slice_index}
+use Rattle.std.specs.Prelude.{
+  ℕ,
+  ◌≡◌,
+  ◌≢◌,
+  ◌⊎◌,
+  ◌<◌,
+  ◌+◌,
+  ◌*◌,
+  List,
+  [],
+  ◌∷◌,
+  ◌++◌,
+  IsTrue,
+  Some,
+  length,
+  slice_get,
+  slice_index,
+}
 use Rattle.d64_image.specs.Images.{Image, Sector, sector}
 use Rattle.d64_image.specs.declared.place.Place.{Place}
 use Rattle.disk_layout.specs.Chain.{Leads, Names}
@@ -43,7 +60,8 @@ pub record IsMispointed (bytes : Sector) (blocks : List Place) (j : ℕ) : Type 
 
 -- one of the three is not
 abbrev pub HasOtherFields : Sector → Slot → List Place → ℕ → Type 0
-HasOtherFields bytes s blocks j = (slice_index bytes 2 ≢ j) ⊎ ((slice_index bytes 3 ≢ record_length s) ⊎ IsMispointed bytes blocks j)
+HasOtherFields bytes s blocks j = (slice_index bytes 2 ≢ j) ⊎ ((slice_index bytes 3 ≢ record_length s)
+    ⊎ IsMispointed bytes blocks j)
 
 -- a side sector is as a sound image asks beside its link: it has these three, and lists all side sectors
 pub record IsSoundSide (bytes : Sector) (s : Slot) (blocks sides : List Place) (j : ℕ) : Type 0 where

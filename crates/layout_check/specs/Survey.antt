@@ -1,5 +1,21 @@
 -- What a survey tells of a layout. Our own.
-use Rattle.std.specs.Prelude.{ℕ, ◌≡◌, ◌≢◌, ◌≤◌, ◌↔◌, ◌+◌, ◌*◌, List, ◌∷◌, ◌++◌, Contains, Some, flat_map, length, slice_get}
+use Rattle.std.specs.Prelude.{
+  ℕ,
+  ◌≡◌,
+  ◌≢◌,
+  ◌≤◌,
+  ◌↔◌,
+  ◌+◌,
+  ◌*◌,
+  List,
+  ◌∷◌,
+  ◌++◌,
+  Contains,
+  Some,
+  flat_map,
+  length,
+  slice_get,
+}
 use Rattle.std.specs.List.{AllByRecursion}
 use Rattle.d64_image.specs.History.{History}
 use Rattle.d64_image.specs.Images.{Image}
@@ -47,6 +63,8 @@ entries_of s = s.entries
 abbrev pub IsToldBy : Image → Survey → Type 0
 IsToldBy img s = (l : Layout) × IsLayout img l × IsSurveyOf l s
 
--- a call that finds a layout of the image, each owned sector read at most twice, and judges whether its relative files are exact
+-- a call that finds a layout of the image, each owned sector read at most twice, and judges whether its relative files
+-- are exact
 abbrev pub Surveys : {D : Type 0} → History D → D → D → Findings → Type 0
-Surveys S old new found = (l : Layout) × IsLayout (S.image old) l × IsSurveyOf l found.survey × ToldOfFiles (S.image old) l.files found.unclean × Passes S old new (18 + 2 * length (owners l))
+Surveys S old new found = (l : Layout) × IsLayout (S.image old) l × IsSurveyOf l found.survey
+    × ToldOfFiles (S.image old) l.files found.unclean × Passes S old new (18 + 2 * length (owners l))

@@ -39,4 +39,5 @@ TellsOrClashes S old new s t fault = TellsUnsound S old new 732 fault ⊎ IsClas
 
 -- the file of the entry was found, each of its sectors read at most twice, and judged whether it is exact
 abbrev pub SurveysEntry : {D : Type 0} → History D → D → D → Slot → ℕ → Owners → Owners → Option Fault → Type 0
-SurveysEntry S old new s n t u unclean = (g : File) × IsClaimedFile (S.image old) s n t u g × ToldOfFile (S.image old) g unclean × Passes S old new (2 * length (file_owns g))
+SurveysEntry S old new s n t u unclean = (g : File) × IsClaimedFile (S.image old) s n t u g
+    × ToldOfFile (S.image old) g unclean × Passes S old new (2 * length (file_owns g))

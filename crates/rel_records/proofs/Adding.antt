@@ -1,5 +1,35 @@
 -- A file takes its next data block: from what is laid out in memory to what the disk holds at each moment.
-use Rattle.std.proofs.Common.{◌≡◌, ◌≢◌, ℕ, suc, ◌+◌, ◌-◌, ◌*◌, ◌%◌, ◌<◌, ◌≤◌, ◌⊎◌, inl, inr, List, [], ◌∷◌, ◌++◌, length, refl, sym, ◌∙◌, ap, arith, subst, IsTrue, length-append, slice_index, take, drop}
+use Rattle.std.proofs.Common.{
+  ◌≡◌,
+  ◌≢◌,
+  ℕ,
+  suc,
+  ◌+◌,
+  ◌-◌,
+  ◌*◌,
+  ◌%◌,
+  ◌<◌,
+  ◌≤◌,
+  ◌⊎◌,
+  inl,
+  inr,
+  List,
+  [],
+  ◌∷◌,
+  ◌++◌,
+  length,
+  refl,
+  sym,
+  ◌∙◌,
+  ap,
+  arith,
+  subst,
+  IsTrue,
+  length-append,
+  slice_index,
+  take,
+  drop,
+}
 use Rattle.std.specs.Prelude.{Bool, Contains, Some, nat_eq, slice_get, ◌||◌}
 use Rattle.std.specs.List.{AllByRecursion}
 use Rattle.std.proofs.lemmas.List.{length-take}
@@ -21,14 +51,38 @@ use Rattle.disk_layout.specs.Chain.{EachOnce}
 use Rattle.disk_layout.specs.Clean.{IsExactFile}
 use Rattle.disk_layout.specs.Directory.{map_place, slot_in}
 use Rattle.disk_layout.specs.Entries.{IsRecounted, uncounted}
-use Rattle.disk_layout.specs.Layout.{File, IsRelFile, Layout, count_field, exchanged, file_owns, is_rel, owners, record_length, sides_for}
+use Rattle.disk_layout.specs.Layout.{
+  File,
+  IsRelFile,
+  Layout,
+  count_field,
+  exchanged,
+  file_owns,
+  is_rel,
+  owners,
+  record_length,
+  sides_for,
+}
 use Rattle.disk_layout.specs.Map.{IsMapOf}
 use Rattle.disk_layout.specs.Records.{IsFilled, empty_record, filler, record_count, records}
 use Rattle.disk_layout.specs.Side.{side_sector}
 use Rattle.disk_layout.specs.View.{blocks_free}
 use Rattle.disk_layout.specs.declared.slot.Slot.{Slot}
 use Rattle.rel_records.proofs.Before.{before-grows, prepared-of}
-use Rattle.rel_records.proofs.Committing.{after-same, before-same, clean-again, committed-has, counted-has, entry-unowned, g-owned, header-same, map-now, records-longer, same-entry, slot-records}
+use Rattle.rel_records.proofs.Committing.{
+  after-same,
+  before-same,
+  clean-again,
+  committed-has,
+  counted-has,
+  entry-unowned,
+  g-owned,
+  header-same,
+  map-now,
+  records-longer,
+  same-entry,
+  slot-records,
+}
 use Rattle.rel_records.proofs.Others.{others-kept, places-more}
 use Rattle.rel_records.proofs.FullSides.{side_sector-full}
 use Rattle.rel_records.proofs.Fulls.{full-inside, full-last, full-more}
@@ -46,7 +100,8 @@ use Rattle.rel_records.specs.declared.step_parts.Parts.{Parts}
 is_rel-same : (s t : Slot) → uncounted s ≡ uncounted t → is_rel s ≡ is_rel t
 is_rel-same s t e = ap (λ k. nat_eq k 132 || nat_eq k 196) (uncounted-face s t e).kind
 
-module _ (a : Image) (l : Layout) (n : ℕ) (f : File) (p q : Parts) (fresh : Place) (block : Sector) (w : IsImage a) (at : IsAt a l n f p) (few : length f.blocks < 720) (lay : IsLaidOut p q fresh block) where
+module _ (a : Image) (l : Layout) (n : ℕ) (f : File) (p q : Parts) (fresh : Place) (block : Sector) (w : IsImage a)
+    (at : IsAt a l n f p) (few : length f.blocks < 720) (lay : IsLaidOut p q fresh block) where
   abbrev before : List File
   before = take n l.files
 
@@ -87,10 +142,13 @@ module _ (a : Image) (l : Layout) (n : ℕ) (f : File) (p q : Parts) (fresh : Pl
   next =
       let P : List Place → Type 0 = IsNextOf l before after f fresh u q.map.bytes in
       elim lay.places.taken [
-        | inl t ↦ subst P (sym (t.sides ∙ at.sides)) (next-block l before after f fresh u q.map.bytes at.clean.layout.once split free rel-file.count
+        | inl t ↦ subst P (sym (t.sides ∙ at.sides)) (next-block l before after f fresh u q.map.bytes
+            at.clean.layout.once split free rel-file.count
             (λ e. t.within (ap (λ k. k % 120) many ∙ e)) (t.owned (map_place ∷ owners l) old-map))
-        | inr t ↦ subst P (sym (t.sides ∙ ap (λ xs. xs ++ t.side ∷ []) at.sides)) (next-side l before after f fresh u q.map.bytes at.clean.layout.once split free rel-file.count t.side
-            (ap (λ k. k % 120) (sym many) ∙ t.full) (t.unowned (map_place ∷ owners l) old-map) (t.owned (map_place ∷ owners l) old-map))
+        | inr t ↦ subst P (sym (t.sides ∙ ap (λ xs. xs ++ t.side ∷ []) at.sides))
+            (next-side l before after f fresh u q.map.bytes at.clean.layout.once split free rel-file.count t.side
+            (ap (λ k. k % 120) (sym many) ∙ t.full) (t.unowned (map_place ∷ owners l) old-map)
+            (t.owned (map_place ∷ owners l) old-map))
       ]
 
   pub few-sides : length ss ≤ 6
@@ -112,7 +170,8 @@ module _ (a : Image) (l : Layout) (n : ℕ) (f : File) (p q : Parts) (fresh : Pl
   header = (lay.places.header.0 ∙ ap (take 4) at.map, lay.places.header.1 ∙ ap (drop 144) at.map)
 
   apart : (j : ℕ) → ¬ (slice_get f.sides j ≡ Some map_place)
-  apart j e = at.clean.layout.once.0 (owned-side l f map_place (file-in l before after f split) (get-contains f.sides j map_place e))
+  apart j e = at.clean.layout.once.0 (owned-side l f map_place (file-in l before after f split)
+      (get-contains f.sides j map_place e))
 
   blocks-are : q.blocks.items ≡ g.blocks
   blocks-are = lay.places.blocks ∙ ap (λ xs. xs ++ fresh ∷ []) at.blocks
@@ -124,7 +183,8 @@ module _ (a : Image) (l : Layout) (n : ℕ) (f : File) (p q : Parts) (fresh : Pl
   pub before-adds : (m : ℕ) (c : Image) → IsBefore a q fresh block c → IsGrowingBy a l n f m c
   before-adds m c is =
       let P : ℕ → Type 0 = λ k. IsGrowingBy a l k f m c in
-      subst P place (before-grows a l f g q fresh block w.size at.clean.layout header free blocks-are refl size-is next.sided apart before after m split at.rel next.long few-sides c is)
+      subst P place (before-grows a l f g q fresh block w.size at.clean.layout header free blocks-are refl size-is
+      next.sided apart before after m split at.rel next.long few-sides c is)
 
   -- the side sectors below k need no other bytes
   pub record IsRewritten (k : ℕ) : Type 0 where
@@ -139,9 +199,11 @@ module _ (a : Image) (l : Layout) (n : ℕ) (f : File) (p q : Parts) (fresh : Pl
   exact-file : IsExactFile a f
   exact-file =
       let P : List File → Type 0 = λ fs. AllByRecursion (λ x. IsTrue (is_rel x.slot) → IsExactFile a x) fs in
-      (all-right (λ x. IsTrue (is_rel x.slot) → IsExactFile a x) before (f ∷ after) (subst P split at.clean.files)).0 at.rel
+      (all-right (λ x. IsTrue (is_rel x.slot) → IsExactFile a x) before (f ∷ after) (subst P split at.clean.files)).0
+      at.rel
 
-  right : (k : ℕ) → IsRewritten k → (j : ℕ) (x : Place) → j < k → slice_get ss j ≡ Some x → Contains (owners l) x × (sector a x ≡ side_sector j g.blocks ss (record_length f.slot))
+  right : (k : ℕ) → IsRewritten k → (j : ℕ) (x : Place) → j < k → slice_get ss j ≡ Some x → Contains (owners l) x
+      × (sector a x ≡ side_sector j g.blocks ss (record_length f.slot))
   right k r j x lt here = elim r.from [
     | inl z ↦ absurd (omega (arith, z, lt))
     | inr s ↦
@@ -149,15 +211,20 @@ module _ (a : Image) (l : Layout) (n : ℕ) (f : File) (p q : Parts) (fresh : Pl
         let there : slice_get f.sides j ≡ Some x = ap (λ xs. slice_get xs j) (sym same) ∙ here in
         let low : 120 * j + 120 ≤ length f.blocks = omega (arith, s.0, lt, next.count) in (
           owned-side l f x (file-in l before after f split) (get-contains f.sides j x there),
-          exact-file.sides j x there ∙ ap (λ xs. side_sector j f.blocks xs (record_length f.slot)) (sym same) ∙ sym (side_sector-full j f.blocks (fresh ∷ []) ss (record_length f.slot) low),
+          exact-file.sides j x there ∙ ap (λ xs. side_sector j f.blocks xs (record_length f.slot)) (sym same)
+              ∙ sym (side_sector-full j f.blocks (fresh ∷ []) ss (record_length f.slot) low),
         )
   ]
 
   -- all that comes before the link is written
-  pub prepared : (c : Image) (k : ℕ) → IsRewritten k → AreSidedFrom k c q.blocks.items ss q.size → IsSided (put (put a map_place q.map.bytes) fresh block) q.blocks.items ss q.size c → IsPrepared a c l f g fresh q.map.bytes block
+  pub prepared : (c : Image) (k : ℕ) → IsRewritten k → AreSidedFrom k c q.blocks.items ss q.size
+      → IsSided (put (put a map_place q.map.bytes) fresh block) q.blocks.items ss q.size c
+      → IsPrepared a c l f g fresh q.map.bytes block
   prepared c k r from is =
-      prepared-of a l f g q fresh block w.size at.clean.layout header free blocks-are refl size-is next.sided apart c k is from sides-once
-      (λ j e. EachOnce-apart g.blocks ss each fresh (Contains-append_right f.blocks (fresh ∷ []) fresh (Contains-here fresh [])) (get-contains ss j fresh e))
+      prepared-of a l f g q fresh block w.size at.clean.layout header free blocks-are refl size-is next.sided apart c k
+      is from sides-once
+      (λ j e. EachOnce-apart g.blocks ss each fresh (Contains-append_right f.blocks (fresh ∷ []) fresh
+      (Contains-here fresh [])) (get-contains ss j fresh e))
       (right k r)
 
   pos : 0 < record_length f.slot
@@ -187,7 +254,8 @@ module _ (a : Image) (l : Layout) (n : ℕ) (f : File) (p q : Parts) (fresh : Pl
       subst P many (subst Q at.size (subst R at.last lay.last))
 
   -- what the last two blocks hold then
-  filled-total : IsFilledUp f → IsFilled a f at.front at.last_place (full (record_length f.slot) (length f.blocks)) (full (record_length f.slot) (length f.blocks + 1)) q.last block
+  filled-total : IsFilledUp f → IsFilled a f at.front at.last_place (full (record_length f.slot) (length f.blocks))
+      (full (record_length f.slot) (length f.blocks + 1)) q.last block
   filled-total up =
       let L = record_length f.slot in
       let N = length f.blocks in
@@ -196,7 +264,8 @@ module _ (a : Image) (l : Layout) (n : ℕ) (f : File) (p q : Parts) (fresh : Pl
       let two : N + 1 ≡ r + 2 = omega (arith, blocks-some) in
       let inside : full L N * L ≤ 254 * N = full-inside L N in
       let last : 254 * r < full L (r + 1) * L + 1 = full-last L r pos rel-file.length_high in
-      let low : 254 * r < full L N * L + 1 = (let P : ℕ → Type 0 = λ k. 254 * r < full L k * L + 1 in subst P (sym blocks-some) last) in
+      let low : 254 * r < full L N * L + 1 = (let P : ℕ → Type 0 = λ k. 254 * r < full L k * L + 1 in
+      subst P (sym blocks-some) last) in
       let top : full L (N + 1) * L ≤ 254 * (N + 1) = full-inside L (N + 1) in
       record {
         positive = pos;
@@ -206,18 +275,25 @@ module _ (a : Image) (l : Layout) (n : ℕ) (f : File) (p q : Parts) (fresh : Pl
         inside = omega (arith, inside, blocks-some);
         within = omega (arith, top, blocks-some);
         kept = λ j lt h. linked.kept j lt (let P : ℕ → Type 0 = λ k. 254 * k + j < full L N * L in subst P (sym e) h);
-        tail = λ j lt h. linked.tail j lt (let P : ℕ → Type 0 = λ k. full L N * L ≤ 254 * k + j in subst P (sym e) h) ∙ ap (λ k. filler L (full L (N + 1)) (254 * k + j)) e;
-        block = λ j lt. made.filled j lt ∙ ap (filler L (full L (N + 1))) (let s : 254 * N + j ≡ 254 * r + 254 + j = omega (arith, blocks-some) in s);
+        tail = λ j lt h. linked.tail j lt (let P : ℕ → Type 0 = λ k. full L N * L ≤ 254 * k + j in subst P (sym e) h)
+            ∙ ap (λ k. filler L (full L (N + 1)) (254 * k + j)) e;
+        block = λ j lt. made.filled j lt ∙ ap (filler L (full L (N + 1))) (let s : 254 * N + j ≡ 254 * r + 254 + j =
+            omega (arith, blocks-some) in s);
       }
 
-  filled : IsFilledUp f → IsFilled a f at.front at.last_place (full (record_length f.slot) (length f.blocks)) (full (record_length f.slot) (length f.blocks) + more) q.last block
-  filled up = let P : ℕ → Type 0 = λ k. IsFilled a f at.front at.last_place (full (record_length f.slot) (length f.blocks)) k q.last block in subst P total-is (filled-total up)
+  filled : IsFilledUp f → IsFilled a f at.front at.last_place (full (record_length f.slot) (length f.blocks))
+      (full (record_length f.slot) (length f.blocks) + more) q.last block
+  filled up = let P : ℕ
+      → Type 0 = λ k. IsFilled a f at.front at.last_place (full (record_length f.slot) (length f.blocks)) k q.last
+      block in subst P total-is (filled-total up)
 
   -- all whole records are there
-  pub counts : record_count (length f.blocks + 1) u (record_length f.slot) ≡ full (record_length f.slot) (length f.blocks + 1)
+  pub counts : record_count (length f.blocks + 1) u (record_length f.slot) ≡ full (record_length f.slot)
+      (length f.blocks + 1)
   counts = count-full (length f.blocks) u (record_length f.slot) _ pos rel-file.length_high refl made.index
 
-  module _ (up : IsFilledUp f) (c : Image) (x : IsImage c) (v : IsSector q.last) (ready : IsPrepared a c l f g fresh q.map.bytes block) where
+  module _ (up : IsFilledUp f) (c : Image) (x : IsImage c) (v : IsSector q.last)
+      (ready : IsPrepared a c l f g fresh q.map.bytes block) where
     abbrev b : Image
     b = put c at.last_place q.last
 
@@ -227,7 +303,9 @@ module _ (a : Image) (l : Layout) (n : ℕ) (f : File) (p q : Parts) (fresh : Pl
         let P : ℕ → Type 0 = λ k. HasRecords a b l k (grown_by (record_length f.slot) more (records a f)) in (
           more,
           omega arith,
-          subst P place (committed-has a c l before after f fresh u ss q.map.bytes block q.last q.directory at.front at.last_place x.size at.clean split at.rel next.once next.long next.count few-sides some ready made.ends refl at.last_is linked.link
+          subst P place (committed-has a c l before after f fresh u ss q.map.bytes block q.last q.directory at.front
+              at.last_place x.size at.clean split at.rel next.once next.long next.count few-sides some ready made.ends
+              refl at.last_is linked.link
               (full (record_length f.slot) (length f.blocks)) more x v some-more (filled up) (counts ∙ total-is)),
         )
 
@@ -255,7 +333,9 @@ module _ (a : Image) (l : Layout) (n : ℕ) (f : File) (p q : Parts) (fresh : Pl
         let P : ℕ → Type 0 = λ k. HasRecords a e l k (grown_by (record_length f.slot) more (records a f)) in (
           more,
           omega arith,
-          subst P place (counted-has a c l before after f fresh u ss q.map.bytes block q.last q.directory at.front at.last_place x.size at.clean split at.rel next.once next.long next.count few-sides some ready made.ends refl at.last_is linked.link
+          subst P place (counted-has a c l before after f fresh u ss q.map.bytes block q.last q.directory at.front
+              at.last_place x.size at.clean split at.rel next.once next.long next.count few-sides some ready made.ends
+              refl at.last_is linked.link
               recount counted next.map
               (full (record_length f.slot) (length f.blocks)) more x v some-more (filled up) (counts ∙ total-is)),
         )
@@ -270,23 +350,32 @@ module _ (a : Image) (l : Layout) (n : ℕ) (f : File) (p q : Parts) (fresh : Pl
     m = exchanged l before h after
 
     same : uncounted f.slot ≡ uncounted t
-    same = same-entry a c l before after f fresh u ss q.map.bytes block q.last q.directory at.front at.last_place x.size at.clean split at.rel next.once next.long next.count few-sides some ready made.ends refl at.last_is linked.link recount counted next.map
+    same = same-entry a c l before after f fresh u ss q.map.bytes block q.last q.directory at.front at.last_place x.size
+        at.clean split at.rel next.once next.long next.count few-sides some ready made.ends refl at.last_is linked.link
+        recount counted next.map
 
     full-b : length b ≡ 683
     full-b = length-put c at.last_place q.last ∙ x.size
 
     entry-apart : (y : Place) → Contains (file_owns g) y → d ≢ y
-    entry-apart y own = entry-unowned a c l before after f fresh u ss q.map.bytes block q.last q.directory at.front at.last_place x.size at.clean split at.rel next.once next.long next.count few-sides some ready made.ends refl at.last_is linked.link
-        y (g-owned a c l before after f fresh u ss q.map.bytes block q.last q.directory at.front at.last_place x.size at.clean split at.rel next.once next.long next.count few-sides some ready made.ends refl at.last_is linked.link y own)
+    entry-apart y own = entry-unowned a c l before after f fresh u ss q.map.bytes block q.last q.directory at.front
+        at.last_place x.size at.clean split at.rel next.once next.long next.count few-sides some ready made.ends refl
+        at.last_is linked.link
+        y (g-owned a c l before after f fresh u ss q.map.bytes block q.last q.directory at.front at.last_place x.size
+        at.clean split at.rel next.once next.long next.count few-sides some ready made.ends refl at.last_is
+        linked.link y own)
 
     fresh-in : Contains (f.blocks ++ fresh ∷ []) fresh
     fresh-in = Contains-append_right f.blocks (fresh ∷ []) fresh (Contains-here fresh [])
 
     last-in : Contains f.blocks at.last_place
-    last-in = let P : List Place → Type 0 = λ xs. Contains xs at.last_place in subst P (sym at.last_is) (Contains-append_right at.front (at.last_place ∷ []) at.last_place (Contains-here at.last_place []))
+    last-in = let P : List Place → Type 0 = λ xs. Contains xs at.last_place in
+        subst P (sym at.last_is) (Contains-append_right at.front (at.last_place ∷ []) at.last_place
+        (Contains-here at.last_place []))
 
     last-fresh : at.last_place ≢ fresh
-    last-fresh s = EachOnce-apart f.blocks (fresh ∷ []) (EachOnce-left (f.blocks ++ fresh ∷ []) ss each) at.last_place last-in (let P : Place → Type 0 = Contains (fresh ∷ []) in subst P (sym s) (Contains-here fresh []))
+    last-fresh s = EachOnce-apart f.blocks (fresh ∷ []) (EachOnce-left (f.blocks ++ fresh ∷ []) ss each) at.last_place
+        last-in (let P : Place → Type 0 = Contains (fresh ∷ []) in subst P (sym s) (Contains-here fresh []))
 
     block-there : sector e fresh ≡ block
     block-there =
@@ -295,23 +384,34 @@ module _ (a : Image) (l : Layout) (n : ℕ) (f : File) (p q : Parts) (fresh : Pl
         ∙ ready.block
 
     there : slice_get m.files n ≡ Some h
-    there = let P : ℕ → Type 0 = λ k. slice_get (before ++ h ∷ after) k ≡ Some h in subst P place (get-seam before after h)
+    there = let P : ℕ → Type 0 = λ k. slice_get (before ++ h ∷ after) k ≡ Some h in
+        subst P place (get-seam before after h)
 
     kept : KeepsOthers a e l m n
     kept =
         let P : ℕ → Type 0 = λ k. KeepsOthers a e l m k in
         subst P place (others-kept a e l before after f h split (sym same)
-        (before-same a c l before after f fresh u ss q.map.bytes block q.last q.directory at.front at.last_place x.size at.clean split at.rel next.once next.long next.count few-sides some ready made.ends refl at.last_is linked.link recount counted next.map)
-        (after-same a c l before after f fresh u ss q.map.bytes block q.last q.directory at.front at.last_place x.size at.clean split at.rel next.once next.long next.count few-sides some ready made.ends refl at.last_is linked.link recount counted next.map)
-        (header-same a c l before after f fresh u ss q.map.bytes block q.last q.directory at.front at.last_place x.size at.clean split at.rel next.once next.long next.count few-sides some ready made.ends refl at.last_is linked.link recount counted next.map))
+        (before-same a c l before after f fresh u ss q.map.bytes block q.last q.directory at.front at.last_place x.size
+        at.clean split at.rel next.once next.long next.count few-sides some ready made.ends refl at.last_is
+        linked.link recount counted next.map)
+        (after-same a c l before after f fresh u ss q.map.bytes block q.last q.directory at.front at.last_place x.size
+        at.clean split at.rel next.once next.long next.count few-sides some ready made.ends refl at.last_is
+        linked.link recount counted next.map)
+        (header-same a c l before after f fresh u ss q.map.bytes block q.last q.directory at.front at.last_place x.size
+        at.clean split at.rel next.once next.long next.count few-sides some ready made.ends refl at.last_is
+        linked.link recount counted next.map))
 
     -- at the end the file has a block more, and what is in memory is of the image
-    pub block-more : (z : Parts) → z.map.bytes ≡ q.map.bytes → z.sector ≡ q.sector → z.number ≡ q.number → z.size ≡ q.size → z.sides.items ≡ ss → z.blocks.items ≡ q.blocks.items → z.last ≡ block → z.directory ≡ q.directory → HasBlockMore a e l n f p z
+    pub block-more : (z : Parts) → z.map.bytes ≡ q.map.bytes → z.sector ≡ q.sector → z.number ≡ q.number
+        → z.size ≡ q.size → z.sides.items ≡ ss → z.blocks.items ≡ q.blocks.items → z.last ≡ block
+        → z.directory ≡ q.directory → HasBlockMore a e l n f p z
     block-more z map sector' number size sides blocks last directory = record {
       layout = m;
       file = h;
       at = record {
-        clean = clean-again a c l before after f fresh u ss q.map.bytes block q.last q.directory at.front at.last_place x.size at.clean split at.rel next.once next.long next.count few-sides some ready made.ends refl at.last_is linked.link recount counted next.map;
+        clean = clean-again a c l before after f fresh u ss q.map.bytes block q.last q.directory at.front at.last_place
+            x.size at.clean split at.rel next.once next.long next.count few-sides some ready made.ends refl at.last_is
+            linked.link recount counted next.map;
         there = there;
         rel = let P : Bool → Type 0 = IsTrue in subst P (is_rel-same f.slot t same) at.rel;
         place = sector' ∙ lay.places.sector ∙ at.place;
@@ -319,7 +419,9 @@ module _ (a : Image) (l : Layout) (n : ℕ) (f : File) (p q : Parts) (fresh : Pl
         size = size ∙ size-is ∙ (uncounted-face f.slot t same).length;
         sides = sides;
         blocks = blocks ∙ blocks-are;
-        map = map ∙ sym (map-now a c l before after f fresh u ss q.map.bytes block q.last q.directory at.front at.last_place x.size at.clean split at.rel next.once next.long next.count few-sides some ready made.ends refl at.last_is linked.link recount counted next.map);
+        map = map ∙ sym (map-now a c l before after f fresh u ss q.map.bytes block q.last q.directory at.front
+            at.last_place x.size at.clean split at.rel next.once next.long next.count few-sides some ready made.ends
+            refl at.last_is linked.link recount counted next.map);
         front = f.blocks;
         last_place = fresh;
         last_is = refl;
@@ -328,8 +430,12 @@ module _ (a : Image) (l : Layout) (n : ℕ) (f : File) (p q : Parts) (fresh : Pl
       };
       others = kept;
       records_are =
-          slot-records a c l before after f fresh u ss q.map.bytes block q.last q.directory at.front at.last_place x.size at.clean split at.rel next.once next.long next.count few-sides some ready made.ends refl at.last_is linked.link recount counted next.map
-          ∙ records-longer a c l before after f fresh u ss q.map.bytes block q.last q.directory at.front at.last_place x.size at.clean split at.rel next.once next.long next.count few-sides some ready made.ends refl at.last_is linked.link
+          slot-records a c l before after f fresh u ss q.map.bytes block q.last q.directory at.front at.last_place
+          x.size at.clean split at.rel next.once next.long next.count few-sides some ready made.ends refl at.last_is
+          linked.link recount counted next.map
+          ∙ records-longer a c l before after f fresh u ss q.map.bytes block q.last q.directory at.front at.last_place
+          x.size at.clean split at.rel next.once next.long next.count few-sides some ready made.ends refl at.last_is
+          linked.link
           (full (record_length f.slot) (length f.blocks)) more x v some-more (filled up) (counts ∙ total-is);
       same_size = sym (uncounted-face f.slot t same).length;
       places = places-more a f h more (empty_record (record_length f.slot)) some-more;
@@ -338,7 +444,9 @@ module _ (a : Image) (l : Layout) (n : ℕ) (f : File) (p q : Parts) (fresh : Pl
           let L = record_length f.slot in
           let N : length (f.blocks ++ fresh ∷ []) ≡ length f.blocks + 1 = length-append f.blocks (fresh ∷ []) in
           let P : ℕ → Type 0 = λ k. record_count k u L ≡ full L k in
-          let Q : ℕ → Type 0 = λ s. record_count (length (f.blocks ++ fresh ∷ [])) u s ≡ full s (length (f.blocks ++ fresh ∷ [])) in
+          let Q : ℕ → Type 0 = λ s. record_count (length (f.blocks ++ fresh ∷ [])) u s
+          ≡ full s (length (f.blocks ++ fresh ∷ [])) in
           subst Q (uncounted-face f.slot t same).length (subst P (sym N) counts);
-      free = ap (λ s. blocks_free s + taken_next (length f.blocks)) map ∙ ap (λ k. blocks_free q.map.bytes + taken_next k) (sym many) ∙ lay.places.free;
+      free = ap (λ s. blocks_free s + taken_next (length f.blocks)) map
+          ∙ ap (λ k. blocks_free q.map.bytes + taken_next k) (sym many) ∙ lay.places.free;
     }

@@ -21,10 +21,12 @@ use Rattle.disk_layout.specs.declared.slot.Slot.{Slot}
 use Rattle.rel_records.specs.Made.{HasFilesOf}
 
 -- before the entry is written the disk agrees where something is owned: it has the files that it had
-pub creating-before : (a c : Image) (l : Layout) → IsLayout a l → AgreeAt a c (owners l) → header_of c ≡ header_of a → HasFilesOf a l c
+pub creating-before : (a c : Image) (l : Layout) → IsLayout a l → AgreeAt a c (owners l) → header_of c ≡ header_of a
+    → HasFilesOf a l c
 creating-before a c l h same header = record {
   layout = IsLayout-agree a c l same h;
-  files = map-same_on (stays_of c) (stays_of a) l.files (λ f d. sym (stays-agree a c f (λ q e. same q (owned-block l f q d e))));
+  files = map-same_on (stays_of c) (stays_of a) l.files
+      (λ f d. sym (stays-agree a c f (λ q e. same q (owned-block l f q d e))));
   header = header;
 }
 
@@ -33,7 +35,8 @@ map-join f [] ys = refl
 map-join f (x ∷ xs) ys = ap (λ zs. f x ∷ zs) (map-join f xs ys)
 
 -- a list whose images are split is split
-pub map-split : {X Y : Type 0} (f : X → Y) (zs : List X) (xs ys : List Y) → map f zs ≡ xs ++ ys → (fs : List X) × (gs : List X) × (zs ≡ fs ++ gs) × (map f fs ≡ xs) × (map f gs ≡ ys)
+pub map-split : {X Y : Type 0} (f : X → Y) (zs : List X) (xs ys : List Y) → map f zs ≡ xs ++ ys → (fs : List X)
+    × (gs : List X) × (zs ≡ fs ++ gs) × (map f fs ≡ xs) × (map f gs ≡ ys)
 map-split f zs [] ys e = ([], zs, refl, refl, e)
 map-split f [] (x ∷ xs) ys e = cc
 map-split f (z ∷ zs) (x ∷ xs) ys e =
@@ -49,7 +52,8 @@ pub record SameEntry (s t : Slot) : Type 0 where
   pub number_same : t.number ≡ s.number
   pub entry : slice_range t.bytes 2 30 ≡ slice_range s.bytes 2 30
 
-reread-files : (b : Image) (fs : List File) → ((f : File) → Contains fs f → SameEntry f.slot (reslot b f.slot)) → AllByRecursion (IsFile b) fs → AllByRecursion (IsFile b) (map (reread b) fs)
+reread-files : (b : Image) (fs : List File) → ((f : File) → Contains fs f → SameEntry f.slot (reslot b f.slot))
+    → AllByRecursion (IsFile b) fs → AllByRecursion (IsFile b) (map (reread b) fs)
 reread-files b [] same h = tt
 reread-files b (f ∷ fs) same h = (
   IsFile-slot b f (reslot b f.slot) (same f (Contains-here f fs)).face h.0,
@@ -88,7 +92,8 @@ module _ (c b : Image) (l : Layout) (fs gs : List File) (k : File) (ps : List Pl
   same-right : (f : File) → Contains gs f → SameEntry f.slot (reslot b f.slot)
   same-right f d = same f (rw split (Contains-append_right fs gs f d))
 
-  pub created-layout : EachOnce (map_place ∷ owners (record { directory = ps; files = with_new b fs gs k })) → IsLayout b (record { directory = ps; files = with_new b fs gs k })
+  pub created-layout : EachOnce (map_place ∷ owners (record { directory = ps; files = with_new b fs gs k }))
+      → IsLayout b (record { directory = ps; files = with_new b fs gs k })
   created-layout once = record {
     directory = directory;
     files = all-join (IsFile b) (map (reread b) fs) (k ∷ map (reread b) gs)
@@ -97,18 +102,24 @@ module _ (c b : Image) (l : Layout) (fs gs : List File) (k : File) (ps : List Pl
     once = once;
   }
 
-  stays-all : (xs : List File) → ((f : File) → Contains xs f → SameEntry f.slot (reslot b f.slot)) → ((f : File) → Contains xs f → AgreeAt c b f.blocks) → map (stays_of b) (map (reread b) xs) ≡ map (stays_of c) xs
-  stays-all xs entry blocks = map-map (stays_of b) (reread b) xs ∙ map-same_on (λ f. stays_of b (reread b f)) (stays_of c) xs
+  stays-all : (xs : List File) → ((f : File) → Contains xs f → SameEntry f.slot (reslot b f.slot))
+      → ((f : File) → Contains xs f → AgreeAt c b f.blocks) → map (stays_of b) (map (reread b) xs) ≡ map (stays_of c) xs
+  stays-all xs entry blocks = map-map (stays_of b) (reread b) xs
+      ∙ map-same_on (λ f. stays_of b (reread b f)) (stays_of c) xs
       (λ f d. stays-entry b f (reslot b f.slot) (entry f d) ∙ sym (stays-agree c b f (blocks f d)))
 
   -- all files stay, and the new one is there
-  pub created-adds : (a : Image) → HasFilesOf a l c → ((f : File) → Contains l.files f → AgreeAt c b f.blocks) → header_of b ≡ header_of c → AddsFile a b l (record { directory = ps; files = with_new b fs gs k }) k
+  pub created-adds : (a : Image) → HasFilesOf a l c → ((f : File) → Contains l.files f → AgreeAt c b f.blocks)
+      → header_of b ≡ header_of c → AddsFile a b l (record { directory = ps; files = with_new b fs gs k }) k
   created-adds a was blocks header = record {
     before = map (stays_of c) fs;
     after = map (stays_of c) gs;
     had = sym was.files ∙ ap (map (stays_of c)) split ∙ map-join (stays_of c) fs gs;
     has = map-join (stays_of b) (map (reread b) fs) (k ∷ map (reread b) gs)
-        ∙ cc (stays-all fs same-left (λ f d. blocks f (rw split (Contains-append_left fs gs f d))), stays-all gs same-right (λ f d. blocks f (rw split (Contains-append_right fs gs f d))));
+        ∙ cc (
+          stays-all fs same-left (λ f d. blocks f (rw split (Contains-append_left fs gs f d))),
+          stays-all gs same-right (λ f d. blocks f (rw split (Contains-append_right fs gs f d))),
+        );
     added = Contains-append_right (map (reread b) fs) (k ∷ map (reread b) gs) k (Contains-here k (map (reread b) gs));
     header = header ∙ was.header;
   }

@@ -18,5 +18,6 @@ full-last L n pos few =
 pub full-more : (L n : ℕ) → 0 < L → L ≤ 254 → full L n < full L (n + 1)
 full-more L n pos few =
     let one : (full L n + 1) * L ≡ full L n * L + L = grind arith in
-    let low : full L n + 1 ≤ 254 * (n + 1) / L = le-div (full L n + 1) (254 * (n + 1)) L pos (omega (arith, full-inside L n, one)) in
+    let low : full L n + 1 ≤ 254 * (n + 1) / L = le-div (full L n + 1) (254 * (n + 1)) L pos
+    (omega (arith, full-inside L n, one)) in
     omega arith

@@ -14,12 +14,17 @@ use Rattle.rel_records.specs.Steps.{IsAt}
 use Rattle.rel_records.specs.declared.rel_file.RelFile.{RelFile}
 use Rattle.rel_records.specs.declared.step_parts.Parts.{Parts}
 
-pub clean-of : (img : Image) (l : Layout) (n : ℕ) (f : File) (v : RelFile) → IsClean img → IsFileOf img l n f v → IsCleanLayout img l
-clean-of img l n f v (m, clean) of = let P : Layout → Type 0 = IsCleanLayout img in subst P (IsLayout-one img m l clean.layout of.layout) clean
+pub clean-of : (img : Image) (l : Layout) (n : ℕ) (f : File) (v : RelFile) → IsClean img → IsFileOf img l n f v
+    → IsCleanLayout img l
+clean-of img l n f v (m, clean) of = let P : Layout → Type 0 = IsCleanLayout img in
+    subst P (IsLayout-one img m l clean.layout of.layout) clean
 
 -- read with the map, the sector of its slot, and its last block, which stands at place k of the list
-pub is-at : (img : Image) (l : Layout) (n : ℕ) (f : File) (v : RelFile) (p : Parts) (k : ℕ) (last : Place) → IsClean img → IsFileOf img l n f v → p.map.bytes ≡ sector img map_place → p.sector ≡ v.sector → p.number ≡ v.number → p.size ≡ v.size → p.sides.items ≡ f.sides → p.blocks.items ≡ f.blocks
-    → k + 1 ≡ length p.blocks.items → last ≡ get_or p.blocks.items k last → p.last ≡ sector img last → p.directory ≡ sector img v.sector → IsAt img l n f p
+pub is-at : (img : Image) (l : Layout) (n : ℕ) (f : File) (v : RelFile) (p : Parts) (k : ℕ) (last : Place) → IsClean img
+    → IsFileOf img l n f v → p.map.bytes ≡ sector img map_place → p.sector ≡ v.sector → p.number ≡ v.number
+    → p.size ≡ v.size → p.sides.items ≡ f.sides → p.blocks.items ≡ f.blocks
+    → k + 1 ≡ length p.blocks.items → last ≡ get_or p.blocks.items k last → p.last ≡ sector img last
+    → p.directory ≡ sector img v.sector → IsAt img l n f p
 is-at img l n f v p k last clean of map place number size sides blocks long at bytes directory =
     let c = (file-rel img l n f v of).chain.2 in
     let here : last ≡ c.last = last-read p.blocks.items c.front c.last last k (blocks ∙ c.places) long at in

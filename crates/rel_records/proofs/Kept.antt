@@ -1,6 +1,37 @@
 -- What calls on one file leave of the others, from call to call.
 use Rattle.std.proofs.lemmas.Bool.Decides.{nat_tests}
-use Rattle.std.proofs.Common.{Bool, true, false, List, [], Some, ap, append-nil, arith, cond, inl, inr, length, map, not, refl, subst, sym, ℕ, suc, ◌&&◌, ◌++◌, ◌+◌, ◌<◌, ◌≤◌, ◌∙◌, ◌∷◌, ◌≡◌, ◌≢◌, ◌⊎◌}
+use Rattle.std.proofs.Common.{
+  Bool,
+  true,
+  false,
+  List,
+  [],
+  Some,
+  ap,
+  append-nil,
+  arith,
+  cond,
+  inl,
+  inr,
+  length,
+  map,
+  not,
+  refl,
+  subst,
+  sym,
+  ℕ,
+  suc,
+  ◌&&◌,
+  ◌++◌,
+  ◌+◌,
+  ◌<◌,
+  ◌≤◌,
+  ◌∙◌,
+  ◌∷◌,
+  ◌≡◌,
+  ◌≢◌,
+  ◌⊎◌,
+}
 use Rattle.std.specs.Prelude.{slice_get, nat_eq}
 use Rattle.d64_image.specs.Images.{Image, Sector, sector}
 use Rattle.disk_layout.specs.Layout.{File, IsLayout, Layout, file_owns}
@@ -13,10 +44,17 @@ use Rattle.rel_records.specs.declared.rel_file.RelFile.{RelFile}
 
 -- nothing changes
 pub keeps_same : (img : Image) (l : Layout) (n : ℕ) → KeepsOthers img img l l n
-keeps_same img l n = record { directory = refl; entries = refl; files = λ k f ne h. h; bytes = λ k f ne h. refl; header = refl }
+keeps_same img l n = record {
+  directory = refl;
+  entries = refl;
+  files = λ k f ne h. h;
+  bytes = λ k f ne h. refl;
+  header = refl;
+}
 
 -- one call after another
-pub keeps_then : (a b c : Image) (l m k : Layout) (n : ℕ) → KeepsOthers a b l m n → KeepsOthers b c m k n → KeepsOthers a c l k n
+pub keeps_then : (a b c : Image) (l m k : Layout) (n : ℕ) → KeepsOthers a b l m n → KeepsOthers b c m k n
+    → KeepsOthers a c l k n
 keeps_then a b c l m k n x y = record {
   directory = y.directory ∙ x.directory;
   entries = y.entries ∙ x.entries;
@@ -26,31 +64,41 @@ keeps_then a b c l m k n x y = record {
 }
 
 -- a file that stays, with no fewer records
-pub places-stay : (img : Image) (l : Layout) (n : ℕ) (f : File) (rs : List (List ℕ)) → slice_get l.files n ≡ Some f → length (records img f) ≤ length rs → (g : File) → slice_get l.files n ≡ Some g → KeepsPlaces img g f rs
+pub places-stay : (img : Image) (l : Layout) (n : ℕ) (f : File) (rs : List (List ℕ)) → slice_get l.files n ≡ Some f
+    → length (records img f) ≤ length rs → (g : File) → slice_get l.files n ≡ Some g → KeepsPlaces img g f rs
 places-stay img l n f rs at le g to =
     let e : f ≡ g = cc in
     let P : File → Type 0 = λ x. KeepsPlaces img x f rs in
     subst P e (le, inl refl)
 
-pub places-then : (a b : Image) (f g h : File) (rs ts : List (List ℕ)) → records b g ≡ rs → KeepsPlaces a f g rs → KeepsPlaces b g h ts → KeepsPlaces a f h ts
+pub places-then : (a b : Image) (f g h : File) (rs ts : List (List ℕ)) → records b g ≡ rs → KeepsPlaces a f g rs
+    → KeepsPlaces b g h ts → KeepsPlaces a f h ts
 places-then a b f g h rs ts e (le, same) (more, stays) = (omega (arith, le, more, count), both same stays)
   where
     count : length (records b g) ≡ length rs
     count = ap (λ (xs : List (List ℕ)). length xs) e
 
-    both : (file_owns g ≡ file_owns f) ⊎ (length (records a f) < length rs) → (file_owns h ≡ file_owns g) ⊎ (length (records b g) < length ts) → (file_owns h ≡ file_owns f) ⊎ (length (records a f) < length ts)
+    both : (file_owns g ≡ file_owns f) ⊎ (length (records a f) < length rs) → (file_owns h ≡ file_owns g)
+        ⊎ (length (records b g) < length ts) → (file_owns h ≡ file_owns f) ⊎ (length (records a f) < length ts)
     both (inl x) (inl y) = inl (y ∙ x)
     both (inl x) (inr y) = inr (omega (arith, le, y, count))
     both (inr x) y = inr (omega (arith, x, more, count))
 
 -- what is kept of another file is of the new image
-pub other-of : (a b : Image) (l m : Layout) (n k : ℕ) (f : File) (v : RelFile) → KeepsOthers a b l m n → IsLayout b m → k ≢ n → IsFileOf a l k f v → IsFileOf b m k f v
-other-of a b l m n k f v keeps h ne of = record { layout = h; there = keeps.files k f ne of.there; rel = of.rel; shows = of.shows }
+pub other-of : (a b : Image) (l m : Layout) (n k : ℕ) (f : File) (v : RelFile) → KeepsOthers a b l m n → IsLayout b m
+    → k ≢ n → IsFileOf a l k f v → IsFileOf b m k f v
+other-of a b l m n k f v keeps h ne of = record {
+  layout = h;
+  there = keeps.files k f ne of.there;
+  rel = of.rel;
+  shows = of.shows;
+}
 
 pub has-others : (a b : Image) (l : Layout) (n : ℕ) (rs : List (List ℕ)) → HasRecords a b l n rs → KeepsRelFiles a b l n
 has-others a b l n rs h k g w ne of = (h.layout, other-of a b l h.layout n k g w h.others h.is_layout ne of)
 
-pub has_same : (img : Image) (l : Layout) (n : ℕ) (f : File) (v : RelFile) → IsFileOf img l n f v → HasRecords img img l n (records img f)
+pub has_same : (img : Image) (l : Layout) (n : ℕ) (f : File) (v : RelFile) → IsFileOf img l n f v
+    → HasRecords img img l n (records img f)
 has_same img l n f v of = record {
   layout = l;
   is_layout = of.layout;
@@ -61,7 +109,8 @@ has_same img l n f v of = record {
   places = places-stay img l n f (records img f) of.there (omega arith);
 }
 
-pub has_then : (a b c : Image) (l : Layout) (n : ℕ) (rs ts : List (List ℕ)) (h : HasRecords a b l n rs) → HasRecords b c h.layout n ts → HasRecords a c l n ts
+pub has_then : (a b c : Image) (l : Layout) (n : ℕ) (rs ts : List (List ℕ)) (h : HasRecords a b l n rs)
+    → HasRecords b c h.layout n ts → HasRecords a c l n ts
 has_then a b c l n rs ts h k = record {
   layout = k.layout;
   is_layout = k.is_layout;
@@ -73,15 +122,26 @@ has_then a b c l n rs ts h k = record {
 }
 
 -- what is done is a moment as well
-pub leaves_has : (a b : Image) (l : Layout) (n : ℕ) (rs : List (List ℕ)) (v : RelFile) → LeavesRecords a b l n rs v → HasRecords a b l n rs
-leaves_has a b l n rs v h = record { layout = h.layout; is_layout = h.clean.layout; others = h.others; file = h.file; there = h.of.there; records = h.records; places = h.places }
+pub leaves_has : (a b : Image) (l : Layout) (n : ℕ) (rs : List (List ℕ)) (v : RelFile) → LeavesRecords a b l n rs v
+    → HasRecords a b l n rs
+leaves_has a b l n rs v h = record {
+  layout = h.layout;
+  is_layout = h.clean.layout;
+  others = h.others;
+  file = h.file;
+  there = h.of.there;
+  records = h.records;
+  places = h.places;
+}
 
 -- after a call that is done, and then a moment of the next
-pub leaves_then : (a b c : Image) (l : Layout) (n : ℕ) (rs ts : List (List ℕ)) (v : RelFile) (h : LeavesRecords a b l n rs v) → HasRecords b c h.layout n ts → HasRecords a c l n ts
+pub leaves_then : (a b c : Image) (l : Layout) (n : ℕ) (rs ts : List (List ℕ)) (v : RelFile)
+    (h : LeavesRecords a b l n rs v) → HasRecords b c h.layout n ts → HasRecords a c l n ts
 unfolding leaves_has
 leaves_then a b c l n rs ts v h k = has_then a b c l n rs ts (leaves_has a b l n rs v h) k
 
-pub leaves_leaves : (a b c : Image) (l : Layout) (n : ℕ) (rs ts : List (List ℕ)) (v w : RelFile) (h : LeavesRecords a b l n rs v) → LeavesRecords b c h.layout n ts w → LeavesRecords a c l n ts w
+pub leaves_leaves : (a b c : Image) (l : Layout) (n : ℕ) (rs ts : List (List ℕ)) (v w : RelFile)
+    (h : LeavesRecords a b l n rs v) → LeavesRecords b c h.layout n ts w → LeavesRecords a c l n ts w
 leaves_leaves a b c l n rs ts v w h k = record {
   layout = k.layout;
   clean = k.clean;
@@ -92,28 +152,36 @@ leaves_leaves a b c l n rs ts v w h k = record {
   places = λ f at. places-then a b f h.file k.file rs ts h.records (h.places f at) (k.places h.file h.of.there);
 }
 
-pub growing_same : (img : Image) (l : Layout) (n : ℕ) (f : File) (v : RelFile) (m : ℕ) → IsFileOf img l n f v → IsGrowingBy img l n f m img
+pub growing_same : (img : Image) (l : Layout) (n : ℕ) (f : File) (v : RelFile) (m : ℕ) → IsFileOf img l n f v
+    → IsGrowingBy img l n f m img
 growing_same img l n f v m of =
     let P : List (List ℕ) → Type 0 = HasRecords img img l n in
     (0, omega arith, subst P (sym (append-nil (records img f))) (has_same img l n f v of))
 
 -- the rest of the disk beside two files, of which one may change
-kept-same : (a b : Image) (f g : File) → f ≡ g → map (sector b) f.blocks ≡ map (sector a) f.blocks → kept_of b g ≡ kept_of a f
+kept-same : (a b : Image) (f g : File) → f ≡ g → map (sector b) f.blocks ≡ map (sector a) f.blocks
+    → kept_of b g ≡ kept_of a f
 kept-same a b f g e bytes =
     let P : File → Type 0 = λ x. kept_of b x ≡ kept_of a f in
     subst P e (ap (λ (bs : List Sector). record (kept_of a f) { bytes = bs }) bytes)
 
-one-kept : (a b : Image) (f g : File) (fs gs : List File) (t : Bool) → (t ≡ true → kept_of b g ≡ kept_of a f) → map (kept_of b) gs ≡ map (kept_of a) fs → map (kept_of b) (cond t (g ∷ []) [] ++ gs) ≡ map (kept_of a) (cond t (f ∷ []) [] ++ fs)
+one-kept : (a b : Image) (f g : File) (fs gs : List File) (t : Bool) → (t ≡ true → kept_of b g ≡ kept_of a f)
+    → map (kept_of b) gs ≡ map (kept_of a) fs → map (kept_of b) (cond t (g ∷ []) [] ++ gs) ≡ map (kept_of a)
+    (cond t (f ∷ []) [] ++ fs)
 one-kept a b f g fs gs true here rest = let one = here refl in cc
 one-kept a b f g fs gs false here rest = rest
 
-pub others-kept : (a b : Image) (x y i : ℕ) (fs gs : List File) → length gs ≡ length fs → ((k : ℕ) (f : File) → i + k ≢ x → i + k ≢ y → slice_get fs k ≡ Some f → (slice_get gs k ≡ Some f) × (map (sector b) f.blocks ≡ map (sector a) f.blocks)) → map (kept_of b) (others x y i gs) ≡ map (kept_of a) (others x y i fs)
+pub others-kept : (a b : Image) (x y i : ℕ) (fs gs : List File) → length gs ≡ length fs
+    → ((k : ℕ) (f : File) → i + k ≢ x → i + k ≢ y → slice_get fs k ≡ Some f → (slice_get gs k ≡ Some f)
+    × (map (sector b) f.blocks ≡ map (sector a) f.blocks))
+    → map (kept_of b) (others x y i gs) ≡ map (kept_of a) (others x y i fs)
 others-kept a b x y i [] [] long h = refl
 others-kept a b x y i [] (g ∷ gs) long h = cc
 others-kept a b x y i (f ∷ fs) [] long h = cc
 others-kept a b x y i (f ∷ fs) (g ∷ gs) long h =
     one-kept a b f g (others x y (suc i) fs) (others x y (suc i) gs) (not (nat_eq i x) && not (nat_eq i y)) here
-    (others-kept a b x y (suc i) fs gs (omega (arith, long)) (λ k f' ne nf at. h (suc k) f' (λ e. ne (omega (arith, e))) (λ e. nf (omega (arith, e))) at))
+    (others-kept a b x y (suc i) fs gs (omega (arith, long)) (λ k f' ne nf at. h (suc k) f' (λ e. ne (omega (arith, e)))
+    (λ e. nf (omega (arith, e))) at))
   where
     here : (not (nat_eq i x) && not (nat_eq i y)) ≡ true → kept_of b g ≡ kept_of a f
     here t =

@@ -10,12 +10,15 @@ use Rattle.disk_layout.specs.Records.{filler}
 
 -- the bytes behind the link
 behind-link : (bytes : Sector) (t s j : ℕ) → slice_index (set (set bytes 0 t) 1 s) (2 + j) ≡ slice_index bytes (2 + j)
-behind-link bytes t s j = get_or-set_other (set bytes 0 t) 1 (2 + j) s 0 (omega arith) ∙ get_or-set_other bytes 0 (2 + j) t 0 (omega arith)
+behind-link bytes t s j = get_or-set_other (set bytes 0 t) 1 (2 + j) s 0 (omega arith)
+    ∙ get_or-set_other bytes 0 (2 + j) t 0 (omega arith)
 
 -- a block that was filled from the first record that isn't whole, and then linked
-pub linked-block : (old bytes : Sector) (fresh : Place) (n L t s records total : ℕ) → length bytes ≡ 256 → t ≡ fresh.track → s ≡ fresh.sector
+pub linked-block : (old bytes : Sector) (fresh : Place) (n L t s records total : ℕ) → length bytes ≡ 256
+    → t ≡ fresh.track → s ≡ fresh.sector
     → records ≡ full L n → total ≡ full L (n + 1)
-    → ((j : ℕ) → j < 254 → records * L ≤ 254 * (n - 1) + j → slice_index bytes (2 + j) ≡ filler L total (254 * (n - 1) + j))
+    → ((j : ℕ) → j < 254 → records * L ≤ 254 * (n - 1) + j
+    → slice_index bytes (2 + j) ≡ filler L total (254 * (n - 1) + j))
     → ((j : ℕ) → j < 254 → 254 * (n - 1) + j < records * L → slice_index bytes (2 + j) ≡ slice_index old (2 + j))
     → IsLinked n L fresh old (set (set bytes 0 t) 1 s)
 linked-block old bytes fresh n L t s records total long et es er ef filled kept =

@@ -1,21 +1,67 @@
 -- Before the write that makes a file longer the disk has the layout and the records that it had.
-use Rattle.std.proofs.Common.{◌≡◌, ℕ, ◌≤◌, inl, inr, true, false, List, [], ◌∷◌, ◌++◌, map, length, refl, sym, ◌∙◌, subst, IsTrue, IsFalse}
+use Rattle.std.proofs.Common.{
+  ◌≡◌,
+  ℕ,
+  ◌≤◌,
+  inl,
+  inr,
+  true,
+  false,
+  List,
+  [],
+  ◌∷◌,
+  ◌++◌,
+  map,
+  length,
+  refl,
+  sym,
+  ◌∙◌,
+  subst,
+  IsTrue,
+  IsFalse,
+}
 use Rattle.std.specs.Prelude.{Contains, slice_get, Some, flat_map}
 use Rattle.std.proofs.lemmas.Grind.{flat_map-append}
 use Rattle.std.proofs.lemmas.List.Elements.{Contains-append_left, Contains-append_right}
 use Rattle.d64_image.specs.Images.{Image, sector}
 use Rattle.d64_image.specs.declared.place.Place.{Place}
-use Rattle.disk_layout.proofs.Agree.{kept-agree, owned-block, owned-side, owned-by_files, owned-directory, records-agree}
+use Rattle.disk_layout.proofs.Agree.{
+  kept-agree,
+  owned-block,
+  owned-side,
+  owned-by_files,
+  owned-directory,
+  records-agree,
+}
 use Rattle.disk_layout.proofs.Chains.{AgreeAt, links-agree}
 use Rattle.disk_layout.proofs.Commit.{IsLayout-replace, alone, own-once}
 use Rattle.disk_layout.proofs.Exact.{exact-side}
-use Rattle.disk_layout.proofs.Layouts.{HasChain-frame, IsSide-frame, KeepsFiles, all_blocks, block-owned, get-contains, side-owned}
+use Rattle.disk_layout.proofs.Layouts.{
+  HasChain-frame,
+  IsSide-frame,
+  KeepsFiles,
+  all_blocks,
+  block-owned,
+  get-contains,
+  side-owned,
+}
 use Rattle.disk_layout.proofs.Once.{Contains-here, Contains-there, EachOnce-apart, flat_map-in}
 use Rattle.disk_layout.proofs.SideWrites.{IsLonger, IsSide-shorter, file-there, same-layout}
 use Rattle.disk_layout.specs.Chain.{EachOnce}
 use Rattle.disk_layout.specs.Directory.{map_place}
 use Rattle.disk_layout.specs.Growth.{IsGrowing}
-use Rattle.disk_layout.specs.Layout.{File, IsFile, IsLayout, IsRelFile, IsSide, Layout, exchanged, file_owns, is_rel, owners}
+use Rattle.disk_layout.specs.Layout.{
+  File,
+  IsFile,
+  IsLayout,
+  IsRelFile,
+  IsSide,
+  Layout,
+  exchanged,
+  file_owns,
+  is_rel,
+  owners,
+}
 use Rattle.disk_layout.specs.Records.{records}
 use Rattle.disk_layout.specs.Rest.{kept_of}
 use Rattle.rel_records.proofs.Others.{has-records, places-same}
@@ -23,7 +69,8 @@ use Rattle.rel_records.specs.Others.{HasRecords}
 use Rattle.rel_records.specs.Preparing.{IsPreparing}
 
 -- files whose blocks agree keep all that is asked to stay
-pub kept-all : (a b : Image) (fs : List File) → ((f : File) → Contains fs f → AgreeAt a b f.blocks) → map (kept_of b) fs ≡ map (kept_of a) fs
+pub kept-all : (a b : Image) (fs : List File) → ((f : File) → Contains fs f → AgreeAt a b f.blocks)
+    → map (kept_of b) fs ≡ map (kept_of a) fs
 kept-all a b [] same = refl
 kept-all a b (f ∷ fs) same =
     let here = sym (kept-agree a b f (same f (Contains-here f fs))) in
@@ -34,7 +81,9 @@ kept-all a b (f ∷ fs) same =
 pub file-in : (l : Layout) (before after : List File) (f : File) → l.files ≡ before ++ f ∷ after → Contains l.files f
 file-in l before after f split = rw split (Contains-append_right before (f ∷ after) f (Contains-here f after))
 
-module _ (a c : Image) (l : Layout) (before after : List File) (f g : File) (h : IsLayout a l) (split : l.files ≡ before ++ f ∷ after) (rel : IsTrue (is_rel f.slot)) (long : IsLonger f g) (few : length g.sides ≤ 6) (p : IsPreparing a c l f g) where
+module _ (a c : Image) (l : Layout) (before after : List File) (f g : File) (h : IsLayout a l)
+    (split : l.files ≡ before ++ f ∷ after) (rel : IsTrue (is_rel f.slot)) (long : IsLonger f g)
+    (few : length g.sides ≤ 6) (p : IsPreparing a c l f g) where
   once : EachOnce (map_place ∷ owners (exchanged l before f after))
   once = rw (same-layout l before after f split) h.once
 
@@ -52,22 +101,29 @@ module _ (a c : Image) (l : Layout) (before after : List File) (f g : File) (h :
   side-mine q d = Contains-append_right f.blocks f.sides q d
 
   pub directory-stays : AgreeAt a c l.directory
-  directory-stays q d = stays q (owned-directory l q d) (λ s. (alone l before after f once q (side-mine q s)).directory d)
+  directory-stays q d = stays q (owned-directory l q d) (λ s. (alone l before after f once q (side-mine q s)).directory
+      d)
 
   pub blocks-stay : AgreeAt a c f.blocks
-  blocks-stay q d = stays q (owned-block l f q (file-in l before after f split) d) (EachOnce-apart f.blocks f.sides (own-once l before after f once) q d)
+  blocks-stay q d = stays q (owned-block l f q (file-in l before after f split) d)
+      (EachOnce-apart f.blocks f.sides (own-once l before after f once) q d)
 
   pub in-before : (q : Place) → Contains (flat_map file_owns before) q → Contains (flat_map file_owns l.files) q
-  in-before q d = rw (split, flat_map-append file_owns before (f ∷ after)) (Contains-append_left (flat_map file_owns before) (file_owns f ++ flat_map file_owns after) q d)
+  in-before q d = rw (split, flat_map-append file_owns before (f ∷ after))
+      (Contains-append_left (flat_map file_owns before) (file_owns f ++ flat_map file_owns after) q d)
 
   pub in-after : (q : Place) → Contains (flat_map file_owns after) q → Contains (flat_map file_owns l.files) q
-  in-after q d = rw (split, flat_map-append file_owns before (f ∷ after)) (Contains-append_right (flat_map file_owns before) (file_owns f ++ flat_map file_owns after) q (Contains-append_right (file_owns f) (flat_map file_owns after) q d))
+  in-after q d = rw (split, flat_map-append file_owns before (f ∷ after))
+      (Contains-append_right (flat_map file_owns before) (file_owns f ++ flat_map file_owns after) q
+      (Contains-append_right (file_owns f) (flat_map file_owns after) q d))
 
   pub before-stays : AgreeAt a c (flat_map file_owns before)
-  before-stays q d = stays q (owned-by_files l q (in-before q d)) (λ s. (alone l before after f once q (side-mine q s)).before d)
+  before-stays q d = stays q (owned-by_files l q (in-before q d))
+      (λ s. (alone l before after f once q (side-mine q s)).before d)
 
   pub after-stays : AgreeAt a c (flat_map file_owns after)
-  after-stays q d = stays q (owned-by_files l q (in-after q d)) (λ s. (alone l before after f once q (side-mine q s)).after d)
+  after-stays q d = stays q (owned-by_files l q (in-after q d))
+      (λ s. (alone l before after f once q (side-mine q s)).after d)
 
   keeps : (fs : List File) → AgreeAt a c (flat_map file_owns fs) → KeepsFiles a c fs
   keeps fs same = record {
@@ -106,7 +162,12 @@ module _ (a c : Image) (l : Layout) (before after : List File) (f g : File) (h :
       subst P (same-layout l before after f split) (IsLayout-replace a c l before after f f h split refl directory-stays
       (keeps before before-stays)
       (keeps after after-stays)
-      (record { closed = file.closed; rel = λ t. now; empty = λ t z. absurd (differ t rel); plain = λ t z. absurd (differ t rel) })
+      (record {
+        closed = file.closed;
+        rel = λ t. now;
+        empty = λ t z. absurd (differ t rel);
+        plain = λ t z. absurd (differ t rel);
+      })
       once)
     where
       differ : IsFalse (is_rel f.slot) → IsTrue (is_rel f.slot) → ⊥
@@ -130,7 +191,8 @@ module _ (a c : Image) (l : Layout) (before after : List File) (f g : File) (h :
   preparing-grows m = record {
     file = f;
     entry = refl;
-    layout = let P : Layout → Type 0 = λ k. IsLayout c k in subst P (sym (same-layout l before after f split)) preparing-layout;
+    layout = let P : Layout → Type 0 = λ k. IsLayout c k in subst P (sym (same-layout l before after f split))
+        preparing-layout;
     grows = inl preparing-records;
     before_kept = preparing-before;
     after_kept = preparing-after;
@@ -139,6 +201,7 @@ module _ (a c : Image) (l : Layout) (before after : List File) (f g : File) (h :
 
   pub preparing-has : HasRecords a c l (length before) (records a f)
   preparing-has = has-records a c l before after f f (records a f) split refl before-stays after-stays p.header
-      (let P : Layout → Type 0 = λ k. IsLayout c k in subst P (sym (same-layout l before after f split)) preparing-layout)
+      (let P : Layout → Type 0 = λ k. IsLayout c k in subst P (sym (same-layout l before after f split))
+      preparing-layout)
       (places-same a f f (records a f) refl refl)
       preparing-records

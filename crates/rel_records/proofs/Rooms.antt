@@ -1,5 +1,30 @@
 -- The directory's room for an entry: slot by slot, and sector by sector.
-use Rattle.std.proofs.Common.{ℕ, suc, ◌≡◌, ◌≢◌, ◌<◌, ◌+◌, ◌*◌, ◌++◌, ◌∷◌, List, Some, IsTrue, true, inl, inr, ap, arith, drop, length, sym, slice_index, subst, take, ◌∙◌}
+use Rattle.std.proofs.Common.{
+  ℕ,
+  suc,
+  ◌≡◌,
+  ◌≢◌,
+  ◌<◌,
+  ◌+◌,
+  ◌*◌,
+  ◌++◌,
+  ◌∷◌,
+  List,
+  Some,
+  IsTrue,
+  true,
+  inl,
+  inr,
+  ap,
+  arith,
+  drop,
+  length,
+  sym,
+  slice_index,
+  subst,
+  take,
+  ◌∙◌,
+}
 use Rattle.std.proofs.lemmas.Bool.{cases_eq, ne_eqb}
 use Rattle.std.proofs.lemmas.List.{drop_all, get_or-take, length-take}
 use Rattle.std.proofs.lemmas.Option.{slice_get-get_or, slice_get_within}
@@ -11,21 +36,24 @@ use Rattle.disk_layout.proofs.Recount.{around}
 use Rattle.disk_layout.specs.Directory.{is_used, slot_in, type_byte}
 use Rattle.rel_records.specs.Room.{IsFullDirectory, IsFirstRoom, IsFirstSlot, IsFullSector}
 
-slot-used : (p : Place) (bytes : Sector) (k : ℕ) → slice_index bytes (32 * k + 2) ≢ 0 → IsTrue (is_used (slot_in p bytes k))
+slot-used : (p : Place) (bytes : Sector) (k : ℕ) → slice_index bytes (32 * k + 2) ≢ 0
+    → IsTrue (is_used (slot_in p bytes k))
 slot-used p bytes k h =
     let same = slot-byte bytes k 2 (omega arith) in
     let n : type_byte (slot_in p bytes k) ≢ 0 = λ z. h (sym same ∙ z) in
     let e : is_used (slot_in p bytes k) ≡ true = ap not (ne_eqb (type_byte (slot_in p bytes k)) 0 n) in
     e
 
-pub used-more : (bytes : Sector) (n : ℕ) → ((k : ℕ) → k < n → slice_index bytes (32 * k + 2) ≢ 0) → slice_index bytes (32 * n + 2) ≢ 0 → (k : ℕ) → k < n + 1 → slice_index bytes (32 * k + 2) ≢ 0
+pub used-more : (bytes : Sector) (n : ℕ) → ((k : ℕ) → k < n → slice_index bytes (32 * k + 2) ≢ 0)
+    → slice_index bytes (32 * n + 2) ≢ 0 → (k : ℕ) → k < n + 1 → slice_index bytes (32 * k + 2) ≢ 0
 used-more bytes n used here k lt = elim (cases_eq k n) [
   | inl e ↦ λ z. here (ap (λ m. slice_index bytes (32 * m + 2)) (sym e) ∙ z)
   | inr ne ↦ used k (omega (arith, ne, lt))
 ]
 
 -- the types of a sector's slots say which is the first free one
-pub first-slot : (bytes : Sector) (n : ℕ) → n < 8 → slice_index bytes (32 * n + 2) ≡ 0 → ((k : ℕ) → k < n → slice_index bytes (32 * k + 2) ≢ 0) → (p : Place) → IsFirstSlot p bytes n
+pub first-slot : (bytes : Sector) (n : ℕ) → n < 8 → slice_index bytes (32 * n + 2) ≡ 0
+    → ((k : ℕ) → k < n → slice_index bytes (32 * k + 2) ≢ 0) → (p : Place) → IsFirstSlot p bytes n
 first-slot bytes n few zero used p = record {
   number = few;
   free = ap (λ t. not (nat_eq t 0)) (slot-byte bytes n 2 (omega arith) ∙ zero);
@@ -33,18 +61,21 @@ first-slot bytes n few zero used p = record {
 }
 
 -- or that none is
-pub full-sector : (bytes : Sector) → ((k : ℕ) → k < 8 → slice_index bytes (32 * k + 2) ≢ 0) → (p : Place) → IsFullSector p bytes
+pub full-sector : (bytes : Sector) → ((k : ℕ) → k < 8 → slice_index bytes (32 * k + 2) ≢ 0) → (p : Place)
+    → IsFullSector p bytes
 full-sector bytes used p k lt = slot-used p bytes k (used k lt)
 
 -- a value of a list stands at a place of it
-pub contains-get : {X : Type 0} (xs : List X) (x : X) → Contains xs x → (k : ℕ) × (k < length xs) × (slice_get xs k ≡ Some x)
+pub contains-get : {X : Type 0} (xs : List X) (x : X) → Contains xs x → (k : ℕ) × (k < length xs)
+    × (slice_get xs k ≡ Some x)
 contains-get xs x (k, lt, at) = (k, lt, slice_get-get_or xs k x lt ∙ ap Some at)
 
 -- the first k sectors are full
 abbrev pub AreFullTo : Image → List Place → ℕ → Type 0
 AreFullTo img ps n = (k : ℕ) → k < n → (p : Place) → slice_get ps k ≡ Some p → IsFullSector p (sector img p)
 
-pub first-room : (img : Image) (ps : List Place) (n : ℕ) (p : Place) (bytes : Sector) (k : ℕ) → slice_get ps n ≡ Some p → AreFullTo img ps n → bytes ≡ sector img p → IsFirstSlot p bytes k → IsFirstRoom img ps p k
+pub first-room : (img : Image) (ps : List Place) (n : ℕ) (p : Place) (bytes : Sector) (k : ℕ) → slice_get ps n ≡ Some p
+    → AreFullTo img ps n → bytes ≡ sector img p → IsFirstSlot p bytes k → IsFirstRoom img ps p k
 first-room img ps n p bytes k at full read first = record {
   front = take n ps;
   back = drop (suc n) ps;
@@ -58,7 +89,8 @@ first-room img ps n p bytes k at full read first = record {
 }
 
 -- all are
-pub no-room : (img : Image) (ps : List Place) (n : ℕ) (p : Place) → n + 1 ≡ length ps → slice_get ps n ≡ Some p → AreFullTo img ps (length ps) → IsFullDirectory img ps p
+pub no-room : (img : Image) (ps : List Place) (n : ℕ) (p : Place) → n + 1 ≡ length ps → slice_get ps n ≡ Some p
+    → AreFullTo img ps (length ps) → IsFullDirectory img ps p
 no-room img ps n p last at full = record {
   front = take n ps;
   split = around ps n p at ∙ ap (λ xs. take n ps ++ p ∷ xs) (drop_all (suc n) ps (omega (arith, last)));

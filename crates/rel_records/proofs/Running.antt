@@ -1,5 +1,32 @@
 -- Growth block by block: what its steps leave together.
-use Rattle.std.proofs.Common.{◌≡◌, ◌≢◌, ℕ, zero, suc, ◌+◌, ◌-◌, ◌*◌, ◌/◌, ◌%◌, ◌<◌, ◌≤◌, Bool, true, false, List, ◌++◌, length, refl, sym, ◌∙◌, ap, arith, subst, append_assoc, ap₂}
+use Rattle.std.proofs.Common.{
+  ◌≡◌,
+  ◌≢◌,
+  ℕ,
+  zero,
+  suc,
+  ◌+◌,
+  ◌-◌,
+  ◌*◌,
+  ◌/◌,
+  ◌%◌,
+  ◌<◌,
+  ◌≤◌,
+  Bool,
+  true,
+  false,
+  List,
+  ◌++◌,
+  length,
+  refl,
+  sym,
+  ◌∙◌,
+  ap,
+  arith,
+  subst,
+  append_assoc,
+  ap₂,
+}
 use Rattle.std.specs.Prelude.{Some, if◌then◌else◌, nat_eq, replicate, slice_get}
 use Rattle.std.proofs.lemmas.Bool.{eqb-false, eqb-true}
 use Rattle.std.proofs.lemmas.Nat.{le-div}
@@ -28,7 +55,8 @@ regroup xs ys zs = simp append_assoc
 
 -- records added twice
 pub grown-grown : (L j k : ℕ) (rs : List (List ℕ)) → grown_by L k (grown_by L j rs) ≡ grown_by L (j + k) rs
-grown-grown L j k rs = regroup rs (replicate j (empty_record L)) (replicate k (empty_record L)) ∙ ap (λ xs. rs ++ xs) (replicate-add j k (empty_record L))
+grown-grown L j k rs = regroup rs (replicate j (empty_record L)) (replicate k (empty_record L))
+    ∙ ap (λ xs. rs ++ xs) (replicate-add j k (empty_record L))
 
 -- 1 + 2 + .. + s
 triangle : (s : ℕ) → (s + 1) * (s + 1 - 1) / 2 ≡ s * (s - 1) / 2 + s
@@ -73,18 +101,22 @@ run-step n k le =
     let low : side_writes n ≤ side_writes k = omega (arith, side-mono n (k - n), ap side_writes e) in
     by (nat_eq (k % 120) 0) refl low
   where
-    by : (b : Bool) → nat_eq (k % 120) 0 ≡ b → side_writes n ≤ side_writes k → run_writes n k + step_writes k ≡ run_writes n (k + 1)
+    by : (b : Bool) → nat_eq (k % 120) 0 ≡ b → side_writes n ≤ side_writes k
+        → run_writes n k + step_writes k ≡ run_writes n (k + 1)
     by true t low =
         let s : step_writes k ≡ 5 + sides_for k = ap (λ b. if b then (5 + sides_for k) else 5) t in
-        let m : side_writes (k + 1) ≡ side_writes k + sides_for k = side-step k ∙ ap (λ b. side_writes k + (if b then (sides_for k) else 0)) t in
+        let m : side_writes (k + 1) ≡ side_writes k + sides_for k = side-step k
+        ∙ ap (λ b. side_writes k + (if b then (sides_for k) else 0)) t in
         omega (arith, s, m, low, le)
     by false t low =
         let s : step_writes k ≡ 5 = ap (λ b. if b then (5 + sides_for k) else 5) t in
-        let m : side_writes (k + 1) ≡ side_writes k + 0 = side-step k ∙ ap (λ b. side_writes k + (if b then (sides_for k) else 0)) t in
+        let m : side_writes (k + 1) ≡ side_writes k + 0 = side-step k
+        ∙ ap (λ b. side_writes k + (if b then (sides_for k) else 0)) t in
         omega (arith, s, m, low, le)
 
 -- at the start the last blocks are filled
-pub run-filled : (a x : Image) (l : Layout) (n : ℕ) (f : File) (p q : Parts) → HasFilled a x l n f p q → IsRunTo a x l n f (length f.blocks) q
+pub run-filled : (a x : Image) (l : Layout) (n : ℕ) (f : File) (p q : Parts) → HasFilled a x l n f p q
+    → IsRunTo a x l n f (length f.blocks) q
 run-filled a x l n f p q h = record {
   layout = h.layout;
   file = h.file;
@@ -98,17 +130,22 @@ run-filled a x l n f p q h = record {
 }
 
 -- nothing is done yet
-pub run-here : (a : Image) (l : Layout) (n : ℕ) (f : File) (p : Parts) (k : ℕ) → IsImage a → IsAt a l n f p → IsFilledUp f → length f.blocks ≡ k → IsRunTo a a l n f k p
-run-here a l n f p k w at up e = let P : ℕ → Type 0 = λ c. IsRunTo a a l n f c p in subst P e (run-filled a a l n f p p (filled-already a l n f p w at up))
+pub run-here : (a : Image) (l : Layout) (n : ℕ) (f : File) (p : Parts) (k : ℕ) → IsImage a → IsAt a l n f p
+    → IsFilledUp f → length f.blocks ≡ k → IsRunTo a a l n f k p
+run-here a l n f p k w at up e = let P : ℕ → Type 0 = λ c. IsRunTo a a l n f c p in
+    subst P e (run-filled a a l n f p p (filled-already a l n f p w at up))
 
 -- so many records fit into the blocks that the file has
-pub low-full : (f : File) (k : ℕ) → 0 < record_length f.slot → IsFilledUp f → length f.blocks ≤ k → records_had f ≤ full (record_length f.slot) k
+pub low-full : (f : File) (k : ℕ) → 0 < record_length f.slot → IsFilledUp f → length f.blocks ≤ k
+    → records_had f ≤ full (record_length f.slot) k
 low-full f k pos up le = omega (arith, up, full-mono (record_length f.slot) (length f.blocks) k pos le)
 
 -- a block more is a run
-pub run-block : (a x : Image) (l : Layout) (n : ℕ) (f : File) (p q : Parts) → IsFilledUp f → HasBlockMore a x l n f p q → IsRunTo a x l n f (length f.blocks + 1) q
+pub run-block : (a x : Image) (l : Layout) (n : ℕ) (f : File) (p q : Parts) → IsFilledUp f → HasBlockMore a x l n f p q
+    → IsRunTo a x l n f (length f.blocks + 1) q
 run-block a x l n f p q up h =
-    let e : full (record_length f.slot) (length f.blocks + 1) - full (record_length f.slot) (length f.blocks) ≡ full (record_length f.slot) (length f.blocks + 1) - records_had f
+    let e : full (record_length f.slot) (length f.blocks + 1) - full (record_length f.slot) (length f.blocks)
+    ≡ full (record_length f.slot) (length f.blocks + 1) - records_had f
     = ap (λ c. full (record_length f.slot) (length f.blocks + 1) - c) (sym up) in
     record {
       layout = h.layout;
@@ -119,10 +156,13 @@ run-block a x l n f p q up h =
       filled = h.filled;
       same_size = h.same_size;
       records_are = h.records_are ∙ ap (λ m. grown_by (record_length f.slot) m (records a f)) e;
-      places = (let P : ℕ → Type 0 = λ m. KeepsPlaces a f h.file (grown_by (record_length f.slot) m (records a f)) in subst P e h.places);
+      places = (let P : ℕ → Type 0 = λ m. KeepsPlaces a f h.file (grown_by (record_length f.slot) m (records a f)) in
+          subst P e h.places);
     }
 
-module _ (a x : Image) (l : Layout) (n : ℕ) (f : File) (k w : ℕ) (p : Parts) (low : records_had f ≤ full (record_length f.slot) k) (more : k ≤ w) (pos : 0 < record_length f.slot) (there : slice_get l.files n ≡ Some f) (run : IsRunTo a x l n f k p) where
+module _ (a x : Image) (l : Layout) (n : ℕ) (f : File) (k w : ℕ) (p : Parts)
+    (low : records_had f ≤ full (record_length f.slot) k) (more : k ≤ w) (pos : 0 < record_length f.slot)
+    (there : slice_get l.files n ≡ Some f) (run : IsRunTo a x l n f k p) where
   abbrev L : ℕ
   L = record_length f.slot
 
@@ -137,11 +177,15 @@ module _ (a x : Image) (l : Layout) (n : ℕ) (f : File) (k w : ℕ) (p : Parts)
   same-sum = ap (λ s. full s w - records_had run.file) run.same_size ∙ ap (λ c. full L w - c) had-now
 
   -- so many records more, in the terms of the file at the start
-  same-more : (j : ℕ) → grown_by (record_length run.file.slot) j (records x run.file) ≡ grown_by L (full L k - records_had f + j) (records a f)
-  same-more j = ap (λ s. grown_by s j (records x run.file)) run.same_size ∙ ap (grown_by L j) run.records_are ∙ grown-grown L (full L k - records_had f) j (records a f)
+  same-more : (j : ℕ) → grown_by (record_length run.file.slot) j (records x run.file) ≡ grown_by L
+      (full L k - records_had f + j) (records a f)
+  same-more j = ap (λ s. grown_by s j (records x run.file)) run.same_size ∙ ap (grown_by L j) run.records_are
+      ∙ grown-grown L (full L k - records_had f) j (records a f)
 
-  all-more : grown_by (record_length run.file.slot) (full (record_length run.file.slot) w - records_had run.file) (records x run.file) ≡ grown_by L (full L w - records_had f) (records a f)
-  all-more = same-more _ ∙ ap (λ j. grown_by L (full L k - records_had f + j) (records a f)) same-sum ∙ ap (λ j. grown_by L j (records a f)) sums
+  all-more : grown_by (record_length run.file.slot) (full (record_length run.file.slot) w - records_had run.file)
+      (records x run.file) ≡ grown_by L (full L w - records_had f) (records a f)
+  all-more = same-more _ ∙ ap (λ j. grown_by L (full L k - records_had f + j) (records a f)) same-sum
+      ∙ ap (λ j. grown_by L j (records a f)) sums
 
   -- a run and then a run
   pub run-run : (y : Image) (q : Parts) → IsRunTo x y run.layout n run.file w q → IsRunTo a y l n f w q
@@ -156,11 +200,15 @@ module _ (a x : Image) (l : Layout) (n : ℕ) (f : File) (k w : ℕ) (p : Parts)
     records_are = h.records_are ∙ all-more;
     places =
         let P : List (List ℕ) → Type 0 = KeepsPlaces x run.file h.file in
-        places-then a x f run.file h.file (grown_by L (full L k - records_had f) (records a f)) (grown_by L (full L w - records_had f) (records a f)) run.records_are run.places (subst P all-more h.places);
+        places-then a x f run.file h.file (grown_by L (full L k - records_had f) (records a f))
+        (grown_by L (full L w - records_had f) (records a f)) run.records_are run.places
+        (subst P all-more h.places);
   }
 
   -- an image held during the second
-  pub run-held : (y : Image) → IsGrowingBy x run.layout n run.file (full (record_length run.file.slot) w - records_had run.file) y → IsGrowingBy a l n f (full L w - records_had f) y
+  pub run-held : (y : Image)
+      → IsGrowingBy x run.layout n run.file (full (record_length run.file.slot) w - records_had run.file) y
+      → IsGrowingBy a l n f (full L w - records_had f) y
   run-held y (j, few, h) =
       let first : HasRecords a x l n (grown_by L (full L k - records_had f) (records a f)) = record {
         layout = run.layout;
@@ -171,17 +219,22 @@ module _ (a x : Image) (l : Layout) (n : ℕ) (f : File) (k w : ℕ) (p : Parts)
         records = run.records_are;
         places = at-place;
       } in
-      let P : List (List ℕ) → Type 0 = HasRecords x y run.layout n in
-      (full L k - records_had f + j, omega (arith, few, same-sum, sums), has_then a x y l n _ _ first (subst P (same-more j) h))
+      let P : List (List ℕ) → Type 0 = HasRecords x y run.layout n in (
+        full L k - records_had f + j,
+        omega (arith, few, same-sum, sums),
+        has_then a x y l n _ _ first (subst P (same-more j) h),
+      )
     where
-      at-place : (g : File) → slice_get l.files n ≡ Some g → KeepsPlaces a g run.file (grown_by L (full L k - records_had f) (records a f))
+      at-place : (g : File) → slice_get l.files n ≡ Some g
+          → KeepsPlaces a g run.file (grown_by L (full L k - records_had f) (records a f))
       at-place g e =
           let same : f ≡ g = cc in
           let P : File → Type 0 = λ z. KeepsPlaces a z run.file (grown_by L (full L k - records_had f) (records a f)) in
           subst P same run.places
 
 -- fewer records are grown on the way to more
-pub growing-more : (a c : Image) (l : Layout) (n : ℕ) (f : File) (i j : ℕ) → i ≤ j → IsGrowingBy a l n f i c → IsGrowingBy a l n f j c
+pub growing-more : (a c : Image) (l : Layout) (n : ℕ) (f : File) (i j : ℕ) → i ≤ j → IsGrowingBy a l n f i c
+    → IsGrowingBy a l n f j c
 growing-more a c l n f i j le (k, few, h) = (k, omega (arith, few, le), h)
 
 -- a longer run costs no less
@@ -217,15 +270,31 @@ room-next c w had lt le = by (nat_eq (c % 120) 0) refl
         omega (arith, one, le, lt)
 
 -- the moments of a run and one more block
-module _ {D : Type 0} (S : History D) (d x y : D) (l : Layout) (n : ℕ) (f : File) (k w : ℕ) (p : Parts) (low : records_had f ≤ full (record_length f.slot) k) (first : length f.blocks ≤ k) (more : k + 1 ≤ w) (pos : 0 < record_length f.slot) (there : slice_get l.files n ≡ Some f) (run : IsRunTo (S.image d) (S.image x) l n f k p) where
-  pub block-then : Changes S d x (run_writes (length f.blocks) k) (IsGrowingBy (S.image d) l n f (full (record_length f.slot) w - records_had f))
-      → Changes S x y (step_writes (length run.file.blocks)) (IsGrowingBy (S.image x) run.layout n run.file (full (record_length run.file.slot) (length run.file.blocks + 1) - full (record_length run.file.slot) (length run.file.blocks)))
-      → Changes S d y (run_writes (length f.blocks) (k + 1)) (IsGrowingBy (S.image d) l n f (full (record_length f.slot) w - records_had f))
+module _ {D : Type 0} (S : History D) (d x y : D) (l : Layout) (n : ℕ) (f : File) (k w : ℕ) (p : Parts)
+    (low : records_had f ≤ full (record_length f.slot) k) (first : length f.blocks ≤ k) (more : k + 1 ≤ w)
+    (pos : 0 < record_length f.slot) (there : slice_get l.files n ≡ Some f) (run : IsRunTo (S.image d) (S.image x) l n f
+    k p) where
+  pub block-then : Changes S d x (run_writes (length f.blocks) k)
+      (IsGrowingBy (S.image d) l n f (full (record_length f.slot) w - records_had f))
+      → Changes S x y (step_writes (length run.file.blocks)) (IsGrowingBy (S.image x) run.layout n run.file
+      (full (record_length run.file.slot) (length run.file.blocks + 1) - full (record_length run.file.slot)
+      (length run.file.blocks)))
+      → Changes S d y (run_writes (length f.blocks) (k + 1))
+      (IsGrowingBy (S.image d) l n f (full (record_length f.slot) w - records_had f))
   block-then so_far next =
-      let writes : run_writes (length f.blocks) k + step_writes k ≡ run_writes (length f.blocks) (k + 1) = run-step (length f.blocks) k first in
+      let writes : run_writes (length f.blocks) k + step_writes k ≡ run_writes (length f.blocks) (k + 1) =
+      run-step (length f.blocks) k first in
       let steps : step_writes (length run.file.blocks) ≡ step_writes k = ap step_writes run.count in
       let size = run.same_size in
-      let fewer : full (record_length run.file.slot) (length run.file.blocks + 1) - full (record_length run.file.slot) (length run.file.blocks) ≤ full (record_length run.file.slot) w - records_had run.file =
-      omega (arith, run.filled, full-mono (record_length run.file.slot) (length run.file.blocks + 1) w (let P : ℕ → Type 0 = λ s. 0 < s in subst P (sym size) pos) (omega (arith, run.count, more))) in
-      changes_then S d x y (run_writes (length f.blocks) k) (step_writes (length run.file.blocks)) (run_writes (length f.blocks) (k + 1)) _ (omega (arith, writes, steps)) so_far
-      (changes_weaker S x y _ _ _ _ (omega arith) (λ c h. run-held (S.image d) (S.image x) l n f k w p low (omega (arith, more)) pos there run c (growing-more (S.image x) c run.layout n run.file _ _ fewer h)) next)
+      let fewer : full (record_length run.file.slot) (length run.file.blocks + 1) - full (record_length run.file.slot)
+      (length run.file.blocks) ≤ full (record_length run.file.slot) w - records_had run.file =
+      omega (
+        arith,
+        run.filled,
+        full-mono (record_length run.file.slot) (length run.file.blocks + 1) w (let P : ℕ
+            → Type 0 = λ s. 0 < s in subst P (sym size) pos) (omega (arith, run.count, more)),
+      ) in
+      changes_then S d x y (run_writes (length f.blocks) k) (step_writes (length run.file.blocks))
+      (run_writes (length f.blocks) (k + 1)) _ (omega (arith, writes, steps)) so_far
+      (changes_weaker S x y _ _ _ _ (omega arith) (λ c h. run-held (S.image d) (S.image x) l n f k w p low
+      (omega (arith, more)) pos there run c (growing-more (S.image x) c run.layout n run.file _ _ fewer h)) next)

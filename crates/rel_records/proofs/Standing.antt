@@ -1,5 +1,27 @@
 -- What is known of a file that is kept in memory while it grows.
-use Rattle.std.proofs.Common.{◌≡◌, ℕ, suc, ◌+◌, ◌-◌, ◌*◌, ◌/◌, ◌<◌, ◌≤◌, [], ◌∷◌, ◌++◌, length, max, sym, ◌∙◌, ap, arith, length-append, take, drop}
+use Rattle.std.proofs.Common.{
+  ◌≡◌,
+  ℕ,
+  suc,
+  ◌+◌,
+  ◌-◌,
+  ◌*◌,
+  ◌/◌,
+  ◌<◌,
+  ◌≤◌,
+  [],
+  ◌∷◌,
+  ◌++◌,
+  length,
+  max,
+  sym,
+  ◌∙◌,
+  ap,
+  arith,
+  length-append,
+  take,
+  drop,
+}
 use Rattle.std.specs.Prelude.{Contains, Some, slice_get}
 use Rattle.std.proofs.Math.Nat.{lt-div-mul-add}
 use Rattle.std.proofs.lemmas.Bool.Decides.{nat_tests}
@@ -52,14 +74,16 @@ module _ (a : Image) (l : Layout) (n : ℕ) (f : File) (p : Parts) (at : IsAt a 
   pub last-at : slice_get f.blocks (length f.blocks - 1) ≡ Some at.last_place
   last-at =
       let e : length f.blocks - 1 ≡ length at.front = omega (arith, blocks-some) in
-      ap (slice_get f.blocks) e ∙ ap (λ xs. slice_get xs (length at.front)) at.last_is ∙ get-seam at.front [] at.last_place
+      ap (slice_get f.blocks) e ∙ ap (λ xs. slice_get xs (length at.front)) at.last_is
+      ∙ get-seam at.front [] at.last_place
 
   pub last-in : Contains f.blocks at.last_place
   last-in = get-contains f.blocks (length f.blocks - 1) at.last_place last-at
 
   -- the chain ends there
   pub same-last : file-rel.chain.2.last ≡ at.last_place
-  same-last = snoc-last file-rel.chain.2.front at.front file-rel.chain.2.last at.last_place (sym file-rel.chain.2.places ∙ at.last_is)
+  same-last = snoc-last file-rel.chain.2.front at.front file-rel.chain.2.last at.last_place (sym file-rel.chain.2.places
+      ∙ at.last_is)
 
   -- the slot stands in the directory
   pub entry-in : Contains l.directory f.slot.sector
@@ -69,7 +93,8 @@ module _ (a : Image) (l : Layout) (n : ℕ) (f : File) (p : Parts) (at : IsAt a 
   pub had-fit : IsImage a → records_had f * record_length f.slot ≤ 254 * length f.blocks
   had-fit w =
       let c = file-rel.chain.2 in
-      record_count-fit (length f.blocks) f.last (record_length f.slot) pos (omega (arith, blocks-some)) (omega (arith, c.ends.1, (is_sector a c.last w).small 1))
+      record_count-fit (length f.blocks) f.last (record_length f.slot) pos (omega (arith, blocks-some))
+      (omega (arith, c.ends.1, (is_sector a c.last w).small 1))
 
   pub had-low : 254 * (length f.blocks - 1) < records_had f * record_length f.slot + record_length f.slot
   had-low = count-low (length f.blocks) f.last (record_length f.slot) pos

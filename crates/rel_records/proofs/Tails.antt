@@ -1,5 +1,25 @@
 -- A data block whose bytes behind the records become empty records: the joined data of the file.
-use Rattle.std.proofs.Common.{◌≡◌, ℕ, ◌+◌, ◌-◌, ◌*◌, ◌<◌, ◌≤◌, ◌⊎◌, inl, inr, List, get_or, length, slice_index, sym, ◌∙◌, ap, arith, subst}
+use Rattle.std.proofs.Common.{
+  ◌≡◌,
+  ℕ,
+  ◌+◌,
+  ◌-◌,
+  ◌*◌,
+  ◌<◌,
+  ◌≤◌,
+  ◌⊎◌,
+  inl,
+  inr,
+  List,
+  get_or,
+  length,
+  slice_index,
+  sym,
+  ◌∙◌,
+  ap,
+  arith,
+  subst,
+}
 use Rattle.std.specs.Prelude.{Bool, Some, false, if◌then◌else◌, nat_eq, nat_lt, slice_get, true, ◌%◌, ◌&&◌}
 use Rattle.std.proofs.lemmas.Bool.{cases_lt}
 use Rattle.std.proofs.lemmas.List.{get_or_past}
@@ -10,10 +30,12 @@ use Rattle.disk_layout.proofs.Joined.{joined-at, joined-block}
 use Rattle.disk_layout.specs.Chain.{EachOnce, byte}
 use Rattle.disk_layout.specs.Records.{filler, joined}
 
-module _ (x : Image) (ps : List Place) (r from L total : ℕ) (p : Place) (b : Sector) (w : IsImage x) (v : IsImage (put x p b)) (once : EachOnce ps) (at : slice_get ps r ≡ Some p)
+module _ (x : Image) (ps : List Place) (r from L total : ℕ) (p : Place) (b : Sector) (w : IsImage x)
+    (v : IsImage (put x p b)) (once : EachOnce ps) (at : slice_get ps r ≡ Some p)
     (kept : (j : ℕ) → j < 254 → 254 * r + j < from → slice_index b (2 + j) ≡ byte x p (2 + j))
     (filled : (j : ℕ) → j < 254 → from ≤ 254 * r + j → slice_index b (2 + j) ≡ filler L total (254 * r + j)) where
-  here : (i : ℕ) → 254 * r ≤ i → i < 254 * r + 254 → get_or (joined (put x p b) ps) i 0 ≡ slice_index b (2 + (i - 254 * r))
+  here : (i : ℕ) → 254 * r ≤ i → i < 254 * r + 254
+      → get_or (joined (put x p b) ps) i 0 ≡ slice_index b (2 + (i - 254 * r))
   here i lo hi =
       let e : 254 * r + (i - 254 * r) ≡ i = omega arith in
       ap (λ k. get_or (joined (put x p b) ps) k 0) (sym e)
@@ -21,7 +43,8 @@ module _ (x : Image) (ps : List Place) (r from L total : ℕ) (p : Place) (b : S
       ∙ ap (λ s. slice_index s (2 + (i - 254 * r))) (sector-put_same x p b w.size)
 
   -- other blocks keep their bytes
-  pub tail-other : (i : ℕ) → (i < 254 * r) ⊎ (254 * r + 254 ≤ i) → get_or (joined (put x p b) ps) i 0 ≡ get_or (joined x ps) i 0
+  pub tail-other : (i : ℕ) → (i < 254 * r) ⊎ (254 * r + 254 ≤ i)
+      → get_or (joined (put x p b) ps) i 0 ≡ get_or (joined x ps) i 0
   tail-other i out = joined-block x ps r p b w v once at i out
 
   -- the bytes before stay
@@ -40,7 +63,8 @@ module _ (x : Image) (ps : List Place) (r from L total : ℕ) (p : Place) (b : S
   ]
 
   -- and those of this block from there on are the filler's
-  pub tail-new : (i : ℕ) → from ≤ i → 254 * r ≤ i → i < 254 * r + 254 → get_or (joined (put x p b) ps) i 0 ≡ filler L total i
+  pub tail-new : (i : ℕ) → from ≤ i → 254 * r ≤ i → i < 254 * r + 254
+      → get_or (joined (put x p b) ps) i 0 ≡ filler L total i
   tail-new i high lo hi =
       let e : 254 * r + (i - 254 * r) ≡ i = omega arith in
       here i lo hi ∙ filled (i - 254 * r) (omega arith) (omega arith) ∙ ap (filler L total) e

@@ -1,4 +1,5 @@
--- How far a relative file grows for a record, what that takes, and how much is written for it (1541 User's Guide, relative
+-- How far a relative file grows for a record, what that takes, and how much is written for it (1541 User's Guide,
+-- relative
 -- files; the order of writes and the limits are our own).
 use Rattle.std.specs.Prelude.{ℕ, ◌+◌, ◌-◌, ◌*◌, ◌/◌, ◌<◌, ◌⊎◌, if◌then◌else◌, length, nat_eq, nat_le, nat_lt}
 use Rattle.d64_image.specs.Images.{Image, sector}
@@ -19,7 +20,8 @@ blocks_for L r = (r * L + 253) / 254
 abbrev pub full : ℕ → ℕ → ℕ
 full L n = 254 * n / L
 
--- how many empty records a file of c records of L bytes gets, so that record r is there: none where it is, else all that
+-- how many empty records a file of c records of L bytes gets, so that record r is there: none where it is, else all
+-- that
 -- fit into the blocks that r records need
 abbrev pub added : ℕ → ℕ → ℕ → ℕ
 added L c r = if nat_le r c then 0 else (full L (blocks_for L r) - c)
@@ -34,16 +36,19 @@ needed n w = (w - n) + (sides_for w - sides_for n)
 
 -- record r is not there, and the free sectors outside track 18 do not suffice for it
 abbrev pub IsFull : Image → File → ℕ → Type 0
-IsFull img f r = (records_had f < r) × (blocks_free (sector img map_place) < needed (length f.blocks) (blocks_for (record_length f.slot) r))
+IsFull img f r = (records_had f < r)
+    × (blocks_free (sector img map_place) < needed (length f.blocks) (blocks_for (record_length f.slot) r))
 
--- how many blocks are written to fill the file up: none where all whole records that fit are there, two where the first new
+-- how many blocks are written to fill the file up: none where all whole records that fit are there, two where the first
+-- new
 -- one begins in the block before the last
 abbrev pub fill_writes : File → ℕ
 fill_writes f =
     if nat_eq (records_had f) (full (record_length f.slot) (length f.blocks)) then 0 else
     (if nat_lt (records_had f * record_length f.slot) (254 * (length f.blocks - 1)) then 2 else 1)
 
--- how many older side sectors are written while a file gets n data blocks: 1 with its second side sector, 2 with its third ..
+-- how many older side sectors are written while a file gets n data blocks: 1 with its second side sector, 2 with its
+-- third ..
 abbrev pub side_writes : ℕ → ℕ
 side_writes n = sides_for n * (sides_for n - 1) / 2
 
@@ -53,4 +58,5 @@ run_writes n w = 5 * (w - n) + (side_writes w - side_writes n)
 
 -- how many sectors are written for growth to record r: none where it is there
 abbrev pub growth_writes : File → ℕ → ℕ
-growth_writes f r = if nat_le r (records_had f) then 0 else (fill_writes f + run_writes (length f.blocks) (blocks_for (record_length f.slot) r))
+growth_writes f r = if nat_le r (records_had f) then 0 else (fill_writes f + run_writes (length f.blocks)
+    (blocks_for (record_length f.slot) r))

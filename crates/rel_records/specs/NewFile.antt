@@ -34,7 +34,8 @@ pub record HasNewSectors (new_map : Sector) (block side : Place) (L : ℕ) (c : 
   pub fresh : IsFresh 0 L (sector c block)
   pub links : sector c side ≡ side_sector 0 (block ∷ []) (side ∷ []) L
 
--- the bytes of a directory sector with the entry in slot n; the first slot keeps the sector's link, the others begin with zeros
+-- the bytes of a directory sector with the entry in slot n; the first slot keeps the sector's link, the others begin
+-- with zeros
 pub record IsEntered (old new : Sector) (n : ℕ) (entry : List ℕ) : Type 0 where
   pub old_long : length old ≡ 256
   pub long : length new ≡ 256

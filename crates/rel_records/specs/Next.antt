@@ -1,5 +1,25 @@
 -- A file's next data block, as it is made in memory before anything is written. Our own.
-use Rattle.std.specs.Prelude.{ℕ, ◌≡◌, ◌≢◌, ◌⊎◌, ◌+◌, ◌-◌, ◌*◌, ◌%◌, ◌<◌, ◌≤◌, ◌++◌, ◌∷◌, [], List, Contains, drop, length, slice_index, take}
+use Rattle.std.specs.Prelude.{
+  ℕ,
+  ◌≡◌,
+  ◌≢◌,
+  ◌⊎◌,
+  ◌+◌,
+  ◌-◌,
+  ◌*◌,
+  ◌%◌,
+  ◌<◌,
+  ◌≤◌,
+  ◌++◌,
+  ◌∷◌,
+  [],
+  List,
+  Contains,
+  drop,
+  length,
+  slice_index,
+  take,
+}
 use Rattle.d64_image.specs.Images.{Sector}
 use Rattle.d64_image.specs.declared.place.Place.{Place}
 use Rattle.disk_layout.specs.Chain.{Names}
@@ -49,7 +69,8 @@ pub record IsFresh (n L : ℕ) (bytes : Sector) : Type 0 where
 pub record IsLinked (n L : ℕ) (fresh : Place) (old new : Sector) : Type 0 where
   pub link : Names new 0 fresh
   pub kept : (j : ℕ) → j < 254 → 254 * (n - 1) + j < full L n * L → slice_index new (2 + j) ≡ slice_index old (2 + j)
-  pub tail : (j : ℕ) → j < 254 → full L n * L ≤ 254 * (n - 1) + j → slice_index new (2 + j) ≡ filler L (full L (n + 1)) (254 * (n - 1) + j)
+  pub tail : (j : ℕ) → j < 254 → full L n * L ≤ 254 * (n - 1) + j
+      → slice_index new (2 + j) ≡ filler L (full L (n + 1)) (254 * (n - 1) + j)
 
 -- all that the next block needs is made: the places, its bytes, the old last block's, and the directory sector's
 pub record IsLaidOut (p q : Parts) (fresh : Place) (block : Sector) : Type 0 where

@@ -9,19 +9,23 @@ use Rattle.disk_layout.specs.Rest.{header_of}
 use Rattle.rel_records.specs.File.{IsFileOf}
 use Rattle.rel_records.specs.declared.rel_file.RelFile.{RelFile}
 
--- from old, whose layout is l, to new, whose layout is m: all files but the one at place n stay, with their slots, blocks,
+-- from old, whose layout is l, to new, whose layout is m: all files but the one at place n stay, with their slots,
+-- blocks,
 -- bytes, last indices and side sectors; of that one's slot all but the block count stays
 pub record KeepsOthers (old new : Image) (l m : Layout) (n : ℕ) : Type 0 where
   pub directory : m.directory ≡ l.directory
   pub entries : SameEntries (map (λ f. f.slot) m.files) (map (λ f. f.slot) l.files)
   pub files : (k : ℕ) (f : File) → k ≢ n → slice_get l.files k ≡ Some f → slice_get m.files k ≡ Some f
-  pub bytes : (k : ℕ) (f : File) → k ≢ n → slice_get l.files k ≡ Some f → map (sector new) f.blocks ≡ map (sector old) f.blocks
+  pub bytes : (k : ℕ) (f : File) → k ≢ n → slice_get l.files k ≡ Some f
+      → map (sector new) f.blocks ≡ map (sector old) f.blocks
   pub header : header_of new ≡ header_of old
 
--- a file that has these records, and was f in old, has no fewer than before, and its data blocks and side sectors are those of
+-- a file that has these records, and was f in old, has no fewer than before, and its data blocks and side sectors are
+-- those of
 -- before unless it has more
 abbrev pub KeepsPlaces : Image → File → File → List (List ℕ) → Type 0
-KeepsPlaces old f g rs = (length (records old f) ≤ length rs) × ((file_owns g ≡ file_owns f) ⊎ (length (records old f) < length rs))
+KeepsPlaces old f g rs = (length (records old f) ≤ length rs)
+    × ((file_owns g ≡ file_owns f) ⊎ (length (records old f) < length rs))
 
 -- new is sound, all files but the one at place n are as in old, and that one has these records
 pub record HasRecords (old new : Image) (l : Layout) (n : ℕ) (rs : List (List ℕ)) : Type 0 where
@@ -45,4 +49,5 @@ pub record LeavesRecords (old new : Image) (l : Layout) (n : ℕ) (rs : List (Li
 
 -- what is kept of any file of old but the one at place n is of new as well, of the same file
 abbrev pub KeepsRelFiles : Image → Image → Layout → ℕ → Type 0
-KeepsRelFiles old new l n = (k : ℕ) (g : File) (w : RelFile) → k ≢ n → IsFileOf old l k g w → (m : Layout) × IsFileOf new m k g w
+KeepsRelFiles old new l n = (k : ℕ) (g : File) (w : RelFile) → k ≢ n → IsFileOf old l k g w → (m : Layout)
+    × IsFileOf new m k g w

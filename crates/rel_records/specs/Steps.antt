@@ -1,6 +1,29 @@
 -- A file takes one data block more: what is kept in memory for it, what it leaves, and what it writes. The order of the
 -- writes is our own.
-use Rattle.std.specs.Prelude.{ℕ, ◌≡◌, ◌≢◌, ◌⊎◌, ◌+◌, ◌-◌, ◌*◌, ◌%◌, ◌<◌, ◌≤◌, ◌++◌, ◌∷◌, [], IsTrue, List, Some, Contains, if◌then◌else◌, length, nat_eq, slice_get, slice_index}
+use Rattle.std.specs.Prelude.{
+  ℕ,
+  ◌≡◌,
+  ◌≢◌,
+  ◌⊎◌,
+  ◌+◌,
+  ◌-◌,
+  ◌*◌,
+  ◌%◌,
+  ◌<◌,
+  ◌≤◌,
+  ◌++◌,
+  ◌∷◌,
+  [],
+  IsTrue,
+  List,
+  Some,
+  Contains,
+  if◌then◌else◌,
+  length,
+  nat_eq,
+  slice_get,
+  slice_index,
+}
 use Rattle.d64_image.specs.Images.{Image, IsSector, Sector, put, sector}
 use Rattle.d64_image.specs.declared.place.Place.{Place}
 use Rattle.disk_layout.specs.Chain.{byte}
@@ -39,7 +62,8 @@ StandsAt img p = (l : Layout) × (n : ℕ) × (f : File) × IsAt img l n f p
 
 -- all whole records that fit into its blocks are there
 abbrev pub IsFilledUp : File → Type 0
-IsFilledUp f = record_count (length f.blocks) f.last (record_length f.slot) ≡ full (record_length f.slot) (length f.blocks)
+IsFilledUp f = record_count (length f.blocks) f.last (record_length f.slot) ≡ full (record_length f.slot)
+    (length f.blocks)
 
 -- and the file has all whole records that fit into its blocks
 abbrev pub StandsFilled : Image → Parts → Type 0
@@ -60,8 +84,12 @@ pub record HasBlockMore (old new : Image) (l : Layout) (n : ℕ) (f : File) (p q
   pub at : IsAt new layout n file q
   pub others : KeepsOthers old new l layout n
   pub same_size : record_length file.slot ≡ record_length f.slot
-  pub records_are : records new file ≡ grown_by (record_length f.slot) (full (record_length f.slot) (length f.blocks + 1) - full (record_length f.slot) (length f.blocks)) (records old f)
-  pub places : KeepsPlaces old f file (grown_by (record_length f.slot) (full (record_length f.slot) (length f.blocks + 1) - full (record_length f.slot) (length f.blocks)) (records old f))
+  pub records_are : records new file ≡ grown_by (record_length f.slot)
+      (full (record_length f.slot) (length f.blocks + 1) - full (record_length f.slot) (length f.blocks))
+      (records old f)
+  pub places : KeepsPlaces old f file
+      (grown_by (record_length f.slot) (full (record_length f.slot) (length f.blocks + 1) - full (record_length f.slot)
+      (length f.blocks)) (records old f))
   pub count : length file.blocks ≡ length f.blocks + 1
   pub filled : IsFilledUp file
   pub free : blocks_free q.map.bytes + taken_next (length f.blocks) ≡ blocks_free p.map.bytes
@@ -77,12 +105,15 @@ IsSided old blocks sides L c = (q : Place) → IsSidedAt old c blocks sides L q
 
 -- the side sectors from this number on have their exact bytes
 abbrev pub AreSidedFrom : ℕ → Image → List Place → List Place → ℕ → Type 0
-AreSidedFrom k c blocks sides L = (j : ℕ) (q : Place) → k ≤ j → slice_get sides j ≡ Some q → sector c q ≡ side_sector j blocks sides L
+AreSidedFrom k c blocks sides L = (j : ℕ) (q : Place) → k ≤ j → slice_get sides j ≡ Some q
+    → sector c q ≡ side_sector j blocks sides L
 
--- before the link is written: the image, the image with the new map, or that with the fresh block too and some side sectors
+-- before the link is written: the image, the image with the new map, or that with the fresh block too and some side
+-- sectors
 abbrev pub IsBefore : Image → Parts → Place → Sector → Image → Type 0
 IsBefore old p fresh block c =
-    (c ≡ old) ⊎ ((c ≡ put old map_place p.map.bytes) ⊎ IsSided (put (put old map_place p.map.bytes) fresh block) p.blocks.items p.sides.items p.size c)
+    (c ≡ old) ⊎ ((c ≡ put old map_place p.map.bytes) ⊎ IsSided (put (put old map_place p.map.bytes) fresh block)
+    p.blocks.items p.sides.items p.size c)
 
 -- the map with one more sector taken, which was free and is not on track 18
 pub record TakesNext (old new : Sector) (p : Place) : Type 0 where
@@ -99,8 +130,10 @@ pub record HasFilled (old new : Image) (l : Layout) (n : ℕ) (f : File) (p q : 
   pub at : IsAt new layout n file q
   pub others : KeepsOthers old new l layout n
   pub same_size : record_length file.slot ≡ record_length f.slot
-  pub records_are : records new file ≡ grown_by (record_length f.slot) (full (record_length f.slot) (length f.blocks) - records_had f) (records old f)
-  pub places : KeepsPlaces old f file (grown_by (record_length f.slot) (full (record_length f.slot) (length f.blocks) - records_had f) (records old f))
+  pub records_are : records new file ≡ grown_by (record_length f.slot) (full (record_length f.slot) (length f.blocks)
+      - records_had f) (records old f)
+  pub places : KeepsPlaces old f file (grown_by (record_length f.slot) (full (record_length f.slot) (length f.blocks)
+      - records_had f) (records old f))
   pub blocks : file.blocks ≡ f.blocks
   pub filled : IsFilledUp file
   pub map : q.map.bytes ≡ p.map.bytes
@@ -114,8 +147,10 @@ pub record IsRunTo (old now : Image) (l : Layout) (n : ℕ) (f : File) (k : ℕ)
   pub count : length file.blocks ≡ k
   pub filled : IsFilledUp file
   pub same_size : record_length file.slot ≡ record_length f.slot
-  pub records_are : records now file ≡ grown_by (record_length f.slot) (full (record_length f.slot) k - records_had f) (records old f)
-  pub places : KeepsPlaces old f file (grown_by (record_length f.slot) (full (record_length f.slot) k - records_had f) (records old f))
+  pub records_are : records now file ≡ grown_by (record_length f.slot) (full (record_length f.slot) k - records_had f)
+      (records old f)
+  pub places : KeepsPlaces old f file (grown_by (record_length f.slot) (full (record_length f.slot) k - records_had f)
+      (records old f))
 
 -- what is kept of a file after growth is what growth kept in memory
 pub record IsKeptOf (v : RelFile) (p : Parts) : Type 0 where
@@ -143,11 +178,14 @@ pub record IsTailOf (img : Image) (place : Place) (at from L total : ℕ) (bytes
 abbrev pub FillsBefore : Image → Parts → ℕ → ℕ → Image → Type 0
 FillsBefore old p from total c =
     ((254 * (length p.blocks.items - 1) ≤ from) × (c ≡ old))
-    ⊎ ((from < 254 * (length p.blocks.items - 1)) × ((place : Place) × (bytes : Sector) × (slice_get p.blocks.items (length p.blocks.items - 2) ≡ Some place) × IsTailOf old place (254 * (length p.blocks.items - 2)) from p.size total bytes × (c ≡ put old place bytes)))
+    ⊎ ((from < 254 * (length p.blocks.items - 1))
+    × ((place : Place) × (bytes : Sector) × (slice_get p.blocks.items (length p.blocks.items - 2) ≡ Some place)
+    × IsTailOf old place (254 * (length p.blocks.items - 2)) from p.size total bytes × (c ≡ put old place bytes)))
 
 -- the last of n data blocks, filled up with empty records, of which the file then has all that fit
 pub record IsEnd (n L from : ℕ) (old new : Sector) : Type 0 where
   pub ends : slice_index new 0 ≡ slice_index old 0
   pub index : slice_index new 1 + 254 * (n - 1) ≡ full L n * L + 1
   pub kept : (j : ℕ) → j < 254 → 254 * (n - 1) + j < from → slice_index new (2 + j) ≡ slice_index old (2 + j)
-  pub filled : (j : ℕ) → j < 254 → from ≤ 254 * (n - 1) + j → slice_index new (2 + j) ≡ filler L (full L n) (254 * (n - 1) + j)
+  pub filled : (j : ℕ) → j < 254 → from ≤ 254 * (n - 1) + j
+      → slice_index new (2 + j) ≡ filler L (full L n) (254 * (n - 1) + j)

@@ -1,6 +1,31 @@
 -- A record that is written in part: what becomes of its bytes, and what the disk holds on the way. Our own, after the
 -- 1541 User's Guide, relative files.
-use Rattle.std.specs.Prelude.{ℕ, ◌+◌, ◌-◌, ◌*◌, ◌/◌, ◌%◌, ◌≡◌, ◌≤◌, ◌<◌, ◌⊎◌, ◌++◌, List, [], Some, Result, Ok, Err, get_or, drop, length, replicate, set, slice_get, take}
+use Rattle.std.specs.Prelude.{
+  ℕ,
+  ◌+◌,
+  ◌-◌,
+  ◌*◌,
+  ◌/◌,
+  ◌%◌,
+  ◌≡◌,
+  ◌≤◌,
+  ◌<◌,
+  ◌⊎◌,
+  ◌++◌,
+  List,
+  [],
+  Some,
+  Result,
+  Ok,
+  Err,
+  get_or,
+  drop,
+  length,
+  replicate,
+  set,
+  slice_get,
+  take,
+}
 use Rattle.d64_image.specs.Images.{Image, Sector}
 use Rattle.disk_layout.specs.Layout.{File, Layout, record_length}
 use Rattle.disk_layout.specs.Records.{empty_record, records}
@@ -41,7 +66,8 @@ with_written L r pos text rs = set rs (r - 1) (written L pos text (get_or rs (r 
 
 -- and with its first part alone
 abbrev pub with_half : ℕ → ℕ → ℕ → List ℕ → List (List ℕ) → List (List ℕ)
-with_half L r pos text rs = set rs (r - 1) (half_written L r (written L pos text (get_or rs (r - 1) [])) (get_or rs (r - 1) []))
+with_half L r pos text rs =
+    set rs (r - 1) (half_written L r (written L pos text (get_or rs (r - 1) [])) (get_or rs (r - 1) []))
 
 -- how many data blocks the bytes from the position on of record r lie in: 1 or 2
 abbrev pub touched : ℕ → ℕ → ℕ → ℕ
@@ -63,13 +89,16 @@ IsGrowingBy old l n f m c = (k : ℕ) × (k ≤ m) × HasRecords old c l n (grow
 abbrev pub IsGrowingTo : Image → Layout → ℕ → File → ℕ → Image → Type 0
 IsGrowingTo old l n f r = IsGrowingBy old l n f (added (record_length f.slot) (records_had f) r)
 
--- an image held while a text is written into record r, after m empty ones were added: the first part of the record is new,
+-- an image held while a text is written into record r, after m empty ones were added: the first part of the record is
+-- new,
 -- or all of it is
 abbrev pub IsWriting : Image → Layout → ℕ → File → ℕ → ℕ → ℕ → List ℕ → Image → Type 0
 IsWriting old l n f m r pos text c =
     IsGrowingBy old l n f m c
-    ⊎ (HasRecords old c l n (with_half (record_length f.slot) r pos text (grown_by (record_length f.slot) m (records old f)))
-    ⊎ HasRecords old c l n (with_written (record_length f.slot) r pos text (grown_by (record_length f.slot) m (records old f))))
+    ⊎ (HasRecords old c l n (with_half (record_length f.slot) r pos text
+    (grown_by (record_length f.slot) m (records old f)))
+    ⊎ HasRecords old c l n (with_written (record_length f.slot) r pos text
+    (grown_by (record_length f.slot) m (records old f))))
 
 -- record r of L bytes lies in one data block
 abbrev pub IsInOneBlock : ℕ → ℕ → Type 0
@@ -83,4 +112,5 @@ IsDone (Err _) = ⊥
 
 -- a block with the text over its data bytes from start to below end, and zeros where the text is shorter
 abbrev pub patched : ℕ → ℕ → List ℕ → Sector → Sector
-patched start end text bytes = take (2 + start) bytes ++ (take (end - start) (text ++ replicate (end - start) 0) ++ drop (2 + end) bytes)
+patched start end text bytes = take (2 + start) bytes ++ (take (end - start) (text ++ replicate (end - start) 0)
+    ++ drop (2 + end) bytes)

@@ -24,14 +24,16 @@ to_written Issue to text is e quantity = cc
 to_written Set to text is e quantity = cc
 to_written Move to text is e quantity = ap (λ (xs : List ℕ). decimal quantity ++ 44 ∷ xs) e
 
-none_written : (kind : Kind) (to quantity : ℕ) → false ≡ same_kind kind Move → decimal quantity ≡ commas (decimal quantity ∷ to_fields kind to)
+none_written : (kind : Kind) (to quantity : ℕ) → false ≡ same_kind kind Move
+    → decimal quantity ≡ commas (decimal quantity ∷ to_fields kind to)
 none_written Receive to quantity is = refl
 none_written Issue to quantity is = refl
 none_written Set to quantity is = refl
 none_written Move to quantity is = cc
 
 -- the amounts of a move, at the end of the room
-pub moved_amounts : (ask own : Ask) (to : ℕ) (room whole number : List ℕ) (end : ℕ) → own ≡ ask → true ≡ same_kind own.body.kind Move → to ≡ own.body.to
+pub moved_amounts : (ask own : Ask) (to : ℕ) (room whole number : List ℕ) (end : ℕ) → own ≡ ask
+    → true ≡ same_kind own.body.kind Move → to ≡ own.body.to
     → length room ≤ end → whole ≡ decimal own.body.quantity ++ 44 ∷ number → number ≡ decimal to ++ drop end room
     → whole ≡ commas (decimal ask.body.quantity ∷ to_fields ask.body.kind ask.body.to)
 moved_amounts ask own to room whole number end same is item all first second =
@@ -45,6 +47,7 @@ pub plain_amounts : (ask own : Ask) (room whole : List ℕ) (end : ℕ) → own 
     → length room ≤ end → whole ≡ decimal own.body.quantity ++ drop end room
     → whole ≡ commas (decimal ask.body.quantity ∷ to_fields ask.body.kind ask.body.to)
 plain_amounts ask own room whole end same is all first =
-    first ∙ ap (λ (xs : List ℕ). decimal own.body.quantity ++ xs) (drop_all end room all) ∙ append-nil (decimal own.body.quantity)
+    first ∙ ap (λ (xs : List ℕ). decimal own.body.quantity ++ xs) (drop_all end room all)
+    ∙ append-nil (decimal own.body.quantity)
     ∙ none_written own.body.kind own.body.to own.body.quantity is
     ∙ ap (λ (a : Ask). commas (decimal a.body.quantity ∷ to_fields a.body.kind a.body.to)) same

@@ -1,4 +1,5 @@
--- Worked examples of cards, computed by the checker. Each is named by what it shows. The texts are our own rules worked by hand.
+-- Worked examples of cards, computed by the checker. Each is named by what it shows. The texts are our own rules worked
+-- by hand.
 use Rattle.std.proofs.Common.{◌≡◌, ℕ, true, false, List, [], ◌∷◌, ◌++◌, length, refl, Some, None}
 use Rattle.std.specs.Prelude.{codes, map, replicate}
 use Rattle.request_cards.specs.declared.answer.Answer.TheVariants as told
@@ -35,12 +36,14 @@ abbrev pub move_intent : Card
 move_intent = next_card before_move true (record { kind = Move; item = 1; quantity = 4; to = 15 }) 3 (told.Moved 6 7)
 
 pub intent_of_a_move : card_text move_intent
-    ≡ codes "2I,000000003,M,00001,000000004,0,000000006,00015,000000007" ++ 13 ∷ codes "A,000000002,S,00015,000000003,0,000000003,00000,000000000" ++ 13 ∷ replicate 10 0
+    ≡ codes "2I,000000003,M,00001,000000004,0,000000006,00015,000000007" ++ 13 ∷ codes
+    "A,000000002,S,00015,000000003,0,000000003,00000,000000000" ++ 13 ∷ replicate 10 0
 unfolding fixed
 intent_of_a_move = refl
 
 pub answered_move : card_text (record move_intent { pending = false })
-    ≡ codes "2A,000000003,M,00001,000000004,0,000000006,00015,000000007" ++ 13 ∷ codes "A,000000002,S,00015,000000003,0,000000003,00000,000000000" ++ 13 ∷ replicate 10 0
+    ≡ codes "2A,000000003,M,00001,000000004,0,000000006,00015,000000007" ++ 13 ∷ codes
+    "A,000000002,S,00015,000000003,0,000000003,00000,000000000" ++ 13 ∷ replicate 10 0
 unfolding fixed
 answered_move = refl
 
@@ -58,12 +61,15 @@ pub open_intent_is_read : request_card_of (filled (codes "I,000000001,S,00001,00
 unfolding request_card_of kind_of fixed
 open_intent_is_read = refl
 
-pub answered_move_is_read : request_card_of (card_text (record move_intent { pending = false })) ≡ Some (record move_intent { pending = false })
+pub answered_move_is_read : request_card_of (card_text (record move_intent { pending = false }))
+    ≡ Some (record move_intent { pending = false })
 unfolding request_card_of kind_of fixed
 answered_move_is_read = refl
 
--- an intent of a refusal, a quantity beside an answer that has none, a move of version 1, an unknown answer, an unknown state
-pub other_records_are_none : map (λ text. request_card_of (filled (text ++ 13 ∷ []))) (codes "I,000000001,S,00015,000000005,1,000000005"
+-- an intent of a refusal, a quantity beside an answer that has none, a move of version 1, an unknown answer, an unknown
+-- state
+pub other_records_are_none : map (λ text. request_card_of (filled (text ++ 13 ∷ [])))
+    (codes "I,000000001,S,00015,000000005,1,000000005"
     ∷ codes "A,000000001,R,00015,000000005,3,000000005" ∷ codes "A,000000001,M,00015,000000005,0,000000005"
     ∷ codes "A,000000001,S,00015,000000005,6,000000000" ∷ codes "B,000000001,S,00015,000000005,0,000000005" ∷ [])
     ≡ None ∷ None ∷ None ∷ None ∷ None ∷ []
@@ -71,7 +77,8 @@ unfolding request_card_of kind_of fixed
 other_records_are_none = refl
 
 -- an empty record is no card
-pub empty_records_are_none : (request_card_of (255 ∷ replicate 126 0) ≡ None) × (stock_card_of (255 ∷ replicate 17 0) ≡ None)
+pub empty_records_are_none : (request_card_of (255 ∷ replicate 126 0) ≡ None)
+    × (stock_card_of (255 ∷ replicate 17 0) ≡ None)
 unfolding request_card_of stock_card_of kind_of fixed
 empty_records_are_none = (refl, refl)
 

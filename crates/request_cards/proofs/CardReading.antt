@@ -1,6 +1,44 @@
 -- A card is read where the bytes are its text, and nowhere else.
-use Rattle.std.proofs.Common.{◌≡◌, ℕ, ◌+◌, Bool, true, false, List, [], ◌∷◌, ◌++◌, drop, get_or, refl, ap, sym, subst, ◌∙◌, arith, append_assoc, Option, Some, None, inl, inr, ◌⊎◌}
-use Rattle.std.specs.Prelude.{◌==◌, ◌&&◌, replicate, IfNone, IfSome, IsTrue, not, slice_index, unwrap_or, if◌then◌else◌, bytes_eq}
+use Rattle.std.proofs.Common.{
+  ◌≡◌,
+  ℕ,
+  ◌+◌,
+  Bool,
+  true,
+  false,
+  List,
+  [],
+  ◌∷◌,
+  ◌++◌,
+  drop,
+  get_or,
+  refl,
+  ap,
+  sym,
+  subst,
+  ◌∙◌,
+  arith,
+  append_assoc,
+  Option,
+  Some,
+  None,
+  inl,
+  inr,
+  ◌⊎◌,
+}
+use Rattle.std.specs.Prelude.{
+  ◌==◌,
+  ◌&&◌,
+  replicate,
+  IfNone,
+  IfSome,
+  IsTrue,
+  not,
+  slice_index,
+  unwrap_or,
+  if◌then◌else◌,
+  bytes_eq,
+}
 use Rattle.std.specs.Bool.{Decides}
 use Rattle.std.proofs.lemmas.Bool.{and_parts, and_from, not-true}
 use Rattle.std.proofs.lemmas.Bool.Decides.{Decides-and, Decides-eqb}
@@ -12,10 +50,58 @@ use Rattle.request_cards.specs.declared.kind.Kind.TheVariants.{Receive, Move}
 use Rattle.request_cards.specs.Requests.{Body, IsBody, is_body, may_go_to, same_kind}
 use Rattle.request_cards.specs.Ledgers.{Entry}
 use Rattle.request_cards.specs.Texts.{commas}
-use Rattle.request_cards.specs.CardTexts.{Card, IsCard, IsCardText, IsEntry, IsStock, IsStockText, Stock, answer_code, answer_quantity, answer_to_quantity, card_text, entry_fields, entry_text, goes_with, is_done, old_entry_text, second_text, stock_text}
-use Rattle.request_cards.specs.CardReading.{number_at, kind_at, answer_with, fields_at, entry_at, old_card_at, new_card_at, is_entry, is_second, is_intent, is_new_card, is_old_card, read_as, stock_at, is_stock, stock_card_of, request_card_of}
+use Rattle.request_cards.specs.CardTexts.{
+  Card,
+  IsCard,
+  IsCardText,
+  IsEntry,
+  IsStock,
+  IsStockText,
+  Stock,
+  answer_code,
+  answer_quantity,
+  answer_to_quantity,
+  card_text,
+  entry_fields,
+  entry_text,
+  goes_with,
+  is_done,
+  old_entry_text,
+  second_text,
+  stock_text,
+}
+use Rattle.request_cards.specs.CardReading.{
+  number_at,
+  kind_at,
+  answer_with,
+  fields_at,
+  entry_at,
+  old_card_at,
+  new_card_at,
+  is_entry,
+  is_second,
+  is_intent,
+  is_new_card,
+  is_old_card,
+  read_as,
+  stock_at,
+  is_stock,
+  stock_card_of,
+  request_card_of,
+}
 use Rattle.request_cards.proofs.Cards.{card_cut, card_same, second_is, second_mark, second_marked, state_of}
-use Rattle.request_cards.proofs.Entries.{IsCut, body_same, code_low, entry_same, fields_cut, goes_nowhere, kind_stands, one_quantity, to_high, whole_cut}
+use Rattle.request_cards.proofs.Entries.{
+  IsCut,
+  body_same,
+  code_low,
+  entry_same,
+  fields_cut,
+  goes_nowhere,
+  kind_stands,
+  one_quantity,
+  to_high,
+  whole_cut,
+}
 use Rattle.request_cards.proofs.Fields.{Decides-leb, if_some}
 use Rattle.request_cards.proofs.Widths.{front_digits, stock_cut}
 
@@ -34,7 +120,8 @@ read_text bytes x y fits text e =
 -- the ranges of a stock card
 stock_decides : (s : Stock) → Decides (is_stock s) (IsStock s)
 stock_decides s =
-    let d = Decides-and _ _ (Decides-leb 1 s.item) (Decides-and _ _ (Decides-leb s.item 65535) (Decides-leb s.quantity 999999999)) in (
+    let d = Decides-and _ _ (Decides-leb 1 s.item) (Decides-and _ _ (Decides-leb s.item 65535)
+    (Decides-leb s.quantity 999999999)) in (
       (λ e. let p = d.0 e in record { item_low = p.0; item_high = p.1.0; quantity_high = p.1.1 }),
       (λ i. d.1 (i.item_low, (i.item_high, i.quantity_high))),
     )
@@ -51,7 +138,8 @@ stock_reads bytes s m =
     same : number_at bytes 2 5 ≡ s.item → number_at bytes 8 9 ≡ s.quantity → stock_at bytes ≡ s
     same item quantity i = record { item = item i; quantity = quantity i }
 
-pub stock_is : (bytes : List ℕ) (s : Stock) → (stock_card_of bytes ≡ Some s → IsStockText bytes s) × (IsStockText bytes s → stock_card_of bytes ≡ Some s)
+pub stock_is : (bytes : List ℕ) (s : Stock) → (stock_card_of bytes ≡ Some s → IsStockText bytes s)
+    × (IsStockText bytes s → stock_card_of bytes ≡ Some s)
 unfolding stock_card_of
 stock_is bytes s = (
   (λ e.
@@ -76,7 +164,8 @@ entry_decides : (e : Entry) → Decides (is_entry e) (IsEntry e)
 entry_decides e =
     let d = Decides-and _ _ (Decides-leb 1 e.number) (Decides-and _ _ (Decides-leb e.number 999999999)
     (Decides-and _ _ (body_decides e.body) (Decides-and _ _ (self_decides (goes_with e.body.kind e.answer))
-    (Decides-and _ _ (Decides-leb (answer_quantity e.answer) 999999999) (Decides-leb (answer_to_quantity e.answer) 999999999))))) in (
+    (Decides-and _ _ (Decides-leb (answer_quantity e.answer) 999999999) (Decides-leb (answer_to_quantity e.answer)
+    999999999))))) in (
       (λ t. let p = d.0 t in record {
         number_low = p.0;
         number_high = p.1.0;
@@ -98,7 +187,8 @@ second_decides n None = ((λ e. tt), (λ i. refl))
 second_decides n (Some e) = Decides-and _ _ (entry_decides e) (Decides-eqb (e.number + 1) n)
 
 new_decides : (c : Card) → Decides (is_new_card c)
-    (IsEntry c.newest × ((IsTrue c.pending → IsTrue (is_done c.newest.answer)) × IfSome c.second (λ e. IsEntry e × (e.number + 1 ≡ c.newest.number))))
+    (IsEntry c.newest × ((IsTrue c.pending → IsTrue (is_done c.newest.answer))
+    × IfSome c.second (λ e. IsEntry e × (e.number + 1 ≡ c.newest.number))))
 new_decides c =
     Decides-and _ _ (entry_decides c.newest)
     (Decides-and _ _ (intent_decides c.pending c.newest.answer) (second_decides c.newest.number c.second))
@@ -143,20 +233,25 @@ answer_again k answers.DiskFull e = refl
 answer_again k answers.TooLarge e = refl
 
 -- the fields of an entry are read where they stand
-fields_read : (bytes : List ℕ) (at to g : ℕ) (p : Bool) (e : Entry) (rest : List ℕ) → IsCut bytes at p e rest → IsEntry e
+fields_read : (bytes : List ℕ) (at to g : ℕ) (p : Bool) (e : Entry) (rest : List ℕ) → IsCut bytes at p e rest
+    → IsEntry e
     → to ≡ e.body.to → g ≡ answer_to_quantity e.answer → fields_at bytes at to g ≡ e
 fields_read bytes at to g p e rest cut is goes second =
-    let kind : kind_at bytes (at + 12) ≡ e.body.kind = ap (λ o. unwrap_or o Receive) (kind_stands bytes (at + 12) e.body.kind _ 0 cut.kind) in
+    let kind : kind_at bytes (at + 12) ≡ e.body.kind =
+    ap (λ o. unwrap_or o Receive) (kind_stands bytes (at + 12) e.body.kind _ 0 cut.kind) in
     let number = front_digits 9 e.number _ _ (omega (arith, is.number_high)) cut.number in
     let item = front_digits 5 e.body.item _ _ (omega (arith, is.body.item_high)) cut.item in
     let quantity = front_digits 9 e.body.quantity _ _ (omega (arith, is.body.quantity_high)) cut.quantity in
     let code = front_digits 1 _ _ _ (code_low e.answer) cut.code in
     let first = front_digits 9 _ _ _ (omega (arith, is.quantity_high)) cut.answer in
-    let answer : answer_with (same_kind (kind_at bytes (at + 12)) Move) (number_at bytes (at + 30) 1) (number_at bytes (at + 32) 9) g ≡ e.answer =
-    (λ i. answer_with (same_kind (kind i) Move) (code i) (first i) (second i)) ∙ answer_again e.body.kind e.answer is.fits in
+    let answer : answer_with (same_kind (kind_at bytes (at + 12)) Move) (number_at bytes (at + 30) 1)
+    (number_at bytes (at + 32) 9) g ≡ e.answer =
+    (λ i. answer_with (same_kind (kind i) Move) (code i) (first i) (second i))
+    ∙ answer_again e.body.kind e.answer is.fits in
     entry_same e _ _ _ number (body_same e.body _ _ _ to kind item quantity goes) answer
 
-whole_reads : (bytes : List ℕ) (at : ℕ) (p : Bool) (e : Entry) (rest : List ℕ) → drop at bytes ≡ entry_text p e ++ rest → IsEntry e
+whole_reads : (bytes : List ℕ) (at : ℕ) (p : Bool) (e : Entry) (rest : List ℕ) → drop at bytes ≡ entry_text p e ++ rest
+    → IsEntry e
     → entry_at bytes at ≡ e
 whole_reads bytes at p e rest text is =
     let cut = whole_cut bytes at p e rest text in
@@ -165,7 +260,8 @@ whole_reads bytes at p e rest text is =
     (front_digits 9 _ _ _ (omega (arith, is.to_quantity_high)) cut.to_quantity)
 
 -- a version 1 card is read
-old_text : (c : Card) → c.version ≡ 1 → card_text c ≡ commas (entry_fields c.pending c.newest []) ++ (13 ∷ replicate 85 0)
+old_text : (c : Card) → c.version ≡ 1 → card_text c ≡ commas (entry_fields c.pending c.newest [])
+    ++ (13 ∷ replicate 85 0)
 old_text c one =
     ap (λ v. card_text (record c { version = v })) one
     ∙ append_assoc (commas (entry_fields c.pending c.newest [])) (13 ∷ []) (replicate 85 0)
@@ -179,13 +275,15 @@ old_reads bytes c m one =
     let text = m.1 ∙ old_text c one in
     let plain = m.0.old one in
     let newest = fields_read bytes 0 0 0 c.pending c.newest _ (fields_cut bytes 0 c.pending c.newest _ text) m.0.newest
-    (goes_nowhere c.newest.body.kind _ _ plain.1 m.0.newest.body.to) (one_quantity c.newest.body.kind _ plain.1 m.0.newest.fits) in
+    (goes_nowhere c.newest.body.kind _ _ plain.1 m.0.newest.body.to) (one_quantity c.newest.body.kind _ plain.1
+    m.0.newest.fits) in
     let state : (slice_index bytes 0 == 73) ≡ c.pending =
     ap (λ (xs : List ℕ). get_or xs 0 0 == 73) text ∙ state_mark c.pending c.newest _ in
     card_same c 1 _ _ None (sym one) state newest (sym plain.0)
 
 -- the second entry is read
-second_at : (bytes : List ℕ) (s : Option Entry) (rest : List ℕ) → IfSome s IsEntry → drop 59 bytes ≡ second_text s ++ rest
+second_at : (bytes : List ℕ) (s : Option Entry) (rest : List ℕ) → IfSome s IsEntry
+    → drop 59 bytes ≡ second_text s ++ rest
     → (if slice_index bytes 59 == 0 then None else Some (entry_at bytes 59)) ≡ s
 second_at bytes s rest is text = by s (ap (λ x. x == 0) (second_marked bytes s rest 0 text)) is text
   where
@@ -203,11 +301,14 @@ second_reads bytes c m two = second_at bytes c.second _ (second_is c m.0) (card_
 new_reads : (bytes : List ℕ) (c : Card) → IsCardText bytes c → c.version ≡ 2 → new_card_at bytes ≡ c
 new_reads bytes c m two =
     let cut = card_cut bytes c m.1 two in
-    card_same c 2 _ _ _ (sym two) (cut.state 0) (whole_reads bytes 1 c.pending c.newest _ cut.newest m.0.newest) (second_reads bytes c m two)
+    card_same c 2 _ _ _ (sym two) (cut.state 0) (whole_reads bytes 1 c.pending c.newest _ cut.newest m.0.newest)
+    (second_reads bytes c m two)
 
 -- what was read of a card's text is that card
-pub new_same : (bytes : List ℕ) (p : Bool) (e : Entry) (s : Option Entry) → drop 1 bytes ≡ entry_text p e ++ drop 59 bytes → IsEntry e
-    → drop 59 bytes ≡ second_text s ++ drop 117 bytes → IfSome s IsEntry → (c : Card) → IsCardText bytes c → c.version ≡ 2
+pub new_same : (bytes : List ℕ) (p : Bool) (e : Entry) (s : Option Entry)
+    → drop 1 bytes ≡ entry_text p e ++ drop 59 bytes → IsEntry e
+    → drop 59 bytes ≡ second_text s ++ drop 117 bytes → IfSome s IsEntry → (c : Card) → IsCardText bytes c
+    → c.version ≡ 2
     → ◌≡◌ {A = Card} (record { version = 2; pending = p; newest = e; second = s }) c
 new_same bytes p e s text is behind ranges c m two =
     let cut = card_cut bytes c m.1 two in
@@ -234,8 +335,16 @@ old_first false e rest = refl
 version_of : (bytes : List ℕ) (c : Card) → bytes ≡ card_text c → IsCard c
     → ((c.version ≡ 1) × ((get_or bytes 0 0 == 50) ≡ false)) ⊎ ((c.version ≡ 2) × ((get_or bytes 0 0 == 50) ≡ true))
 version_of bytes c e is = elim is.version [
-  | inl one ↦ inl (one, ap (λ (xs : List ℕ). get_or xs 0 0 == 50) (e ∙ old_text c one) ∙ old_first c.pending c.newest (13 ∷ replicate 85 0))
-  | inr two ↦ inr (two, ap (λ (xs : List ℕ). get_or xs 0 0 == 50) (e ∙ ap (λ v. card_text (record c { version = v })) two))
+  | inl one ↦ inl (
+    one,
+    ap (λ (xs : List ℕ). get_or xs 0 0 == 50) (e ∙ old_text c one)
+        ∙ old_first c.pending c.newest (13 ∷ replicate 85 0),
+  )
+  | inr two ↦ inr (
+    two,
+    ap (λ (xs : List ℕ). get_or xs 0 0 == 50) (e
+        ∙ ap (λ v. card_text (record c { version = v })) two),
+  )
 ]
 
 card_reads : (bytes : List ℕ) (c : Card) → IsCardText bytes c → request_card_of bytes ≡ Some c
@@ -254,8 +363,10 @@ read_card : (bytes : List ℕ) (c : Card) → request_card_of bytes ≡ Some c �
 unfolding request_card_of
 read_card bytes c e = by (slice_index bytes 0 == 50) e
   where
-    by : (b : Bool) → (if b then read_as bytes (new_card_at bytes) (is_new_card (new_card_at bytes)) (card_text (new_card_at bytes))
-        else read_as bytes (old_card_at bytes) (is_old_card (old_card_at bytes)) (card_text (old_card_at bytes))) ≡ Some c
+    by : (b : Bool) → (if b then read_as bytes (new_card_at bytes) (is_new_card (new_card_at bytes))
+        (card_text (new_card_at bytes))
+        else read_as bytes (old_card_at bytes) (is_old_card (old_card_at bytes)) (card_text (old_card_at bytes)))
+        ≡ Some c
         → IsCardText bytes c
     by true e =
         let p = read_text bytes (new_card_at bytes) c _ _ e in
@@ -264,7 +375,8 @@ read_card bytes c e = by (slice_index bytes 0 == 50) e
         let p = read_text bytes (old_card_at bytes) c _ _ e in
         subst (IsCardText bytes) p.2 (old_is (old_card_at bytes) refl refl p.0, p.1)
 
-pub card_is : (bytes : List ℕ) (c : Card) → (request_card_of bytes ≡ Some c → IsCardText bytes c) × (IsCardText bytes c → request_card_of bytes ≡ Some c)
+pub card_is : (bytes : List ℕ) (c : Card) → (request_card_of bytes ≡ Some c → IsCardText bytes c)
+    × (IsCardText bytes c → request_card_of bytes ≡ Some c)
 card_is bytes c = (read_card bytes c, card_reads bytes c)
 
 -- what is read where a text is, and none where none is, is what the function reads

@@ -1,5 +1,32 @@
--- What is true of a till beside the ledger: its old requests, the answers that were given, and what a reply may tell it.
-use Rattle.std.proofs.Common.{◌≡◌, ◌≢◌, ℕ, ◌<◌, ◌≤◌, true, List, [], ◌∷◌, ◌++◌, ◌+◌, Option, Some, None, refl, sym, ◌∙◌, ap, subst, inl, inr, ◌⊎◌, arith, eq-eqb, ne_eqb}
+-- What is true of a till beside the ledger: its old requests, the answers that were given, and what a reply may tell
+-- it.
+use Rattle.std.proofs.Common.{
+  ◌≡◌,
+  ◌≢◌,
+  ℕ,
+  ◌<◌,
+  ◌≤◌,
+  true,
+  List,
+  [],
+  ◌∷◌,
+  ◌++◌,
+  ◌+◌,
+  Option,
+  Some,
+  None,
+  refl,
+  sym,
+  ◌∙◌,
+  ap,
+  subst,
+  inl,
+  inr,
+  ◌⊎◌,
+  arith,
+  eq-eqb,
+  ne_eqb,
+}
 use Rattle.std.specs.Prelude.{nat_lt, All, Contains, option_map}
 use Rattle.std.proofs.lemmas.Bool.{and_from, cases_Bool, lt-ltb, le-ltb}
 use Rattle.std.proofs.lemmas.Bool.Decides.{eqb_tells}
@@ -13,7 +40,17 @@ use Rattle.request_cards.specs.declared.reply.Word.{Word}
 use Rattle.request_cards.specs.declared.reply.Word.TheVariants.{Media, NoTill, Stale, Clash, Ahead, Kept}
 use Rattle.request_cards.specs.declared.standing.Standing.TheVariants.{New}
 use Rattle.request_cards.specs.Requests.{Body, Ask, same_kind, same_body}
-use Rattle.request_cards.specs.Ledgers.{Entry, State, Start, entry_of, number_of, standing_at, told_late, word_in, word_on}
+use Rattle.request_cards.specs.Ledgers.{
+  Entry,
+  State,
+  Start,
+  entry_of,
+  number_of,
+  standing_at,
+  told_late,
+  word_in,
+  word_on,
+}
 use Rattle.request_cards.specs.Steps.{Core, TillState, asked}
 use Rattle.request_cards.proofs.Lines.{Line, added}
 
@@ -125,7 +162,8 @@ agrees_added t l s sent given m x g wish next all = record {
   till = g.till;
   stands = inr (m, x, wish, refl, ap (λ ds. ds ++ (m, x) ∷ []) all);
   messages = All-weaker (IsSent t l s) (IsSent t (added l m x) s)
-      (λ a h same. elim (h same) [ inl old ↦ inl (older l.kept l.prior m a x next old) | inr e ↦ inr e ]) sent g.messages;
+      (λ a h same. elim (h same) [ inl old ↦ inl (older l.kept l.prior m a x next old) | inr e ↦ inr e ]) sent
+      g.messages;
   replies = All-weaker (IsFair l.kept t) (IsFair (Some (entry_of (m, x))) t)
       (λ r h. fair_older l.kept m x t r next h) given g.replies;
 }
@@ -134,13 +172,23 @@ agrees_added t l s sent given m x g wish next all = record {
 pub agrees_sent : (t : ℕ) (l : Line) (s : TillState) (sent : List Ask) (given : List Reply) (m : Ask)
     → Agrees t l s sent given → IsSent t l s m → Agrees t l s (sent ++ m ∷ []) given
 agrees_sent t l s sent given m g h =
-    record { till = g.till; stands = g.stands; messages = All-push (IsSent t l s) sent m g.messages h; replies = g.replies }
+    record {
+      till = g.till;
+      stands = g.stands;
+      messages = All-push (IsSent t l s) sent m g.messages h;
+      replies = g.replies;
+    }
 
 -- a reply is given
 pub agrees_given : (t : ℕ) (l : Line) (s : TillState) (sent : List Ask) (given : List Reply) (r : Reply)
     → Agrees t l s sent given → IsFair l.kept t r → Agrees t l s sent (given ++ r ∷ [])
 agrees_given t l s sent given r g h =
-    record { till = g.till; stands = g.stands; messages = g.messages; replies = All-push (IsFair l.kept t) given r g.replies h }
+    record {
+      till = g.till;
+      stands = g.stands;
+      messages = g.messages;
+      replies = All-push (IsFair l.kept t) given r g.replies h;
+    }
 
 -- a body is the same as itself
 same_kind-refl : (k : Kind) → same_kind k k ≡ true
@@ -185,7 +233,8 @@ settled_fair (Some e) prior a x t h = elim h [
   ) (λ same. inr (p.0, refl))
 ]
 
-pub word_fair : (start : Start) (state : State) (a : Ask) (t : ℕ) → IsOld (state.ledger.kept a.till) (state.prior a.till) a
+pub word_fair : (start : Start) (state : State) (a : Ask) (t : ℕ)
+    → IsOld (state.ledger.kept a.till) (state.prior a.till) a
     → IsFair (state.ledger.kept a.till) t (Told a.till a.number (word_in start state a))
 word_fair start state a t h = elim (cases_Bool (nat_lt start.tills a.till)) [
   | inl e ↦ rw e tt

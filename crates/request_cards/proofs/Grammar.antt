@@ -4,11 +4,23 @@ use Rattle.request_cards.specs.declared.kind.Kind.{Kind}
 use Rattle.request_cards.specs.Requests.{Ask}
 use Rattle.request_cards.specs.Reading.{amounts, kind_before, number_before, request_of}
 
-pub made_of : (bytes : List ℕ) (till number : ℕ) (kind : Kind) (item quantity to : ℕ) (after_till after_number after_kind after_item : List ℕ)
-    → Some (till, after_till) ≡ number_before 1 64 bytes → Some (number, after_number) ≡ number_before 1 999999999 after_till
+pub made_of : (bytes : List ℕ) (till number : ℕ) (kind : Kind) (item quantity to : ℕ)
+    (after_till after_number after_kind after_item : List ℕ)
+    → Some (till, after_till) ≡ number_before 1 64 bytes → Some (number, after_number) ≡ number_before 1 999999999
+    after_till
     → Some (kind, after_kind) ≡ kind_before after_number → Some (item, after_item) ≡ number_before 1 65535 after_kind
     → Some (quantity, to) ≡ amounts kind item after_item
-    → ◌≡◌ {A = Option Ask} (Some (record { till = till; number = number; body = record { kind = kind; item = item; quantity = quantity; to = to } })) (request_of bytes)
+    → ◌≡◌ {A = Option Ask}
+    (Some (record {
+      till = till;
+      number = number;
+      body = record {
+        kind = kind;
+        item = item;
+        quantity = quantity;
+        to = to;
+      };
+    })) (request_of bytes)
 unfolding request_of
 made_of bytes till number kind item quantity to after_till after_number after_kind after_item e1 e2 e3 e4 e5 =
     rw (← e1, ← e2, ← e3, ← e4, ← e5) refl

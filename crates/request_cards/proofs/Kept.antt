@@ -20,7 +20,8 @@ Fits k a = IsTrue (goes_with k a) × (answer_quantity a ≤ 999999999) × (answe
 abbrev IsOnHand : Option ℕ → Type 0
 IsOnHand o = IfSome o (λ q. q ≤ 999999999)
 
-row_fits : (k : Kind) (q : ℕ) (on_hand to_hand : Option ℕ) (room : Room) → q ≤ 999999999 → IsOnHand on_hand → IsOnHand to_hand
+row_fits : (k : Kind) (q : ℕ) (on_hand to_hand : Option ℕ) (room : Room) → q ≤ 999999999 → IsOnHand on_hand
+    → IsOnHand to_hand
     → Fits k (trade_row on_hand to_hand room k q).answer
 row_fits Set q (Some on) to_hand room h i j = (refl, h, omega arith)
 row_fits Set q None to_hand rooms.Fits h i j = (refl, h, omega arith)
@@ -47,7 +48,8 @@ row_fits Move q (Some on) (Some there) room h i j = elim (cases_Bool (nat_lt on 
 ]
 
 -- a request with its answer is an entry of a card
-pub answer_is_kept : (a : Ask) (on_hand to_hand : Option ℕ) (room : Room) → IsAsk a → IsOnHand on_hand → IsOnHand to_hand
+pub answer_is_kept : (a : Ask) (on_hand to_hand : Option ℕ) (room : Room) → IsAsk a → IsOnHand on_hand
+    → IsOnHand to_hand
     → IsEntry (entry_of (a, (trade on_hand to_hand room a.body).answer))
 answer_is_kept a on_hand to_hand room is i j =
     let fits = row_fits a.body.kind a.body.quantity on_hand to_hand room is.body.quantity_high i j in

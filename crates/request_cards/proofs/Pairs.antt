@@ -1,5 +1,39 @@
 -- Numbers of a fixed width, two digits at a time.
-use Rattle.std.proofs.Common.{◌≡◌, ℕ, zero, suc, ◌+◌, ◌*◌, ◌-◌, ◌/◌, ◌%◌, ◌<◌, ◌≤◌, Bool, true, ◌&&◌, T, eqb, List, ◌∷◌, ◌++◌, codes, drop, length, get_or, set, ap, ap₂, sym, ◌∙◌, inl, inr, arith, eq-zero-or-pos, eqb→eq}
+use Rattle.std.proofs.Common.{
+  ◌≡◌,
+  ℕ,
+  zero,
+  suc,
+  ◌+◌,
+  ◌*◌,
+  ◌-◌,
+  ◌/◌,
+  ◌%◌,
+  ◌<◌,
+  ◌≤◌,
+  Bool,
+  true,
+  ◌&&◌,
+  T,
+  eqb,
+  List,
+  ◌∷◌,
+  ◌++◌,
+  codes,
+  drop,
+  length,
+  get_or,
+  set,
+  ap,
+  ap₂,
+  sym,
+  ◌∙◌,
+  inl,
+  inr,
+  arith,
+  eq-zero-or-pos,
+  eqb→eq,
+}
 use lib.Ieee.Fits.{and_l, and_r}
 use Rattle.std.proofs.lemmas.List.{drop-set}
 use Rattle.request_cards.proofs.Widths.{fixed_more, fixed_none}
@@ -9,13 +43,16 @@ use Rattle.request_cards.specs.declared.fixed.TheConstants.{PAIRS}
 -- the table holds the digits of each number below this one
 abbrev are_pairs : ℕ → Bool
 are_pairs zero = true
-are_pairs (suc p) = (eqb (get_or PAIRS (p * 2) 0) (48 + p / 10) && eqb (get_or PAIRS (p * 2 + 1) 0) (48 + p % 10)) && are_pairs p
+are_pairs (suc p) = (eqb (get_or PAIRS (p * 2) 0) (48 + p / 10) && eqb (get_or PAIRS (p * 2 + 1) 0) (48 + p % 10)) &&
+    are_pairs p
 
-below : (n p : ℕ) → T (are_pairs n) → p < n → (get_or PAIRS (p * 2) 0 ≡ 48 + p / 10) × (get_or PAIRS (p * 2 + 1) 0 ≡ 48 + p % 10)
+below : (n p : ℕ) → T (are_pairs n) → p < n → (get_or PAIRS (p * 2) 0 ≡ 48 + p / 10)
+    × (get_or PAIRS (p * 2 + 1) 0 ≡ 48 + p % 10)
 below zero p t h = absurd (omega arith)
 below (suc n) p t h =
     elim (eq-zero-or-pos (n - p)) [
-      | inl z ↦ let e : p ≡ n = omega arith in let a = and_l _ (are_pairs n) t in rw e (eqb→eq _ _ (and_l _ _ a), eqb→eq _ _ (and_r _ _ a))
+      | inl z ↦ let e : p ≡ n = omega arith in let a = and_l _ (are_pairs n) t in
+          rw e (eqb→eq _ _ (and_l _ _ a), eqb→eq _ _ (and_r _ _ a))
       | inr g ↦ below n p (and_r _ (are_pairs n) t) (omega arith)
     ]
 
@@ -46,7 +83,8 @@ nine_of_four n tail few =
     let two : List ℕ = (48 + n % 100 / 10) ∷ (48 + n % 100 % 10) ∷ tail in
     let four : List ℕ = (48 + n / 100 % 100 / 10) ∷ (48 + n / 100 % 100 % 10) ∷ two in
     fixed_two 7 n tail ∙ fixed_two 5 (n / 100) two ∙ ap (λ k. fixed 5 k ++ four) none
-    ∙ ap (λ xs. codes "00000" ++ xs) (sym (fixed_two 2 n tail ∙ fixed_two 0 (n / 100) two ∙ ap (λ xs. xs ++ four) (fixed_none (n / 100 / 100))))
+    ∙ ap (λ xs. codes "00000" ++ xs) (sym (fixed_two 2 n tail ∙ fixed_two 0 (n / 100) two
+    ∙ ap (λ xs. xs ++ four) (fixed_none (n / 100 / 100))))
 
 -- two more digits are written
 pub fixed_two_more : (text : List ℕ) (w i n end : ℕ) (room new : List ℕ)

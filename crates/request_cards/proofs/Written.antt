@@ -1,5 +1,24 @@
 -- Texts that were written from their ends, field by field.
-use Rattle.std.proofs.Common.{◌≡◌, ℕ, Bool, true, false, List, [], ◌∷◌, ◌++◌, ap, sym, ◌∙◌, ◌≤◌, ◌-◌, length, drop, take, arith}
+use Rattle.std.proofs.Common.{
+  ◌≡◌,
+  ℕ,
+  Bool,
+  true,
+  false,
+  List,
+  [],
+  ◌∷◌,
+  ◌++◌,
+  ap,
+  sym,
+  ◌∙◌,
+  ◌≤◌,
+  ◌-◌,
+  length,
+  drop,
+  take,
+  arith,
+}
 use Rattle.std.specs.Prelude.{decimal}
 use Rattle.std.proofs.lemmas.List.{length-drop, take_all}
 use Rattle.request_cards.specs.CardTexts.{fixed, answer_code, answer_quantity, state_text, entry_fields}
@@ -18,7 +37,8 @@ answered_letter true letter is e = cc
 answered_letter false letter is e = ap (λ (b : ℕ). b ∷ []) (sym e)
 
 -- a letter and a comma
-lettered : (text : List ℕ) (letter : ℕ) (whole more : List ℕ) → text ≡ letter ∷ [] → whole ≡ letter ∷ 44 ∷ more → whole ≡ text ++ 44 ∷ more
+lettered : (text : List ℕ) (letter : ℕ) (whole more : List ℕ) → text ≡ letter ∷ [] → whole ≡ letter ∷ 44 ∷ more
+    → whole ≡ text ++ 44 ∷ more
 lettered text letter whole more is e = e ∙ ap (λ (xs : List ℕ). xs ++ 44 ∷ more) (sym is)
 
 -- a number, where it is this one
@@ -26,7 +46,8 @@ numbered : (width n m : ℕ) (whole more : List ℕ) → n ≡ m → whole ≡ f
 numbered width n m whole more is e = e ∙ ap (λ k. fixed width k ++ more) is
 
 -- the fields of an entry
-pub fields_written : (pending : Bool) (e own : Entry) (q c h i : ℕ) (letter state : ℕ) (rest d1 d2 d3 d4 d5 d6 whole : List ℕ) → own ≡ e
+pub fields_written : (pending : Bool) (e own : Entry) (q c h i : ℕ) (letter state : ℕ)
+    (rest d1 d2 d3 d4 d5 d6 whole : List ℕ) → own ≡ e
     → h ≡ answer_quantity own.answer → d1 ≡ fixed 9 h ++ rest
     → c ≡ answer_code own.answer → d2 ≡ fixed 1 c ++ 44 ∷ d1
     → q ≡ own.body.quantity → d3 ≡ fixed 9 q ++ 44 ∷ d2
@@ -35,7 +56,8 @@ pub fields_written : (pending : Bool) (e own : Entry) (q c h i : ℕ) (letter st
     → d6 ≡ fixed 9 own.number ++ 44 ∷ d5
     → state_text pending ≡ state ∷ [] → whole ≡ state ∷ 44 ∷ d6
     → whole ≡ commas (entry_fields pending e []) ++ rest
-fields_written pending e own q c h i letter state rest d1 d2 d3 d4 d5 d6 whole same eh w1 ec w2 eq w3 ei w4 ek w5 w6 es w7 =
+fields_written pending e own q c h i letter state rest d1 d2 d3 d4 d5 d6 whole same eh w1 ec w2 eq w3 ei w4 ek w5 w6 es
+    w7 =
     let answer : List ℕ = fixed 9 (answer_quantity own.answer) in
     let code : List ℕ = fixed 1 (answer_code own.answer) ++ 44 ∷ answer in
     let quantity : List ℕ = fixed 9 own.body.quantity ++ 44 ∷ code in
@@ -67,9 +89,12 @@ request_written ask own item till letter amounts d1 d2 d3 whole same ea ei w1 ek
     let number : d3 ≡ decimal ask.number ++ 44 ∷ d2 = w3 ∙ ap (λ (a : Ask). decimal a.number ++ 44 ∷ d2) same in
     let first : whole ≡ decimal ask.till ++ 44 ∷ d3 =
     w4 ∙ ap (λ n. decimal n ++ 44 ∷ d3) et ∙ ap (λ (a : Ask). decimal a.till ++ 44 ∷ d3) same in
-    first ∙ ap (λ (xs : List ℕ). decimal ask.till ++ 44 ∷ xs) (number ∙ ap (λ (xs : List ℕ). decimal ask.number ++ 44 ∷ xs)
-    (kind ∙ ap (λ (xs : List ℕ). kind_text ask.body.kind ++ 44 ∷ xs) (item_text ∙ ap (λ (xs : List ℕ). decimal ask.body.item ++ 44 ∷ xs) ea)))
+    first ∙ ap (λ (xs : List ℕ). decimal ask.till ++ 44 ∷ xs) (number
+    ∙ ap (λ (xs : List ℕ). decimal ask.number ++ 44 ∷ xs)
+    (kind ∙ ap (λ (xs : List ℕ). kind_text ask.body.kind ++ 44 ∷ xs) (item_text
+    ∙ ap (λ (xs : List ℕ). decimal ask.body.item ++ 44 ∷ xs) ea)))
 
 -- what stands from a place to the end of the room
-pub to_end : (room : List ℕ) (end start : ℕ) → length room ≤ end → take (end - start) (drop start room) ≡ drop start room
+pub to_end : (room : List ℕ) (end start : ℕ) → length room ≤ end
+    → take (end - start) (drop start room) ≡ drop start room
 to_end room end start all = take_all (end - start) (drop start room) (omega (arith, all, length-drop start room))

@@ -1,6 +1,28 @@
 -- Cards as functions of their bytes: what stands at a card's fixed places is a card where the bytes are its text.
 -- The texts themselves are `IsStockText` and `IsCardText` in CardTexts. All of it is our own.
-use Rattle.std.specs.Prelude.{ℕ, ◌+◌, ◌==◌, ◌&&◌, Bool, true, false, not, nat_le, List, [], ◌∷◌, drop, take, slice_index, Option, Some, None, unwrap_or, if◌then◌else◌, bytes_eq}
+use Rattle.std.specs.Prelude.{
+  ℕ,
+  ◌+◌,
+  ◌==◌,
+  ◌&&◌,
+  Bool,
+  true,
+  false,
+  not,
+  nat_le,
+  List,
+  [],
+  ◌∷◌,
+  drop,
+  take,
+  slice_index,
+  Option,
+  Some,
+  None,
+  unwrap_or,
+  if◌then◌else◌,
+  bytes_eq,
+}
 use Rattle.std.specs.Str.Parse.{digits_value}
 use Rattle.request_cards.specs.declared.answer.Answer.{Answer}
 use Rattle.request_cards.specs.declared.answer.Answer.TheVariants as answers
@@ -9,7 +31,16 @@ use Rattle.request_cards.specs.declared.kind.Kind.TheVariants.{Receive, Move}
 use Rattle.request_cards.specs.Requests.{is_body, same_kind}
 use Rattle.request_cards.specs.Reading.{kind_of}
 use Rattle.request_cards.specs.Ledgers.{Entry}
-use Rattle.request_cards.specs.CardTexts.{Card, Stock, answer_quantity, answer_to_quantity, card_text, goes_with, is_done, stock_text}
+use Rattle.request_cards.specs.CardTexts.{
+  Card,
+  Stock,
+  answer_quantity,
+  answer_to_quantity,
+  card_text,
+  goes_with,
+  is_done,
+  stock_text,
+}
 
 -- the number that the digits at this place spell, of this width [own]
 abbrev pub number_at : List ℕ → ℕ → ℕ → ℕ

@@ -1,5 +1,35 @@
 -- The function that reads lines is the grammar of lines.
-use Rattle.std.proofs.Common.{◌≡◌, ◌≢◌, ◌<◌, ◌≤◌, inl, inr, ⊎_elim, ℕ, Bool, true, false, List, [], ◌∷◌, ◌++◌, ◌^◌, Option, Some, None, refl, sym, ◌∙◌, ap, subst, append-nil, length, arith, eq-eqb, ne_eqb}
+use Rattle.std.proofs.Common.{
+  ◌≡◌,
+  ◌≢◌,
+  ◌<◌,
+  ◌≤◌,
+  inl,
+  inr,
+  ⊎_elim,
+  ℕ,
+  Bool,
+  true,
+  false,
+  List,
+  [],
+  ◌∷◌,
+  ◌++◌,
+  ◌^◌,
+  Option,
+  Some,
+  None,
+  refl,
+  sym,
+  ◌∙◌,
+  ap,
+  subst,
+  append-nil,
+  length,
+  arith,
+  eq-eqb,
+  ne_eqb,
+}
 use Rattle.std.specs.Prelude.{decimal, nat_le, flat_map, map, if◌then◌else◌, ◌==◌}
 use Rattle.std.specs.List.{AllByRecursion}
 use Rattle.std.proofs.lemmas.Bool.Decides.{eqb_tells}
@@ -13,7 +43,8 @@ use Rattle.script_lines.specs.Resets.{Line, IsReset, IsLine, slashed, counts_of,
 use Rattle.script_lines.proofs.Lines.{split_piece, split_whole}
 
 -- what was found by a step and the next
-bound : {A B : Type 0} (o : Option A) (f : A → Option B) (y : B) → (o >>= f) ≡ Some y → (x : A) × (o ≡ Some x) × (f x ≡ Some y)
+bound : {A B : Type 0} (o : Option A) (f : A → Option B) (y : B) → (o >>= f) ≡ Some y → (x : A) × (o ≡ Some x)
+    × (f x ≡ Some y)
 bound None f y e = cc
 bound (Some x) f y e = (x, refl, e)
 
@@ -52,7 +83,8 @@ split_joins c (b ∷ bs) = elim (eqb_tells b c) [
     front (p ∷ ps) some = refl
 
 -- numbers that were read have these texts
-counts_spell : (fs : List (List ℕ)) (ns : List ℕ) → counts_of fs ≡ Some ns → (fs ≡ map decimal ns) × AllByRecursion (λ m. m ≤ 99999) ns
+counts_spell : (fs : List (List ℕ)) (ns : List ℕ) → counts_of fs ≡ Some ns → (fs ≡ map decimal ns)
+    × AllByRecursion (λ m. m ≤ 99999) ns
 counts_spell [] [] e = (refl, tt)
 counts_spell [] (n ∷ ns) e = cc
 counts_spell (f ∷ fs) ms e =
@@ -69,7 +101,8 @@ joined_slashed [] = refl
 joined_slashed (n ∷ ns) = ap (λ xs. (47 ∷ decimal n) ++ xs) (joined_slashed ns)
 
 reset_with_spells : (message : List ℕ) (ns : List ℕ) (l : Line) → reset_with message ns ≡ Some l
-    → (k : ℕ) × (rs : List ℕ) × (ns ≡ k ∷ rs) × (length rs ≤ 8) × (l ≡ record { message = message; reset = Some (k, rs) })
+    → (k : ℕ) × (rs : List ℕ) × (ns ≡ k ∷ rs) × (length rs ≤ 8)
+    × (l ≡ record { message = message; reset = Some (k, rs) })
 reset_with_spells message [] l e = cc
 reset_with_spells message (k ∷ rs) l e =
     let p = if_some (nat_le (length rs) 8) (record { message = message; reset = Some (k, rs) }) l e in
@@ -77,16 +110,19 @@ reset_with_spells message (k ∷ rs) l e =
 
 -- what is read as a reset is in the grammar
 reset_spells : (bytes : List ℕ) (l : Line) → reset_of bytes ≡ Some l
-    → (k : ℕ) × (rs : List ℕ) × (message : List ℕ) × IsReset (64 ∷ bytes) k rs message × (l ≡ record { message = message; reset = Some (k, rs) })
+    → (k : ℕ) × (rs : List ℕ) × (message : List ℕ) × IsReset (64 ∷ bytes) k rs message
+    × (l ≡ record { message = message; reset = Some (k, rs) })
 unfolding reset_of
 reset_spells bytes l e =
     let a = bound (cut_at 32 bytes) (λ c. counts_of (split 47 c.0) >>= (λ ns. reset_with c.1 ns)) l e in
     let b = bound (counts_of (split 47 a.0.0)) (λ ns. reset_with a.0.1 ns) l a.2 in
     let w = reset_with_spells a.0.1 b.0 l b.2 in
     let s = counts_spell (split 47 a.0.0) b.0 b.1 in
-    let all : AllByRecursion (λ m. m ≤ 99999) (w.0 ∷ w.1) = subst (AllByRecursion (λ m. m ≤ 99999)) {y = w.0 ∷ w.1} w.2 s.1 in
+    let all : AllByRecursion (λ m. m ≤ 99999) (w.0 ∷ w.1) = subst (AllByRecursion (λ m. m ≤ 99999)) {y = w.0 ∷ w.1} w.2
+    s.1 in
     let counts : a.0.0 ≡ decimal w.0 ++ slashed w.1 =
-    split_joins 47 a.0.0 ∙ ap (joined 47) (s.0 ∙ ap (map decimal) w.2) ∙ ap (λ xs. decimal w.0 ++ xs) (joined_slashed w.1) in (
+    split_joins 47 a.0.0 ∙ ap (joined 47) (s.0 ∙ ap (map decimal) w.2)
+    ∙ ap (λ xs. decimal w.0 ++ xs) (joined_slashed w.1) in (
       w.0,
       w.1,
       a.0.1,
@@ -111,7 +147,10 @@ line_spells (b ∷ bytes) l e = elim (eqb_tells b 64) [
 -- no digit is c
 digits_without : (c : ℕ) → c < 48 → (xs : List ℕ) → AllDigits 10 xs → Lacks c xs
 digits_without c low [] d = tt
-digits_without c low (x ∷ xs) d = ((λ e. let h = digit_from_value x d.0 in omega (arith, h.0, low)), digits_without c low xs d.1)
+digits_without c low (x ∷ xs) d = (
+  (λ e. let h = digit_from_value x d.0 in omega (arith, h.0, low)),
+  digits_without c low xs d.1,
+)
 
 decimal_without : (c n : ℕ) → c < 48 → n < 2 ^ 64 → Lacks c (decimal n)
 decimal_without c n low h = digits_without c low (decimal n) (decimal_is_IsNumeral n h).0.1
@@ -128,11 +167,17 @@ below_word n le = omega (arith, le)
 
 slashed_without : (rs : List ℕ) → AllByRecursion (λ m. m ≤ 99999) rs → Lacks 32 (slashed rs)
 slashed_without [] all = tt
-slashed_without (r ∷ rs) all = (other_byte 32 47 (omega arith), lacks_both 32 (decimal r) (slashed rs) (decimal_without 32 r (omega arith) (below_word r all.0)) (slashed_without rs all.1))
+slashed_without (r ∷ rs) all = (
+  other_byte 32 47 (omega arith),
+  lacks_both 32 (decimal r) (slashed rs) (decimal_without 32 r (omega arith) (below_word r all.0))
+      (slashed_without rs all.1),
+)
 
 -- numbers behind slashes are their texts, cut at the slashes
-split_slashed : (k : ℕ) (rs : List ℕ) → k ≤ 99999 → AllByRecursion (λ m. m ≤ 99999) rs → split 47 (decimal k ++ slashed rs) ≡ map decimal (k ∷ rs)
-split_slashed k [] most all = ap (split 47) (append-nil (decimal k)) ∙ split_whole 47 (decimal k) (decimal_without 47 k (omega arith) (below_word k most))
+split_slashed : (k : ℕ) (rs : List ℕ) → k ≤ 99999 → AllByRecursion (λ m. m ≤ 99999) rs
+    → split 47 (decimal k ++ slashed rs) ≡ map decimal (k ∷ rs)
+split_slashed k [] most all = ap (split 47) (append-nil (decimal k))
+    ∙ split_whole 47 (decimal k) (decimal_without 47 k (omega arith) (below_word k most))
 split_slashed k (r ∷ rs) most all =
     split_piece 47 (decimal k) (decimal r ++ slashed rs) (decimal_without 47 k (omega arith) (below_word k most))
     ∙ ap (λ xs. decimal k ∷ xs) (split_slashed r rs all.0 all.1)
@@ -141,7 +186,8 @@ split_slashed k (r ∷ rs) most all =
 counts_found : (ns : List ℕ) → AllByRecursion (λ m. m ≤ 99999) ns → counts_of (map decimal ns) ≡ Some ns
 counts_found [] all = refl
 counts_found (n ∷ ns) all =
-    rw (number_in_found 0 99999 n (decimal n) (below_word n all.0) (omega arith, (all.0, refl)), counts_found ns all.1) refl
+    rw (number_in_found 0 99999 n (decimal n) (below_word n all.0) (omega arith, (all.0, refl)), counts_found ns all.1)
+    refl
 
 few_taken : (b : Bool) (l : Line) → b ≡ true → (if b then Some l else None) ≡ Some l
 few_taken true l e = refl
@@ -153,7 +199,9 @@ reset_found : (bytes : List ℕ) (k : ℕ) (rs message : List ℕ) → IsReset (
 unfolding reset_of
 reset_found bytes k rs message r =
     let text : bytes ≡ decimal k ++ slashed rs ++ 32 ∷ message = cc (r.text) in
-    let front : Lacks 32 (decimal k ++ slashed rs) = lacks_both 32 (decimal k) (slashed rs) (decimal_without 32 k (omega arith) (below_word k r.most)) (slashed_without rs r.each) in
+    let front : Lacks 32 (decimal k ++ slashed rs) =
+    lacks_both 32 (decimal k) (slashed rs) (decimal_without 32 k (omega arith) (below_word k r.most))
+    (slashed_without rs r.each) in
     ap (λ (o : Option (List ℕ × List ℕ)). o >>= (λ c. counts_of (split 47 c.0) >>= (λ ns. reset_with c.1 ns)))
     (ap (cut_at 32) text ∙ cut_at_field 32 (decimal k ++ slashed rs) message front)
     ∙ ap (λ fs. counts_of fs >>= (λ ns. reset_with message ns)) (split_slashed k rs r.most r.each)
@@ -161,9 +209,11 @@ reset_found bytes k rs message r =
     ∙ few_taken (nat_le (length rs) 8) _ (grind (arith, r.few))
 
 pub line_found : (bytes : List ℕ) (l : Line) → IsLine bytes l → line_of bytes ≡ Some l
-line_found [] l h = ⊎_elim (λ x. ap (λ y. Some y) (sym x.1)) (λ x. let e : [] ≡ 64 ∷ (decimal x.0 ++ slashed x.1 ++ 32 ∷ x.2) = x.3.text in cc) h
+line_found [] l h = ⊎_elim (λ x. ap (λ y. Some y) (sym x.1))
+    (λ x. let e : [] ≡ 64 ∷ (decimal x.0 ++ slashed x.1 ++ 32 ∷ x.2) = x.3.text in cc) h
 line_found (b ∷ bytes) l h = elim h [
   | inl x ↦ rw (ne_eqb b 64 x.0) (ap (λ y. Some y) (sym x.1))
   | inr x ↦ let first : b ≡ 64 = cc (x.3.text) in
-      rw (eq-eqb b 64 first) (reset_found bytes x.0 x.1 x.2 (subst (λ y. IsReset (y ∷ bytes) x.0 x.1 x.2) first x.3) ∙ ap (λ y. Some y) (sym x.4))
+      rw (eq-eqb b 64 first) (reset_found bytes x.0 x.1 x.2 (subst (λ y. IsReset (y ∷ bytes) x.0 x.1 x.2) first x.3)
+      ∙ ap (λ y. Some y) (sym x.4))
 ]

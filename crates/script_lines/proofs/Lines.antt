@@ -1,5 +1,35 @@
 -- The lines of a script, cut at its first LF.
-use Rattle.std.proofs.Common.{◌≡◌, ◌≢◌, ◌<◌, ◌≤◌, ℕ, suc, Bool, true, false, List, [], ◌∷◌, ◌++◌, ◌+◌, length, get_or, take, drop, refl, sym, ◌∙◌, ap, inl, inr, eq-eqb, ne_eqb, add-one, arith, ◌-◌}
+use Rattle.std.proofs.Common.{
+  ◌≡◌,
+  ◌≢◌,
+  ◌<◌,
+  ◌≤◌,
+  ℕ,
+  suc,
+  Bool,
+  true,
+  false,
+  List,
+  [],
+  ◌∷◌,
+  ◌++◌,
+  ◌+◌,
+  length,
+  get_or,
+  take,
+  drop,
+  refl,
+  sym,
+  ◌∙◌,
+  ap,
+  inl,
+  inr,
+  eq-eqb,
+  ne_eqb,
+  add-one,
+  arith,
+  ◌-◌,
+}
 use Rattle.std.specs.Prelude.{◌==◌, ◌||◌, fold, zero, if◌then◌else◌, None}
 use Rattle.std.specs.List.{AllByRecursion}
 use Rattle.std.proofs.Math.Seq.{split_at}
@@ -36,7 +66,8 @@ split_whole c (x ∷ xs) lacks = rw (ne_eqb x c lacks.0) (ap (onto_first x) (spl
 IsSome_piece : List (List ℕ) → Type 0
 IsSome_piece ps = (z : List ℕ) × (zs : List (List ℕ)) × (ps ≡ z ∷ zs)
 
-piece_more : (b : ℕ) (t : Bool) (ps : List (List ℕ)) → IsSome_piece ps → IsSome_piece (if t then [] ∷ ps else onto_first b ps)
+piece_more : (b : ℕ) (t : Bool) (ps : List (List ℕ)) → IsSome_piece ps
+    → IsSome_piece (if t then [] ∷ ps else onto_first b ps)
 unfolding IsSome_piece
 piece_more b true ps some = ([], ps, refl)
 piece_more b false ps some = (b ∷ some.0, some.1, ap (onto_first b) some.2)
@@ -58,7 +89,8 @@ pub lines_cut : (script : List ℕ) (i : ℕ) → i < length script
     → lines script ≡ without_cr (take i script) ∷ lines (drop (i + 1) script)
 lines_cut script i inside before here =
     let lacks = lacks_before 10 script i (omega arith) before in
-    let cut : script ≡ take i script ++ get_or script i 0 ∷ drop (i + 1) script = rw add-one (split_at script i 0 inside) in
+    let cut : script ≡ take i script ++ get_or script i 0 ∷ drop (i + 1) script =
+    rw add-one (split_at script i 0 inside) in
     ap lines (cut ∙ ap (λ b. take i script ++ b ∷ drop (i + 1) script) here)
     ∙ ap ended (split_piece 10 (take i script) (drop (i + 1) script) lacks)
     ∙ ended_more (take i script) (split 10 (drop (i + 1) script)) (split_some 10 (drop (i + 1) script))
@@ -68,10 +100,14 @@ pub line_here : (script line : List ℕ) (i : ℕ) → IsFirst 10 script i → l
     → (lines script ≡ line ∷ lines (take (length script - (i + 1)) (drop (i + 1) script)))
     × (length (take (length script - (i + 1)) (drop (i + 1) script)) < length script)
 line_here script line i first stripped =
-    rw (take_rest script (i + 1), stripped) (lines_cut script i first.inside first.before first.here, omega (arith, first.inside, length-drop (i + 1) script))
+    rw (take_rest script (i + 1), stripped) (
+      lines_cut script i first.inside first.before first.here,
+      omega (arith, first.inside, length-drop (i + 1) script),
+    )
 
 -- the first byte c of a script's front is its first
-pub first_of_front : (c n : ℕ) (front script : List ℕ) (i : ℕ) → IsFirstChunk script front n → IsFirst c front i → IsFirst c script i
+pub first_of_front : (c n : ℕ) (front script : List ℕ) (i : ℕ) → IsFirstChunk script front n → IsFirst c front i
+    → IsFirst c script i
 first_of_front c n front script i chunk first =
     let len : length front ≡ n = ap length chunk.same ∙ length-take-le n script chunk.enough in
     let inside : i < n = omega (arith, first.inside) in
@@ -101,7 +137,8 @@ pub pieces_lack : (c d : ℕ) (script : List ℕ) → Lacks c script → AllByRe
 pieces_lack c d [] lacks = (tt, tt)
 pieces_lack c d (b ∷ bs) lacks = more (b == d) (split d bs) (pieces_lack c d bs lacks.1)
   where
-    more : (t : Bool) (ps : List (List ℕ)) → AllByRecursion (Lacks c) ps → AllByRecursion (Lacks c) (if t then [] ∷ ps else onto_first b ps)
+    more : (t : Bool) (ps : List (List ℕ)) → AllByRecursion (Lacks c) ps
+        → AllByRecursion (Lacks c) (if t then [] ∷ ps else onto_first b ps)
     more true ps all = (tt, all)
     more false [] all = tt
     more false (p ∷ ps) all = ((lacks.0, all.0), all.1)
@@ -146,5 +183,6 @@ not_found c (x ∷ xs) none = elim (eqb_tells x c) [
 ]
 
 -- a script without @ has no bad line
-pub no_at : (script : List ℕ) → fold (λ found b. found || b == 64) false script ≡ false → first_reset (lines script) ≡ None
+pub no_at : (script : List ℕ) → fold (λ found b. found || b == 64) false script ≡ false
+    → first_reset (lines script) ≡ None
 no_at script none = none_bad (split 10 script) (pieces_lack 64 10 script (not_found 64 script none))

@@ -19,12 +19,14 @@ none_bad (l ∷ ls) none = pick (is_reset l) (line_plain l) (first_reset ls) (no
     counted None e = refl
     counted (Some n) e = cc
 
-    pick : (t : Bool) → (t ≡ false → line_of l ≡ Some (record { message = l; reset = None })) → (o : Option ℕ) → (o ≡ None → first_bad ls ≡ None)
+    pick : (t : Bool) → (t ≡ false → line_of l ≡ Some (record { message = l; reset = None })) → (o : Option ℕ)
+        → (o ≡ None → first_bad ls ≡ None)
         → (if t then Some 1 else option_map (λ n. n + 1) o) ≡ None → first_bad (l ∷ ls) ≡ None
     pick true plain o rest e = cc
     pick false plain o rest e = rw (plain refl, rest (counted o e)) refl
 
-pub no_reset : (script : List ℕ) → fold (λ found b. found || b == 64) false script ≡ false → first_bad (lines script) ≡ None
+pub no_reset : (script : List ℕ) → fold (λ found b. found || b == 64) false script ≡ false
+    → first_bad (lines script) ≡ None
 no_reset script none = none_bad (lines script) (no_at script none)
 
 -- no line is counted yet

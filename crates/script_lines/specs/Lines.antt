@@ -1,5 +1,26 @@
 -- Scripts: the bytes of a file, as lines. All of it is our own.
-use Rattle.std.specs.Prelude.{◌≡◌, ◌≢◌, ◌<◌, ℕ, Bool, false, List, [], ◌∷◌, ◌+◌, ◌-◌, ◌==◌, Option, Some, None, if◌then◌else◌, length, take, slice_index, option_map}
+use Rattle.std.specs.Prelude.{
+  ◌≡◌,
+  ◌≢◌,
+  ◌<◌,
+  ℕ,
+  Bool,
+  false,
+  List,
+  [],
+  ◌∷◌,
+  ◌+◌,
+  ◌-◌,
+  ◌==◌,
+  Option,
+  Some,
+  None,
+  if◌then◌else◌,
+  length,
+  take,
+  slice_index,
+  option_map,
+}
 
 -- the first byte c stands at this place
 pub record IsFirst (c : ℕ) (bytes : List ℕ) (place : ℕ) : Type 0 where

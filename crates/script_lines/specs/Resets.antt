@@ -1,5 +1,28 @@
 -- Lines of a script that tell of a reset of the power. All of it is our own.
-use Rattle.std.specs.Prelude.{◌≡◌, ◌≢◌, ◌≤◌, ◌⊎◌, ℕ, List, [], ◌∷◌, ◌++◌, ◌+◌, ◌==◌, Option, Some, None, is_none, if◌then◌else◌, length, slice_index, option_map, flat_map, decimal, nat_le}
+use Rattle.std.specs.Prelude.{
+  ◌≡◌,
+  ◌≢◌,
+  ◌≤◌,
+  ◌⊎◌,
+  ℕ,
+  List,
+  [],
+  ◌∷◌,
+  ◌++◌,
+  ◌+◌,
+  ◌==◌,
+  Option,
+  Some,
+  None,
+  is_none,
+  if◌then◌else◌,
+  length,
+  slice_index,
+  option_map,
+  flat_map,
+  decimal,
+  nat_le,
+}
 use Rattle.std.specs.List.{AllByRecursion}
 use Rattle.request_cards.specs.Reading.{cut_at, number_in, ◌>>=◌}
 use Rattle.script_lines.specs.declared.events.Event.{Event}

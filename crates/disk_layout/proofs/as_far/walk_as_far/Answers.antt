@@ -14,7 +14,8 @@ returns-then-sector-eq0-clause-walk g c =
     let old = c.walk.invariant in
     let new = not_in c.walk.visited _ _ old.marks old.fresh in
     rw c.push.ensures.items (walk-stops _ _ _ _ _ old.leads old.once new
-    (inl (end-read _ _ c.walk.at c.read_sector.new.to old.reads.image c.in_ok-read_sector.ensures.sector c.if-sector-eq0.true)))
+    (inl (end-read _ _ c.walk.at c.read_sector.new.to old.reads.image c.in_ok-read_sector.ensures.sector
+    c.if-sector-eq0.true)))
 
 pub returns-in_default-clause-walk : goal.returns-in_default-clause-walk
 returns-in_default-clause-walk g c =
@@ -23,7 +24,8 @@ returns-in_default-clause-walk g c =
     rw c.push.ensures.items (walk-stops _ _ _ _ _ old.leads old.once new
     (inr (
       refl,
-      inl (nowhere-read _ _ c.walk.at c.read_sector.new.to old.reads.image c.in_ok-read_sector.ensures.sector c.if-sector-eq0.false
+      inl (nowhere-read _ _ c.walk.at c.read_sector.new.to old.reads.image c.in_ok-read_sector.ensures.sector
+          c.if-sector-eq0.false
           (λ h. false≢true (c.in_default.ensures.on_disk.1 h))),
     )))
 
@@ -31,7 +33,8 @@ pub returns-then-contains-clause-walk : goal.returns-then-contains-clause-walk
 returns-then-contains-clause-walk g c =
     let old = c.walk.invariant in
     let new = not_in c.walk.visited _ _ old.marks old.fresh in
-    let link = link-read _ _ c.walk.at c.in-Some.next c.read_sector.new.to old.reads.image c.in_ok-read_sector.ensures.sector
+    let link = link-read _ _ c.walk.at c.in-Some.next c.read_sector.new.to old.reads.image
+    c.in_ok-read_sector.ensures.sector
     (place_at-some _ _ _ (sym c.new.ensures.value ∙ c.in-Some.is)) in
     let marks = IsSetOf-push c.walk.visited c.insert.new.self _ _ old.marks c.insert.ensures.now in
     rw c.push.ensures.items (walk-stops _ _ _ _ _ old.leads old.once new
@@ -39,7 +42,8 @@ returns-then-contains-clause-walk g c =
 
 pub returns-then-contains-clause-reads : goal.returns-then-contains-clause-reads
 returns-then-contains-clause-reads g c =
-    reads_then g.D.Sectors.history _ _ _ (length c.walk.places.items) 1 (length c.push.new.self.items) (omega (arith, c.push.ensures.len))
+    reads_then g.D.Sectors.history _ _ _ (length c.walk.places.items) 1 (length c.push.new.self.items)
+    (omega (arith, c.push.ensures.len))
     c.walk.invariant.reads c.read_sector.ensures.reads
 
 pub walk-preserved : goal.walk-preserved
@@ -48,12 +52,15 @@ walk-preserved g c =
     let S = g.D.Sectors.history in
     record {
       leads = rw c.push.ensures.items (Leads-push _ _ c.walk.places.items c.walk.at c.in-Some.next old.leads
-          (link-read _ _ c.walk.at c.in-Some.next c.read_sector.new.to old.reads.image c.in_ok-read_sector.ensures.sector
+          (link-read _ _ c.walk.at c.in-Some.next c.read_sector.new.to old.reads.image
+          c.in_ok-read_sector.ensures.sector
           (place_at-some _ _ _ (sym c.new.ensures.value ∙ c.in-Some.is))));
       once = rw c.push.ensures.items (EachOnce-push _ _ old.once (not_in c.walk.visited _ _ old.marks old.fresh));
       fresh = sym c.contains.ensures ∙ c.if-contains.false;
-      marks = rw c.push.ensures.items (IsSetOf-push c.walk.visited c.insert.new.self _ _ old.marks c.insert.ensures.now);
+      marks = rw c.push.ensures.items (IsSetOf-push c.walk.visited c.insert.new.self _ _ old.marks
+          c.insert.ensures.now);
       count = omega (arith, c.push.ensures.len, c.insert.ensures.room, old.count);
-      reads = reads_then S _ _ _ (length c.walk.places.items) 1 (length c.push.new.self.items) (omega (arith, c.push.ensures.len)) old.reads c.read_sector.ensures.reads;
+      reads = reads_then S _ _ _ (length c.walk.places.items) 1 (length c.push.new.self.items)
+          (omega (arith, c.push.ensures.len)) old.reads c.read_sector.ensures.reads;
       failures = c.in_ok-read_sector.ensures.failures ∙ old.failures;
     }

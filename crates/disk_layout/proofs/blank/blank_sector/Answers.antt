@@ -9,7 +9,8 @@ pub returns-in-3 : goal.returns-in-3
 returns-in-3 c =
     let block = found-is stock_block c.known-stock_block.result c.known-stock_block.ensures in
     let side = found-is stock_side c.known-stock_side.result c.known-stock_side.ensures in
-    let P : ℕ → Type 0 = λ n. IsWritten c.args.name.now c.args.id c.args.requests.now n c.known-stock_side.result c.side_bytes.result in
+    let P : ℕ → Type 0 = λ n. IsWritten c.args.name.now c.args.id c.args.requests.now n c.known-stock_side.result
+    c.side_bytes.result in
     subst P (sym c.in-3.is) (side, stock-side-is _ _ _ c.side_bytes.ensures block side)
 
 pub known-stock_block-requires : goal.known-stock_block-requires
@@ -23,11 +24,16 @@ known-requests_side-requires c = on-disk requests_side
 
 pub returns-in-2 : goal.returns-in-2
 returns-in-2 c =
-    let P : ℕ → Type 0 = λ n. IsWritten c.args.name.now c.args.id c.args.requests.now n c.known-stock_block.result c.empty_block.result in
-    subst P (sym c.in-2.is) (found-is stock_block c.known-stock_block.result c.known-stock_block.ensures, c.empty_block.ensures)
+    let P : ℕ → Type 0 = λ n. IsWritten c.args.name.now c.args.id c.args.requests.now n c.known-stock_block.result
+    c.empty_block.result in
+    subst P (sym c.in-2.is) (
+      found-is stock_block c.known-stock_block.result c.known-stock_block.ensures,
+      c.empty_block.ensures,
+    )
 
 pub returns-in-4 : goal.returns-in-4
 returns-in-4 c =
     let side = found-is requests_side c.known-requests_side.result c.known-requests_side.ensures in
-    let P : ℕ → Type 0 = λ n. IsWritten c.args.name.now c.args.id c.args.requests.now n c.known-requests_side.result c.side_bytes-in-4.result in
+    let P : ℕ → Type 0 = λ n. IsWritten c.args.name.now c.args.id c.args.requests.now n c.known-requests_side.result
+    c.side_bytes-in-4.result in
     subst P (sym c.in-4.is) (side, requests-side-is _ _ _ c.side_bytes-in-4.ensures side)

@@ -7,8 +7,14 @@ use Rattle.disk_layout.proofs.blank.directory_bytes.Goals as goal
 pub returns : goal.returns
 unfolding blank_directory
 returns c =
-    let stock = c.copy_from_slice-2.ensures.after ∙ entry-is _ _ _ _ _ stock_block stock_side _ c.relative_entry-stock.ensures (found-is stock_block c.known.result c.known.ensures) (found-is stock_side c.known-2.result c.known-2.ensures) in
-    let requests = c.copy_from_slice.ensures.after ∙ entry-is _ _ _ _ _ requests_block requests_side _ c.relative_entry-requests.ensures (found-is requests_block c.known-3.result c.known-3.ensures) (found-is requests_side c.known-4.result c.known-4.ensures) in
+    let stock = c.copy_from_slice-2.ensures.after
+    ∙ entry-is _ _ _ _ _ stock_block stock_side _ c.relative_entry-stock.ensures
+    (found-is stock_block c.known.result c.known.ensures)
+    (found-is stock_side c.known-2.result c.known-2.ensures) in
+    let requests = c.copy_from_slice.ensures.after
+    ∙ entry-is _ _ _ _ _ requests_block requests_side _ c.relative_entry-requests.ensures
+    (found-is requests_block c.known-3.result c.known-3.ensures) (found-is requests_side c.known-4.result
+    c.known-4.ensures) in
     cc (stock, requests)
 
 pub known-requires : goal.known-requires

@@ -17,7 +17,9 @@ pub returns-in-0 : goal.returns-in-0
 returns-in-0 c = request-at _ _ _ c.known.result c.known.ensures (grind (arith, nat_tests, c.in-0.is))
 
 pub returns-in-1-to-17 : goal.returns-in-1-to-17
-returns-in-1-to-17 c = request-at _ _ _ c.known-in-1-to-17.result c.known-in-1-to-17.ensures (grind (arith, nat_tests, c.in-1-to-17))
+returns-in-1-to-17 c = request-at _ _ _ c.known-in-1-to-17.result c.known-in-1-to-17.ensures
+    (grind (arith, nat_tests, c.in-1-to-17))
 
 pub returns-in_default : goal.returns-in_default
-returns-in_default c = request-at _ _ _ c.known-in_default.result c.known-in_default.ensures (grind (arith, nat_tests, c.in_default))
+returns-in_default c = request-at _ _ _ c.known-in_default.result c.known-in_default.ensures
+    (grind (arith, nat_tests, c.in_default))

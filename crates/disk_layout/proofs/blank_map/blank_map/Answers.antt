@@ -15,5 +15,7 @@ free_from-requires-clause-none c = c.loop-below.invariant.none (c.loop-below.bel
 
 pub loop-below-preserved : goal.loop-below-preserved
 loop-below-preserved c =
-    let P : ℕ → Type 0 = λ k. IsFreeFrom c.loop-below.map.bytes c.free_from.new.map.bytes (c.loop-below.below + 1) k 24 in
-    made-track c.loop-below.map.bytes c.free_from.new.map.bytes c.args.name.now c.args.id c.args.blocks c.loop-below.below c.loop-below.invariant (subst P c.taken_on.ensures.value c.free_from.ensures)
+    let P : ℕ → Type 0 = λ k. IsFreeFrom c.loop-below.map.bytes c.free_from.new.map.bytes (c.loop-below.below + 1) k
+    24 in
+    made-track c.loop-below.map.bytes c.free_from.new.map.bytes c.args.name.now c.args.id c.args.blocks
+    c.loop-below.below c.loop-below.invariant (subst P c.taken_on.ensures.value c.free_from.ensures)

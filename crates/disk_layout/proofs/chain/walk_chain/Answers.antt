@@ -16,8 +16,15 @@ pub returns-then-contains : goal.returns-then-contains
 returns-then-contains g c = record {
   -- a sector that was visited
   chain = tt;
-  fault = let old = c.chain.invariant in
-      (c.chain.places.items, (old.leads, old.once, (old.marks c.chain.at).0 (sym c.contains.ensures ∙ c.if-contains.true)));
+  fault = let old = c.chain.invariant in (
+    c.chain.places.items,
+    (
+      old.leads,
+      old.once,
+      (old.marks c.chain.at).0 (sym c.contains.ensures
+          ∙ c.if-contains.true),
+    ),
+  );
   failures = c.chain.invariant.failures;
   reads = c.chain.invariant.reads;
   few = omega (arith, c.chain.invariant.count);
@@ -38,11 +45,14 @@ returns-in_err-read_sector g c =
     let p = err_from_is_err_and c.from_residual.result c.from_residual.ensures.1 in
     record {
       chain = rw p.1 tt;
-      fault = let P : Fault → Type 0 = HoldsOfChain (S.failed_at c.read_sector.new.disk) (S.image c.args.disk.now) c.args.first in
+      fault = let P : Fault → Type 0 = HoldsOfChain (S.failed_at c.read_sector.new.disk) (S.image c.args.disk.now)
+          c.args.first in
           rw (p.1, p.2) (subst P (sym c.in_err-read_sector.ensures.told) c.in_err-read_sector.ensures.failed);
       failures = let P : Fault → Type 0 = λ f. TellsFault {T = ℕ} S c.args.disk.now c.read_sector.new.disk (Err f) in
-          rw (p.1, p.2) (subst P (sym c.in_err-read_sector.ensures.told) (failed_later S c.args.disk.now c.chain.disk c.read_sector.new.disk c.chain.invariant.failures c.in_err-read_sector.ensures.failures));
-      reads = reads_then S _ _ _ (length c.chain.places.items) 1 (length c.push.new.self.items) (omega (arith, c.push.ensures.len)) c.chain.invariant.reads c.read_sector.ensures.reads;
+          rw (p.1, p.2) (subst P (sym c.in_err-read_sector.ensures.told) (failed_later S c.args.disk.now c.chain.disk
+          c.read_sector.new.disk c.chain.invariant.failures c.in_err-read_sector.ensures.failures));
+      reads = reads_then S _ _ _ (length c.chain.places.items) 1 (length c.push.new.self.items)
+          (omega (arith, c.push.ensures.len)) c.chain.invariant.reads c.read_sector.ensures.reads;
       few = omega (arith, c.push.ensures.len, c.insert.ensures.room, c.chain.invariant.count);
     }
 
@@ -54,11 +64,17 @@ chain-preserved g c =
     let old = c.chain.invariant in
     let S = g.D.Sectors.history in
     record {
-      leads = rw c.push.ensures.items (Leads-push _ _ c.chain.places.items c.chain.at c.in-Some.next old.leads (link-read _ _ c.chain.at c.in-Some.next c.read_sector.new.to old.reads.image c.in_ok-read_sector.ensures.sector (place_at-some _ _ _ (sym c.new.ensures.value ∙ c.in-Some.is))));
-      once = rw c.push.ensures.items (EachOnce-push _ _ old.once (not_in c.chain.visited _ _ old.marks (sym c.contains.ensures ∙ c.if-contains.false)));
-      marks = rw c.push.ensures.items (IsSetOf-push c.chain.visited c.insert.new.self _ _ old.marks c.insert.ensures.now);
+      leads = rw c.push.ensures.items (Leads-push _ _ c.chain.places.items c.chain.at c.in-Some.next old.leads
+          (link-read _ _ c.chain.at c.in-Some.next c.read_sector.new.to old.reads.image
+          c.in_ok-read_sector.ensures.sector (place_at-some _ _ _ (sym c.new.ensures.value ∙ c.in-Some.is))));
+      once = rw c.push.ensures.items
+          (EachOnce-push _ _ old.once (not_in c.chain.visited _ _ old.marks (sym c.contains.ensures
+          ∙ c.if-contains.false)));
+      marks = rw c.push.ensures.items (IsSetOf-push c.chain.visited c.insert.new.self _ _ old.marks
+          c.insert.ensures.now);
       count = omega (arith, c.push.ensures.len, c.insert.ensures.room, old.count);
-      reads = reads_then S _ _ _ (length c.chain.places.items) 1 (length c.push.new.self.items) (omega (arith, c.push.ensures.len)) old.reads c.read_sector.ensures.reads;
+      reads = reads_then S _ _ _ (length c.chain.places.items) 1 (length c.push.new.self.items)
+          (omega (arith, c.push.ensures.len)) old.reads c.read_sector.ensures.reads;
       failures = c.in_ok-read_sector.ensures.failures ∙ old.failures;
     }
 
@@ -67,10 +83,12 @@ returns-then-sector-eq0 g c = record {
   chain = let old = c.chain.invariant in
       rw c.push.ensures.items (walk-end _ c.args.first c.chain.at c.chain.places.items _ old.leads old.once
       (not_in c.chain.visited c.chain.places.items c.chain.at old.marks (sym c.contains.ensures ∙ c.if-contains.false))
-      (end-read _ _ c.chain.at c.read_sector.new.to old.reads.image c.in_ok-read_sector.ensures.sector c.if-sector-eq0.true));
+      (end-read _ _ c.chain.at c.read_sector.new.to old.reads.image c.in_ok-read_sector.ensures.sector
+      c.if-sector-eq0.true));
   fault = tt;
   failures = c.in_ok-read_sector.ensures.failures ∙ c.chain.invariant.failures;
-  reads = reads_then g.D.Sectors.history _ _ _ (length c.chain.places.items) 1 (length c.push.new.self.items) (omega (arith, c.push.ensures.len)) c.chain.invariant.reads c.read_sector.ensures.reads;
+  reads = reads_then g.D.Sectors.history _ _ _ (length c.chain.places.items) 1 (length c.push.new.self.items)
+      (omega (arith, c.push.ensures.len)) c.chain.invariant.reads c.read_sector.ensures.reads;
   few = omega (arith, c.push.ensures.len, c.insert.ensures.room, c.chain.invariant.count);
 }
 
@@ -79,10 +97,16 @@ returns-in-None g c = record {
   chain = tt;
   fault = let old = c.chain.invariant in (
     c.chain.places.items,
-    (old.leads, EachOnce-push _ _ old.once (not_in c.chain.visited _ _ old.marks (sym c.contains.ensures ∙ c.if-contains.false))),
-    nowhere-read _ _ c.chain.at c.read_sector.new.to old.reads.image c.in_ok-read_sector.ensures.sector c.if-sector-eq0.false (λ h. false≢true (c.in-None.ensures.on_disk.1 h)),
+    (
+      old.leads,
+      EachOnce-push _ _ old.once (not_in c.chain.visited _ _ old.marks (sym c.contains.ensures
+          ∙ c.if-contains.false)),
+    ),
+    nowhere-read _ _ c.chain.at c.read_sector.new.to old.reads.image c.in_ok-read_sector.ensures.sector
+        c.if-sector-eq0.false (λ h. false≢true (c.in-None.ensures.on_disk.1 h)),
   );
   failures = c.in_ok-read_sector.ensures.failures ∙ c.chain.invariant.failures;
-  reads = reads_then g.D.Sectors.history _ _ _ (length c.chain.places.items) 1 (length c.push.new.self.items) (omega (arith, c.push.ensures.len)) c.chain.invariant.reads c.read_sector.ensures.reads;
+  reads = reads_then g.D.Sectors.history _ _ _ (length c.chain.places.items) 1 (length c.push.new.self.items)
+      (omega (arith, c.push.ensures.len)) c.chain.invariant.reads c.read_sector.ensures.reads;
   few = omega (arith, c.push.ensures.len, c.insert.ensures.room, c.chain.invariant.count);
 }

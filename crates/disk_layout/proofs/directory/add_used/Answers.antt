@@ -9,15 +9,20 @@ use Rattle.std.specs.Prelude.{filter}
 
 pub loop-number-preserved : goal.loop-number-preserved
 loop-number-preserved c =
-    let same : c.in_sector-slot.result ≡ slot_in c.args.place c.args.bytes.now c.loop-number.number = c.in_sector-slot.ensures in
+    let same : c.in_sector-slot.result ≡ slot_in c.args.place c.args.bytes.now c.loop-number.number =
+    c.in_sector-slot.ensures in
     let bytes = ap (λ s. s.bytes) same in
     elim c.if-slot-ne0.branch [
       | then-slot-ne0 w ↦ record {
-        items = ap (λ v. v.items) w.slots-is ∙ push-used c.args.slots.now.items c.loop-number.slots.items w.push.new.self.items c.args.place c.args.bytes.now c.loop-number.number c.loop-number-test.true c.loop-number.invariant.items (rw (← bytes) w.if-slot-ne0.true) (rw (← same) w.push.ensures.items);
+        items = ap (λ v. v.items) w.slots-is ∙ push-used c.args.slots.now.items c.loop-number.slots.items
+            w.push.new.self.items c.args.place c.args.bytes.now c.loop-number.number c.loop-number-test.true
+            c.loop-number.invariant.items (rw (← bytes) w.if-slot-ne0.true) (rw (← same) w.push.ensures.items);
         room = omega (arith, ap array_vec_len w.slots-is);
       }
       | else-slot-ne0 w ↦ record {
-        items = ap (λ v. v.items) w.slots-is ∙ skip-free c.args.slots.now.items c.loop-number.slots.items c.args.place c.args.bytes.now c.loop-number.number c.loop-number-test.true c.loop-number.invariant.items (rw (← bytes) w.if-slot-ne0.false);
+        items = ap (λ v. v.items) w.slots-is ∙ skip-free c.args.slots.now.items c.loop-number.slots.items c.args.place
+            c.args.bytes.now c.loop-number.number c.loop-number-test.true c.loop-number.invariant.items
+            (rw (← bytes) w.if-slot-ne0.false);
         room = omega (arith, ap array_vec_len w.slots-is);
       }
     ]
@@ -25,4 +30,6 @@ loop-number-preserved c =
 pub returns-clause-items : goal.returns-clause-items
 returns-clause-items c =
     let n : c.loop-number.number ≡ 8 = omega arith in
-    c.loop-number.invariant.items ∙ ap (λ k. c.args.slots.now.items ++ filter is_used (take k (slots_in c.args.place c.args.bytes.now))) n ∙ ap (λ xs. c.args.slots.now.items ++ filter is_used xs) (all-slots c.args.place c.args.bytes.now)
+    c.loop-number.invariant.items
+    ∙ ap (λ k. c.args.slots.now.items ++ filter is_used (take k (slots_in c.args.place c.args.bytes.now))) n
+    ∙ ap (λ xs. c.args.slots.now.items ++ filter is_used xs) (all-slots c.args.place c.args.bytes.now)

@@ -4,7 +4,9 @@ use Rattle.disk_layout.proofs.CountWrites.{count-kept, count-written}
 use Rattle.disk_layout.proofs.entries.put_count.Goals as goal
 
 pub returns-clause-count : goal.returns-clause-count
-returns-clause-count c p = count-written c.args.bytes.now c.write_u16.new.buf _ p c.args.number _ c.args.count (omega (arith, c.ranges.count)) (omega (arith, c.told-bytes, c.requires)) c.write_u16.ensures
+returns-clause-count c p = count-written c.args.bytes.now c.write_u16.new.buf _ p c.args.number _ c.args.count
+    (omega (arith, c.ranges.count)) (omega (arith, c.told-bytes, c.requires)) c.write_u16.ensures
 
 pub returns-clause-kept : goal.returns-clause-kept
-returns-clause-kept c p same = count-kept c.args.bytes.now c.write_u16.new.buf p c.args.number _ c.args.count c.fits-bytes (omega arith) (omega (arith, c.told-bytes, c.requires)) c.write_u16.ensures same
+returns-clause-kept c p same = count-kept c.args.bytes.now c.write_u16.new.buf p c.args.number _ c.args.count
+    c.fits-bytes (omega arith) (omega (arith, c.told-bytes, c.requires)) c.write_u16.ensures same

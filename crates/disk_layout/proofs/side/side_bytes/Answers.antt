@@ -13,6 +13,7 @@ returns c =
     ∙ put-both (c.link-track.result.0 ∷ c.link-track.result.1 ∷ c.args.number ∷ c.args.length ∷ [])
     (flat_map place_bytes listed) (flat_map place_bytes pointed) 12 240 4 16 _ _ refl refl
     (omega (arith, length-place_bytes listed, length-take c.min.result c.args.sides.now, c.min.ensures))
-    (sym (length-place_bytes listed)) (sym (length-place_bytes pointed)) _ c.put_places.new.bytes refl c.put_places.ensures
+    (sym (length-place_bytes listed)) (sym (length-place_bytes pointed)) _ c.put_places.new.bytes refl
+    c.put_places.ensures
     ∙ side-parts c.args.number c.args.blocks.now c.args.sides.now pointed listed c.args.length _ _
     c.pointers-pointers.ensures.places (take-min c.args.sides.now 6 c.min.result c.min.ensures) c.link-track.ensures

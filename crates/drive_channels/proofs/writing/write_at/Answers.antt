@@ -10,14 +10,18 @@ use Rattle.rel_records.specs.File.{entry_of}
 pub returns-then-is_empty : goal.returns-then-is_empty
 returns-then-is_empty g c = record {
   row = let img = g.D.Sectors.history.image in
-      subst (λ (text : List ℕ). IfOk c.grow_at.result (λ status. (s : Status) → (b : Bool) → InFile (at_spot (img c.args.disk.now) c.args.found.now c.args.spot.now s b)
-      (WritesIn (at_spot (img c.args.disk.now) c.args.found.now c.args.spot.now s b) text (at_spot (img c.grow_at.new.disk) c.grow_at.new.found c.args.spot.now status b))))
+      subst (λ (text : List ℕ). IfOk c.grow_at.result (λ status. (s : Status) → (b : Bool)
+      → InFile (at_spot (img c.args.disk.now) c.args.found.now c.args.spot.now s b)
+      (WritesIn (at_spot (img c.args.disk.now) c.args.found.now c.args.spot.now s b) text
+      (at_spot (img c.grow_at.new.disk) c.grow_at.new.found c.args.spot.now status b))))
       (no-text c.args.text.now c.is_empty.result c.is_empty.ensures c.if-is_empty.true) c.grow_at.ensures.row;
   found = c.grow_at.ensures.found;
   spot = c.grow_at.ensures.spot;
   writes = λ l f rel.
-      subst (λ (text : List ℕ). IsWrittenAt g.D.Sectors.history c.args.disk.now c.grow_at.new.disk (channel_at (entry_of c.args.found.now.file) c.args.spot.now) l f text c.grow_at.result)
-      (no-text c.args.text.now c.is_empty.result c.is_empty.ensures c.if-is_empty.true) (c.grow_at.ensures.writes l f rel);
+      subst (λ (text : List ℕ). IsWrittenAt g.D.Sectors.history c.args.disk.now c.grow_at.new.disk
+      (channel_at (entry_of c.args.found.now.file) c.args.spot.now) l f text c.grow_at.result)
+      (no-text c.args.text.now c.is_empty.result c.is_empty.ensures c.if-is_empty.true)
+      (c.grow_at.ensures.writes l f rel);
   refused = c.grow_at.ensures.refused;
   failures = c.grow_at.ensures.failures;
 }

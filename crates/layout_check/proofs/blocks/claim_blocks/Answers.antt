@@ -27,7 +27,12 @@ pub push-requires : goal.push-requires
 push-requires g c =
     let old = c.chain.invariant in
     let free : owner_of c.chain.owners c.chain.at ≡ 255 = sym c.owner.ensures ∙ c.if-owner.false in
-    let h : length c.chain.places.items < 720 = omega (arith, room-left c.chain.places.items c.chain.at old.once (unclaimed c.args.owners.now c.chain.owners c.args.number _ _ old.claimed c.requires.some free)) in
+    let h : length c.chain.places.items < 720 =
+    omega (
+      arith,
+      room-left c.chain.places.items c.chain.at old.once (unclaimed c.args.owners.now c.chain.owners
+          c.args.number _ _ old.claimed c.requires.some free),
+    ) in
     (lit< tt, h)
 
 pub chain-preserved : goal.chain-preserved
@@ -37,17 +42,28 @@ chain-preserved g c =
     let free : owner_of c.chain.owners c.chain.at ≡ 255 = sym c.owner.ensures ∙ c.if-owner.false in
     let new = unclaimed c.args.owners.now c.chain.owners c.args.number _ _ old.claimed c.requires.some free in
     record {
-      leads = rw c.push.ensures.items (Leads-push _ _ c.chain.places.items c.chain.at c.in-Some-new.next old.leads (link-read _ _ c.chain.at c.in-Some-new.next c.read_sector.new.to old.passes.reads.image c.in_ok-read_sector.ensures.sector (place_at-some _ _ _ (sym c.new-in-chain.ensures.value ∙ c.in-Some-new.is))));
+      leads = rw c.push.ensures.items (Leads-push _ _ c.chain.places.items c.chain.at c.in-Some-new.next old.leads
+          (link-read _ _ c.chain.at c.in-Some-new.next c.read_sector.new.to old.passes.reads.image
+          c.in_ok-read_sector.ensures.sector (place_at-some _ _ _ (sym c.new-in-chain.ensures.value
+          ∙ c.in-Some-new.is))));
       once = rw c.push.ensures.items (EachOnce-push _ _ old.once new);
-      claimed = rw c.push.ensures.items (claim-push c.args.owners.now c.chain.owners c.set.new.self c.args.number c.chain.places.items c.chain.at old.claimed new free c.set.ensures.here c.set.ensures.there);
-      passes = passes_then S c.args.disk.now c.chain.disk c.read_sector.new.disk (length c.chain.places.items) 1 _ (omega (arith, c.push.ensures.len)) old.passes (passes_read S c.chain.disk c.read_sector.new.disk c.in_ok-read_sector.ensures.reads c.in_ok-read_sector.ensures.failures);
+      claimed = rw c.push.ensures.items (claim-push c.args.owners.now c.chain.owners c.set.new.self c.args.number
+          c.chain.places.items c.chain.at old.claimed new free c.set.ensures.here c.set.ensures.there);
+      passes = passes_then S c.args.disk.now c.chain.disk c.read_sector.new.disk (length c.chain.places.items) 1 _
+          (omega (arith, c.push.ensures.len)) old.passes (passes_read S c.chain.disk c.read_sector.new.disk
+          c.in_ok-read_sector.ensures.reads c.in_ok-read_sector.ensures.failures);
     }
 
 pub chain-smaller : goal.chain-smaller
 chain-smaller g c =
     let old = c.chain.invariant in
     let free : owner_of c.chain.owners c.chain.at ≡ 255 = sym c.owner.ensures ∙ c.if-owner.false in
-    omega (arith, c.push.ensures.len, room-left c.chain.places.items c.chain.at old.once (unclaimed c.args.owners.now c.chain.owners c.args.number _ _ old.claimed c.requires.some free))
+    omega (
+      arith,
+      c.push.ensures.len,
+      room-left c.chain.places.items c.chain.at old.once
+          (unclaimed c.args.owners.now c.chain.owners c.args.number _ _ old.claimed c.requires.some free),
+    )
 
 pub returns-in_default : goal.returns-in_default
 returns-in_default g c =
@@ -57,7 +73,9 @@ returns-in_default g c =
       claimed = tt;
       ok = tt;
       err = let d = c.args.disk.now in
-          inl (tells_weaker S d d 720 732 _ (omega arith) (no_first S d c.args.slot.now.sector c.args.slot.now c.requires.closed (named-match c.args.slot.now.bytes _ 3 _ c.new.ensures c.in_default.ensures) c.requires.names));
+          inl (tells_weaker S d d 720 732 _ (omega arith) (no_first S d c.args.slot.now.sector c.args.slot.now
+          c.requires.closed (named-match c.args.slot.now.bytes _ 3 _ c.new.ensures c.in_default.ensures)
+          c.requires.names));
     }
 
 pub returns-then-owner : goal.returns-then-owner
@@ -67,9 +85,12 @@ returns-then-owner g c = record {
   ok = tt;
   -- a sector that has an owner
   err = let old = c.chain.invariant in
-      owned-tells g.D.Sectors.history c.args.disk.now c.chain.disk c.args.slot.now c.args.number c.args.owners.now c.chain.owners c.in-Some.first c.chain.at c.chain.places.items _ c.requires.closed
-      (named-match c.args.slot.now.bytes _ 3 _ c.new.ensures c.in-Some.ensures) old.leads old.once old.claimed old.passes (λ e. c.if-owner.true (c.owner.ensures ∙ e))
-      (λ h. c.owned_block.ensures.own (rw c.as_slice.ensures.value h)) (λ h. c.owned_block.ensures.other (rw c.as_slice.ensures.value h));
+      owned-tells g.D.Sectors.history c.args.disk.now c.chain.disk c.args.slot.now c.args.number c.args.owners.now
+      c.chain.owners c.in-Some.first c.chain.at c.chain.places.items _ c.requires.closed
+      (named-match c.args.slot.now.bytes _ 3 _ c.new.ensures c.in-Some.ensures) old.leads old.once old.claimed
+      old.passes (λ e. c.if-owner.true (c.owner.ensures ∙ e))
+      (λ h. c.owned_block.ensures.own (rw c.as_slice.ensures.value h))
+      (λ h. c.owned_block.ensures.other (rw c.as_slice.ensures.value h));
 }
 
 pub returns-in-None : goal.returns-in-None
@@ -83,10 +104,15 @@ returns-in-None g c =
       err = let old = c.chain.invariant in
           let free : owner_of c.chain.owners c.chain.at ≡ 255 = sym c.owner.ensures ∙ c.if-owner.false in
           let new = unclaimed c.args.owners.now c.chain.owners c.args.number _ _ old.claimed c.requires.some free in
-          unlinked-tells S c.args.disk.now c.read_sector.new.disk c.args.slot.now c.args.owners.now c.in-Some.first c.chain.at c.chain.places.items c.requires.closed
+          unlinked-tells S c.args.disk.now c.read_sector.new.disk c.args.slot.now c.args.owners.now c.in-Some.first
+          c.chain.at c.chain.places.items c.requires.closed
           (named-match c.args.slot.now.bytes _ 3 _ c.new.ensures c.in-Some.ensures) old.leads old.once new
-          (nowhere-read _ _ c.chain.at c.read_sector.new.to old.passes.reads.image c.in_ok-read_sector.ensures.sector c.if-sector-eq0.false (λ h. false≢true (c.in-None.ensures.on_disk.1 h)))
-          (passes_then S c.args.disk.now c.chain.disk c.read_sector.new.disk (length c.chain.places.items) 1 732 (omega (arith, room-left c.chain.places.items c.chain.at old.once new)) old.passes (passes_read S c.chain.disk c.read_sector.new.disk c.in_ok-read_sector.ensures.reads c.in_ok-read_sector.ensures.failures));
+          (nowhere-read _ _ c.chain.at c.read_sector.new.to old.passes.reads.image c.in_ok-read_sector.ensures.sector
+          c.if-sector-eq0.false (λ h. false≢true (c.in-None.ensures.on_disk.1 h)))
+          (passes_then S c.args.disk.now c.chain.disk c.read_sector.new.disk (length c.chain.places.items) 1 732
+          (omega (arith, room-left c.chain.places.items c.chain.at old.once new)) old.passes
+          (passes_read S c.chain.disk c.read_sector.new.disk c.in_ok-read_sector.ensures.reads
+          c.in_ok-read_sector.ensures.failures));
     }
 
 pub returns-in_err-read_sector : goal.returns-in_err-read_sector
@@ -100,8 +126,12 @@ returns-in_err-read_sector g c =
       err = let old = c.chain.invariant in
           let read = c.in_err-read_sector.ensures in
           let free : owner_of c.chain.owners c.chain.at ≡ 255 = sym c.owner.ensures ∙ c.if-owner.false in
-          let few = room-left c.chain.places.items c.chain.at old.once (unclaimed c.args.owners.now c.chain.owners c.args.number _ _ old.claimed c.requires.some free) in
-          rw (p.1, p.2) (inl (tells_then S c.args.disk.now c.chain.disk c.read_sector.new.disk (length c.chain.places.items) 1 732 _ (omega (arith, few)) old.passes (tells_read S c.chain.disk c.read_sector.new.disk c.chain.at _ read.told read.reads read.failures read.failed)));
+          let few = room-left c.chain.places.items c.chain.at old.once (unclaimed c.args.owners.now c.chain.owners
+          c.args.number _ _ old.claimed c.requires.some free) in
+          rw (p.1, p.2) (inl (tells_then S c.args.disk.now c.chain.disk c.read_sector.new.disk
+          (length c.chain.places.items) 1 732 _ (omega (arith, few)) old.passes
+          (tells_read S c.chain.disk c.read_sector.new.disk c.chain.at _ read.told read.reads read.failures
+          read.failed)));
     }
 
 pub returns-then-sector-eq0 : goal.returns-then-sector-eq0
@@ -113,12 +143,19 @@ returns-then-sector-eq0 g c =
           rw c.push.ensures.items (
             c.in-Some.first,
             named-match c.args.slot.now.bytes _ 3 _ c.new.ensures c.in-Some.ensures,
-            walk-end _ c.in-Some.first c.chain.at c.chain.places.items _ old.leads old.once (unclaimed c.args.owners.now c.chain.owners c.args.number _ _ old.claimed c.requires.some free)
-                (end-read _ _ c.chain.at c.read_sector.new.to old.passes.reads.image c.in_ok-read_sector.ensures.sector c.if-sector-eq0.true),
+            walk-end _ c.in-Some.first c.chain.at c.chain.places.items _ old.leads old.once
+                (unclaimed c.args.owners.now c.chain.owners c.args.number _ _ old.claimed c.requires.some free)
+                (end-read _ _ c.chain.at c.read_sector.new.to old.passes.reads.image c.in_ok-read_sector.ensures.sector
+                c.if-sector-eq0.true),
           );
       claimed = let old = c.chain.invariant in
           let free : owner_of c.chain.owners c.chain.at ≡ 255 = sym c.owner.ensures ∙ c.if-owner.false in
-          rw c.push.ensures.items (claim-push c.args.owners.now c.chain.owners c.set.new.self c.args.number c.chain.places.items c.chain.at old.claimed (unclaimed c.args.owners.now c.chain.owners c.args.number _ _ old.claimed c.requires.some free) free c.set.ensures.here c.set.ensures.there);
-      ok = passes_then S c.args.disk.now c.chain.disk c.read_sector.new.disk (length c.chain.places.items) 1 _ (omega (arith, c.push.ensures.len)) c.chain.invariant.passes (passes_read S c.chain.disk c.read_sector.new.disk c.in_ok-read_sector.ensures.reads c.in_ok-read_sector.ensures.failures);
+          rw c.push.ensures.items (claim-push c.args.owners.now c.chain.owners c.set.new.self c.args.number
+          c.chain.places.items c.chain.at old.claimed (unclaimed c.args.owners.now c.chain.owners c.args.number _ _
+          old.claimed c.requires.some free) free c.set.ensures.here c.set.ensures.there);
+      ok = passes_then S c.args.disk.now c.chain.disk c.read_sector.new.disk (length c.chain.places.items) 1 _
+          (omega (arith, c.push.ensures.len)) c.chain.invariant.passes
+          (passes_read S c.chain.disk c.read_sector.new.disk c.in_ok-read_sector.ensures.reads
+          c.in_ok-read_sector.ensures.failures);
       err = tt;
     }

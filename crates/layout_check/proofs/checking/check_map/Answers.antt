@@ -16,16 +16,25 @@ returns-in_err-read_sector g c =
     record {
       map = rw p.1 tt;
       ok = rw p.1 tt;
-      err = rw (p.1, p.2) (clean_tells S _ _ 1 _ (tells_read S c.args.disk.now c.read_sector.new.disk c.map_place.result _ c.in_err-read_sector.ensures.told c.in_err-read_sector.ensures.reads c.in_err-read_sector.ensures.failures c.in_err-read_sector.ensures.failed));
+      err = rw (p.1, p.2) (clean_tells S _ _ 1 _ (tells_read S c.args.disk.now c.read_sector.new.disk c.map_place.result
+          _ c.in_err-read_sector.ensures.told c.in_err-read_sector.ensures.reads c.in_err-read_sector.ensures.failures
+          c.in_err-read_sector.ensures.failed));
     }
 
 pub returns : goal.returns
 returns g c =
     let S = g.D.Sectors.history in
     record {
-      map = let e = c.in_ok-read_sector.ensures.sector ∙ ap (λ (p : Place). sector (S.image c.args.disk.now) p) c.map_place.ensures in
-          on_ok c.check_bits.result _ _ (λ h. map-right _ c.args.found.now c.read_sector.new.to c.requires e (rw (← c.owners.ensures) h)) c.check_bits.ensures.ok;
-      ok = on_any c.check_bits.result _ (passes_read S c.args.disk.now c.read_sector.new.disk c.in_ok-read_sector.ensures.reads c.in_ok-read_sector.ensures.failures);
-      err = let e = c.in_ok-read_sector.ensures.sector ∙ ap (λ (p : Place). sector (S.image c.args.disk.now) p) c.map_place.ensures in
-          if_err c.check_bits.result _ _ (λ f h. map_tells S c.args.disk.now c.read_sector.new.disk c.args.found.now c.read_sector.new.to f c.requires (passes_read S c.args.disk.now c.read_sector.new.disk c.in_ok-read_sector.ensures.reads c.in_ok-read_sector.ensures.failures) e (rw (← c.owners.ensures) h)) c.check_bits.ensures.err;
+      map = let e = c.in_ok-read_sector.ensures.sector
+          ∙ ap (λ (p : Place). sector (S.image c.args.disk.now) p) c.map_place.ensures in
+          on_ok c.check_bits.result _ _ (λ h. map-right _ c.args.found.now c.read_sector.new.to c.requires e
+          (rw (← c.owners.ensures) h)) c.check_bits.ensures.ok;
+      ok = on_any c.check_bits.result _ (passes_read S c.args.disk.now c.read_sector.new.disk
+          c.in_ok-read_sector.ensures.reads c.in_ok-read_sector.ensures.failures);
+      err = let e = c.in_ok-read_sector.ensures.sector
+          ∙ ap (λ (p : Place). sector (S.image c.args.disk.now) p) c.map_place.ensures in
+          if_err c.check_bits.result _ _ (λ f h. map_tells S c.args.disk.now c.read_sector.new.disk c.args.found.now
+          c.read_sector.new.to f c.requires (passes_read S c.args.disk.now c.read_sector.new.disk
+          c.in_ok-read_sector.ensures.reads c.in_ok-read_sector.ensures.failures) e (rw (← c.owners.ensures) h))
+          c.check_bits.ensures.err;
     }

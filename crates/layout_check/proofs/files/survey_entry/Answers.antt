@@ -12,7 +12,8 @@ returns-in_err-judge_entry g c =
     let p = err_from_is_err_and c.from_residual.result c.from_residual.ensures.1 in
     record {
       ok = rw p.1 tt;
-      err = rw (p.1, p.2) (inl (shown-tells g.D.Sectors.history c.args.disk.now 732 c.args.slot.now _ c.requires.entry c.in_err-judge_entry.ensures.err));
+      err = rw (p.1, p.2) (inl (shown-tells g.D.Sectors.history c.args.disk.now 732 c.args.slot.now _ c.requires.entry
+          c.in_err-judge_entry.ensures.err));
     }
 
 pub returns-then-is_relative : goal.returns-then-is_relative
@@ -25,9 +26,11 @@ pub returns-then-not-has_first_block : goal.returns-then-not-has_first_block
 returns-then-not-has_first_block g c = record {
   ok = let none : slice_index c.args.slot.now.bytes 3 ≡ 0 = elim (cases_eq (slice_index c.args.slot.now.bytes 3) 0) [
     | inl e ↦ e
-    | inr ne ↦ absurd (false≢true (sym c.if-not-has_first_block.true ∙ c.has_first_block.ensures.1 (rw c.new-entry.ensures ne)))
+    | inr ne ↦ absurd (false≢true (sym c.if-not-has_first_block.true
+        ∙ c.has_first_block.ensures.1 (rw c.new-entry.ensures ne)))
   ] in
-      empty-finds g.D.Sectors.history c.args.disk.now c.args.slot.now c.args.number c.args.owners.now c.in_ok-judge_entry.ensures.ok (search rules) none (passes_none g.D.Sectors.history c.args.disk.now);
+      empty-finds g.D.Sectors.history c.args.disk.now c.args.slot.now c.args.number c.args.owners.now
+      c.in_ok-judge_entry.ensures.ok (search rules) none (passes_none g.D.Sectors.history c.args.disk.now);
   err = tt;
 }
 
@@ -39,7 +42,8 @@ returns g c = record {
 
 pub returns-in_err-survey_plain : goal.returns-in_err-survey_plain
 returns-in_err-survey_plain g c =
-    let p = err_from_is_err_and c.from_residual-in_err-survey_plain.result c.from_residual-in_err-survey_plain.ensures.1 in
+    let p = err_from_is_err_and c.from_residual-in_err-survey_plain.result
+    c.from_residual-in_err-survey_plain.ensures.1 in
     record {
       ok = rw p.1 tt;
       err = rw (p.1, p.2) c.in_err-survey_plain.ensures.err;

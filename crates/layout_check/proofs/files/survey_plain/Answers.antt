@@ -11,4 +11,6 @@ returns-in_err-claim_blocks-clause-err g c =
 pub returns-clause-ok : goal.returns-clause-ok
 returns-clause-ok g c =
     let found = c.in_ok-claim_blocks.ensures in
-    plain-finds g.D.Sectors.history c.args.disk.now c.claim_blocks.new.disk c.args.slot.now c.args.number c.args.owners.now c.claim_blocks.new.owners c.claim_blocks.new.places.items _ c.requires.proper c.requires.plain c.requires.names found.blocks found.ok found.claimed
+    plain-finds g.D.Sectors.history c.args.disk.now c.claim_blocks.new.disk c.args.slot.now c.args.number
+    c.args.owners.now c.claim_blocks.new.owners c.claim_blocks.new.places.items _ c.requires.proper c.requires.plain
+    c.requires.names found.blocks found.ok found.claimed

@@ -2,15 +2,20 @@
 use Rattle.std.proofs.Common.{arith}
 use borrow.Author.Count.{below_more}
 use Rattle.layout_check.proofs.maps.check_bits.Goals as goal
-use Rattle.layout_check.proofs.maps.check_bits.Goals.{else-not-is_right_track, then-not-is_right_track+in_ok-check_track}
+use Rattle.layout_check.proofs.maps.check_bits.Goals.{
+  else-not-is_right_track,
+  then-not-is_right_track+in_ok-check_track,
+}
 
 pub loop-track-init : goal.loop-track-init
 loop-track-init c n low some = absurd (omega (arith, low, some))
 
 pub loop-track-preserved : goal.loop-track-preserved
 loop-track-preserved c = elim c.if-not-is_right_track.branch [
-  | then-not-is_right_track+in_ok-check_track w ↦ below_more _ _ c.loop-track.invariant (λ _. w.in_ok-check_track.ensures.ok)
-  | else-not-is_right_track w ↦ below_more _ _ c.loop-track.invariant (λ _. c.is_right_track.ensures w.if-not-is_right_track.false)
+  | then-not-is_right_track+in_ok-check_track w ↦
+      below_more _ _ c.loop-track.invariant (λ _. w.in_ok-check_track.ensures.ok)
+  | else-not-is_right_track w ↦
+      below_more _ _ c.loop-track.invariant (λ _. c.is_right_track.ensures w.if-not-is_right_track.false)
 ]
 
 pub returns-clause-ok : goal.returns-clause-ok

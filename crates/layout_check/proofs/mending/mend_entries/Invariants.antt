@@ -12,10 +12,15 @@ abbrev pub invariant-loop-slot : goal.invariant-loop-slot
 invariant-loop-slot g l = record {
   layouts : KeepsLayouts (g.D.Sectors.history.image l.fn.disk) (g.D.Sectors.history.image l.disk);
   map : SameMap (g.D.Sectors.history.image l.fn.disk) (g.D.Sectors.history.image l.disk);
-  exact : (k : ℕ) → k < l.slot-index → (s : Slot) → slice_get l.slot-items k ≡ Some s → IsTrue (is_rel s) → IsExactFor (g.D.Sectors.history.image l.fn.disk) (g.D.Sectors.history.image l.disk) s;
+  exact : (k : ℕ) → k < l.slot-index → (s : Slot) → slice_get l.slot-items k ≡ Some s → IsTrue (is_rel s)
+      → IsExactFor (g.D.Sectors.history.image l.fn.disk) (g.D.Sectors.history.image l.disk) s;
   mends : Mends g.D.Sectors.history l.fn.disk l.disk (6 * l.slot-index);
-  over : (m : Layout) → IsLayout (g.D.Sectors.history.image l.fn.disk) m → GoesOver g.D.Sectors.history l.fn.disk l.disk (IsRight m) (sides_of (take l.slot-index m.files));
-  made : (m : Layout) → IsLayout (g.D.Sectors.history.image l.fn.disk) m → AreMade (IsRight m) (sides_of (take l.slot-index m.files)) (g.D.Sectors.history.image l.fn.disk) (g.D.Sectors.history.image l.disk);
+  over : (m : Layout) → IsLayout (g.D.Sectors.history.image l.fn.disk) m
+      → GoesOver g.D.Sectors.history l.fn.disk l.disk (IsRight m) (sides_of (take l.slot-index m.files));
+  made : (m : Layout) → IsLayout (g.D.Sectors.history.image l.fn.disk) m
+      → AreMade (IsRight m) (sides_of (take l.slot-index m.files)) (g.D.Sectors.history.image l.fn.disk)
+      (g.D.Sectors.history.image l.disk);
   failures : g.D.Sectors.history.failures l.disk ≡ g.D.Sectors.history.failures l.fn.disk;
-  quiet : AreExactFor (g.D.Sectors.history.image l.fn.disk) (g.D.Sectors.history.image l.fn.disk) → WritesNothing g.D.Sectors.history l.fn.disk l.disk;
+  quiet : AreExactFor (g.D.Sectors.history.image l.fn.disk) (g.D.Sectors.history.image l.fn.disk)
+      → WritesNothing g.D.Sectors.history l.fn.disk l.disk;
 }

@@ -21,13 +21,17 @@ use Rattle.disk_layout.specs.Directory.{map_place}
 use Rattle.layout_check.proofs.mending.mend_relative.Goals as goal
 
 pub find_parts-requires-clause-closed : goal.find_parts-requires-clause-closed
-find_parts-requires-clause-closed g c = rel-closed _ c.args.slot.now (entry-filed _ c.args.slot.now c.requires.filed) c.requires.rel
+find_parts-requires-clause-closed g c = rel-closed _ c.args.slot.now (entry-filed _ c.args.slot.now c.requires.filed)
+    c.requires.rel
 
 pub mend_sides-requires : goal.mend_sides-requires
 mend_sides-requires g c =
     let found = c.in_ok-find_parts.ensures in
     record {
-      parts = parts-at _ _ c.args.slot.now c.find_parts.new.parts.blocks.items c.find_parts.new.parts.sides.items c.as_slice.result.now c.as_slice-in-Some.result.now found.ok.reads.image c.as_slice.ensures.value c.as_slice-in-Some.ensures.value (parts-here _ c.args.slot.now c.find_parts.new.parts.blocks.items c.find_parts.new.parts.sides.items c.requires.filed c.requires.rel found.parts);
+      parts = parts-at _ _ c.args.slot.now c.find_parts.new.parts.blocks.items c.find_parts.new.parts.sides.items
+          c.as_slice.result.now c.as_slice-in-Some.result.now found.ok.reads.image c.as_slice.ensures.value
+          c.as_slice-in-Some.ensures.value (parts-here _ c.args.slot.now c.find_parts.new.parts.blocks.items
+          c.find_parts.new.parts.sides.items c.requires.filed c.requires.rel found.parts);
       few = c.as_slice-in-Some.ensures.fits;
     }
 
@@ -36,34 +40,57 @@ returns-in-Some g c =
     let S = g.D.Sectors.history in
     record {
       exact = let found = c.in_ok-find_parts.ensures in
-          on_ok c.mend_sides.result _ _ (λ h bs ss i. parts-exact _ _ c.args.slot.now c.find_parts.new.parts.blocks.items c.find_parts.new.parts.sides.items bs ss (parts-here _ c.args.slot.now c.find_parts.new.parts.blocks.items c.find_parts.new.parts.sides.items c.requires.filed c.requires.rel found.parts) (rw (← c.as_slice.ensures.value, ← c.as_slice-in-Some.ensures.value) h) i) c.mend_sides.ensures.exact;
-      beside = on_ok c.mend_sides.result _ _ (λ h. let P : Image → Type 0 = λ i. KeepsBeside i (S.image c.mend_sides.new.disk) in
+          on_ok c.mend_sides.result _ _ (λ h bs ss i. parts-exact _ _ c.args.slot.now
+          c.find_parts.new.parts.blocks.items c.find_parts.new.parts.sides.items bs ss
+          (parts-here _ c.args.slot.now c.find_parts.new.parts.blocks.items c.find_parts.new.parts.sides.items
+          c.requires.filed c.requires.rel found.parts)
+          (rw (← c.as_slice.ensures.value, ← c.as_slice-in-Some.ensures.value) h) i) c.mend_sides.ensures.exact;
+      beside = on_ok c.mend_sides.result _ _ (λ h. let P : Image
+          → Type 0 = λ i. KeepsBeside i (S.image c.mend_sides.new.disk) in
           subst P c.in_ok-find_parts.ensures.ok.reads.image h) c.mend_sides.ensures.beside;
       mending = record {
-        layouts = on_ok c.mend_sides.result _ _ (λ h. let P : Image → Type 0 = λ i. KeepsLayouts i (S.image c.mend_sides.new.disk) in subst P c.in_ok-find_parts.ensures.ok.reads.image h) c.mend_sides.ensures.mending.layouts;
-        mends = mends_then S c.args.disk.now c.find_parts.new.disk c.mend_sides.new.disk 0 6 6 (omega arith) (mends_read S c.args.disk.now c.find_parts.new.disk _ 0 c.in_ok-find_parts.ensures.ok.reads) c.mend_sides.ensures.mending.mends;
-        failures = device_later S (Unit {0}) c.args.disk.now c.find_parts.new.disk c.mend_sides.new.disk c.mend_sides.result c.in_ok-find_parts.ensures.ok.failures c.mend_sides.ensures.mending.failures;
+        layouts = on_ok c.mend_sides.result _ _ (λ h. let P : Image
+            → Type 0 = λ i. KeepsLayouts i (S.image c.mend_sides.new.disk) in
+            subst P c.in_ok-find_parts.ensures.ok.reads.image h) c.mend_sides.ensures.mending.layouts;
+        mends = mends_then S c.args.disk.now c.find_parts.new.disk c.mend_sides.new.disk 0 6 6 (omega arith)
+            (mends_read S c.args.disk.now c.find_parts.new.disk _ 0 c.in_ok-find_parts.ensures.ok.reads)
+            c.mend_sides.ensures.mending.mends;
+        failures = device_later S (Unit {0}) c.args.disk.now c.find_parts.new.disk c.mend_sides.new.disk
+            c.mend_sides.result c.in_ok-find_parts.ensures.ok.failures c.mend_sides.ensures.mending.failures;
       };
       right = λ l f is own slot. record {
         over = let found = c.in_ok-find_parts.ensures in
-            let same = sides-found (S.image c.args.disk.now) l f c.args.slot.now c.find_parts.new.parts.blocks.items c.find_parts.new.parts.sides.items c.as_slice-in-Some.result.now is own slot c.requires.rel found.parts c.as_slice-in-Some.ensures.value in
+            let same = sides-found (S.image c.args.disk.now) l f c.args.slot.now c.find_parts.new.parts.blocks.items
+            c.find_parts.new.parts.sides.items c.as_slice-in-Some.result.now is own slot c.requires.rel found.parts
+            c.as_slice-in-Some.ensures.value in
             let P : List Place → Type 0 = GoesOver S c.find_parts.new.disk c.mend_sides.new.disk (IsRight l) in
             let Q : Image → Type 0 = λ i. IsLayout i l in
-            over_read S (IsRight l) f.sides c.args.disk.now c.find_parts.new.disk c.mend_sides.new.disk _ (file-sides_once (S.image c.args.disk.now) l is f own) found.ok.reads
+            over_read S (IsRight l) f.sides c.args.disk.now c.find_parts.new.disk c.mend_sides.new.disk _
+            (file-sides_once (S.image c.args.disk.now) l is f own) found.ok.reads
             (subst P same (c.mend_sides.ensures.right l (subst Q (sym found.ok.reads.image) is)).over);
         made = let found = c.in_ok-find_parts.ensures in
             on_ok c.mend_sides.result _ _ (λ made.
-            let same = sides-found (S.image c.args.disk.now) l f c.args.slot.now c.find_parts.new.parts.blocks.items c.find_parts.new.parts.sides.items c.as_slice-in-Some.result.now is own slot c.requires.rel found.parts c.as_slice-in-Some.ensures.value in
-            let P : List Place → Type 0 = λ xs. AreMade (IsRight l) xs (S.image c.args.disk.now) (S.image c.mend_sides.new.disk) in
+            let same = sides-found (S.image c.args.disk.now) l f c.args.slot.now c.find_parts.new.parts.blocks.items
+            c.find_parts.new.parts.sides.items c.as_slice-in-Some.result.now is own slot c.requires.rel found.parts
+            c.as_slice-in-Some.ensures.value in
+            let P : List Place → Type 0 = λ xs. AreMade (IsRight l) xs (S.image c.args.disk.now)
+            (S.image c.mend_sides.new.disk) in
             let Q : Image → Type 0 = λ i. IsLayout i l in
-            let R : Image → Type 0 = λ i. AreMade (IsRight l) c.as_slice-in-Some.result.now i (S.image c.mend_sides.new.disk) in
-            subst P same (subst R found.ok.reads.image made)) (c.mend_sides.ensures.right l (let Q : Image → Type 0 = λ i. IsLayout i l in subst Q (sym found.ok.reads.image) is)).made;
+            let R : Image → Type 0 = λ i. AreMade (IsRight l) c.as_slice-in-Some.result.now i
+            (S.image c.mend_sides.new.disk) in
+            subst P same (subst R found.ok.reads.image made)) (c.mend_sides.ensures.right l (let Q : Image
+            → Type 0 = λ i. IsLayout i l in subst Q (sym found.ok.reads.image) is)).made;
       };
       quiet = λ exact.
           let found = c.in_ok-find_parts.ensures in
-          let right = exact c.find_parts.new.parts.blocks.items c.find_parts.new.parts.sides.items (parts-here _ c.args.slot.now c.find_parts.new.parts.blocks.items c.find_parts.new.parts.sides.items c.requires.filed c.requires.rel found.parts) in
-          no_write_then S c.args.disk.now c.find_parts.new.disk c.mend_sides.new.disk (reads_no_write S _ _ _ found.ok.reads)
-          (c.mend_sides.ensures.quiet (right-there _ _ c.args.slot.now c.find_parts.new.parts.blocks.items c.find_parts.new.parts.sides.items c.as_slice.result.now c.as_slice-in-Some.result.now found.ok.reads.image c.as_slice.ensures.value c.as_slice-in-Some.ensures.value right));
+          let right = exact c.find_parts.new.parts.blocks.items c.find_parts.new.parts.sides.items
+          (parts-here _ c.args.slot.now c.find_parts.new.parts.blocks.items c.find_parts.new.parts.sides.items
+          c.requires.filed c.requires.rel found.parts) in
+          no_write_then S c.args.disk.now c.find_parts.new.disk c.mend_sides.new.disk
+          (reads_no_write S _ _ _ found.ok.reads)
+          (c.mend_sides.ensures.quiet (right-there _ _ c.args.slot.now c.find_parts.new.parts.blocks.items
+          c.find_parts.new.parts.sides.items c.as_slice.result.now c.as_slice-in-Some.result.now
+          found.ok.reads.image c.as_slice.ensures.value c.as_slice-in-Some.ensures.value right));
     }
 
 pub returns-in_err-find_parts : goal.returns-in_err-find_parts
@@ -73,15 +100,19 @@ returns-in_err-find_parts g c =
       exact = rw p.1 tt;
       mending = record {
         layouts = rw p.1 tt;
-        mends = mends_read g.D.Sectors.history c.args.disk.now c.find_parts.new.disk 732 6 c.in_err-find_parts.ensures.err.reads;
-        failures = rw (p.1, p.2) (sound-device g.D.Sectors.history (Unit {0}) c.args.disk.now c.find_parts.new.disk 732 _ (c.requires.filed.layout, c.requires.filed.sound) c.in_err-find_parts.ensures.err);
+        mends = mends_read g.D.Sectors.history c.args.disk.now c.find_parts.new.disk 732 6
+            c.in_err-find_parts.ensures.err.reads;
+        failures = rw (p.1, p.2) (sound-device g.D.Sectors.history (Unit {0}) c.args.disk.now c.find_parts.new.disk 732
+            _ (c.requires.filed.layout, c.requires.filed.sound) c.in_err-find_parts.ensures.err);
       };
       beside = rw p.1 tt;
       right = λ l f is own slot. record {
-        over = over_none g.D.Sectors.history (IsRight l) f.sides c.args.disk.now c.find_parts.new.disk 732 c.in_err-find_parts.ensures.err.reads;
+        over = over_none g.D.Sectors.history (IsRight l) f.sides c.args.disk.now c.find_parts.new.disk 732
+            c.in_err-find_parts.ensures.err.reads;
         made = rw p.1 tt;
       };
-      quiet = λ exact. reads_no_write g.D.Sectors.history c.args.disk.now c.find_parts.new.disk 732 c.in_err-find_parts.ensures.err.reads;
+      quiet = λ exact. reads_no_write g.D.Sectors.history c.args.disk.now c.find_parts.new.disk 732
+          c.in_err-find_parts.ensures.err.reads;
     }
 
 pub returns-in-None : goal.returns-in-None
@@ -95,18 +126,23 @@ returns-in-None g c =
           let sides = c.find_parts.new.parts.sides.items in
           let P : Option Place → Type 0 = ToldOfSides old c.args.slot.now blocks sides in
           let Q : Image → Type 0 = λ x. AreExactSides x c.args.slot.now bs ss in
-          subst Q (sym found.ok.reads.image) (parts-exact old old c.args.slot.now blocks sides bs ss (parts-here old c.args.slot.now blocks sides c.requires.filed c.requires.rel found.parts) (subst P c.in-None.is found.exact) i);
+          subst Q (sym found.ok.reads.image) (parts-exact old old c.args.slot.now blocks sides bs ss
+          (parts-here old c.args.slot.now blocks sides c.requires.filed c.requires.rel found.parts)
+          (subst P c.in-None.is found.exact) i);
       beside = record {
-        sides = let P : Image → Type 0 = KeepsExact (S.image c.args.disk.now) in subst P (sym c.in_ok-find_parts.ensures.ok.reads.image) (λ s bs ss h exact. exact);
+        sides = let P : Image → Type 0 = KeepsExact (S.image c.args.disk.now) in
+            subst P (sym c.in_ok-find_parts.ensures.ok.reads.image) (λ s bs ss h exact. exact);
         map = ap (λ (i : Image). sector i map_place) c.in_ok-find_parts.ensures.ok.reads.image;
       };
       mending = record {
-        layouts = λ l h. let P : Image → Type 0 = λ i. IsLayout i l in subst P (sym c.in_ok-find_parts.ensures.ok.reads.image) h;
+        layouts = λ l h. let P : Image → Type 0 = λ i. IsLayout i l in
+            subst P (sym c.in_ok-find_parts.ensures.ok.reads.image) h;
         mends = mends_read S c.args.disk.now c.find_parts.new.disk _ 6 c.in_ok-find_parts.ensures.ok.reads;
         failures = c.in_ok-find_parts.ensures.ok.failures;
       };
       right = λ l f is own slot. record {
-        over = over_none S (IsRight l) f.sides c.args.disk.now c.find_parts.new.disk _ c.in_ok-find_parts.ensures.ok.reads;
+        over = over_none S (IsRight l) f.sides c.args.disk.now c.find_parts.new.disk _
+            c.in_ok-find_parts.ensures.ok.reads;
         made = let found = c.in_ok-find_parts.ensures in
             let old = S.image c.args.disk.now in
             let blocks = c.find_parts.new.parts.blocks.items in
@@ -114,7 +150,9 @@ returns-in-None g c =
             let P : Option Place → Type 0 = ToldOfSides old c.args.slot.now blocks sides in
             let Q : List Place → Type 0 = λ xs. AreMade (IsRight l) xs old (S.image c.find_parts.new.disk) in
             let parts = parts-here old c.args.slot.now blocks sides c.requires.filed c.requires.rel found.parts in
-            subst Q (sides-found old l f c.args.slot.now blocks sides sides is own slot c.requires.rel found.parts refl) (made_exact old l is c.args.slot.now blocks sides parts (S.image c.find_parts.new.disk) found.ok.reads.image (subst P c.in-None.is found.exact));
+            subst Q (sides-found old l f c.args.slot.now blocks sides sides is own slot c.requires.rel found.parts refl)
+            (made_exact old l is c.args.slot.now blocks sides parts (S.image c.find_parts.new.disk)
+            found.ok.reads.image (subst P c.in-None.is found.exact));
       };
       quiet = λ exact. reads_no_write S c.args.disk.now c.find_parts.new.disk _ c.in_ok-find_parts.ensures.ok.reads;
     }

@@ -15,9 +15,11 @@ returns-in_err-find_parts g c =
 
 pub returns : goal.returns
 returns g c = record {
-  count = count-of_parts _ c.args.slot.now c.find_parts.new.parts.blocks.items c.find_parts.new.parts.sides.items _ c.requires.rel c.in_ok-find_parts.ensures.parts (omega (arith, c.len.ensures.value, c.len-2.ensures.value));
+  count = count-of_parts _ c.args.slot.now c.find_parts.new.parts.blocks.items c.find_parts.new.parts.sides.items _
+      c.requires.rel c.in_ok-find_parts.ensures.parts (omega (arith, c.len.ensures.value, c.len-2.ensures.value));
   judged = record {
-    ok = passes_weaker g.D.Sectors.history c.args.disk.now c.find_parts.new.disk _ 732 c.in_ok-find_parts.ensures.few c.in_ok-find_parts.ensures.ok;
+    ok = passes_weaker g.D.Sectors.history c.args.disk.now c.find_parts.new.disk _ 732 c.in_ok-find_parts.ensures.few
+        c.in_ok-find_parts.ensures.ok;
     err = tt;
   };
 }

@@ -12,8 +12,10 @@ invariant-loop-place g l =
     let S = g.D.Sectors.history in
     record {
       moments : Changes S l.fn.disk l.disk l.place-index (λ c. IsRecountOf (S.image l.fn.disk) c l.place-items);
-      over : (m : Layout) → IsLayout (S.image l.fn.disk) m → GoesOver S l.fn.disk l.disk (IsRight m) (take l.place-index l.place-items);
-      made : (m : Layout) → IsLayout (S.image l.fn.disk) m → AreMade (IsRight m) (take l.place-index l.place-items) (S.image l.fn.disk) (S.image l.disk);
+      over : (m : Layout) → IsLayout (S.image l.fn.disk) m
+          → GoesOver S l.fn.disk l.disk (IsRight m) (take l.place-index l.place-items);
+      made : (m : Layout) → IsLayout (S.image l.fn.disk) m
+          → AreMade (IsRight m) (take l.place-index l.place-items) (S.image l.fn.disk) (S.image l.disk);
       quiet : AreCounted (S.image l.fn.disk) → WritesNothing S l.fn.disk l.disk;
       failures : S.failures l.disk ≡ S.failures l.fn.disk;
     }

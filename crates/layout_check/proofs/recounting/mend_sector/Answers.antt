@@ -7,7 +7,14 @@ use Rattle.disk_layout.proofs.OtherWrites.{write_changes}
 use Rattle.disk_layout.specs.Layout.{IsSound}
 use Rattle.layout_check.proofs.Finding.{on_ok}
 use Rattle.layout_check.proofs.MapMends.{device_later, device_told, write_device}
-use Rattle.layout_check.proofs.RightWrites.{mended-read, other_later, reads_moment, right_read, right_written, write_moment}
+use Rattle.layout_check.proofs.RightWrites.{
+  mended-read,
+  other_later,
+  reads_moment,
+  right_read,
+  right_written,
+  write_moment,
+}
 use Rattle.layout_check.proofs.SideMends.{sound-device}
 use Rattle.layout_check.specs.Recounted.{AreRightIn, IsDirectorySector}
 use Rattle.layout_check.proofs.recounting.mend_sector.Goals as goal
@@ -18,11 +25,14 @@ recount_sector-requires-clause-here g c =
     subst P (sym c.read_sector.ensures.reads.image) c.requires.here
 
 pub recount_sector-requires-clause-there : goal.recount_sector-requires-clause-there
-recount_sector-requires-clause-there g c = c.in_ok-read_sector.ensures.sector ∙ ap (λ (i : Image). sector i c.args.place) (sym c.read_sector.ensures.reads.image)
+recount_sector-requires-clause-there g c = c.in_ok-read_sector.ensures.sector
+    ∙ ap (λ (i : Image). sector i c.args.place) (sym c.read_sector.ensures.reads.image)
 
 pub write_other-requires : goal.write_other-requires
 write_other-requires g c =
-    c.in_ok-read_sector.ensures.sector ∙ ap (λ (i : Image). sector i c.args.place) (sym (c.in_ok-recount_sector.ensures.judged.ok.reads.image ∙ c.read_sector.ensures.reads.image))
+    c.in_ok-read_sector.ensures.sector
+    ∙ ap (λ (i : Image). sector i c.args.place) (sym (c.in_ok-recount_sector.ensures.judged.ok.reads.image
+    ∙ c.read_sector.ensures.reads.image))
 
 pub returns : goal.returns
 returns g c =
@@ -30,19 +40,35 @@ returns g c =
     record {
       right = let now = c.in_ok-recount_sector.ensures in
           let P : Image → Type 0 = λ i. AreRightIn i c.args.place c.recount_sector.new.bytes in
-          on_ok c.write_other.result _ _ (λ h. right_written S c.args.disk.now c.recount_sector.new.disk _ c.args.place c.recount_sector.new.bytes (now.judged.ok.reads.image ∙ c.read_sector.ensures.reads.image) h (subst P (sym now.judged.ok.reads.image) now.counted.right)) c.write_other.ensures.write.ok;
+          on_ok c.write_other.result _ _ (λ h. right_written S c.args.disk.now c.recount_sector.new.disk _ c.args.place
+          c.recount_sector.new.bytes (now.judged.ok.reads.image ∙ c.read_sector.ensures.reads.image) h
+          (subst P (sym now.judged.ok.reads.image) now.counted.right)) c.write_other.ensures.write.ok;
       moments = let now = c.in_ok-recount_sector.ensures in
-          let reads = reads_then S c.args.disk.now c.read_sector.new.disk c.recount_sector.new.disk 1 5856 5857 (omega arith) c.read_sector.ensures.reads now.judged.ok.reads in
-          write_moment S c.args.disk.now c.recount_sector.new.disk c.write_other.new.disk 5857 c.args.place c.recount_sector.new.bytes reads (write_changes S c.recount_sector.new.disk c.write_other.new.disk c.args.place c.recount_sector.new.bytes _ c.write_other.result c.write_other.ensures.write)
-          (mended-read S c.args.disk.now c.read_sector.new.disk c.args.place c.read_sector.new.to c.recount_sector.new.bytes c.read_sector.ensures.reads.image c.in_ok-read_sector.ensures.sector now.counted.counts now.counted.kept now.counted.right);
-      once = let reads = reads_then S c.args.disk.now c.read_sector.new.disk c.recount_sector.new.disk 1 5856 5857 (omega arith) c.read_sector.ensures.reads c.in_ok-recount_sector.ensures.judged.ok.reads in
-          other_later S c.args.disk.now c.recount_sector.new.disk c.write_other.new.disk 5857 c.args.place reads c.write_other.ensures.once;
+          let reads = reads_then S c.args.disk.now c.read_sector.new.disk c.recount_sector.new.disk 1 5856 5857
+          (omega arith) c.read_sector.ensures.reads now.judged.ok.reads in
+          write_moment S c.args.disk.now c.recount_sector.new.disk c.write_other.new.disk 5857 c.args.place
+          c.recount_sector.new.bytes reads (write_changes S c.recount_sector.new.disk c.write_other.new.disk
+          c.args.place c.recount_sector.new.bytes _ c.write_other.result c.write_other.ensures.write)
+          (mended-read S c.args.disk.now c.read_sector.new.disk c.args.place c.read_sector.new.to
+          c.recount_sector.new.bytes c.read_sector.ensures.reads.image c.in_ok-read_sector.ensures.sector
+          now.counted.counts now.counted.kept now.counted.right);
+      once = let reads = reads_then S c.args.disk.now c.read_sector.new.disk c.recount_sector.new.disk 1 5856 5857
+          (omega arith) c.read_sector.ensures.reads c.in_ok-recount_sector.ensures.judged.ok.reads in
+          other_later S c.args.disk.now c.recount_sector.new.disk c.write_other.new.disk 5857 c.args.place reads
+          c.write_other.ensures.once;
       quiet = λ right.
           let now = c.in_ok-recount_sector.ensures in
-          let reads = reads_then S c.args.disk.now c.read_sector.new.disk c.recount_sector.new.disk 1 5856 5857 (omega arith) c.read_sector.ensures.reads now.judged.ok.reads in
-          let kept = now.counted.kept (right_read S c.args.disk.now c.read_sector.new.disk c.args.place c.read_sector.new.to c.read_sector.ensures.reads.image c.in_ok-read_sector.ensures.sector right) in
-          no_write_then S c.args.disk.now c.recount_sector.new.disk c.write_other.new.disk (reads_no_write S _ _ 5857 reads) (c.write_other.ensures.quiet (sym kept));
-      failures = device_later S (Unit {0}) c.args.disk.now c.recount_sector.new.disk c.write_other.new.disk c.write_other.result (c.in_ok-recount_sector.ensures.judged.ok.failures ∙ c.in_ok-read_sector.ensures.failures) (write_device S (Unit {0}) c.recount_sector.new.disk c.write_other.new.disk c.args.place c.recount_sector.new.bytes c.write_other.result c.write_other.ensures.write);
+          let reads = reads_then S c.args.disk.now c.read_sector.new.disk c.recount_sector.new.disk 1 5856 5857
+          (omega arith) c.read_sector.ensures.reads now.judged.ok.reads in
+          let kept = now.counted.kept (right_read S c.args.disk.now c.read_sector.new.disk c.args.place
+          c.read_sector.new.to c.read_sector.ensures.reads.image c.in_ok-read_sector.ensures.sector right) in
+          no_write_then S c.args.disk.now c.recount_sector.new.disk c.write_other.new.disk
+          (reads_no_write S _ _ 5857 reads) (c.write_other.ensures.quiet (sym kept));
+      failures = device_later S (Unit {0}) c.args.disk.now c.recount_sector.new.disk c.write_other.new.disk
+          c.write_other.result (c.in_ok-recount_sector.ensures.judged.ok.failures
+          ∙ c.in_ok-read_sector.ensures.failures) (write_device S (Unit {0}) c.recount_sector.new.disk
+          c.write_other.new.disk c.args.place c.recount_sector.new.bytes c.write_other.result
+          c.write_other.ensures.write);
     }
 
 pub returns-in_err-read_sector : goal.returns-in_err-read_sector
@@ -50,25 +76,37 @@ returns-in_err-read_sector g c =
     let p = err_from_is_err_and c.from_residual.result c.from_residual.ensures.1 in
     record {
       right = rw p.1 tt;
-      moments = reads_moment g.D.Sectors.history c.args.disk.now c.read_sector.new.disk 1 c.args.place c.read_sector.ensures.reads;
+      moments = reads_moment g.D.Sectors.history c.args.disk.now c.read_sector.new.disk 1 c.args.place
+          c.read_sector.ensures.reads;
       once = inl c.read_sector.ensures.reads.writes;
-      quiet = λ right. reads_no_write g.D.Sectors.history c.args.disk.now c.read_sector.new.disk 1 c.read_sector.ensures.reads;
+      quiet = λ right. reads_no_write g.D.Sectors.history c.args.disk.now c.read_sector.new.disk 1
+          c.read_sector.ensures.reads;
       failures = let read = c.in_err-read_sector.ensures in
-          rw (p.1, p.2) (device_told g.D.Sectors.history (Unit {0}) c.args.disk.now c.read_sector.new.disk c.args.place _ read.told read.failures read.failed);
+          rw (p.1, p.2) (device_told g.D.Sectors.history (Unit {0}) c.args.disk.now c.read_sector.new.disk c.args.place
+          _ read.told read.failures read.failed);
     }
 
 pub returns-in_err-recount_sector : goal.returns-in_err-recount_sector
 returns-in_err-recount_sector g c =
     let S = g.D.Sectors.history in
     record {
-      right = let p = err_from_is_err_and c.from_residual-in_err-recount_sector.result c.from_residual-in_err-recount_sector.ensures.1 in
+      right = let p = err_from_is_err_and c.from_residual-in_err-recount_sector.result
+          c.from_residual-in_err-recount_sector.ensures.1 in
           rw p.1 tt;
-      moments = reads_moment S c.args.disk.now c.recount_sector.new.disk 5857 c.args.place (reads_then S c.args.disk.now c.read_sector.new.disk c.recount_sector.new.disk 1 5856 5857 (omega arith) c.read_sector.ensures.reads c.in_err-recount_sector.ensures.judged.err.reads);
+      moments = reads_moment S c.args.disk.now c.recount_sector.new.disk 5857 c.args.place
+          (reads_then S c.args.disk.now c.read_sector.new.disk c.recount_sector.new.disk 1 5856 5857 (omega arith)
+          c.read_sector.ensures.reads c.in_err-recount_sector.ensures.judged.err.reads);
       once = inl (c.in_err-recount_sector.ensures.judged.err.reads.writes ∙ c.read_sector.ensures.reads.writes);
       quiet = λ right.
-          reads_no_write S c.args.disk.now c.recount_sector.new.disk 5857 (reads_then S c.args.disk.now c.read_sector.new.disk c.recount_sector.new.disk 1 5856 5857 (omega arith) c.read_sector.ensures.reads c.in_err-recount_sector.ensures.judged.err.reads);
-      failures = let p = err_from_is_err_and c.from_residual-in_err-recount_sector.result c.from_residual-in_err-recount_sector.ensures.1 in
+          reads_no_write S c.args.disk.now c.recount_sector.new.disk 5857
+          (reads_then S c.args.disk.now c.read_sector.new.disk c.recount_sector.new.disk 1 5856 5857 (omega arith)
+          c.read_sector.ensures.reads c.in_err-recount_sector.ensures.judged.err.reads);
+      failures = let p = err_from_is_err_and c.from_residual-in_err-recount_sector.result
+          c.from_residual-in_err-recount_sector.ensures.1 in
           let P : Image → Type 0 = IsSound in
-          rw (p.1, p.2) (device_later S (Unit {0}) c.args.disk.now c.read_sector.new.disk c.recount_sector.new.disk (Err _) c.in_ok-read_sector.ensures.failures
-          (sound-device S (Unit {0}) c.read_sector.new.disk c.recount_sector.new.disk 5856 _ (subst P (sym c.read_sector.ensures.reads.image) c.requires.here.sound) c.in_err-recount_sector.ensures.judged.err));
+          rw (p.1, p.2) (device_later S (Unit {0}) c.args.disk.now c.read_sector.new.disk c.recount_sector.new.disk
+          (Err _) c.in_ok-read_sector.ensures.failures
+          (sound-device S (Unit {0}) c.read_sector.new.disk c.recount_sector.new.disk 5856 _
+          (subst P (sym c.read_sector.ensures.reads.image) c.requires.here.sound)
+          c.in_err-recount_sector.ensures.judged.err));
     }

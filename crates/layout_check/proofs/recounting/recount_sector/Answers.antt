@@ -20,7 +20,8 @@ recount_slot-requires-clause-there g c =
     let old = c.loop-number.invariant in
     let n = c.loop-number.number in
     let S = g.D.Sectors.history in
-    let same : c.args.bytes.now ≡ sector (S.image c.loop-number.disk) c.args.place = c.requires.there ∙ ap (λ (i : Image). sector i c.args.place) (sym old.passes.reads.image) in
+    let same : c.args.bytes.now ≡ sector (S.image c.loop-number.disk) c.args.place = c.requires.there
+    ∙ ap (λ (i : Image). sector i c.args.place) (sym old.passes.reads.image) in
     old.later n (omega arith) c.loop-number-test.true ∙ ap (λ (bytes : Sector). slot_in c.args.place bytes n) same
 
 pub returns-in_err-recount_slot : goal.returns-in_err-recount_slot
@@ -30,7 +31,9 @@ returns-in_err-recount_slot g c =
       counted = rw p.1 tt;
       judged = record {
         ok = rw p.1 tt;
-        err = rw (p.1, p.2) (tells_then g.D.Sectors.history c.args.disk.now c.loop-number.disk c.recount_slot.new.disk (732 * c.loop-number.number) 732 5856 _ (omega (arith, c.loop-number-test.true)) c.loop-number.invariant.passes c.in_err-recount_slot.ensures.judged.err);
+        err = rw (p.1, p.2) (tells_then g.D.Sectors.history c.args.disk.now c.loop-number.disk c.recount_slot.new.disk
+            (732 * c.loop-number.number) 732 5856 _ (omega (arith, c.loop-number-test.true))
+            c.loop-number.invariant.passes c.in_err-recount_slot.ensures.judged.err);
       };
     }
 
@@ -43,11 +46,16 @@ loop-number-preserved g c =
     let eight = c.loop-number-test.true in
     record {
       few = omega (arith, eight);
-      passes = passes_then S c.args.disk.now c.loop-number.disk c.recount_slot.new.disk (732 * n) 732 (732 * (n + 1)) (omega arith) old.passes now.judged.ok;
+      passes = passes_then S c.args.disk.now c.loop-number.disk c.recount_slot.new.disk (732 * n) 732 (732 * (n + 1))
+          (omega arith) old.passes now.judged.ok;
       counts = counted-then c.args.bytes.now c.loop-number.bytes c.recount_slot.new.bytes old.counts now.counted.counts;
-      later = λ k above low. other-slot c.args.place c.loop-number.bytes c.recount_slot.new.bytes n k now.rest low (λ e. omega (arith, e, above)) ∙ old.later k (omega (arith, above)) low;
-      right = right-next _ _ c.args.place c.loop-number.bytes c.recount_slot.new.bytes n old.passes.reads.image eight now.rest old.right now.counted.right;
-      kept = λ all. let e = old.kept all in now.counted.kept (right-there _ _ c.args.place c.args.bytes.now c.loop-number.bytes n old.passes.reads.image eight e all) ∙ e;
+      later = λ k above low. other-slot c.args.place c.loop-number.bytes c.recount_slot.new.bytes n k now.rest low
+          (λ e. omega (arith, e, above)) ∙ old.later k (omega (arith, above)) low;
+      right = right-next _ _ c.args.place c.loop-number.bytes c.recount_slot.new.bytes n old.passes.reads.image eight
+          now.rest old.right now.counted.right;
+      kept = λ all. let e = old.kept all in
+          now.counted.kept (right-there _ _ c.args.place c.args.bytes.now c.loop-number.bytes n old.passes.reads.image
+          eight e all) ∙ e;
     }
 
 pub loop-number-init : goal.loop-number-init
@@ -68,7 +76,8 @@ returns g c = record {
     kept = c.loop-number.invariant.kept;
   };
   judged = record {
-    ok = passes_weaker g.D.Sectors.history c.args.disk.now c.loop-number.disk (732 * c.loop-number.number) 5856 (omega (arith, c.loop-number.invariant.few)) c.loop-number.invariant.passes;
+    ok = passes_weaker g.D.Sectors.history c.args.disk.now c.loop-number.disk (732 * c.loop-number.number) 5856
+        (omega (arith, c.loop-number.invariant.few)) c.loop-number.invariant.passes;
     err = tt;
   };
 }

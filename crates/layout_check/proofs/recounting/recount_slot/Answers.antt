@@ -9,7 +9,10 @@ use Rattle.layout_check.proofs.RightCounts.{counted-none}
 use Rattle.layout_check.proofs.recounting.recount_slot.Goals as goal
 
 pub count_owned-requires-clause-entry : goal.count_owned-requires-clause-entry
-count_owned-requires-clause-entry g c = rel-entry-at _ c.args.place c.args.number c.in_sector-slot.result c.requires.here.sound c.requires.here.own c.requires.eight (c.in_sector-slot.ensures ∙ c.requires.there) (sym (c.is_relative.ensures ∙ ap (λ (bs : List ℕ). is_rel_type (slice_index bs 2)) c.new.ensures) ∙ c.if-not-is_relative.false)
+count_owned-requires-clause-entry g c = rel-entry-at _ c.args.place c.args.number c.in_sector-slot.result
+    c.requires.here.sound c.requires.here.own c.requires.eight (c.in_sector-slot.ensures ∙ c.requires.there)
+    (sym (c.is_relative.ensures ∙ ap (λ (bs : List ℕ). is_rel_type (slice_index bs 2)) c.new.ensures)
+    ∙ c.if-not-is_relative.false)
 
 pub returns-in_err-count : goal.returns-in_err-count
 returns-in_err-count g c =
@@ -24,18 +27,22 @@ returns-in_err-count g c =
     }
 
 pub count_owned-requires-clause-rel : goal.count_owned-requires-clause-rel
-count_owned-requires-clause-rel g c = sym (c.is_relative.ensures ∙ ap (λ (bs : List ℕ). is_rel_type (slice_index bs 2)) c.new.ensures) ∙ c.if-not-is_relative.false
+count_owned-requires-clause-rel g c = sym (c.is_relative.ensures
+    ∙ ap (λ (bs : List ℕ). is_rel_type (slice_index bs 2)) c.new.ensures) ∙ c.if-not-is_relative.false
 
 pub returns-then-not-is_relative : goal.returns-then-not-is_relative
 returns-then-not-is_relative g c = record {
   rest = record { old_long = search rules; long = search rules; same = λ i at. refl };
   counted = record {
     counts = counted-none c.args.bytes.now (search rules);
-    right = right-plain _ c.args.place c.args.bytes.now c.args.number c.in_sector-slot.result (c.in_sector-slot.ensures ∙ c.requires.there) (λ e. false≢true (sym c.if-not-is_relative.true ∙ (c.is_relative.ensures ∙ ap (λ (bs : List ℕ). is_rel_type (slice_index bs 2)) c.new.ensures) ∙ e));
+    right = right-plain _ c.args.place c.args.bytes.now c.args.number c.in_sector-slot.result (c.in_sector-slot.ensures
+        ∙ c.requires.there) (λ e. false≢true (sym c.if-not-is_relative.true
+        ∙ (c.is_relative.ensures ∙ ap (λ (bs : List ℕ). is_rel_type (slice_index bs 2)) c.new.ensures) ∙ e));
     kept = λ right. refl;
   };
   judged = record {
-    ok = passes_weaker g.D.Sectors.history c.args.disk.now c.args.disk.now 0 732 (omega arith) (passes_none g.D.Sectors.history c.args.disk.now);
+    ok = passes_weaker g.D.Sectors.history c.args.disk.now c.args.disk.now 0 732 (omega arith)
+        (passes_none g.D.Sectors.history c.args.disk.now);
     err = tt;
   };
 }
@@ -44,13 +51,22 @@ pub returns : goal.returns
 returns g c = record {
   rest = c.put_count.ensures.rest;
   counted = record {
-    counts = counted-one c.args.place c.args.bytes.now c.put_count.new.bytes c.args.number c.requires.eight (ap is_rel (sym c.in_sector-slot.ensures) ∙ sym (c.is_relative.ensures ∙ ap (λ (bs : List ℕ). is_rel_type (slice_index bs 2)) c.new.ensures) ∙ c.if-not-is_relative.false) c.put_count.ensures.rest;
-    right = right-counted _ c.args.place c.put_count.new.bytes c.args.number c.in_ok-count.count c.in_sector-slot.result (c.in_sector-slot.ensures ∙ c.requires.there) c.in_ok-count.ensures.count (c.put_count.ensures.count c.args.place);
+    counts = counted-one c.args.place c.args.bytes.now c.put_count.new.bytes c.args.number c.requires.eight
+        (ap is_rel (sym c.in_sector-slot.ensures)
+        ∙ sym (c.is_relative.ensures ∙ ap (λ (bs : List ℕ). is_rel_type (slice_index bs 2)) c.new.ensures)
+        ∙ c.if-not-is_relative.false) c.put_count.ensures.rest;
+    right = right-counted _ c.args.place c.put_count.new.bytes c.args.number c.in_ok-count.count c.in_sector-slot.result
+        (c.in_sector-slot.ensures ∙ c.requires.there) c.in_ok-count.ensures.count
+        (c.put_count.ensures.count c.args.place);
     kept = λ right.
         let there = c.in_sector-slot.ensures ∙ c.requires.there in
-        let rel = sym (c.is_relative.ensures ∙ ap (λ (bs : List ℕ). is_rel_type (slice_index bs 2)) c.new.ensures) ∙ c.if-not-is_relative.false in
-        let entry = rel-entry-at _ c.args.place c.args.number c.in_sector-slot.result c.requires.here.sound c.requires.here.own c.requires.eight there rel in
-        c.put_count.ensures.kept c.args.place (counted-right_at _ c.args.place c.args.bytes.now c.args.number c.in_ok-count.count c.in_sector-slot.result c.requires.here.sound there entry rel c.in_ok-count.ensures.count right);
+        let rel = sym (c.is_relative.ensures ∙ ap (λ (bs : List ℕ). is_rel_type (slice_index bs 2)) c.new.ensures)
+        ∙ c.if-not-is_relative.false in
+        let entry = rel-entry-at _ c.args.place c.args.number c.in_sector-slot.result c.requires.here.sound
+        c.requires.here.own c.requires.eight there rel in
+        c.put_count.ensures.kept c.args.place (counted-right_at _ c.args.place c.args.bytes.now c.args.number
+        c.in_ok-count.count c.in_sector-slot.result c.requires.here.sound there entry rel
+        c.in_ok-count.ensures.count right);
   };
   judged = record {
     ok = c.in_ok-count.ensures.judged.ok;

@@ -5,7 +5,16 @@ use Rattle.d64_image.proofs.Moments.{no_write_then, reads_no_write}
 use Rattle.disk_layout.proofs.Orders.{over_none}
 use Rattle.layout_check.specs.RepairOrder.{IsRight, repair_order}
 use Rattle.layout_check.proofs.RepairOrder.{order_after, spare_after}
-use Rattle.layout_check.proofs.RepairRuns.{clean_after, device_holds, device_sound, device_tells, mends_after, mends_none, repaired_after, told_after}
+use Rattle.layout_check.proofs.RepairRuns.{
+  clean_after,
+  device_holds,
+  device_sound,
+  device_tells,
+  mends_after,
+  mends_none,
+  repaired_after,
+  told_after,
+}
 use Rattle.layout_check.specs.declared.outcome.Survey.{Survey}
 use Rattle.layout_check.proofs.repairing.repair.Goals as goal
 
@@ -21,13 +30,15 @@ pub returns-in_err-found-clause-unsound : goal.returns-in_err-found-clause-unsou
 returns-in_err-found-clause-unsound g c not_sound = c.survey.ensures.reads
 
 pub mend-requires : goal.mend-requires
-mend-requires g c = told_after g.D.Sectors.history _ _ _ 2114 c.survey.ensures.reads (let h = c.in_ok-found.ensures.ok in (h.0, h.1, h.2))
+mend-requires g c = told_after g.D.Sectors.history _ _ _ 2114 c.survey.ensures.reads (let h =
+    c.in_ok-found.ensures.ok in (h.0, h.1, h.2))
 
 pub returns-in_err-found-clause-quiet : goal.returns-in_err-found-clause-quiet
 returns-in_err-found-clause-quiet g c clean = reads_no_write g.D.Sectors.history _ _ 2114 c.survey.ensures.reads
 
 pub returns-in_err-found-clause-order : goal.returns-in_err-found-clause-order
-returns-in_err-found-clause-order g c l is = over_none g.D.Sectors.history (IsRight l) (repair_order l) _ _ 2114 c.survey.ensures.reads
+returns-in_err-found-clause-order g c l is = over_none g.D.Sectors.history (IsRight l) (repair_order l) _ _ 2114
+    c.survey.ensures.reads
 
 pub returns : goal.returns
 returns g c =
@@ -43,7 +54,8 @@ returns g c =
       unsound = λ not_sound. let l = c.in_ok-found.ensures.ok in absurd (not_sound (l.0, l.1));
       quiet = λ clean.
           let reads = c.in_ok-found.ensures.reads in
-          no_write_then S _ _ _ (reads_no_write S _ _ 2114 reads) (c.mend.ensures.quiet (clean_after S _ _ 2114 reads clean));
+          no_write_then S _ _ _ (reads_no_write S _ _ 2114 reads)
+          (c.mend.ensures.quiet (clean_after S _ _ 2114 reads clean));
       failures = c.in_ok-mend.ensures.failures ∙ c.in_ok-found.ensures.failures;
     }
 
@@ -55,13 +67,16 @@ returns-in_err-mend g c =
       ok = rw p.1 tt;
       -- a failure while it is mended
       err = rw (p.1, p.2) (device_holds S _ _ _ _ c.in_err-mend.ensures.failures);
-      sound = λ never. absurd (device_sound S _ _ _ _ c.in_ok-found.ensures.failures c.in_err-mend.ensures.failures never);
+      sound = λ never. absurd (device_sound S _ _ _ _ c.in_ok-found.ensures.failures c.in_err-mend.ensures.failures
+          never);
       moments = mends_after S _ _ _ 2114 c.in_ok-found.ensures.reads c.mend.ensures.moments;
       order = λ l is. order_after S l _ _ _ 2114 is c.survey.ensures.reads c.mend.ensures.order;
       spare = spare_after S _ _ _ 2114 c.survey.ensures.reads c.mend.ensures.spare;
       unsound = λ not_sound. let l = c.in_ok-found.ensures.ok in absurd (not_sound (l.0, l.1));
       quiet = λ clean.
           let reads = c.in_ok-found.ensures.reads in
-          no_write_then S _ _ _ (reads_no_write S _ _ 2114 reads) (c.mend.ensures.quiet (clean_after S _ _ 2114 reads clean));
-      failures = rw (p.1, p.2) (device_tells S Survey _ _ _ _ c.in_ok-found.ensures.failures c.in_err-mend.ensures.failures);
+          no_write_then S _ _ _ (reads_no_write S _ _ 2114 reads)
+          (c.mend.ensures.quiet (clean_after S _ _ 2114 reads clean));
+      failures = rw (p.1, p.2) (device_tells S Survey _ _ _ _ c.in_ok-found.ensures.failures
+          c.in_err-mend.ensures.failures);
     }

@@ -5,7 +5,8 @@ use Rattle.layout_check.proofs.SideWalks.{misnumbered}
 use Rattle.layout_check.proofs.sides.is_side.Goals as goal
 
 pub returns-then-not-is_numbered-clause-wrong : goal.returns-then-not-is_numbered-clause-wrong
-returns-then-not-is_numbered-clause-wrong c f = misnumbered c.args.sector.now c.args.slot.now c.args.blocks.now c.args.number (c.is_numbered.ensures.wrong c.if-not-is_numbered.true)
+returns-then-not-is_numbered-clause-wrong c f = misnumbered c.args.sector.now c.args.slot.now c.args.blocks.now
+    c.args.number (c.is_numbered.ensures.wrong c.if-not-is_numbered.true)
 
 pub returns-clause-right : goal.returns-clause-right
 returns-clause-right c t =
@@ -13,8 +14,11 @@ returns-clause-right c t =
     record {
       number = h.0;
       length_byte = h.1;
-      pointers = pointers-right c.args.sector.now c.args.blocks.now c.args.number c.min-end.result (end-far _ _ c.min-end.result c.min-end.ensures) (c.names_each.ensures.right t);
+      pointers = pointers-right c.args.sector.now c.args.blocks.now c.args.number c.min-end.result
+          (end-far _ _ c.min-end.result c.min-end.ensures) (c.names_each.ensures.right t);
     }
 
 pub returns-clause-wrong : goal.returns-clause-wrong
-returns-clause-wrong c f = inr (inr (pointers-wrong c.args.sector.now c.args.blocks.now c.args.number c.min-end.result (omega (arith, c.min-end.ensures)) (c.names_each.ensures.wrong f)))
+returns-clause-wrong c f =
+    inr (inr (pointers-wrong c.args.sector.now c.args.blocks.now c.args.number c.min-end.result
+    (omega (arith, c.min-end.ensures)) (c.names_each.ensures.wrong f)))

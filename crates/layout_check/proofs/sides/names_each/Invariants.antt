@@ -7,6 +7,7 @@ use Rattle.layout_check.proofs.sides.names_each.Given as goal
 
 abbrev pub invariant-loop-number : goal.invariant-loop-number
 invariant-loop-number l = record {
-  right : IsTrue l.same → (k : ℕ) → k < l.number → (q : Place) → slice_get l.places k ≡ Some q → Names l.sector (l.at + 2 * k) q;
+  right : IsTrue l.same → (k : ℕ) → k < l.number → (q : Place) → slice_get l.places k ≡ Some q
+      → Names l.sector (l.at + 2 * k) q;
   wrong : IsFalse l.same → IsMisnamed l.sector l.at l.places;
 }

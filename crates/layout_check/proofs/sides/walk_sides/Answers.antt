@@ -5,8 +5,26 @@ use Rattle.d64_image.specs.Images.{Image, sector}
 use Rattle.disk_layout.proofs.Chains.{Leads-push}
 use Rattle.disk_layout.proofs.Names.{named-match}
 use Rattle.disk_layout.specs.Layout.{sides_for}
-use Rattle.layout_check.proofs.Calls.{passes_none, passes_read, passes_then, passes_weaker, side_tells, tells_read, tells_then}
-use Rattle.layout_check.proofs.SideWalks.{bad-holds, linked-at, misjudged-bad, misnumbered, no_first_side, side-reached, some-blocks, unlinked-bad, walk-done}
+use Rattle.layout_check.proofs.Calls.{
+  passes_none,
+  passes_read,
+  passes_then,
+  passes_weaker,
+  side_tells,
+  tells_read,
+  tells_then,
+}
+use Rattle.layout_check.proofs.SideWalks.{
+  bad-holds,
+  linked-at,
+  misjudged-bad,
+  misnumbered,
+  no_first_side,
+  side-reached,
+  some-blocks,
+  unlinked-bad,
+  walk-done,
+}
 use Rattle.disk_layout.specs.Fault.{nowhere}
 use Rattle.layout_check.proofs.sides.walk_sides.Goals as goal
 
@@ -21,7 +39,13 @@ loop-number-init g c = record {
 pub push-requires : goal.push-requires
 push-requires g c =
     let old = c.loop-number.invariant in
-    let h : length c.loop-number.sides.items < 6 = omega (arith, old.below, old.count, c.div_ceil-needed.ensures, c.requires.few) in
+    let h : length c.loop-number.sides.items < 6 = omega (
+      arith,
+      old.below,
+      old.count,
+      c.div_ceil-needed.ensures,
+      c.requires.few,
+    ) in
     (lit< tt, h)
 
 pub loop-number-preserved : goal.loop-number-preserved
@@ -30,9 +54,13 @@ loop-number-preserved g c =
     let old = c.loop-number.invariant in
     let e = c.in_ok-read_sector.ensures.sector ∙ ap (λ (i : Image). sector i c.loop-number.at) old.passes.reads.image in
     record {
-      passes = passes_then S c.args.disk.now c.loop-number.disk c.read_sector.new.disk c.loop-number.number 1 (c.loop-number.number + 1) (omega arith) old.passes (passes_read S c.loop-number.disk c.read_sector.new.disk c.in_ok-read_sector.ensures.reads c.in_ok-read_sector.ensures.failures);
+      passes = passes_then S c.args.disk.now c.loop-number.disk c.read_sector.new.disk c.loop-number.number 1
+          (c.loop-number.number + 1) (omega arith) old.passes (passes_read S c.loop-number.disk c.read_sector.new.disk
+          c.in_ok-read_sector.ensures.reads c.in_ok-read_sector.ensures.failures);
       below = omega (arith, old.below, c.if-number-needed.false);
-      leads = rw c.push.ensures.items (Leads-push _ c.in-Some.first c.loop-number.sides.items c.loop-number.at c.in-Some-next.next old.leads (linked-at _ c.loop-number.at c.in-Some-next.next c.read_sector.new.to e (named-match c.read_sector.new.to _ 0 _ c.new-in-loop-number.ensures c.in-Some-next.ensures)));
+      leads = rw c.push.ensures.items (Leads-push _ c.in-Some.first c.loop-number.sides.items c.loop-number.at
+          c.in-Some-next.next old.leads (linked-at _ c.loop-number.at c.in-Some-next.next c.read_sector.new.to e
+          (named-match c.read_sector.new.to _ 0 _ c.new-in-loop-number.ensures c.in-Some-next.ensures)));
       count = omega (arith, c.push.ensures.len, old.count);
     }
 
@@ -45,8 +73,11 @@ returns-in_err-read_sector g c =
       ok = rw p.1 tt;
       err = let old = c.loop-number.invariant in
           let read = c.in_err-read_sector.ensures in
-          rw (p.1, p.2) (tells_then S c.args.disk.now c.loop-number.disk c.read_sector.new.disk c.loop-number.number 1 6 _
-          (omega (arith, old.below, c.div_ceil-needed.ensures, c.requires.few)) old.passes (tells_read S c.loop-number.disk c.read_sector.new.disk c.loop-number.at _ read.told read.reads read.failures read.failed));
+          rw (p.1, p.2) (tells_then S c.args.disk.now c.loop-number.disk c.read_sector.new.disk c.loop-number.number 1 6
+          _
+          (omega (arith, old.below, c.div_ceil-needed.ensures, c.requires.few)) old.passes
+          (tells_read S c.loop-number.disk c.read_sector.new.disk c.loop-number.at _ read.told read.reads
+          read.failures read.failed));
     }
 
 pub returns-in_default : goal.returns-in_default
@@ -56,7 +87,9 @@ returns-in_default g c =
       sides = tt;
       ok = tt;
       err = let d = c.args.disk.now in
-          side_tells S d d 6 c.args.slot.now.sector (passes_weaker S d d 0 6 (omega arith) (passes_none S d)) (no_first_side nowhere _ c.args.slot.now c.args.blocks.now c.requires.entry (named-match c.args.slot.now.bytes _ 21 _ c.new.ensures c.in_default.ensures));
+          side_tells S d d 6 c.args.slot.now.sector (passes_weaker S d d 0 6 (omega arith) (passes_none S d))
+          (no_first_side nowhere _ c.args.slot.now c.args.blocks.now c.requires.entry
+          (named-match c.args.slot.now.bytes _ 21 _ c.new.ensures c.in_default.ensures));
     }
 
 pub returns-then-not-is_numbered : goal.returns-then-not-is_numbered
@@ -66,13 +99,22 @@ returns-then-not-is_numbered g c =
       sides = tt;
       ok = tt;
       err = let old = c.loop-number.invariant in
-          let e = c.in_ok-read_sector.ensures.sector ∙ ap (λ (i : Image). sector i c.loop-number.at) old.passes.reads.image in
-          let passes = passes_then S c.args.disk.now c.loop-number.disk c.read_sector.new.disk c.loop-number.number 1 6 (omega (arith, old.below, c.div_ceil-needed.ensures, c.requires.few)) old.passes (passes_read S c.loop-number.disk c.read_sector.new.disk c.in_ok-read_sector.ensures.reads c.in_ok-read_sector.ensures.failures) in
-          let below : c.loop-number.number < sides_for (length c.args.blocks.now) = omega (arith, old.below, c.div_ceil-needed.ensures) in
+          let e = c.in_ok-read_sector.ensures.sector
+          ∙ ap (λ (i : Image). sector i c.loop-number.at) old.passes.reads.image in
+          let passes = passes_then S c.args.disk.now c.loop-number.disk c.read_sector.new.disk c.loop-number.number 1 6
+          (omega (arith, old.below, c.div_ceil-needed.ensures, c.requires.few)) old.passes
+          (passes_read S c.loop-number.disk c.read_sector.new.disk c.in_ok-read_sector.ensures.reads
+          c.in_ok-read_sector.ensures.failures) in
+          let below : c.loop-number.number < sides_for (length c.args.blocks.now) =
+          omega (arith, old.below, c.div_ceil-needed.ensures) in
           side_tells S c.args.disk.now c.read_sector.new.disk 6 c.loop-number.at passes
           (bad-holds nowhere _ c.args.slot.now c.args.blocks.now c.loop-number.number c.loop-number.at c.requires.entry
-          (side-reached _ c.args.slot.now c.args.blocks.now c.loop-number.sides.items c.in-Some.first c.loop-number.at c.loop-number.number c.requires.entry (named-match c.args.slot.now.bytes _ 21 _ c.new.ensures c.in-Some.ensures) old.leads old.count below)
-          (misjudged-bad _ c.args.slot.now c.args.blocks.now c.loop-number.number c.loop-number.at c.read_sector.new.to e (misnumbered _ c.args.slot.now c.args.blocks.now c.loop-number.number (c.is_numbered.ensures.wrong c.if-not-is_numbered.true))));
+          (side-reached _ c.args.slot.now c.args.blocks.now c.loop-number.sides.items c.in-Some.first c.loop-number.at
+          c.loop-number.number c.requires.entry (named-match c.args.slot.now.bytes _ 21 _ c.new.ensures
+          c.in-Some.ensures) old.leads old.count below)
+          (misjudged-bad _ c.args.slot.now c.args.blocks.now c.loop-number.number c.loop-number.at c.read_sector.new.to
+          e (misnumbered _ c.args.slot.now c.args.blocks.now c.loop-number.number
+          (c.is_numbered.ensures.wrong c.if-not-is_numbered.true))));
     }
 
 pub returns-in_default-next : goal.returns-in_default-next
@@ -82,13 +124,22 @@ returns-in_default-next g c =
       sides = tt;
       ok = tt;
       err = let old = c.loop-number.invariant in
-          let e = c.in_ok-read_sector.ensures.sector ∙ ap (λ (i : Image). sector i c.loop-number.at) old.passes.reads.image in
-          let passes = passes_then S c.args.disk.now c.loop-number.disk c.read_sector.new.disk c.loop-number.number 1 6 (omega (arith, old.below, c.div_ceil-needed.ensures, c.requires.few)) old.passes (passes_read S c.loop-number.disk c.read_sector.new.disk c.in_ok-read_sector.ensures.reads c.in_ok-read_sector.ensures.failures) in
-          let below : c.loop-number.number < sides_for (length c.args.blocks.now) = omega (arith, old.below, c.div_ceil-needed.ensures) in
+          let e = c.in_ok-read_sector.ensures.sector
+          ∙ ap (λ (i : Image). sector i c.loop-number.at) old.passes.reads.image in
+          let passes = passes_then S c.args.disk.now c.loop-number.disk c.read_sector.new.disk c.loop-number.number 1 6
+          (omega (arith, old.below, c.div_ceil-needed.ensures, c.requires.few)) old.passes
+          (passes_read S c.loop-number.disk c.read_sector.new.disk c.in_ok-read_sector.ensures.reads
+          c.in_ok-read_sector.ensures.failures) in
+          let below : c.loop-number.number < sides_for (length c.args.blocks.now) =
+          omega (arith, old.below, c.div_ceil-needed.ensures) in
           side_tells S c.args.disk.now c.read_sector.new.disk 6 c.loop-number.at passes
           (bad-holds nowhere _ c.args.slot.now c.args.blocks.now c.loop-number.number c.loop-number.at c.requires.entry
-          (side-reached _ c.args.slot.now c.args.blocks.now c.loop-number.sides.items c.in-Some.first c.loop-number.at c.loop-number.number c.requires.entry (named-match c.args.slot.now.bytes _ 21 _ c.new.ensures c.in-Some.ensures) old.leads old.count below)
-          (unlinked-bad _ c.args.slot.now c.args.blocks.now c.loop-number.number c.loop-number.at c.read_sector.new.to e (omega (arith, old.below, c.if-number-needed.false, c.div_ceil-needed.ensures)) (named-match c.read_sector.new.to _ 0 _ c.new-in-loop-number.ensures c.in_default-next.ensures)));
+          (side-reached _ c.args.slot.now c.args.blocks.now c.loop-number.sides.items c.in-Some.first c.loop-number.at
+          c.loop-number.number c.requires.entry (named-match c.args.slot.now.bytes _ 21 _ c.new.ensures
+          c.in-Some.ensures) old.leads old.count below)
+          (unlinked-bad _ c.args.slot.now c.args.blocks.now c.loop-number.number c.loop-number.at c.read_sector.new.to e
+          (omega (arith, old.below, c.if-number-needed.false, c.div_ceil-needed.ensures))
+          (named-match c.read_sector.new.to _ 0 _ c.new-in-loop-number.ensures c.in_default-next.ensures)));
     }
 
 pub returns-then-number-needed : goal.returns-then-number-needed
@@ -96,10 +147,15 @@ returns-then-number-needed g c =
     let S = g.D.Sectors.history in
     record {
       sides = let old = c.loop-number.invariant in
-          rw c.push.ensures.items (walk-done _ c.args.slot.now c.args.blocks.now c.loop-number.sides.items c.in-Some.first c.loop-number.at (named-match c.args.slot.now.bytes _ 21 _ c.new.ensures c.in-Some.ensures) old.leads
+          rw c.push.ensures.items (walk-done _ c.args.slot.now c.args.blocks.now c.loop-number.sides.items
+          c.in-Some.first c.loop-number.at (named-match c.args.slot.now.bytes _ 21 _ c.new.ensures
+          c.in-Some.ensures) old.leads
           (omega (arith, old.count, c.if-number-needed.true, c.div_ceil-needed.ensures)));
       ok = let old = c.loop-number.invariant in
-          passes_then S c.args.disk.now c.loop-number.disk c.read_sector.new.disk c.loop-number.number 1 _ (omega (arith, c.push.ensures.len, old.count)) old.passes (passes_read S c.loop-number.disk c.read_sector.new.disk c.in_ok-read_sector.ensures.reads c.in_ok-read_sector.ensures.failures);
+          passes_then S c.args.disk.now c.loop-number.disk c.read_sector.new.disk c.loop-number.number 1 _
+          (omega (arith, c.push.ensures.len, old.count)) old.passes
+          (passes_read S c.loop-number.disk c.read_sector.new.disk c.in_ok-read_sector.ensures.reads
+          c.in_ok-read_sector.ensures.failures);
       err = tt;
     }
 

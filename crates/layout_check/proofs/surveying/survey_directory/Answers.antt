@@ -10,7 +10,9 @@ returns-in_err-read_directory g c =
     record {
       directory = rw p.1 tt;
       ok = rw p.1 tt;
-      err = rw (p.1, p.2) (directory-tells g.D.Sectors.history (Unit {0}) c.args.disk.now c.read_directory.new.disk _ c.in_err-read_directory.ensures.reads c.in_err-read_directory.ensures.failures c.in_err-read_directory.ensures.err);
+      err = rw (p.1, p.2) (directory-tells g.D.Sectors.history (Unit {0}) c.args.disk.now c.read_directory.new.disk _
+          c.in_err-read_directory.ensures.reads c.in_err-read_directory.ensures.failures
+          c.in_err-read_directory.ensures.err);
     }
 
 pub returns-in_err-walk_chain : goal.returns-in_err-walk_chain
@@ -20,14 +22,22 @@ returns-in_err-walk_chain g c =
       directory = rw p.1 tt;
       ok = rw p.1 tt;
       err = let d = c.in_ok-read_directory.ensures.ok in
-          rw (p.1, p.2) (again-tells g.D.Sectors.history ℕ c.args.disk.now c.read_directory.new.disk c.walk_chain.new.disk d.0 c.read_directory.new.slots.items _ _ (omega (arith, c.in_err-walk_chain.ensures.few))
-          (record { reads = c.in_ok-read_directory.ensures.reads; failures = c.in_ok-read_directory.ensures.failures }) d.1 c.in_err-walk_chain.ensures.reads c.in_err-walk_chain.ensures.failures (rw c.directory_start.ensures at c.in_err-walk_chain.ensures.fault));
+          rw (p.1, p.2) (again-tells g.D.Sectors.history ℕ c.args.disk.now c.read_directory.new.disk
+          c.walk_chain.new.disk d.0 c.read_directory.new.slots.items _ _
+          (omega (arith, c.in_err-walk_chain.ensures.few))
+          (record { reads = c.in_ok-read_directory.ensures.reads; failures = c.in_ok-read_directory.ensures.failures })
+          d.1 c.in_err-walk_chain.ensures.reads c.in_err-walk_chain.ensures.failures
+          (rw c.directory_start.ensures at c.in_err-walk_chain.ensures.fault));
     }
 
 pub returns : goal.returns
 returns g c = record {
   directory = let d = c.in_ok-read_directory.ensures.ok in
-      directory-walked _ _ d.0 c.walk_chain.new.places.items c.read_directory.new.slots.items _ c.in_ok-read_directory.ensures.reads.image d.1 (rw c.directory_start.ensures at c.in_ok-walk_chain.ensures.chain);
-  ok = directory-passes g.D.Sectors.history c.args.disk.now c.read_directory.new.disk c.walk_chain.new.disk _ (record { reads = c.in_ok-read_directory.ensures.reads; failures = c.in_ok-read_directory.ensures.failures }) c.in_ok-walk_chain.ensures.reads c.in_ok-walk_chain.ensures.failures;
+      directory-walked _ _ d.0 c.walk_chain.new.places.items c.read_directory.new.slots.items _
+      c.in_ok-read_directory.ensures.reads.image d.1
+      (rw c.directory_start.ensures at c.in_ok-walk_chain.ensures.chain);
+  ok = directory-passes g.D.Sectors.history c.args.disk.now c.read_directory.new.disk c.walk_chain.new.disk _
+      (record { reads = c.in_ok-read_directory.ensures.reads; failures = c.in_ok-read_directory.ensures.failures })
+      c.in_ok-walk_chain.ensures.reads c.in_ok-walk_chain.ensures.failures;
   err = tt;
 }

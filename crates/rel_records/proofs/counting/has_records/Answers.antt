@@ -11,6 +11,7 @@ unfolding record_count
 returns c =
     let v = c.args.file.now in
     let used = c.used_bytes.result in
-    let fits : (c.args.number ≤ used / v.size) ↔ (c.args.number * v.size ≤ used) = le-div_iff_mul-le (omega (arith, v.size_low)) in
+    let fits : (c.args.number ≤ used / v.size) ↔ (c.args.number * v.size ≤ used) =
+    le-div_iff_mul-le (omega (arith, v.size_low)) in
     let count : used / v.size ≡ records_in v = rw c.used_bytes.ensures.value refl in
     ((λ h. rw (← count) (fits.1 (leb-true _ _ h))), (λ le. le-leb _ _ (fits.0 (rw count le))))

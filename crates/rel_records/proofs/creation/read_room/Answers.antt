@@ -17,37 +17,50 @@ pub returns-in_default-clause-failures : goal.returns-in_default-clause-failures
 returns-in_default-clause-failures g c =
     let S = g.D.Sectors.history in
     let (l, h) = c.requires.sound in
-    let P : Place → Type 0 = λ p. HoldsOfChain (S.failed_at c.walk_chain.new.disk) (S.image c.args.disk.now) p c.in_default.field-0 in
-    chain-failed ℕ S c.args.disk.now c.walk_chain.new.disk _ (S.image c.args.disk.now) directory_start l.directory h.directory.last c.in_default.field-0 h.directory.chain
+    let P : Place → Type 0 = λ p. HoldsOfChain (S.failed_at c.walk_chain.new.disk) (S.image c.args.disk.now) p
+    c.in_default.field-0 in
+    chain-failed ℕ S c.args.disk.now c.walk_chain.new.disk _ (S.image c.args.disk.now) directory_start l.directory
+    h.directory.last c.in_default.field-0 h.directory.chain
     (subst P c.directory_start.ensures c.in_default.ensures.fault) c.in_default.ensures.failures
 
 pub returns-in_default-find_room-clause-quiet : goal.returns-in_default-find_room-clause-quiet
 returns-in_default-find_room-clause-quiet g c =
     let S = g.D.Sectors.history in
-    no_write_then S _ _ _ (reads_no_write S _ _ _ c.in-Ok.ensures.reads) (reads_no_write S _ _ _ c.in_default-find_room.ensures.reads)
+    no_write_then S _ _ _ (reads_no_write S _ _ _ c.in-Ok.ensures.reads)
+    (reads_no_write S _ _ _ c.in_default-find_room.ensures.reads)
 
 pub returns-clause-ok : goal.returns-clause-ok
 returns-clause-ok g c l h =
     let S = g.D.Sectors.history in
     let P : Place → List Place → Type 0 = λ p ps. IsChain (S.image c.args.disk.now) p ps c.in-Ok.field-0 in
-    room-of (S.image c.args.disk.now) (S.image c.walk_chain.new.disk) l c.as_slice.result.now c.in-Ok.field-0 c.in-Ok-find_room.room h
-    (subst (P directory_start) (sym c.as_slice.ensures.value) (subst (λ p. P p c.walk_chain.new.places.items) c.directory_start.ensures c.in-Ok.ensures.chain))
-    c.in-Ok.ensures.reads.image c.in-Ok-find_room.ensures.bytes c.in-Ok-find_room.ensures.ok c.in-Ok-find_room.ensures.before
+    room-of (S.image c.args.disk.now) (S.image c.walk_chain.new.disk) l c.as_slice.result.now c.in-Ok.field-0
+    c.in-Ok-find_room.room h
+    (subst (P directory_start) (sym c.as_slice.ensures.value) (subst (λ p. P p c.walk_chain.new.places.items)
+    c.directory_start.ensures c.in-Ok.ensures.chain))
+    c.in-Ok.ensures.reads.image c.in-Ok-find_room.ensures.bytes c.in-Ok-find_room.ensures.ok
+    c.in-Ok-find_room.ensures.before
 
 pub returns-clause-reads : goal.returns-clause-reads
 returns-clause-reads g c =
     let S = g.D.Sectors.history in
     let (l, h) = c.requires.sound in
     let P : Place → Type 0 = λ p. IsChain (S.image c.args.disk.now) p c.walk_chain.new.places.items c.in-Ok.field-0 in
-    let dir = walked (S.image c.args.disk.now) l c.walk_chain.new.places.items c.in-Ok.field-0 h (subst P c.directory_start.ensures c.in-Ok.ensures.chain) in
-    let few : length c.walk_chain.new.places.items ≤ 18 = omega (arith, ap (λ (ps : List Place). length ps) dir, few-sectors (S.image c.args.disk.now) l.directory _ h.directory) in
-    let read : length c.as_slice.result.now ≤ 18 = omega (arith, few, ap (λ (ps : List Place). length ps) c.as_slice.ensures.value) in
+    let dir = walked (S.image c.args.disk.now) l c.walk_chain.new.places.items c.in-Ok.field-0 h
+    (subst P c.directory_start.ensures c.in-Ok.ensures.chain) in
+    let few : length c.walk_chain.new.places.items ≤ 18 = omega (
+      arith,
+      ap (λ (ps : List Place). length ps) dir,
+      few-sectors (S.image c.args.disk.now) l.directory _ h.directory,
+    ) in
+    let read : length c.as_slice.result.now ≤ 18 =
+    omega (arith, few, ap (λ (ps : List Place). length ps) c.as_slice.ensures.value) in
     reads_then S _ _ _ _ _ 36 (omega (arith, few, read)) c.in-Ok.ensures.reads c.in-Ok-find_room.ensures.reads
 
 pub returns-clause-quiet : goal.returns-clause-quiet
 returns-clause-quiet g c =
     let S = g.D.Sectors.history in
-    no_write_then S _ _ _ (reads_no_write S _ _ _ c.in-Ok.ensures.reads) (reads_no_write S _ _ _ c.in-Ok-find_room.ensures.reads)
+    no_write_then S _ _ _ (reads_no_write S _ _ _ c.in-Ok.ensures.reads)
+    (reads_no_write S _ _ _ c.in-Ok-find_room.ensures.reads)
 
 pub returns-in_default-clause-ok : goal.returns-in_default-clause-ok
 returns-in_default-clause-ok g c l h = tt
@@ -68,7 +81,8 @@ pub returns-in_default-find_room-clause-reads : goal.returns-in_default-find_roo
 returns-in_default-find_room-clause-reads g c = tt
 
 pub returns-in_default-find_room-clause-failures : goal.returns-in_default-find_room-clause-failures
-returns-in_default-find_room-clause-failures g c = failed_later g.D.Sectors.history _ _ _ c.in-Ok.ensures.failures c.in_default-find_room.ensures.failures
+returns-in_default-find_room-clause-failures g c = failed_later g.D.Sectors.history _ _ _ c.in-Ok.ensures.failures
+    c.in_default-find_room.ensures.failures
 
 pub returns-clause-err : goal.returns-clause-err
 returns-clause-err g c = tt

@@ -18,19 +18,26 @@ loop-before-init g c = record {
 }
 
 pub returns-in_err-read-clause-reads : goal.returns-in_err-read-clause-reads
-returns-in_err-read-clause-reads g c = reads_then g.D.Sectors.history _ _ _ _ 1 _ (omega (arith, c.loop-before-test.true)) c.loop-before.invariant.reads c.read.ensures.reads
+returns-in_err-read-clause-reads g c = reads_then g.D.Sectors.history _ _ _ _ 1 _
+    (omega (arith, c.loop-before-test.true)) c.loop-before.invariant.reads c.read.ensures.reads
 
 pub returns-in-Some-clause-bytes : goal.returns-in-Some-clause-bytes
-returns-in-Some-clause-bytes g c = c.in_ok-read.ensures.sector ∙ ap (λ (i : Image). sector i c.index-places-before.result) c.loop-before.invariant.reads.image
+returns-in-Some-clause-bytes g c = c.in_ok-read.ensures.sector
+    ∙ ap (λ (i : Image). sector i c.index-places-before.result) c.loop-before.invariant.reads.image
 
 pub returns-in-Some-clause-ok : goal.returns-in-Some-clause-ok
 returns-in-Some-clause-ok g c =
-    let read = c.in_ok-read.ensures.sector ∙ ap (λ (i : Image). sector i c.index-places-before.result) c.loop-before.invariant.reads.image in
-    let there = slice_get_read c.args.places.now (length c.args.places.now) c.loop-before.before c.index-places-before.result refl c.loop-before-test.true c.index-places-before.is in
-    first-room (g.D.Sectors.history.image c.args.disk.now) c.args.places.now c.loop-before.before c.index-places-before.result c.read.new.to c.in-Some.number there c.loop-before.invariant.full read (c.in-Some.ensures c.index-places-before.result)
+    let read = c.in_ok-read.ensures.sector ∙ ap (λ (i : Image). sector i c.index-places-before.result)
+    c.loop-before.invariant.reads.image in
+    let there = slice_get_read c.args.places.now (length c.args.places.now) c.loop-before.before
+    c.index-places-before.result refl c.loop-before-test.true c.index-places-before.is in
+    first-room (g.D.Sectors.history.image c.args.disk.now) c.args.places.now c.loop-before.before
+    c.index-places-before.result c.read.new.to c.in-Some.number there c.loop-before.invariant.full read
+    (c.in-Some.ensures c.index-places-before.result)
 
 pub returns-in-Some-clause-reads : goal.returns-in-Some-clause-reads
-returns-in-Some-clause-reads g c = reads_then g.D.Sectors.history _ _ _ _ 1 _ (omega (arith, c.loop-before-test.true)) c.loop-before.invariant.reads c.read.ensures.reads
+returns-in-Some-clause-reads g c = reads_then g.D.Sectors.history _ _ _ _ 1 _ (omega (arith, c.loop-before-test.true))
+    c.loop-before.invariant.reads c.read.ensures.reads
 
 pub loop-before-preserved : goal.loop-before-preserved
 loop-before-preserved g c =
@@ -38,7 +45,8 @@ loop-before-preserved g c =
     let old = c.loop-before.invariant in
     let x = c.index-places-before.result in
     let read = c.in_ok-read.ensures.sector ∙ ap (λ (i : Image). sector i x) old.reads.image in
-    let there = slice_get_read c.args.places.now (length c.args.places.now) c.loop-before.before x refl c.loop-before-test.true c.index-places-before.is in
+    let there = slice_get_read c.args.places.now (length c.args.places.now) c.loop-before.before x refl
+    c.loop-before-test.true c.index-places-before.is in
     record {
       reads = reads_then S _ _ _ _ 1 _ (omega arith) old.reads c.read.ensures.reads;
       failures = c.in_ok-read.ensures.failures ∙ old.failures;
@@ -56,23 +64,34 @@ loop-before-preserved g c =
 pub returns-clause-bytes : goal.returns-clause-bytes
 returns-clause-bytes g c =
     let few = c.requires in
-    let there = slice_get_read c.args.places.now (length c.args.places.now) _ c.index-places-before-2.result refl (omega (arith, few)) c.index-places-before-2.is in
-    c.loop-before.invariant.last _ c.index-places-before-2.result (omega (arith, few, c.loop-before-test.false, c.loop-before.auto)) there
+    let there = slice_get_read c.args.places.now (length c.args.places.now) _ c.index-places-before-2.result refl
+    (omega (arith, few)) c.index-places-before-2.is in
+    c.loop-before.invariant.last _ c.index-places-before-2.result (omega (
+      arith,
+      few,
+      c.loop-before-test.false,
+      c.loop-before.auto,
+    )) there
 
 pub returns-clause-ok : goal.returns-clause-ok
 returns-clause-ok g c =
     let few = c.requires in
-    let there = slice_get_read c.args.places.now (length c.args.places.now) _ c.index-places-before-2.result refl (omega (arith, few)) c.index-places-before-2.is in
-    no-room (g.D.Sectors.history.image c.args.disk.now) c.args.places.now _ c.index-places-before-2.result (omega (arith, few)) there
+    let there = slice_get_read c.args.places.now (length c.args.places.now) _ c.index-places-before-2.result refl
+    (omega (arith, few)) c.index-places-before-2.is in
+    no-room (g.D.Sectors.history.image c.args.disk.now) c.args.places.now _ c.index-places-before-2.result
+    (omega (arith, few)) there
     (λ k lt. c.loop-before.invariant.full k (omega (arith, lt, c.loop-before-test.false)))
 
 pub returns-clause-reads : goal.returns-clause-reads
-returns-clause-reads g c = reads_weaker g.D.Sectors.history _ _ _ _ (omega (arith, c.loop-before.auto)) c.loop-before.invariant.reads
+returns-clause-reads g c = reads_weaker g.D.Sectors.history _ _ _ _ (omega (arith, c.loop-before.auto))
+    c.loop-before.invariant.reads
 
 pub returns-in-Some-clause-before : goal.returns-in-Some-clause-before
-returns-in-Some-clause-before g c = slice_get_read c.args.places.now (length c.args.places.now) c.loop-before.before c.index-places-before.result refl c.loop-before-test.true c.index-places-before.is
+returns-in-Some-clause-before g c = slice_get_read c.args.places.now (length c.args.places.now) c.loop-before.before
+    c.index-places-before.result refl c.loop-before-test.true c.index-places-before.is
 
 pub returns-clause-before : goal.returns-clause-before
 returns-clause-before g c =
     let few = c.requires in
-    slice_get_read c.args.places.now (length c.args.places.now) _ c.index-places-before-2.result refl (omega (arith, few)) c.index-places-before-2.is
+    slice_get_read c.args.places.now (length c.args.places.now) _ c.index-places-before-2.result refl
+    (omega (arith, few)) c.index-places-before-2.is

@@ -13,5 +13,6 @@ invariant-loop-before g l =
       reads : OnlyReads S l.fn.disk l.disk l.before;
       failures : S.failures l.disk ≡ S.failures l.fn.disk;
       full : AreFullTo (S.image l.fn.disk) l.places l.before;
-      last : (n : ℕ) (p : Place) → n + 1 ≡ l.before → slice_get l.places n ≡ Some p → l.bytes ≡ sector (S.image l.fn.disk) p;
+      last : (n : ℕ) (p : Place) → n + 1 ≡ l.before → slice_get l.places n ≡ Some p
+          → l.bytes ≡ sector (S.image l.fn.disk) p;
     }

@@ -10,12 +10,20 @@ use Rattle.rel_records.proofs.Rooms.{contains-get}
 use Rattle.rel_records.proofs.directory_room.has_name.Goals as goal
 
 pub returns-then-bears : goal.returns-then-bears
-returns-then-bears c = (λ t. (c.slot-item.result, (c.loop-slot.slot-index, c.loop-slot-test.true, sym c.slot-item.is), c.bears.ensures.0 c.if-bears.true), λ x. refl)
+returns-then-bears c = (
+  λ t. (
+    c.slot-item.result,
+    (c.loop-slot.slot-index, c.loop-slot-test.true, sym c.slot-item.is),
+    c.bears.ensures.0 c.if-bears.true,
+  ),
+  λ x. refl,
+)
 
 pub loop-slot-preserved : goal.loop-slot-preserved
 loop-slot-preserved c =
     let x = c.slot-item.result in
-    let there = slice_get_read c.args.slots.now (length c.args.slots.now) c.loop-slot.slot-index x refl c.loop-slot-test.true c.slot-item.is in
+    let there = slice_get_read c.args.slots.now (length c.args.slots.now) c.loop-slot.slot-index x refl
+    c.loop-slot-test.true c.slot-item.is in
     record {
       none = below_more _ _ c.loop-slot.invariant.none (λ s at e.
           let same : x ≡ s = same-slot c.args.slots.now c.loop-slot.slot-index x s there at in

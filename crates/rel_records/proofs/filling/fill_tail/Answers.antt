@@ -4,4 +4,5 @@ use Rattle.rel_records.proofs.filling.fill_tail.Goals as goal
 
 pub returns-clause-sector : goal.returns-clause-sector
 returns-clause-sector c =
-    filled-sector c.args.bytes.now c.fill.new.bytes c.args.at c.args.from c.args.length c.args.total c.fits-bytes c.fill.array_long c.fill.ensures.link c.fill.ensures.kept c.fill.ensures.filled
+    filled-sector c.args.bytes.now c.fill.new.bytes c.args.at c.args.from c.args.length c.args.total c.fits-bytes
+    c.fill.array_long c.fill.ensures.link c.fill.ensures.kept c.fill.ensures.filled

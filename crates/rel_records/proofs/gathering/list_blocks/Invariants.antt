@@ -4,4 +4,5 @@ use Rattle.rel_records.specs.Sides.{NamesEach}
 use Rattle.rel_records.proofs.gathering.list_blocks.Given as goal
 
 abbrev pub invariant-loop-number : goal.invariant-loop-number
-invariant-loop-number l = (qs : List Place) → length qs ≡ l.count → NamesEach l.bytes 16 qs → l.blocks.items ≡ l.initial.blocks.items ++ take l.number qs
+invariant-loop-number l = (qs : List Place) → length qs ≡ l.count → NamesEach l.bytes 16 qs
+    → l.blocks.items ≡ l.initial.blocks.items ++ take l.number qs

@@ -7,10 +7,14 @@ pub returns-clause-places : goal.returns-clause-places
 returns-clause-places c =
     let p = c.args.parts.now in
     let full : length p.blocks.items % 120 ≡ 0 = ap (λ n. n % 120) (sym c.len.ensures.value) ∙ c.if-not-full.false in
-    places-side p _ c.take_next-fresh.new.map.bytes c.take_next-fresh.result c.take_next-side.result c.take_next-fresh.ensures c.take_next-side.ensures full c.push.ensures.items c.push-2.ensures.items refl refl refl
+    places-side p _ c.take_next-fresh.new.map.bytes c.take_next-fresh.result c.take_next-side.result
+    c.take_next-fresh.ensures c.take_next-side.ensures full c.push.ensures.items c.push-2.ensures.items refl refl
+    refl
 
 pub returns-then-not-full-clause-places : goal.returns-then-not-full-clause-places
-returns-then-not-full-clause-places c = places-block c.args.parts.now _ c.take_next-fresh.result c.take_next-fresh.ensures (λ e. c.if-not-full.true (ap (λ n. n % 120) c.len.ensures.value ∙ e)) c.push.ensures.items refl refl refl refl
+returns-then-not-full-clause-places c = places-block c.args.parts.now _ c.take_next-fresh.result
+    c.take_next-fresh.ensures (λ e. c.if-not-full.true (ap (λ n. n % 120) c.len.ensures.value ∙ e)) c.push.ensures.items
+    refl refl refl refl
 
 pub returns-then-not-full-clause-last : goal.returns-then-not-full-clause-last
 returns-then-not-full-clause-last c = refl
@@ -28,10 +32,17 @@ pub take_next-fresh-requires-clause-map : goal.take_next-fresh-requires-clause-m
 take_next-fresh-requires-clause-map c = c.requires.map
 
 pub take_next-fresh-requires-clause-some : goal.take_next-fresh-requires-clause-some
-take_next-fresh-requires-clause-some c = omega (arith, c.requires.room, taken-some (length c.args.parts.now.blocks.items))
+take_next-fresh-requires-clause-some c =
+    omega (arith, c.requires.room, taken-some (length c.args.parts.now.blocks.items))
 
 pub take_next-side-requires-clause-some : goal.take_next-side-requires-clause-some
-take_next-side-requires-clause-some c = omega (arith, c.requires.room, c.take_next-fresh.ensures.free, taken-two (length c.args.parts.now.blocks.items) (ap (λ n. n % 120) (sym c.len.ensures.value) ∙ c.if-not-full.false))
+take_next-side-requires-clause-some c = omega (
+  arith,
+  c.requires.room,
+  c.take_next-fresh.ensures.free,
+  taken-two (length c.args.parts.now.blocks.items) (ap (λ n. n % 120) (sym c.len.ensures.value)
+      ∙ c.if-not-full.false),
+)
 
 pub take_next-side-requires-clause-map : goal.take_next-side-requires-clause-map
 take_next-side-requires-clause-map c = let (owned, is) = c.requires.map in (_, c.take_next-fresh.ensures.owned owned is)

@@ -210,7 +210,8 @@ returns g c =
           let h = (c.in_ok-grow_to.ensures.file l n f of).ok in (
             c.in_ok-grow_to.ensures.there,
             placed (S.image c.grow_to.new.disk) w c.args.number
-                (h.layout, n, h.file, h.of) (S.whole c.grow_to.new.disk) c.requires.number c.in_ok-grow_to.ensures.there,
+                (h.layout, n, h.file, h.of) (S.whole c.grow_to.new.disk) c.requires.number
+                c.in_ok-grow_to.ensures.there,
           );
       same = λ done. c.in_ok-grow_to.ensures.same;
       told = weaker-fault c.told_of_text.result _ _ (λ e h. inl h.0) c.told_of_text.ensures.err;

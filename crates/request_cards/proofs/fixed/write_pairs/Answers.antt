@@ -7,7 +7,8 @@ use Rattle.request_cards.proofs.fixed.write_pairs.Goals.{then-width-eq1, else-wi
 pub loop-i-preserved : goal.loop-i-preserved
 loop-i-preserved c = (
   c.write_pair.auto.room ∙ c.loop-i.invariant.0,
-  fixed_two_more _ c.args.width c.loop-i.i c.loop-i.rest c.args.end c.loop-i.room c.write_pair.new.room c.loop-i.invariant.1
+  fixed_two_more _ c.args.width c.loop-i.i c.loop-i.rest c.args.end c.loop-i.room c.write_pair.new.room
+      c.loop-i.invariant.1
       c.loop-i-test.true (omega arith) c.write_pair.ensures,
 )
 
@@ -15,8 +16,10 @@ pub returns-clause-written : goal.returns-clause-written
 returns-clause-written c =
     elim c.if-width-eq1.branch [
       | then-width-eq1 w ↦ ap (drop (c.args.end - c.args.width)) w.room-is
-          ∙ fixed_odd _ c.args.width c.loop-i.i c.loop-i.rest c.args.end c.loop-i.room _ c.loop-i.invariant.1 (omega arith) (omega arith)
+          ∙ fixed_odd _ c.args.width c.loop-i.i c.loop-i.rest c.args.end c.loop-i.room _ c.loop-i.invariant.1
+          (omega arith) (omega arith)
           (omega (arith, c.loop-i.invariant.0)) w.last_digit.ensures
       | else-width-eq1 w ↦ ap (drop (c.args.end - c.args.width)) w.room-is
-          ∙ fixed_even _ c.args.width c.loop-i.i c.loop-i.rest c.args.end c.loop-i.room c.loop-i.invariant.1 (omega arith)
+          ∙ fixed_even _ c.args.width c.loop-i.i c.loop-i.rest c.args.end c.loop-i.room c.loop-i.invariant.1
+          (omega arith)
     ]

@@ -6,7 +6,9 @@ use Rattle.request_cards.proofs.request.read.Goals as goal
 
 pub returns : goal.returns
 returns c =
-    made_of c.args.message.now c.in_ok-till.till c.in_ok-count.count c.in_ok-kind.kind c.in_ok-item.item c.in_ok-quantity.quantity c.in_ok-quantity.to
+    made_of c.args.message.now c.in_ok-till.till c.in_ok-count.count c.in_ok-kind.kind c.in_ok-item.item
+    c.in_ok-quantity.quantity c.in_ok-quantity.to
     c.in_ok-till.rest.now c.in_ok-count.rest.now c.in_ok-kind.rest.now c.in_ok-item.rest.now
-    (subst (λ last. Some (c.in_ok-till.till, c.in_ok-till.rest.now) ≡ number_before 1 last c.args.message.now) c.from.ensures c.in_ok-till.ensures.exact)
+    (subst (λ last. Some (c.in_ok-till.till, c.in_ok-till.rest.now) ≡ number_before 1 last c.args.message.now)
+    c.from.ensures c.in_ok-till.ensures.exact)
     c.in_ok-count.ensures.exact c.in_ok-kind.ensures c.in_ok-item.ensures.exact c.in_ok-quantity.ensures.exact

@@ -7,7 +7,8 @@ use Rattle.script_lines.proofs.event_lines.reset_at.Given as goal
 
 abbrev pub invariant-loop-rest : goal.invariant-loop-rest
 invariant-loop-rest l = record {
-  read : reset_of l.bytes ≡ with_left l.message l.after l.recoveries.items (fields_left (option_map (λ r. r.now) l.rest));
+  read : reset_of l.bytes ≡ with_left l.message l.after l.recoveries.items
+      (fields_left (option_map (λ r. r.now) l.rest));
   few : length l.recoveries.items ≤ 8;
 }
 

@@ -7,5 +7,6 @@ use Rattle.d64_image.proofs.mirror.MirrorSectors.write.Goals as goal
 
 pub returns-clause-bytes : goal.returns-clause-bytes
 returns-clause-bytes g c = on_ok_weaker c.write.result
-    (λ taken. ap bytes_of taken ∙ bytes_of-put c.args.self.now.disk.sectors.items c.args.place c.args.from.now c.args.self.now.disk.whole (omega arith))
+    (λ taken. ap bytes_of taken ∙ bytes_of-put c.args.self.now.disk.sectors.items c.args.place c.args.from.now
+    c.args.self.now.disk.whole (omega arith))
     c.write.ensures.device.ok

@@ -3,7 +3,8 @@ use Rattle.std.proofs.Common.{sym, arith}
 use Rattle.d64_image.proofs.place.Place.new.Goals as goal
 
 pub returns-then-sector-sectors_of-clause-value : goal.returns-then-sector-sectors_of-clause-value
-returns-then-sector-sectors_of-clause-value c = sym (place_at-self (record { track = c.args.track; sector = c.args.sector; on_disk = _ }))
+returns-then-sector-sectors_of-clause-value c =
+    sym (place_at-self (record { track = c.args.track; sector = c.args.sector; on_disk = _ }))
 
 pub returns-else-sector-sectors_of-clause-value : goal.returns-else-sector-sectors_of-clause-value
 returns-else-sector-sectors_of-clause-value c = sym (place_at-none c.args.track c.args.sector (omega arith))

@@ -8,7 +8,8 @@ use Rattle.disk_layout.proofs.views.BamView.blocks_free.Goals as goal
 
 pub loop-below-preserved : goal.loop-below-preserved
 loop-below-preserved c = record {
-  so_far = sum_more (λ n. data_count c.args.self.now.bytes.now (n + 1)) c.loop-below.below c.loop-below.sum c.data_count.result c.loop-below.invariant.so_far c.data_count.ensures;
+  so_far = sum_more (λ n. data_count c.args.self.now.bytes.now (n + 1)) c.loop-below.below c.loop-below.sum
+      c.data_count.result c.loop-below.invariant.so_far c.data_count.ensures;
   small = omega arith;
 }
 
@@ -16,4 +17,5 @@ pub returns : goal.returns
 unfolding blocks_free
 returns c =
     let all : c.loop-below.below ≡ 35 = omega arith in
-    c.loop-below.invariant.so_far ∙ ap (λ n. sum_by (λ k. data_count c.args.self.now.bytes.now (k + 1)) (numbers_below n)) all
+    c.loop-below.invariant.so_far
+    ∙ ap (λ n. sum_by (λ k. data_count c.args.self.now.bytes.now (k + 1)) (numbers_below n)) all

@@ -11,4 +11,5 @@ returns-clause-now c = rw c.index.ensures.value (marked c.args.self.now.seen c.a
 
 pub returns-clause-room : goal.returns-clause-room
 unfolding room
-returns-clause-room c = rw c.index.ensures.value (unmarked_less c.args.self.now.seen (index_of c.args.place) (omega (arith, c.args.self.now.full, index_below c.args.place)) c.requires.free)
+returns-clause-room c = rw c.index.ensures.value (unmarked_less c.args.self.now.seen (index_of c.args.place)
+    (omega (arith, c.args.self.now.full, index_below c.args.place)) c.requires.free)

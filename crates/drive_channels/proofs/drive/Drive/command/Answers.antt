@@ -24,7 +24,8 @@ invariant_of-self-in-Err g c = λ alive. absurd (false≢true (sym alive))
 
 pub returns-in-Err : goal.returns-in-Err
 returns-in-Err g c = record {
-  serves = rw (← c.self.view_is) (died g.D.Sectors.history (seen_of c.self.inside) _ c.in-Err.fault c.if-self.false refl c.in-Err.ensures.failures);
+  serves = rw (← c.self.view_is) (died g.D.Sectors.history (seen_of c.self.inside) _ c.in-Err.fault c.if-self.false refl
+      c.in-Err.ensures.failures);
   row = tt;
   silent = λ other. absurd (other (c.is_validate.ensures.0 (truth _ c.if-is_validate.true)));
   moments = rw (← c.self.view_is) c.validate.ensures.moments;
@@ -33,15 +34,24 @@ returns-in-Err g c = record {
 }
 
 pub invariant_of-self : goal.invariant_of-self
-invariant_of-self g c = λ alive. known-after _ _ c.self.inside.known (c.self.invariant alive) (λ clean. (c.validate.ensures.quiet clean).image)
+invariant_of-self g c = λ alive. known-after _ _ c.self.inside.known (c.self.invariant alive)
+    (λ clean. (c.validate.ensures.quiet clean).image)
 
 pub returns-then-is_validate : goal.returns-then-is_validate
 returns-then-is_validate g c = record {
   serves = let S = g.D.Sectors.history in
-      rw (← c.self.view_is) (served S (seen_of c.self.inside) _ _ c.if-self.false c.if-self.false c.in-Ok.ensures.failures
-      (orderly S (record { disk = c.validate.new.disk; known = c.self.inside.known; status = c.in-Ok.status; dead = c.self.inside.dead })
-      (known-after _ _ c.self.inside.known (c.self.invariant c.if-self.false) (λ clean. (c.validate.ensures.quiet clean).image))));
-  row = rw (← c.self.view_is) (meets-v (view_of g.D.Sectors.history (seen_of c.self.inside)) c.args.text.now _ (c.is_validate.ensures.0 (truth _ c.if-is_validate.true)) c.in-Ok.ensures.row refl);
+      rw (← c.self.view_is) (served S (seen_of c.self.inside) _ _ c.if-self.false c.if-self.false
+      c.in-Ok.ensures.failures
+      (orderly S (record {
+        disk = c.validate.new.disk;
+        known = c.self.inside.known;
+        status = c.in-Ok.status;
+        dead = c.self.inside.dead;
+      })
+      (known-after _ _ c.self.inside.known (c.self.invariant c.if-self.false)
+      (λ clean. (c.validate.ensures.quiet clean).image))));
+  row = rw (← c.self.view_is) (meets-v (view_of g.D.Sectors.history (seen_of c.self.inside)) c.args.text.now _
+      (c.is_validate.ensures.0 (truth _ c.if-is_validate.true)) c.in-Ok.ensures.row refl);
   silent = λ other. absurd (other (c.is_validate.ensures.0 (truth _ c.if-is_validate.true)));
   moments = rw (← c.self.view_is) c.validate.ensures.moments;
   unsound = rw (← c.self.view_is) c.validate.ensures.unsound;
@@ -49,22 +59,31 @@ returns-then-is_validate g c = record {
 }
 
 pub command-self-inside-requires : goal.command-self-inside-requires
-command-self-inside-requires g c = record { other = λ v. false≢true (sym c.if-is_validate.false ∙ c.is_validate.ensures.1 v) }
+command-self-inside-requires g c =
+    record { other = λ v. false≢true (sym c.if-is_validate.false ∙ c.is_validate.ensures.1 v) }
 
 pub invariant_of-self-2 : goal.invariant_of-self-2
-invariant_of-self-2 g c = λ alive. c.command-self-inside.ensures.known (g.D.Sectors.history.image c.self.inside.disk) (c.self.invariant alive)
+invariant_of-self-2 g c = λ alive. c.command-self-inside.ensures.known (g.D.Sectors.history.image c.self.inside.disk)
+    (c.self.invariant alive)
 
 pub returns : goal.returns
 returns g c = record {
   serves = let S = g.D.Sectors.history in
       rw (← c.self.view_is) (served S (seen_of c.self.inside) _ _ c.if-self.false c.if-self.false refl
-      (orderly S (record { disk = c.self.inside.disk; known = c.command-self-inside.new.self; status = c.command-self-inside.result; dead = c.self.inside.dead })
+      (orderly S (record {
+        disk = c.self.inside.disk;
+        known = c.command-self-inside.new.self;
+        status = c.command-self-inside.result;
+        dead = c.self.inside.dead;
+      })
       (c.command-self-inside.ensures.known (S.image c.self.inside.disk) (c.self.invariant c.if-self.false))));
   row = let S = g.D.Sectors.history in
-      rw (← c.self.view_is) (c.command-self-inside.ensures.row (S.image c.self.inside.disk) c.self.inside.status (c.self.invariant c.if-self.false));
+      rw (← c.self.view_is) (c.command-self-inside.ensures.row (S.image c.self.inside.disk) c.self.inside.status
+      (c.self.invariant c.if-self.false));
   -- only the status and the place change
   silent = λ _. ap (λ d. d.disk) c.self.view_is;
   moments = rw (← c.self.view_is) (λ l h. idle g.D.Sectors.history _ _ _ (mended-same _ l h));
-  unsound = rw (← c.self.view_is) (λ _. reads_weaker g.D.Sectors.history _ _ 0 2114 (omega arith) (no_reads g.D.Sectors.history _));
+  unsound = rw (← c.self.view_is) (λ _. reads_weaker g.D.Sectors.history _ _ 0 2114 (omega arith)
+      (no_reads g.D.Sectors.history _));
   quiet = rw (← c.self.view_is) (λ _. no_write g.D.Sectors.history _);
 }

@@ -9,8 +9,14 @@ pub returns-in-Ok : goal.returns-in-Ok
 returns-in-Ok g c = record {
   -- each is that of the call below, in the drive's fields
   serves = let S = g.D.Sectors.history in
-      rw (← c.self.view_is) (served S (seen_of c.self.inside) _ _ c.if-self.false c.if-self.false c.in-Ok.ensures.failures
-      (orderly S (record { disk = c.open.new.disk; known = c.open.new.self; status = c.in-Ok.status; dead = c.self.inside.dead }) c.in-Ok.ensures.known));
+      rw (← c.self.view_is) (served S (seen_of c.self.inside) _ _ c.if-self.false c.if-self.false
+      c.in-Ok.ensures.failures
+      (orderly S (record {
+        disk = c.open.new.disk;
+        known = c.open.new.self;
+        status = c.in-Ok.status;
+        dead = c.self.inside.dead;
+      }) c.in-Ok.ensures.known));
   row = rw (← c.self.view_is) (c.in-Ok.ensures.row c.self.inside.status);
   plain = rw (← c.self.view_is) c.in-Ok.ensures.opened.plain;
   there = rw (← c.self.view_is) c.in-Ok.ensures.opened.there;
@@ -33,7 +39,8 @@ returns-then-self g c = record {
 
 pub returns-in-Err : goal.returns-in-Err
 returns-in-Err g c = record {
-  serves = rw (← c.self.view_is) (died g.D.Sectors.history (seen_of c.self.inside) _ c.in-Err.fault c.if-self.false refl c.in-Err.ensures.failures);
+  serves = rw (← c.self.view_is) (died g.D.Sectors.history (seen_of c.self.inside) _ c.in-Err.fault c.if-self.false refl
+      c.in-Err.ensures.failures);
   row = tt;
   plain = rw (← c.self.view_is) c.in-Err.ensures.opened.plain;
   there = rw (← c.self.view_is) c.in-Err.ensures.opened.there;

@@ -15,7 +15,12 @@ pub returns : goal.returns
 returns g c = record {
   serves = let S = g.D.Sectors.history in
       rw (← c.self.view_is) (served S (seen_of c.self.inside) _ _ c.if-self.false c.if-self.false refl
-      (orderly S (record { disk = c.self.inside.disk; known = c.self.inside.known; status = _; dead = c.self.inside.dead }) (c.self.invariant c.if-self.false)));
+      (orderly S (record {
+        disk = c.self.inside.disk;
+        known = c.self.inside.known;
+        status = _;
+        dead = c.self.inside.dead;
+      }) (c.self.invariant c.if-self.false)));
   told = ap (λ d. d.status) c.self.view_is;
   row = rw (← c.self.view_is) refl;
   disk = ap (λ d. d.disk) c.self.view_is;

@@ -17,8 +17,14 @@ returns-then-self g c = record {
 pub returns-in-Ok : goal.returns-in-Ok
 returns-in-Ok g c = record {
   serves = let S = g.D.Sectors.history in
-      rw (← c.self.view_is) (served S (seen_of c.self.inside) _ _ c.if-self.false c.if-self.false c.in-Ok.ensures.failures
-      (orderly S (record { disk = c.write.new.disk; known = c.write.new.self; status = c.in-Ok.status; dead = c.self.inside.dead }) c.in-Ok.ensures.known));
+      rw (← c.self.view_is) (served S (seen_of c.self.inside) _ _ c.if-self.false c.if-self.false
+      c.in-Ok.ensures.failures
+      (orderly S (record {
+        disk = c.write.new.disk;
+        known = c.write.new.self;
+        status = c.in-Ok.status;
+        dead = c.self.inside.dead;
+      }) c.in-Ok.ensures.known));
   row = rw (← c.self.view_is) (c.in-Ok.ensures.row c.self.inside.status);
   silent = rw (← c.self.view_is) c.in-Ok.ensures.writes.silent;
   refused = rw (← c.self.view_is) c.in-Ok.ensures.refused;
@@ -29,7 +35,8 @@ returns-in-Ok g c = record {
 
 pub returns-in-Err : goal.returns-in-Err
 returns-in-Err g c = record {
-  serves = rw (← c.self.view_is) (died g.D.Sectors.history (seen_of c.self.inside) _ c.in-Err.fault c.if-self.false refl c.in-Err.ensures.failures);
+  serves = rw (← c.self.view_is) (died g.D.Sectors.history (seen_of c.self.inside) _ c.in-Err.fault c.if-self.false refl
+      c.in-Err.ensures.failures);
   row = tt;
   silent = rw (← c.self.view_is) c.in-Err.ensures.writes.silent;
   refused = tt;

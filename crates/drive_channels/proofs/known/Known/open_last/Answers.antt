@@ -7,9 +7,14 @@ use Rattle.drive_channels.proofs.known.Known.open_last.Goals as goal
 use Rattle.drive_channels.specs.declared.found.Spot.{Spot}
 
 pub returns-in-Some-clause-row : goal.returns-in-Some-clause-row
-returns-in-Some-clause-row c = λ img name s looked. opened-row img c.args.self.now c.in-Some.opened name looked.known c.in-Some.is
+returns-in-Some-clause-row c = λ img name s looked. opened-row img c.args.self.now c.in-Some.opened name looked.known
+    c.in-Some.is
     (looked-name img name c.args.self.now c.in-Some.opened looked c.in-Some.is)
-    (record { last = Some (record { found = c.in-Some.opened.found; spot = Some c.first.result }); before = c.args.self.now.before; checked = c.args.self.now.checked })
+    (record {
+      last = Some (record { found = c.in-Some.opened.found; spot = Some c.first.result });
+      before = c.args.self.now.before;
+      checked = c.args.self.now.checked;
+    })
     c.args.length c.args.channel s (c.has_length.ensures.0 c.if-not-has_length.false)
     (ap (λ (s : Spot). Some (record { found = c.in-Some.opened.found; spot = Some s })) c.first.ensures) refl
 
@@ -17,7 +22,8 @@ pub returns-then-not-has_length : goal.returns-then-not-has_length
 returns-then-not-has_length c = record {
   row = λ img name s looked. other-row img c.args.self.now c.in-Some.opened name looked.known c.in-Some.is
       (looked-name img name c.args.self.now c.in-Some.opened looked c.in-Some.is)
-      (record { last = Some c.in-Some.opened; before = c.args.self.now.before; checked = c.args.self.now.checked }) c.args.length c.args.channel s
+      (record { last = Some c.in-Some.opened; before = c.args.self.now.before; checked = c.args.self.now.checked })
+      c.args.length c.args.channel s
       (λ h. no-truth c.has_length.result c.if-not-has_length.true (c.has_length.ensures.1 h)) (sym c.in-Some.is) refl;
   known = λ img known. still-known img c.args.self.now (Some c.in-Some.opened) c.in-Some.is known;
 }

@@ -19,7 +19,12 @@ returns-in_default g c =
     let S = g.D.Sectors.history in
     record {
       passed = λ is. absurd (differ is);
-      refused = λ _. (refl, c.if-self.false, told-unclean (S.image c.args.disk.now) c.in-Err.fault (clean-fact (S.failed_at c.check.new.disk) _ c.in-Err.fault c.in_default.not-Device c.in-Err.ensures.err));
+      refused = λ _. (
+        refl,
+        c.if-self.false,
+        told-unclean (S.image c.args.disk.now) c.in-Err.fault
+            (clean-fact (S.failed_at c.check.new.disk) _ c.in-Err.fault c.in_default.not-Device c.in-Err.ensures.err),
+      );
       last = refl;
       reads = c.check.ensures.reads;
       failures = quiet Survey S _ _ c.in-Err.fault c.in_default.not-Device c.in-Err.ensures.failures;
@@ -29,13 +34,21 @@ refused : true ≡ false → ⊥
 refused h = cc
 
 -- nothing is remembered before a check has passed
-checked-now : (img : Image) (k : Known) → k.checked ≡ false → IsKnown img k → IsClean img → IsKnown img (record { last = k.last; before = k.before; checked = true })
+checked-now : (img : Image) (k : Known) → k.checked ≡ false → IsKnown img k → IsClean img
+    → IsKnown img (record { last = k.last; before = k.before; checked = true })
 checked-now img k unchecked known clean =
     let (last, before) = known.fresh unchecked in
-    let nothing : Remembers img None None = record { clean = clean; last_found = tt; spot = tt; before_found = tt; apart = tt } in
+    let nothing : Remembers img None None = record {
+      clean = clean;
+      last_found = tt;
+      spot = tt;
+      before_found = tt;
+      apart = tt;
+    } in
     record {
       fresh = λ e. absurd (refused e);
-      remembered = λ _. subst (λ (o : Option Opened). Remembers img o k.before) (sym last) (subst (λ (o : Option Found). Remembers img None o) (sym before) nothing);
+      remembered = λ _. subst (λ (o : Option Opened). Remembers img o k.before) (sym last)
+          (subst (λ (o : Option Found). Remembers img None o) (sym before) nothing);
     }
 
 pub returns-then-self : goal.returns-then-self
@@ -53,7 +66,11 @@ pub returns-in-Ok : goal.returns-in-Ok
 returns-in-Ok g c =
     let clean = c.in-Ok.ensures.ok in
     record {
-      passed = λ _. (refl, checked-now (g.D.Sectors.history.image c.args.disk.now) c.args.self.now c.if-self.false c.requires.known (clean.0, clean.1));
+      passed = λ _. (
+        refl,
+        checked-now (g.D.Sectors.history.image c.args.disk.now) c.args.self.now c.if-self.false
+            c.requires.known (clean.0, clean.1),
+      );
       refused = λ is. absurd (refused is);
       last = refl;
       reads = c.check.ensures.reads;

@@ -13,14 +13,19 @@ loop-index-preserved c =
       | then-is_open w ↦
           let h = c.is_open.ensures.open w.if-is_open.true in
           record {
-            counted = rw w.count-is (counted-free c.args.self.now c.args.entry c.loop-index.index _ c.loop-index.count c.numbers-number-items.result.now c.numbers-number-items.ensures (omega (arith, c.loop-index-test.true)) refl h.0 h.1 c.loop-index.invariant.counted);
+            counted = rw w.count-is (counted-free c.args.self.now c.args.entry c.loop-index.index _ c.loop-index.count
+                c.numbers-number-items.result.now c.numbers-number-items.ensures (omega (arith, c.loop-index-test.true))
+                refl h.0 h.1 c.loop-index.invariant.counted);
             few = omega (arith, w.count-is, c.loop-index.invariant.few);
           }
       | else-is_open w ↦ record {
-        counted = rw w.count-is (counted-shut c.args.self.now c.args.entry c.loop-index.index _ c.loop-index.count c.numbers-number-items.result.now c.numbers-number-items.ensures (omega (arith, c.loop-index-test.true)) refl (c.is_open.ensures.shut w.if-is_open.false) c.loop-index.invariant.counted);
+        counted = rw w.count-is (counted-shut c.args.self.now c.args.entry c.loop-index.index _ c.loop-index.count
+            c.numbers-number-items.result.now c.numbers-number-items.ensures (omega (arith, c.loop-index-test.true))
+            refl (c.is_open.ensures.shut w.if-is_open.false) c.loop-index.invariant.counted);
         few = omega (arith, w.count-is, c.loop-index.invariant.few);
       }
     ]
 
 pub returns : goal.returns
-returns c = counted-all c.args.self.now c.args.entry c.loop-index.index c.loop-index.count (omega (arith, c.loop-index-test.false, c.loop-index.auto)) c.loop-index.invariant.counted
+returns c = counted-all c.args.self.now c.args.entry c.loop-index.index c.loop-index.count
+    (omega (arith, c.loop-index-test.false, c.loop-index.auto)) c.loop-index.invariant.counted

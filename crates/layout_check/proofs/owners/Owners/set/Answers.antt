@@ -7,8 +7,11 @@ use Rattle.layout_check.proofs.owners.Owners.set.Goals as goal
 
 pub returns-clause-here : goal.returns-clause-here
 unfolding owner_of
-returns-clause-here c = rw c.index.ensures.value (get_or-set_same c.args.self.now.numbers (index_of c.args.place) c.args.number 0 (omega (arith, index_below c.args.place, c.args.self.now.full)))
+returns-clause-here c = rw c.index.ensures.value (get_or-set_same c.args.self.now.numbers (index_of c.args.place)
+    c.args.number 0 (omega (arith, index_below c.args.place, c.args.self.now.full)))
 
 pub returns-clause-there : goal.returns-clause-there
 unfolding owner_of
-returns-clause-there c q other = rw c.index.ensures.value (get_or-set_other c.args.self.now.numbers (index_of c.args.place) (index_of q) c.args.number 0 (λ e. other_index c.args.place q other (sym e)))
+returns-clause-there c q other =
+    rw c.index.ensures.value (get_or-set_other c.args.self.now.numbers (index_of c.args.place) (index_of q)
+    c.args.number 0 (λ e. other_index c.args.place q other (sym e)))

@@ -5,4 +5,5 @@ use Rattle.rel_records.proofs.step_parts.Parts.last_place.Goals as goal
 
 pub returns : goal.returns
 returns c front last e =
-    last-read c.args.self.now.blocks.items front last c.index-deref-len.result _ e (omega (arith, c.len.ensures.value, c.requires)) (rw c.deref.ensures.0 at c.index-deref-len.is)
+    last-read c.args.self.now.blocks.items front last c.index-deref-len.result _ e
+    (omega (arith, c.len.ensures.value, c.requires)) (rw c.deref.ensures.0 at c.index-deref-len.is)

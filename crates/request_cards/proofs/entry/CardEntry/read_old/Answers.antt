@@ -9,7 +9,8 @@ returns-then-bytes-ne13-clause-none c = λ pending e rest is kind text.
     c.if-bytes-ne13.true (byte_of c.args.bytes.now rest 41 13 (old_cut c.args.bytes.now pending e rest text).1)
 
 pub returns-clause-none : goal.returns-clause-none
-returns-clause-none c = none_then c.read_fields.result _ _ c.read_fields.ensures.none (λ none pending e rest is kind text.
+returns-clause-none c = none_then c.read_fields.result _ _ c.read_fields.ensures.none
+    (λ none pending e rest is kind text.
     let plain = plain_kind e.body.kind kind in
     none pending e (13 ∷ rest) is (sym (goes_nowhere e.body.kind e.body.item e.body.to plain is.body.to))
     (sym (one_quantity e.body.kind e.answer plain is.fits)) (old_cut c.args.bytes.now pending e rest text).0)

@@ -17,7 +17,8 @@ write_field-requires c =
 
 pub write_number-requires : goal.write_number-requires
 write_number-requires c =
-    let nine = nine_digits c.self.inside.quantity c.self.invariant.body.quantity_high in (omega (arith, nine), omega arith)
+    let nine = nine_digits c.self.inside.quantity c.self.invariant.body.quantity_high in
+    (omega (arith, nine), omega arith)
 
 pub returns-then-eq-clause-start : goal.returns-then-eq-clause-start
 returns-then-eq-clause-start c =
@@ -27,12 +28,14 @@ returns-then-eq-clause-start c =
 
 pub returns-else-eq-clause-start : goal.returns-else-eq-clause-start
 returns-else-eq-clause-start c =
-    let nine = nine_digits c.self.inside.quantity c.self.invariant.body.quantity_high in (omega arith, omega (arith, nine))
+    let nine = nine_digits c.self.inside.quantity c.self.invariant.body.quantity_high in
+    (omega arith, omega (arith, nine))
 
 pub returns-then-eq-clause-written : goal.returns-then-eq-clause-written
 returns-then-eq-clause-written c =
     let is : true ≡ same_kind c.self.inside.kind Move = c.if-eq.ensures ∙ flag_is c.self.inside.kind in
-    moved_amounts c.args.self.now _ c.from.result c.args.room.now _ _ 36 c.self.view_is is c.from.ensures (omega arith) c.write_field.ensures.written c.write_number-start.ensures.written
+    moved_amounts c.args.self.now _ c.from.result c.args.room.now _ _ 36 c.self.view_is is c.from.ensures (omega arith)
+    c.write_field.ensures.written c.write_number-start.ensures.written
 
 pub returns-else-eq-clause-written : goal.returns-else-eq-clause-written
 returns-else-eq-clause-written c =

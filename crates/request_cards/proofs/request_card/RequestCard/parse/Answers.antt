@@ -8,4 +8,5 @@ use Rattle.request_cards.proofs.request_card.RequestCard.parse.Goals as goal
 pub returns-clause-exact : goal.returns-clause-exact
 returns-clause-exact c =
     let bytes = c.args.bytes.now in
-    is_read (IsCardText bytes) (request_card_of bytes) c.read.result (card_is bytes) c.read.result refl c.read.ensures.found c.read.ensures.none
+    is_read (IsCardText bytes) (request_card_of bytes) c.read.result (card_is bytes) c.read.result refl
+    c.read.ensures.found c.read.ensures.none

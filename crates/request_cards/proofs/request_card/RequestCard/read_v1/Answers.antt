@@ -9,12 +9,16 @@ use Rattle.request_cards.proofs.request_card.RequestCard.read_v1.Goals as goal
 
 pub returns-then-not-zeros_at-clause-none : goal.returns-then-not-zeros_at-clause-none
 returns-then-not-zeros_at-clause-none c = λ card one m.
-    let no : false ≡ true = c.if-not-zeros_at.ensures.none [] ((old_card_cut c.args.bytes.now card m.1 one).1 ∙ sym (append-nil (replicate 85 0))) in cc
+    let no : false ≡ true = c.if-not-zeros_at.ensures.none [] ((old_card_cut c.args.bytes.now card m.1 one).1
+    ∙ sym (append-nil (replicate 85 0))) in cc
 
 pub returns-clause-found : goal.returns-clause-found
 returns-clause-found c =
-    both_then c.made.result _ _ (IsCardText c.args.bytes.now) c.made.ensures.some c.made.ensures.range (λ card same is.
-    (is, old_whole c.args.bytes.now c.in_ok-pending.pending c.in_ok-pending.newest card c.told-bytes c.in_ok-pending.ensures.found (c.if-not-zeros_at.ensures.found refl) same))
+    both_then c.made.result _ _ (IsCardText c.args.bytes.now) c.made.ensures.some c.made.ensures.range (λ card same is. (
+      is,
+      old_whole c.args.bytes.now c.in_ok-pending.pending c.in_ok-pending.newest card c.told-bytes
+          c.in_ok-pending.ensures.found (c.if-not-zeros_at.ensures.found refl) same,
+    ))
 
 pub returns-clause-none : goal.returns-clause-none
 returns-clause-none c = none_then c.made.result _ _ c.made.ensures.none (λ out card one m.

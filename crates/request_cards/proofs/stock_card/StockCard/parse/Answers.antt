@@ -8,4 +8,5 @@ use Rattle.request_cards.proofs.stock_card.StockCard.parse.Goals as goal
 pub returns-clause-exact : goal.returns-clause-exact
 returns-clause-exact c =
     let bytes = c.args.bytes.now in
-    is_read (IsStockText bytes) (stock_card_of bytes) c.read.result (stock_is bytes) c.read.result refl c.read.ensures.found c.read.ensures.none
+    is_read (IsStockText bytes) (stock_card_of bytes) c.read.result (stock_is bytes) c.read.result refl
+    c.read.ensures.found c.read.ensures.none
