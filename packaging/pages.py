@@ -14,7 +14,7 @@ from pathlib import Path
 
 STATUSES = (
     ("0", "All was done; also where help was asked for."),
-    ("1", "An image or a script is refused, and nothing was done; or check, map or picture tell a fault of the image."),
+    ("1", "An image, a script or records are refused, and nothing was done; or check, map or picture tell a fault."),
     ("2", "The words are refused."),
     ("3", "A file, the output or memory failed, or another program has the image."),
 )
@@ -26,6 +26,8 @@ writes; the next opening mends everything. The commands for keepers of disks tak
 EXAMPLES = (
     ("ledger format shop.d64 --tills 4", "makes a shop for four tills"),
     ("ledger play shop.d64 day.txt", "plays the messages of a script"),
+    ("ledger records old.d64 ADDRESS > address.csv", "takes the records of a relative file out, a line each"),
+    ("ledger store new.d64 ADDRESS address.csv", "puts them back"),
     ("for f in *.d64; do printf '%s ' \"$f\"; ledger check \"$f\"; done", "judges a shelf of disks"),
 )
 
@@ -39,6 +41,7 @@ class Word:
     usage: str = ""
     values: list = field(default_factory=list)
     options: list = field(default_factory=list)
+    more: list = field(default_factory=list)
 
 
 def helped(program, *words):
@@ -60,7 +63,8 @@ def words_of(program):
             continue
         text = helped(program, row[0])
         usage = re.search(r"^Usage: \S+ (.*)$", text, re.M)[1]
-        found.append(Word(row[0], row[1], usage, rows(text, "Arguments"), rows(text, "Options")))
+        more = re.search(r"^Options:\n(?:  .*\n)+\n(.*)\Z", text, re.M | re.S)[1].splitlines()
+        found.append(Word(row[0], row[1], usage, rows(text, "Arguments"), rows(text, "Options"), more))
     return found
 
 
@@ -80,6 +84,9 @@ def man_page(words, version):
         lines += [f".SS {escaped(word.usage)}", escaped(word.does) + "."]
         for name, *what in word.values + word.options:
             lines += [".TP", f".B {escaped(name)}", escaped(what[0] if what else "")]
+        lines.append(".PP")
+        for line in word.more:
+            lines += [".br", f".B {escaped(line)}"] if line.startswith("Example: ") else [escaped(line)]
     lines.append(".SH EXIT STATUS")
     for status, when in STATUSES:
         lines += [".TP", f".B {status}", escaped(when)]

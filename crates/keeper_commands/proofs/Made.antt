@@ -30,6 +30,7 @@ module _ {D : Type 0} (S : History D) (image name : List ℕ) (L : ℕ) (a b : D
     free = (c.refuses.layout clean.0 clean.1.layout).fits.1;
     room = (c.refuses.layout clean.0 clean.1.layout).fits.0;
     made = (c.layout clean.0 clean.1.layout).ok.more;
+    unfailed = c.refuses.failures;
   }
 
   module _ {W : Type 0} (w : W) where

@@ -24,12 +24,13 @@ pub record IsMakeRun {D : Type 0} (S : History D) (image name : List ℕ) (L : �
   pub clean : IsCleanLayout (S.image old) layout
   pub moments : Changes S old new (creation_writes layout) (IsCreating (S.image old) layout name L)
 
--- And the disk is clean, and has its files and the new one; no entry had the name, and there was room.
+-- And the disk is clean, and has its files and the new one; no entry had the name, there was room, and no call failed.
 pub record IsMadeDisk {D : Type 0} (S : History D) (image name : List ℕ) (L : ℕ) (old new : D) : Type 0 where
   pub run : IsMakeRun S image name L old new
   pub free : ¬ (IsTakenName run.layout name)
   pub room : ¬ (HasNoRoom (S.image old) run.layout)
   pub made : HasFileMore (S.image old) run.layout name L (S.image new)
+  pub unfailed : S.failures new ≡ S.failures old
 
 -- the file was made, and that was printed
 pub record IsMakeDone {D W : Type 0} (S : History D) (contents : W → Option (List ℕ)) (image name : List ℕ) (L : ℕ)

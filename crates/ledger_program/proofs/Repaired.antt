@@ -22,6 +22,7 @@ use Rattle.keeper_commands.specs.declared.faults.KeepFault.{KeepFault}
 use Rattle.keeper_commands.specs.declared.faults.KeepFault.TheVariants as keep
 use Rattle.ledger_commands.proofs.FileEnds.{failed_stably}
 use Rattle.ledger_commands.specs.Plays.{IsTakenUp, IsUntouched}
+use Rattle.ledger_program.proofs.OverFiles.{changes_of_file, handed-back, not_failed, same_file, taken_up}
 use Rattle.ledger_program.specs.Keeping.{IsRepairOver, IsRepairedFault, IsRepairedFile, keep_end}
 
 module _ {F W : Type 0} (K : Keeps F) (contents : W → Option (List ℕ)) (image : List ℕ) (file after : F) (old new : W) where
@@ -71,14 +72,6 @@ module _ {F : Type 0} {G : Ghosts F} (start : Mirror F G) (sound : is_broken sta
   abbrev file_run : History (FileDisk G.keeps)
   file_run = in_run G.keeps start.file
 
-  changes_of_file : (n : ℕ) (P : Image → Type 0) → n < 1000 → Changes mirror start b n P → Changes file_run (file_disk start) (file_disk b) n P
-  changes_of_file n P few x = record {
-    held = held_by_file start.file start b P x.held;
-    writes =
-        let taken : b.taken.n ≤ start.taken.n + n = x.writes in
-        omega (arith, taken, untaken, x.held.reached.counted (omega (arith, taken, untaken, few)));
-  }
-
   over_of_file : (Right : Place → Sector → Type 0) (ps : List Place) (n : ℕ) (P : Image → Type 0) → n < 1000 → Changes mirror start b n P
       → GoesOver mirror start b Right ps → GoesOver file_run (file_disk start) (file_disk b) Right ps
   over_of_file Right ps n P few changes x = record {
@@ -97,9 +90,9 @@ module _ {F : Type 0} {G : Ghosts F} (start : Mirror F G) (sound : is_broken sta
   run_of_file : (image : List ℕ) → IsRepairRun mirror image start b → IsRepairRun file_run image (file_disk start) (file_disk b)
   run_of_file image x = record {
     size = x.size;
-    moments = λ l is. changes_of_file 883 _ (omega arith) (x.moments l is);
+    moments = λ l is. changes_of_file start sound untaken b 883 _ (omega arith) (x.moments l is);
     order = λ l is. over_of_file _ _ 883 _ (omega arith) (x.moments l is) (x.order l is);
-    unsound = λ none. changes_of_file 0 _ (omega arith) (x.unsound none);
+    unsound = λ none. changes_of_file start sound untaken b 0 _ (omega arith) (x.unsound none);
   }
 
   mended_of_file : (image : List ℕ) → IsMendedDisk mirror image start b → IsMendedDisk file_run image (file_disk start) (file_disk b)
@@ -107,18 +100,6 @@ module _ {F : Type 0} {G : Ghosts F} (start : Mirror F G) (sound : is_broken sta
 
   reached : (image : List ℕ) → IsMendedDisk mirror image start b → IsMirrored start b
   reached image x = (x.run.moments x.repaired.before x.repaired.sound).held.reached
-
-  -- a file that was handed nothing is as it was
-  same_file : WritesNothing mirror start b → (is_broken b → ⊥) → b.file ≡ start.file
-  same_file quiet whole =
-      let taken : b.taken.n ≡ start.taken.n = quiet.writes in
-      ⊎_elim (λ broken. absurd (whole broken)) (λ e. e) (quiet.held.reached.quiet taken (omega (arith, taken, untaken)))
-
-  not_failed : (is_broken b → ⊥) → Failed mirror start b → ⊥
-  not_failed whole failed =
-      let none : one_if b.broken ≡ 0 = one_if-false b.broken whole in
-      let rose : one_if start.broken < one_if b.broken = failed.rose (omega (arith, none)) in
-      omega (arith, none, rose)
 
   -- the file of a mirror that broke has failed, whatever the disk was
   failed_file : (image : List ℕ) → is_broken b → IsRepairRun mirror image start b → FileFailed G.keeps start.file b.file
@@ -130,17 +111,6 @@ module _ {F : Type 0} {G : Ghosts F} (start : Mirror F G) (sound : is_broken sta
 
   module _ {W : Type 0} (contents : W → Option (List ℕ)) (image : List ℕ) (size : length image ≡ 174848)
       (holds : mirror_image start ≡ sectors_in image) (old new : W) where
-    taken_up : {Ends : FileDisk G.keeps → FileDisk G.keeps → Type 0} → Ends (file_disk start) (file_disk b) → IsTakenUp G.keeps image start.file b.file Ends
-    taken_up ends = record {
-      size = size;
-      disk = file_disk start;
-      is_file = refl;
-      holds = holds;
-      left = file_disk b;
-      is_after = refl;
-      ends = ends;
-    }
-
     -- a disk that isn't sound: a fault holds of it, and the repair was one that does nothing
     left-alone : (fault : Fault) → Holds nowhere (mirror_image start) fault → WritesNothing mirror start b → IsRepairRun mirror image start b
     left-alone fault told quiet =
@@ -157,13 +127,13 @@ module _ {F : Type 0} {G : Ghosts F} (start : Mirror F G) (sound : is_broken sta
     pub whole-ended : (is_broken b → ⊥) → (r : Result Unit KeepFault) → OnOk r (IsRepairDone mirror contents image start b old new)
         → IfErr r (IsRepairFault mirror image start b old new) → IsRepairOver G.keeps contents image start.file b.file old new r
     whole-ended whole (Ok x) ok err = mended G.keeps contents image start.file b.file old new size
-        ((reached image ok.mended).unfailed whole, taken_up (record { mended = mended_of_file image ok.mended; printed = ok.printed }))
+        ((reached image ok.mended).unfailed whole, taken_up start sound untaken b image size holds (record { mended = mended_of_file image ok.mended; printed = ok.printed }))
     whole-ended whole (Err keep.ImageSize) ok err = absurd (err.0 size)
     whole-ended whole (Err keep.NoMemory) ok err =
         stopped G.keeps contents image start.file b.file old new keep.NoMemory refl size
         (size, (ap (λ (m : Mirror F G). m.file) err.1, err.2))
     whole-ended whole (Err (keep.Layout fault)) ok err =
-        let same : IsUntouched start.file b.file old new = (same_file err.2 whole, err.3) in
+        let same : IsUntouched start.file b.file old new = (same_file start sound untaken b err.2 whole, err.3) in
         let told : Holds nowhere (sectors_in image) fault = subst (λ img. Holds nowhere img fault) holds err.1 in
         record {
           done = λ zero'. absurd (omega (arith, zero'));
@@ -175,8 +145,8 @@ module _ {F : Type 0} {G : Ghosts F} (start : Mirror F G) (sound : is_broken sta
         }
     whole-ended whole (Err keep.File) ok err =
         stopped G.keeps contents image start.file b.file old new keep.File refl size
-        ((reached image err).unfailed whole, taken_up (mended_of_file image err))
-    whole-ended whole (Err keep.Device) ok err = absurd (not_failed whole err.1)
+        ((reached image err).unfailed whole, taken_up start sound untaken b image size holds (mended_of_file image err))
+    whole-ended whole (Err keep.Device) ok err = absurd (not_failed start sound untaken b whole err.1)
     whole-ended whole (Err keep.NoFile) ok err = absurd err
     whole-ended whole (Err keep.FileExists) ok err = absurd err
     whole-ended whole (Err (keep.BadLine line)) ok err = absurd err
@@ -202,7 +172,7 @@ module _ {F : Type 0} {G : Ghosts F} (start : Mirror F G) (sound : is_broken sta
     broken-ended broken r ok err =
         let run = run-of broken r ok err in
         stopped G.keeps contents image start.file b.file old new keep.Device refl size
-        (failed_file image broken run, taken_up (run_of_file image run))
+        (failed_file image broken run, taken_up start sound untaken b image size holds (run_of_file image run))
 
     -- the file that is handed back, and what is told of it
     pub file-ended : (file : F) (r : Result Unit KeepFault) (out : F × Result Unit KeepFault) → start.file ≡ file → out.0 ≡ b.file
@@ -210,9 +180,5 @@ module _ {F : Type 0} {G : Ghosts F} (start : Mirror F G) (sound : is_broken sta
         → (is_broken b × (out.1 ≡ Err keep.Device)) ⊎ ((is_broken b → ⊥) × (out.1 ≡ r))
         → IsRepairOver G.keeps contents image file out.0 old new out.1
     file-ended file r out first after ok err end =
-        let from : (e : Result Unit KeepFault) → out.1 ≡ e → IsRepairOver G.keeps contents image start.file b.file old new e
-        → IsRepairOver G.keeps contents image file out.0 old new out.1 =
-        λ e is over. subst (λ f. IsRepairOver G.keeps contents image f out.0 old new out.1) first
-        (subst (λ a. IsRepairOver G.keeps contents image start.file a old new out.1) (sym after)
-        (subst (λ x. IsRepairOver G.keeps contents image start.file b.file old new x) (sym is) over)) in
-        ⊎_elim (λ x. from _ x.1 (broken-ended x.0 r ok err)) (λ x. from r x.1 (whole-ended x.0 r ok err)) end
+        handed-back (λ f a e. IsRepairOver G.keeps contents image f a old new e) start b file r out first after
+        (λ broken. broken-ended broken r ok err) (λ whole. whole-ended whole r ok err) end

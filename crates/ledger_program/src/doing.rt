@@ -3,13 +3,16 @@ ghost use Rattle.std.specs.Prelude.{◌≡◌, ◌≤◌, IfErr, IfOk, IfSome, E
 ghost use Rattle.std.specs.IoError.{error_kind};
 ghost use Rattle.ledger_commands.specs.Faults.{io_fault};
 ghost use Rattle.ledger_program.specs.Ends.{as_drawn, as_job, as_kept, told_of};
-ghost use Rattle.ledger_program.specs.Jobs.{HasTills, needed};
+ghost use Rattle.keeper_commands.specs.Makes.{IsNewName};
+ghost use Rattle.ledger_program.specs.Jobs.{IsFit, needed};
+ghost use Rattle.ledger_program.specs.Names.{name_bytes};
 ghost use Rattle.ledger_program.specs.Runs.{IsReadingEnd, IsReadingOf};
+ghost use Rattle.rel_records.specs.File.{IsLength};
 
 use crate::drawing::drawing_run;
 use crate::files::{AtPath, STANDARD_INPUT, opened, room_for, script_at};
 use crate::jobs::{Drawing, Job, Reading, Taking};
-use crate::keeping::{repair_run, taking_run};
+use crate::keeping::{make_run, repair_run, store_run, taking_run};
 use crate::names::Name;
 use crate::owning::{finished, own, read_own, read_shared, share};
 use crate::refusals::Refusal;
@@ -217,19 +220,82 @@ where
     job_end(finished(&mut file, ended))
 }
 
-/// Repairs the image at a path, over its file. Each sector is brought to the disk before the next is written.
+/// The file at a path that a keeper's job writes, and its bytes: it is this program's alone, and what it holds is on the
+/// disk. Each sector is brought to the disk before the next is written.
+fn image_to_keep<F, R>(rt: &R, path: &str) -> Result<(Vec<u8>, Placed<F>), Refusal>
+where
+    F: Read + Locks + Drop,
+    R: Files<File = F> + AllocGlobal,
+{
+    let durability = Durability::EachSector;
+    let mut file = told(opened(rt, path))?;
+    own(&mut file, durability)?;
+    let image = told(read_own(rt.alloc(), &mut file, durability))?;
+    Ok((image, Placed::lasting(file, durability)))
+}
+
+/// Repairs the image at a path, over its file.
 fn do_repair<F, R, W>(rt: &R, path: &str, out: &mut W) -> Result<Option<Fault>, Refusal>
 where
     F: Read + Locks + Drop,
     R: Files<File = F> + AllocGlobal,
     W: Write,
 {
-    let durability = Durability::EachSector;
-    let mut file = told(opened(rt, path))?;
-    own(&mut file, durability)?;
-    let image = told(read_own(rt.alloc(), &mut file, durability))?;
-    let file = Placed::lasting(file, durability);
+    let (image, file) = image_to_keep(rt, path)?;
     let (_, ended) = repair_run(rt.alloc(), image.as_slice(), file, out);
+    kept_end(ended)
+}
+
+/// Makes a relative file on the disk of the image at a path, over its file.
+fn do_make<F, R, W>(
+    rt: &R,
+    path: &str,
+    name: &Name,
+    length: u8,
+    out: &mut W,
+) -> Result<Option<Fault>, Refusal>
+where
+    F: Read + Locks + Drop,
+    R: Files<File = F> + AllocGlobal,
+    W: Write,
+    requires name { IsNewName (name_bytes name.now) }
+    requires length { IsLength length }
+{
+    let (image, file) = image_to_keep(rt, path)?;
+    let (_, ended) = make_run(
+        rt.alloc(),
+        image.as_slice(),
+        name.as_bytes(),
+        length,
+        file,
+        out,
+    );
+    kept_end(ended)
+}
+
+/// Stores the records of the text at a path in a relative file of the image at another, over its file.
+fn do_store<F, R, W>(
+    rt: &R,
+    path: &str,
+    name: &Name,
+    records: &str,
+    out: &mut W,
+) -> Result<Option<Fault>, Refusal>
+where
+    F: Read + Locks + Drop,
+    R: Files<File = F> + Input + AllocGlobal,
+    W: Write,
+{
+    let (image, file) = image_to_keep(rt, path)?;
+    let text = told(script_at(rt, records))?;
+    let (_, ended) = store_run(
+        rt.alloc(),
+        image.as_slice(),
+        name.as_bytes(),
+        text.as_slice(),
+        file,
+        out,
+    );
     kept_end(ended)
 }
 
@@ -283,13 +349,13 @@ where
 /// Opens or reads the job's files and does it; what is printed goes to `out`, which is flushed at the end. An image is locked
 /// before anything of it is read or changed: alone where it is written. `InUse` where another program has it; `File` where a
 /// file couldn't be opened or read, and the faults of `reading_run`, `format_run`, `play_run`, `serve_run`,
-/// `repair_run`, `taking_run` and `drawing_run`.
+/// `repair_run`, `make_run`, `store_run`, `taking_run` and `drawing_run`.
 pub fn do_job<F, R, W>(rt: &R, job: &Job<'_>, out: &mut W) -> Result<Option<Fault>, Refusal>
 where
     F: EndedFile + Read + Locks + OpenFile + Drop,
     R: Files<File = F> + Input + AllocGlobal,
     W: Write,
-    requires { HasTills job.now }
+    requires { IsFit job.now }
 {
     match job {
         Job::Format { image, tills } => do_format(rt, image, *tills, out),
@@ -301,6 +367,16 @@ where
         } => do_playing(rt, image, script, *durability, out),
         Job::Serve { image, durability } => do_serving(rt, image, *durability, out),
         Job::Repair { image } => do_repair(rt, image, out),
+        Job::Make {
+            image,
+            name,
+            length,
+        } => do_make(rt, image, name, *length, out),
+        Job::Store {
+            image,
+            name,
+            records,
+        } => do_store(rt, image, name, records, out),
         Job::Take { what, image, name } => do_taking(rt, *what, image, name, out),
         Job::Draw { what, image } => do_drawing(rt, *what, image, out),
     }

@@ -80,6 +80,24 @@ pub enum Job<'a> {
         /// The name of the file.
         name: Name,
     },
+    /// A relative file, made on the disk of an image.
+    Make {
+        /// The image's path.
+        image: &'a str,
+        /// The name of the file, which a new file can have. Who makes a job sees to it.
+        name: Name,
+        /// How many bytes a record has, 1 to 254. Who makes a job sees to it.
+        length: u8,
+    },
+    /// Records from the lines of a text, stored in a relative file of an image.
+    Store {
+        /// The image's path.
+        image: &'a str,
+        /// The name of the file.
+        name: Name,
+        /// The text's path.
+        records: &'a str,
+    },
     /// An image that is read, drawn.
     Draw {
         /// How it is drawn.

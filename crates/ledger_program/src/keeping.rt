@@ -5,10 +5,15 @@ ghost use Rattle.d64_image.specs.Memory.{sectors_in};
 ghost use Rattle.d64_image.specs.Mirrors.{is_broken, mirror_file};
 ghost use Rattle.keeper_commands.specs.declared.faults.KeepFault.TheVariants as faults;
 ghost use Rattle.ledger_program.specs.Keeping.{IsRepairOver, IsTakingRun};
+ghost use Rattle.ledger_program.specs.Kept.{IsMakeOver, IsStoreOver};
+ghost use Rattle.keeper_commands.specs.Makes.{IsNewName};
+ghost use Rattle.rel_records.specs.File.{IsLength};
 
 use crate::jobs::Taking;
 use d64_image::{Mirror, SectorFile};
-use keeper_commands::{KeepFault, bytes_image, load, records_image, repair_image};
+use keeper_commands::{
+    KeepFault, bytes_image, load, make_image, records_image, repair_image, store_image,
+};
 use std::alloc::Global;
 use std::io::Write;
 
@@ -62,5 +67,58 @@ pub fn repair_run<F: SectorFile, W: Write>(
     };
     let mut mirror = Mirror::new(file, disk);
     let ended = repair_image(alloc, image, &mut mirror, out);
+    file_of(mirror, ended)
+}
+
+/// Makes a relative file with records of `length` bytes on the clean disk of the image that the file keeps, prints
+/// `MADE`, and hands the file back. Each sector is handed to the file before memory takes it. `FileExists`, `DiskFull`
+/// and what is wrong with the image leave file and output as they were. `Device` where the file failed: the new file is
+/// made or isn't. `File` where the output did: it is made.
+pub fn make_run<F: SectorFile, W: Write>(
+    alloc: Global,
+    image: &[u8],
+    name: &[u8],
+    length: u8,
+    file: F,
+    out: &mut W,
+) -> (F, Result<(), KeepFault>)
+    requires name { IsNewName name.now }
+    requires length { IsLength length }
+    // where it is known what the file keeps, it is this image
+    requires agrees { Agrees (F.keeps.kept file) (sectors_in image.now) }
+    ensures run { IsMakeOver F.keeps W.contents image.now name.now length file result.0 out.old out.new result.1 }
+{
+    let disk = match load(alloc, image) {
+        Ok(disk) => disk,
+        Err(fault) => return (file, Err(fault)),
+    };
+    let mut mirror = Mirror::new(file, disk);
+    let ended = make_image(alloc, image, name, length, &mut mirror, out);
+    file_of(mirror, ended)
+}
+
+/// Stores records, from the lines of a text, in the first closed relative file of this name of the clean disk of the
+/// image that the file keeps, prints the lines of those that were otherwise, and hands the file back. Each sector is
+/// handed to the file before memory takes it. `NoFile`, `BadLine`, `DiskFull` and what is wrong with the image leave file
+/// and output as they were. `Device` where the file failed, `File` where the output did: what was stored until then
+/// stays.
+pub fn store_run<F: SectorFile, W: Write>(
+    alloc: Global,
+    image: &[u8],
+    name: &[u8],
+    text: &[u8],
+    file: F,
+    out: &mut W,
+) -> (F, Result<(), KeepFault>)
+    // where it is known what the file keeps, it is this image
+    requires agrees { Agrees (F.keeps.kept file) (sectors_in image.now) }
+    ensures run { IsStoreOver F.keeps W.contents image.now name.now text.now file result.0 out.old out.new result.1 }
+{
+    let disk = match load(alloc, image) {
+        Ok(disk) => disk,
+        Err(fault) => return (file, Err(fault)),
+    };
+    let mut mirror = Mirror::new(file, disk);
+    let ended = store_image(alloc, image, name, text, &mut mirror, out);
     file_of(mirror, ended)
 }

@@ -1,10 +1,12 @@
 //! Names of files, as they are typed.
 ghost use Rattle.std.specs.Prelude.{◌≡◌, ◌-◌, ◌↔◌, ℕ, List, IfSome, IsNone, IsTrue, Some, length, slice_get};
 ghost use Rattle.byte_text.specs.Texts.{AreBytes};
+ghost use Rattle.keeper_commands.specs.Makes.{IsNewName};
 ghost use Rattle.ledger_program.specs.Names.{IsNameOf, name_bytes};
 
 use arrayvec::ArrayVec;
 use byte_text::read_text;
+use keeper_commands::is_new_name;
 
 /// How many bytes a name has at most.
 const NAME_BYTES: usize = 16;
@@ -48,5 +50,12 @@ impl Name {
         ensures { result.now ≡ name_bytes self.now }
     {
         self.bytes.as_slice()
+    }
+
+    /// Whether a new file can have it: it has a byte.
+    pub fn is_new(&self) -> bool
+        ensures { IsTrue result ↔ IsNewName (name_bytes self.now) }
+    {
+        is_new_name(self.as_bytes())
     }
 }

@@ -1,12 +1,12 @@
 -- What a job is where its words are parsed.
-use Rattle.std.proofs.Common.{◌≡◌, Bor, List, Option, Some, true, refl, ap, sym, ◌∙◌, subst, []}
+use Rattle.std.proofs.Common.{◌≡◌, Bor, List, Option, Some, true, inl, inr, refl, ap, sym, ◌∙◌, subst, []}
 use Rattle.std.specs.Prelude.{Result, Ok, Err, IfErr, IfOk, MatchResult, codes, option_map}
 use Rattle.clap.specs.Words.{App, FailsBy, HasKind, HasMatchesOf, Kinds, Row, Text, fault_of, found_of, is_simple, is_simple_and_free, rows_of, subcommand_of}
 use Rattle.clap.specs.declared.error.Error.{Error}
 use Rattle.clap.specs.declared.parser.matches.ArgMatches.{ArgMatches}
 use Rattle.ledger_words.specs.Grammar.{ledger, value}
-use Rattle.ledger_words.specs.Jobs.{Has, HasNoName, IsJob, IsNoJob, IsParse, IsTakingJob, word_of_taking}
-use Rattle.ledger_program.specs.Jobs.{HasTills}
+use Rattle.ledger_words.specs.Jobs.{Has, HasNoName, HasNoNewName, IsJob, IsMakingJob, IsNoJob, IsParse, IsStoringJob, IsTakingJob, word_of_taking}
+use Rattle.ledger_program.specs.Jobs.{IsFit}
 use Rattle.ledger_program.specs.Names.{IsNameOf, name_bytes}
 use Rattle.ledger_program.specs.declared.jobs.Job.{Job}
 use Rattle.ledger_program.specs.declared.jobs.Job.TheVariants as jobs
@@ -60,7 +60,7 @@ met-has o found name at word P told some is holds =
 pub taking-met : (o : Option (Bor Text × Bor ArgMatches)) (found : Option (Text × List Row)) (name : Bor Text) (at : Bor ArgMatches)
     (what : Taking) (image : Text) (r : Result Job JobFault) → option_map (λ (p : Bor Text × Bor ArgMatches). (p.0.now, rows_of (found_of p.1.now))) o ≡ found
     → o ≡ Some (name, at) → name.now ≡ word_of_taking what → image ≡ value (codes "IMAGE") (rows_of (found_of at.now))
-    → IsTakingJob (rows_of (found_of at.now)) what image r → MatchResult r (IsJob found) (IsNoJob [] found) × IfOk r HasTills
+    → IsTakingJob (rows_of (found_of at.now)) what image r → MatchResult r (IsJob found) (IsNoJob [] found) × IfOk r IsFit
 taking-met o found name at what image (Ok (jobs.Take asked path text)) told some is by-image taking = (
   subst (λ (w : Taking). Has found (word_of_taking w) (λ rows. (path.now ≡ value (codes "IMAGE") rows) × IsNameOf (value (codes "NAME") rows) (name_bytes text)))
       (sym taking.0)
@@ -72,8 +72,54 @@ taking-met o found name at what image (Ok (jobs.Read asked path)) told some is b
 taking-met o found name at what image (Ok (jobs.Play path script durability)) told some is by-image taking = absurd taking
 taking-met o found name at what image (Ok (jobs.Serve path durability)) told some is by-image taking = absurd taking
 taking-met o found name at what image (Ok (jobs.Repair path)) told some is by-image taking = absurd taking
+taking-met o found name at what image (Ok (jobs.Make path text length)) told some is by-image taking = absurd taking
+taking-met o found name at what image (Ok (jobs.Store path text records)) told some is by-image taking = absurd taking
 taking-met o found name at what image (Ok (jobs.Draw asked path)) told some is by-image taking = absurd taking
 taking-met o found name at what image (Err faults.Name) told some is by-image taking =
-    ((refl, what, met-has o found name at (word_of_taking what) HasNoName told some is taking), tt)
+    ((refl, inl (what, met-has o found name at (word_of_taking what) HasNoName told some is taking)), tt)
 taking-met o found name at what image (Err faults.Tills) told some is by-image taking = absurd taking
 taking-met o found name at what image (Err (faults.Words e)) told some is by-image taking = absurd taking
+taking-met o found name at what image (Err faults.Length) told some is by-image taking = absurd taking
+
+-- what makes a relative file is the job of the subcommand that was met, or its words give none
+pub making-met : (o : Option (Bor Text × Bor ArgMatches)) (found : Option (Text × List Row)) (name : Bor Text) (at : Bor ArgMatches)
+    (image : Text) (r : Result Job JobFault) → option_map (λ (p : Bor Text × Bor ArgMatches). (p.0.now, rows_of (found_of p.1.now))) o ≡ found
+    → o ≡ Some (name, at) → name.now ≡ codes "make" → image ≡ value (codes "IMAGE") (rows_of (found_of at.now))
+    → IsMakingJob (rows_of (found_of at.now)) image r → MatchResult r (IsJob found) (IsNoJob [] found) × IfOk r IsFit
+making-met o found name at image (Ok (jobs.Make path text length)) told some is by-image job =
+    (met-has o found name at (codes "make") _ told some is (job.0 ∙ by-image, job.1, job.2), (job.3, job.4))
+making-met o found name at image (Ok (jobs.Format path tills)) told some is by-image job = absurd job
+making-met o found name at image (Ok (jobs.Read asked path)) told some is by-image job = absurd job
+making-met o found name at image (Ok (jobs.Play path script durability)) told some is by-image job = absurd job
+making-met o found name at image (Ok (jobs.Serve path durability)) told some is by-image job = absurd job
+making-met o found name at image (Ok (jobs.Repair path)) told some is by-image job = absurd job
+making-met o found name at image (Ok (jobs.Take asked path text)) told some is by-image job = absurd job
+making-met o found name at image (Ok (jobs.Store path text records)) told some is by-image job = absurd job
+making-met o found name at image (Ok (jobs.Draw asked path)) told some is by-image job = absurd job
+making-met o found name at image (Err faults.Name) told some is by-image job =
+    ((refl, inr (inr (met-has o found name at (codes "make") HasNoNewName told some is job))), tt)
+making-met o found name at image (Err faults.Length) told some is by-image job =
+    ((refl, met-has o found name at (codes "make") _ told some is job), tt)
+making-met o found name at image (Err faults.Tills) told some is by-image job = absurd job
+making-met o found name at image (Err (faults.Words e)) told some is by-image job = absurd job
+
+-- what stores records in one is the job of the subcommand that was met, or its words give none
+pub storing-met : (o : Option (Bor Text × Bor ArgMatches)) (found : Option (Text × List Row)) (name : Bor Text) (at : Bor ArgMatches)
+    (image : Text) (r : Result Job JobFault) → option_map (λ (p : Bor Text × Bor ArgMatches). (p.0.now, rows_of (found_of p.1.now))) o ≡ found
+    → o ≡ Some (name, at) → name.now ≡ codes "store" → image ≡ value (codes "IMAGE") (rows_of (found_of at.now))
+    → IsStoringJob (rows_of (found_of at.now)) image r → MatchResult r (IsJob found) (IsNoJob [] found) × IfOk r IsFit
+storing-met o found name at image (Ok (jobs.Store path text records)) told some is by-image job =
+    (met-has o found name at (codes "store") _ told some is (job.0 ∙ by-image, job.1, job.2), tt)
+storing-met o found name at image (Ok (jobs.Format path tills)) told some is by-image job = absurd job
+storing-met o found name at image (Ok (jobs.Read asked path)) told some is by-image job = absurd job
+storing-met o found name at image (Ok (jobs.Play path script durability)) told some is by-image job = absurd job
+storing-met o found name at image (Ok (jobs.Serve path durability)) told some is by-image job = absurd job
+storing-met o found name at image (Ok (jobs.Repair path)) told some is by-image job = absurd job
+storing-met o found name at image (Ok (jobs.Take asked path text)) told some is by-image job = absurd job
+storing-met o found name at image (Ok (jobs.Make path text length)) told some is by-image job = absurd job
+storing-met o found name at image (Ok (jobs.Draw asked path)) told some is by-image job = absurd job
+storing-met o found name at image (Err faults.Name) told some is by-image job =
+    ((refl, inr (inl (met-has o found name at (codes "store") HasNoName told some is job))), tt)
+storing-met o found name at image (Err faults.Length) told some is by-image job = absurd job
+storing-met o found name at image (Err faults.Tills) told some is by-image job = absurd job
+storing-met o found name at image (Err (faults.Words e)) told some is by-image job = absurd job

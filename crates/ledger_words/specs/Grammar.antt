@@ -58,6 +58,14 @@ records = with_rule (over_image (codes "records")) (required (codes "NAME"))
 abbrev pub bytes : App
 bytes = with_rule (over_image (codes "bytes")) (required (codes "NAME"))
 
+-- make IMAGE NAME --length L
+abbrev pub make : App
+make = with_rule (with_rule (over_image (codes "make")) (required (codes "NAME"))) (required_behind (codes "length") (codes "L"))
+
+-- store IMAGE NAME RECORDS
+abbrev pub store : App
+store = with_rule (with_rule (over_image (codes "store")) (required (codes "NAME"))) (required (codes "RECORDS"))
+
 -- map IMAGE
 abbrev pub map : App
 map = over_image (codes "map")
@@ -80,13 +88,14 @@ with_version a = record { top = record a.top { has_version = true }; subs = a.su
 
 -- the program without its subcommands
 abbrev pub bare : App
-bare = with_required_subcommand (with_version (new_app (codes "ledger_cli")))
+bare = with_required_subcommand (with_version (new_app (codes "ledger")))
 
 -- the program with its subcommands
 abbrev pub ledger : App
 ledger = with_subcommand (with_subcommand (with_subcommand (with_subcommand (with_subcommand (with_subcommand
-    (with_subcommand (with_subcommand (with_subcommand (with_subcommand (with_subcommand (with_subcommand bare format.top)
-    list.top) check.top) show.top) play.top) serve.top) repair.top) records.top) bytes.top) map.top) picture.top) dry.top
+    (with_subcommand (with_subcommand (with_subcommand (with_subcommand (with_subcommand (with_subcommand
+    (with_subcommand (with_subcommand bare format.top) list.top) check.top) show.top) play.top) serve.top) repair.top)
+    records.top) bytes.top) make.top) store.top) map.top) picture.top) dry.top
 
 -- this is that subcommand, and none of its values is one of the program's
 pub record IsSubcommand (app : App) (c : Command) : Type 0 where

@@ -1,11 +1,13 @@
 -- What the words of a command line ask for (our own).
-use Rattle.std.specs.Prelude.{◌≡◌, ℕ, Bool, List, Option, Some, None, Result, Ok, Err, [], bytes_eq, codes, if◌then◌else◌}
+use Rattle.std.specs.Prelude.{◌≡◌, ◌⊎◌, ℕ, Bool, List, Option, Some, None, Result, Ok, Err, [], bytes_eq, codes, if◌then◌else◌}
 use Rattle.clap.specs.Words.{HasKind, Kinds, Row, Text, subcommand_rows_of}
 use Rattle.clap.specs.declared.parser.matches.ArgMatches.{ArgMatches}
 use Rattle.byte_text.specs.Texts.{AreBytes}
 use Rattle.request_cards.specs.Reading.{number_in}
 use Rattle.ledger_commands.specs.declared.durable.Durability.{Durability}
 use Rattle.ledger_commands.specs.declared.durable.Durability.TheVariants as durabilities
+use Rattle.keeper_commands.specs.Makes.{IsNewName}
+use Rattle.rel_records.specs.File.{IsLength}
 use Rattle.ledger_words.specs.Grammar.{value}
 use Rattle.ledger_program.specs.declared.jobs.Drawing.{Drawing}
 use Rattle.ledger_program.specs.declared.jobs.Drawing.TheVariants as drawings
@@ -33,6 +35,10 @@ pub record IsParse (kinds : Kinds) (found : Option (Text × List Row)) (matches 
 -- the number of tills that the words give: 1 to 64, without leading zeros
 abbrev pub tills_in : List Row → Option ℕ
 tills_in rows = number_in 1 64 (value (codes "T") rows)
+
+-- the length of a record that they give: 1 to 254, without leading zeros
+abbrev pub length_in : List Row → Option ℕ
+length_in rows = number_in 1 254 (value (codes "L") rows)
 
 -- the subcommand that asks this of a file
 abbrev pub word_of : Reading → Text
@@ -72,6 +78,14 @@ serve_durability rows = if is_given (codes "unsynced") rows then durabilities.At
 abbrev pub HasNoName : List Row → Type 0
 HasNoName rows = (bytes : List ℕ) → AreBytes bytes → ¬ (IsNameOf (value (codes "NAME") rows) bytes)
 
+-- nor one that a new file can have
+abbrev pub HasNoNewName : List Row → Type 0
+HasNoNewName rows = (bytes : List ℕ) → AreBytes bytes → IsNameOf (value (codes "NAME") rows) bytes → ¬ (IsNewName bytes)
+
+-- it is one that a new file can have
+abbrev pub HasNewName : List Row → Type 0
+HasNewName rows = (bytes : List ℕ) × IsNameOf (value (codes "NAME") rows) bytes × IsNewName bytes
+
 -- the job of a subcommand and its values
 abbrev pub IsJob : Option (Text × List Row) → Job → Type 0
 IsJob found (jobs.Format image tills) = Has found (codes "format")
@@ -84,6 +98,12 @@ IsJob found (jobs.Serve image durability) = Has found (codes "serve")
 IsJob found (jobs.Repair image) = Has found (codes "repair") (λ rows. image.now ≡ value (codes "IMAGE") rows)
 IsJob found (jobs.Take what image name) = Has found (word_of_taking what)
     (λ rows. (image.now ≡ value (codes "IMAGE") rows) × IsNameOf (value (codes "NAME") rows) (name_bytes name))
+IsJob found (jobs.Make image name length) = Has found (codes "make")
+    (λ rows. (image.now ≡ value (codes "IMAGE") rows) × IsNameOf (value (codes "NAME") rows) (name_bytes name)
+    × (length_in rows ≡ Some length))
+IsJob found (jobs.Store image name records) = Has found (codes "store")
+    (λ rows. (image.now ≡ value (codes "IMAGE") rows) × IsNameOf (value (codes "NAME") rows) (name_bytes name)
+    × (records.now ≡ value (codes "RECORDS") rows))
 IsJob found (jobs.Draw what image) = Has found (word_of_drawing what) (λ rows. image.now ≡ value (codes "IMAGE") rows)
 
 -- the job, or why there is none, of a subcommand that takes this out of an image and has these values
@@ -94,9 +114,35 @@ IsTakingJob rows what image (Ok _) = ⊥
 IsTakingJob rows what image (Err faults.Name) = HasNoName rows
 IsTakingJob rows what image (Err _) = ⊥
 
+-- the same of the one that makes a relative file
+abbrev pub IsMakingJob : List Row → Text → Result Job JobFault → Type 0
+IsMakingJob rows image (Ok (jobs.Make path name length)) =
+    (path.now ≡ image) × IsNameOf (value (codes "NAME") rows) (name_bytes name) × (length_in rows ≡ Some length)
+    × IsNewName (name_bytes name) × IsLength length
+IsMakingJob rows image (Ok _) = ⊥
+IsMakingJob rows image (Err faults.Name) = HasNoNewName rows
+IsMakingJob rows image (Err faults.Length) = HasNewName rows × (length_in rows ≡ None)
+IsMakingJob rows image (Err _) = ⊥
+
+-- and of the one that stores records in one
+abbrev pub IsStoringJob : List Row → Text → Result Job JobFault → Type 0
+IsStoringJob rows image (Ok (jobs.Store path name records)) =
+    (path.now ≡ image) × IsNameOf (value (codes "NAME") rows) (name_bytes name) × (records.now ≡ value (codes "RECORDS") rows)
+IsStoringJob rows image (Ok _) = ⊥
+IsStoringJob rows image (Err faults.Name) = HasNoName rows
+IsStoringJob rows image (Err _) = ⊥
+
+-- the text of NAME is none that the subcommand takes
+abbrev pub IsRefusedName : Option (Text × List Row) → Type 0
+IsRefusedName found =
+    ((what : Taking) × Has found (word_of_taking what) HasNoName)
+    ⊎ (Has found (codes "store") HasNoName ⊎ Has found (codes "make") HasNoNewName)
+
 -- why there is none: the words are refused for one of these kinds, or memory ran out; or the number of tills is none, or the
--- name of a file
+-- name of a file, or the length of a record
 abbrev pub IsNoJob : Kinds → Option (Text × List Row) → JobFault → Type 0
 IsNoJob kinds found (faults.Words e) = HasKind kinds e
 IsNoJob kinds found faults.Tills = (kinds ≡ []) × Has found (codes "format") (λ rows. tills_in rows ≡ None)
-IsNoJob kinds found faults.Name = (kinds ≡ []) × (what : Taking) × Has found (word_of_taking what) HasNoName
+IsNoJob kinds found faults.Name = (kinds ≡ []) × IsRefusedName found
+IsNoJob kinds found faults.Length =
+    (kinds ≡ []) × Has found (codes "make") (λ rows. HasNewName rows × (length_in rows ≡ None))

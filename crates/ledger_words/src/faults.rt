@@ -14,13 +14,17 @@ pub enum JobFault {
     /// The number of tills isn't one of 1 to 64, in decimal digits without leading zeros.
     #[error("TILLS")]
     Tills,
-    /// The name of a file isn't the text of at most sixteen bytes, of which the last isn't a shifted space.
+    /// The name of a file isn't the text of at most sixteen bytes, of which the last isn't a shifted space; or is of none,
+    /// where a file is made.
     #[error("NAME")]
     Name,
+    /// The length of a record isn't one of 1 to 254, in decimal digits without leading zeros.
+    #[error("LENGTH")]
+    Length,
 }
 
 impl JobFault {
-    /// The fault's number: 1 for `Words`, 2 for `Tills`, 3 for `Name`.
+    /// The fault's number: 1 for `Words`, 2 for `Tills`, 3 for `Name`, 4 for `Length`.
     pub fn number(&self) -> u8
         ensures { result ≡ job_number self.now }
     {
@@ -28,6 +32,7 @@ impl JobFault {
             JobFault::Words(_) => 1,
             JobFault::Tills => 2,
             JobFault::Name => 3,
+            JobFault::Length => 4,
         }
     }
 
@@ -41,7 +46,7 @@ impl JobFault {
                 ErrorKind::DisplayHelp | ErrorKind::DisplayVersion => 0,
                 _ => 2,
             },
-            JobFault::Tills | JobFault::Name => 2,
+            JobFault::Tills | JobFault::Name | JobFault::Length => 2,
         }
     }
 }

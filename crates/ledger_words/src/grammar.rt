@@ -4,6 +4,10 @@ ghost use Rattle.clap.specs.Words.{App, app_of, new_app, rule_of, with_rule};
 ghost use Rattle.clap.specs.declared.builder.command.Command.TheViews.{out-Command};
 ghost use Rattle.ledger_words.specs.Grammar as grammar;
 
+use crate::help_texts::{
+    BYTES, CHECK, DRY, FORMAT, LIST, MAKE, MAP, MORE, PICTURE, PLAY, RECORDS, REPAIR, SERVE, SHOW,
+    STORE,
+};
 use clap::{Arg, ArgAction, Command};
 use std::alloc::{AllocError, Global};
 
@@ -37,12 +41,12 @@ fn flag<'a>(alloc: Global, word: &'a str, help: &'a str) -> Arg<'a>
         .help(help)
 }
 
-/// A command with this name, and what help says of it.
-fn named<'a>(alloc: Global, name: &'a str, about: &'a str) -> Command<'a>
+/// A command with this name, and what help says of it: in a line, and below its words.
+fn named<'a>(alloc: Global, name: &'a str, about: &'a str, more: &'a str) -> Command<'a>
     ensures app { app_of result ≡ new_app name.entry.now }
     ensures local { (out-Command result).has_globals ≡ false }
 {
-    Command::new(alloc, name).about(about)
+    Command::new(alloc, name).about(about).after_help(more)
 }
 
 /// A subcommand with one value.
@@ -50,12 +54,13 @@ fn with_value<'a>(
     alloc: Global,
     name: &'a str,
     about: &'a str,
+    more: &'a str,
     value: Arg<'a>,
 ) -> Result<Command<'a>, AllocError>
     requires { value.global ≡ false }
     ensures { IfOk result (grammar.IsSubcommand (with_rule (new_app name.entry.now) (rule_of value.entry))) }
 {
-    named(alloc, name, about).arg(value)
+    named(alloc, name, about, more).arg(value)
 }
 
 /// Adds a value or a flag to a subcommand, where there was memory for it.
@@ -71,11 +76,16 @@ fn takes<'a>(
 }
 
 /// A subcommand over an image.
-fn over_image<'a>(alloc: Global, name: &'a str, about: &'a str) -> Result<Command<'a>, AllocError>
+fn over_image<'a>(
+    alloc: Global,
+    name: &'a str,
+    about: &'a str,
+    more: &'a str,
+) -> Result<Command<'a>, AllocError>
     ensures { IfOk result (grammar.IsSubcommand (grammar.over_image name.entry.now)) }
 {
     let image = required(alloc, "IMAGE", "The disk's image, a D64 file of 35 tracks");
-    with_value(alloc, name, about, image)
+    with_value(alloc, name, about, more, image)
 }
 
 /// `format IMAGE --tills T`
@@ -85,7 +95,7 @@ fn format_command<'a>(alloc: Global) -> Result<Command<'a>, AllocError>
     let about = "Makes the image of an empty shop, or replaces it";
     let help = "How many tills the shop has, 1 to 64";
     takes(
-        over_image(alloc, "format", about),
+        over_image(alloc, "format", about, FORMAT),
         required_behind(alloc, "tills", "T", help),
     )
 }
@@ -94,7 +104,7 @@ fn format_command<'a>(alloc: Global) -> Result<Command<'a>, AllocError>
 fn list_command<'a>(alloc: Global) -> Result<Command<'a>, AllocError>
     ensures { IfOk result (grammar.IsSubcommand grammar.list) }
 {
-    over_image(alloc, "list", "Prints the directory of the image")
+    over_image(alloc, "list", "Prints the directory of the image", LIST)
 }
 
 /// `check IMAGE`
@@ -105,6 +115,7 @@ fn check_command<'a>(alloc: Global) -> Result<Command<'a>, AllocError>
         alloc,
         "check",
         "Judges the layout of the image: prints OK, or what is wrong and where",
+        CHECK,
     )
 }
 
@@ -128,6 +139,7 @@ fn show_command<'a>(alloc: Global) -> Result<Command<'a>, AllocError>
         alloc,
         "show",
         "Prints the cards of the image, and the last two requests of each till with their answers",
+        SHOW,
     )
 }
 
@@ -137,7 +149,7 @@ fn play_command<'a>(alloc: Global) -> Result<Command<'a>, AllocError>
 {
     let about = "Plays the messages of a script on the image, and prints the reply to each";
     let help = "Brings each sector to the disk before the next is written, and not all at the end";
-    let play = takes(over_image(alloc, "play", about), script_of(alloc));
+    let play = takes(over_image(alloc, "play", about, PLAY), script_of(alloc));
     takes(play, flag(alloc, "sync", help))
 }
 
@@ -148,7 +160,7 @@ fn serve_command<'a>(alloc: Global) -> Result<Command<'a>, AllocError>
     let about = "Answers the messages that come on standard input, each before the next is read";
     let help = "Leaves it to the system when sectors come to the disk";
     let unsynced = flag(alloc, "unsynced", help);
-    takes(over_image(alloc, "serve", about), unsynced)
+    takes(over_image(alloc, "serve", about, SERVE), unsynced)
 }
 
 /// `repair IMAGE`
@@ -159,6 +171,7 @@ fn repair_command<'a>(alloc: Global) -> Result<Command<'a>, AllocError>
         alloc,
         "repair",
         "Makes the map, the side sectors and the block counts of a sound disk right",
+        REPAIR,
     )
 }
 
@@ -179,7 +192,7 @@ fn records_command<'a>(alloc: Global) -> Result<Command<'a>, AllocError>
     ensures { IfOk result (grammar.IsSubcommand grammar.records) }
 {
     let about = "Prints the records of a relative file, a line each";
-    takes(over_image(alloc, "records", about), name_of(alloc))
+    takes(over_image(alloc, "records", about, RECORDS), name_of(alloc))
 }
 
 /// `bytes IMAGE NAME`
@@ -187,7 +200,39 @@ fn bytes_command<'a>(alloc: Global) -> Result<Command<'a>, AllocError>
     ensures { IfOk result (grammar.IsSubcommand grammar.bytes) }
 {
     let about = "Prints the bytes of a file of any type";
-    takes(over_image(alloc, "bytes", about), name_of(alloc))
+    takes(over_image(alloc, "bytes", about, BYTES), name_of(alloc))
+}
+
+/// `make IMAGE NAME --length L`
+fn make_command<'a>(alloc: Global) -> Result<Command<'a>, AllocError>
+    ensures { IfOk result (grammar.IsSubcommand grammar.make) }
+{
+    let about = "Makes a relative file with a block of empty records";
+    let help = "How many bytes a record has, 1 to 254";
+    let make = takes(over_image(alloc, "make", about, MAKE), name_of(alloc));
+    takes(make, required_behind(alloc, "length", "L", help))
+}
+
+/// The text of records of a subcommand.
+fn records_of<'a>(alloc: Global) -> Arg<'a>
+    ensures rule { rule_of result ≡ grammar.required (codes "RECORDS") }
+    ensures local { result.global ≡ false }
+{
+    required(
+        alloc,
+        "RECORDS",
+        "The records, a line each, as records prints them; /dev/stdin is standard input",
+    )
+}
+
+/// `store IMAGE NAME RECORDS`
+fn store_command<'a>(alloc: Global) -> Result<Command<'a>, AllocError>
+    ensures { IfOk result (grammar.IsSubcommand grammar.store) }
+{
+    let about =
+        "Stores records in a relative file, and prints the lines of those that were otherwise";
+    let store = takes(over_image(alloc, "store", about, STORE), name_of(alloc));
+    takes(store, records_of(alloc))
 }
 
 /// `map IMAGE`
@@ -198,6 +243,7 @@ fn map_command<'a>(alloc: Global) -> Result<Command<'a>, AllocError>
         alloc,
         "map",
         "Prints which sector is whose: a line for each track, then the files and what a check tells",
+        MAP,
     )
 }
 
@@ -209,6 +255,7 @@ fn picture_command<'a>(alloc: Global) -> Result<Command<'a>, AllocError>
         alloc,
         "picture",
         "Prints a drawing of the disk, as an HTML page",
+        PICTURE,
     )
 }
 
@@ -218,17 +265,15 @@ fn dry_command<'a>(alloc: Global) -> Result<Command<'a>, AllocError>
 {
     let about =
         "Prints the reply to each message of a script, from an empty shop on, without a disk";
-    with_value(alloc, "dry", about, script_of(alloc))
+    with_value(alloc, "dry", about, DRY, script_of(alloc))
 }
 
 /// The program's name, and what help says of it.
 fn described<'a>(alloc: Global) -> Command<'a>
-    ensures { app_of result ≡ new_app (codes "ledger_cli") }
+    ensures { app_of result ≡ new_app (codes "ledger") }
 {
     let about = "A retry-safe stock ledger: a request that comes again gets its first answer";
-    named(alloc, "ledger_cli", about).after_help(
-        "README.md says what each subcommand does, and what is proved of it.",
-    )
+    named(alloc, "ledger", about, MORE)
 }
 
 /// The program without its subcommands.
@@ -263,6 +308,8 @@ pub fn ledger_command<'a>(alloc: Global) -> Result<Command<'a>, AllocError>
     let program = adds(program, repair_command(alloc));
     let program = adds(program, records_command(alloc));
     let program = adds(program, bytes_command(alloc));
+    let program = adds(program, make_command(alloc));
+    let program = adds(program, store_command(alloc));
     let program = adds(program, map_command(alloc));
     let program = adds(program, picture_command(alloc));
     adds(program, dry_command(alloc))

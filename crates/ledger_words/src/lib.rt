@@ -3,6 +3,7 @@
 
 mod faults;
 mod grammar;
+mod help_texts;
 mod obeying;
 mod words;
 

@@ -1,6 +1,6 @@
 //! The whole program, over a runtime.
 ghost use Rattle.std.specs.Prelude.{◌≡◌};
-ghost use Rattle.ledger_program.specs.Jobs.{HasTills};
+ghost use Rattle.ledger_program.specs.Jobs.{IsFit};
 
 use crate::faults::JobFault;
 use crate::words::job;
@@ -32,7 +32,7 @@ fn refuse_words<R: Print + Eprint, E: Write>(rt: &R, fault: &JobFault, err: &mut
             return end(Err(Refusal::Run(RunFault::NoMemory)), err);
         }
         JobFault::Words(error) => error.print(rt),
-        JobFault::Tills | JobFault::Name => writeln!(err, "{fault}"),
+        JobFault::Tills | JobFault::Name | JobFault::Length => writeln!(err, "{fault}"),
     };
     match told {
         // Help that can't be printed is an output that failed.
@@ -47,7 +47,7 @@ where
     F: EndedFile + Read + Locks + OpenFile + Drop,
     R: Files<File = F> + Input + Print + AllocGlobal,
     E: Write,
-    requires { HasTills job.now }
+    requires { IsFit job.now }
 {
     match BufWriter::with_capacity(rt.alloc(), OUTPUT_ROOM, io::writer(rt)) {
         Ok(mut out) => end(do_job(rt, job, &mut out), err),

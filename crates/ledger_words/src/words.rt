@@ -3,8 +3,9 @@ ghost use Rattle.std.specs.Prelude.{◌≡◌, ◌≤◌, IfErr, IfOk, IfSome, L
 ghost use Rattle.clap.specs.Words.{HasKind, fault_of, found_of, rows_of, subcommand_of, subcommand_rows_of};
 ghost use Rattle.ledger_words.specs.Grammar.{ledger, value};
 ghost use Rattle.request_cards.specs.Reading.{number_in};
-ghost use Rattle.ledger_program.specs.Jobs.{HasTills};
-ghost use Rattle.ledger_words.specs.Jobs.{IsJob, IsNoJob, IsParse, IsTakingJob};
+ghost use Rattle.ledger_program.specs.Jobs.{IsFit};
+ghost use Rattle.ledger_words.specs.Jobs.{IsJob, IsMakingJob, IsNoJob, IsParse, IsStoringJob, IsTakingJob};
+ghost use Rattle.rel_records.specs.File.{IsLength};
 ghost use Rattle.ledger_words.specs.Jobs.{is_given as given, play_durability as of_play, serve_durability as of_serve};
 
 use crate::faults::JobFault;
@@ -37,6 +38,17 @@ fn tills_of(text: &str) -> Option<u8>
 {
     match number(text.as_bytes(), 1, 64) {
         Some(tills) => Some(tills as u8),
+        None => None,
+    }
+}
+
+/// The length of a record that a text spells: 1 to 254, in decimal digits without leading zeros.
+fn length_of(text: &str) -> Option<u8>
+    ensures exact { result ≡ number_in 1 254 text.now }
+    ensures range { IfSome result IsLength }
+{
+    match number(text.as_bytes(), 1, 254) {
+        Some(length) => Some(length as u8),
         None => None,
     }
 }
@@ -80,11 +92,44 @@ fn taking<'a>(matches: &ArgMatches<'a>, what: Taking, image: &'a str) -> Result<
     }
 }
 
+/// The job that makes a relative file on the disk of an image.
+fn making<'a>(matches: &ArgMatches<'a>, image: &'a str) -> Result<Job<'a>, JobFault>
+    ensures { IsMakingJob (rows_of (found_of matches.now)) image.now result }
+{
+    let name = match Name::read(value_of(matches, "NAME")) {
+        Some(name) if name.is_new() => name,
+        _ => return Err(JobFault::Name),
+    };
+    match length_of(value_of(matches, "L")) {
+        Some(length) => Ok(Job::Make {
+            image,
+            name,
+            length,
+        }),
+        None => Err(JobFault::Length),
+    }
+}
+
+/// The job that stores records in a relative file of an image.
+fn storing<'a>(matches: &ArgMatches<'a>, image: &'a str) -> Result<Job<'a>, JobFault>
+    ensures { IsStoringJob (rows_of (found_of matches.now)) image.now result }
+{
+    let records = value_of(matches, "RECORDS");
+    match Name::read(value_of(matches, "NAME")) {
+        Some(name) => Ok(Job::Store {
+            image,
+            name,
+            records,
+        }),
+        None => Err(JobFault::Name),
+    }
+}
+
 /// The job of the subcommand that was met.
 fn chosen<'a>(matches: &ArgMatches<'a>) -> Result<Job<'a>, JobFault>
     ensures job { MatchResult result (IsJob (subcommand_rows_of matches.now))
         (IsNoJob [] (subcommand_rows_of matches.now)) }
-    ensures tills { IfOk result HasTills }
+    ensures fit { IfOk result IsFit }
 {
     let Some((name, found)) = met(matches) else {
         // A parse without a subcommand is refused.
@@ -121,6 +166,8 @@ fn chosen<'a>(matches: &ArgMatches<'a>) -> Result<Job<'a>, JobFault>
         "repair" => Ok(Job::Repair { image }),
         "records" => taking(found, Taking::Records, image),
         "bytes" => taking(found, Taking::Bytes, image),
+        "make" => making(found, image),
+        "store" => storing(found, image),
         "map" => Ok(Job::Draw {
             what: Drawing::Map,
             image,
@@ -151,9 +198,10 @@ pub fn job<'a>(alloc: Global, words: &'a [&'a str]) -> Result<Job<'a>, JobFault>
     // A job comes only where no word is refused, and is that of the subcommand and its values.
     ensures ok { let texts = map (λ word. word.now) words.entry.now in
         IfOk result (λ j. (fault_of ledger texts ≡ []) × IsJob (subcommand_of ledger texts) j) }
-    ensures tills { IfOk result HasTills }
+    ensures fit { IfOk result IsFit }
     // Words are refused for one of the reasons that the command line gives, or for want of memory,
-    // or for a number of tills that is none of 1 to 64, or a name that no file has, where nothing else is wrong.
+    // or for a number of tills that is none of 1 to 64, a name that no file has, or a length that no record has, where
+    // nothing else is wrong.
     ensures err { let texts = map (λ word. word.now) words.entry.now in
         IfErr result (IsNoJob (fault_of ledger texts) (subcommand_of ledger texts)) }
 {

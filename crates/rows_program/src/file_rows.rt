@@ -2,14 +2,14 @@
 use crate::comparing::{holds, same_at};
 use crate::memory::Memory;
 use crate::scenes::{
-    BYTES, CHECK, DRY, End, FILE, FORMAT, LIST, PLAY, RECORDS, REPAIR, SERVE, SHOW, Words,
-    bytes_at, empty_shop, ends, put, ran, repeated,
+    BYTES, CHECK, DRY, End, FILE, FORMAT, LIST, MAKE, PLAY, RECORDS, REPAIR, SERVE, SHOW, STORE,
+    Words, bytes_at, empty_shop, ends, put, ran, repeated,
 };
 use crate::stored::Kind;
 use std::process::Abort;
 
 /// Words, and what stands at the image's path and at the script's, so that a file can't be opened, read or written.
-const CLOSED: [(Words, Kind, Kind, &str); 20] = [
+const CLOSED: [(Words, Kind, Kind, &str); 25] = [
     (SERVE, Kind::Missing, Kind::Plain, "serve of no image"),
     (REPAIR, Kind::Missing, Kind::Plain, "repair of no image"),
     (
@@ -18,6 +18,16 @@ const CLOSED: [(Words, Kind, Kind, &str); 20] = [
         Kind::Plain,
         "repair of an image that may not be written",
     ),
+    (MAKE, Kind::Missing, Kind::Plain, "make on no image"),
+    (
+        MAKE,
+        Kind::ReadOnly,
+        Kind::Plain,
+        "make on an image that may not be written",
+    ),
+    (STORE, Kind::Missing, Kind::Plain, "store on no image"),
+    (STORE, Kind::Plain, Kind::Missing, "store of no records"),
+    (STORE, Kind::Plain, Kind::Folder, "store of a folder"),
     (RECORDS, Kind::Missing, Kind::Plain, "records of no image"),
     (BYTES, Kind::Folder, Kind::Plain, "bytes of a folder"),
     (LIST, Kind::Missing, Kind::Plain, "list of no image"),
@@ -99,7 +109,9 @@ fn an_image_replaces_a_file(rt: HostRuntime) {
 
 /// Sees that an image of another size is refused by each job, and left as it is.
 fn is_no_image(rt: &(impl AllocGlobal + Abort), image: &[u8]) {
-    for words in [LIST, CHECK, SHOW, PLAY, SERVE, REPAIR, RECORDS, BYTES] {
+    for words in [
+        LIST, CHECK, SHOW, PLAY, SERVE, REPAIR, MAKE, STORE, RECORDS, BYTES,
+    ] {
         let memory = Memory::new(rt.alloc(), words, b"");
         put(rt, &memory.image, Kind::Plain, image);
         put(rt, &memory.script, Kind::Plain, b"1,1,S,1,5\n");

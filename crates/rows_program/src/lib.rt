@@ -24,4 +24,6 @@ mod scenes;
 #[cfg(test)]
 mod stored;
 #[cfg(test)]
+mod stored_rows;
+#[cfg(test)]
 mod word_rows;

@@ -1,11 +1,11 @@
 //! Outputs that are full, or don't hand on what they took, and image files that fail while they are written.
-ghost use Rattle.ledger_program.specs.Jobs.{HasTills};
+ghost use Rattle.ledger_program.specs.Jobs.{IsFit};
 
 use crate::comparing::{holds, same, same_at};
 use crate::memory::{Memory, Runtime};
 use crate::scenes::{
-    BYTES, CHECK, DRY, FILE, FORMAT, LIST, PLAY, RECORDS, REPAIR, SERVE, SHOW, Words, empty_shop,
-    ends, put,
+    BYTES, CHECK, DRY, FILE, FORMAT, LIST, MAKE, PLAY, RECORDS, REPAIR, SERVE, SHOW, Words,
+    empty_shop, ends, put,
 };
 use crate::stored::Kind;
 use ledger_commands::Durability;
@@ -14,9 +14,10 @@ use std::io::{self, Write};
 use std::process::Abort;
 
 /// Words, how many bytes the output takes, and what it has then.
-const FULL: [(Words, usize, &[u8]); 12] = [
+const FULL: [(Words, usize, &[u8]); 13] = [
     (SERVE, 12, b"1,1,DONE,5\n1"),
     (REPAIR, 2, b"OK"),
+    (MAKE, 3, b"MAD"),
     (RECORDS, 5, b"1,\"\\f"),
     (BYTES, 1, b"\xff"),
     (LIST, 10, b"0 \"STOCK L"),
@@ -64,7 +65,7 @@ impl Write for Kept {
 
 /// Sees that the job ends with status 3 over an output that hands nothing on.
 fn hands_on(rt: &(impl AllocGlobal + Abort), job: &Job<'static>, printed: usize, shop: &[u8])
-    requires { HasTills job.now }
+    requires { IsFit job.now }
 {
     let memory = Memory::new(rt.alloc(), &[], b"");
     put(rt, &memory.image, Kind::Plain, shop);

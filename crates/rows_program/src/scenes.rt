@@ -29,6 +29,17 @@ pub(crate) const RECORDS: Words = &[b"ledger_cli", b"records", b"a.d64", b"REQUE
 
 pub(crate) const BYTES: Words = &[b"ledger_cli", b"bytes", b"a.d64", b"REQUESTS"];
 
+pub(crate) const MAKE: Words = &[
+    b"ledger_cli",
+    b"make",
+    b"a.d64",
+    b"CARDS",
+    b"--length",
+    b"30",
+];
+
+pub(crate) const STORE: Words = &[b"ledger_cli", b"store", b"a.d64", b"CARDS", b"s.txt"];
+
 pub(crate) const MAP: Words = &[b"ledger_cli", b"map", b"a.d64"];
 
 pub(crate) const PICTURE: Words = &[b"ledger_cli", b"picture", b"a.d64"];

@@ -8,7 +8,8 @@ use ledger_words::job;
 use std::cell::RefCell;
 use std::process::Abort;
 
-/// A job: its subcommand, its image, its script, and its tills or how many bytes its name has, where it has them.
+/// A job: its subcommand, its image, its script or records, and its tills, the length of its records or how many bytes its
+/// name has, where it has them.
 type Row<'a> = (&'a str, &'a str, &'a str, u8);
 
 /// What the words ask for, or the number of the fault and the status that they end with.
@@ -43,6 +44,20 @@ fn asked<'a>(rt: &impl AllocGlobal, words: &'a [&'a str]) -> Result<Row<'a>, (u8
                 Taking::Bytes => ("bytes", image, "", length),
             })
         }
+        Ok(
+            Job::Make {
+                image,
+                name,
+                length,
+            },
+        ) => Ok(("make", image, "", length)),
+        Ok(
+            Job::Store {
+                image,
+                name,
+                records,
+            },
+        ) => Ok(("store", image, records, name.as_bytes().len() as u8)),
         Ok(Job::Draw { what, image }) => Ok(match what {
             Drawing::Map => ("map", image, "", 0),
             Drawing::Picture => ("picture", image, "", 0),
@@ -82,6 +97,18 @@ fn words_ask_for_a_job(rt: HostRuntime) {
                 ("serve --unsynced", "a.d64", "", 0),
             ),
             (&["ledger", "repair", "a.d64"], ("repair", "a.d64", "", 0)),
+            (
+                &["ledger", "make", "a.d64", "ADD\\c1", "--length", "30"],
+                ("make", "a.d64", "", 30),
+            ),
+            (
+                &["ledger", "make", "--length=254", "a.d64", "A"],
+                ("make", "a.d64", "", 254),
+            ),
+            (
+                &["ledger", "store", "a.d64", "ADD\\c1", "r.txt"],
+                ("store", "a.d64", "r.txt", 4),
+            ),
             (
                 &["ledger", "records", "a.d64", "ADD\\c1"],
                 ("records", "a.d64", "", 4),
@@ -141,6 +168,11 @@ fn other_words_are_refused(rt: HostRuntime) {
             (&["ledger", "play", "a.d64", "s.txt", "--unsynced"], 2),
             (&["ledger", "serve", "a.d64", "--sync"], 2),
             (&["ledger", "repair", "a.d64", "--sync"], 2),
+            (&["ledger", "make", "a.d64", "A"], 2),
+            (&["ledger", "make", "a.d64", "--length", "30"], 2),
+            (&["ledger", "make", "a.d64", "A", "30"], 2),
+            (&["ledger", "store", "a.d64", "A"], 2),
+            (&["ledger", "store", "a.d64", "A", "r.txt", "s.txt"], 2),
             (&["ledger", "records", "a.d64"], 2),
             (&["ledger", "bytes"], 2),
             (&["ledger", "--help"], 0),
@@ -171,6 +203,11 @@ fn none_is_a_name(rt: &(impl AllocGlobal + Abort), texts: &[&str]) {
     for text in texts {
         let records = ["ledger", "records", "a.d64", *text];
         same_at(rt, asked(rt, &records), Err((3, 2)), *text);
+        let store = ["ledger", "store", "a.d64", *text, "r.txt"];
+        same_at(rt, asked(rt, &store), Err((3, 2)), *text);
+        // The name is judged before the length.
+        let make = ["ledger", "make", "a.d64", *text, "--length", "0"];
+        same_at(rt, asked(rt, &make), Err((3, 2)), *text);
         let bytes = ["ledger", "bytes", "a.d64", *text];
         same_at(rt, asked(rt, &bytes), Err((3, 2)), *text);
     }
@@ -193,8 +230,29 @@ fn names_are_texts(rt: HostRuntime) {
     );
 }
 
+/// Sees that none of these is the length of a record.
+fn none_is_a_length(rt: &(impl AllocGlobal + Abort), texts: &[&str]) {
+    for text in texts {
+        let words = ["ledger", "make", "a.d64", "A", "--length", *text];
+        same_at(rt, asked(rt, &words), Err((4, 2)), *text);
+    }
+}
+
+#[test]
+fn records_have_one_to_254_bytes(rt: HostRuntime) {
+    none_is_a_length(&rt, &["0", "255", "030", "x", "", "+1", "256", "65537"]);
+    // A new file has a name.
+    let unnamed = ["ledger", "make", "a.d64", "", "--length", "30"];
+    same_at(&rt, asked(&rt, &unnamed), Err((3, 2)), "no name");
+}
+
 /// Words, the status that the program ends with, what it prints and what it tells, where that is ours to say.
-const TOLD: [(Words, (u8, &[u8], &[u8]), &str); 6] = [
+const TOLD: [(Words, (u8, &[u8], &[u8]), &str); 7] = [
+    (
+        &[b"ledger_cli", b"make", b"a.d64", b"A", b"--length", b"255"],
+        (2, b"", b"LENGTH\n"),
+        "too long records",
+    ),
     (
         &[b"ledger_cli", b"records", b"a.d64", b"\\C1"],
         (2, b"", b"NAME\n"),
@@ -202,7 +260,7 @@ const TOLD: [(Words, (u8, &[u8], &[u8]), &str); 6] = [
     ),
     (
         &[b"ledger_cli", b"--version"],
-        (0, b"ledger_cli 0.1.0\n", b""),
+        (0, b"ledger 0.1.0\n", b""),
         "the version",
     ),
     (

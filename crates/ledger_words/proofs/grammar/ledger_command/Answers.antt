@@ -24,9 +24,13 @@ returns c =
     with_repair c.records_command.ensures c.adds-program-8.ensures in
     let with_bytes = adds-known _ grammar.bytes c.adds-program-8.result c.bytes_command.result c.adds-program-9.result
     with_records c.bytes_command.ensures c.adds-program-9.ensures in
-    let with_map = adds-known _ grammar.map c.adds-program-9.result c.map_command.result c.adds-program-10.result
-    with_bytes c.map_command.ensures c.adds-program-10.ensures in
-    let with_picture = adds-known _ grammar.picture c.adds-program-10.result c.picture_command.result c.adds-program-11.result
-    with_map c.picture_command.ensures c.adds-program-11.ensures in
-    adds-known _ grammar.dry c.adds-program-11.result c.dry_command.result c.adds.result
+    let with_make = adds-known _ grammar.make c.adds-program-9.result c.make_command.result c.adds-program-10.result
+    with_bytes c.make_command.ensures c.adds-program-10.ensures in
+    let with_store = adds-known _ grammar.store c.adds-program-10.result c.store_command.result c.adds-program-11.result
+    with_make c.store_command.ensures c.adds-program-11.ensures in
+    let with_map = adds-known _ grammar.map c.adds-program-11.result c.map_command.result c.adds-program-12.result
+    with_store c.map_command.ensures c.adds-program-12.ensures in
+    let with_picture = adds-known _ grammar.picture c.adds-program-12.result c.picture_command.result c.adds-program-13.result
+    with_map c.picture_command.ensures c.adds-program-13.ensures in
+    adds-known _ grammar.dry c.adds-program-13.result c.dry_command.result c.adds.result
     with_picture c.dry_command.ensures c.adds.ensures

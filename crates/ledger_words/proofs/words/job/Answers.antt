@@ -5,8 +5,8 @@ use Rattle.ledger_words.proofs.words.job.Goals as goal
 pub returns-in-Ok-clause-ok : goal.returns-in-Ok-clause-ok
 returns-in-Ok-clause-ok c = job-found _ _ _ c.chosen.result c.in-Ok.ensures.fine c.in-Ok.ensures.is c.chosen.ensures.job
 
-pub returns-in-Ok-clause-tills : goal.returns-in-Ok-clause-tills
-returns-in-Ok-clause-tills c = c.chosen.ensures.tills
+pub returns-in-Ok-clause-fit : goal.returns-in-Ok-clause-fit
+returns-in-Ok-clause-fit c = c.chosen.ensures.fit
 
 pub returns-in-Ok-clause-err : goal.returns-in-Ok-clause-err
 returns-in-Ok-clause-err c = no-job-found _ _ _ c.chosen.result c.in-Ok.ensures.fine c.in-Ok.ensures.is c.chosen.ensures.job
@@ -14,8 +14,8 @@ returns-in-Ok-clause-err c = no-job-found _ _ _ c.chosen.result c.in-Ok.ensures.
 pub returns-in-Err-clause-ok : goal.returns-in-Err-clause-ok
 returns-in-Err-clause-ok c = tt
 
-pub returns-in-Err-clause-tills : goal.returns-in-Err-clause-tills
-returns-in-Err-clause-tills c = tt
+pub returns-in-Err-clause-fit : goal.returns-in-Err-clause-fit
+returns-in-Err-clause-fit c = tt
 
 pub returns-in-Err-clause-err : goal.returns-in-Err-clause-err
 returns-in-Err-clause-err c = c.in-Err.ensures
