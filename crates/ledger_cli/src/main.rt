@@ -1,9 +1,16 @@
 //! A retry-safe stock ledger: the program.
 #![tactic(auto)]
 
-use ledger_words::program;
+use ledger_words::{Told, program};
+use std::io::IsTerminal;
 use std::process::ExitCode;
 
 fn main(rt: HostRuntime) -> ExitCode {
-    ExitCode::from(program(&rt, &mut rt.stderr()))
+    let mut err = rt.stderr();
+    let told = if err.is_terminal() {
+        Told::Person
+    } else {
+        Told::Program
+    };
+    ExitCode::from(program(&rt, told, &mut err))
 }

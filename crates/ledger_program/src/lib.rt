@@ -3,6 +3,7 @@
 
 mod doing;
 mod drawing;
+mod explaining;
 mod files;
 mod jobs;
 mod keeping;
@@ -15,6 +16,7 @@ mod telling;
 
 pub use doing::{do_job, do_over};
 pub use drawing::drawing_run;
+pub use explaining::explain;
 pub use jobs::{Drawing, Job, Reading, Taking};
 pub use keeping::{make_run, repair_run, store_run, taking_run};
 pub use names::Name;

@@ -9,5 +9,5 @@ mod words;
 
 pub use faults::JobFault;
 pub use grammar::ledger_command;
-pub use obeying::program;
+pub use obeying::{Told, program};
 pub use words::job;

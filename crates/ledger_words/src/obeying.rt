@@ -5,7 +5,7 @@ ghost use Rattle.ledger_program.specs.Jobs.{IsFit};
 use crate::faults::JobFault;
 use crate::words::job;
 use ledger_commands::{EndedFile, Locks, RunFault};
-use ledger_program::{Job, Refusal, do_job, end};
+use ledger_program::{Job, Refusal, do_job, end, explain};
 use std::alloc::{AllocError, Global};
 use std::env;
 use std::fs::OpenFile;
@@ -18,15 +18,29 @@ const WORDS: u8 = 2;
 /// How many bytes of output are gathered before they are written.
 const OUTPUT_ROOM: usize = 32768;
 
+/// Who reads what is told on standard error.
+#[derive(Clone, Copy, Debug, PartialEq, Eq)]
+pub enum Told {
+    /// A program, or a file: each refusal is one line.
+    Program,
+    /// A person at a terminal: a second line says which file, or what to do.
+    Person,
+}
+
 /// Tells a failure of the system, and answers its exit status.
 fn refuse<E: Write>(err: &mut E, error: &io::Error) -> u8 {
     end(Err(Refusal::Run(RunFault::of_io(error))), err)
 }
 
 /// Tells why the words ask for nothing, or gives the help that they ask for, and answers the exit status.
-fn refuse_words<R: Print + Eprint, E: Write>(rt: &R, fault: &JobFault, err: &mut E) -> u8 {
+fn refuse_words<R: Print + Eprint, E: Write>(
+    rt: &R,
+    fault: &JobFault,
+    told: Told,
+    err: &mut E,
+) -> u8 {
     let status = fault.status();
-    let told = match fault {
+    let ended = match fault {
         // For want of memory there may be no text.
         JobFault::Words(_) if status == RunFault::NoMemory.status() => {
             return end(Err(Refusal::Run(RunFault::NoMemory)), err);
@@ -34,25 +48,47 @@ fn refuse_words<R: Print + Eprint, E: Write>(rt: &R, fault: &JobFault, err: &mut
         JobFault::Words(error) => error.print(rt),
         JobFault::Tills | JobFault::Name | JobFault::Length => writeln!(err, "{fault}"),
     };
-    match told {
+    if let Told::Person = told {
+        explain_words(fault, err);
+    }
+    match ended {
         // Help that can't be printed is an output that failed.
         Err(error) if status == 0 => refuse(err, &error),
         _ => status,
     }
 }
 
-/// Does a job over an output that is gathered, and answers the exit status.
-fn obey_job<F, R, E>(rt: &R, job: &Job<'_>, err: &mut E) -> u8
+/// Tells a person what the words may be. What `clap` refuses it explains itself.
+fn explain_words<E: Write>(fault: &JobFault, err: &mut E) {
+    let _ = match fault {
+        JobFault::Words(_) => Ok(()),
+        JobFault::Tills => writeln!(err, "ledger: T is 1 to 64"),
+        JobFault::Length => writeln!(err, "ledger: L is 1 to 254"),
+        JobFault::Name => writeln!(
+            err,
+            "ledger: NAME has 1 to 16 bytes; one that isn't plain text is a backslash and two digits, as \\c1"
+        ),
+    };
+}
+
+/// Does a job over an output that is gathered, and answers the exit status. A person is told more of what isn't done.
+fn obey_job<F, R, E>(rt: &R, job: &Job<'_>, told: Told, err: &mut E) -> u8
 where
     F: EndedFile + Read + Locks + OpenFile + Drop,
     R: Files<File = F> + Input + Print + AllocGlobal,
     E: Write,
     requires { IsFit job.now }
 {
-    match BufWriter::with_capacity(rt.alloc(), OUTPUT_ROOM, io::writer(rt)) {
-        Ok(mut out) => end(do_job(rt, job, &mut out), err),
-        Err(error) => refuse(err, &io::Error::from(error)),
+    let ended = match BufWriter::with_capacity(rt.alloc(), OUTPUT_ROOM, io::writer(rt)) {
+        Ok(mut out) => do_job(rt, job, &mut out),
+        Err(error) => return refuse(err, &io::Error::from(error)),
+    };
+    let refusal = ended.err();
+    let status = end(ended, err);
+    if let (Some(refusal), Told::Person) = (refusal, told) {
+        explain(rt, job, refusal, err);
     }
+    status
 }
 
 /// The words as texts, all at one lifetime.
@@ -65,7 +101,7 @@ fn texts_of<'a>(alloc: Global, words: &'a [String]) -> Result<Vec<&'a str>, Allo
 }
 
 /// Does what these words ask for, and answers the exit status.
-fn obey<F, R, E>(rt: &R, words: &[String], err: &mut E) -> u8
+fn obey<F, R, E>(rt: &R, words: &[String], told: Told, err: &mut E) -> u8
 where
     F: EndedFile + Read + Locks + OpenFile + Drop,
     R: Files<File = F> + Input + Print + Eprint + AllocGlobal,
@@ -76,8 +112,8 @@ where
         Err(error) => return refuse(err, &io::Error::from(error)),
     };
     match job(rt.alloc(), texts.as_slice()) {
-        Ok(job) => obey_job(rt, &job, err),
-        Err(fault) => refuse_words(rt, &fault, err),
+        Ok(job) => obey_job(rt, &job, told, err),
+        Err(fault) => refuse_words(rt, &fault, told, err),
     }
 }
 
@@ -102,15 +138,15 @@ fn words_of<R: Env + AllocGlobal, E: Write>(rt: &R, err: &mut E) -> Result<Vec<S
 
 /// The whole program: does what the words of its command line ask for, and answers its exit status. What it prints goes to the
 /// runtime's output; what it tells goes to `err`, which is the runtime's standard error, where what refused words are told goes
-/// at any rate.
-pub fn program<F, R, E>(rt: &R, err: &mut E) -> u8
+/// at any rate, and which `told` reads.
+pub fn program<F, R, E>(rt: &R, told: Told, err: &mut E) -> u8
 where
     F: EndedFile + Read + Locks + OpenFile + Drop,
     R: Files<File = F> + Env + Input + Print + Eprint + AllocGlobal,
     E: Write,
 {
     match words_of(rt, err) {
-        Ok(words) => obey(rt, words.as_slice(), err),
+        Ok(words) => obey(rt, words.as_slice(), told, err),
         Err(status) => status,
     }
 }

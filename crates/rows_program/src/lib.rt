@@ -26,4 +26,6 @@ mod stored;
 #[cfg(test)]
 mod stored_rows;
 #[cfg(test)]
+mod told_rows;
+#[cfg(test)]
 mod word_rows;

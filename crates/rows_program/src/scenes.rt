@@ -2,7 +2,7 @@
 use crate::comparing::{holds, same_at};
 use crate::memory::{Errors, Memory, Runtime};
 use crate::stored::{Kind, Stored};
-use ledger_words::program;
+use ledger_words::{Told, program};
 use std::cell::RefCell;
 use std::process::Abort;
 
@@ -67,7 +67,7 @@ fn are_same(rt: &impl Abort, got: &[u8], wanted: &[u8], row: &str) {
 }
 
 /// Sees that what was written are these bytes.
-fn wrote(rt: &impl Abort, to: &RefCell<Vec<u8>>, wanted: &[u8], row: &str) {
+pub(crate) fn wrote(rt: &impl Abort, to: &RefCell<Vec<u8>>, wanted: &[u8], row: &str) {
     match to.try_borrow() {
         Ok(held) => are_same(rt, held.as_slice(), wanted, row),
         Err(_) => holds(rt, false, "it is free"),
@@ -76,7 +76,12 @@ fn wrote(rt: &impl Abort, to: &RefCell<Vec<u8>>, wanted: &[u8], row: &str) {
 
 /// Runs the program there, and answers its exit status.
 pub(crate) fn status_of(memory: &Memory<'_>) -> u8 {
-    program(&Runtime(memory), &mut Errors(&memory.err))
+    status_told(memory, Told::Program)
+}
+
+/// Runs the program there, with standard error read by a person or not, and answers its exit status.
+pub(crate) fn status_told(memory: &Memory<'_>, told: Told) -> u8 {
+    program(&Runtime(memory), told, &mut Errors(&memory.err))
 }
 
 /// Runs the program there, and sees that it ends so.

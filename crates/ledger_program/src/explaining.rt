@@ -1,0 +1,183 @@
+//! What a person at a terminal is told below a refusal: which file it is about, what the system says of it, and what to do.
+use crate::files::{STANDARD_INPUT, opened};
+use crate::jobs::{Job, Reading};
+use crate::refusals::Refusal;
+use disk_pictures::PictureFault;
+use keeper_commands::KeepFault;
+use ledger_commands::RunFault;
+use std::fs::{File, OpenFile, OpenOptions};
+use std::io::{self, Write};
+use std::rt::Files;
+
+/// What a refusal is about.
+enum About {
+    /// A file that couldn't be opened or read, or the output.
+    Files,
+    /// The image's size.
+    Size,
+    /// The image, of which this is to be said.
+    Image(&'static str),
+    /// The script or the records, of which this is to be said.
+    Text(&'static str),
+    /// Nothing that its own line doesn't say.
+    Nothing,
+}
+
+/// What is wrong with a disk, and with an image that is no shop's.
+const JUDGED: &str = "docs/KEEPERS.md says what the word means, and what to do";
+
+const NO_SHOP: &str = "it is no shop of this program, or another program wrote to it";
+
+const UNWRITTEN: &str =
+    "it couldn't be written; copy it to another medium, check the copy, and go on there";
+
+const BAD_LINE: &str = "nothing was done; mend the line, and run it again";
+
+fn about_run(fault: RunFault) -> About {
+    match fault {
+        RunFault::File => About::Files,
+        RunFault::ImageSize => About::Size,
+        RunFault::Layout(_) => About::Image(JUDGED),
+        RunFault::BadLine(_) => About::Text(BAD_LINE),
+        RunFault::Device => About::Image(UNWRITTEN),
+        RunFault::NoMemory => About::Nothing,
+        _ => About::Image(NO_SHOP),
+    }
+}
+
+fn about_keep(fault: KeepFault) -> About {
+    match fault {
+        KeepFault::File => About::Files,
+        KeepFault::ImageSize => About::Size,
+        KeepFault::Layout(_) => About::Image(JUDGED),
+        KeepFault::NoFile => About::Image("it has no such file; `ledger list` shows what it has"),
+        KeepFault::FileExists => About::Image("a file has this name; `ledger list` shows them"),
+        KeepFault::DiskFull => About::Image("too few blocks are free; nothing was done"),
+        KeepFault::BadLine(_) => About::Text(BAD_LINE),
+        KeepFault::Device => About::Image(UNWRITTEN),
+        KeepFault::NoMemory => About::Nothing,
+    }
+}
+
+fn subject_of(refusal: Refusal) -> About {
+    match refusal {
+        Refusal::Run(fault) => about_run(fault),
+        Refusal::Keep(fault) => about_keep(fault),
+        Refusal::Draw(PictureFault::File) => About::Files,
+        Refusal::Draw(PictureFault::ImageSize) => About::Size,
+        Refusal::Draw(PictureFault::NoMemory) => About::Nothing,
+        Refusal::Draw(_) => About::Image(JUDGED),
+        Refusal::InUse => About::Image("another program has it; end that one first"),
+    }
+}
+
+/// The file that a job reads or writes first.
+fn image_of<'a>(job: &Job<'a>) -> &'a str {
+    match job {
+        Job::Format { image, .. } | Job::Play { image, .. } | Job::Serve { image, .. } => image,
+        Job::Repair { image } | Job::Take { image, .. } | Job::Draw { image, .. } => image,
+        Job::Make { image, .. } | Job::Store { image, .. } => image,
+        Job::Read { path, .. } => path,
+    }
+}
+
+/// The script, or the records, that it reads behind that.
+fn text_of<'a>(job: &Job<'a>) -> Option<&'a str> {
+    match job {
+        Job::Play { script, .. } => Some(script),
+        Job::Store { records, .. } => Some(records),
+        Job::Read {
+            what: Reading::Dry,
+            path,
+        } => Some(path),
+        _ => None,
+    }
+}
+
+/// Whether it writes its first file.
+fn writes(job: &Job<'_>) -> bool {
+    match job {
+        Job::Format { .. } | Job::Play { .. } | Job::Serve { .. } => true,
+        Job::Repair { .. } | Job::Make { .. } | Job::Store { .. } => true,
+        Job::Read { .. } | Job::Take { .. } | Job::Draw { .. } => false,
+    }
+}
+
+/// Tells what the system says of a file that can't be opened. False where it can, or is standard input.
+fn told_unopened<T: Drop, E: Write>(err: &mut E, path: &str, tried: io::Result<T>) -> bool {
+    match tried {
+        Ok(_) => false,
+        Err(error) => {
+            let _ = writeln!(err, "ledger: {path}: {error}");
+            true
+        }
+    }
+}
+
+/// Tells which of a job's files can't be opened.
+fn tell_files<F, R, E>(rt: &R, job: &Job<'_>, err: &mut E)
+where
+    F: Drop,
+    R: Files<File = F>,
+    E: Write,
+{
+    let image = image_of(job);
+    let tried = match job {
+        Job::Format { .. } => OpenOptions::new().write(true).open(rt, image),
+        _ if writes(job) => opened(rt, image),
+        _ => File::open(rt, image),
+    };
+    if image != STANDARD_INPUT && told_unopened(err, image, tried) {
+        return;
+    }
+    if let Some(text) = text_of(job) {
+        if text != STANDARD_INPUT && told_unopened(err, text, File::open(rt, text)) {
+            return;
+        }
+    }
+    let _ = writeln!(
+        err,
+        "ledger: a file couldn't be read to its end, or the output not be written"
+    );
+}
+
+/// Tells how many bytes an image has.
+fn tell_size<F, R, E>(rt: &R, image: &str, err: &mut E)
+where
+    F: OpenFile + Drop,
+    R: Files<File = F>,
+    E: Write,
+{
+    const WANTED: &str = "an image of 35 tracks without error bytes has 174848";
+    let told = match File::open(rt, image) {
+        Ok(file) => file.metadata(),
+        Err(error) => Err(error),
+    };
+    let _ = match told {
+        Ok(found) => writeln!(err, "ledger: {image} has {} bytes; {WANTED}", found.len()),
+        Err(_) => writeln!(err, "ledger: {image}: {WANTED}"),
+    };
+}
+
+/// Tells a person, in a line below the refusal's own, which file it is about, what the system says of it then, or what to do. The
+/// job's files are opened once more for it, and neither made, read nor changed. Where it can't be told there is nobody left to
+/// tell.
+pub fn explain<F, R, E>(rt: &R, job: &Job<'_>, refusal: Refusal, err: &mut E)
+where
+    F: OpenFile + Drop,
+    R: Files<File = F>,
+    E: Write,
+{
+    let image = image_of(job);
+    match subject_of(refusal) {
+        About::Files => tell_files(rt, job, err),
+        About::Size => tell_size(rt, image, err),
+        About::Image(said) => {
+            let _ = writeln!(err, "ledger: {image}: {said}");
+        }
+        About::Text(said) => {
+            let _ = writeln!(err, "ledger: {}: {said}", text_of(job).unwrap_or(image));
+        }
+        About::Nothing => {}
+    }
+}

@@ -1,0 +1,142 @@
+//! What a person at a terminal is told below a refusal.
+use crate::comparing::same_at;
+use crate::memory::Memory;
+use crate::scenes::{
+    CHECK, FORMAT, LIST, MAKE, PLAY, REPAIR, SHOW, STORE, Words, empty_shop, put, status_told,
+    wrote,
+};
+use crate::stored::{Kind, Others};
+use ledger_words::Told;
+use std::process::Abort;
+
+/// Words, what stands at the image's path and its bytes, and what is told.
+type Row = (Words, Kind, &'static [u8], &'static [u8]);
+
+const TOLD: [Row; 9] = [
+    (
+        LIST,
+        Kind::Missing,
+        b"",
+        b"FILE\nledger: a.d64: entity not found\n",
+    ),
+    (
+        FORMAT,
+        Kind::ReadOnly,
+        b"old",
+        b"FILE\nledger: a.d64: permission denied\n",
+    ),
+    (
+        REPAIR,
+        Kind::ReadOnly,
+        b"old",
+        b"FILE\nledger: a.d64: permission denied\n",
+    ),
+    (
+        CHECK,
+        Kind::Folder,
+        b"",
+        b"FILE\nledger: a file couldn't be read to its end, or the output not be written\n",
+    ),
+    (
+        SHOW,
+        Kind::Plain,
+        b"short",
+        b"IMAGE SIZE\nledger: a.d64 has 5 bytes; an image of 35 tracks without error bytes has 174848\n",
+    ),
+    (
+        &[b"ledger_cli", b"check", b"/dev/stdin"],
+        Kind::Plain,
+        b"",
+        b"IMAGE SIZE\nledger: /dev/stdin: an image of 35 tracks without error bytes has 174848\n",
+    ),
+    (
+        &[b"ledger_cli", b"format", b"a.d64", b"--tills", b"65"],
+        Kind::Plain,
+        b"",
+        b"TILLS\nledger: T is 1 to 64\n",
+    ),
+    (
+        &[b"ledger_cli", b"make", b"a.d64", b"A", b"--length", b"0"],
+        Kind::Plain,
+        b"",
+        b"LENGTH\nledger: L is 1 to 254\n",
+    ),
+    (
+        &[b"ledger_cli", b"records", b"a.d64", b"\\C1"],
+        Kind::Plain,
+        b"",
+        b"NAME\nledger: NAME has 1 to 16 bytes; one that isn't plain text is a backslash and two digits, as \\c1\n",
+    ),
+];
+
+/// Sees that a person is told this there.
+fn tells(rt: &impl Abort, memory: &Memory<'_>, wanted: &[u8]) {
+    let status = status_told(memory, Told::Person);
+    same_at(rt, status > 0, true, "it isn't done");
+    wrote(rt, &memory.err, wanted, "what is told");
+}
+
+#[test]
+fn people_are_told_more(rt: HostRuntime) {
+    for (words, kind, bytes, wanted) in TOLD {
+        let memory = Memory::new(rt.alloc(), words, b"");
+        put(&rt, &memory.image, kind, bytes);
+        tells(&rt, &memory, wanted);
+    }
+}
+
+/// Words, the bytes of the script or of the records, what others do with the image, and what is told of an empty shop then.
+const OF_A_SHOP: [(Words, &[u8], Others, &[u8]); 4] = [
+    (
+        PLAY,
+        b"1,1,S,1,5\n@x\n",
+        Others::Away,
+        b"SCRIPT LINE 2\nledger: s.txt: nothing was done; mend the line, and run it again\n",
+    ),
+    (
+        PLAY,
+        b"",
+        Others::Alone,
+        b"IN USE\nledger: a.d64: another program has it; end that one first\n",
+    ),
+    (
+        STORE,
+        b"",
+        Others::Away,
+        b"NO FILE\nledger: a.d64: it has no such file; `ledger list` shows what it has\n",
+    ),
+    (
+        &[
+            b"ledger_cli",
+            b"make",
+            b"a.d64",
+            b"STOCK",
+            b"--length",
+            b"9",
+        ],
+        b"",
+        Others::Away,
+        b"FILE EXISTS\nledger: a.d64: a file has this name; `ledger list` shows them\n",
+    ),
+];
+
+#[test]
+fn people_are_told_of_shops(rt: HostRuntime) {
+    let shop = empty_shop(&rt);
+    for (words, script, others, wanted) in OF_A_SHOP {
+        let memory = Memory::new(rt.alloc(), words, b"");
+        put(&rt, &memory.image, Kind::Plain, shop.as_slice());
+        put(&rt, &memory.script, Kind::Plain, script);
+        memory.image.others.set(others);
+        tells(&rt, &memory, wanted);
+    }
+    // A script that isn't there.
+    let memory = Memory::new(rt.alloc(), PLAY, b"");
+    put(&rt, &memory.image, Kind::Plain, shop.as_slice());
+    tells(&rt, &memory, b"FILE\nledger: s.txt: entity not found\n");
+    // What is done tells nobody anything.
+    let memory = Memory::new(rt.alloc(), MAKE, b"");
+    put(&rt, &memory.image, Kind::Plain, shop.as_slice());
+    same_at(&rt, status_told(&memory, Told::Person), 0, "it is made");
+    wrote(&rt, &memory.err, b"", "nothing is told");
+}
