@@ -15,17 +15,16 @@ from pathlib import Path
 TOP = Path(__file__).resolve().parent.parent
 CRATES = sorted(it.parent.name for it in TOP.glob("crates/*/src"))
 WORD = r"[A-Za-z_][\w'-]*"
-# what a heading needn't say, since the page says it of all that names no source
-OWN = r" *(All of it is our own|Our own|All of it is ours)\.$| \(our own\)"
+# how the sources outside this repository are called
+SOURCES = r"Guide|D64|Standard"
 HEAD = """# Definitions
 
 What the contracts say rests on these definitions; each is read against its source. `tests/definitions.py` makes this page from
 the comments in `specs/` and from `definitions.txt`; with `--check` it tells whether the page is up to date. A line stands here
 for each definition that a contract of a public call or type cites, and for each on which one of these rests, if it has an
-example or a source of its own; what else they rest on stands in the same files, `crates/CRATE/specs/NAME.antt`, with a comment
-over each. In brackets stands the example that decides it: a theorem of the crate's `proofs/Examples.antt` (or another file of
-examples there) that the checker computes, or a row of a test. "The Guide" is the 1541 User's Guide; what names no source is
-this project's own. In `disk_layout` *the disk with STOCK* is a disk with one relative file of one block."""
+example or a source; the others stand beside them, in `crates/CRATE/specs/NAME.antt`. In brackets stands the example that
+decides it: a theorem of the crate's `proofs/Examples.antt` or another file of examples there, or a row of a test. "The Guide"
+is the 1541 User's Guide; what names no source is our own. *The disk with STOCK* has one relative file of one block."""
 
 
 def without_comments(text, mark):
@@ -182,9 +181,12 @@ def sentence(text):
     return kept, source[1] if source and source[1] != "own" else ""
 
 
-def first_sentence(heading):
-    """What a file of specs/ is about, with its source, without what its heading says beyond that."""
-    return re.split(r"(?<=\.) (?=[A-Z`])", heading)[0]
+def heading_sources(heading):
+    """The sources that the heading of a file of specs/ names: what stands in brackets, or where that isn't all, the sentence."""
+    sentences = [it for it in re.split(r"(?<=\.) (?=[A-Z`])", heading) if re.search(SOURCES, it)]
+    named = [re.search(rf"\([^)]*(?:{SOURCES})[^)]*\)", it) for it in sentences]
+    whole = [not it or re.search(r"\bown\b", sentence.replace(it[0], "")) for it, sentence in zip(named, sentences)]
+    return "".join(f" {sentence if all_of_it else it[0]}" for it, sentence, all_of_it in zip(named, sentences, whole))
 
 
 def page():
@@ -211,7 +213,7 @@ def page():
                     faults.append(f"no sentence: {crate}/{module}/{name}")
                 shown = [f"source: {source}"] * bool(source) + [example] * bool(example)
                 rows.append(f"- `{name}`: {text}." + f" [{'; '.join(shown)}]" * bool(shown))
-            lines += [f"\n**`{module}`** {first_sentence(re.sub(OWN, '', heading))}\n", *rows] if rows else []
+            lines += [f"\n**`{module}`**{heading_sources(heading)}\n", *rows] if rows else []
     faults += unknown_examples(side)
     faults += [f"not on the page: {crate}/{name}" for crate, name, mark in sorted(set(side) - used)]
     return "\n".join(lines) + "\n", faults
