@@ -1,12 +1,14 @@
 #!/usr/bin/env python3
 """Makes docs/DEFINITIONS.md from the comments over the definitions in crates/*/specs/.
 
-It has a line for each definition that a contract of a public function, trait or type cites, and for each on which such a one
-rests and that has an example: its name, the comment over it, its source where the heading of its file doesn't name it, and the
-example that decides it. Examples, further sources, and sentences for definitions without a comment of their own stand in docs/definitions.txt.
+It has a line for each definition that has an example or a source of its own and on which a contract of a public function, trait
+or type rests; for each fact (with a capital) that such a contract cites, and for each history of a device, source or output; and
+for each other value that contracts of two files or of another crate cite. The line has its name, the comment over it, its source
+where the heading of its file doesn't name it, and the example that decides it. Examples, further sources, and sentences for
+definitions without a comment of their own stand in docs/definitions.txt.
 
 Without words the page is written. With `--check` nothing is written, and the status is 1 where the page isn't up to date.
-In both cases the status is 1 where the side table names what isn't on the page, or a definition has no sentence."""
+In both cases the status is 1 where the side table names what no public contract rests on, or a definition has no sentence."""
 
 import re
 import sys
@@ -15,17 +17,19 @@ from pathlib import Path
 TOP = Path(__file__).resolve().parent.parent
 CRATES = sorted(it.parent.name for it in TOP.glob("crates/*/src"))
 WORD = r"[A-Za-z_][\w'-]*"
-# what a heading needn't say, since the page says it of all that names no source
-OWN = r" *(All of it is our own|Our own|All of it is ours)\.$| \(our own\)"
+# the types of what devices, files, sources and outputs say of themselves
+HISTORIES = r"(?::|→) (History|Keeps|Source|Output) [^→]*$"
+# how the sources outside this repository are called
+SOURCES = r"Guide|D64|Standard"
 HEAD = """# Definitions
 
 What the contracts say rests on these definitions; each is read against its source. `tests/definitions.py` makes this page from
 the comments in `specs/` and from `definitions.txt`; with `--check` it tells whether the page is up to date. A line stands here
-for each definition that a contract of a public call or type cites, and for each on which one of these rests, if it has an
-example or a source of its own; what else they rest on stands in the same files, `crates/CRATE/specs/NAME.antt`, with a comment
-over each. In brackets stands the example that decides it: a theorem of the crate's `proofs/Examples.antt` (or another file of
-examples there) that the checker computes, or a row of a test. "The Guide" is the 1541 User's Guide; what names no source is
-this project's own. In `disk_layout` *the disk with STOCK* is a disk with one relative file of one block."""
+for each definition with an example or a source on which a contract of a public call or type rests, and for each fact that one
+cites; values that one file alone cites, and what else they rest on, stand beside them, in `crates/CRATE/specs/NAME.antt`. In
+brackets stands the example that decides it: a theorem of the crate's `proofs/Examples.antt` or another file of examples there,
+or a row of a test. "The Guide" is the 1541 User's Guide; what names no source is our own. *The disk with STOCK* has one
+relative file of one block."""
 
 
 def without_comments(text, mark):
@@ -117,14 +121,14 @@ def comment_over(lines, at):
 
 
 def comments(crate, module):
-    """The heading of a file of specs/, and in their order its definitions: the comment over each, and whether it is a type of its own."""
+    """The heading of a file of specs/, and in their order its definitions: the comment over each, and whether it says what is so."""
     lines = (TOP / "crates" / crate / "specs" / f"{module.replace('.', '/')}.antt").read_text().split("\n")
     end = next(at for at, it in enumerate(lines) if not it.startswith("--"))
     found = {}
     for at, line in enumerate(lines):
         head = re.match(rf" *(?:(?:abbrev|unfoldable|ext) )*pub (record |data )?({WORD})", line)
         if head and head[2] not in found and (head[1] or re.search(r"\b(abbrev|unfoldable)\b", line[: head.start(2)])):
-            found[head[2]] = comment_over(lines, at), bool(head[1])
+            found[head[2]] = comment_over(lines, at), head[2][0].isupper() or re.search(HISTORIES, line)
     return comment_over(lines, end), found
 
 
@@ -154,17 +158,19 @@ def unknown_examples(side):
 
 
 def rested_on():
-    """The definitions that contracts cite, and those with all on which they rest."""
+    """The definitions that contracts cite, each with the files of these, and all on which they rest."""
     defined = {}
     for crate in CRATES:
         defined.update(definitions(crate))
-    wanted = set()
+    wanted = {}
     for crate in CRATES:
         names = public_names(crate)
         for file in sorted((TOP / "crates" / crate / "src").glob("*.rt")):
             if not file.stem.endswith("tests"):
                 text = without_comments(file.read_text(), "//")
-                wanted |= {it for it in cited(contracts(text, names), imports(text, "ghost use")) if it in defined}
+                for it in cited(contracts(text, names), imports(text, "ghost use")):
+                    if it in defined:
+                        wanted.setdefault(it, set()).add((crate, file))
     below, left = set(wanted), list(wanted)
     while left:
         for it in defined[left.pop()]:
@@ -182,9 +188,12 @@ def sentence(text):
     return kept, source[1] if source and source[1] != "own" else ""
 
 
-def first_sentence(heading):
-    """What a file of specs/ is about, with its source, without what its heading says beyond that."""
-    return re.split(r"(?<=\.) (?=[A-Z`])", heading)[0]
+def heading_sources(heading):
+    """The sources that the heading of a file of specs/ names: what stands in brackets, or where that isn't all, the sentence."""
+    sentences = [it for it in re.split(r"(?<=\.) (?=[A-Z`])", heading) if re.search(SOURCES, it)]
+    named = [re.search(rf"\([^)]*(?:{SOURCES})[^)]*\)", it) for it in sentences]
+    whole = [not it or re.search(r"\bown\b", sentence.replace(it[0], "")) for it, sentence in zip(named, sentences)]
+    return "".join(f" {sentence if all_of_it else it[0]}" for it, sentence, all_of_it in zip(named, sentences, whole))
 
 
 def page():
@@ -203,17 +212,19 @@ def page():
                 text, source = sentence(side.get((crate, name, "="), found[name][0]))
                 source = side.get((crate, name, "<"), source)
                 example = side.get((crate, name, ":"), "")
-                is_told = any((crate, name, mark) in side for mark in "=<:")
-                if not (is_told or source or (crate, module, name) in wanted):
-                    continue
+                files = wanted.get((crate, module, name), set())
+                is_shared = len(files) > 1 or any(of != crate for of, _ in files)
                 used |= {(crate, name, mark) for mark in "=<:"}
+                is_told = source or example or (crate, name, "=") in side and name[0].isupper()
+                if not (is_told or files and (found[name][1] or is_shared)):
+                    continue
                 if not text:
                     faults.append(f"no sentence: {crate}/{module}/{name}")
                 shown = [f"source: {source}"] * bool(source) + [example] * bool(example)
                 rows.append(f"- `{name}`: {text}." + f" [{'; '.join(shown)}]" * bool(shown))
-            lines += [f"\n**`{module}`** {first_sentence(re.sub(OWN, '', heading))}\n", *rows] if rows else []
+            lines += [f"\n**`{module}`**{heading_sources(heading)}\n", *rows] if rows else []
     faults += unknown_examples(side)
-    faults += [f"not on the page: {crate}/{name}" for crate, name, mark in sorted(set(side) - used)]
+    faults += [f"no public contract rests on it: {crate}/{name}" for crate, name, mark in sorted(set(side) - used)]
     return "\n".join(lines) + "\n", faults
 
 
@@ -224,7 +235,7 @@ def main():
         faults += [] if place.read_text() == text else ["docs/DEFINITIONS.md isn't up to date: run tests/definitions.py"]
     else:
         place.write_text(text)
-    print("\n".join(faults) or "docs/DEFINITIONS.md has each definition on which a public contract rests")
+    print("\n".join(faults) or "docs/DEFINITIONS.md has each fact that a public contract cites")
     return 1 if faults else 0
 
 
