@@ -21,7 +21,7 @@ use Rattle.ledger_commands.specs.Plays.{IsTakenUp, IsUntouched}
 use Rattle.ledger_program.proofs.KeptOver.{is-done, is-refused, is-stopped}
 use Rattle.ledger_program.proofs.OverFiles.{broken_file, changes_of_file, handed-back, not_broken, not_failed, refused_of_file, same_failures, taken_up, whole_file}
 use Rattle.ledger_program.specs.Kept.{IsMadeFault, IsMadeFile, IsMakeOver, IsRefused}
-use Rattle.rel_records.specs.Made.{HasFilesOf, IsCreating, creation_writes}
+use Rattle.rel_records.specs.Made.{HasNoRoom, IsCreating, IsTakenName, creation_writes}
 
 -- a creation writes five sectors at most
 few_writes : (l : Layout) → creation_writes l < 1000
@@ -45,7 +45,7 @@ module _ {F W : Type 0} (K : Keeps F) (contents : W → Option (List ℕ)) (imag
 
 module _ {F : Type 0} {G : Ghosts F} (start : Mirror F G) (sound : is_broken start → ⊥) (untaken : start.taken.n ≡ 0) (b : Mirror F G)
     (image name : List ℕ) (L : ℕ) where
-  run_of_file : IsMakeRun mirror image name L start b → IsMakeRun (in_run G.keeps start.file) image name L (file_disk start) (file_disk b)
+  abbrev run_of_file : IsMakeRun mirror image name L start b → IsMakeRun (in_run G.keeps start.file) image name L (file_disk start) (file_disk b)
   run_of_file x = record {
     size = x.size;
     layout = x.layout;

@@ -86,11 +86,11 @@ module _ {F : Type 0} {G : Ghosts F} (start : Mirror F G) (sound : is_broken sta
       -- a refusal for what a clean image holds
       pub refused_of_file : (Why Then : Layout → Type 0) → ((l : Layout) → Why l → Then l) → (is_broken b → ⊥)
           → IsLeft mirror image start b old new Why → IsRefused image start.file b.file old new Then
-      refused_of_file Why Then then whole x = record {
+      refused_of_file Why Then to whole x = record {
         size = size;
         layout = x.layout;
         clean = subst (λ img. IsCleanLayout img x.layout) holds x.clean;
-        why = then x.layout x.why;
+        why = to x.layout x.why;
         untouched = (same_file x.quiet whole, x.unprinted);
       }
 

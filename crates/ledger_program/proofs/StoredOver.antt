@@ -39,7 +39,7 @@ module _ {F W : Type 0} (K : Keeps F) (contents : W → Option (List ℕ)) (imag
 
 module _ {F : Type 0} {G : Ghosts F} (start : Mirror F G) (sound : is_broken start → ⊥) (untaken : start.taken.n ≡ 0) (b : Mirror F G)
     (image name text : List ℕ) where
-  run_of_file : IsStoreRun mirror image name text start b → IsStoringRun (in_run G.keeps start.file) name text (file_disk start) (file_disk b)
+  abbrev run_of_file : IsStoreRun mirror image name text start b → IsStoringRun (in_run G.keeps start.file) name text (file_disk start) (file_disk b)
   run_of_file x = record {
     layout = x.layout;
     clean = x.clean;

@@ -6,10 +6,11 @@ use Rattle.d64_image.specs.Mirrors.{mirror_image}
 use Rattle.ledger_program.proofs.StoredOver.{store-ended, store-not-loaded}
 use Rattle.ledger_program.proofs.keeping.store_run.Goals as goal
 
-pub store_image-ended-requires-clause-holds : goal.store_image-ended-requires-clause-holds
-store_image-ended-requires-clause-holds g c =
-    ap₂ (λ f d. kept_or (g.F.SectorFile.keeps.kept f) d) c.new-mirror.ensures.file (ap disk_image c.new-mirror.ensures.disk ∙ c.in-Ok.ensures.ok.1)
-    ∙ c.requires.agrees
+pub store_image-ended-requires : goal.store_image-ended-requires
+store_image-ended-requires g c = record {
+  holds = ap₂ (λ f d. kept_or (g.F.SectorFile.keeps.kept f) d) c.new-mirror.ensures.file (ap disk_image c.new-mirror.ensures.disk ∙ c.in-Ok.ensures.ok.1)
+      ∙ c.requires.agrees;
+}
 
 pub returns-in-Err : goal.returns-in-Err
 returns-in-Err g c = record {
