@@ -6,7 +6,7 @@ use Rattle.d64_image.specs.declared.place.Place.{Place}
 use Rattle.disk_layout.specs.AsFar.{IsWalk}
 use Rattle.disk_layout.specs.Chain.{EachOnce, Names, NamesNone}
 use Rattle.disk_layout.specs.Directory.{IsDirectory, map_place, type_byte}
-use Rattle.disk_layout.specs.Layout.{File, Layout, OwnsNothing, is_rel, sides_for}
+use Rattle.disk_layout.specs.Layout.{File, Layout, OwnsNothing, is_rel, owners, sides_for}
 use Rattle.disk_layout.specs.declared.slot.Slot.{Slot}
 use Rattle.disk_pictures.specs.declared.drawing.DrawnFile.{DrawnFile}
 use Rattle.disk_pictures.specs.declared.drawing.Drawing.{Drawing}
@@ -79,3 +79,12 @@ IsDrawnOnce l p (owner.Sides k) = (f : File) × (slice_get l.files k ≡ Some f)
 IsDrawnOnce l p owner.Nobody =
     (p ≢ map_place) × ¬ (Contains l.directory p)
     × ((f : File) → Contains l.files f → ¬ (Contains f.blocks p) × ¬ (Contains f.sides p))
+
+-- whose the sector is in a layout: the map's, the directory's, this entry's as a block or as a side sector, or nobody's,
+-- where none of these has it
+abbrev pub IsOwnedBy : Layout → Place → Owner → Type 0
+IsOwnedBy l p owner.Map = p ≡ map_place
+IsOwnedBy l p owner.Directory = Contains l.directory p
+IsOwnedBy l p (owner.Blocks k) = (f : File) × (slice_get l.files k ≡ Some f) × Contains f.blocks p
+IsOwnedBy l p (owner.Sides k) = (f : File) × (slice_get l.files k ≡ Some f) × Contains f.sides p
+IsOwnedBy l p owner.Nobody = ¬ (Contains (map_place ∷ owners l) p)
