@@ -14,8 +14,8 @@ use Rattle.disk_layout.specs.Chain.{EachOnce}
 use Rattle.disk_layout.specs.Directory.{map_place, type_byte}
 use Rattle.disk_layout.specs.Layout.{File, Layout, is_rel}
 use Rattle.disk_pictures.specs.Drawings.{GoesFrom, IsDrawn, IsDrawnFile, IsDrawnOnce, has, is_place, owner_among, owner_of}
-use Rattle.disk_pictures.specs.declared.drawing.Owner.{Owner}
-use Rattle.disk_pictures.specs.declared.drawing.Owner.TheVariants as owner
+use Rattle.disk_pictures.specs.declared.owners.Owner.{Owner}
+use Rattle.disk_pictures.specs.declared.owners.Owner.TheVariants as owner
 
 split : (a b : Bool) → (a && b) ≡ true → (a ≡ true) × (b ≡ true)
 split true true e = (refl, refl)
@@ -33,11 +33,11 @@ self n = grind arith
 place-self : (p : Place) → is_place p p ≡ true
 place-self p = rw (self p.track, self p.sector) refl
 
-has-there : (ps : List Place) (p : Place) → has ps p ≡ true → Contains ps p
+pub has-there : (ps : List Place) (p : Place) → has ps p ≡ true → Contains ps p
 unfolding has
 has-there ps p e = Contains-from_any {eq = is_place} place-is p ps e
 
-there-has : (ps : List Place) (p : Place) → Contains ps p → has ps p ≡ true
+pub there-has : (ps : List Place) (p : Place) → Contains ps p → has ps p ≡ true
 unfolding has
 there-has ps p (i, lt, e) = list_any_at (is_place p) ps i p lt (ap (is_place p) e ∙ place-self p)
 

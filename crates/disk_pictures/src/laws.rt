@@ -1,13 +1,16 @@
 //! Laws of maps and pages, each the contract of a function that does nothing.
-ghost use Rattle.std.specs.Prelude.{◌≡◌, [], ℕ, List, Option};
+ghost use Rattle.std.specs.Prelude.{◌≡◌, ◌∷◌, [], ℕ, List, Option};
 ghost use Rattle.d64_image.specs.Images.{Image, Sector};
 ghost use Rattle.d64_image.specs.declared.place.Place.{Place};
-ghost use Rattle.disk_layout.specs.Layout.{Layout};
+ghost use Rattle.disk_layout.specs.Chain.{EachOnce};
+ghost use Rattle.disk_layout.specs.Directory.{map_place};
+ghost use Rattle.disk_layout.specs.Layout.{IsLayout, Layout, owners};
 ghost use Rattle.disk_layout.specs.declared.faults.Fault.{Fault};
-ghost use Rattle.disk_pictures.specs.Drawings.{IsDrawn, IsDrawnOnce, owner_of};
+ghost use Rattle.disk_pictures.specs.Drawings.{IsDrawn, IsDrawnOnce, IsOwnedBy, owner_of};
 ghost use Rattle.disk_pictures.specs.Html.{html_of};
 ghost use Rattle.disk_pictures.specs.Markup.{IsEscaped, markup_of};
 ghost use Rattle.disk_pictures.specs.Pictures.{page_text, picture_page};
+ghost use Rattle.disk_pictures.specs.declared.owners.Owner.{Owner};
 
 /// Bytes of a disk have no quotation mark, no `<` and no `>` where they are shown in a page, and each `&` of theirs
 /// begins an escape. So the markup of the page of an image, whatever its bytes are, is that of the page in which none
@@ -24,4 +27,15 @@ pub fn names_bring_no_markup()
 /// in none of these.
 pub fn sectors_are_drawn_once()
     ensures { (img : Image) (l : Layout) → IsDrawn img l → (p : Place) → IsDrawnOnce l p (owner_of l p) }
+{}
+
+/// What is drawn of an image with a layout is that layout and nothing else: the directory's sectors, and of each entry
+/// its own blocks and side sectors, in order. No sector stands in it twice, and each sector of the disk is drawn with
+/// the owner that it has in the layout, or as of nobody where it has none.
+pub fn sound_disks_are_drawn_as_laid_out()
+    ensures drawn { (img : Image) (l drawn : Layout) → IsLayout img l → IsDrawn img drawn → drawn ≡ l }
+    ensures once { (img : Image) (l drawn : Layout) → IsLayout img l → IsDrawn img drawn
+        → EachOnce (map_place ∷ owners drawn) }
+    ensures owner { (img : Image) (l drawn : Layout) → IsLayout img l → IsDrawn img drawn
+        → (p : Place) (o : Owner) → IsOwnedBy l p o → owner_of drawn p ≡ o }
 {}

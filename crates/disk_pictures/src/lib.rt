@@ -3,6 +3,7 @@
 
 mod arcs;
 mod drawing;
+mod drawn_file;
 mod faults;
 mod files;
 mod html;
@@ -19,6 +20,6 @@ mod texts;
 mod verdicts;
 
 pub use faults::PictureFault;
-pub use laws::{names_bring_no_markup, sectors_are_drawn_once};
+pub use laws::{names_bring_no_markup, sectors_are_drawn_once, sound_disks_are_drawn_as_laid_out};
 pub use map_printing::map_image;
 pub use picture_printing::picture_image;

@@ -1,17 +1,22 @@
 //! The map of a disk, as it is printed for a terminal.
 ghost use Rattle.std.specs.Prelude.{◌≡◌, ◌≢◌, ◌+◌, ◌≤◌, ◌∷◌, [], IfErr, IfOk, OnOk, Some, map};
 ghost use Rattle.std.specs.Io.KnownBytes.{Appends};
+ghost use Rattle.d64_image.specs.Memory.{sectors_in};
 ghost use Rattle.d64_image.specs.Places.{place_at};
-ghost use Rattle.disk_pictures.specs.Drawings.{drawn_in, file_in};
+ghost use Rattle.disk_layout.specs.Layout.{IsLayout, Layout};
+ghost use Rattle.disk_pictures.specs.Drawings.{file_in};
+ghost use Rattle.disk_pictures.specs.Held.{drawn_in};
 ghost use Rattle.disk_pictures.specs.Maps.{entry_line, letter as letter_of, map_text, mark_of, owner_mark, records_text, track_line, track_text};
-ghost use Rattle.disk_pictures.specs.Outcomes.{IsMapPrinted, IsPictureFault};
+ghost use Rattle.disk_pictures.specs.Outcomes.{IsMapPrinted, IsPictureFault, map_in};
 ghost use Rattle.disk_pictures.specs.Texts.{at_place, each_below, numbered};
 ghost use Rattle.disk_pictures.specs.declared.faults.PictureFault.TheVariants as faults;
 
-use crate::drawing::{Drawing, DrawnFile, Owner};
+use crate::drawing::Drawing;
+use crate::drawn_file::DrawnFile;
 use crate::faults::PictureFault;
 use crate::names::entry_name;
 use crate::output::{flush, put};
+use crate::owners::Owner;
 use crate::texts::{TypeText, VerdictText, is_fault_at};
 use crate::verdicts::judged;
 use byte_text::Text;
@@ -224,7 +229,7 @@ fn put_map<W: Write>(
 
 /// Prints which sector is whose, for a terminal: a line for each track, with a mark for each of its sectors; a line for
 /// each entry; and what a check of the disk tells, which is answered too. A disk that is hurt is drawn as far as its
-/// links go.
+/// links go; of a sound one it is the map of its layout.
 ///
 /// `*` is the map, `=` the directory, a letter a block of the entry whose line begins with it, and the capital one of
 /// its side sectors; `.` is free, `?` taken in the map and of no entry, `!` where the fault is.
@@ -237,6 +242,8 @@ pub fn map_image<W: Write>(
     out: &mut W,
 ) -> Result<Option<Fault>, PictureFault>
     ensures ok { IfOk result (IsMapPrinted W.contents image.now out.old out.new) }
+    ensures sound { IfOk result (λ found. (l : Layout) → IsLayout (sectors_in image.now) l
+        → Appends (W.contents out.old) (W.contents out.new) (map_text found (map_in image.now) l)) }
     ensures err { IfErr result (IsPictureFault image.now) }
     ensures untouched { IfErr result (λ fault. (fault ≢ faults.File) → out.new ≡ out.old) }
 {

@@ -1,10 +1,13 @@
 //! The picture of a disk, as an HTML page with an SVG drawing.
 ghost use Rattle.std.specs.Prelude.{◌≡◌, ◌≢◌, ◌≤◌, IfErr, IfOk, OnOk, Some, flat_map, map};
 ghost use Rattle.std.specs.Io.KnownBytes.{Appends};
+ghost use Rattle.d64_image.specs.Memory.{sectors_in};
 ghost use Rattle.d64_image.specs.Places.{place_at};
-ghost use Rattle.disk_pictures.specs.Drawings.{drawn_in, file_in};
+ghost use Rattle.disk_layout.specs.Layout.{IsLayout, Layout};
+ghost use Rattle.disk_pictures.specs.Drawings.{file_in};
+ghost use Rattle.disk_pictures.specs.Held.{drawn_in};
 ghost use Rattle.disk_pictures.specs.Html.{html_of};
-ghost use Rattle.disk_pictures.specs.Outcomes.{IsPictureFault, IsPicturePrinted};
+ghost use Rattle.disk_pictures.specs.Outcomes.{IsPictureFault, IsPicturePrinted, map_in};
 ghost use Rattle.disk_pictures.specs.Pictures.{directory_arc, drawing_text, each_place, fault_group, file_group, group_head, layer_arc, own_block, own_side, picture_page, rest_group, row_text, system_group};
 ghost use Rattle.disk_pictures.specs.Texts.{at_place, each_below, numbered};
 ghost use Rattle.disk_pictures.specs.declared.faults.PictureFault.TheVariants as faults;
@@ -12,10 +15,12 @@ ghost use Rattle.disk_pictures.specs.declared.faults.PictureFault.TheVariants as
 use crate::arcs::{
     BlockArc, DirectoryArc, FaultGroup, FreeArc, Layer, LostArc, MapArc, OpenArc, SideArc,
 };
-use crate::drawing::{Drawing, DrawnFile, Owner};
+use crate::drawing::Drawing;
+use crate::drawn_file::DrawnFile;
 use crate::faults::PictureFault;
 use crate::names::entry_name;
 use crate::output::{flush, put};
+use crate::owners::Owner;
 use crate::page::{END, Legend, Row, Title, Told};
 use crate::verdicts::judged;
 use d64_image::Place;
@@ -342,7 +347,7 @@ fn put_page<W: Write>(
 /// side sectors darker, the fault in red. Each sector tells its place and whose it is where one points at it, and a
 /// click on a name shows that entry alone. The page has no script and loads nothing, and names of the disk stand in it
 /// as text alone. What a check of the disk tells stands in it, and is answered too. A disk that is hurt is drawn as far
-/// as its links go.
+/// as its links go; of a sound one it is the page of its layout.
 ///
 /// `ImageSize`; `NoMemory`; `Layout` where the directory's sectors aren't a chain on track 18: nothing was printed then.
 /// `File` where the output failed, which may then have a part.
@@ -352,6 +357,8 @@ pub fn picture_image<W: Write>(
     out: &mut W,
 ) -> Result<Option<Fault>, PictureFault>
     ensures ok { IfOk result (IsPicturePrinted W.contents image.now out.old out.new) }
+    ensures sound { IfOk result (λ found. (l : Layout) → IsLayout (sectors_in image.now) l
+        → Appends (W.contents out.old) (W.contents out.new) (picture_page found (map_in image.now) l)) }
     ensures err { IfErr result (IsPictureFault image.now) }
     ensures untouched { IfErr result (λ fault. (fault ≢ faults.File) → out.new ≡ out.old) }
 {
