@@ -19,6 +19,23 @@ pub enum Fault {
     MapWrong(Place),
 }
 
+impl Fault {
+    /// Where it holds.
+    pub fn place(&self) -> Place {
+        match *self {
+            Fault::BadLink(place)
+            | Fault::Loop(place)
+            | Fault::OwnedTwice(place)
+            | Fault::BadType(place)
+            | Fault::Unclosed(place)
+            | Fault::BadSide(place)
+            | Fault::BadLength(place)
+            | Fault::CountWrong(place)
+            | Fault::MapWrong(place) => place,
+        }
+    }
+}
+
 impl fmt::Display for Fault {
     fn fmt(&self, f: &mut fmt::Formatter) -> fmt::Result {
         let (name, place) = match self {

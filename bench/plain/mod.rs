@@ -6,5 +6,6 @@ pub mod files;
 pub mod full_disk;
 pub mod messages;
 pub mod mirror;
+pub mod pictures;
 pub mod places;
 pub mod shop;

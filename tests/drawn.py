@@ -1,0 +1,121 @@
+"""A D64 image of 35 tracks, and what `map` and `picture` draw of it, by the rules of docs/DISK.md and
+crates/disk_pictures/README.md. For scripts that look at the built program from outside."""
+
+SIZE = 174_848
+MAP = (18, 0)
+DIRECTORY = (18, 1)
+
+
+def sectors_on(track):
+    return 21 if track <= 17 else 19 if track <= 24 else 18 if track <= 30 else 17
+
+
+PLACES = [(track, sector) for track in range(1, 36) for sector in range(sectors_on(track))]
+INDEX = {place: index for index, place in enumerate(PLACES)}
+
+
+def start(place):
+    """Where a sector's bytes begin."""
+    return 256 * INDEX[place]
+
+
+def name_text(name):
+    """Bytes as `list`'s kin show them: $20 to $7E but " and \\ as they are, each other as \\ and two digits."""
+    return "".join(chr(byte) if 32 <= byte <= 126 and byte not in b'"\\' else f"\\{byte:02x}" for byte in name)
+
+
+class Entry:
+    """A used entry of the directory, and the sectors that its links come to."""
+
+    def __init__(self, raw):
+        self.kind = raw[2]
+        self.name = name_text(raw[5:21].rstrip(b"\xa0"))
+        self.first, self.side, self.length = tuple(raw[3:5]), tuple(raw[21:23]), raw[23]
+        self.blocks, self.sides = [], []
+
+    def is_closed(self):
+        return self.kind >= 128
+
+    def is_relative(self):
+        return self.kind in (0x84, 0xC4)
+
+
+class Disk:
+    """An image; `has_directory` says whether the directory's sectors are a chain on track 18, and then `directory` and
+    `entries` are what is drawn, and `owner` of each place that somebody has `"map"`, `"directory"`, or an entry's number
+    with `"block"` or `"side"` and the number there."""
+
+    def __init__(self, image):
+        assert len(image) == SIZE
+        self.image = image
+        self.directory = self._directory()
+        self.has_directory = self.directory is not None
+        self.entries, self.owner = [], {}
+        if self.has_directory:
+            self._draw()
+
+    def sector(self, place):
+        return self.image[start(place):start(place) + 256]
+
+    def is_free(self, place):
+        """Whether the map calls the sector free."""
+        track, sector = place
+        return self.image[start(MAP) + 4 * track + 1 + sector // 8] >> sector % 8 & 1 == 1
+
+    def disk_name(self):
+        return name_text(self.sector(MAP)[0x90:0xA0].rstrip(b"\xa0"))
+
+    def _directory(self):
+        places, place = [], DIRECTORY
+        while True:
+            places.append(place)
+            link = tuple(self.sector(place)[:2])
+            if link[0] == 0:
+                return places
+            if link[0] != 18 or link not in INDEX or link == MAP or link in places:
+                return None
+            place = link
+
+    def _walk(self, place):
+        places, seen = [], set()
+        while place in INDEX and place not in seen:
+            places.append(place)
+            seen.add(place)
+            place = tuple(self.sector(place)[:2])
+        return places
+
+    def _draw(self):
+        slots = [self.sector(place)[at:at + 32] for place in self.directory for at in range(0, 256, 32)]
+        self.entries = [Entry(slot) for slot in slots if slot[2] != 0]
+        self.owner = {place: ("directory",) for place in self.directory}
+        self.owner[MAP] = ("map",)
+        for number, entry in enumerate(self.entries):
+            if not entry.is_closed():
+                continue
+            entry.blocks = self._walk(entry.first)
+            if entry.is_relative():
+                entry.sides = self._walk(entry.side)[:(len(entry.blocks) + 119) // 120]
+            for kind, places in (("block", entry.blocks), ("side", entry.sides)):
+                for index, place in enumerate(places):
+                    self.owner.setdefault(place, (number, kind, index))
+
+    def mark(self, place):
+        """The mark of a sector in the map, but for `!`."""
+        owner = self.owner.get(place)
+        if owner is None:
+            return "." if self.is_free(place) else "?"
+        if owner[0] in ("map", "directory"):
+            return "*" if owner[0] == "map" else "="
+        return chr((97 if owner[1] == "block" else 65) + owner[0] % 26)
+
+    def title(self, place):
+        """What is said of a sector on pointing at it, but for a fault."""
+        owner, begins = self.owner.get(place), "%d/%d " % place
+        if owner is None:
+            return begins + ("free" if self.is_free(place) else "taken, of no file")
+        if owner[0] in ("map", "directory"):
+            return begins + owner[0]
+        number, kind, index = owner
+        entry = self.entries[number]
+        told = f"block {index + 1} of {len(entry.blocks)}" if kind == "block" else f"side sector {index}"
+        return f"{begins}{entry.name}, {told}"

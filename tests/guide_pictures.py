@@ -1,0 +1,249 @@
+#!/usr/bin/env python3
+"""Makes the pictures of the documents, docs/pictures/*.svg, with the built program:
+
+    tests/guide_pictures.py PROGRAM [--check]
+
+PROGRAM is `crates/ledger_cli/out/ledger_cli`. Each is the drawing of a page that `picture` prints of an image made anew
+by the program, cc1541 and cbmconvert (Debian's packages of these names); beside it stand, where it says so, the words and
+the table of the page. The arcs that a ring has in one colour are one circle of several dashes here; that they are the
+page's arcs is compared. With --check nothing is written: the status is 1 where a file isn't what would be written, where a
+document shows another picture than these or leaves one out, or where a command in docs/KEEPERS.md prints something else
+than stands there (`..` stands for lines that are left out)."""
+
+import re
+import shlex
+import subprocess
+import sys
+import tempfile
+from html import escape
+from pathlib import Path
+from xml.etree import ElementTree
+
+import disks
+from drawn import MAP
+from served import differs, want
+
+DOCUMENTS = disks.TOP / "docs"
+FOLDER = DOCUMENTS / "pictures"
+GUIDE = DOCUMENTS / "KEEPERS.md"
+LARGEST = 60_000
+SIDE = 480
+FONT = "ui-monospace,Menlo,Consolas,DejaVu Sans Mono,monospace"
+# a dash and then nothing: longer than any ring
+NOTHING = 300_000
+
+
+class Page:
+    """What a page of `picture` has: its style, words, table and drawing."""
+
+    def __init__(self, page):
+        text = page.decode("ascii").replace('<meta charset="utf-8">', "").replace("<br>", "<br/>") + "</html>"
+        self.tree = ElementTree.fromstring(re.sub("^<!DOCTYPE html>", "", text))
+        self.style = self.tree.findtext("style")
+        self.name, self.words = self.tree.findtext("h1"), self.tree.find("p").text.rstrip(", ")
+        self.verdict = self.tree.findtext("p/span")
+        self.drawing = self.tree.find(".//svg")
+        self.rows = [row for row in self.tree.iter("tr") if row.find("td") is not None]
+
+    def colour(self, kind):
+        return re.search(r"\.%s\{stroke:([^;}]*)" % kind, self.style).group(1)
+
+    def groups(self):
+        """The drawing's groups, each a list of circles."""
+        return [[circle.attrib for circle in group.iter("circle")] for group in self.drawing.find("g").findall("g")]
+
+
+def look_of(circle):
+    """What a circle looks like: its attributes but for the ring and its dashes."""
+    name = "class" if "class" in circle else "stroke"
+    return name, circle[name]
+
+
+def arcs_of(circle):
+    """The arcs of a circle: the ring's radius, beginning, length, and how they look."""
+    dashes = [int(number) for number in circle["stroke-dasharray"].split()]
+    at, arcs = -int(circle["stroke-dashoffset"]), []
+    for dash, gap in zip(dashes[::2], dashes[1::2]):
+        arcs.append((int(circle["r"]), at, dash, look_of(circle)))
+        at += dash + gap
+    return arcs
+
+
+def joined(circles):
+    """The same arcs, those of a ring that look alike as one circle of several dashes."""
+    alike = {}
+    for circle in circles:
+        for arc in arcs_of(circle):
+            alike.setdefault((arc[0], arc[3]), []).append(arc)
+    made = []
+    for (radius, (name, value)), arcs in alike.items():
+        arcs.sort()
+        numbers = []
+        for (_, at, dash, _), following in zip(arcs, arcs[1:] + [None]):
+            numbers += [dash, following[1] - at - dash if following else NOTHING]
+        made.append({"r": str(radius), "stroke-dasharray": " ".join(map(str, numbers)),
+                     "stroke-dashoffset": str(-arcs[0][1]), name: value})
+    want(sorted(arc for circle in made for arc in arcs_of(circle)) == sorted(arc for circle in circles for arc in arcs_of(circle)),
+         "the arcs differ from the page's")
+    return made
+
+
+def circle_text(circle):
+    return "<circle %s/>\n" % " ".join(f'{name}="{value}"' for name, value in circle.items())
+
+
+def drawing_text(page):
+    """The page's drawing."""
+    circles = "".join(circle_text(circle) for group in page.groups() for circle in joined(group))
+    return (f'<svg x="10" y="10" width="{SIDE}" height="{SIDE}" viewBox="{page.drawing.get("viewBox")}">\n'
+            f'<g transform="{page.drawing.find("g").get("transform")}">\n{circles}</g>\n'
+            f'<text class="disk" y="400">{escape(page.drawing.findtext("text"))}</text>\n</svg>\n')
+
+
+def style_text(page):
+    """The page's rules for circles, and ours for words."""
+    kinds = "".join("." + rule + "}" for rule in re.findall(r"\.((?:free|lost|map|dir|edge|fault|open)\{[^}]*)\}", page.style))
+    circle = re.search(r"circle\{[^}]*\}", page.style).group(0)
+    return (f"<style>{circle}{kinds}text{{font:14px {FONT};fill:#222}}.disk{{font-size:1100px;fill:#444;text-anchor:middle}}"
+            f".head{{font-size:18px;font-weight:bold}}.good{{fill:#17692b;font-weight:bold}}.bad{{fill:#d00;font-weight:bold}}</style>\n")
+
+
+def text_at(x, y, text, more=""):
+    return f'<text x="{x}" y="{y}"{more} xml:space="preserve">{escape(text)}</text>\n'
+
+
+def key_text(x, y, colour, text):
+    return f'<rect x="{x}" y="{y - 11}" width="12" height="12" fill="{colour}"/>\n' + text_at(x + 20, y, text)
+
+
+def words_text(page):
+    """The page's words and table, beside the drawing."""
+    x, y = SIDE + 40, 40
+    kind = ' class="good"' if page.verdict == "OK" else ' class="bad"'
+    made = text_at(x, y, page.name, ' class="head"') + text_at(x, y + 24, page.words) + text_at(x, y + 46, page.verdict, kind)
+    y += 86
+    for name, text in (("map", "map"), ("dir", "directory"), ("free", "free"), ("lost", "taken in the map, of no file")):
+        made += key_text(x, y, page.colour(name), text)
+        y += 20
+    y += 16
+    for row in page.rows:
+        cells = row.findall("td")
+        colour = re.search("background:(.*)", cells[0].find("i").get("style")).group(1)
+        name, kind = cells[2].findtext("a"), cells[3].text
+        records = f", {cells[5].text} records of {cells[4].text}" if cells[5].text else ""
+        made += key_text(x, y, colour, f"{cells[1].text:>4} {name} {kind}{records}")
+        y += 20
+    return made
+
+
+def svg_text(page, with_words):
+    width, height = (SIDE + 420 if with_words else SIDE + 20), SIDE + 20
+    body = words_text(page) if with_words else ""
+    return (f'<svg xmlns="http://www.w3.org/2000/svg" width="{width}" height="{height}" viewBox="0 0 {width} {height}">\n'
+            f'{style_text(page)}<rect width="{width}" height="{height}" fill="#fbfaf7"/>\n{drawing_text(page)}{body}</svg>\n')
+
+
+def cut_growth(path, target):
+    """The disk for two tills when the power went behind the first write of item 15's set: track 17 is one block less."""
+    image = disks.Image(path)
+    return image.put(MAP, 4 * 17, [0x10, 0xE0, 0xFF, 0x1F]).save(target)
+
+
+def played(program, path, target, line):
+    """The disk after one message."""
+    target.write_bytes(path.read_bytes())
+    said = target.with_suffix(".txt")
+    said.write_text(line + "\n")
+    disks.call(program, "play", target, said)
+    return target
+
+
+def made_disks(program, folder):
+    """The disks of the documents: the picture's name, the image, the verdict, and whether words stand beside it."""
+    sound = disks.customers(folder, folder / "customers.d64")
+    yield "customers", sound, "OK", True
+    for word in ("MAPWRONG", "COUNTWRONG", "BADSIDE", "BADLINK", "LOOP", "OWNEDTWICE", "UNCLOSED"):
+        yield word.lower(), disks.FAULTS[word](sound).save(folder / f"{word}.d64"), word, False
+    yield "shop", disks.shop_after_a_day(program, folder / "shop.d64"), "OK", True
+    fresh = disks.blank(program, folder / "fresh.d64", 2)
+    yield "fresh", fresh, "OK", False
+    yield "growth_cut", cut_growth(fresh, folder / "cut.d64"), "MAPWRONG", False
+    yield "grown", played(program, fresh, folder / "grown.d64", "1,1,S,15,7"), "OK", False
+
+
+def steps():
+    """The commands of the guide, each with the lines that it is told to print."""
+    told = []
+    for line in GUIDE.read_text().splitlines():
+        if line.startswith("    $ ledger "):
+            told.append((line[len("    $ ledger "):], []))
+        elif line.startswith("    ") and told and told[-1] is not None:
+            told[-1][1].append(line[4:])
+        else:
+            told.append(None)
+    return [step for step in told if step]
+
+
+def fits(printed, told):
+    """Whether these lines are those that the guide tells."""
+    at, is_loose = 0, False
+    for line in told:
+        if line == "..":
+            is_loose = True
+            continue
+        if is_loose and line in printed[at:]:
+            at = printed.index(line, at)
+        if printed[at:at + 1] != [line]:
+            return False
+        at, is_loose = at + 1, False
+    return is_loose or at == len(printed)
+
+
+def see_steps(program, folder):
+    """Runs each command of the guide, in order; gives how many there are."""
+    disks.with_map_wrong(folder / "customers.d64").save(folder / "hurt.d64")
+    for command, told in steps():
+        words = shlex.split(command)
+        to_file = ">" in words
+        done = subprocess.run([program, *words[:words.index(">") if to_file else None]], cwd=folder, stdout=subprocess.PIPE)
+        want(to_file or fits(done.stdout.decode("latin-1").splitlines(), told), f"{GUIDE.name}: {command} prints something else")
+        want(not to_file or done.returncode == 0, f"{GUIDE.name}: {command} ends with status {done.returncode}")
+    return len(steps())
+
+
+def see_documents(wanted):
+    """Compares the pictures that the documents show with those that there are."""
+    shown = {FOLDER / name for document in DOCUMENTS.glob("*.md")
+             for name in re.findall(r"\(pictures/([^)]*)\)", document.read_text())}
+    want(shown == wanted, f"the documents show other pictures: {' '.join(sorted(file.name for file in shown ^ wanted))}")
+
+
+def main(program, only_check):
+    disks.need(*disks.TOOLS)
+    program = str(Path(program).resolve())
+    stale, wanted = [], set()
+    with tempfile.TemporaryDirectory() as folder:
+        for name, image, verdict, with_words in made_disks(program, Path(folder)):
+            page = Page(subprocess.run([program, "picture", image], stdout=subprocess.PIPE, timeout=60).stdout)
+            want(page.verdict.split()[0] == verdict, f"{name}: {page.verdict} in place of {verdict}")
+            text = svg_text(page, with_words)
+            want(len(text) < LARGEST, f"{name}: {len(text)} bytes")
+            file = FOLDER / f"{name}.svg"
+            wanted.add(file)
+            if not file.exists() or file.read_text() != text:
+                stale.append(file.name)
+            if not only_check:
+                FOLDER.mkdir(exist_ok=True)
+                file.write_text(text)
+        tried = see_steps(program, Path(folder)) if only_check else 0
+    stale += [file.name for file in FOLDER.glob("*.svg") if file not in wanted]
+    if only_check and stale:
+        differs(f"not what the program draws: {' '.join(stale)}")
+    see_documents(wanted)
+    print(f"guide_pictures: {len(wanted)} pictures, " + (
+        f"all as the program draws them, and {tried} commands of the guide: no difference" if only_check
+        else f"{len(stale)} of them new"))
+
+
+if __name__ == "__main__":
+    main(sys.argv[1], "--check" in sys.argv[2:])

@@ -1,0 +1,308 @@
+#!/usr/bin/env python3
+"""Draws hurt images with the built program, and compares what it prints with the rules as drawn.py has them:
+
+    tests/hurt_pictures.py PROGRAM [RANDOM] [JOBS] [SEED]
+
+PROGRAM is `crates/ledger_cli/out/ledger_cli`. The images, each of 174,848 bytes:
+- RANDOM (10,000) of random bytes, nearly all without a directory;
+- RANDOM / 10 of random bytes whose directory is the one sector 18/1;
+- RANDOM / 10 in which each sector's link is some place of the disk and each entry is closed, with 1 to 18 sectors of
+  directory;
+- a shop after the README's day with one bit changed, each of the 12,288 of six sectors: the map, the directory, and the
+  first side sectors and the first blocks of its two files.
+Of each are run `map`, `picture`, `check`, and `picture` of the image without names. Either the directory's sectors are no
+chain on track 18: then all are refused with the fault that `check` tells, and nothing is printed. Or:
+- the map's marks are the rules', and `!` stands at the fault that `check` tells;
+- the page, read by a strict XML parser, has each of the 683 sectors once, with the title and the class or colour of its
+  owner, in order; a white line over each in use that the map calls free; the fault; and the names;
+- its tags are, in order and to the byte, those of the page without names, and outside of them stands no `<` and no `>`.
+The status is 1 at the first difference, whose image is kept."""
+
+import multiprocessing
+import random
+import re
+import subprocess
+import sys
+import tempfile
+from collections import Counter
+from pathlib import Path
+from xml.parsers import expat
+
+from disks import shop_after_a_day
+from drawn import DIRECTORY, MAP, PLACES, SIZE, Disk, sectors_on, start
+
+JOBS = 2
+# tags that HTML lets stand open, as XML has them
+OPEN_TAGS = ((b'<meta charset="utf-8">', b'<meta charset="utf-8"/>', 1), (b"<br>", b"<br/>", 2))
+TAG = re.compile(rb"<[^<>]*>")
+STYLE = re.compile(rb"<style>.*?</style>", re.S)
+CLASSES = {"*": "map", "=": "dir", ".": "free", "?": "lost"}
+FAULT = re.compile(r"([A-Z]+) (\d+)/(\d+)")
+
+
+class Differs(Exception):
+    """What an image shows isn't as it has to be."""
+
+
+def want(holds, what):
+    if not holds:
+        raise Differs(what)
+
+
+def without_names(image, disk):
+    """The image whose disk and entries have no name, id and version."""
+    blank = bytearray(image)
+    for begin, end in ((0x90, 0xA0), (0xA2, 0xA4), (0xA5, 0xA7)):
+        blank[start(MAP) + begin:start(MAP) + end] = b"\xa0" * (end - begin)
+    for place in disk.directory:
+        for slot in range(start(place), start(place) + 256, 32):
+            blank[slot + 5:slot + 21] = b"\xa0" * 16
+    return bytes(blank)
+
+
+def file_colour(number, side):
+    return "hsl(%d,62%%,%d%%)" % (30 + (170 + 137 * number) % 300, (38, 54, 46)[number % 3] - (18 if side else 0))
+
+
+def ring(place, radius=None):
+    """What says where a sector's circle is: its radius, and the dash that is the sector."""
+    track, sector = place
+    radius = radius or 35400 - 800 * track
+    arc = 710 * radius // (113 * sectors_on(track))
+    return str(radius), f"{arc - 200} 300000", f"-{sector * arc}"
+
+
+RINGS = {place: ring(place) for place in PLACES}
+
+
+class Page:
+    """A page as a strict parser of XML reads it: its circles, names, words, and its tags as they are written."""
+
+    def __init__(self, page):
+        # the style has the only foreign '>'
+        rest = STYLE.sub(b"<style></style>", page, count=1)
+        self.tags = TAG.findall(rest)
+        want(not re.search(rb"[<>]", TAG.sub(b"", rest)), "a < or > outside of tags")
+        for tag, closed, times in OPEN_TAGS:
+            want(page.count(tag) == times, f"{tag} stands {page.count(tag)} times")
+            page = page.replace(tag, closed)
+        self.circles, self.names, self.heads = [], [], []
+        self._path, self._group, self._text = [], [], ""
+        parser = expat.ParserCreate()
+        parser.buffer_text = True
+        parser.StartElementHandler, parser.EndElementHandler = self._start, self._end
+        parser.CharacterDataHandler = self._add
+        try:
+            parser.Parse(page + b"</html>", True)
+        except expat.ExpatError as error:
+            raise Differs(f"the page is no XML: {error}") from error
+
+    def _start(self, tag, attributes):
+        self._path.append(tag)
+        self._text = ""
+        if tag == "g":
+            self._group.append(attributes.get("id"))
+        elif tag == "circle":
+            place = tuple(attributes.pop(name) for name in ("r", "stroke-dasharray", "stroke-dashoffset"))
+            (look,) = attributes.items()
+            self.circles.append([self._group[-1], place, look, None])
+
+    def _end(self, tag):
+        self._path.pop()
+        if tag == "title" and self._path[-1:] == ["circle"]:
+            self.circles[-1][3] = self._text
+        elif tag == "a" and self._path[-1:] == ["td"]:
+            self.names.append(self._text)
+        elif tag in ("h1", "title", "text", "span"):
+            self.heads.append(self._text)
+        elif tag == "g":
+            self._group.pop()
+
+    def _add(self, text):
+        self._text += text
+
+
+def wanted_circle(disk, place):
+    """A sector's circle: its group, ring, class or colour, and title."""
+    mark = disk.mark(place)
+    if mark in CLASSES:
+        return ["m" if mark in "*=" else "r", RINGS[place], ("class", CLASSES[mark]), disk.title(place)]
+    number, kind, _ = disk.owner[place]
+    return [f"f{number}", RINGS[place], ("stroke", file_colour(number, kind == "side")), disk.title(place)]
+
+
+def wanted_circles(disk, verdict):
+    """The circles in their order: the map, the directory, the entries' blocks and side sectors, all other sectors, then
+    the white lines and the fault."""
+    system = [MAP, *disk.directory]
+    files = [place for number, entry in enumerate(disk.entries)
+             for kind, places in (("block", entry.blocks), ("side", entry.sides))
+             for index, place in enumerate(places) if disk.owner[place] == (number, kind, index)]
+    others = [place for place in PLACES if place not in disk.owner]
+    places = system + files + others
+    want(len(places) == 683 and len(set(places)) == 683, "drawn.py hasn't each sector once")
+    lines = [["r", RINGS[place], ("class", "open"), "%d/%d in use, and free in the map" % place]
+             for place in PLACES if place in disk.owner and disk.is_free(place)]
+    fault = []
+    if verdict != "OK":
+        place = fault_place(verdict)
+        fault = [["f", RINGS[place], ("class", "edge"), verdict], ["f", RINGS[place], ("class", "fault"), verdict],
+                 ["f", ring(place, 35700), ("class", "fault"), None]]
+    return [wanted_circle(disk, place) for place in places] + lines + fault
+
+
+def fault_place(verdict):
+    found = FAULT.fullmatch(verdict)
+    want(found, f"the verdict {verdict!r}")
+    return int(found[2]), int(found[3])
+
+
+class Bench:
+    """A file for images, and the program."""
+
+    def __init__(self, program, folder):
+        self.program, self.file = program, Path(folder) / f"image{multiprocessing.current_process().pid}.d64"
+        self.last_pages = {}
+
+    def run(self, word):
+        done = subprocess.run([self.program, word, str(self.file)], capture_output=True, timeout=60, close_fds=False)
+        return done.returncode, done.stdout, done.stderr.decode("latin-1")
+
+    def page(self, printed):
+        """A page as it is read; of the last few each is read once."""
+        if printed not in self.last_pages:
+            if len(self.last_pages) == 8:
+                del self.last_pages[next(iter(self.last_pages))]
+            self.last_pages[printed] = Page(printed)
+        return self.last_pages[printed]
+
+    def see(self, image):
+        """Compares all that is printed of one image; gives its verdict, or its refusal."""
+        self.file.write_bytes(image)
+        disk = Disk(image)
+        checked, verdict, _ = self.run("check")
+        verdict = verdict.decode().strip()
+        want(checked == (0 if verdict == "OK" else 1), f"check ends with {checked}")
+        drawn = self.run("map"), self.run("picture")
+        if not disk.has_directory:
+            for status, out, error in drawn:
+                want((status, out, error) == (1, b"", f"LAYOUT {verdict}\n"), f"no directory, and {status}, {error}, {out[:80]}")
+            fault_place(verdict)
+            return "LAYOUT " + verdict.split()[0]
+        (map_status, printed, map_error), (status, page, error) = drawn
+        want((map_status, map_error, status, error) == (checked, "", checked, ""), "statuses, or words on standard error")
+        self.see_map(printed.decode("latin-1").splitlines(), disk, verdict)
+        self.see_page(page, image, disk, verdict)
+        return verdict.split()[0]
+
+    def see_map(self, lines, disk, verdict):
+        fault = fault_place(verdict) if verdict != "OK" else None
+        for track in range(1, 36):
+            places = ((track, sector) for sector in range(sectors_on(track)))
+            marks = "".join("!" if place == fault else disk.mark(place) for place in places)
+            want(lines[track + 1] == f"{track:2} {marks}", f"track {track} of the map is {lines[track + 1]}")
+        want(len(lines) == 38 + len(disk.entries) and lines[-1] == verdict, f"the map ends in {lines[-1]}")
+        for line, entry in zip(lines[37:], disk.entries):
+            want(f' "{entry.name}" ' in line, f"{entry.name} isn't in {line}")
+
+    def see_page(self, printed, image, disk, verdict):
+        page = self.page(printed)
+        wanted = wanted_circles(disk, verdict)
+        want(len(page.circles) == len(wanted), f"{len(page.circles)} circles in place of {len(wanted)}")
+        for circle, one in zip(page.circles, wanted):
+            want(circle == one, f"{circle} in place of {one}")
+        want(page.names == [entry.name for entry in disk.entries], f"names {page.names}")
+        name = disk.disk_name()
+        want(page.heads == [name, name, verdict, name], f"heads {page.heads}")
+        self.file.write_bytes(without_names(image, disk))
+        want(page.tags == self.page(self.run("picture")[1]).tags, "tags differ without names")
+
+
+def random_image(draw):
+    return draw.randbytes(SIZE)
+
+
+def with_directory(draw):
+    """Random bytes, and a directory of the one sector 18/1."""
+    image = bytearray(draw.randbytes(SIZE))
+    image[start(DIRECTORY)] = 0
+    return bytes(image)
+
+
+def linked_image(draw):
+    """Each sector's link is some place; the directory is a chain of 1 to 18 sectors, and its used entries are closed."""
+    image = bytearray(draw.randbytes(SIZE))
+    for place in PLACES:
+        image[start(place):start(place) + 2] = bytes(draw.choice(PLACES)) if draw.random() < 0.98 else bytes([0, draw.randrange(256)])
+    directory = [DIRECTORY, *draw.sample([(18, sector) for sector in range(2, 19)], draw.randrange(18))]
+    for place, link in zip(directory, [*directory[1:], (0, 255)]):
+        image[start(place):start(place) + 2] = bytes(link)
+        for slot in range(start(place), start(place) + 256, 32):
+            image[slot + 2] = draw.choice((0, 0x80, 0x81, 0x82, 0xC2, 0x84, 0x84, 0xC4, 0x87, draw.randrange(256)))
+            image[slot + 3:slot + 5], image[slot + 21:slot + 23] = bytes(draw.choice(PLACES)), bytes(draw.choice(PLACES))
+    return bytes(image)
+
+
+KINDS = {"random": random_image, "random with a directory": with_directory, "linked at random": linked_image}
+
+
+def changed_sectors(shop):
+    """Six sectors of a shop: the map, the directory, and of each file the first side sector and the first block."""
+    disk = Disk(shop)
+    return [MAP, DIRECTORY, *(place for entry in disk.entries for place in (entry.sides[0], entry.blocks[0]))]
+
+
+def image_of(work, shop):
+    """The image that a piece of work names."""
+    kind, which = work
+    if kind in KINDS:
+        return KINDS[kind](random.Random(f"{kind} {which}"))
+    place, bit = which
+    image = bytearray(shop)
+    image[start(place) + bit // 8] ^= 1 << bit % 8
+    return bytes(image)
+
+
+def begin(program, folder, shop):
+    global bench, sound_shop
+    bench, sound_shop = Bench(program, folder), shop
+
+
+def see_one(work):
+    image = image_of(work, sound_shop)
+    try:
+        return work, bench.see(image), None
+    except Differs as difference:
+        return work, str(difference), image
+
+
+def main(program, count=10_000, jobs=JOBS, seed="0"):
+    program = str(Path(program).resolve())
+    memory = "/dev/shm" if Path("/dev/shm").is_dir() else None
+    with tempfile.TemporaryDirectory(dir=memory) as folder:
+        shop = shop_after_a_day(program, Path(folder) / "shop.d64").read_bytes()
+        sectors = changed_sectors(shop)
+        print("one bit changed of: " + " ".join("%d/%d" % place for place in sectors), flush=True)
+        work = [("one bit", (place, bit)) for place in sectors for bit in range(2048)]
+        for kind, share in zip(KINDS, (count, count // 10, count // 10)):
+            work += [(kind, f"{seed} {number}") for number in range(share)]
+        told = Counter()
+        with multiprocessing.Pool(jobs, begin, (program, folder, shop)) as pool:
+            for (kind, which), said, image in pool.imap_unordered(see_one, work, chunksize=20):
+                if image:
+                    kept = Path(tempfile.gettempdir()) / "hurt_picture.d64"
+                    kept.write_bytes(image)
+                    print(f"hurt_pictures.py: {kind}, {which}: {said}; the image is {kept}", file=sys.stderr)
+                    sys.exit(1)
+                told[kind, said] += 1
+    for kind in ("one bit", *KINDS):
+        counts = ", ".join(f"{word} {number}" for (of, word), number in sorted(told.items()) if of == kind)
+        print(f"{kind}: {counts}")
+    refused = sum(number for (_, word), number in told.items() if word.startswith("LAYOUT"))
+    print(f"hurt_pictures: {len(work)} images, {len(work) - refused} pages and maps of 683 sectors, {refused} refused by their "
+          f"fault: no difference")
+
+
+if __name__ == "__main__":
+    words = sys.argv[1:]
+    main(words[0], *map(int, words[1:3]), *words[3:4])

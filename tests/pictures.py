@@ -1,0 +1,304 @@
+#!/usr/bin/python3
+"""Looks at pages of `picture` with a real browser; tests/pictures.sh says what is compared and calls this:
+
+    tests/pictures.py PROGRAM [FOLDER]
+
+In FOLDER, where it is given, the pages and what the browser shows of them are kept."""
+
+import colorsys
+import json
+import math
+import re
+import subprocess
+import sys
+import tempfile
+import time
+from pathlib import Path
+
+from PIL import Image
+
+import disks
+from browser import Browser, Proxy
+from drawn import MAP, PLACES, Disk, sectors_on
+from served import run, want
+
+LARGEST = 150_000
+SLOWEST = 1.0
+# dots of the screen for a pixel of the page: a ring is 27 dots wide then
+DOTS = 4
+# half of the drawing's width in its own units, and how far rings are from each other
+HALF = 36600
+RING = 800
+RIM = 35700
+# beside a white line, and still on its ring
+BESIDE = 225
+# how far two colours may be from each other, of 255
+NEAR = 2
+
+SYSTEM = {"*": (0x11, 0x11, 0x11), "=": (0x5B, 0x5B, 0x5B), ".": (0xE2, 0xDE, 0xD3), "?": (0x9A, 0x93, 0x84)}
+RED, WHITE = (0xE0, 0, 0), (255, 255, 255)
+
+# what the page's own markup is: each element's attributes, sorted
+MARKUP = {
+    "html": ["lang"], "head": [], "meta": ["charset"], "title": [], "style": [], "body": [], "h1": [], "p": [],
+    "main": [], "div": [], "ul": [], "table": [], "tbody": [], "tr": [], "br": [], "text": ["y"], "svg": ["viewBox"]}
+VARIED = {"g": [["id"], ["transform"]], "span": [["class"]], "li": [["class"]], "i": [[], ["style"]], "a": [["href"]],
+          "th": [[], ["class"]], "td": [[], ["class"]]}
+CIRCLES = [["class", "r", "stroke-dasharray", "stroke-dashoffset"], ["r", "stroke", "stroke-dasharray", "stroke-dashoffset"]]
+
+
+def file_colour(number, side):
+    """The colour of an entry, and darker that of its side sectors."""
+    hue = 30 + (170 + 137 * number) % 300
+    light = (38, 54, 46)[number % 3] - (18 if side else 0)
+    parts = colorsys.hls_to_rgb(hue / 360, light / 100, 0.62)
+    return tuple(round(255 * part) for part in parts)
+
+
+def middle(place, radius_more=0, radius=None):
+    """Where the middle of a sector is, in the drawing's units: track 1 outside, sector 0 from the top, clockwise."""
+    track, sector = place
+    at = (radius or 35400 - RING * track) + radius_more
+    turn = 2 * math.pi * (sector + 0.5) / sectors_on(track)
+    return at * math.sin(turn), -at * math.cos(turn)
+
+
+def near(one, other):
+    return all(abs(a - b) <= NEAR for a, b in zip(one, other))
+
+
+def marks_of(lines):
+    """The mark of each place, from the lines of `map`, and the verdict below them."""
+    marks = {(track, sector): mark
+             for track, line in enumerate(lines[2:37], 1) for sector, mark in enumerate(line[3:])}
+    want(sorted(marks) == PLACES, "the map hasn't 683 sectors")
+    want(all(line[:3] == f"{track:2} " for track, line in enumerate(lines[2:37], 1)), "tracks of the map")
+    return marks, lines[-1]
+
+
+class Wanted:
+    """What is to be seen of a disk at each place, by the marks of `map` and by the rules for titles."""
+
+    def __init__(self, name, image, lines):
+        self.disk = Disk(image)
+        self.marks, self.verdict = marks_of(lines)
+        self.fault = next((place for place, mark in self.marks.items() if mark == "!"), None)
+        for place in PLACES:
+            if place != self.fault:
+                want(self.marks[place] == self.disk.mark(place), f"{name}: map has {self.marks[place]} at {place}")
+
+    def is_open(self, place):
+        """Whether a white line is to be seen: in use, and free in the map."""
+        return place != self.fault and self.disk.is_free(place) and place in self.disk.owner
+
+    def owner_colour(self, place):
+        mark = self.marks[place]
+        if not mark.isalpha():
+            return SYSTEM[mark]
+        number = self.disk.owner[place][0]
+        return file_colour(number, mark.isupper())
+
+    def colour(self, place):
+        if place == self.fault:
+            return RED
+        return WHITE if self.is_open(place) else self.owner_colour(place)
+
+    def title(self, place):
+        if place == self.fault:
+            return self.verdict
+        return "%d/%d in use, and free in the map" % place if self.is_open(place) else self.disk.title(place)
+
+
+class Seen:
+    """The colours of a drawing, by an image of it."""
+
+    def __init__(self, image):
+        self.image = image.convert("RGB")
+
+    def at(self, point):
+        return self.image.getpixel(tuple(int((at + HALF) * self.image.width / (2 * HALF)) for at in point))
+
+
+def see_colours(name, seen, wanted, who):
+    """Compares the colour at the middle of each sector, beside each white line, and of the mark at the rim."""
+    for place in PLACES:
+        colour = seen.at(middle(place))
+        want(near(colour, wanted.colour(place)), f"{name}: {who} shows {colour} at {place}, wanted {wanted.colour(place)}")
+        if wanted.is_open(place):
+            for more in (BESIDE, -BESIDE):
+                colour = seen.at(middle(place, more))
+                want(near(colour, wanted.owner_colour(place)), f"{name}: {who} shows {colour} beside the line of {place}")
+    if wanted.fault:
+        want(near(seen.at(middle(wanted.fault, radius=RIM)), RED), f"{name}: {who} has no mark at the rim")
+
+
+TITLES = """(points => points.map(([x, y]) => {
+    const found = document.elementFromPoint(x, y), title = found && found.querySelector(":scope > title");
+    return title ? title.textContent : found && found.tagName }))"""
+
+
+def see_titles(name, browser, box, wanted):
+    """Compares what is said on pointing at the middle of each sector."""
+    def on_page(point):
+        return [box[axis] + (at + HALF) * box["width"] / (2 * HALF) for axis, at in zip("xy", point)]
+
+    looked = [(place, 0, wanted.title(place)) for place in PLACES]
+    looked += [(place, more, wanted.disk.title(place))
+               for place in PLACES if wanted.is_open(place) for more in (BESIDE, -BESIDE)]
+    points = [on_page(middle(place, more)) for place, more, _ in looked]
+    for (place, _, title), said in zip(looked, browser.value(f"{TITLES}({json.dumps(points)})")):
+        want(said == title, f"{name}: at {place} is said {said!r}, wanted {title!r}")
+    if wanted.fault:
+        x, y = on_page(middle(wanted.fault))
+        under = browser.value(f"document.elementsFromPoint({x}, {y}).map(e => e.textContent)")
+        want(wanted.disk.title(wanted.fault) in under, f"{name}: no owner is drawn beneath the fault")
+
+
+def see_markup(name, browser, wanted):
+    """Compares the elements of the page, each with its attributes, with the page's own, and the names shown."""
+    elements = browser.value("[...document.querySelectorAll('*')].map(e => [e.tagName, e.getAttributeNames().sort()])")
+    for tag, attributes in elements:
+        tag = tag if tag in MARKUP else tag.lower()
+        own = CIRCLES if tag == "circle" else VARIED.get(tag) or [MARKUP.get(tag)]
+        want(attributes in own, f"{name}: a foreign element {tag} {attributes}")
+    shown = browser.value("[document.querySelector('title').textContent, document.querySelector('h1').textContent, "
+                          "document.querySelector('svg text').textContent, "
+                          "...[...document.querySelectorAll('td a')].map(e => e.textContent)]")
+    want(shown == [wanted.disk.disk_name()] * 3 + [entry.name for entry in wanted.disk.entries], f"{name}: names {shown}")
+    return len(elements)
+
+
+def see_links(name, browser, wanted):
+    """Clicks on each name: it alone is shown then, as the fault is."""
+    for number in range(len(wanted.disk.entries)):
+        browser.value(f"document.querySelectorAll('td a')[{number}].click()")
+        faded = browser.value("[...document.querySelectorAll('svg g g')].map(e => [e.id, getComputedStyle(e).opacity])")
+        for group, opacity in faded:
+            want(opacity == ("1" if group in (f"f{number}", "f") else "0.15"), f"{name}: {group} has opacity {opacity}")
+
+
+def drawn_in(browser, url):
+    """How long it takes from the beginning of a page's opening until a frame is shown after all of it was read, in
+    seconds: the least of three times."""
+    times = []
+    for _ in range(3):
+        browser.open(url)
+        times.append(browser.value("new Promise(done => requestAnimationFrame(() => requestAnimationFrame("
+                                   "() => done(performance.now()))))"))
+    return min(times) / 1000
+
+
+def svg_of(page):
+    """The drawing of a page as a file of its own, with the page's style."""
+    text = page.decode()
+    drawing = re.search(r"<svg (.*?)</svg>", text, re.S).group(1)
+    style = re.search(r"<style>(.*?)</style>", text, re.S).group(1)
+    head, _, rest = drawing.partition(">")
+    return f'<svg xmlns="http://www.w3.org/2000/svg" {head}><style>{style}</style>{rest}</svg>'
+
+
+def by_librsvg(page, folder):
+    """The drawing as librsvg draws it."""
+    (folder / "drawing.svg").write_text(svg_of(page))
+    side = str(720 * DOTS)
+    subprocess.run(["rsvg-convert", "-w", side, "-h", side, "-b", "#fbfaf7", "-o", folder / "drawing.png",
+                    folder / "drawing.svg"], check=True)
+    return Seen(Image.open(folder / "drawing.png"))
+
+
+def by_chromium(browser, box, file):
+    """The drawing as Chromium draws it, whose place in the page this is; kept in a file."""
+    picture = browser.shot(box["x"], box["y"], box["width"], box["width"])
+    picture.save(file)
+    return Seen(picture)
+
+
+def see_page(program, browser, proxy, name, path, folder):
+    """Looks at one disk; gives the greatest distance of the two colours of a sector, times and size."""
+    status, lines, _ = run(program, "map", path)
+    done = subprocess.run([program, "picture", path], capture_output=True, timeout=60)
+    page = done.stdout
+    want(done.returncode == status and status == (0 if lines[-1] == "OK" else 1), f"{name}: statuses")
+    want(len(page) < LARGEST or name.startswith("crowded"), f"{name}: {len(page)} bytes")
+    references = re.findall(rb"(?:src|href|url|import|action|data)\s*[=(]\s*\"?([^\">]*)", page)
+    want(all(re.fullmatch(rb"#f\d+", found) for found in references), f"{name}: leads out of the page: {references}")
+    wanted = Wanted(name, path.read_bytes(), lines)
+    file = folder / f"{name}.html"
+    file.write_bytes(page)
+
+    browser.scale(1)
+    seconds = drawn_in(browser, file.as_uri())
+    browser.scale(DOTS)
+    browser.open(file.as_uri())
+    # a drawing is put on whole pixels
+    box = browser.value("(r => ({x: Math.round(r.x), y: Math.round(r.y), width: r.width}))"
+                        "(document.querySelector('svg').getBoundingClientRect())")
+    chromium, librsvg = by_chromium(browser, box, folder / f"{name}.png"), by_librsvg(page, folder)
+    see_colours(name, chromium, wanted, "Chromium")
+    see_colours(name, librsvg, wanted, "librsvg")
+    middles = [middle(place) for place in PLACES]
+    apart = max(abs(a - b) for point in middles for a, b in zip(chromium.at(point), librsvg.at(point)))
+    see_titles(name, browser, box, wanted)
+    elements = see_markup(name, browser, wanted)
+    see_links(name, browser, wanted)
+    want(browser.requests() == [file.as_uri()], f"{name}: the page asks for {browser.requests()}")
+    want(browser.complaints() == [], f"{name}: {browser.complaints()}")
+    want(proxy.asked == [], f"{name}: asked of the proxy {proxy.asked}")
+    want(seconds < SLOWEST, f"{name}: drawn in {seconds:.2f} s")
+    print(f"{name}: {wanted.verdict}, {len(page)} bytes, {elements} elements, on the screen after {1000 * seconds:.0f} ms, "
+          f"colours at most {apart} of 255 apart", flush=True)
+    return apart, seconds, len(page)
+
+
+def see_control(browser, proxy, folder):
+    """A page that does ask, so that silence says something: both counters have to hear it."""
+    file = folder / "control.html"
+    file.write_text('<!DOCTYPE html>\n<html lang="en"><img src="http://example.invalid/x">\n<script>console.log(1)</script>\n')
+    browser.open(file.as_uri())
+    until = time.monotonic() + 10
+    while not proxy.asked and time.monotonic() < until:
+        time.sleep(0.05)
+    want(len(browser.requests()) == 2 and browser.complaints() and proxy.asked, "a page that asks isn't heard")
+
+
+def made_disks(program, folder):
+    """The disks, by their names."""
+    sound = disks.customers(folder, folder / "sound.d64")
+    yield "blank", disks.blank(program, folder / "blank.d64")
+    yield "shop", disks.shop_after_a_day(program, folder / "shop.d64")
+    yield "full", disks.full_shop(program, folder / "full.d64")
+    yield "cc1541", disks.of_cc1541(folder, folder / "cc1541.d64")
+    yield "cbmconvert", disks.of_cbmconvert(folder, folder / "cbmconvert.d64")
+    yield "both", sound
+    yield "names", disks.named(sound, folder / "names.d64")
+    for word, hurt in disks.FAULTS.items():
+        yield word.lower(), hurt(sound).save(folder / f"{word.lower()}.d64")
+    yield "crowded", disks.crowded(folder, folder / "crowded.d64", b"A PROGRAM OF '87")
+    yield "crowded by &", disks.crowded(folder, folder / "crowded_by.d64", b"&" * 16)
+
+
+def main(program, folder):
+    proxy = Proxy()
+    with tempfile.TemporaryDirectory() as home:
+        browser = Browser(home, proxy)
+        try:
+            seen = [see_page(program, browser, proxy, name, path, folder) for name, path in made_disks(program, folder)]
+            see_control(browser, proxy, folder)
+        finally:
+            browser.close()
+            proxy.close()
+    apart, slowest, largest = map(max, zip(*seen))
+    print(f"pictures: {len(seen)} disks, {len(PLACES) * len(seen)} sectors, each with its colour in Chromium and librsvg (at most "
+          f"{apart} of 255 apart) and its title; no request left a page; the largest has {largest} bytes, the slowest was "
+          f"on the screen after {1000 * slowest:.0f} ms: no difference")
+
+
+if __name__ == "__main__":
+    program = str(Path(sys.argv[1]).resolve())
+    if len(sys.argv) > 2:
+        kept = Path(sys.argv[2])
+        kept.mkdir(parents=True, exist_ok=True)
+        main(program, kept)
+    else:
+        with tempfile.TemporaryDirectory() as work:
+            main(program, Path(work))
