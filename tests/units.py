@@ -18,7 +18,7 @@ import brokers
 from served import sure, want
 
 UNITS = Path("/etc/systemd/system")
-SHOPS = Path("/var/lib/ledger")
+SHOPS, SMALL = Path("/var/lib/ledger"), Path("/small")
 LONGEST = 60
 
 
@@ -39,6 +39,11 @@ def until(holds, what):
     while not holds():
         want(time.monotonic() < end, f"{what} didn't come; {systemctl('--no-pager', 'status', 'ledger-*')[0]}")
         time.sleep(0.05)
+
+
+def wish(number):
+    """A till's wish of this number: each has an item of its own, which lies in another block of the disk."""
+    return f"S,{20 * number},{number}"
 
 
 class Shop:
@@ -66,8 +71,7 @@ class Shop:
     def ask(self, count=3):
         """The till's unit is started with so many wishes more."""
         self.count += count
-        lines = [f"S,{self.number},{quantity}\n" for quantity in range(1, self.count + 1)]
-        self.wishes.write_text("".join(lines))
+        self.wishes.write_text("".join(f"{wish(number)}\n" for number in range(1, self.count + 1)))
         want(systemctl("start", self.till)[1] == 0, f"{self.till} isn't started")
 
     def heard(self):
@@ -75,7 +79,7 @@ class Shop:
         until(lambda: shown(self.till, "ActiveState")[0] == "inactive", f"the end of {self.till}")
         want(shown(self.till, "Result")[0] == "success", f"{self.till} ended badly")
         lines = self.book.read_text().splitlines()
-        wanted = [line for n in range(1, self.count + 1) for line in (f"? {n},S,{self.number},{n}", f"= {n},DONE,{n}")]
+        wanted = [line for n in range(1, self.count + 1) for line in (f"? {n},{wish(n)}", f"= {n},DONE,{n}")]
         want(lines == wanted, f"the book of till {self.number} has {lines[-4:]}")
 
     def started(self):
@@ -182,26 +186,44 @@ def trial(kind, bridge, till):
 
 
 def unfit(shop):
-    """Images that are none, and lines that can't be kept."""
+    """What a keeper has to look at: an image that is no shop, and full disks."""
     kept = SHOPS / "shop1.lines"
-    lines = kept.read_bytes()
-    image = shop.image.read_bytes()
-    shop.image.write_bytes(bytes(len(image)))
+    image, moved = shop.image, SHOPS / "moved"
+    image.rename(moved)
+    image.write_bytes(bytes(moved.stat().st_size))
     systemctl("start", shop.bridge)
-    shop.ask(1)
+    shop.ask(340)
     shop.left(78, "an image that is no shop")
-    shop.image.write_bytes(image)
-    kept.unlink()
-    kept.symlink_to("/dev/full")
-    systemctl("start", shop.bridge)
-    shop.left(74, "a full disk for its lines")
-    kept.unlink()
-    kept.write_bytes(lines)
-    shutil.chown(kept, "ledger", "ledger")
+    moved.rename(image)
+    for path, what in [(image, "its image"), (kept, "its lines")]:
+        path.rename(moved)
+        fill(path, moved)
+        systemctl("start", shop.bridge)
+        shop.left(74, f"a full disk for {what}")
+        path.unlink()
+        subprocess.run(["cp", SMALL / path.name, path], check=True)
+        shutil.chown(path, "ledger", "ledger")
+        subprocess.run(["umount", SMALL], check=True)
+        moved.unlink()
     systemctl("start", shop.bridge)
     shop.heard()
     systemctl("stop", shop.bridge)
-    print("  status 78 (no shop) and 74 (a write failed): not started again, and served when a keeper had looked")
+    print("  status 78 (no shop) and 74 (the disk of the image or of the lines is full): not started again, and served")
+    print("  when a keeper had looked", flush=True)
+
+
+def fill(path, file):
+    """The file is on a small disk now, and where it has holes there is no room to fill them."""
+    SMALL.mkdir(exist_ok=True)
+    subprocess.run(["mount", "-t", "tmpfs", "-o", "size=1m,mode=777", "tmpfs", SMALL], check=True)
+    subprocess.run(["cp", "--sparse=always", "--preserve=ownership", file, SMALL / path.name], check=True)
+    path.symlink_to(SMALL / path.name)
+    with open(SMALL / "full", "wb", 0) as full:
+        try:
+            while True:
+                full.write(bytes(4096))
+        except OSError:
+            pass
 
 
 def main():

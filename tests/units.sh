@@ -50,7 +50,7 @@ ExecStopPost=/usr/bin/systemctl --no-block exit \$EXIT_STATUS
 END
 ln -s ../trial.service "$root/etc/systemd/system/multi-user.target.wants/trial.service"
 
-systemd-nspawn --quiet --register=no --keep-unit --private-network --machine="units$$" --directory="$root" \
+SYSTEMD_NSPAWN_UNIFIED_HIERARCHY=1 systemd-nspawn --quiet --register=no --keep-unit --private-network --machine="units$$" --directory="$root" \
     --overlay="/usr:$work/usr:/usr" --bind-ro="$top/tests:/trial" --bind="$work/told:/told" \
     --boot systemd.firstboot=off >"$work/boot" 2>&1 </dev/null && status=0 || status=$?
 cat "$work/told/out" 2>/dev/null || cat "$work/boot"
