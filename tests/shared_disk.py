@@ -83,7 +83,7 @@ class Glusterfs:
         else:
             place.mkdir()
         there = ["nsenter", f"--net=/var/run/netns/{net}"] if net else []
-        options = ["--attribute-timeout=0", "--entry-timeout=0"]
+        options = ["--attribute-timeout=0", "--entry-timeout=0", "--direct-io-mode=enable"]
         command = [*there, CLIENT, "-N", "-f", self.folder / "seen.vol", *options, place]
         self.mounts[net] = brokers.Child(command, self.folder / f"seen{net or ''}.log")
         below = os.stat(self.folder).st_dev

@@ -17,6 +17,7 @@ it is; and when the machine is back it has to stand by. Where the disk is cut of
 write failed): it is started again, as by a keeper. At last all holds that tests/tills.py wants."""
 
 import argparse
+import fcntl
 import os
 import random
 import signal
@@ -60,9 +61,6 @@ class Machine(tills.Supervised):
             except ProcessLookupError:
                 pass
 
-    def plug(self, state):
-        subprocess.run(["ip", "link", "set", self.cable, state], check=True)
-
     def tend(self):
         if self.is_up:
             self.failed += self.process.poll() == 74
@@ -100,16 +98,36 @@ class Two(tills.Trial):
     def __init__(self, given, folder):
         super().__init__(given, folder)
         self.seconds, self.left = defaultdict(list), []
-        self.goes_on = True
+        self.goes_on, self.bridges, self.tills = True, [], []
         self.disk = DISKS[given.disk](folder, HERE)
 
     def start(self):
         self.disk.start()
+        if self.given.disk != "local":
+            self.fence()
         self.image, self.kept = (self.disk.seen() / path.name for path in (self.image, self.kept))
         super().start()
 
+    def fence(self):
+        """A machine that is cut off loses its lock to the other, and can't write what it had open, nor when it is back."""
+        with open(self.disk.seen() / "trial", "wb") as trial:
+            trial.write(b"-")
+        first, second = (open(self.disk.seen(self.given.net + name) / "trial", "r+b", 0) for name in "AB")
+        want(has_lock(first) and not has_lock(second), "the disk doesn't keep the second away from a locked file")
+        plug("toA", "down")
+        self.fenced = self.until(lambda: has_lock(second), "the lock of a machine that is cut off")
+        want(writes(second, b"2"), "the disk refuses the one that has the lock")
+        want(not writes(first, b"1"), "a machine that is cut off writes")
+        plug("toA", "up")
+        folder = self.disk.seen(self.given.net + "A")
+        self.until(lambda: is_there(folder), "the disk, back at a machine that was cut off")
+        want(not writes(first, b"1"), "a machine that lost its lock writes when it is back")
+        closed(first)
+        want((folder / "trial").read_bytes() == b"2", "a machine that lost its lock has written")
+        closed(second)
+
     def stop(self):
-        for one in [*getattr(self, "bridges", []), *getattr(self, "tills", [])]:
+        for one in [*self.bridges, *self.tills]:
             one.kill()
         self.broker.stop()
         self.disk.stop()
@@ -191,17 +209,17 @@ class Two(tills.Trial):
             want(self.holders() == other.children(), f"the image's lock isn't {other.name}'s, with {here.name} {kind}")
         self.more()
         self.seconds[kind].append(time.monotonic() - began)
-        here.plug("up")
+        plug(here.cable, "up")
         here.boot()
         self.until(here.stands_by, f"{here.name} that stands by, back from being {kind}")
         want(other.serves(), f"{other.name} doesn't serve any more, with {here.name} back from being {kind}")
 
     def cut(self, here, _other):
-        here.plug("down")
+        plug(here.cable, "down")
         self.left.append(self.until(lambda: not here.children(), f"the end of {here.name}'s serve, which is cut off"))
 
     def power(self, here, _other):
-        here.plug("down")
+        plug(here.cable, "down")
         here.kill()
 
     def killed(self, here, _other):
@@ -225,9 +243,49 @@ class Two(tills.Trial):
         failed = sum(machine.failed for machine in self.bridges)
         told = f"{waited} times a bridge waited for the image, {failed} times one ended since a write failed"
         print(f"  {told}; {self.noise.old} old messages sent again", flush=True)
+        if self.given.disk != "local":
+            print(f"  the lock of a machine that was cut off fell after {self.fenced:.1f} s, and it wrote no more")
         done = f"{counted} wishes of {self.given.tills} tills answered in {seconds:.0f} s, {lines} lines taken"
         how = f"{self.given.over}, disk {self.given.disk}"
         print(f"{how}: {changes} changes of hands between two machines; {done}: no difference", flush=True)
+
+
+def plug(cable, state):
+    subprocess.run(["ip", "link", "set", cable, state], check=True)
+
+
+def has_lock(file):
+    try:
+        fcntl.flock(file, fcntl.LOCK_EX | fcntl.LOCK_NB)
+        return True
+    except BlockingIOError:
+        return False
+
+
+def writes(file, text):
+    """Whether this text could be brought to the file's beginning."""
+    try:
+        os.pwrite(file.fileno(), text, 0)
+        os.fdatasync(file.fileno())
+        return True
+    except OSError:
+        return False
+
+
+def closed(file):
+    """Lets a file go, whatever its disk says to it."""
+    try:
+        file.close()
+    except OSError:
+        pass
+
+
+def is_there(folder):
+    """Whether the folder can be read."""
+    try:
+        return bool(os.listdir(folder))
+    except OSError:
+        return False
 
 
 DISKS = {"local": Local, "glusterfs": Glusterfs}

@@ -39,12 +39,13 @@ class Bridge:
 
     def run(self):
         """Serves over one connection after another."""
+        from pika.adapters.utils.connection_workflow import AMQPConnectorException
         from pika.exceptions import AMQPError
 
         while True:
             try:
                 self.connected()
-            except (AMQPError, OSError) as fault:
+            except (AMQPError, AMQPConnectorException, OSError) as fault:
                 shop.say(f"{self.asks}: the broker is away ({type(fault).__name__})")
             self.serve.end()
             time.sleep(1)

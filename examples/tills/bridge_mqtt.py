@@ -82,7 +82,11 @@ class Bridge:
         self.out.loop_start()
         self.reached.wait()
         shop.say(f"shops/{self.name}: stands by")
-        self.serve.start()
+        try:
+            self.serve.start()
+        except shop.Gone as gone:
+            # at once, for the end of a connection has a status of its own
+            self.ended(gone, gone.exit_status())
         shop.say(f"shops/{self.name}: serving")
         self.connect(self.asks)
         self.asks.loop_forever()

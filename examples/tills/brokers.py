@@ -79,7 +79,7 @@ class Rabbit:
         self.ports, self.between, self.mapper = ports[:count], ports[count:-1], ports[-1]
         limits = f"heartbeat={heartbeat}&blocked_connection_timeout=30"
         self.urls = [f"amqp://guest:guest@{address}:{port}/?{limits}" for port in self.ports]
-        self.nodes = [None] * count
+        self.nodes, self.epmd = [None] * count, None
         self.prepare()
 
     def prepare(self):
@@ -141,9 +141,8 @@ class Rabbit:
         self.nodes[index].end()
 
     def stop(self):
-        for node in filter(None, self.nodes):
-            node.end()
-        self.epmd.end()
+        for child in filter(None, [*self.nodes, self.epmd]):
+            child.end()
 
 
 class Mosquitto:
@@ -151,6 +150,7 @@ class Mosquitto:
 
     def __init__(self, folder, address=LOOPBACK):
         self.folder, self.address, self.port = folder, address, free_ports(1)[0]
+        self.child = None
         self.place = f"{address}:{self.port}"
         settings = [
             f"listener {self.port} {address}",
@@ -171,6 +171,7 @@ class Mosquitto:
         until(lambda: listens(self.port, self.address), 30, "mosquitto doesn't listen")
 
     def kill(self):
-        self.child.end()
+        if self.child:
+            self.child.end()
 
     stop = kill
