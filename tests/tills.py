@@ -58,6 +58,8 @@ def wishes_of(draw, till, tills, count):
 class Supervised:
     """A process that is started again when it was killed, as a supervisor does."""
 
+    AGAIN = AGAIN
+
     def __init__(self, name, command, log):
         self.name, self.command, self.log = name, command, log
         self.done, self.process = False, None
@@ -74,7 +76,7 @@ class Supervised:
             return
         self.done = status == 0
         if not self.done:
-            want(status in AGAIN, f"{self.name} ended with status {status}: {Path(self.log).read_text()[-500:]}")
+            want(status in self.AGAIN, f"{self.name} ended with status {status}: {Path(self.log).read_text()[-500:]}")
             self.start()
 
     def kill(self):
@@ -94,8 +96,8 @@ class Supervised:
 class Rabbit:
     """A cluster, one node of which is away now and then."""
 
-    def __init__(self, folder):
-        self.cluster = brokers.Rabbit(folder)
+    def __init__(self, folder, **more):
+        self.cluster = brokers.Rabbit(folder, **more)
         self.away, self.back = None, 0
         self.words = [word for url in self.cluster.urls for word in ("--broker", url)]
         self.till, self.bridge = "till.py", "bridge.py"
@@ -115,7 +117,7 @@ class Rabbit:
         if self.back and time.monotonic() > self.back:
             self.cluster.start_node(self.away)
             self.back = 0
-        elif not self.back and brokers.listens(self.cluster.ports[self.away]):
+        elif not self.back and self.cluster.listens(self.away):
             self.away = None
 
     def link(self, till):
@@ -127,8 +129,8 @@ class Rabbit:
 class Mqtt:
     """A mosquitto that is killed and started again at once."""
 
-    def __init__(self, folder):
-        self.broker = brokers.Mosquitto(folder)
+    def __init__(self, folder, **more):
+        self.broker = brokers.Mosquitto(folder, **more)
         self.words = ["--broker", self.broker.place]
         self.till, self.bridge = "till_mqtt.py", "bridge_mqtt.py"
         self.start, self.stop = self.broker.start, self.broker.stop
@@ -184,8 +186,11 @@ class Trial:
         self.program = str(Path(given.program).resolve())
         self.draw = random.Random(given.seed)
         self.image, self.kept = folder / "shop.d64", folder / "kept.txt"
-        self.broker = {"rabbit": Rabbit, "mqtt": Mqtt}[given.over](folder)
+        self.broker = self.broker_in(folder)
         self.struck = Counter()
+
+    def broker_in(self, folder):
+        return BROKERS[self.given.over](folder)
 
     def start(self):
         sure(self.program, "format", self.image, "--tills", self.given.tills)
@@ -346,6 +351,7 @@ class Trial:
         tell_times(f"{self.given.over if bridge else 'a pipe'}, {tills} at a time", times)
 
 
+BROKERS = {"rabbit": Rabbit, "mqtt": Mqtt}
 KINDS = {
     "rabbit": [("till", "a till"), ("bridge", "a bridge"), ("serve", "serve"), ("node", "a node of three")],
     "mqtt": [("till", "a till"), ("bridge", "a bridge"), ("serve", "serve"), ("node", "the broker")],
@@ -417,4 +423,5 @@ def main():
             trial.broker.stop()
 
 
-main()
+if __name__ == "__main__":
+    main()

@@ -6,7 +6,8 @@
 The asks lie in the quorum queue `shop.1.asks`, which has a single active consumer: of several bridges one serves, and
 the others stand by. A message is acknowledged when the broker has confirmed its reply; a bridge that dies before
 leaves it to the next, whose repeat has no second effect. Replies go out over the exchange `shop.1.replies`, with the
-till's number as key.
+till's number as key. Where the connection is lost, `serve` is ended before another is sought: it may be that another
+bridge is the active one by then. How soon that is noticed is said by the URL (`?heartbeat=10`).
 
 With --pipes it takes messages as lines of standard input and prints their replies, without a broker.
 
@@ -38,14 +39,14 @@ class Bridge:
 
     def run(self):
         """Serves over one connection after another."""
+        from pika.adapters.utils.connection_workflow import AMQPConnectorException
         from pika.exceptions import AMQPError
 
         while True:
             try:
                 self.connected()
-            except (AMQPError, OSError) as fault:
+            except (AMQPError, AMQPConnectorException, OSError) as fault:
                 shop.say(f"{self.asks}: the broker is away ({type(fault).__name__})")
-            # another bridge may be the active one by now, and waits for the image
             self.serve.end()
             time.sleep(1)
 
@@ -59,6 +60,7 @@ class Bridge:
             declare(channel, self.asks, self.replies)
             channel.confirm_delivery()
             channel.basic_qos(prefetch_count=self.AHEAD)
+            shop.say(f"{self.asks}: stands by")
             for method, _, message in channel.consume(self.asks):
                 if not self.serve.is_open():
                     self.serve.start(connection.sleep)

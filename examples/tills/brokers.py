@@ -1,4 +1,5 @@
-"""Brokers of one's own on the loopback address, for trials: started as child processes, and stopped by their ids."""
+"""Brokers of one's own, for trials: on the loopback address or another of this machine, started as child processes, and
+stopped by their ids."""
 
 import getpass
 import importlib.util
@@ -32,9 +33,9 @@ def free_ports(count):
     return ports
 
 
-def listens(port):
+def listens(port, address=LOOPBACK):
     try:
-        socket.create_connection((LOOPBACK, port), 1).close()
+        socket.create_connection((address, port), 1).close()
         return True
     except OSError:
         return False
@@ -69,16 +70,16 @@ class Child:
 
 
 class Rabbit:
-    """A RabbitMQ cluster of so many nodes."""
+    """A RabbitMQ cluster of so many nodes, which takes a client for gone that says nothing for some heartbeats."""
 
-    def __init__(self, folder, count=3):
-        self.folder, self.count = folder, count
+    def __init__(self, folder, count=3, address=LOOPBACK, heartbeat=10):
+        self.folder, self.count, self.address = folder, count, address
         names, ports = free_ports(count), free_ports(2 * count + 1)
         self.names = [f"ledger{name}@localhost" for name in names]
         self.ports, self.between, self.mapper = ports[:count], ports[count:-1], ports[-1]
-        limits = "heartbeat=10&blocked_connection_timeout=30"
-        self.urls = [f"amqp://guest:guest@{LOOPBACK}:{port}/?{limits}" for port in self.ports]
-        self.nodes = [None] * count
+        limits = f"heartbeat={heartbeat}&blocked_connection_timeout=30"
+        self.urls = [f"amqp://guest:guest@{address}:{port}/?{limits}" for port in self.ports]
+        self.nodes, self.epmd = [None] * count, None
         self.prepare()
 
     def prepare(self):
@@ -92,6 +93,7 @@ class Rabbit:
             "cluster_partition_handling = pause_minority",
             "vm_memory_high_watermark.absolute = 800MB",
             "log.file.level = warning",
+            "loopback_users = none",
         ]
         settings += [f"cluster_formation.classic_config.nodes.{n} = {name}" for n, name in enumerate(self.names, 1)]
         (self.folder / "rabbitmq.conf").write_text("\n".join(settings) + "\n")
@@ -102,7 +104,7 @@ class Rabbit:
             "ERL_EPMD_PORT": str(self.mapper),
             "ERL_EPMD_ADDRESS": LOOPBACK,
             "RABBITMQ_NODENAME": self.names[index],
-            "RABBITMQ_NODE_IP_ADDRESS": LOOPBACK,
+            "RABBITMQ_NODE_IP_ADDRESS": self.address,
             "RABBITMQ_NODE_PORT": str(self.ports[index]),
             "RABBITMQ_DIST_PORT": str(self.between[index]),
             "RABBITMQ_MNESIA_BASE": str(self.folder / "mnesia"),
@@ -125,30 +127,33 @@ class Rabbit:
         self.epmd = Child(command, self.folder / "epmd.log")
         for index in range(self.count):
             self.start_node(index)
-            until(lambda: listens(self.ports[index]), 120, "a node doesn't listen")
+            until(lambda: self.listens(index), 120, "a node doesn't listen")
         others = str(self.count - 1)
         until(lambda: self.control("eval", "length(nodes()).") == others, 120, "the nodes aren't one cluster")
 
     def start_node(self, index):
         self.nodes[index] = Child([RABBIT], self.folder / f"node{index}.log", env=self.environment(index))
 
+    def listens(self, index):
+        return listens(self.ports[index], self.address)
+
     def kill_node(self, index):
         self.nodes[index].end()
 
     def stop(self):
-        for node in filter(None, self.nodes):
-            node.end()
-        self.epmd.end()
+        for child in filter(None, [*self.nodes, self.epmd]):
+            child.end()
 
 
 class Mosquitto:
     """An MQTT broker that keeps its sessions on the disk."""
 
-    def __init__(self, folder):
-        self.folder, self.port = folder, free_ports(1)[0]
-        self.place = f"{LOOPBACK}:{self.port}"
+    def __init__(self, folder, address=LOOPBACK):
+        self.folder, self.address, self.port = folder, address, free_ports(1)[0]
+        self.child = None
+        self.place = f"{address}:{self.port}"
         settings = [
-            f"listener {self.port} {LOOPBACK}",
+            f"listener {self.port} {address}",
             "allow_anonymous true",
             "set_tcp_nodelay true",
             f"user {getpass.getuser()}",
@@ -163,9 +168,10 @@ class Mosquitto:
     def start(self):
         command = [MOSQUITTO, "-c", str(self.folder / "mosquitto.conf")]
         self.child = Child(command, self.folder / "mosquitto.log")
-        until(lambda: listens(self.port), 30, "mosquitto doesn't listen")
+        until(lambda: listens(self.port, self.address), 30, "mosquitto doesn't listen")
 
     def kill(self):
-        self.child.end()
+        if self.child:
+            self.child.end()
 
     stop = kill

@@ -1,5 +1,6 @@
 """A shop behind a bridge, whatever carries its messages: one `serve`, and the lines that it took."""
 
+import fcntl
 import os
 import subprocess
 import sys
@@ -29,6 +30,16 @@ class Gone(Exception):
         return DEVICE if self.text == "DEVICE" else AGAIN
 
 
+class Unkept(Gone):
+    """The file of kept lines failed, and `serve` doesn't get the line in hand."""
+
+    def __init__(self, fault):
+        Exception.__init__(self, f"lines can't be kept: {fault}")
+
+    def exit_status(self):
+        return DEVICE
+
+
 def line_of(message):
     """The one line that stands for a message: its own LF falls, an LF within becomes a space, and what is longer than
     any request is cut. A line that begins with `@` gets a `?` before it: a kept line is no reset when it is
@@ -45,15 +56,32 @@ def key_of(reply):
 
 class Kept:
     """A file with every line that `serve` took, in that order; a line is on the disk before `serve` gets it. It is a
-    script for `play`, which makes the same shop of it on a fresh disk."""
+    script for `play`, which makes the same shop of it on a fresh disk. Its lock keeps away a bridge whose `serve` has
+    died and that hasn't seen it yet: no line comes behind the last one that the next bridge hands over."""
 
     def __init__(self, path):
         self.path, self.file = path, None
 
-    def open(self):
-        """Drops what broke off at the end, and gives the last line, or None."""
+    def is_mine(self):
+        """Whether the lock could be had."""
+        try:
+            fcntl.flock(self.file, fcntl.LOCK_EX | fcntl.LOCK_NB)
+            return True
+        except BlockingIOError:
+            return False
+
+    def open(self, wait):
+        """Waits while another bridge has it, drops what broke off at the end, and gives the last line, or None."""
         self.close()
-        self.file = opened(self.path)
+        try:
+            self.file = opened(self.path)
+            while not self.is_mine():
+                wait(0.2)
+            return self.last()
+        except OSError as fault:
+            raise Unkept(fault) from fault
+
+    def last(self):
         size = self.file.seek(0, os.SEEK_END)
         self.file.seek(max(size - 4 * MOST, 0))
         text = self.file.read()
@@ -62,14 +90,21 @@ class Kept:
         return whole[:-1].split(b"\n")[-1] if whole else None
 
     def add(self, line):
-        self.file.write(line + b"\n")
-        self.file.flush()
-        os.fdatasync(self.file.fileno())
+        try:
+            self.file.write(line + b"\n")
+            self.file.flush()
+            os.fdatasync(self.file.fileno())
+        except OSError as fault:
+            raise Unkept(fault) from fault
 
     def close(self):
-        if self.file:
-            self.file.close()
-        self.file = None
+        """Lets it go; a fault says nothing new here, for each line was on the disk or is told."""
+        file, self.file = self.file, None
+        try:
+            if file:
+                file.close()
+        except OSError:
+            pass
 
 
 class Serve:
@@ -85,6 +120,7 @@ class Serve:
         """Starts it, and waits while another holds the image. A first empty line has its reply once the shop is open;
         then the last line that was kept is handed over again, for the bridge before may have died before it did
         that."""
+        waits = False
         while not self.is_open():
             pipes = {"stdin": subprocess.PIPE, "stdout": subprocess.PIPE, "stderr": subprocess.PIPE}
             self.process = subprocess.Popen(self.command, **pipes)
@@ -93,8 +129,11 @@ class Serve:
             except Gone as gone:
                 if not gone.in_use():
                     raise
+                if not waits:
+                    say(f"{self.command[2]}: in use, waits")
+                waits = True
                 wait(0.2)
-        last = self.kept.open() if self.kept else None
+        last = self.kept.open(wait) if self.kept else None
         if last is not None:
             self.turn(last)
 

@@ -9,9 +9,13 @@ key. Its own queue falls with its connection: a reply that finds none is lost, a
 from collections import deque
 
 import pika
+from pika.adapters.utils.connection_workflow import AMQPConnectorException
 from pika.exceptions import AMQPError
 
 import wishes
+
+# what pika tells where a broker isn't there, or is slow to answer
+FAULTS = (AMQPError, AMQPConnectorException, OSError)
 
 
 class Broker:
@@ -38,7 +42,7 @@ class Broker:
             if not self.connection:
                 self.connect()
             self.channel.basic_publish("", self.asks, text.encode(), pika.BasicProperties(delivery_mode=2))
-        except (AMQPError, OSError) as fault:
+        except FAULTS as fault:
             self.close()
             raise wishes.Away from fault
 
@@ -46,7 +50,7 @@ class Broker:
         try:
             if not self.heard:
                 self.connection.process_data_events(time_limit=seconds)
-        except (AMQPError, OSError) as fault:
+        except FAULTS as fault:
             self.close()
             raise wishes.Away from fault
         return self.heard.popleft() if self.heard else None
@@ -55,7 +59,7 @@ class Broker:
         try:
             if self.connection and self.connection.is_open:
                 self.connection.close()
-        except (AMQPError, OSError):
+        except FAULTS:
             pass
         self.connection = None
 

@@ -1,0 +1,60 @@
+#!/bin/sh
+# Two machines that see one image, and are cut off, stopped and killed in turns:
+#   tests/two_machines.sh PROGRAM [CHANGES]
+# PROGRAM is `crates/ledger_cli/out/ledger_cli` (`./ledger --help` makes it). Each machine is a network namespace with a
+# bridge of examples/tills in it; a third one has the broker and the tills, and a switch with a cable to each machine.
+# CHANGES times (24) the machine that serves loses its cable, or its power, or all its processes, or stops for a
+# while, and the other has to go on: over RabbitMQ and over MQTT with a folder that both see, and over RabbitMQ with a
+# GlusterFS disk in the third namespace, which a machine without its cable loses too. tests/two_machines.py says what is
+# compared. It wants to be root, and Debian's packages iproute2, rabbitmq-server, mosquitto, python3-pika,
+# python3-paho-mqtt, and for the third run glusterfs-server and glusterfs-client; it installs nothing, and its
+# namespaces fall at the end. The status is 1 at the first difference.
+set -eu
+top="$(CDPATH= cd -- "$(dirname -- "$0")/.." && pwd)"
+program="$(realpath "${1:?"which program?"}")"
+changes="${2:-24}"
+[ "$(id -u)" = 0 ] || { echo "two_machines: only root makes network namespaces" >&2; exit 1; }
+for file in /usr/lib/rabbitmq/bin/rabbitmq-server /usr/sbin/mosquitto "$(command -v ip || echo /usr/sbin/ip)"; do
+    [ -e "$file" ] || { echo "two_machines: there is no $file (rabbitmq-server, mosquitto, iproute2)" >&2; exit 1; }
+done
+/usr/bin/python3 -c "import pika, paho.mqtt.client" 2>/dev/null ||
+    { echo "two_machines: Debian's python3-pika and python3-paho-mqtt aren't there" >&2; exit 1; }
+
+name="ledger$$"
+child=
+remove() {
+    [ -z "$child" ] || { kill "$child" && wait "$child"; } 2>/dev/null || true
+    for place in "$name" "${name}A" "${name}B"; do
+        ip netns pids "$place" 2>/dev/null | xargs -r kill -KILL 2>/dev/null || true
+        ip netns del "$place" 2>/dev/null || true
+    done
+}
+trap remove EXIT
+trap 'exit 1' INT TERM
+ip netns add "$name"
+ip -n "$name" link set lo up
+ip -n "$name" link add switch type bridge
+ip -n "$name" addr add 192.0.2.1/24 dev switch
+ip -n "$name" link set switch up
+for machine in A B; do
+    ip netns add "$name$machine"
+    ip -n "$name" link add "to$machine" type veth peer name net netns "$name$machine"
+    ip -n "$name" link set "to$machine" master switch up
+    ip -n "$name$machine" link set lo up
+    ip -n "$name$machine" link set net up
+done
+ip -n "${name}A" addr add 192.0.2.2/24 dev net
+ip -n "${name}B" addr add 192.0.2.3/24 dev net
+try() {
+    ip netns exec "$name" "$top/tests/two_machines.py" "$program" --net "$name" --changes "$changes" "$@" &
+    child=$!
+    wait "$child"
+    child=
+}
+try --over rabbit
+try --over mqtt
+if [ -e /usr/sbin/glusterfsd ] && [ -e /usr/sbin/glusterfs ]; then
+    try --over rabbit --disk glusterfs
+else
+    echo "two_machines: no disk over the network tried, for want of Debian's glusterfs-server and glusterfs-client"
+fi
