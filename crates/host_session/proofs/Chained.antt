@@ -1,18 +1,20 @@
 -- What a chain of events says of its run.
 use Rattle.std.proofs.Common.{◌≡◌, ◌≢◌, ◌≤◌, List, [], ◌∷◌, ◌++◌, refl, sym, subst, ◌∙◌, ap, arith, append_assoc, append-nil, le_refl, le_trans, length}
-use Rattle.d64_image.specs.History.{Failed, History, HeldOnly}
+use Rattle.d64_image.specs.History.{Changes, Failed, History}
 use Rattle.d64_image.proofs.Moments.{start}
 use Rattle.request_cards.specs.declared.reply.Reply.{Reply}
 use Rattle.host_session.proofs.Runs.{HasPlayed, and_no_more, none_played, now_more, now_none, now_of, one_played, stopped}
 use Rattle.host_session.specs.Counted.{after_all}
 use Rattle.host_session.specs.Events.{Message}
+use Rattle.host_session.specs.Instants.{instant_of}
 use Rattle.host_session.specs.OneEvent.{EndsFailed, GoesOn, IsEvent}
+use Rattle.host_session.specs.Opening.{Untouched}
 use Rattle.host_session.specs.Runs.{HeldBeginnings, IsPlayedWhole, StoppedByDevice, StoppedByOutput}
 use Rattle.host_session.specs.Shop.{IsSettled, IsShop, Shop, start_of, with_state}
-use Rattle.host_session.specs.Chains.{GrowsFrom, HasRun, HasRunToFailure, IsChain, asked_over, over_images, told_in}
+use Rattle.host_session.specs.Chains.{GrowsFrom, HasRun, HasRunToFailure, IsChain, asked_over, over_instants, told_in}
 
--- the replies, told over what the disks beside them hold
-pub told_over : {D : Type 0} (h : History D) (turns : List (Reply × D)) → told_in (over_images h turns) ≡ told_in turns
+-- the replies, told over the disks beside them
+pub told_over : {D : Type 0} (h : History D) (turns : List (Reply × D)) → told_in (over_instants h turns) ≡ told_in turns
 told_over h [] = refl
 told_over h (x ∷ xs) = ap (λ rs. x.0 ∷ rs) (told_over h xs)
 
@@ -43,11 +45,11 @@ module _ {D : Type 0} (h : History D) where
   -- the next message is asked for over the disk on which a chain ended, whatever turns come after
   pub asked_more : (s : Shop) (ms : List Message) (xs ys : List (Reply × D)) (old mid : D) (t : Shop) (m : Message)
       → IsChain h s ms xs old t mid
-      → asked_over h old (xs ++ ys) (ms ++ m ∷ []) ≡ asked_over h old xs ms ++ (m, h.image mid) ∷ []
-  asked_more s [] [] ys old mid t m c = ap (λ d. (m, h.image d) ∷ []) (sym c.1)
+      → asked_over h old (xs ++ ys) (ms ++ m ∷ []) ≡ asked_over h old xs ms ++ (m, instant_of h mid) ∷ []
+  asked_more s [] [] ys old mid t m c = ap (λ d. (m, instant_of h d) ∷ []) (sym c.1)
   asked_more s (n ∷ ms) (x ∷ xs) ys old mid t m c =
       let rest = asked_more (with_state s (after_all (start_of s) s.state c.0.counted)) ms xs ys x.1 mid t m c.1 in
-      ap (λ asked. (n, h.image old) ∷ asked) rest
+      ap (λ asked. (n, instant_of h old) ∷ asked) rest
   asked_more s [] (x ∷ xs) ys old mid t m c = absurd c
   asked_more s (n ∷ ms) [] ys old mid t m c = absurd c
 
@@ -78,9 +80,9 @@ module _ {D : Type 0} (h : History D) where
   pub run_played : (s : Shop) (ms : List Message) (xs : List (Reply × D)) (old new : D) → (r : HasRun h s ms xs old new)
       → PlayedTo s ms old new (told_in xs) r.now
   run_played s ms xs old new r =
-      let p : HasPlayed h s [] old r.first [] = none_played h s old r.first r.opening r.later r.rests in
+      let p : HasPlayed h s [] old r.first [] = none_played h s old r.first r.opening.held r.later r.rests in
       chain_played s [] old r.first [] p ms xs new r.now
-      (subst (λ u. IsChain h u ms xs r.first r.now new) (sym (now_none h s old r.first r.opening r.later r.rests)) r.chain)
+      (subst (λ u. IsChain h u ms xs r.first r.now new) (sym (now_none h s old r.first r.opening.held r.later r.rests)) r.chain)
 
   -- nothing of today's is lost: a whole run
   pub whole : (s : Shop) (ms : List Message) (xs : List (Reply × D)) (old new : D) → HasRun h s ms xs old new
@@ -128,7 +130,8 @@ module _ {D : Type 0} (h : History D) where
         settled,
         (whole q.now ns ys q.mid new (record {
           first = q.mid;
-          opening = start h q.mid (λ i. IsShop i q.now) settled.shop;
+          opening = record { held = start h q.mid (λ i. IsShop i q.now) settled.shop; writes = omega arith };
+          quiet = λ _. record { held = start h q.mid (λ i. i ≡ h.image q.mid) refl; writes = omega arith };
           later = le_refl (h.failures q.mid);
           rests = settled;
           now = t;
@@ -145,6 +148,7 @@ module _ {D : Type 0} (h : History D) where
         run = record {
           first = r.first;
           opening = r.opening;
+          quiet = r.quiet;
           later = r.later;
           rests = r.rests;
           now = q.0.now;
@@ -161,6 +165,7 @@ module _ {D : Type 0} (h : History D) where
   run_more s ms xs old mid new m reply r e = record {
     first = r.first;
     opening = r.opening;
+    quiet = r.quiet;
     later = r.later;
     rests = r.rests;
     now = with_state r.now (after_all (start_of r.now) r.now.state e.counted);
@@ -175,10 +180,18 @@ module _ {D : Type 0} (h : History D) where
   run_more-first s ms xs old mid new m reply r e = refl
 
   -- before the first one
-  pub run_none : (s : Shop) (old first : D) → HeldOnly h old first (λ i. IsShop i s) → h.failures old ≤ h.failures first → IsSettled (h.image first) s
-      → HasRun h s [] [] old first
-  run_none s old first held later settled =
-      record { first = first; opening = held; later = later; rests = settled; now = s; chain = (refl, refl) }
+  pub run_none : (s : Shop) (old first : D) → Changes h old first 952 (λ i. IsShop i s)
+      → (IsSettled (h.image old) s → Untouched h old first) → h.failures old ≤ h.failures first
+      → IsSettled (h.image first) s → HasRun h s [] [] old first
+  run_none s old first opening quiet later settled = record {
+    first = first;
+    opening = opening;
+    quiet = quiet;
+    later = later;
+    rests = settled;
+    now = s;
+    chain = (refl, refl);
+  }
 
   -- the shop of a run is at rest at its end: so it was when the last reply was told
   pub run_rests : (s : Shop) (ms : List Message) (xs : List (Reply × D)) (old new : D) → (r : HasRun h s ms xs old new) → IsSettled (h.image new) r.now

@@ -4,16 +4,16 @@ use Rattle.std.specs.Prelude.{Vec, slice_get, vec_capacity, vec_len}
 use Rattle.std.specs.declared.alloc.Global.{Global}
 use Rattle.std.proofs.lemmas.List.{drop_all}
 use Rattle.d64_image.specs.History.{Failed, History, NeverFailed}
-use Rattle.d64_image.specs.Images.{Image}
 use Rattle.request_cards.specs.declared.reply.Reply.{Reply}
 use Rattle.script_lines.specs.declared.events.Event.{Event}
 use Rattle.host_session.proofs.Chained.{at_device, told_over, whole}
 use Rattle.host_session.proofs.Printed.{told_more}
 use Rattle.host_session.proofs.Runs.{held_of_more}
 use Rattle.host_session.specs.Asking.{last_taken, message_here, messages_in, of_events}
-use Rattle.host_session.specs.Chains.{over_images, told_in}
+use Rattle.host_session.specs.Chains.{over_instants, told_in}
 use Rattle.host_session.specs.Events.{Message, message_of}
 use Rattle.host_session.specs.Faults.{play_fault_of}
+use Rattle.host_session.specs.Instants.{Instant, instant_of}
 use Rattle.host_session.specs.Loops.{IsRun, IsToldWhole}
 use Rattle.host_session.specs.Opening.{IsAShop}
 use Rattle.host_session.specs.Outputs.{listed}
@@ -64,12 +64,12 @@ pub record IsEventsEnd {D : Type 0} (h : History D) (disk left : D) (ms : List M
 
 module _ {D : Type 0} (h : History D) (disk : D) (events : List Event) (asked asks : OfEvents) (old new : Vec Reply Global)
     (is_all : asked.events.now ≡ events) (from : asked.taken ≡ 0) (room : length events ≤ vec_capacity old - vec_len old) where
-  parts : (taken : List (Message × Image)) → of_events.gives asked asks taken
+  parts : (taken : List (Message × Instant)) → of_events.gives asked asks taken
       → messages_in taken ++ map message_of (drop asks.taken asked.events.now) ≡ map message_of events
   parts taken takes = sym takes.1 ∙ ap (λ n. map message_of (drop n asked.events.now)) from ∙ ap (map message_of) is_all
 
   -- there was room for all
-  too_many : (taken : List (Message × Image)) → of_events.gives asked asks taken
+  too_many : (taken : List (Message × Instant)) → of_events.gives asked asks taken
       → vec_capacity old - vec_len old < length (messages_in taken) → ⊥
   too_many taken takes less =
       let all = ap length (parts taken takes) in
@@ -110,7 +110,7 @@ module _ {D : Type 0} (h : History D) (disk : D) (events : List Event) (asked as
         let x = (k.device s is refl).0 in (
           told_in x.turns ++ x.last ∷ [],
           ⊎_elim
-              (λ t. t ∙ ap (λ rs. old.items ++ rs) (told_more (over_images h x.turns) (x.last, h.image left) ∙ ap (λ rs. rs ++ x.last ∷ []) (told_over h x.turns)))
+              (λ t. t ∙ ap (λ rs. old.items ++ rs) (told_more (over_instants h x.turns) (x.last, instant_of h left) ∙ ap (λ rs. rs ++ x.last ∷ []) (told_over h x.turns)))
               (λ t. absurd (too_many k.taken k.takes t.1))
               x.told,
           (at_device h s (messages_in k.taken) (map message_of (drop asks.taken asked.events.now)) (map message_of events) x.turns x.last disk left (parts k.taken k.takes) x.run).0,

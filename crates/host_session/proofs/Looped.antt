@@ -3,19 +3,19 @@ use Rattle.std.proofs.Common.{◌≡◌, ◌≤◌, ◌<◌, ◌+◌, ◌++◌, 
 use Rattle.std.proofs.lemmas.List.{map-append}
 use Rattle.std.specs.Prelude.{IsSome, Result, is_err, is_ok, is_some, option_map}
 use Rattle.d64_image.proofs.Moments.{never_failed}
-use Rattle.d64_image.specs.History.{HeldOnly, History, NeverFailed}
-use Rattle.d64_image.specs.Images.{Image}
+use Rattle.d64_image.specs.History.{Changes, History, NeverFailed}
 use Rattle.request_cards.specs.declared.reply.Reply.{Reply}
 use Rattle.host_session.proofs.Chained.{asked_more, at_device, run_failed, run_more, run_more-first}
 use Rattle.host_session.proofs.Chained.{run_none, run_rests, whole}
 use Rattle.host_session.proofs.Shops.{IsShop-one}
 use Rattle.host_session.specs.Asking.{IsNext, Source, TakesNone, TakesOne, messages_in}
-use Rattle.host_session.specs.Chains.{asked_over, over_images}
+use Rattle.host_session.specs.Chains.{asked_over, over_instants}
 use Rattle.host_session.specs.Events.{Message, cut_at, uncut}
+use Rattle.host_session.specs.Instants.{Instant, instant_of}
 use Rattle.host_session.specs.Loops.{Ends, EndsBy, HasCome, HasComeBut, IsRun, Origin}
 use Rattle.host_session.specs.Loops.{IsRunToDevice, IsRunToOutput, IsRunWhole, IsToldToDevice, IsToldToOutput, IsToldWhole}
 use Rattle.host_session.specs.OneEvent.{EndsFailed, GoesOn, IsEvent}
-use Rattle.host_session.specs.Opening.{IsAShop}
+use Rattle.host_session.specs.Opening.{IsAShop, Untouched}
 use Rattle.host_session.specs.Runs.{HeldBeginnings, IsRefused}
 use Rattle.host_session.specs.Shop.{IsSettled, IsShop, Shop}
 use Rattle.host_session.specs.Telling.{BreaksOff, IsTold, Output, TellsOne}
@@ -47,35 +47,40 @@ cut_is f r x o is same = sym (ap (option_map f) is) ∙ same
 
 -- what asking came to, by what was answered and the disk that was lent
 pub was_asked : {D A : Type 0} (h : History D) (a : Source A) (old new : A) (lent disk : D) (r answered : Next)
-    → lent ≡ disk → r ≡ answered → IsNext a old new (h.image lent) r → IsNext a old new (h.image disk) answered
+    → lent ≡ disk → r ≡ answered → IsNext a old new (instant_of h lent) r → IsNext a old new (instant_of h disk) answered
 was_asked h a old new lent disk r answered is told asked =
-    subst (λ n. IsNext a old new (h.image disk) n) told (subst (λ d. IsNext a old new (h.image d) r) is asked)
+    subst (λ n. IsNext a old new (instant_of h disk) n) told (subst (λ d. IsNext a old new (instant_of h d) r) is asked)
 
 -- what telling came to, by what was answered
-pub was_told : {T E : Type 0} (o : Output T) (old new : T) (reply : Reply) (i : Image) (r : Result Unit E) → is_ok r ≡ true
+pub was_told : {T E : Type 0} (o : Output T) (old new : T) (reply : Reply) (i : Instant) (r : Result Unit E) → is_ok r ≡ true
     → IsTold o old new reply i r → TellsOne o old new reply i × (o.room old ≤ o.room new + 1)
 was_told o old new reply i (Ok x) is told = told
 was_told o old new reply i (Err x) is told = cc
 
-pub was_broken : {T E : Type 0} (o : Output T) (old new : T) (reply : Reply) (i : Image) (r : Result Unit E) → is_err r ≡ true
-    → IsTold o old new reply i r → BreaksOff o old new reply × (o.room old ≡ 0)
+pub was_broken : {T E : Type 0} (o : Output T) (old new : T) (reply : Reply) (i : Instant) (r : Result Unit E) → is_err r ≡ true
+    → IsTold o old new reply i r → BreaksOff o old new reply i × (o.room old ≡ 0)
 was_broken o old new reply i (Ok x) is told = cc
 was_broken o old new reply i (Err x) is told = told
 
 over_more : {D : Type 0} (h : History D) (xs : List (Reply × D)) (reply : Reply) (disk : D)
-    → over_images h (xs ++ (reply, disk) ∷ []) ≡ over_images h xs ++ (reply, h.image disk) ∷ []
+    → over_instants h (xs ++ (reply, disk) ∷ []) ≡ over_instants h xs ++ (reply, instant_of h disk) ∷ []
 over_more h [] reply disk = refl
-over_more h (x ∷ xs) reply disk = ap (λ ys. (x.0, h.image x.1) ∷ ys) (over_more h xs reply disk)
+over_more h (x ∷ xs) reply disk = ap (λ ys. (x.0, instant_of h x.1) ∷ ys) (over_more h xs reply disk)
 
 module _ {D A T : Type 0} (h : History D) (a : Source A) (o : Output T) (from : Origin D A T) where
   -- before the first event
-  pub has_none : (first : D) → HeldOnly h from.disk first (λ i. IsShop i from.shop) → h.failures from.disk ≤ h.failures first
+  pub has_none : (first : D) → Changes h from.disk first 952 (λ i. IsShop i from.shop)
+      → (IsSettled (h.image from.disk) from.shop → Untouched h from.disk first) → h.failures from.disk ≤ h.failures first
       → IsSettled (h.image first) from.shop → HasCome h a o from first from.asks from.out
-  has_none first held later rests = record {
+  has_none first opening quiet later rests = record {
     taken = [];
     is = a.none from.asks;
     whole = (
-      record { turns = []; run = run_none h from.shop from.disk first held later rests; told = o.none from.out },
+      record {
+        turns = [];
+        run = run_none h from.shop from.disk first opening quiet later rests;
+        told = o.none from.out;
+      },
       refl,
     );
     room = omega arith;
@@ -83,7 +88,7 @@ module _ {D A T : Type 0} (h : History D) (a : Source A) (o : Output T) (from : 
 
   -- the next event was taken, or there was none
   module _ (disk : D) (asks now : A) (out : T) (w : HasCome h a o from disk asks out) where
-    pub takes_one : TakesOne a asks now (h.image disk) → HasComeBut h a o from disk now out
+    pub takes_one : TakesOne a asks now (instant_of h disk) → HasComeBut h a o from disk now out
     takes_one takes = record { taken = w.taken; is = takes from.asks w.taken w.is; whole = w.whole; room = w.room }
 
     pub at_end : TakesNone a asks now × a.is_over now → Ends h a o from now out (Ok disk)
@@ -94,12 +99,12 @@ module _ {D A T : Type 0} (h : History D) (a : Source A) (o : Output T) (from : 
 
   module _ (mid new : D) (asks : A) (reply : Reply) (out told : T) where
     -- with the event that is here
-    abbrev TakenNow : HasComeBut h a o from mid asks out → List (Message × Image)
-    TakenNow w = w.taken ++ (a.here asks, h.image mid) ∷ []
+    abbrev TakenNow : HasComeBut h a o from mid asks out → List (Message × Instant)
+    TakenNow w = w.taken ++ (a.here asks, instant_of h mid) ∷ []
 
     messages_now : (w : HasComeBut h a o from mid asks out)
         → messages_in (TakenNow w) ≡ messages_in w.taken ++ a.here asks ∷ []
-    messages_now w = map-append (λ x. x.0) w.taken ((a.here asks, h.image mid) ∷ [])
+    messages_now w = map-append (λ x. x.0) w.taken ((a.here asks, instant_of h mid) ∷ [])
 
     -- it was asked for over the disk that the ones before it left
     over_now : (w : HasComeBut h a o from mid asks out) (ys : List (Reply × D)) (first : D)
@@ -107,12 +112,12 @@ module _ {D A T : Type 0} (h : History D) (a : Source A) (o : Output T) (from : 
         → TakenNow w ≡ asked_over h first (w.whole.0.turns ++ ys) (messages_in w.taken ++ a.here asks ∷ [])
     over_now w ys first same =
         let r = w.whole.0.run in
-        ap (λ asked. asked ++ (a.here asks, h.image mid) ∷ []) w.whole.1
+        ap (λ asked. asked ++ (a.here asks, instant_of h mid) ∷ []) w.whole.1
         ∙ sym (asked_more h from.shop (messages_in w.taken) w.whole.0.turns ys r.first mid r.now (a.here asks) r.chain)
         ∙ ap (λ d. asked_over h d (w.whole.0.turns ++ ys) (messages_in w.taken ++ a.here asks ∷ [])) (sym same)
 
     -- the event that is here was run, and its reply told
-    pub goes_on : (Alive : Type 0) → TellsOne o out told reply (h.image new) × (o.room out ≤ o.room told + 1)
+    pub goes_on : (Alive : Type 0) → TellsOne o out told reply (instant_of h new) × (o.room out ≤ o.room told + 1)
         → ((t : Shop) → IsSettled (h.image mid) t → Alive × IsEvent h t (a.here asks) mid new (GoesOn h t (a.here asks) reply new))
         → HasComeBut h a o from mid asks out → Alive × HasCome h a o from new asks told
     goes_on Alive tells event w =
@@ -126,7 +131,7 @@ module _ {D A T : Type 0} (h : History D) (a : Source A) (o : Output T) (from : 
             turns = x.turns ++ last;
             run = run_more h from.shop (messages_in w.taken) x.turns from.disk mid new (a.here asks) reply x.run e.1;
             told = subst (λ xs. o.told from.out told xs) (sym (over_more h x.turns reply new))
-                (tells.0 from.out (over_images h x.turns) x.told);
+                (tells.0 from.out (over_instants h x.turns) x.told);
           },
           over_now w last _
               (run_more-first h from.shop (messages_in w.taken) x.turns from.disk mid new (a.here asks) reply x.run e.1),
@@ -135,7 +140,7 @@ module _ {D A T : Type 0} (h : History D) (a : Source A) (o : Output T) (from : 
         (e.0, record { taken = TakenNow w; is = w.is; whole = (y.0, y.1); room = y.2 })
 
     -- it was run, and the output didn't take its reply
-    pub breaks_off : (Alive : Type 0) → BreaksOff o out told reply × (o.room out ≡ 0)
+    pub breaks_off : (Alive : Type 0) → BreaksOff o out told reply (instant_of h new) × (o.room out ≡ 0)
         → ((t : Shop) → IsSettled (h.image mid) t → Alive × IsEvent h t (a.here asks) mid new (GoesOn h t (a.here asks) reply new))
         → HasComeBut h a o from mid asks out → EndsBy h a o from asks told new faults.Output
     breaks_off Alive breaks event w =
@@ -154,7 +159,7 @@ module _ {D A T : Type 0} (h : History D) (a : Source A) (o : Output T) (from : 
               turns = x.turns;
               last = (reply, new);
               run = run;
-              told = breaks.0 from.out (over_images h x.turns) x.told;
+              told = breaks.0 from.out (over_instants h x.turns) x.told;
             },
             over_now w [] _ same
                 ∙ ap (λ turns. asked_over h run.first turns (messages_in w.taken ++ a.here asks ∷ [])) (append-nil x.turns),
@@ -162,7 +167,7 @@ module _ {D A T : Type 0} (h : History D) (a : Source A) (o : Output T) (from : 
         )
 
     -- the device failed in it
-    pub fails : {E : Type 0} (result : Result Unit E) → IsTold o out told reply (h.image new) result
+    pub fails : {E : Type 0} (result : Result Unit E) → IsTold o out told reply (instant_of h new) result
         → ((t : Shop) → IsSettled (h.image mid) t → IsEvent h t (a.here asks) mid new (EndsFailed h t (a.here asks) reply new))
         → HasComeBut h a o from mid asks out → EndsBy h a o from asks told new faults.Device
     fails result tells event w =
@@ -190,13 +195,13 @@ module _ {D A T : Type 0} (h : History D) (a : Source A) (o : Output T) (from : 
           ),
         )
       where
-        pick : {E : Type 0} (result : Result Unit E) → IsTold o out told reply (h.image new) result
-            → o.told from.out told (over_images h w.whole.0.turns ++ (reply, h.image new) ∷ [])
-            ⊎ (o.broken_off from.out told (over_images h w.whole.0.turns) reply
+        pick : {E : Type 0} (result : Result Unit E) → IsTold o out told reply (instant_of h new) result
+            → o.told from.out told (over_instants h w.whole.0.turns ++ (reply, instant_of h new) ∷ [])
+            ⊎ (o.broken_off from.out told (over_instants h w.whole.0.turns) (reply, instant_of h new)
             × (o.room from.out < length (messages_in w.taken ++ a.here asks ∷ [])))
-        pick (Ok x) tells = inl (tells.0 from.out (over_images h w.whole.0.turns) w.whole.0.told)
+        pick (Ok x) tells = inl (tells.0 from.out (over_instants h w.whole.0.turns) w.whole.0.told)
         pick (Err x) tells = inr (
-          tells.0 from.out (over_images h w.whole.0.turns) w.whole.0.told,
+          tells.0 from.out (over_instants h w.whole.0.turns) w.whole.0.told,
           omega (arith, w.room, tells.1, length-append (messages_in w.taken) (a.here asks ∷ [])),
         )
 

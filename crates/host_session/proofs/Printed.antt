@@ -4,11 +4,11 @@ use Rattle.std.specs.Prelude.{OnErr, OnOk, Result}
 use Rattle.std.proofs.lemmas.List.{take_all}
 use Rattle.std.specs.Io.KnownBytes.{Appends}
 use Rattle.std.proofs.KnownBytes.{Appends-trans}
-use Rattle.d64_image.specs.Images.{Image}
 use Rattle.request_cards.specs.Ledgers.{report}
 use Rattle.request_cards.specs.declared.reply.Reply.{Reply}
 use Rattle.host_session.proofs.Reports.{written_more}
 use Rattle.host_session.specs.Chains.{told_in}
+use Rattle.host_session.specs.Instants.{Instant}
 use Rattle.host_session.specs.Outputs.{line_of, printed, printer_out}
 use Rattle.host_session.specs.Telling.{IsTold}
 use Rattle.host_session.specs.declared.printing.Printer.{Printer}
@@ -26,7 +26,7 @@ told_more [] x = refl
 told_more (y ∷ xs) x = ap (λ rs. y.0 ∷ rs) (told_more xs x)
 
 -- what a printer was told, by what its writer took
-pub is_printed : {W E : Type 0} (contents : W → Option (List ℕ)) (old new : Printer W) (reply : Reply) (i : Image) (r : Result Unit E)
+pub is_printed : {W E : Type 0} (contents : W → Option (List ℕ)) (old new : Printer W) (reply : Reply) (i : Instant) (r : Result Unit E)
     → OnOk r (Appends (contents (printer_out old)) (contents (printer_out new)) (line_of reply))
     → OnErr r ((n : ℕ) × Appends (contents (printer_out old)) (contents (printer_out new)) (take n (line_of reply)))
     → IsTold (printed contents) old new reply i r

@@ -4,7 +4,6 @@ use Rattle.std.proofs.lemmas.List.{map-append}
 use Rattle.std.specs.Prelude.{IsSome, codes, if◌then◌else◌, is_none, option_map, option_to_list, OnOk, is_ok, Result}
 use Rattle.std.specs.Io.KnownBytes.{Appends}
 use Rattle.std.proofs.KnownBytes.{Appends-trans}
-use Rattle.d64_image.specs.Images.{Image}
 use Rattle.request_cards.specs.Ledgers.{report}
 use Rattle.request_cards.specs.Texts.{reply_text}
 use Rattle.request_cards.specs.declared.reply.Reply.{Reply}
@@ -12,6 +11,7 @@ use Rattle.script_lines.specs.declared.events.Cut.{Cut}
 use Rattle.script_lines.specs.declared.events.Event.{Event}
 use Rattle.host_session.specs.Asking.{messages_in}
 use Rattle.host_session.specs.Events.{Message, message_in, message_of, messages_of}
+use Rattle.host_session.specs.Instants.{Instant}
 use Rattle.script_lines.specs.Resets.{Line, first_bad, line_in, line_of}
 
 -- a line was written
@@ -60,7 +60,7 @@ line_taken ls rest line m cut is none =
     pick (Some l) some is = ap (λ x. x ∷ messages_of rest) (is l refl)
 
 -- one message more was taken
-pub taken_on : (xs : List (Message × Image)) (all left more : List Message) (m : Message) (i : Image)
+pub taken_on : (xs : List (Message × Instant)) (all left more : List Message) (m : Message) (i : Instant)
     → all ≡ messages_in xs ++ left → left ≡ m ∷ more → all ≡ messages_in (xs ++ (m, i) ∷ []) ++ more
 taken_on xs all left more m i is next =
     is ∙ ap (λ rest. messages_in xs ++ rest) next ∙ sym (append_assoc (messages_in xs) (m ∷ []) more)

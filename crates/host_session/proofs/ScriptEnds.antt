@@ -2,15 +2,15 @@
 use Rattle.std.proofs.Common.{◌≡◌, ◌≢◌, ◌++◌, ◌∙◌, ⊎_elim, ℕ, List, [], ◌∷◌, None, Some, Ok, Err, refl, sym, subst, ap, arith, inl, inr, length, append-nil}
 use Rattle.std.proofs.lemmas.Option.{none-some}
 use Rattle.d64_image.specs.History.{History}
-use Rattle.d64_image.specs.Images.{Image}
 use Rattle.script_lines.specs.Lines.{lines}
 use Rattle.script_lines.specs.Resets.{first_bad}
 use Rattle.host_session.proofs.Chained.{at_device, at_output, told_over, whole}
 use Rattle.host_session.proofs.PlainRuns.{plain_played}
 use Rattle.host_session.proofs.Runs.{held_of_more}
 use Rattle.host_session.specs.Asking.{messages_in, of_script}
-use Rattle.host_session.specs.Chains.{over_images, told_in}
+use Rattle.host_session.specs.Chains.{over_instants, told_in}
 use Rattle.host_session.specs.Events.{Message, messages_of}
+use Rattle.host_session.specs.Instants.{Instant}
 use Rattle.host_session.specs.Loops.{IsRun, IsToldWhole}
 use Rattle.host_session.specs.Runs.{HeldBeginnings}
 use Rattle.host_session.specs.ScriptRuns.{IsScriptRun}
@@ -32,7 +32,7 @@ opened_with _ = openings.Device
 module _ {D T : Type 0} (h : History D) (o : Output T) (disk : D) (script : List ℕ) (asked asks : OfScript) (old new : T)
     (is_all : asked.left.now ≡ script) (none : first_bad (lines script) ≡ None) where
   -- the messages that were taken, and those of the lines that are left
-  parts : (taken : List (Message × Image)) → of_script.gives asked asks taken
+  parts : (taken : List (Message × Instant)) → of_script.gives asked asks taken
       → messages_in taken ++ messages_of (lines asks.left.now) ≡ messages_of (lines script)
   parts taken takes = sym (takes (ap (λ xs. first_bad (lines xs)) is_all ∙ none)).1 ∙ ap (λ xs. messages_of (lines xs)) is_all
 
@@ -55,7 +55,7 @@ module _ {D T : Type 0} (h : History D) (o : Output T) (disk : D) (script : List
             let run : IsToldWhole h o s (messages_of (lines script)) disk left old new =
             subst (λ ms. IsToldWhole h o s ms disk left old new) all (k.ok s is).0 in
             let q = plain_played h s (lines script) disk left (told_in run.turns) no (whole h s (messages_of (lines script)) run.turns disk left run.run).0 in
-            (record { turns = over_images h run.turns; is = run.told; replies = told_over h run.turns ∙ q.0 }, q.1);
+            (record { turns = over_instants h run.turns; is = run.told; replies = told_over h run.turns ∙ q.0 }, q.1);
         output = λ s is. tt;
         device = λ s is. tt;
         moments = λ s is. subst (λ ms. HeldBeginnings h s ms disk left) all (k.moments s is);

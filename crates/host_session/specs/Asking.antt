@@ -8,6 +8,7 @@ use Rattle.script_lines.specs.Lines.{lines}
 use Rattle.script_lines.specs.Resets.{first_bad}
 use Rattle.script_lines.specs.declared.events.Event.{Event}
 use Rattle.host_session.specs.Events.{Message, message_of, messages_of, uncut}
+use Rattle.host_session.specs.Instants.{Instant}
 use Rattle.host_session.specs.declared.asking.Next.{Next}
 use Rattle.host_session.specs.declared.asking.Next.TheVariants as next
 use Rattle.host_session.specs.declared.asking.OfEvents.{OfEvents}
@@ -20,9 +21,9 @@ messages_in taken = map (λ x. x.0) taken
 
 -- What a source says of the messages that it gives.
 pub record Source (A : Type 0) : Type 1 where
-  -- from the first to the second these messages were taken, each while the disk held this image, in this order, and
-  -- nothing else
-  pub gives : A → A → List (Message × Image) → Type 0
+  -- from the first to the second these messages were taken, each over a disk at this instant, in this order, and nothing
+  -- else
+  pub gives : A → A → List (Message × Instant) → Type 0
   -- the message that was taken last
   pub here : A → Message
   -- no message is left
@@ -35,18 +36,18 @@ pub record Source (A : Type 0) : Type 1 where
 
 -- nothing was taken
 abbrev pub TakesNone : {A : Type 0} → Source A → A → A → Type 0
-TakesNone {A} a old new = (first : A) (xs : List (Message × Image)) → a.gives first old xs → a.gives first new xs
+TakesNone {A} a old new = (first : A) (xs : List (Message × Instant)) → a.gives first old xs → a.gives first new xs
 
--- the message that is here now was taken, while the disk held this image
-abbrev pub TakesOne : {A : Type 0} → Source A → A → A → Image → Type 0
-TakesOne {A} a old new image = (first : A) (xs : List (Message × Image)) → a.gives first old xs
-    → a.gives first new (xs ++ (a.here new, image) ∷ [])
+-- the message that is here now was taken, over a disk at this instant
+abbrev pub TakesOne : {A : Type 0} → Source A → A → A → Instant → Type 0
+TakesOne {A} a old new at = (first : A) (xs : List (Message × Instant)) → a.gives first old xs
+    → a.gives first new (xs ++ (a.here new, at) ∷ [])
 
--- what asking for the next event came to, while the disk held this image
-abbrev pub IsNext : {A : Type 0} → Source A → A → A → Image → Next → Type 0
-IsNext a old new image next.Event = TakesOne a old new image × (a.fuel new < a.fuel old)
-IsNext a old new image next.End = TakesNone a old new × a.is_over new
-IsNext a old new image next.Failed = TakesNone a old new × a.has_failed new
+-- what asking for the next event came to, over a disk at this instant
+abbrev pub IsNext : {A : Type 0} → Source A → A → A → Instant → Next → Type 0
+IsNext a old new at next.Event = TakesOne a old new at × (a.fuel new < a.fuel old)
+IsNext a old new at next.End = TakesNone a old new × a.is_over new
+IsNext a old new at next.Failed = TakesNone a old new × a.has_failed new
 
 -- the lines that were taken of a script without a bad line
 abbrev pub of_script : Source OfScript
@@ -89,7 +90,7 @@ noted_in now = map (λ (v : Vec ℕ Global). sectors_in v.items) now.disks.items
 -- the events that were taken of a source, each noted with what the disk held
 abbrev pub noted : {A : Type 0} → Source A → Source (Noted A)
 noted a = record {
-  gives = λ first now xs. a.gives first.asks now.asks xs × (noted_in now ≡ noted_in first ++ map (λ x. x.1) xs);
+  gives = λ first now xs. a.gives first.asks now.asks xs × (noted_in now ≡ noted_in first ++ map (λ x. x.1.image) xs);
   here = λ now. a.here now.asks;
   is_over = λ now. a.is_over now.asks;
   has_failed = λ now. (now.full ≡ true) ⊎ a.has_failed now.asks;

@@ -1,11 +1,12 @@
 -- A run as a chain of events. All of it is our own.
 use Rattle.std.specs.Prelude.{◌≡◌, ◌≤◌, List, [], ◌∷◌, ◌++◌, map, zip}
-use Rattle.d64_image.specs.Images.{Image}
-use Rattle.d64_image.specs.History.{HeldOnly, History}
+use Rattle.d64_image.specs.History.{Changes, History}
 use Rattle.request_cards.specs.declared.reply.Reply.{Reply}
 use Rattle.host_session.specs.Counted.{after_all}
 use Rattle.host_session.specs.Events.{Message}
+use Rattle.host_session.specs.Instants.{Instant, instant_of}
 use Rattle.host_session.specs.OneEvent.{EndsFailed, GoesOn, IsEvent}
+use Rattle.host_session.specs.Opening.{Untouched}
 use Rattle.host_session.specs.Runs.{HeldBeginnings}
 use Rattle.host_session.specs.Shop.{IsSettled, IsShop, Shop, start_of, with_state}
 
@@ -24,7 +25,9 @@ pub record HasRun {D : Type 0} (h : History D) (s : Shop) (ms : List Message) (t
     (old new : D) : Type 0 where
   -- the disk as it was opened
   pub first : D
-  pub opening : HeldOnly h old first (λ i. IsShop i s)
+  pub opening : Changes h old first 952 (λ i. IsShop i s)
+  -- a shop at rest was read alone
+  pub quiet : IsSettled (h.image old) s → Untouched h old first
   pub later : h.failures old ≤ h.failures first
   pub rests : IsSettled (h.image first) s
   -- the shop as it is now
@@ -55,11 +58,11 @@ pub record GrowsFrom {D : Type 0} (h : History D) (s : Shop) (ms ns : List Messa
 abbrev pub told_in : {X : Type 0} → List (Reply × X) → List Reply
 told_in turns = map (λ x. x.0) turns
 
--- Each message with what the disk held when it was asked for: the first over the disk as it was opened, each other over
--- the disk that stands beside the reply to the one before it.
-abbrev pub asked_over : {D : Type 0} → History D → D → List (Reply × D) → List Message → List (Message × Image)
-asked_over h first turns ms = zip ms (h.image first ∷ map (λ x. h.image x.1) turns)
+-- Each message over the disk at the instant when it was asked for: the first as it was opened, each other as it stands
+-- beside the reply to the one before it.
+abbrev pub asked_over : {D : Type 0} → History D → D → List (Reply × D) → List Message → List (Message × Instant)
+asked_over h first turns ms = zip ms (instant_of h first ∷ map (λ x. instant_of h x.1) turns)
 
--- each reply with what the disk beside it holds
-abbrev pub over_images : {D : Type 0} → History D → List (Reply × D) → List (Reply × Image)
-over_images h turns = map (λ x. (x.0, h.image x.1)) turns
+-- each reply over the disk beside it, at its instant
+abbrev pub over_instants : {D : Type 0} → History D → List (Reply × D) → List (Reply × Instant)
+over_instants h turns = map (λ x. (x.0, instant_of h x.1)) turns

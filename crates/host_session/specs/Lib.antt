@@ -21,6 +21,7 @@ pub mod OneEvent
 pub mod Runs
 pub mod Faults
 pub mod ScriptRuns
+pub mod Instants
 pub mod Chains
 pub mod Asking
 pub mod Telling

@@ -1,11 +1,11 @@
 -- What comes of a run over a source of events and an output. All of it is our own.
 use Rattle.std.specs.Prelude.{◌≡◌, ◌<◌, ◌≤◌, ◌+◌, ◌⊎◌, List, [], ◌∷◌, ◌++◌, IfErr, IfOk, Ok, Err, Result, false, length}
 use Rattle.d64_image.specs.History.{Failed, History, NeverFailed}
-use Rattle.d64_image.specs.Images.{Image}
 use Rattle.request_cards.specs.declared.reply.Reply.{Reply}
 use Rattle.host_session.specs.Asking.{Source, messages_in}
-use Rattle.host_session.specs.Chains.{HasRun, HasRunToFailure, asked_over, over_images}
+use Rattle.host_session.specs.Chains.{HasRun, HasRunToFailure, asked_over, over_instants}
 use Rattle.host_session.specs.Events.{Message}
+use Rattle.host_session.specs.Instants.{Instant, instant_of}
 use Rattle.host_session.specs.Opening.{IsAShop, disk_of}
 use Rattle.host_session.specs.Runs.{HeldBeginnings, IsRefused}
 use Rattle.host_session.specs.Shop.{IsShop, Shop}
@@ -17,21 +17,24 @@ use Rattle.host_session.specs.declared.looping.LoopFault.TheVariants as faults
 use Rattle.host_session.specs.declared.looping.Stretch.{Stretch}
 use Rattle.host_session.specs.declared.looping.Stretch.TheVariants as stretches
 
--- These messages were run, and each reply was told over the disk that its message left, before the next one began.
+-- These messages were run, and each reply was told over the disk that its message left, before the next one began. The
+-- disk at the end is the one over which the last reply was told, so nothing else was held since; and where there is no
+-- message, it is as it was opened.
 pub record IsToldWhole {D T : Type 0} (h : History D) (o : Output T) (s : Shop) (ms : List Message) (disk left : D)
     (old new : T) : Type 0 where
   pub turns : List (Reply × D)
   pub run : HasRun h s ms turns disk left
-  pub told : o.told old new (over_images h turns)
+  pub told : o.told old new (over_instants h turns)
 
--- The same of all replies but the last, which was broken off, and nothing else was told. An output that has room for
+-- The same of all replies but the last, which was broken off over the disk that is left, and nothing else was told. An
+-- output that has room for
 -- all of them takes them.
 pub record IsToldToOutput {D T : Type 0} (h : History D) (o : Output T) (s : Shop) (ms : List Message) (disk left : D)
     (old new : T) : Type 0 where
   pub turns : List (Reply × D)
   pub last : Reply × D
   pub run : HasRun h s ms (turns ++ last ∷ []) disk left
-  pub told : o.broken_off old new (over_images h turns) last.0
+  pub told : o.broken_off old new (over_instants h turns) (last.0, instant_of h last.1)
   pub full : o.room old < length ms
 
 -- These messages were run, in the last of which the device failed. Its reply was told over what the device then held,
@@ -41,21 +44,21 @@ pub record IsToldToDevice {D T : Type 0} (h : History D) (o : Output T) (s : Sho
   pub turns : List (Reply × D)
   pub last : Reply
   pub run : HasRunToFailure h s ms turns last disk left
-  pub told : o.told old new (over_images h turns ++ (last, h.image left) ∷ [])
-      ⊎ (o.broken_off old new (over_images h turns) last × (o.room old < length ms))
+  pub told : o.told old new (over_instants h turns ++ (last, instant_of h left) ∷ [])
+      ⊎ (o.broken_off old new (over_instants h turns) (last, instant_of h left) × (o.room old < length ms))
 
 -- The same of messages that were taken so: the first while the disk was as it was opened, each other while it was as it
 -- stands beside the reply that was told before.
-abbrev pub IsRunWhole : {D T : Type 0} → History D → Output T → Shop → List (Message × Image) → D → D → T → T → Type 0
+abbrev pub IsRunWhole : {D T : Type 0} → History D → Output T → Shop → List (Message × Instant) → D → D → T → T → Type 0
 IsRunWhole h o s taken disk left old new = (x : IsToldWhole h o s (messages_in taken) disk left old new)
     × (taken ≡ asked_over h x.run.first x.turns (messages_in taken))
 
-abbrev pub IsRunToOutput : {D T : Type 0} → History D → Output T → Shop → List (Message × Image) → D → D → T → T
+abbrev pub IsRunToOutput : {D T : Type 0} → History D → Output T → Shop → List (Message × Instant) → D → D → T → T
     → Type 0
 IsRunToOutput h o s taken disk left old new = (x : IsToldToOutput h o s (messages_in taken) disk left old new)
     × (taken ≡ asked_over h x.run.first x.turns (messages_in taken))
 
-abbrev pub IsRunToDevice : {D T : Type 0} → History D → Output T → Shop → List (Message × Image) → D → D → T → T
+abbrev pub IsRunToDevice : {D T : Type 0} → History D → Output T → Shop → List (Message × Instant) → D → D → T → T
     → Type 0
 IsRunToDevice h o s taken disk left old new = (x : IsToldToDevice h o s (messages_in taken) disk left old new)
     × (taken ≡ asked_over h x.run.run.first x.turns (messages_in taken))
@@ -69,8 +72,8 @@ pub record Origin (D A T : Type 0) : Type 0 where
 
 -- A run is under way: what it took of the source has P, it was run and told, and the output had room for as much.
 pub record IsUnderWay {D A T : Type 0} (h : History D) (o : Output T) (from : Origin D A T) (disk : D) (out : T)
-    (P : List (Message × Image) → Type 0) : Type 0 where
-  pub taken : List (Message × Image)
+    (P : List (Message × Instant) → Type 0) : Type 0 where
+  pub taken : List (Message × Instant)
   pub is : P taken
   pub whole : IsRunWhole h o from.shop taken from.disk disk from.out out
   pub room : o.room from.out ≤ o.room out + length (messages_in taken)
@@ -82,21 +85,21 @@ HasCome h a o from disk asks out = IsUnderWay h o from disk out (λ xs. a.gives 
 -- all but the message that was taken last, while the disk was as it is
 abbrev pub HasComeBut : {D A T : Type 0} → History D → Source A → Output T → Origin D A T → D → A → T → Type 0
 HasComeBut h a o from disk asks out =
-    IsUnderWay h o from disk out (λ xs. a.gives from.asks asks (xs ++ (a.here asks, h.image disk) ∷ []))
+    IsUnderWay h o from disk out (λ xs. a.gives from.asks asks (xs ++ (a.here asks, instant_of h disk) ∷ []))
 
 -- how a run ends that this fault ended
 abbrev pub EndsBy : {D A T : Type 0} → History D → Source A → Output T → Origin D A T → A → T → D → LoopFault → Type 0
 EndsBy h a o from asks out left (faults.Open f) = ⊥
-EndsBy h a o from asks out left faults.Input = (taken : List (Message × Image)) × a.gives from.asks asks taken
+EndsBy h a o from asks out left faults.Input = (taken : List (Message × Instant)) × a.gives from.asks asks taken
     × a.has_failed asks × IsRunWhole h o from.shop taken from.disk left from.out out
-EndsBy h a o from asks out left faults.Output = (taken : List (Message × Image)) × a.gives from.asks asks taken
+EndsBy h a o from asks out left faults.Output = (taken : List (Message × Instant)) × a.gives from.asks asks taken
     × IsRunToOutput h o from.shop taken from.disk left from.out out
-EndsBy h a o from asks out left faults.Device = (taken : List (Message × Image)) × a.gives from.asks asks taken
+EndsBy h a o from asks out left faults.Device = (taken : List (Message × Instant)) × a.gives from.asks asks taken
     × IsRunToDevice h o from.shop taken from.disk left from.out out
 
 -- how a run ends that was opened
 abbrev pub Ends : {D A T : Type 0} → History D → Source A → Output T → Origin D A T → A → T → Result D (LoopFault × D) → Type 0
-Ends h a o from asks out (Ok left) = (taken : List (Message × Image)) × a.gives from.asks asks taken × a.is_over asks
+Ends h a o from asks out (Ok left) = (taken : List (Message × Instant)) × a.gives from.asks asks taken × a.is_over asks
     × IsRunWhole h o from.shop taken from.disk left from.out out
 Ends h a o from asks out (Err e) = EndsBy h a o from asks out e.1 e.0
 
@@ -113,8 +116,8 @@ IsStretch h a o from session asks out (stretches.Ended end) = Ends h a o from as
 -- What comes of a run over a source and an output that were `asked` and `old`, and are `asks` and `new`.
 pub record IsRun {D A T : Type 0} (h : History D) (a : Source A) (o : Output T) (disk : D) (asked asks : A) (old new : T)
     (result : Result D (LoopFault × D)) : Type 0 where
-  -- the messages that were taken of the source, each with what the disk held then, and nothing beside them
-  pub taken : List (Message × Image)
+  -- the messages that were taken of the source, each over the disk at an instant, and nothing beside them
+  pub taken : List (Message × Instant)
   pub takes : a.gives asked asks taken
   -- A shop alone is run, and up to the end of the source.
   pub shop : IfOk result (λ _. IsAShop (h.image disk) × a.is_over asks)

@@ -10,6 +10,7 @@ use Rattle.request_cards.specs.Ledgers.{report}
 use Rattle.request_cards.specs.Texts.{reply_text}
 use Rattle.request_cards.specs.declared.reply.Reply.{Reply}
 use Rattle.host_session.specs.Chains.{told_in}
+use Rattle.host_session.specs.Instants.{Instant}
 use Rattle.host_session.specs.Telling.{Output}
 use Rattle.host_session.specs.declared.hearing.Heard.{Heard}
 use Rattle.host_session.specs.declared.hearing.Turn.{Turn}
@@ -32,8 +33,8 @@ AppendsPart old new bytes = (n : ℕ) × Appends old new (take n bytes)
 abbrev pub printed : {W : Type 0} → (W → Option (List ℕ)) → Output (Printer W)
 printed contents = record {
   told = λ old new turns. Appends (contents (printer_out old)) (contents (printer_out new)) (report (told_in turns));
-  broken_off = λ old new turns reply. (n : ℕ)
-      × Appends (contents (printer_out old)) (contents (printer_out new)) (report (told_in turns) ++ take n (line_of reply));
+  broken_off = λ old new turns last. (n : ℕ)
+      × Appends (contents (printer_out old)) (contents (printer_out new)) (report (told_in turns) ++ take n (line_of last.0));
   is_handed_on = λ _. ⊤;
   room = λ _. 0;
   none = λ p. Appends-nil (contents (printer_out p));
@@ -43,7 +44,7 @@ printed contents = record {
 abbrev pub listed : Output (Vec Reply Global)
 listed = record {
   told = λ old new turns. new.items ≡ old.items ++ told_in turns;
-  broken_off = λ old new turns reply. new.items ≡ old.items ++ told_in turns;
+  broken_off = λ old new turns last. new.items ≡ old.items ++ told_in turns;
   is_handed_on = λ _. ⊤;
   room = λ v. vec_capacity v - vec_len v;
   none = λ v. sym (append-nil v.items);
@@ -53,6 +54,10 @@ listed = record {
 abbrev pub turn_of : Turn → Reply × Image
 turn_of t = (t.reply, sectors_in t.bytes.items)
 
+-- each reply with what the disk held
+abbrev pub held_in : List (Reply × Instant) → List (Reply × Image)
+held_in turns = map (λ x. (x.0, x.1.image)) turns
+
 -- what was heard up to now
 abbrev pub turns_of : Heard → List (Reply × Image)
 turns_of h = map turn_of h.turns.items
@@ -60,8 +65,8 @@ turns_of h = map turn_of h.turns.items
 -- Replies were kept, each with a copy of the disk, and so many of them handed on. One that isn't taken isn't kept.
 abbrev pub heard : Output Heard
 heard = record {
-  told = λ old new turns. turns_of new ≡ turns_of old ++ turns;
-  broken_off = λ old new turns reply. turns_of new ≡ turns_of old ++ turns;
+  told = λ old new turns. turns_of new ≡ turns_of old ++ held_in turns;
+  broken_off = λ old new turns last. turns_of new ≡ turns_of old ++ held_in turns;
   is_handed_on = λ h. h.handed ≡ vec_len h.turns;
   room = λ _. 0;
   none = λ h. sym (append-nil (turns_of h));

@@ -1,6 +1,5 @@
 -- What comes of a script that is run on a disk. All of it is our own.
 use Rattle.std.specs.Prelude.{◌≡◌, ◌⊎◌, ◌++◌, ◌∷◌, ℕ, Err, IfErr, IfOk, List, Result, Some, []}
-use Rattle.d64_image.specs.Images.{Image}
 use Rattle.d64_image.specs.History.{Failed, History, NeverFailed}
 use Rattle.request_cards.specs.Ledgers.{plain, replies}
 use Rattle.request_cards.specs.declared.reply.Reply.{Reply}
@@ -8,6 +7,7 @@ use Rattle.script_lines.specs.Lines.{lines}
 use Rattle.script_lines.specs.Resets.{first_bad}
 use Rattle.host_session.specs.Chains.{told_in}
 use Rattle.host_session.specs.Events.{HasNoReset, Message, messages_of, requests_of}
+use Rattle.host_session.specs.Instants.{Instant}
 use Rattle.host_session.specs.Loops.{IsToldToDevice, IsToldToOutput, IsToldWhole}
 use Rattle.host_session.specs.Opening.{IsAShop, disk_of}
 use Rattle.host_session.specs.Runs.{HeldBeginnings, IsPlayedWhole, IsRefused, StoppedByDevice, StoppedByOutput}
@@ -43,9 +43,9 @@ pub record IsPlayedToDevice {D T : Type 0} (h : History D) (o : Output T) (s : S
   pub run : IsToldToDevice h o s begun disk left old new
   pub stopped : StoppedByDevice h s ms disk left (told_in run.turns ++ run.last ∷ [])
 
--- These replies were told, each over some image, and nothing else.
+-- These replies were told, each over the disk at some instant, and nothing else.
 pub record AreToldSo {T : Type 0} (o : Output T) (old new : T) (told : List Reply) : Type 0 where
-  pub turns : List (Reply × Image)
+  pub turns : List (Reply × Instant)
   pub is : o.told old new turns
   pub replies : told_in turns ≡ told
 

@@ -2,6 +2,7 @@
 ghost use Rattle.std.specs.Prelude.{◌≡◌, Some, option_map};
 ghost use Rattle.host_session.specs.Asking.{IsNext, Source, last_taken, of_events, of_script};
 ghost use Rattle.host_session.specs.Events.{message_in};
+ghost use Rattle.host_session.specs.Instants.{instant_of};
 ghost use Rattle.script_lines.specs.Resets.{Line, line_of};
 
 use d64_image::Sectors;
@@ -25,7 +26,7 @@ pub trait Asks<D: Sectors> {
 
     /// Takes the next event. The disk is lent as it is then.
     fn next(&mut self, disk: &D) -> Next
-        ensures { IsNext source self.old self.new (D.history.image disk.now) result };
+        ensures { IsNext source self.old self.new (instant_of D.history disk.now) result };
 
     /// The message of the event that was taken last.
     fn message(&self) -> &[u8]

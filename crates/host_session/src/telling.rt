@@ -1,5 +1,6 @@
 //! Who is told the replies of a run.
 ghost use Rattle.std.specs.Prelude.{OnOk};
+ghost use Rattle.host_session.specs.Instants.{instant_of};
 ghost use Rattle.host_session.specs.Telling.{IsTold, Output, TellsNone};
 
 use d64_image::Sectors;
@@ -17,7 +18,7 @@ pub trait Tells<D: Sectors> {
     /// Tells this reply. The disk is lent as it is then. Where the reply isn't taken, a part of it may have been told, or all
     /// of it.
     fn tell(&mut self, reply: &Reply, disk: &D) -> Result<(), NotTaken>
-        ensures { IsTold output self.old self.new reply.now (D.history.image disk.now) result };
+        ensures { IsTold output self.old self.new reply.now (instant_of D.history disk.now) result };
 
     /// Hands on what is held back. What was told stays told, and where it is done nothing of it is held back any more.
     fn hand_on(&mut self) -> Result<(), NotTaken>

@@ -4,14 +4,15 @@ use Rattle.std.specs.Prelude.{map}
 use Rattle.d64_image.specs.declared.mirror.Mirror.{Mirror}
 use Rattle.d64_image.specs.declared.sector_file.SectorFile.{Ghosts}
 use Rattle.d64_image.specs.FileDisks.{FileDisk, fails_since, in_run}
-use Rattle.d64_image.specs.History.{HeldOnly, History}
+use Rattle.d64_image.specs.History.{Changes, History}
 use Rattle.d64_image.specs.Images.{Image}
 use Rattle.d64_image.specs.Mirrors.{IsMirrored, is_broken, mirror, mirrored_then, one_if}
 use Rattle.d64_image.proofs.FileRuns.{failed_by_file, file_disk, held_by_file, one_if-false, since_grows, since_whole}
 use Rattle.d64_image.proofs.Moments.{weaker}
-use Rattle.host_session.specs.Chains.{HasRun, HasRunToFailure, IsChain, over_images, told_in}
+use Rattle.host_session.specs.Chains.{HasRun, HasRunToFailure, IsChain, over_instants, told_in}
 use Rattle.host_session.specs.Counted.{NoneGotMedia, after_all}
 use Rattle.host_session.specs.Events.{Message}
+use Rattle.host_session.specs.Instants.{instant_of}
 use Rattle.host_session.specs.OneEvent.{EndsFailed, GoesOn, IsEvent}
 use Rattle.host_session.specs.Runs.{HeldBeginnings, IsBlamed, IsPlayed, IsSomeBeginning, blamed}
 use Rattle.host_session.specs.Shop.{IsShop, Shop, start_of, with_state}
@@ -36,9 +37,9 @@ module _ {F : Type 0} {G : Ghosts F} where
     abbrev pub of_file : History (FileDisk G.keeps)
     of_file = in_run G.keeps start.file
 
-    pub same_images : (xs : List (Reply × Mirror F G)) → over_images mirror xs ≡ over_images of_file (over_files xs)
-    same_images [] = refl
-    same_images (x ∷ xs) = ap (λ rest. (x.0, mirror.image x.1) ∷ rest) (same_images xs)
+    pub same_instants : (xs : List (Reply × Mirror F G)) → over_instants mirror xs ≡ over_instants of_file (over_files xs)
+    same_instants [] = refl
+    same_instants (x ∷ xs) = ap (λ rest. (x.0, instant_of mirror x.1) ∷ rest) (same_instants xs)
 
     pub blamed_file : (a b : Mirror F G) → IsMirrored start b → IsMirrored a b → (fails : List Bool) → IsBlamed mirror a b fails
         → IsBlamed of_file (file_disk a) (file_disk b) fails
@@ -87,25 +88,37 @@ module _ {F : Type 0} {G : Ghosts F} where
     chain_reached s (m ∷ ms) (y ∷ ys) a t b x chain =
         chain_reached (with_state s (after_all (start_of s) s.state chain.0.counted)) ms ys y.1 t b (mirrored_then start a y.1 x chain.0.moments.reached) chain.1
 
-    abbrev pub run_of_file : (s : Shop) (ms : List Message) (xs : List (Reply × Mirror F G)) (b : Mirror F G) → HasRun mirror s ms xs start b
-        → HasRun of_file s ms (over_files xs) (file_disk start) (file_disk b)
-    run_of_file s ms xs b run = record {
-      first = file_disk run.first;
-      opening = held_by_file start.file start run.first _ run.opening;
-      later = since_grows G.keeps start.file start.file run.first.file run.opening.reached.failures;
-      rests = run.rests;
-      now = run.now;
-      chain = chain_of_file s ms xs run.first run.now b run.opening.reached run.chain;
-    }
+    module _ (untaken : start.taken.n ≡ 0) where
+      -- few writes from the start on
+      pub changes_of_file : (b : Mirror F G) (n : ℕ) (P : Image → Type 0) → n < 1000 → Changes mirror start b n P
+          → Changes of_file (file_disk start) (file_disk b) n P
+      changes_of_file b n P few x = record {
+        held = held_by_file start.file start b P x.held;
+        writes =
+            let taken : b.taken.n ≤ start.taken.n + n = x.writes in
+            omega (arith, taken, untaken, x.held.reached.counted (omega (arith, taken, untaken, few)));
+      }
 
-    pub failing_of_file : (s : Shop) (ms : List Message) (xs : List (Reply × Mirror F G)) (last : Reply) (b : Mirror F G) → HasRunToFailure mirror s ms xs last start b
-        → HasRunToFailure of_file s ms (over_files xs) last (file_disk start) (file_disk b)
-    failing_of_file s ms xs last b run = record {
-      before = run.before;
-      message = run.message;
-      parts = run.parts;
-      at = file_disk run.at;
-      run = run_of_file s run.before xs run.at run.run;
-      failed = event_of_file run.run.now run.message run.at b _ _ (ends_failed run.run.now run.message last b)
-          (chain_reached s run.before xs run.run.first run.run.now run.at run.run.opening.reached run.run.chain) run.failed;
-    }
+      abbrev pub run_of_file : (s : Shop) (ms : List Message) (xs : List (Reply × Mirror F G)) (b : Mirror F G) → HasRun mirror s ms xs start b
+          → HasRun of_file s ms (over_files xs) (file_disk start) (file_disk b)
+      run_of_file s ms xs b run = record {
+        first = file_disk run.first;
+        opening = changes_of_file run.first 952 _ (omega arith) run.opening;
+        quiet = λ rests. changes_of_file run.first 0 _ (omega arith) (run.quiet rests);
+        later = since_grows G.keeps start.file start.file run.first.file run.opening.held.reached.failures;
+        rests = run.rests;
+        now = run.now;
+        chain = chain_of_file s ms xs run.first run.now b run.opening.held.reached run.chain;
+      }
+
+      pub failing_of_file : (s : Shop) (ms : List Message) (xs : List (Reply × Mirror F G)) (last : Reply) (b : Mirror F G) → HasRunToFailure mirror s ms xs last start b
+          → HasRunToFailure of_file s ms (over_files xs) last (file_disk start) (file_disk b)
+      failing_of_file s ms xs last b run = record {
+        before = run.before;
+        message = run.message;
+        parts = run.parts;
+        at = file_disk run.at;
+        run = run_of_file s run.before xs run.at run.run;
+        failed = event_of_file run.run.now run.message run.at b _ _ (ends_failed run.run.now run.message last b)
+            (chain_reached s run.before xs run.run.first run.run.now run.at run.run.opening.held.reached run.run.chain) run.failed;
+      }

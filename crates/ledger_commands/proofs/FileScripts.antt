@@ -4,14 +4,15 @@ use Rattle.std.proofs.lemmas.Bool.{cases_lt}
 use Rattle.d64_image.specs.declared.mirror.Mirror.{Mirror}
 use Rattle.d64_image.specs.declared.sector_file.SectorFile.{Ghosts}
 use Rattle.d64_image.specs.FileDisks.{FileDisk, fails_since, in_run}
-use Rattle.d64_image.specs.History.{Changes, Failed, HeldOnly, History, NeverFailed}
+use Rattle.d64_image.specs.History.{Failed, History, NeverFailed}
 use Rattle.d64_image.specs.Images.{Image}
 use Rattle.d64_image.specs.Mirrors.{IsMirrored, is_broken, mirror, mirrored_then}
 use Rattle.d64_image.proofs.FileRuns.{failed_by_file, file_disk, held_by_file, never_failed, since_grows, since_whole}
 use Rattle.d64_image.proofs.Moments.{weaker}
-use Rattle.host_session.specs.Chains.{HasRun, over_images, told_in}
+use Rattle.host_session.specs.Chains.{HasRun, told_in}
 use Rattle.host_session.specs.Counted.{NoneGotMedia}
 use Rattle.host_session.specs.Events.{Message, messages_of}
+use Rattle.host_session.specs.Instants.{instant_of}
 use Rattle.host_session.specs.Loops.{IsToldToDevice, IsToldToOutput, IsToldWhole}
 use Rattle.host_session.specs.Opening.{IsAShop, Refuses, Untouched, disk_of}
 use Rattle.host_session.specs.Runs.{HeldBeginnings, IsBlamed, IsPlayed, IsPlayedWhole, IsRefused, IsSomeBeginning, StoppedByDevice, StoppedByOutput}
@@ -25,7 +26,7 @@ use Rattle.host_session.specs.declared.running.ScriptFault.TheVariants as faults
 use Rattle.request_cards.specs.Ledgers.{State}
 use Rattle.request_cards.specs.declared.reply.Reply.{Reply}
 use Rattle.script_lines.specs.Lines.{lines}
-use Rattle.ledger_commands.proofs.FileChains.{blamed_file, failing_of_file, over_files, over_files-more, run_of_file, same_images, same_told}
+use Rattle.ledger_commands.proofs.FileChains.{blamed_file, changes_of_file, failing_of_file, over_files, over_files-more, run_of_file, same_instants, same_told}
 
 -- how a run over a mirror ended, as one over its file
 abbrev pub end_of_file : {E F : Type 0} {G : Ghosts F} → Result (Mirror F G) (E × Mirror F G) → Result (FileDisk G.keeps) (E × FileDisk G.keeps)
@@ -45,14 +46,6 @@ refuses_so P Q img opening.Device so is = so is
 module _ {F T : Type 0} {G : Ghosts F} (o : Output T) (start : Mirror F G) (whole : is_broken start → ⊥) (untaken : start.taken.n ≡ 0) (old new : T) where
   abbrev file_run : History (FileDisk G.keeps)
   file_run = in_run G.keeps start.file
-
-  changes_of_file : (b : Mirror F G) (n : ℕ) (P : Image → Type 0) → n < 1000 → Changes mirror start b n P → Changes file_run (file_disk start) (file_disk b) n P
-  changes_of_file b n P few x = record {
-    held = held_by_file start.file start b P x.held;
-    writes =
-        let taken : b.taken.n ≤ start.taken.n + n = x.writes in
-        omega (arith, taken, untaken, x.held.reached.counted (omega (arith, taken, untaken, few)));
-  }
 
   played_of_file : (s : Shop) (ms : List Message) (b : Mirror F G) (told same : List Reply) (Whole : List Message → List Bool → Type 0) (Ends : State → Type 0)
       → IsMirrored start b → told ≡ same → IsPlayed mirror s ms start b told Whole Ends → IsPlayed file_run s ms (file_disk start) (file_disk b) same Whole Ends
@@ -86,8 +79,8 @@ module _ {F T : Type 0} {G : Ghosts F} (o : Output T) (start : Mirror F G) (whol
       → IsToldWhole file_run o s ms (file_disk start) (file_disk b) old new
   told_of_file s ms b x = record {
     turns = over_files x.turns;
-    run = run_of_file start whole s ms x.turns b x.run;
-    told = subst (λ xs. o.told old new xs) (same_images start whole x.turns) x.told;
+    run = run_of_file start whole untaken s ms x.turns b x.run;
+    told = subst (λ xs. o.told old new xs) (same_instants start whole x.turns) x.told;
   }
 
   out_of_file : (s : Shop) (ms : List Message) (b : Mirror F G) → IsMirrored start b → IsPlayedOut mirror o s ms start b old new
@@ -111,8 +104,9 @@ module _ {F T : Type 0} {G : Ghosts F} (o : Output T) (start : Mirror F G) (whol
           turns = over_files p.run.turns;
           last = last;
           run = subst (λ turns. HasRun file_run s p.begun turns (file_disk start) (file_disk b)) more
-              (run_of_file start whole s p.begun (p.run.turns ++ p.run.last ∷ []) b p.run.run);
-          told = subst (λ xs. o.broken_off old new xs p.run.last.0) (same_images start whole p.run.turns) p.run.told;
+              (run_of_file start whole untaken s p.begun (p.run.turns ++ p.run.last ∷ []) b p.run.run);
+          told = subst (λ xs. o.broken_off old new xs (p.run.last.0, instant_of mirror p.run.last.1))
+              (same_instants start whole p.run.turns) p.run.told;
           full = p.run.full;
         };
         stopped = record {
@@ -133,10 +127,10 @@ module _ {F T : Type 0} {G : Ghosts F} (o : Output T) (start : Mirror F G) (whol
     run = record {
       turns = over_files p.run.turns;
       last = p.run.last;
-      run = failing_of_file start whole s p.begun p.run.turns p.run.last b p.run.run;
+      run = failing_of_file start whole untaken s p.begun p.run.turns p.run.last b p.run.run;
       told = ⊎_elim
-          (λ t. inl (subst (λ xs. o.told old new (xs ++ (p.run.last, mirror.image b) ∷ [])) (same_images start whole p.run.turns) t))
-          (λ t. inr (subst (λ xs. o.broken_off old new xs p.run.last) (same_images start whole p.run.turns) t.0, t.1))
+          (λ t. inl (subst (λ xs. o.told old new (xs ++ (p.run.last, instant_of mirror b) ∷ [])) (same_instants start whole p.run.turns) t))
+          (λ t. inr (subst (λ xs. o.broken_off old new xs (p.run.last, instant_of mirror b)) (same_instants start whole p.run.turns) t.0, t.1))
           p.run.told;
     };
     stopped = record {
@@ -166,9 +160,9 @@ module _ {F T : Type 0} {G : Ghosts F} (o : Output T) (start : Mirror F G) (whol
   pub refused_of_file : (b : Mirror F G) (fault : OpenFault) → IsRefused mirror start fault b → IsRefused file_run (file_disk start) fault (file_disk b)
   refused_of_file b fault x = record {
     refused = refuses_so _ _ (mirror.image start) fault (refused_failed b fault x) x.refused;
-    same = λ s is. changes_of_file b 952 _ (omega arith) (x.same s is);
-    kept = λ other. changes_of_file b 0 _ (omega arith) (x.kept other);
-    unfit = λ no_shop. changes_of_file b 0 _ (omega arith) (x.unfit no_shop);
+    same = λ s is. changes_of_file start whole untaken b 952 _ (omega arith) (x.same s is);
+    kept = λ other. changes_of_file start whole untaken b 0 _ (omega arith) (x.kept other);
+    unfit = λ no_shop. changes_of_file start whole untaken b 0 _ (omega arith) (x.unfit no_shop);
   }
 
   -- the run of a script over a mirror is one over its file

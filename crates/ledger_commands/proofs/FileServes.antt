@@ -4,12 +4,12 @@ use Rattle.d64_image.specs.declared.mirror.Mirror.{Mirror}
 use Rattle.d64_image.specs.declared.sector_file.SectorFile.{Ghosts}
 use Rattle.d64_image.specs.FileDisks.{FileDisk, in_run}
 use Rattle.d64_image.specs.History.{History}
-use Rattle.d64_image.specs.Images.{Image}
 use Rattle.d64_image.specs.Mirrors.{is_broken, mirror}
 use Rattle.d64_image.proofs.FileRuns.{failed_by_file, file_disk, never_failed}
 use Rattle.request_cards.specs.declared.reply.Reply.{Reply}
 use Rattle.host_session.proofs.Chained.{at_device}
 use Rattle.host_session.specs.Events.{Message}
+use Rattle.host_session.specs.Instants.{Instant, instant_of}
 use Rattle.host_session.specs.Shop.{Shop}
 use Rattle.host_session.specs.Telling.{Output}
 use Rattle.host_session.specs.declared.looping.LoopFault.{LoopFault}
@@ -17,7 +17,7 @@ use Rattle.serving.proofs.Handled.{handled_run}
 use Rattle.serving.specs.AtOnce.{at_once}
 use Rattle.serving.specs.Inputs.{line_messages}
 use Rattle.serving.specs.Serves.{AreHandled, AreServed, AreServedToDevice, AreServedToOutput, IsServed}
-use Rattle.ledger_commands.proofs.FileChains.{failing_of_file, over_files, over_files-more, run_of_file, same_images}
+use Rattle.ledger_commands.proofs.FileChains.{failing_of_file, over_files, over_files-more, run_of_file, same_instants}
 use Rattle.ledger_commands.proofs.FileScripts.{end_of_file, moments_of_file, refused_of_file}
 
 module _ {F T : Type 0} {G : Ghosts F} (o : Output T) (start : Mirror F G) (whole : is_broken start → ⊥) (untaken : start.taken.n ≡ 0) (old new : T) where
@@ -27,14 +27,14 @@ module _ {F T : Type 0} {G : Ghosts F} (o : Output T) (start : Mirror F G) (whol
   handled_of_file : (s : Shop) (bytes : List ℕ) (turns : List (Reply × Mirror F G)) (b : Mirror F G) → AreHandled mirror s bytes turns start b
       → AreHandled file_run s bytes (over_files turns) (file_disk start) (file_disk b)
   handled_of_file s bytes turns b x =
-      handled_run file_run s bytes (over_files turns) (file_disk start) (file_disk b) (run_of_file start whole s (line_messages bytes) turns b x.run)
+      handled_run file_run s bytes (over_files turns) (file_disk start) (file_disk b) (run_of_file start whole untaken s (line_messages bytes) turns b x.run)
 
   served_of_file : (s : Shop) (bytes : List ℕ) (b : Mirror F G) → AreServed mirror o s bytes start b old new
       → AreServed file_run o s bytes (file_disk start) (file_disk b) old new
   served_of_file s bytes b x = record {
     turns = over_files x.turns;
     handled = handled_of_file s bytes x.turns b x.handled;
-    told = subst ((at_once o).told old new) (same_images start whole x.turns) x.told;
+    told = subst ((at_once o).told old new) (same_instants start whole x.turns) x.told;
   }
 
   output_of_file : (s : Shop) (bytes : List ℕ) (b : Mirror F G) → AreServedToOutput mirror o s bytes start b old new
@@ -44,23 +44,23 @@ module _ {F T : Type 0} {G : Ghosts F} (o : Output T) (start : Mirror F G) (whol
     last = (x.last.0, file_disk x.last.1);
     handled = subst (λ turns. AreHandled file_run s bytes turns (file_disk start) (file_disk b)) (sym (over_files-more x.turns (x.last ∷ [])))
         (handled_of_file s bytes (x.turns ++ x.last ∷ []) b x.handled);
-    told = subst (λ turns. (at_once o).broken_off old new turns x.last.0) (same_images start whole x.turns) x.told;
+    told = subst (λ turns. (at_once o).broken_off old new turns (x.last.0, instant_of mirror x.last.1)) (same_instants start whole x.turns) x.told;
   }
 
   device_of_file : (s : Shop) (bytes : List ℕ) (b : Mirror F G) → AreServedToDevice mirror o s bytes start b old new
       → AreServedToDevice file_run o s bytes (file_disk start) (file_disk b) old new
   device_of_file s bytes b x =
       let ms : List Message = line_messages bytes in
-      let last : List (Reply × Image) = (x.run.last, mirror.image b) ∷ [] in
-      let run = failing_of_file start whole s ms x.run.turns x.run.last b x.run.run in
+      let last : Reply × Instant = (x.run.last, instant_of mirror b) in
+      let run = failing_of_file start whole untaken s ms x.run.turns x.run.last b x.run.run in
       record {
         run = record {
           turns = over_files x.run.turns;
           last = x.run.last;
           run = run;
           told = ⊎_elim
-              (λ t. inl (subst (λ turns. (at_once o).told old new (turns ++ last)) (same_images start whole x.run.turns) t))
-              (λ t. inr (subst (λ turns. (at_once o).broken_off old new turns x.run.last) (same_images start whole x.run.turns) t.0, t.1))
+              (λ t. inl (subst (λ turns. (at_once o).told old new (turns ++ last ∷ [])) (same_instants start whole x.run.turns) t))
+              (λ t. inr (subst (λ turns. (at_once o).broken_off old new turns last) (same_instants start whole x.run.turns) t.0, t.1))
               x.run.told;
         };
         stopped = (at_device file_run s ms [] ms (over_files x.run.turns) x.run.last (file_disk start) (file_disk b) (append-nil ms) run).0;

@@ -9,7 +9,7 @@ use Rattle.request_cards.specs.Requests.{Ask}
 use Rattle.request_cards.specs.declared.reply.Reply.{Reply}
 use Rattle.script_lines.specs.Lines.{lines}
 use Rattle.host_session.proofs.Chained.{run_rests, whole}
-use Rattle.host_session.specs.Chains.{HasRun, IsChain, over_images, told_in}
+use Rattle.host_session.specs.Chains.{HasRun, IsChain, over_instants, told_in}
 use Rattle.host_session.specs.Counted.{MayCount, after_all}
 use Rattle.host_session.specs.Events.{requests_of, uncut}
 use Rattle.host_session.specs.Handling.{media}
@@ -39,7 +39,7 @@ is_answered s state before (Some a) false reply counted is none counts told = re
 -- lines that were run in a chain, from this state on
 record AreAnswered {D : Type 0} (h : History D) (s : Shop) (before : List Ask) (ls : List (List ℕ)) (turns : List (Reply × D)) (t : Shop) : Type 0 where
   replies_are : told_in turns ≡ replies (start_of s) before ls
-  in_turn : SettledInTurn s before ls (over_images h turns)
+  in_turn : SettledInTurn s before ls (over_instants h turns)
   now : t ≡ with_state s (plain (start_of s) (before ++ requests_of ls))
 
 module _ {D : Type 0} (h : History D) where

@@ -105,6 +105,7 @@ module _ {D : Type 0} (h : History D) where
   same_run s ms ns xs old new same r = record {
     first = r.first;
     opening = r.opening;
+    quiet = r.quiet;
     later = r.later;
     rests = r.rests;
     now = r.now;

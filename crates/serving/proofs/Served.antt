@@ -2,10 +2,10 @@
 use Rattle.std.proofs.Common.{◌≡◌, ◌<◌, ⊎_elim, ◌∙◌, ℕ, List, [], ◌∷◌, ◌++◌, Option, Ok, Err, Result, map, refl, sym, subst, ap, inl, inr, append-nil, length}
 use Rattle.std.proofs.lemmas.List.{length-map}
 use Rattle.d64_image.specs.History.{History}
-use Rattle.d64_image.specs.Images.{Image}
 use Rattle.host_session.proofs.Chained.{at_device, whole}
 use Rattle.host_session.specs.Asking.{messages_in}
 use Rattle.host_session.specs.Events.{Message}
+use Rattle.host_session.specs.Instants.{Instant}
 use Rattle.host_session.specs.Loops.{IsRun, IsRunToDevice, IsRunToOutput, IsRunWhole}
 use Rattle.host_session.specs.Runs.{HeldBeginnings}
 use Rattle.host_session.specs.Shop.{IsShop, Shop}
@@ -34,7 +34,7 @@ module _ {D R T : Type 0} (h : History D) (remaining : R → Option (List ℕ)) 
   still_lent (Err (faults.Device, left)) k =
       let s = (k.cause refl).0 in ⊎_elim (λ t. t.0) (λ t. t.0.0) (k.device s.0 s.1 refl).0.told
 
-  module _ (taken : List (Message × Image)) (x : HasTaken remaining asked asks (messages_in taken)) (s : Shop) (left : D) where
+  module _ (taken : List (Message × Instant)) (x : HasTaken remaining asked asks (messages_in taken)) (s : Shop) (left : D) where
     abbrev Lines : List Message
     Lines = line_messages x.handled
 

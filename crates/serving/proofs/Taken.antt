@@ -4,12 +4,12 @@ use Rattle.std.specs.Prelude.{OnSome}
 use Rattle.std.specs.Io.KnownBytes.{Consumes, IsAtEnd}
 use Rattle.std.proofs.KnownBytes.{Consumes-nil, Consumes-trans}
 use Rattle.std.proofs.lemmas.List.{map-append}
-use Rattle.d64_image.specs.Images.{Image}
 use Rattle.request_cards.specs.Reading.{request_of}
 use Rattle.request_cards.specs.Requests.{Ask}
 use Rattle.script_lines.specs.Lines.{lines, without_cr}
 use Rattle.host_session.specs.Asking.{IsNext, TakesNone, TakesOne, messages_in}
 use Rattle.host_session.specs.Events.{Message, uncut}
+use Rattle.host_session.specs.Instants.{Instant}
 use Rattle.host_session.specs.declared.asking.Next.{Next}
 use Rattle.host_session.specs.declared.asking.Next.TheVariants as next
 use Rattle.serving.specs.Inputs.{AskTheSame, HasTaken, IsLineTaken, asked_in, line_messages, of_input}
@@ -41,9 +41,9 @@ module _ {R : Type 0} (remaining : R → Option (List ℕ)) (old new : OfInput R
 
   module _ (fresh : old.said ≡ next.Event) (same : new.input.ghost_name ≡ old.input.ghost_name) where
     -- a line more
-    line_taken : (image : Image) → new.said ≡ next.Event
-        → IsLineTaken (remaining old.input.now) (remaining new.input.now) new.line.items next.Event → TakesOne (of_input remaining) old new image
-    line_taken image said x = λ first xs k.
+    line_taken : (at : Instant) → new.said ≡ next.Event
+        → IsLineTaken (remaining old.input.now) (remaining new.input.now) new.line.items next.Event → TakesOne (of_input remaining) old new at
+    line_taken at said x = λ first xs k.
         let all : List ℕ = k.handled ++ (x.0 ++ 10 ∷ []) in
         let ms : List Message = messages_in xs in
         let asks : AskTheSame (ms ++ uncut new.line.items ∷ []) (line_messages all) = asks_more ms k.handled x.0 new.line.items k.whole x.1 x.2 k.asks in
@@ -55,7 +55,7 @@ module _ {R : Type 0} (remaining : R → Option (List ℕ)) (old new : OfInput R
           lacks = tt;
           read = subst (Consumes (remaining first.input.now) (remaining new.input.now)) (sym (append-nil all))
               (Consumes-trans (remaining first.input.now) (remaining old.input.now) (remaining new.input.now) k.handled (x.0 ++ 10 ∷ []) (read_whole first ms fresh k) x.3);
-          asks = subst (λ taken. AskTheSame taken (line_messages all)) (sym (map-append (λ y. y.0) xs ((uncut new.line.items, image) ∷ []))) asks;
+          asks = subst (λ taken. AskTheSame taken (line_messages all)) (sym (map-append (λ y. y.0) xs ((uncut new.line.items, at) ∷ []))) asks;
           ahead = λ _. refl;
           end = λ over. absurd (let e = sym said ∙ over in cc);
         }
@@ -78,23 +78,23 @@ module _ {R : Type 0} (remaining : R → Option (List ℕ)) (old new : OfInput R
         }
 
     -- what taking a line came to
-    pub next_taken : (image : Image) (said : Next) → new.said ≡ said → new.left < old.left
-        → IsLineTaken (remaining old.input.now) (remaining new.input.now) new.line.items said → IsNext (of_input remaining) old new image said
-    next_taken image next.Event is fewer x = (line_taken image is x, fewer)
-    next_taken image next.End is fewer x = (rest_taken (λ said. let e = sym is ∙ said in cc) x.0 x.1 x.2 (λ _. x.3), is)
-    next_taken image next.Failed is fewer x =
+    pub next_taken : (at : Instant) (said : Next) → new.said ≡ said → new.left < old.left
+        → IsLineTaken (remaining old.input.now) (remaining new.input.now) new.line.items said → IsNext (of_input remaining) old new at said
+    next_taken at next.Event is fewer x = (line_taken at is x, fewer)
+    next_taken at next.End is fewer x = (rest_taken (λ said. let e = sym is ∙ said in cc) x.0 x.1 x.2 (λ _. x.3), is)
+    next_taken at next.Failed is fewer x =
         (rest_taken (λ said. let e = sym is ∙ said in cc) x.0 x.1 x.2 (λ said. absurd (let e = sym is ∙ said in cc)), is)
 
     -- as many lines were taken as there may be
-    pub none_left : (image : Image) → new.input.now ≡ old.input.now → new.said ≡ next.Failed → IsNext (of_input remaining) old new image next.Failed
-    none_left image input is =
+    pub none_left : (at : Instant) → new.input.now ≡ old.input.now → new.said ≡ next.Failed → IsNext (of_input remaining) old new at next.Failed
+    none_left at input is =
         let none : Consumes (remaining old.input.now) (remaining new.input.now) [] =
         subst (λ i. Consumes (remaining old.input.now) (remaining i) []) (sym input) (Consumes-nil (remaining old.input.now)) in
         (rest_taken (λ said. let e = sym is ∙ said in cc) [] tt none (λ said. absurd (let e = sym is ∙ said in cc)), is)
 
 -- behind an end or a failure the same is said again
-pub said_again : {R : Type 0} (remaining : R → Option (List ℕ)) (x : OfInput R) (image : Image) (said : Next) → x.said ≡ said → (said ≡ next.Event → ⊥)
-    → IsNext (of_input remaining) x x image said
-said_again remaining x image next.Event is never = absurd (never refl)
-said_again remaining x image next.End is never = (λ first xs k. k, is)
-said_again remaining x image next.Failed is never = (λ first xs k. k, is)
+pub said_again : {R : Type 0} (remaining : R → Option (List ℕ)) (x : OfInput R) (at : Instant) (said : Next) → x.said ≡ said → (said ≡ next.Event → ⊥)
+    → IsNext (of_input remaining) x x at said
+said_again remaining x at next.Event is never = absurd (never refl)
+said_again remaining x at next.End is never = (λ first xs k. k, is)
+said_again remaining x at next.Failed is never = (λ first xs k. k, is)

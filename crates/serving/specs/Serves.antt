@@ -2,14 +2,14 @@
 use Rattle.std.specs.Prelude.{◌≡◌, ◌⊎◌, ℕ, IfErr, IfOk, List, [], ◌∷◌, ◌++◌, OnSome, Option, Result, option_to_list}
 use Rattle.std.specs.Io.KnownBytes.{Consumes, IsAtEnd}
 use Rattle.d64_image.specs.History.{Failed, History, NeverFailed}
-use Rattle.d64_image.specs.Images.{Image}
 use Rattle.request_cards.specs.Ledgers.{plain, replies}
 use Rattle.request_cards.specs.Reading.{request_of}
 use Rattle.request_cards.specs.Requests.{Ask}
 use Rattle.request_cards.specs.declared.reply.Reply.{Reply}
 use Rattle.script_lines.specs.Lines.{lines}
-use Rattle.host_session.specs.Chains.{HasRun, over_images, told_in}
+use Rattle.host_session.specs.Chains.{HasRun, over_instants, told_in}
 use Rattle.host_session.specs.Events.{requests_of}
+use Rattle.host_session.specs.Instants.{Instant, instant_of}
 use Rattle.host_session.specs.Loops.{IsToldToDevice}
 use Rattle.host_session.specs.Opening.{IsAShop, disk_of}
 use Rattle.host_session.specs.Runs.{HeldBeginnings, IsPlayedWhole, IsRefused, StoppedByDevice}
@@ -22,11 +22,11 @@ use Rattle.serving.specs.AtOnce.{at_once}
 use Rattle.serving.specs.Inputs.{line_messages}
 use Rattle.serving.specs.Read.{AreWhole, LacksLf}
 
--- When each line's reply was told, behind the requests `before`, the image was the shop's after that line, at rest.
-abbrev pub SettledInTurn : Shop → (before : List Ask) → List (List ℕ) → List (Reply × Image) → Type 0
+-- When each line's reply was told, behind the requests `before`, the disk held the shop after that line, at rest.
+abbrev pub SettledInTurn : Shop → (before : List Ask) → List (List ℕ) → List (Reply × Instant) → Type 0
 SettledInTurn s before [] [] = Unit {0}
 SettledInTurn s before (l ∷ ls) (t ∷ ts) =
-    IsSettled t.1 (with_state s (plain (start_of s) (before ++ option_to_list (request_of l))))
+    IsSettled t.1.image (with_state s (plain (start_of s) (before ++ option_to_list (request_of l))))
     × SettledInTurn s (before ++ option_to_list (request_of l)) ls ts
 SettledInTurn s before _ _ = ⊥
 
@@ -36,26 +36,27 @@ pub record AreHandled {D : Type 0} (h : History D) (s : Shop) (bytes : List ℕ)
     (disk left : D) : Type 0 where
   pub run : HasRun h s (line_messages bytes) turns disk left
   pub replies_are : told_in turns ≡ replies (start_of s) [] (lines bytes)
-  pub in_turn : SettledInTurn s [] (lines bytes) (over_images h turns)
+  pub in_turn : SettledInTurn s [] (lines bytes) (over_instants h turns)
   -- each of them counts, and the shop is at rest
   pub played : IsPlayedWhole h s (line_messages bytes) disk left (told_in turns)
   pub rests : IsSettled (h.image left) (with_state s (plain (start_of s) (requests_of (lines bytes))))
 
 -- The lines of these bytes were served: each reply was told over the disk that its line left, and handed on before the
--- next one was told; and nothing else was.
+-- next one was told; and nothing else was. The disk at the end is the one over which the last was told.
 pub record AreServed {D T : Type 0} (h : History D) (o : Output T) (s : Shop) (bytes : List ℕ) (disk left : D)
     (old new : T) : Type 0 where
   pub turns : List (Reply × D)
   pub handled : AreHandled h s bytes turns disk left
-  pub told : (at_once o).told old new (over_images h turns)
+  pub told : (at_once o).told old new (over_instants h turns)
 
--- The same of all replies but the last, which was broken off, or couldn't be handed on; and nothing else was told.
+-- The same of all replies but the last, which was broken off over the disk that is left, or told over it and couldn't be
+-- handed on; and nothing else was told.
 pub record AreServedToOutput {D T : Type 0} (h : History D) (o : Output T) (s : Shop) (bytes : List ℕ) (disk left : D)
     (old new : T) : Type 0 where
   pub turns : List (Reply × D)
   pub last : Reply × D
   pub handled : AreHandled h s bytes (turns ++ last ∷ []) disk left
-  pub told : (at_once o).broken_off old new (over_images h turns) last.0
+  pub told : (at_once o).broken_off old new (over_instants h turns) (last.0, instant_of h last.1)
 
 -- The lines of these bytes were handled up to the last, in which the device failed. The replies before its own were
 -- told and handed on, and nothing else but that one, or a part of it.

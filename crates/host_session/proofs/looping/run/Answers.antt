@@ -23,7 +23,7 @@ returns-in-Cut g c =
     let from : Origin g.row.D.Denot g.row.A.Denot g.row.T.Denot =
     record { shop = ok.0; disk = c.args.disk; asks = c.args.asks.now; out = c.args.out.now } in
     let later : h.failures c.args.disk ≤ h.failures c.in-Ok.session.disk = omega (arith, c.in-Ok.ensures.failures) in
-    let come = has_none h a o from c.in-Ok.session.disk (c.in-Ok.ensures.moments ok.0 ok.1).held later ok.2 in
+    let come = has_none h a o from c.in-Ok.session.disk (c.in-Ok.ensures.moments ok.0 ok.1) (c.in-Ok.ensures.quiet ok.0) later ok.2 in
     let stretch = subst (IsStretch h a o from c.whole_messages.new.session c.whole_messages.new.asks c.whole_messages.new.out) c.in-Cut.is
     (c.whole_messages.ensures.way from come ok.3) in
     run_ended h a o from c.run_on.new.asks c.run_on.new.out ok.1 c.run_on.result (c.run_on.ensures from stretch.1 stretch.0)
@@ -37,7 +37,7 @@ returns-in-Ended g c =
     let from : Origin g.row.D.Denot g.row.A.Denot g.row.T.Denot =
     record { shop = ok.0; disk = c.args.disk; asks = c.args.asks.now; out = c.args.out.now } in
     let later : h.failures c.args.disk ≤ h.failures c.in-Ok.session.disk = omega (arith, c.in-Ok.ensures.failures) in
-    let come = has_none h a o from c.in-Ok.session.disk (c.in-Ok.ensures.moments ok.0 ok.1).held later ok.2 in
+    let come = has_none h a o from c.in-Ok.session.disk (c.in-Ok.ensures.moments ok.0 ok.1) (c.in-Ok.ensures.quiet ok.0) later ok.2 in
     let stretch = subst (IsStretch h a o from c.whole_messages.new.session c.whole_messages.new.asks c.whole_messages.new.out) c.in-Ended.is
     (c.whole_messages.ensures.way from come ok.3) in
     run_ended h a o from c.whole_messages.new.asks c.whole_messages.new.out ok.1 c.ended.result

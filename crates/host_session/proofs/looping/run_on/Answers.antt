@@ -2,6 +2,7 @@
 use Rattle.std.proofs.Common.{◌≡◌, ◌∙◌, false, not, ap, subst, sym}
 use Rattle.request_cards.specs.declared.reply.Reply.TheVariants.{Cut}
 use Rattle.host_session.proofs.Looped.{breaks_off, cut_is, fails, goes_on, is_reset, was_broken, was_told}
+use Rattle.host_session.specs.Instants.{instant_of}
 use Rattle.host_session.specs.Loops.{Ends, EndsBy, IsStretch, with_disk}
 use Rattle.host_session.specs.OneEvent.{EndsFailed, GoesOn, IsEvent}
 use Rattle.host_session.specs.declared.looping.LoopFault.TheVariants as faults
@@ -35,8 +36,8 @@ returns-then-is_err g c = λ from w alive.
     let told = c.tell-in-loop-next in
     subst (λ d. EndsBy h a o from c.loop-next.asks told.new.self d faults.Output) (sym c.close.ensures)
     (breaks_off h a o from x y c.loop-next.asks Cut c.loop-next.out told.new.self (c.in-Ok.next.dead ≡ false)
-    (was_broken o c.loop-next.out told.new.self Cut (h.image y) told.result (sym c.is_err.ensures.value ∙ c.if-is_err.true)
-    (subst (λ d. IsTold o c.loop-next.out told.new.self Cut (h.image d) told.result) c.disk.ensures told.ensures))
+    (was_broken o c.loop-next.out told.new.self Cut (instant_of h y) told.result (sym c.is_err.ensures.value ∙ c.if-is_err.true)
+    (subst (λ d. IsTold o c.loop-next.out told.new.self Cut (instant_of h d) told.result) c.disk.ensures told.ensures))
     (λ t settled.
     let e = c.in-Ok.ensures.done t settled before.0 in (
       e.0,
@@ -59,8 +60,8 @@ loop-next-preserved g c =
       way = λ from w alive.
           let before = c.loop-next.invariant.way from w alive in
           let come = goes_on h a o from x y c.loop-next.asks Cut c.loop-next.out told.new.self (c.in-Ok.next.dead ≡ false)
-          (was_told o c.loop-next.out told.new.self Cut (h.image y) told.result (c.is_err.ensures.negation ∙ ap not c.if-is_err.false)
-          (subst (λ d. IsTold o c.loop-next.out told.new.self Cut (h.image d) told.result) c.disk.ensures told.ensures))
+          (was_told o c.loop-next.out told.new.self Cut (instant_of h y) told.result (c.is_err.ensures.negation ∙ ap not c.if-is_err.false)
+          (subst (λ d. IsTold o c.loop-next.out told.new.self Cut (instant_of h d) told.result) c.disk.ensures told.ensures))
           (λ t settled.
           let e = c.in-Ok.ensures.done t settled before.0 in (
             e.0,
@@ -83,8 +84,8 @@ returns-in-Ended g c = λ from w alive.
     let m = a.here c.loop-next.asks in
     let told = c.tell-in-loop-next in
     let come = goes_on h a o from x y c.loop-next.asks Cut c.loop-next.out told.new.self (c.in-Ok.next.dead ≡ false)
-    (was_told o c.loop-next.out told.new.self Cut (h.image y) told.result (c.is_err.ensures.negation ∙ ap not c.if-is_err.false)
-    (subst (λ d. IsTold o c.loop-next.out told.new.self Cut (h.image d) told.result) c.disk.ensures told.ensures))
+    (was_told o c.loop-next.out told.new.self Cut (instant_of h y) told.result (c.is_err.ensures.negation ∙ ap not c.if-is_err.false)
+    (subst (λ d. IsTold o c.loop-next.out told.new.self Cut (instant_of h d) told.result) c.disk.ensures told.ensures))
     (λ t settled.
     let e = c.in-Ok.ensures.done t settled before.0 in (
       e.0,

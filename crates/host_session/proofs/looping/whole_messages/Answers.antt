@@ -2,6 +2,7 @@
 use Rattle.std.proofs.Common.{◌≡◌, ◌∙◌, false, arith, le_refl, not, ap, subst, sym}
 use Rattle.std.proofs.lemmas.Bool.{false≢true}
 use Rattle.host_session.proofs.Looped.{at_end, at_fault, breaks_off, fails, goes_on, is_whole, no_cut, some_cut, takes_one, was_asked, was_broken, was_told}
+use Rattle.host_session.specs.Instants.{instant_of}
 use Rattle.host_session.specs.OneEvent.{EndsFailed, GoesOn, IsEvent}
 use Rattle.host_session.specs.Telling.{IsTold}
 use Rattle.host_session.proofs.looping.whole_messages.Goals as goal
@@ -53,7 +54,7 @@ returns-then-is_media-clause-way g c = λ from w alive.
     let reply = c.whole_message-reply.result in
     let m = a.here c.next.new.self in
     fails h a o from x y c.next.new.self reply c.loop-asks.out c.tell-taken.new.self c.tell-taken.result
-    (subst (λ d. IsTold o c.loop-asks.out c.tell-taken.new.self reply (h.image d) c.tell-taken.result)
+    (subst (λ d. IsTold o c.loop-asks.out c.tell-taken.new.self reply (instant_of h d) c.tell-taken.result)
     c.disk-in-loop-asks.ensures c.tell-taken.ensures)
     (λ t settled. subst (λ n. IsEvent h t n x y (EndsFailed h t n reply y))
     (is_whole m c.message.result.now c.message.ensures (no_cut _ c.cut.result _ c.cut.ensures (sym c.is_some.ensures ∙ c.if-is_some.false)))
@@ -73,8 +74,8 @@ returns-then-is_err-clause-way g c = λ from w alive.
     let reply = c.whole_message-reply.result in
     let m = a.here c.next.new.self in
     breaks_off h a o from x y c.next.new.self reply c.loop-asks.out c.tell-taken.new.self (c.whole_message-reply.new.session.dead ≡ false)
-    (was_broken o c.loop-asks.out c.tell-taken.new.self reply (h.image y) c.tell-taken.result (sym c.is_err.ensures.value ∙ c.if-is_err.true)
-    (subst (λ d. IsTold o c.loop-asks.out c.tell-taken.new.self reply (h.image d) c.tell-taken.result)
+    (was_broken o c.loop-asks.out c.tell-taken.new.self reply (instant_of h y) c.tell-taken.result (sym c.is_err.ensures.value ∙ c.if-is_err.true)
+    (subst (λ d. IsTold o c.loop-asks.out c.tell-taken.new.self reply (instant_of h d) c.tell-taken.result)
     c.disk-in-loop-asks.ensures c.tell-taken.ensures))
     (λ t settled.
     let e = c.whole_message-reply.ensures.done t settled before.0 (λ is. false≢true (sym c.if-is_media.false ∙ c.is_media.ensures.1 is)) in (
@@ -101,8 +102,8 @@ loop-asks-preserved g c =
       way = λ from w alive.
           let before = c.loop-asks.invariant.way from w alive in
           goes_on h a o from x y c.next.new.self reply c.loop-asks.out c.tell-taken.new.self (c.whole_message-reply.new.session.dead ≡ false)
-          (was_told o c.loop-asks.out c.tell-taken.new.self reply (h.image y) c.tell-taken.result (c.is_err.ensures.negation ∙ ap not c.if-is_err.false)
-          (subst (λ d. IsTold o c.loop-asks.out c.tell-taken.new.self reply (h.image d) c.tell-taken.result)
+          (was_told o c.loop-asks.out c.tell-taken.new.self reply (instant_of h y) c.tell-taken.result (c.is_err.ensures.negation ∙ ap not c.if-is_err.false)
+          (subst (λ d. IsTold o c.loop-asks.out c.tell-taken.new.self reply (instant_of h d) c.tell-taken.result)
           c.disk-in-loop-asks.ensures c.tell-taken.ensures))
           (λ t settled.
           let e = c.whole_message-reply.ensures.done t settled before.0 (λ is. false≢true (sym c.if-is_media.false ∙ c.is_media.ensures.1 is)) in (

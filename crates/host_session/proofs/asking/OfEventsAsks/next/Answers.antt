@@ -4,6 +4,7 @@ use Rattle.host_session.proofs.EventEnds.{next_taken, taken_last}
 use Rattle.host_session.proofs.Reports.{taken_on}
 use Rattle.host_session.specs.Asking.{last_taken, message_here}
 use Rattle.host_session.specs.Events.{Message, message_of}
+use Rattle.host_session.specs.Instants.{instant_of}
 use Rattle.host_session.proofs.asking.OfEventsAsks.next.Goals as goal
 
 pub returns : goal.returns
@@ -15,7 +16,7 @@ returns g c =
           let here = ap (λ es. message_here (last_taken (n + 1) es)) given.0 ∙ ap message_here (taken_last first.events.now n) in
           let left : List Message = map message_of (drop (n + 1) first.events.now) in (
             given.0,
-            taken_on xs _ _ _ _ (g.D.Sectors.history.image c.args._disk.now) given.1
+            taken_on xs _ _ _ _ (instant_of g.D.Sectors.history c.args._disk.now) given.1
                 (next_taken first.events.now n below ∙ ap (λ m. m ∷ left) (sym here)),
           ),
       omega arith,

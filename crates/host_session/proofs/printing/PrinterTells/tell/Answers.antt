@@ -4,6 +4,7 @@ use Rattle.std.specs.Prelude.{OnErr, OnOk}
 use Rattle.std.specs.Io.KnownBytes.{Appends}
 use Rattle.std.proofs.lemmas.List.{take_all}
 use Rattle.host_session.proofs.Printed.{is_printed}
+use Rattle.host_session.specs.Instants.{instant_of}
 use Rattle.host_session.specs.Outputs.{AppendsPart, line_of, printer_out}
 use Rattle.host_session.proofs.printing.PrinterTells.tell.Goals as goal
 
@@ -16,6 +17,6 @@ returns g c =
     let line : take (44 - c.write-start.result) (drop c.write-start.result room) ≡ line_of c.args.reply.now = all ∙ c.write-start.ensures.written in
     let a = contents (printer_out c.args.self.now) in
     let b = contents c.write_whole.new.out in
-    is_printed contents c.args.self.now (record { out = c.write_whole.new.out }) c.args.reply.now (g.D.Sectors.history.image c.args._disk.now) c.write_whole.result
+    is_printed contents c.args.self.now (record { out = c.write_whole.new.out }) c.args.reply.now (instant_of g.D.Sectors.history c.args._disk.now) c.write_whole.result
     (subst (λ xs. OnOk c.write_whole.result (Appends a b xs)) line c.write_whole.ensures.ok)
     (subst (λ xs. OnErr c.write_whole.result (AppendsPart a b xs)) line c.write_whole.ensures.err)

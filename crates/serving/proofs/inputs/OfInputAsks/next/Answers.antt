@@ -1,9 +1,10 @@
 -- What taking a line came to.
 use Rattle.std.proofs.Common.{refl, arith}
+use Rattle.host_session.specs.Instants.{instant_of}
 use Rattle.serving.proofs.Taken.{next_taken}
 use Rattle.serving.proofs.inputs.OfInputAsks.next.Goals as goal
 
 pub returns : goal.returns
 returns g c =
-    next_taken g.R.Read.remaining c.args.self.now _ c.in-Event.is refl (g.D.Sectors.history.image c.args._disk.now) c.take_line-self.result refl
+    next_taken g.R.Read.remaining c.args.self.now _ c.in-Event.is refl (instant_of g.D.Sectors.history c.args._disk.now) c.take_line-self.result refl
     (omega (arith, c.in-Some.ensures)) c.take_line-self.ensures
