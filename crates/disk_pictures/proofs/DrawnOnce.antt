@@ -14,8 +14,8 @@ use Rattle.disk_layout.specs.Chain.{EachOnce}
 use Rattle.disk_layout.specs.Directory.{map_place, type_byte}
 use Rattle.disk_layout.specs.Layout.{File, Layout, is_rel}
 use Rattle.disk_pictures.specs.Drawings.{GoesFrom, IsDrawn, IsDrawnFile, IsDrawnOnce, has, is_place, owner_among, owner_of}
-use Rattle.disk_pictures.specs.declared.drawing.Owner.{Owner}
-use Rattle.disk_pictures.specs.declared.drawing.Owner.TheVariants as owner
+use Rattle.disk_pictures.specs.declared.owners.Owner.{Owner}
+use Rattle.disk_pictures.specs.declared.owners.Owner.TheVariants as owner
 
 split : (a b : Bool) → (a && b) ≡ true → (a ≡ true) × (b ≡ true)
 split true true e = (refl, refl)

@@ -13,8 +13,8 @@ use Rattle.disk_pictures.specs.Maps.{entry_line, letter, mark_of, owner_mark, re
 use Rattle.disk_pictures.specs.Texts.{is_fault_at, is_free, type_text}
 use Rattle.disk_pictures.specs.Names.{name_of}
 use Rattle.disk_pictures.proofs.Printing.{ascii}
-use Rattle.disk_pictures.specs.declared.drawing.Owner.{Owner}
-use Rattle.disk_pictures.specs.declared.drawing.Owner.TheVariants as owner
+use Rattle.disk_pictures.specs.declared.owners.Owner.{Owner}
+use Rattle.disk_pictures.specs.declared.owners.Owner.TheVariants as owner
 
 either : (b : Bool) (x y : ℕ) → x < 128 → y < 128 → (if b then x else y) < 128
 either true x y p q = p

@@ -12,8 +12,8 @@ use Rattle.disk_layout.specs.Layout.{File, IsLayout, Layout, file_owns, owners}
 use Rattle.disk_pictures.proofs.DrawnOnce.{has-there, there-has}
 use Rattle.disk_pictures.proofs.Sound.{drawn-own}
 use Rattle.disk_pictures.specs.Drawings.{IsDrawn, IsOwnedBy, has, owner_among, owner_of}
-use Rattle.disk_pictures.specs.declared.drawing.Owner.{Owner}
-use Rattle.disk_pictures.specs.declared.drawing.Owner.TheVariants as owner
+use Rattle.disk_pictures.specs.declared.owners.Owner.{Owner}
+use Rattle.disk_pictures.specs.declared.owners.Owner.TheVariants as owner
 
 none-has : (ps : List Place) (p : Place) → ¬ (Contains ps p) → has ps p ≡ false
 none-has ps p out = by (has ps p) refl

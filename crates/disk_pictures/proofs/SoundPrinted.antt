@@ -5,7 +5,7 @@ use Rattle.d64_image.specs.Memory.{sectors_in}
 use Rattle.disk_layout.specs.Layout.{IsLayout, Layout}
 use Rattle.disk_layout.specs.declared.faults.Fault.{Fault}
 use Rattle.disk_pictures.proofs.Sound.{drawn-own}
-use Rattle.disk_pictures.specs.Drawings.{drawn_in}
+use Rattle.disk_pictures.specs.Held.{drawn_in}
 use Rattle.disk_pictures.specs.Outcomes.{IsJudged, map_in}
 use Rattle.disk_pictures.specs.declared.drawing.Drawing.{Drawing}
 

@@ -8,10 +8,9 @@ use Rattle.disk_layout.specs.Chain.{EachOnce, Names, NamesNone}
 use Rattle.disk_layout.specs.Directory.{IsDirectory, map_place, type_byte}
 use Rattle.disk_layout.specs.Layout.{File, Layout, OwnsNothing, is_rel, owners, sides_for}
 use Rattle.disk_layout.specs.declared.slot.Slot.{Slot}
-use Rattle.disk_pictures.specs.declared.drawing.DrawnFile.{DrawnFile}
-use Rattle.disk_pictures.specs.declared.drawing.Drawing.{Drawing}
-use Rattle.disk_pictures.specs.declared.drawing.Owner.{Owner}
-use Rattle.disk_pictures.specs.declared.drawing.Owner.TheVariants as owner
+use Rattle.disk_pictures.specs.declared.drawn_file.DrawnFile.{DrawnFile}
+use Rattle.disk_pictures.specs.declared.owners.Owner.{Owner}
+use Rattle.disk_pictures.specs.declared.owners.Owner.TheVariants as owner
 
 -- ps are the sectors that the links come to from the place that the bytes at i name; none where they name no place
 abbrev pub GoesFrom : Image → Sector → ℕ → List Place → ℕ → Type 0
@@ -66,9 +65,9 @@ owner_of l p =
 abbrev pub file_in : DrawnFile → File
 file_in f = record { slot = f.slot; blocks = f.blocks.items; last = f.last; sides = f.sides.items }
 
--- a drawing as the code holds it
-abbrev pub drawn_in : Drawing → Layout
-drawn_in d = record { directory = d.directory.items; files = map file_in d.files.items }
+-- what is drawn: these sectors of the directory, and these entries
+abbrev pub drawn_of : List Place → List DrawnFile → Layout
+drawn_of directory files = record { directory = directory; files = map file_in files }
 
 -- the sector is drawn with this owner, and once: no owner has it twice; and as of nobody where nothing drawn has it
 abbrev pub IsDrawnOnce : Layout → Place → Owner → Type 0

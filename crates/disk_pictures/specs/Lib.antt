@@ -1,9 +1,11 @@
 pub mod Drawings
 pub mod Faults
+pub mod Held
 pub mod Html
 pub mod Maps
 pub mod Markup
 pub mod Names
 pub mod Outcomes
+pub mod Owners
 pub mod Pictures
 pub mod Texts

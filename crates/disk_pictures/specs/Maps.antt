@@ -10,8 +10,8 @@ use Rattle.byte_text.specs.Texts.{text_of}
 use Rattle.disk_pictures.specs.Drawings.{owner_of}
 use Rattle.disk_pictures.specs.Names.{name_of}
 use Rattle.disk_pictures.specs.Texts.{at_place, each_below, has_records, is_fault_at, is_free, numbered, records_in, type_text, verdict_text}
-use Rattle.disk_pictures.specs.declared.drawing.Owner.{Owner}
-use Rattle.disk_pictures.specs.declared.drawing.Owner.TheVariants as owner
+use Rattle.disk_pictures.specs.declared.owners.Owner.{Owner}
+use Rattle.disk_pictures.specs.declared.owners.Owner.TheVariants as owner
 
 -- the letter of entry k among 26 from this one on: 97 is a, 65 is A
 abbrev pub letter : ℕ → ℕ → ℕ

@@ -8,7 +8,8 @@ use Rattle.disk_layout.specs.Directory.{map_place}
 use Rattle.disk_layout.specs.Fault.{HoldsOfClean, HoldsOfDirectory, nowhere}
 use Rattle.disk_layout.specs.Layout.{Layout}
 use Rattle.disk_layout.specs.declared.faults.Fault.{Fault}
-use Rattle.disk_pictures.specs.Drawings.{IsDrawn, drawn_in}
+use Rattle.disk_pictures.specs.Drawings.{IsDrawn}
+use Rattle.disk_pictures.specs.Held.{drawn_in}
 use Rattle.disk_pictures.specs.Maps.{map_text}
 use Rattle.disk_pictures.specs.Pictures.{picture_page}
 use Rattle.disk_pictures.specs.declared.drawing.Drawing.{Drawing}

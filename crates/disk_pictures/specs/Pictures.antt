@@ -14,8 +14,8 @@ use Rattle.disk_pictures.specs.Drawings.{owner_of}
 use Rattle.disk_pictures.specs.Html.{html_of}
 use Rattle.disk_pictures.specs.Names.{disk_name, name_of}
 use Rattle.disk_pictures.specs.Texts.{at_place, each_below, has_records, is_free, numbered, place_of, records_in, type_text, verdict_text}
-use Rattle.disk_pictures.specs.declared.drawing.Owner.{Owner}
-use Rattle.disk_pictures.specs.declared.drawing.Owner.TheVariants as owner
+use Rattle.disk_pictures.specs.declared.owners.Owner.{Owner}
+use Rattle.disk_pictures.specs.declared.owners.Owner.TheVariants as owner
 use Rattle.disk_pictures.specs.declared.arcs.Layer.{Layer}
 use Rattle.disk_pictures.specs.declared.arcs.Layer.TheVariants as layer
 

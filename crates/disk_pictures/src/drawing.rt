@@ -1,22 +1,12 @@
 //! What is drawn of a disk: its map, its directory, and of each entry the sectors that its links come to.
 ghost use Rattle.std.specs.Prelude.{◌≡◌, ◌≤◌, length};
+ghost use Rattle.d64_image.specs.declared.place.Place.{Place};
+ghost use Rattle.disk_pictures.specs.Drawings.{drawn_of, owner_of};
+ghost use Rattle.disk_pictures.specs.Owners.{owner_in};
 
+use crate::drawn_file::DrawnFile;
+use crate::owners::{Owner, Owners};
 use d64_image::Place;
-use disk_layout::Slot;
-
-/// A used entry of the directory, and what is drawn of it.
-#[derive(Drop)]
-pub(crate) struct DrawnFile {
-    /// The entry.
-    pub(crate) slot: Slot,
-    /// The blocks that its links come to, in order and each once.
-    pub(crate) blocks: Vec<Place>,
-    /// The index of the last used byte in the last block, and 0 where no block ends the chain.
-    pub(crate) last: u8,
-    /// The side sectors of a relative entry, in order: no more than its blocks need.
-    pub(crate) sides: Vec<Place>,
-    pub ghost few: { length blocks.items ≤ 720 },
-}
 
 /// What is drawn of a disk.
 #[derive(Drop)]
@@ -27,22 +17,36 @@ pub(crate) struct Drawing {
     pub(crate) directory: Vec<Place>,
     /// The entries, in the directory's order.
     pub(crate) files: Vec<DrawnFile>,
+    /// Whose each sector is.
+    owners: Owners,
     pub ghost whole: { length map ≡ 256 },
     pub ghost some: { length files.items ≤ 144 },
+    pub ghost owned: { (p : Place) → owner_in owners p
+        ≡ owner_of (drawn_of directory.items files.items) p },
 }
 
-/// Whose a sector is: of several that have it the first in the order of these, and of several entries the first in the
-/// directory, by its blocks before its side sectors.
-#[derive(Clone, Copy, Debug, PartialEq, Eq)]
-pub(crate) enum Owner {
-    /// The map: 18/0.
-    Map,
-    /// The directory.
-    Directory,
-    /// The entry with this number, from 0, as one of its blocks.
-    Blocks(usize),
-    /// The entry with this number, as one of its side sectors.
-    Sides(usize),
-    /// Nothing that is drawn.
-    Nobody,
+impl Drawing {
+    ghost use Rattle.disk_pictures.specs.Held.{drawn_in};
+
+    /// The drawing of these, with a table of whose each sector is.
+    pub(crate) fn new(map: [u8; 256], directory: Vec<Place>, files: Vec<DrawnFile>) -> Drawing
+        requires few { length files.items ≤ 144 }
+        ensures drawn { drawn_in result ≡ drawn_of directory.items files.items }
+        ensures map { result.map ≡ map }
+    {
+        let owners = Owners::of(directory.as_slice(), files.as_slice());
+        Drawing {
+            map,
+            directory,
+            files,
+            owners,
+        }
+    }
+
+    /// Whose the sector is.
+    pub(crate) fn owner(&self, place: Place) -> Owner
+        ensures { result ≡ owner_of (drawn_in self.now) place }
+    {
+        self.owners.owner(place)
+    }
 }

@@ -6,7 +6,7 @@ ghost use Rattle.disk_layout.specs.Layout.{is_rel};
 ghost use Rattle.disk_pictures.specs.Drawings.{AreDrawnSides, IsDrawnFile, file_in};
 ghost use Rattle.disk_pictures.specs.Faults.{IsMemoryFault};
 
-use crate::drawing::DrawnFile;
+use crate::drawn_file::DrawnFile;
 use crate::faults::PictureFault;
 use arrayvec::ArrayVec;
 use d64_image::{MemDisk, Place};

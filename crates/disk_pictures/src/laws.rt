@@ -10,7 +10,7 @@ ghost use Rattle.disk_pictures.specs.Drawings.{IsDrawn, IsDrawnOnce, IsOwnedBy, 
 ghost use Rattle.disk_pictures.specs.Html.{html_of};
 ghost use Rattle.disk_pictures.specs.Markup.{IsEscaped, markup_of};
 ghost use Rattle.disk_pictures.specs.Pictures.{page_text, picture_page};
-ghost use Rattle.disk_pictures.specs.declared.drawing.Owner.{Owner};
+ghost use Rattle.disk_pictures.specs.declared.owners.Owner.{Owner};
 
 /// Bytes of a disk have no quotation mark, no `<` and no `>` where they are shown in a page, and each `&` of theirs
 /// begins an escape. So the markup of the page of an image, whatever its bytes are, is that of the page in which none

@@ -3,6 +3,7 @@
 
 mod arcs;
 mod drawing;
+mod drawn_file;
 mod faults;
 mod files;
 mod html;

@@ -1,44 +1,85 @@
-//! Whose a sector is.
-ghost use Rattle.std.specs.Prelude.{◌≡◌, map};
-ghost use Rattle.disk_pictures.specs.Drawings.{drawn_in, file_in, has, owner_among, owner_of};
+//! Whose a sector is: a table with an owner for each place of the disk.
+ghost use Rattle.std.specs.Prelude.{◌≡◌, length};
 
-use crate::drawing::{Drawing, DrawnFile, Owner};
+use crate::drawn_file::DrawnFile;
 use d64_image::Place;
 use disk_layout::map_place;
 
-/// Whether the place is one of these.
-fn is_among(places: &[Place], place: Place) -> bool
-    ensures { result ≡ has places.now place }
-{
-    places.contains(&place)
+/// Whose a sector is: of several that have it the first in the order of these, and of several entries the first in the
+/// directory, by its blocks before its side sectors.
+#[derive(Clone, Copy, Debug, PartialEq, Eq)]
+pub(crate) enum Owner {
+    /// The map: 18/0.
+    Map,
+    /// The directory.
+    Directory,
+    /// The entry with this number, from 0, as one of its blocks.
+    Blocks(usize),
+    /// The entry with this number, as one of its side sectors.
+    Sides(usize),
+    /// Nothing that is drawn.
+    Nobody,
 }
 
-/// The first of these entries that has the sector.
-fn first_owner(files: &[DrawnFile], place: Place) -> Owner
-    ensures { result ≡ owner_among 0 (map file_in files.now) place }
-{
-    for (number, file) in files.iter().enumerate() {
-        if is_among(file.blocks.as_slice(), place) {
-            return Owner::Blocks(number);
-        }
-        if is_among(file.sides.as_slice(), place) {
-            return Owner::Sides(number);
+/// An owner for each place of the disk, so that asking takes the same time for each.
+#[derive(Drop)]
+pub(crate) struct Owners {
+    owners: [Owner; 683],
+    pub ghost full: { length owners ≡ 683 },
+}
+
+impl Owners {
+    ghost use Rattle.std.specs.Prelude.{if◌then◌else◌, map};
+    ghost use Rattle.disk_pictures.specs.Drawings.{drawn_of, file_in, has, owner_among, owner_of};
+    ghost use Rattle.disk_pictures.specs.Owners.{owner_in};
+    ghost use Rattle.disk_pictures.specs.declared.owners.Owner.TheVariants as owners;
+
+    /// Those of what is drawn: the directory's sectors and the entries.
+    pub(crate) fn of(directory: &[Place], files: &[DrawnFile]) -> Owners
+        ensures { (p : Place) → owner_in result p ≡ owner_of (drawn_of directory.now files.now) p }
+    {
+        let mut owners = Owners::nobody();
+        owners.give_entries(files);
+        owners.give(directory, Owner::Directory);
+        owners.give(&[map_place()], Owner::Map);
+        owners
+    }
+
+    /// All sectors of nobody.
+    fn nobody() -> Owners
+        ensures { (p : Place) → owner_in result p ≡ owners.Nobody }
+    {
+        Owners {
+            owners: [Owner::Nobody; 683],
         }
     }
-    Owner::Nobody
-}
 
-impl Drawing {
     /// Whose the sector is.
     pub(crate) fn owner(&self, place: Place) -> Owner
-        ensures { result ≡ owner_of (drawn_in self.now) place }
+        ensures { result ≡ owner_in self.now place }
     {
-        if is_among(&[map_place()], place) {
-            return Owner::Map;
+        self.owners[place.index()]
+    }
+
+    /// Gives the sectors to this owner, whosever they were.
+    fn give(&mut self, places: &[Place], owner: Owner)
+        ensures { (p : Place) → owner_in self.new p ≡ (if has places.now p then owner else owner_in self.old p) }
+    {
+        for &place in places {
+            self.owners[place.index()] = owner;
         }
-        if is_among(self.directory.as_slice(), place) {
-            return Owner::Directory;
+    }
+
+    /// Gives each entry its sectors, the last entry first, and of each the side sectors before the blocks: what is given
+    /// later stays.
+    fn give_entries(&mut self, files: &[DrawnFile])
+        requires { (p : Place) → owner_in self.old p ≡ owners.Nobody }
+        ensures { (p : Place) → owner_in self.new p ≡ owner_among 0 (map file_in files.now) p }
+    {
+        for number in (0..files.len()).rev() {
+            let file = &files[number];
+            self.give(file.sides.as_slice(), Owner::Sides(number));
+            self.give(file.blocks.as_slice(), Owner::Blocks(number));
         }
-        first_owner(self.files.as_slice(), place)
     }
 }

@@ -5,7 +5,7 @@ ghost use Rattle.disk_pictures.specs.Html.{html_of};
 ghost use Rattle.disk_pictures.specs.Pictures.{cells_text, legend_text, link_text, row_text, title_text, told_text, verdict_class};
 
 use crate::arcs::Colour;
-use crate::drawing::DrawnFile;
+use crate::drawn_file::DrawnFile;
 use crate::html::Html;
 use crate::names::{entry_name, header_name};
 use crate::texts::{TypeText, VerdictText};

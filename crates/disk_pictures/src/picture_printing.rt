@@ -4,7 +4,8 @@ ghost use Rattle.std.specs.Io.KnownBytes.{Appends};
 ghost use Rattle.d64_image.specs.Memory.{sectors_in};
 ghost use Rattle.d64_image.specs.Places.{place_at};
 ghost use Rattle.disk_layout.specs.Layout.{IsLayout, Layout};
-ghost use Rattle.disk_pictures.specs.Drawings.{drawn_in, file_in};
+ghost use Rattle.disk_pictures.specs.Drawings.{file_in};
+ghost use Rattle.disk_pictures.specs.Held.{drawn_in};
 ghost use Rattle.disk_pictures.specs.Html.{html_of};
 ghost use Rattle.disk_pictures.specs.Outcomes.{IsPictureFault, IsPicturePrinted, map_in};
 ghost use Rattle.disk_pictures.specs.Pictures.{directory_arc, drawing_text, each_place, fault_group, file_group, group_head, layer_arc, own_block, own_side, picture_page, rest_group, row_text, system_group};
@@ -14,10 +15,12 @@ ghost use Rattle.disk_pictures.specs.declared.faults.PictureFault.TheVariants as
 use crate::arcs::{
     BlockArc, DirectoryArc, FaultGroup, FreeArc, Layer, LostArc, MapArc, OpenArc, SideArc,
 };
-use crate::drawing::{Drawing, DrawnFile, Owner};
+use crate::drawing::Drawing;
+use crate::drawn_file::DrawnFile;
 use crate::faults::PictureFault;
 use crate::names::entry_name;
 use crate::output::{flush, put};
+use crate::owners::Owner;
 use crate::page::{END, Legend, Row, Title, Told};
 use crate::verdicts::judged;
 use d64_image::Place;

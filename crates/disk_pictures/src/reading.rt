@@ -3,10 +3,12 @@ ghost use Rattle.std.specs.Prelude.{◌≡◌, ◌≤◌, IfErr, IfOk, length, m
 ghost use Rattle.d64_image.specs.Images.{sector};
 ghost use Rattle.d64_image.specs.Memory.{disk_image};
 ghost use Rattle.disk_layout.specs.Directory.{map_place as map_at};
-ghost use Rattle.disk_pictures.specs.Drawings.{AreDrawn, IsDrawn, drawn_in, file_in};
+ghost use Rattle.disk_pictures.specs.Drawings.{AreDrawn, IsDrawn, file_in};
+ghost use Rattle.disk_pictures.specs.Held.{drawn_in};
 ghost use Rattle.disk_pictures.specs.Faults.{IsDrawFault, IsMemoryFault};
 
-use crate::drawing::{Drawing, DrawnFile};
+use crate::drawing::Drawing;
+use crate::drawn_file::DrawnFile;
 use crate::faults::PictureFault;
 use crate::files::{Places, draw_file, list_of, walk};
 use arrayvec::ArrayVec;
@@ -67,9 +69,5 @@ pub(crate) fn draw(alloc: Global, disk: &mut MemDisk) -> Result<Drawing, Picture
     let directory = list_of(alloc, places.as_slice())?;
     let map = read_map(disk)?;
     let files = draw_files(alloc, disk, slots.as_slice(), &mut places)?;
-    Ok(Drawing {
-        map,
-        directory,
-        files,
-    })
+    Ok(Drawing::new(map, directory, files))
 }

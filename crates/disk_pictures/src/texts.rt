@@ -4,7 +4,7 @@ ghost use Rattle.disk_pictures.specs.Drawings.{file_in};
 ghost use Rattle.disk_pictures.specs.Texts.{has_records, records_in, type_text, verdict_text};
 ghost use Rattle.disk_pictures.specs.Texts.{is_fault_at as fault_at, place_of, type_name as name_of_type};
 
-use crate::drawing::DrawnFile;
+use crate::drawn_file::DrawnFile;
 use d64_image::Place;
 use disk_layout::{EntryView, Fault};
 use std::fmt::{self, Display, Formatter};

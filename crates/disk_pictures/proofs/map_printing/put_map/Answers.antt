@@ -7,7 +7,8 @@ use Rattle.d64_image.specs.Images.{Sector}
 use Rattle.disk_layout.specs.Layout.{Layout}
 use Rattle.disk_layout.specs.declared.faults.Fault.{Fault}
 use Rattle.disk_pictures.proofs.Printing.{at-ok, three}
-use Rattle.disk_pictures.specs.Drawings.{drawn_in, file_in}
+use Rattle.disk_pictures.specs.Drawings.{file_in}
+use Rattle.disk_pictures.specs.Held.{drawn_in}
 use Rattle.disk_pictures.specs.Maps.{entry_line, map_head, map_text, track_line}
 use Rattle.disk_pictures.specs.Texts.{each_below, numbered, verdict_text}
 use Rattle.disk_pictures.proofs.map_printing.put_map.Goals as goal

@@ -6,7 +6,7 @@ use Rattle.std.specs.Io.KnownBytes.{Appends}
 use Rattle.d64_image.specs.declared.place.Place.{Place}
 use Rattle.disk_pictures.proofs.Marks.{mark-small}
 use Rattle.disk_pictures.proofs.Printing.{ascii}
-use Rattle.disk_pictures.specs.Drawings.{drawn_in}
+use Rattle.disk_pictures.specs.Held.{drawn_in}
 use Rattle.disk_pictures.specs.Maps.{mark_of}
 use Rattle.disk_pictures.specs.Texts.{at_place}
 use Rattle.disk_pictures.proofs.map_printing.put_sign.Goals as goal

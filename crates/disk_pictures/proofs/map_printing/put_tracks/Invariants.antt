@@ -1,7 +1,7 @@
 -- The lines of the tracks so far were printed.
 use Rattle.std.proofs.Common.{◌+◌}
 use Rattle.std.specs.Io.KnownBytes.{Appends}
-use Rattle.disk_pictures.specs.Drawings.{drawn_in}
+use Rattle.disk_pictures.specs.Held.{drawn_in}
 use Rattle.disk_pictures.specs.Maps.{track_line}
 use Rattle.disk_pictures.specs.Texts.{each_below}
 use Rattle.disk_pictures.proofs.map_printing.put_tracks.Given as goal

@@ -1,7 +1,8 @@
 -- The blocks so far were printed.
 use Rattle.std.proofs.Common.{take}
 use Rattle.disk_pictures.specs.Texts.{numbered}
-use Rattle.disk_pictures.specs.Drawings.{drawn_in, file_in}
+use Rattle.disk_pictures.specs.Drawings.{file_in}
+use Rattle.disk_pictures.specs.Held.{drawn_in}
 use Rattle.disk_pictures.specs.Html.{html_of}
 use Rattle.disk_pictures.specs.Pictures.{own_block}
 use Rattle.std.specs.Io.KnownBytes.{Appends}

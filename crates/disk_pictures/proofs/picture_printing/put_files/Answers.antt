@@ -1,7 +1,8 @@
 -- An entry's group was printed after the others.
 use Rattle.std.proofs.Common.{refl, sym}
 use Rattle.disk_pictures.proofs.Printing.{item-more, no-items}
-use Rattle.disk_pictures.specs.Drawings.{drawn_in, file_in}
+use Rattle.disk_pictures.specs.Drawings.{file_in}
+use Rattle.disk_pictures.specs.Held.{drawn_in}
 use Rattle.disk_pictures.specs.Html.{html_of}
 use Rattle.disk_pictures.specs.Pictures.{file_group}
 use Rattle.disk_pictures.proofs.picture_printing.put_files.Goals as goal

@@ -1,7 +1,7 @@
 -- The sectors so far were printed.
 use Rattle.disk_pictures.specs.Texts.{at_place, each_below}
 use Rattle.d64_image.specs.Places.{place_at}
-use Rattle.disk_pictures.specs.Drawings.{drawn_in}
+use Rattle.disk_pictures.specs.Held.{drawn_in}
 use Rattle.disk_pictures.specs.Pictures.{layer_arc}
 use Rattle.std.specs.Io.KnownBytes.{Appends}
 use Rattle.disk_pictures.proofs.picture_printing.put_layer_on.Given as goal

@@ -7,7 +7,8 @@ use Rattle.d64_image.specs.Images.{Sector}
 use Rattle.disk_layout.specs.Layout.{Layout}
 use Rattle.disk_layout.specs.declared.faults.Fault.{Fault}
 use Rattle.disk_pictures.proofs.Printing.{at-ok, four}
-use Rattle.disk_pictures.specs.Drawings.{drawn_in, file_in}
+use Rattle.disk_pictures.specs.Drawings.{file_in}
+use Rattle.disk_pictures.specs.Held.{drawn_in}
 use Rattle.disk_pictures.specs.Html.{html_of}
 use Rattle.disk_pictures.specs.Pictures.{drawing_text, end_text, legend_text, page_text, picture_page, row_text, title_text, told_text}
 use Rattle.disk_pictures.specs.Texts.{numbered}

@@ -1,7 +1,8 @@
 -- A side sector was printed after the others.
 use Rattle.std.proofs.Common.{refl, sym}
 use Rattle.disk_pictures.proofs.Printing.{no-items, plain-more}
-use Rattle.disk_pictures.specs.Drawings.{drawn_in, file_in}
+use Rattle.disk_pictures.specs.Drawings.{file_in}
+use Rattle.disk_pictures.specs.Held.{drawn_in}
 use Rattle.disk_pictures.specs.Html.{html_of}
 use Rattle.disk_pictures.specs.Pictures.{own_side}
 use Rattle.disk_pictures.proofs.picture_printing.put_sides.Goals as goal

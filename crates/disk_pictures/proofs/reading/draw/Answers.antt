@@ -1,12 +1,12 @@
 -- The directory's sectors and the entries are those of the image, which stays.
-use Rattle.std.proofs.Common.{List, map, subst, ◌∙◌}
+use Rattle.std.proofs.Common.{List, map, subst, sym, ◌∙◌}
 use Rattle.d64_image.specs.Images.{Image}
 use Rattle.d64_image.specs.Memory.{disk_image}
 use Rattle.d64_image.specs.declared.place.Place.{Place}
 use Rattle.disk_layout.specs.AsFar.{IsWalk}
 use Rattle.disk_layout.specs.declared.slot.Slot.{Slot}
 use Rattle.disk_pictures.proofs.Drawn.{drawn-is}
-use Rattle.disk_pictures.specs.Drawings.{AreDrawn, file_in}
+use Rattle.disk_pictures.specs.Drawings.{AreDrawn, IsDrawn, file_in}
 use Rattle.disk_pictures.proofs.reading.draw.Goals as goal
 
 pub returns-clause-ok : goal.returns-clause-ok
@@ -22,5 +22,6 @@ returns-clause-ok c =
     let files = map file_in c.in_ok-files.files.items in
     let drawn = subst (λ (ss : List Slot). AreDrawn img ss files) c.as_slice-2.ensures.value
     (subst (λ (i : Image). AreDrawn i c.as_slice-2.result.now files) last c.in_ok-files.ensures.ok) in
-    drawn-is img found.0 walked c.in_ok-directory.directory.items c.read_directory.new.slots.items files c.in_ok-walk.field-0
-    found.1 walk (c.in_ok-directory.ensures.ok ∙ c.as_slice.ensures.value) drawn
+    subst (IsDrawn img) (sym c.new.ensures.drawn)
+    (drawn-is img found.0 walked c.in_ok-directory.directory.items c.read_directory.new.slots.items files
+    c.in_ok-walk.field-0 found.1 walk (c.in_ok-directory.ensures.ok ∙ c.as_slice.ensures.value) drawn)

@@ -1,0 +1,19 @@
+//! What is drawn of an entry: the sectors that its links come to.
+ghost use Rattle.std.specs.Prelude.{◌≤◌, length};
+
+use d64_image::Place;
+use disk_layout::Slot;
+
+/// A used entry of the directory, and what is drawn of it.
+#[derive(Drop)]
+pub(crate) struct DrawnFile {
+    /// The entry.
+    pub(crate) slot: Slot,
+    /// The blocks that its links come to, in order and each once.
+    pub(crate) blocks: Vec<Place>,
+    /// The index of the last used byte in the last block, and 0 where no block ends the chain.
+    pub(crate) last: u8,
+    /// The side sectors of a relative entry, in order: no more than its blocks need.
+    pub(crate) sides: Vec<Place>,
+    pub ghost few: { length blocks.items ≤ 720 },
+}
