@@ -1,5 +1,5 @@
 -- Records that were stored are so, and nothing is printed of them.
-use Rattle.std.proofs.Common.{◌≡◌, ◌≢◌, ◌≤◌, ◌<◌, ℕ, zero, suc, ◌-◌, List, [], ◌∷◌, ◌++◌, Some, Bool, length, set, get_or, refl, ap, ◌∙◌, arith}
+use Rattle.std.proofs.Common.{◌≡◌, ◌≢◌, ◌≤◌, ◌<◌, ℕ, zero, suc, ◌-◌, List, [], ◌∷◌, ◌++◌, Some, Bool, length, set, get_or, refl, subst, ap, ◌∙◌, arith}
 use Rattle.std.specs.List.{AllByRecursion}
 use Rattle.std.specs.Prelude.{if◌then◌else◌, not, slice_get}
 use Rattle.std.proofs.lemmas.List.{length-set}
@@ -7,8 +7,9 @@ use Rattle.std.proofs.lemmas.Option.{get_or_from_slice_get}
 use Rattle.std.proofs.lemmas.Slice.Eq.{bytes_eq-Decides}
 use Rattle.byte_text.specs.Lines.{padded}
 use Rattle.byte_text.specs.Texts.{record_line}
+use Rattle.keeper_commands.proofs.LastOnes.{AreNumbers, lines-numbers, ones-all, ones-apart, ones-greatest, stored-ones}
 use Rattle.keeper_commands.proofs.Padded.{so-stored_one}
-use Rattle.keeper_commands.specs.Stores.{AreApart, AreLinesOf, AreSo, IsSo, NewRecord, changed_line, changed_text, greatest, stored, with_stored}
+use Rattle.keeper_commands.specs.Stores.{AreApart, AreLinesOf, AreSo, IsSo, NewRecord, changed_line, changed_text, greatest, last_ones, stored, with_stored}
 
 get-set : {X : Type 0} (xs : List X) (i : ℕ) (y : X) → i < length xs → slice_get (set xs i y) i ≡ Some y
 get-set [] i y lt = absurd (omega (arith, lt))
@@ -23,27 +24,32 @@ get-set_other (x ∷ xs) (suc i) zero y other = refl
 get-set_other (x ∷ xs) (suc i) (suc j) y other = get-set_other xs i j y (λ e. other (ap suc e))
 
 -- a record of which there is no line stays
-stays : (L had : ℕ) (ls : List (List ℕ)) (xs : List NewRecord) (rs : List (List ℕ)) (n : ℕ) → 1 ≤ n → AreLinesOf L had ls xs
+stays : (L : ℕ) (xs : List NewRecord) (rs : List (List ℕ)) (n : ℕ) → 1 ≤ n → AreNumbers xs
     → AllByRecursion (λ y. y.number ≢ n) xs → slice_get (stored L xs rs) (n - 1) ≡ slice_get rs (n - 1)
-stays L had [] [] rs n low are apart = refl
-stays L had [] (x ∷ xs) rs n low are apart = absurd are
-stays L had (l ∷ ls) [] rs n low are apart = absurd are
-stays L had (l ∷ ls) (x ∷ xs) rs n low are apart =
-    let some = are.1.low in
-    stays L had ls xs (with_stored L x rs) n low are.2 apart.1
-    ∙ get-set_other rs (x.number - 1) (n - 1) _ (λ e. apart.0 (omega (arith, e, low, some)))
+stays L [] rs n low all apart = refl
+stays L (x ∷ xs) rs n low all apart =
+    stays L xs (with_stored L x rs) n low all.1 apart.1
+    ∙ get-set_other rs (x.number - 1) (n - 1) _ (λ e. apart.0 (omega (arith, e, low, all.0)))
 
-pub so-again : (L had : ℕ) (ls : List (List ℕ)) (xs : List NewRecord) (rs : List (List ℕ)) → AreLinesOf L had ls xs → AreApart xs
-    → greatest xs ≤ length rs → AreSo L (stored L xs rs) xs
-so-again L had [] [] rs are apart few = tt
-so-again L had [] (x ∷ xs) rs are apart few = absurd are
-so-again L had (l ∷ ls) [] rs are apart few = absurd are
-so-again L had (l ∷ ls) (x ∷ xs) rs are apart few =
-    let low = are.1.low in (
-      stays L had ls xs (with_stored L x rs) x.number low are.2 apart.0
+so-apart : (L : ℕ) (xs : List NewRecord) (rs : List (List ℕ)) → AreNumbers xs → AreApart xs → greatest xs ≤ length rs
+    → AreSo L (stored L xs rs) xs
+so-apart L [] rs all apart few = tt
+so-apart L (x ∷ xs) rs all apart few =
+    let low = all.0 in (
+      stays L xs (with_stored L x rs) x.number low all.1 apart.0
           ∙ get-set rs (x.number - 1) (padded L x.bytes) (omega (arith, low, few)),
-      so-again L had ls xs (with_stored L x rs) are.2 apart.1 (omega (arith, few, length-set rs (x.number - 1) (padded L x.bytes))),
+      so-apart L xs (with_stored L x rs) all.1 apart.1
+          (omega (arith, few, length-set rs (x.number - 1) (padded L x.bytes))),
     )
+
+-- those that count are so, once all were stored
+pub so-again : (L had : ℕ) (ls : List (List ℕ)) (xs : List NewRecord) (rs : List (List ℕ)) → AreLinesOf L had ls xs
+    → greatest xs ≤ length rs → AreSo L (stored L xs rs) (last_ones xs)
+so-again L had ls xs rs are few =
+    let all = lines-numbers L had ls xs are in
+    subst (λ (ts : List (List ℕ)). AreSo L ts (last_ones xs)) (stored-ones L xs rs all)
+    (so-apart L (last_ones xs) rs (ones-all (λ x. 1 ≤ x.number) xs all) (ones-apart xs)
+    (omega (arith, few, ones-greatest xs)))
 
 same-line : (L : ℕ) (x : NewRecord) (rs : List (List ℕ)) → IsSo L rs x → changed_line L x rs ≡ []
 same-line L x rs so =

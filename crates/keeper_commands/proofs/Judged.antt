@@ -1,10 +1,13 @@
 -- Lines judged one after another.
-use Rattle.std.proofs.Common.{◌≡◌, ℕ, ◌+◌, List, [], ◌∷◌, ◌++◌, length, refl, subst, sym, ap, ◌∙◌, arith}
+use Rattle.std.proofs.Common.{◌≡◌, ◌≤◌, inl, inr, ℕ, suc, ◌+◌, List, [], ◌∷◌, ◌++◌, length, set, refl, subst, sym, ap, ◌∙◌, arith}
 use Rattle.std.specs.Prelude.{max}
-use Rattle.std.proofs.lemmas.List.{append_assoc, append-nil, length-append}
+use Rattle.std.proofs.lemmas.Bool.{cases_eq}
+use Rattle.std.proofs.lemmas.Grind.{get_or-set_at}
+use Rattle.std.proofs.lemmas.List.{append_assoc, append-nil, get_or-set_other, length-append}
 use Rattle.byte_text.specs.Lines.{IsLineOf}
 use Rattle.keeper_commands.proofs.Folds.{greatest-push}
-use Rattle.keeper_commands.specs.Stores.{AreLinesOf, CanStore, IsFirstBad, NewRecord, greatest}
+use Rattle.keeper_commands.proofs.LastOnes.{place-other, place-push}
+use Rattle.keeper_commands.specs.Stores.{AreLinesOf, CanStore, IsFirstBad, NewRecord, TellsLast, greatest}
 
 lines-push : (L had : ℕ) (front : List (List ℕ)) (xs : List NewRecord) (line : List ℕ) (x : NewRecord) → AreLinesOf L had front xs
     → IsLineOf line x.number x.bytes → CanStore L had x → AreLinesOf L had (front ++ line ∷ []) (xs ++ x ∷ [])
@@ -13,22 +16,46 @@ lines-push L had [] (y ∷ xs) line x are is can = absurd are
 lines-push L had (l ∷ front) [] line x are is can = absurd are
 lines-push L had (l ∷ front) (y ∷ xs) line x are is can = (are.0, are.1, lines-push L had front xs line x are.2 is can)
 
--- so many lines of all were judged, and these are left; the greatest number is the one
-pub record JudgedTo (L had : ℕ) (all left : List (List ℕ)) (count most : ℕ) : Type 0 where
+lines-long : (L had : ℕ) (front : List (List ℕ)) (xs : List NewRecord) → AreLinesOf L had front xs
+    → length front ≡ length xs
+lines-long L had [] [] are = refl
+lines-long L had [] (x ∷ xs) are = absurd are
+lines-long L had (l ∷ front) [] are = absurd are
+lines-long L had (l ∷ front) (x ∷ xs) are = ap suc (lines-long L had front xs are.2)
+
+-- one more is the last of its record
+last-told : (table : List ℕ) (xs : List NewRecord) (x : NewRecord) (place : ℕ) → length table ≡ 182881
+    → x.number ≤ 182880 → place ≡ length xs + 1 → TellsLast table xs
+    → TellsLast (set table x.number place) (xs ++ x ∷ [])
+last-told table xs x place long high here tells n le = elim (cases_eq x.number n) [
+  | inl same ↦ get_or-set_at table x.number n place 0 (sym same) (omega (arith, long, high))
+      ∙ here ∙ sym (place-push n xs x same)
+  | inr other ↦ get_or-set_other table x.number n place 0 (λ e. other (sym e))
+      ∙ tells n le ∙ sym (place-other n xs x other)
+]
+
+-- so many lines of all were judged, and these are left; the greatest number is the one, and the table tells which is the
+-- last one of each record
+pub record JudgedTo (L had : ℕ) (all left : List (List ℕ)) (count most : ℕ) (table : List ℕ) : Type 0 where
   pub front : List (List ℕ)
   pub new : List NewRecord
   pub split : all ≡ front ++ left
   pub counted : count ≡ length front
   pub good : AreLinesOf L had front new
   pub greatest_is : most ≡ greatest new
+  pub tells : TellsLast table new
 
-pub judged-none : (L had : ℕ) (all : List (List ℕ)) → JudgedTo L had all all 0 0
-judged-none L had all = record { front = []; new = []; split = refl; counted = refl; good = tt; greatest_is = refl }
+pub judged-none : (L had : ℕ) (all : List (List ℕ)) (table : List ℕ) → TellsLast table []
+    → JudgedTo L had all all 0 0 table
+judged-none L had all table none =
+    record { front = []; new = []; split = refl; counted = refl; good = tt; greatest_is = refl; tells = none }
 
-module _ (L had : ℕ) (all left : List (List ℕ)) (count most : ℕ) (to : JudgedTo L had all left count most) where
-  pub judged-more : (line : List ℕ) (rest : List (List ℕ)) (n : ℕ) → left ≡ line ∷ rest
-      → (bytes : List ℕ) × IsLineOf line n bytes × CanStore L had (record { number = n; bytes = bytes }) → JudgedTo L had all rest (count + 1) (max most n)
-  judged-more line rest n next (bytes, is, can) =
+module _ (L had : ℕ) (all left : List (List ℕ)) (count most : ℕ) (table : List ℕ)
+    (to : JudgedTo L had all left count most table) where
+  pub judged-more : (line : List ℕ) (rest : List (List ℕ)) (n : ℕ) → left ≡ line ∷ rest → length table ≡ 182881
+      → (bytes : List ℕ) × IsLineOf line n bytes × CanStore L had (record { number = n; bytes = bytes })
+      → JudgedTo L had all rest (count + 1) (max most n) (set table n (count + 1))
+  judged-more line rest n next long (bytes, is, can) =
       let x : NewRecord = record { number = n; bytes = bytes } in record {
         front = to.front ++ line ∷ [];
         new = to.new ++ x ∷ [];
@@ -36,6 +63,8 @@ module _ (L had : ℕ) (all left : List (List ℕ)) (count most : ℕ) (to : Jud
         counted = omega (arith, to.counted, length-append to.front (line ∷ []));
         good = lines-push L had to.front to.new line x to.good is can;
         greatest_is = ap (λ (m : ℕ). max m n) to.greatest_is ∙ sym (greatest-push to.new x);
+        tells = last-told table to.new x (count + 1) long can.high
+            (omega (arith, to.counted, lines-long L had to.front to.new to.good)) to.tells;
       }
 
   pub judged-bad : (line : List ℕ) (rest : List (List ℕ)) → left ≡ line ∷ rest
@@ -50,9 +79,11 @@ module _ (L had : ℕ) (all left : List (List ℕ)) (count most : ℕ) (to : Jud
     bad = bad;
   }
 
-  pub judged-all : left ≡ [] → (xs : List NewRecord) × AreLinesOf L had all xs × (most ≡ greatest xs)
+  pub judged-all : left ≡ []
+      → (xs : List NewRecord) × AreLinesOf L had all xs × (most ≡ greatest xs) × TellsLast table xs
   judged-all none = (
     to.new,
     subst (λ (ls : List (List ℕ)). AreLinesOf L had ls to.new) (sym (to.split ∙ ap (λ (ls : List (List ℕ)). to.front ++ ls) none ∙ append-nil to.front)) to.good,
     to.greatest_is,
+    to.tells,
   )

@@ -1,6 +1,6 @@
 -- The record of one line stored, and its line printed where it was otherwise.
-use Rattle.std.proofs.Common.{◌≡◌, ◌≤◌, ℕ, ◌*◌, List, [], ◌∷◌, ◌++◌, Option, Ok, Err, Bool, true, false, length, subst, sym, ap, ◌∙◌, arith}
-use Rattle.std.specs.Prelude.{if◌then◌else◌}
+use Rattle.std.proofs.Common.{◌≡◌, ◌≢◌, ◌≤◌, ℕ, ◌*◌, List, [], ◌∷◌, ◌++◌, Option, Ok, Err, Bool, true, false, length, subst, sym, ap, ◌∙◌, arith, eq-eqb, ne_eqb}
+use Rattle.std.specs.Prelude.{if◌then◌else◌, slice_index}
 use Rattle.std.specs.Io.KnownBytes.{Appends}
 use Rattle.std.proofs.KnownBytes.{Appends-nil}
 use Rattle.std.proofs.lemmas.List.{append-nil}
@@ -13,17 +13,28 @@ use Rattle.byte_text.specs.Lines.{IsLineOf}
 use Rattle.byte_text.specs.Texts.{record_line}
 use Rattle.rel_records.specs.declared.rel_file.RelFile.{RelFile}
 use Rattle.keeper_commands.specs.Repairs.{TellsKeep}
-use Rattle.keeper_commands.specs.Stores.{CanStore, NewRecord, changed_text, is_changed, new_record}
+use Rattle.keeper_commands.specs.Stores.{CanStore, NewRecord, changed_text, if_last, is_changed, new_record}
 use Rattle.keeper_commands.specs.Storing.{IsStoringOver, StoresLines, StoresOne}
 use Rattle.keeper_commands.specs.declared.faults.KeepFault.{KeepFault}
 use Rattle.keeper_commands.specs.declared.faults.KeepFault.TheVariants as keep
 
 -- a line is of one record
-pub line-record : (line bytes : List ℕ) (n L h : ℕ) (x : NewRecord) → (1 ≤ n) × (n ≤ 182880) × IsLineOf line n bytes
+pub line-record : {Last : Type 0} (line bytes : List ℕ) (n L h : ℕ) (x : NewRecord)
+    → (1 ≤ n) × (n ≤ 182880) × IsLineOf line n bytes × Last
     → IsLineOf line x.number x.bytes → CanStore L h x → new_record n bytes ≡ x
 line-record line bytes n L h x found is can =
     let same = one-line line n x.number bytes x.bytes found.0 found.1 can.low can.high found.2 is in
     λ i. record { number = same.0 i; bytes = same.1 i }
+
+-- it is the last one of its record, or isn't
+pub if-last : (table : List ℕ) (place : ℕ) (x : NewRecord) → slice_index table x.number ≡ place
+    → x ∷ [] ≡ if_last table place x
+if-last table place x same = sym (ap (λ (b : Bool). if b then x ∷ [] else []) (eq-eqb (slice_index table x.number) place same))
+
+pub if-not_last : (table : List ℕ) (place : ℕ) (x : NewRecord) → slice_index table x.number ≢ place
+    → [] ≡ if_last table place x
+if-not_last table place x other =
+    sym (ap (λ (b : Bool). if b then x ∷ [] else []) (ne_eqb (slice_index table x.number) place other))
 
 -- what is printed of one record
 one-same : (L : ℕ) (x : NewRecord) (rs : List (List ℕ)) → false ≡ is_changed L x rs → [] ≡ changed_text L (x ∷ []) rs

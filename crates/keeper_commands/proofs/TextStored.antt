@@ -22,11 +22,12 @@ use Rattle.rel_records.specs.declared.faults.RelFault.TheVariants as rel
 use Rattle.rel_records.specs.declared.rel_file.RelFile.{RelFile}
 use Rattle.script_lines.specs.Lines.{lines}
 use Rattle.keeper_commands.proofs.Composed.{count-is, had-is}
+use Rattle.keeper_commands.proofs.LastOnes.{lines-numbers, ones-greatest, stored-ones}
 use Rattle.keeper_commands.proofs.OneStored.{grown-none}
 use Rattle.keeper_commands.proofs.Reached.{not-too-large, so-there}
 use Rattle.keeper_commands.specs.Faults.{keep_fault}
 use Rattle.keeper_commands.specs.Refusals.{IsLeft}
-use Rattle.keeper_commands.specs.Stores.{AreLinesOf, AreSo, IsFirstBad, IsPartStored, NewRecord, changed_text, greatest, stored}
+use Rattle.keeper_commands.specs.Stores.{AreLinesOf, AreSo, IsFirstBad, IsPartStored, NewRecord, TellsLast, changed_text, greatest, last_ones, stored}
 use Rattle.keeper_commands.specs.Storing.{IsStoreDone, IsStoreFault, IsStoreRun, IsStoredDisk, IsStoring, IsStoringOver, StoresLines}
 use Rattle.keeper_commands.specs.declared.faults.KeepFault.{KeepFault}
 use Rattle.keeper_commands.specs.declared.faults.KeepFault.TheVariants as keep
@@ -86,7 +87,8 @@ module _ {D W : Type 0} (S : History D) (image name text : List ℕ) (a b : D) (
     )
         (reads_no_write S a b 702 found.reads)
 
-    module _ (xs : List NewRecord) (are : AreLinesOf (length_of v) (records_in v) (lines text) xs) (c : D) (w : RelFile) where
+    module _ (xs : List NewRecord) (are : AreLinesOf (length_of v) (records_in v) (lines text) xs) (table : List ℕ)
+        (tells : TellsLast table xs) (c : D) (w : RelFile) where
       -- there is no room
       no-room : Grows S b c v w (greatest xs) (Err rel.Full) → IsStoreFault S image name text a c o o keep.DiskFull
       no-room grows = left c (
@@ -99,7 +101,7 @@ module _ {D W : Type 0} (S : History D) (image name text : List ℕ) (a b : D) (
       )
           (no_write_then S a b c (reads_no_write S a b 702 found.reads) (reads_no_write S b c 1 (grows.refused (λ e. cc)).1))
 
-      abbrev run-over : (d : D) → Changes S b d (growth_writes it.0 (greatest xs) + 2 * length xs) (IsStoring (S.image b) clean.0 (entry_of v) it.0 xs)
+      abbrev run-over : (d : D) → Changes S b d (growth_writes it.0 (greatest xs) + 2 * length (last_ones xs)) (IsStoring (S.image b) clean.0 (entry_of v) it.0 xs)
           → IsStoreRun S image name text a d
       run-over d changes = record {
         size = size;
@@ -110,14 +112,14 @@ module _ {D W : Type 0} (S : History D) (image name text : List ℕ) (a b : D) (
         first = it.1;
         all = xs;
         are_lines = file-lines (lines text) xs are;
-        moments = reads_first S a b d 702 (growth_writes it.0 (greatest xs) + 2 * length xs) (growth_writes it.0 (greatest xs) + 2 * length xs)
+        moments = reads_first S a b d 702 (growth_writes it.0 (greatest xs) + 2 * length (last_ones xs)) (growth_writes it.0 (greatest xs) + 2 * length (last_ones xs))
             (λ (i : Image). IsStoring i clean.0 (entry_of v) it.0 xs) (omega arith) found.reads
             (inl (growing_same (S.image a) clean.0 (entry_of v) it.0 v _ it.2)) changes;
       }
 
       growing : {r : Result (Unit {0}) RelFault} → Grows S b c v w (greatest xs) r
-          → Changes S b c (growth_writes it.0 (greatest xs) + 2 * length xs) (IsStoring (S.image b) clean.0 (entry_of v) it.0 xs)
-      growing grows = changes_weaker S b c (growth_writes it.0 (greatest xs)) (growth_writes it.0 (greatest xs) + 2 * length xs) _ _ (omega arith)
+          → Changes S b c (growth_writes it.0 (greatest xs) + 2 * length (last_ones xs)) (IsStoring (S.image b) clean.0 (entry_of v) it.0 xs)
+      growing grows = changes_weaker S b c (growth_writes it.0 (greatest xs)) (growth_writes it.0 (greatest xs) + 2 * length (last_ones xs)) _ _ (omega arith)
           (λ i g. inl g) (grows.file clean.0 (entry_of v) it.0 of-b).moments
 
       no-such : (e : RelFault) → e ≢ rel.Full → e ≢ rel.Device → Grows S b c v w (greatest xs) (Err e) → ⊥
@@ -151,61 +153,70 @@ module _ {D W : Type 0} (S : History D) (image name text : List ℕ) (a b : D) (
         grown-are = subst (λ (L : ℕ). AreLinesOf L (records_in v) (lines text) xs) (sym grows.same) are
 
         pub grown-lines : (h : ℕ) × (ys : List NewRecord) × AreLinesOf (length_of w) h (lines text) ys × (greatest ys ≤ records_in w)
-        grown-lines = (records_in v, xs, grown-are, grows.there)
+            × TellsLast table ys
+        grown-lines = (records_in v, xs, grown-are, grows.there, tells)
 
         same-length : record_length grown.file.slot ≡ record_length it.0.slot
         same-length = size-kept (S.image b) (S.image c) clean.0 grown.layout (entry_of v) (entry_of v) it.0 grown.file v w of-b grown.of grows.same
 
         module _ (contents : W → Option (List ℕ)) (d : D) (q : W) (u : RelFile) (r : Result (Unit {0}) KeepFault)
             (stores : (m : Layout) (j : ℕ) (e : File) → IsFileOf (S.image c) m j e w → (h : ℕ) (ys : List NewRecord)
-            → AreLinesOf (length_of w) h (lines text) ys → greatest ys ≤ records_in w → StoresLines S contents c d o q m j e w u ys r) where
-          abbrev then-stored : StoresLines S contents c d o q grown.layout (entry_of v) grown.file w u xs r
-          then-stored = stores grown.layout (entry_of v) grown.file grown.of (records_in v) xs grown-are grows.there
+            → AreLinesOf (length_of w) h (lines text) ys → greatest ys ≤ records_in w → TellsLast table ys
+            → StoresLines S contents c d o q m j e w u (last_ones ys) r) where
+          abbrev then-stored : StoresLines S contents c d o q grown.layout (entry_of v) grown.file w u (last_ones xs) r
+          then-stored = stores grown.layout (entry_of v) grown.file grown.of (records_in v) xs grown-are grows.there tells
 
-          over : (i : Image) → IsStoringOver (S.image c) grown.layout (entry_of v) (record_length grown.file.slot) xs (records (S.image c) grown.file) i
+          over : (i : Image) → IsStoringOver (S.image c) grown.layout (entry_of v) (record_length grown.file.slot) (last_ones xs) (records (S.image c) grown.file) i
               → IsStoring (S.image b) clean.0 (entry_of v) it.0 xs i
           over i (ts, part, has) = inr (
             ts,
-            subst (λ (rs : List (List ℕ)). IsPartStored (record_length it.0.slot) xs rs ts) grown.records
-                (subst (λ (L : ℕ). IsPartStored L xs (records (S.image c) grown.file) ts) same-length part),
+            subst (λ (rs : List (List ℕ)). IsPartStored (record_length it.0.slot) (last_ones xs) rs ts) grown.records
+                (subst (λ (L : ℕ). IsPartStored L (last_ones xs) (records (S.image c) grown.file) ts) same-length part),
             leaves_then (S.image b) (S.image c) i clean.0 (entry_of v) _ ts w grown has,
           )
 
           abbrev run-all : IsStoreRun S image name text a d
-          run-all = run-over d (changes_then S b c d (growth_writes it.0 (greatest xs)) (2 * length xs) (growth_writes it.0 (greatest xs) + 2 * length xs) _ (omega arith)
+          run-all = run-over d (changes_then S b c d (growth_writes it.0 (greatest xs)) (2 * length (last_ones xs)) (growth_writes it.0 (greatest xs) + 2 * length (last_ones xs)) _ (omega arith)
               (changes_weaker S b c (growth_writes it.0 (greatest xs)) (growth_writes it.0 (greatest xs)) _ _ (omega arith) (λ i g. inl g) (grows.file clean.0 (entry_of v) it.0 of-b).moments)
-              (changes_weaker S c d (2 * length xs) (2 * length xs) _ _ (omega arith) over then-stored.moments))
+              (changes_weaker S c d (2 * length (last_ones xs)) (2 * length (last_ones xs)) _ _ (omega arith) over then-stored.moments))
 
-          -- where all were so already nothing was written
-          none-written : AreSo (record_length it.0.slot) (records (S.image a) it.0) xs → WritesNothing S a d
+          -- where those that count were so already nothing was written
+          none-written : AreSo (record_length it.0.slot) (records (S.image a) it.0) (last_ones xs) → WritesNothing S a d
           none-written so =
               let had = had-is (S.image a) clean.0 (entry_of v) it.0 v it.2 in
-              let few : greatest xs ≤ records_had it.0 = omega (arith, so-there (record_length it.0.slot) (records (S.image a) it.0) xs so, count-is (S.image a) it.0) in
+              let there = so-there (record_length it.0.slot) (records (S.image a) it.0) (last_ones xs) so in
+              let few : greatest xs ≤ records_had it.0 = omega (arith, there, ones-greatest xs, count-is (S.image a) it.0) in
               let quiet = (grows.quiet (subst (λ (m : ℕ). greatest xs ≤ m) (sym had) few)).2 in
               let same : records (S.image c) grown.file ≡ records (S.image a) it.0
               = grown.records ∙ grown-none (S.image b) it.0 (greatest xs) few ∙ ap (λ (i : Image). records i it.0) found.reads.image in
               no_write_then S a b d (reads_no_write S a b 702 found.reads)
               (no_write_then S b c d (reads_no_write S b c 0 quiet)
               (then-stored.quiet
-              (subst (λ (L : ℕ). AreSo L (records (S.image c) grown.file) xs) (sym same-length)
-              (subst (λ (rs : List (List ℕ)). AreSo (record_length it.0.slot) rs xs) (sym same) so))))
+              (subst (λ (L : ℕ). AreSo L (records (S.image c) grown.file) (last_ones xs)) (sym same-length)
+              (subst (λ (rs : List (List ℕ)). AreSo (record_length it.0.slot) rs (last_ones xs)) (sym same) so))))
 
-          stored-is : stored (record_length grown.file.slot) xs (records (S.image c) grown.file)
+          grown-is : records (S.image c) grown.file ≡ grown_to (S.image a) it.0 (greatest xs)
+          grown-is = grown.records ∙ ap (λ (i : Image). grown_to i it.0 (greatest xs)) found.reads.image
+
+          stored-is : stored (record_length grown.file.slot) (last_ones xs) (records (S.image c) grown.file)
               ≡ stored (record_length it.0.slot) xs (grown_to (S.image a) it.0 (greatest xs))
-          stored-is = ap₂ (λ (L : ℕ) (rs : List (List ℕ)). stored L xs rs) same-length (grown.records ∙ ap (λ (i : Image). grown_to i it.0 (greatest xs)) found.reads.image)
+          stored-is =
+              ap₂ (λ (L : ℕ) (rs : List (List ℕ)). stored L (last_ones xs) rs) same-length grown-is
+              ∙ stored-ones (record_length it.0.slot) xs (grown_to (S.image a) it.0 (greatest xs))
+              (lines-numbers (length_of v) (records_in v) (lines text) xs are)
 
-          printed-is : changed_text (record_length grown.file.slot) xs (records (S.image c) grown.file)
-              ≡ changed_text (record_length it.0.slot) xs (grown_to (S.image a) it.0 (greatest xs))
-          printed-is = ap₂ (λ (L : ℕ) (rs : List (List ℕ)). changed_text L xs rs) same-length (grown.records ∙ ap (λ (i : Image). grown_to i it.0 (greatest xs)) found.reads.image)
+          printed-is : changed_text (record_length grown.file.slot) (last_ones xs) (records (S.image c) grown.file)
+              ≡ changed_text (record_length it.0.slot) (last_ones xs) (grown_to (S.image a) it.0 (greatest xs))
+          printed-is = ap₂ (λ (L : ℕ) (rs : List (List ℕ)). changed_text L (last_ones xs) rs) same-length grown-is
 
-          has-all : LeavesRecords (S.image c) (S.image d) grown.layout (entry_of v) (stored (record_length grown.file.slot) xs (records (S.image c) grown.file)) u
+          has-all : LeavesRecords (S.image c) (S.image d) grown.layout (entry_of v) (stored (record_length grown.file.slot) (last_ones xs) (records (S.image c) grown.file)) u
               → HasRecords (S.image a) (S.image d) clean.0 (entry_of v) (stored (record_length it.0.slot) xs (grown_to (S.image a) it.0 (greatest xs)))
           has-all leaves =
               subst (λ (i : Image). HasRecords i (S.image d) clean.0 (entry_of v) (stored (record_length it.0.slot) xs (grown_to (S.image a) it.0 (greatest xs)))) found.reads.image
               (subst (HasRecords (S.image b) (S.image d) clean.0 (entry_of v)) stored-is
               (leaves_then (S.image b) (S.image c) (S.image d) clean.0 (entry_of v) _ _ w grown (leaves_has (S.image c) (S.image d) grown.layout (entry_of v) _ u leaves)))
 
-          abbrev stored-disk : LeavesRecords (S.image c) (S.image d) grown.layout (entry_of v) (stored (record_length grown.file.slot) xs (records (S.image c) grown.file)) u
+          abbrev stored-disk : LeavesRecords (S.image c) (S.image d) grown.layout (entry_of v) (stored (record_length grown.file.slot) (last_ones xs) (records (S.image c) grown.file)) u
               → IsStoredDisk S image name text a d
           stored-disk leaves = record {
             run = run-all;
@@ -224,7 +235,8 @@ module _ {D W : Type 0} (S : History D) (image name text : List ℕ) (a b : D) (
       -- the device or the output failed while records were stored
       pub store-refused : (grows : Grows S b c v w (greatest xs) (Ok tt)) (contents : W → Option (List ℕ)) (d : D) (q : W) (u : RelFile) (fault : KeepFault)
           → ((m : Layout) (j : ℕ) (e : File) → IsFileOf (S.image c) m j e w → (h : ℕ) (ys : List NewRecord)
-          → AreLinesOf (length_of w) h (lines text) ys → greatest ys ≤ records_in w → StoresLines S contents c d o q m j e w u ys (Err fault))
+          → AreLinesOf (length_of w) h (lines text) ys → greatest ys ≤ records_in w → TellsLast table ys
+          → StoresLines S contents c d o q m j e w u (last_ones ys) (Err fault))
           → IsStoreFault S image name text a d o q fault
       store-refused grows contents d q u keep.Device stores =
           device-run grows contents d q u (Err keep.Device) stores (then-stored grows contents d q u (Err keep.Device) stores).told
@@ -242,8 +254,9 @@ module _ {D W : Type 0} (S : History D) (image name text : List ℕ) (a b : D) (
 
       module _ (grows : Grows S b c v w (greatest xs) (Ok tt)) (contents : W → Option (List ℕ)) (d : D) (p q : W) (u : RelFile)
           (stores : (m : Layout) (j : ℕ) (e : File) → IsFileOf (S.image c) m j e w → (h : ℕ) (ys : List NewRecord)
-          → AreLinesOf (length_of w) h (lines text) ys → greatest ys ≤ records_in w → StoresLines S contents c d o p m j e w u ys (Ok tt)) where
-        abbrev whole : StoresLines S contents c d o p (grown grows).layout (entry_of v) (grown grows).file w u xs (Ok tt)
+          → AreLinesOf (length_of w) h (lines text) ys → greatest ys ≤ records_in w → TellsLast table ys
+          → StoresLines S contents c d o p m j e w u (last_ones ys) (Ok tt)) where
+        abbrev whole : StoresLines S contents c d o p (grown grows).layout (entry_of v) (grown grows).file w u (last_ones xs) (Ok tt)
         whole = then-stored grows contents d p u (Ok tt) stores
 
         -- all is stored, and the output handed on, or not

@@ -1,8 +1,8 @@
 -- What comes of records that are stored from their lines. All of it is our own.
-use Rattle.std.specs.Prelude.{◌≡◌, ◌≢◌, ◌≤◌, ◌⊎◌, Bool, ℕ, ◌+◌, ◌-◌, ◌++◌, List, [], ◌∷◌, Some, bytes_eq, get_or, if◌then◌else◌, length, max, not, slice_get}
+use Rattle.std.specs.Prelude.{◌≡◌, ◌≢◌, ◌≤◌, ◌⊎◌, Bool, false, ℕ, suc, ◌+◌, ◌-◌, ◌||◌, ◌++◌, List, [], ◌∷◌, Some, bytes_eq, get_or, if◌then◌else◌, length, max, nat_eq, not, slice_get, slice_index}
 use Rattle.std.specs.List.{AllByRecursion}
 use Rattle.byte_text.specs.Lines.{IsLineOf, padded}
-use Rattle.byte_text.specs.Texts.{AreBytes, record_line}
+use Rattle.byte_text.specs.Texts.{AreBytes, record_line, trimmed}
 use Rattle.rel_records.specs.Growth.{blocks_for}
 use Rattle.rel_records.specs.Written.{with_half, with_written}
 
@@ -48,6 +48,39 @@ pub record IsFirstBad (L had : ℕ) (lines : List (List ℕ)) (k : ℕ) : Type 0
 abbrev pub AreApart : List NewRecord → Type 0
 AreApart [] = Unit {0}
 AreApart (x ∷ xs) = AllByRecursion (λ y. y.number ≢ x.number) xs × AreApart xs
+
+-- one of these is of record n
+abbrev pub is_among : ℕ → List NewRecord → Bool
+is_among n [] = false
+is_among n (x ∷ xs) = nat_eq x.number n || is_among n xs
+
+-- those that count: of two of one record the last
+abbrev pub last_ones : List NewRecord → List NewRecord
+last_ones [] = []
+last_ones (x ∷ xs) = if is_among x.number xs then last_ones xs else x ∷ last_ones xs
+
+-- the place of the last one of record n, counted from 1; 0 where there is none
+abbrev pub last_place : ℕ → List NewRecord → ℕ
+last_place n [] = 0
+last_place n (x ∷ xs) =
+    if is_among n xs then suc (last_place n xs) else if nat_eq x.number n then 1 else 0
+
+-- the table tells of each record that a disk can have which of these is its last one
+abbrev pub TellsLast : List ℕ → List NewRecord → Type 0
+TellsLast table xs = (n : ℕ) → n ≤ 182880 → slice_index table n ≡ last_place n xs
+
+-- the record at this place, where it is the last one of its number
+abbrev pub if_last : List ℕ → ℕ → NewRecord → List NewRecord
+if_last table place x = if nat_eq (slice_index table x.number) place then x ∷ [] else []
+
+-- these are records of L bytes
+abbrev pub AreRecords : ℕ → List (List ℕ) → Type 0
+AreRecords L rs = AllByRecursion (λ r. (length r ≡ L) × AreBytes r) rs
+
+-- the records as their lines give them, the first with number n
+abbrev pub numbered : ℕ → List (List ℕ) → List NewRecord
+numbered n [] = []
+numbered n (r ∷ rs) = new_record n (trimmed r) ∷ numbered (suc n) rs
 
 -- the greatest of the numbers
 abbrev pub greatest : List NewRecord → ℕ

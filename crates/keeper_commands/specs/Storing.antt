@@ -1,5 +1,5 @@
 -- What a disk holds while records are stored from their lines, and what is left and told in the end. Our own.
-use Rattle.std.specs.Prelude.{◌≡◌, ◌≢◌, ◌⊎◌, Bool, ℕ, ◌+◌, ◌*◌, List, [], ◌∷◌, Option, Result, Some, IfErr, IfOk, OnOk, length, slice_get}
+use Rattle.std.specs.Prelude.{◌≡◌, ◌≢◌, ◌⊎◌, Bool, ℕ, ◌+◌, ◌*◌, List, [], ◌∷◌, ◌++◌, Option, Result, Some, IfErr, IfOk, OnOk, drop, length, slice_get}
 use Rattle.std.specs.Io.KnownBytes.{Appends}
 use Rattle.d64_image.specs.History.{Changes, Failed, History, WritesNothing}
 use Rattle.d64_image.specs.Images.{Image}
@@ -17,7 +17,7 @@ use Rattle.rel_records.specs.declared.rel_file.RelFile.{RelFile}
 use Rattle.script_lines.specs.Lines.{lines}
 use Rattle.keeper_commands.specs.Refusals.{IsLeft}
 use Rattle.keeper_commands.specs.Repairs.{TellsKeep}
-use Rattle.keeper_commands.specs.Stores.{AreLinesOf, AreSo, IsFirstBad, IsPartStored, IsSo, NewRecord, changed_text, greatest, is_changed, stored, with_stored}
+use Rattle.keeper_commands.specs.Stores.{AreLinesOf, AreSo, IsFirstBad, IsPartStored, IsSo, NewRecord, changed_text, greatest, is_changed, last_ones, stored, with_stored}
 use Rattle.keeper_commands.specs.declared.faults.KeepFault.{KeepFault}
 use Rattle.keeper_commands.specs.declared.faults.KeepFault.TheVariants as keep
 
@@ -55,14 +55,18 @@ pub record StoresLines {D W : Type 0} (S : History D) (contents : W → Option (
     pub clean : IfErr result (λ fault. fault ≡ keep.File → IsClean (S.image new))
     pub told : TellsKeep S old new result
 
--- an image held in the whole: the file grows to the greatest record, and then they are stored
+-- these records over those of the file, which has grown to them where it had fewer: what is behind them stays
+abbrev pub put_over : List (List ℕ) → Image → File → List (List ℕ)
+put_over rs img f = rs ++ drop (length rs) (grown_to img f (length rs))
+
+-- an image held in the whole: the file grows to the greatest record, and then those that count are stored
 abbrev pub IsStoring : Image → Layout → ℕ → File → List NewRecord → Image → Type 0
 IsStoring old l n f xs c =
     IsGrowingTo old l n f (greatest xs) c
-    ⊎ IsStoringOver old l n (record_length f.slot) xs (grown_to old f (greatest xs)) c
+    ⊎ IsStoringOver old l n (record_length f.slot) (last_ones xs) (grown_to old f (greatest xs)) c
 
 -- The disk is clean, `file` is the first closed relative file of the name, the text's lines are of these records, which
--- it has or can have, and whatever the disk held on the way is sound, with a beginning of them.
+-- it has or can have, and whatever the disk held on the way is sound, with a beginning of those that count.
 pub record IsStoreRun {D : Type 0} (S : History D) (image name text : List ℕ) (old new : D) : Type 0 where
   pub size : length image ≡ 174848
   pub layout : Layout
@@ -73,24 +77,26 @@ pub record IsStoreRun {D : Type 0} (S : History D) (image name text : List ℕ) 
   pub first : IsFirst layout name number file
   pub all : List NewRecord
   pub are_lines : AreLinesOf (record_length file.slot) (records_had file) (lines text) all
-  pub moments : Changes S old new (growth_writes file (greatest all) + 2 * length all)
+  pub moments : Changes S old new (growth_writes file (greatest all) + 2 * length (last_ones all))
       (IsStoring (S.image old) layout number file all)
 
--- And there was room, all of them are stored, and the disk is clean; where all were so already nothing was written.
+-- And there was room, all of them are stored, and the disk is clean; where those that count were so already nothing was
+-- written.
 pub record IsStoredDisk {D : Type 0} (S : History D) (image name text : List ℕ) (old new : D) : Type 0 where
   pub run : IsStoreRun S image name text old new
   pub fits : ¬ (IsFull (S.image old) run.file (greatest run.all))
   pub clean : IsClean (S.image new)
   pub has : HasRecords (S.image old) (S.image new) run.layout run.number
       (stored (record_length run.file.slot) run.all (grown_to (S.image old) run.file (greatest run.all)))
-  pub quiet : AreSo (record_length run.file.slot) (records (S.image old) run.file) run.all → WritesNothing S old new
+  pub quiet : AreSo (record_length run.file.slot) (records (S.image old) run.file) (last_ones run.all)
+      → WritesNothing S old new
 
--- and the lines of those that were otherwise, and nothing else, were printed, in order
+-- and the lines of those that count and were otherwise, and nothing else, were printed, in order
 pub record IsStoreDone {D W : Type 0} (S : History D) (contents : W → Option (List ℕ)) (image name text : List ℕ)
     (old new : D) (before after : W) : Type 0 where
   pub disk : IsStoredDisk S image name text old new
   pub printed : Appends (contents before) (contents after)
-      (changed_text (record_length disk.run.file.slot) disk.run.all
+      (changed_text (record_length disk.run.file.slot) (last_ones disk.run.all)
       (grown_to (S.image old) disk.run.file (greatest disk.run.all)))
 
 -- the lines aren't stored, since one is of no record that the file of the name has or can have: this one is the first

@@ -1,13 +1,14 @@
 //! Lines of records judged before any is stored.
-ghost use Rattle.std.specs.Prelude.{◌≡◌, ◌↔◌, ◌≤◌, length, ℕ, List, IfErr, IfOk, IfSome, IsNone, IsTrue};
+ghost use Rattle.std.specs.Prelude.{◌≡◌, ◌↔◌, ◌≤◌, length, [], ℕ, List, IfErr, IfOk, IfSome, IsNone, IsTrue};
 ghost use Rattle.byte_text.specs.Lines.{IsLineOf};
 ghost use Rattle.byte_text.specs.Texts.{AreBytes};
-ghost use Rattle.keeper_commands.specs.Stores.{AreLinesOf, CanHave, CanStore, IsFirstBad, NewRecord, greatest, new_record};
+ghost use Rattle.keeper_commands.specs.Stores.{AreLinesOf, CanHave, CanStore, IsFirstBad, NewRecord, TellsLast, greatest, new_record};
 ghost use Rattle.keeper_commands.specs.declared.faults.KeepFault.TheVariants as faults;
 ghost use Rattle.rel_records.specs.File.{length_of, records_in};
 ghost use Rattle.script_lines.specs.Lines.{lines};
 
 use crate::faults::KeepFault;
+use crate::last_lines::LastLines;
 use byte_text::read_line;
 use rel_records::{RelFile, blocks_for, has_records};
 use script_lines::next_line;
@@ -44,11 +45,14 @@ fn number_of(line: &[u8], file: &RelFile) -> Option<u32>
     Some(number)
 }
 
-/// Judges the lines of the text, and tells the greatest of their numbers, 0 where there is no line. `BadLine` for the
-/// first that is of no record that the file has or can have.
-pub(crate) fn judge(text: &[u8], file: &RelFile) -> Result<u32, KeepFault>
+/// Judges the lines of the text, and tells the greatest of their numbers, 0 where there is no line; of each record the
+/// last line is counted in `last`, where none was before. `BadLine` for the first that is of no record that the file has
+/// or can have.
+pub(crate) fn judge(text: &[u8], file: &RelFile, last: &mut LastLines) -> Result<u32, KeepFault>
+    requires { TellsLast last.old.places.items [] }
     ensures ok { IfOk result (λ most. (xs : List NewRecord)
-        × AreLinesOf (length_of file.now) (records_in file.now) (lines text.now) xs × (most ≡ greatest xs)) }
+        × AreLinesOf (length_of file.now) (records_in file.now) (lines text.now) xs × (most ≡ greatest xs)
+        × TellsLast last.new.places.items xs) }
     ensures err { IfErr result (λ fault. (k : ℕ) × (fault ≡ faults.BadLine k)
         × IsFirstBad (length_of file.now) (records_in file.now) (lines text.now) k) }
 {
@@ -60,6 +64,7 @@ pub(crate) fn judge(text: &[u8], file: &RelFile) -> Result<u32, KeepFault>
         let Some(number) = number_of(line, file) else {
             return Err(KeepFault::BadLine(count));
         };
+        last.count(number, count);
         if number > most {
             most = number;
         }

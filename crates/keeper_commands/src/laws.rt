@@ -1,11 +1,97 @@
 //! Laws of records that are stored, each the contract of a function that does nothing.
-ghost use Rattle.std.specs.Prelude.{◌≡◌, ◌≤◌, ℕ, List, [], length};
-ghost use Rattle.keeper_commands.specs.Stores.{AreApart, AreLinesOf, AreSo, NewRecord, changed_text, greatest, stored};
+ghost use Rattle.std.specs.Prelude.{◌≡◌, ◌≤◌, ◌⊎◌, ◌++◌, ℕ, List, [], drop, length};
+ghost use Rattle.std.specs.Io.KnownBytes.{Appends};
+ghost use Rattle.byte_text.specs.Texts.{AreBytes};
+ghost use Rattle.d64_image.specs.History.{WritesNothing};
+ghost use Rattle.d64_image.specs.Memory.{sectors_in};
+ghost use Rattle.disk_layout.specs.Layout.{File, record_length};
+ghost use Rattle.disk_layout.specs.Records.{records};
+ghost use Rattle.keeper_commands.specs.Records.{AreRecordsPrinted, IsRecordFile, records_text};
+ghost use Rattle.keeper_commands.specs.Stores.{
+  AreApart,
+  AreLinesOf,
+  AreRecords,
+  AreSo,
+  CanHave,
+  NewRecord,
+  changed_text,
+  greatest,
+  last_ones,
+  numbered,
+  stored,
+};
+ghost use Rattle.keeper_commands.specs.Storing.{IsStoreDone, IsStoredDisk, put_over};
+ghost use Rattle.rel_records.specs.Growth.{blocks_for, full, records_had};
+ghost use Rattle.rel_records.specs.Others.{HasRecords};
+ghost use Rattle.script_lines.specs.Lines.{lines};
 
-/// Records that were stored are so: where no two lines are of one record, the same text, stored again, changes nothing,
-/// and `store_image` writes nothing then. Of records that are so nothing is printed.
+use d64_image::Sectors;
+use std::io::Write;
+
+/// Of two lines of one record the last counts: no two of those that count are of one record, all lines count where no
+/// two of them are, and stored alone they leave what all leave.
+pub fn last_lines_count()
+    ensures apart { (xs : List NewRecord) → AreApart (last_ones xs) }
+    ensures all { (xs : List NewRecord) → AreApart xs → last_ones xs ≡ xs }
+    ensures stored { (L had : ℕ) (lines : List (List ℕ)) (xs : List NewRecord) (rs : List (List ℕ))
+        → AreLinesOf L had lines xs → stored L (last_ones xs) rs ≡ stored L xs rs }
+{}
+
+/// Records that were stored are so: of each the last line that it has. Of records that are so nothing is printed.
 pub fn stored_records_are_so()
     ensures so { (L had : ℕ) (lines : List (List ℕ)) (xs : List NewRecord) (rs : List (List ℕ)) → AreLinesOf L had lines xs
-        → AreApart xs → greatest xs ≤ length rs → AreSo L (stored L xs rs) xs }
+        → greatest xs ≤ length rs → AreSo L (stored L xs rs) (last_ones xs) }
     ensures unprinted { (L : ℕ) (xs : List NewRecord) (rs : List (List ℕ)) → AreSo L rs xs → changed_text L xs rs ≡ [] }
+{}
+
+/// What `records_image` prints of a file is stored as that file's records. Its lines are of them, by their numbers from
+/// 1 on, in any file of the record length that has or can have the last of them, and of no others; no two are of one
+/// record. And these, stored over as many records or more of the same length, are the first ones then: those behind
+/// them stay.
+pub fn printed_records_are_stored()
+    ensures lines { (L had : ℕ) (rs : List (List ℕ)) → AreRecords L rs → length rs ≤ 182880 → CanHave L had (length rs)
+        → AreLinesOf L had (lines (records_text rs)) (numbered 1 rs) }
+    ensures apart { (rs : List (List ℕ)) → AreApart (numbered 1 rs) }
+    ensures last { (rs : List (List ℕ)) → greatest (numbered 1 rs) ≡ length rs }
+    ensures only { (L had : ℕ) (rs : List (List ℕ)) (xs : List NewRecord) → length rs ≤ 182880
+        → AreLinesOf L had (lines (records_text rs)) xs → xs ≡ numbered 1 rs }
+    ensures first { (L : ℕ) (rs ts : List (List ℕ)) → AreRecords L rs → length rs ≤ length ts
+        → stored L (numbered 1 rs) ts ≡ rs ++ drop (length rs) ts }
+{}
+
+/// What `records_image` prints of one image's file, `store_image` puts into any file of the same record length: that
+/// file has these records first then, and behind them those that it had there. `records_image` prints the same text of
+/// it first, and nothing else where it has no more: where it had as many, or fewer and these fill the blocks that they
+/// need.
+pub fn records_come_back<D: Sectors, W: Write>()
+    ensures stored { (source from image to : List ℕ) (file : File) (old new : D) → AreBytes source
+        → IsRecordFile source from file
+        → (done : IsStoredDisk D.history image to (records_text (records (sectors_in source) file)) old new)
+        → record_length done.run.file.slot ≡ record_length file.slot
+        → HasRecords (D.history.image old) (D.history.image new) done.run.layout done.run.number
+        (put_over (records (sectors_in source) file) (D.history.image old) done.run.file) }
+    ensures printed { (source from image to : List ℕ) (file : File) (old new : D) → AreBytes source
+        → IsRecordFile source from file
+        → (done : IsStoredDisk D.history image to (records_text (records (sectors_in source) file)) old new)
+        → record_length done.run.file.slot ≡ record_length file.slot
+        → (after : List ℕ) (before out : W) → sectors_in after ≡ D.history.image new
+        → AreRecordsPrinted W.contents after to before out
+        → Appends (W.contents before) (W.contents out)
+        (records_text (put_over (records (sectors_in source) file) (D.history.image old) done.run.file)) }
+    ensures front { (rs ts : List (List ℕ)) → (more : List ℕ) × (records_text (rs ++ ts) ≡ records_text rs ++ more) }
+    ensures same { (d : D) (f : File) (rs : List (List ℕ)) → records_had f ≤ length rs
+        → (records_had f ≡ length rs)
+        ⊎ (length rs ≡ full (record_length f.slot) (blocks_for (record_length f.slot) (length rs)))
+        → put_over rs (D.history.image d) f ≡ rs }
+{}
+
+/// A text that was stored, stored once more on the disk that was left, writes and prints nothing.
+pub fn stored_again_is_quiet<D: Sectors, W: Write>()
+    ensures unwritten { (image again name text : List ℕ) (a b c d : D) → D.history.image c ≡ D.history.image b
+        → IsStoredDisk D.history image name text a b → IsStoredDisk D.history again name text c d
+        → WritesNothing D.history c d }
+    ensures unprinted { (image again name text : List ℕ) (a b c d : D) (before out : W)
+        → D.history.image c ≡ D.history.image b → IsStoredDisk D.history image name text a b
+        → IsStoreDone D.history W.contents again name text c d before out
+        → Appends (W.contents before) (W.contents out) [] }
 {}

@@ -6,6 +6,7 @@ mod byte_printing;
 mod chains;
 mod faults;
 mod judging;
+mod last_lines;
 mod laws;
 mod loading;
 mod making;
@@ -18,7 +19,10 @@ mod storing;
 
 pub use byte_printing::bytes_image;
 pub use faults::KeepFault;
-pub use laws::stored_records_are_so;
+pub use laws::{
+    last_lines_count, printed_records_are_stored, records_come_back, stored_again_is_quiet,
+    stored_records_are_so,
+};
 pub use loading::load;
 pub use making::{is_new_name, make_image};
 pub use mending::repair_image;

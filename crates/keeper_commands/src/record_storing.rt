@@ -5,6 +5,7 @@ ghost use Rattle.keeper_commands.specs.Storing.{IsStoreDone, IsStoreFault};
 
 use crate::faults::{KeepFault, refusal};
 use crate::judging::judge;
+use crate::last_lines::LastLines;
 use crate::loading::check_image;
 use crate::output::flush;
 use crate::storing::store_lines;
@@ -16,16 +17,18 @@ use std::io::Write;
 /// Stores records in the first closed relative file of this name of a clean disk, and prints the lines of those that
 /// were otherwise, as `records_image` prints them. `image` is what the disk holds: its 174,848 bytes. Each line of the
 /// text is one that `read_line` reads, of any record that the file has or can have, in any order; of two lines of one
-/// record the last counts. The file grows first, once, to the greatest record; then the lines are stored in order, each
-/// record that is otherwise with the line's bytes and zeros behind them. Records of which there is no line stay. Every
-/// image that the disk holds on the way is sound, has the other files as they are, and a beginning of the lines stored,
-/// where of the next record the first part may be new.
+/// record the last counts, and the others are judged alone. The file grows first, once, to the greatest record; then the
+/// lines that count are stored in order, each record that is otherwise with the line's bytes and zeros behind them.
+/// Records of which there is no line stay. Every image that the disk holds on the way is sound, has the other files as
+/// they are, and a beginning of the lines that count stored, where of the next record the first part may be new. So the
+/// same text, stored again, writes and prints nothing.
 ///
 /// `ImageSize`, `NoMemory`; `Layout` where the disk isn't clean, for a fault that holds; `NoFile`; `BadLine` for the
 /// first line that is no record's, has more bytes than a record, or a number that the file can't have: one past 65535
 /// that it hasn't, or that would need more than 720 blocks; `DiskFull` where the free sectors don't suffice for the
 /// greatest record: nothing was written or printed then. `Device` where the device failed, and `File` where the output
-/// did: what was stored until then stays. No memory is taken but for a copy of the image.
+/// did: what was stored until then stays. Memory is taken for a copy of the image, and then for a number of each record
+/// that a disk can have.
 pub fn store_image<D: Sectors, W: Write>(
     alloc: Global,
     image: &[u8],
@@ -40,14 +43,15 @@ pub fn store_image<D: Sectors, W: Write>(
     ensures err { IfErr result (IsStoreFault D.history image.now name.now text.now disk.old disk.new out.old out.new) }
 {
     check_image(alloc, image)?;
+    let mut last = LastLines::none(alloc)?;
     let mut file = match find(disk, name) {
         Ok(file) => file,
         Err(fault) => return Err(refusal(fault)),
     };
-    let most = judge(text, &file)?;
+    let most = judge(text, &file, &mut last)?;
     if let Err(fault) = grow_to(disk, &mut file, most) {
         return Err(refusal(fault));
     }
-    store_lines(disk, &mut file, text, out)?;
+    store_lines(disk, &mut file, text, &last, out)?;
     flush(out)
 }

@@ -1,13 +1,23 @@
 //! Records stored from their lines in a relative file.
-ghost use Rattle.std.specs.Prelude.{◌≡◌, ◌≤◌, ◌∷◌, [], ℕ, List, length};
+ghost use Rattle.std.specs.Prelude.{◌≡◌, ◌≢◌, ◌≤◌, ◌∷◌, [], ℕ, List, IfSome, IsNone, length, slice_index};
 ghost use Rattle.byte_text.specs.Lines.{IsLineOf};
 ghost use Rattle.disk_layout.specs.Clean.{IsClean};
-ghost use Rattle.keeper_commands.specs.Stores.{AreLinesOf, CanStore, NewRecord, greatest, new_record};
+ghost use Rattle.keeper_commands.specs.Stores.{
+  AreLinesOf,
+  CanStore,
+  NewRecord,
+  TellsLast,
+  greatest,
+  if_last,
+  last_ones,
+  new_record,
+};
 ghost use Rattle.keeper_commands.specs.Storing.{StoresLines, StoresOne};
 ghost use Rattle.rel_records.specs.File.{IsOf, OfItsFile, length_of, records_in};
 ghost use Rattle.script_lines.specs.Lines.{lines};
 
 use crate::faults::KeepFault;
+use crate::last_lines::LastLines;
 use arrayvec::ArrayVec;
 use byte_text::{read_line, trim, write_line};
 use d64_image::Sectors;
@@ -44,11 +54,28 @@ fn store_record<D: Sectors>(
     Ok(true)
 }
 
-/// Stores the record that the line is of, which is there, and prints its line where it was otherwise.
+/// The number and the bytes of the record that the line at this place is of, where it is the last line of that record.
+fn read_last(line: &[u8], place: usize, last: &LastLines) -> Option<(u32, ArrayVec<u8, 254>)>
+    ensures found { IfSome result (λ p. (1 ≤ p.0) × (p.0 ≤ 182880) × IsLineOf line.now p.0 p.1.items
+        × (slice_index last.now.places.items p.0 ≡ place)) }
+    ensures none { IsNone result → (h L : ℕ) (x : NewRecord) → L ≤ 254 → IsLineOf line.now x.number x.bytes → CanStore L h x
+        → slice_index last.now.places.items x.number ≢ place }
+{
+    let (number, bytes) = read_line(line)?;
+    if !last.is_last(number, place) {
+        return None;
+    }
+    Some((number, bytes))
+}
+
+/// Stores the record that the line at this place is of, which is there, where it is the last line of that record, and
+/// prints its line where it was otherwise.
 fn store_line<D: Sectors, W: Write>(
     disk: &mut D,
     file: &mut RelFile,
     line: &[u8],
+    place: usize,
+    last: &LastLines,
     out: &mut W,
 ) -> Result<(), KeepFault>
     requires clean { IsClean (D.history.image disk.old) }
@@ -58,9 +85,10 @@ fn store_line<D: Sectors, W: Write>(
     ensures { OfItsFile (D.history.image disk.old) file.old (λ l n f.
         (h : ℕ) (x : NewRecord) → IsLineOf line.now x.number x.bytes → CanStore (length_of file.old) h x
         → x.number ≤ records_in file.old
-        → StoresLines D.history W.contents disk.old disk.new out.old out.new l n f file.old file.new (x ∷ []) result) }
+        → StoresLines D.history W.contents disk.old disk.new out.old out.new l n f file.old file.new
+        (if_last last.now.places.items place x) result) }
 {
-    let Some((number, bytes)) = read_line(line) else {
+    let Some((number, bytes)) = read_last(line, place, last) else {
         return Ok(());
     };
     if !store_record(disk, file, number, bytes.as_slice())? {
@@ -72,26 +100,30 @@ fn store_line<D: Sectors, W: Write>(
     Ok(())
 }
 
-/// Stores the records of the text's lines, which are all there, in order, and prints the lines of those that were
-/// otherwise.
+/// Stores the records of the text's lines, which are all there, in order, of each record its last line, and prints the
+/// lines of those that were otherwise.
 pub(crate) fn store_lines<D: Sectors, W: Write>(
     disk: &mut D,
     file: &mut RelFile,
     text: &[u8],
+    last: &LastLines,
     out: &mut W,
 ) -> Result<(), KeepFault>
     requires clean { IsClean (D.history.image disk.old) }
     requires of { IsOf (D.history.image disk.old) file.old }
     requires lines { (h : ℕ) × (xs : List NewRecord) × AreLinesOf (length_of file.old) h (lines text.now) xs
-        × (greatest xs ≤ records_in file.old) }
+        × (greatest xs ≤ records_in file.old) × TellsLast last.now.places.items xs }
     ensures { OfItsFile (D.history.image disk.old) file.old (λ l n f.
         (h : ℕ) (xs : List NewRecord) → AreLinesOf (length_of file.old) h (lines text.now) xs
-        → greatest xs ≤ records_in file.old
-        → StoresLines D.history W.contents disk.old disk.new out.old out.new l n f file.old file.new xs result) }
+        → greatest xs ≤ records_in file.old → TellsLast last.now.places.items xs
+        → StoresLines D.history W.contents disk.old disk.new out.old out.new l n f file.old file.new
+        (last_ones xs) result) }
 {
+    let mut place = 0;
     let mut rest = text;
     while let Some((line, more)) = next_line(rest) {
-        store_line(disk, file, line, out)?;
+        place += 1;
+        store_line(disk, file, line, place, last, out)?;
         rest = more;
     }
     Ok(())

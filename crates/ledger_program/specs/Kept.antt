@@ -14,7 +14,7 @@ use Rattle.disk_layout.specs.Records.{records}
 use Rattle.disk_layout.specs.Rest.{IsFirst, IsNamed}
 use Rattle.disk_layout.specs.declared.faults.Fault.{Fault}
 use Rattle.keeper_commands.specs.Makes.{IsMadeDisk, IsMakeDone, IsMakeRun}
-use Rattle.keeper_commands.specs.Stores.{AreLinesOf, AreSo, NewRecord, changed_text, greatest, stored}
+use Rattle.keeper_commands.specs.Stores.{AreLinesOf, AreSo, NewRecord, changed_text, greatest, last_ones, stored}
 use Rattle.keeper_commands.specs.Storing.{HasBadLine, HasNoStoreRoom, IsStoring}
 use Rattle.keeper_commands.specs.declared.faults.KeepFault.{KeepFault}
 use Rattle.keeper_commands.specs.declared.faults.KeepFault.TheVariants as keep
@@ -86,7 +86,7 @@ IsMakeOver K contents image name L file after old new ended =
     (IsMadeFault K image name L file after old new) ended
 
 -- The disk was clean, `file` is the first closed relative file of the name, the text's lines are of these records, which
--- it has or can have, and whatever was held on the way is sound, with a beginning of them.
+-- it has or can have, and whatever was held on the way is sound, with a beginning of those that count.
 pub record IsStoringRun {D : Type 0} (S : History D) (name text : List ℕ) (old new : D) : Type 0 where
   pub layout : Layout
   pub clean : IsCleanLayout (S.image old) layout
@@ -98,8 +98,8 @@ pub record IsStoringRun {D : Type 0} (S : History D) (name text : List ℕ) (old
   pub are_lines : AreLinesOf (record_length file.slot) (records_had file) (lines text) all
   pub held : HeldOnly S old new (IsStoring (S.image old) layout number file all)
 
--- And there was room, all of them are stored, and the disk is clean; the lines of those that were otherwise, and nothing
--- else, were printed, in order.
+-- And there was room, all of them are stored, and the disk is clean; the lines of those that count, of each record its
+-- last, and were otherwise, and nothing else, were printed, in order.
 pub record IsStoringDone {D W : Type 0} (S : History D) (contents : W → Option (List ℕ)) (name text : List ℕ)
     (old new : D) (before after : W) : Type 0 where
   pub run : IsStoringRun S name text old new
@@ -107,10 +107,11 @@ pub record IsStoringDone {D W : Type 0} (S : History D) (contents : W → Option
   pub clean : IsClean (S.image new)
   pub has : HasRecords (S.image old) (S.image new) run.layout run.number
       (stored (record_length run.file.slot) run.all (grown_to (S.image old) run.file (greatest run.all)))
-  -- where all were so already no sector was written
-  pub quiet : AreSo (record_length run.file.slot) (records (S.image old) run.file) run.all → WritesNothing S old new
+  -- where those that count were so already no sector was written
+  pub quiet : AreSo (record_length run.file.slot) (records (S.image old) run.file) (last_ones run.all)
+      → WritesNothing S old new
   pub printed : Appends (contents before) (contents after)
-      (changed_text (record_length run.file.slot) run.all (grown_to (S.image old) run.file (greatest run.all)))
+      (changed_text (record_length run.file.slot) (last_ones run.all) (grown_to (S.image old) run.file (greatest run.all)))
 
 -- the records were stored on the disk of the file, and what was otherwise was printed
 abbrev pub IsStoredFile : {F W : Type 0} → Keeps F → (W → Option (List ℕ)) → (image name text : List ℕ) → F → F → W → W → Type 0

@@ -50,6 +50,17 @@ fn found(rt: &impl Abort, disk: &mut MemDisk, name: &[u8]) -> RelFile
     }
 }
 
+/// The blank disk with a relative file of one block, in which no record was written.
+pub(crate) fn with_file(rt: &(impl Abort + AllocGlobal), name: &[u8], size: u8) -> MemDisk
+    requires name { length name.now ≤ 16 }
+    requires low { 1 ≤ size }
+    requires high { size ≤ 254 }
+{
+    let mut disk = fresh(rt);
+    make(rt, &mut disk, name, size);
+    disk
+}
+
 /// The blank disk with a relative file in which this record was written.
 pub(crate) fn with_record(
     rt: &(impl Abort + AllocGlobal),

@@ -22,6 +22,8 @@ mod record_rows;
 #[cfg(test)]
 mod repair_rows;
 #[cfg(test)]
+mod returning_rows;
+#[cfg(test)]
 mod storing_rows;
 #[cfg(test)]
 mod text_rows;

@@ -9,9 +9,9 @@ use std::process::Abort;
 
 /// A file's name, how long a record is, the one that is written, its bytes and their text, and how many records there
 /// are then: all whole ones in the blocks that the file has.
-type Made = (&'static [u8], u8, u32, &'static [u8], &'static str, u32);
+pub(crate) type Made = (&'static [u8], u8, u32, &'static [u8], &'static str, u32);
 
-const MADE: [Made; 6] = [
+pub(crate) const MADE: [Made; 6] = [
     (b"ONES", 1, 300, b"\"", "\\22", 508),
     (b"\xD4WOS", 2, 200, b"A\0", "A", 254),
     (
@@ -35,7 +35,7 @@ const MADE: [Made; 6] = [
 ];
 
 /// The lines of so many records: one was written, all others are empty.
-fn lines(rt: &impl AllocGlobal, count: u32, written: u32, text: &str) -> Vec<u8> {
+pub(crate) fn lines(rt: &impl AllocGlobal, count: u32, written: u32, text: &str) -> Vec<u8> {
     let mut lines = Vec::new(rt.alloc());
     for number in 1..=count {
         let text = if number == written { text } else { "\\ff" };

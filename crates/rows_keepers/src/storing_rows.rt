@@ -9,17 +9,17 @@ use std::io::Write;
 use std::process::Abort;
 
 /// Stores a text in a file of a disk in memory that holds this image: how that ends, and its bytes.
-fn stored<W: Write>(
+pub(crate) fn stored<W: Write>(
     rt: &(impl Abort + AllocGlobal),
     image: &[u8],
     name: &[u8],
-    text: &str,
+    text: &[u8],
     out: &mut W,
 ) -> (Result<(), KeepFault>, MemDisk) {
     match MemDisk::load(rt.alloc(), image) {
         Ok(disk) => {
             let mut disk = disk;
-            let ended = store_image(rt.alloc(), image, name, text.as_bytes(), &mut disk, out);
+            let ended = store_image(rt.alloc(), image, name, text, &mut disk, out);
             (ended, disk)
         }
         Err(fault) => panic!(rt; "the image isn't taken: {fault:?}"),
@@ -35,7 +35,7 @@ fn is_stored(
     first: &str,
 ) -> MemDisk {
     let mut out = Vec::new(rt.alloc());
-    let (ended, after) = stored(rt, before.bytes(), b"STOCK", text, &mut out);
+    let (ended, after) = stored(rt, before.bytes(), b"STOCK", text.as_bytes(), &mut out);
     is_told(rt, ended, "");
     same_at(rt, out.as_slice(), printed.as_bytes(), text);
     let mut lines = Vec::new(rt.alloc());
@@ -56,14 +56,14 @@ fn is_stored(
 /// Sees that this is told of the text, and nothing printed or written.
 fn is_refused(rt: &(impl Abort + AllocGlobal), before: &MemDisk, text: &str, told: &str) {
     let mut out = Vec::new(rt.alloc());
-    let (ended, after) = stored(rt, before.bytes(), b"STOCK", text, &mut out);
+    let (ended, after) = stored(rt, before.bytes(), b"STOCK", text.as_bytes(), &mut out);
     is_told(rt, ended, told);
     same_at(rt, out.as_slice(), b"", told);
     same_at(rt, after.bytes() == before.bytes(), true, told);
 }
 
 // A line as it is printed, one without quotation marks and with a CR, one behind the last record: 28 records of 18
-// bytes are in two blocks. Stored again, nothing is printed or written.
+// bytes are in two blocks; of two lines of record 3 the last counts. Stored again, nothing is printed or written.
 #[test]
 fn records_are_stored(rt: HostRuntime) {
     let text = "3,\"MILK\\0d\"\n1,\\ffx\\22\r\n15,\"A,B\"\n3,\"MILK\\0d\\00\"\n";
@@ -72,7 +72,7 @@ fn records_are_stored(rt: HostRuntime) {
         &rt,
         &changed(&rt, &[]),
         text,
-        "3,\"MILK\\0d\"\n1,\"\\ffx\\22\"\n15,\"A,B\"\n",
+        "1,\"\\ffx\\22\"\n15,\"A,B\"\n3,\"MILK\\0d\"\n",
         first,
     );
     let again = is_stored(&rt, &disk, text, "", first);
@@ -80,8 +80,28 @@ fn records_are_stored(rt: HostRuntime) {
     let none = is_stored(&rt, &disk, "", "", first);
     same_at(&rt, none.bytes() == disk.bytes(), true, "no line");
     let mut full = Full { room: 3 };
-    let (ended, _) = stored(&rt, disk.bytes(), b"STOCK", "1,Y", &mut full);
+    let (ended, _) = stored(&rt, disk.bytes(), b"STOCK", b"1,Y", &mut full);
     is_told(&rt, ended, "FILE");
+}
+
+// Of lines of one record that differ the last counts, and is stored in its turn. Stored again, nothing is printed or
+// written; nor where the last one is as the record was already.
+#[test]
+fn last_lines_are_stored(rt: HostRuntime) {
+    let text = "3,A\n1,B\n3,C\n2,X\n1,B\n";
+    let first = "1,\"B\"\n2,\"X\"\n3,\"C\"\n4,\"\\ff\"\n";
+    let blank = changed(&rt, &[]);
+    let disk = is_stored(&rt, &blank, text, "3,\"C\"\n2,\"X\"\n1,\"B\"\n", first);
+    let again = is_stored(&rt, &disk, text, "", first);
+    same_at(&rt, again.bytes() == disk.bytes(), true, "again");
+    let same = is_stored(
+        &rt,
+        &blank,
+        "1,A\n2,B\n1,\\ff\n2,\\ff\n",
+        "",
+        "1,\"\\ff\"\n",
+    );
+    same_at(&rt, same.bytes() == blank.bytes(), true, "as they were");
 }
 
 /// Texts and what is told: a second line that is no record's, of nineteen bytes, of number 0, behind a byte order mark,
@@ -111,6 +131,6 @@ fn records_are_not_stored(rt: HostRuntime) {
         is_refused(&rt, &changed(&rt, changes), "1,A\n", told);
     }
     let mut out = Vec::new(rt.alloc());
-    let (ended, _) = stored(&rt, blank.bytes(), b"STOC", "1;A", &mut out);
+    let (ended, _) = stored(&rt, blank.bytes(), b"STOC", b"1;A", &mut out);
     is_told(&rt, ended, "NO FILE");
 }

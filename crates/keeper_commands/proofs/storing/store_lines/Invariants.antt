@@ -1,17 +1,20 @@
--- A beginning of the records is stored, and the lines of the others are left.
-use Rattle.std.proofs.Common.{◌≤◌, ℕ, List, length}
+-- Of the lines so far those that count are stored, and the others are left; each took a byte of the text.
+use Rattle.std.proofs.Common.{◌≤◌, ◌+◌, ℕ, List, length}
 use Rattle.disk_layout.specs.Layout.{File, Layout}
 use Rattle.rel_records.specs.File.{IsFileOf, length_of, records_in}
 use Rattle.script_lines.specs.Lines.{lines}
 use Rattle.keeper_commands.proofs.LinesStored.{StoringTo}
-use Rattle.keeper_commands.specs.Stores.{AreLinesOf, NewRecord, greatest}
+use Rattle.keeper_commands.specs.Stores.{AreLinesOf, NewRecord, TellsLast, greatest}
 use Rattle.keeper_commands.proofs.storing.store_lines.Given as goal
 
 abbrev pub invariant-loop-line : goal.invariant-loop-line
-invariant-loop-line g l =
-    (k : Layout) (n : ℕ) (f : File) → IsFileOf (g.D.Sectors.history.image l.fn.disk) k n f l.fn.file
-    → (h : ℕ) (xs : List NewRecord) → AreLinesOf (length_of l.fn.file) h (lines l.text) xs → greatest xs ≤ records_in l.fn.file
-    → StoringTo g.D.Sectors.history g.W.Write.contents l.fn.disk l.disk l.fn.out l.out k n f l.fn.file l.file h xs (lines l.rest)
+invariant-loop-line g l = record {
+  room : l.place + length l.rest ≤ length l.text;
+  storing : (k : Layout) (n : ℕ) (f : File) → IsFileOf (g.D.Sectors.history.image l.fn.disk) k n f l.fn.file
+      → (h : ℕ) (xs : List NewRecord) → AreLinesOf (length_of l.fn.file) h (lines l.text) xs → greatest xs ≤ records_in l.fn.file
+      → TellsLast l.last.places.items xs
+      → StoringTo g.D.Sectors.history g.W.Write.contents l.fn.disk l.disk l.fn.out l.out k n f l.fn.file l.file h xs (lines l.rest) l.place;
+}
 
 abbrev pub decreases-loop-line : goal.decreases-loop-line
 decreases-loop-line g l = length l.rest
