@@ -9,7 +9,8 @@ import brokers
 SERVER, CLIENT = "/usr/sbin/glusterfsd", "/usr/sbin/glusterfs"
 PORT = 24099
 # A machine that says nothing for some seconds loses its locks (transport.*), and has no file any more that was open
-# then (strict-locks): so it can't write behind the next holder's back.
+# then (strict-locks): so it can't write behind the next holder's back. It keeps no pages (direct-io-mode): with them, a
+# till that had been answered was told AHEAD behind a change of hands.
 SERVED = f"""
 volume files
   type storage/posix

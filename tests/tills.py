@@ -93,6 +93,15 @@ class Supervised:
             return []
 
 
+def ended(process):
+    """Kills a process; False where it has ended meanwhile, as a `serve` that is told `IN USE`."""
+    try:
+        os.kill(process, signal.SIGKILL)
+        return True
+    except ProcessLookupError:
+        return False
+
+
 class Rabbit:
     """A cluster, one node of which is away now and then."""
 
@@ -236,9 +245,7 @@ class Trial:
             struck = self.broker.strike(self.draw)
         elif kind == "serve":
             served = [child for bridge in self.bridges for child in bridge.children()]
-            for child in served:
-                os.kill(child, 9)
-            struck = bool(served)
+            struck = any([ended(child) for child in served])
         else:
             some = self.tills if kind == "till" else self.bridges
             some = [one for one in some if not one.done]

@@ -200,8 +200,8 @@ class Two(tills.Trial):
 
     def change(self, kind):
         """Takes the machine that serves away, sees the other go on, and lets it come back."""
+        self.until(self.is_sound, "one that serves and one that stands by")
         here, other = self.bridges if self.bridges[0].serves() else self.bridges[::-1]
-        want(here.serves() and other.stands_by(), f"it isn't so that one serves and one stands by: {self.told()}")
         began = time.monotonic()
         {CUT: self.cut, POWER: self.power, KILLED: self.killed, STOPPED: self.stopped}[kind](here, other)
         self.until(other.serves, f"{other.name} that serves while {here.name} is {kind}")
@@ -211,8 +211,12 @@ class Two(tills.Trial):
         self.seconds[kind].append(time.monotonic() - began)
         plug(here.cable, "up")
         here.boot()
-        self.until(here.stands_by, f"{here.name} that stands by, back from being {kind}")
-        want(other.serves(), f"{other.name} doesn't serve any more, with {here.name} back from being {kind}")
+        self.until(self.is_sound, f"one that serves and one that stands by, {here.name} back from being {kind}")
+
+    def is_sound(self):
+        """Whether one machine serves and the other stands by."""
+        first, second = self.bridges
+        return (first.serves() and second.stands_by()) or (second.serves() and first.stands_by())
 
     def cut(self, here, _other):
         plug(here.cable, "down")

@@ -191,6 +191,7 @@ def unfit(shop):
     image, moved = shop.image, SHOPS / "moved"
     image.rename(moved)
     image.write_bytes(bytes(moved.stat().st_size))
+    shutil.chown(image, "ledger", "ledger")
     systemctl("start", shop.bridge)
     shop.ask(340)
     shop.left(78, "an image that is no shop")
