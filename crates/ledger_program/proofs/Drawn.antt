@@ -7,7 +7,7 @@ use Rattle.disk_pictures.specs.Outcomes.{IsDrawnAndJudged, IsMapPrinted, IsPictu
 use Rattle.disk_pictures.specs.declared.faults.PictureFault.{PictureFault}
 use Rattle.disk_pictures.specs.declared.faults.PictureFault.TheVariants as faults
 use Rattle.disk_layout.specs.Layout.{Layout}
-use Rattle.ledger_program.specs.Drawings.{IsDrawingRun, IsDrawnAs, draw_end}
+use Rattle.ledger_program.specs.Drawings.{IsDrawingRun, IsDrawnAs}
 use Rattle.ledger_program.specs.declared.jobs.Drawing.{Drawing}
 use Rattle.ledger_program.specs.declared.jobs.Drawing.TheVariants as drawings
 

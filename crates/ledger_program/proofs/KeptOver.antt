@@ -1,5 +1,5 @@
 -- How what changes the disk of an image ends over its file.
-use Rattle.std.proofs.Common.{◌≡◌, ℕ, List, Result, Ok, Err, arith, inl, inr, length, refl}
+use Rattle.std.proofs.Common.{◌≡◌, ℕ, List, Ok, Err, arith, inl, inr, length, refl}
 use Rattle.keeper_commands.specs.declared.faults.KeepFault.{KeepFault}
 use Rattle.ledger_commands.specs.Plays.{IsUntouched}
 use Rattle.ledger_program.specs.Keeping.{keep_end}

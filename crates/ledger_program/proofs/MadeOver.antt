@@ -1,26 +1,24 @@
 -- What comes of making a relative file over the file of a mirror, from that over the mirror and whether it is broken.
-use Rattle.std.proofs.Common.{◌≡◌, ◌<◌, ◌≤◌, ◌⊎◌, ℕ, List, Option, Result, Ok, Err, ap, arith, inl, length, refl, subst, sym, ⊎_elim}
-use Rattle.std.specs.Prelude.{IfErr, OnOk, if◌then◌else◌}
+use Rattle.std.proofs.Common.{◌≡◌, ◌<◌, ◌⊎◌, ℕ, List, Option, Result, Ok, Err, ap, arith, inl, length, refl, subst}
+use Rattle.std.specs.Prelude.{IfErr, OnOk}
 use Rattle.d64_image.proofs.FileRuns.{file_disk}
 use Rattle.d64_image.proofs.Moments.{changes_weaker, no_write_change}
 use Rattle.d64_image.specs.FileDisks.{in_run}
-use Rattle.d64_image.specs.History.{Changes, WritesNothing}
 use Rattle.d64_image.specs.Keeps.{Keeps}
 use Rattle.d64_image.specs.Memory.{sectors_in}
 use Rattle.d64_image.specs.Mirrors.{is_broken, mirror, mirror_image}
 use Rattle.d64_image.specs.declared.mirror.Mirror.{Mirror}
 use Rattle.d64_image.specs.declared.sector_file.SectorFile.{Ghosts}
-use Rattle.disk_layout.specs.Clean.{IsCleanLayout}
 use Rattle.disk_layout.specs.Layout.{Layout}
 use Rattle.keeper_commands.specs.Faults.{IsLoadFault}
 use Rattle.keeper_commands.specs.Makes.{IsMadeDisk, IsMakeDone, IsMakeFault, IsMakeRun}
 use Rattle.keeper_commands.specs.Refusals.{IsLeft}
 use Rattle.keeper_commands.specs.declared.faults.KeepFault.{KeepFault}
 use Rattle.keeper_commands.specs.declared.faults.KeepFault.TheVariants as keep
-use Rattle.ledger_commands.specs.Plays.{IsTakenUp, IsUntouched}
+use Rattle.ledger_commands.specs.Plays.{IsUntouched}
 use Rattle.ledger_program.proofs.KeptOver.{is-done, is-refused, is-stopped}
 use Rattle.ledger_program.proofs.OverFiles.{broken_file, changes_of_file, handed-back, not_broken, not_failed, refused_of_file, same_failures, taken_up, whole_file}
-use Rattle.ledger_program.specs.Kept.{IsMadeFault, IsMadeFile, IsMakeOver, IsRefused}
+use Rattle.ledger_program.specs.Kept.{IsMadeFault, IsMadeFile, IsMakeOver}
 use Rattle.rel_records.specs.Made.{HasNoRoom, IsCreating, IsTakenName, creation_writes}
 
 -- a creation writes five sectors at most

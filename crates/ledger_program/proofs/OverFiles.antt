@@ -2,12 +2,12 @@
 use Rattle.std.proofs.Common.{◌≡◌, ◌<◌, ◌≤◌, ◌+◌, ◌⊎◌, ℕ, List, Result, Err, ap, arith, length, refl, subst, sym, ⊎_elim}
 use Rattle.std.specs.Prelude.{if◌then◌else◌, nat_lt}
 use Rattle.d64_image.proofs.FileRuns.{file_disk, file_failed, held_by_file, one_if-false}
-use Rattle.d64_image.specs.FileDisks.{FileDisk, fails_since, in_run}
+use Rattle.d64_image.specs.FileDisks.{FileDisk, in_run}
 use Rattle.d64_image.specs.History.{Changes, Failed, HeldOnly, History, WritesNothing}
 use Rattle.d64_image.specs.Images.{Image}
 use Rattle.d64_image.specs.Keeps.{FileFailed}
 use Rattle.d64_image.specs.Memory.{sectors_in}
-use Rattle.d64_image.specs.Mirrors.{IsMirrored, is_broken, mirror, mirror_image, one_if}
+use Rattle.d64_image.specs.Mirrors.{is_broken, mirror, mirror_image, one_if}
 use Rattle.d64_image.specs.declared.mirror.Mirror.{Mirror}
 use Rattle.d64_image.specs.declared.sector_file.SectorFile.{Ghosts}
 use Rattle.keeper_commands.specs.declared.faults.KeepFault.{KeepFault}

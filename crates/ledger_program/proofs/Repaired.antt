@@ -1,27 +1,27 @@
 -- What comes of a repair over the file of a mirror, from that over the mirror and whether it is broken.
-use Rattle.std.proofs.Common.{◌≡◌, ◌<◌, ◌≤◌, ◌+◌, ◌∙◌, ◌⊎◌, ℕ, List, Option, Result, Ok, Err, ap, arith, inl, inr, length, refl, subst, sym, ⊎_elim}
+use Rattle.std.proofs.Common.{◌≡◌, ◌<◌, ◌≤◌, ◌+◌, ◌⊎◌, ℕ, List, Option, Result, Ok, Err, ap, arith, inl, inr, length, refl, subst}
 use Rattle.std.specs.Prelude.{IfErr, OnOk}
-use Rattle.d64_image.proofs.FileRuns.{file_disk, file_failed, held_by_file, one_if-false}
+use Rattle.d64_image.proofs.FileRuns.{file_disk, file_failed, held_by_file}
 use Rattle.d64_image.specs.FileDisks.{FileDisk, in_run}
-use Rattle.d64_image.specs.History.{Changes, Failed, History, WritesNothing}
+use Rattle.d64_image.specs.History.{Changes, History, WritesNothing}
 use Rattle.d64_image.specs.Images.{Image, Sector}
 use Rattle.d64_image.specs.Keeps.{FileFailed, Keeps}
 use Rattle.d64_image.specs.Memory.{sectors_in}
-use Rattle.d64_image.specs.Mirrors.{IsMirrored, is_broken, mirror, mirror_image, one_if}
+use Rattle.d64_image.specs.Mirrors.{IsMirrored, is_broken, mirror, mirror_image}
 use Rattle.d64_image.specs.declared.mirror.Mirror.{Mirror}
 use Rattle.d64_image.specs.declared.place.Place.{Place}
 use Rattle.d64_image.specs.declared.sector_file.SectorFile.{Ghosts}
 use Rattle.disk_layout.proofs.Twice.{told-unsound}
 use Rattle.disk_layout.specs.Fault.{Holds, nowhere}
 use Rattle.disk_layout.specs.InOrder.{GoesOver}
-use Rattle.disk_layout.specs.Layout.{IsLayout, IsSound, Layout}
+use Rattle.disk_layout.specs.Layout.{IsSound}
 use Rattle.disk_layout.specs.declared.faults.Fault.{Fault}
 use Rattle.keeper_commands.specs.Faults.{IsLoadFault}
 use Rattle.keeper_commands.specs.Repairs.{IsMendedDisk, IsRepairDone, IsRepairFault, IsRepairRun}
 use Rattle.keeper_commands.specs.declared.faults.KeepFault.{KeepFault}
 use Rattle.keeper_commands.specs.declared.faults.KeepFault.TheVariants as keep
 use Rattle.ledger_commands.proofs.FileEnds.{failed_stably}
-use Rattle.ledger_commands.specs.Plays.{IsTakenUp, IsUntouched}
+use Rattle.ledger_commands.specs.Plays.{IsUntouched}
 use Rattle.ledger_program.proofs.OverFiles.{changes_of_file, handed-back, not_failed, same_file, taken_up}
 use Rattle.ledger_program.specs.Keeping.{IsRepairOver, IsRepairedFault, IsRepairedFile, keep_end}
 

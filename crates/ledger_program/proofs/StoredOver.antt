@@ -1,5 +1,5 @@
 -- What comes of storing records over the file of a mirror, from that over the mirror and whether it is broken.
-use Rattle.std.proofs.Common.{◌≡◌, ◌⊎◌, ℕ, List, Option, Result, Ok, Err, ap, arith, inl, inr, length, refl, slice_get, Some, subst, ⊎_elim}
+use Rattle.std.proofs.Common.{◌≡◌, ◌⊎◌, ℕ, List, Option, Result, Ok, Err, ap, inl, inr, length, refl, slice_get, Some, subst, ⊎_elim}
 use Rattle.std.specs.Prelude.{IfErr, OnOk}
 use Rattle.d64_image.proofs.FileRuns.{file_disk, held_by_file}
 use Rattle.d64_image.specs.FileDisks.{in_run}
@@ -8,7 +8,6 @@ use Rattle.d64_image.specs.Memory.{sectors_in}
 use Rattle.d64_image.specs.Mirrors.{is_broken, mirror, mirror_image}
 use Rattle.d64_image.specs.declared.mirror.Mirror.{Mirror}
 use Rattle.d64_image.specs.declared.sector_file.SectorFile.{Ghosts}
-use Rattle.disk_layout.specs.Clean.{IsCleanLayout}
 use Rattle.disk_layout.specs.Layout.{File, Layout}
 use Rattle.disk_layout.specs.Rest.{IsNamed}
 use Rattle.keeper_commands.specs.Faults.{IsLoadFault}
@@ -19,7 +18,7 @@ use Rattle.keeper_commands.specs.declared.faults.KeepFault.TheVariants as keep
 use Rattle.ledger_commands.specs.Plays.{IsTakenUp, IsUntouched}
 use Rattle.ledger_program.proofs.KeptOver.{is-done, is-refused, is-stopped}
 use Rattle.ledger_program.proofs.OverFiles.{broken_file, handed-back, kept_of_file, not_failed, refused_of_file, same_file, taken_up, whole_file}
-use Rattle.ledger_program.specs.Kept.{IsKeptAsItWas, IsRefused, IsStoreOver, IsStoredFault, IsStoredFile, IsStoringRun}
+use Rattle.ledger_program.specs.Kept.{IsKeptAsItWas, IsStoreOver, IsStoredFault, IsStoredFile, IsStoringRun}
 
 module _ {F W : Type 0} (K : Keeps F) (contents : W → Option (List ℕ)) (image name text : List ℕ) where
   -- the image wasn't taken into memory

@@ -1,5 +1,5 @@
 -- What comes of what is asked for of a file, from what its command says.
-use Rattle.std.proofs.Common.{◌≡◌, ◌≢◌, ◌⊎◌, ℕ, List, Option, Result, Ok, Err, arith, inl, inr, length, refl}
+use Rattle.std.proofs.Common.{◌≡◌, ◌≢◌, ℕ, List, Option, Result, Ok, Err, arith, inl, inr, length, refl}
 use Rattle.std.specs.Prelude.{IfErr, OnOk}
 use Rattle.keeper_commands.specs.Bytes.{AreBytesPrinted, IsBytesFault}
 use Rattle.keeper_commands.specs.Records.{AreRecordsPrinted, IsRecordsFault}

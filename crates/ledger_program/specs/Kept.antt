@@ -4,7 +4,6 @@ use Rattle.std.specs.Prelude.{◌≡◌, ◌≢◌, ◌⊎◌, ℕ, List, Option
 use Rattle.std.specs.Io.KnownBytes.{Appends}
 use Rattle.d64_image.specs.FileDisks.{in_run}
 use Rattle.d64_image.specs.History.{Changes, HeldOnly, History, WritesNothing}
-use Rattle.d64_image.specs.Images.{Image}
 use Rattle.d64_image.specs.Keeps.{FileFailed, Keeps}
 use Rattle.d64_image.specs.Memory.{sectors_in}
 use Rattle.disk_layout.specs.Clean.{IsClean, IsCleanLayout}
@@ -20,7 +19,6 @@ use Rattle.keeper_commands.specs.declared.faults.KeepFault.{KeepFault}
 use Rattle.keeper_commands.specs.declared.faults.KeepFault.TheVariants as keep
 use Rattle.ledger_commands.specs.Plays.{IsTakenUp, IsUnfailed, IsUntouched}
 use Rattle.ledger_program.specs.Keeping.{keep_end}
-use Rattle.rel_records.specs.File.{length_of}
 use Rattle.rel_records.specs.Growth.{IsFull, records_had}
 use Rattle.rel_records.specs.Made.{HasNoRoom, IsTakenName}
 use Rattle.rel_records.specs.Others.{HasRecords}
