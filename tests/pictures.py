@@ -93,6 +93,12 @@ class Wanted:
         """Whether a white line is to be seen: in use, and free in the map."""
         return place != self.fault and self.disk.is_free(place) and place in self.disk.owner
 
+    def beside(self, place):
+        """How far outwards of its middle a sector is seen beside its white line: on both sides, but for that of a fault on
+        the next ring, whose white edge comes as far as there."""
+        inwards = place[0] - self.fault[0] if self.fault else 0
+        return (BESIDE, -BESIDE) if abs(inwards) != 1 else (-BESIDE * inwards,)
+
     def owner_colour(self, place):
         mark = self.marks[place]
         if not mark.isalpha():
@@ -127,7 +133,7 @@ def see_colours(name, seen, wanted, who):
         colour = seen.at(middle(place))
         want(near(colour, wanted.colour(place)), f"{name}: {who} shows {colour} at {place}, wanted {wanted.colour(place)}")
         if wanted.is_open(place):
-            for more in (BESIDE, -BESIDE):
+            for more in wanted.beside(place):
                 colour = seen.at(middle(place, more))
                 want(near(colour, wanted.owner_colour(place)), f"{name}: {who} shows {colour} beside the line of {place}")
     if wanted.fault:
@@ -146,7 +152,7 @@ def see_titles(name, browser, box, wanted):
 
     looked = [(place, 0, wanted.title(place)) for place in PLACES]
     looked += [(place, more, wanted.disk.title(place))
-               for place in PLACES if wanted.is_open(place) for more in (BESIDE, -BESIDE)]
+               for place in PLACES if wanted.is_open(place) for more in wanted.beside(place)]
     points = [on_page(middle(place, more)) for place, more, _ in looked]
     for (place, _, title), said in zip(looked, browser.value(f"{TITLES}({json.dumps(points)})")):
         want(said == title, f"{name}: at {place} is said {said!r}, wanted {title!r}")
