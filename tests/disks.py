@@ -7,7 +7,7 @@ import subprocess
 import sys
 from pathlib import Path
 
-from drawn import MAP, SIZE, Disk, start
+from drawn import MAP, PLACES, SIZE, Disk, start
 
 TOP = Path(__file__).resolve().parents[1]
 TOOLS = ("cc1541", "cbmconvert")
@@ -162,6 +162,14 @@ def with_map_wrong(path):
         image.mark(place, True)
     for place in ((35, 4), (35, 5), (34, 9)):
         image.mark(place, False)
+    return image
+
+
+def with_all_free(path):
+    """A map that calls each sector free."""
+    image = Image(path)
+    for place in PLACES:
+        image.mark(place, True)
     return image
 
 

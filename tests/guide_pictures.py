@@ -83,8 +83,8 @@ def joined(circles):
             numbers += [dash, following[1] - at - dash if following else NOTHING]
         made.append({"r": str(radius), "stroke-dasharray": " ".join(map(str, numbers)),
                      "stroke-dashoffset": str(-arcs[0][1]), name: value})
-    want(sorted(arc for circle in made for arc in arcs_of(circle)) == sorted(arc for circle in circles for arc in arcs_of(circle)),
-         "the arcs differ from the page's")
+    before, after = (sorted(arc for circle in some for arc in arcs_of(circle)) for some in (circles, made))
+    want(before == after, "the arcs differ from the page's")
     return made
 
 
@@ -105,7 +105,8 @@ def style_text(page):
     kinds = "".join("." + rule + "}" for rule in re.findall(r"\.((?:free|lost|map|dir|edge|fault|open)\{[^}]*)\}", page.style))
     circle = re.search(r"circle\{[^}]*\}", page.style).group(0)
     return (f"<style>{circle}{kinds}text{{font:14px {FONT};fill:#222}}.disk{{font-size:1100px;fill:#444;text-anchor:middle}}"
-            f".head{{font-size:18px;font-weight:bold}}.good{{fill:#17692b;font-weight:bold}}.bad{{fill:#d00;font-weight:bold}}</style>\n")
+            f".head{{font-size:18px;font-weight:bold}}.good{{fill:#17692b;font-weight:bold}}"
+            ".bad{fill:#d00;font-weight:bold}</style>\n")
 
 
 def text_at(x, y, text, more=""):

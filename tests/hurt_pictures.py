@@ -233,7 +233,8 @@ def linked_image(draw):
     """Each sector's link is some place; the directory is a chain of 1 to 18 sectors, and its used entries are closed."""
     image = bytearray(draw.randbytes(SIZE))
     for place in PLACES:
-        image[start(place):start(place) + 2] = bytes(draw.choice(PLACES)) if draw.random() < 0.98 else bytes([0, draw.randrange(256)])
+        link = draw.choice(PLACES) if draw.random() < 0.98 else (0, draw.randrange(256))
+        image[start(place):start(place) + 2] = bytes(link)
     directory = [DIRECTORY, *draw.sample([(18, sector) for sector in range(2, 19)], draw.randrange(18))]
     for place, link in zip(directory, [*directory[1:], (0, 255)]):
         image[start(place):start(place) + 2] = bytes(link)

@@ -23,6 +23,8 @@ from drawn import MAP, PLACES, Disk, sectors_on
 from served import run, want
 
 LARGEST = 150_000
+# these pages are larger: 144 names of escapes alone, and a white line over each sector
+LARGER = ("crowded by &", "full, all free")
 SLOWEST = 1.0
 # dots of the screen for a pixel of the page: a ring is 27 dots wide then
 DOTS = 4
@@ -91,6 +93,12 @@ class Wanted:
         """Whether a white line is to be seen: in use, and free in the map."""
         return place != self.fault and self.disk.is_free(place) and place in self.disk.owner
 
+    def beside(self, place):
+        """How far outwards of its middle a sector is seen beside its white line: on both sides, but for that of a fault on
+        the next ring, whose white edge comes as far as there."""
+        inwards = place[0] - self.fault[0] if self.fault else 0
+        return (BESIDE, -BESIDE) if abs(inwards) != 1 else (-BESIDE * inwards,)
+
     def owner_colour(self, place):
         mark = self.marks[place]
         if not mark.isalpha():
@@ -125,7 +133,7 @@ def see_colours(name, seen, wanted, who):
         colour = seen.at(middle(place))
         want(near(colour, wanted.colour(place)), f"{name}: {who} shows {colour} at {place}, wanted {wanted.colour(place)}")
         if wanted.is_open(place):
-            for more in (BESIDE, -BESIDE):
+            for more in wanted.beside(place):
                 colour = seen.at(middle(place, more))
                 want(near(colour, wanted.owner_colour(place)), f"{name}: {who} shows {colour} beside the line of {place}")
     if wanted.fault:
@@ -144,7 +152,7 @@ def see_titles(name, browser, box, wanted):
 
     looked = [(place, 0, wanted.title(place)) for place in PLACES]
     looked += [(place, more, wanted.disk.title(place))
-               for place in PLACES if wanted.is_open(place) for more in (BESIDE, -BESIDE)]
+               for place in PLACES if wanted.is_open(place) for more in wanted.beside(place)]
     points = [on_page(middle(place, more)) for place, more, _ in looked]
     for (place, _, title), said in zip(looked, browser.value(f"{TITLES}({json.dumps(points)})")):
         want(said == title, f"{name}: at {place} is said {said!r}, wanted {title!r}")
@@ -179,13 +187,13 @@ def see_links(name, browser, wanted):
 
 def drawn_in(browser, url):
     """How long it takes from the beginning of a page's opening until a frame is shown after all of it was read, in
-    seconds: the least of three times."""
+    seconds: the least of three times, or of ten where other work slows them."""
     times = []
-    for _ in range(3):
+    while len(times) < 3 or min(times) >= SLOWEST and len(times) < 10:
         browser.open(url)
         times.append(browser.value("new Promise(done => requestAnimationFrame(() => requestAnimationFrame("
-                                   "() => done(performance.now()))))"))
-    return min(times) / 1000
+                                   "() => done(performance.now()))))") / 1000)
+    return min(times)
 
 
 def svg_of(page):
@@ -219,7 +227,7 @@ def see_page(program, browser, proxy, name, path, folder):
     done = subprocess.run([program, "picture", path], capture_output=True, timeout=60)
     page = done.stdout
     want(done.returncode == status and status == (0 if lines[-1] == "OK" else 1), f"{name}: statuses")
-    want(len(page) < LARGEST or name.startswith("crowded"), f"{name}: {len(page)} bytes")
+    want((len(page) < LARGEST) == (name not in LARGER), f"{name}: {len(page)} bytes")
     references = re.findall(rb"(?:src|href|url|import|action|data)\s*[=(]\s*\"?([^\">]*)", page)
     want(all(re.fullmatch(rb"#f\d+", found) for found in references), f"{name}: leads out of the page: {references}")
     wanted = Wanted(name, path.read_bytes(), lines)
@@ -266,7 +274,9 @@ def made_disks(program, folder):
     sound = disks.customers(folder, folder / "sound.d64")
     yield "blank", disks.blank(program, folder / "blank.d64")
     yield "shop", disks.shop_after_a_day(program, folder / "shop.d64")
-    yield "full", disks.full_shop(program, folder / "full.d64")
+    full = disks.full_shop(program, folder / "full.d64")
+    yield "full", full
+    yield "full, all free", disks.with_all_free(full).save(folder / "full_free.d64")
     yield "cc1541", disks.of_cc1541(folder, folder / "cc1541.d64")
     yield "cbmconvert", disks.of_cbmconvert(folder, folder / "cbmconvert.d64")
     yield "both", sound

@@ -4,9 +4,9 @@
 # PROGRAM is `crates/ledger_cli/out/ledger_cli`. Wants Debian's packages chromium, librsvg2-bin, python3-pil, cc1541 and
 # cbmconvert; where one isn't installed, nothing is compared. In FOLDER, where it is given, images, pages and what the
 # browser shows of them are kept.
-# The disks: a blank one, a shop after the README's day, a full one; one of cc1541 (types, locked, unclosed, a separator, a
-# scratched entry), one of cbmconvert with relative files, one of both; one with names of markup, its own name too; that of
-# both with each of the nine faults; and two of 144 entries. Of each:
+# The disks: a blank one, a shop after the README's day, a full one, the same with a map that calls each sector free; one of
+# cc1541 (types, locked, unclosed, a separator, a scratched entry), one of cbmconvert with relative files, one of both; one
+# with names of markup, its own name too; that of both with each of the nine faults; and two of 144 entries. Of each:
 # - at the middle of each of the 683 sectors Chromium shows the colour of the owner that `map` gives, red where it has `!`,
 #   white where the sector is in use and the map of the disk calls it free, with the owner's colour beside the line; what
 #   librsvg draws shows the same;
@@ -14,8 +14,9 @@
 # - elements and attributes of the page in the browser are the page's own, and names are shown as they are written;
 # - the page names nothing outside of itself, asks for nothing but itself (the browser's own account, and a proxy on the
 #   loopback that it would have to ask), logs nothing and runs nothing; a page that does all this is heard;
-# - it has less than 150,000 bytes; and a frame is shown in less than a second after all of it was read, counted from the
-#   beginning of its opening by the browser's clock, the least of three times.
+# - it has less than 150,000 bytes, but for two: a full disk whose map calls all free, and 144 names of sixteen `&`;
+# - a frame is shown in less than a second after all of it was read, by the browser's clock, which begins when the page is
+#   asked for: the least of three times, or of ten where other work slows them.
 # Nothing leaves the machine.
 set -e
 top=$(CDPATH= cd -- "$(dirname -- "$0")/.." && pwd)
