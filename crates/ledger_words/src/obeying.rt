@@ -84,7 +84,7 @@ where
         Err(error) => return refuse(err, &io::Error::from(error)),
     };
     let refusal = ended.err();
-    let status = end(ended, err).status;
+    let status = end(ended, err);
     if let (Some(refusal), Told::Person) = (refusal, told) {
         explain(rt, job, refusal, err);
     }
