@@ -20,7 +20,7 @@ const OUTPUT_ROOM: usize = 32768;
 
 /// Tells a failure of the system, and answers its exit status.
 fn refuse<E: Write>(err: &mut E, error: &io::Error) -> u8 {
-    end(Err(Refusal::Run(RunFault::of_io(error))), err)
+    end(Err(Refusal::Run(RunFault::of_io(error))), err).status
 }
 
 /// Tells why the words ask for nothing, or gives the help that they ask for, and answers the exit status.
@@ -29,7 +29,7 @@ fn refuse_words<R: Print + Eprint, E: Write>(rt: &R, fault: &JobFault, err: &mut
     let told = match fault {
         // For want of memory there may be no text.
         JobFault::Words(_) if status == RunFault::NoMemory.status() => {
-            return end(Err(Refusal::Run(RunFault::NoMemory)), err);
+            return end(Err(Refusal::Run(RunFault::NoMemory)), err).status;
         }
         JobFault::Words(error) => error.print(rt),
         JobFault::Tills | JobFault::Name => writeln!(err, "{fault}"),
@@ -50,7 +50,7 @@ where
     requires { HasTills job.now }
 {
     match BufWriter::with_capacity(rt.alloc(), OUTPUT_ROOM, io::writer(rt)) {
-        Ok(mut out) => end(do_job(rt, job, &mut out), err),
+        Ok(mut out) => end(do_job(rt, job, &mut out), err).status,
         Err(error) => refuse(err, &io::Error::from(error)),
     }
 }
