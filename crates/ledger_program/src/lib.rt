@@ -23,4 +23,4 @@ pub use names::Name;
 pub use refusals::Refusal;
 pub use running::{format_run, play_run, reading_run};
 pub use serving_runs::serve_run;
-pub use telling::{end, tell};
+pub use telling::{Ending, end, tell};

@@ -29,7 +29,7 @@ pub enum Told {
 
 /// Tells a failure of the system, and answers its exit status.
 fn refuse<E: Write>(err: &mut E, error: &io::Error) -> u8 {
-    end(Err(Refusal::Run(RunFault::of_io(error))), err)
+    end(Err(Refusal::Run(RunFault::of_io(error))), err).status
 }
 
 /// Tells why the words ask for nothing, or gives the help that they ask for, and answers the exit status.
@@ -43,7 +43,7 @@ fn refuse_words<R: Print + Eprint, E: Write>(
     let ended = match fault {
         // For want of memory there may be no text.
         JobFault::Words(_) if status == RunFault::NoMemory.status() => {
-            return end(Err(Refusal::Run(RunFault::NoMemory)), err);
+            return end(Err(Refusal::Run(RunFault::NoMemory)), err).status;
         }
         JobFault::Words(error) => error.print(rt),
         JobFault::Tills | JobFault::Name | JobFault::Length => writeln!(err, "{fault}"),
@@ -84,7 +84,7 @@ where
         Err(error) => return refuse(err, &io::Error::from(error)),
     };
     let refusal = ended.err();
-    let status = end(ended, err);
+    let status = end(ended, err).status;
     if let (Some(refusal), Told::Person) = (refusal, told) {
         explain(rt, job, refusal, err);
     }

@@ -72,8 +72,12 @@ fn hands_on(rt: &(impl AllocGlobal + Abort), job: &Job<'static>, printed: usize,
     put(rt, &memory.script, Kind::Plain, b"1,1,S,1,5\n");
     let mut out = Kept(0);
     let mut told = Vec::new(rt.alloc());
-    let status = end(do_job(&Runtime(&memory), job, &mut out), &mut told);
-    same(rt, (status, told.as_slice()), (3, b"FILE\n".as_slice()));
+    let ending = end(do_job(&Runtime(&memory), job, &mut out), &mut told);
+    same(
+        rt,
+        (ending.status, ending.told, told.as_slice()),
+        (3, Ok(()), b"FILE\n".as_slice()),
+    );
     same_at(rt, out.0, printed, "bytes taken");
 }
 
