@@ -4,6 +4,7 @@
 pub mod checking;
 pub mod files;
 pub mod full_disk;
+pub mod keeping;
 pub mod messages;
 pub mod mirror;
 pub mod pictures;
