@@ -1,9 +1,12 @@
 //! Reading the words of the command line.
-ghost use Rattle.std.specs.Prelude.{◌≡◌, ◌≤◌, IfErr, IfOk, IfSome, List, MatchResult, [], map, option_map};
+ghost use Rattle.std.specs.Prelude.{◌≡◌, ◌≤◌, ℕ, IfErr, IfOk, IfSome, IsNone, List, MatchResult, [], map, option_map};
 ghost use Rattle.clap.specs.Words.{HasKind, fault_of, found_of, rows_of, subcommand_of, subcommand_rows_of};
 ghost use Rattle.ledger_words.specs.Grammar.{ledger, value};
 ghost use Rattle.request_cards.specs.Reading.{number_in};
+ghost use Rattle.byte_text.specs.Texts.{AreBytes};
+ghost use Rattle.keeper_commands.specs.Makes.{IsNewName};
 ghost use Rattle.ledger_program.specs.Jobs.{IsFit};
+ghost use Rattle.ledger_program.specs.Names.{IsNameOf, name_bytes};
 ghost use Rattle.ledger_words.specs.Jobs.{IsJob, IsMakingJob, IsNoJob, IsParse, IsStoringJob, IsTakingJob};
 ghost use Rattle.rel_records.specs.File.{IsLength};
 ghost use Rattle.ledger_words.specs.Jobs.{is_given as given, play_durability as of_play, serve_durability as of_serve};
@@ -92,13 +95,24 @@ fn taking<'a>(matches: &ArgMatches<'a>, what: Taking, image: &'a str) -> Result<
     }
 }
 
+/// The name of a new file that has this text.
+fn new_name(text: &str) -> Option<Name>
+    ensures found { IfSome result (λ name. IsNameOf text.now (name_bytes name) × IsNewName (name_bytes name)) }
+    ensures none { IsNone result → (bytes : List ℕ) → AreBytes bytes → IsNameOf text.now bytes → ¬ (IsNewName bytes) }
+{
+    let name = Name::read(text)?;
+    if !name.is_new() {
+        return None;
+    }
+    Some(name)
+}
+
 /// The job that makes a relative file on the disk of an image.
 fn making<'a>(matches: &ArgMatches<'a>, image: &'a str) -> Result<Job<'a>, JobFault>
     ensures { IsMakingJob (rows_of (found_of matches.now)) image.now result }
 {
-    let name = match Name::read(value_of(matches, "NAME")) {
-        Some(name) if name.is_new() => name,
-        _ => return Err(JobFault::Name),
+    let Some(name) = new_name(value_of(matches, "NAME")) else {
+        return Err(JobFault::Name);
     };
     match length_of(value_of(matches, "L")) {
         Some(length) => Ok(Job::Make {
