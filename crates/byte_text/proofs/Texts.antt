@@ -6,7 +6,7 @@ use Rattle.std.proofs.Math.Seq.{get_or-append_seam}
 use Rattle.std.proofs.KnownBytes.{Appends-trans}
 use Rattle.std.proofs.Math.Seq.{take-append-add}
 use Rattle.std.proofs.lemmas.Grind.{flat_map-append}
-use Rattle.std.proofs.lemmas.List.{append_assoc, append-nil, get_or-drop, get_or-take, length-take, length-take-le, take-append-drop}
+use Rattle.std.proofs.lemmas.List.{append_assoc, append-nil, get_or-drop, get_or-take, length-drop, length-take, length-take-le, take-append-drop, take_all}
 use Rattle.byte_text.specs.Texts.{AreBytes, byte_text, digit, is_plain, record_line, text_of, trimmed}
 
 -- a digit is of one number
@@ -145,11 +145,13 @@ none-more text rest pre is some full bytes few same =
     let x = behind-of pre bytes rest (sym is ∙ same) in
     no-room rest pre bytes x.behind some full few x.split x.text
 
--- a record's line, written part by part
-pub line-written : (a b c d : Option (List ℕ)) (n : ℕ) (bytes kept : List ℕ) → kept ≡ trimmed bytes
-    → Appends a b (decimal n ++ codes ",\"") → Appends b c (text_of kept) → Appends c d (codes "\"\n") → Appends a d (record_line n bytes)
+-- a record's line, which stands at its room's end
+pub line-in-room : (a b : Option (List ℕ)) (n size start : ℕ) (bytes kept room : List ℕ) → kept ≡ trimmed bytes → length room ≡ size
+    → drop start room ≡ decimal n ++ (codes ",\"" ++ (text_of kept ++ codes "\"\n"))
+    → Appends a b (take (size - start) (drop start room)) → Appends a b (record_line n bytes)
 unfolding record_line
-line-written a b c d n bytes kept is number text end =
-    let whole : Appends a d (decimal n ++ codes ",\"" ++ (text_of kept ++ codes "\"\n")) = Appends-trans a b d _ _ number (Appends-trans b c d _ _ text end) in
-    subst (λ (xs : List ℕ). Appends a d (decimal n ++ (codes ",\"" ++ (text_of xs ++ codes "\"\n")))) is
-    (subst (Appends a d) (append_assoc (decimal n) (codes ",\"") (text_of kept ++ codes "\"\n")) whole)
+line-in-room a b n size start bytes kept room is long put written =
+    let whole : take (size - start) (drop start room) ≡ drop start room =
+    take_all (size - start) (drop start room) (omega (arith, long, length-drop start room)) in
+    subst (λ (xs : List ℕ). Appends a b (decimal n ++ (codes ",\"" ++ (text_of xs ++ codes "\"\n")))) is
+    (subst (Appends a b) (whole ∙ put) written)

@@ -4,6 +4,7 @@
 mod laws;
 mod line_reading;
 mod line_writing;
+mod putting;
 mod reading;
 mod text;
 mod trimming;

@@ -1,19 +1,41 @@
 //! Records as lines: a number, a comma, and the text of the bytes between quotation marks.
-ghost use Rattle.std.specs.Prelude.{OnOk};
+ghost use Rattle.std.specs.Prelude.{◌≡◌, ◌≤◌, ◌+◌, ◌*◌, ◌++◌, OnOk, codes, decimal, drop, length};
 ghost use Rattle.std.specs.Io.KnownBytes.{Appends};
-ghost use Rattle.byte_text.specs.Texts.{record_line};
+ghost use Rattle.byte_text.specs.Texts.{record_line, text_of};
 
+use crate::putting::{put_before, put_text};
 use crate::trimming::trim;
-use crate::writing::write_text;
+use arrayvec::ArrayVec;
+use itoa::write_digits;
 use std::io::{self, Write};
 
-/// Writes the line of a record, with its LF: its number, counted from 1, and its bytes up to the last one that isn't
-/// 0. It is a line of a file of comma-separated values, and no quotation mark of it is ever doubled. An error is the
-/// writer's, which may then have a part of the line.
-pub fn write_line<W: Write>(out: &mut W, number: u32, bytes: &[u8]) -> io::Result<()>
-    ensures { OnOk result (Appends (W.contents out.old) (W.contents out.new) (record_line number bytes.now)) }
+/// Puts the line of a record, whose bytes end with one that isn't 0, at the room's end, and returns where it starts.
+fn put_line(number: u32, bytes: &[u8], room: &mut [u8]) -> usize
+    requires { 3 * length bytes.now + 14 ≤ length room.old }
+    ensures start { result ≤ length room.new }
+    ensures written { drop result room.new ≡ decimal number ++ (codes ",\"" ++ (text_of bytes.now ++ codes "\"\n")) }
 {
-    write!(out, "{number},\"")?;
-    write_text(out, trim(bytes))?;
-    out.write_all(b"\"\n")
+    let end = room.len();
+    let start = put_before(b"\"\n", room, end);
+    let start = put_text(bytes, room, start);
+    let start = put_before(b",\"", room, start);
+    write_digits(u64::from(number), room, start)
+}
+
+/// Writes the line of a record, with its LF: its number, counted from 1, and its bytes up to the last one that isn't
+/// 0. It is a line of a file of comma-separated values, and no quotation mark of it is ever doubled. The writer is handed
+/// it at once; an error is the writer's, which may then have a part of the line.
+pub fn write_line<W: Write>(out: &mut W, number: u32, bytes: &ArrayVec<u8, 254>) -> io::Result<()>
+    ensures { OnOk result (Appends (W.contents out.old) (W.contents out.new) (record_line number bytes.now.items)) }
+{
+    let bytes = trim(bytes.as_slice());
+    // Most lines are short, and a small room is sooner cleared.
+    if bytes.len() <= 16 {
+        let mut room = [0; 62];
+        let start = put_line(number, bytes, &mut room);
+        return out.write_all(&room[start..]);
+    }
+    let mut room = [0; 776];
+    let start = put_line(number, bytes, &mut room);
+    out.write_all(&room[start..])
 }

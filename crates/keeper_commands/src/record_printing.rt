@@ -42,7 +42,7 @@ fn put_record<W: Write>(
     if read_next(disk, file, last, number, bytes).is_err() {
         return Err(KeepFault::Device);
     }
-    if write_line(out, number, bytes.as_slice()).is_err() {
+    if write_line(out, number, bytes).is_err() {
         return Err(KeepFault::File);
     }
     Ok(())

@@ -94,7 +94,7 @@ fn store_line<D: Sectors, W: Write>(
     if !store_record(disk, file, number, bytes.as_slice())? {
         return Ok(());
     }
-    if write_line(out, number, bytes.as_slice()).is_err() {
+    if write_line(out, number, &bytes).is_err() {
         return Err(KeepFault::File);
     }
     Ok(())

@@ -1,6 +1,7 @@
 //! Lines of records, worked out from their form: what is printed of a record, the two spellings that are read of it,
 //! and what is no record's line.
 use crate::comparing::same_at;
+use arrayvec::ArrayVec;
 use byte_text::{read_line, write_line};
 use std::process::Abort;
 
@@ -8,8 +9,9 @@ use std::process::Abort;
 type Row = (u32, &'static [u8], &'static [u8]);
 
 /// An empty record, one of zeros alone, fields that end in CR, a comma and a quotation mark within, zeros within; and
-/// the greatest number that a record can have, and the first that 16 bits don't hold.
-const PRINTED: [Row; 7] = [
+/// the greatest number that a record can have, and the first that 16 bits don't hold. Records of 16
+/// and 17 bytes that take two digits each.
+const PRINTED: [Row; 9] = [
     (1, b"\xFF\0\0", b"1,\"\\ff\""),
     (2, b"\0\0\0", b"2,\"\""),
     (3, b"MILK\r12\r\0", b"3,\"MILK\\0d12\\0d\""),
@@ -17,6 +19,12 @@ const PRINTED: [Row; 7] = [
     (41, b"A,\0B", b"41,\"A,\\00B\""),
     (65536, b"1-2", b"65536,\"1-2\""),
     (182880, b"=A1", b"182880,\"=A1\""),
+    (182880, &[0xFF; 16], b"182880,\"\\ff\\ff\\ff\\ff\\ff\\ff\\ff\\ff\\ff\\ff\\ff\\ff\\ff\\ff\\ff\\ff\""),
+    (
+        182880,
+        &[1; 17],
+        b"182880,\"\\01\\01\\01\\01\\01\\01\\01\\01\\01\\01\\01\\01\\01\\01\\01\\01\\01\"",
+    ),
 ];
 
 /// Lines that are read as these records, though none is printed so: without the quotation marks, as spreadsheets
@@ -68,7 +76,9 @@ fn are_read(rt: &impl Abort, rows: &[Row], as_printed: bool) {
 fn are_printed(rt: &(impl Abort + AllocGlobal), rows: &[Row]) {
     for &(number, bytes, line) in rows {
         let mut out = Vec::new(rt.alloc());
-        let _ = write_line(&mut out, number, bytes);
+        let mut record = ArrayVec::new();
+        let _ = record.try_extend_from_slice(bytes);
+        let _ = write_line(&mut out, number, &record);
         same_at(rt, out.as_slice().strip_suffix(b"\n"), Some(line), number);
     }
 }
