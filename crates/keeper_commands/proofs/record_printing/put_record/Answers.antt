@@ -26,4 +26,4 @@ returns-clause-ok g c = λ l n f of.
     let read = not-err c.read_next.result ok (c.read_next.ensures.text.ok l n f of) in
     let bytes = got (records_of.records (disk_image c.args.disk.now) f) _ _ read.there in
     subst (λ (xs : List ℕ). Appends (g.W.Write.contents c.args.out.now) (g.W.Write.contents c.write_line.new.out) (record_line c.args.number xs))
-    (c.as_slice.ensures.value ∙ sym bytes) (not-err c.write_line.result wrote c.write_line.ensures)
+    (sym bytes) (not-err c.write_line.result wrote c.write_line.ensures)

@@ -85,7 +85,6 @@ pub returns : goal.returns
 returns g c = λ l n f of h x is can there.
     let S = g.D.Sectors.history in
     let view : c.as_slice.result.now ≡ c.in-Some.bytes.items = c.as_slice.ensures.value in
-    let again : c.as_slice-2.result.now ≡ c.in-Some.bytes.items = c.as_slice-2.ensures.value in
     let same = ap (new_record c.in-Some.number) view ∙ line-record c.args.line.now c.in-Some.bytes.items c.in-Some.number (length_of c.args.file.now) h x c.in-Some.ensures.found is can in
     let one = ap (λ (y : NewRecord). y.number) same in
     let is_last = ap (λ (m : ℕ). slice_index c.args.last.now.places.items m) (sym one) ∙ c.in-Some.ensures.found.3 in
@@ -96,5 +95,5 @@ returns g c = λ l n f of h x is can there.
     (subst (λ (t : Bool). StoresOne S c.args.disk.now c.store_record.new.disk l n f c.args.file.now c.store_record.new.file x (Ok t)) c.if-not-branch.false
     (subst (λ (y : NewRecord). StoresOne S c.args.disk.now c.store_record.new.disk l n f c.args.file.now c.store_record.new.file y (Ok c.in_ok-store_record.field-0)) same (c.in_ok-store_record.ensures l n f of)))
     (subst (λ (y : NewRecord). Appends (g.W.Write.contents c.args.out.now) (g.W.Write.contents c.write_line.new.out) (record_line y.number y.bytes))
-    (ap (new_record c.in-Some.number) again ∙ line-record c.args.line.now c.in-Some.bytes.items c.in-Some.number (length_of c.args.file.now) h x c.in-Some.ensures.found is can)
+    (line-record c.args.line.now c.in-Some.bytes.items c.in-Some.number (length_of c.args.file.now) h x c.in-Some.ensures.found is can)
     (not-err c.write_line.result (sym c.is_err.ensures.value ∙ c.if-is_err.false) c.write_line.ensures)))
