@@ -20,16 +20,11 @@ make_plain() {
     rustc -O -C codegen-units=1 -o "$plain" "$top/bench/${name}_plain.rs"
 }
 
-# prepare CRATE: makes the plain program, and `proved` becomes the program of this crate, crates/CRATE/out/CRATE. One that
-# stands there is taken as it is; where there is none, `rt run` proves and builds it.
+# prepare CRATE: makes the plain program, and `proved` becomes the program of this crate, proved and built first where a
+# source is newer
 prepare() {
     make_plain
-    proved="$top/crates/$1/out/$1"
-    if [ ! -x "$proved" ]; then
-        echo "$name: proving and building $1 first" >&2
-        (cd "$top/crates/$1" && rt run -- --help >/dev/null 2>&1) || true
-        [ -x "$proved" ] || stop "rt run failed in crates/$1"
-    fi
+    proved="$("$top/tools/program" "$1")" || stop "there is no program of $1"
 }
 
 # the processor seconds, the kernel's aside, of what is run

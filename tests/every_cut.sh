@@ -7,12 +7,7 @@
 set -eu
 top="$(cd "$(dirname "$0")/.." && pwd)"
 seeds="${1:-5}"
-program="$top/crates/tool_every_cut/out/tool_every_cut"
-if [ ! -x "$program" ]; then
-    echo "tool_every_cut: proving and building first" >&2
-    (cd "$top/crates/tool_every_cut" && rt run >/dev/null 2>&1) || true
-    [ -x "$program" ] || { echo "tool_every_cut: rt run failed in crates/tool_every_cut" >&2; exit 1; }
-fi
+program="$("$top/tools/program" tool_every_cut)"
 work=$(mktemp -d)
 trap 'rm -rf "$work"' EXIT
 

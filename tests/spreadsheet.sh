@@ -14,7 +14,7 @@ if ! command -v soffice >/dev/null 2>&1 || ! "$python" -c 'import uno' 2>/dev/nu
     echo "spreadsheet: libreoffice-calc or python3-uno is not installed; nothing was tried"
     exit 0
 fi
-"$top/ledger" --version >/dev/null
+program="$("$top/tools/program")"
 work=$(mktemp -d "${TMPDIR:-$([ -d /dev/shm ] && echo /dev/shm || echo /tmp)}/spreadsheet.XXXXXX")
 trap 'rm -rf "$work"' EXIT
-"$python" "$top/tests/spreadsheet.py" "$top/crates/ledger_cli/out/ledger_cli" "$work"
+"$python" "$top/tests/spreadsheet.py" "$program" "$work"

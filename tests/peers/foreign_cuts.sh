@@ -4,9 +4,7 @@
 # shop's files stand behind and between others there, in other sectors, in the other order in the directory, with a last
 # block that isn't full, and on a disk with little room. Not part of the gate. Run it from anywhere.
 . "$(dirname "$0")/common.sh"
-program="$top/crates/tool_every_cut/out/tool_every_cut"
-[ -x "$program" ] || (cd "$top/crates/tool_every_cut" && rt run >/dev/null 2>&1) || true
-[ -x "$program" ] || { echo "foreign_cuts: rt run failed in crates/tool_every_cut" >&2; exit 1; }
+program="$("$top/tools/program" tool_every_cut)"
 
 # an empty record of this length, so many times
 empty_records() {

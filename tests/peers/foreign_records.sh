@@ -5,8 +5,7 @@
 # record that is cut, which is none. Not part of the gate. Run it from anywhere.
 . "$(dirname "$0")/common.sh"
 
-program="$top/crates/tool_benchmarks/out/tool_benchmarks"
-[ -x "$program" ] || (cd "$top/crates/tool_benchmarks" && rt run >/dev/null) || exit 1
+program="$("$top/tools/program" tool_benchmarks)"
 
 # numbers LENGTH COUNT: so many lines, each its own number, the last digits of it in LENGTH places
 numbers() {

@@ -13,5 +13,5 @@ if [ -z "${TMPDIR:-}" ] && [ -d /dev/shm ]; then
     export TMPDIR
 fi
 . "$(dirname "$0")/common.sh"
-"$top/ledger" --version >/dev/null
-python3 "$top/tests/peers/keepers.py" "$top/crates/ledger_cli/out/ledger_cli" "$@"
+program="$("$top/tools/program")"
+python3 "$top/tests/peers/keepers.py" "$program" "$@"

@@ -7,10 +7,6 @@ use std::process::ExitCode;
 
 fn main(rt: HostRuntime) -> ExitCode {
     let mut err = rt.stderr();
-    let told = if err.is_terminal() {
-        Told::Person
-    } else {
-        Told::Program
-    };
+    let told = Told::of(err.is_terminal(), rt.stdout().is_terminal());
     ExitCode::from(program(&rt, told, &mut err))
 }

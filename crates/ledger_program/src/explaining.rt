@@ -1,4 +1,4 @@
-//! What a person at a terminal is told below a refusal: which file it is about, what the system says of it, and what to do.
+//! What a person at a terminal is told: what is going to be replaced, and below a refusal which file it is about, what the system says of it, and what to do.
 use crate::files::{STANDARD_INPUT, opened};
 use crate::jobs::{Job, Reading};
 use crate::refusals::Refusal;
@@ -157,6 +157,29 @@ where
         Ok(found) => writeln!(err, "ledger: {image} has {} bytes; {WANTED}", found.len()),
         Err(_) => writeln!(err, "ledger: {image}: {WANTED}"),
     };
+}
+
+/// Tells a person which file a job is going to replace, where there is one. Where it can't be told there is nobody to tell.
+pub fn announce<F, R, E>(rt: &R, job: &Job<'_>, err: &mut E)
+where
+    F: OpenFile + Drop,
+    R: Files<File = F>,
+    E: Write,
+{
+    let Job::Format { image, .. } = job else {
+        return;
+    };
+    let found = match File::open(rt, image) {
+        Ok(file) => file.metadata(),
+        Err(error) => Err(error),
+    };
+    if let Ok(found) = found {
+        let _ = writeln!(
+            err,
+            "ledger: replacing {image}, which has {} bytes",
+            found.len()
+        );
+    }
 }
 
 /// Tells a person, in a line below the refusal's own, which file it is about, what the system says of it then, or what to do. The

@@ -16,7 +16,7 @@ mod telling;
 
 pub use doing::{do_job, do_over};
 pub use drawing::drawing_run;
-pub use explaining::explain;
+pub use explaining::{announce, explain};
 pub use jobs::{Drawing, Job, Reading, Taking};
 pub use keeping::{make_run, repair_run, store_run, taking_run};
 pub use names::Name;

@@ -5,6 +5,7 @@ mod faults;
 mod grammar;
 mod help_texts;
 mod obeying;
+mod watching;
 mod words;
 
 pub use faults::JobFault;

@@ -3,9 +3,11 @@ ghost use Rattle.std.specs.Prelude.{◌≡◌};
 ghost use Rattle.ledger_program.specs.Jobs.{IsFit};
 
 use crate::faults::JobFault;
+use crate::watching::{Watched, is_long};
 use crate::words::job;
+use disk_layout::Fault;
 use ledger_commands::{EndedFile, Locks, RunFault};
-use ledger_program::{Job, Refusal, do_job, end, explain};
+use ledger_program::{Job, Refusal, announce, do_job, end, explain};
 use std::alloc::{AllocError, Global};
 use std::env;
 use std::fs::OpenFile;
@@ -25,6 +27,19 @@ pub enum Told {
     Program,
     /// A person at a terminal: a second line says which file, or what to do.
     Person,
+    /// A person at a terminal who doesn't see the output: long work says how far it is, too.
+    Waiting,
+}
+
+impl Told {
+    /// Who reads standard error: a person where it is a terminal, who sees the output where that is one too.
+    pub fn of(err_is_terminal: bool, out_is_terminal: bool) -> Told {
+        match (err_is_terminal, out_is_terminal) {
+            (false, _) => Told::Program,
+            (true, true) => Told::Person,
+            (true, false) => Told::Waiting,
+        }
+    }
 }
 
 /// Tells a failure of the system, and answers its exit status.
@@ -48,7 +63,7 @@ fn refuse_words<R: Print + Eprint, E: Write>(
         JobFault::Words(error) => error.print(rt),
         JobFault::Tills | JobFault::Name | JobFault::Length => writeln!(err, "{fault}"),
     };
-    if let Told::Person = told {
+    if told != Told::Program {
         explain_words(fault, err);
     }
     match ended {
@@ -71,6 +86,30 @@ fn explain_words<E: Write>(fault: &JobFault, err: &mut E) {
     };
 }
 
+/// Does a job over an output. A person who waits for long work is told how far it is.
+fn do_watched<F, R, W, E>(
+    rt: &R,
+    job: &Job<'_>,
+    told: Told,
+    out: &mut W,
+    err: &mut E,
+) -> Result<Option<Fault>, Refusal>
+where
+    F: EndedFile + Read + Locks + OpenFile + Drop,
+    R: Files<File = F> + Input + AllocGlobal,
+    W: Write,
+    E: Write,
+    requires { IsFit job.now }
+{
+    if told != Told::Waiting || !is_long(job) {
+        return do_job(rt, job, out);
+    }
+    let mut watched = Watched::new(out, err);
+    let ended = do_job(rt, job, &mut watched);
+    watched.clear();
+    ended
+}
+
 /// Does a job over an output that is gathered, and answers the exit status. A person is told more of what isn't done.
 fn obey_job<F, R, E>(rt: &R, job: &Job<'_>, told: Told, err: &mut E) -> u8
 where
@@ -79,13 +118,16 @@ where
     E: Write,
     requires { IsFit job.now }
 {
+    if told != Told::Program {
+        announce(rt, job, err);
+    }
     let ended = match BufWriter::with_capacity(rt.alloc(), OUTPUT_ROOM, io::writer(rt)) {
-        Ok(mut out) => do_job(rt, job, &mut out),
+        Ok(mut out) => do_watched(rt, job, told, &mut out, err),
         Err(error) => return refuse(err, &io::Error::from(error)),
     };
     let refusal = ended.err();
     let status = end(ended, err).status;
-    if let (Some(refusal), Told::Person) = (refusal, told) {
+    if let (Some(refusal), true) = (refusal, told != Told::Program) {
         explain(rt, job, refusal, err);
     }
     status

@@ -23,7 +23,7 @@ const TOLD: [Row; 9] = [
         FORMAT,
         Kind::ReadOnly,
         b"old",
-        b"FILE\nledger: a.d64: permission denied\n",
+        b"ledger: replacing a.d64, which has 3 bytes\nFILE\nledger: a.d64: permission denied\n",
     ),
     (
         REPAIR,
@@ -139,4 +139,55 @@ fn people_are_told_of_shops(rt: HostRuntime) {
     put(&rt, &memory.image, Kind::Plain, shop.as_slice());
     same_at(&rt, status_told(&memory, Told::Person), 0, "it is made");
     wrote(&rt, &memory.err, b"", "nothing is told");
+}
+
+#[test]
+fn people_are_told_what_is_replaced(rt: HostRuntime) {
+    let memory = Memory::new(rt.alloc(), FORMAT, b"");
+    same_at(&rt, status_told(&memory, Told::Person), 0, "it is made");
+    wrote(&rt, &memory.err, b"", "nothing was there");
+    let memory = Memory::new(rt.alloc(), FORMAT, b"");
+    put(&rt, &memory.image, Kind::Plain, b"old");
+    same_at(
+        &rt,
+        status_told(&memory, Told::Person),
+        0,
+        "it is made anew",
+    );
+    let replacing = b"ledger: replacing a.d64, which has 3 bytes\n";
+    wrote(&rt, &memory.err, replacing, "what is replaced");
+    let memory = Memory::new(rt.alloc(), FORMAT, b"");
+    put(&rt, &memory.image, Kind::Plain, b"old");
+    same_at(
+        &rt,
+        status_told(&memory, Told::Program),
+        0,
+        "it is made anew",
+    );
+    wrote(&rt, &memory.err, b"", "a program is told nothing");
+}
+
+/// Plays so many lines of a till's with the words, and sees what is told.
+fn tells_of_lines(rt: &(impl AllocGlobal + Abort), told: Told, lines: usize, wanted: &[u8]) {
+    let memory = Memory::new(rt.alloc(), PLAY, b"");
+    put(rt, &memory.image, Kind::Plain, empty_shop(rt).as_slice());
+    let mut script = Vec::new(rt.alloc());
+    for _ in 0..lines {
+        let _ = script.extend_from_slice(b"1,1,S,1,5\n");
+    }
+    put(rt, &memory.script, Kind::Plain, script.as_slice());
+    same_at(rt, status_told(&memory, told), 0, "it is played");
+    wrote(rt, &memory.err, wanted, "what is told of lines");
+}
+
+#[test]
+fn who_waits_is_told_how_far_it_is(rt: HostRuntime) {
+    tells_of_lines(&rt, Told::Person, 250, b"");
+    tells_of_lines(&rt, Told::Waiting, 99, b"");
+    tells_of_lines(
+        &rt,
+        Told::Waiting,
+        250,
+        b"\rledger: 100 lines\rledger: 200 lines\r                                   \r",
+    );
 }

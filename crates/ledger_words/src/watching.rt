@@ -1,0 +1,66 @@
+//! How far long work is, for a person who waits for it.
+use ledger_program::{Job, Reading};
+use std::io::{self, Write};
+
+/// After how many lines more it is told.
+const STEP: u64 = 100;
+
+/// Whether a job may go on for so long that a person wonders.
+pub(crate) fn is_long(job: &Job<'_>) -> bool {
+    match job {
+        Job::Play { .. } | Job::Store { .. } => true,
+        Job::Read { what, .. } => *what == Reading::Dry,
+        _ => false,
+    }
+}
+
+/// An output of which is told how many lines it took, in one line that is written over.
+#[derive(Drop)]
+pub(crate) struct Watched<'a, W: Write, E: Write> {
+    out: &'a mut W,
+    err: &'a mut E,
+    lines: u64,
+}
+
+impl<'a, W: Write, E: Write> Watched<'a, W, E> {
+    /// The output `out`; what is told goes to `err`.
+    pub(crate) fn new(out: &'a mut W, err: &'a mut E) -> Watched<'a, W, E> {
+        Watched { out, err, lines: 0 }
+    }
+
+    /// Counts the lines that end in these bytes, and tells their number after a hundred more.
+    fn count(&mut self, bytes: &[u8]) {
+        let steps = self.lines / STEP;
+        for byte in bytes {
+            if *byte == b'\n' {
+                self.lines = self.lines.saturating_add(1);
+            }
+        }
+        if self.lines / STEP != steps {
+            let _ = write!(self.err, "\rledger: {} lines", self.lines);
+        }
+    }
+
+    /// Takes away what was told.
+    pub(crate) fn clear(&mut self) {
+        if self.lines >= STEP {
+            let _ = self
+                .err
+                .write_all(b"\r                                   \r");
+        }
+    }
+}
+
+impl<W: Write, E: Write> Write for Watched<'_, W, E> {
+    ghost contents = { λ w. W.contents w.out.now };
+
+    fn write(&mut self, buf: &[u8]) -> io::Result<usize> {
+        let taken = self.out.write(buf)?;
+        self.count(&buf[..taken]);
+        Ok(taken)
+    }
+
+    fn flush(&mut self) -> io::Result<()> {
+        self.out.flush()
+    }
+}
