@@ -14,6 +14,17 @@ pub(crate) fn is_long(job: &Job<'_>) -> bool {
     }
 }
 
+/// How many lines there are with those that end in these bytes.
+fn counted(lines: u64, bytes: &[u8]) -> u64 {
+    let mut lines = lines;
+    for byte in bytes {
+        if *byte == b'\n' {
+            lines = lines.saturating_add(1);
+        }
+    }
+    lines
+}
+
 /// An output of which is told how many lines it took, in one line that is written over.
 #[derive(Drop)]
 pub(crate) struct Watched<'a, W: Write, E: Write> {
@@ -26,19 +37,6 @@ impl<'a, W: Write, E: Write> Watched<'a, W, E> {
     /// The output `out`; what is told goes to `err`.
     pub(crate) fn new(out: &'a mut W, err: &'a mut E) -> Watched<'a, W, E> {
         Watched { out, err, lines: 0 }
-    }
-
-    /// Counts the lines that end in these bytes, and tells their number after a hundred more.
-    fn count(&mut self, bytes: &[u8]) {
-        let steps = self.lines / STEP;
-        for byte in bytes {
-            if *byte == b'\n' {
-                self.lines = self.lines.saturating_add(1);
-            }
-        }
-        if self.lines / STEP != steps {
-            let _ = write!(self.err, "\rledger: {} lines", self.lines);
-        }
     }
 
     /// Takes away what was told.
@@ -56,7 +54,11 @@ impl<W: Write, E: Write> Write for Watched<'_, W, E> {
 
     fn write(&mut self, buf: &[u8]) -> io::Result<usize> {
         let taken = self.out.write(buf)?;
-        self.count(&buf[..taken]);
+        let lines = counted(self.lines, &buf[..taken]);
+        if lines / STEP != self.lines / STEP {
+            let _ = write!(self.err, "\rledger: {lines} lines");
+        }
+        self.lines = lines;
         Ok(taken)
     }
 
