@@ -145,13 +145,17 @@ none-more text rest pre is some full bytes few same =
     let x = behind-of pre bytes rest (sym is ∙ same) in
     no-room rest pre bytes x.behind some full few x.split x.text
 
--- a record's line, which stands at its room's end
-pub line-in-room : (a b : Option (List ℕ)) (n size start : ℕ) (bytes kept room : List ℕ) → kept ≡ trimmed bytes → length room ≡ size
-    → drop start room ≡ decimal n ++ (codes ",\"" ++ (text_of kept ++ codes "\"\n"))
-    → Appends a b (take (size - start) (drop start room)) → Appends a b (record_line n bytes)
+-- the text of a line whose bytes were trimmed, before it is said that they were
+pub line-trimmed : (a b : Option (List ℕ)) (n : ℕ) (bytes kept : List ℕ) → kept ≡ trimmed bytes
+    → Appends a b (decimal n ++ (codes ",\"" ++ (text_of kept ++ codes "\"\n"))) → Appends a b (record_line n bytes)
 unfolding record_line
-line-in-room a b n size start bytes kept room is long put written =
+line-trimmed a b n bytes kept is written =
+    subst (λ (xs : List ℕ). Appends a b (decimal n ++ (codes ",\"" ++ (text_of xs ++ codes "\"\n")))) is written
+
+-- what stands at a room's end
+pub in-room : (a b : Option (List ℕ)) (size start : ℕ) (text room : List ℕ) → length room ≡ size → drop start room ≡ text
+    → Appends a b (take (size - start) (drop start room)) → Appends a b text
+in-room a b size start text room long put written =
     let whole : take (size - start) (drop start room) ≡ drop start room =
     take_all (size - start) (drop start room) (omega (arith, long, length-drop start room)) in
-    subst (λ (xs : List ℕ). Appends a b (decimal n ++ (codes ",\"" ++ (text_of xs ++ codes "\"\n")))) is
-    (subst (Appends a b) (whole ∙ put) written)
+    subst (Appends a b) (whole ∙ put) written

@@ -10,6 +10,7 @@ use itoa::write_digits;
 use std::io::{self, Write};
 
 /// Puts the line of a record, whose bytes end with one that isn't 0, at the room's end, and returns where it starts.
+#[inline(always)]
 fn put_line(number: u32, bytes: &[u8], room: &mut [u8]) -> usize
     requires { 3 * length bytes.now + 14 ≤ length room.old }
     ensures start { result ≤ length room.new }
@@ -22,20 +23,32 @@ fn put_line(number: u32, bytes: &[u8], room: &mut [u8]) -> usize
     write_digits(u64::from(number), room, start)
 }
 
+/// Writes the line of a record of any length, whose bytes end with one that isn't 0.
+// Out of line, since its room takes long to clear, and most lines need less.
+#[inline(never)]
+fn write_long<W: Write>(out: &mut W, number: u32, bytes: &[u8]) -> io::Result<()>
+    requires { length bytes.now ≤ 254 }
+    ensures { OnOk result (Appends (W.contents out.old) (W.contents out.new)
+        (decimal number ++ (codes ",\"" ++ (text_of bytes.now ++ codes "\"\n")))) }
+{
+    let mut room = [0; 776];
+    let start = put_line(number, bytes, &mut room);
+    out.write_all(&room[start..])
+}
+
 /// Writes the line of a record, with its LF: its number, counted from 1, and its bytes up to the last one that isn't
 /// 0. It is a line of a file of comma-separated values, and no quotation mark of it is ever doubled. The writer is handed
 /// it at once; an error is the writer's, which may then have a part of the line.
+// In line in a loop over records, since a returned error is large.
+#[inline(always)]
 pub fn write_line<W: Write>(out: &mut W, number: u32, bytes: &ArrayVec<u8, 254>) -> io::Result<()>
     ensures { OnOk result (Appends (W.contents out.old) (W.contents out.new) (record_line number bytes.now.items)) }
 {
     let bytes = trim(bytes.as_slice());
-    // Most lines are short, and a small room is sooner cleared.
-    if bytes.len() <= 16 {
-        let mut room = [0; 62];
-        let start = put_line(number, bytes, &mut room);
-        return out.write_all(&room[start..]);
+    if bytes.len() > 16 {
+        return write_long(out, number, bytes);
     }
-    let mut room = [0; 776];
+    let mut room = [0; 62];
     let start = put_line(number, bytes, &mut room);
     out.write_all(&room[start..])
 }
