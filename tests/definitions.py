@@ -4,8 +4,8 @@
 It names each definition that has an example or a source of its own and on which a contract of a public function, trait or type
 rests; each fact (with a capital) that such a contract cites, and each history of a device, source or output; and each other value
 that contracts of two files or of another crate cite, all but those of the tools. Behind a name stands the example that decides it.
-A line of its own, with the comment over it and its source where the heading of its file doesn't name it, has what contracts of two
-files or of another crate cite, each fact with an example that a contract cites, and what has no comment. Examples, further sources, and sentences for
+A line of its own, with the comment over it and its source where the heading of its file doesn't name it, has what contracts of
+another crate cite, facts that those of two files do, and what has no comment. Examples, further sources, and sentences for
 definitions without a comment of their own stand in docs/definitions.txt.
 
 Without words the page is written. With `--check` nothing is written, and the status is 1 where the page isn't up to date.
@@ -27,10 +27,10 @@ HEAD = """# Definitions
 What the contracts say rests on these definitions. `tests/definitions.py` makes this page from the comments over them in
 `crates/CRATE/specs/NAME.antt` and from `definitions.txt`; with `--check` it tells whether the page is up to date. Each stands
 under its crate and file, with the example that decides it in brackets: a theorem of the crate's `proofs/Examples.antt` or another
-file of examples there, or a row of a test. A line of its own has what contracts of several files cite, each fact with an example
-that one cites, and what has no comment. Of the others, which one file's contracts cite or which are parts of these, the sentence
-stands there. Left out are parts without an example, values that one file alone cites, and the tools' own. "The Guide" is the 1541
-User's Guide; what names no source is our own. *The disk with STOCK* has one relative file of one block."""
+file of examples there, or a row of a test. A line of its own has what contracts of another crate cite, facts that those of two
+files do, and what has no comment; of the others the sentence stands there. Left out are parts without an example, values that one
+file alone cites, and the tools' own. "The Guide" is the 1541 User's Guide; what names no source is our own. *The disk with STOCK*
+has one relative file of one block."""
 
 
 def without_comments(text, mark):
@@ -197,16 +197,17 @@ def heading_sources(heading):
     return "".join(f" {sentence if all_of_it else it[0]}" for it, sentence, all_of_it in zip(named, sentences, whole))
 
 
-def told(crate, module, name, is_fact, text, side, files):
-    """What the page has of a definition: its name and its example, and whether it has a line; None where it isn't named."""
-    text, source = sentence(side.get((crate, name, "="), text))
+def told(crate, module, name, found, side, files):
+    """What the page has of a definition: its name, sentence and example, and whether it has a line; None where it isn't named."""
+    comment, is_fact = found
+    text, source = sentence(side.get((crate, name, "="), comment))
     source = side.get((crate, name, "<"), source)
     example = side.get((crate, name, ":"), "")
-    is_shared = len(files) > 1 or any(of != crate for of, _ in files)
-    if not (source or example or (crate, name, "=") in side and is_fact or files and (is_fact or is_shared)):
+    is_elsewhere = any(of != crate for of, _ in files)
+    if not (source or example or (crate, name, "=") in side and is_fact or files and (is_fact or is_elsewhere or len(files) > 1)):
         return None
     shown = [f"source: {source}"] * bool(source) + [example] * bool(example)
-    has_line = is_shared or (crate, name, "=") in side or bool(files and is_fact and shown)
+    has_line = is_elsewhere or is_fact and len(files) > 1 or not comment
     return text, f"`{name}`" + f": {text}." * has_line + f" [{'; '.join(shown)}]" * bool(shown), has_line
 
 
@@ -224,7 +225,7 @@ def page():
             names, rows = [], []
             for name in [it for it in found if (crate, module, it) in below]:
                 used |= {(crate, name, mark) for mark in "=<:"}
-                row = told(crate, module, name, found[name][1], found[name][0], side, wanted.get((crate, module, name), set()))
+                row = told(crate, module, name, found[name], side, wanted.get((crate, module, name), set()))
                 if row and not row[0]:
                     faults.append(f"no sentence: {crate}/{module}/{name}")
                 if row:
