@@ -4,9 +4,9 @@
 It names each definition that has an example or a source of its own and on which a contract of a public function, trait or type
 rests; each fact (with a capital) that such a contract cites, and each history of a device, source or output; and each other value
 that contracts of two files or of another crate cite, all but those of the tools. Behind a name stands the example that decides it.
-A line of its own, with the comment over it and its source where the heading of its file doesn't name it, has each
-fact that contracts of two files or of another crate cite, and what has no comment. Examples, further sources, and sentences for
-definitions without a comment of their own stand in docs/definitions.txt.
+A line of its own, with the comment over it and its source where the heading of its file doesn't name it, has each fact that
+contracts of another crate cite, and what has its sentence there. Examples, further sources, and sentences for definitions without a
+comment, or with one that leaves much to their fields, stand in docs/definitions.txt.
 
 Without words the page is written. With `--check` nothing is written, and the status is 1 where the page isn't up to date.
 In both cases the status is 1 where the side table names what no public contract rests on, or a definition has no sentence."""
@@ -27,8 +27,8 @@ HEAD = """# Definitions
 What the contracts say rests on these definitions. `tests/definitions.py` makes this page from the comments over them in
 `crates/CRATE/specs/NAME.antt` and from `definitions.txt`; with `--check` it tells whether the page is up to date. Each stands
 under its crate and file, with the example that decides it in brackets: a theorem of the crate's `proofs/Examples.antt` or another
-file of examples there, or a row of a test. A line of its own has each fact that contracts of two files or of another crate cite,
-and what has no comment; of the others the sentence stands there. Left out are parts without an example, values that one file alone
+file of examples there, or a row of a test. A line of its own has each fact that contracts of another crate cite, and
+what has no such comment; of the others the sentence stands there. Left out are parts without an example, values that one file alone
 cites, and the tools' own. "The Guide" is the 1541 User's Guide; what names no source is our own. *The disk with STOCK* has one
 relative file of one block."""
 
@@ -207,7 +207,7 @@ def told(crate, module, name, found, side, files):
     if not (source or example or (crate, name, "=") in side and is_fact or files and (is_fact or is_elsewhere or len(files) > 1)):
         return None
     shown = [f"source: {source}"] * bool(source) + [example] * bool(example)
-    has_line = is_fact and (is_elsewhere or len(files) > 1) or not comment
+    has_line = is_fact and (is_elsewhere or (crate, name, "=") in side) or not comment
     return text, f"`{name}`" + f": {text}." * has_line + f" [{'; '.join(shown)}]" * bool(shown), has_line
 
 
