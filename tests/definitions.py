@@ -1,9 +1,9 @@
 #!/usr/bin/env python3
 """Makes docs/DEFINITIONS.md from the comments over the definitions in crates/*/specs/.
 
-It names each definition that has an example or a source of its own and on which a contract of a public function, trait or type
-rests; each fact (with a capital) that such a contract cites, and each history of a device, source or output; and each other value
-that contracts of two files or of another crate cite, all but those of the tools. Behind a name stands the example that decides it.
+It names each definition that a contract of a public function, trait or type cites and that has an example or a source of its own,
+is a fact (with a capital) or a history of a device, source or output, or is cited by contracts of two files or of another crate;
+all but those of the tools. Behind a name stands the example that decides it.
 A line of its own, with the comment over it and its source where the heading of its file doesn't name it, has each fact that
 contracts of another crate cite, and what has its sentence there. Examples, further sources, and sentences for definitions without a
 comment, or with one that leaves much to their fields, stand in docs/definitions.txt.
@@ -24,13 +24,13 @@ HISTORIES = r"(?::|→) (History|Keeps|Source|Output) [^→]*$"
 SOURCES = r"Guide|D64|Standard"
 HEAD = """# Definitions
 
-What the contracts say rests on these definitions. `tests/definitions.py` makes this page from the comments over them in
-`crates/CRATE/specs/NAME.antt` and from `definitions.txt`; with `--check` it tells whether the page is up to date. Each stands
-under its crate and file, with the example that decides it in brackets: a theorem of the crate's `proofs/Examples.antt` or another
-file of examples there, or a row of a test. A line of its own has each fact that contracts of another crate cite, and
-what has no such comment; of the others the sentence stands there. Left out are parts without an example, values that one file alone
-cites, and the tools' own. "The Guide" is the 1541 User's Guide; what names no source is our own. *The disk with STOCK* has one
-relative file of one block."""
+The definitions that contracts of public calls and types cite, under their crate and file (`crates/CRATE/specs/NAME.antt`, where
+the sentence stands over each), with the example that decides it in brackets: a theorem of the crate's `proofs/Examples.antt` or
+another file of examples there, or a row of a test. A line of its own has each fact that contracts of another crate cite, and what
+has no sentence there. Left out are what these rest on (examples of it stand in `definitions.txt`), values without an example that
+one file alone cites, and the tools' own. "The Guide" is the 1541 User's Guide; what names no source is our own. *The disk with
+STOCK* has one relative file of one block. `tests/definitions.py` makes this page; with `--check` it tells whether it is up to
+date."""
 
 
 def without_comments(text, mark):
@@ -204,7 +204,7 @@ def told(crate, module, name, found, side, files):
     source = side.get((crate, name, "<"), source)
     example = side.get((crate, name, ":"), "")
     is_elsewhere = any(of != crate for of, _ in files)
-    if not (source or example or (crate, name, "=") in side and is_fact or files and (is_fact or is_elsewhere or len(files) > 1)):
+    if not files or not (source or example or is_fact or is_elsewhere or len(files) > 1):
         return None
     shown = [f"source: {source}"] * bool(source) + [example] * bool(example)
     has_line = is_fact and (is_elsewhere or (crate, name, "=") in side) or not comment
