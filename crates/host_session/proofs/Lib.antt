@@ -36,11 +36,13 @@ pub mod Opens
 pub mod Examples
 pub mod SessionExamples
 pub mod Parts
+pub mod Quiet
 pub mod Cuts
 pub mod WholeMessages
 pub mod Totals
 pub mod Runs
 pub mod Chained
+pub mod QuietRuns
 pub mod Looped
 pub mod Printed
 pub mod ScriptEnds

@@ -7,6 +7,7 @@ use Rattle.d64_image.specs.History.{Changes, History, NeverFailed}
 use Rattle.request_cards.specs.declared.reply.Reply.{Reply}
 use Rattle.host_session.proofs.Chained.{asked_more, at_device, run_failed, run_more, run_more-first}
 use Rattle.host_session.proofs.Chained.{run_none, run_rests, whole}
+use Rattle.host_session.proofs.QuietRuns.{quiet_refused, quiet_run, quiet_to_failure}
 use Rattle.host_session.proofs.Shops.{IsShop-one}
 use Rattle.host_session.specs.Asking.{IsNext, Source, TakesNone, TakesOne, messages_in}
 use Rattle.host_session.specs.Chains.{asked_over, over_instants}
@@ -16,6 +17,7 @@ use Rattle.host_session.specs.Loops.{Ends, EndsBy, HasCome, HasComeBut, IsRun, O
 use Rattle.host_session.specs.Loops.{IsRunToDevice, IsRunToOutput, IsRunWhole, IsToldToDevice, IsToldToOutput, IsToldWhole}
 use Rattle.host_session.specs.OneEvent.{EndsFailed, GoesOn, IsEvent}
 use Rattle.host_session.specs.Opening.{IsAShop, Untouched}
+use Rattle.host_session.specs.Quiet.{AskNothing, IsQuiet}
 use Rattle.host_session.specs.Runs.{HeldBeginnings, IsRefused}
 use Rattle.host_session.specs.Shop.{IsSettled, IsShop, Shop}
 use Rattle.host_session.specs.Telling.{BreaksOff, IsTold, Output, TellsOne}
@@ -219,6 +221,8 @@ module _ {D A T : Type 0} (h : History D) (a : Source A) (o : Output T) (from : 
       output = λ s is (is_input : faults.Input ≡ faults.Output). cc;
       device = λ s is (is_input : faults.Input ≡ faults.Device). cc;
       moments = λ s is. subst (λ t. HeldBeginnings h t (messages_in e.0) from.disk left) (same s is) (whole h from.shop (messages_in e.0) e.3.0.turns from.disk left e.3.0.run).1;
+      quiet = λ s is. subst (λ t. AskNothing t (messages_in e.0) → IsQuiet h t (messages_in e.0) from.disk left) (same s is)
+          (λ asks. quiet_run h from.shop (messages_in e.0) e.3.0.turns from.disk left asks e.3.0.run);
       plays = λ shop never. inl refl;
       «open» = λ f (is_input : faults.Input ≡ faults.Open f). cc;
       cause = λ (is_input : faults.Input ≡ faults.Device). cc;
@@ -236,6 +240,8 @@ module _ {D A T : Type 0} (h : History D) (a : Source A) (o : Output T) (from : 
       device = λ s is (is_output : faults.Output ≡ faults.Device). cc;
       moments = λ s is. subst (λ t. HeldBeginnings h t (messages_in e.0) from.disk left) (same s is)
           (whole h from.shop (messages_in e.0) (e.2.0.turns ++ e.2.0.last ∷ []) from.disk left e.2.0.run).1;
+      quiet = λ s is. subst (λ t. AskNothing t (messages_in e.0) → IsQuiet h t (messages_in e.0) from.disk left) (same s is)
+          (λ asks. quiet_run h from.shop (messages_in e.0) (e.2.0.turns ++ e.2.0.last ∷ []) from.disk left asks e.2.0.run);
       plays = λ shop never. inr refl;
       «open» = λ f (is_output : faults.Output ≡ faults.Open f). cc;
       cause = λ (is_output : faults.Output ≡ faults.Device). cc;
@@ -255,6 +261,8 @@ module _ {D A T : Type 0} (h : History D) (a : Source A) (o : Output T) (from : 
           device = λ s is _. subst (λ t. IsRunToDevice h o t e.0 from.disk left from.out out) (same s is) e.2;
           moments = λ s is. subst (λ t. HeldBeginnings h t (messages_in e.0) from.disk left) (same s is)
               (at_device h from.shop (messages_in e.0) [] (messages_in e.0) e.2.0.turns e.2.0.last from.disk left (append-nil (messages_in e.0)) e.2.0.run).1;
+          quiet = λ s is. subst (λ t. AskNothing t (messages_in e.0) → IsQuiet h t (messages_in e.0) from.disk left) (same s is)
+              (λ asks. quiet_to_failure h from.shop (messages_in e.0) e.2.0.turns e.2.0.last from.disk left asks e.2.0.run);
           plays = λ shop never. absurd (never_failed h _ _ never failed);
           «open» = λ f (is_device : faults.Device ≡ faults.Open f). cc;
           cause = λ _. ((from.shop, is_shop), failed);
@@ -278,6 +286,8 @@ module _ {D A T : Type 0} (h : History D) (a : Source A) (o : Output T) (from : 
       output = λ s is. tt;
       device = λ s is. tt;
       moments = λ s is. subst (λ t. HeldBeginnings h t (messages_in e.0) from.disk left) (same s is) (whole h from.shop (messages_in e.0) e.3.0.turns from.disk left e.3.0.run).1;
+      quiet = λ s is. subst (λ t. AskNothing t (messages_in e.0) → IsQuiet h t (messages_in e.0) from.disk left) (same s is)
+          (λ asks. quiet_run h from.shop (messages_in e.0) e.3.0.turns from.disk left asks e.3.0.run);
       plays = λ shop never. tt;
       «open» = tt;
       cause = tt;
@@ -293,8 +303,9 @@ opened_with _ = openings.Device
 -- a run that was refused
 pub run_refused : {D A T : Type 0} (h : History D) (a : Source A) (o : Output T) (disk left : D) (asks : A) (out : T) (f : OpenFault)
     → IsRefused h disk f left → ((s : Shop) → IsShop (h.image disk) s → HeldBeginnings h s [] disk left)
+    → ((s : Shop) → IsSettled (h.image disk) s → Untouched h disk left)
     → (IsAShop (h.image disk) → NeverFailed h disk left → ⊥) → IsRun h a o disk asks asks out out (Err (faults.Open f, left))
-run_refused h a o disk left asks out f refused held fails = record {
+run_refused h a o disk left asks out f refused held quiet fails = record {
   taken = [];
   takes = a.none asks;
   shop = tt;
@@ -303,6 +314,7 @@ run_refused h a o disk left asks out f refused held fails = record {
   output = λ s is (e : faults.Open f ≡ faults.Output). cc;
   device = λ s is (e : faults.Open f ≡ faults.Device). cc;
   moments = held;
+  quiet = λ s is _. quiet_refused h s disk left (refused.same s is) (quiet s);
   plays = λ shop never. absurd (fails shop never);
   «open» = λ x e. (subst (λ y. IsRefused h disk y left) (ap opened_with e) refused, refl, refl, refl);
   cause = λ (e : faults.Open f ≡ faults.Device). cc;

@@ -17,6 +17,7 @@ pub mod Settling
 pub mod Channels
 pub mod Events
 pub mod Counted
+pub mod Quiet
 pub mod OneEvent
 pub mod Runs
 pub mod Faults

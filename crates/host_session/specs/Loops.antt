@@ -7,6 +7,7 @@ use Rattle.host_session.specs.Chains.{HasRun, HasRunToFailure, asked_over, over_
 use Rattle.host_session.specs.Events.{Message}
 use Rattle.host_session.specs.Instants.{Instant, instant_of}
 use Rattle.host_session.specs.Opening.{IsAShop, disk_of}
+use Rattle.host_session.specs.Quiet.{AskNothing, IsQuiet}
 use Rattle.host_session.specs.Runs.{HeldBeginnings, IsRefused}
 use Rattle.host_session.specs.Shop.{IsShop, Shop}
 use Rattle.host_session.specs.Standing.{View}
@@ -136,6 +137,9 @@ pub record IsRun {D A T : Type 0} (h : History D) (a : Source A) (o : Output T) 
   -- At each moment the shop is that of a counted list of some beginning of the events.
   pub moments : (s : Shop) → IsShop (h.image disk) s
       → HeldBeginnings h s (messages_in taken) disk (disk_of (λ d. d) result)
+  -- Messages that ask nothing new leave the disk alone, however it ends.
+  pub quiet : (s : Shop) → IsShop (h.image disk) s → AskNothing s (messages_in taken)
+      → IsQuiet h s (messages_in taken) disk (disk_of (λ d. d) result)
   -- On a shop whose device doesn't fail it answers Ok, unless the input or the output fails.
   pub plays : IsAShop (h.image disk) → NeverFailed h disk (disk_of (λ d. d) result)
       → IfErr result (λ e. (e.0 ≡ faults.Input) ⊎ (e.0 ≡ faults.Output))

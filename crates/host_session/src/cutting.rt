@@ -28,6 +28,8 @@ fn cut_opening<D: Sectors>(disk: D, writes: u32) -> D
     ensures moments { (s : Shop) → IsShop (D.history.image disk) s → HeldOnly D.history disk result (λ c. IsShop c s) }
     ensures writes { (s : Shop) → IsShop (D.history.image disk) s → D.history.writes result ≤ D.history.writes disk + writes }
     ensures later { (s : Shop) → IsShop (D.history.image disk) s → D.history.failures disk ≤ D.history.failures result }
+    ensures quiet { (s : Shop) → IsSettled (D.history.image disk) s
+        → HeldOnly D.history disk result (λ c. c ≡ D.history.image disk) }
 {
     match Session::open(Fuse::new(disk, writes)) {
         Ok(session) => session.close().into_inner(),
@@ -39,6 +41,8 @@ fn cut_opening<D: Sectors>(disk: D, writes: u32) -> D
 fn cut_openings<D: Sectors>(disk: D, recoveries: &[u32]) -> D
     ensures moments { (s : Shop) → IsShop (D.history.image disk) s → HeldOnly D.history disk result (λ c. IsShop c s) }
     ensures later { (s : Shop) → IsShop (D.history.image disk) s → D.history.failures disk ≤ D.history.failures result }
+    ensures quiet { (s : Shop) → IsSettled (D.history.image disk) s
+        → HeldOnly D.history disk result (λ c. c ≡ D.history.image disk) }
 {
     let mut disk = disk;
     for &writes in recoveries {

@@ -20,6 +20,7 @@ returns-clause-event g c = λ s settled alive.
     c.fused-cut.ensures.left c.fused-cut.ensures.limit c.fused-cut.ensures.failures (settled.shop)
     (λ x. c.handle.ensures.moments s x)
     (λ x. c.handle.ensures.counted s x)
+    (λ x asks. ap (λ v. v.disk) (c.handle.ensures.quiet s x lives asks).1)
     (λ x. ⊎_elim
     (λ m. ⊎_elim (λ dead. absurd (let e = sym dead ∙ lives in cc)) (λ failed. inl failed) m.2)
     (λ n. inr ((c.handle.ensures.reply s x lives n.0).1.shop))

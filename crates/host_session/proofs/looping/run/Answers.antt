@@ -12,6 +12,7 @@ returns-in-Err g c =
     run_refused h g.A.Asks.source g.T.Tells.output c.args.disk c.in-Err.disk c.args.asks.now c.args.out.now c.in-Err.fault
     (opening_refused h _ _ _ c.in-Err.ensures.err c.in-Err.ensures.unfit c.in-Err.ensures.moments)
     (λ s shop. held_none h s [] c.args.disk c.in-Err.disk (c.in-Err.ensures.moments s shop).held (opening_later h _ _ _ c.in-Err.ensures.failures))
+    c.in-Err.ensures.quiet
     (λ shop never. opening_failed h _ _ _ c.in-Err.ensures.err shop c.in-Err.ensures.failures never)
 
 pub returns-in-Cut : goal.returns-in-Cut
