@@ -38,7 +38,8 @@ module _ {D : Type 0} (h : History D) where
 
   -- the message counts whole
   counted_whole : (s : Shop) (bytes : List ℕ) (n : ℕ) (a b : D) → 0 < n → h.failures a ≤ h.failures b
-      → HeldOnly h a b (IsInEvent s (cut_at bytes n)) → LeavesAlone h s (cut_at bytes n) a b → IsShop (h.image b) (after_of s bytes)
+      → HeldOnly h a b (IsInEvent s (cut_at bytes n)) → LeavesAlone h s (cut_at bytes n) a b
+      → IsShop (h.image b) (after_of s bytes)
       → IsEvent h s (cut_at bytes n) a b (Leaves h s b)
   counted_whole s bytes n a b low later held quiet shop = record {
     failed = false;
@@ -88,7 +89,8 @@ module _ {D : Type 0} (h : History D) where
       → IsBeforeOrAfter s bytes (h.image b)
       → IsEvent h s (cut_at bytes n) a b (Leaves h s b)
   grown_within s bytes n a b low high later grow held quiet = ⊎_elim
-      (λ before. counted_not s bytes n false a b later (λ e. cc) (first_out s (request_of bytes) n grow high) held quiet before)
+      (λ before. counted_not s bytes n false a b later (λ e. cc)
+      (first_out s (request_of bytes) n grow high) held quiet before)
       (λ after. counted_whole s bytes n a b low later held quiet after)
 
   way : (s : Shop) (bytes : List ℕ) (n : ℕ) (i : Image) → 0 < n → IsBeforeOrAfter s bytes i → IsInEvent s (cut_at bytes n) i
@@ -97,7 +99,7 @@ module _ {D : Type 0} (h : History D) where
   -- a message handed to a session over a fuse that isn't blown yet
   over_fuse : (s : Shop) (bytes : List ℕ) (n : ℕ) (a b : Fuse D) → 0 < n
       → fuse_left a ≡ n → fuse_limit a ≡ n → fuse_failures a ≡ 0
-      → Changes (fuse h) a b 7196 (IsBeforeOrAfter s bytes)
+      → Changes (fuse h) a b 3618 (IsBeforeOrAfter s bytes)
       → (fuse_passed a < fuse_passed b → MayGrow s (request_of bytes) ⊎ IsShop (h.image (fuse_disk b)) (after_of s bytes))
       → (AsksNothing s (cut_at bytes n) → b ≡ a)
       → Failed (fuse h) a b ⊎ IsShop (h.image (fuse_disk b)) (after_of s bytes)
@@ -117,17 +119,19 @@ module _ {D : Type 0} (h : History D) where
       (λ (blown : fuse_left b ≡ 0).
       let spent : fuse_passed b ≡ n = omega (arith, blown, changes.held.reached.limit, limit, b.within) in
       ⊎_elim
-      (λ grow. grown_within s bytes n (fuse_disk a) (fuse_disk b) low (omega (arith, changes.writes, spent, none)) later grow moments quiet ends)
+      (λ grow. grown_within s bytes n (fuse_disk a) (fuse_disk b) low
+      (omega (arith, changes.writes, spent, none)) later grow moments quiet ends)
       (λ after. counted_whole s bytes n (fuse_disk a) (fuse_disk b) low later moments quiet after)
       (grows (omega (arith, spent, none, low))))
-      (λ (beneath : Failed h (fuse_disk a) (fuse_disk b)). failed_within s bytes n (fuse_disk a) (fuse_disk b) low beneath moments quiet ends)
+      (λ (beneath : Failed h (fuse_disk a) (fuse_disk b)).
+      failed_within s bytes n (fuse_disk a) (fuse_disk b) low beneath moments quiet ends)
       (cause_beneath h a b P changes.held (omega (arith, fresh)) failed))
       (λ after. counted_whole s bytes n (fuse_disk a) (fuse_disk b) low later moments quiet after)
 
   -- the same for any number of writes; with none nothing passes
   pub message_cut : (s : Shop) (bytes : List ℕ) (n : ℕ) (d r : D) (a b : Fuse D)
       → fuse_disk a ≡ d → r ≡ fuse_disk b → fuse_left a ≡ n → fuse_limit a ≡ n → fuse_failures a ≡ 0 → IsShop (h.image d) s
-      → (IsShop (h.image (fuse_disk a)) s → Changes (fuse h) a b 7196 (IsBeforeOrAfter s bytes))
+      → (IsShop (h.image (fuse_disk a)) s → Changes (fuse h) a b 3618 (IsBeforeOrAfter s bytes))
       → (IsShop (h.image (fuse_disk a)) s → fuse_passed a < fuse_passed b → MayGrow s (request_of bytes) ⊎ IsShop (h.image (fuse_disk b)) (after_of s bytes))
       → (IsShop (h.image (fuse_disk a)) s → AsksNothing s (cut_at bytes n) → b ≡ a)
       → (IsShop (h.image (fuse_disk a)) s → Failed (fuse h) a b ⊎ IsShop (h.image (fuse_disk b)) (after_of s bytes))
@@ -141,7 +145,8 @@ module _ {D : Type 0} (h : History D) where
           → IsEvent h s (cut_at bytes m) (fuse_disk a) (fuse_disk b) (Leaves h s (fuse_disk b))
       pick zero none most there = subst (λ (x : D). IsEvent h s (cut_at bytes 0) (fuse_disk a) x (Leaves h s x))
           (sym ((changes there).held.reached.spent none)) (not_begun s bytes (fuse_disk a) there)
-      pick (suc m) some most there = over_fuse s bytes (suc m) a b (omega arith) some most fresh (changes there) (grows there) (alone there) (told there)
+      pick (suc m) some most there = over_fuse s bytes (suc m) a b (omega arith) some most fresh
+          (changes there) (grows there) (alone there) (told there)
 
   -- no more is counted than the fuse lets pass
   pub cut_writes : (n k : ℕ) (d r : D) (a b : Fuse D) (P : Image → Type 0) → fuse_disk a ≡ d → r ≡ fuse_disk b → fuse_limit a ≡ n

@@ -43,7 +43,9 @@ pub mod Totals
 pub mod Runs
 pub mod Chained
 pub mod QuietRuns
+pub mod Sparing
 pub mod Looped
+pub mod RunEnds
 pub mod Printed
 pub mod ScriptEnds
 pub mod EventEnds

@@ -52,7 +52,8 @@ module _ {D : Type 0} (h : History D) where
   }
 
   pub told_media : (s : Shop) (m : Message) (a b : D) (reply : Reply) → m.cut_after ≡ None
-      → HeldOnly h a b (IsBeforeOrAfter s m.bytes) → (AsksNothing s m → b ≡ a) → Failed h a b → reply ≡ media (request_of m.bytes) → IsMedia reply
+      → HeldOnly h a b (IsBeforeOrAfter s m.bytes) → (AsksNothing s m → b ≡ a) → Failed h a b
+      → reply ≡ media (request_of m.bytes) → IsMedia reply
       → IsEvent h s m a b (EndsFailed h s m reply b)
   told_media s m a b reply none held alone failed told says =
       let is : reply ≡ answer (start_of s) s.state m true = told ∙ sym (ap (λ (o : Option ℕ). if is_some o then Cut else media (request_of m.bytes)) none) in

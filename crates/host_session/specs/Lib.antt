@@ -24,6 +24,7 @@ pub mod Faults
 pub mod ScriptRuns
 pub mod Instants
 pub mod Chains
+pub mod Within
 pub mod Asking
 pub mod Telling
 pub mod Loops

@@ -5,6 +5,7 @@ ghost use Rattle.host_session.specs.Events.{cut_at, uncut};
 ghost use Rattle.host_session.specs.Handling.{IsMedia};
 ghost use Rattle.host_session.specs.OneEvent.{EndsFailed, GoesOn, IsEvent, Leaves};
 ghost use Rattle.host_session.specs.Shop.{IsSettled, IsShop, Shop};
+ghost use Rattle.host_session.specs.Within.{IsWithin};
 
 use crate::session::Session;
 use d64_image::{Fuse, Sectors};
@@ -96,6 +97,8 @@ pub(crate) fn whole_message<D: Sectors>(session: &mut Session<D>, message: &[u8]
     ensures stopped { (s : Shop) → IsSettled (D.history.image session.old.disk) s → session.old.dead ≡ false
         → IsMedia result → IsEvent D.history s (uncut message.now) session.old.disk session.new.disk
         (EndsFailed D.history s (uncut message.now) result session.new.disk) }
+    ensures within { (s : Shop) → IsSettled (D.history.image session.old.disk) s
+        → IsWithin D.history (uncut message.now) session.old.disk session.new.disk }
 {
     session.handle(message)
 }

@@ -11,7 +11,8 @@ returns-clause-done g c = λ s settled alive other.
       r.2,
       ⊎_elim
           (λ f. absurd (other f.0))
-          (λ f. answered h s (uncut c.args.message.now) _ _ c.handle.result refl (c.handle.ensures.moments s settled.shop).held
+          (λ f. answered h s (uncut c.args.message.now) _ _ c.handle.result refl
+          (c.handle.ensures.moments s settled.shop).held
           (λ asks. ap (λ v. v.disk) (c.handle.ensures.quiet s settled.shop alive asks).1) f.1 r.0 r.1)
           c.handle.ensures.failures,
     )
@@ -25,3 +26,9 @@ returns-clause-stopped g c = λ s settled alive is.
     (⊎_elim (λ dead. absurd (let e = sym dead ∙ alive in cc)) (λ x. x) f.2) (c.handle.ensures.media is) is)
     (λ f. absurd (f.0 is))
     c.handle.ensures.failures
+
+pub returns-clause-within : goal.returns-clause-within
+returns-clause-within g c = λ s settled. record {
+  most = (c.handle.ensures.moments s settled.shop).writes;
+  needed = λ f has. c.handle.ensures.writes f has;
+}

@@ -1,6 +1,7 @@
 -- A run that is refused, and one that is opened.
 use Rattle.std.proofs.Common.{◌≤◌, ◌∙◌, [], arith, ap, subst, sym}
-use Rattle.host_session.proofs.Looped.{has_none, run_ended, run_refused}
+use Rattle.host_session.proofs.Looped.{has_none}
+use Rattle.host_session.proofs.RunEnds.{run_ended, run_refused}
 use Rattle.host_session.proofs.RunOpenings.{opening_failed, opening_later, opening_refused}
 use Rattle.host_session.proofs.Runs.{held_none}
 use Rattle.host_session.specs.Loops.{Ends, IsStretch, Origin, with_disk}
