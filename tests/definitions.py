@@ -1,11 +1,12 @@
 #!/usr/bin/env python3
 """Makes docs/DEFINITIONS.md from the comments over the definitions in crates/*/specs/.
 
-It has a line for each definition that has an example or a source of its own and on which a contract of a public function, trait
-or type rests; for each fact (with a capital) that such a contract cites, and for each history of a device, source or output; and
-for each other value that contracts of two files or of another crate cite. The line has its name, the comment over it, its source
-where the heading of its file doesn't name it, and the example that decides it. Examples, further sources, and sentences for
-definitions without a comment of their own stand in docs/definitions.txt.
+It names each definition that a contract of a public function, trait or type cites and that has an example or a source of its own,
+is a fact (with a capital) or a history of a device, source or output, or is cited by contracts of two files or of another crate;
+all but those of the tools. Behind a name stands the example that decides it.
+A line of its own, with the comment over it and its source where the heading of its file doesn't name it, has each fact that
+contracts of another crate cite, and what has its sentence there. Examples, further sources, and sentences for definitions without a
+comment, or with one that leaves much to their fields, stand in docs/definitions.txt.
 
 Without words the page is written. With `--check` nothing is written, and the status is 1 where the page isn't up to date.
 In both cases the status is 1 where the side table names what no public contract rests on, or a definition has no sentence."""
@@ -23,13 +24,13 @@ HISTORIES = r"(?::|→) (History|Keeps|Source|Output) [^→]*$"
 SOURCES = r"Guide|D64|Standard"
 HEAD = """# Definitions
 
-What the contracts say rests on these definitions; each is read against its source. `tests/definitions.py` makes this page from
-the comments in `specs/` and from `definitions.txt`; with `--check` it tells whether the page is up to date. A line stands here
-for each definition with an example or a source on which a contract of a public call or type rests, and for each fact that one
-cites; values that one file alone cites, and what else they rest on, stand beside them, in `crates/CRATE/specs/NAME.antt`. In
-brackets stands the example that decides it: a theorem of the crate's `proofs/Examples.antt` or another file of examples there,
-or a row of a test. "The Guide" is the 1541 User's Guide; what names no source is our own. *The disk with STOCK* has one
-relative file of one block."""
+The definitions that contracts of public calls and types cite, under their crate and file (`crates/CRATE/specs/NAME.antt`, where
+the sentence stands over each), with the example that decides it in brackets: a theorem of the crate's `proofs/Examples.antt` or
+another file of examples there, or a row of a test. A line of its own has each fact that contracts of another crate cite, and what
+has no sentence there. Left out are what these rest on (examples of it stand in `definitions.txt`), values without an example that
+one file alone cites, and the tools' own. "The Guide" is the 1541 User's Guide; what names no source is our own. *The disk with
+STOCK* has one relative file of one block. `tests/definitions.py` makes this page; with `--check` it tells whether it is up to
+date."""
 
 
 def without_comments(text, mark):
@@ -196,33 +197,43 @@ def heading_sources(heading):
     return "".join(f" {sentence if all_of_it else it[0]}" for it, sentence, all_of_it in zip(named, sentences, whole))
 
 
+def told(crate, module, name, found, side, files):
+    """What the page has of a definition: its name, sentence and example, and whether it has a line; None where it isn't named."""
+    comment, is_fact = found
+    text, source = sentence(side.get((crate, name, "="), comment))
+    source = side.get((crate, name, "<"), source)
+    example = side.get((crate, name, ":"), "")
+    is_elsewhere = any(of != crate for of, _ in files)
+    if not files or not (source or example or is_fact or is_elsewhere or len(files) > 1):
+        return None
+    shown = [f"source: {source}"] * bool(source) + [example] * bool(example)
+    has_line = is_fact and (is_elsewhere or (crate, name, "=") in side) or not comment
+    return text, f"`{name}`" + f": {text}." * has_line + f" [{'; '.join(shown)}]" * bool(shown), has_line
+
+
 def page():
     """The page, and what is wrong with its sources."""
     wanted, below = rested_on()
     side, faults = side_table()
     used, lines = set(), [HEAD]
     ordered = [it.split(":")[0] for it in (TOP / "crates.txt").read_text().split("\n") if it and not it.startswith("#")]
-    for crate in ordered:
+    for crate in [it for it in ordered if not it.startswith("tool_")]:
         modules = sorted({module for of, module, _ in below if of == crate})
         lines += [f"\n## `{crate}`"] if modules else []
         for module in modules:
             heading, found = comments(crate, module)
-            rows = []
+            names, rows = [], []
             for name in [it for it in found if (crate, module, it) in below]:
-                text, source = sentence(side.get((crate, name, "="), found[name][0]))
-                source = side.get((crate, name, "<"), source)
-                example = side.get((crate, name, ":"), "")
-                files = wanted.get((crate, module, name), set())
-                is_shared = len(files) > 1 or any(of != crate for of, _ in files)
                 used |= {(crate, name, mark) for mark in "=<:"}
-                is_told = source or example or (crate, name, "=") in side and name[0].isupper()
-                if not (is_told or files and (found[name][1] or is_shared)):
-                    continue
-                if not text:
+                row = told(crate, module, name, found[name], side, wanted.get((crate, module, name), set()))
+                if row and not row[0]:
                     faults.append(f"no sentence: {crate}/{module}/{name}")
-                shown = [f"source: {source}"] * bool(source) + [example] * bool(example)
-                rows.append(f"- `{name}`: {text}." + f" [{'; '.join(shown)}]" * bool(shown))
-            lines += [f"\n**`{module}`**{heading_sources(heading)}\n", *rows] if rows else []
+                if row:
+                    (rows if row[2] else names).append(row[1])
+            source = heading_sources(heading).replace("1541 User's Guide", "the Guide").replace("the the", "the")
+            beside = f": {', '.join(names)}" if names else ""
+            lines += [f"\n**`{module}`**{source.rstrip('.')}{beside}"] if names or rows else []
+            lines += ["", *[f"- {row}" for row in rows]] if rows else []
     faults += unknown_examples(side)
     faults += [f"no public contract rests on it: {crate}/{name}" for crate, name, mark in sorted(set(side) - used)]
     return "\n".join(lines) + "\n", faults

@@ -15,6 +15,7 @@ use Rattle.host_session.specs.Counted.{MayCount, after_all}
 use Rattle.host_session.specs.Events.{Message, cut_at}
 use Rattle.host_session.specs.Handling.{IsBeforeOrAfter, MayGrow, after_of}
 use Rattle.host_session.specs.OneEvent.{IsEvent, IsInEvent, Leaves}
+use Rattle.host_session.specs.Quiet.{AsksNothing, LeavesAlone}
 use Rattle.host_session.specs.Shop.{IsShop, Shop, start_of, with_state}
 
 positive : (n : ℕ) → 0 < n → Some n ≢ Some 0
@@ -31,46 +32,51 @@ module _ {D : Type 0} (h : History D) where
     blame = λ e. cc;
     later = omega arith;
     moments = start h d (IsInEvent s (cut_at bytes 0)) (inl shop);
+    quiet = λ _. start h d (λ i. i ≡ h.image d) refl;
     ends = shop;
   }
 
   -- the message counts whole
   counted_whole : (s : Shop) (bytes : List ℕ) (n : ℕ) (a b : D) → 0 < n → h.failures a ≤ h.failures b
-      → HeldOnly h a b (IsInEvent s (cut_at bytes n)) → IsShop (h.image b) (after_of s bytes)
+      → HeldOnly h a b (IsInEvent s (cut_at bytes n)) → LeavesAlone h s (cut_at bytes n) a b
+      → IsShop (h.image b) (after_of s bytes)
       → IsEvent h s (cut_at bytes n) a b (Leaves h s b)
-  counted_whole s bytes n a b low later held shop = record {
+  counted_whole s bytes n a b low later held quiet shop = record {
     failed = false;
     counted = option_to_list (request_of bytes);
     is = whole_counts s.top s.state (request_of bytes) (Some n) false (positive n low);
     blame = λ e. cc;
     later = later;
     moments = held;
+    quiet = quiet;
     ends = subst (λ state. IsShop (h.image b) (with_state s state)) (sym (after_whole (start_of s) s.state (request_of bytes))) shop;
   }
 
   -- the message doesn't count, for a reason
   counted_not : (s : Shop) (bytes : List ℕ) (n : ℕ) (failed : Bool) (a b : D) → h.failures a ≤ h.failures b → (failed ≡ true → Failed h a b)
       → MayCount s.top s.state (request_of bytes) (Some n) failed []
-      → HeldOnly h a b (IsInEvent s (cut_at bytes n)) → IsShop (h.image b) s
+      → HeldOnly h a b (IsInEvent s (cut_at bytes n)) → LeavesAlone h s (cut_at bytes n) a b → IsShop (h.image b) s
       → IsEvent h s (cut_at bytes n) a b (Leaves h s b)
-  counted_not s bytes n failed a b later blame is held shop = record {
+  counted_not s bytes n failed a b later blame is held quiet shop = record {
     failed = failed;
     counted = [];
     is = is;
     blame = blame;
     later = later;
     moments = held;
+    quiet = quiet;
     ends = shop;
   }
 
   -- the device failed in the message: it counts or not, as the disk has it
   failed_within : (s : Shop) (bytes : List ℕ) (n : ℕ) (a b : D) → 0 < n → Failed h a b
-      → HeldOnly h a b (IsInEvent s (cut_at bytes n)) → IsBeforeOrAfter s bytes (h.image b)
+      → HeldOnly h a b (IsInEvent s (cut_at bytes n)) → LeavesAlone h s (cut_at bytes n) a b
+      → IsBeforeOrAfter s bytes (h.image b)
       → IsEvent h s (cut_at bytes n) a b (Leaves h s b)
-  failed_within s bytes n a b low failed held = ⊎_elim
+  failed_within s bytes n a b low failed held quiet = ⊎_elim
       (λ before. counted_not s bytes n true a b failed.later (λ _. failed)
-      (failed_out s.top s.state (request_of bytes) (Some n)) held before)
-      (λ after. counted_whole s bytes n a b low failed.later held after)
+      (failed_out s.top s.state (request_of bytes) (Some n)) held quiet before)
+      (λ after. counted_whole s bytes n a b low failed.later held quiet after)
 
   first_out : (s : Shop) (o : Option Ask) (n : ℕ) → MayGrow s o → n < 7206 → MayCount s.top s.state o (Some n) false []
   first_out s None n grow high = refl
@@ -79,11 +85,13 @@ module _ {D : Type 0} (h : History D) where
   -- power went in a message that may grow the file of cards
   grown_within : (s : Shop) (bytes : List ℕ) (n : ℕ) (a b : D) → 0 < n → n < 7206 → h.failures a ≤ h.failures b
       → MayGrow s (request_of bytes)
-      → HeldOnly h a b (IsInEvent s (cut_at bytes n)) → IsBeforeOrAfter s bytes (h.image b)
+      → HeldOnly h a b (IsInEvent s (cut_at bytes n)) → LeavesAlone h s (cut_at bytes n) a b
+      → IsBeforeOrAfter s bytes (h.image b)
       → IsEvent h s (cut_at bytes n) a b (Leaves h s b)
-  grown_within s bytes n a b low high later grow held = ⊎_elim
-      (λ before. counted_not s bytes n false a b later (λ e. cc) (first_out s (request_of bytes) n grow high) held before)
-      (λ after. counted_whole s bytes n a b low later held after)
+  grown_within s bytes n a b low high later grow held quiet = ⊎_elim
+      (λ before. counted_not s bytes n false a b later (λ e. cc)
+      (first_out s (request_of bytes) n grow high) held quiet before)
+      (λ after. counted_whole s bytes n a b low later held quiet after)
 
   way : (s : Shop) (bytes : List ℕ) (n : ℕ) (i : Image) → 0 < n → IsBeforeOrAfter s bytes i → IsInEvent s (cut_at bytes n) i
   way s bytes n i low = ⊎_elim (λ x. inl x) (λ x. inr (positive n low, x))
@@ -91,37 +99,44 @@ module _ {D : Type 0} (h : History D) where
   -- a message handed to a session over a fuse that isn't blown yet
   over_fuse : (s : Shop) (bytes : List ℕ) (n : ℕ) (a b : Fuse D) → 0 < n
       → fuse_left a ≡ n → fuse_limit a ≡ n → fuse_failures a ≡ 0
-      → Changes (fuse h) a b 7196 (IsBeforeOrAfter s bytes)
+      → Changes (fuse h) a b 3618 (IsBeforeOrAfter s bytes)
       → (fuse_passed a < fuse_passed b → MayGrow s (request_of bytes) ⊎ IsShop (h.image (fuse_disk b)) (after_of s bytes))
+      → (AsksNothing s (cut_at bytes n) → b ≡ a)
       → Failed (fuse h) a b ⊎ IsShop (h.image (fuse_disk b)) (after_of s bytes)
       → IsEvent h s (cut_at bytes n) (fuse_disk a) (fuse_disk b) (Leaves h s (fuse_disk b))
-  over_fuse s bytes n a b low left limit fresh changes grows =
+  over_fuse s bytes n a b low left limit fresh changes grows alone =
       let P : Image → Type 0 = IsBeforeOrAfter s bytes in
       let moments : HeldOnly h (fuse_disk a) (fuse_disk b) (IsInEvent s (cut_at bytes n))
       = weaker h (fuse_disk a) (fuse_disk b) P (IsInEvent s (cut_at bytes n)) (λ i x. way s bytes n i low x) (held_beneath h a b P changes.held) in
       let later : h.failures (fuse_disk a) ≤ h.failures (fuse_disk b) = changes.held.reached.failures in
       let ends : P (h.image (fuse_disk b)) = at_end (fuse h) a b P changes.held in
+      let quiet : LeavesAlone h s (cut_at bytes n) (fuse_disk a) (fuse_disk b) = λ asks. subst
+      (λ (x : Fuse D). HeldOnly h (fuse_disk a) (fuse_disk x) (λ i. i ≡ h.image (fuse_disk a))) (sym (alone asks))
+      (start h (fuse_disk a) (λ i. i ≡ h.image (fuse_disk a)) refl) in
       let none : fuse_passed a ≡ 0 = omega (arith, left, limit, low, a.within) in
       ⊎_elim
       (λ (failed : Failed (fuse h) a b). ⊎_elim
       (λ (blown : fuse_left b ≡ 0).
       let spent : fuse_passed b ≡ n = omega (arith, blown, changes.held.reached.limit, limit, b.within) in
       ⊎_elim
-      (λ grow. grown_within s bytes n (fuse_disk a) (fuse_disk b) low (omega (arith, changes.writes, spent, none)) later grow moments ends)
-      (λ after. counted_whole s bytes n (fuse_disk a) (fuse_disk b) low later moments after)
+      (λ grow. grown_within s bytes n (fuse_disk a) (fuse_disk b) low
+      (omega (arith, changes.writes, spent, none)) later grow moments quiet ends)
+      (λ after. counted_whole s bytes n (fuse_disk a) (fuse_disk b) low later moments quiet after)
       (grows (omega (arith, spent, none, low))))
-      (λ (beneath : Failed h (fuse_disk a) (fuse_disk b)). failed_within s bytes n (fuse_disk a) (fuse_disk b) low beneath moments ends)
+      (λ (beneath : Failed h (fuse_disk a) (fuse_disk b)).
+      failed_within s bytes n (fuse_disk a) (fuse_disk b) low beneath moments quiet ends)
       (cause_beneath h a b P changes.held (omega (arith, fresh)) failed))
-      (λ after. counted_whole s bytes n (fuse_disk a) (fuse_disk b) low later moments after)
+      (λ after. counted_whole s bytes n (fuse_disk a) (fuse_disk b) low later moments quiet after)
 
   -- the same for any number of writes; with none nothing passes
   pub message_cut : (s : Shop) (bytes : List ℕ) (n : ℕ) (d r : D) (a b : Fuse D)
       → fuse_disk a ≡ d → r ≡ fuse_disk b → fuse_left a ≡ n → fuse_limit a ≡ n → fuse_failures a ≡ 0 → IsShop (h.image d) s
-      → (IsShop (h.image (fuse_disk a)) s → Changes (fuse h) a b 7196 (IsBeforeOrAfter s bytes))
+      → (IsShop (h.image (fuse_disk a)) s → Changes (fuse h) a b 3618 (IsBeforeOrAfter s bytes))
       → (IsShop (h.image (fuse_disk a)) s → fuse_passed a < fuse_passed b → MayGrow s (request_of bytes) ⊎ IsShop (h.image (fuse_disk b)) (after_of s bytes))
+      → (IsShop (h.image (fuse_disk a)) s → AsksNothing s (cut_at bytes n) → b ≡ a)
       → (IsShop (h.image (fuse_disk a)) s → Failed (fuse h) a b ⊎ IsShop (h.image (fuse_disk b)) (after_of s bytes))
       → IsEvent h s (cut_at bytes n) d r (Leaves h s r)
-  message_cut s bytes n d r a b is ends left limit fresh shop changes grows told =
+  message_cut s bytes n d r a b is ends left limit fresh shop changes grows alone told =
       let there : IsShop (h.image (fuse_disk a)) s = subst (λ (x : D). IsShop (h.image x) s) (sym is) shop in
       subst (λ (x : D). IsEvent h s (cut_at bytes n) x r (Leaves h s r)) is
       (subst (λ (x : D). IsEvent h s (cut_at bytes n) (fuse_disk a) x (Leaves h s x)) (sym ends) (pick n left limit there))
@@ -130,7 +145,8 @@ module _ {D : Type 0} (h : History D) where
           → IsEvent h s (cut_at bytes m) (fuse_disk a) (fuse_disk b) (Leaves h s (fuse_disk b))
       pick zero none most there = subst (λ (x : D). IsEvent h s (cut_at bytes 0) (fuse_disk a) x (Leaves h s x))
           (sym ((changes there).held.reached.spent none)) (not_begun s bytes (fuse_disk a) there)
-      pick (suc m) some most there = over_fuse s bytes (suc m) a b (omega arith) some most fresh (changes there) (grows there) (told there)
+      pick (suc m) some most there = over_fuse s bytes (suc m) a b (omega arith) some most fresh
+          (changes there) (grows there) (alone there) (told there)
 
   -- no more is counted than the fuse lets pass
   pub cut_writes : (n k : ℕ) (d r : D) (a b : Fuse D) (P : Image → Type 0) → fuse_disk a ≡ d → r ≡ fuse_disk b → fuse_limit a ≡ n
@@ -177,29 +193,32 @@ module _ {D : Type 0} (h : History D) where
   -- openings after an event that left a shop
   pub event_then : (s : Shop) (m : Message) (a b c : D) (Before After : Bool → State → Type 0)
       → (x : IsEvent h s m a b Before) → HeldOnly h b c (λ i. IsShop i (with_state s (after_all (start_of s) s.state x.counted)))
-      → h.failures b ≤ h.failures c → After x.failed (after_all (start_of s) s.state x.counted)
+      → h.failures b ≤ h.failures c → LeavesAlone h s m a c → After x.failed (after_all (start_of s) s.state x.counted)
       → IsEvent h s m a c After
-  event_then s m a b c Before After x held later ends = record {
+  event_then s m a b c Before After x held later quiet ends = record {
     failed = x.failed;
     counted = x.counted;
     is = x.is;
     blame = λ e. failed_before h a b c (x.blame e) later;
     later = omega (arith, x.later, later);
     moments = way_then s m x.failed x.counted a b c x.is x.moments held;
+    quiet = quiet;
     ends = ends;
   }
 
   -- openings in the last of which the device failed
   pub event_failed : (s : Shop) (m : Message) (a b c d : D) (Before After : Bool → State → Type 0)
       → (x : IsEvent h s m a b Before) → HeldOnly h b d (λ i. IsShop i (with_state s (after_all (start_of s) s.state x.counted)))
-      → h.failures b ≤ h.failures c → Failed h c d → After true (after_all (start_of s) s.state x.counted)
+      → h.failures b ≤ h.failures c → Failed h c d → LeavesAlone h s m a d
+      → After true (after_all (start_of s) s.state x.counted)
       → IsEvent h s m a d After
-  event_failed s m a b c d Before After x held later failed ends = record {
+  event_failed s m a b c d Before After x held later failed quiet ends = record {
     failed = true;
     counted = x.counted;
     is = counts_failed s.top s.state (request_of m.bytes) m.cut_after x.failed x.counted x.is;
     blame = λ e. record { later = omega (arith, x.later, later, failed.later); rose = λ lt. omega (arith, x.later, later, failed.rose lt) };
     later = omega (arith, x.later, later, failed.later);
     moments = way_then s m x.failed x.counted a b d x.is x.moments held;
+    quiet = quiet;
     ends = ends;
   }

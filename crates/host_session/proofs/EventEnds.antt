@@ -8,6 +8,7 @@ use Rattle.request_cards.specs.declared.reply.Reply.{Reply}
 use Rattle.script_lines.specs.declared.events.Event.{Event}
 use Rattle.host_session.proofs.Chained.{at_device, told_over, whole}
 use Rattle.host_session.proofs.Printed.{told_more}
+use Rattle.host_session.proofs.QuietRuns.{quiet_of_more}
 use Rattle.host_session.proofs.Runs.{held_of_more}
 use Rattle.host_session.specs.Asking.{last_taken, message_here, messages_in, of_events}
 use Rattle.host_session.specs.Chains.{over_instants, told_in}
@@ -17,6 +18,7 @@ use Rattle.host_session.specs.Instants.{Instant, instant_of}
 use Rattle.host_session.specs.Loops.{IsRun, IsToldWhole}
 use Rattle.host_session.specs.Opening.{IsAShop}
 use Rattle.host_session.specs.Outputs.{listed}
+use Rattle.host_session.specs.Quiet.{AskNothing, IsQuiet}
 use Rattle.host_session.specs.Runs.{HeldBeginnings, IsPlayedWhole, IsRefused, StoppedByDevice}
 use Rattle.host_session.specs.Shop.{IsShop, Shop}
 use Rattle.host_session.specs.declared.asking.OfEvents.{OfEvents}
@@ -56,6 +58,7 @@ pub record IsEventsEnd {D : Type 0} (h : History D) (disk left : D) (ms : List M
   pub device : (s : Shop) → IsShop (h.image disk) s → e ≡ ends.Device
       → (told : List Reply) × (new ≡ old ++ told) × StoppedByDevice h s ms disk left told
   pub moments : (s : Shop) → IsShop (h.image disk) s → HeldBeginnings h s ms disk left
+  pub quiet : (s : Shop) → IsShop (h.image disk) s → AskNothing s ms → IsQuiet h s ms disk left
   pub plays : IsAShop (h.image disk) → NeverFailed h disk left → e ≡ ends.NoMemory
   pub «open» : (f : OpenFault) → e ≡ ends.Open f → IsRefused h disk f left
   pub cause : e ≡ ends.Device → IsAShop (h.image disk) × Failed h disk left
@@ -80,6 +83,8 @@ module _ {D : Type 0} (h : History D) (disk : D) (events : List Event) (asked as
   pub whole_run : (left : D) → IsRun h of_events listed disk asked asks old new (Ok left)
       → ((s : Shop) → IsShop (h.image disk) s → (told : List Reply) × (new.items ≡ old.items ++ told) × IsPlayedWhole h s (map message_of events) disk left told)
       × ((s : Shop) → IsShop (h.image disk) s → HeldBeginnings h s (map message_of events) disk left)
+      × ((s : Shop) → IsShop (h.image disk) s → AskNothing s (map message_of events)
+      → IsQuiet h s (map message_of events) disk left)
   whole_run left k =
       let none : drop asks.taken asked.events.now ≡ [] = drop_all asks.taken asked.events.now (omega (arith, k.shop.1, ap length k.takes.0)) in
       let all : messages_in k.taken ≡ map message_of events =
@@ -89,13 +94,22 @@ module _ {D : Type 0} (h : History D) (disk : D) (events : List Event) (asked as
             subst (λ ms. IsToldWhole h listed s ms disk left old new) all (k.ok s is).0 in
             (told_in run.turns, run.told ∙ ap (λ rs. old.items ++ rs) (told_over h run.turns), (whole h s (map message_of events) run.turns disk left run.run).0),
         λ s is. subst (λ ms. HeldBeginnings h s ms disk left) all (k.moments s is),
+        λ s is. subst (λ ms. AskNothing s ms → IsQuiet h s ms disk left) all (k.quiet s is),
       )
+
+  -- events that ask nothing new were taken up to one of them
+  still : (left : D) (f : LoopFault) → IsRun h of_events listed disk asked asks old new (Err (f, left))
+      → (s : Shop) → IsShop (h.image disk) s → AskNothing s (map message_of events)
+      → IsQuiet h s (map message_of events) disk left
+  still left f k s is = quiet_of_more h s (messages_in k.taken) (map message_of (drop asks.taken asked.events.now))
+      (map message_of events) disk left (parts k.taken k.takes) (k.quiet s is)
 
   refused : (left : D) (f : OpenFault) → IsRun h of_events listed disk asked asks old new (Err (runs.Open f, left))
       → IsEventsEnd h disk left (map message_of events) old.items new.items (ends.Open f)
   refused left f k = record {
     device = λ s is (e : ends.Open f ≡ ends.Device). cc;
     moments = λ s is. held_of_more h s (messages_in k.taken) (map message_of (drop asks.taken asked.events.now)) (map message_of events) disk left (parts k.taken k.takes) (k.moments s is);
+    quiet = still left (runs.Open f) k;
     plays = λ shop never. ⊎_elim (λ (e : runs.Open f ≡ runs.Input). cc) (λ (e : runs.Open f ≡ runs.Output). cc) (k.plays shop never);
     «open» = λ x e. (k.«open» x (ap runs.Open (ap opened_with e))).0;
     cause = λ (e : ends.Open f ≡ ends.Device). cc;
@@ -116,6 +130,7 @@ module _ {D : Type 0} (h : History D) (disk : D) (events : List Event) (asked as
           (at_device h s (messages_in k.taken) (map message_of (drop asks.taken asked.events.now)) (map message_of events) x.turns x.last disk left (parts k.taken k.takes) x.run).0,
         );
     moments = λ s is. held_of_more h s (messages_in k.taken) (map message_of (drop asks.taken asked.events.now)) (map message_of events) disk left (parts k.taken k.takes) (k.moments s is);
+    quiet = still left runs.Device k;
     plays = λ shop never. ⊎_elim (λ (e : runs.Device ≡ runs.Input). cc) (λ (e : runs.Device ≡ runs.Output). cc) (k.plays shop never);
     «open» = λ f (e : ends.Device ≡ ends.Open f). cc;
     cause = λ _. k.cause refl;

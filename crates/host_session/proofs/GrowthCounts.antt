@@ -85,7 +85,7 @@ touched-few : (item : ℕ) → touched 18 item 1 ≤ 2
 touched-few zero = omega arith
 touched-few (suc n) = card-touched n
 
-kept-few : (s : File) (r : ℕ) (b : Body) (x : Answer) → growth_writes s r ≤ 3612 → kept_writes s r (results_in b x) ≤ 7196
+kept-few : (s : File) (r : ℕ) (b : Body) (x : Answer) → growth_writes s r ≤ 3612 → kept_writes s r (results_in b x) ≤ 3618
 kept-few s r b (answers.Done h) le = omega (arith, le, touched-few b.item)
 kept-few s r b (answers.Moved h g) le = omega (arith, le, touched-few b.item, touched-few b.to)
 kept-few s r b (answers.Short h) le = omega arith
@@ -102,5 +102,5 @@ module _ (img : Image) (f : Files) (h : HasFiles img f) (r : ℕ) where
   stock-writes_most (inr le) = none-few h.stock_file r (subst (λ (n : ℕ). r ≤ n) (ap length h.stock ∙ count-is img h.stock_file) le)
 
   -- and so is the most that a request may write
-  pub kept-most : (b : Body) (x : Answer) → (r ≤ f.top) ⊎ (r ≤ length f.stock) → kept_writes h.stock_file r (results_in b x) ≤ 7196
+  pub kept-most : (b : Body) (x : Answer) → (r ≤ f.top) ⊎ (r ≤ length f.stock) → kept_writes h.stock_file r (results_in b x) ≤ 3618
   kept-most b x where_is = kept-few h.stock_file r b x (stock-writes_most where_is)

@@ -28,8 +28,8 @@ pub no-request : (img : Image) (s : Shop) (o : Option Ask) (dead : Bool) → o �
 no-request img s o dead e x alive = (ap (reply_in (start_of s) s.state) (sym e), subst (λ (p : Option Ask). IsSettled img (after_option s p)) (sym e) x, alive)
 
 pub no-moments : {D : Type 0} (S : History D) (d : D) (s : Shop) (o : Option Ask) → IsShop (S.image d) s
-    → Changes S d d 7196 (λ i. IsShop i s ⊎ IsShop i (with_state s (after_message (start_of s) s.state o)))
-no-moments S d s o h = changes_weaker S d d 0 7196 (IsHeld s o) (IsHeld s o) (omega arith) (λ i x. x) (no_change S d (IsHeld s o) (inl h))
+    → Changes S d d 3618 (λ i. IsShop i s ⊎ IsShop i (with_state s (after_message (start_of s) s.state o)))
+no-moments S d s o h = changes_weaker S d d 0 3618 (IsHeld s o) (IsHeld s o) (omega arith) (λ i x. x) (no_change S d (IsHeld s o) (inl h))
 
 -- a request that an open session answered with a word
 module _ {D : Type 0} (S : History D) (old new : View D) (o : Option Ask) (a : Ask) (w : Word) (e : o ≡ Some a) (answered : IsAnswered S old new a w) where
@@ -50,8 +50,8 @@ module _ {D : Type 0} (S : History D) (old new : View D) (o : Option Ask) (a : A
       ((λ i. Told (till i) (number i) (q.0 i)) ∙ ap (reply_in (start_of s) s.state) (sym e), q.1)
 
   pub told-moments : (s : Shop) → IsShop (S.image old.disk) s
-      → Changes S old.disk new.disk 7196 (λ i. IsShop i s ⊎ IsShop i (with_state s (after_message (start_of s) s.state o)))
-  told-moments s h = subst (λ (p : Option Ask). Changes S old.disk new.disk 7196 (IsHeld s p)) (sym e) (answered.moments s h)
+      → Changes S old.disk new.disk 3618 (λ i. IsShop i s ⊎ IsShop i (with_state s (after_message (start_of s) s.state o)))
+  told-moments s h = subst (λ (p : Option Ask). Changes S old.disk new.disk 3618 (IsHeld s p)) (sym e) (answered.moments s h)
 
   pub told-writes : (f : Files) (h : HasFiles (S.image old.disk) f) → S.writes new.disk ≤ S.writes old.disk + most_writes (shop_of f) h.stock_file o
   told-writes f h = subst (λ (p : Option Ask). S.writes new.disk ≤ S.writes old.disk + most_writes (shop_of f) h.stock_file p) (sym e) (answered.writes f h)

@@ -234,7 +234,7 @@ module _ (f : Files) (a : Ask) (c : Card) (k : IsKeeping f a c) where
     | inr x ↦ inl x.2
   ]
 
-  pub kept-within : (img : Image) (h : HasFiles img f) → kept_writes h.stock_file a.body.item (results_of c.newest) ≤ 7196
+  pub kept-within : (img : Image) (h : HasFiles img f) → kept_writes h.stock_file a.body.item (results_of c.newest) ≤ 3618
   kept-within img h = elim (cases_Bool c.pending) [
     | inl e ↦ omega (
       arith,

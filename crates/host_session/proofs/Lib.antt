@@ -36,12 +36,16 @@ pub mod Opens
 pub mod Examples
 pub mod SessionExamples
 pub mod Parts
+pub mod Quiet
 pub mod Cuts
 pub mod WholeMessages
 pub mod Totals
 pub mod Runs
 pub mod Chained
+pub mod QuietRuns
+pub mod Sparing
 pub mod Looped
+pub mod RunEnds
 pub mod Printed
 pub mod ScriptEnds
 pub mod EventEnds

@@ -1,28 +1,24 @@
--- A run in a loop: one event more, and how it ends.
-use Rattle.std.proofs.Common.{◌≡◌, ◌≤◌, ◌<◌, ◌+◌, ◌++◌, ◌⊎◌, ⊎_elim, ℕ, true, false, List, [], ◌∷◌, Option, None, Some, Ok, Err, refl, sym, subst, ap, ◌∙◌, arith, inl, inr, length, length-append, append-nil}
+-- A run in a loop: one event more, or the last one.
+use Rattle.std.proofs.Common.{◌≡◌, ◌≤◌, ◌<◌, ◌+◌, ◌++◌, ◌⊎◌, ℕ, true, false, List, [], ◌∷◌, Option, None, Some, Ok, Err, refl, sym, subst, ap, ◌∙◌, arith, inl, inr, length, length-append, append-nil}
 use Rattle.std.proofs.lemmas.List.{map-append}
 use Rattle.std.specs.Prelude.{IsSome, Result, is_err, is_ok, is_some, option_map}
-use Rattle.d64_image.proofs.Moments.{never_failed}
-use Rattle.d64_image.specs.History.{Changes, History, NeverFailed}
+use Rattle.d64_image.specs.History.{Changes, History}
 use Rattle.request_cards.specs.declared.reply.Reply.{Reply}
-use Rattle.host_session.proofs.Chained.{asked_more, at_device, run_failed, run_more, run_more-first}
+use Rattle.host_session.proofs.Chained.{asked_more, run_more, run_more-first}
 use Rattle.host_session.proofs.Chained.{run_none, run_rests, whole}
-use Rattle.host_session.proofs.Shops.{IsShop-one}
+use Rattle.host_session.proofs.Sparing.{within_more}
 use Rattle.host_session.specs.Asking.{IsNext, Source, TakesNone, TakesOne, messages_in}
 use Rattle.host_session.specs.Chains.{asked_over, over_instants}
 use Rattle.host_session.specs.Events.{Message, cut_at, uncut}
 use Rattle.host_session.specs.Instants.{Instant, instant_of}
-use Rattle.host_session.specs.Loops.{Ends, EndsBy, HasCome, HasComeBut, IsRun, Origin}
-use Rattle.host_session.specs.Loops.{IsRunToDevice, IsRunToOutput, IsRunWhole, IsToldToDevice, IsToldToOutput, IsToldWhole}
+use Rattle.host_session.specs.Loops.{Ends, EndsBy, HasCome, HasComeBut, Origin}
+use Rattle.host_session.specs.Loops.{IsToldToDevice, IsToldToOutput, IsToldWhole}
 use Rattle.host_session.specs.OneEvent.{EndsFailed, GoesOn, IsEvent}
-use Rattle.host_session.specs.Opening.{IsAShop, Untouched}
-use Rattle.host_session.specs.Runs.{HeldBeginnings, IsRefused}
+use Rattle.host_session.specs.Opening.{Untouched}
 use Rattle.host_session.specs.Shop.{IsSettled, IsShop, Shop}
 use Rattle.host_session.specs.Telling.{BreaksOff, IsTold, Output, TellsOne}
-use Rattle.host_session.specs.declared.faults.OpenFault.{OpenFault}
-use Rattle.host_session.specs.declared.faults.OpenFault.TheVariants as openings
+use Rattle.host_session.specs.Within.{AreWithin, IsWithin}
 use Rattle.host_session.specs.declared.asking.Next.{Next}
-use Rattle.host_session.specs.declared.looping.LoopFault.{LoopFault}
 use Rattle.host_session.specs.declared.looping.LoopFault.TheVariants as faults
 
 -- the message that is here has no reset
@@ -32,6 +28,10 @@ is_whole m bytes same none = λ i. record { bytes = same i; cut_after = none i }
 -- or one
 pub is_reset : (m : Message) (bytes : List ℕ) (after : ℕ) → bytes ≡ m.bytes → Some after ≡ m.cut_after → cut_at bytes after ≡ m
 is_reset m bytes after same cut = λ i. record { bytes = same i; cut_after = cut i }
+
+-- power goes in it
+pub no_none : (after : ℕ) (o : Option ℕ) → Some after ≡ o → o ≡ None → ⊥
+no_none after o some none = let e = some ∙ none in cc
 
 -- whether the event that was taken has a reset
 pub no_cut : {X : Type 0} (f : X → ℕ) (r : Option X) (o : Option ℕ) → option_map f r ≡ o → is_some r ≡ false → None ≡ o
@@ -82,6 +82,7 @@ module _ {D A T : Type 0} (h : History D) (a : Source A) (o : Output T) (from : 
         told = o.none from.out;
       },
       refl,
+      tt,
     );
     room = omega arith;
   }
@@ -116,16 +117,32 @@ module _ {D A T : Type 0} (h : History D) (a : Source A) (o : Output T) (from : 
         ∙ sym (asked_more h from.shop (messages_in w.taken) w.whole.0.turns ys r.first mid r.now (a.here asks) r.chain)
         ∙ ap (λ d. asked_over h d (w.whole.0.turns ++ ys) (messages_in w.taken ++ a.here asks ∷ [])) (sym same)
 
+    -- and so many sectors were written, where power doesn't go in it
+    abbrev Within : Type 0
+    Within = (a.here asks).cut_after ≡ None → (t : Shop) → IsSettled (h.image mid) t → IsWithin h (a.here asks) mid new
+
+    within_now : (w : HasComeBut h a o from mid asks out) (first : D) → first ≡ w.whole.0.run.first → Within
+        → AreWithin h (messages_in w.taken ++ a.here asks ∷ []) (w.whole.0.turns ++ (reply, new) ∷ []) first
+    within_now w first same one =
+        let r = w.whole.0.run in
+        subst (λ d. AreWithin h (messages_in w.taken ++ a.here asks ∷ []) (w.whole.0.turns ++ (reply, new) ∷ []) d)
+        (sym same)
+        (within_more h from.shop (messages_in w.taken) w.whole.0.turns r.first mid new r.now (a.here asks) reply r.chain
+        w.whole.2 (λ none. one none r.now
+        (run_rests h from.shop (messages_in w.taken) w.whole.0.turns from.disk mid w.whole.0.run)))
+
     -- the event that is here was run, and its reply told
     pub goes_on : (Alive : Type 0) → TellsOne o out told reply (instant_of h new) × (o.room out ≤ o.room told + 1)
         → ((t : Shop) → IsSettled (h.image mid) t → Alive × IsEvent h t (a.here asks) mid new (GoesOn h t (a.here asks) reply new))
+        → Within
         → HasComeBut h a o from mid asks out → Alive × HasCome h a o from new asks told
-    goes_on Alive tells event w =
+    goes_on Alive tells event within w =
         let x = w.whole.0 in
         let e = event x.run.now (run_rests h from.shop (messages_in w.taken) x.turns from.disk mid x.run) in
         let last : List (Reply × D) = (reply, new) ∷ [] in
         let Told : List Message → Type 0 = λ ms. (y : IsToldWhole h o from.shop ms from.disk new from.out told)
-        × (TakenNow w ≡ asked_over h y.run.first y.turns ms) × (o.room from.out ≤ o.room told + length ms) in
+        × (TakenNow w ≡ asked_over h y.run.first y.turns ms) × AreWithin h ms y.turns y.run.first
+        × (o.room from.out ≤ o.room told + length ms) in
         let y = subst Told (sym (messages_now w)) (
           record {
             turns = x.turns ++ last;
@@ -135,22 +152,27 @@ module _ {D A T : Type 0} (h : History D) (a : Source A) (o : Output T) (from : 
           },
           over_now w last _
               (run_more-first h from.shop (messages_in w.taken) x.turns from.disk mid new (a.here asks) reply x.run e.1),
+          within_now w _
+              (run_more-first h from.shop (messages_in w.taken) x.turns from.disk mid new (a.here asks) reply x.run e.1)
+              within,
           omega (arith, w.room, tells.1, length-append (messages_in w.taken) (a.here asks ∷ [])),
         ) in
-        (e.0, record { taken = TakenNow w; is = w.is; whole = (y.0, y.1); room = y.2 })
+        (e.0, record { taken = TakenNow w; is = w.is; whole = (y.0, y.1, y.2); room = y.3 })
 
     -- it was run, and the output didn't take its reply
     pub breaks_off : (Alive : Type 0) → BreaksOff o out told reply (instant_of h new) × (o.room out ≡ 0)
         → ((t : Shop) → IsSettled (h.image mid) t → Alive × IsEvent h t (a.here asks) mid new (GoesOn h t (a.here asks) reply new))
+        → Within
         → HasComeBut h a o from mid asks out → EndsBy h a o from asks told new faults.Output
-    breaks_off Alive breaks event w =
+    breaks_off Alive breaks event within w =
         let x = w.whole.0 in
         let e = event x.run.now (run_rests h from.shop (messages_in w.taken) x.turns from.disk mid x.run) in
         let run = run_more h from.shop (messages_in w.taken) x.turns from.disk mid new (a.here asks) reply x.run e.1 in
         let same =
         run_more-first h from.shop (messages_in w.taken) x.turns from.disk mid new (a.here asks) reply x.run e.1 in
         let Told : List Message → Type 0 = λ ms. (y : IsToldToOutput h o from.shop ms from.disk new from.out told)
-        × (TakenNow w ≡ asked_over h y.run.first y.turns ms) in (
+        × (TakenNow w ≡ asked_over h y.run.first y.turns ms)
+        × AreWithin h ms (y.turns ++ y.last ∷ []) y.run.first in (
           TakenNow w,
           w.is,
           subst Told (sym (messages_now w)) (
@@ -163,17 +185,20 @@ module _ {D A T : Type 0} (h : History D) (a : Source A) (o : Output T) (from : 
             },
             over_now w [] _ same
                 ∙ ap (λ turns. asked_over h run.first turns (messages_in w.taken ++ a.here asks ∷ [])) (append-nil x.turns),
+            within_now w _ same within,
           ),
         )
 
     -- the device failed in it
     pub fails : {E : Type 0} (result : Result Unit E) → IsTold o out told reply (instant_of h new) result
         → ((t : Shop) → IsSettled (h.image mid) t → IsEvent h t (a.here asks) mid new (EndsFailed h t (a.here asks) reply new))
+        → Within
         → HasComeBut h a o from mid asks out → EndsBy h a o from asks told new faults.Device
-    fails result tells event w =
+    fails result tells event within w =
         let x = w.whole.0 in
         let Told : List Message → Type 0 = λ ms. (y : IsToldToDevice h o from.shop ms from.disk new from.out told)
-        × (TakenNow w ≡ asked_over h y.run.run.first y.turns ms) in (
+        × (TakenNow w ≡ asked_over h y.run.run.first y.turns ms)
+        × AreWithin h ms (y.turns ++ (y.last, new) ∷ []) y.run.run.first in (
           TakenNow w,
           w.is,
           subst Told (sym (messages_now w)) (
@@ -192,6 +217,7 @@ module _ {D A T : Type 0} (h : History D) (a : Source A) (o : Output T) (from : 
             },
             over_now w [] x.run.first refl
                 ∙ ap (λ turns. asked_over h x.run.first turns (messages_in w.taken ++ a.here asks ∷ [])) (append-nil x.turns),
+            within_now w x.run.first refl within,
           ),
         )
       where
@@ -204,107 +230,3 @@ module _ {D A T : Type 0} (h : History D) (a : Source A) (o : Output T) (from : 
           tells.0 from.out (over_instants h w.whole.0.turns) w.whole.0.told,
           omega (arith, w.room, tells.1, length-append (messages_in w.taken) (a.here asks ∷ [])),
         )
-
-  module _ (asks : A) (out : T) (is_shop : IsShop (h.image from.disk) from.shop) where
-    same : (s : Shop) → IsShop (h.image from.disk) s → from.shop ≡ s
-    same s is = IsShop-one (h.image from.disk) from.shop s is_shop is
-
-    by_input : (left : D) → EndsBy h a o from asks out left faults.Input → IsRun h a o from.disk from.asks asks from.out out (Err (faults.Input, left))
-    by_input left e = record {
-      taken = e.0;
-      takes = e.1;
-      shop = tt;
-      ok = λ s is. tt;
-      input = λ s is _. (e.2, subst (λ t. IsRunWhole h o t e.0 from.disk left from.out out) (same s is) e.3);
-      output = λ s is (is_input : faults.Input ≡ faults.Output). cc;
-      device = λ s is (is_input : faults.Input ≡ faults.Device). cc;
-      moments = λ s is. subst (λ t. HeldBeginnings h t (messages_in e.0) from.disk left) (same s is) (whole h from.shop (messages_in e.0) e.3.0.turns from.disk left e.3.0.run).1;
-      plays = λ shop never. inl refl;
-      «open» = λ f (is_input : faults.Input ≡ faults.Open f). cc;
-      cause = λ (is_input : faults.Input ≡ faults.Device). cc;
-      after = λ _. (from.shop, is_shop);
-    }
-
-    by_output : (left : D) → EndsBy h a o from asks out left faults.Output → IsRun h a o from.disk from.asks asks from.out out (Err (faults.Output, left))
-    by_output left e = record {
-      taken = e.0;
-      takes = e.1;
-      shop = tt;
-      ok = λ s is. tt;
-      input = λ s is (is_output : faults.Output ≡ faults.Input). cc;
-      output = λ s is _. subst (λ t. IsRunToOutput h o t e.0 from.disk left from.out out) (same s is) e.2;
-      device = λ s is (is_output : faults.Output ≡ faults.Device). cc;
-      moments = λ s is. subst (λ t. HeldBeginnings h t (messages_in e.0) from.disk left) (same s is)
-          (whole h from.shop (messages_in e.0) (e.2.0.turns ++ e.2.0.last ∷ []) from.disk left e.2.0.run).1;
-      plays = λ shop never. inr refl;
-      «open» = λ f (is_output : faults.Output ≡ faults.Open f). cc;
-      cause = λ (is_output : faults.Output ≡ faults.Device). cc;
-      after = λ _. (from.shop, is_shop);
-    }
-
-    by_device : (left : D) → EndsBy h a o from asks out left faults.Device → IsRun h a o from.disk from.asks asks from.out out (Err (faults.Device, left))
-    by_device left e =
-        let failed = run_failed h from.shop (messages_in e.0) e.2.0.turns e.2.0.last from.disk left e.2.0.run in
-        record {
-          taken = e.0;
-          takes = e.1;
-          shop = tt;
-          ok = λ s is. tt;
-          input = λ s is (is_device : faults.Device ≡ faults.Input). cc;
-          output = λ s is (is_device : faults.Device ≡ faults.Output). cc;
-          device = λ s is _. subst (λ t. IsRunToDevice h o t e.0 from.disk left from.out out) (same s is) e.2;
-          moments = λ s is. subst (λ t. HeldBeginnings h t (messages_in e.0) from.disk left) (same s is)
-              (at_device h from.shop (messages_in e.0) [] (messages_in e.0) e.2.0.turns e.2.0.last from.disk left (append-nil (messages_in e.0)) e.2.0.run).1;
-          plays = λ shop never. absurd (never_failed h _ _ never failed);
-          «open» = λ f (is_device : faults.Device ≡ faults.Open f). cc;
-          cause = λ _. ((from.shop, is_shop), failed);
-          after = λ is. ⊎_elim (λ (x : faults.Device ≡ faults.Input). cc) (λ (x : faults.Device ≡ faults.Output). cc) is;
-        }
-
-    run_by : (left : D) (f : LoopFault) → EndsBy h a o from asks out left f → IsRun h a o from.disk from.asks asks from.out out (Err (f, left))
-    run_by left (faults.Open f) e = absurd e
-    run_by left faults.Input e = by_input left e
-    run_by left faults.Output e = by_output left e
-    run_by left faults.Device e = by_device left e
-
-    -- a run that was opened has ended
-    pub run_ended : (result : Result D (LoopFault × D)) → Ends h a o from asks out result → IsRun h a o from.disk from.asks asks from.out out result
-    run_ended (Ok left) e = record {
-      taken = e.0;
-      takes = e.1;
-      shop = ((from.shop, is_shop), e.2);
-      ok = λ s is. subst (λ t. IsRunWhole h o t e.0 from.disk left from.out out) (same s is) e.3;
-      input = λ s is. tt;
-      output = λ s is. tt;
-      device = λ s is. tt;
-      moments = λ s is. subst (λ t. HeldBeginnings h t (messages_in e.0) from.disk left) (same s is) (whole h from.shop (messages_in e.0) e.3.0.turns from.disk left e.3.0.run).1;
-      plays = λ shop never. tt;
-      «open» = tt;
-      cause = tt;
-      after = tt;
-    }
-    run_ended (Err e) ends = run_by e.1 e.0 ends
-
--- the fault of an opening
-abbrev opened_with : LoopFault → OpenFault
-opened_with (faults.Open f) = f
-opened_with _ = openings.Device
-
--- a run that was refused
-pub run_refused : {D A T : Type 0} (h : History D) (a : Source A) (o : Output T) (disk left : D) (asks : A) (out : T) (f : OpenFault)
-    → IsRefused h disk f left → ((s : Shop) → IsShop (h.image disk) s → HeldBeginnings h s [] disk left)
-    → (IsAShop (h.image disk) → NeverFailed h disk left → ⊥) → IsRun h a o disk asks asks out out (Err (faults.Open f, left))
-run_refused h a o disk left asks out f refused held fails = record {
-  taken = [];
-  takes = a.none asks;
-  shop = tt;
-  ok = λ s is. tt;
-  input = λ s is (e : faults.Open f ≡ faults.Input). cc;
-  output = λ s is (e : faults.Open f ≡ faults.Output). cc;
-  device = λ s is (e : faults.Open f ≡ faults.Device). cc;
-  moments = held;
-  plays = λ shop never. absurd (fails shop never);
-  «open» = λ x e. (subst (λ y. IsRefused h disk y left) (ap opened_with e) refused, refl, refl, refl);
-  cause = λ (e : faults.Open f ≡ faults.Device). cc;
-  after = λ e. ⊎_elim (λ (x : faults.Open f ≡ faults.Input). cc) (λ (x : faults.Open f ≡ faults.Output). cc) e;
-}

@@ -103,9 +103,9 @@ module _ {D : Type 0} (S : History D) (x y : View D) (f : Files) (h : HasFiles (
   ends = after-next (shop_of f) a next
 
   told-moments : {E : Type 0} {res : Result (Unit {0}) E} → IsKept S x.disk y.disk f a fresh c res
-      → (t : Shop) → IsShop (S.image x.disk) t → Changes S x.disk y.disk 7196 (λ i. IsShop i t ⊎ IsShop i (after_ask t a))
-  told-moments w = of-shop (S.image x.disk) (shop_of f) (λ (t : Shop). Changes S x.disk y.disk 7196 (λ i. IsShop i t ⊎ IsShop i (after_ask t a))) here
-      (changes_weaker S x.disk y.disk _ 7196 (IsEither (shop_of f) a) (λ i. IsShop i (shop_of f) ⊎ IsShop i (after_ask (shop_of f) a)) (kept-within f a c k (S.image x.disk) h)
+      → (t : Shop) → IsShop (S.image x.disk) t → Changes S x.disk y.disk 3618 (λ i. IsShop i t ⊎ IsShop i (after_ask t a))
+  told-moments w = of-shop (S.image x.disk) (shop_of f) (λ (t : Shop). Changes S x.disk y.disk 3618 (λ i. IsShop i t ⊎ IsShop i (after_ask t a))) here
+      (changes_weaker S x.disk y.disk _ 3618 (IsEither (shop_of f) a) (λ i. IsShop i (shop_of f) ⊎ IsShop i (after_ask (shop_of f) a)) (kept-within f a c k (S.image x.disk) h)
       (λ i e. subst (λ (u : Shop). IsShop i (shop_of f) ⊎ IsShop i u) ends e) (w.moments h))
 
   told-writes : ((g : Files) (h' : HasFiles (S.image x.disk) g) → IsKeeping g a c → Changes S x.disk y.disk (kept_writes h'.stock_file a.body.item (results_of c.newest)) (IsEither (shop_of g) a))

@@ -6,14 +6,17 @@ use Rattle.script_lines.specs.Lines.{lines}
 use Rattle.script_lines.specs.Resets.{first_bad}
 use Rattle.host_session.proofs.Chained.{at_device, at_output, told_over, whole}
 use Rattle.host_session.proofs.PlainRuns.{plain_played}
+use Rattle.host_session.proofs.QuietRuns.{quiet_of_more}
 use Rattle.host_session.proofs.Runs.{held_of_more}
 use Rattle.host_session.specs.Asking.{messages_in, of_script}
 use Rattle.host_session.specs.Chains.{over_instants, told_in}
 use Rattle.host_session.specs.Events.{Message, messages_of}
 use Rattle.host_session.specs.Instants.{Instant}
 use Rattle.host_session.specs.Loops.{IsRun, IsToldWhole}
+use Rattle.host_session.specs.Quiet.{AskNothing, IsQuiet}
 use Rattle.host_session.specs.Runs.{HeldBeginnings}
 use Rattle.host_session.specs.ScriptRuns.{IsScriptRun}
+use Rattle.host_session.specs.Shop.{IsShop, Shop}
 use Rattle.host_session.specs.Telling.{Output}
 use Rattle.host_session.specs.declared.asking.OfScript.{OfScript}
 use Rattle.host_session.specs.declared.faults.OpenFault.{OpenFault}
@@ -59,11 +62,19 @@ module _ {D T : Type 0} (h : History D) (o : Output T) (disk : D) (script : List
         output = λ s is. tt;
         device = λ s is. tt;
         moments = λ s is. subst (λ ms. HeldBeginnings h s ms disk left) all (k.moments s is);
+        quiet = λ s is. subst (λ ms. AskNothing s ms → IsQuiet h s ms disk left) all (k.quiet s is);
         plays = λ shop never. tt;
         «open» = tt;
         cause = tt;
         after = tt;
       }
+
+  -- lines that ask nothing new were taken up to one of them
+  still : (left : D) (f : LoopFault) → IsRun h of_script o disk asked asks old new (Err (f, left))
+      → (s : Shop) → IsShop (h.image disk) s → AskNothing s (messages_of (lines script))
+      → IsQuiet h s (messages_of (lines script)) disk left
+  still left f k s is = quiet_of_more h s (messages_in k.taken) (messages_of (lines asks.left.now))
+      (messages_of (lines script)) disk left (parts k.taken k.takes) (k.quiet s is)
 
   pub refused : (left : D) (f : OpenFault) → IsRun h of_script o disk asked asks old new (Err (runs.Open f, left))
       → IsScriptRun h o disk script old new (Err (ends.Open f, left))
@@ -76,6 +87,7 @@ module _ {D T : Type 0} (h : History D) (o : Output T) (disk : D) (script : List
     output = λ s is (e : ends.Open f ≡ ends.Output). cc;
     device = λ s is (e : ends.Open f ≡ ends.Device). cc;
     moments = λ s is. held_of_more h s (messages_in k.taken) (messages_of (lines asks.left.now)) (messages_of (lines script)) disk left (parts k.taken k.takes) (k.moments s is);
+    quiet = still left (runs.Open f) k;
     plays = λ shop never. ⊎_elim (λ (e : runs.Open f ≡ runs.Input). cc) (λ (e : runs.Open f ≡ runs.Output). cc) (k.plays shop never);
     «open» = λ x e. let y = k.«open» x (ap runs.Open (ap opened_with e)) in (y.0, y.3);
     cause = λ (e : ends.Open f ≡ ends.Device). cc;
@@ -103,6 +115,7 @@ module _ {D T : Type 0} (h : History D) (o : Output T) (disk : D) (script : List
         };
     device = λ s is (e : ends.Output ≡ ends.Device). cc;
     moments = λ s is. held_of_more h s (messages_in k.taken) (messages_of (lines asks.left.now)) (messages_of (lines script)) disk left (parts k.taken k.takes) (k.moments s is);
+    quiet = still left runs.Output k;
     plays = λ shop never. inr refl;
     «open» = λ f (e : ends.Output ≡ ends.Open f). cc;
     cause = λ (e : ends.Output ≡ ends.Device). cc;
@@ -129,6 +142,7 @@ module _ {D T : Type 0} (h : History D) (o : Output T) (disk : D) (script : List
               (parts k.taken k.takes) x.run).0;
         };
     moments = λ s is. held_of_more h s (messages_in k.taken) (messages_of (lines asks.left.now)) (messages_of (lines script)) disk left (parts k.taken k.takes) (k.moments s is);
+    quiet = still left runs.Device k;
     plays = λ shop never. ⊎_elim (λ (e : runs.Device ≡ runs.Input). cc) (λ (e : runs.Device ≡ runs.Output). cc) (k.plays shop never);
     «open» = λ f (e : ends.Device ≡ ends.Open f). cc;
     cause = λ _. k.cause refl;

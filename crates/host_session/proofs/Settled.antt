@@ -93,7 +93,7 @@ module _ {D : Type 0} (S : History D) (x : View D) (img : Image) (same : S.image
         subst (λ (u : Shop). IsSettled (S.image x.disk) u) (stays s h) (standing-settled img (S.image x.disk) dead top tills (state_in cards requests) same v alive s h),
         living,
       );
-      moments = λ s h. changes_weaker S x.disk x.disk 0 7196 _ _ (omega arith) (λ i p. p) (no_change S x.disk (λ i. IsShop i s ⊎ IsShop i (after_ask s a)) (inl h));
+      moments = λ s h. changes_weaker S x.disk x.disk 0 3618 _ _ (omega arith) (λ i p. p) (no_change S x.disk (λ i. IsShop i s ⊎ IsShop i (after_ask s a)) (inl h));
       writes = λ f h. omega arith;
       counted = λ s h lt. absurd (omega (arith, lt));
       failures = inr (settled-other tills (newest_in (nth requests a.till)) (second_in (nth requests a.till)) a w told, refl);

@@ -13,6 +13,7 @@ use Rattle.host_session.specs.Counted.{answer}
 use Rattle.host_session.specs.Events.{Message}
 use Rattle.host_session.specs.Handling.{IsBeforeOrAfter, IsMedia, after_of, media}
 use Rattle.host_session.specs.OneEvent.{EndsFailed, GoesOn, IsEvent, IsInEvent}
+use Rattle.host_session.specs.Quiet.{AsksNothing, IsLeftAlone, LeavesAlone}
 use Rattle.host_session.specs.Shop.{IsSettled, IsShop, Shop, start_of, with_state}
 
 uncut : (m : Message) → m.cut_after ≡ None → m.cut_after ≢ Some 0
@@ -27,17 +28,22 @@ module _ {D : Type 0} (h : History D) where
   on_the_way : (s : Shop) (m : Message) (a b : D) → m.cut_after ≡ None → HeldOnly h a b (IsBeforeOrAfter s m.bytes) → HeldOnly h a b (IsInEvent s m)
   on_the_way s m a b none held = weaker h a b (IsBeforeOrAfter s m.bytes) (IsInEvent s m) (λ i x. ⊎_elim (λ l. inl l) (λ r. inr (uncut m none, r)) x) held
 
+  -- the device itself, where power goes in no write
+  left : (s : Shop) (m : Message) (a b : D) → m.cut_after ≡ None → (AsksNothing s m → b ≡ a) → LeavesAlone h s m a b
+  left s m a b none alone = λ asks. subst (λ (o : Option ℕ). IsLeftAlone h o a b) (sym none) (alone asks)
+
   pub answered : (s : Shop) (m : Message) (a b : D) (reply : Reply) → m.cut_after ≡ None
-      → HeldOnly h a b (IsBeforeOrAfter s m.bytes) → h.failures b ≡ h.failures a
+      → HeldOnly h a b (IsBeforeOrAfter s m.bytes) → (AsksNothing s m → b ≡ a) → h.failures b ≡ h.failures a
       → reply ≡ reply_in (start_of s) s.state (request_of m.bytes) → IsSettled (h.image b) (after_of s m.bytes)
       → IsEvent h s m a b (GoesOn h s m reply b)
-  answered s m a b reply none held same told settled = record {
+  answered s m a b reply none held alone same told settled = record {
     failed = false;
     counted = option_to_list (request_of m.bytes);
     is = whole_counts s.top s.state (request_of m.bytes) m.cut_after false (uncut m none);
     blame = λ e. cc;
     later = omega (arith, same);
     moments = on_the_way s m a b none held;
+    quiet = left s m a b none alone;
     ends = record {
       told = told ∙ sym (ap (λ (o : Option ℕ). if is_some o then Cut else reply_in (start_of s) s.state (request_of m.bytes)) none);
       answered = λ e. refl;
@@ -46,9 +52,10 @@ module _ {D : Type 0} (h : History D) where
   }
 
   pub told_media : (s : Shop) (m : Message) (a b : D) (reply : Reply) → m.cut_after ≡ None
-      → HeldOnly h a b (IsBeforeOrAfter s m.bytes) → Failed h a b → reply ≡ media (request_of m.bytes) → IsMedia reply
+      → HeldOnly h a b (IsBeforeOrAfter s m.bytes) → (AsksNothing s m → b ≡ a) → Failed h a b
+      → reply ≡ media (request_of m.bytes) → IsMedia reply
       → IsEvent h s m a b (EndsFailed h s m reply b)
-  told_media s m a b reply none held failed told says =
+  told_media s m a b reply none held alone failed told says =
       let is : reply ≡ answer (start_of s) s.state m true = told ∙ sym (ap (λ (o : Option ℕ). if is_some o then Cut else media (request_of m.bytes)) none) in
       let some : m.cut_after ≡ None → IsSome (request_of m.bytes) = λ e. media_some (request_of m.bytes) reply told says in
       ⊎_elim
@@ -59,6 +66,7 @@ module _ {D : Type 0} (h : History D) where
         blame = λ e. failed;
         later = failed.later;
         moments = on_the_way s m a b none held;
+        quiet = left s m a b none alone;
         ends = record { told = is; asked = some; is_failed = refl; shop = before };
       })
       (λ after. record {
@@ -68,6 +76,7 @@ module _ {D : Type 0} (h : History D) where
         blame = λ e. failed;
         later = failed.later;
         moments = on_the_way s m a b none held;
+        quiet = left s m a b none alone;
         ends = record {
           told = is;
           asked = some;

@@ -21,7 +21,7 @@ pub record IsAnswered {D : Type 0} (S : History D) (old new : View D) (a : Ask) 
       → (word ≡ word_in (start_of s) s.state a) × IsSettled (S.image new.disk) (after_ask s a) × (new.dead ≡ false)
   -- each image held on the way is the shop's before the request or after it
   pub moments : (s : Shop) → IsShop (S.image old.disk) s
-      → Changes S old.disk new.disk 7196 (λ i. IsShop i s ⊎ IsShop i (after_ask s a))
+      → Changes S old.disk new.disk 3618 (λ i. IsShop i s ⊎ IsShop i (after_ask s a))
   pub writes : (f : Files) → (h : HasFiles (S.image old.disk) f)
       → S.writes new.disk ≤ S.writes old.disk + most_writes (shop_of f) h.stock_file (Some a)
   -- once a write was counted the shop is the one after, but where STOCK may have grown

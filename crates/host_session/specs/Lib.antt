@@ -17,12 +17,14 @@ pub mod Settling
 pub mod Channels
 pub mod Events
 pub mod Counted
+pub mod Quiet
 pub mod OneEvent
 pub mod Runs
 pub mod Faults
 pub mod ScriptRuns
 pub mod Instants
 pub mod Chains
+pub mod Within
 pub mod Asking
 pub mod Telling
 pub mod Loops

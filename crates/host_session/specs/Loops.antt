@@ -7,10 +7,12 @@ use Rattle.host_session.specs.Chains.{HasRun, HasRunToFailure, asked_over, over_
 use Rattle.host_session.specs.Events.{Message}
 use Rattle.host_session.specs.Instants.{Instant, instant_of}
 use Rattle.host_session.specs.Opening.{IsAShop, disk_of}
+use Rattle.host_session.specs.Quiet.{AskNothing, IsQuiet}
 use Rattle.host_session.specs.Runs.{HeldBeginnings, IsRefused}
 use Rattle.host_session.specs.Shop.{IsShop, Shop}
 use Rattle.host_session.specs.Standing.{View}
 use Rattle.host_session.specs.Telling.{Output}
+use Rattle.host_session.specs.Within.{AreWithin}
 use Rattle.host_session.specs.declared.faults.OpenFault.{OpenFault}
 use Rattle.host_session.specs.declared.looping.LoopFault.{LoopFault}
 use Rattle.host_session.specs.declared.looping.LoopFault.TheVariants as faults
@@ -48,20 +50,23 @@ pub record IsToldToDevice {D T : Type 0} (h : History D) (o : Output T) (s : Sho
       ⊎ (o.broken_off old new (over_instants h turns) (last, instant_of h left) × (o.room old < length ms))
 
 -- The same of messages that were taken so: the first while the disk was as it was opened, each other while it was as it
--- stands beside the reply that was told before.
+-- stands beside the reply that was told before; and each in which power doesn't go wrote no more than it can need.
 abbrev pub IsRunWhole : {D T : Type 0} → History D → Output T → Shop → List (Message × Instant) → D → D → T → T → Type 0
 IsRunWhole h o s taken disk left old new = (x : IsToldWhole h o s (messages_in taken) disk left old new)
     × (taken ≡ asked_over h x.run.first x.turns (messages_in taken))
+    × AreWithin h (messages_in taken) x.turns x.run.first
 
 abbrev pub IsRunToOutput : {D T : Type 0} → History D → Output T → Shop → List (Message × Instant) → D → D → T → T
     → Type 0
 IsRunToOutput h o s taken disk left old new = (x : IsToldToOutput h o s (messages_in taken) disk left old new)
     × (taken ≡ asked_over h x.run.first x.turns (messages_in taken))
+    × AreWithin h (messages_in taken) (x.turns ++ x.last ∷ []) x.run.first
 
 abbrev pub IsRunToDevice : {D T : Type 0} → History D → Output T → Shop → List (Message × Instant) → D → D → T → T
     → Type 0
 IsRunToDevice h o s taken disk left old new = (x : IsToldToDevice h o s (messages_in taken) disk left old new)
     × (taken ≡ asked_over h x.run.run.first x.turns (messages_in taken))
+    × AreWithin h (messages_in taken) (x.turns ++ (x.last, left) ∷ []) x.run.run.first
 
 -- What a run began with: the shop on its disk, the source and the output.
 pub record Origin (D A T : Type 0) : Type 0 where
@@ -136,6 +141,9 @@ pub record IsRun {D A T : Type 0} (h : History D) (a : Source A) (o : Output T) 
   -- At each moment the shop is that of a counted list of some beginning of the events.
   pub moments : (s : Shop) → IsShop (h.image disk) s
       → HeldBeginnings h s (messages_in taken) disk (disk_of (λ d. d) result)
+  -- Messages that ask nothing new leave the disk alone, however it ends.
+  pub quiet : (s : Shop) → IsShop (h.image disk) s → AskNothing s (messages_in taken)
+      → IsQuiet h s (messages_in taken) disk (disk_of (λ d. d) result)
   -- On a shop whose device doesn't fail it answers Ok, unless the input or the output fails.
   pub plays : IsAShop (h.image disk) → NeverFailed h disk (disk_of (λ d. d) result)
       → IfErr result (λ e. (e.0 ≡ faults.Input) ⊎ (e.0 ≡ faults.Output))

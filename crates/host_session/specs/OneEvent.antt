@@ -9,6 +9,7 @@ use Rattle.request_cards.specs.Requests.{Ask}
 use Rattle.host_session.specs.Counted.{MayCount, after_all, answer}
 use Rattle.host_session.specs.Events.{Message}
 use Rattle.host_session.specs.Handling.{after_of}
+use Rattle.host_session.specs.Quiet.{LeavesAlone}
 use Rattle.host_session.specs.Shop.{IsSettled, IsShop, Shop, start_of, with_state}
 
 -- an image held in an event: its message doesn't count yet; or it does, and power was there for a write of it
@@ -24,6 +25,7 @@ pub record IsEvent {D : Type 0} (h : History D) (s : Shop) (m : Message) (old ne
   pub blame : failed ≡ true → Failed h old new
   pub later : h.failures old ≤ h.failures new
   pub moments : HeldOnly h old new (IsInEvent s m)
+  pub quiet : LeavesAlone h s m old new
   pub ends : Ends failed (after_all (start_of s) s.state counted)
 
 -- the disk is that of the requests counted

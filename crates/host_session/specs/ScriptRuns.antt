@@ -10,6 +10,7 @@ use Rattle.host_session.specs.Events.{HasNoReset, Message, messages_of, requests
 use Rattle.host_session.specs.Instants.{Instant}
 use Rattle.host_session.specs.Loops.{IsToldToDevice, IsToldToOutput, IsToldWhole}
 use Rattle.host_session.specs.Opening.{IsAShop, disk_of}
+use Rattle.host_session.specs.Quiet.{AskNothing, IsQuiet}
 use Rattle.host_session.specs.Runs.{HeldBeginnings, IsPlayedWhole, IsRefused, StoppedByDevice, StoppedByOutput}
 use Rattle.host_session.specs.Shop.{IsSettled, IsShop, Shop, start_of, with_state}
 use Rattle.host_session.specs.Telling.{Output}
@@ -73,6 +74,9 @@ pub record IsScriptRun {D T : Type 0} (h : History D) (o : Output T) (disk : D) 
       → IsPlayedToDevice h o s (messages_of (lines script)) disk e.1 old new)
   -- At each moment the shop is that of a counted list of some beginning of the lines.
   pub moments : (s : Shop) → IsShop (h.image disk) s → HeldBeginnings h s (messages_of (lines script)) disk (disk_of (λ d. d) result)
+  -- Lines that ask nothing new leave the disk alone, however it ends.
+  pub quiet : (s : Shop) → IsShop (h.image disk) s → AskNothing s (messages_of (lines script))
+      → IsQuiet h s (messages_of (lines script)) disk (disk_of (λ d. d) result)
   -- On a shop whose device doesn't fail it answers Ok, unless a line is bad or the output fails.
   pub plays : IsAShop (h.image disk) → NeverFailed h disk (disk_of (λ d. d) result)
       → IfErr result (λ e. ((n : ℕ) × (e.0 ≡ faults.BadLine n)) ⊎ (e.0 ≡ faults.Output))

@@ -5,6 +5,7 @@ ghost use Rattle.host_session.specs.Events.{cut_at, uncut};
 ghost use Rattle.host_session.specs.Handling.{IsMedia};
 ghost use Rattle.host_session.specs.OneEvent.{EndsFailed, GoesOn, IsEvent, Leaves};
 ghost use Rattle.host_session.specs.Shop.{IsSettled, IsShop, Shop};
+ghost use Rattle.host_session.specs.Within.{IsWithin};
 
 use crate::session::Session;
 use d64_image::{Fuse, Sectors};
@@ -28,6 +29,8 @@ fn cut_opening<D: Sectors>(disk: D, writes: u32) -> D
     ensures moments { (s : Shop) → IsShop (D.history.image disk) s → HeldOnly D.history disk result (λ c. IsShop c s) }
     ensures writes { (s : Shop) → IsShop (D.history.image disk) s → D.history.writes result ≤ D.history.writes disk + writes }
     ensures later { (s : Shop) → IsShop (D.history.image disk) s → D.history.failures disk ≤ D.history.failures result }
+    ensures quiet { (s : Shop) → IsSettled (D.history.image disk) s
+        → HeldOnly D.history disk result (λ c. c ≡ D.history.image disk) }
 {
     match Session::open(Fuse::new(disk, writes)) {
         Ok(session) => session.close().into_inner(),
@@ -39,6 +42,8 @@ fn cut_opening<D: Sectors>(disk: D, writes: u32) -> D
 fn cut_openings<D: Sectors>(disk: D, recoveries: &[u32]) -> D
     ensures moments { (s : Shop) → IsShop (D.history.image disk) s → HeldOnly D.history disk result (λ c. IsShop c s) }
     ensures later { (s : Shop) → IsShop (D.history.image disk) s → D.history.failures disk ≤ D.history.failures result }
+    ensures quiet { (s : Shop) → IsSettled (D.history.image disk) s
+        → HeldOnly D.history disk result (λ c. c ≡ D.history.image disk) }
 {
     let mut disk = disk;
     for &writes in recoveries {
@@ -92,6 +97,8 @@ pub(crate) fn whole_message<D: Sectors>(session: &mut Session<D>, message: &[u8]
     ensures stopped { (s : Shop) → IsSettled (D.history.image session.old.disk) s → session.old.dead ≡ false
         → IsMedia result → IsEvent D.history s (uncut message.now) session.old.disk session.new.disk
         (EndsFailed D.history s (uncut message.now) result session.new.disk) }
+    ensures within { (s : Shop) → IsSettled (D.history.image session.old.disk) s
+        → IsWithin D.history (uncut message.now) session.old.disk session.new.disk }
 {
     session.handle(message)
 }

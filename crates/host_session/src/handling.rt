@@ -40,7 +40,7 @@ impl<D: Sectors> Session<D> {
             → (result ≡ reply_in (start_of s) s.state (request_of message.now)) × IsSettled (D.history.image self.new.disk) (after_of s message.now) × (self.new.dead ≡ false) }
         // each image held on the way is the shop's before the message or after it
         ensures moments { (s : Shop) → IsShop (D.history.image self.old.disk) s
-            → Changes D.history self.old.disk self.new.disk 7196 (IsBeforeOrAfter s message.now) }
+            → Changes D.history self.old.disk self.new.disk 3618 (IsBeforeOrAfter s message.now) }
         // how many sectors are written at most
         ensures writes { (f : Files) → (h : HasFiles (D.history.image self.old.disk) f)
             → D.history.writes self.new.disk ≤ D.history.writes self.old.disk + most_writes (shop_of f) h.stock_file (request_of message.now) }

@@ -4,6 +4,7 @@ ghost use Rattle.d64_image.specs.History.{Failed, NeverFailed};
 ghost use Rattle.host_session.specs.Events.{message_of};
 ghost use Rattle.host_session.specs.Faults.{play_fault_of, play_number};
 ghost use Rattle.host_session.specs.Opening.{IsAShop, disk_of};
+ghost use Rattle.host_session.specs.Quiet.{AskNothing, IsQuiet};
 ghost use Rattle.host_session.specs.Runs.{HeldBeginnings, IsPlayedWhole, IsRefused, StoppedByDevice};
 ghost use Rattle.host_session.specs.Shop.{IsShop, Shop};
 ghost use Rattle.host_session.specs.declared.faults.OpenFault.{OpenFault};
@@ -78,6 +79,9 @@ pub fn play<D: Sectors>(
     // At each moment the shop is that of a counted list of some beginning of the events.
     ensures moments { (s : Shop) → IsShop (D.history.image disk) s
         → HeldBeginnings D.history s (map message_of events.now) disk (disk_of (λ d. d) result) }
+    // Events that ask nothing new leave the disk alone, however it ends.
+    ensures quiet { (s : Shop) → IsShop (D.history.image disk) s → AskNothing s (map message_of events.now)
+        → IsQuiet D.history s (map message_of events.now) disk (disk_of (λ d. d) result) }
     // On a shop whose device doesn't fail it answers Ok, unless memory ran out.
     ensures plays { IsAShop (D.history.image disk) → NeverFailed D.history disk (disk_of (λ d. d) result)
         → IfErr result (λ e. e.0 ≡ PlayFault.NoMemory) }

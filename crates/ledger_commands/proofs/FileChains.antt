@@ -1,5 +1,5 @@
 -- A run over a mirror, as one of its file: event by event.
-use Rattle.std.proofs.Common.{◌≡◌, ◌<◌, ◌≤◌, ◌+◌, ◌∙◌, ℕ, Bool, true, List, [], ◌∷◌, ◌++◌, ap, ap₂, arith, refl, subst, sym}
+use Rattle.std.proofs.Common.{◌≡◌, ◌<◌, ◌≤◌, ◌+◌, ◌∙◌, ℕ, Bool, true, List, [], ◌∷◌, ◌++◌, None, Option, Some, ap, ap₂, arith, refl, subst, sym}
 use Rattle.std.specs.Prelude.{map}
 use Rattle.d64_image.specs.declared.mirror.Mirror.{Mirror}
 use Rattle.d64_image.specs.declared.sector_file.SectorFile.{Ghosts}
@@ -14,6 +14,7 @@ use Rattle.host_session.specs.Counted.{NoneGotMedia, after_all}
 use Rattle.host_session.specs.Events.{Message}
 use Rattle.host_session.specs.Instants.{instant_of}
 use Rattle.host_session.specs.OneEvent.{EndsFailed, GoesOn, IsEvent}
+use Rattle.host_session.specs.Quiet.{IsLeftAlone, IsQuiet}
 use Rattle.host_session.specs.Runs.{HeldBeginnings, IsBlamed, IsPlayed, IsSomeBeginning, blamed}
 use Rattle.host_session.specs.Shop.{IsShop, Shop, start_of, with_state}
 use Rattle.request_cards.specs.Ledgers.{State}
@@ -48,6 +49,12 @@ module _ {F : Type 0} {G : Ghosts F} where
         let none : one_if a.broken + blamed fails ≤ one_if b.broken = blame (omega (arith, sound)) in
         omega (arith, none, sound, since_grows G.keeps start.file a.file b.file y.failures)
 
+    -- what left the mirror alone left its file alone
+    alone_of_file : (cut : Option ℕ) (a b : Mirror F G) → IsLeftAlone mirror cut a b
+        → IsLeftAlone of_file cut (file_disk a) (file_disk b)
+    alone_of_file None a b same = ap file_disk same
+    alone_of_file (Some after) a b held = held_by_file start.file a b _ held
+
     -- one event
     abbrev event_of_file : (s : Shop) (m : Message) (a b : Mirror F G) (Ends NewEnds : Bool → State → Type 0) → ((f : Bool) (t : State) → Ends f t → NewEnds f t)
         → IsMirrored start a → IsEvent mirror s m a b Ends → IsEvent of_file s m (file_disk a) (file_disk b) NewEnds
@@ -58,6 +65,7 @@ module _ {F : Type 0} {G : Ghosts F} where
       blame = λ so. failed_by_file start whole a b (mirrored_then start a b x e.moments.reached) e.moments.reached (e.blame so);
       later = since_grows G.keeps start.file a.file b.file e.moments.reached.failures;
       moments = held_by_file start.file a b _ e.moments;
+      quiet = λ asks. alone_of_file m.cut_after a b (e.quiet asks);
       ends = ends e.failed _ e.ends;
     }
 
@@ -97,6 +105,15 @@ module _ {F : Type 0} {G : Ghosts F} where
         writes =
             let taken : b.taken.n ≤ start.taken.n + n = x.writes in
             omega (arith, taken, untaken, x.held.reached.counted (omega (arith, taken, untaken, few)));
+      }
+
+      pub quiet_of_file : (s : Shop) (ms : List Message) (b : Mirror F G) → IsQuiet mirror s ms start b
+          → IsQuiet of_file s ms (file_disk start) (file_disk b)
+      quiet_of_file s ms b q = record {
+        shop = held_by_file start.file start b _ q.shop;
+        rests = λ rests. held_by_file start.file start b _ (q.rests rests);
+        opening = λ uncut. changes_of_file b 952 _ (omega arith) (q.opening uncut);
+        unwritten = λ uncut rests. changes_of_file b 0 _ (omega arith) (q.unwritten uncut rests);
       }
 
       abbrev pub run_of_file : (s : Shop) (ms : List Message) (xs : List (Reply × Mirror F G)) (b : Mirror F G) → HasRun mirror s ms xs start b

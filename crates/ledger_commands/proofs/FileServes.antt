@@ -1,5 +1,5 @@
 -- A shop that was served over a mirror, as one over its file.
-use Rattle.std.proofs.Common.{◌≡◌, ⊎_elim, ℕ, List, [], ◌∷◌, ◌++◌, Option, Ok, Err, Result, inl, inr, subst, sym, append-nil}
+use Rattle.std.proofs.Common.{◌≡◌, ◌<◌, ⊎_elim, arith, ℕ, List, [], ◌∷◌, ◌++◌, Option, Ok, Err, Result, inl, inr, subst, sym, append-nil}
 use Rattle.d64_image.specs.declared.mirror.Mirror.{Mirror}
 use Rattle.d64_image.specs.declared.sector_file.SectorFile.{Ghosts}
 use Rattle.d64_image.specs.FileDisks.{FileDisk, in_run}
@@ -16,8 +16,8 @@ use Rattle.host_session.specs.declared.looping.LoopFault.{LoopFault}
 use Rattle.serving.proofs.Handled.{handled_run}
 use Rattle.serving.specs.AtOnce.{at_once}
 use Rattle.serving.specs.Inputs.{line_messages}
-use Rattle.serving.specs.Serves.{AreHandled, AreServed, AreServedToDevice, AreServedToOutput, IsServed}
-use Rattle.ledger_commands.proofs.FileChains.{failing_of_file, over_files, over_files-more, run_of_file, same_instants}
+use Rattle.serving.specs.Serves.{AreHandled, AreServed, AreServedToDevice, AreServedToOutput, IsServed, IsUnwritten}
+use Rattle.ledger_commands.proofs.FileChains.{changes_of_file, failing_of_file, over_files, over_files-more, run_of_file, same_instants}
 use Rattle.ledger_commands.proofs.FileScripts.{end_of_file, moments_of_file, refused_of_file}
 
 module _ {F T : Type 0} {G : Ghosts F} (o : Output T) (start : Mirror F G) (whole : is_broken start → ⊥) (untaken : start.taken.n ≡ 0) (old new : T) where
@@ -66,6 +66,13 @@ module _ {F T : Type 0} {G : Ghosts F} (o : Output T) (start : Mirror F G) (whol
         stopped = (at_device file_run s ms [] ms (over_files x.run.turns) x.run.last (file_disk start) (file_disk b) (append-nil ms) run).0;
       }
 
+  unwritten_of_file : (s : Shop) (b : Mirror F G) → IsUnwritten mirror s start b
+      → IsUnwritten file_run s (file_disk start) (file_disk b)
+  unwritten_of_file s b x = (
+    changes_of_file start whole untaken b 952 _ (omega arith) x.0,
+    λ rests. changes_of_file start whole untaken b 0 _ (omega arith) (x.1 rests),
+  )
+
   -- a service over a mirror is one over its file
   pub service_of_file : {R : Type 0} (remaining : R → Option (List ℕ)) (old_in new_in : R) (r : Result (Mirror F G) (LoopFault × Mirror F G))
       → IsServed mirror remaining o start old_in new_in old new r
@@ -83,6 +90,7 @@ module _ {F T : Type 0} {G : Ghosts F} (o : Output T) (start : Mirror F G) (whol
     output = λ _ _. tt;
     device = λ _ _. tt;
     moments = λ s is. moments_of_file o start whole untaken old new s (line_messages x.handled) b (x.moments s is);
+    quiet = λ s is asks. unwritten_of_file s b (x.quiet s is asks);
     plays = λ _ _. tt;
     «open» = tt;
     cause = tt;
@@ -101,6 +109,7 @@ module _ {F T : Type 0} {G : Ghosts F} (o : Output T) (start : Mirror F G) (whol
     output = λ s is told. output_of_file s x.handled e.1 (x.output s is told);
     device = λ s is told. device_of_file s x.handled e.1 (x.device s is told);
     moments = λ s is. moments_of_file o start whole untaken old new s (line_messages x.handled) e.1 (x.moments s is);
+    quiet = λ s is asks. unwritten_of_file s e.1 (x.quiet s is asks);
     plays = λ shop never. x.plays shop (never_failed start whole e.1 (x.moments shop.0 shop.1).reached never);
     «open» = λ f is. let y = x.«open» f is in (refused_of_file o start whole untaken old new e.1 f y.0, y.1, y.2);
     cause = λ is.

@@ -1,3 +1,4 @@
+mod Begun
 pub mod Examples
 pub mod FreshShops
 pub mod Lines
@@ -6,6 +7,8 @@ pub mod FileEnds
 pub mod FileScripts
 pub mod FileServes
 pub mod Formats
+mod Kept
+mod KeptSectors
 pub mod Listings
 mod PlayEnds
 pub mod Replies

@@ -72,6 +72,7 @@ module _ {D T : Type 0} (h : History D) (o : Output T) (disk : D) (script : List
     output = λ _ _. tt;
     device = λ _ _. tt;
     moments = x.moments;
+    quiet = x.quiet;
     plays = λ _ _. tt;
     «open» = tt;
     cause = tt;
@@ -93,6 +94,7 @@ module _ {D T : Type 0} (h : History D) (o : Output T) (disk : D) (script : List
     output = λ s is told. output_on s (messages_of (lines script)) e.1 (x.output s is told);
     device = λ s is told. device_on s (messages_of (lines script)) e.1 (x.device s is told);
     moments = x.moments;
+    quiet = x.quiet;
     plays = x.plays;
     «open» = λ f is. ((x.«open» f is).0, silent (λ g. cc) (λ g. cc) ∙ (x.«open» f is).1);
     cause = x.cause;

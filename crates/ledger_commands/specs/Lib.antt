@@ -2,6 +2,8 @@ pub mod Durable
 pub mod Faults
 pub mod FreshShops
 pub mod Images
+pub mod Lasting
+pub mod LastingImages
 pub mod Placed
 pub mod Plays
 pub mod Serves

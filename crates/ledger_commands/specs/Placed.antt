@@ -1,30 +1,52 @@
 -- A file that keeps the sectors of a disk at their places. Our own.
-use Rattle.std.specs.Prelude.{◌≡◌, ◌≤◌}
+use Rattle.std.specs.Prelude.{◌≡◌, ◌≤◌, Bool, true, false}
 use Rattle.std.proofs.Common.{◌∙◌, arith, le_refl, refl}
-use Rattle.d64_image.specs.Keeps.{Keeps, unknown}
+use Rattle.d64_image.specs.Keeps.{Keeps}
+use Rattle.ledger_commands.specs.LastingImages.{image_if, moment_if, now_if, only_now_if, stayed_if, whole_if}
 use Rattle.ledger_commands.specs.declared.durable.Durability.{Durability}
+use Rattle.ledger_commands.specs.declared.durable.WritesAt.{Ghosts}
 use Rattle.ledger_commands.specs.declared.placed.Placed.{Placed}
 
--- the file
-abbrev pub placed_file : {F : Type 0} → Placed F → F
-placed_file p = p.file
+module _ {F : Type 0} {G : Ghosts F} where
+  -- the file
+  abbrev pub placed_file : Placed F G → F
+  placed_file p = p.file
 
--- when what is written is brought to the disk
-abbrev pub placed_durability : {F : Type 0} → Placed F → Durability
-placed_durability p = p.durability
+  -- when what is written is brought to the disk
+  abbrev pub placed_durability : Placed F G → Durability
+  placed_durability p = p.durability
 
--- The counts only grow, and the sectors are brought to the disk as before.
-pub record GrowsOn {F : Type 0} (old new : Placed F) : Type 0 where
-  pub taken : old.taken ≤ new.taken
-  pub failed : old.failed ≤ new.failed
-  pub durability : new.durability ≡ old.durability
+  -- each sector is brought to the disk before anything else is done, on which all else that the file holds is
+  abbrev pub is_synced : Placed F G → Type 0
+  is_synced p = p.synced ≡ true
 
--- What such a file keeps isn't known: a sector that it took in part would be neither the old one nor the new.
-abbrev pub placed : {F : Type 0} → Keeps (Placed F)
-placed = unknown (λ p. p.taken) (λ p. p.failed) 18446744073709551615 (λ p. p.fits) GrowsOn
-    (λ p. record { taken = le_refl p.taken; failed = le_refl p.failed; durability = refl })
-    (λ a b c x y. record {
+  -- The counts only grow, and the sectors are brought to the disk as before.
+  pub record GrowsOn (old new : Placed F G) : Type 0 where
+    pub taken : old.taken ≤ new.taken
+    pub failed : old.failed ≤ new.failed
+    pub durability : new.durability ≡ old.durability
+    pub synced : new.synced ≡ old.synced
+
+  -- Where each sector is brought to the disk, and all else was there, such a file keeps what stays where the machine loses
+  -- power. Else what it keeps isn't known: a sector that it took in part would be neither the old one nor the new.
+  abbrev pub placed : Keeps (Placed F G)
+  placed = record {
+    kept = λ p. image_if p.synced (G.lasting.bytes p.file);
+    moment = λ p. moment_if p.synced (G.lasting.moment p.file);
+    held = λ p t c. stayed_if G.lasting p.synced p.file t c;
+    writes = λ p. p.taken;
+    failures = λ p. p.failed;
+    last = 18446744073709551615;
+    whole = λ p c e. whole_if G.lasting p.synced p.file c e;
+    now = λ p t le c e. now_if G.lasting p.synced p.file t le c e;
+    only_now = λ p c h. only_now_if G.lasting p.synced p.file c h;
+    up_to_last = λ p. p.fits;
+    reached = GrowsOn;
+    reached_same = λ p. record { taken = le_refl p.taken; failed = le_refl p.failed; durability = refl; synced = refl };
+    reached_then = λ a b c x y. record {
       taken = omega (arith, x.taken, y.taken);
       failed = omega (arith, x.failed, y.failed);
       durability = y.durability ∙ x.durability;
-    })
+      synced = y.synced ∙ x.synced;
+    };
+  }

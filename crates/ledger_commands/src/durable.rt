@@ -1,6 +1,7 @@
 //! Files that are written at places, and brought to the disk.
 ghost use Rattle.std.specs.Prelude.{List, None, OnOk, Option, ℕ, ⊤};
-ghost use Rattle.ledger_commands.specs.Durable.{IsSynced, WritesOver};
+ghost use Rattle.ledger_commands.specs.Durable.{IsSynced, LastsSo, WritesOver};
+ghost use Rattle.ledger_commands.specs.Lasting.{Lasting, unknown_lasting};
 
 use std::fs::File;
 use std::io;
@@ -9,13 +10,14 @@ use std::os::unix::fs::FileExt;
 /// A file that is written at places.
 pub trait WritesAt {
     ghost use Rattle.std.specs.Prelude.{◌≡◌, OnOk};
-    ghost use Rattle.ledger_commands.specs.Durable.{WritesOver};
+    ghost use Rattle.ledger_commands.specs.Durable.{AllStays, WritesOver};
+    ghost use Rattle.ledger_commands.specs.Lasting.{IsSectorIn, LacksASector, StaysOr, overwritten_in};
 
     // the bytes that it holds, where they are known
     ghost held: { Self → Option (List ℕ) } = { λ _. None };
 
     // the bytes that stay where the machine loses power, where they are known
-    ghost lasting: { Self → Option (List ℕ) } = { λ _. None };
+    ghost lasting: { Lasting Self } = { unknown_lasting };
 
     // nobody else writes it; and nobody else reads it either
     ghost IsShared: { Self → Type 0 } = { λ _. ⊤ };
@@ -23,15 +25,18 @@ pub trait WritesAt {
     ghost IsOwned: { Self → Type 0 } = { λ _. ⊤ };
 
     /// Writes all these bytes over those from that place on, in bytes from the file's start. At an error a beginning of them
-    /// was written.
+    /// was written. Of a sector all comes to the disk or nothing, where all else is there already.
     fn write_all_at(&mut self, bytes: &[u8], at: u64) -> io::Result<()>
-        ensures written { WritesOver (held self.old) (held self.new) at bytes.now result };
+        ensures written { WritesOver (held self.old) (held self.new) at bytes.now result }
+        ensures stays { AllStays held lasting self.old → IsSectorIn (lasting.bytes self.old) at bytes.now
+            → StaysOr lasting self.old self.new (overwritten_in (lasting.bytes self.old) at bytes.now) };
 
     /// Brings what it holds to the disk, whoever wrote it. At an error any of what wasn't there may be, or not, and asking
     /// again tells nothing: who asks doesn't go on.
     fn sync(&mut self) -> io::Result<()>
         ensures same { held self.new ≡ held self.old }
-        ensures lasting { OnOk result (lasting self.new ≡ held self.new) }
+        ensures lasting { OnOk result (AllStays held lasting self.new) }
+        ensures stays { LacksASector (lasting.bytes self.old) (held self.old) → StaysOr lasting self.old self.new (held self.old) }
         ensures owned { IsOwned self.old → IsOwned self.new };
 }
 
@@ -66,6 +71,7 @@ pub(crate) fn write_sector<F: WritesAt>(
 ) -> io::Result<()>
     ensures written { WritesOver (F.held file.old) (F.held file.new) at bytes.now result }
     ensures lasting { OnOk result (IsSynced F.held F.lasting durability file.new) }
+    ensures stays { LastsSo F.held F.lasting file.old file.new durability at bytes.now result }
 {
     file.write_all_at(bytes, at)?;
     match durability {

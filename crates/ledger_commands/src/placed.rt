@@ -1,5 +1,7 @@
 //! A file that keeps the sectors of a disk at their places.
-ghost use Rattle.std.specs.Prelude.{◌≤◌};
+ghost use Rattle.std.specs.Prelude.{◌≤◌, ◌≡◌, ◌↔◌, true, List, ℕ, Some, length};
+ghost use Rattle.std.proofs.Props.{props};
+ghost use Rattle.ledger_commands.specs.declared.durable.Durability.TheVariants as durabilities;
 
 use crate::durable::{Durability, WritesAt, write_sector};
 use d64_image::{Place, SectorFile};
@@ -8,17 +10,35 @@ use std::io;
 /// A file that has a sector at 256 times its index. Being written to a place needs no seek, so a sector is handed over by one
 /// call of the system, where that takes it at once.
 #[derive(Drop)]
-pub struct Placed<F> {
+pub struct Placed<F: WritesAt> {
     file: F,
     durability: Durability,
+    /// Each sector is brought to the disk, and all else that the file holds is there, unless bringing one failed.
+    synced: bool,
     taken: u64,
     failed: u64,
     ghost fits: { failed ≤ 18446744073709551615 },
+    ghost each: { synced ≡ true → durability ≡ durabilities.EachSector },
+    ghost whole: { synced ≡ true → (all : List ℕ) → F.lasting.bytes file ≡ Some all → length all ≡ 174848 },
+    ghost there: { synced ≡ true → failed ≡ 0 → F.lasting.bytes file ≡ F.held file } by { Prim.hlevel props },
+}
+
+/// How many bytes an image has.
+const IMAGE_BYTES: usize = 174_848;
+
+/// Whether these bytes are an image each sector of which is brought to the disk.
+fn is_brought(durability: Durability, image: &[u8]) -> bool
+    ensures { result ≡ true ↔ ((durability ≡ Durability.EachSector) × (length image.now ≡ 174848)) }
+{
+    durability == Durability::EachSector && image.len() == IMAGE_BYTES
 }
 
 impl<F: WritesAt> Placed<F> {
-    ghost use Rattle.std.specs.Prelude.{◌≡◌, OnOk};
-    ghost use Rattle.ledger_commands.specs.Placed.{placed, placed_durability, placed_file};
+    ghost use Rattle.std.specs.Prelude.{IfSome, OnOk, take};
+    ghost use Rattle.d64_image.specs.Keeps.{Agrees};
+    ghost use Rattle.d64_image.specs.Memory.{sectors_in};
+    ghost use Rattle.ledger_commands.specs.Durable.{AllStays, IsSynced};
+    ghost use Rattle.ledger_commands.specs.Placed.{is_synced, placed, placed_durability, placed_file};
 
     /// The file, whose sectors aren't brought to the disk before the end. It took no sector, and hasn't failed.
     pub fn new(file: F) -> Placed<F>
@@ -27,22 +47,41 @@ impl<F: WritesAt> Placed<F> {
         ensures untaken { placed.writes result ≡ 0 }
         ensures unfailed { placed.failures result ≡ 0 }
     {
-        Placed::lasting(file, Durability::AtEnd)
+        Placed {
+            file,
+            durability: Durability::AtEnd,
+            synced: false,
+            taken: 0,
+            failed: 0,
+        }
     }
 
-    /// The file, whose sectors are brought to the disk so. It took no sector, and hasn't failed.
-    pub fn lasting(file: F, durability: Durability) -> Placed<F>
+    /// The file of an image with these bytes, which were read of it, whose sectors are brought to the disk so. It took no
+    /// sector, and hasn't failed. Where each sector is, and what it holds is there, it keeps what stays there.
+    pub fn of_image(file: F, durability: Durability, image: &[u8]) -> Placed<F>
+        requires there { IsSynced F.held F.lasting durability file }
+        requires image { IfSome (F.held file) (λ all. image.now ≡ take 174849 all) }
         ensures file { placed_file result ≡ file }
         ensures durability { placed_durability result ≡ durability }
         ensures untaken { placed.writes result ≡ 0 }
         ensures unfailed { placed.failures result ≡ 0 }
+        ensures synced { durability ≡ Durability.EachSector → length image.now ≡ 174848 → is_synced result }
+        ensures agrees { Agrees (placed.kept result) (sectors_in image.now) }
     {
         Placed {
             file,
             durability,
+            synced: is_brought(durability, image),
             taken: 0,
             failed: 0,
         }
+    }
+
+    /// Whether it failed to bring a sector to the disk: it isn't asked again then.
+    fn is_stopped(&self) -> bool
+        ensures { result ≡ true ↔ (is_synced self.now × (1 ≤ placed.failures self.now)) }
+    {
+        self.synced && self.failed > 0
     }
 
     /// The file.
@@ -52,22 +91,28 @@ impl<F: WritesAt> Placed<F> {
         let Placed {
             file,
             durability: _,
+            synced: _,
             taken: _,
             failed: _,
         } = self;
         file
     }
 
-    /// Brings all that was written to the disk, where that wasn't done behind each sector.
+    /// Brings all that was written to the disk, where that wasn't done behind each sector. A file that failed to bring a
+    /// sector there isn't asked again.
     pub fn finish(&mut self) -> io::Result<()>
-        ensures lasting { placed_durability self.old ≡ Durability.AtEnd
-            → OnOk result (F.lasting (placed_file self.new) ≡ F.held (placed_file self.new)) }
+        ensures lasting { OnOk result (AllStays F.held F.lasting (placed_file self.new)) }
         ensures same { F.held (placed_file self.new) ≡ F.held (placed_file self.old) }
+        ensures reached { placed.reached self.old self.new }
+        ensures untouched { is_synced self.old → self.new ≡ self.old }
     {
-        match self.durability {
-            Durability::EachSector => Ok(()),
-            Durability::AtEnd => self.file.sync(),
+        if self.is_stopped() {
+            return Err(io::Error::from(io::ErrorKind::Other));
         }
+        if self.synced {
+            return Ok(());
+        }
+        self.file.sync()
     }
 }
 
@@ -89,6 +134,10 @@ impl<F: WritesAt> SectorFile for Placed<F> {
         // where each sector is brought to the disk, so is this one
         ensures lasting { OnOk result (IsSynced F.held F.lasting (placed_durability self.old) (placed_file self.new)) }
     {
+        if self.is_stopped() {
+            self.failed = self.failed.saturating_add(1);
+            return Err(io::Error::from(io::ErrorKind::Other));
+        }
         let at = 256 * place.index() as u64;
         let written = write_sector(&mut self.file, self.durability, from, at);
         match &written {

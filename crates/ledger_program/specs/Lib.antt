@@ -1,4 +1,5 @@
 pub mod Drawings
+pub mod DurableRuns
 pub mod Ends
 pub mod Jobs
 pub mod Keeping

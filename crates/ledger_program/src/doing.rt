@@ -1,7 +1,10 @@
 //! Doing a job: its files are opened and read, and what is printed goes to an output.
-ghost use Rattle.std.specs.Prelude.{◌≡◌, ◌≤◌, IfErr, IfOk, IfSome, Err, vec_items};
+ghost use Rattle.std.specs.Prelude.{◌≡◌, ◌≤◌, IfErr, IfOk, IfSome, Err, length, vec_items};
+ghost use Rattle.d64_image.specs.Keeps.{Agrees};
+ghost use Rattle.d64_image.specs.Memory.{sectors_in};
 ghost use Rattle.std.specs.IoError.{error_kind};
 ghost use Rattle.ledger_commands.specs.Faults.{io_fault};
+ghost use Rattle.ledger_commands.specs.Placed.{is_synced, placed};
 ghost use Rattle.ledger_program.specs.Ends.{as_drawn, as_job, as_kept, told_of};
 ghost use Rattle.keeper_commands.specs.Makes.{IsNewName};
 ghost use Rattle.ledger_program.specs.Jobs.{IsFit, needed};
@@ -10,14 +13,14 @@ ghost use Rattle.ledger_program.specs.Runs.{IsReadingEnd, IsReadingOf};
 ghost use Rattle.rel_records.specs.File.{IsLength};
 
 use crate::drawing::drawing_run;
+use crate::durable_runs::{play_durably, serve_durably};
 use crate::files::{AtPath, STANDARD_INPUT, opened, room_for, script_at};
 use crate::jobs::{Drawing, Job, Reading, Taking};
 use crate::keeping::{make_run, repair_run, store_run, taking_run};
 use crate::names::Name;
-use crate::owning::{finished, own, read_own, read_shared, share};
+use crate::owning::{own_image, read_shared, share};
 use crate::refusals::Refusal;
-use crate::running::{format_run, play_run, reading_run};
-use crate::serving_runs::serve_run;
+use crate::running::{format_run, reading_run};
 use disk_layout::Fault;
 use disk_pictures::PictureFault;
 use host_session::Printer;
@@ -182,19 +185,18 @@ where
     W: Write,
 {
     let mut file = told(opened(rt, path))?;
-    own(&mut file, durability)?;
-    let image = told(read_own(rt.alloc(), &mut file, durability))?;
+    let image = own_image(rt.alloc(), &mut file, durability)?;
     let script = told(script_at(rt, script))?;
-    let file = Placed::lasting(file, durability);
     let mut printer = Printer::new(out);
-    let (mut file, ended) = play_run(
+    let (_, ended) = play_durably(
         rt.alloc(),
         image.as_slice(),
         script.as_slice(),
         file,
+        durability,
         &mut printer,
     );
-    job_end(finished(&mut file, ended))
+    job_end(ended)
 }
 
 /// Serves the shop of the image at a path, over its file, to what comes on standard input.
@@ -210,14 +212,19 @@ where
     W: Write,
 {
     let mut file = told(opened(rt, path))?;
-    own(&mut file, durability)?;
-    let image = told(read_own(rt.alloc(), &mut file, durability))?;
+    let image = own_image(rt.alloc(), &mut file, durability)?;
     // A bare reader of standard input reads a byte a call.
     let mut input = told(BufReader::new(rt.alloc(), rt.reader()))?;
-    let file = Placed::lasting(file, durability);
     let mut printer = Printer::new(out);
-    let (mut file, ended) = serve_run(rt.alloc(), image.as_slice(), file, &mut input, &mut printer);
-    job_end(finished(&mut file, ended))
+    let (_, ended) = serve_durably(
+        rt.alloc(),
+        image.as_slice(),
+        file,
+        durability,
+        &mut input,
+        &mut printer,
+    );
+    job_end(ended)
 }
 
 /// The file at a path that a keeper's job writes, and its bytes: it is this program's alone, and what it holds is on the
@@ -226,12 +233,14 @@ fn image_to_keep<F, R>(rt: &R, path: &str) -> Result<(Vec<u8>, Placed<F>), Refus
 where
     F: Read + Locks + Drop,
     R: Files<File = F> + AllocGlobal,
+    ensures synced { IfOk result (λ taken. length (vec_items taken.0) ≡ 174848 → is_synced taken.1) }
+    ensures agrees { IfOk result (λ taken. Agrees (placed.kept taken.1) (sectors_in (vec_items taken.0))) }
 {
     let durability = Durability::EachSector;
     let mut file = told(opened(rt, path))?;
-    own(&mut file, durability)?;
-    let image = told(read_own(rt.alloc(), &mut file, durability))?;
-    Ok((image, Placed::lasting(file, durability)))
+    let image = own_image(rt.alloc(), &mut file, durability)?;
+    let placed = Placed::of_image(file, durability, image.as_slice());
+    Ok((image, placed))
 }
 
 /// Repairs the image at a path, over its file.
@@ -348,7 +357,7 @@ where
 
 /// Opens or reads the job's files and does it; what is printed goes to `out`, which is flushed at the end. An image is locked
 /// before anything of it is read or changed: alone where it is written. `InUse` where another program has it; `File` where a
-/// file couldn't be opened or read, and the faults of `reading_run`, `format_run`, `play_run`, `serve_run`,
+/// file couldn't be opened or read, and the faults of `reading_run`, `format_run`, `play_durably`, `serve_durably`,
 /// `repair_run`, `make_run`, `store_run`, `taking_run` and `drawing_run`.
 pub fn do_job<F, R, W>(rt: &R, job: &Job<'_>, out: &mut W) -> Result<Option<Fault>, Refusal>
 where

@@ -3,6 +3,7 @@
 
 mod doing;
 mod drawing;
+mod durable_runs;
 mod explaining;
 mod files;
 mod jobs;
@@ -16,6 +17,7 @@ mod telling;
 
 pub use doing::{do_job, do_over};
 pub use drawing::drawing_run;
+pub use durable_runs::{play_durably, serve_durably};
 pub use explaining::{announce, explain};
 pub use jobs::{Drawing, Job, Reading, Taking};
 pub use keeping::{make_run, repair_run, store_run, taking_run};

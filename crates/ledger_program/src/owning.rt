@@ -1,7 +1,7 @@
 //! Image files that a job locks, reads, writes and brings to the disk.
 ghost use Rattle.std.specs.Prelude.{◌≡◌, ◌⊎◌, Err, IfErr, IfOk, IfSome, IsOk, OnOk, take, vec_items};
-ghost use Rattle.ledger_commands.specs.Durable.{IsSynced};
-ghost use Rattle.ledger_commands.specs.Placed.{placed_durability, placed_file};
+ghost use Rattle.ledger_commands.specs.Durable.{AllStays, IsSynced};
+ghost use Rattle.ledger_commands.specs.Placed.{is_synced, placed, placed_file};
 ghost use Rattle.ledger_commands.specs.declared.faults.RunFault.TheVariants as faults;
 
 use crate::refusals::Refusal;
@@ -44,16 +44,30 @@ pub(crate) fn read_shared<F: Read + Locks>(alloc: Global, file: &mut F) -> io::R
 }
 
 /// The bytes of an image that this program has alone, and which are on the disk where each sector is brought there.
-pub(crate) fn read_own<F: Read + Locks>(
+fn read_own<F: Locks>(alloc: Global, file: &mut F, durability: Durability) -> io::Result<Vec<u8>>
+    requires owned { F.IsOwned file.old }
+    requires synced { IsSynced F.held F.lasting durability file.old }
+    ensures bytes { IfOk result (λ bytes. IfSome (F.held file.new) (λ all. vec_items bytes ≡ take 174849 all)) }
+    ensures synced { IsSynced F.held F.lasting durability file.new }
+{
+    file.image(alloc)
+}
+
+/// The bytes of an image that is to be written: its file is this program's alone first, and where each sector is brought to
+/// the disk, what it holds is there. `InUse`; `Device` where that failed; and then what `read_image` tells.
+pub(crate) fn own_image<F: Locks>(
     alloc: Global,
     file: &mut F,
     durability: Durability,
-) -> io::Result<Vec<u8>>
-    requires owned { F.IsOwned file.old }
-    requires synced { IsSynced F.held F.lasting durability file.old }
-    ensures { IfOk result (λ bytes. IfSome (F.remaining file.old) (λ all. vec_items bytes ≡ take 174849 all)) }
+) -> Result<Vec<u8>, Refusal>
+    ensures bytes { IfOk result (λ bytes. IfSome (F.held file.new) (λ all. vec_items bytes ≡ take 174849 all)) }
+    ensures synced { OnOk result (IsSynced F.held F.lasting durability file.new) }
 {
-    read_image(alloc, file)
+    own(file, durability)?;
+    match read_own(alloc, file, durability) {
+        Ok(bytes) => Ok(bytes),
+        Err(error) => Err(Refusal::Run(RunFault::of_io(&error))),
+    }
 }
 
 /// How a run over a file ends once the rest of what it wrote is brought to the disk. `Device` where it was done, or its
@@ -63,10 +77,13 @@ pub(crate) fn finished<F: WritesAt>(
     file: &mut Placed<F>,
     ended: Result<Option<Fault>, RunFault>,
 ) -> Result<Option<Fault>, RunFault>
-    ensures lasting { OnOk result (placed_durability file.old ≡ Durability.AtEnd
-        → F.lasting (placed_file file.new) ≡ F.held (placed_file file.new)) }
+    ensures lasting { OnOk result (AllStays F.held F.lasting (placed_file file.new)) }
+    ensures stands { IfErr result (λ fault. fault ≡ faults.File → AllStays F.held F.lasting (placed_file file.new)) }
     ensures told { (result ≡ ended) ⊎ (result ≡ Err faults.Device) }
     ensures fault { IfErr ended (λ fault. (fault ≡ faults.File → IsOk result → ⊥)) }
+    ensures same { F.held (placed_file file.new) ≡ F.held (placed_file file.old) }
+    ensures reached { placed.reached file.old file.new }
+    ensures untouched { is_synced file.old → file.new ≡ file.old }
 {
     match &ended {
         Ok(_) | Err(RunFault::File) => match file.finish() {

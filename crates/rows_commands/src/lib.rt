@@ -12,17 +12,23 @@ mod check_rows;
 #[cfg(test)]
 mod comparing;
 #[cfg(test)]
+mod durable_rows;
+#[cfg(test)]
 mod file_rows;
 #[cfg(test)]
 mod files;
 #[cfg(test)]
 mod format_rows;
 #[cfg(test)]
+mod history_rows;
+#[cfg(test)]
 mod images;
 #[cfg(test)]
 mod kept_rows;
 #[cfg(test)]
 mod listing_rows;
+#[cfg(test)]
+mod machine;
 #[cfg(test)]
 mod pieces;
 #[cfg(test)]

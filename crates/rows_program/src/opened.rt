@@ -1,6 +1,7 @@
 //! Open files in memory.
 use crate::stored::{Kind, Lock, Others, Stored, failed};
-use ledger_commands::{EndedFile, Locks, WritesAt};
+use ledger_commands::{EndedFile, Locks, WritesAt, read_image};
+use std::alloc::Global;
 use std::fs::{Metadata, OpenFile, OpenOptions, TryLockError};
 use std::io::{self, ErrorKind, Read, Seek, SeekFrom, Write};
 use std::os::unix::fs::FileExt;
@@ -79,6 +80,10 @@ impl Locks for Opened<'_> {
         }
         self.stored.lock.set(Lock::Shared);
         Ok(())
+    }
+
+    fn image(&mut self, alloc: Global) -> io::Result<Vec<u8>> {
+        read_image(alloc, self)
     }
 }
 

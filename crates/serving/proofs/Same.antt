@@ -9,8 +9,9 @@ use Rattle.request_cards.specs.declared.reply.Reply.TheVariants.{Cut}
 use Rattle.host_session.specs.Chains.{HasRun, HasRunToFailure, IsChain}
 use Rattle.host_session.specs.Counted.{MayCount, after_all}
 use Rattle.host_session.specs.Events.{Message}
-use Rattle.host_session.specs.Handling.{media}
+use Rattle.host_session.specs.Handling.{is_next_request, media}
 use Rattle.host_session.specs.OneEvent.{EndsFailed, GoesOn, IsEvent}
+use Rattle.host_session.specs.Quiet.{IsLeftAlone}
 use Rattle.host_session.specs.Shop.{IsShop, Shop, start_of, with_state}
 use Rattle.serving.specs.Inputs.{AskTheSame, asked_in}
 
@@ -64,6 +65,7 @@ module _ {D : Type 0} (h : History D) where
       blame = e.blame;
       later = e.later;
       moments = subst (λ (a : Asked). HeldOnly h old new (λ i. IsShop i s ⊎ ((a.1 ≢ Some 0) × IsShop i (with_state s (after_message (start_of s) s.state a.0))))) same e.moments;
+      quiet = subst (λ (a : Asked). is_next_request s a.0 ≡ false → IsLeftAlone h a.1 old new) same e.quiet;
       ends = record {
         told = subst (λ (a : Asked). reply ≡ (if is_some a.1 then Cut else (if e.failed then media a.0 else reply_in (start_of s) s.state a.0))) same e.ends.told;
         answered = subst (λ (a : Asked). a.1 ≡ None → e.failed ≡ false) same e.ends.answered;
@@ -79,6 +81,7 @@ module _ {D : Type 0} (h : History D) where
       blame = e.blame;
       later = e.later;
       moments = subst (λ (a : Asked). HeldOnly h old new (λ i. IsShop i s ⊎ ((a.1 ≢ Some 0) × IsShop i (with_state s (after_message (start_of s) s.state a.0))))) same e.moments;
+      quiet = subst (λ (a : Asked). is_next_request s a.0 ≡ false → IsLeftAlone h a.1 old new) same e.quiet;
       ends = record {
         told = subst (λ (a : Asked). reply ≡ (if is_some a.1 then Cut else (if e.failed then media a.0 else reply_in (start_of s) s.state a.0))) same e.ends.told;
         asked = subst (λ (a : Asked). a.1 ≡ None → IsSome a.0) same e.ends.asked;

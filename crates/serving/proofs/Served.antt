@@ -3,23 +3,31 @@ use Rattle.std.proofs.Common.{◌≡◌, ◌<◌, ⊎_elim, ◌∙◌, ℕ, List
 use Rattle.std.proofs.lemmas.List.{length-map}
 use Rattle.d64_image.specs.History.{History}
 use Rattle.host_session.proofs.Chained.{at_device, whole}
+use Rattle.host_session.proofs.QuietRuns.{quiet_run, quiet_to_failure}
 use Rattle.host_session.specs.Asking.{messages_in}
-use Rattle.host_session.specs.Events.{Message}
+use Rattle.host_session.specs.Events.{Message, uncut}
 use Rattle.host_session.specs.Instants.{Instant}
 use Rattle.host_session.specs.Loops.{IsRun, IsRunToDevice, IsRunToOutput, IsRunWhole}
+use Rattle.host_session.specs.Quiet.{AreUncut, AskNothing, IsQuiet}
 use Rattle.host_session.specs.Runs.{HeldBeginnings}
 use Rattle.host_session.specs.Shop.{IsShop, Shop}
 use Rattle.host_session.specs.Telling.{Output}
 use Rattle.host_session.specs.declared.asking.Next.TheVariants as next
 use Rattle.host_session.specs.declared.looping.LoopFault.{LoopFault}
 use Rattle.host_session.specs.declared.looping.LoopFault.TheVariants as faults
+use Rattle.script_lines.specs.Lines.{lines}
 use Rattle.serving.specs.AtOnce.{at_once, lent}
 use Rattle.serving.specs.Inputs.{HasTaken, asked_in, line_messages, of_input}
-use Rattle.serving.specs.Serves.{AreServed, AreServedToDevice, AreServedToOutput, IsServed}
+use Rattle.serving.specs.Serves.{AreServed, AreServedToDevice, AreServedToOutput, IsServed, IsUnwritten}
 use Rattle.serving.specs.declared.at_once.AtOnce.{AtOnce}
 use Rattle.serving.specs.declared.inputs.OfInput.{OfInput}
 use Rattle.serving.proofs.Handled.{handled_run}
 use Rattle.serving.proofs.Same.{same_run, same_run_to_failure}
+
+-- power goes in no line
+all_uncut : (ls : List (List ℕ)) → AreUncut (map uncut ls)
+all_uncut [] = tt
+all_uncut (l ∷ ls) = (refl, all_uncut ls)
 
 module _ {D R T : Type 0} (h : History D) (remaining : R → Option (List ℕ)) (o : Output T) (disk : D) (asked asks : OfInput R) (old new : AtOnce T) where
   abbrev Ran : Result D (LoopFault × D) → Type 0
@@ -38,16 +46,23 @@ module _ {D R T : Type 0} (h : History D) (remaining : R → Option (List ℕ)) 
     abbrev Lines : List Message
     Lines = line_messages x.handled
 
+    -- every moment of the lines, and what they wrote where they ask nothing new
+    abbrev Held : Type 0
+    Held = HeldBeginnings h s Lines disk left × (AskNothing s Lines → IsUnwritten h s disk left)
+
+    unwritten : IsQuiet h s Lines disk left → IsUnwritten h s disk left
+    unwritten q = (q.opening (all_uncut (lines x.handled)), q.unwritten (all_uncut (lines x.handled)))
+
     served : IsRunWhole h (lent (at_once o)) s taken disk left old new
-        → AreServed h o s x.handled disk left old.out.now new.out.now × HeldBeginnings h s Lines disk left
+        → AreServed h o s x.handled disk left old.out.now new.out.now × Held
     served k =
         let run = same_run h s (messages_in taken) Lines k.0.turns disk left x.asks k.0.run in (
           record { turns = k.0.turns; handled = handled_run h s x.handled k.0.turns disk left run; told = k.0.told.1 },
-          (whole h s Lines k.0.turns disk left run).1,
+          ((whole h s Lines k.0.turns disk left run).1, λ asks. unwritten (quiet_run h s Lines k.0.turns disk left asks run)),
         )
 
     served_to_output : IsRunToOutput h (lent (at_once o)) s taken disk left old new
-        → AreServedToOutput h o s x.handled disk left old.out.now new.out.now × HeldBeginnings h s Lines disk left
+        → AreServedToOutput h o s x.handled disk left old.out.now new.out.now × Held
     served_to_output k =
         let turns = k.0.turns ++ k.0.last ∷ [] in
         let run = same_run h s (messages_in taken) Lines turns disk left x.asks k.0.run in (
@@ -57,11 +72,11 @@ module _ {D R T : Type 0} (h : History D) (remaining : R → Option (List ℕ)) 
             handled = handled_run h s x.handled turns disk left run;
             told = k.0.told.1;
           },
-          (whole h s Lines turns disk left run).1,
+          ((whole h s Lines turns disk left run).1, λ asks. unwritten (quiet_run h s Lines turns disk left asks run)),
         )
 
     served_to_device : IsRunToDevice h (lent (at_once o)) s taken disk left old new
-        → AreServedToDevice h o s x.handled disk left old.out.now new.out.now × HeldBeginnings h s Lines disk left
+        → AreServedToDevice h o s x.handled disk left old.out.now new.out.now × Held
     served_to_device k =
         let run = same_run_to_failure h s (messages_in taken) Lines k.0.turns k.0.last disk left x.asks k.0.run in
         let q = at_device h s Lines [] Lines k.0.turns k.0.last disk left (append-nil Lines) run in
@@ -76,7 +91,7 @@ module _ {D R T : Type 0} (h : History D) (remaining : R → Option (List ℕ)) 
             };
             stopped = q.0;
           },
-          q.1,
+          (q.1, λ asks. unwritten (quiet_to_failure h s Lines k.0.turns k.0.last disk left asks run)),
         )
 
   -- no message asks the same as none
@@ -84,14 +99,17 @@ module _ {D R T : Type 0} (h : History D) (remaining : R → Option (List ℕ)) 
   none_asked [] e = refl
   none_asked (m ∷ ms) e = cc
 
-  -- the moments of a run that this fault ended
-  held_at : (e : LoopFault × D) (k : Ran (Err e)) (fault : LoopFault) → e.0 ≡ fault → (s : Shop) → IsShop (h.image disk) s
-      → HeldBeginnings h s (line_messages k.takes.handled) disk e.1
+  -- the moments of a run that this fault ended, and what it wrote
+  held_at : (e : LoopFault × D) (k : Ran (Err e)) (fault : LoopFault) → e.0 ≡ fault → (s : Shop)
+      → IsShop (h.image disk) s → Held k.taken k.takes s e.1
   held_at e k (faults.Open f) is s shop =
       let none : messages_in k.taken ≡ [] = ap messages_in (k.«open» f is).1 in
       let same : messages_in k.taken ≡ line_messages k.takes.handled =
-      none ∙ none_asked (line_messages k.takes.handled) (ap (map asked_in) (sym none) ∙ k.takes.asks) in
-      subst (λ ms. HeldBeginnings h s ms disk e.1) same (k.moments s shop)
+      none ∙ none_asked (line_messages k.takes.handled) (ap (map asked_in) (sym none) ∙ k.takes.asks) in (
+        subst (λ ms. HeldBeginnings h s ms disk e.1) same (k.moments s shop),
+        λ asks. unwritten k.taken k.takes s e.1
+            (subst (λ ms. AskNothing s ms → IsQuiet h s ms disk e.1) same (k.quiet s shop) asks),
+      )
   held_at e k faults.Input is s shop = (served k.taken k.takes s e.1 (k.input s shop is).1).1
   held_at e k faults.Output is s shop = (served_to_output k.taken k.takes s e.1 (k.output s shop is)).1
   held_at e k faults.Device is s shop = (served_to_device k.taken k.takes s e.1 (k.device s shop is)).1
@@ -110,7 +128,8 @@ module _ {D R T : Type 0} (h : History D) (remaining : R → Option (List ℕ)) 
     input = λ s is. tt;
     output = λ s is. tt;
     device = λ s is. tt;
-    moments = λ s is. (served k.taken k.takes s left (k.ok s is)).1;
+    moments = λ s is. (served k.taken k.takes s left (k.ok s is)).1.0;
+    quiet = λ s is. (served k.taken k.takes s left (k.ok s is)).1.1;
     plays = λ shop never. tt;
     «open» = tt;
     cause = tt;
@@ -128,7 +147,8 @@ module _ {D R T : Type 0} (h : History D) (remaining : R → Option (List ℕ)) 
     input = λ s is told. (served k.taken k.takes s e.1 (k.input s is told).1).0;
     output = λ s is told. (served_to_output k.taken k.takes s e.1 (k.output s is told)).0;
     device = λ s is told. (served_to_device k.taken k.takes s e.1 (k.device s is told)).0;
-    moments = λ s is. held_at e k e.0 refl s is;
+    moments = λ s is. (held_at e k e.0 refl s is).0;
+    quiet = λ s is. (held_at e k e.0 refl s is).1;
     plays = k.plays;
     «open» = λ f is. (
       (k.«open» f is).0,

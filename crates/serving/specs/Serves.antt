@@ -1,7 +1,7 @@
 -- What comes of a shop that is served line by line. All of it is our own.
 use Rattle.std.specs.Prelude.{◌≡◌, ◌⊎◌, ℕ, IfErr, IfOk, List, [], ◌∷◌, ◌++◌, OnSome, Option, Result, option_to_list}
 use Rattle.std.specs.Io.KnownBytes.{Consumes, IsAtEnd}
-use Rattle.d64_image.specs.History.{Failed, History, NeverFailed}
+use Rattle.d64_image.specs.History.{Changes, Failed, History, NeverFailed}
 use Rattle.request_cards.specs.Ledgers.{plain, replies}
 use Rattle.request_cards.specs.Reading.{request_of}
 use Rattle.request_cards.specs.Requests.{Ask}
@@ -11,7 +11,8 @@ use Rattle.host_session.specs.Chains.{HasRun, over_instants, told_in}
 use Rattle.host_session.specs.Events.{requests_of}
 use Rattle.host_session.specs.Instants.{Instant, instant_of}
 use Rattle.host_session.specs.Loops.{IsToldToDevice}
-use Rattle.host_session.specs.Opening.{IsAShop, disk_of}
+use Rattle.host_session.specs.Opening.{IsAShop, Untouched, disk_of}
+use Rattle.host_session.specs.Quiet.{AskNothing}
 use Rattle.host_session.specs.Runs.{HeldBeginnings, IsPlayedWhole, IsRefused, StoppedByDevice}
 use Rattle.host_session.specs.Shop.{IsSettled, IsShop, Shop, start_of, with_state}
 use Rattle.host_session.specs.Telling.{Output}
@@ -65,6 +66,10 @@ pub record AreServedToDevice {D T : Type 0} (h : History D) (o : Output T) (s : 
   pub run : IsToldToDevice h (at_once o) s (line_messages bytes) disk left old new
   pub stopped : StoppedByDevice h s (line_messages bytes) disk left (told_in run.turns ++ run.last ∷ [])
 
+-- Only the opening wrote, and a disk at rest wasn't written.
+abbrev pub IsUnwritten : {D : Type 0} → History D → Shop → D → D → Type 0
+IsUnwritten h s old new = Changes h old new 952 (λ i. IsShop i s) × (IsSettled (h.image old) s → Untouched h old new)
+
 -- The shop of a disk was served over an input and an output that were `old_in` and `old`, and are `new_in` and `new`.
 pub record IsServed {D R T : Type 0} (h : History D) (remaining : R → Option (List ℕ)) (o : Output T) (disk : D)
     (old_in new_in : R) (old new : T) (result : Result D (LoopFault × D)) : Type 0 where
@@ -91,6 +96,9 @@ pub record IsServed {D R T : Type 0} (h : History D) (remaining : R → Option (
   -- At each moment the shop is that of a counted list of some beginning of the lines.
   pub moments : (s : Shop) → IsShop (h.image disk) s
       → HeldBeginnings h s (line_messages handled) disk (disk_of (λ d. d) result)
+  -- Where the lines ask nothing new, only the opening wrote, and a disk at rest wasn't written, however it ends.
+  pub quiet : (s : Shop) → IsShop (h.image disk) s → AskNothing s (line_messages handled)
+      → IsUnwritten h s disk (disk_of (λ d. d) result)
   -- On a shop whose device doesn't fail it answers Ok, unless the input or the output fails.
   pub plays : IsAShop (h.image disk) → NeverFailed h disk (disk_of (λ d. d) result)
       → IfErr result (λ e. (e.0 ≡ faults.Input) ⊎ (e.0 ≡ faults.Output))

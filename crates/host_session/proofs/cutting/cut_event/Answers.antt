@@ -1,8 +1,9 @@
 -- The openings after a cut message keep the shop that it left.
-use Rattle.std.proofs.Common.{◌≡◌, ⊎_elim, refl, subst, arith, None}
+use Rattle.std.proofs.Common.{◌≡◌, ⊎_elim, refl, subst, sym, arith, None}
 use Rattle.d64_image.specs.History.{Failed}
 use Rattle.d64_image.proofs.Moments.{then, at_end}
 use Rattle.host_session.proofs.Cuts.{event_failed, event_then}
+use Rattle.host_session.proofs.Quiet.{held_on}
 use Rattle.host_session.proofs.RunOpenings.{refused_none}
 use Rattle.host_session.proofs.Shops.{IsShop-one}
 use Rattle.host_session.specs.Counted.{after_all}
@@ -25,6 +26,10 @@ returns-in-Ok-clause-done g c = λ s settled alive.
       ok.3,
       event_then h s m _ _ _ (Leaves h s c.cut_message-cut_disk.result) (GoesOn h s m Cut c.in-Ok.session.disk) x
           (then h _ _ _ (λ i. IsShop i t) listed last.held) (omega (arith, c.cut_openings-disk.ensures.later t x.ends, c.in-Ok.ensures.failures))
+          (λ asks. held_on h _ _ _
+          (held_on h _ _ _ (x.quiet asks)
+          (λ same. c.cut_openings-disk.ensures.quiet s (subst (λ i. IsSettled i s) (sym same) settled)))
+          (λ same. (c.in-Ok.ensures.quiet s (subst (λ i. IsSettled i s) (sym same) settled)).held))
           (record {
             told = refl;
             answered = λ (e : m.cut_after ≡ None). cc;
@@ -45,6 +50,10 @@ returns-in-Err-clause-stopped g c = λ s settled alive.
     let failed : Failed h c.cut_openings-disk.result c.in-Err.disk = ⊎_elim (λ f. f.1) (λ f. absurd (refused_none _ _ t c.in-Err.field-0-0 c.in-Err.ensures.err f.0 there)) c.in-Err.ensures.failures in
     event_failed h s m _ _ _ _ (Leaves h s c.cut_message-cut_disk.result) (EndsFailed h s m Cut c.in-Err.disk) x
     held (c.cut_openings-disk.ensures.later t x.ends) failed
+    (λ asks. held_on h _ _ _
+    (held_on h _ _ _ (x.quiet asks)
+    (λ same. c.cut_openings-disk.ensures.quiet s (subst (λ i. IsSettled i s) (sym same) settled)))
+    (λ same. (c.in-Err.ensures.quiet s (subst (λ i. IsSettled i s) (sym same) settled)).held))
     (record {
       told = refl;
       asked = λ (e : m.cut_after ≡ None). cc;

@@ -2,6 +2,7 @@
 use Rattle.std.proofs.Common.{◌∙◌, ap, subst, sym}
 use Rattle.d64_image.specs.Fuses.{fuse_disk}
 use Rattle.host_session.proofs.Cuts.{cut_later, cut_moments, cut_writes}
+use Rattle.host_session.proofs.Quiet.{cut_quiet}
 use Rattle.host_session.specs.Shop.{IsShop}
 use Rattle.host_session.proofs.cutting.cut_opening.Goals as goal
 
@@ -17,6 +18,9 @@ returns-in-Ok g c = record {
   later = λ s shop.
       cut_later g.D.Sectors.history s 952 c.args.disk c.into_inner.result c.new.result c.in-Ok.session.disk c.new.ensures.disk
       (c.into_inner.ensures ∙ ap fuse_disk c.close.ensures) shop (c.in-Ok.ensures.moments s);
+  quiet = λ s rests.
+      cut_quiet g.D.Sectors.history s c.args.disk c.into_inner.result c.new.result c.in-Ok.session.disk
+      c.new.ensures.disk (c.into_inner.ensures ∙ ap fuse_disk c.close.ensures) rests (c.in-Ok.ensures.quiet s);
 }
 
 pub returns-in-Err : goal.returns-in-Err
@@ -31,4 +35,7 @@ returns-in-Err g c = record {
   later = λ s shop.
       cut_later g.D.Sectors.history s 952 c.args.disk c.into_inner-in-Err.result c.new.result c.in-Err.fuse c.new.ensures.disk
       c.into_inner-in-Err.ensures shop (c.in-Err.ensures.moments s);
+  quiet = λ s rests.
+      cut_quiet g.D.Sectors.history s c.args.disk c.into_inner-in-Err.result c.new.result c.in-Err.fuse
+      c.new.ensures.disk c.into_inner-in-Err.ensures rests (c.in-Err.ensures.quiet s);
 }

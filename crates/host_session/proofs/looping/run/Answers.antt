@@ -1,6 +1,7 @@
 -- A run that is refused, and one that is opened.
 use Rattle.std.proofs.Common.{◌≤◌, ◌∙◌, [], arith, ap, subst, sym}
-use Rattle.host_session.proofs.Looped.{has_none, run_ended, run_refused}
+use Rattle.host_session.proofs.Looped.{has_none}
+use Rattle.host_session.proofs.RunEnds.{run_ended, run_refused}
 use Rattle.host_session.proofs.RunOpenings.{opening_failed, opening_later, opening_refused}
 use Rattle.host_session.proofs.Runs.{held_none}
 use Rattle.host_session.specs.Loops.{Ends, IsStretch, Origin, with_disk}
@@ -12,6 +13,7 @@ returns-in-Err g c =
     run_refused h g.A.Asks.source g.T.Tells.output c.args.disk c.in-Err.disk c.args.asks.now c.args.out.now c.in-Err.fault
     (opening_refused h _ _ _ c.in-Err.ensures.err c.in-Err.ensures.unfit c.in-Err.ensures.moments)
     (λ s shop. held_none h s [] c.args.disk c.in-Err.disk (c.in-Err.ensures.moments s shop).held (opening_later h _ _ _ c.in-Err.ensures.failures))
+    c.in-Err.ensures.quiet
     (λ shop never. opening_failed h _ _ _ c.in-Err.ensures.err shop c.in-Err.ensures.failures never)
 
 pub returns-in-Cut : goal.returns-in-Cut

@@ -1,7 +1,7 @@
 -- A message with a reset, and the whole ones behind it.
 use Rattle.std.proofs.Common.{◌≡◌, ◌∙◌, false, not, ap, subst, sym}
 use Rattle.request_cards.specs.declared.reply.Reply.TheVariants.{Cut}
-use Rattle.host_session.proofs.Looped.{breaks_off, cut_is, fails, goes_on, is_reset, was_broken, was_told}
+use Rattle.host_session.proofs.Looped.{breaks_off, cut_is, fails, goes_on, is_reset, no_none, was_broken, was_told}
 use Rattle.host_session.specs.Instants.{instant_of}
 use Rattle.host_session.specs.Loops.{Ends, EndsBy, IsStretch, with_disk}
 use Rattle.host_session.specs.OneEvent.{EndsFailed, GoesOn, IsEvent}
@@ -22,6 +22,7 @@ returns-in-Err g c = λ from w alive.
     (λ t settled. subst (λ n. IsEvent h t n x y (EndsFailed h t n Cut y))
     (is_reset m c.message.result.now _ c.message.ensures (cut_is _ c.cut.result c.unwrap-cut.result _ c.unwrap-cut.ensures c.cut.ensures))
     (c.in-Err.ensures.stopped t settled before.0))
+    (λ none. absurd (no_none _ _ (cut_is _ c.cut.result c.unwrap-cut.result _ c.unwrap-cut.ensures c.cut.ensures) none))
     before.1
 
 pub returns-then-is_err : goal.returns-then-is_err
@@ -44,6 +45,7 @@ returns-then-is_err g c = λ from w alive.
       subst (λ n. IsEvent h t n x y (GoesOn h t n Cut y))
           (is_reset m c.message.result.now _ c.message.ensures (cut_is _ c.cut.result c.unwrap-cut.result _ c.unwrap-cut.ensures c.cut.ensures)) e.1,
     ))
+    (λ none. absurd (no_none _ _ (cut_is _ c.cut.result c.unwrap-cut.result _ c.unwrap-cut.ensures c.cut.ensures) none))
     before.1)
 
 pub loop-next-preserved : goal.loop-next-preserved
@@ -68,6 +70,8 @@ loop-next-preserved g c =
             subst (λ n. IsEvent h t n x y (GoesOn h t n Cut y))
                 (is_reset m c.message.result.now _ c.message.ensures (cut_is _ c.cut.result c.unwrap-cut.result _ c.unwrap-cut.ensures c.cut.ensures)) e.1,
           ))
+          (λ none. absurd (no_none _ _
+          (cut_is _ c.cut.result c.unwrap-cut.result _ c.unwrap-cut.ensures c.cut.ensures) none))
           before.1 in
           subst (IsStretch h a o from c.whole_messages.new.session c.whole_messages.new.asks c.whole_messages.new.out) c.in-Cut.is
           (c.whole_messages.ensures.way from come.1 come.0);
@@ -92,6 +96,7 @@ returns-in-Ended g c = λ from w alive.
       subst (λ n. IsEvent h t n x y (GoesOn h t n Cut y))
           (is_reset m c.message.result.now _ c.message.ensures (cut_is _ c.cut.result c.unwrap-cut.result _ c.unwrap-cut.ensures c.cut.ensures)) e.1,
     ))
+    (λ none. absurd (no_none _ _ (cut_is _ c.cut.result c.unwrap-cut.result _ c.unwrap-cut.ensures c.cut.ensures) none))
     before.1 in
     let stretch = subst (IsStretch h a o from c.whole_messages.new.session c.whole_messages.new.asks c.whole_messages.new.out) c.in-Ended.is
     (c.whole_messages.ensures.way from come.1 come.0) in

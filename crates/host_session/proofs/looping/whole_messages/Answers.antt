@@ -5,6 +5,7 @@ use Rattle.host_session.proofs.Looped.{at_end, at_fault, breaks_off, fails, goes
 use Rattle.host_session.specs.Instants.{instant_of}
 use Rattle.host_session.specs.OneEvent.{EndsFailed, GoesOn, IsEvent}
 use Rattle.host_session.specs.Telling.{IsTold}
+use Rattle.host_session.specs.Within.{IsWithin}
 use Rattle.host_session.proofs.looping.whole_messages.Goals as goal
 
 pub loop-asks-init : goal.loop-asks-init
@@ -59,6 +60,10 @@ returns-then-is_media-clause-way g c = λ from w alive.
     (λ t settled. subst (λ n. IsEvent h t n x y (EndsFailed h t n reply y))
     (is_whole m c.message.result.now c.message.ensures (no_cut _ c.cut.result _ c.cut.ensures (sym c.is_some.ensures ∙ c.if-is_some.false)))
     (c.whole_message-reply.ensures.stopped t settled before.0 (c.is_media.ensures.0 c.if-is_media.true)))
+    (λ _ t settled. subst (λ n. IsWithin h n x y)
+    (is_whole m c.message.result.now c.message.ensures
+    (no_cut _ c.cut.result _ c.cut.ensures (sym c.is_some.ensures ∙ c.if-is_some.false)))
+    (c.whole_message-reply.ensures.within t settled))
     (takes_one h a o from x c.loop-asks.asks c.next.new.self c.loop-asks.out before.1 took.0)
 
 pub returns-then-is_err-clause-way : goal.returns-then-is_err-clause-way
@@ -83,6 +88,10 @@ returns-then-is_err-clause-way g c = λ from w alive.
       subst (λ n. IsEvent h t n x y (GoesOn h t n reply y))
           (is_whole m c.message.result.now c.message.ensures (no_cut _ c.cut.result _ c.cut.ensures (sym c.is_some.ensures ∙ c.if-is_some.false))) e.1,
     ))
+    (λ _ t settled. subst (λ n. IsWithin h n x y)
+    (is_whole m c.message.result.now c.message.ensures
+    (no_cut _ c.cut.result _ c.cut.ensures (sym c.is_some.ensures ∙ c.if-is_some.false)))
+    (c.whole_message-reply.ensures.within t settled))
     (takes_one h a o from x c.loop-asks.asks c.next.new.self c.loop-asks.out before.1 took.0)
 
 pub loop-asks-preserved : goal.loop-asks-preserved
@@ -111,5 +120,9 @@ loop-asks-preserved g c =
             subst (λ n. IsEvent h t n x y (GoesOn h t n reply y))
                 (is_whole m c.message.result.now c.message.ensures (no_cut _ c.cut.result _ c.cut.ensures (sym c.is_some.ensures ∙ c.if-is_some.false))) e.1,
           ))
+          (λ _ t settled. subst (λ n. IsWithin h n x y)
+          (is_whole m c.message.result.now c.message.ensures
+          (no_cut _ c.cut.result _ c.cut.ensures (sym c.is_some.ensures ∙ c.if-is_some.false)))
+          (c.whole_message-reply.ensures.within t settled))
           (takes_one h a o from x c.loop-asks.asks c.next.new.self c.loop-asks.out before.1 took.0);
     }

@@ -3,6 +3,7 @@ use Rattle.std.proofs.Common.{◌≡◌, ◌++◌, ◌∙◌, List, arith, le_re
 use Rattle.d64_image.proofs.Moments.{start}
 use Rattle.request_cards.specs.declared.reply.Reply.{Reply}
 use Rattle.host_session.proofs.EventEnds.{IsEventsEnd, faulted, whole_run}
+use Rattle.host_session.proofs.QuietRuns.{quiet_same}
 use Rattle.host_session.proofs.Runs.{held_none}
 use Rattle.host_session.specs.Asking.{of_events}
 use Rattle.host_session.specs.Events.{message_of}
@@ -15,6 +16,10 @@ pub returns-in-Err-clause-moments : goal.returns-in-Err-clause-moments
 returns-in-Err-clause-moments g c = λ s shop.
     let h = g.D.Sectors.history in
     held_none h s (map message_of c.args.events.now) c.args.disk c.args.disk (start h c.args.disk (λ i. IsShop i s) shop) (le_refl (h.failures c.args.disk))
+
+pub returns-in-Err-clause-quiet : goal.returns-in-Err-clause-quiet
+returns-in-Err-clause-quiet g c = λ s shop _.
+    quiet_same g.D.Sectors.history s (map message_of c.args.events.now) c.args.disk shop
 
 pub returns-in-Ok-run : goal.returns-in-Ok-run
 returns-in-Ok-run g c =
@@ -31,6 +36,7 @@ returns-in-Ok-run g c =
           (x.0, subst (λ (xs : List Reply). new.items ≡ xs ++ x.0) c.in-Ok.ensures.items x.1, x.2);
       device = λ s shop. tt;
       moments = w.1;
+      quiet = w.2;
       plays = λ shop never. tt;
       «open» = tt;
       cause = tt;
@@ -54,6 +60,7 @@ returns-in-Err-run g c =
           let x = e.device s shop is in
           (x.0, subst (λ (xs : List Reply). new.items ≡ xs ++ x.0) c.in-Ok.ensures.items x.1, x.2);
       moments = e.moments;
+      quiet = e.quiet;
       plays = e.plays;
       «open» = e.«open»;
       cause = e.cause;

@@ -3,6 +3,7 @@ use Rattle.std.proofs.Common.{◌∙◌, ℕ, Some, Err, ap, inl, le_refl, refl,
 use Rattle.std.proofs.lemmas.Option.{same_Some}
 use Rattle.d64_image.proofs.Moments.{start}
 use Rattle.script_lines.specs.Lines.{lines}
+use Rattle.host_session.proofs.QuietRuns.{quiet_same}
 use Rattle.host_session.proofs.Runs.{held_none}
 use Rattle.host_session.proofs.ScriptFaults.{line-device, line-open, line-output, line_of}
 use Rattle.host_session.proofs.ScriptEnds.{faulted, played_out}
@@ -27,6 +28,7 @@ returns-in-Some g c = record {
   moments = λ s shop.
       let h = g.D.Sectors.history in
       held_none h s (messages_of (lines c.args.script.now)) c.args.disk c.args.disk (start h c.args.disk (λ i. IsShop i s) shop) (le_refl (h.failures c.args.disk));
+  quiet = λ s shop _. quiet_same g.D.Sectors.history s (messages_of (lines c.args.script.now)) c.args.disk shop;
   plays = λ shop never. inl (c.in-Some.line, refl);
   «open» = λ f e. absurd (line-open c.in-Some.line f e);
   cause = λ e. absurd (line-device c.in-Some.line e);

@@ -1,6 +1,6 @@
 -- The sector was written whole before it was brought to the disk.
 use Rattle.std.proofs.Common.{subst}
-use Rattle.ledger_commands.proofs.Synced.{written-then}
+use Rattle.ledger_commands.proofs.Synced.{brought, written-then}
 use Rattle.ledger_commands.specs.Durable.{WritesOver}
 use Rattle.ledger_commands.proofs.durable.write_sector.Goals as goal
 
@@ -9,3 +9,9 @@ returns-in-EachSector-clause-written g c =
     written-then _ _ _ c.args.at c.args.bytes.now c.sync.result
     (subst (λ r. WritesOver (g.F.WritesAt.held c.args.file.now) (g.F.WritesAt.held c.write_all_at.new.self) c.args.at c.args.bytes.now r)
     c.in_ok-write_all_at.was c.write_all_at.ensures.written) c.sync.ensures.same
+
+pub returns-in-EachSector-clause-stays : goal.returns-in-EachSector-clause-stays
+returns-in-EachSector-clause-stays g c = λ each there is.
+    brought g.F.WritesAt.held g.F.WritesAt.lasting c.args.file.now c.write_all_at.new.self c.sync.new.self c.args.at c.args.bytes.now c.sync.result
+    there is c.in_ok-write_all_at.ensures.written (c.write_all_at.ensures.stays there is) c.sync.ensures.same c.sync.ensures.stays
+    c.sync.ensures.lasting

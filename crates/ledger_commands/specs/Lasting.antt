@@ -1,0 +1,55 @@
+-- What a file says of the bytes that stay where the machine loses power. Our own.
+use Rattle.std.specs.Prelude.{◌≡◌, ◌<◌, ◌≤◌, ◌+◌, ◌*◌, ◌⊎◌, ℕ, List, None, Option, Some, length, slice_index}
+use Rattle.std.proofs.lemmas.Option.{none-some}
+use Rattle.d64_image.specs.Offsets.{overwritten}
+
+-- The bytes that stay, now and at the moments before.
+pub record Lasting (F : Type 0) : Type 1 where
+  -- those that stay now; None where that isn't known
+  pub bytes : F → Option (List ℕ)
+  -- the moment, as a number that doesn't fall
+  pub moment : F → ℕ
+  -- those that may have stayed at some moment from that one on
+  pub stayed : F → ℕ → List ℕ → Type 0
+  pub small : (f : F) (all : List ℕ) → bytes f ≡ Some all → (i : ℕ) → slice_index all i < 256
+  -- those of now stay since each earlier moment
+  pub now : (f : F) (t : ℕ) → t ≤ moment f → (all : List ℕ) → bytes f ≡ Some all → stayed f t all
+  -- since now no others stayed
+  pub only_now : (f : F) (all : List ℕ) → stayed f (moment f) all → bytes f ≡ Some all
+
+-- a file of which that isn't known
+abbrev pub unknown_lasting : {F : Type 0} → Lasting F
+unknown_lasting = record {
+  bytes = λ _. None;
+  moment = λ _. 0;
+  stayed = λ _ _ _. ⊥;
+  small = λ f all e. absurd (none-some all e);
+  now = λ f t le all e. absurd (none-some all e);
+  only_now = λ f all never. absurd never;
+}
+
+-- From old to new those of old stayed or these, and at each moment nothing else.
+pub record StaysOr {F : Type 0} (L : Lasting F) (old new : F) (next : Option (List ℕ)) : Type 0 where
+  pub now : (L.bytes new ≡ L.bytes old) ⊎ (L.bytes new ≡ next)
+  pub later : L.moment old ≤ L.moment new
+  pub each : (all : List ℕ) → L.stayed new (L.moment old) all → (L.bytes old ≡ Some all) ⊎ (next ≡ Some all)
+  -- for a run that began earlier
+  pub before : (t : ℕ) (all : List ℕ) → t ≤ L.moment old → L.stayed new t all
+      → L.stayed old t all ⊎ ((L.bytes old ≡ Some all) ⊎ (next ≡ Some all))
+
+-- what is known, with these bytes in place of those from n on
+abbrev pub overwritten_in : Option (List ℕ) → ℕ → List ℕ → Option (List ℕ)
+overwritten_in None n bytes = None
+overwritten_in (Some all) n bytes = Some (overwritten all n bytes)
+
+-- a sector of 256 bytes, at a multiple of 256 of a file that reaches so far, where that is known
+pub record IsSectorIn (all : Option (List ℕ)) (n : ℕ) (bytes : List ℕ) : Type 0 where
+  pub size : length bytes ≡ 256
+  pub index : ℕ
+  pub at : n ≡ 256 * index
+  pub inside : (xs : List ℕ) → all ≡ Some xs → n + 256 ≤ length xs
+
+-- what stays is what is held, or all of it but one sector
+abbrev pub LacksASector : (lasting held : Option (List ℕ)) → Type 0
+LacksASector lasting held = (lasting ≡ held)
+    ⊎ ((n : ℕ) × (bytes : List ℕ) × IsSectorIn lasting n bytes × (held ≡ overwritten_in lasting n bytes))

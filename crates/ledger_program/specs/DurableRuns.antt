@@ -1,0 +1,36 @@
+-- A run over a file of which it is known what stays where the machine loses power. All of it is our own.
+use Rattle.std.specs.Prelude.{◌≡◌, ◌⊎◌, List, ℕ, Err, IfErr, OnOk, length}
+use Rattle.ledger_commands.specs.Durable.{AllStays}
+use Rattle.ledger_commands.specs.LastingImages.{image_of}
+use Rattle.ledger_commands.specs.Placed.{is_synced, placed, placed_file}
+use Rattle.ledger_commands.specs.declared.durable.Durability.{Durability}
+use Rattle.ledger_commands.specs.declared.durable.Durability.TheVariants as durabilities
+use Rattle.ledger_commands.specs.declared.durable.WritesAt.{Ghosts}
+use Rattle.ledger_commands.specs.declared.faults.RunFault.TheVariants as faults
+use Rattle.ledger_commands.specs.declared.placed.Placed.{Placed}
+use Rattle.ledger_program.specs.Ends.{Ended}
+
+-- A run over the image of a file that was handed in, and which was left as `after`, ended so.
+pub record IsDurableRun {F : Type 0} {G : Ghosts F} (durability : Durability) (image : List ℕ) (file after : F)
+    (ended : Ended) (IsRun : Placed F G → Placed F G → Ended → Type 0) : Type 0 where
+  -- the file with its sectors at their places, as the run took it up, as it left it, and at the end
+  pub first : Placed F G
+  pub left : Placed F G
+  pub last : Placed F G
+  pub is_file : placed_file first ≡ file
+  pub is_after : placed_file last ≡ after
+  -- how the run alone ended; a file that then couldn't be brought to the disk is told of in its place
+  pub end : Ended
+  pub run : IsRun first left end
+  pub told : (ended ≡ end) ⊎ (ended ≡ Err faults.Device)
+  -- nothing was written behind the run
+  pub same : G.held after ≡ G.held (placed_file left)
+  pub reached : placed.reached left last
+  pub untouched : is_synced left → last ≡ left
+  -- Where each sector is brought to the disk, what such a file keeps at any time of the run is the image that stays there
+  -- where the machine loses power.
+  pub lasts : durability ≡ durabilities.EachSector → length image ≡ 174848 → (now : Placed F G)
+      → placed.reached first now → placed.kept now ≡ image_of (G.lasting.bytes (placed_file now))
+  -- Done, or where the output alone failed, all that the file holds stays.
+  pub there : OnOk ended (AllStays G.held G.lasting after)
+  pub stands : IfErr ended (λ fault. fault ≡ faults.File → AllStays G.held G.lasting after)

@@ -1,0 +1,62 @@
+//! Runs over a file, and what of it stays where the machine loses power.
+ghost use Rattle.std.specs.Prelude.{◌≡◌, IfSome, take};
+ghost use Rattle.ledger_commands.specs.Durable.{IsSynced};
+ghost use Rattle.ledger_commands.specs.Placed.{placed};
+ghost use Rattle.ledger_program.specs.DurableRuns.{IsDurableRun};
+ghost use Rattle.ledger_program.specs.Runs.{IsPlayRun};
+ghost use Rattle.ledger_program.specs.Serves.{IsServeRun};
+
+use crate::owning::finished;
+use crate::running::play_run;
+use crate::serving_runs::serve_run;
+use d64_image::Mirror;
+use disk_layout::Fault;
+use host_session::Tells;
+use ledger_commands::{Durability, Placed, RunFault, WritesAt};
+use std::alloc::Global;
+use std::io::BufRead;
+
+/// Plays the script on the shop of the image that the file has, as `play_run` does, and hands the file back. Its sectors are
+/// brought to the disk so: each before its reply is told, or all at the end. `Device` also where that failed.
+pub fn play_durably<F: WritesAt, T: Tells<Mirror<Placed<F>>>>(
+    alloc: Global,
+    image: &[u8],
+    script: &[u8],
+    file: F,
+    durability: Durability,
+    out: &mut T,
+) -> (F, Result<Option<Fault>, RunFault>)
+    // where each sector is brought to the disk, so is what the file holds, and these bytes were read of that
+    requires synced { IsSynced F.held F.lasting durability file }
+    requires image { IfSome (F.held file) (λ all. image.now ≡ take 174849 all) }
+    ensures run { IsDurableRun {G = F.WritesAt.own} durability image.now file result.0 result.1
+        (λ first left end. IsPlayRun placed T.output image.now script.now first left out.old out.new end) }
+{
+    let placed = Placed::of_image(file, durability, image);
+    let (mut left, ended) = play_run(alloc, image, script, placed, out);
+    let end = finished(&mut left, ended);
+    (left.into_inner(), end)
+}
+
+/// Serves the shop of the image that the file has, as `serve_run` does, and hands the file back. Its sectors are brought to
+/// the disk so: each before its reply is told, or all at the end. `Device` also where that failed.
+pub fn serve_durably<F: WritesAt, R: BufRead, T: Tells<Mirror<Placed<F>>>>(
+    alloc: Global,
+    image: &[u8],
+    file: F,
+    durability: Durability,
+    input: &mut R,
+    out: &mut T,
+) -> (F, Result<Option<Fault>, RunFault>)
+    // where each sector is brought to the disk, so is what the file holds, and these bytes were read of that
+    requires synced { IsSynced F.held F.lasting durability file }
+    requires image { IfSome (F.held file) (λ all. image.now ≡ take 174849 all) }
+    ensures run { IsDurableRun {G = F.WritesAt.own} durability image.now file result.0 result.1
+        (λ first left end. IsServeRun placed R.remaining T.output image.now first left
+            input.old input.new out.old out.new end) }
+{
+    let placed = Placed::of_image(file, durability, image);
+    let (mut left, ended) = serve_run(alloc, image, placed, input, out);
+    let end = finished(&mut left, ended);
+    (left.into_inner(), end)
+}

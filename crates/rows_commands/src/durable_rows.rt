@@ -1,0 +1,121 @@
+//! Power is lost in each call of a file whose sectors are brought to the disk one by one: what was told is there.
+use crate::comparing::{holds, same_at};
+use crate::files::blank_paper;
+use crate::images::formatted;
+use crate::machine::{Machine, OnMachine};
+use host_session::Printer;
+use ledger_commands::{Durability, Placed, RunFault, play_file, show_image};
+use std::process::Abort;
+
+/// A script, and its replies.
+const SCRIPT: &[u8] = b"1,1,S,42,120\n2,1,S,7,5\n2,2,M,42,30,7\n";
+
+const REPLIES: &[u8] = b"1,1,DONE,120\n2,1,DONE,5\n2,2,DONE,90,35\n";
+
+/// What is shown of the shop before its lines and after each.
+const SHOPS: [&[u8]; 4] = [
+    b"TOP 9256\n",
+    b"TOP 9256\nCARD 42,120\nTILL 1,1,S,42,120,DONE,120\n",
+    b"TOP 9256\nCARD 7,5\nCARD 42,120\nTILL 1,1,S,42,120,DONE,120\nTILL 2,1,S,7,5,DONE,5\n",
+    b"TOP 9256\nCARD 7,35\nCARD 42,90\nTILL 1,1,S,42,120,DONE,120\nTILL 2,2,M,42,30,7,DONE,90,35\nPRIOR 2,1,S,7,5,DONE,5\n",
+];
+
+/// Plays the script on a machine's image, so: how that ends, and what was told.
+fn played(
+    rt: &(impl AllocGlobal + Abort),
+    machine: &Machine,
+    durability: Durability,
+) -> (Result<(), RunFault>, Vec<u8>) {
+    let image = machine.disk(rt.alloc());
+    let mut out = blank_paper(rt);
+    let file = Placed::of_image(OnMachine { machine }, durability, image.as_slice());
+    let mut printer = Printer::new(&mut out);
+    let ended = match play_file(rt.alloc(), image.as_slice(), SCRIPT, file, &mut printer) {
+        Ok(_) => Ok(()),
+        Err((fault, _)) => Err(fault),
+    };
+    (ended, out.bytes)
+}
+
+/// How many lines were told their own replies.
+fn told_lines(told: &[u8]) -> usize {
+    let mut lines = 0;
+    for (told, wanted) in told
+        .split(|&byte| byte == b'\n')
+        .zip(REPLIES.split(|&byte| byte == b'\n'))
+    {
+        if told.is_empty() || told != wanted {
+            return lines;
+        }
+        lines += 1;
+    }
+    lines
+}
+
+/// What is shown of the shop of an image; nothing of what is none.
+fn shown_of(rt: &(impl AllocGlobal + Abort), image: &[u8]) -> Vec<u8> {
+    let mut out = Vec::new(rt.alloc());
+    let _ = show_image(rt.alloc(), image, &mut out);
+    out
+}
+
+/// Whether this is shown of a shop of these.
+fn is_shop(shown: &[u8], shops: &[&[u8]]) -> bool {
+    shops.iter().any(|shop| *shop == shown)
+}
+
+/// Sees that power that goes in this call leaves the shop after the lines that were told, or with the next one, and that the
+/// whole script is told there as ever. Whether it went before the script's end.
+fn is_durable(rt: &(impl AllocGlobal + Abort), image: &[u8], call: usize, done: bool) -> bool {
+    let machine = Machine::new(rt.alloc(), image, call, done);
+    let (_, told) = played(rt, &machine, Durability::EachSector);
+    let lines = told_lines(told.as_slice());
+    let left = machine.disk(rt.alloc());
+    let shown = shown_of(rt, left.as_slice());
+    let shops = SHOPS.get(lines..).unwrap_or_default();
+    let shops = shops.get(..shops.len().min(2)).unwrap_or_default();
+    holds(rt, is_shop(shown.as_slice(), shops), (call, done));
+    let again = Machine::new(rt.alloc(), left.as_slice(), usize::MAX, done);
+    let (ended, replies) = played(rt, &again, Durability::EachSector);
+    same_at(
+        rt,
+        (ended, replies.as_slice()),
+        (Ok(()), REPLIES),
+        (call, done),
+    );
+    machine.is_dark()
+}
+
+/// Sees the same of each call.
+fn each_is_durable(rt: &(impl AllocGlobal + Abort), image: &[u8], done: bool) -> usize {
+    for call in 1..200usize {
+        if !is_durable(rt, image, call, done) {
+            return call;
+        }
+    }
+    0
+}
+
+#[test]
+fn what_was_told_is_on_the_disk(rt: HostRuntime) {
+    let image = formatted(&rt, 2);
+    let calls = each_is_durable(&rt, image.as_slice(), false);
+    holds(&rt, calls > 20, "power went in each call");
+    same_at(
+        &rt,
+        each_is_durable(&rt, image.as_slice(), true),
+        calls,
+        "also where its sector comes there",
+    );
+}
+
+/// Sees that a play that isn't synced sector by sector tells what isn't there: so the machine shows what it is to.
+#[test]
+fn what_was_told_unsynced_is_lost(rt: HostRuntime) {
+    let image = formatted(&rt, 2);
+    let machine = Machine::new(rt.alloc(), image.as_slice(), usize::MAX, false);
+    let (_, told) = played(&rt, &machine, Durability::AtEnd);
+    same_at(&rt, told.as_slice(), REPLIES, "told");
+    let shown = shown_of(&rt, machine.disk(rt.alloc()).as_slice());
+    same_at(&rt, shown.as_slice(), SHOPS[0], "lost");
+}
