@@ -13,8 +13,7 @@ use Rattle.host_session.specs.Shop.{IsSettled, IsShop, Shop}
 abbrev pub AsksNothing : Shop → Message → Type 0
 AsksNothing s m = is_next_request s (request_of m.bytes) ≡ false
 
--- The device is as it was, and no call of it was made; where power goes in the message, openings read it, and it held
--- nothing else.
+-- The device is as it was; where power goes in the message, it held no other image.
 abbrev pub IsLeftAlone : {D : Type 0} → History D → Option ℕ → D → D → Type 0
 IsLeftAlone h None old new = new ≡ old
 IsLeftAlone h (Some after) old new = HeldOnly h old new (λ i. i ≡ h.image old)
