@@ -11,7 +11,7 @@ import sys
 from pathlib import Path
 
 sys.path.insert(0, str(Path(__file__).resolve().parent.parent / "tests"))
-from disks import DATA, POINTERS, SIZE, Disk, line_of, places, sectors_of
+from record_disks import DATA, POINTERS, SIZE, Disk, line_of, places, sectors_of
 
 
 def records_of(length, count, seed):
