@@ -217,10 +217,13 @@ def fits(printed, told):
 def see_steps(program, folder):
     """Runs each command of the guide, in order; gives how many there are."""
     disks.with_map_wrong(folder / "customers.d64").save(folder / "hurt.d64")
+    disks.call("cc1541", "-q", "-n", "new", folder / "new.d64")
     for command, told in steps():
         words = shlex.split(command)
         to_file = ">" in words
         done = subprocess.run([program, *words[:words.index(">") if to_file else None]], cwd=folder, stdout=subprocess.PIPE)
+        if to_file:
+            (folder / words[-1]).write_bytes(done.stdout)
         want(to_file or fits(done.stdout.decode("latin-1").splitlines(), told), f"{GUIDE.name}: {command} prints something else")
         want(not to_file or done.returncode == 0, f"{GUIDE.name}: {command} ends with status {done.returncode}")
     return len(steps())
