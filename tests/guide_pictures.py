@@ -44,18 +44,31 @@ class Page:
         self.verdict = self.tree.findtext("p/span")
         self.drawing = self.tree.find(".//svg")
         self.rows = [row for row in self.tree.iter("tr") if row.find("td") is not None]
+        self.dashes = dict(re.findall(r'\[r="(\d+)"\]\{stroke-dasharray:([\d ]+)\}', self.style))
 
     def colour(self, kind):
         return re.search(r"\.%s\{stroke:([^;}]*)" % kind, self.style).group(1)
 
     def groups(self):
-        """The drawing's groups, each a list of circles."""
-        return [[circle.attrib for circle in group.iter("circle")] for group in self.drawing.find("g").findall("g")]
+        """The drawing's groups, each a list of circles, with the dash of its ring and the look of its group."""
+        return [[self.circle(group, circle.attrib) for circle in group.iter("circle")]
+                for group in self.drawing.find("g").findall("g")]
+
+    def circle(self, group, attributes):
+        if "class" not in attributes and "stroke" not in attributes:
+            name = look_name(group)
+            attributes = {**attributes, name: group.get(name)}
+        return {"stroke-dasharray": self.dashes.get(attributes["r"]), **attributes}
+
+
+def look_name(element):
+    """Which attribute says how it looks."""
+    return "class" if element.get("class") else "stroke"
 
 
 def look_of(circle):
     """What a circle looks like: its attributes but for the ring and its dashes."""
-    name = "class" if "class" in circle else "stroke"
+    name = look_name(circle)
     return name, circle[name]
 
 
@@ -102,7 +115,8 @@ def drawing_text(page):
 
 def style_text(page):
     """The page's rules for circles, and ours for words."""
-    kinds = "".join("." + rule + "}" for rule in re.findall(r"\.((?:free|lost|map|dir|edge|fault|open)\{[^}]*)\}", page.style))
+    kinds = "".join(f".{kind}{{{rule}}}" for kind, rule in re.findall(
+        r"\.(free|lost|map|dir|edge|fault|open)(?: circle)?\{(stroke:[^}]*?)(?:;pointer-events:none)?\}", page.style))
     circle = re.search(r"circle\{[^}]*\}", page.style).group(0)
     return (f"<style>{circle}{kinds}text{{font:14px {FONT};fill:#222}}.disk{{font-size:1100px;fill:#444;text-anchor:middle}}"
             f".head{{font-size:18px;font-weight:bold}}.good{{fill:#17692b;font-weight:bold}}"
@@ -203,10 +217,13 @@ def fits(printed, told):
 def see_steps(program, folder):
     """Runs each command of the guide, in order; gives how many there are."""
     disks.with_map_wrong(folder / "customers.d64").save(folder / "hurt.d64")
+    disks.call("cc1541", "-q", "-n", "new", folder / "new.d64")
     for command, told in steps():
         words = shlex.split(command)
         to_file = ">" in words
         done = subprocess.run([program, *words[:words.index(">") if to_file else None]], cwd=folder, stdout=subprocess.PIPE)
+        if to_file:
+            (folder / words[-1]).write_bytes(done.stdout)
         want(to_file or fits(done.stdout.decode("latin-1").splitlines(), told), f"{GUIDE.name}: {command} prints something else")
         want(not to_file or done.returncode == 0, f"{GUIDE.name}: {command} ends with status {done.returncode}")
     return len(steps())

@@ -1,7 +1,7 @@
 #!/usr/bin/env python3
 """Draws hurt images with the built program, and compares what it prints with the rules as drawn.py has them:
 
-    tests/hurt_pictures.py PROGRAM [RANDOM] [JOBS] [SEED]
+    tests/hurt_pictures.py PROGRAM [RANDOM] [PROCESSES] [SEED]
 
 PROGRAM is `crates/ledger_cli/out/ledger_cli`. The images, each of 174,848 bytes:
 - RANDOM (10,000) of random bytes, nearly all without a directory;
@@ -73,16 +73,25 @@ def ring(place, radius=None):
 
 
 RINGS = {place: ring(place) for place in PLACES}
+DASHES = [ring((track, 0))[:2] for track in range(1, 36)]
+DASH_OF = dict(DASHES)
+DASH_RULE = re.compile(r'\[r="(\d+)"\]\{stroke-dasharray:([\d ]+)\}')
+
+
+def tags_of(page):
+    """A page's tags as they are written; outside of them is no < and no >, but for the one style's."""
+    rest = STYLE.sub(b"<style></style>", page, count=1)
+    want(not re.search(rb"[<>]", TAG.sub(b"", rest)), "a < or > outside of tags")
+    return TAG.findall(rest)
 
 
 class Page:
     """A page as a strict parser of XML reads it: its circles, names, words, and its tags as they are written."""
 
     def __init__(self, page):
-        # the style has the only foreign '>'
-        rest = STYLE.sub(b"<style></style>", page, count=1)
-        self.tags = TAG.findall(rest)
-        want(not re.search(rb"[<>]", TAG.sub(b"", rest)), "a < or > outside of tags")
+        style = STYLE.search(page)[0].decode()
+        want(DASH_RULE.findall(style) == DASHES and style.count("[r=") == 35, "the dashes of the rings")
+        self.tags = tags_of(page)
         for tag, closed, times in OPEN_TAGS:
             want(page.count(tag) == times, f"{tag} stands {page.count(tag)} times")
             page = page.replace(tag, closed)
@@ -101,11 +110,14 @@ class Page:
         self._path.append(tag)
         self._text = ""
         if tag == "g":
-            self._group.append(attributes.get("id"))
+            name = attributes.pop("id", None)
+            self._group.append((name, *attributes.items()))
         elif tag == "circle":
-            place = tuple(attributes.pop(name) for name in ("r", "stroke-dasharray", "stroke-dashoffset"))
-            (look,) = attributes.items()
-            self.circles.append([self._group[-1], place, look, None])
+            radius, dash = attributes.pop("r"), attributes.pop("stroke-dasharray", None)
+            place = radius, dash or DASH_OF.get(radius), attributes.pop("stroke-dashoffset")
+            name, *looks = self._group[-1]
+            (look,) = attributes.items() or looks
+            self.circles.append([name, place, look, None])
 
     def _end(self, tag):
         self._path.pop()
@@ -141,8 +153,7 @@ def wanted_circles(disk, verdict):
     others = [place for place in PLACES if place not in disk.owner]
     places = system + files + others
     want(len(places) == 683 and len(set(places)) == 683, "drawn.py hasn't each sector once")
-    lines = [["r", RINGS[place], ("class", "open"), "%d/%d in use, and free in the map" % place]
-             for place in PLACES if place in disk.owner and disk.is_free(place)]
+    lines = [[None, RINGS[place], ("class", "open"), None] for place in PLACES if place in disk.owner and disk.is_free(place)]
     fault = []
     if verdict != "OK":
         place = fault_place(verdict)
@@ -177,7 +188,7 @@ class Bench:
         return self.last_pages[printed]
 
     def see(self, image):
-        """Compares all that is printed of one image; gives its verdict, or its refusal."""
+        """Compares all that is printed of one image; gives its verdict, or its refusal, and how many bytes its page has."""
         self.file.write_bytes(image)
         disk = Disk(image)
         checked, verdict, _ = self.run("check")
@@ -188,12 +199,12 @@ class Bench:
             for status, out, error in drawn:
                 want((status, out, error) == (1, b"", f"LAYOUT {verdict}\n"), f"no directory, and {status}, {error}, {out[:80]}")
             fault_place(verdict)
-            return "LAYOUT " + verdict.split()[0]
+            return "LAYOUT " + verdict.split()[0], 0
         (map_status, printed, map_error), (status, page, error) = drawn
         want((map_status, map_error, status, error) == (checked, "", checked, ""), "statuses, or words on standard error")
         self.see_map(printed.decode("latin-1").splitlines(), disk, verdict)
         self.see_page(page, image, disk, verdict)
-        return verdict.split()[0]
+        return verdict.split()[0], len(page)
 
     def see_map(self, lines, disk, verdict):
         fault = fault_place(verdict) if verdict != "OK" else None
@@ -215,7 +226,7 @@ class Bench:
         name = disk.disk_name()
         want(page.heads == [name, name, verdict, name], f"heads {page.heads}")
         self.file.write_bytes(without_names(image, disk))
-        want(page.tags == self.page(self.run("picture")[1]).tags, "tags differ without names")
+        want(page.tags == tags_of(self.run("picture")[1]), "tags differ without names")
 
 
 def random_image(draw):
@@ -272,9 +283,9 @@ def begin(program, folder, shop):
 def see_one(work):
     image = image_of(work, sound_shop)
     try:
-        return work, bench.see(image), None
+        return work, *bench.see(image), None
     except Differs as difference:
-        return work, str(difference), image
+        return work, str(difference), 0, image
 
 
 def main(program, count=10_000, jobs=JOBS, seed="0"):
@@ -287,21 +298,22 @@ def main(program, count=10_000, jobs=JOBS, seed="0"):
         work = [("one bit", (place, bit)) for place in sectors for bit in range(2048)]
         for kind, share in zip(KINDS, (count, count // 10, count // 10)):
             work += [(kind, f"{seed} {number}") for number in range(share)]
-        told = Counter()
+        told, longest = Counter(), 0
         with multiprocessing.Pool(jobs, begin, (program, folder, shop)) as pool:
-            for (kind, which), said, image in pool.imap_unordered(see_one, work, chunksize=20):
+            for (kind, which), said, size, image in pool.imap_unordered(see_one, work, chunksize=20):
                 if image:
                     kept = Path(tempfile.gettempdir()) / "hurt_picture.d64"
                     kept.write_bytes(image)
                     print(f"hurt_pictures.py: {kind}, {which}: {said}; the image is {kept}", file=sys.stderr)
                     sys.exit(1)
                 told[kind, said] += 1
+                longest = max(longest, size)
     for kind in ("one bit", *KINDS):
         counts = ", ".join(f"{word} {number}" for (of, word), number in sorted(told.items()) if of == kind)
         print(f"{kind}: {counts}")
     refused = sum(number for (_, word), number in told.items() if word.startswith("LAYOUT"))
-    print(f"hurt_pictures: {len(work)} images, {len(work) - refused} pages and maps of 683 sectors, {refused} refused by their "
-          f"fault: no difference")
+    print(f"hurt_pictures: {len(work)} images, {len(work) - refused} pages and maps of 683 sectors, of at most {longest} bytes, "
+          f"{refused} refused by their fault: no difference")
 
 
 if __name__ == "__main__":

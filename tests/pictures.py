@@ -23,8 +23,9 @@ from drawn import MAP, PLACES, Disk, sectors_on
 from served import run, want
 
 LARGEST = 150_000
-# these pages are larger: 144 names of escapes alone, and a white line over each sector
-LARGER = ("crowded by &", "full, all free")
+# the page of a disk made to have the longest one
+LONGEST = "longest page"
+LONGEST_OF_ALL = 207_000
 SLOWEST = 1.0
 # dots of the screen for a pixel of the page: a ring is 27 dots wide then
 DOTS = 4
@@ -43,10 +44,12 @@ RED, WHITE = (0xE0, 0, 0), (255, 255, 255)
 # what the page's own markup is: each element's attributes, sorted
 MARKUP = {
     "html": ["lang"], "head": [], "meta": ["charset"], "title": [], "style": [], "body": [], "h1": [], "p": [],
-    "main": [], "div": [], "ul": [], "table": [], "tbody": [], "tr": [], "br": [], "text": ["y"], "svg": ["viewBox"]}
-VARIED = {"g": [["id"], ["transform"]], "span": [["class"]], "li": [["class"]], "i": [[], ["style"]], "a": [["href"]],
-          "th": [[], ["class"]], "td": [[], ["class"]]}
-CIRCLES = [["class", "r", "stroke-dasharray", "stroke-dashoffset"], ["r", "stroke", "stroke-dasharray", "stroke-dashoffset"]]
+    "main": [], "div": [], "ul": [], "table": [], "tbody": [], "tr": [], "th": [], "td": [], "br": [], "text": ["y"],
+    "span": ["class"], "li": ["class"], "a": ["href"], "svg": ["viewBox"]}
+RING_ATTRIBUTES = ["r", "stroke-dashoffset"]
+VARIED = {"g": [["transform"], ["id"], ["id", "stroke"], ["class"]], "i": [[], ["style"]],
+          "circle": [RING_ATTRIBUTES, ["class", *RING_ATTRIBUTES], ["r", "stroke", "stroke-dashoffset"],
+                     ["class", "r", "stroke-dasharray", "stroke-dashoffset"]]}
 
 
 def file_colour(number, side):
@@ -114,7 +117,7 @@ class Wanted:
     def title(self, place):
         if place == self.fault:
             return self.verdict
-        return "%d/%d in use, and free in the map" % place if self.is_open(place) else self.disk.title(place)
+        return self.disk.title(place)
 
 
 class Seen:
@@ -167,7 +170,7 @@ def see_markup(name, browser, wanted):
     elements = browser.value("[...document.querySelectorAll('*')].map(e => [e.tagName, e.getAttributeNames().sort()])")
     for tag, attributes in elements:
         tag = tag if tag in MARKUP else tag.lower()
-        own = CIRCLES if tag == "circle" else VARIED.get(tag) or [MARKUP.get(tag)]
+        own = VARIED.get(tag) or [MARKUP.get(tag)]
         want(attributes in own, f"{name}: a foreign element {tag} {attributes}")
     shown = browser.value("[document.querySelector('title').textContent, document.querySelector('h1').textContent, "
                           "document.querySelector('svg text').textContent, "
@@ -227,7 +230,7 @@ def see_page(program, browser, proxy, name, path, folder):
     done = subprocess.run([program, "picture", path], capture_output=True, timeout=60)
     page = done.stdout
     want(done.returncode == status and status == (0 if lines[-1] == "OK" else 1), f"{name}: statuses")
-    want((len(page) < LARGEST) == (name not in LARGER), f"{name}: {len(page)} bytes")
+    want(len(page) < (LONGEST_OF_ALL if name == LONGEST else LARGEST), f"{name}: {len(page)} bytes")
     references = re.findall(rb"(?:src|href|url|import|action|data)\s*[=(]\s*\"?([^\">]*)", page)
     want(all(re.fullmatch(rb"#f\d+", found) for found in references), f"{name}: leads out of the page: {references}")
     wanted = Wanted(name, path.read_bytes(), lines)
@@ -285,6 +288,7 @@ def made_disks(program, folder):
         yield word.lower(), hurt(sound).save(folder / f"{word.lower()}.d64")
     yield "crowded", disks.crowded(folder, folder / "crowded.d64", b"A PROGRAM OF '87")
     yield "crowded by &", disks.crowded(folder, folder / "crowded_by.d64", b"&" * 16)
+    yield LONGEST, disks.of_longest_page(full, folder / "longest.d64")
 
 
 def main(program, folder):

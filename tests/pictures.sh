@@ -6,7 +6,7 @@
 # browser shows of them are kept.
 # The disks: a blank one, a shop after the README's day, a full one, the same with a map that calls each sector free; one of
 # cc1541 (types, locked, unclosed, a separator, a scratched entry), one of cbmconvert with relative files, one of both; one
-# with names of markup, its own name too; that of both with each of the nine faults; and two of 144 entries. Of each:
+# with names of markup, its own name too; that of both with each of the nine faults; and three of 144 entries. Of each:
 # - at the middle of each of the 683 sectors Chromium shows the colour of the owner that `map` gives, red where it has `!`,
 #   white where the sector is in use and the map of the disk calls it free, with the owner's colour beside the line; what
 #   librsvg draws shows the same;
@@ -14,7 +14,7 @@
 # - elements and attributes of the page in the browser are the page's own, and names are shown as they are written;
 # - the page names nothing outside of itself, asks for nothing but itself (the browser's own account, and a proxy on the
 #   loopback that it would have to ask), logs nothing and runs nothing; a page that does all this is heard;
-# - it has less than 150,000 bytes, but for two: a full disk whose map calls all free, and 144 names of sixteen `&`;
+# - it has less than 150,000 bytes; that of a disk made to have the longest page that there is, less than 207,000;
 # - a frame is shown in less than a second after all of it was read, by the browser's clock, which begins when the page is
 #   asked for: the least of three times, or of ten where other work slows them.
 # Nothing leaves the machine.

@@ -5,9 +5,9 @@ use std::fmt::{self, Display, Formatter};
 use std::io::{self, Write};
 
 const RIM: u32 = 35700;
-const STYLE: &str = "body{margin:24px;background:#fbfaf7;color:#222;font:14px/1.4 ui-monospace,Menlo,Consolas,\"DejaVu Sans Mono\",monospace}h1{font-size:20px;margin:0}p{margin:4px 0 16px}main{display:flex;flex-wrap:wrap;gap:32px;align-items:flex-start}svg{width:720px;max-width:100%;height:auto}main>div{max-width:440px}circle{fill:none;stroke-width:700}.free{stroke:#e2ded3}.lost{stroke:#9a9384}.map{stroke:#111}.dir{stroke:#5b5b5b}.edge{stroke:#fff;stroke-width:1500}.fault{stroke:#e00000;stroke-width:1100}.open{stroke:#fff;stroke-width:200}.bad{color:#d00;font-weight:bold}.good{color:#17692b;font-weight:bold}text{font:1100px ui-monospace,Menlo,Consolas,\"DejaVu Sans Mono\",monospace;fill:#444;text-anchor:middle}table{border-collapse:collapse}td,th{padding:1px 8px;text-align:right;white-space:pre}td.n,th.n{text-align:left}i{display:inline-block;width:12px;height:12px;margin:0 4px 0 0}ul{list-style:none;padding:0;margin:0 0 12px}li{margin:0 0 2px}.map i{background:#111}.dir i{background:#5b5b5b}.free i{background:#e2ded3}.lost i{background:#9a9384}tr a{color:inherit;text-decoration:none}tr a:hover{text-decoration:underline}g:target circle{stroke-width:800}svg:has(g:target) g g:not(:target):not(#f){opacity:.15}";
-const LEGEND: &str = "</text>\n</svg>\n<div>\n<ul>\n<li class=\"map\"><i></i>map</li>\n<li class=\"dir\"><i></i>directory</li>\n<li class=\"free\"><i></i>free</li>\n<li class=\"lost\"><i></i>taken in the map, of no file</li>\n</ul>\n<table>\n<tr><th></th><th>blocks</th><th class=\"n\">name</th><th class=\"n\">type</th><th>length</th><th>records</th></tr>\n";
-const END: &str = "</table>\n<p>Track 1 is outside, 35 inside; sector 0 begins at the top, clockwise.<br>A darker piece is a side sector, a white line a sector in use that the map calls free.<br>Point at a sector for its place and block; click a name to see its file alone.</p>\n</div>\n</main>\n";
+const STYLE: &str = "body{margin:24px;background:#fbfaf7;color:#222;font:14px/1.4 ui-monospace,Menlo,Consolas,\"DejaVu Sans Mono\",monospace}h1{font-size:20px;margin:0}p{margin:4px 0 16px}main{display:flex;flex-wrap:wrap;gap:32px;align-items:flex-start}svg{width:720px;max-width:100%;height:auto}main>div{max-width:440px}circle{fill:none;stroke-width:700}.free{stroke:#e2ded3}.lost{stroke:#9a9384}.map{stroke:#111}.dir{stroke:#5b5b5b}.edge{stroke:#fff;stroke-width:1500}.fault{stroke:#e00000;stroke-width:1100}.open circle{stroke:#fff;stroke-width:200;pointer-events:none}.bad{color:#d00;font-weight:bold}.good{color:#17692b;font-weight:bold}text{font:1100px ui-monospace,Menlo,Consolas,\"DejaVu Sans Mono\",monospace;fill:#444;text-anchor:middle}table{border-collapse:collapse}td,th{padding:1px 8px;text-align:right;white-space:pre}tr>:nth-child(3),tr>:nth-child(4){text-align:left}i{display:inline-block;width:12px;height:12px;margin:0 4px 0 0}ul{list-style:none;padding:0;margin:0 0 12px}li{margin:0 0 2px}.map i{background:#111}.dir i{background:#5b5b5b}.free i{background:#e2ded3}.lost i{background:#9a9384}tr a{color:inherit;text-decoration:none}tr a:hover{text-decoration:underline}g:target circle{stroke-width:800}svg:has(g:target) g g:not(:target):not(#f){opacity:.15}";
+const LEGEND: &str = "</text>\n</svg>\n<div>\n<ul>\n<li class=\"map\"><i></i>map</li>\n<li class=\"dir\"><i></i>directory</li>\n<li class=\"free\"><i></i>free</li>\n<li class=\"lost\"><i></i>taken in the map, of no file</li>\n</ul>\n<table>\n<tr><th></th><th>blocks</th><th>name</th><th>type</th><th>length</th><th>records</th></tr>\n";
+const END: &str = "</table>\n<p>Track 1 is outside, 35 inside; sector 0 begins at the top, clockwise.<br>A darker piece is a side sector, a white line a sector in use that the map calls free.<br>Point at a sector for its place, file and block; click a name to see its file alone.</p>\n</div>\n</main>\n";
 
 /// Whose a sector is: the map's, the directory's, an entry's by its number, as a block or a side sector, or nobody's.
 #[derive(Clone, Copy, PartialEq)]
@@ -153,14 +153,22 @@ impl Ring {
     fn of(place: Place) -> Ring {
         Ring(35400 - 800 * u32::from(place.track), place)
     }
+
+    /// How long a sector is on it.
+    fn arc(&self) -> u32 {
+        710 * self.0 / (113 * u32::from(sectors_of(self.1.track)))
+    }
+
+    /// How long its dash is.
+    fn dash(&self) -> u32 {
+        self.arc() - 200
+    }
 }
 
 impl Display for Ring {
     fn fmt(&self, f: &mut Formatter) -> fmt::Result {
         let &Ring(radius, place) = self;
-        let arc = 710 * radius / (113 * u32::from(sectors_of(place.track)));
-        let (dash, offset) = (arc - 200, u32::from(place.sector) * arc);
-        write!(f, "<circle r=\"{radius}\" stroke-dasharray=\"{dash} 300000\" stroke-dashoffset=\"-{offset}\"")
+        write!(f, "<circle r=\"{radius}\" stroke-dashoffset=\"-{}\"", u32::from(place.sector) * self.arc())
     }
 }
 
@@ -190,12 +198,12 @@ fn put_system(out: &mut impl Write, drawing: &Drawing) -> io::Result<()> {
 
 fn put_entry(out: &mut impl Write, drawing: &Drawing, number: usize, entry: &Entry) -> io::Result<()> {
     let name = Html(unpadded(&entry.slot[5..21]));
-    writeln!(out, "<g id=\"f{number}\">")?;
+    writeln!(out, "<g id=\"f{number}\" stroke=\"{}\">", Colour(number, 0))?;
     let count = entry.blocks.len();
     for (index, &place) in entry.blocks.iter().enumerate() {
         if drawing.owners[place.index()] == Owner::Blocks(number) {
-            let (ring, colour, block) = (Ring::of(place), Colour(number, 0), index + 1);
-            writeln!(out, "{ring} stroke=\"{colour}\"><title>{place} {name}, block {block} of {count}</title></circle>")?;
+            let (ring, block) = (Ring::of(place), index + 1);
+            writeln!(out, "{ring}><title>{place} {name}, block {block} of {count}</title></circle>")?;
         }
     }
     for (index, &place) in entry.sides.iter().enumerate() {
@@ -215,8 +223,9 @@ fn put_rest(out: &mut impl Write, drawing: &Drawing) -> io::Result<()> {
         let (class, words) = if drawing.is_free(place) { ("free", "free") } else { ("lost", "taken, of no file") };
         writeln!(out, "{} class=\"{class}\"><title>{place} {words}</title></circle>", Ring::of(place))?;
     }
+    writeln!(out, "</g>\n<g class=\"open\">")?;
     for place in places().filter(|place| !is_nobodys(place) && drawing.is_free(*place)) {
-        writeln!(out, "{} class=\"open\"><title>{place} in use, and free in the map</title></circle>", Ring::of(place))?;
+        writeln!(out, "{}/>", Ring::of(place))?;
     }
     writeln!(out, "</g>")
 }
@@ -227,7 +236,8 @@ fn put_fault(out: &mut impl Write, fault: &Fault) -> io::Result<()> {
     for class in ["edge", "fault"] {
         writeln!(out, "{} class=\"{class}\"><title>{fault}</title></circle>", Ring::of(place))?;
     }
-    writeln!(out, "{} class=\"fault\"/>\n</g>", Ring(RIM, place))
+    let rim = Ring(RIM, place);
+    writeln!(out, "{rim} stroke-dasharray=\"{} 300000\" class=\"fault\"/>\n</g>", rim.dash())
 }
 
 fn put_row(out: &mut impl Write, number: usize, entry: &Entry) -> io::Result<()> {
@@ -236,8 +246,8 @@ fn put_row(out: &mut impl Write, number: usize, entry: &Entry) -> io::Result<()>
     let open = if entry.is_closed() { "" } else { "*" };
     let locked = if slot[2] & 0x40 != 0 { "&lt;" } else { "" };
     let (colour, count) = (Colour(number, 0), u16::from_le_bytes([slot[30], slot[31]]));
-    write!(out, "<tr><td><i style=\"background:{colour}\"></i></td><td>{count}</td><td class=\"n\">")?;
-    write!(out, "<a href=\"#f{number}\">{}</a></td><td class=\"n\">{open}{kind}{locked}</td><td>", Html(unpadded(&slot[5..21])))?;
+    write!(out, "<tr><td><i style=\"background:{colour}\"></i></td><td>{count}</td><td>")?;
+    write!(out, "<a href=\"#f{number}\">{}</a></td><td>{open}{kind}{locked}</td><td>", Html(unpadded(&slot[5..21])))?;
     match entry.records() {
         Some((length, records)) => writeln!(out, "{length}</td><td>{records}</td></tr>"),
         None => writeln!(out, "</td><td></td></tr>"),
@@ -251,8 +261,12 @@ fn put_page(out: &mut impl Write, drawing: &Drawing, found: &Result<(), Fault>) 
         Ok(()) => ("good", String::from("OK")),
         Err(fault) => ("bad", fault.to_string()),
     };
-    write!(out, "<!DOCTYPE html>\n<html lang=\"en\">\n<meta charset=\"utf-8\">\n<title>{name}</title>\n")?;
-    write!(out, "<style>{STYLE}</style>\n<h1>{name}</h1>\n<p>{} {}, ", Html(&map[0xA2..0xA4]), Html(&map[0xA5..0xA7]))?;
+    write!(out, "<!DOCTYPE html>\n<html lang=\"en\">\n<meta charset=\"utf-8\">\n<title>{name}</title>\n<style>{STYLE}")?;
+    for track in 1..=35 {
+        let ring = Ring::of(Place { track, sector: 0 });
+        write!(out, "[r=\"{}\"]{{stroke-dasharray:{} 300000}}", ring.0, ring.dash())?;
+    }
+    write!(out, "</style>\n<h1>{name}</h1>\n<p>{} {}, ", Html(&map[0xA2..0xA4]), Html(&map[0xA5..0xA7]))?;
     write!(out, "{} blocks free, <span class=\"{class}\">{told}</span></p>\n<main>\n", drawing.blocks_free())?;
     write!(out, "<svg viewBox=\"-36600 -36600 73200 73200\">\n<g transform=\"rotate(-90)\">\n")?;
     put_system(out, drawing)?;

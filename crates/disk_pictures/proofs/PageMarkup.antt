@@ -10,7 +10,7 @@ use Rattle.disk_layout.specs.declared.faults.Fault.{Fault}
 use Rattle.disk_pictures.specs.Drawings.{owner_of}
 use Rattle.disk_pictures.specs.Markup.{is_markup, markup_of}
 use Rattle.disk_pictures.specs.Names.{disk_name, name_of}
-use Rattle.disk_pictures.specs.Pictures.{Show, block_arc, colour, drawing_text, file_group, group_head, is_blocks, is_sides, legend_text, link_text, own_block, own_side, page_text, ring_of, row_text, side_arc, style, title_text, told_text}
+use Rattle.disk_pictures.specs.Pictures.{Show, block_arc, colour, dashes, drawing_text, file_group, group_head, is_blocks, is_sides, legend_text, link_text, own_block, own_side, page_text, ring_of, row_text, side_arc, style, title_text, told_text}
 use Rattle.disk_pictures.specs.Texts.{numbered}
 
 -- the two have the same markup
@@ -42,11 +42,11 @@ each f g same k [] = alike []
 each f g same k (x ∷ xs) = both _ _ _ _ (same k x) (each f g same (k + 1) xs)
 
 module _ (f g : Show) (same : (bytes : List ℕ) → IsSameMarkup (f bytes) (g bytes)) where
-  on-block : (k : ℕ) (name : List ℕ) (o n : ℕ) (p : Place) → IsSameMarkup (block_arc f k name o n p) (block_arc g k name o n p)
+  on-block : (name : List ℕ) (o n : ℕ) (p : Place) → IsSameMarkup (block_arc f name o n p) (block_arc g name o n p)
   unfolding block_arc
-  on-block k name o n p =
-      behind (ring_of p) _ _ (behind (codes " stroke=\"") _ _ (behind (colour k 0) _ _ (behind (codes "\"><title>") _ _ (behind (place_text p) _ _
-      (behind (codes " ") _ _ (before (f name) (g name) _ (same name)))))))
+  on-block name o n p =
+      behind (ring_of p) _ _ (behind (codes "><title>") _ _ (behind (place_text p) _ _
+      (behind (codes " ") _ _ (before (f name) (g name) _ (same name)))))
 
   on-side : (k : ℕ) (name : List ℕ) (j : ℕ) (p : Place) → IsSameMarkup (side_arc f k name j p) (side_arc g k name j p)
   unfolding side_arc
@@ -58,7 +58,7 @@ module _ (f g : Show) (same : (bytes : List ℕ) → IsSameMarkup (f bytes) (g b
   unfolding file_group
   on-file l k d =
       let blocks = each (own_block f l k d) (own_block g l k d)
-      (λ n p. where-so (is_blocks k (owner_of l p)) _ _ (on-block k (name_of d.slot) (n + 1) (length d.blocks) p)) 0 d.blocks in
+      (λ n p. where-so (is_blocks k (owner_of l p)) _ _ (on-block (name_of d.slot) (n + 1) (length d.blocks) p)) 0 d.blocks in
       let sides = each (own_side f l k d) (own_side g l k d)
       (λ n p. where-so (is_sides k (owner_of l p)) _ _ (on-side k (name_of d.slot) n p)) 0 d.sides in
       behind (group_head k) _ _ (both _ _ _ _ blocks (before _ _ (codes "</g>\n") sides))
@@ -72,7 +72,8 @@ module _ (f g : Show) (same : (bytes : List ℕ) → IsSameMarkup (f bytes) (g b
   on-title map =
       let name = disk_name map in
       behind (codes "<!DOCTYPE html>\n<html lang=\"en\">\n<meta charset=\"utf-8\">\n<title>") _ _ (both (f name) (g name) _ _ (same name)
-      (behind (codes "</title>\n<style>") _ _ (behind style _ _ (behind (codes "</style>\n<h1>") _ _ (before (f name) (g name) _ (same name))))))
+      (behind (codes "</title>\n<style>") _ _ (behind style _ _ (behind dashes _ _ (behind (codes "</style>\n<h1>") _ _
+      (before (f name) (g name) _ (same name)))))))
 
   on-told : (v : Option Fault) (map : Sector) → IsSameMarkup (told_text f v map) (told_text g v map)
   unfolding told_text
@@ -94,7 +95,7 @@ module _ (f g : Show) (same : (bytes : List ℕ) → IsSameMarkup (f bytes) (g b
   unfolding row_text
   on-row k d =
       behind (codes "<tr><td><i style=\"background:") _ _ (behind (colour k 0) _ _ (behind (codes "\"></i></td><td>") _ _
-      (behind (decimal (count_field d.slot)) _ _ (behind (codes "</td><td class=\"n\">") _ _
+      (behind (decimal (count_field d.slot)) _ _ (behind (codes "</td><td>") _ _
       (before (link_text f k (name_of d.slot)) (link_text g k (name_of d.slot)) _ (on-link k (name_of d.slot)))))))
 
   pub on-page : (v : Option Fault) (map : Sector) (l : Layout) → IsSameMarkup (page_text f v map l) (page_text g v map l)

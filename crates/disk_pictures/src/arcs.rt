@@ -1,10 +1,10 @@
-//! The sectors of a picture: each is a circle whose one dash is the sector.
+//! The sectors of a picture: each is a circle whose one dash is the sector. The page's style has the dash of each ring.
 ghost use Rattle.std.specs.Prelude.{◌≡◌, ◌≤◌, ◌*◌, Some};
 ghost use Rattle.d64_image.specs.Geometry.{sectors_on};
 ghost use Rattle.d64_image.specs.Places.{track_of};
 ghost use Rattle.disk_layout.specs.Texts.{place_text};
 ghost use Rattle.disk_pictures.specs.Html.{html_of};
-ghost use Rattle.disk_pictures.specs.Pictures.{arc, block_arc, brightness as brightness_of, colour, directory_arc, fault_sector, free_arc, hue as hue_of, lost_arc, map_arc, open_arc, radius as radius_of, ring_text, side_arc};
+ghost use Rattle.disk_pictures.specs.Pictures.{arc, block_arc, brightness as brightness_of, colour, directory_arc, fault_sector, free_arc, hue as hue_of, lost_arc, map_arc, open_arc, radius as radius_of, rim_mark, ring_text, side_arc};
 
 use crate::html::Html;
 use crate::texts::fault_place;
@@ -91,9 +91,8 @@ impl Display for Ring {
         let length = arc_length(self.radius, self.place);
         write!(
             f,
-            "<circle r=\"{}\" stroke-dasharray=\"{} 300000\" stroke-dashoffset=\"-{}\"",
+            "<circle r=\"{}\" stroke-dashoffset=\"-{}\"",
             self.radius,
-            length.saturating_sub(200),
             self.place.sector() as u64 * length as u64
         )
     }
@@ -172,11 +171,11 @@ impl Display for DirectoryArc {
     }
 }
 
-/// A block of an entry.
+/// A block of an entry, in the colour of the entry's group.
 #[derive(Clone, Copy)]
 pub(crate) struct BlockArc<'a> {
-    /// The entry's number and its name.
-    pub entry: (usize, &'a [u8]),
+    /// The entry's name.
+    pub name: &'a [u8],
     /// The block's number, from 1.
     pub number: usize,
     /// How many blocks there are.
@@ -186,17 +185,15 @@ pub(crate) struct BlockArc<'a> {
 }
 
 impl Display for BlockArc<'_> {
-    ghost output = { λ block. Some (block_arc html_of block.entry.0 block.entry.1.now block.number block.blocks block.place) };
+    ghost output = { λ block. Some (block_arc html_of block.name.now block.number block.blocks block.place) };
 
     fn fmt<W: fmt::Write>(&self, f: &mut Formatter<W>) -> fmt::Result {
-        let (number, name) = self.entry;
         writeln!(
             f,
-            "{} stroke=\"{}\"><title>{} {}, block {} of {}</title></circle>",
+            "{}><title>{} {}, block {} of {}</title></circle>",
             Ring::of(self.place),
-            Colour { number, less: 0 },
             PlaceText(self.place),
-            Html(name),
+            Html(self.name),
             self.number,
             self.blocks
         )
@@ -273,11 +270,24 @@ impl Display for OpenArc {
     ghost output = { λ sector. Some (open_arc sector.0) };
 
     fn fmt<W: fmt::Write>(&self, f: &mut Formatter<W>) -> fmt::Result {
+        writeln!(f, "{}/>", Ring::of(self.0))
+    }
+}
+
+/// The mark of a fault at the rim.
+#[derive(Clone, Copy)]
+struct Rim(Place);
+
+impl Display for Rim {
+    ghost output = { λ mark. Some (rim_mark mark.0) };
+
+    fn fmt<W: fmt::Write>(&self, f: &mut Formatter<W>) -> fmt::Result {
+        let place = self.0;
+        let dash = arc_length(RIM, place).saturating_sub(200);
         writeln!(
             f,
-            "{} class=\"open\"><title>{} in use, and free in the map</title></circle>",
-            Ring::of(self.0),
-            PlaceText(self.0)
+            "{} stroke-dasharray=\"{dash} 300000\" class=\"fault\"/>",
+            Ring { radius: RIM, place }
         )
     }
 }
@@ -293,10 +303,10 @@ impl Display for FaultGroup {
         let told = self.0;
         let place = fault_place(told);
         let ring = Ring::of(place);
-        let rim = Ring { radius: RIM, place };
         writeln!(
             f,
-            "<g id=\"f\">\n{ring} class=\"edge\"><title>{told}</title></circle>\n{ring} class=\"fault\"><title>{told}</title></circle>\n{rim} class=\"fault\"/>\n</g>"
+            "<g id=\"f\">\n{ring} class=\"edge\"><title>{told}</title></circle>\n{ring} class=\"fault\"><title>{told}</title></circle>\n{}</g>",
+            Rim(place)
         )
     }
 }

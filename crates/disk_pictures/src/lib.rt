@@ -8,6 +8,7 @@ mod faults;
 mod files;
 mod html;
 mod laws;
+mod layers;
 mod loading;
 mod map_printing;
 mod names;

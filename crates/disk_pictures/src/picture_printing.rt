@@ -2,41 +2,30 @@
 ghost use Rattle.std.specs.Prelude.{◌≡◌, ◌≢◌, ◌≤◌, IfErr, IfOk, OnOk, Some, flat_map, map};
 ghost use Rattle.std.specs.Io.KnownBytes.{Appends};
 ghost use Rattle.d64_image.specs.Memory.{sectors_in};
-ghost use Rattle.d64_image.specs.Places.{place_at};
 ghost use Rattle.disk_layout.specs.Layout.{IsLayout, Layout};
 ghost use Rattle.disk_pictures.specs.Drawings.{file_in};
 ghost use Rattle.disk_pictures.specs.Held.{drawn_in};
 ghost use Rattle.disk_pictures.specs.Html.{html_of};
 ghost use Rattle.disk_pictures.specs.Outcomes.{IsPictureFault, IsPicturePrinted, map_in};
-ghost use Rattle.disk_pictures.specs.Pictures.{directory_arc, drawing_text, each_place, fault_group, file_group, group_head, layer_arc, own_block, own_side, picture_page, rest_group, row_text, system_group};
-ghost use Rattle.disk_pictures.specs.Texts.{at_place, each_below, numbered};
+ghost use Rattle.disk_pictures.specs.Pictures.{directory_arc, drawing_text, fault_group, file_group, group_head, own_block, own_side, picture_page, row_text, system_group};
+ghost use Rattle.disk_pictures.specs.Texts.{numbered};
 ghost use Rattle.disk_pictures.specs.declared.faults.PictureFault.TheVariants as faults;
 
-use crate::arcs::{
-    BlockArc, DirectoryArc, FaultGroup, FreeArc, Layer, LostArc, MapArc, OpenArc, SideArc,
-};
+use crate::arcs::{BlockArc, Colour, DirectoryArc, FaultGroup, Layer, MapArc, SideArc};
 use crate::drawing::Drawing;
 use crate::drawn_file::DrawnFile;
 use crate::faults::PictureFault;
+use crate::layers::{GROUP_END, put_layer_group};
 use crate::names::entry_name;
 use crate::output::{flush, put};
 use crate::owners::Owner;
 use crate::page::{END, Legend, Row, Title, Told};
 use crate::verdicts::judged;
 use d64_image::Place;
-use disk_layout::{BamView, Fault};
+use disk_layout::Fault;
 use std::alloc::Global;
 use std::fmt::{self, Display, Formatter};
 use std::io::Write;
-
-/// How many tracks a disk has.
-const TRACKS: u8 = 35;
-
-/// How many sectors a track has at most.
-const SECTORS: u8 = 21;
-
-/// The end of a group.
-const GROUP_END: &str = "</g>\n";
 
 /// Prints the sectors of the directory.
 fn put_directory<W: Write>(out: &mut W, places: &[Place]) -> Result<(), PictureFault>
@@ -80,7 +69,7 @@ fn put_block<W: Write>(
         Owner::Blocks(owner) if owner == number => put(
             out,
             BlockArc {
-                entry: (number, entry_name(&file.slot)),
+                name: entry_name(&file.slot),
                 number: index + 1,
                 blocks: file.blocks.as_slice().len(),
                 place,
@@ -152,7 +141,7 @@ fn put_sides<W: Write>(
     Ok(())
 }
 
-/// The beginning of an entry's group.
+/// The beginning of an entry's group, in its colour.
 #[derive(Clone, Copy)]
 struct GroupHead(usize);
 
@@ -160,7 +149,12 @@ impl Display for GroupHead {
     ghost output = { λ head. Some (group_head head.0) };
 
     fn fmt<W: fmt::Write>(&self, f: &mut Formatter<W>) -> fmt::Result {
-        writeln!(f, "<g id=\"f{}\">", self.0)
+        let number = self.0;
+        writeln!(
+            f,
+            "<g id=\"f{number}\" stroke=\"{}\">",
+            Colour { number, less: 0 }
+        )
     }
 }
 
@@ -192,96 +186,6 @@ fn put_files<W: Write>(out: &mut W, drawing: &Drawing) -> Result<(), PictureFaul
         put_file(out, drawing, number, file)?;
     }
     Ok(())
-}
-
-/// Prints what a layer has at a sector.
-fn put_layer<W: Write>(
-    out: &mut W,
-    layer: Layer,
-    drawing: &Drawing,
-    place: Place,
-) -> Result<(), PictureFault>
-    ensures ok { OnOk result (Appends (W.contents out.old) (W.contents out.new)
-        (layer_arc layer drawing.now.map (drawn_in drawing.now) place)) }
-    ensures err { IfErr result (λ fault. fault ≡ faults.File) }
-{
-    let free = BamView::new(&drawing.map).is_free(place);
-    match (layer, drawing.owner(place)) {
-        (Layer::Others, Owner::Nobody) => {
-            if free {
-                put(out, FreeArc(place))
-            } else {
-                put(out, LostArc(place))
-            }
-        }
-        (Layer::Others, _) | (Layer::Open, Owner::Nobody) => Ok(()),
-        (Layer::Open, _) => {
-            if free {
-                put(out, OpenArc(place))
-            } else {
-                Ok(())
-            }
-        }
-    }
-}
-
-/// Prints what a layer has at a sector, where the track has it.
-fn put_layer_at<W: Write>(
-    out: &mut W,
-    layer: Layer,
-    drawing: &Drawing,
-    track: u8,
-    sector: u8,
-) -> Result<(), PictureFault>
-    ensures ok { OnOk result (Appends (W.contents out.old) (W.contents out.new)
-        (at_place (layer_arc layer drawing.now.map (drawn_in drawing.now)) (place_at track sector))) }
-    ensures err { IfErr result (λ fault. fault ≡ faults.File) }
-{
-    match Place::new(track, sector) {
-        Some(place) => put_layer(out, layer, drawing, place),
-        None => Ok(()),
-    }
-}
-
-/// Prints what a layer has on a track.
-fn put_layer_on<W: Write>(
-    out: &mut W,
-    layer: Layer,
-    drawing: &Drawing,
-    track: u8,
-) -> Result<(), PictureFault>
-    ensures ok { OnOk result (Appends (W.contents out.old) (W.contents out.new)
-        (each_below 21 (λ sector. at_place (layer_arc layer drawing.now.map (drawn_in drawing.now)) (place_at track sector)))) }
-    ensures err { IfErr result (λ fault. fault ≡ faults.File) }
-{
-    for sector in 0..SECTORS {
-        put_layer_at(out, layer, drawing, track, sector)?;
-    }
-    Ok(())
-}
-
-/// Prints a layer.
-fn put_layers<W: Write>(out: &mut W, layer: Layer, drawing: &Drawing) -> Result<(), PictureFault>
-    ensures ok { OnOk result (Appends (W.contents out.old) (W.contents out.new)
-        (each_place (layer_arc layer drawing.now.map (drawn_in drawing.now)))) }
-    ensures err { IfErr result (λ fault. fault ≡ faults.File) }
-{
-    for below in 0..TRACKS {
-        put_layer_on(out, layer, drawing, below + 1)?;
-    }
-    Ok(())
-}
-
-/// Prints the group of all other sectors, and the white lines.
-fn put_rest<W: Write>(out: &mut W, drawing: &Drawing) -> Result<(), PictureFault>
-    ensures ok { OnOk result (Appends (W.contents out.old) (W.contents out.new)
-        (rest_group drawing.now.map (drawn_in drawing.now))) }
-    ensures err { IfErr result (λ fault. fault ≡ faults.File) }
-{
-    put(out, "<g id=\"r\">\n")?;
-    put_layers(out, Layer::Others, drawing)?;
-    put_layers(out, Layer::Open, drawing)?;
-    put(out, GROUP_END)
 }
 
 /// Prints the rows of the table.
@@ -319,7 +223,8 @@ fn put_drawing<W: Write>(
 {
     put_system(out, drawing)?;
     put_files(out, drawing)?;
-    put_rest(out, drawing)?;
+    put_layer_group(out, Layer::Others, drawing)?;
+    put_layer_group(out, Layer::Open, drawing)?;
     put_fault(out, found)
 }
 

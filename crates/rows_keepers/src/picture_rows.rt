@@ -1,5 +1,5 @@
 //! Maps and pictures of the blank disk for two tills with bytes changed, compared by length and Adler-32 with those that
-//! a plain Python program printed of the same disks; and what is refused.
+//! a plain program printed of the same disks; and what is refused.
 use crate::comparing::same_at;
 use crate::disks::{Change, changed};
 use disk_layout::Fault;
@@ -11,30 +11,30 @@ use std::process::Abort;
 /// file whose block links to itself; a name with all that HTML escapes beside a free bit of a block; an open entry; a
 /// name of the disk that would be a script, beside a sector that is taken and of no file.
 const DRAWN: [(&[Change], &str, (usize, u32), (usize, u32)); 5] = [
-    (&[], "", (953, 1142270344), (86662, 3143948309)),
+    (&[], "", (953, 1142270344), (66919, 2467359729)),
     (
         &[(18, 1, 34, &[0x82]), (17, 2, 0, &[17, 2])],
         "LOOP 17/2",
         (939, 2397676979),
-        (87002, 3253616892),
+        (67197, 1562722926),
     ),
     (
         &[(18, 1, 5, b"<B>&\"\xC1"), (18, 0, 69, &[0xF1])],
         "MAPWRONG 17/0",
         (969, 1940827406),
-        (87211, 3802825064),
+        (67307, 3217056455),
     ),
     (
         &[(18, 1, 34, &[0x44])],
         "UNCLOSED 18/1",
         (945, 2130552632),
-        (87000, 3176743634),
+        (67220, 3045608162),
     ),
     (
         &[(18, 0, 0x90, b"&<SCRIPT>"), (18, 0, 4, &[20, 0xFE])],
         "MAPWRONG 1/0",
         (963, 3336612860),
-        (87066, 1449612592),
+        (67259, 3103938122),
     ),
 ];
 

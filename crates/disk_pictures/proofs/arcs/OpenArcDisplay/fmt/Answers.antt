@@ -1,4 +1,4 @@
--- The circle, and its title.
+-- The circle.
 use Rattle.std.proofs.Common.{refl}
 use Rattle.std.proofs.Output.{has_written_of_eq}
 use Rattle.disk_pictures.specs.Pictures.{open_arc}

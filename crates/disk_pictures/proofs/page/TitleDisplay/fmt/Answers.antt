@@ -1,10 +1,10 @@
--- The disk's name and the style.
+-- The disk's name, the style and the dashes.
 use Rattle.std.proofs.Common.{refl}
 use Rattle.std.proofs.Output.{has_written_of_eq}
-use Rattle.disk_pictures.specs.Pictures.{style, title_text}
+use Rattle.disk_pictures.specs.Pictures.{dashes, style, title_text}
 use Rattle.disk_pictures.proofs.page.TitleDisplay.fmt.Goals as goal
 
 pub returns-clause-writes : goal.returns-clause-writes
-unfolding style title_text
+unfolding dashes style title_text
 returns-clause-writes g c = λ plain done. has_written_of_eq _ _ _ _ _
     (rw (c.header_name.ensures) refl) (c.write.ensures.writes plain done)

@@ -1,6 +1,6 @@
 -- One sector more was printed.
 use Rattle.disk_pictures.proofs.Printing.{below-more, none-below}
-use Rattle.disk_pictures.proofs.picture_printing.put_layer_on.Goals as goal
+use Rattle.disk_pictures.proofs.layers.put_layer_on.Goals as goal
 
 pub loop-sector-init : goal.loop-sector-init
 loop-sector-init g c = none-below _ _

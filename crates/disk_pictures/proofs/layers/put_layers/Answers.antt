@@ -2,7 +2,7 @@
 use Rattle.std.proofs.Common.{arith}
 use Rattle.disk_pictures.proofs.Printing.{all-below, below-more, none-below}
 use Rattle.disk_pictures.specs.Pictures.{each_place}
-use Rattle.disk_pictures.proofs.picture_printing.put_layers.Goals as goal
+use Rattle.disk_pictures.proofs.layers.put_layers.Goals as goal
 
 pub loop-below-init : goal.loop-below-init
 loop-below-init g c = none-below _ _

@@ -5,7 +5,7 @@ use Rattle.d64_image.specs.Places.{place_at}
 use Rattle.disk_pictures.specs.Held.{drawn_in}
 use Rattle.disk_pictures.specs.Pictures.{layer_arc}
 use Rattle.std.specs.Io.KnownBytes.{Appends}
-use Rattle.disk_pictures.proofs.picture_printing.put_layers.Given as goal
+use Rattle.disk_pictures.proofs.layers.put_layers.Given as goal
 
 abbrev pub invariant-loop-below : goal.invariant-loop-below
 invariant-loop-below g l = Appends (g.W.Write.contents l.fn.out) (g.W.Write.contents l.out)
