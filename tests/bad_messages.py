@@ -49,10 +49,23 @@ class Trial(tills.Trial):
         self.broker.start()
         self.bridges = [self.bridge("A")]
         self.first = self.bridges[0].process.pid
-        self.refused = self.broker.link("refused")
-        self.until(lambda: self.heard_from(self.refused, "hello"), "a first reply")
-        while self.heard_from(self.refused):
-            pass
+        self.until(self.is_heard, "a first reply")
+        self.refused = self.listening("refused")
+
+    def is_heard(self):
+        """Whether till 3 is told of a request before its time: then the bridge has its asks."""
+        link = self.listening(3)
+        reply = self.heard_from(link, "3,9,S,1,1")
+        link.close()
+        return reply == "3,9,AHEAD"
+
+    def listening(self, till):
+        """A till's link; over MQTT it has subscribed by the time that it sends."""
+        link = self.broker.link(till)
+        if self.given.over == "mqtt":
+            self.until(link.client.is_connected, "a connection")
+            time.sleep(1)
+        return link
 
     def broker_in(self, folder):
         return tills.Rabbit(folder, count=1) if self.given.over == "rabbit" else super().broker_in(folder)
@@ -88,15 +101,9 @@ class Trial(tills.Trial):
         for what, message in REFUSED.items():
             self.told(self.refused, message, SYNTAX, what)
         for what, (till, message, reply) in NAMED.items():
-            link = self.broker.link(till)
-            self.until(lambda: self.is_listening(link, till), f"an answer to till {till}")
+            link = self.listening(till)
             self.told(link, f"{till},{message}", f"{till},{reply}", what)
             link.close()
-
-    def is_listening(self, link, till):
-        """Whether the link hears what its till is told: to number 9 that comes before its time."""
-        early = self.heard_from(link, f"{till},9,S,1,1")
-        return early == f"{till},9," + ("AHEAD" if till <= TILLS else "NO TILL") and not self.heard_from(link)
 
     def away(self, seconds=5):
         """A till asks while the broker is away, and hears when it is back."""
