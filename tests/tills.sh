@@ -25,6 +25,8 @@ printf 'S,1,10\nI,1,3\nI,1,8\n' >"$work/wishes"
 printf '1 S,1,10 DONE,10\n2 I,1,3 DONE,7\n3 I,1,8 SHORT,7\n' | cmp - "$work/answers"
 echo "a till and a bridge over pipes: no difference"
 /usr/bin/python3 "$top/tests/kept_lines.py" "$program"
+for broker in rabbit mqtt; do "$top/tests/bad_messages.py" "$program" --over "$broker"; done
+"$top/tests/parted_nodes.py" "$program"
 
 if [ "${2:-}" = full ]; then
     "$top/tests/tills.py" "$program" --over rabbit --tills 64 --wishes 313 --every 30 --longest 3600 --timed 2000

@@ -67,9 +67,12 @@ class Machine(tills.Supervised):
             super().tend()
 
     def kill(self):
+        """Until the bridge is dead: one that was started just now may come into the namespace behind the first look."""
         self.is_up = False
+        while self.process.poll() is None:
+            self.signal(signal.SIGKILL)
+            time.sleep(0.01)
         self.signal(signal.SIGKILL)
-        self.process.wait()
 
     def boot(self):
         if not self.is_up:

@@ -7,7 +7,9 @@ The asks lie in the quorum queue `shop.1.asks`, which has a single active consum
 the others stand by. A message is acknowledged when the broker has confirmed its reply; a bridge that dies before
 leaves it to the next, whose repeat has no second effect. Replies go out over the exchange `shop.1.replies`, with the
 till's number as key. Where the connection is lost, `serve` is ended before another is sought: it may be that another
-bridge is the active one by then. How soon that is noticed is said by the URL (`?heartbeat=10`).
+bridge is the active one by then. How soon that is noticed is said by the URL (`?heartbeat=10`). Where no message comes
+for some seconds it is ended too, and started again by the next: when nodes of a cluster lose each other for a moment,
+another bridge may become the active one, and the one before isn't told.
 
 With --pipes it takes messages as lines of standard input and prints their replies, without a broker.
 
@@ -30,8 +32,8 @@ def declare(channel, asks, replies):
 class Bridge:
     """A consumer of one shop's asks."""
 
-    # how many messages are on their way to a bridge at a time
-    AHEAD = 16
+    # how many messages are on their way to a bridge at a time, and seconds without one until it lets the image go
+    AHEAD, IDLE = 16, 10
 
     def __init__(self, urls, name, serve):
         self.urls, self.serve = urls, serve
@@ -47,8 +49,19 @@ class Bridge:
                 self.connected()
             except (AMQPError, AMQPConnectorException, OSError) as fault:
                 shop.say(f"{self.asks}: the broker is away ({type(fault).__name__})")
-            self.serve.end()
+            self.let_go()
             time.sleep(1)
+
+    def idle(self):
+        if self.serve.is_open():
+            self.let_go()
+            shop.say(f"{self.asks}: stands by")
+
+    def let_go(self):
+        """Ends `serve`, so that another bridge may have the image."""
+        gone = self.serve.end()
+        if gone.status != 0:
+            raise gone
 
     def connected(self):
         """Serves over one connection, until it breaks."""
@@ -61,7 +74,10 @@ class Bridge:
             channel.confirm_delivery()
             channel.basic_qos(prefetch_count=self.AHEAD)
             shop.say(f"{self.asks}: stands by")
-            for method, _, message in channel.consume(self.asks):
+            for method, _, message in channel.consume(self.asks, inactivity_timeout=self.IDLE):
+                if method is None:
+                    self.idle()
+                    continue
                 if not self.serve.is_open():
                     self.serve.start(connection.sleep)
                     shop.say(f"{self.asks}: serving")

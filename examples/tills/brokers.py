@@ -70,10 +70,11 @@ class Child:
 
 
 class Rabbit:
-    """A RabbitMQ cluster of so many nodes, which takes a client for gone that says nothing for some heartbeats."""
+    """A RabbitMQ cluster of so many nodes, which takes a client for gone that says nothing for some heartbeats. `parted`
+    is what nodes do that lose each other."""
 
-    def __init__(self, folder, count=3, address=LOOPBACK, heartbeat=10):
-        self.folder, self.count, self.address = folder, count, address
+    def __init__(self, folder, count=3, address=LOOPBACK, heartbeat=10, parted="pause_minority"):
+        self.folder, self.count, self.address, self.parted = folder, count, address, parted
         names, ports = free_ports(count), free_ports(2 * count + 1)
         self.names = [f"ledger{name}@localhost" for name in names]
         self.ports, self.between, self.mapper = ports[:count], ports[count:-1], ports[-1]
@@ -90,7 +91,7 @@ class Rabbit:
         settings = [
             "cluster_formation.peer_discovery_backend = classic_config",
             "cluster_formation.discovery_retry_limit = 2",
-            "cluster_partition_handling = pause_minority",
+            f"cluster_partition_handling = {self.parted}",
             "vm_memory_high_watermark.absolute = 800MB",
             "log.file.level = warning",
             "loopback_users = none",
@@ -117,8 +118,8 @@ class Rabbit:
         }
         return {**os.environ, **set_here}
 
-    def control(self, *words):
-        command = [RABBIT_CONTROL, "-n", self.names[0], *words]
+    def control(self, *words, index=0):
+        command = [RABBIT_CONTROL, "-n", self.names[index], *words]
         return subprocess.run(command, env=self.environment(), capture_output=True, text=True).stdout.strip()
 
     def start(self):

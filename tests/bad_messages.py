@@ -1,0 +1,154 @@
+#!/usr/bin/python3
+"""Messages that are no request, over a real broker, and a broker that is away; `tests/tills.sh` runs it:
+
+    tests/bad_messages.py PROGRAM [--over rabbit|mqtt] [--folder FOLDER]
+
+One RabbitMQ node, or one mosquitto, is started on the loopback address, with one bridge of examples/tills. Each message
+has the reply of docs/MESSAGES.md under the key of its till, or under `refused` where it names none, and the bridge that
+took it lives on. Then the broker is killed: a till that asks meanwhile hears its answer when it is back, and once."""
+
+import argparse
+import tempfile
+import threading
+import time
+from pathlib import Path
+
+import tills
+import wishes
+from served import sure, want
+from shop_rule import SYNTAX
+
+TILLS = 8
+# seconds in which a reply has to come, and in which no second one may
+LONGEST, SILENT = 60, 0.5
+REFUSED = {
+    "no request": "no request",
+    "an empty message": "",
+    "an LF alone": "\n",
+    "10 MB": "7" * 10_000_000,
+    "10 MB that begin as a request": "1,1,S,1,1" + " " * 10_000_000,
+    "two requests with an LF between": "1,1,S,1,1\n2,1,S,1,1",
+    "a request behind an LF": "\n1,1,S,1,1",
+    "a power cut": "@3 1,1,S,1,1",
+    "each code up to 255": "".join(map(chr, range(256))),
+    "a till past all": "65,1,S,1,1",
+}
+NAMED = {
+    "a till past the shop's": (TILLS + 1, "1,S,1,1", "1,NO TILL"),
+    "a request": (1, "1,S,1,5", "1,DONE,5"),
+    "a request with its LF": (1, "2,R,1,2\n", "2,DONE,7"),
+    "a request with CR and LF": (1, "3,I,1,3\r\n", "3,DONE,4"),
+}
+
+
+class Trial(tills.Trial):
+    """A shop, one bridge, and the keys under which replies come."""
+
+    def start(self):
+        sure(self.program, "format", self.image, "--tills", TILLS)
+        self.broker.start()
+        self.bridges = [self.bridge("A")]
+        self.first = self.bridges[0].process.pid
+        self.until(self.is_heard, "a first reply")
+        self.refused = self.listening("refused")
+
+    def is_heard(self):
+        """Whether till 3 is told of a request before its time: then the bridge has its asks."""
+        link = self.listening(3)
+        reply = self.heard_from(link, "3,9,S,1,1")
+        link.close()
+        return reply == "3,9,AHEAD"
+
+    def listening(self, till):
+        """A till's link; over MQTT it has subscribed by the time that it sends."""
+        link = self.broker.link(till)
+        if self.given.over == "mqtt":
+            self.until(link.client.is_connected, "a connection")
+            time.sleep(1)
+        return link
+
+    def broker_in(self, folder):
+        return tills.Rabbit(folder, count=1) if self.given.over == "rabbit" else super().broker_in(folder)
+
+    def until(self, holds, what):
+        end = time.monotonic() + LONGEST
+        while not holds():
+            want(time.monotonic() < end, f"{what} didn't come; {Path(self.bridges[0].log).read_text()[-500:]}")
+            self.bridges[0].tend()
+            time.sleep(0.1)
+
+    def heard_from(self, link, message=None):
+        """The reply to this message, or the next one, or None."""
+        try:
+            if message is not None:
+                link.send(message)
+            return link.reply(SILENT)
+        except wishes.Away:
+            return None
+
+    def told(self, link, message, reply, what):
+        """Sends a message, which has this one reply."""
+        link.send(message)
+        replies = []
+        self.until(lambda: replies.append(self.heard_from(link)) or replies[-1], f"a reply to {what}")
+        want(replies[-1] == reply, f"{what} is told {replies[-1]}, and not {reply}")
+        second = self.heard_from(link)
+        want(second is None, f"{what} is told {second} besides")
+        lives = self.bridges[0].process
+        want(lives.poll() is None and lives.pid == self.first, f"the bridge didn't outlive {what}")
+
+    def messages(self):
+        for what, message in REFUSED.items():
+            self.told(self.refused, message, SYNTAX, what)
+        for what, (till, message, reply) in NAMED.items():
+            link = self.listening(till)
+            self.told(link, f"{till},{message}", f"{till},{reply}", what)
+            link.close()
+
+    def away(self, seconds=5):
+        """A till asks while the broker is away, and hears when it is back."""
+        self.broker.stop()
+        till, link, heard = wishes.Till(2), self.broker.link(2), []
+        till.wish("S,2,9")
+        asks = threading.Thread(target=lambda: heard.append(wishes.answer_to(till, link)), daemon=True)
+        asks.start()
+        time.sleep(seconds)
+        want(not heard, f"a till hears {heard} while the broker is away")
+        self.broker.start()
+        self.until(lambda: heard, "an answer when the broker is back")
+        link.close()
+        want(heard == ["DONE,9"], f"a till hears {heard} when the broker is back")
+
+    def judge(self):
+        self.end_bridges()
+        shown = sure(self.program, "show", self.image)[1:]
+        cards = ["CARD 1,4", "CARD 2,9", "TILL 1,3,I,1,3,DONE,4", "PRIOR 1,2,R,1,2,DONE,7", "TILL 2,1,S,2,9,DONE,9"]
+        want(shown == cards, f"show prints {shown}")
+        words = [self.kept, TILLS, self.folder / "new.d64", self.image, "--program", self.program]
+        sure(tills.PYTHON, tills.EXAMPLES / "rebuild.py", *words)
+
+
+def main():
+    parser = argparse.ArgumentParser(description=__doc__.splitlines()[0])
+    parser.add_argument("program")
+    parser.add_argument("--over", choices=sorted(tills.BROKERS), default="rabbit")
+    parser.add_argument("--folder", default="/var/tmp", help="a folder on the disk that is asked about")
+    parser.set_defaults(seed=0)
+    given = parser.parse_args()
+    with tempfile.TemporaryDirectory(dir=given.folder) as folder:
+        trial = Trial(given, Path(folder))
+        try:
+            trial.start()
+            trial.messages()
+            trial.away()
+            trial.judge()
+        finally:
+            for bridge in getattr(trial, "bridges", []):
+                bridge.kill()
+            trial.broker.stop()
+    count = len(REFUSED) + len(NAMED)
+    print(f"{given.over}: {count} messages, the bridge outlived each; a till over a broker that was away: no difference")
+
+
+if __name__ == "__main__":
+    main()
