@@ -2,7 +2,7 @@
 # Plays the day of the README on a fresh disk, and compares with what the README says that it prints; then judges a shelf of
 # disks, whose names have blanks, a quotation mark and a star, by the line of docs/KEEPERS.md:
 #   tests/examples.sh PROGRAM
-# PROGRAM is `crates/ledger_cli/out/ledger_cli`. The status is 1 where something differs.
+# PROGRAM is what `tools/program` prints. The status is 1 where something differs.
 top=$(CDPATH= cd -- "$(dirname -- "$0")/.." && pwd) || exit 1
 program=${1:?"which program?"}
 work=$(mktemp -d) || exit 1

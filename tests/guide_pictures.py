@@ -3,7 +3,7 @@
 
     tests/guide_pictures.py PROGRAM [--check]
 
-PROGRAM is `crates/ledger_cli/out/ledger_cli`. Each is the drawing of a page that `picture` prints of an image made anew
+PROGRAM is what `tools/program` prints. Each is the drawing of a page that `picture` prints of an image made anew
 by the program, cc1541 and cbmconvert (Debian's packages of these names); beside it stand, where it says so, the words and
 the table of the page. The arcs that a ring has in one colour are one circle of several dashes here; that they are the
 page's arcs is compared. With --check nothing is written: the status is 1 where a file isn't what would be written, where a

@@ -3,7 +3,7 @@
 
     tests/hurt_pictures.py PROGRAM [RANDOM] [PROCESSES] [SEED]
 
-PROGRAM is `crates/ledger_cli/out/ledger_cli`. The images, each of 174,848 bytes:
+PROGRAM is what `tools/program` prints. The images, each of 174,848 bytes:
 - RANDOM (10,000) of random bytes, nearly all without a directory;
 - RANDOM / 10 of random bytes whose directory is the one sector 18/1;
 - RANDOM / 10 in which each sector's link is some place of the disk and each entry is closed, with 1 to 18 sectors of

@@ -3,7 +3,7 @@
 
     tests/keepers_kill.py PROGRAM [KILLS] [SEED] [FOLDER]
 
-PROGRAM is `crates/ledger_cli/out/ledger_cli` (`./ledger --help` makes it). It is killed (SIGKILL) at random moments, a
+PROGRAM is what `tools/program` prints. It is killed (SIGKILL) at random moments, a
 third of KILLS in `repair`, in `store` and in `make`, on a disk with other files; images lie in FOLDER (/var/tmp), which
 has to be on a disk, so that each sync takes its time. After each kill
 - `check` says OK, or `repair` makes it so, and is killed some times itself before; nobody is told IN USE;

@@ -3,7 +3,7 @@
 
     tests/kill.py PROGRAM [KILLS] [SEED]
 
-PROGRAM is `crates/ledger_cli/out/ledger_cli` (`./ledger --help` makes it). It is killed (SIGKILL) at random moments until the day is over, and then another
+PROGRAM is what `tools/program` prints. It is killed (SIGKILL) at random moments until the day is over, and then another
 day begins on a fresh disk. After each kill
 - what was printed is the beginning of what `dry` prints for these lines;
 - the recovery itself is killed some times; then a whole one runs, and `check` says OK;

@@ -1,7 +1,7 @@
 #!/bin/sh
 # Looks at the pages of `picture` as a keeper does, with a real browser:
 #   tests/pictures.sh PROGRAM [FOLDER]
-# PROGRAM is `crates/ledger_cli/out/ledger_cli`. Wants Debian's packages chromium, librsvg2-bin, python3-pil, cc1541 and
+# PROGRAM is what `tools/program` prints. Wants Debian's packages chromium, librsvg2-bin, python3-pil, cc1541 and
 # cbmconvert; where one isn't installed, nothing is compared. In FOLDER, where it is given, images, pages and what the
 # browser shows of them are kept.
 # The disks: a blank one, a shop after the README's day, a full one, the same with a map that calls each sector free; one of

@@ -3,7 +3,7 @@
 
     tests/refused_memory.py PROGRAM [CUTS]
 
-PROGRAM is `crates/ledger_cli/out/ledger_cli`, and CUTS `crates/tool_every_cut/out/tool_every_cut`. Each of its words is run over and
+PROGRAM is what `tools/program` prints, and CUTS what `tools/program tool_every_cut` prints. Each of its words is run over and
 over: the first request for memory is refused, then the second, and so on, until a run has none left to refuse. Each time
 - it ends with status 3 and `NO MEMORY`, with nothing printed and no file changed;
 - or, where it can do without, it does and prints what it does with all its memory.

@@ -3,7 +3,7 @@
 
     tests/serve_ends.py PROGRAM
 
-PROGRAM is `crates/ledger_cli/out/ledger_cli` (`./ledger --help` makes it). It prints a line for each thing tried:
+PROGRAM is what `tools/program` prints. It prints a line for each thing tried:
 - a reply comes while the input stays open, and the lines are answered in order, however they come;
 - unfinished, empty, long and `@` lines, bytes that are no text; a line of many megabytes takes no memory;
 - two programs on one image, a holder that was killed, readers beside readers;

@@ -3,7 +3,7 @@
 
     tests/serve_kill.py PROGRAM [KILLS] [SEED]
 
-PROGRAM is `crates/ledger_cli/out/ledger_cli` (`./ledger --help` makes it). A client sends the lines of days of 1,500
+PROGRAM is what `tools/program` prints. A client sends the lines of days of 1,500
 lines of 64 tills, one at a time or up to eight ahead; `serve`, synced or not, is killed (SIGKILL) at random moments,
 also while it opens the shop, and started again at once: it is never told `IN USE`, for the lock falls with the
 process. What wasn't answered is sent again.

@@ -3,7 +3,7 @@
 
     tests/serve_power.py PROGRAM [CUTS] [SEED]
 
-PROGRAM is `crates/ledger_cli/out/ledger_cli` (`./ledger --help` makes it). A library that is loaded before it
+PROGRAM is what `tools/program` prints. A library that is loaded before it
 (`tests/power_loss.c`, made with `cc`) keeps what is written and not synced away from the file that stands for the
 medium; when power goes, a random subset of it comes there. Power goes at random moments of days of 1,500 lines of 64
 tills, and in the recoveries behind; each time `serve` is started on what the medium holds, and the line that had no

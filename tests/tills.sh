@@ -1,7 +1,7 @@
 #!/bin/sh
 # Tills, bridges and `serve` over brokers, all of which are killed now and then:
 #   tests/tills.sh PROGRAM [full]
-# PROGRAM is `crates/ledger_cli/out/ledger_cli` (`./ledger --help` makes it). Without `full` 8 tills with 40 wishes
+# PROGRAM is what `tools/program` prints. Without `full` 8 tills with 40 wishes
 # each over RabbitMQ and over MQTT, some two minutes; with it 64 tills and 20,000 wishes over RabbitMQ, and 64 and
 # 3,200 over MQTT. It wants Debian's packages rabbitmq-server, mosquitto, python3-pika and python3-paho-mqtt, and
 # installs nothing; the brokers are its own, on the loopback address. tests/tills.py says what is compared. The status

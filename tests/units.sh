@@ -1,7 +1,7 @@
 #!/bin/sh
 # The units of examples/tills under a systemd of their own:
 #   tests/units.sh PROGRAM
-# PROGRAM is `crates/ledger_cli/out/ledger_cli` (`./ledger --help` makes it). A container is started with this machine's
+# PROGRAM is what `tools/program` prints. A container is started with this machine's
 # /usr, to which the program and examples/tills come as their README installs them, and nothing else: its net is its
 # own loopback, and it falls at the end. In it tests/units.py starts, stops and kills the units by `systemctl`, over
 # mosquitto and over a RabbitMQ node, and tells what it sees. It wants to be root, and Debian's packages
