@@ -3,7 +3,7 @@
 #   tests/tills.sh PROGRAM [full]
 # PROGRAM is `crates/ledger_cli/out/ledger_cli` (`./ledger --help` makes it). First messages that are no request, a
 # broker that is away, and nodes of a cluster that lose each other. Then, over RabbitMQ and over MQTT, 8 tills with 40
-# wishes each, all in some six minutes; or with `full` 64 tills and 20,000 wishes, half an hour. It wants Debian's
+# wishes each, all in some five minutes; or with `full` 64 tills and 20,000 wishes, half an hour. It wants Debian's
 # packages rabbitmq-server, mosquitto, python3-pika and python3-paho-mqtt, and installs nothing; the brokers are its
 # own, on the loopback address. tests/tills.py says what is compared. The status is 1 at the first difference.
 set -eu
