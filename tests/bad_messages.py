@@ -146,8 +146,8 @@ def main():
             for bridge in getattr(trial, "bridges", []):
                 bridge.kill()
             trial.broker.stop()
-    count = len(REFUSED) + len(NAMED)
-    print(f"{given.over}: {count} messages, the bridge outlived each; a till over a broker that was away: no difference")
+    told = f"{len(REFUSED) + len(NAMED)} messages, the bridge outlived each"
+    print(f"{given.over}: {told}; a till over a broker that was away: no difference")
 
 
 if __name__ == "__main__":

@@ -1,11 +1,11 @@
 #!/bin/sh
 # Tills, bridges and `serve` over brokers, all of which are killed now and then:
 #   tests/tills.sh PROGRAM [full]
-# PROGRAM is what `tools/program` prints. Without `full` 8 tills with 40 wishes
-# each over RabbitMQ and over MQTT, some two minutes; with it 64 tills and 20,000 wishes over RabbitMQ, and 64 and
-# 3,200 over MQTT. It wants Debian's packages rabbitmq-server, mosquitto, python3-pika and python3-paho-mqtt, and
-# installs nothing; the brokers are its own, on the loopback address. tests/tills.py says what is compared. The status
-# is 1 at the first difference.
+# PROGRAM is what `tools/program` prints. First messages that are no request, a
+# broker that is away, and nodes of a cluster that lose each other. Then, over RabbitMQ and over MQTT, 8 tills with 40
+# wishes each, all in some five minutes; or with `full` 64 tills and 20,000 wishes, half an hour. It wants Debian's
+# packages rabbitmq-server, mosquitto, python3-pika and python3-paho-mqtt, and installs nothing; the brokers are its
+# own, on the loopback address. tests/tills.py says what is compared. The status is 1 at the first difference.
 set -eu
 top="$(CDPATH= cd -- "$(dirname -- "$0")/.." && pwd)"
 program="${1:?"which program?"}"
@@ -28,10 +28,5 @@ echo "a till and a bridge over pipes: no difference"
 for broker in rabbit mqtt; do "$top/tests/bad_messages.py" "$program" --over "$broker"; done
 "$top/tests/parted_nodes.py" "$program"
 
-if [ "${2:-}" = full ]; then
-    "$top/tests/tills.py" "$program" --over rabbit --tills 64 --wishes 313 --every 30 --longest 3600 --timed 2000
-    "$top/tests/tills.py" "$program" --over mqtt --tills 64 --wishes 50 --every 30 --longest 3600 --timed 2000
-else
-    "$top/tests/tills.py" "$program" --over rabbit
-    "$top/tests/tills.py" "$program" --over mqtt
-fi
+[ "${2:-}" = full ] && set -- --tills 64 --wishes 313 --every 30 --longest 3600 --timed 2000 || set --
+for broker in rabbit mqtt; do "$top/tests/tills.py" "$program" --over "$broker" "$@"; done
