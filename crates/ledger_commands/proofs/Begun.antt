@@ -1,5 +1,23 @@
 -- A file of an image, all of whose bytes are on the disk.
-use Rattle.std.proofs.Common.{◌≡◌, ◌∙◌, Bool, true, false, ℕ, List, Option, Some, None, ap, arith, length, refl, subst, sym, take}
+use Rattle.std.proofs.Common.{
+  ◌≡◌,
+  ◌∙◌,
+  Bool,
+  true,
+  false,
+  ℕ,
+  List,
+  Option,
+  Some,
+  None,
+  ap,
+  arith,
+  length,
+  refl,
+  subst,
+  sym,
+  take,
+}
 use Rattle.std.specs.Prelude.{IfSome}
 use Rattle.std.proofs.lemmas.Option.{none-some}
 use Rattle.std.proofs.lemmas.List.{length-take}
@@ -33,7 +51,8 @@ agrees_as (Some all) image given size =
     ap (λ o. kept_or o (sectors_in image)) (image_of-size all n)
     ∙ sym (ap sectors_in (given ∙ take_all 174849 all (omega (arith, n))))
 
-pub agrees_at : (b : Bool) (held lasting : Option (List ℕ)) (image : List ℕ) → IfSome held (λ all. image ≡ take 174849 all)
+pub agrees_at : (b : Bool) (held lasting : Option (List ℕ)) (image : List ℕ)
+    → IfSome held (λ all. image ≡ take 174849 all)
     → (b ≡ true → length image ≡ 174848) → (b ≡ true → lasting ≡ held) → Agrees (image_if b lasting) (sectors_in image)
 agrees_at true held lasting image given size same =
     ap (λ o. kept_or (image_of o) (sectors_in image)) (same refl) ∙ agrees_as held image given (size refl)

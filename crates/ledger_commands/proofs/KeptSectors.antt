@@ -1,5 +1,30 @@
 -- Sectors that a file keeps at their places, and what stays of them.
-use Rattle.std.proofs.Common.{◌≡◌, ◌≤◌, ◌+◌, ◌⊎◌, ◌∙◌, Bool, true, false, ℕ, zero, suc, List, Option, Some, None, Result, Ok, Err, ap, arith, length, refl, subst, sym}
+use Rattle.std.proofs.Common.{
+  ◌≡◌,
+  ◌≤◌,
+  ◌+◌,
+  ◌⊎◌,
+  ◌∙◌,
+  Bool,
+  true,
+  false,
+  ℕ,
+  zero,
+  suc,
+  List,
+  Option,
+  Some,
+  None,
+  Result,
+  Ok,
+  Err,
+  ap,
+  arith,
+  length,
+  refl,
+  subst,
+  sym,
+}
 use Rattle.std.specs.Prelude.{OnErr, OnOk}
 use Rattle.std.proofs.lemmas.Result.{on_ok_weaker}
 use Rattle.d64_image.specs.Images.{Image, IsSector}
@@ -46,10 +71,12 @@ module _ {F : Type 0} {G : Ghosts F} (a : Placed F G) (p : Place) (bytes : List 
       → is_synced a → BringsSector G.held G.lasting a.file new (offset_of p) bytes r
   brings_so new r n e going lasts synced =
       subst (λ m. BringsSector G.held G.lasting a.file new m bytes r) e
-      (lasts (a.each synced) (a.there synced (going synced)) (sector_in (G.lasting.bytes a.file) p n bytes is e (a.whole synced)))
+      (lasts (a.each synced) (a.there synced (going synced))
+      (sector_in (G.lasting.bytes a.file) p n bytes is e (a.whole synced)))
 
 module _ {F : Type 0} {G : Ghosts F} (a b : Placed F G) (p : Place) (bytes : List ℕ) (is : IsSector bytes) where
-  held_so : a.synced ≡ b.synced → GrowsOn a b → (is_synced a → StaysOr G.lasting a.file b.file (overwritten_in (G.lasting.bytes a.file) (offset_of p) bytes))
+  held_so : a.synced ≡ b.synced → GrowsOn a b
+      → (is_synced a → StaysOr G.lasting a.file b.file (overwritten_in (G.lasting.bytes a.file) (offset_of p) bytes))
       → KeptOnly placed a b (λ c. (placed.kept a ≡ Some c) ⊎ (put_kept (placed.kept a) p bytes ≡ Some c))
   held_so same grows stays = record {
     reached = grows;
@@ -71,7 +98,9 @@ module _ {F : Type 0} {G : Ghosts F} (a b : Placed F G) (p : Place) (bytes : Lis
         (kept_ok G.lasting a.file b.file p bytes is a.synced a.whole e))
         (on_ok_if _ _ r (λ s. (brings s).ok));
     err = on_err_of _ r
-        (subst (λ s. (image_if s (G.lasting.bytes b.file) ≡ placed.kept a) ⊎ (image_if s (G.lasting.bytes b.file) ≡ put_kept (placed.kept a) p bytes))
+        (subst
+        (λ s. (image_if s (G.lasting.bytes b.file) ≡ placed.kept a)
+        ⊎ (image_if s (G.lasting.bytes b.file) ≡ put_kept (placed.kept a) p bytes))
         (sym grows.synced)
         (kept_either G.lasting a.file b.file p bytes is a.synced a.whole (λ s. (brings s).stays)));
     held = held_so (sym grows.synced) grows (λ s. (brings s).stays);

@@ -1,5 +1,26 @@
 -- Sectors that are written and then brought to the disk.
-use Rattle.std.proofs.Common.{◌≡◌, ◌≤◌, ◌⊎◌, ◌∙◌, ℕ, List, Option, Some, Result, Ok, Err, ap, arith, inl, inr, length, subst, sym, ⊎_elim, refl}
+use Rattle.std.proofs.Common.{
+  ◌≡◌,
+  ◌≤◌,
+  ◌⊎◌,
+  ◌∙◌,
+  ℕ,
+  List,
+  Option,
+  Some,
+  Result,
+  Ok,
+  Err,
+  ap,
+  arith,
+  inl,
+  inr,
+  length,
+  subst,
+  sym,
+  ⊎_elim,
+  refl,
+}
 use Rattle.std.specs.Prelude.{None, OnOk}
 use Rattle.std.proofs.Math.Seq.{take-length}
 use Rattle.std.proofs.lemmas.Result.{on_ok_weaker}
@@ -11,8 +32,11 @@ use Rattle.ledger_commands.specs.Lasting.{IsSectorIn, LacksASector, Lasting, Sta
 pub written-then : {E : Type 0} (old mid new : Option (List ℕ)) (n : ℕ) (bytes : List ℕ) (r : Result Unit E)
     → IsOverwritten old mid n bytes → new ≡ mid → WritesOver old new n bytes r
 written-then old mid new n bytes (Ok _) written same = subst (λ x. IsOverwritten old x n bytes) (sym same) written
-written-then old mid new n bytes (Err _) written same =
-    (length bytes, subst (λ xs. IsOverwritten old new n xs) (sym (take-length bytes)) (subst (λ x. IsOverwritten old x n bytes) (sym same) written))
+written-then old mid new n bytes (Err _) written same = (
+  length bytes,
+  subst (λ xs. IsOverwritten old new n xs) (sym (take-length bytes))
+      (subst (λ x. IsOverwritten old x n bytes) (sym same) written),
+)
 
 -- of a file that is known to be as long, or not known
 held_is : (o new : Option (List ℕ)) (n : ℕ) (bytes : List ℕ) → IsOverwritten o new n bytes → IsSectorIn o n bytes
@@ -27,7 +51,8 @@ module _ {F : Type 0} (held : F → Option (List ℕ)) (L : Lasting F) (a b c : 
   -- what stayed up to now and then is what stayed
   stays_on : StaysOr L a b next → StaysOr L b c next → StaysOr L a c next
   stays_on x y =
-      let among : (all : List ℕ) → (L.bytes b ≡ Some all) ⊎ (next ≡ Some all) → (L.bytes a ≡ Some all) ⊎ (next ≡ Some all) =
+      let among : (all : List ℕ) → (L.bytes b ≡ Some all) ⊎ (next ≡ Some all)
+      → (L.bytes a ≡ Some all) ⊎ (next ≡ Some all) =
       λ all h. ⊎_elim (λ e. ⊎_elim (λ s. inl (sym s ∙ e)) (λ s. inr (sym s ∙ e)) x.now) (λ e. inr e) h in
       record {
         now = ⊎_elim (λ e. ⊎_elim (λ s. inl (e ∙ s)) (λ s. inr (e ∙ s)) x.now) (λ e. inr e) y.now;
@@ -40,15 +65,22 @@ module _ {F : Type 0} (held : F → Option (List ℕ)) (L : Lasting F) (a b c : 
   -- the sector that was written alone isn't there, or it is
   lacks : StaysOr L a b next → IsSectorIn (L.bytes a) n bytes → held b ≡ next → LacksASector (L.bytes b) (held b)
   lacks x is e = ⊎_elim
-      (λ s. inr (n, bytes, subst (λ o. IsSectorIn o n bytes) (sym s) is, e ∙ ap (λ o. overwritten_in o n bytes) (sym s)))
+      (λ s. inr (
+        n,
+        bytes,
+        subst (λ o. IsSectorIn o n bytes) (sym s) is,
+        e ∙ ap (λ o. overwritten_in o n bytes) (sym s),
+      ))
       (λ s. inl (s ∙ sym e))
       x.now
 
+  -- a sector that was written and then brought there
   pub brought : {E : Type 0} (r : Result Unit E) → AllStays held L a → IsSectorIn (L.bytes a) n bytes
       → IsOverwritten (held a) (held b) n bytes → StaysOr L a b next → held c ≡ held b
       → (LacksASector (L.bytes b) (held b) → StaysOr L b c (held b)) → OnOk r (AllStays held L c)
       → BringsSector held L a c n bytes r
   brought r there is written x same stays lasting =
-      let e : held b ≡ next = held_is (L.bytes a) (held b) n bytes (subst (λ o. IsOverwritten o (held b) n bytes) (sym there) written) is in
+      let e : held b ≡ next = held_is (L.bytes a) (held b) n bytes
+      (subst (λ o. IsOverwritten o (held b) n bytes) (sym there) written) is in
       let y : StaysOr L b c next = subst (λ o. StaysOr L b c o) e (stays (lacks x is e)) in
       record { stays = stays_on x y; ok = on_ok_weaker r (λ l. l ∙ same ∙ e) lasting; all = lasting }

@@ -9,12 +9,12 @@ use Rattle.ledger_commands.specs.declared.durable.Durability.TheVariants as dura
 abbrev pub AllStays : {F : Type 0} → (held : F → Option (List ℕ)) → Lasting F → F → Type 0
 AllStays held L file = L.bytes file ≡ held file
 
--- where each sector is brought to the disk, so it is
+-- where each sector is brought to the disk, all that the file holds stays
 abbrev pub IsSynced : {F : Type 0} → (held : F → Option (List ℕ)) → Lasting F → Durability → F → Type 0
 IsSynced held L durability file = durability ≡ durabilities.EachSector → AllStays held L file
 
--- In a file of which the bytes are known, and which is as long, these stand in place of those from n on, and nothing else
--- changed. One of which they aren't stays so.
+-- In a file of which the bytes are known, and which is as long, these stand in place of those from n on, and nothing
+-- else changed. One of which they aren't known stays so.
 abbrev pub IsOverwritten : (old new : Option (List ℕ)) → ℕ → List ℕ → Type 0
 IsOverwritten None new n bytes = new ≡ None
 IsOverwritten (Some all) new n bytes = n + length bytes ≤ length all → new ≡ Some (overwritten all n bytes)

@@ -1,5 +1,21 @@
 -- The image of a disk that stays where the machine loses power, of a file that says which bytes do. Our own.
-use Rattle.std.specs.Prelude.{◌≡◌, ◌<◌, ◌≤◌, ◌==◌, Bool, true, false, ℕ, List, None, Option, Some, length, slice_index, if◌then◌else◌}
+use Rattle.std.specs.Prelude.{
+  ◌≡◌,
+  ◌<◌,
+  ◌≤◌,
+  ◌==◌,
+  Bool,
+  true,
+  false,
+  ℕ,
+  List,
+  None,
+  Option,
+  Some,
+  length,
+  slice_index,
+  if◌then◌else◌,
+}
 use Rattle.std.proofs.Common.{◌∙◌, ap, refl, subst, sym}
 use Rattle.std.proofs.lemmas.Bool.{eq-eqb, eqb-true}
 use Rattle.d64_image.specs.Images.{Image, IsImage}
@@ -32,8 +48,10 @@ are_image (Some all) c e = are_image_if (length all == 174848) all c (eqb-true (
 pub image_of-size : (all : List ℕ) → length all ≡ 174848 → image_of (Some all) ≡ Some (sectors_in all)
 image_of-size all size = ap (λ b. if b then Some (sectors_in all) else None) (eq-eqb (length all) 174848 size)
 
-pub sectors_are_image : (all : List ℕ) → length all ≡ 174848 → ((i : ℕ) → slice_index all i < 256) → IsImage (sectors_in all)
-sectors_are_image all size small = subst IsImage (chunks_are_sectors all 683 refl) (chunks_are_image all 683 refl size small)
+pub sectors_are_image : (all : List ℕ) → length all ≡ 174848 → ((i : ℕ) → slice_index all i < 256)
+    → IsImage (sectors_in all)
+sectors_are_image all size small =
+    subst IsImage (chunks_are_sectors all 683 refl) (chunks_are_image all 683 refl size small)
 
 -- what is known of the bytes of a disk that are brought there sector by sector, and nothing of another's
 abbrev pub image_if : Bool → Option (List ℕ) → Option Image
@@ -50,13 +68,19 @@ stayed_if L synced file t c = (all : List ℕ) × L.stayed file t all × (image_
 
 module _ {F : Type 0} (L : Lasting F) where
   pub whole_if : (b : Bool) (f : F) (c : Image) → image_if b (L.bytes f) ≡ Some c → IsImage c
-  whole_if true f c e = let x = are_image (L.bytes f) c e in subst IsImage x.image (sectors_are_image x.all x.size (L.small f x.all x.are))
+  whole_if true f c e =
+      let x = are_image (L.bytes f) c e in
+      subst IsImage x.image (sectors_are_image x.all x.size (L.small f x.all x.are))
   whole_if false f c e = none_kept e
 
-  pub now_if : (b : Bool) (f : F) (t : ℕ) → t ≤ moment_if b (L.moment f) → (c : Image) → image_if b (L.bytes f) ≡ Some c → stayed_if L b f t c
-  now_if true f t le c e = let x = are_image (L.bytes f) c e in (x.all, L.now f t le x.all x.are, ap image_of (sym x.are) ∙ e)
+  pub now_if : (b : Bool) (f : F) (t : ℕ) → t ≤ moment_if b (L.moment f) → (c : Image)
+      → image_if b (L.bytes f) ≡ Some c → stayed_if L b f t c
+  now_if true f t le c e =
+      let x = are_image (L.bytes f) c e in
+      (x.all, L.now f t le x.all x.are, ap image_of (sym x.are) ∙ e)
   now_if false f t le c e = none_kept e
 
-  pub only_now_if : (b : Bool) (f : F) (c : Image) → stayed_if L b f (moment_if b (L.moment f)) c → image_if b (L.bytes f) ≡ Some c
+  pub only_now_if : (b : Bool) (f : F) (c : Image) → stayed_if L b f (moment_if b (L.moment f)) c
+      → image_if b (L.bytes f) ≡ Some c
   only_now_if true f c h = ap image_of (L.only_now f h.0 h.1) ∙ h.2
   only_now_if false f c h = none_kept h.2

@@ -27,8 +27,9 @@ module _ {F : Type 0} {G : Ghosts F} where
     pub durability : new.durability ≡ old.durability
     pub synced : new.synced ≡ old.synced
 
-  -- Where each sector is brought to the disk, and all else was there, such a file keeps what stays where the machine loses
-  -- power. Else what it keeps isn't known: a sector that it took in part would be neither the old one nor the new.
+  -- Where each sector is brought to the disk, and all else is there, such a file keeps what stays where the
+  -- machine loses power. Else what it keeps isn't known: a sector that it took in part would be neither the old one
+  -- nor the new.
   abbrev pub placed : Keeps (Placed F G)
   placed = record {
     kept = λ p. image_if p.synced (G.lasting.bytes p.file);

@@ -78,6 +78,7 @@ impl<F: WritesAt> Placed<F> {
     }
 
     /// Whether it failed to bring a sector to the disk: it isn't asked again then.
+    #[inline(always)]
     fn is_stopped(&self) -> bool
         ensures { result ≡ true ↔ (is_synced self.now × (1 ≤ placed.failures self.now)) }
     {

@@ -12,8 +12,8 @@ use Rattle.ledger_commands.specs.declared.placed.Placed.{Placed}
 use Rattle.ledger_program.specs.DurableRuns.{IsDurableRun}
 use Rattle.ledger_program.specs.Ends.{Ended}
 
-module _ {F : Type 0} {G : Ghosts F} (durability : Durability) (image : List ℕ) (file after : F) (first left last : Placed F G)
-    (end ended : Ended) (IsRun : Placed F G → Placed F G → Ended → Type 0) where
+module _ {F : Type 0} {G : Ghosts F} (durability : Durability) (image : List ℕ) (file after : F)
+    (first left last : Placed F G) (end ended : Ended) (IsRun : Placed F G → Placed F G → Ended → Type 0) where
   -- whatever the run was, its file was taken up, brought to the disk and handed back
   pub durable_run : placed_file first ≡ file → after ≡ placed_file last → IsRun first left end
       → (ended ≡ end) ⊎ (ended ≡ Err faults.Device) → G.held (placed_file last) ≡ G.held (placed_file left)

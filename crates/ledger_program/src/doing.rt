@@ -1,22 +1,17 @@
 //! Doing a job: its files are opened and read, and what is printed goes to an output.
-ghost use Rattle.std.specs.Prelude.{◌≡◌, ◌≤◌, IfErr, IfOk, IfSome, Err, length, vec_items};
-ghost use Rattle.d64_image.specs.Keeps.{Agrees};
-ghost use Rattle.d64_image.specs.Memory.{sectors_in};
+ghost use Rattle.std.specs.Prelude.{◌≡◌, ◌≤◌, IfErr, IfOk, IfSome, Err, vec_items};
 ghost use Rattle.std.specs.IoError.{error_kind};
 ghost use Rattle.ledger_commands.specs.Faults.{io_fault};
-ghost use Rattle.ledger_commands.specs.Placed.{is_synced, placed};
 ghost use Rattle.ledger_program.specs.Ends.{as_drawn, as_job, as_kept, told_of};
-ghost use Rattle.keeper_commands.specs.Makes.{IsNewName};
 ghost use Rattle.ledger_program.specs.Jobs.{IsFit, needed};
-ghost use Rattle.ledger_program.specs.Names.{name_bytes};
 ghost use Rattle.ledger_program.specs.Runs.{IsReadingEnd, IsReadingOf};
-ghost use Rattle.rel_records.specs.File.{IsLength};
 
 use crate::drawing::drawing_run;
 use crate::durable_runs::{play_durably, serve_durably};
 use crate::files::{AtPath, STANDARD_INPUT, opened, room_for, script_at};
 use crate::jobs::{Drawing, Job, Reading, Taking};
-use crate::keeping::{make_run, repair_run, store_run, taking_run};
+use crate::keeping::taking_run;
+use crate::keeping_files::{do_make, do_repair, do_store};
 use crate::names::Name;
 use crate::owning::{own_image, read_shared, share};
 use crate::refusals::Refusal;
@@ -25,16 +20,14 @@ use disk_layout::Fault;
 use disk_pictures::PictureFault;
 use host_session::Printer;
 use keeper_commands::KeepFault;
-use ledger_commands::{
-    Durability, EndedFile, Locks, Placed, Replaced, RunFault, read_image, read_script,
-};
+use ledger_commands::{Durability, EndedFile, Locks, Replaced, RunFault, read_image, read_script};
 use std::alloc::Global;
 use std::fs::{File, OpenFile};
 use std::io::{self, BufReader, Read, Write};
 use std::rt::Files;
 
 /// What came of the system's part of a job, as it is told.
-fn told<T>(taken: io::Result<T>) -> Result<T, Refusal>
+pub(crate) fn told<T>(taken: io::Result<T>) -> Result<T, Refusal>
     ensures { result ≡ told_of taken }
 {
     match taken {
@@ -54,7 +47,7 @@ fn job_end(ended: Result<Option<Fault>, RunFault>) -> Result<Option<Fault>, Refu
 }
 
 /// What came of a run over the files of an image, as a job's end.
-fn kept_end(ended: Result<(), KeepFault>) -> Result<Option<Fault>, Refusal>
+pub(crate) fn kept_end(ended: Result<(), KeepFault>) -> Result<Option<Fault>, Refusal>
     ensures { result ≡ as_kept ended }
 {
     match ended {
@@ -225,87 +218,6 @@ where
         &mut printer,
     );
     job_end(ended)
-}
-
-/// The file at a path that a keeper's job writes, and its bytes: it is this program's alone, and what it holds is on the
-/// disk. Each sector is brought to the disk before the next is written.
-fn image_to_keep<F, R>(rt: &R, path: &str) -> Result<(Vec<u8>, Placed<F>), Refusal>
-where
-    F: Read + Locks + Drop,
-    R: Files<File = F> + AllocGlobal,
-    ensures synced { IfOk result (λ taken. length (vec_items taken.0) ≡ 174848 → is_synced taken.1) }
-    ensures agrees { IfOk result (λ taken. Agrees (placed.kept taken.1) (sectors_in (vec_items taken.0))) }
-{
-    let durability = Durability::EachSector;
-    let mut file = told(opened(rt, path))?;
-    let image = own_image(rt.alloc(), &mut file, durability)?;
-    let placed = Placed::of_image(file, durability, image.as_slice());
-    Ok((image, placed))
-}
-
-/// Repairs the image at a path, over its file.
-fn do_repair<F, R, W>(rt: &R, path: &str, out: &mut W) -> Result<Option<Fault>, Refusal>
-where
-    F: Read + Locks + Drop,
-    R: Files<File = F> + AllocGlobal,
-    W: Write,
-{
-    let (image, file) = image_to_keep(rt, path)?;
-    let (_, ended) = repair_run(rt.alloc(), image.as_slice(), file, out);
-    kept_end(ended)
-}
-
-/// Makes a relative file on the disk of the image at a path, over its file.
-fn do_make<F, R, W>(
-    rt: &R,
-    path: &str,
-    name: &Name,
-    length: u8,
-    out: &mut W,
-) -> Result<Option<Fault>, Refusal>
-where
-    F: Read + Locks + Drop,
-    R: Files<File = F> + AllocGlobal,
-    W: Write,
-    requires name { IsNewName (name_bytes name.now) }
-    requires length { IsLength length }
-{
-    let (image, file) = image_to_keep(rt, path)?;
-    let (_, ended) = make_run(
-        rt.alloc(),
-        image.as_slice(),
-        name.as_bytes(),
-        length,
-        file,
-        out,
-    );
-    kept_end(ended)
-}
-
-/// Stores the records of the text at a path in a relative file of the image at another, over its file.
-fn do_store<F, R, W>(
-    rt: &R,
-    path: &str,
-    name: &Name,
-    records: &str,
-    out: &mut W,
-) -> Result<Option<Fault>, Refusal>
-where
-    F: Read + Locks + Drop,
-    R: Files<File = F> + Input + AllocGlobal,
-    W: Write,
-{
-    let (image, file) = image_to_keep(rt, path)?;
-    let text = told(script_at(rt, records))?;
-    let (_, ended) = store_run(
-        rt.alloc(),
-        image.as_slice(),
-        name.as_bytes(),
-        text.as_slice(),
-        file,
-        out,
-    );
-    kept_end(ended)
 }
 
 /// The bytes of the image at a path, which nobody writes while it is read, or of standard input.

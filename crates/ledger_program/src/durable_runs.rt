@@ -53,7 +53,7 @@ pub fn serve_durably<F: WritesAt, R: BufRead, T: Tells<Mirror<Placed<F>>>>(
     requires image { IfSome (F.held file) (λ all. image.now ≡ take 174849 all) }
     ensures run { IsDurableRun {G = F.WritesAt.own} durability image.now file result.0 result.1
         (λ first left end. IsServeRun placed R.remaining T.output image.now first left
-            input.old input.new out.old out.new end) }
+        input.old input.new out.old out.new end) }
 {
     let placed = Placed::of_image(file, durability, image);
     let (mut left, ended) = serve_run(alloc, image, placed, input, out);

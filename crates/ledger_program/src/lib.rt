@@ -8,6 +8,7 @@ mod explaining;
 mod files;
 mod jobs;
 mod keeping;
+mod keeping_files;
 mod names;
 mod owning;
 mod refusals;

@@ -7,30 +7,32 @@ use host_session::Printer;
 use ledger_commands::{Durability, Placed, RunFault, play_file, show_image};
 use std::process::Abort;
 
-/// A script, and its replies.
-const SCRIPT: &[u8] = b"1,1,S,42,120\n2,1,S,7,5\n2,2,M,42,30,7\n";
+/// What was played before, and then a script and its replies.
+const BEFORE: &[u8] = b"1,1,S,42,120\n";
 
-const REPLIES: &[u8] = b"1,1,DONE,120\n2,1,DONE,5\n2,2,DONE,90,35\n";
+const SCRIPT: &[u8] = b"1,2,I,42,20\n1,3,I,42,200\n";
 
-/// What is shown of the shop before its lines and after each.
-const SHOPS: [&[u8]; 4] = [
-    b"TOP 9256\n",
+const REPLIES: &[u8] = b"1,2,DONE,100\n1,3,SHORT,100\n";
+
+/// What is shown of the shop before the script's lines and after each.
+const SHOPS: [&[u8]; 3] = [
     b"TOP 9256\nCARD 42,120\nTILL 1,1,S,42,120,DONE,120\n",
-    b"TOP 9256\nCARD 7,5\nCARD 42,120\nTILL 1,1,S,42,120,DONE,120\nTILL 2,1,S,7,5,DONE,5\n",
-    b"TOP 9256\nCARD 7,35\nCARD 42,90\nTILL 1,1,S,42,120,DONE,120\nTILL 2,2,M,42,30,7,DONE,90,35\nPRIOR 2,1,S,7,5,DONE,5\n",
+    b"TOP 9256\nCARD 42,100\nTILL 1,2,I,42,20,DONE,100\nPRIOR 1,1,S,42,120,DONE,120\n",
+    b"TOP 9256\nCARD 42,100\nTILL 1,3,I,42,200,SHORT,100\nPRIOR 1,2,I,42,20,DONE,100\n",
 ];
 
-/// Plays the script on a machine's image, so: how that ends, and what was told.
+/// Plays a script on a machine's image, brought to its disk so: how that ends, and what was told.
 fn played(
     rt: &(impl AllocGlobal + Abort),
     machine: &Machine,
+    script: &[u8],
     durability: Durability,
 ) -> (Result<(), RunFault>, Vec<u8>) {
     let image = machine.disk(rt.alloc());
     let mut out = blank_paper(rt);
     let file = Placed::of_image(OnMachine { machine }, durability, image.as_slice());
     let mut printer = Printer::new(&mut out);
-    let ended = match play_file(rt.alloc(), image.as_slice(), SCRIPT, file, &mut printer) {
+    let ended = match play_file(rt.alloc(), image.as_slice(), script, file, &mut printer) {
         Ok(_) => Ok(()),
         Err((fault, _)) => Err(fault),
     };
@@ -64,57 +66,53 @@ fn is_shop(shown: &[u8], shops: &[&[u8]]) -> bool {
     shops.iter().any(|shop| *shop == shown)
 }
 
-/// Sees that power that goes in this call leaves the shop after the lines that were told, or with the next one, and that the
-/// whole script is told there as ever. Whether it went before the script's end.
+/// Sees that power that goes in this call leaves the shop after the lines that were told, or with the next one. Whether it went
+/// before the script's end.
 fn is_durable(rt: &(impl AllocGlobal + Abort), image: &[u8], call: usize, done: bool) -> bool {
     let machine = Machine::new(rt.alloc(), image, call, done);
-    let (_, told) = played(rt, &machine, Durability::EachSector);
+    let (_, told) = played(rt, &machine, SCRIPT, Durability::EachSector);
     let lines = told_lines(told.as_slice());
-    let left = machine.disk(rt.alloc());
-    let shown = shown_of(rt, left.as_slice());
+    let shown = shown_of(rt, machine.disk(rt.alloc()).as_slice());
     let shops = SHOPS.get(lines..).unwrap_or_default();
     let shops = shops.get(..shops.len().min(2)).unwrap_or_default();
     holds(rt, is_shop(shown.as_slice(), shops), (call, done));
-    let again = Machine::new(rt.alloc(), left.as_slice(), usize::MAX, done);
-    let (ended, replies) = played(rt, &again, Durability::EachSector);
-    same_at(
-        rt,
-        (ended, replies.as_slice()),
-        (Ok(()), REPLIES),
-        (call, done),
-    );
     machine.is_dark()
 }
 
-/// Sees the same of each call.
-fn each_is_durable(rt: &(impl AllocGlobal + Abort), image: &[u8], done: bool) -> usize {
-    for call in 1..200usize {
-        if !is_durable(rt, image, call, done) {
-            return call;
-        }
+/// The image of a shop that has a card.
+fn begun(rt: &(impl AllocGlobal + Abort)) -> Vec<u8> {
+    let image = formatted(rt, 2);
+    let machine = Machine::new(rt.alloc(), image.as_slice(), usize::MAX, false);
+    let (ended, _) = played(rt, &machine, BEFORE, Durability::EachSector);
+    same_at(rt, ended, Ok(()), "begun");
+    machine.disk(rt.alloc())
+}
+
+/// Sees the same of each call: of three writes of the first line and one of the second, and a sync behind each.
+fn each_is_durable(rt: &(impl AllocGlobal + Abort), done: bool) {
+    let image = begun(rt);
+    for call in 1..10usize {
+        let went = is_durable(rt, image.as_slice(), call, done);
+        same_at(rt, went, call < 9, call);
     }
-    0
 }
 
 #[test]
 fn what_was_told_is_on_the_disk(rt: HostRuntime) {
-    let image = formatted(&rt, 2);
-    let calls = each_is_durable(&rt, image.as_slice(), false);
-    holds(&rt, calls > 20, "power went in each call");
-    same_at(
-        &rt,
-        each_is_durable(&rt, image.as_slice(), true),
-        calls,
-        "also where its sector comes there",
-    );
+    each_is_durable(&rt, false);
+}
+
+#[test]
+fn what_was_told_is_there_where_a_last_sector_is(rt: HostRuntime) {
+    each_is_durable(&rt, true);
 }
 
 /// Sees that a play that isn't synced sector by sector tells what isn't there: so the machine shows what it is to.
 #[test]
 fn what_was_told_unsynced_is_lost(rt: HostRuntime) {
-    let image = formatted(&rt, 2);
+    let image = begun(&rt);
     let machine = Machine::new(rt.alloc(), image.as_slice(), usize::MAX, false);
-    let (_, told) = played(&rt, &machine, Durability::AtEnd);
+    let (_, told) = played(&rt, &machine, SCRIPT, Durability::AtEnd);
     same_at(&rt, told.as_slice(), REPLIES, "told");
     let shown = shown_of(&rt, machine.disk(rt.alloc()).as_slice());
     same_at(&rt, shown.as_slice(), SHOPS[0], "lost");

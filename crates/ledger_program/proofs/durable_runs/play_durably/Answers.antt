@@ -3,9 +3,13 @@ use Rattle.ledger_program.proofs.Durables.{durable_run}
 use Rattle.ledger_program.proofs.durable_runs.play_durably.Goals as goal
 
 pub returns : goal.returns
-returns g c = record {
-  run = durable_run c.args.durability c.args.image.now c.args.file c.into_inner.result c.of_image-placed.result c.play_run-left.result.0
-      c.finished-end.new.file c.play_run-left.result.1 c.finished-end.result _ c.of_image-placed.ensures.file c.into_inner.ensures
-      c.play_run-left.ensures.run c.finished-end.ensures.told c.finished-end.ensures.same c.finished-end.ensures.reached
-      c.finished-end.ensures.untouched c.of_image-placed.ensures.synced c.finished-end.ensures.lasting c.finished-end.ensures.stands;
-}
+returns g c =
+    let taken = c.of_image-placed in
+    let run = c.play_run-left in
+    let done = c.finished-end in
+    record {
+      run = durable_run c.args.durability c.args.image.now c.args.file c.into_inner.result taken.result run.result.0
+          done.new.file run.result.1 done.result _ taken.ensures.file c.into_inner.ensures run.ensures.run
+          done.ensures.told done.ensures.same done.ensures.reached done.ensures.untouched taken.ensures.synced
+          done.ensures.lasting done.ensures.stands;
+    }
