@@ -16,7 +16,8 @@ chain on track 18: then all are refused with the fault that `check` tells, and n
 - the page, read by a strict XML parser, has each of the 683 sectors once, with the title and the class or colour of its
   owner, in order; a white line over each in use that the map calls free; the fault; and the names;
 - its tags are, in order and to the byte, those of the page without names, and outside of them stands no `<` and no `>`.
-The status is 1 at the first difference, whose image is kept."""
+The status is 1 at the first difference, whose image is kept. The whole run is of 24,288 images, of which 14,314 are drawn
+and 9,974 refused. It takes some eight minutes of processor time, mostly to read the pages."""
 
 import multiprocessing
 import random
