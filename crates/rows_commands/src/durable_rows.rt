@@ -41,7 +41,7 @@ fn played(
 
 /// How many lines were told their own replies.
 fn told_lines(told: &[u8]) -> usize {
-    let mut lines = 0;
+    let mut lines = 0usize;
     for (told, wanted) in told
         .split(|&byte| byte == b'\n')
         .zip(REPLIES.split(|&byte| byte == b'\n'))
@@ -49,7 +49,7 @@ fn told_lines(told: &[u8]) -> usize {
         if told.is_empty() || told != wanted {
             return lines;
         }
-        lines += 1;
+        lines = lines.saturating_add(1);
     }
     lines
 }
