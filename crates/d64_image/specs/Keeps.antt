@@ -6,6 +6,7 @@ use Rattle.std.proofs.lemmas.Option.{none-some}
 use Rattle.d64_image.specs.Images.{Image, IsImage, Sector, put}
 use Rattle.d64_image.specs.declared.place.Place.{Place}
 
+-- What a file's type says of it: what it keeps of a disk now, what it may have kept before, and what it counts.
 pub record Keeps (F : Type 0) : Type 1 where
   -- what it keeps now; None where that isn't known
   pub kept : F → Option Image
