@@ -3,7 +3,7 @@ ghost use Rattle.std.specs.Prelude.{◌≡◌, ◌⊎◌, ◌≤◌, ℕ, List, 
 ghost use Rattle.byte_text.specs.Lines.{IsLineOf, IsQuoted};
 ghost use Rattle.byte_text.specs.Texts.{AreBytes};
 
-use crate::reading::read_text;
+use crate::reading::fill_from;
 use arrayvec::ArrayVec;
 use request_cards::number_before_comma;
 
@@ -21,16 +21,18 @@ fn unquoted(text: &[u8]) -> &[u8]
     }
 }
 
-/// The number and the bytes of a record's line, which is handed in without its end. The two quotation marks may be left
-/// out, as spreadsheets leave them out, and the bytes may end in zeros. None where the line is of no record: where it
-/// doesn't begin with a number of 1 to 182,880, without leading zeros, and a comma, and where what is behind that is no
-/// text of bytes, or of more than 254.
-pub fn read_line(line: &[u8]) -> Option<(u32, ArrayVec<u8, 254>)>
-    ensures found { IfSome result (λ p. (1 ≤ p.0) × (p.0 ≤ 182880) × IsLineOf line.now p.0 p.1.items) }
-    ensures none { IsNone result → (n : ℕ) → (bytes : List ℕ) → 1 ≤ n → n ≤ 182880 → AreBytes bytes → length bytes ≤ 254
-        → ¬ (IsLineOf line.now n bytes) }
+/// The number of a record's line, which is handed in without its end, and in `bytes` its bytes. The two quotation marks may be
+/// left out, as spreadsheets leave them out, and the bytes may end in zeros. None where the line is of no record, and `bytes` may
+/// have anything then: where it doesn't begin with a number of 1 to 182,880, without leading zeros, and a comma, and where what is
+/// behind that is no text of bytes, or of more than 254.
+pub fn read_line(line: &[u8], bytes: &mut ArrayVec<u8, 254>) -> Option<u32>
+    ensures found { IfSome result (λ n. (1 ≤ n) × (n ≤ 182880) × IsLineOf line.now n bytes.new.items) }
+    ensures none { IsNone result → (n : ℕ) → (bs : List ℕ) → 1 ≤ n → n ≤ 182880 → AreBytes bs → length bs ≤ 254
+        → ¬ (IsLineOf line.now n bs) }
 {
     let (number, text) = number_before_comma(line, 1, LAST_RECORD)?;
-    let bytes = read_text(unquoted(text))?;
-    Some((number, bytes))
+    if !fill_from(unquoted(text), bytes) {
+        return None;
+    }
+    Some(number)
 }

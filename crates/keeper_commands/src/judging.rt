@@ -9,6 +9,7 @@ ghost use Rattle.script_lines.specs.Lines.{lines};
 
 use crate::faults::KeepFault;
 use crate::last_lines::LastLines;
+use arrayvec::ArrayVec;
 use byte_text::read_line;
 use rel_records::{RelFile, blocks_for, has_records};
 use script_lines::next_line;
@@ -28,14 +29,15 @@ fn has_room(file: &RelFile, bytes: &[u8]) -> bool
     bytes.len() <= file.length() as usize
 }
 
-/// The number of the record that the line is of, where the file has this record or can have it, and its bytes fit.
-fn number_of(line: &[u8], file: &RelFile) -> Option<u32>
-    ensures found { IfSome result (λ number. (bytes : List ℕ) × IsLineOf line.now number bytes
-        × CanStore (length_of file.now) (records_in file.now) (new_record number bytes)) }
+/// The number of the record that the line is of, where the file has this record or can have it, and its bytes fit. `bytes` is
+/// room for them.
+fn number_of(line: &[u8], file: &RelFile, bytes: &mut ArrayVec<u8, 254>) -> Option<u32>
+    ensures found { IfSome result (λ number. (bs : List ℕ) × IsLineOf line.now number bs
+        × CanStore (length_of file.now) (records_in file.now) (new_record number bs)) }
     ensures none { IsNone result → (x : NewRecord) → CanStore (length_of file.now) (records_in file.now) x
         → ¬ (IsLineOf line.now x.number x.bytes) }
 {
-    let (number, bytes) = read_line(line)?;
+    let number = read_line(line, bytes)?;
     if !has_room(file, bytes.as_slice()) {
         return None;
     }
@@ -58,10 +60,11 @@ pub(crate) fn judge(text: &[u8], file: &RelFile, last: &mut LastLines) -> Result
 {
     let mut most = 0;
     let mut count = 0;
+    let mut bytes = ArrayVec::new();
     let mut rest = text;
     while let Some((line, more)) = next_line(rest) {
         count += 1;
-        let Some(number) = number_of(line, file) else {
+        let Some(number) = number_of(line, file, &mut bytes) else {
             return Err(KeepFault::BadLine(count));
         };
         last.count(number, count);

@@ -54,28 +54,35 @@ fn store_record<D: Sectors>(
     Ok(true)
 }
 
-/// The number and the bytes of the record that the line at this place is of, where it is the last line of that record.
-fn read_last(line: &[u8], place: usize, last: &LastLines) -> Option<(u32, ArrayVec<u8, 254>)>
-    ensures found { IfSome result (λ p. (1 ≤ p.0) × (p.0 ≤ 182880) × IsLineOf line.now p.0 p.1.items
-        × (slice_index last.now.places.items p.0 ≡ place)) }
+/// The number of the record that the line at this place is of, and in `bytes` its bytes, where it is the last line of that
+/// record.
+fn read_last(
+    line: &[u8],
+    place: usize,
+    last: &LastLines,
+    bytes: &mut ArrayVec<u8, 254>,
+) -> Option<u32>
+    ensures found { IfSome result (λ n. (1 ≤ n) × (n ≤ 182880) × IsLineOf line.now n bytes.new.items
+        × (slice_index last.now.places.items n ≡ place)) }
     ensures none { IsNone result → (h L : ℕ) (x : NewRecord) → L ≤ 254 → IsLineOf line.now x.number x.bytes → CanStore L h x
         → slice_index last.now.places.items x.number ≢ place }
 {
-    let (number, bytes) = read_line(line)?;
+    let number = read_line(line, bytes)?;
     if !last.is_last(number, place) {
         return None;
     }
-    Some((number, bytes))
+    Some(number)
 }
 
 /// Stores the record that the line at this place is of, which is there, where it is the last line of that record, and
-/// prints its line where it was otherwise.
+/// prints its line where it was otherwise. `bytes` is room for it.
 fn store_line<D: Sectors, W: Write>(
     disk: &mut D,
     file: &mut RelFile,
     line: &[u8],
     place: usize,
     last: &LastLines,
+    bytes: &mut ArrayVec<u8, 254>,
     out: &mut W,
 ) -> Result<(), KeepFault>
     requires clean { IsClean (D.history.image disk.old) }
@@ -88,13 +95,13 @@ fn store_line<D: Sectors, W: Write>(
         → StoresLines D.history W.contents disk.old disk.new out.old out.new l n f file.old file.new
         (if_last last.now.places.items place x) result) }
 {
-    let Some((number, bytes)) = read_last(line, place, last) else {
+    let Some(number) = read_last(line, place, last, bytes) else {
         return Ok(());
     };
     if !store_record(disk, file, number, bytes.as_slice())? {
         return Ok(());
     }
-    if write_line(out, number, &bytes).is_err() {
+    if write_line(out, number, bytes).is_err() {
         return Err(KeepFault::File);
     }
     Ok(())
@@ -120,10 +127,11 @@ pub(crate) fn store_lines<D: Sectors, W: Write>(
         (last_ones xs) result) }
 {
     let mut place = 0;
+    let mut bytes = ArrayVec::new();
     let mut rest = text;
     while let Some((line, more)) = next_line(rest) {
         place += 1;
-        store_line(disk, file, line, place, last, out)?;
+        store_line(disk, file, line, place, last, &mut bytes, out)?;
         rest = more;
     }
     Ok(())

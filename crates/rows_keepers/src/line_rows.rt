@@ -70,9 +70,10 @@ fn are_read(rt: &impl Abort, rows: &[Row], as_printed: bool) {
         } else {
             bytes
         };
-        let found = read_line(line);
-        let told = found.as_ref().map(|found| (found.0, found.1.as_slice()));
-        same_at(rt, told, Some((number, bytes)), line);
+        let mut found = ArrayVec::new();
+        let told = read_line(line, &mut found);
+        same_at(rt, told, Some(number), line);
+        same_at(rt, found.as_slice(), bytes, line);
     }
 }
 
@@ -89,8 +90,9 @@ fn are_printed(rt: &(impl Abort + AllocGlobal), rows: &[Row]) {
 
 /// Sees that none of them is read.
 fn are_no_lines(rt: &impl Abort, rows: &[&[u8]]) {
+    let mut found = ArrayVec::new();
     for &line in rows {
-        same_at(rt, read_line(line).is_none(), true, line);
+        same_at(rt, read_line(line, &mut found).is_none(), true, line);
     }
 }
 

@@ -12,6 +12,6 @@ returns-in_err-number-clause-none c = λ _ h L x few is can same.
 pub returns-then-not-is_last-clause-none : goal.returns-then-not-is_last-clause-none
 returns-then-not-is_last-clause-none c = λ _ h L x few is can here.
     let found = c.in_ok-number.ensures.found in
-    let one = one-line c.args.line.now c.in_ok-number.number x.number c.in_ok-number.bytes.items x.bytes
+    let one = one-line c.args.line.now c.in_ok-number.number x.number c.read_line.new.bytes.items x.bytes
     found.0 found.1 can.low can.high found.2 is in
     false≢true (c.if-not-is_last.ensures.1 (ap (λ (n : ℕ). slice_index c.args.last.now.places.items n) one.0 ∙ here))

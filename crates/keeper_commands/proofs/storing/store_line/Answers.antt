@@ -28,21 +28,21 @@ pub store_record-requires-clause-high : goal.store_record-requires-clause-high
 store_record-requires-clause-high g c =
     let (h, x, is, can, there) = c.requires.line in
     subst (λ (y : NewRecord). y.number ≤ records_in c.args.file.now)
-    (sym (line-record c.args.line.now c.in-Some.bytes.items c.in-Some.number (length_of c.args.file.now) h x c.in-Some.ensures.found is can)) there
+    (sym (line-record c.args.line.now c.read_last.new.bytes.items c.in-Some.number (length_of c.args.file.now) h x c.in-Some.ensures.found is can)) there
 
 pub store_record-requires-clause-short : goal.store_record-requires-clause-short
 store_record-requires-clause-short g c =
     let (h, x, is, can, there) = c.requires.line in
-    let view : c.as_slice.result.now ≡ c.in-Some.bytes.items = c.as_slice.ensures.value in
+    let view : c.as_slice.result.now ≡ c.read_last.new.bytes.items = c.as_slice.ensures.value in
     subst (λ (bs : List ℕ). length bs ≤ length_of c.args.file.now)
-    (sym (view ∙ ap (λ (y : NewRecord). y.bytes) (line-record c.args.line.now c.in-Some.bytes.items c.in-Some.number (length_of c.args.file.now) h x c.in-Some.ensures.found is can))) can.short
+    (sym (view ∙ ap (λ (y : NewRecord). y.bytes) (line-record c.args.line.now c.read_last.new.bytes.items c.in-Some.number (length_of c.args.file.now) h x c.in-Some.ensures.found is can))) can.short
 
 pub returns-in_err-store_record : goal.returns-in_err-store_record
 returns-in_err-store_record g c = λ l n f of h x is can there.
     let S = g.D.Sectors.history in
     let p = err_from_is_err_and c.from_residual.result c.from_residual.ensures.1 in
-    let view : c.as_slice.result.now ≡ c.in-Some.bytes.items = c.as_slice.ensures.value in
-    let same = ap (new_record c.in-Some.number) view ∙ line-record c.args.line.now c.in-Some.bytes.items c.in-Some.number (length_of c.args.file.now) h x c.in-Some.ensures.found is can in
+    let view : c.as_slice.result.now ≡ c.read_last.new.bytes.items = c.as_slice.ensures.value in
+    let same = ap (new_record c.in-Some.number) view ∙ line-record c.args.line.now c.read_last.new.bytes.items c.in-Some.number (length_of c.args.file.now) h x c.in-Some.ensures.found is can in
     let one = ap (λ (y : NewRecord). y.number) same in
     let is_last = ap (λ (m : ℕ). slice_index c.args.last.now.places.items m) (sym one) ∙ c.in-Some.ensures.found.3 in
     subst (λ (ys : List NewRecord). StoresLines S g.W.Write.contents c.args.disk.now c.store_record.new.disk c.args.out.now
@@ -56,8 +56,8 @@ returns-in_err-store_record g c = λ l n f of h x is can there.
 pub returns-then-not-branch : goal.returns-then-not-branch
 returns-then-not-branch g c = λ l n f of h x is can there.
     let S = g.D.Sectors.history in
-    let view : c.as_slice.result.now ≡ c.in-Some.bytes.items = c.as_slice.ensures.value in
-    let same = ap (new_record c.in-Some.number) view ∙ line-record c.args.line.now c.in-Some.bytes.items c.in-Some.number (length_of c.args.file.now) h x c.in-Some.ensures.found is can in
+    let view : c.as_slice.result.now ≡ c.read_last.new.bytes.items = c.as_slice.ensures.value in
+    let same = ap (new_record c.in-Some.number) view ∙ line-record c.args.line.now c.read_last.new.bytes.items c.in-Some.number (length_of c.args.file.now) h x c.in-Some.ensures.found is can in
     let one = ap (λ (y : NewRecord). y.number) same in
     let is_last = ap (λ (m : ℕ). slice_index c.args.last.now.places.items m) (sym one) ∙ c.in-Some.ensures.found.3 in
     subst (λ (ys : List NewRecord). StoresLines S g.W.Write.contents c.args.disk.now c.store_record.new.disk c.args.out.now
@@ -70,8 +70,8 @@ returns-then-not-branch g c = λ l n f of h x is can there.
 pub returns-then-is_err : goal.returns-then-is_err
 returns-then-is_err g c = λ l n f of h x is can there.
     let S = g.D.Sectors.history in
-    let view : c.as_slice.result.now ≡ c.in-Some.bytes.items = c.as_slice.ensures.value in
-    let same = ap (new_record c.in-Some.number) view ∙ line-record c.args.line.now c.in-Some.bytes.items c.in-Some.number (length_of c.args.file.now) h x c.in-Some.ensures.found is can in
+    let view : c.as_slice.result.now ≡ c.read_last.new.bytes.items = c.as_slice.ensures.value in
+    let same = ap (new_record c.in-Some.number) view ∙ line-record c.args.line.now c.read_last.new.bytes.items c.in-Some.number (length_of c.args.file.now) h x c.in-Some.ensures.found is can in
     let one = ap (λ (y : NewRecord). y.number) same in
     let is_last = ap (λ (m : ℕ). slice_index c.args.last.now.places.items m) (sym one) ∙ c.in-Some.ensures.found.3 in
     subst (λ (ys : List NewRecord). StoresLines S g.W.Write.contents c.args.disk.now c.store_record.new.disk c.args.out.now
@@ -84,8 +84,8 @@ returns-then-is_err g c = λ l n f of h x is can there.
 pub returns : goal.returns
 returns g c = λ l n f of h x is can there.
     let S = g.D.Sectors.history in
-    let view : c.as_slice.result.now ≡ c.in-Some.bytes.items = c.as_slice.ensures.value in
-    let same = ap (new_record c.in-Some.number) view ∙ line-record c.args.line.now c.in-Some.bytes.items c.in-Some.number (length_of c.args.file.now) h x c.in-Some.ensures.found is can in
+    let view : c.as_slice.result.now ≡ c.read_last.new.bytes.items = c.as_slice.ensures.value in
+    let same = ap (new_record c.in-Some.number) view ∙ line-record c.args.line.now c.read_last.new.bytes.items c.in-Some.number (length_of c.args.file.now) h x c.in-Some.ensures.found is can in
     let one = ap (λ (y : NewRecord). y.number) same in
     let is_last = ap (λ (m : ℕ). slice_index c.args.last.now.places.items m) (sym one) ∙ c.in-Some.ensures.found.3 in
     subst (λ (ys : List NewRecord). StoresLines S g.W.Write.contents c.args.disk.now c.store_record.new.disk c.args.out.now
@@ -95,5 +95,5 @@ returns g c = λ l n f of h x is can there.
     (subst (λ (t : Bool). StoresOne S c.args.disk.now c.store_record.new.disk l n f c.args.file.now c.store_record.new.file x (Ok t)) c.if-not-branch.false
     (subst (λ (y : NewRecord). StoresOne S c.args.disk.now c.store_record.new.disk l n f c.args.file.now c.store_record.new.file y (Ok c.in_ok-store_record.field-0)) same (c.in_ok-store_record.ensures l n f of)))
     (subst (λ (y : NewRecord). Appends (g.W.Write.contents c.args.out.now) (g.W.Write.contents c.write_line.new.out) (record_line y.number y.bytes))
-    (line-record c.args.line.now c.in-Some.bytes.items c.in-Some.number (length_of c.args.file.now) h x c.in-Some.ensures.found is can)
+    (line-record c.args.line.now c.read_last.new.bytes.items c.in-Some.number (length_of c.args.file.now) h x c.in-Some.ensures.found is can)
     (not-err c.write_line.result (sym c.is_err.ensures.value ∙ c.if-is_err.false) c.write_line.ensures)))
