@@ -1,5 +1,6 @@
 -- A line of a record is cut at its first comma, and its text may be between quotation marks.
-use Rattle.std.proofs.Common.{◌≡◌, ◌≤◌, ◌/◌, ◌%◌, ◌⊎◌, inl, inr, ⊎_elim, ℕ, List, [], ◌∷◌, ◌++◌, Option, Some, None, Bool, true, false, length, drop, get_or, refl, subst, sym, ap, ◌∙◌, arith}
+use Rattle.std.proofs.Common.{◌≡◌, ◌≤◌, ◌/◌, ◌%◌, ◌⊎◌, inl, inr, ⊎_elim, ℕ, List, [], ◌∷◌, ◌++◌, Option, Some, None}
+use Rattle.std.proofs.Common.{Bool, true, false, length, drop, get_or, refl, subst, sym, ap, ◌∙◌, arith}
 use Rattle.std.specs.Prelude.{decimal, if◌then◌else◌}
 use Rattle.std.proofs.lemmas.List.{append_cancel_right}
 use Rattle.byte_text.specs.Texts.{byte_text, digit, is_plain, text_of}
@@ -13,7 +14,8 @@ pub record IsBehindNumber (line : List ℕ) (n : ℕ) (bytes : List ℕ) : Type 
   pub read : number_before 1 182880 line ≡ Some (n, rest)
   pub text : IsQuoted rest (text_of bytes) ⊎ (rest ≡ text_of bytes)
 
-pub behind-number : (line : List ℕ) (n : ℕ) (bytes : List ℕ) → 1 ≤ n → n ≤ 182880 → IsLineOf line n bytes → IsBehindNumber line n bytes
+pub behind-number : (line : List ℕ) (n : ℕ) (bytes : List ℕ) → 1 ≤ n → n ≤ 182880 → IsLineOf line n bytes
+    → IsBehindNumber line n bytes
 behind-number line n bytes low high is = ⊎_elim
     (λ quoted. record {
       rest = 34 ∷ (text_of bytes ++ 34 ∷ []);
@@ -48,14 +50,17 @@ head-same xs ys same = ap (λ (zs : List ℕ). get_or zs 0 0) same
 
 pub no-mark : (bytes inner : List ℕ) → IsQuoted (text_of bytes) inner → ⊥
 no-mark [] inner quoted = omega (arith, ap length quoted)
-no-mark (b ∷ bytes) inner quoted = first-of b (text_of bytes) (head-same (byte_text b ++ text_of bytes) (34 ∷ (inner ++ 34 ∷ [])) quoted)
+no-mark (b ∷ bytes) inner quoted =
+    first-of b (text_of bytes) (head-same (byte_text b ++ text_of bytes) (34 ∷ (inner ++ 34 ∷ [])) quoted)
 
 -- what is read of a text without its quotation marks
-pub text-inside : (rest result bytes : List ℕ) → IsQuoted rest result ⊎ ((result ≡ rest) × ((inner : List ℕ) → ¬ (IsQuoted rest inner)))
+pub text-inside : (rest result bytes : List ℕ) → IsQuoted rest result
+    ⊎ ((result ≡ rest) × ((inner : List ℕ) → ¬ (IsQuoted rest inner)))
     → IsQuoted rest (text_of bytes) ⊎ (rest ≡ text_of bytes) → result ≡ text_of bytes
 text-inside rest result bytes found is = ⊎_elim
     (λ quoted. ⊎_elim
-    (λ (marks : IsQuoted rest result). append_cancel_right result (text_of bytes) (34 ∷ []) (ap (λ (zs : List ℕ). drop 1 zs) (sym marks ∙ quoted)))
+    (λ (marks : IsQuoted rest result). append_cancel_right result (text_of bytes) (34 ∷ [])
+    (ap (λ (zs : List ℕ). drop 1 zs) (sym marks ∙ quoted)))
     (λ same. absurd (same.1 (text_of bytes) quoted))
     found)
     (λ bare. ⊎_elim
@@ -72,7 +77,8 @@ line-found line n rest result bytes read found text =
       s.0,
       s.1.0,
       ⊎_elim
-          (λ (marks : IsQuoted rest result). inl (s.1.1 ∙ ap (λ (zs : List ℕ). decimal n ++ (44 ∷ zs)) (marks ∙ ap (λ (zs : List ℕ). 34 ∷ (zs ++ 34 ∷ [])) text)))
+          (λ (marks : IsQuoted rest result). inl (s.1.1 ∙ ap (λ (zs : List ℕ). decimal n ++ (44 ∷ zs)) (marks
+          ∙ ap (λ (zs : List ℕ). 34 ∷ (zs ++ 34 ∷ [])) text)))
           (λ same. inr (s.1.1 ∙ ap (λ (zs : List ℕ). decimal n ++ (44 ∷ zs)) (sym same.0 ∙ text)))
           found,
     )
@@ -83,12 +89,14 @@ some-none o p some none = cc
 some-one : (o : Option (ℕ × List ℕ)) (p q : ℕ × List ℕ) → o ≡ Some p → Some q ≡ o → q ≡ p
 some-one o p q some other = cc
 
-pub line-refused : (line : List ℕ) → None ≡ number_before 1 182880 line → (n : ℕ) (bytes : List ℕ) → 1 ≤ n → n ≤ 182880 → IsLineOf line n bytes → ⊥
+pub line-refused : (line : List ℕ) → None ≡ number_before 1 182880 line → (n : ℕ) (bytes : List ℕ) → 1 ≤ n → n ≤ 182880
+    → IsLineOf line n bytes → ⊥
 line-refused line none n bytes low high is =
     let x = behind-number line n bytes low high is in
     some-none _ (n, x.rest) x.read none
 
-pub text-refused : (line : List ℕ) (number : ℕ) (text result : List ℕ) → Some (number, text) ≡ number_before 1 182880 line
+pub text-refused : (line : List ℕ) (number : ℕ) (text result : List ℕ)
+    → Some (number, text) ≡ number_before 1 182880 line
     → IsQuoted text result ⊎ ((result ≡ text) × ((inner : List ℕ) → ¬ (IsQuoted text inner)))
     → (n : ℕ) (bytes : List ℕ) → 1 ≤ n → n ≤ 182880 → IsLineOf line n bytes → result ≡ text_of bytes
 text-refused line number text result read found n bytes low high is =

@@ -1,5 +1,6 @@
 -- What is printed of a record is read and stored as that record.
-use Rattle.std.proofs.Common.{◌≡◌, ◌≤◌, ◌-◌, ◌⊎◌, inl, ⊎_elim, ℕ, zero, suc, List, [], ◌∷◌, ◌++◌, Some, Option, length, take, drop, replicate, refl, subst, sym, ap, ◌∙◌, arith}
+use Rattle.std.proofs.Common.{◌≡◌, ◌≤◌, ◌-◌, ◌⊎◌, inl, ⊎_elim, ℕ, zero, suc, List, [], ◌∷◌, ◌++◌, Some, Option, length}
+use Rattle.std.proofs.Common.{take, drop, replicate, refl, subst, sym, ap, ◌∙◌, arith}
 use Rattle.std.specs.Prelude.{decimal}
 use Rattle.std.proofs.lemmas.List.{append_assoc, append_cancel_right}
 use Rattle.byte_text.proofs.Texts.{one-text}
@@ -13,14 +14,18 @@ unfolding record_line
 line-of n r line is =
     let t = text_of (trimmed r) in
     let inner : t ++ (34 ∷ (10 ∷ [])) ≡ (t ++ 34 ∷ []) ++ 10 ∷ [] = sym (append_assoc t (34 ∷ []) (10 ∷ [])) in
-    let moved : decimal n ++ (44 ∷ (34 ∷ (t ++ (34 ∷ (10 ∷ []))))) ≡ (decimal n ++ (44 ∷ (34 ∷ (t ++ 34 ∷ [])))) ++ 10 ∷ [] =
-    ap (λ (zs : List ℕ). decimal n ++ (44 ∷ (34 ∷ zs))) inner ∙ sym (append_assoc (decimal n) (44 ∷ (34 ∷ (t ++ 34 ∷ []))) (10 ∷ [])) in
+    let moved : decimal n ++ (44 ∷ (34 ∷ (t ++ (34 ∷ (10 ∷ []))))) ≡ (decimal n ++ (44 ∷ (34 ∷ (t ++ 34 ∷ []))))
+    ++ 10 ∷ [] =
+    ap (λ (zs : List ℕ). decimal n ++ (44 ∷ (34 ∷ zs))) inner
+    ∙ sym (append_assoc (decimal n) (44 ∷ (34 ∷ (t ++ 34 ∷ []))) (10 ∷ [])) in
     inl (append_cancel_right line (decimal n ++ (44 ∷ (34 ∷ (t ++ 34 ∷ [])))) (10 ∷ []) (is ∙ moved))
 
-texts-one : (rest xs ys : List ℕ) → IsQuoted rest (text_of xs) ⊎ (rest ≡ text_of xs) → IsQuoted rest (text_of ys) ⊎ (rest ≡ text_of ys) → xs ≡ ys
+texts-one : (rest xs ys : List ℕ) → IsQuoted rest (text_of xs) ⊎ (rest ≡ text_of xs) → IsQuoted rest (text_of ys)
+    ⊎ (rest ≡ text_of ys) → xs ≡ ys
 texts-one rest xs ys a b = ⊎_elim
     (λ (qa : IsQuoted rest (text_of xs)). ⊎_elim
-    (λ (qb : IsQuoted rest (text_of ys)). one-text xs ys (append_cancel_right (text_of xs) (text_of ys) (34 ∷ []) (ap (λ (zs : List ℕ). drop 1 zs) (sym qa ∙ qb))))
+    (λ (qb : IsQuoted rest (text_of ys)). one-text xs ys (append_cancel_right (text_of xs) (text_of ys) (34 ∷ [])
+    (ap (λ (zs : List ℕ). drop 1 zs) (sym qa ∙ qb))))
     (λ (bb : rest ≡ text_of ys). absurd (no-mark ys (text_of xs) (sym bb ∙ qa)))
     b)
     (λ (ba : rest ≡ text_of xs). ⊎_elim
@@ -58,7 +63,8 @@ padded-kept (suc b) bs (x ∷ xs) m le here less = ap (λ (zs : List ℕ). suc b
 padded-back : (r : List ℕ) (m : ℕ) → length r ≤ m → take (length r) (trimmed r ++ replicate m 0) ≡ r
 unfolding trimmed
 padded-back [] m le = refl
-padded-back (b ∷ bs) m le = padded-kept b bs (trimmed bs) m (omega (arith, le)) (padded-back bs m (omega (arith, le))) (padded-back bs (m - 1) (omega (arith, le)))
+padded-back (b ∷ bs) m le = padded-kept b bs (trimmed bs) m (omega (arith, le)) (padded-back bs m (omega (arith, le)))
+    (padded-back bs (m - 1) (omega (arith, le)))
 
 pub stored-back : (r : List ℕ) → padded (length r) (trimmed r) ≡ r
 stored-back r = padded-back r (length r) (omega arith)

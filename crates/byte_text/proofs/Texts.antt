@@ -1,12 +1,14 @@
 -- Bytes and their texts: one text for each list of bytes.
-use Rattle.std.proofs.Common.{◌≡◌, ◌≢◌, ◌<◌, ◌≤◌, ◌+◌, ◌-◌, ◌/◌, ◌%◌, ℕ, suc, List, [], ◌∷◌, ◌++◌, Option, length, take, drop, get_or, Bool, true, false, length-append, refl, subst, sym, ap, ap₂, ◌∙◌, arith}
+use Rattle.std.proofs.Common.{◌≡◌, ◌≢◌, ◌<◌, ◌≤◌, ◌+◌, ◌-◌, ◌/◌, ◌%◌, ℕ, suc, List, [], ◌∷◌, ◌++◌, Option, length, take}
+use Rattle.std.proofs.Common.{drop, get_or, Bool, true, false, length-append, refl, subst, sym, ap, ap₂, ◌∙◌, arith}
 use Rattle.std.specs.Prelude.{codes, decimal, if◌then◌else◌, slice_index, slice_range}
 use Rattle.std.specs.Io.KnownBytes.{Appends}
 use Rattle.std.proofs.Math.Seq.{get_or-append_seam}
 use Rattle.std.proofs.KnownBytes.{Appends-trans}
 use Rattle.std.proofs.Math.Seq.{take-append-add}
 use Rattle.std.proofs.lemmas.Grind.{flat_map-append}
-use Rattle.std.proofs.lemmas.List.{append_assoc, append-nil, get_or-drop, get_or-take, length-drop, length-take, length-take-le, take-append-drop, take_all}
+use Rattle.std.proofs.lemmas.List.{append_assoc, append-nil, get_or-drop, get_or-take, length-drop, length-take}
+use Rattle.std.proofs.lemmas.List.{length-take-le, take-append-drop, take_all}
 use Rattle.byte_text.specs.Texts.{AreBytes, byte_text, digit, is_plain, record_line, text_of, trimmed}
 
 -- a digit is of one number
@@ -29,9 +31,11 @@ text-plain (x ∷ xs) plain =
 
 -- the same of a part of them
 pub range-plain : (xs : List ℕ) (start end : ℕ) → start ≤ end → end ≤ length xs
-    → ((i : ℕ) → start ≤ i → i < end → is_plain (slice_index xs i) ≡ true) → text_of (slice_range xs start end) ≡ slice_range xs start end
+    → ((i : ℕ) → start ≤ i → i < end → is_plain (slice_index xs i) ≡ true)
+    → text_of (slice_range xs start end) ≡ slice_range xs start end
 range-plain xs start end low high plain =
-    let long : length (slice_range xs start end) ≤ end - start = omega (arith, length-take (end - start) (drop start xs)) in
+    let long : length (slice_range xs start end) ≤ end - start =
+    omega (arith, length-take (end - start) (drop start xs)) in
     text-plain (slice_range xs start end) (λ i lt.
     let inside : i < end - start = omega (arith, lt, long) in
     let here : get_or (slice_range xs start end) i 0 ≡ slice_index xs (start + i) =
@@ -40,7 +44,8 @@ range-plain xs start end low high plain =
 
 -- the texts of two parts, written one after the other
 pub text-more : (a b c : Option (List ℕ)) (xs : List ℕ) (start end : ℕ) → start ≤ end → end ≤ length xs
-    → Appends a b (text_of (take start xs)) → Appends b c (text_of (slice_range xs start end)) → Appends a c (text_of (take end xs))
+    → Appends a b (text_of (take start xs)) → Appends b c (text_of (slice_range xs start end))
+    → Appends a c (text_of (take end xs))
 text-more a b c xs start end low high before more =
     let first : length (take start xs) ≡ start = length-take-le start xs (omega (arith, low, high)) in
     let last : length (take start xs) + (end - start) ≡ end = omega (arith, first, low) in
@@ -53,7 +58,8 @@ text-more a b c xs start end low high before more =
 at : (i : ℕ) (xs ys : List ℕ) → xs ≡ ys → get_or xs i 0 ≡ get_or ys i 0
 at i xs ys same = ap (λ (zs : List ℕ). get_or zs i 0) same
 
-chosen-one : (p q : Bool) (b c : ℕ) (xs ys : List ℕ) → is_plain b ≡ p → is_plain c ≡ q → chosen p b ++ xs ≡ chosen q c ++ ys → b ≡ c
+chosen-one : (p q : Bool) (b c : ℕ) (xs ys : List ℕ) → is_plain b ≡ p → is_plain c ≡ q
+    → chosen p b ++ xs ≡ chosen q c ++ ys → b ≡ c
 chosen-one true true b c xs ys hb hc same = at 0 (b ∷ xs) (c ∷ ys) same
 chosen-one true false b c xs ys hb hc same =
     let is : b ≡ 92 = at 0 _ _ same in
@@ -95,9 +101,11 @@ pub record IsBehind (pre bytes rest : List ℕ) : Type 0 where
 
 pub behind-of : (pre bytes rest : List ℕ) → text_of pre ++ rest ≡ text_of bytes → IsBehind pre bytes rest
 behind-of [] bytes rest same = record { behind = bytes; split = refl; text = same }
-behind-of (b ∷ pre) [] rest same = absurd (never-empty b (text_of pre ++ rest) (sym (append_assoc (byte_text b) (text_of pre) rest) ∙ same))
+behind-of (b ∷ pre) [] rest same =
+    absurd (never-empty b (text_of pre ++ rest) (sym (append_assoc (byte_text b) (text_of pre) rest) ∙ same))
 behind-of (b ∷ pre) (c ∷ bytes) rest same =
-    let moved : byte_text b ++ (text_of pre ++ rest) ≡ byte_text c ++ text_of bytes = sym (append_assoc (byte_text b) (text_of pre) rest) ∙ same in
+    let moved : byte_text b ++ (text_of pre ++ rest) ≡ byte_text c ++ text_of bytes =
+    sym (append_assoc (byte_text b) (text_of pre) rest) ∙ same in
     let one : b ≡ c = first-one b c _ _ moved in
     let others : text_of pre ++ rest ≡ text_of bytes =
     behind-one b _ _ (moved ∙ ap (λ (n : ℕ). byte_text n ++ text_of bytes) (sym one)) in
@@ -118,17 +126,20 @@ one-text xs ys same =
     let x = behind-of xs ys [] (append-nil (text_of xs) ∙ same) in
     none-behind xs ys x.behind x.split x.text
 
-none-leads : (rest pre bytes behind : List ℕ) → 1 ≤ length rest → ((b : ℕ) (xs : List ℕ) → b < 256 → rest ≢ byte_text b ++ xs)
+none-leads : (rest pre bytes behind : List ℕ) → 1 ≤ length rest
+    → ((b : ℕ) (xs : List ℕ) → b < 256 → rest ≢ byte_text b ++ xs)
     → AreBytes bytes → bytes ≡ pre ++ behind → rest ≡ text_of behind → ⊥
 none-leads rest pre bytes [] some none small split text = omega (arith, some, ap length text)
 none-leads rest pre bytes (b ∷ bs) some none small split text =
-    let here : get_or bytes (length pre) 0 ≡ b = ap (λ (zs : List ℕ). get_or zs (length pre) 0) split ∙ get_or-append_seam pre b bs 0 in
+    let here : get_or bytes (length pre) 0 ≡ b = ap (λ (zs : List ℕ). get_or zs (length pre) 0) split
+    ∙ get_or-append_seam pre b bs 0 in
     let inside : length pre < length bytes = omega (arith, ap length split, length-append pre (b ∷ bs)) in
     none b (text_of bs) (subst (λ (n : ℕ). n < 256) here (small (length pre) 0 inside)) text
 
 -- a text that no byte leads is of no bytes
 pub none-here : (text rest pre : List ℕ) → text ≡ text_of pre ++ rest → 1 ≤ length rest
-    → ((b : ℕ) (xs : List ℕ) → b < 256 → rest ≢ byte_text b ++ xs) → (bytes : List ℕ) → AreBytes bytes → text ≢ text_of bytes
+    → ((b : ℕ) (xs : List ℕ) → b < 256 → rest ≢ byte_text b ++ xs) → (bytes : List ℕ) → AreBytes bytes
+    → text ≢ text_of bytes
 none-here text rest pre is some none bytes small same =
     let x = behind-of pre bytes rest (sym is ∙ same) in
     none-leads rest pre bytes x.behind some none small x.split x.text
@@ -136,7 +147,8 @@ none-here text rest pre is some none bytes small same =
 no-room : (rest pre bytes behind : List ℕ) → 1 ≤ length rest → 254 ≤ length pre → length bytes ≤ 254
     → bytes ≡ pre ++ behind → rest ≡ text_of behind → ⊥
 no-room rest pre bytes [] some full few split text = omega (arith, some, ap length text)
-no-room rest pre bytes (b ∷ bs) some full few split text = omega (arith, full, few, ap length split, length-append pre (b ∷ bs))
+no-room rest pre bytes (b ∷ bs) some full few split text =
+    omega (arith, full, few, ap length split, length-append pre (b ∷ bs))
 
 -- a text of more bytes than there is room for is of no fewer
 pub none-more : (text rest pre : List ℕ) → text ≡ text_of pre ++ rest → 1 ≤ length rest → 254 ≤ length pre
@@ -153,7 +165,8 @@ line-trimmed a b n bytes kept is written =
     subst (λ (xs : List ℕ). Appends a b (decimal n ++ (codes ",\"" ++ (text_of xs ++ codes "\"\n")))) is written
 
 -- what stands at a room's end
-pub in-room : (a b : Option (List ℕ)) (size start : ℕ) (text room : List ℕ) → length room ≡ size → drop start room ≡ text
+pub in-room : (a b : Option (List ℕ)) (size start : ℕ) (text room : List ℕ) → length room ≡ size
+    → drop start room ≡ text
     → Appends a b (take (size - start) (drop start room)) → Appends a b text
 in-room a b size start text room long put written =
     let whole : take (size - start) (drop start room) ≡ drop start room =

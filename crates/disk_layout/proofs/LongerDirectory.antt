@@ -70,7 +70,8 @@ module _ (c : Image) (p : Place) (bytes : Sector) (full : length c ≡ 683) (rel
     abbrev b : Image
     b = put c p bytes
 
-    tail : (q : Place) (n : ℕ) → n < 8 → drop 2 (slot_in q (sector b q) n).bytes ≡ drop 2 (slot_in q (sector c q) n).bytes
+    tail : (q : Place) (n : ℕ) → n < 8
+        → drop 2 (slot_in q (sector b q) n).bytes ≡ drop 2 (slot_in q (sector c q) n).bytes
     tail q n low = elim (same_or_other p q) [
       | inl one ↦
           let P : Place → Type 0 = λ x. drop 2 (slot_in x (sector b x) n).bytes

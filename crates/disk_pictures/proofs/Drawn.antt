@@ -1,5 +1,6 @@
 -- What is drawn of an entry, from what was read.
-use Rattle.std.proofs.Common.{◌≡◌, ◌+◌, ◌-◌, ◌/◌, ◌++◌, ◌∷◌, get_or, ◌<◌, map, inl, inr, ℕ, List, [], Option, Some, None, length, min, take, subst, sym, ap, ◌∙◌, arith}
+use Rattle.std.proofs.Common.{◌≡◌, ◌+◌, ◌-◌, ◌/◌, ◌++◌, ◌∷◌, get_or, ◌<◌, map, inl, inr, ℕ, List, [], Option, Some}
+use Rattle.std.proofs.Common.{None, length, min, take, subst, sym, ap, ◌∙◌, arith}
 use Rattle.std.specs.Prelude.{MatchOption}
 use Rattle.std.proofs.lemmas.List.{take_min}
 use Rattle.d64_image.specs.Images.{Image, Sector}
@@ -17,29 +18,36 @@ use Rattle.std.proofs.lemmas.List.{map-append, take_more}
 use Rattle.disk_pictures.specs.Drawings.{AreDrawn, AreDrawnSides, GoesFrom, IsDrawn, IsDrawnFile}
 
 -- a walk from the place that the bytes at i name
-pub goes-from : (img : Image) (bytes viewed : Sector) (i : ℕ) (o : Option Place) (ps : List Place) (u : ℕ) → viewed ≡ bytes
+pub goes-from : (img : Image) (bytes viewed : Sector) (i : ℕ) (o : Option Place) (ps : List Place) (u : ℕ)
+    → viewed ≡ bytes
     → o ≡ named_at viewed i → MatchOption o ((ps ≡ []) × (u ≡ 0)) (λ p. IsWalk img p ps u) → GoesFrom img bytes i ps u
-goes-from img bytes viewed i None ps u same e none = inr (named-none bytes i (sym (e ∙ ap (λ (bs : Sector). named_at bs i) same)), none.0, none.1)
-goes-from img bytes viewed i (Some p) ps u same e walk = inl (p, named-names bytes i p (sym (e ∙ ap (λ (bs : Sector). named_at bs i) same)), walk)
+goes-from img bytes viewed i None ps u same e none =
+    inr (named-none bytes i (sym (e ∙ ap (λ (bs : Sector). named_at bs i) same)), none.0, none.1)
+goes-from img bytes viewed i (Some p) ps u same e walk =
+    inl (p, named-names bytes i p (sym (e ∙ ap (λ (bs : Sector). named_at bs i) same)), walk)
 
 needed : (n : ℕ) → (n + 120 - 1) / 120 ≡ sides_for n
 needed n = let e : n + 120 - 1 ≡ n + 119 = omega arith in ap (λ (m : ℕ). m / 120) e
 
 -- of the side sectors as many as the blocks need
-pub sides-drawn : (img : Image) (bytes viewed : Sector) (o : Option Place) (ps found sides : List Place) (u n k : ℕ) → viewed ≡ bytes
+pub sides-drawn : (img : Image) (bytes viewed : Sector) (o : Option Place) (ps found sides : List Place) (u n k : ℕ)
+    → viewed ≡ bytes
     → o ≡ named_at viewed 21 → MatchOption o ((ps ≡ []) × (u ≡ 0)) (λ p. IsWalk img p ps u) → found ≡ ps
     → k ≡ min ((n + 120 - 1) / 120) (length found) → sides ≡ take k found → AreDrawnSides img bytes n sides
 sides-drawn img bytes viewed o ps found sides u n k same e walk all few part =
     let many : k ≡ min (sides_for n) (length found) = few ∙ ap (λ (m : ℕ). min m (length found)) (needed n) in
-    let kept : take k found ≡ take (sides_for n) found = ap (λ (m : ℕ). take m found) many ∙ take_min (sides_for n) found in
+    let kept : take k found ≡ take (sides_for n) found = ap (λ (m : ℕ). take m found) many
+    ∙ take_min (sides_for n) found in
     (ps, u, goes-from img bytes viewed 21 o ps u same e walk, part ∙ kept ∙ ap (take (sides_for n)) all)
 
-all-more : {X : Type 0} (P : X → Type 0) (xs : List X) (x : X) → AllByRecursion P xs → P x → AllByRecursion P (xs ++ x ∷ [])
+all-more : {X : Type 0} (P : X → Type 0) (xs : List X) (x : X) → AllByRecursion P xs → P x
+    → AllByRecursion P (xs ++ x ∷ [])
 all-more P [] x all here = (here, tt)
 all-more P (y ∷ ys) x all here = (all.0, all-more P ys x all.1 here)
 
 -- one entry more
-pub drawn-more : (img : Image) (slots : List Slot) (i : ℕ) (s : Slot) (fs : List File) (f : File) → i < length slots → get_or slots i s ≡ s
+pub drawn-more : (img : Image) (slots : List Slot) (i : ℕ) (s : Slot) (fs : List File) (f : File) → i < length slots
+    → get_or slots i s ≡ s
     → AreDrawn img (take i slots) fs → f.slot ≡ s → IsDrawnFile img f → AreDrawn img (take (i + 1) slots) (fs ++ f ∷ [])
 drawn-more img slots i s fs f inside here so_far same drawn = record {
   entries = map-append (λ (g : File). g.slot) fs (f ∷ []) ∙ ap (λ (ss : List Slot). ss ++ f.slot ∷ []) so_far.entries
@@ -48,16 +56,21 @@ drawn-more img slots i s fs f inside here so_far same drawn = record {
 }
 
 -- the directory's sectors are those that its links come to
-pub drawn-is : (img : Image) (ps walked d : List Place) (slots : List Slot) (fs : List File) (u : ℕ) → IsDirectory img ps slots
-    → IsWalk img directory_start walked u → d ≡ walked → AreDrawn img slots fs → IsDrawn img (record { directory = d; files = fs })
+pub drawn-is : (img : Image) (ps walked d : List Place) (slots : List Slot) (fs : List File) (u : ℕ)
+    → IsDirectory img ps slots
+    → IsWalk img directory_start walked u → d ≡ walked → AreDrawn img slots fs
+    → IsDrawn img (record { directory = d; files = fs })
 drawn-is img ps walked d slots fs u dir walk listed drawn =
     let same = walk-of_chain img directory_start ps walked dir.last u dir.chain walk in record {
-      directory = subst (λ (qs : List Place). IsDirectory img qs (map (λ (f : File). f.slot) fs)) (sym (listed ∙ same.0))
+      directory = subst (λ (qs : List Place). IsDirectory img qs (map (λ (f : File). f.slot) fs))
+          (sym (listed ∙ same.0))
           (subst (λ (ss : List Slot). IsDirectory img ps ss) (sym drawn.entries) dir);
       files = drawn.files;
     }
 
 -- the same of another image and another number of blocks, which are no others
-pub sides-at : (a b : Image) (bytes : Sector) (m n : ℕ) (sides : List Place) → a ≡ b → m ≡ n → AreDrawnSides a bytes m sides → AreDrawnSides b bytes n sides
+pub sides-at : (a b : Image) (bytes : Sector) (m n : ℕ) (sides : List Place) → a ≡ b → m ≡ n
+    → AreDrawnSides a bytes m sides → AreDrawnSides b bytes n sides
 sides-at a b bytes m n sides same few drawn =
-    subst (λ (k : ℕ). AreDrawnSides b bytes k sides) few (subst (λ (img : Image). AreDrawnSides img bytes m sides) same drawn)
+    subst (λ (k : ℕ). AreDrawnSides b bytes k sides) few (subst (λ (img : Image). AreDrawnSides img bytes m sides) same
+    drawn)

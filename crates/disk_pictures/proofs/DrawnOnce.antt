@@ -1,5 +1,6 @@
 -- Each sector is drawn with the one owner that it is drawn as, and once there.
-use Rattle.std.proofs.Common.{◌≡◌, ◌≢◌, ◌<◌, ◌≤◌, ◌⊎◌, inl, inr, ◌+◌, ℕ, suc, Bool, true, false, List, [], ◌∷◌, drop, take, refl, subst, sym, ap, ◌∙◌, arith}
+use Rattle.std.proofs.Common.{◌≡◌, ◌≢◌, ◌<◌, ◌≤◌, ◌⊎◌, inl, inr, ◌+◌, ℕ, suc, Bool, true, false, List, [], ◌∷◌, drop}
+use Rattle.std.proofs.Common.{take, refl, subst, sym, ap, ◌∙◌, arith}
 use Rattle.std.specs.Prelude.{Contains, Some, if◌then◌else◌, nat_eq, nat_lt, slice_get, ◌&&◌}
 use Rattle.std.specs.List.{AllByRecursion}
 use Rattle.std.proofs.lemmas.Bool.{eqb-true, false≢true, ltb-false, ltb-true}
@@ -13,7 +14,8 @@ use Rattle.disk_layout.proofs.Once.{Contains-cases, Contains-nil, EachOnce-left}
 use Rattle.disk_layout.specs.Chain.{EachOnce}
 use Rattle.disk_layout.specs.Directory.{map_place, type_byte}
 use Rattle.disk_layout.specs.Layout.{File, Layout, is_rel}
-use Rattle.disk_pictures.specs.Drawings.{GoesFrom, IsDrawn, IsDrawnFile, IsDrawnOnce, has, is_place, owner_among, owner_of}
+use Rattle.disk_pictures.specs.Drawings.{GoesFrom, IsDrawn, IsDrawnFile, IsDrawnOnce, has, is_place, owner_among}
+use Rattle.disk_pictures.specs.Drawings.{owner_of}
 use Rattle.disk_pictures.specs.declared.owners.Owner.{Owner}
 use Rattle.disk_pictures.specs.declared.owners.Owner.TheVariants as owner
 
@@ -72,12 +74,15 @@ sides-once img f drawn = by (is_rel f.slot) refl
         let (ps, u, goes, part) = drawn.relative e in
         let whole = walk-once img f.slot.bytes 21 ps u goes in
         subst (λ (qs : List Place). EachOnce qs) (sym part)
-        (EachOnce-left (take _ ps) (drop _ ps) (subst (λ (qs : List Place). EachOnce qs) (sym (take-append-drop _ ps)) whole))
+        (EachOnce-left (take _ ps) (drop _ ps) (subst (λ (qs : List Place). EachOnce qs) (sym (take-append-drop _ ps))
+        whole))
 
 -- the same among entries of which the first has number k
 abbrev AmongOnce : ℕ → List File → Place → Owner → Type 0
-AmongOnce k fs p (owner.Blocks j) = (i : ℕ) × (j ≡ k + i) × (f : File) × (slice_get fs i ≡ Some f) × Contains f.blocks p × EachOnce f.blocks
-AmongOnce k fs p (owner.Sides j) = (i : ℕ) × (j ≡ k + i) × (f : File) × (slice_get fs i ≡ Some f) × Contains f.sides p × EachOnce f.sides
+AmongOnce k fs p (owner.Blocks j) = (i : ℕ) × (j ≡ k + i) × (f : File) × (slice_get fs i ≡ Some f) × Contains f.blocks p
+    × EachOnce f.blocks
+AmongOnce k fs p (owner.Sides j) = (i : ℕ) × (j ≡ k + i) × (f : File) × (slice_get fs i ≡ Some f) × Contains f.sides p
+    × EachOnce f.sides
 AmongOnce k fs p owner.Nobody = (f : File) → Contains fs f → ¬ (Contains f.blocks p) × ¬ (Contains f.sides p)
 AmongOnce k fs p owner.Map = ⊥
 AmongOnce k fs p owner.Directory = ⊥
@@ -93,7 +98,8 @@ later k f fs p owner.Nobody a b rest = λ g c. elim (Contains-cases g f fs c) [
 later k f fs p owner.Map a b rest = rest
 later k f fs p owner.Directory a b rest = rest
 
-among-once : (img : Image) (k : ℕ) (fs : List File) (p : Place) → AllByRecursion (IsDrawnFile img) fs → AmongOnce k fs p (owner_among k fs p)
+among-once : (img : Image) (k : ℕ) (fs : List File) (p : Place) → AllByRecursion (IsDrawnFile img) fs
+    → AmongOnce k fs p (owner_among k fs p)
 unfolding owner_among
 among-once img k [] p all = λ f c. absurd (Contains-nil f c)
 among-once img k (f ∷ fs) p all = by (has f.blocks p) (has f.sides p) refl refl (among-once img (k + 1) fs p all.1)
@@ -102,11 +108,15 @@ among-once img k (f ∷ fs) p all = by (has f.blocks p) (has f.sides p) refl ref
         → AmongOnce k (f ∷ fs) p (if b then owner.Blocks k else (if s then owner.Sides k else owner_among (k + 1) fs p))
     by true s hb hs rest = (0, omega arith, f, refl, has-there f.blocks p hb, blocks-once img f all.0)
     by false true hb hs rest = (0, omega arith, f, refl, has-there f.sides p hs, sides-once img f all.0)
-    by false false hb hs rest = later k f fs p (owner_among (k + 1) fs p) (none-there f.blocks p hb) (none-there f.sides p hs) rest
+    by false false hb hs rest = later k f fs p (owner_among (k + 1) fs p) (none-there f.blocks p hb)
+        (none-there f.sides p hs) rest
 
-entry-once : (l : Layout) (p : Place) (o : Owner) → p ≢ map_place → ¬ (Contains l.directory p) → AmongOnce 0 l.files p o → IsDrawnOnce l p o
-entry-once l p (owner.Blocks j) a b (i, e, f, at, c, once) = (f, subst (λ (n : ℕ). slice_get l.files n ≡ Some f) (let h : i ≡ j = omega (arith, e) in h) at, c, once)
-entry-once l p (owner.Sides j) a b (i, e, f, at, c, once) = (f, subst (λ (n : ℕ). slice_get l.files n ≡ Some f) (let h : i ≡ j = omega (arith, e) in h) at, c, once)
+entry-once : (l : Layout) (p : Place) (o : Owner) → p ≢ map_place → ¬ (Contains l.directory p) → AmongOnce 0 l.files p o
+    → IsDrawnOnce l p o
+entry-once l p (owner.Blocks j) a b (i, e, f, at, c, once) =
+    (f, subst (λ (n : ℕ). slice_get l.files n ≡ Some f) (let h : i ≡ j = omega (arith, e) in h) at, c, once)
+entry-once l p (owner.Sides j) a b (i, e, f, at, c, once) =
+    (f, subst (λ (n : ℕ). slice_get l.files n ≡ Some f) (let h : i ≡ j = omega (arith, e) in h) at, c, once)
 entry-once l p owner.Nobody a b rest = (a, b, rest)
 entry-once l p owner.Map a b rest = absurd rest
 entry-once l p owner.Directory a b rest = absurd rest

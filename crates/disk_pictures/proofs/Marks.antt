@@ -31,15 +31,19 @@ owner-small map p (owner.Sides k) = letter-small 65 k (omega arith)
 owner-small map p owner.Nobody = either (is_free map p) 46 63 (omega arith) (omega arith)
 
 pub mark-small : (v : Option Fault) (map : Sector) (l : Layout) (p : Place) → mark_of v map l p < 128
-mark-small v map l p = either (is_fault_at v p) 33 (owner_mark map p (owner_of l p)) (omega arith) (owner-small map p (owner_of l p))
+mark-small v map l p = either (is_fault_at v p) 33 (owner_mark map p (owner_of l p)) (omega arith)
+    (owner-small map p (owner_of l p))
 
 -- an entry's parts, as they are written one after another
-pub entry-written : (k : ℕ) (f : File) (sign count byte : ℕ) (name : List ℕ) → sign ≡ letter 97 k → count ≡ count_field f.slot
+pub entry-written : (k : ℕ) (f : File) (sign count byte : ℕ) (name : List ℕ) → sign ≡ letter 97 k
+    → count ≡ count_field f.slot
     → name ≡ name_of f.slot → byte ≡ type_byte f.slot
-    → encode_utf8 sign ++ (codes " " ++ (decimal count ++ (codes " \"" ++ (text_of name ++ (codes "\" " ++ (type_text (codes "<") byte
+    → encode_utf8 sign
+    ++ (codes " " ++ (decimal count ++ (codes " \"" ++ (text_of name ++ (codes "\" " ++ (type_text (codes "<") byte
     ++ (records_text f ++ codes "\n"))))))) ≡ entry_line k f
 unfolding entry_line
 entry-written k f sign count byte name a b c d =
-    ap (λ (t : List ℕ). t ++ (codes " " ++ (decimal count ++ (codes " \"" ++ (text_of name ++ (codes "\" " ++ (type_text (codes "<") byte
+    ap (λ (t : List ℕ). t
+    ++ (codes " " ++ (decimal count ++ (codes " \"" ++ (text_of name ++ (codes "\" " ++ (type_text (codes "<") byte
     ++ (records_text f ++ codes "\n"))))))))
     (ap encode_utf8 a ∙ ascii (letter 97 k) (letter-small 97 k (omega arith))) ∙ rw (b, c, d) refl

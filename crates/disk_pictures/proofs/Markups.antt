@@ -1,5 +1,6 @@
 -- Bytes of a disk bring no markup into a page.
-use Rattle.std.proofs.Common.{◌≡◌, inl, inr, ◌+◌, ◌/◌, ◌%◌, ℕ, List, [], ◌∷◌, ◌++◌, Bool, true, false, ne_eqb, refl, sym, ap, ◌∙◌, arith}
+use Rattle.std.proofs.Common.{◌≡◌, inl, inr, ◌+◌, ◌/◌, ◌%◌, ℕ, List, [], ◌∷◌, ◌++◌, Bool, true, false, ne_eqb, refl}
+use Rattle.std.proofs.Common.{sym, ap, ◌∙◌, arith}
 use Rattle.std.specs.Prelude.{codes, flat_map, if◌then◌else◌, nat_eq, nat_lt, not, ◌&&◌}
 use Rattle.std.proofs.lemmas.Bool.{false≢true}
 use Rattle.std.proofs.lemmas.List.Elements.{filter-append}
@@ -39,7 +40,8 @@ byte-none false b plain =
     let high = escaped-none (digit (b / 16)) (digit-quote (nat_lt (b / 16) 10) (b / 16)) in
     let low = escaped-none (digit (b % 16)) (digit-quote (nat_lt (b % 16) 10) (b % 16)) in
     both-none (escaped 92) (escaped (digit (b / 16)) ++ (escaped (digit (b % 16)) ++ [])) refl
-    (both-none (escaped (digit (b / 16))) (escaped (digit (b % 16)) ++ []) high (both-none (escaped (digit (b % 16))) [] low refl))
+    (both-none (escaped (digit (b / 16))) (escaped (digit (b % 16)) ++ []) high
+    (both-none (escaped (digit (b % 16))) [] low refl))
 
 pub html-none : (bytes : List ℕ) → markup_of (html_of bytes) ≡ []
 html-none [] = refl
@@ -64,9 +66,11 @@ no c cs other e = absurd (false≢true (sym other ∙ ap (λ (n : ℕ). nat_eq n
 
 escape-escaped : (a l g : Bool) (c : ℕ) → nat_eq c 38 ≡ a
     → IsEscaped (if a then codes "&amp;" else (if l then codes "&lt;" else (if g then codes "&gt;" else (c ∷ []))))
-escape-escaped true l g c amp = ((λ e. ([], inl refl)), (no 97 _ refl, (no 109 _ refl, (no 112 _ refl, (no 59 _ refl, tt)))))
+escape-escaped true l g c amp =
+    ((λ e. ([], inl refl)), (no 97 _ refl, (no 109 _ refl, (no 112 _ refl, (no 59 _ refl, tt)))))
 escape-escaped false true g c amp = ((λ e. ([], inr (inl refl))), (no 108 _ refl, (no 116 _ refl, (no 59 _ refl, tt))))
-escape-escaped false false true c amp = ((λ e. ([], inr (inr refl))), (no 103 _ refl, (no 116 _ refl, (no 59 _ refl, tt))))
+escape-escaped false false true c amp =
+    ((λ e. ([], inr (inr refl))), (no 103 _ refl, (no 116 _ refl, (no 59 _ refl, tt))))
 escape-escaped false false false c amp = (no c [] amp, tt)
 
 texts-escaped : (cs : List ℕ) → IsEscaped (flat_map escaped cs)

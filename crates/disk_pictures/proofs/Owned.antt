@@ -1,11 +1,13 @@
 -- In a layout each sector has one owner, and is drawn as that owner's.
-use Rattle.std.proofs.Common.{◌≡◌, ◌+◌, ℕ, zero, suc, Bool, true, false, List, [], ◌∷◌, refl, subst, sym, ap, ◌∙◌, arith}
+use Rattle.std.proofs.Common.{◌≡◌, ◌+◌, ℕ, zero, suc, Bool, true, false, List, [], ◌∷◌, refl, subst, sym, ap, ◌∙◌}
+use Rattle.std.proofs.Common.{arith}
 use Rattle.std.specs.Prelude.{Contains, Some, flat_map, slice_get}
 use Rattle.std.proofs.lemmas.List.Elements.{Contains-append_left, Contains-append_right}
 use Rattle.d64_image.specs.Images.{Image}
 use Rattle.d64_image.specs.declared.place.Place.{Place}
 use Rattle.disk_layout.proofs.Layouts.{get-contains}
-use Rattle.disk_layout.proofs.Once.{Contains-here, Contains-there, EachOnce-apart, EachOnce-left, EachOnce-right, flat_map-in}
+use Rattle.disk_layout.proofs.Once.{Contains-here, Contains-there, EachOnce-apart, EachOnce-left, EachOnce-right}
+use Rattle.disk_layout.proofs.Once.{flat_map-in}
 use Rattle.disk_layout.specs.Chain.{EachOnce}
 use Rattle.disk_layout.specs.Directory.{map_place}
 use Rattle.disk_layout.specs.Layout.{File, IsLayout, Layout, file_owns, owners}

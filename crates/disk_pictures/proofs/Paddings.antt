@@ -1,5 +1,6 @@
 -- The bytes up to the last one that isn't a shifted space.
-use Rattle.std.proofs.Common.{◌≡◌, ◌≢◌, ◌<◌, ◌≤◌, ◌-◌, ◌⊎◌, inl, inr, ℕ, zero, suc, List, [], ◌∷◌, length, take, refl, subst, sym, ap, ap₂, ◌∙◌, ne_eqb, arith}
+use Rattle.std.proofs.Common.{◌≡◌, ◌≢◌, ◌<◌, ◌≤◌, ◌-◌, ◌⊎◌, inl, inr, ℕ, zero, suc, List, [], ◌∷◌, length, take, refl}
+use Rattle.std.proofs.Common.{subst, sym, ap, ap₂, ◌∙◌, ne_eqb, arith}
 use Rattle.std.specs.Prelude.{slice_index}
 use Rattle.disk_pictures.specs.Names.{name_before, unpadded}
 
@@ -43,6 +44,8 @@ unpadded-is (x ∷ xs) (suc (suc n)) few pad last =
           subst (λ (m : ℕ). slice_index xs m ≢ 160) this (subst (λ (m : ℕ). slice_index (x ∷ xs) m ≢ 160) next here))
     ] in
     let rest : take (suc n) xs ≡ unpadded xs =
-    unpadded-is xs (suc n) (omega (arith, few)) (λ i le lt. pad (suc i) (omega (arith, le)) (omega (arith, lt))) last' in
-    let long : 1 ≤ length (unpadded xs) = subst (λ (ys : List ℕ). 1 ≤ length ys) rest (first-there xs n (omega (arith, few))) in
+    unpadded-is xs (suc n) (omega (arith, few)) (λ i le lt. pad (suc i) (omega (arith, le)) (omega (arith, lt)))
+    last' in
+    let long : 1 ≤ length (unpadded xs) = subst (λ (ys : List ℕ). 1 ≤ length ys) rest
+    (first-there xs n (omega (arith, few))) in
     ap (λ (ys : List ℕ). x ∷ ys) rest ∙ sym (kept-long x (unpadded xs) long)

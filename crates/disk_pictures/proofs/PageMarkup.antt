@@ -10,7 +10,9 @@ use Rattle.disk_layout.specs.declared.faults.Fault.{Fault}
 use Rattle.disk_pictures.specs.Drawings.{owner_of}
 use Rattle.disk_pictures.specs.Markup.{is_markup, markup_of}
 use Rattle.disk_pictures.specs.Names.{disk_name, name_of}
-use Rattle.disk_pictures.specs.Pictures.{Show, block_arc, colour, dashes, drawing_text, file_group, group_head, is_blocks, is_sides, legend_text, link_text, own_block, own_side, page_text, ring_of, row_text, side_arc, style, title_text, told_text}
+use Rattle.disk_pictures.specs.Pictures.{Show, block_arc, colour, dashes, drawing_text, file_group, group_head}
+use Rattle.disk_pictures.specs.Pictures.{is_blocks, is_sides, legend_text, link_text, own_block, own_side, page_text}
+use Rattle.disk_pictures.specs.Pictures.{ring_of, row_text, side_arc, style, title_text, told_text}
 use Rattle.disk_pictures.specs.Texts.{numbered}
 
 -- the two have the same markup
@@ -51,19 +53,23 @@ module _ (f g : Show) (same : (bytes : List ℕ) → IsSameMarkup (f bytes) (g b
   on-side : (k : ℕ) (name : List ℕ) (j : ℕ) (p : Place) → IsSameMarkup (side_arc f k name j p) (side_arc g k name j p)
   unfolding side_arc
   on-side k name j p =
-      behind (ring_of p) _ _ (behind (codes " stroke=\"") _ _ (behind (colour k 18) _ _ (behind (codes "\"><title>") _ _ (behind (place_text p) _ _
+      behind (ring_of p) _ _
+      (behind (codes " stroke=\"") _ _
+      (behind (colour k 18) _ _ (behind (codes "\"><title>") _ _ (behind (place_text p) _ _
       (behind (codes " ") _ _ (before (f name) (g name) _ (same name)))))))
 
   on-file : (l : Layout) (k : ℕ) (d : File) → IsSameMarkup (file_group f l k d) (file_group g l k d)
   unfolding file_group
   on-file l k d =
       let blocks = each (own_block f l k d) (own_block g l k d)
-      (λ n p. where-so (is_blocks k (owner_of l p)) _ _ (on-block (name_of d.slot) (n + 1) (length d.blocks) p)) 0 d.blocks in
+      (λ n p. where-so (is_blocks k (owner_of l p)) _ _ (on-block (name_of d.slot) (n + 1) (length d.blocks) p)) 0
+      d.blocks in
       let sides = each (own_side f l k d) (own_side g l k d)
       (λ n p. where-so (is_sides k (owner_of l p)) _ _ (on-side k (name_of d.slot) n p)) 0 d.sides in
       behind (group_head k) _ _ (both _ _ _ _ blocks (before _ _ (codes "</g>\n") sides))
 
-  on-drawing : (v : Option Fault) (map : Sector) (l : Layout) → IsSameMarkup (drawing_text f v map l) (drawing_text g v map l)
+  on-drawing : (v : Option Fault) (map : Sector) (l : Layout)
+      → IsSameMarkup (drawing_text f v map l) (drawing_text g v map l)
   unfolding drawing_text
   on-drawing v map l = behind _ _ _ (before _ _ _ (each (file_group f l) (file_group g l) (on-file l) 0 l.files))
 
@@ -71,7 +77,8 @@ module _ (f g : Show) (same : (bytes : List ℕ) → IsSameMarkup (f bytes) (g b
   unfolding title_text
   on-title map =
       let name = disk_name map in
-      behind (codes "<!DOCTYPE html>\n<html lang=\"en\">\n<meta charset=\"utf-8\">\n<title>") _ _ (both (f name) (g name) _ _ (same name)
+      behind (codes "<!DOCTYPE html>\n<html lang=\"en\">\n<meta charset=\"utf-8\">\n<title>") _ _
+      (both (f name) (g name) _ _ (same name)
       (behind (codes "</title>\n<style>") _ _ (behind style _ _ (behind dashes _ _ (behind (codes "</style>\n<h1>") _ _
       (before (f name) (g name) _ (same name)))))))
 
@@ -84,21 +91,25 @@ module _ (f g : Show) (same : (bytes : List ℕ) → IsSameMarkup (f bytes) (g b
 
   on-legend : (map : Sector) → IsSameMarkup (legend_text f map) (legend_text g map)
   unfolding legend_text
-  on-legend map = behind (codes "</g>\n<text y=\"400\">") _ _ (before (f (disk_name map)) (g (disk_name map)) _ (same (disk_name map)))
+  on-legend map = behind (codes "</g>\n<text y=\"400\">") _ _ (before (f (disk_name map)) (g (disk_name map)) _
+      (same (disk_name map)))
 
   on-link : (k : ℕ) (name : List ℕ) → IsSameMarkup (link_text f k name) (link_text g k name)
   unfolding link_text
   on-link k name =
-      behind (codes "<a href=\"#f") _ _ (behind (decimal k) _ _ (behind (codes "\">") _ _ (before (f name) (g name) _ (same name))))
+      behind (codes "<a href=\"#f") _ _
+      (behind (decimal k) _ _ (behind (codes "\">") _ _ (before (f name) (g name) _ (same name))))
 
   on-row : (k : ℕ) (d : File) → IsSameMarkup (row_text f k d) (row_text g k d)
   unfolding row_text
   on-row k d =
-      behind (codes "<tr><td><i style=\"background:") _ _ (behind (colour k 0) _ _ (behind (codes "\"></i></td><td>") _ _
+      behind (codes "<tr><td><i style=\"background:") _ _
+      (behind (colour k 0) _ _ (behind (codes "\"></i></td><td>") _ _
       (behind (decimal (count_field d.slot)) _ _ (behind (codes "</td><td>") _ _
       (before (link_text f k (name_of d.slot)) (link_text g k (name_of d.slot)) _ (on-link k (name_of d.slot)))))))
 
-  pub on-page : (v : Option Fault) (map : Sector) (l : Layout) → IsSameMarkup (page_text f v map l) (page_text g v map l)
+  pub on-page : (v : Option Fault) (map : Sector) (l : Layout)
+      → IsSameMarkup (page_text f v map l) (page_text g v map l)
   unfolding page_text
   on-page v map l = both _ _ _ _ (on-title map) (both _ _ _ _ (on-told v map) (both _ _ _ _ (on-drawing v map l)
       (both _ _ _ _ (on-legend map) (before _ _ _ (each (row_text f) (row_text g) on-row 0 l.files)))))

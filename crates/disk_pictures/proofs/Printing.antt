@@ -1,5 +1,6 @@
 -- Lines printed one after another.
-use Rattle.std.proofs.Common.{◌≡◌, ◌<◌, ◌+◌, ◌++◌, ℕ, suc, List, [], ◌∷◌, get_or, length, map, take, refl, subst, sym, ap, append_assoc, ◌∙◌, arith}
+use Rattle.std.proofs.Common.{◌≡◌, ◌<◌, ◌+◌, ◌++◌, ℕ, suc, List, [], ◌∷◌, get_or, length, map, take, refl, subst, sym}
+use Rattle.std.proofs.Common.{ap, append_assoc, ◌∙◌, arith}
 use Rattle.std.specs.Prelude.{OnOk, Option, Result, Ok, Err}
 use Rattle.std.specs.Io.KnownBytes.{Appends}
 use Rattle.std.specs.Char.{encode_utf8}
@@ -9,12 +10,14 @@ use Rattle.std.proofs.lemmas.List.{append-nil, length-map, length-take-le, map_m
 use Rattle.disk_pictures.specs.Texts.{each_below, numbered}
 
 -- one line more
-pub below-more : (a b c : Option (List ℕ)) (n : ℕ) (line : ℕ → List ℕ) → Appends a b (each_below n line) → Appends b c (line n)
+pub below-more : (a b c : Option (List ℕ)) (n : ℕ) (line : ℕ → List ℕ) → Appends a b (each_below n line)
+    → Appends b c (line n)
     → Appends a c (each_below (n + 1) line)
 unfolding each_below
 below-more a b c n line before more =
     let next : n + 1 ≡ suc n = omega arith in
-    subst (λ (m : ℕ). Appends a c (each_below m line)) (sym next) (Appends-trans a b c (each_below n line) (line n) before more)
+    subst (λ (m : ℕ). Appends a c (each_below m line)) (sym next) (Appends-trans a b c (each_below n line) (line n)
+    before more)
 
 numbered-push : {X : Type 0} (line : ℕ → X → List ℕ) (k : ℕ) (xs : List X) (x : X)
     → numbered line k (xs ++ x ∷ []) ≡ numbered line k xs ++ line (k + length xs) x
@@ -27,13 +30,16 @@ numbered-push line k (y ∷ ys) x =
     ∙ ap (λ (m : ℕ). (line k y ++ numbered line (k + 1) ys) ++ line m x) next
 
 -- the line of one item more, where each item is seen as `view` sees it
-pub item-more : {X Y : Type 0} (view : X → Y) (line : ℕ → Y → List ℕ) (a b c : Option (List ℕ)) (xs : List X) (i : ℕ) (x : X)
-    → i < length xs → get_or xs i x ≡ x → Appends a b (numbered line 0 (map view (take i xs))) → Appends b c (line i (view x))
+pub item-more : {X Y : Type 0} (view : X → Y) (line : ℕ → Y → List ℕ) (a b c : Option (List ℕ)) (xs : List X) (i : ℕ)
+    (x : X)
+    → i < length xs → get_or xs i x ≡ x → Appends a b (numbered line 0 (map view (take i xs)))
+    → Appends b c (line i (view x))
     → Appends a c (numbered line 0 (map view (take (i + 1) xs)))
 item-more view line a b c xs i x inside here before more =
     let taken : map view (take (i + 1) xs) ≡ map view (take i xs) ++ view x ∷ [] =
     map_more view xs i x inside ∙ ap (λ y. map view (take i xs) ++ view y ∷ []) here in
-    let long : length (map view (take i xs)) ≡ i = length-map (take i xs) view ∙ length-take-le i xs (omega (arith, inside)) in
+    let long : length (map view (take i xs)) ≡ i = length-map (take i xs) view
+    ∙ length-take-le i xs (omega (arith, inside)) in
     let here' : i ≡ 0 + length (map view (take i xs)) = omega (arith, long) in
     subst (Appends a c)
     (ap (λ (m : ℕ). numbered line 0 (map view (take i xs)) ++ line m (view x)) here'
@@ -49,7 +55,8 @@ plain-more line a b c xs i x inside here before more =
     let long : length (take i xs) ≡ i = length-take-le i xs (omega (arith, inside)) in
     let here' : i ≡ 0 + length (take i xs) = omega (arith, long) in
     subst (Appends a c)
-    (ap (λ (m : ℕ). numbered line 0 (take i xs) ++ line m x) here' ∙ sym (numbered-push line 0 (take i xs) x) ∙ ap (numbered line 0) (sym taken))
+    (ap (λ (m : ℕ). numbered line 0 (take i xs) ++ line m x) here' ∙ sym (numbered-push line 0 (take i xs) x)
+    ∙ ap (numbered line 0) (sym taken))
     (Appends-trans a b c _ _ before more)
 
 -- nothing was printed so far
@@ -57,12 +64,14 @@ pub none-below : (a : Option (List ℕ)) (line : ℕ → List ℕ) → Appends a
 unfolding each_below
 none-below a line = Appends-nil a
 
-pub no-items : {Y : Type 0} (line : ℕ → Y → List ℕ) (a : Option (List ℕ)) (ys : List Y) → ys ≡ [] → Appends a a (numbered line 0 ys)
+pub no-items : {Y : Type 0} (line : ℕ → Y → List ℕ) (a : Option (List ℕ)) (ys : List Y) → ys ≡ []
+    → Appends a a (numbered line 0 ys)
 unfolding numbered
 no-items line a ys none = subst (λ xs. Appends a a (numbered line 0 xs)) (sym none) (Appends-nil a)
 
 -- three texts, one after another
-pub three : (a b c d : Option (List ℕ)) (x y z : List ℕ) → Appends a b x → Appends b c y → Appends c d z → Appends a d (x ++ (y ++ z))
+pub three : (a b c d : Option (List ℕ)) (x y z : List ℕ) → Appends a b x → Appends b c y → Appends c d z
+    → Appends a d (x ++ (y ++ z))
 three a b c d x y z first second third = Appends-trans a b d x (y ++ z) first (Appends-trans b c d y z second third)
 
 -- a character of ASCII is its own byte
@@ -76,10 +85,13 @@ at-ok (Ok x) p = p
 at-ok (Err e) p = tt
 
 -- four texts, one after another
-pub four : (a b c d e : Option (List ℕ)) (x y z u : List ℕ) → Appends a b x → Appends b c y → Appends c d z → Appends d e u
+pub four : (a b c d e : Option (List ℕ)) (x y z u : List ℕ) → Appends a b x → Appends b c y → Appends c d z
+    → Appends d e u
     → Appends a e (x ++ (y ++ (z ++ u)))
-four a b c d e x y z u first second third last = Appends-trans a b e x (y ++ (z ++ u)) first (three b c d e y z u second third last)
+four a b c d e x y z u first second third last = Appends-trans a b e x (y ++ (z ++ u)) first
+    (three b c d e y z u second third last)
 
 -- the lines of all
-pub all-below : (a b : Option (List ℕ)) (n m : ℕ) (line : ℕ → List ℕ) → n ≡ m → Appends a b (each_below n line) → Appends a b (each_below m line)
+pub all-below : (a b : Option (List ℕ)) (n m : ℕ) (line : ℕ → List ℕ) → n ≡ m → Appends a b (each_below n line)
+    → Appends a b (each_below m line)
 all-below a b n m line all lines = subst (λ (k : ℕ). Appends a b (each_below k line)) all lines

@@ -8,10 +8,12 @@ use Rattle.disk_pictures.specs.Names.{name_of}
 use Rattle.disk_pictures.specs.Pictures.{cells_text, colour, link_text, row_text}
 use Rattle.disk_pictures.specs.Texts.{type_text}
 
-pub row-written : (k : ℕ) (f : File) (count byte : ℕ) (name : List ℕ) → count ≡ count_field f.slot → byte ≡ type_byte f.slot
+pub row-written : (k : ℕ) (f : File) (count byte : ℕ) (name : List ℕ) → count ≡ count_field f.slot
+    → byte ≡ type_byte f.slot
     → name ≡ name_of f.slot
     → codes "<tr><td><i style=\"background:" ++ (colour k 0 ++ (codes "\"></i></td><td>" ++ (decimal count
     ++ (codes "</td><td>" ++ (link_text html_of k name ++ (codes "</td><td>"
-    ++ (type_text (codes "&lt;") byte ++ (codes "</td><td>" ++ (cells_text f ++ codes "</td></tr>\n"))))))))) ≡ row_text html_of k f
+    ++ (type_text (codes "&lt;") byte ++ (codes "</td><td>" ++ (cells_text f ++ codes "</td></tr>\n"))))))))) ≡ row_text
+    html_of k f
 unfolding row_text
 row-written k f count byte name a b c = rw (a, b, c) refl

@@ -1,5 +1,6 @@
 -- What is drawn of a disk, sound or hurt: its directory, and of each entry what its links come to. Our own.
-use Rattle.std.specs.Prelude.{◌≡◌, ◌≢◌, ◌⊎◌, ℕ, Contains, Some, slice_get, ◌+◌, ◌<◌, ◌≤◌, Bool, ◌&&◌, List, [], ◌∷◌, map, length, take, if◌then◌else◌, nat_eq, IsTrue, IsFalse}
+use Rattle.std.specs.Prelude.{◌≡◌, ◌≢◌, ◌⊎◌, ℕ, Contains, Some, slice_get, ◌+◌, ◌<◌, ◌≤◌, Bool, ◌&&◌, List, [], ◌∷◌}
+use Rattle.std.specs.Prelude.{map, length, take, if◌then◌else◌, nat_eq, IsTrue, IsFalse}
 use Rattle.std.specs.List.{AllByRecursion, list_any}
 use Rattle.d64_image.specs.Images.{Image, Sector}
 use Rattle.d64_image.specs.declared.place.Place.{Place}
@@ -21,7 +22,8 @@ GoesFrom img bytes i ps u =
 -- the side sectors drawn of an entry with these bytes and n blocks: those that the links come to from the first one, no
 -- more than the blocks need
 abbrev pub AreDrawnSides : Image → Sector → ℕ → List Place → Type 0
-AreDrawnSides img bytes n sides = (ps : List Place) × (u : ℕ) × GoesFrom img bytes 21 ps u × (sides ≡ take (sides_for n) ps)
+AreDrawnSides img bytes n sides = (ps : List Place) × (u : ℕ) × GoesFrom img bytes 21 ps u
+    × (sides ≡ take (sides_for n) ps)
 
 -- what is drawn of an entry: nothing of one that isn't closed
 pub record IsDrawnFile (img : Image) (f : File) : Type 0 where
@@ -79,8 +81,8 @@ IsDrawnOnce l p owner.Nobody =
     (p ≢ map_place) × ¬ (Contains l.directory p)
     × ((f : File) → Contains l.files f → ¬ (Contains f.blocks p) × ¬ (Contains f.sides p))
 
--- whose the sector is in a layout: the map's, the directory's, this entry's as a block or as a side sector, or nobody's,
--- where none of these has it
+-- whose the sector is in a layout: the map's, the directory's, this entry's as a block or as a side sector, or
+-- nobody's, where none of these has it
 abbrev pub IsOwnedBy : Layout → Place → Owner → Type 0
 IsOwnedBy l p owner.Map = p ≡ map_place
 IsOwnedBy l p owner.Directory = Contains l.directory p

@@ -9,7 +9,8 @@ use Rattle.disk_layout.specs.declared.faults.Fault.{Fault}
 use Rattle.byte_text.specs.Texts.{text_of}
 use Rattle.disk_pictures.specs.Drawings.{owner_of}
 use Rattle.disk_pictures.specs.Names.{name_of}
-use Rattle.disk_pictures.specs.Texts.{at_place, each_below, has_records, is_fault_at, is_free, numbered, records_in, type_text, verdict_text}
+use Rattle.disk_pictures.specs.Texts.{at_place, each_below, has_records, is_fault_at, is_free, numbered, records_in}
+use Rattle.disk_pictures.specs.Texts.{type_text, verdict_text}
 use Rattle.disk_pictures.specs.declared.owners.Owner.{Owner}
 use Rattle.disk_pictures.specs.declared.owners.Owner.TheVariants as owner
 
@@ -42,7 +43,8 @@ track_line v map l t =
 -- record length and number of records, where they are told
 abbrev pub records_text : File → List ℕ
 records_text f =
-    if has_records f then codes " LENGTH " ++ (decimal (record_length f.slot) ++ (codes " RECORDS " ++ decimal (records_in f)))
+    if has_records f then codes " LENGTH "
+    ++ (decimal (record_length f.slot) ++ (codes " RECORDS " ++ decimal (records_in f)))
     else []
 
 -- the line of entry k: its letter, its block count as stored, its name, its type
@@ -58,4 +60,5 @@ map_head = codes "   0         1         2\n   012345678901234567890\n"
 -- the map: tracks 1 to 35, the entries, and what a check told
 unfoldable pub map_text : Option Fault → Sector → Layout → List ℕ
 map_text v map l =
-    map_head ++ (each_below 35 (λ b. track_line v map l (b + 1)) ++ (numbered entry_line 0 l.files ++ (verdict_text v ++ codes "\n")))
+    map_head ++ (each_below 35 (λ b. track_line v map l (b + 1))
+    ++ (numbered entry_line 0 l.files ++ (verdict_text v ++ codes "\n")))

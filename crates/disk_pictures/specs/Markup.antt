@@ -11,7 +11,8 @@ markup_of text = filter is_markup text
 
 -- an & stands here before one of three escapes
 abbrev pub BeginsEscape : List ℕ → Type 0
-BeginsEscape text = (rest : List ℕ) × ((text ≡ codes "amp;" ++ rest) ⊎ ((text ≡ codes "lt;" ++ rest) ⊎ (text ≡ codes "gt;" ++ rest)))
+BeginsEscape text = (rest : List ℕ)
+    × ((text ≡ codes "amp;" ++ rest) ⊎ ((text ≡ codes "lt;" ++ rest) ⊎ (text ≡ codes "gt;" ++ rest)))
 
 -- each & begins an escape
 abbrev pub IsEscaped : List ℕ → Type 0

@@ -37,13 +37,15 @@ pub record IsJudged (image : List ℕ) (drawing : Drawing) (found : Option Fault
   pub map : drawing.map ≡ map_in image
 
 -- the map of the image, and nothing else, was handed to an output that held `old` and holds `new`
-pub record IsMapPrinted {W : Type 0} (contents : W → Option (List ℕ)) (image : List ℕ) (old new : W) (found : Option Fault) : Type 0 where
+pub record IsMapPrinted {W : Type 0} (contents : W → Option (List ℕ)) (image : List ℕ) (old new : W)
+    (found : Option Fault) : Type 0 where
   pub layout : Layout
   pub judged : IsDrawnAndJudged image layout found
   pub printed : Appends (contents old) (contents new) (map_text found (map_in image) layout)
 
 -- the picture of the image, and nothing else, was handed to an output that held `old` and holds `new`
-pub record IsPicturePrinted {W : Type 0} (contents : W → Option (List ℕ)) (image : List ℕ) (old new : W) (found : Option Fault) : Type 0 where
+pub record IsPicturePrinted {W : Type 0} (contents : W → Option (List ℕ)) (image : List ℕ) (old new : W)
+    (found : Option Fault) : Type 0 where
   pub layout : Layout
   pub judged : IsDrawnAndJudged image layout found
   pub printed : Appends (contents old) (contents new) (picture_page found (map_in image) layout)

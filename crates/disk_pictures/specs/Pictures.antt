@@ -1,6 +1,7 @@
--- The picture of a disk: an HTML page with an SVG drawing. All of it is our own. Bytes of the disk stand in it as `show`
--- shows them, and in no other way; the page that is printed shows them by `html_of`.
-use Rattle.std.specs.Prelude.{ℕ, ◌+◌, ◌*◌, ◌-◌, ◌/◌, ◌%◌, Bool, true, false, List, [], ◌++◌, Option, Some, None, if◌then◌else◌, codes, decimal, flat_map, length, nat_eq, slice_range}
+-- The picture of a disk: an HTML page with an SVG drawing. All of it is our own. Bytes of the disk stand in it as
+-- `show` shows them, and in no other way; the page that is printed shows them by `html_of`.
+use Rattle.std.specs.Prelude.{ℕ, ◌+◌, ◌*◌, ◌-◌, ◌/◌, ◌%◌, Bool, true, false, List, [], ◌++◌, Option, Some, None}
+use Rattle.std.specs.Prelude.{if◌then◌else◌, codes, decimal, flat_map, length, nat_eq, slice_range}
 use Rattle.d64_image.specs.Geometry.{sectors_on}
 use Rattle.d64_image.specs.Images.{Sector}
 use Rattle.d64_image.specs.Places.{place_at}
@@ -13,7 +14,8 @@ use Rattle.disk_layout.specs.declared.faults.Fault.{Fault}
 use Rattle.disk_pictures.specs.Drawings.{owner_of}
 use Rattle.disk_pictures.specs.Html.{html_of}
 use Rattle.disk_pictures.specs.Names.{disk_name, name_of}
-use Rattle.disk_pictures.specs.Texts.{at_place, each_below, has_records, is_free, numbered, place_of, records_in, type_text, verdict_text}
+use Rattle.disk_pictures.specs.Texts.{at_place, each_below, has_records, is_free, numbered, place_of, records_in}
+use Rattle.disk_pictures.specs.Texts.{type_text, verdict_text}
 use Rattle.disk_pictures.specs.declared.owners.Owner.{Owner}
 use Rattle.disk_pictures.specs.declared.owners.Owner.TheVariants as owner
 use Rattle.disk_pictures.specs.declared.arcs.Layer.{Layer}
@@ -44,7 +46,9 @@ radius t = 35400 - 800 * t
 -- the beginning of a sector's circle on a ring of this radius: its one dash, which begins here, is the sector
 unfoldable pub ring_text : ℕ → Place → List ℕ
 ring_text r p =
-    codes "<circle r=\"" ++ (decimal r ++ (codes "\" stroke-dashoffset=\"-" ++ (decimal (p.sector * arc r (sectors_on p.track)) ++ codes "\"")))
+    codes "<circle r=\""
+    ++ (decimal r ++ (codes "\" stroke-dashoffset=\"-" ++ (decimal (p.sector * arc r (sectors_on p.track)) ++ codes
+    "\"")))
 
 -- the same on the sector's own track, whose dash is among `dashes`
 abbrev pub ring_of : Place → List ℕ
@@ -56,7 +60,8 @@ map_arc = ring_of map_place ++ codes " class=\"map\"><title>18/0 map</title></ci
 
 -- a sector of the directory
 unfoldable pub directory_arc : Place → List ℕ
-directory_arc p = ring_of p ++ (codes " class=\"dir\"><title>" ++ (place_text p ++ codes " directory</title></circle>\n"))
+directory_arc p =
+    ring_of p ++ (codes " class=\"dir\"><title>" ++ (place_text p ++ codes " directory</title></circle>\n"))
 
 -- block number o, from 1, of the n blocks of an entry of this name, in the colour of its group
 unfoldable pub block_arc : Show → List ℕ → ℕ → ℕ → Place → List ℕ
@@ -75,7 +80,8 @@ unfoldable pub free_arc : Place → List ℕ
 free_arc p = ring_of p ++ (codes " class=\"free\"><title>" ++ (place_text p ++ codes " free</title></circle>\n"))
 
 unfoldable pub lost_arc : Place → List ℕ
-lost_arc p = ring_of p ++ (codes " class=\"lost\"><title>" ++ (place_text p ++ codes " taken, of no file</title></circle>\n"))
+lost_arc p =
+    ring_of p ++ (codes " class=\"lost\"><title>" ++ (place_text p ++ codes " taken, of no file</title></circle>\n"))
 
 unfoldable pub open_arc : Place → List ℕ
 open_arc p = ring_of p ++ codes "/>\n"
@@ -95,7 +101,8 @@ is_nobody o = false
 
 -- a sector of an entry is drawn with it where it is drawn as the entry's
 abbrev pub own_block : Show → Layout → ℕ → File → ℕ → Place → List ℕ
-own_block show l k f n p = if is_blocks k (owner_of l p) then block_arc show (name_of f.slot) (n + 1) (length f.blocks) p else []
+own_block show l k f n p = if is_blocks k (owner_of l p) then block_arc show (name_of f.slot) (n + 1) (length f.blocks)
+    p else []
 
 abbrev pub own_side : Show → Layout → ℕ → File → ℕ → Place → List ℕ
 own_side show l k f n p = if is_sides k (owner_of l p) then side_arc show k (name_of f.slot) n p else []
@@ -107,7 +114,8 @@ group_head k = codes "<g id=\"f" ++ (decimal k ++ (codes "\" stroke=\"" ++ (colo
 -- the group of entry k: its blocks in their order, then its side sectors
 unfoldable pub file_group : Show → Layout → ℕ → File → List ℕ
 file_group show l k f =
-    group_head k ++ (numbered (own_block show l k f) 0 f.blocks ++ (numbered (own_side show l k f) 0 f.sides ++ codes "</g>\n"))
+    group_head k ++ (numbered (own_block show l k f) 0 f.blocks ++ (numbered (own_side show l k f) 0 f.sides ++ codes
+    "</g>\n"))
 
 -- the group of the map and the directory
 unfoldable pub system_group : Layout → List ℕ
@@ -115,7 +123,8 @@ system_group l = codes "<g id=\"m\">\n" ++ (map_arc ++ (flat_map directory_arc l
 
 -- what a layer has at a sector: all that is of nobody; or over what is of somebody, a line where the map calls it free
 abbrev pub layer_arc : Layer → Sector → Layout → Place → List ℕ
-layer_arc layer.Others map l p = if is_nobody (owner_of l p) then (if is_free map p then free_arc p else lost_arc p) else []
+layer_arc layer.Others map l p = if is_nobody (owner_of l p) then (if is_free map p then free_arc p else lost_arc p)
+    else []
 layer_arc layer.Open map l p = if is_nobody (owner_of l p) then [] else (if is_free map p then open_arc p else [])
 
 -- the text of each sector, track by track
@@ -134,7 +143,8 @@ layer_group y map l = layer_head y ++ (each_place (layer_arc y map l) ++ codes "
 -- the mark of a fault at the rim, on a ring of its own
 unfoldable pub rim_mark : Place → List ℕ
 rim_mark p =
-    ring_text 35700 p ++ (codes " stroke-dasharray=\"" ++ (decimal (arc 35700 (sectors_on p.track) - 200) ++ codes " 300000\" class=\"fault\"/>\n"))
+    ring_text 35700 p ++ (codes " stroke-dasharray=\"" ++ (decimal (arc 35700 (sectors_on p.track) - 200) ++ codes
+    " 300000\" class=\"fault\"/>\n"))
 
 -- the group of a fault: its sector in red, and a mark at the rim
 unfoldable pub fault_sector : Fault → List ℕ
@@ -150,11 +160,13 @@ fault_group (Some f) = fault_sector f
 
 -- the page's style
 unfoldable pub style : List ℕ
-style = codes "body{margin:24px;background:#fbfaf7;color:#222;font:14px/1.4 ui-monospace,Menlo,Consolas,\"DejaVu Sans Mono\",monospace}h1{font-size:20px;margin:0}p{margin:4px 0 16px}main{display:flex;flex-wrap:wrap;gap:32px;align-items:flex-start}svg{width:720px;max-width:100%;height:auto}main>div{max-width:440px}circle{fill:none;stroke-width:700}.free{stroke:#e2ded3}.lost{stroke:#9a9384}.map{stroke:#111}.dir{stroke:#5b5b5b}.edge{stroke:#fff;stroke-width:1500}.fault{stroke:#e00000;stroke-width:1100}.open circle{stroke:#fff;stroke-width:200;pointer-events:none}.bad{color:#d00;font-weight:bold}.good{color:#17692b;font-weight:bold}text{font:1100px ui-monospace,Menlo,Consolas,\"DejaVu Sans Mono\",monospace;fill:#444;text-anchor:middle}table{border-collapse:collapse}td,th{padding:1px 8px;text-align:right;white-space:pre}tr>:nth-child(3),tr>:nth-child(4){text-align:left}i{display:inline-block;width:12px;height:12px;margin:0 4px 0 0}ul{list-style:none;padding:0;margin:0 0 12px}li{margin:0 0 2px}.map i{background:#111}.dir i{background:#5b5b5b}.free i{background:#e2ded3}.lost i{background:#9a9384}tr a{color:inherit;text-decoration:none}tr a:hover{text-decoration:underline}g:target circle{stroke-width:800}svg:has(g:target) g g:not(:target):not(#f){opacity:.15}"
+style = codes
+    "body{margin:24px;background:#fbfaf7;color:#222;font:14px/1.4 ui-monospace,Menlo,Consolas,\"DejaVu Sans Mono\",monospace}h1{font-size:20px;margin:0}p{margin:4px 0 16px}main{display:flex;flex-wrap:wrap;gap:32px;align-items:flex-start}svg{width:720px;max-width:100%;height:auto}main>div{max-width:440px}circle{fill:none;stroke-width:700}.free{stroke:#e2ded3}.lost{stroke:#9a9384}.map{stroke:#111}.dir{stroke:#5b5b5b}.edge{stroke:#fff;stroke-width:1500}.fault{stroke:#e00000;stroke-width:1100}.open circle{stroke:#fff;stroke-width:200;pointer-events:none}.bad{color:#d00;font-weight:bold}.good{color:#17692b;font-weight:bold}text{font:1100px ui-monospace,Menlo,Consolas,\"DejaVu Sans Mono\",monospace;fill:#444;text-anchor:middle}table{border-collapse:collapse}td,th{padding:1px 8px;text-align:right;white-space:pre}tr>:nth-child(3),tr>:nth-child(4){text-align:left}i{display:inline-block;width:12px;height:12px;margin:0 4px 0 0}ul{list-style:none;padding:0;margin:0 0 12px}li{margin:0 0 2px}.map i{background:#111}.dir i{background:#5b5b5b}.free i{background:#e2ded3}.lost i{background:#9a9384}tr a{color:inherit;text-decoration:none}tr a:hover{text-decoration:underline}g:target circle{stroke-width:800}svg:has(g:target) g g:not(:target):not(#f){opacity:.15}"
 
 -- the dash of each ring: the arc of a sector less 200, and then nothing
 unfoldable pub dashes : List ℕ
-dashes = codes "[r=\"34600\"]{stroke-dasharray:10152 300000}[r=\"33800\"]{stroke-dasharray:9912 300000}[r=\"33000\"]{stroke-dasharray:9673 300000}[r=\"32200\"]{stroke-dasharray:9434 300000}[r=\"31400\"]{stroke-dasharray:9194 300000}[r=\"30600\"]{stroke-dasharray:8955 300000}[r=\"29800\"]{stroke-dasharray:8716 300000}[r=\"29000\"]{stroke-dasharray:8476 300000}[r=\"28200\"]{stroke-dasharray:8237 300000}[r=\"27400\"]{stroke-dasharray:7998 300000}[r=\"26600\"]{stroke-dasharray:7758 300000}[r=\"25800\"]{stroke-dasharray:7519 300000}[r=\"25000\"]{stroke-dasharray:7279 300000}[r=\"24200\"]{stroke-dasharray:7040 300000}[r=\"23400\"]{stroke-dasharray:6801 300000}[r=\"22600\"]{stroke-dasharray:6561 300000}[r=\"21800\"]{stroke-dasharray:6322 300000}[r=\"21000\"]{stroke-dasharray:6744 300000}[r=\"20200\"]{stroke-dasharray:6480 300000}[r=\"19400\"]{stroke-dasharray:6215 300000}[r=\"18600\"]{stroke-dasharray:5950 300000}[r=\"17800\"]{stroke-dasharray:5686 300000}[r=\"17000\"]{stroke-dasharray:5421 300000}[r=\"16200\"]{stroke-dasharray:5157 300000}[r=\"15400\"]{stroke-dasharray:5175 300000}[r=\"14600\"]{stroke-dasharray:4896 300000}[r=\"13800\"]{stroke-dasharray:4617 300000}[r=\"13000\"]{stroke-dasharray:4337 300000}[r=\"12200\"]{stroke-dasharray:4058 300000}[r=\"11400\"]{stroke-dasharray:3779 300000}[r=\"10600\"]{stroke-dasharray:3717 300000}[r=\"9800\"]{stroke-dasharray:3422 300000}[r=\"9000\"]{stroke-dasharray:3126 300000}[r=\"8200\"]{stroke-dasharray:2830 300000}[r=\"7400\"]{stroke-dasharray:2535 300000}"
+dashes = codes
+    "[r=\"34600\"]{stroke-dasharray:10152 300000}[r=\"33800\"]{stroke-dasharray:9912 300000}[r=\"33000\"]{stroke-dasharray:9673 300000}[r=\"32200\"]{stroke-dasharray:9434 300000}[r=\"31400\"]{stroke-dasharray:9194 300000}[r=\"30600\"]{stroke-dasharray:8955 300000}[r=\"29800\"]{stroke-dasharray:8716 300000}[r=\"29000\"]{stroke-dasharray:8476 300000}[r=\"28200\"]{stroke-dasharray:8237 300000}[r=\"27400\"]{stroke-dasharray:7998 300000}[r=\"26600\"]{stroke-dasharray:7758 300000}[r=\"25800\"]{stroke-dasharray:7519 300000}[r=\"25000\"]{stroke-dasharray:7279 300000}[r=\"24200\"]{stroke-dasharray:7040 300000}[r=\"23400\"]{stroke-dasharray:6801 300000}[r=\"22600\"]{stroke-dasharray:6561 300000}[r=\"21800\"]{stroke-dasharray:6322 300000}[r=\"21000\"]{stroke-dasharray:6744 300000}[r=\"20200\"]{stroke-dasharray:6480 300000}[r=\"19400\"]{stroke-dasharray:6215 300000}[r=\"18600\"]{stroke-dasharray:5950 300000}[r=\"17800\"]{stroke-dasharray:5686 300000}[r=\"17000\"]{stroke-dasharray:5421 300000}[r=\"16200\"]{stroke-dasharray:5157 300000}[r=\"15400\"]{stroke-dasharray:5175 300000}[r=\"14600\"]{stroke-dasharray:4896 300000}[r=\"13800\"]{stroke-dasharray:4617 300000}[r=\"13000\"]{stroke-dasharray:4337 300000}[r=\"12200\"]{stroke-dasharray:4058 300000}[r=\"11400\"]{stroke-dasharray:3779 300000}[r=\"10600\"]{stroke-dasharray:3717 300000}[r=\"9800\"]{stroke-dasharray:3422 300000}[r=\"9000\"]{stroke-dasharray:3126 300000}[r=\"8200\"]{stroke-dasharray:2830 300000}[r=\"7400\"]{stroke-dasharray:2535 300000}"
 
 -- how what a check told is styled
 abbrev pub verdict_class : Option Fault → List ℕ
@@ -165,12 +177,14 @@ verdict_class (Some f) = codes "bad"
 unfoldable pub title_text : Show → Sector → List ℕ
 title_text show map =
     codes "<!DOCTYPE html>\n<html lang=\"en\">\n<meta charset=\"utf-8\">\n<title>" ++ (show (disk_name map)
-    ++ (codes "</title>\n<style>" ++ (style ++ (dashes ++ (codes "</style>\n<h1>" ++ (show (disk_name map) ++ codes "</h1>\n<p>"))))))
+    ++ (codes "</title>\n<style>"
+    ++ (style ++ (dashes ++ (codes "</style>\n<h1>" ++ (show (disk_name map) ++ codes "</h1>\n<p>"))))))
 
 -- what follows: id, version, free blocks as the map counts them, what a check told, and the beginning of the drawing
 unfoldable pub told_text : Show → Option Fault → Sector → List ℕ
 told_text show v map =
-    show (slice_range map 162 164) ++ (codes " " ++ (show (slice_range map 165 167) ++ (codes ", " ++ (decimal (blocks_free map)
+    show (slice_range map 162 164)
+    ++ (codes " " ++ (show (slice_range map 165 167) ++ (codes ", " ++ (decimal (blocks_free map)
     ++ (codes " blocks free, <span class=\"" ++ (verdict_class v ++ (codes "\">" ++ (verdict_text v
     ++ codes "</span></p>\n<main>\n<svg viewBox=\"-36600 -36600 73200 73200\">\n<g transform=\"rotate(-90)\">\n"))))))))
 
@@ -195,16 +209,19 @@ unfoldable pub row_text : Show → ℕ → File → List ℕ
 row_text show k f =
     codes "<tr><td><i style=\"background:" ++ (colour k 0 ++ (codes "\"></i></td><td>" ++ (decimal (count_field f.slot)
     ++ (codes "</td><td>" ++ (link_text show k (name_of f.slot) ++ (codes "</td><td>"
-    ++ (type_text (codes "&lt;") (type_byte f.slot) ++ (codes "</td><td>" ++ (cells_text f ++ codes "</td></tr>\n")))))))))
+    ++ (type_text (codes "&lt;") (type_byte f.slot)
+    ++ (codes "</td><td>" ++ (cells_text f ++ codes "</td></tr>\n")))))))))
 
 -- the end of the page
 unfoldable pub end_text : List ℕ
-end_text = codes "</table>\n<p>Track 1 is outside, 35 inside; sector 0 begins at the top, clockwise.<br>A darker piece is a side sector, a white line a sector in use that the map calls free.<br>Point at a sector for its place, file and block; click a name to see its file alone.</p>\n</div>\n</main>\n"
+end_text = codes
+    "</table>\n<p>Track 1 is outside, 35 inside; sector 0 begins at the top, clockwise.<br>A darker piece is a side sector, a white line a sector in use that the map calls free.<br>Point at a sector for its place, file and block; click a name to see its file alone.</p>\n</div>\n</main>\n"
 
 -- the groups of the drawing
 unfoldable pub drawing_text : Show → Option Fault → Sector → Layout → List ℕ
 drawing_text show v map l =
-    system_group l ++ (numbered (file_group show l) 0 l.files ++ (layer_group layer.Others map l ++ (layer_group layer.Open map l ++ fault_group v)))
+    system_group l ++ (numbered (file_group show l) 0 l.files
+    ++ (layer_group layer.Others map l ++ (layer_group layer.Open map l ++ fault_group v)))
 
 -- the page
 unfoldable pub page_text : Show → Option Fault → Sector → Layout → List ℕ

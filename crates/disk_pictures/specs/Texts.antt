@@ -1,5 +1,7 @@
--- What is printed of a disk beside its sectors. All of it is our own but the types (1541 User's Guide, directory format).
-use Rattle.std.specs.Prelude.{ℕ, zero, suc, ◌+◌, ◌*◌, ◌-◌, ◌/◌, ◌%◌, ◌&&◌, Bool, false, not, List, [], ◌∷◌, ◌++◌, Option, Some, None, if◌then◌else◌, codes, length, max, nat_eq, nat_lt}
+-- What is printed of a disk beside its sectors. All of it is our own but the types (1541 User's Guide, directory
+-- format).
+use Rattle.std.specs.Prelude.{ℕ, zero, suc, ◌+◌, ◌*◌, ◌-◌, ◌/◌, ◌%◌, ◌&&◌, Bool, false, not, List, [], ◌∷◌, ◌++◌}
+use Rattle.std.specs.Prelude.{Option, Some, None, if◌then◌else◌, codes, length, max, nat_eq, nat_lt}
 use Rattle.std.specs.Int.{bit_at}
 use Rattle.d64_image.specs.Images.{Sector}
 use Rattle.d64_image.specs.declared.place.Place.{Place}

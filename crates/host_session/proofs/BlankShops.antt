@@ -1,5 +1,6 @@
 -- The blank image is a shop's, at rest: all records of its two files are empty.
-use Rattle.std.proofs.Common.{ℕ, zero, suc, ◌≡◌, ◌≤◌, inl, inr, List, [], ◌∷◌, ◌++◌, false, None, Option, Some, ap, arith, length, map, refl, replicate, subst, sym, ◌∙◌}
+use Rattle.std.proofs.Common.{ℕ, zero, suc, ◌≡◌, ◌≤◌, inl, inr, List, [], ◌∷◌, ◌++◌, false, None, Option, Some, ap}
+use Rattle.std.proofs.Common.{arith, length, map, refl, replicate, subst, sym, ◌∙◌}
 use Rattle.std.specs.Prelude.{Contains, codes, drop, option_map, slice_get}
 use Rattle.std.specs.Option.{option_and_then}
 use Rattle.std.proofs.lemmas.List.{drop_all, length-replicate, take_all}
@@ -25,7 +26,8 @@ use Rattle.host_session.proofs.Steps.{blank-record}
 use Rattle.host_session.proofs.TillTables.{blank-request}
 use Rattle.host_session.specs.Blank.{BlankIsAShop, blank_rest, blank_shop, blank_tills}
 use Rattle.host_session.specs.Files.{Files, HasFiles, record_at}
-use Rattle.host_session.specs.Shop.{AreLedgerRecords, IsSettled, any_old, card_at, cards_in, intents, items, overlaid, quantities, quantity_in, results, state_of}
+use Rattle.host_session.specs.Shop.{AreLedgerRecords, IsSettled, any_old, card_at, cards_in, intents, items, overlaid}
+use Rattle.host_session.specs.Shop.{quantities, quantity_in, results, state_of}
 
 -- each of equal records is the same
 replicate-at : {X : Type 0} (n r : ℕ) (e x : X) → record_at (replicate n e) r ≡ Some x → x ≡ e

@@ -1,9 +1,11 @@
 -- What a chain of events says of its run.
-use Rattle.std.proofs.Common.{◌≡◌, ◌≢◌, ◌≤◌, List, [], ◌∷◌, ◌++◌, refl, sym, subst, ◌∙◌, ap, arith, append_assoc, append-nil, le_refl, le_trans, length}
+use Rattle.std.proofs.Common.{◌≡◌, ◌≢◌, ◌≤◌, List, [], ◌∷◌, ◌++◌, refl, sym, subst, ◌∙◌, ap, arith, append_assoc}
+use Rattle.std.proofs.Common.{append-nil, le_refl, le_trans, length}
 use Rattle.d64_image.specs.History.{Changes, Failed, History}
 use Rattle.d64_image.proofs.Moments.{start}
 use Rattle.request_cards.specs.declared.reply.Reply.{Reply}
-use Rattle.host_session.proofs.Runs.{HasPlayed, and_no_more, none_played, now_more, now_none, now_of, one_played, stopped}
+use Rattle.host_session.proofs.Runs.{HasPlayed, and_no_more, none_played, now_more, now_none, now_of, one_played}
+use Rattle.host_session.proofs.Runs.{stopped}
 use Rattle.host_session.specs.Counted.{after_all}
 use Rattle.host_session.specs.Events.{Message}
 use Rattle.host_session.specs.Instants.{instant_of}
@@ -14,15 +16,18 @@ use Rattle.host_session.specs.Shop.{IsSettled, IsShop, Shop, start_of, with_stat
 use Rattle.host_session.specs.Chains.{GrowsFrom, HasRun, HasRunToFailure, IsChain, asked_over, over_instants, told_in}
 
 -- the replies, told over the disks beside them
-pub told_over : {D : Type 0} (h : History D) (turns : List (Reply × D)) → told_in (over_instants h turns) ≡ told_in turns
+pub told_over : {D : Type 0} (h : History D) (turns : List (Reply × D))
+    → told_in (over_instants h turns) ≡ told_in turns
 told_over h [] = refl
 told_over h (x ∷ xs) = ap (λ rs. x.0 ∷ rs) (told_over h xs)
 
 module _ {D : Type 0} (h : History D) where
   -- one event more at the end
-  pub chain_more : (s : Shop) (ms : List Message) (xs : List (Reply × D)) (old mid new : D) (t : Shop) (m : Message) (reply : Reply)
+  pub chain_more : (s : Shop) (ms : List Message) (xs : List (Reply × D)) (old mid new : D) (t : Shop) (m : Message)
+      (reply : Reply)
       → IsChain h s ms xs old t mid → (e : IsEvent h t m mid new (GoesOn h t m reply new))
-      → IsChain h s (ms ++ m ∷ []) (xs ++ (reply, new) ∷ []) old (with_state t (after_all (start_of t) t.state e.counted)) new
+      → IsChain h s (ms ++ m ∷ []) (xs ++ (reply, new) ∷ []) old
+      (with_state t (after_all (start_of t) t.state e.counted)) new
   chain_more s [] [] old mid new t m reply c e =
       let P : Shop → D → Type 0 = λ u d. (x : IsEvent h u m d new (GoesOn h u m reply new))
       → IsChain h s (m ∷ []) ((reply, new) ∷ []) old (with_state u (after_all (start_of u) u.state x.counted)) new in
@@ -58,7 +63,8 @@ module _ {D : Type 0} (h : History D) where
   PlayedTo s ms old new told t = (p : HasPlayed h s ms old new told) × (t ≡ now_of h s ms old new told p)
 
   -- a chain behind what was played is played
-  pub chain_played : (s : Shop) (before : List Message) (old at : D) (told : List Reply) (p : HasPlayed h s before old at told)
+  pub chain_played : (s : Shop) (before : List Message) (old at : D) (told : List Reply)
+      (p : HasPlayed h s before old at told)
       → (ms : List Message) (xs : List (Reply × D)) (new : D) (t : Shop)
       → IsChain h (now_of h s before old at told p) ms xs at t new
       → PlayedTo s (before ++ ms) old new (told ++ told_in xs) t
@@ -67,7 +73,8 @@ module _ {D : Type 0} (h : History D) where
       (subst (λ r. PlayedTo s before old new r t) (sym (append-nil told))
       (subst (λ d. PlayedTo s before old d told t) (sym c.1) (p, c.0)))
   chain_played s before old at told p (m ∷ ms) (x ∷ xs) new t c =
-      let q : HasPlayed h s (before ++ m ∷ []) old x.1 (told ++ x.0 ∷ []) = one_played h s before m old at x.1 told x.0 p c.0 in
+      let q : HasPlayed h s (before ++ m ∷ []) old x.1 (told ++ x.0 ∷ []) =
+      one_played h s before m old at x.1 told x.0 p c.0 in
       let rest : IsChain h (now_of h s (before ++ m ∷ []) old x.1 (told ++ x.0 ∷ []) q) ms xs x.1 t new =
       subst (λ u. IsChain h u ms xs x.1 t new) (sym (now_more h s before m old at x.1 told x.0 p c.0)) c.1 in
       let r = chain_played s (before ++ m ∷ []) old x.1 (told ++ x.0 ∷ []) q ms xs new t rest in
@@ -82,7 +89,8 @@ module _ {D : Type 0} (h : History D) where
   run_played s ms xs old new r =
       let p : HasPlayed h s [] old r.first [] = none_played h s old r.first r.opening.held r.later r.rests in
       chain_played s [] old r.first [] p ms xs new r.now
-      (subst (λ u. IsChain h u ms xs r.first r.now new) (sym (now_none h s old r.first r.opening.held r.later r.rests)) r.chain)
+      (subst (λ u. IsChain h u ms xs r.first r.now new) (sym (now_none h s old r.first r.opening.held r.later r.rests))
+      r.chain)
 
   -- nothing of today's is lost: a whole run
   pub whole : (s : Shop) (ms : List Message) (xs : List (Reply × D)) (old new : D) → HasRun h s ms xs old new
@@ -90,12 +98,15 @@ module _ {D : Type 0} (h : History D) where
   whole s ms xs old new r = (run_played s ms xs old new r).0
 
   -- one that the output ended
-  pub at_output : (s : Shop) (ms rest all : List Message) (xs : List (Reply × D)) (old new : D) → ms ++ rest ≡ all → ms ≢ []
+  pub at_output : (s : Shop) (ms rest all : List Message) (xs : List (Reply × D)) (old new : D) → ms ++ rest ≡ all
+      → ms ≢ []
       → HasRun h s ms xs old new → StoppedByOutput h s all old new (told_in xs) × HeldBeginnings h s all old new
-  at_output s ms rest all xs old new parts some r = and_no_more h s ms rest all old new (told_in xs) parts some (run_played s ms xs old new r).0
+  at_output s ms rest all xs old new parts some r = and_no_more h s ms rest all old new (told_in xs) parts some
+      (run_played s ms xs old new r).0
 
   -- one that the device ended
-  pub at_device : (s : Shop) (ms rest all : List Message) (xs : List (Reply × D)) (last : Reply) (old new : D) → ms ++ rest ≡ all
+  pub at_device : (s : Shop) (ms rest all : List Message) (xs : List (Reply × D)) (last : Reply) (old new : D)
+      → ms ++ rest ≡ all
       → HasRunToFailure h s ms xs last old new
       → StoppedByDevice h s all old new (told_in xs ++ last ∷ []) × HeldBeginnings h s all old new
   at_device s ms rest all xs last old new parts f =
@@ -105,24 +116,29 @@ module _ {D : Type 0} (h : History D) where
 
   -- Beginnings only grow: the chain is cut behind any of its events, and from that moment on no image is of a beginning
   -- before it.
-  pub record IsCutBehind (s : Shop) (ms ns : List Message) (xs ys : List (Reply × D)) (old : D) (t : Shop) (new : D) : Type 0 where
+  pub record IsCutBehind (s : Shop) (ms ns : List Message) (xs ys : List (Reply × D)) (old : D) (t : Shop)
+      (new : D) : Type 0 where
     pub mid : D
     pub now : Shop
     pub before : IsChain h s ms xs old now mid
     pub behind : IsChain h now ns ys mid t new
 
-  pub cut_chain : (s : Shop) (ms ns : List Message) (xs ys : List (Reply × D)) (old : D) (t : Shop) (new : D) → length ms ≡ length xs
+  pub cut_chain : (s : Shop) (ms ns : List Message) (xs ys : List (Reply × D)) (old : D) (t : Shop) (new : D)
+      → length ms ≡ length xs
       → IsChain h s (ms ++ ns) (xs ++ ys) old t new → IsCutBehind s ms ns xs ys old t new
   cut_chain s [] ns [] ys old t new same c = record { mid = old; now = s; before = (refl, refl); behind = c }
   cut_chain s (m ∷ ms) ns (x ∷ xs) ys old t new same c =
-      let q = cut_chain (with_state s (after_all (start_of s) s.state c.0.counted)) ms ns xs ys x.1 t new (omega (arith, same)) c.1 in
+      let q = cut_chain (with_state s (after_all (start_of s) s.state c.0.counted)) ms ns xs ys x.1 t new
+      (omega (arith, same)) c.1 in
       record { mid = q.mid; now = q.now; before = (c.0, q.before); behind = q.behind }
   cut_chain s [] ns (x ∷ xs) ys old t new same c = cc
   cut_chain s (m ∷ ms) ns [] ys old t new same c = cc
 
-  pub only_grows : (s : Shop) (ms ns : List Message) (xs ys : List (Reply × D)) (old : D) (t : Shop) (new : D) → length ms ≡ length xs
+  pub only_grows : (s : Shop) (ms ns : List Message) (xs ys : List (Reply × D)) (old : D) (t : Shop) (new : D)
+      → length ms ≡ length xs
       → IsSettled (h.image old) s → IsChain h s (ms ++ ns) (xs ++ ys) old t new
-      → (q : IsCutBehind s ms ns xs ys old t new) × IsSettled (h.image q.mid) q.now × HeldBeginnings h q.now ns q.mid new
+      → (q : IsCutBehind s ms ns xs ys old t new) × IsSettled (h.image q.mid) q.now
+      × HeldBeginnings h q.now ns q.mid new
   only_grows s ms ns xs ys old t new same rests c =
       let q = cut_chain s ms ns xs ys old t new same c in
       let settled = chain_rests s ms xs old q.mid q.now rests q.before in (
@@ -194,11 +210,13 @@ module _ {D : Type 0} (h : History D) where
   }
 
   -- the shop of a run is at rest at its end: so it was when the last reply was told
-  pub run_rests : (s : Shop) (ms : List Message) (xs : List (Reply × D)) (old new : D) → (r : HasRun h s ms xs old new) → IsSettled (h.image new) r.now
+  pub run_rests : (s : Shop) (ms : List Message) (xs : List (Reply × D)) (old new : D) → (r : HasRun h s ms xs old new)
+      → IsSettled (h.image new) r.now
   run_rests s ms xs old new r = chain_rests s ms xs r.first new r.now r.rests r.chain
 
   -- failures are counted on
-  chain_later : (s : Shop) (ms : List Message) (xs : List (Reply × D)) (old new : D) (t : Shop) → IsChain h s ms xs old t new
+  chain_later : (s : Shop) (ms : List Message) (xs : List (Reply × D)) (old new : D) (t : Shop)
+      → IsChain h s ms xs old t new
       → h.failures old ≤ h.failures new
   chain_later s [] [] old new t c = subst (λ d. h.failures old ≤ h.failures d) (sym c.1) (le_refl (h.failures old))
   chain_later s (m ∷ ms) (x ∷ xs) old new t c =
@@ -207,11 +225,13 @@ module _ {D : Type 0} (h : History D) where
   chain_later s [] (x ∷ xs) old new t c = absurd c
   chain_later s (m ∷ ms) [] old new t c = absurd c
 
-  pub run_later : (s : Shop) (ms : List Message) (xs : List (Reply × D)) (old new : D) → HasRun h s ms xs old new → h.failures old ≤ h.failures new
+  pub run_later : (s : Shop) (ms : List Message) (xs : List (Reply × D)) (old new : D) → HasRun h s ms xs old new
+      → h.failures old ≤ h.failures new
   run_later s ms xs old new r = le_trans r.later (chain_later s ms xs r.first new r.now r.chain)
 
   -- where the last message met the failure, it came in the run
-  pub run_failed : (s : Shop) (ms : List Message) (xs : List (Reply × D)) (last : Reply) (old new : D) → HasRunToFailure h s ms xs last old new
+  pub run_failed : (s : Shop) (ms : List Message) (xs : List (Reply × D)) (last : Reply) (old new : D)
+      → HasRunToFailure h s ms xs last old new
       → Failed h old new
   run_failed s ms xs last old new f =
       let before = run_later s f.before xs old f.at f.run in

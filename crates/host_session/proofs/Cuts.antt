@@ -1,5 +1,6 @@
 -- A message on a disk whose power fails.
-use Rattle.std.proofs.Common.{◌≡◌, ◌≢◌, ◌<◌, ◌≤◌, ◌+◌, ◌⊎◌, ⊎_elim, inl, inr, ℕ, zero, suc, Bool, true, false, List, [], Option, Some, None, refl, sym, subst, arith}
+use Rattle.std.proofs.Common.{◌≡◌, ◌≢◌, ◌<◌, ◌≤◌, ◌+◌, ◌⊎◌, ⊎_elim, inl, inr, ℕ, zero, suc, Bool, true, false, List, []}
+use Rattle.std.proofs.Common.{Option, Some, None, refl, sym, subst, arith}
 use Rattle.std.specs.Prelude.{option_to_list}
 use Rattle.d64_image.specs.declared.fuse.Fuse.{Fuse}
 use Rattle.d64_image.specs.Images.{Image}
@@ -10,7 +11,8 @@ use Rattle.d64_image.proofs.Fused.{held_beneath, cause_beneath}
 use Rattle.request_cards.specs.Requests.{Ask}
 use Rattle.request_cards.specs.Ledgers.{State}
 use Rattle.request_cards.specs.Reading.{request_of}
-use Rattle.host_session.proofs.Parts.{after_whole, counted_either, counts_failed, failed_out, first_set_out, none_counts, whole_counts}
+use Rattle.host_session.proofs.Parts.{after_whole, counted_either, counts_failed, failed_out, first_set_out}
+use Rattle.host_session.proofs.Parts.{none_counts, whole_counts}
 use Rattle.host_session.specs.Counted.{MayCount, after_all}
 use Rattle.host_session.specs.Events.{Message, cut_at}
 use Rattle.host_session.specs.Handling.{IsBeforeOrAfter, MayGrow, after_of}
@@ -24,7 +26,8 @@ positive (suc n) low e = cc
 
 module _ {D : Type 0} (h : History D) where
   -- nothing of it passed
-  pub not_begun : (s : Shop) (bytes : List ℕ) (d : D) → IsShop (h.image d) s → IsEvent h s (cut_at bytes 0) d d (Leaves h s d)
+  pub not_begun : (s : Shop) (bytes : List ℕ) (d : D) → IsShop (h.image d) s
+      → IsEvent h s (cut_at bytes 0) d d (Leaves h s d)
   not_begun s bytes d shop = record {
     failed = false;
     counted = [];
@@ -49,11 +52,13 @@ module _ {D : Type 0} (h : History D) where
     later = later;
     moments = held;
     quiet = quiet;
-    ends = subst (λ state. IsShop (h.image b) (with_state s state)) (sym (after_whole (start_of s) s.state (request_of bytes))) shop;
+    ends = subst (λ state. IsShop (h.image b) (with_state s state))
+        (sym (after_whole (start_of s) s.state (request_of bytes))) shop;
   }
 
   -- the message doesn't count, for a reason
-  counted_not : (s : Shop) (bytes : List ℕ) (n : ℕ) (failed : Bool) (a b : D) → h.failures a ≤ h.failures b → (failed ≡ true → Failed h a b)
+  counted_not : (s : Shop) (bytes : List ℕ) (n : ℕ) (failed : Bool) (a b : D) → h.failures a ≤ h.failures b
+      → (failed ≡ true → Failed h a b)
       → MayCount s.top s.state (request_of bytes) (Some n) failed []
       → HeldOnly h a b (IsInEvent s (cut_at bytes n)) → LeavesAlone h s (cut_at bytes n) a b → IsShop (h.image b) s
       → IsEvent h s (cut_at bytes n) a b (Leaves h s b)
@@ -93,21 +98,24 @@ module _ {D : Type 0} (h : History D) where
       (first_out s (request_of bytes) n grow high) held quiet before)
       (λ after. counted_whole s bytes n a b low later held quiet after)
 
-  way : (s : Shop) (bytes : List ℕ) (n : ℕ) (i : Image) → 0 < n → IsBeforeOrAfter s bytes i → IsInEvent s (cut_at bytes n) i
+  way : (s : Shop) (bytes : List ℕ) (n : ℕ) (i : Image) → 0 < n → IsBeforeOrAfter s bytes i
+      → IsInEvent s (cut_at bytes n) i
   way s bytes n i low = ⊎_elim (λ x. inl x) (λ x. inr (positive n low, x))
 
   -- a message handed to a session over a fuse that isn't blown yet
   over_fuse : (s : Shop) (bytes : List ℕ) (n : ℕ) (a b : Fuse D) → 0 < n
       → fuse_left a ≡ n → fuse_limit a ≡ n → fuse_failures a ≡ 0
       → Changes (fuse h) a b 3618 (IsBeforeOrAfter s bytes)
-      → (fuse_passed a < fuse_passed b → MayGrow s (request_of bytes) ⊎ IsShop (h.image (fuse_disk b)) (after_of s bytes))
+      → (fuse_passed a < fuse_passed b → MayGrow s (request_of bytes)
+      ⊎ IsShop (h.image (fuse_disk b)) (after_of s bytes))
       → (AsksNothing s (cut_at bytes n) → b ≡ a)
       → Failed (fuse h) a b ⊎ IsShop (h.image (fuse_disk b)) (after_of s bytes)
       → IsEvent h s (cut_at bytes n) (fuse_disk a) (fuse_disk b) (Leaves h s (fuse_disk b))
   over_fuse s bytes n a b low left limit fresh changes grows alone =
       let P : Image → Type 0 = IsBeforeOrAfter s bytes in
       let moments : HeldOnly h (fuse_disk a) (fuse_disk b) (IsInEvent s (cut_at bytes n))
-      = weaker h (fuse_disk a) (fuse_disk b) P (IsInEvent s (cut_at bytes n)) (λ i x. way s bytes n i low x) (held_beneath h a b P changes.held) in
+      = weaker h (fuse_disk a) (fuse_disk b) P (IsInEvent s (cut_at bytes n)) (λ i x. way s bytes n i low x)
+      (held_beneath h a b P changes.held) in
       let later : h.failures (fuse_disk a) ≤ h.failures (fuse_disk b) = changes.held.reached.failures in
       let ends : P (h.image (fuse_disk b)) = at_end (fuse h) a b P changes.held in
       let quiet : LeavesAlone h s (cut_at bytes n) (fuse_disk a) (fuse_disk b) = λ asks. subst
@@ -130,16 +138,19 @@ module _ {D : Type 0} (h : History D) where
 
   -- the same for any number of writes; with none nothing passes
   pub message_cut : (s : Shop) (bytes : List ℕ) (n : ℕ) (d r : D) (a b : Fuse D)
-      → fuse_disk a ≡ d → r ≡ fuse_disk b → fuse_left a ≡ n → fuse_limit a ≡ n → fuse_failures a ≡ 0 → IsShop (h.image d) s
+      → fuse_disk a ≡ d → r ≡ fuse_disk b → fuse_left a ≡ n → fuse_limit a ≡ n → fuse_failures a ≡ 0
+      → IsShop (h.image d) s
       → (IsShop (h.image (fuse_disk a)) s → Changes (fuse h) a b 3618 (IsBeforeOrAfter s bytes))
-      → (IsShop (h.image (fuse_disk a)) s → fuse_passed a < fuse_passed b → MayGrow s (request_of bytes) ⊎ IsShop (h.image (fuse_disk b)) (after_of s bytes))
+      → (IsShop (h.image (fuse_disk a)) s → fuse_passed a < fuse_passed b → MayGrow s (request_of bytes)
+      ⊎ IsShop (h.image (fuse_disk b)) (after_of s bytes))
       → (IsShop (h.image (fuse_disk a)) s → AsksNothing s (cut_at bytes n) → b ≡ a)
       → (IsShop (h.image (fuse_disk a)) s → Failed (fuse h) a b ⊎ IsShop (h.image (fuse_disk b)) (after_of s bytes))
       → IsEvent h s (cut_at bytes n) d r (Leaves h s r)
   message_cut s bytes n d r a b is ends left limit fresh shop changes grows alone told =
       let there : IsShop (h.image (fuse_disk a)) s = subst (λ (x : D). IsShop (h.image x) s) (sym is) shop in
       subst (λ (x : D). IsEvent h s (cut_at bytes n) x r (Leaves h s r)) is
-      (subst (λ (x : D). IsEvent h s (cut_at bytes n) (fuse_disk a) x (Leaves h s x)) (sym ends) (pick n left limit there))
+      (subst (λ (x : D). IsEvent h s (cut_at bytes n) (fuse_disk a) x (Leaves h s x)) (sym ends)
+      (pick n left limit there))
     where
       pick : (m : ℕ) → fuse_left a ≡ m → fuse_limit a ≡ m → IsShop (h.image (fuse_disk a)) s
           → IsEvent h s (cut_at bytes m) (fuse_disk a) (fuse_disk b) (Leaves h s (fuse_disk b))
@@ -149,15 +160,18 @@ module _ {D : Type 0} (h : History D) where
           (changes there) (grows there) (alone there) (told there)
 
   -- no more is counted than the fuse lets pass
-  pub cut_writes : (n k : ℕ) (d r : D) (a b : Fuse D) (P : Image → Type 0) → fuse_disk a ≡ d → r ≡ fuse_disk b → fuse_limit a ≡ n
+  pub cut_writes : (n k : ℕ) (d r : D) (a b : Fuse D) (P : Image → Type 0) → fuse_disk a ≡ d → r ≡ fuse_disk b
+      → fuse_limit a ≡ n
       → Changes (fuse h) a b k P → h.writes r ≤ h.writes d + n
   cut_writes n k d r a b P is ends limit changes =
       let x = changes.held.reached in
       subst (λ (y : D). h.writes y ≤ h.writes d + n) (sym ends)
-      (subst (λ (y : D). h.writes (fuse_disk b) ≤ h.writes y + n) is (omega (arith, x.writes, x.limit, limit, b.within)))
+      (subst (λ (y : D). h.writes (fuse_disk b) ≤ h.writes y + n) is
+      (omega (arith, x.writes, x.limit, limit, b.within)))
 
   -- an opening over a fuse holds the shop beneath it
-  pub cut_moments : (s : Shop) (k : ℕ) (d r : D) (a b : Fuse D) → fuse_disk a ≡ d → r ≡ fuse_disk b → IsShop (h.image d) s
+  pub cut_moments : (s : Shop) (k : ℕ) (d r : D) (a b : Fuse D) → fuse_disk a ≡ d → r ≡ fuse_disk b
+      → IsShop (h.image d) s
       → (IsShop (h.image (fuse_disk a)) s → Changes (fuse h) a b k (λ i. IsShop i s)) → HeldOnly h d r (λ i. IsShop i s)
   cut_moments s k d r a b is ends shop changes =
       subst (λ (x : D). HeldOnly h x r (λ i. IsShop i s)) is
@@ -172,7 +186,8 @@ module _ {D : Type 0} (h : History D) where
       (changes (subst (λ (x : D). IsShop (h.image x) s) (sym is) shop)).held.reached.failures)
 
   -- the shop that an event leaves is one on its way
-  counted_way : (s : Shop) (m : Message) (failed : Bool) (counted : List Ask) (i : Image) → MayCount s.top s.state (request_of m.bytes) m.cut_after failed counted
+  counted_way : (s : Shop) (m : Message) (failed : Bool) (counted : List Ask) (i : Image)
+      → MayCount s.top s.state (request_of m.bytes) m.cut_after failed counted
       → IsShop i (with_state s (after_all (start_of s) s.state counted)) → IsInEvent s m i
   counted_way s m failed counted i is shop = ⊎_elim
       (λ none. inl (subst (λ (c : List Ask). IsShop i (with_state s (after_all (start_of s) s.state c))) none shop))
@@ -184,15 +199,19 @@ module _ {D : Type 0} (h : History D) where
       (counted_either s.top s.state (request_of m.bytes) m.cut_after failed counted is)
 
   -- the moments of an event, and of openings after it
-  pub way_then : (s : Shop) (m : Message) (failed : Bool) (counted : List Ask) (a b c : D) → MayCount s.top s.state (request_of m.bytes) m.cut_after failed counted
-      → HeldOnly h a b (IsInEvent s m) → HeldOnly h b c (λ i. IsShop i (with_state s (after_all (start_of s) s.state counted)))
+  pub way_then : (s : Shop) (m : Message) (failed : Bool) (counted : List Ask) (a b c : D)
+      → MayCount s.top s.state (request_of m.bytes) m.cut_after failed counted
+      → HeldOnly h a b (IsInEvent s m)
+      → HeldOnly h b c (λ i. IsShop i (with_state s (after_all (start_of s) s.state counted)))
       → HeldOnly h a c (IsInEvent s m)
   way_then s m failed counted a b c is first second = then h a b c (IsInEvent s m) first
-      (weaker h b c (λ i. IsShop i (with_state s (after_all (start_of s) s.state counted))) (IsInEvent s m) (λ i x. counted_way s m failed counted i is x) second)
+      (weaker h b c (λ i. IsShop i (with_state s (after_all (start_of s) s.state counted))) (IsInEvent s m)
+      (λ i x. counted_way s m failed counted i is x) second)
 
   -- openings after an event that left a shop
   pub event_then : (s : Shop) (m : Message) (a b c : D) (Before After : Bool → State → Type 0)
-      → (x : IsEvent h s m a b Before) → HeldOnly h b c (λ i. IsShop i (with_state s (after_all (start_of s) s.state x.counted)))
+      → (x : IsEvent h s m a b Before)
+      → HeldOnly h b c (λ i. IsShop i (with_state s (after_all (start_of s) s.state x.counted)))
       → h.failures b ≤ h.failures c → LeavesAlone h s m a c → After x.failed (after_all (start_of s) s.state x.counted)
       → IsEvent h s m a c After
   event_then s m a b c Before After x held later quiet ends = record {
@@ -208,7 +227,8 @@ module _ {D : Type 0} (h : History D) where
 
   -- openings in the last of which the device failed
   pub event_failed : (s : Shop) (m : Message) (a b c d : D) (Before After : Bool → State → Type 0)
-      → (x : IsEvent h s m a b Before) → HeldOnly h b d (λ i. IsShop i (with_state s (after_all (start_of s) s.state x.counted)))
+      → (x : IsEvent h s m a b Before)
+      → HeldOnly h b d (λ i. IsShop i (with_state s (after_all (start_of s) s.state x.counted)))
       → h.failures b ≤ h.failures c → Failed h c d → LeavesAlone h s m a d
       → After true (after_all (start_of s) s.state x.counted)
       → IsEvent h s m a d After
@@ -216,7 +236,11 @@ module _ {D : Type 0} (h : History D) where
     failed = true;
     counted = x.counted;
     is = counts_failed s.top s.state (request_of m.bytes) m.cut_after x.failed x.counted x.is;
-    blame = λ e. record { later = omega (arith, x.later, later, failed.later); rose = λ lt. omega (arith, x.later, later, failed.rose lt) };
+    blame = λ e. record {
+      later = omega (arith, x.later, later, failed.later);
+      rose =
+          λ lt. omega (arith, x.later, later, failed.rose lt);
+    };
     later = omega (arith, x.later, later, failed.later);
     moments = way_then s m x.failed x.counted a b d x.is x.moments held;
     quiet = quiet;

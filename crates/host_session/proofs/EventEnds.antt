@@ -1,5 +1,7 @@
 -- What a run over a list of events comes to.
-use Rattle.std.proofs.Common.{◌≡◌, ◌≢◌, ◌<◌, ◌≤◌, ◌-◌, ◌++◌, ◌+◌, ◌∙◌, ⊎_elim, ℕ, zero, suc, List, [], ◌∷◌, Ok, Err, refl, sym, subst, ap, arith, inl, inr, length, length-append, append-nil, map, drop, ne_eqb}
+use Rattle.std.proofs.Common.{◌≡◌, ◌≢◌, ◌<◌, ◌≤◌, ◌-◌, ◌++◌, ◌+◌, ◌∙◌, ⊎_elim, ℕ, zero, suc, List, [], ◌∷◌, Ok, Err}
+use Rattle.std.proofs.Common.{refl, sym, subst, ap, arith, inl, inr, length, length-append, append-nil, map, drop}
+use Rattle.std.proofs.Common.{ne_eqb}
 use Rattle.std.specs.Prelude.{Vec, slice_get, vec_capacity, vec_len}
 use Rattle.std.specs.declared.alloc.Global.{Global}
 use Rattle.std.proofs.lemmas.List.{drop_all}
@@ -36,7 +38,8 @@ next_taken [] i below = absurd (omega (arith, below))
 next_taken (e ∷ es) zero below = refl
 next_taken (e ∷ es) (suc i) below =
     let on : suc i + 1 ≡ suc (i + 1) = omega arith in
-    next_taken es i (omega (arith, below)) ∙ ap (λ k. message_here (slice_get es i) ∷ map message_of (drop k (e ∷ es))) (sym on)
+    next_taken es i (omega (arith, below)) ∙ ap (λ k. message_here (slice_get es i) ∷ map message_of (drop k (e ∷ es)))
+    (sym on)
 
 pub taken_last : (es : List Event) (n : ℕ) → last_taken (n + 1) es ≡ slice_get es n
 taken_last es n =
@@ -54,7 +57,8 @@ opened_with (ends.Open f) = f
 opened_with _ = openings.Device
 
 -- A run of events that this fault ended.
-pub record IsEventsEnd {D : Type 0} (h : History D) (disk left : D) (ms : List Message) (old new : List Reply) (e : PlayFault) : Type 0 where
+pub record IsEventsEnd {D : Type 0} (h : History D) (disk left : D) (ms : List Message) (old new : List Reply)
+    (e : PlayFault) : Type 0 where
   pub device : (s : Shop) → IsShop (h.image disk) s → e ≡ ends.Device
       → (told : List Reply) × (new ≡ old ++ told) × StoppedByDevice h s ms disk left told
   pub moments : (s : Shop) → IsShop (h.image disk) s → HeldBeginnings h s ms disk left
@@ -65,8 +69,10 @@ pub record IsEventsEnd {D : Type 0} (h : History D) (disk left : D) (ms : List M
   pub memory : e ≢ ends.NoMemory
   pub silent : e ≢ ends.Device → new ≡ old
 
-module _ {D : Type 0} (h : History D) (disk : D) (events : List Event) (asked asks : OfEvents) (old new : Vec Reply Global)
-    (is_all : asked.events.now ≡ events) (from : asked.taken ≡ 0) (room : length events ≤ vec_capacity old - vec_len old) where
+module _ {D : Type 0} (h : History D) (disk : D) (events : List Event) (asked asks : OfEvents)
+    (old new : Vec Reply Global)
+    (is_all : asked.events.now ≡ events) (from : asked.taken ≡ 0) (room : length events ≤ vec_capacity old - vec_len
+    old) where
   parts : (taken : List (Message × Instant)) → of_events.gives asked asks taken
       → messages_in taken ++ map message_of (drop asks.taken asked.events.now) ≡ map message_of events
   parts taken takes = sym takes.1 ∙ ap (λ n. map message_of (drop n asked.events.now)) from ∙ ap (map message_of) is_all
@@ -81,18 +87,24 @@ module _ {D : Type 0} (h : History D) (disk : D) (events : List Event) (asked as
 
   -- all were taken
   pub whole_run : (left : D) → IsRun h of_events listed disk asked asks old new (Ok left)
-      → ((s : Shop) → IsShop (h.image disk) s → (told : List Reply) × (new.items ≡ old.items ++ told) × IsPlayedWhole h s (map message_of events) disk left told)
+      → ((s : Shop) → IsShop (h.image disk) s → (told : List Reply) × (new.items ≡ old.items ++ told)
+      × IsPlayedWhole h s (map message_of events) disk left told)
       × ((s : Shop) → IsShop (h.image disk) s → HeldBeginnings h s (map message_of events) disk left)
       × ((s : Shop) → IsShop (h.image disk) s → AskNothing s (map message_of events)
       → IsQuiet h s (map message_of events) disk left)
   whole_run left k =
-      let none : drop asks.taken asked.events.now ≡ [] = drop_all asks.taken asked.events.now (omega (arith, k.shop.1, ap length k.takes.0)) in
+      let none : drop asks.taken asked.events.now ≡ [] =
+      drop_all asks.taken asked.events.now (omega (arith, k.shop.1, ap length k.takes.0)) in
       let all : messages_in k.taken ≡ map message_of events =
-      sym (ap (λ es. messages_in k.taken ++ map message_of es) none ∙ append-nil (messages_in k.taken)) ∙ parts k.taken k.takes in (
+      sym (ap (λ es. messages_in k.taken ++ map message_of es) none ∙ append-nil (messages_in k.taken))
+      ∙ parts k.taken k.takes in (
         λ s is.
             let run : IsToldWhole h listed s (map message_of events) disk left old new =
-            subst (λ ms. IsToldWhole h listed s ms disk left old new) all (k.ok s is).0 in
-            (told_in run.turns, run.told ∙ ap (λ rs. old.items ++ rs) (told_over h run.turns), (whole h s (map message_of events) run.turns disk left run.run).0),
+            subst (λ ms. IsToldWhole h listed s ms disk left old new) all (k.ok s is).0 in (
+              told_in run.turns,
+              run.told ∙ ap (λ rs. old.items ++ rs) (told_over h run.turns),
+              (whole h s (map message_of events) run.turns disk left run.run).0,
+            ),
         λ s is. subst (λ ms. HeldBeginnings h s ms disk left) all (k.moments s is),
         λ s is. subst (λ ms. AskNothing s ms → IsQuiet h s ms disk left) all (k.quiet s is),
       )
@@ -108,9 +120,11 @@ module _ {D : Type 0} (h : History D) (disk : D) (events : List Event) (asked as
       → IsEventsEnd h disk left (map message_of events) old.items new.items (ends.Open f)
   refused left f k = record {
     device = λ s is (e : ends.Open f ≡ ends.Device). cc;
-    moments = λ s is. held_of_more h s (messages_in k.taken) (map message_of (drop asks.taken asked.events.now)) (map message_of events) disk left (parts k.taken k.takes) (k.moments s is);
+    moments = λ s is. held_of_more h s (messages_in k.taken) (map message_of (drop asks.taken asked.events.now))
+        (map message_of events) disk left (parts k.taken k.takes) (k.moments s is);
     quiet = still left (runs.Open f) k;
-    plays = λ shop never. ⊎_elim (λ (e : runs.Open f ≡ runs.Input). cc) (λ (e : runs.Open f ≡ runs.Output). cc) (k.plays shop never);
+    plays = λ shop never. ⊎_elim (λ (e : runs.Open f ≡ runs.Input). cc) (λ (e : runs.Open f ≡ runs.Output). cc)
+        (k.plays shop never);
     «open» = λ x e. (k.«open» x (ap runs.Open (ap opened_with e))).0;
     cause = λ (e : ends.Open f ≡ ends.Device). cc;
     memory = λ (e : ends.Open f ≡ ends.NoMemory). cc;
@@ -124,14 +138,18 @@ module _ {D : Type 0} (h : History D) (disk : D) (events : List Event) (asked as
         let x = (k.device s is refl).0 in (
           told_in x.turns ++ x.last ∷ [],
           ⊎_elim
-              (λ t. t ∙ ap (λ rs. old.items ++ rs) (told_more (over_instants h x.turns) (x.last, instant_of h left) ∙ ap (λ rs. rs ++ x.last ∷ []) (told_over h x.turns)))
+              (λ t. t ∙ ap (λ rs. old.items ++ rs) (told_more (over_instants h x.turns) (x.last, instant_of h left)
+              ∙ ap (λ rs. rs ++ x.last ∷ []) (told_over h x.turns)))
               (λ t. absurd (too_many k.taken k.takes t.1))
               x.told,
-          (at_device h s (messages_in k.taken) (map message_of (drop asks.taken asked.events.now)) (map message_of events) x.turns x.last disk left (parts k.taken k.takes) x.run).0,
+          (at_device h s (messages_in k.taken) (map message_of (drop asks.taken asked.events.now))
+              (map message_of events) x.turns x.last disk left (parts k.taken k.takes) x.run).0,
         );
-    moments = λ s is. held_of_more h s (messages_in k.taken) (map message_of (drop asks.taken asked.events.now)) (map message_of events) disk left (parts k.taken k.takes) (k.moments s is);
+    moments = λ s is. held_of_more h s (messages_in k.taken) (map message_of (drop asks.taken asked.events.now))
+        (map message_of events) disk left (parts k.taken k.takes) (k.moments s is);
     quiet = still left runs.Device k;
-    plays = λ shop never. ⊎_elim (λ (e : runs.Device ≡ runs.Input). cc) (λ (e : runs.Device ≡ runs.Output). cc) (k.plays shop never);
+    plays = λ shop never. ⊎_elim (λ (e : runs.Device ≡ runs.Input). cc) (λ (e : runs.Device ≡ runs.Output). cc)
+        (k.plays shop never);
     «open» = λ f (e : ends.Device ≡ ends.Open f). cc;
     cause = λ _. k.cause refl;
     memory = λ (e : ends.Device ≡ ends.NoMemory). cc;
@@ -143,5 +161,6 @@ module _ {D : Type 0} (h : History D) (disk : D) (events : List Event) (asked as
       → IsEventsEnd h disk left (map message_of events) old.items new.items (play_fault_of f)
   faulted left (runs.Open f) k = refused left f k
   faulted left runs.Input k = let shop = k.after (inl refl) in absurd (k.input shop.0 shop.1 refl).0
-  faulted left runs.Output k = let shop = k.after (inr refl) in absurd (too_many k.taken k.takes (k.output shop.0 shop.1 refl).0.full)
+  faulted left runs.Output k = let shop = k.after (inr refl) in
+      absurd (too_many k.taken k.takes (k.output shop.0 shop.1 refl).0.full)
   faulted left runs.Device k = stopped left k

@@ -1,5 +1,5 @@
--- Worked examples of what records stand for, computed by the checker. Each is named by what it shows; the texts are worked by
--- hand from the rules of cards.
+-- Worked examples of what records stand for, computed by the checker. Each is named by what it shows; the texts are
+-- worked by hand from the rules of cards.
 use Rattle.std.proofs.Common.{◌≡◌, ℕ, true, false, List, [], ◌∷◌, ◌++◌, refl, Some, None, replicate, ⊎_elim, ap, arith}
 use Rattle.std.specs.Prelude.{codes, slice_index}
 use Rattle.std.proofs.lemmas.Bool.{false≢true}
@@ -22,7 +22,8 @@ torn = codes "K,00015,0" ++ replicate 9 0
 abbrev pub fifteen : List ℕ → List ℕ → List (List ℕ)
 fifteen first last = first ∷ replicate 13 (empty_record 18) ++ last ∷ []
 
--- a move of 4 from item 1 to item 15, decided to leave 6 and 7, over the set of item 15 to 3 before it; open, and answered
+-- a move of 4 from item 1 to item 15, decided to leave 6 and 7, over the set of item 15 to 3 before it; open, and
+-- answered
 abbrev pub move_bytes : List ℕ → List ℕ
 move_bytes state = codes "2" ++ state ++ codes ",000000003,M,00001,000000004,0,000000006,00015,000000007" ++ 13
     ∷ codes "A,000000002,S,00015,000000003,0,000000003,00000,000000000" ++ 13 ∷ replicate 10 0
@@ -34,7 +35,12 @@ abbrev pub answered_move : List (List ℕ)
 answered_move = move_bytes (codes "A") ∷ []
 
 abbrev pub move_entry : Entry
-move_entry = record { number = 3; body = record { kind = Move; item = 1; quantity = 4; to = 15 }; answer = told.Moved 6 7 }
+move_entry = record {
+  number = 3;
+  body = record { kind = Move; item = 1; quantity = 4; to = 15 };
+  answer =
+      told.Moved 6 7;
+}
 
 abbrev pub set_entry : Entry
 set_entry = record { number = 2; body = record { kind = Set; item = 15; quantity = 3; to = 0 }; answer = told.Done 3 }
@@ -46,12 +52,14 @@ unfolding request_card_of kind_of fixed
 open_move_lies_over_torn_cards = (refl, refl)
 
 -- and still counts so once one of the cards was written
-pub half_a_move_is_the_same : (state_of (fifteen (codes "K,00001,000000006" ++ 13 ∷ []) torn) open_move).ledger.cards 15 ≡ Some 7
+pub half_a_move_is_the_same : (state_of (fifteen (codes "K,00001,000000006" ++ 13 ∷ []) torn) open_move).ledger.cards
+    15 ≡ Some 7
 unfolding request_card_of kind_of fixed
 half_a_move_is_the_same = refl
 
 -- its till's last request is the move, the one before it the set
-pub both_requests_are_kept : ((state_of [] open_move).ledger.kept 1 ≡ Some move_entry) × ((state_of [] open_move).prior 1 ≡ Some set_entry)
+pub both_requests_are_kept : ((state_of [] open_move).ledger.kept 1 ≡ Some move_entry)
+    × ((state_of [] open_move).prior 1 ≡ Some set_entry)
 unfolding request_card_of kind_of fixed
 both_requests_are_kept = (refl, refl)
 
@@ -63,10 +71,12 @@ answered_move_leaves_the_cards = refl
 -- so a torn one is a bad card then
 pub torn_card_is_bad : ¬ (IsStockRecord 15 torn)
 unfolding stock_card_of fixed
-torn_card_is_bad h = ⊎_elim (λ e. absurd (omega (arith, ap (λ (bytes : List ℕ). slice_index bytes 0) e))) (λ s. false≢true s) h
+torn_card_is_bad h = ⊎_elim (λ e. absurd (omega (arith, ap (λ (bytes : List ℕ). slice_index bytes 0) e)))
+    (λ s. false≢true s) h
 
 -- the card of item 4 in record 3 is no card of item 3, and none of item 4
-pub card_in_a_wrong_record : (quantities (empty_record 18 ∷ empty_record 18 ∷ (codes "K,00004,000000001" ++ 13 ∷ []) ∷ []) 3 ≡ None)
+pub card_in_a_wrong_record : (quantities (empty_record 18 ∷ empty_record 18 ∷ (codes "K,00004,000000001" ++ 13 ∷ []) ∷
+    []) 3 ≡ None)
     × (quantities (empty_record 18 ∷ empty_record 18 ∷ (codes "K,00004,000000001" ++ 13 ∷ []) ∷ []) 4 ≡ None)
 unfolding stock_card_of fixed
 card_in_a_wrong_record = (refl, refl)
@@ -82,7 +92,8 @@ unfolding request_card_of kind_of fixed
 open_intents_give_quantities = (refl, (refl, refl))
 
 -- an answered card of version 1 is to be rewritten, and has no request before its last
-pub version_1_is_old : (any_old (cards_in ((codes "A,000000001,S,00015,000000007,0,000000007" ++ 13 ∷ replicate 85 0) ∷ [])) ≡ true)
+pub version_1_is_old : (any_old
+    (cards_in ((codes "A,000000001,S,00015,000000007,0,000000007" ++ 13 ∷ replicate 85 0) ∷ [])) ≡ true)
     × ((state_of [] ((codes "A,000000001,S,00015,000000007,0,000000007" ++ 13 ∷ replicate 85 0) ∷ [])).prior 1 ≡ None)
 unfolding request_card_of kind_of fixed
 version_1_is_old = (refl, refl)
@@ -92,7 +103,8 @@ unfolding request_card_of kind_of fixed
 version_2_is_not = refl
 
 -- a record of REQUESTS past 64 counts nowhere
-pub record_65_is_no_till : cards_in (replicate 64 (empty_record 127) ++ open_move) ≡ cards_in (replicate 64 (empty_record 127))
+pub record_65_is_no_till : cards_in (replicate 64 (empty_record 127) ++ open_move) ≡ cards_in
+    (replicate 64 (empty_record 127))
 record_65_is_no_till = refl
 
 -- an open intent for an item whose record isn't there
@@ -101,5 +113,6 @@ unfolding request_card_of kind_of fixed
 intent_without_a_record = (15, (1, omega arith, refl), refl)
 
 -- an odd number of tills gives one more; beside the records of these STOCK has room up to item 9242
-pub blank_shop_of_three_tills : ((blank_shop (codes "SHOP") (codes "01") 3).tills ≡ 4) × ((blank_shop (codes "SHOP") (codes "01") 3).top ≡ 9242)
+pub blank_shop_of_three_tills : ((blank_shop (codes "SHOP") (codes "01") 3).tills ≡ 4)
+    × ((blank_shop (codes "SHOP") (codes "01") 3).top ≡ 9242)
 blank_shop_of_three_tills = (refl, refl)

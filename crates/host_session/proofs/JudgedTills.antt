@@ -1,5 +1,6 @@
 -- The tills' cards that were read are those of the files, and so are the open intents among them.
-use Rattle.std.proofs.Common.{ℕ, zero, suc, ◌≡◌, ◌≤◌, ◌+◌, ⊎_elim, List, [], ◌∷◌, ◌++◌, None, Option, Some, add-one, ap, arith, get_or, length, map, refl, subst, sym, take, ◌∙◌}
+use Rattle.std.proofs.Common.{ℕ, zero, suc, ◌≡◌, ◌≤◌, ◌+◌, ⊎_elim, List, [], ◌∷◌, ◌++◌, None, Option, Some, add-one, ap}
+use Rattle.std.proofs.Common.{arith, get_or, length, map, refl, subst, sym, take, ◌∙◌}
 use Rattle.std.specs.Prelude.{Contains, IfSome, IsSome, is_some, slice_get}
 use Rattle.std.specs.Option.{option_and_then}
 use Rattle.std.proofs.lemmas.List.{append-nil}
@@ -9,16 +10,19 @@ use Rattle.request_cards.proofs.CardReading.{card_is}
 use Rattle.request_cards.specs.CardReading.{request_card_of}
 use Rattle.request_cards.specs.CardTexts.{Card, IsCard}
 use Rattle.host_session.specs.Files.{Files, record_at}
-use Rattle.host_session.specs.Judged.{AreCards, AreTills, HasJudgedTills, HasTills, IsIntentOf, IsOnlyIntent, given, listed}
+use Rattle.host_session.specs.Judged.{AreCards, AreTills, HasJudgedTills, HasTills, IsIntentOf, IsOnlyIntent, given}
+use Rattle.host_session.specs.Judged.{listed}
 use Rattle.host_session.specs.Opening.{HasNoBadTill, LacksRecord, open_intents}
-use Rattle.host_session.specs.Shop.{AreLedgerRecords, IsIntended, card_at, cards_in, intents, items, open_in, results, results_of}
+use Rattle.host_session.specs.Shop.{AreLedgerRecords, IsIntended, card_at, cards_in, intents, items, open_in, results}
+use Rattle.host_session.specs.Shop.{results_of}
 use Rattle.host_session.specs.declared.intents.Intent.{Intent}
 use Rattle.host_session.specs.declared.intents.NewQuantities.{NewQuantities}
 use Rattle.host_session.proofs.Lists.{open_in-pending}
 use Rattle.host_session.proofs.TillTables.{nth-at}
 
 -- two tables with the same cards have the same open intents
-pub intents-same : (xs ys : List (Option Card)) → ((k : ℕ) → get_or xs k None ≡ get_or ys k None) → intents xs ≡ intents ys
+pub intents-same : (xs ys : List (Option Card)) → ((k : ℕ) → get_or xs k None ≡ get_or ys k None)
+    → intents xs ≡ intents ys
 intents-same [] [] h = refl
 intents-same [] (y ∷ ys) h = ap (λ o. open_in o ++ []) (h 0) ∙ (λ i. open_in y ++ intents-same [] ys (λ k. h (suc k)) i)
 intents-same (x ∷ xs) [] h = (λ i. open_in (h 0 i) ++ intents-same xs [] (λ k. h (suc k)) i)
@@ -30,15 +34,20 @@ card_at-get [] k = refl
 card_at-get (x ∷ cs) zero = refl
 card_at-get (x ∷ cs) (suc k) = card_at-get cs k
 
-pub table-intents : (f : Files) (table : List (Option Card)) → HasTills f table → intents table ≡ intents (cards_in f.requests)
-table-intents f table h = intents-same table (cards_in f.requests) (λ k. sym (nth-at table k) ∙ h (k + 1) ∙ ap (card_at (cards_in f.requests)) (add-one k) ∙ card_at-get (cards_in f.requests) k)
+pub table-intents : (f : Files) (table : List (Option Card)) → HasTills f table
+    → intents table ≡ intents (cards_in f.requests)
+table-intents f table h = intents-same table (cards_in f.requests) (λ k. sym (nth-at table k) ∙ h (k + 1)
+    ∙ ap (card_at (cards_in f.requests)) (add-one k) ∙ card_at-get (cards_in f.requests) k)
 
 -- a till's card stands in its record
-pub card-record_at : (rs : List (List ℕ)) (till : ℕ) (c : Card) → card_at (cards_in rs) till ≡ Some c → (bytes : List ℕ) × (record_at rs till ≡ Some bytes) × (request_card_of bytes ≡ Some c)
+pub card-record_at : (rs : List (List ℕ)) (till : ℕ) (c : Card) → card_at (cards_in rs) till ≡ Some c
+    → (bytes : List ℕ) × (record_at rs till ≡ Some bytes) × (request_card_of bytes ≡ Some c)
 card-record_at rs zero c e = absurd (none-some c e)
 card-record_at rs (suc n) c e = by 64 rs n e
   where
-    by : (m : ℕ) (rs : List (List ℕ)) (n : ℕ) → option_and_then (λ (o : Option Card). o) (slice_get (map request_card_of (take m rs)) n) ≡ Some c → (bytes : List ℕ) × (slice_get rs n ≡ Some bytes) × (request_card_of bytes ≡ Some c)
+    by : (m : ℕ) (rs : List (List ℕ)) (n : ℕ)
+        → option_and_then (λ (o : Option Card). o) (slice_get (map request_card_of (take m rs)) n) ≡ Some c
+        → (bytes : List ℕ) × (slice_get rs n ≡ Some bytes) × (request_card_of bytes ≡ Some c)
     by zero rs n e = absurd (none-some c e)
     by (suc m) [] n e = absurd (none-some c e)
     by (suc m) (r ∷ rs) zero e = (r, refl, e)
@@ -69,24 +78,30 @@ module _ (f : Files) (many : ℕ) (table : List (Option Card)) (a : AreTills f m
         let (bytes, here, reads) = stands in
         let (good, has) = a.records x.till bytes h.high here in
         let mine : Contains (items (results (open_in (Some x.card)))) item
-        = subst (λ (cs : List Card). Contains (items (results cs)) item) (sym (table-intents f table a.table) ∙ h.only ∙ sym (open_in-pending x.card h.pending)) intended in
-        by (record_at f.stock item) refl (λ none. has (subst (λ (o : Option Card). LacksRecord f.stock o) (sym reads) (item, mine, none)))
+        = subst (λ (cs : List Card). Contains (items (results cs)) item) (sym (table-intents f table a.table) ∙ h.only
+        ∙ sym (open_in-pending x.card h.pending)) intended in
+        by (record_at f.stock item) refl
+        (λ none. has (subst (λ (o : Option Card). LacksRecord f.stock o) (sym reads) (item, mine, none)))
       where
-        by : (o : Option (List ℕ)) → record_at f.stock item ≡ o → ¬ (record_at f.stock item ≡ None) → IsSome (record_at f.stock item)
+        by : (o : Option (List ℕ)) → record_at f.stock item ≡ o → ¬ (record_at f.stock item ≡ None)
+            → IsSome (record_at f.stock item)
         by None e some = absurd (some e)
         by (Some bytes) e some = ap is_some e
 
-  pub given-fits : (o : Option Intent) → IsIntentOf table o → IfSome o (λ x. (1 ≤ x.till) × (x.till ≤ 64) × IsCard x.card)
+  pub given-fits : (o : Option Intent) → IsIntentOf table o
+      → IfSome o (λ x. (1 ≤ x.till) × (x.till ≤ 64) × IsCard x.card)
   given-fits None h = tt
   given-fits (Some x) h = (h.low, h.high, intent-fits x h)
 
-  pub judged-tills : (o : Option Intent) → IsIntentOf table o → (x : NewQuantities) → listed x ≡ given o → HasJudgedTills f x
+  pub judged-tills : (o : Option Intent) → IsIntentOf table o → (x : NewQuantities) → listed x ≡ given o
+      → HasJudgedTills f x
   judged-tills None h x e =
       let none : intents (cards_in f.requests) ≡ [] = sym (table-intents f table a.table) ∙ h in record {
         no_bad_till = no-bad_till;
         few = omega (arith, ap length none);
         new = e ∙ sym (ap results none);
-        there = λ item intended. absurd (Contains-nil item (subst (λ (cs : List Card). Contains (items (results cs)) item) none intended));
+        there = λ item intended. absurd
+            (Contains-nil item (subst (λ (cs : List Card). Contains (items (results cs)) item) none intended));
       }
   judged-tills (Some y) h x e = record {
     no_bad_till = no-bad_till;
@@ -96,7 +111,8 @@ module _ (f : Files) (many : ℕ) (table : List (Option Card)) (a : AreTills f m
   }
 
   -- both files are a ledger's
-  pub ledger-judged : (cards : List (Option ℕ)) (x : NewQuantities) → HasJudgedTills f x → AreCards f cards → AreLedgerRecords f.stock f.requests
+  pub ledger-judged : (cards : List (Option ℕ)) (x : NewQuantities) → HasJudgedTills f x → AreCards f cards
+      → AreLedgerRecords f.stock f.requests
   ledger-judged cards x h are = record {
     request_records = λ till bytes low here. (a.records till bytes low here).0;
     one_intent = h.few;

@@ -1,5 +1,6 @@
 -- What the writes of a till's next request make of the shop: the one before it, or the one after.
-use Rattle.std.proofs.Common.{ℕ, ◌≡◌, ◌≤◌, ◌⊎◌, ◌+◌, inl, inr, true, false, List, [], ◌∷◌, ◌++◌, Ok, Err, Result, Some, length, replicate, refl, sym, ◌∙◌, ap, subst, arith}
+use Rattle.std.proofs.Common.{ℕ, ◌≡◌, ◌≤◌, ◌⊎◌, ◌+◌, inl, inr, true, false, List, [], ◌∷◌, ◌++◌, Ok, Err, Result, Some}
+use Rattle.std.proofs.Common.{length, replicate, refl, sym, ◌∙◌, ap, subst, arith}
 use Rattle.std.specs.Prelude.{Contains, IsSome, OnErr, OnOk, Option, None, is_none, is_some, ◌==◌}
 use Rattle.std.proofs.lemmas.Bool.{cases_Bool, false≢true}
 use Rattle.std.proofs.lemmas.List.{append-nil}
@@ -25,14 +26,16 @@ use Rattle.host_session.specs.Growing.{HasGrown, grown}
 use Rattle.host_session.specs.Handling.{card_writes, kept_writes}
 use Rattle.host_session.specs.Keeping.{HasItems, IsEither, IsKeeping, answer_of, shop_after}
 use Rattle.host_session.specs.Putting.{HasAnswer, IsPuttingAnswer}
-use Rattle.host_session.specs.Shop.{IsSettled, IsShop, Shop, any_old, cards_in, items, open_in, overlaid, quantities, results, results_in, results_of, shop_of, with_state}
+use Rattle.host_session.specs.Shop.{IsSettled, IsShop, Shop, any_old, cards_in, items, open_in, overlaid, quantities}
+use Rattle.host_session.specs.Shop.{results, results_in, results_of, shop_of, with_state}
 use Rattle.host_session.proofs.Completions.{answered-read, completed-shop}
 use Rattle.host_session.proofs.GrowthCounts.{kept-most}
 use Rattle.drive_channels.specs.State.{Seen}
 use Rattle.host_session.specs.Selecting.{IsReady}
 use Rattle.host_session.proofs.GrownStock.{grown-ledger, grown-same, grown-shop_moments}
 use Rattle.host_session.proofs.Shops.{HasFiles-one}
-use Rattle.host_session.proofs.Lists.{open_in-answered, open_in-pending, record-there, record-within, record_at-append, record_at-with_same}
+use Rattle.host_session.proofs.Lists.{open_in-answered, open_in-pending, record-there, record-within, record_at-append}
+use Rattle.host_session.proofs.Lists.{record_at-with_same}
 use Rattle.host_session.proofs.Moments.{card-cards, card-list, card-state, cards-with, with_card}
 use Rattle.host_session.proofs.Outcomes.{card-applied, outcome-there, results-refused}
 use Rattle.host_session.proofs.Steps.{card-record, old-with, step-card_settled, step-request, tills-same}
@@ -67,7 +70,8 @@ done-item b answers.NoCard e = absurd (false≢true e)
 done-item b answers.DiskFull e = absurd (false≢true e)
 done-item b answers.TooLarge e = absurd (false≢true e)
 
-done-writes : (stock : File) (item : ℕ) (b : Body) (x : Answer) → is_done x ≡ true → kept_writes stock item (results_in b x) ≡ growth_writes stock item + 2 + card_writes (results_in b x)
+done-writes : (stock : File) (item : ℕ) (b : Body) (x : Answer) → is_done x ≡ true
+    → kept_writes stock item (results_in b x) ≡ growth_writes stock item + 2 + card_writes (results_in b x)
 done-writes stock item b (answers.Done h) e = refl
 done-writes stock item b (answers.Moved h g) e = refl
 done-writes stock item b (answers.Short h) e = absurd (false≢true e)
@@ -94,38 +98,47 @@ module _ (f : Files) (a : Ask) (c : Card) (k : IsKeeping f a c) where
   HasOpenItems = (r : ℕ) → Contains (items (results (open_in (Some c)))) r → IsSome (record_at f.stock r)
 
   pub closed-items : c.pending ≡ false → HasOpenItems
-  closed-items e r d = absurd (Contains-nil r (subst (λ (cs : List Card). Contains (items (results cs)) r) (open_in-answered c e) d))
+  closed-items e r d =
+      absurd (Contains-nil r (subst (λ (cs : List Card). Contains (items (results cs)) r) (open_in-answered c e) d))
 
   pub open-items : c.pending ≡ true → HasItems f c → HasOpenItems
-  open-items e all r d = all r (subst (λ (qs : List (ℕ × ℕ)). Contains (items qs) r) (ap results (open_in-pending c e) ∙ append-nil (results_of c.newest)) d)
+  open-items e all r d = all r (subst (λ (qs : List (ℕ × ℕ)). Contains (items qs) r) (ap results (open_in-pending c e)
+      ∙ append-nil (results_of c.newest)) d)
 
-  applied-is : with_card (shop_of f).state a.till c (overlaid (results (open_in (Some c))) (shop_of f).state.ledger.cards) ≡ applied f.top (shop_of f).state a
+  applied-is : with_card (shop_of f).state a.till c
+      (overlaid (results (open_in (Some c))) (shop_of f).state.ledger.cards) ≡ applied f.top (shop_of f).state a
   applied-is = card-applied f.top (shop_of f).state a c k.newest k.second k.pending
 
   -- once the card is written it is the shop after the request
   pub kept-shop : HasOpenItems → (img : Image) → HasFiles img with_it → IsShop img (shop_after (shop_of f) a)
-  kept-shop all img h = step-request img f k.records f.blocks a there.0 (card_text c) c k.till_high there.1 reads k.no_intent all k.newest k.second k.pending h
+  kept-shop all img h = step-request img f k.records f.blocks a there.0 (card_text c) c k.till_high there.1 reads
+      k.no_intent all k.newest k.second k.pending h
 
   pub same-shop : shop_of with_it ≡ shop_after (shop_of f) a
   same-shop = λ i. record (shop_of f) {
-    state = (card-state f.stock f.requests a.till there.0 (card_text c) c k.till_high there.1 reads k.no_intent ∙ applied-is) i;
+    state = (card-state f.stock f.requests a.till there.0 (card_text c) c k.till_high there.1 reads k.no_intent
+        ∙ applied-is) i;
     tills = tills-same f.requests a.till (card_text c) i;
   }
 
-  pub putting-either : HasOpenItems → (img : Image) → IsPuttingAnswer f a.till (card_text c) img → IsEither (shop_of f) a img
+  pub putting-either : HasOpenItems → (img : Image) → IsPuttingAnswer f a.till (card_text c) img
+      → IsEither (shop_of f) a img
   putting-either all img (inl h) = inl (record { files = f; has = h; records = k.records; is = refl })
   putting-either all img (inr h) = inr (kept-shop all img h)
 
   -- an answer that changes no quantity leaves it at rest
-  pub refused-settled : c.pending ≡ false → (img : Image) → IsClean img → HasFiles img with_it → IsSettled img (shop_after (shop_of f) a)
+  pub refused-settled : c.pending ≡ false → (img : Image) → IsClean img → HasFiles img with_it
+      → IsSettled img (shop_after (shop_of f) a)
   refused-settled e img clean h =
       subst (λ (st : State). IsSettled img (with_state (shop_of f) st)) applied-is
-      (step-card_settled img f k.records f.blocks a.till there.0 (card_text c) c k.till_high there.1 reads k.no_intent (closed-items e) h clean e young k.no_old_card)
+      (step-card_settled img f k.records f.blocks a.till there.0 (card_text c) c k.till_high there.1 reads k.no_intent
+      (closed-items e) h clean e young k.no_old_card)
 
   -- an intent is one that can be completed
   pub intent-kept : c.pending ≡ true → HasItems f c → HasIntent with_it a.till c
   intent-kept e all = record {
-    records = card-cards f.stock f.requests a.till there.0 (card_text c) c k.till_high there.1 reads k.no_intent k.records (open-items e all);
+    records = card-cards f.stock f.requests a.till there.0 (card_text c) c k.till_high there.1 reads k.no_intent
+        k.records (open-items e all);
     low = k.till_low;
     high = k.till_high;
     was = card_text c;
@@ -135,14 +148,21 @@ module _ (f : Files) (a : Ask) (c : Card) (k : IsKeeping f a c) where
   }
 
   -- and that leaves the shop at rest
-  none-old : any_old (cards_in (with_record (with_record f.requests a.till (card_text c)) a.till (card_text (answered_card c)))) ≡ false
+  none-old : any_old
+      (cards_in (with_record (with_record f.requests a.till (card_text c)) a.till (card_text (answered_card c)))) ≡
+      false
   none-old =
       let first : any_old (cards_in (with_record f.requests a.till (card_text c))) ≡ false
-      = ap any_old (card-list f.stock f.requests a.till there.0 (card_text c) c k.till_high there.1 reads k.no_intent) ∙ old-with (cards_in f.requests) a.till c k.no_old_card young in
-      let list = cards-with (with_record f.requests a.till (card_text c)) a.till (card_text (answered_card c)) ∙ ap (with_record (cards_in (with_record f.requests a.till (card_text c))) a.till) (answered-read c k.is_card) in
-      ap any_old list ∙ old-with (cards_in (with_record f.requests a.till (card_text c))) a.till (answered_card c) first refl
+      = ap any_old (card-list f.stock f.requests a.till there.0 (card_text c) c k.till_high there.1 reads k.no_intent)
+      ∙ old-with (cards_in f.requests) a.till c k.no_old_card young in
+      let list = cards-with (with_record f.requests a.till (card_text c)) a.till (card_text (answered_card c))
+      ∙ ap (with_record (cards_in (with_record f.requests a.till (card_text c))) a.till) (answered-read c k.is_card)
+      in
+      ap any_old list ∙ old-with (cards_in (with_record f.requests a.till (card_text c))) a.till (answered_card c) first
+      refl
 
-  pub completed-settled : (img : Image) → IsClean img → IsCompleted with_it a.till c img → IsSettled img (shop_after (shop_of f) a)
+  pub completed-settled : (img : Image) → IsClean img → IsCompleted with_it a.till c img
+      → IsSettled img (shop_after (shop_of f) a)
   unfolding completed-shop
   completed-settled img clean x = subst (λ (s : Shop). IsSettled img s) same-shop (record {
     shop = completed-shop with_it a.till c img x;
@@ -158,7 +178,8 @@ module _ (f : Files) (a : Ask) (c : Card) (k : IsKeeping f a c) where
   card-there : (r : ℕ) → IsSome ((shop_of f).state.ledger.cards r) → IsSome (record_at f.stock r)
   card-there r some = card-record f.stock r (ap is_some (sym (plain-cards r)) ∙ some)
 
-  told-items : (r : ℕ) → Contains (items (results_of c.newest)) r → Contains (items (results_in a.body (answer_of (shop_of f) a))) r
+  told-items : (r : ℕ) → Contains (items (results_of c.newest)) r
+      → Contains (items (results_in a.body (answer_of (shop_of f) a))) r
   told-items r d = subst (λ (e : Entry). Contains (items (results_of e)) r) k.newest d
 
   -- that of a card that is there
@@ -175,17 +196,23 @@ module _ (f : Files) (a : Ask) (c : Card) (k : IsKeeping f a c) where
   is-done e = sym k.pending ∙ e
 
   -- or that of a first set, which is up to the top
-  pub first-set : c.pending ≡ true → is_none ((shop_of f).state.ledger.cards a.body.item) ≡ true → (1 ≤ a.body.item) × (a.body.item ≤ f.top)
-  first-set e none = elim (outcome-there (shop_of f).state.ledger.cards f.top a.body a.body.item (done-item a.body (answer_of (shop_of f) a) (is-done e))) [
-    | inl x ↦ absurd (none-not ((shop_of f).state.ledger.cards a.body.item) none x)
-    | inr x ↦ (item-low, x.2)
-  ]
+  pub first-set : c.pending ≡ true → is_none ((shop_of f).state.ledger.cards a.body.item) ≡ true → (1 ≤ a.body.item)
+      × (a.body.item ≤ f.top)
+  first-set e none =
+      elim (outcome-there (shop_of f).state.ledger.cards f.top a.body a.body.item
+      (done-item a.body (answer_of (shop_of f) a) (is-done e))) [
+        | inl x ↦ absurd (none-not ((shop_of f).state.ledger.cards a.body.item) none x)
+        | inr x ↦ (item-low, x.2)
+      ]
 
-  pub first-kind : c.pending ≡ true → is_none ((shop_of f).state.ledger.cards a.body.item) ≡ true → (a.body.kind ≡ Set) × (a.body.item ≤ f.top)
-  first-kind e none = elim (outcome-there (shop_of f).state.ledger.cards f.top a.body a.body.item (done-item a.body (answer_of (shop_of f) a) (is-done e))) [
-    | inl x ↦ absurd (none-not ((shop_of f).state.ledger.cards a.body.item) none x)
-    | inr x ↦ (x.0, x.2)
-  ]
+  pub first-kind : c.pending ≡ true → is_none ((shop_of f).state.ledger.cards a.body.item) ≡ true → (a.body.kind ≡ Set)
+      × (a.body.item ≤ f.top)
+  first-kind e none =
+      elim (outcome-there (shop_of f).state.ledger.cards f.top a.body a.body.item
+      (done-item a.body (answer_of (shop_of f) a) (is-done e))) [
+        | inl x ↦ absurd (none-not ((shop_of f).state.ledger.cards a.body.item) none x)
+        | inr x ↦ (x.0, x.2)
+      ]
 
   -- once STOCK has grown
   pub keeping-grown : (m b : ℕ) → IsKeeping (grown f m b) a c
@@ -209,17 +236,21 @@ module _ (f : Files) (a : Ask) (c : Card) (k : IsKeeping f a c) where
   pub grown-items : (m b : ℕ) → a.body.item ≤ length (grown f m b).stock → HasItems (grown f m b) c
   grown-items m b far r d = elim (outcome-there (shop_of f).state.ledger.cards f.top a.body r (told-items r d)) [
     | inl x ↦ some-record f.stock (replicate m (empty_record 18)) r (card-there r x)
-    | inr x ↦ subst (λ (j : ℕ). IsSome (record_at (grown f m b).stock j)) (sym x.1) (record-some (grown f m b).stock a.body.item item-low far)
+    | inr x ↦ subst (λ (j : ℕ). IsSome (record_at (grown f m b).stock j)) (sym x.1)
+        (record-some (grown f m b).stock a.body.item item-low far)
   ]
 
   -- how many sectors are written at most
   no-results : c.pending ≡ false → results_of c.newest ≡ []
-  no-results e = ap (λ (x : Entry). results_of x) k.newest ∙ results-refused a.body (answer_of (shop_of f) a) (sym k.pending ∙ e)
+  no-results e = ap (λ (x : Entry). results_of x) k.newest ∙ results-refused a.body (answer_of (shop_of f) a)
+      (sym k.pending ∙ e)
 
   pub refused-writes : c.pending ≡ false → (stock : File) → 1 ≤ kept_writes stock a.body.item (results_of c.newest)
   refused-writes e stock = omega (arith, ap (kept_writes stock a.body.item) (no-results e))
 
-  pub intent-writes : c.pending ≡ true → (stock : File) → growth_writes stock a.body.item + 2 + card_writes (results_of c.newest) ≤ kept_writes stock a.body.item (results_of c.newest)
+  pub intent-writes : c.pending ≡ true → (stock : File)
+      → growth_writes stock a.body.item + 2 + card_writes (results_of c.newest) ≤ kept_writes stock a.body.item
+      (results_of c.newest)
   intent-writes e stock = omega (
     arith,
     ap (λ (x : Entry). card_writes (results_of x)) k.newest,
@@ -229,12 +260,15 @@ module _ (f : Files) (a : Ask) (c : Card) (k : IsKeeping f a c) where
 
   -- the item of what is done is up to the top, or its record is there
   pub item-place : c.pending ≡ true → (a.body.item ≤ f.top) ⊎ (a.body.item ≤ length f.stock)
-  item-place e = elim (outcome-there (shop_of f).state.ledger.cards f.top a.body a.body.item (done-item a.body (answer_of (shop_of f) a) (is-done e))) [
-    | inl x ↦ inr (record-within f.stock a.body.item (card-there a.body.item x)).1
-    | inr x ↦ inl x.2
-  ]
+  item-place e =
+      elim (outcome-there (shop_of f).state.ledger.cards f.top a.body a.body.item
+      (done-item a.body (answer_of (shop_of f) a) (is-done e))) [
+        | inl x ↦ inr (record-within f.stock a.body.item (card-there a.body.item x)).1
+        | inr x ↦ inl x.2
+      ]
 
-  pub kept-within : (img : Image) (h : HasFiles img f) → kept_writes h.stock_file a.body.item (results_of c.newest) ≤ 3618
+  pub kept-within : (img : Image) (h : HasFiles img f)
+      → kept_writes h.stock_file a.body.item (results_of c.newest) ≤ 3618
   kept-within img h = elim (cases_Bool c.pending) [
     | inl e ↦ omega (
       arith,
@@ -247,7 +281,8 @@ module _ (f : Files) (a : Ask) (c : Card) (k : IsKeeping f a c) where
 -- the till and the text of the card, as they stand in a call
 module _ (f : Files) (a : Ask) (c : Card) (t : ℕ) (text : List ℕ) (at : t ≡ a.till) (is : text ≡ card_text c) where
   pub answer-named : (img : Image) → HasAnswer f t text img → HasAnswer f a.till (card_text c) img
-  answer-named img h = subst (λ (x : List ℕ). HasAnswer f a.till x img) is (subst (λ (j : ℕ). HasAnswer f j text img) at h)
+  answer-named img h = subst (λ (x : List ℕ). HasAnswer f a.till x img) is
+      (subst (λ (j : ℕ). HasAnswer f j text img) at h)
 
   pub putting-named : (img : Image) → IsPuttingAnswer f t text img → IsPuttingAnswer f a.till (card_text c) img
   putting-named img (inl h) = inl h
@@ -255,15 +290,20 @@ module _ (f : Files) (a : Ask) (c : Card) (t : ℕ) (text : List ℕ) (at : t �
 
   module _ (k : IsKeeping f a c) {D : Type 0} (S : History D) where
     -- the card alone
-    pub put-moments : HasOpenItems f a c k → (x y : D) (n m : ℕ) → n ≤ m → Changes S x y n (IsPuttingAnswer f t text) → Changes S x y m (IsEither (shop_of f) a)
-    put-moments all x y n m le h = changes_weaker S x y n m _ _ le (λ i p. putting-either f a c k all i (putting-named i p)) h
+    pub put-moments : HasOpenItems f a c k → (x y : D) (n m : ℕ) → n ≤ m → Changes S x y n (IsPuttingAnswer f t text)
+        → Changes S x y m (IsEither (shop_of f) a)
+    put-moments all x y n m le h =
+        changes_weaker S x y n m _ _ le (λ i p. putting-either f a c k all i (putting-named i p)) h
 
-    pub put-counted : {T E : Type 0} → HasOpenItems f a c k → (x y : D) (res : Result T E) → OnOk res (HasAnswer f t text (S.image y)) → OnErr res (S.writes y ≡ S.writes x)
+    pub put-counted : {T E : Type 0} → HasOpenItems f a c k → (x y : D) (res : Result T E)
+        → OnOk res (HasAnswer f t text (S.image y)) → OnErr res (S.writes y ≡ S.writes x)
         → IfCounted S x y (λ i. IsShop i (shop_after (shop_of f) a))
     put-counted all x y (Ok _) h same = λ lt. kept-shop f a c k all (S.image y) (answer-named (S.image y) h)
     put-counted all x y (Err _) h same = none_counted S x y (λ i. IsShop i (shop_after (shop_of f) a)) same
 
-    pub put-settled : {T E : Type 0} → c.pending ≡ false → (y : D) (res : Result T E) → OnOk res (HasAnswer f t text (S.image y)) → OnOk res (IsClean (S.image y)) → OnOk res (IsSettled (S.image y) (shop_after (shop_of f) a))
+    pub put-settled : {T E : Type 0} → c.pending ≡ false → (y : D) (res : Result T E)
+        → OnOk res (HasAnswer f t text (S.image y)) → OnOk res (IsClean (S.image y))
+        → OnOk res (IsSettled (S.image y) (shop_after (shop_of f) a))
     put-settled e y (Ok _) h clean = refused-settled f a c k e (S.image y) clean (answer-named (S.image y) h)
     put-settled e y (Err _) h clean = tt
 
@@ -272,18 +312,25 @@ module _ (f : Files) (a : Ask) (c : Card) (t : ℕ) (text : List ℕ) (at : t �
     named-intent e all = subst (λ (j : ℕ). HasIntent (with_it f a c k) j c) (sym at) (intent-kept f a c k e all)
 
     pub intent-moments : c.pending ≡ true → HasItems f c → (x y z : D) → Changes S x y 1 (IsPuttingAnswer f t text)
-        → Changes S y z (card_writes (results_of c.newest) + 1) (λ i. IsShop i (shop_of (with_it f a c k))) → Changes S x z (2 + card_writes (results_of c.newest)) (IsEither (shop_of f) a)
-    intent-moments e all x y z first rest = changes_then S x y z 1 (card_writes (results_of c.newest) + 1) (2 + card_writes (results_of c.newest)) (IsEither (shop_of f) a) (omega arith)
+        → Changes S y z (card_writes (results_of c.newest) + 1) (λ i. IsShop i (shop_of (with_it f a c k)))
+        → Changes S x z (2 + card_writes (results_of c.newest)) (IsEither (shop_of f) a)
+    intent-moments e all x y z first rest = changes_then S x y z 1 (card_writes (results_of c.newest) + 1)
+        (2 + card_writes (results_of c.newest)) (IsEither (shop_of f) a) (omega arith)
         (put-moments (open-items f a c k e all) x y 1 1 (omega arith) first)
-        (changes_weaker S y z (card_writes (results_of c.newest) + 1) (card_writes (results_of c.newest) + 1) _ (IsEither (shop_of f) a) (omega arith)
+        (changes_weaker S y z (card_writes (results_of c.newest) + 1) (card_writes (results_of c.newest) + 1) _
+        (IsEither (shop_of f) a) (omega arith)
         (λ i s. inr (subst (λ (u : Shop). IsShop i u) (same-shop f a c k) s)) rest)
 
-    pub intent-counted : (x y z : D) (n : ℕ) → Changes S y z n (λ i. IsShop i (shop_of (with_it f a c k))) → IfCounted S x z (λ i. IsShop i (shop_after (shop_of f) a))
-    intent-counted x y z n rest = λ lt. subst (λ (u : Shop). IsShop (S.image z) u) (same-shop f a c k) (at_end S y z (λ i. IsShop i (shop_of (with_it f a c k))) rest.held)
+    pub intent-counted : (x y z : D) (n : ℕ) → Changes S y z n (λ i. IsShop i (shop_of (with_it f a c k)))
+        → IfCounted S x z (λ i. IsShop i (shop_after (shop_of f) a))
+    intent-counted x y z n rest = λ lt. subst (λ (u : Shop). IsShop (S.image z) u) (same-shop f a c k)
+        (at_end S y z (λ i. IsShop i (shop_of (with_it f a c k))) rest.held)
 
-    pub intent-settled : {T E : Type 0} (d : Seen D) (res : Result T E) → OnOk res (IsCompleted (with_it f a c k) t c (S.image d.disk)) → OnOk res (IsReady S d)
+    pub intent-settled : {T E : Type 0} (d : Seen D) (res : Result T E)
+        → OnOk res (IsCompleted (with_it f a c k) t c (S.image d.disk)) → OnOk res (IsReady S d)
         → OnOk res (IsSettled (S.image d.disk) (shop_after (shop_of f) a))
-    intent-settled d (Ok _) x ready = completed-settled f a c k (S.image d.disk) ready.clean (subst (λ (j : ℕ). IsCompleted (with_it f a c k) j c (S.image d.disk)) at x)
+    intent-settled d (Ok _) x ready = completed-settled f a c k (S.image d.disk) ready.clean
+        (subst (λ (j : ℕ). IsCompleted (with_it f a c k) j c (S.image d.disk)) at x)
     intent-settled d (Err _) x ready = tt
 
 -- an image has one pair of files
@@ -292,12 +339,19 @@ items-for img f g c x y all = subst (λ (z : Files). HasItems z c) (HasFiles-one
 
 -- A first set: growth, and then the intent.
 module _ (f : Files) (a : Ask) (c : Card) (k : IsKeeping f a c) {D : Type 0} (S : History D) where
-  pub growing-either : (x y : D) (n m : ℕ) → n ≤ m → Changes S x y n (HasGrown f) → Changes S x y m (IsEither (shop_of f) a)
-  growing-either x y n m le g = changes_weaker S x y n m (λ i. IsShop i (shop_of f)) (IsEither (shop_of f) a) le (λ i s. inl s) (grown-shop_moments S x y f n k.records g)
+  pub growing-either : (x y : D) (n m : ℕ) → n ≤ m → Changes S x y n (HasGrown f)
+      → Changes S x y m (IsEither (shop_of f) a)
+  growing-either x y n m le g = changes_weaker S x y n m (λ i. IsShop i (shop_of f)) (IsEither (shop_of f) a) le
+      (λ i s. inl s) (grown-shop_moments S x y f n k.records g)
 
-  pub first-moments : (m b : ℕ) (x y z : D) (n w : ℕ) → Changes S x y n (HasGrown f) → Changes S y z w (IsEither (shop_of (grown f m b)) a) → Changes S x z (n + w) (IsEither (shop_of f) a)
-  first-moments m b x y z n w g rest = changes_then S x y z n w (n + w) (IsEither (shop_of f) a) (omega arith) (growing-either x y n n (omega arith) g)
+  pub first-moments : (m b : ℕ) (x y z : D) (n w : ℕ) → Changes S x y n (HasGrown f)
+      → Changes S y z w (IsEither (shop_of (grown f m b)) a) → Changes S x z (n + w) (IsEither (shop_of f) a)
+  first-moments m b x y z n w g rest = changes_then S x y z n w (n + w) (IsEither (shop_of f) a) (omega arith)
+      (growing-either x y n n (omega arith) g)
       (subst (λ (s : Shop). Changes S y z w (IsEither s a)) (grown-same f m b) rest)
 
-  pub first-settled : {T E : Type 0} (m b : ℕ) (z : D) (res : Result T E) → OnOk res (IsSettled (S.image z) (shop_after (shop_of (grown f m b)) a)) → OnOk res (IsSettled (S.image z) (shop_after (shop_of f) a))
-  first-settled m b z res x = subst (λ (s : Shop). OnOk res (IsSettled (S.image z) (shop_after s a))) (grown-same f m b) x
+  pub first-settled : {T E : Type 0} (m b : ℕ) (z : D) (res : Result T E)
+      → OnOk res (IsSettled (S.image z) (shop_after (shop_of (grown f m b)) a))
+      → OnOk res (IsSettled (S.image z) (shop_after (shop_of f) a))
+  first-settled m b z res x = subst (λ (s : Shop). OnOk res (IsSettled (S.image z) (shop_after s a))) (grown-same f m b)
+      x

@@ -1,5 +1,6 @@
 -- A run in a loop: one event more, or the last one.
-use Rattle.std.proofs.Common.{◌≡◌, ◌≤◌, ◌<◌, ◌+◌, ◌++◌, ◌⊎◌, ℕ, true, false, List, [], ◌∷◌, Option, None, Some, Ok, Err, refl, sym, subst, ap, ◌∙◌, arith, inl, inr, length, length-append, append-nil}
+use Rattle.std.proofs.Common.{◌≡◌, ◌≤◌, ◌<◌, ◌+◌, ◌++◌, ◌⊎◌, ℕ, true, false, List, [], ◌∷◌, Option, None, Some, Ok, Err}
+use Rattle.std.proofs.Common.{refl, sym, subst, ap, ◌∙◌, arith, inl, inr, length, length-append, append-nil}
 use Rattle.std.proofs.lemmas.List.{map-append}
 use Rattle.std.specs.Prelude.{IsSome, Result, is_err, is_ok, is_some, option_map}
 use Rattle.d64_image.specs.History.{Changes, History}
@@ -26,7 +27,8 @@ pub is_whole : (m : Message) (bytes : List ℕ) → bytes ≡ m.bytes → None �
 is_whole m bytes same none = λ i. record { bytes = same i; cut_after = none i }
 
 -- or one
-pub is_reset : (m : Message) (bytes : List ℕ) (after : ℕ) → bytes ≡ m.bytes → Some after ≡ m.cut_after → cut_at bytes after ≡ m
+pub is_reset : (m : Message) (bytes : List ℕ) (after : ℕ) → bytes ≡ m.bytes → Some after ≡ m.cut_after
+    → cut_at bytes after ≡ m
 is_reset m bytes after same cut = λ i. record { bytes = same i; cut_after = cut i }
 
 -- power goes in it
@@ -42,22 +44,26 @@ pub some_cut : {X : Type 0} (f : X → ℕ) (r : Option X) (o : Option ℕ) → 
 some_cut f None o same some = cc
 some_cut f (Some x) o same some = subst IsSome same refl
 
-pub cut_is : {X : Type 0} (f : X → ℕ) (r : Option X) (x : X) (o : Option ℕ) → r ≡ Some x → option_map f r ≡ o → Some (f x) ≡ o
+pub cut_is : {X : Type 0} (f : X → ℕ) (r : Option X) (x : X) (o : Option ℕ) → r ≡ Some x → option_map f r ≡ o
+    → Some (f x) ≡ o
 cut_is f r x o is same = sym (ap (option_map f) is) ∙ same
 
 -- what asking came to, by what was answered and the disk that was lent
 pub was_asked : {D A : Type 0} (h : History D) (a : Source A) (old new : A) (lent disk : D) (r answered : Next)
-    → lent ≡ disk → r ≡ answered → IsNext a old new (instant_of h lent) r → IsNext a old new (instant_of h disk) answered
+    → lent ≡ disk → r ≡ answered → IsNext a old new (instant_of h lent) r
+    → IsNext a old new (instant_of h disk) answered
 was_asked h a old new lent disk r answered is told asked =
     subst (λ n. IsNext a old new (instant_of h disk) n) told (subst (λ d. IsNext a old new (instant_of h d) r) is asked)
 
 -- what telling came to, by what was answered
-pub was_told : {T E : Type 0} (o : Output T) (old new : T) (reply : Reply) (i : Instant) (r : Result Unit E) → is_ok r ≡ true
+pub was_told : {T E : Type 0} (o : Output T) (old new : T) (reply : Reply) (i : Instant) (r : Result Unit E)
+    → is_ok r ≡ true
     → IsTold o old new reply i r → TellsOne o old new reply i × (o.room old ≤ o.room new + 1)
 was_told o old new reply i (Ok x) is told = told
 was_told o old new reply i (Err x) is told = cc
 
-pub was_broken : {T E : Type 0} (o : Output T) (old new : T) (reply : Reply) (i : Instant) (r : Result Unit E) → is_err r ≡ true
+pub was_broken : {T E : Type 0} (o : Output T) (old new : T) (reply : Reply) (i : Instant) (r : Result Unit E)
+    → is_err r ≡ true
     → IsTold o old new reply i r → BreaksOff o old new reply i × (o.room old ≡ 0)
 was_broken o old new reply i (Ok x) is told = cc
 was_broken o old new reply i (Err x) is told = told
@@ -70,7 +76,8 @@ over_more h (x ∷ xs) reply disk = ap (λ ys. (x.0, instant_of h x.1) ∷ ys) (
 module _ {D A T : Type 0} (h : History D) (a : Source A) (o : Output T) (from : Origin D A T) where
   -- before the first event
   pub has_none : (first : D) → Changes h from.disk first 952 (λ i. IsShop i from.shop)
-      → (IsSettled (h.image from.disk) from.shop → Untouched h from.disk first) → h.failures from.disk ≤ h.failures first
+      → (IsSettled (h.image from.disk) from.shop → Untouched h from.disk first)
+      → h.failures from.disk ≤ h.failures first
       → IsSettled (h.image first) from.shop → HasCome h a o from first from.asks from.out
   has_none first opening quiet later rests = record {
     taken = [];
@@ -133,7 +140,8 @@ module _ {D A T : Type 0} (h : History D) (a : Source A) (o : Output T) (from : 
 
     -- the event that is here was run, and its reply told
     pub goes_on : (Alive : Type 0) → TellsOne o out told reply (instant_of h new) × (o.room out ≤ o.room told + 1)
-        → ((t : Shop) → IsSettled (h.image mid) t → Alive × IsEvent h t (a.here asks) mid new (GoesOn h t (a.here asks) reply new))
+        → ((t : Shop) → IsSettled (h.image mid) t
+        → Alive × IsEvent h t (a.here asks) mid new (GoesOn h t (a.here asks) reply new))
         → Within
         → HasComeBut h a o from mid asks out → Alive × HasCome h a o from new asks told
     goes_on Alive tells event within w =
@@ -151,7 +159,8 @@ module _ {D A T : Type 0} (h : History D) (a : Source A) (o : Output T) (from : 
                 (tells.0 from.out (over_instants h x.turns) x.told);
           },
           over_now w last _
-              (run_more-first h from.shop (messages_in w.taken) x.turns from.disk mid new (a.here asks) reply x.run e.1),
+              (run_more-first h from.shop (messages_in w.taken) x.turns from.disk mid new (a.here asks) reply x.run
+              e.1),
           within_now w _
               (run_more-first h from.shop (messages_in w.taken) x.turns from.disk mid new (a.here asks) reply x.run e.1)
               within,
@@ -161,7 +170,8 @@ module _ {D A T : Type 0} (h : History D) (a : Source A) (o : Output T) (from : 
 
     -- it was run, and the output didn't take its reply
     pub breaks_off : (Alive : Type 0) → BreaksOff o out told reply (instant_of h new) × (o.room out ≡ 0)
-        → ((t : Shop) → IsSettled (h.image mid) t → Alive × IsEvent h t (a.here asks) mid new (GoesOn h t (a.here asks) reply new))
+        → ((t : Shop) → IsSettled (h.image mid) t
+        → Alive × IsEvent h t (a.here asks) mid new (GoesOn h t (a.here asks) reply new))
         → Within
         → HasComeBut h a o from mid asks out → EndsBy h a o from asks told new faults.Output
     breaks_off Alive breaks event within w =
@@ -184,14 +194,16 @@ module _ {D A T : Type 0} (h : History D) (a : Source A) (o : Output T) (from : 
               told = breaks.0 from.out (over_instants h x.turns) x.told;
             },
             over_now w [] _ same
-                ∙ ap (λ turns. asked_over h run.first turns (messages_in w.taken ++ a.here asks ∷ [])) (append-nil x.turns),
+                ∙ ap (λ turns. asked_over h run.first turns (messages_in w.taken ++ a.here asks ∷ []))
+                (append-nil x.turns),
             within_now w _ same within,
           ),
         )
 
     -- the device failed in it
     pub fails : {E : Type 0} (result : Result Unit E) → IsTold o out told reply (instant_of h new) result
-        → ((t : Shop) → IsSettled (h.image mid) t → IsEvent h t (a.here asks) mid new (EndsFailed h t (a.here asks) reply new))
+        → ((t : Shop) → IsSettled (h.image mid) t
+        → IsEvent h t (a.here asks) mid new (EndsFailed h t (a.here asks) reply new))
         → Within
         → HasComeBut h a o from mid asks out → EndsBy h a o from asks told new faults.Device
     fails result tells event within w =
@@ -216,7 +228,8 @@ module _ {D A T : Type 0} (h : History D) (a : Source A) (o : Output T) (from : 
               told = pick result tells;
             },
             over_now w [] x.run.first refl
-                ∙ ap (λ turns. asked_over h x.run.first turns (messages_in w.taken ++ a.here asks ∷ [])) (append-nil x.turns),
+                ∙ ap (λ turns. asked_over h x.run.first turns (messages_in w.taken ++ a.here asks ∷ []))
+                (append-nil x.turns),
             within_now w x.run.first refl within,
           ),
         )

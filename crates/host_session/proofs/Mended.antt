@@ -1,5 +1,7 @@
 -- A repair keeps both files of a ledger, the rest of the disk and the top.
-use Rattle.std.proofs.Common.{◌≡◌, ℕ, zero, suc, ◌<◌, ◌+◌, Bool, true, false, not, ◌&&◌, List, [], ◌∷◌, ◌++◌, length, drop, take, map, refl, sym, ◌∙◌, ap, arith, get_or-take, get_or-drop, take-take, drop-drop, get_or}
+use Rattle.std.proofs.Common.{◌≡◌, ℕ, zero, suc, ◌<◌, ◌+◌, Bool, true, false, not, ◌&&◌, List, [], ◌∷◌, ◌++◌, length}
+use Rattle.std.proofs.Common.{drop, take, map, refl, sym, ◌∙◌, ap, arith, get_or-take, get_or-drop, take-take}
+use Rattle.std.proofs.Common.{drop-drop, get_or}
 use Rattle.std.specs.Prelude.{Some, codes, filter, flat_map, nat_eq, slice_get, slice_range, ◌||◌}
 use Rattle.std.proofs.lemmas.List.{drop-take}
 use Rattle.std.proofs.lemmas.Option.{none-some, same_Some}
@@ -16,14 +18,16 @@ use Rattle.host_session.specs.Shop.{IsShop, Shop}
 use Rattle.host_session.proofs.Layers.{joined-by_map, top-kept}
 
 -- bytes 2 to 29 of a slot
-entry-byte : (xs ys : List ℕ) → slice_range xs 2 30 ≡ slice_range ys 2 30 → (i : ℕ) → i < 28 → get_or xs (2 + i) 0 ≡ get_or ys (2 + i) 0
+entry-byte : (xs ys : List ℕ) → slice_range xs 2 30 ≡ slice_range ys 2 30 → (i : ℕ) → i < 28
+    → get_or xs (2 + i) 0 ≡ get_or ys (2 + i) 0
 entry-byte xs ys e i h = sym (at xs) ∙ ap (λ zs. get_or zs i 0) e ∙ at ys
   where
     at : (zs : List ℕ) → get_or (slice_range zs 2 30) i 0 ≡ get_or zs (2 + i) 0
     at zs = get_or-take 28 (drop 2 zs) i 0 h ∙ get_or-drop 2 zs i 0
 
 entry-name : (xs : List ℕ) → slice_range xs 5 21 ≡ take 16 (drop 3 (slice_range xs 2 30))
-entry-name xs = sym (ap (take 16) (drop-take 3 25 (drop 2 xs) ∙ ap (take 25) (drop-drop 3 2 xs)) ∙ take-take 16 25 (drop 5 xs) (omega arith))
+entry-name xs = sym (ap (take 16) (drop-take 3 25 (drop 2 xs) ∙ ap (take 25) (drop-drop 3 2 xs))
+    ∙ take-take 16 25 (drop 5 xs) (omega arith))
 
 -- what a file is, for what stays of it
 module _ (a c : Image) (f g : File) (e : stays_of c g ≡ stays_of a f) where
@@ -49,7 +53,8 @@ module _ (a c : Image) (f g : File) (e : stays_of c g ≡ stays_of a f) where
   stay-records : records c g ≡ records a f
   unfolding records
   stay-records =
-      let bytes : joined c g.blocks ≡ joined a f.blocks = joined-by_map c g.blocks ∙ ap (λ (s : Stays). flat_map (drop 2) s.bytes) e ∙ sym (joined-by_map a f.blocks) in
+      let bytes : joined c g.blocks ≡ joined a f.blocks = joined-by_map c g.blocks
+      ∙ ap (λ (s : Stays). flat_map (drop 2) s.bytes) e ∙ sym (joined-by_map a f.blocks) in
       λ i. pieces (stay-length i) (record_count (length (e i).blocks) (e i).last (stay-length i)) (bytes i)
 
   stay-owns : file_owns g ≡ file_owns f
@@ -59,11 +64,17 @@ module _ (a c : Image) (f g : File) (e : stays_of c g ≡ stays_of a f) where
   stay-named name n = (ap (λ t. nat_eq t 132 || nat_eq t 196) stay-kind ∙ n.0, stay-name ∙ n.1)
 
 -- the file at a place
-stay-at : (a c : Image) (fs gs : List File) → map (stays_of c) gs ≡ map (stays_of a) fs → (j : ℕ) (f : File) → slice_get fs j ≡ Some f
+stay-at : (a c : Image) (fs gs : List File) → map (stays_of c) gs ≡ map (stays_of a) fs → (j : ℕ) (f : File)
+    → slice_get fs j ≡ Some f
     → (g : File) × (slice_get gs j ≡ Some g) × (stays_of c g ≡ stays_of a f)
 stay-at a c [] gs e j f h = absurd (none-some f h)
 stay-at a c (x ∷ fs) [] e j f h = absurd (omega (arith, ap length e))
-stay-at a c (x ∷ fs) (y ∷ gs) e zero f h = (y, refl, ap (λ (xs : List Stays). head xs (stays_of c y)) e ∙ ap (stays_of a) (same_Some x f h))
+stay-at a c (x ∷ fs) (y ∷ gs) e zero f h = (
+  y,
+  refl,
+  ap (λ (xs : List Stays). head xs (stays_of c y)) e
+      ∙ ap (stays_of a) (same_Some x f h),
+)
   where
     head : List Stays → Stays → Stays
     head [] d = d
@@ -71,7 +82,8 @@ stay-at a c (x ∷ fs) (y ∷ gs) e zero f h = (y, refl, ap (λ (xs : List Stays
 stay-at a c (x ∷ fs) (y ∷ gs) e (suc j) f h = stay-at a c fs gs (ap (drop 1) e) j f h
 
 -- the first file of a name
-stay-first : (a c : Image) (l m : Layout) → map (stays_of c) m.files ≡ map (stays_of a) l.files → (name : List ℕ) (k : ℕ) (f : File) → IsFirst l name k f
+stay-first : (a c : Image) (l m : Layout) → map (stays_of c) m.files ≡ map (stays_of a) l.files
+    → (name : List ℕ) (k : ℕ) (f : File) → IsFirst l name k f
     → (g : File) × IsFirst m name k g × (stays_of c g ≡ stays_of a f)
 stay-first a c l m e name k f x =
     let o = stay-at a c l.files m.files e k f x.file in (
@@ -92,7 +104,8 @@ head-stays [] d = d
 head-stays (z ∷ zs) d = z
 
 stay-others : (a c : Image) (p q n : ℕ) (fs gs : List File) → map (stays_of c) gs ≡ map (stays_of a) fs
-    → (map (kept_of c) (others p q n gs) ≡ map (kept_of a) (others p q n fs)) × (flat_map file_owns (others p q n gs) ≡ flat_map file_owns (others p q n fs))
+    → (map (kept_of c) (others p q n gs) ≡ map (kept_of a) (others p q n fs))
+    × (flat_map file_owns (others p q n gs) ≡ flat_map file_owns (others p q n fs))
 stay-others a c p q n [] [] e = (refl, refl)
 stay-others a c p q n [] (y ∷ gs) e = absurd (omega (arith, ap length e))
 stay-others a c p q n (x ∷ fs) [] e = absurd (omega (arith, ap length e))
@@ -101,9 +114,12 @@ stay-others a c p q n (x ∷ fs) (y ∷ gs) e =
     step (not (nat_eq n p) && not (nat_eq n q)) same (stay-others a c p q (suc n) fs gs (ap (drop 1) e))
   where
     step : (t : Bool) → stays_of c y ≡ stays_of a x
-        → (map (kept_of c) (others p q (suc n) gs) ≡ map (kept_of a) (others p q (suc n) fs)) × (flat_map file_owns (others p q (suc n) gs) ≡ flat_map file_owns (others p q (suc n) fs))
-        → (map (kept_of c) (filter (λ _. t) (y ∷ []) ++ others p q (suc n) gs) ≡ map (kept_of a) (filter (λ _. t) (x ∷ []) ++ others p q (suc n) fs))
-        × (flat_map file_owns (filter (λ _. t) (y ∷ []) ++ others p q (suc n) gs) ≡ flat_map file_owns (filter (λ _. t) (x ∷ []) ++ others p q (suc n) fs))
+        → (map (kept_of c) (others p q (suc n) gs) ≡ map (kept_of a) (others p q (suc n) fs))
+        × (flat_map file_owns (others p q (suc n) gs) ≡ flat_map file_owns (others p q (suc n) fs))
+        → (map (kept_of c) (filter (λ _. t) (y ∷ []) ++ others p q (suc n) gs) ≡ map (kept_of a)
+        (filter (λ _. t) (x ∷ []) ++ others p q (suc n) fs))
+        × (flat_map file_owns (filter (λ _. t) (y ∷ []) ++ others p q (suc n) gs) ≡ flat_map file_owns
+        (filter (λ _. t) (x ∷ []) ++ others p q (suc n) fs))
     step true same rest = (λ i. stay-kept a c x y same i ∷ rest.0 i, λ i. stay-owns a c x y same i ++ rest.1 i)
     step false same rest = rest
 
@@ -120,8 +136,15 @@ on-repair old new f h x =
     let requests : records new r.0 ≡ records old h.requests_file = stay-records old new h.requests_file r.0 r.2 in
     let pair = stay-others old new h.stock_place h.requests_place 0 l.files m.files e in
     let alone = stay-others old new h.stock_place h.stock_place 0 l.files m.files e in
-    let same : rest_of old l h.stock_place h.requests_place h.requests_file ≡ rest_of new m h.stock_place h.requests_place r.0
-    = λ i. record { files = sym pair.0 i; header = sym x.same.header i; count = length (sym requests i); past = drop 64 (sym requests i) } in
+    let same : rest_of old l h.stock_place h.requests_place h.requests_file ≡ rest_of new m h.stock_place
+    h.requests_place r.0
+    = λ i. record {
+      files = sym pair.0 i;
+      header = sym x.same.header i;
+      count = length (sym requests i);
+      past =
+          drop 64 (sym requests i);
+    } in
     record {
       layout = m;
       is_layout = x.sound;
@@ -137,9 +160,16 @@ on-repair old new f h x =
       requests = h.requests ∙ sym requests;
       blocks = h.blocks ∙ ap (λ (y : Stays). length y.blocks) (sym s.2);
       rest = h.rest ∙ same;
-      top = top-kept l m h.stock_place f.top (ap (λ (ps : List Place). length (filter (λ (p : Place). not (nat_eq p.track 18)) ps)) alone.1) h.top;
+      top = top-kept l m h.stock_place f.top
+          (ap (λ (ps : List Place). length (filter (λ (p : Place). not (nat_eq p.track 18)) ps)) alone.1) h.top;
     }
 
 -- so it is the same shop's
 pub repair-shop : (old new : Image) (s : Shop) (x : IsShop old s) → IsMended old x.has.layout new → IsShop new s
-repair-shop old new s x y = record { files = x.files; has = on-repair old new x.files x.has y; records = x.records; is = x.is }
+repair-shop old new s x y = record {
+  files = x.files;
+  has = on-repair old new x.files x.has y;
+  records = x.records;
+  is =
+      x.is;
+}

@@ -1,5 +1,6 @@
 -- The new quantities that an answer gives, and what they make of the cards.
-use Rattle.std.proofs.Common.{ℕ, ◌≡◌, ◌≢◌, ◌⊎◌, inl, inr, List, [], ◌∷◌, None, Option, Some, true, IsTrue, ap, refl, subst, sym, ◌∙◌}
+use Rattle.std.proofs.Common.{ℕ, ◌≡◌, ◌≢◌, ◌⊎◌, inl, inr, List, [], ◌∷◌, None, Option, Some, true, IsTrue, ap, refl}
+use Rattle.std.proofs.Common.{subst, sym, ◌∙◌}
 use Rattle.std.specs.Prelude.{Contains, IsSome, is_some}
 use Rattle.std.proofs.lemmas.Bool.{cases_eq, eq-eqb, false≢true, ne_eqb}
 use Rattle.std.proofs.lemmas.Option.{none-some}
@@ -14,7 +15,8 @@ use Rattle.host_session.specs.Judged.{no_cards}
 use Rattle.host_session.specs.Shop.{items, overlaid}
 
 -- a move's answer is kept for a move, which has an item to go to
-pub moved-to : (c : Card) (h g : ℕ) → IsCard c → c.newest.answer ≡ answers.Moved h g → to_of c.newest.body ≡ Some c.newest.body.to
+pub moved-to : (c : Card) (h g : ℕ) → IsCard c → c.newest.answer ≡ answers.Moved h g
+    → to_of c.newest.body ≡ Some c.newest.body.to
 moved-to c h g fits e =
     let P : Answer → Type 0 = λ a. IsTrue (goes_with c.newest.body.kind a) in
     let is_move : same_kind c.newest.body.kind Move ≡ true = subst P e fits.newest.fits in
@@ -22,7 +24,8 @@ moved-to c h g fits e =
 
 -- Each item has a new quantity, whatever its card was, or none, and then its card stays.
 abbrev pub Overlays : List (ℕ × ℕ) → ℕ → Type 0
-Overlays rs item = (Contains (items rs) item × ((f g : Cards) → overlaid rs f item ≡ overlaid rs g item) × ((f : Cards) → IsSome (overlaid rs f item)))
+Overlays rs item = (Contains (items rs) item × ((f g : Cards) → overlaid rs f item ≡ overlaid rs g item)
+    × ((f : Cards) → IsSome (overlaid rs f item)))
     ⊎ (¬ (Contains (items rs) item) × ((f : Cards) → overlaid rs f item ≡ f item))
 
 pub overlays : (rs : List (ℕ × ℕ)) (item : ℕ) → Overlays rs item
@@ -36,9 +39,11 @@ overlays (r ∷ rs) item = elim (overlays rs item) [
   | inr (none, under) ↦ by none under (cases_eq item r.0)
 ]
   where
-    by : ¬ (Contains (items rs) item) → ((f : Cards) → overlaid rs f item ≡ f item) → (item ≡ r.0) ⊎ (item ≢ r.0) → Overlays (r ∷ rs) item
+    by : ¬ (Contains (items rs) item) → ((f : Cards) → overlaid rs f item ≡ f item) → (item ≡ r.0) ⊎ (item ≢ r.0)
+        → Overlays (r ∷ rs) item
     by none under (inl e) =
-        let now : (f : Cards) → overlaid rs (put f r.0 (Some r.1)) item ≡ Some r.1 = λ f. under (put f r.0 (Some r.1)) ∙ rw (eq-eqb item r.0 e) refl in
+        let now : (f : Cards) → overlaid rs (put f r.0 (Some r.1)) item ≡ Some r.1 = λ f. under (put f r.0 (Some r.1))
+        ∙ rw (eq-eqb item r.0 e) refl in
         inl (
           subst (λ (k : ℕ). Contains (r.0 ∷ items rs) k) (sym e) (Contains-here r.0 (items rs)),
           λ f g. now f ∙ sym (now g),
@@ -51,7 +56,8 @@ overlays (r ∷ rs) item = elim (overlays rs item) [
 
 -- where an item has a new quantity, that is what is on hand, and else what was
 module _ (rs : List (ℕ × ℕ)) (item : ℕ) (f : Cards) where
-  pub given-some : (q : ℕ) → overlaid rs no_cards item ≡ Some q → Contains (items rs) item × (overlaid rs f item ≡ Some q)
+  pub given-some : (q : ℕ) → overlaid rs no_cards item ≡ Some q → Contains (items rs) item
+      × (overlaid rs f item ≡ Some q)
   given-some q e = elim (overlays rs item) [
     | inl (has, same, some) ↦ (has, same f no_cards ∙ e)
     | inr (none, under) ↦ absurd (none-some q (sym (under no_cards) ∙ e))

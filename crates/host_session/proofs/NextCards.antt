@@ -1,5 +1,6 @@
 -- The card of a till's next request on a disk at rest, and what else is known of a message.
-use Rattle.std.proofs.Common.{◌≡◌, ℕ, zero, suc, ◌≤◌, ◌+◌, true, List, [], ◌∷◌, length, map, take, Option, Some, None, inr, refl, sym, ◌∙◌, ap, arith, subst}
+use Rattle.std.proofs.Common.{◌≡◌, ℕ, zero, suc, ◌≤◌, ◌+◌, true, List, [], ◌∷◌, length, map, take, Option, Some, None}
+use Rattle.std.proofs.Common.{inr, refl, sym, ◌∙◌, ap, arith, subst}
 use Rattle.std.specs.Prelude.{IfSome, IsSome, codes, nat_le, option_map, option_to_list, ◌==◌}
 use Rattle.std.proofs.lemmas.Bool.{and_parts, eqb-true, leb-true}
 use Rattle.std.proofs.lemmas.List.{length-map, length-take}
@@ -40,9 +41,11 @@ message-sums start message = by (request_of message) refl
     by (Some a) e = sums_hold start (a ∷ []) (All-push IsAsk [] a (All-nil IsAsk) (message-ask message a e))
 
 -- the answer to a request in a shop at rest can stand on a card
-pub next-entry : (img : Image) (s : Shop) → IsSettled img s → (a : Ask) → IsAsk a → IsEntry (entry_of (a, answer_of s a))
+pub next-entry : (img : Image) (s : Shop) → IsSettled img s → (a : Ask) → IsAsk a
+    → IsEntry (entry_of (a, answer_of s a))
 next-entry img s x a is =
-    answer_is_kept a (s.state.ledger.cards a.body.item) (s.state.ledger.cards a.body.to) (room_for s.top a.body.item) is (settled-few img s x a.body.item) (settled-few img s x a.body.to)
+    answer_is_kept a (s.state.ledger.cards a.body.item) (s.state.ledger.cards a.body.to) (room_for s.top a.body.item) is
+    (settled-few img s x a.body.item) (settled-few img s x a.body.to)
 
 -- what is read as a till's card is one
 read-card : (bytes : List ℕ) → IfSome (request_card_of bytes) IsCard
@@ -59,7 +62,8 @@ cards-are (x ∷ xs) (suc zero) = read-card x
 cards-are (x ∷ xs) (suc (suc n)) = cards-are xs (suc n)
 
 -- the entry behind the newest, where the request is the next one
-second-fits : (o : Option Card) (number : ℕ) → IfSome o IsCard → number ≡ number_of (option_map (λ (c : Card). c.newest) o) + 1
+second-fits : (o : Option Card) (number : ℕ) → IfSome o IsCard
+    → number ≡ number_of (option_map (λ (c : Card). c.newest) o) + 1
     → IfSome (option_map (λ (c : Card). c.newest) o) (λ (e : Entry). IsEntry e × (e.number + 1 ≡ number))
 second-fits None number is e = tt
 second-fits (Some c) number is e = (is.newest, sym e)
@@ -73,13 +77,18 @@ next_of s a = record {
   second = s.state.ledger.kept a.till;
 }
 
-module _ (img : Image) (s : Shop) (x : IsSettled img s) (a : Ask) (is : IsAsk a) (next : next_in (start_of s) s.state a ≡ true) where
-  keeps : (next_in (start_of (shop_of x.shop.files)) (shop_of x.shop.files).state a ≡ true) → IsEntry (entry_of (a, answer_of (shop_of x.shop.files) a)) → IsKeeping x.shop.files a (next_of (shop_of x.shop.files) a)
+module _ (img : Image) (s : Shop) (x : IsSettled img s) (a : Ask) (is : IsAsk a)
+    (next : next_in (start_of s) s.state a ≡ true) where
+  keeps : (next_in (start_of (shop_of x.shop.files)) (shop_of x.shop.files).state a ≡ true)
+      → IsEntry (entry_of (a, answer_of (shop_of x.shop.files) a))
+      → IsKeeping x.shop.files a (next_of (shop_of x.shop.files) a)
   keeps next entry =
       let g = x.shop.files in
-      let two = and_parts (nat_le a.till (length (cards_in g.requests))) (a.number == number_of ((shop_of g).state.ledger.kept a.till) + 1) next in
+      let two = and_parts (nat_le a.till (length (cards_in g.requests)))
+      (a.number == number_of ((shop_of g).state.ledger.kept a.till) + 1) next in
       let low : a.till ≤ length (cards_in g.requests) = leb-true a.till (length (cards_in g.requests)) two.0 in
-      let number : a.number ≡ number_of ((shop_of g).state.ledger.kept a.till) + 1 = eqb-true a.number (number_of ((shop_of g).state.ledger.kept a.till) + 1) two.1 in
+      let number : a.number ≡ number_of ((shop_of g).state.ledger.kept a.till) + 1 =
+      eqb-true a.number (number_of ((shop_of g).state.ledger.kept a.till) + 1) two.1 in
       record {
         records = x.shop.records;
         no_intent = x.no_intent;
@@ -92,7 +101,8 @@ module _ (img : Image) (s : Shop) (x : IsSettled img s) (a : Ask) (is : IsAsk a)
           old = λ e. absurd (omega (arith, e));
           newest = entry;
           intent = λ e. e;
-          second = second-fits (card_at (cards_in g.requests) a.till) a.number (cards-are (take 64 g.requests) a.till) number;
+          second = second-fits (card_at (cards_in g.requests) a.till) a.number (cards-are (take 64 g.requests) a.till)
+              number;
         };
         version = refl;
         newest = refl;
@@ -105,16 +115,24 @@ module _ (img : Image) (s : Shop) (x : IsSettled img s) (a : Ask) (is : IsAsk a)
   keeping-next c e =
       let g = x.shop.files in
       let same : s ≡ shop_of g = sym x.shop.is in
-      let kept = keeps (subst (λ (t : Shop). next_in (start_of t) t.state a ≡ true) same next) (subst (λ (t : Shop). IsEntry (entry_of (a, answer_of t a))) same (next-entry img s x a is)) in
-      (g, x.shop.has, x.shop.is, subst (λ (d : Card). IsKeeping g a d) (sym (e ∙ ap (λ (t : Shop). next_of t a) same)) kept)
+      let kept = keeps (subst (λ (t : Shop). next_in (start_of t) t.state a ≡ true) same next)
+      (subst (λ (t : Shop). IsEntry (entry_of (a, answer_of t a))) same (next-entry img s x a is)) in (
+        g,
+        x.shop.has,
+        x.shop.is,
+        subst (λ (d : Card). IsKeeping g a d) (sym (e ∙ ap (λ (t : Shop). next_of t a) same))
+            kept,
+      )
 
 -- an item that has a card on a disk at rest has a place in a session's table
-pub table-within : (img : Image) (s : Shop) → IsImage img → IsSettled img s → (k : ℕ) → IsSome (s.state.ledger.cards k) → IsInTable k
+pub table-within : (img : Image) (s : Shop) → IsImage img → IsSettled img s → (k : ℕ) → IsSome (s.state.ledger.cards k)
+    → IsInTable k
 table-within img s whole x k some =
     let g = x.shop.files in
     let h = x.shop.has in
     let there = card-record g.stock k (subst (λ (cards : Cards). IsSome (cards k)) (settled-cards img s x) some) in
     let (low, high) = record-within g.stock k there in
-    let fits = (placed-fits img (codes "STOCK") k h.layout h.stock_place h.stock_file whole (card-placed img g h k low high)).1 in
+    let fits = (placed-fits img (codes "STOCK") k h.layout h.stock_place h.stock_file whole
+    (card-placed img g h k low high)).1 in
     let few : blocks_for 18 k ≤ 720 = subst (λ (L : ℕ). blocks_for L k ≤ 720) h.stock_length fits in
     (low, omega (arith, few))

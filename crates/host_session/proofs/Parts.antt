@@ -1,5 +1,6 @@
 -- What one message may count.
-use Rattle.std.proofs.Common.{◌≡◌, ◌≢◌, ◌<◌, ◌⊎◌, ⊎_elim, ℕ, zero, suc, Bool, true, false, List, [], ◌∷◌, Option, Some, None, refl, inl, inr, arith, MatchBool}
+use Rattle.std.proofs.Common.{◌≡◌, ◌≢◌, ◌<◌, ◌⊎◌, ⊎_elim, ℕ, zero, suc, Bool, true, false, List, [], ◌∷◌, Option, Some}
+use Rattle.std.proofs.Common.{None, refl, inl, inr, arith, MatchBool}
 use Rattle.std.specs.Prelude.{◌&&◌, nat_lt, option_to_list}
 use Rattle.request_cards.specs.Requests.{Ask}
 use Rattle.request_cards.specs.Ledgers.{State, Start, after_message}
@@ -38,19 +39,23 @@ out_or true false a x y = cc
 out_or false c a x y = cc
 
 -- a first set that was cut early may be out
-pub first_set_out : (top : ℕ) (state : State) (a : Ask) (n : ℕ) (failed : Bool) → is_first_set state top a ≡ true → n < 7206
+pub first_set_out : (top : ℕ) (state : State) (a : Ask) (n : ℕ) (failed : Bool) → is_first_set state top a ≡ true
+    → n < 7206
     → MayCount top state (Some a) (Some n) failed []
 first_set_out top state a zero failed first early = refl
 first_set_out top state a (suc n) true first early = inr refl
-first_set_out top state a (suc n) false first early = out_or (is_first_set state top a) (nat_lt (suc n) 7206) a first (grind (arith))
+first_set_out top state a (suc n) false first early = out_or (is_first_set state top a) (nat_lt (suc n) 7206) a first
+    (grind (arith))
 
 -- the state after what a whole message counts
-pub after_whole : (start : Start) (state : State) (o : Option Ask) → after_all start state (option_to_list o) ≡ after_message start state o
+pub after_whole : (start : Start) (state : State) (o : Option Ask)
+    → after_all start state (option_to_list o) ≡ after_message start state o
 after_whole start state None = refl
 after_whole start state (Some a) = refl
 
 -- a message counts nothing, or, where power was there for a write, whole
-pub counted_either : (top : ℕ) (state : State) (o : Option Ask) (after : Option ℕ) (failed : Bool) (c : List Ask) → MayCount top state o after failed c
+pub counted_either : (top : ℕ) (state : State) (o : Option Ask) (after : Option ℕ) (failed : Bool) (c : List Ask)
+    → MayCount top state o after failed c
     → (c ≡ []) ⊎ ((after ≢ Some 0) × (c ≡ option_to_list o))
 counted_either top state None after failed c h = inl h
 counted_either top state (Some a) None false c h = inr (λ e. cc, h)
@@ -64,7 +69,8 @@ counted_either top state (Some a) (Some (suc n)) false c h = pick (is_first_set 
     pick false x = inr (λ z. cc, x)
 
 -- what counts where the device didn't fail may count where it did
-pub counts_failed : (top : ℕ) (state : State) (o : Option Ask) (after : Option ℕ) (failed : Bool) (c : List Ask) → MayCount top state o after failed c
+pub counts_failed : (top : ℕ) (state : State) (o : Option Ask) (after : Option ℕ) (failed : Bool) (c : List Ask)
+    → MayCount top state o after failed c
     → MayCount top state o after true c
 counts_failed top state None after failed c h = h
 counts_failed top state (Some a) None false c h = inl h

@@ -1,5 +1,6 @@
 -- Replies that are printed.
-use Rattle.std.proofs.Common.{◌≡◌, ◌+◌, ◌++◌, ℕ, zero, suc, List, [], ◌∷◌, Ok, Err, Option, refl, sym, subst, ◌∙◌, ap, arith, take, drop}
+use Rattle.std.proofs.Common.{◌≡◌, ◌+◌, ◌++◌, ℕ, zero, suc, List, [], ◌∷◌, Ok, Err, Option, refl, sym, subst, ◌∙◌, ap}
+use Rattle.std.proofs.Common.{arith, take, drop}
 use Rattle.std.specs.Prelude.{OnErr, OnOk, Result}
 use Rattle.std.proofs.lemmas.List.{take_all}
 use Rattle.std.specs.Io.KnownBytes.{Appends}
@@ -19,26 +20,31 @@ take_more zero m xs = let same : 0 + m ≡ m = omega arith in ap (λ k. take k x
 take_more (suc n) m [] =
     let on : suc n + m ≡ suc (n + m) = omega arith in ap (λ k. take k []) on ∙ sym (take_all m [] (omega arith))
 take_more (suc n) m (x ∷ xs) =
-    let on : suc n + m ≡ suc (n + m) = omega arith in ap (λ k. take k (x ∷ xs)) on ∙ ap (λ ys. x ∷ ys) (take_more n m xs)
+    let on : suc n + m ≡ suc (n + m) = omega arith in ap (λ k. take k (x ∷ xs)) on
+    ∙ ap (λ ys. x ∷ ys) (take_more n m xs)
 
 pub told_more : {X : Type 0} (xs : List (Reply × X)) (x : Reply × X) → told_in (xs ++ x ∷ []) ≡ told_in xs ++ x.0 ∷ []
 told_more [] x = refl
 told_more (y ∷ xs) x = ap (λ rs. y.0 ∷ rs) (told_more xs x)
 
 -- what a printer was told, by what its writer took
-pub is_printed : {W E : Type 0} (contents : W → Option (List ℕ)) (old new : Printer W) (reply : Reply) (i : Instant) (r : Result Unit E)
+pub is_printed : {W E : Type 0} (contents : W → Option (List ℕ)) (old new : Printer W) (reply : Reply) (i : Instant)
+    (r : Result Unit E)
     → OnOk r (Appends (contents (printer_out old)) (contents (printer_out new)) (line_of reply))
     → OnErr r ((n : ℕ) × Appends (contents (printer_out old)) (contents (printer_out new)) (take n (line_of reply)))
     → IsTold (printed contents) old new reply i r
 is_printed contents old new reply i (Ok x) wrote failed = (
-  λ first xs before. subst (λ rs. Appends (contents (printer_out first)) (contents (printer_out new)) (report rs)) (sym (told_more xs (reply, i)))
-      (written_more (contents (printer_out first)) (contents (printer_out old)) (contents (printer_out new)) (told_in xs) reply before wrote),
+  λ first xs before. subst (λ rs. Appends (contents (printer_out first)) (contents (printer_out new)) (report rs))
+      (sym (told_more xs (reply, i)))
+      (written_more (contents (printer_out first)) (contents (printer_out old)) (contents (printer_out new))
+      (told_in xs) reply before wrote),
   omega arith,
 )
 is_printed contents old new reply i (Err x) wrote failed = (
   λ first xs before. (
     failed.0,
-    Appends-trans (contents (printer_out first)) (contents (printer_out old)) (contents (printer_out new)) (report (told_in xs)) (take failed.0 (line_of reply)) before failed.1,
+    Appends-trans (contents (printer_out first)) (contents (printer_out old)) (contents (printer_out new))
+        (report (told_in xs)) (take failed.0 (line_of reply)) before failed.1,
   ),
   refl,
 )

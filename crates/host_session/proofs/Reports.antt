@@ -1,5 +1,6 @@
 -- One reply more, written on a line of its own.
-use Rattle.std.proofs.Common.{◌≡◌, ℕ, ◌+◌, List, [], ◌∷◌, ◌++◌, Option, Some, None, refl, subst, sym, ◌∙◌, ap, append_assoc, append-nil, Ok, Err, true}
+use Rattle.std.proofs.Common.{◌≡◌, ℕ, ◌+◌, List, [], ◌∷◌, ◌++◌, Option, Some, None, refl, subst, sym, ◌∙◌, ap}
+use Rattle.std.proofs.Common.{append_assoc, append-nil, Ok, Err, true}
 use Rattle.std.proofs.lemmas.List.{map-append}
 use Rattle.std.specs.Prelude.{IsSome, codes, if◌then◌else◌, is_none, option_map, option_to_list, OnOk, is_ok, Result}
 use Rattle.std.specs.Io.KnownBytes.{Appends}
@@ -21,30 +22,40 @@ wrote_line (Err e) A is wrote = cc
 
 report_more : (told : List Reply) (r : Reply) → report (told ++ r ∷ []) ≡ report told ++ (reply_text r ++ codes "\n")
 report_more [] r = append-nil (reply_text r ++ codes "\n")
-report_more (x ∷ told) r = ap (λ rs. reply_text x ++ codes "\n" ++ rs) (report_more told r) ∙ sym (append_assoc (reply_text x ++ codes "\n") (report told) (reply_text r ++ codes "\n"))
+report_more (x ∷ told) r = ap (λ rs. reply_text x ++ codes "\n" ++ rs) (report_more told r)
+    ∙ sym (append_assoc (reply_text x ++ codes "\n") (report told) (reply_text r ++ codes "\n"))
 
 -- an event's message is that of its line
 pub same_message : (e : Event) → message_in (line_in e) ≡ message_of e
 same_message e = pick e.cut
   where
-    pick : (c : Option Cut) → message_in (record { message = e.message.now; reset = option_map (λ (x : Cut). (x.after, x.recoveries.items)) c }) ≡ record { bytes = e.message.now; cut_after = option_map (λ (x : Cut). x.after) c }
+    pick : (c : Option Cut)
+        → message_in (record {
+          message = e.message.now;
+          reset = option_map (λ (x : Cut). (x.after, x.recoveries.items))
+              c;
+        }) ≡ record { bytes = e.message.now; cut_after = option_map (λ (x : Cut). x.after) c }
     pick None = refl
     pick (Some c) = refl
 
 -- where no line is bad, each has its event
-pub good_line : (line : List ℕ) (ls : List (List ℕ)) → first_bad (line ∷ ls) ≡ None → IsSome (line_of line) × (first_bad ls ≡ None)
+pub good_line : (line : List ℕ) (ls : List (List ℕ)) → first_bad (line ∷ ls) ≡ None → IsSome (line_of line)
+    × (first_bad ls ≡ None)
 good_line line ls none = pick (line_of line) (first_bad ls) none
   where
-    pick : (l : Option Line) (more : Option ℕ) → (if is_none l then Some 1 else option_map (λ n. n + 1) more) ≡ None → IsSome l × (more ≡ None)
+    pick : (l : Option Line) (more : Option ℕ) → (if is_none l then Some 1 else option_map (λ n. n + 1) more) ≡ None
+        → IsSome l × (more ≡ None)
     pick None more e = cc
     pick (Some l) None e = (refl, refl)
     pick (Some l) (Some n) e = cc
 
 -- what was written, with one reply more on a line of its own
-pub written_more : (a b c : Option (List ℕ)) (told : List Reply) (reply : Reply) → Appends a b (report told) → Appends b c (reply_text reply ++ codes "\n")
+pub written_more : (a b c : Option (List ℕ)) (told : List Reply) (reply : Reply) → Appends a b (report told)
+    → Appends b c (reply_text reply ++ codes "\n")
     → Appends a c (report (told ++ reply ∷ []))
 written_more a b c told reply before now =
-    subst (Appends a c) (sym (report_more told reply)) (Appends-trans a b c (report told) (reply_text reply ++ codes "\n") before now)
+    subst (Appends a c) (sym (report_more told reply))
+    (Appends-trans a b c (report told) (reply_text reply ++ codes "\n") before now)
 
 -- the message of a line that was taken, and the lines behind it
 pub line_taken : (ls rest : List (List ℕ)) (line : List ℕ) (m : Message) → ls ≡ line ∷ rest

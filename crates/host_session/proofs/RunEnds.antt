@@ -1,5 +1,6 @@
 -- How a run over a source and an output ended, or that it was refused.
-use Rattle.std.proofs.Common.{◌≡◌, ◌+◌, ◌++◌, ◌⊎◌, ⊎_elim, List, [], ◌∷◌, Ok, Err, refl, subst, ap, inl, inr, append-nil}
+use Rattle.std.proofs.Common.{◌≡◌, ◌+◌, ◌++◌, ◌⊎◌, ⊎_elim, List, [], ◌∷◌, Ok, Err, refl, subst, ap, inl, inr}
+use Rattle.std.proofs.Common.{append-nil}
 use Rattle.std.specs.Prelude.{Result}
 use Rattle.d64_image.proofs.Moments.{never_failed}
 use Rattle.d64_image.specs.History.{History, NeverFailed}
@@ -30,7 +31,8 @@ module _ {D A T : Type 0} (h : History D) (a : Source A) (o : Output T) (from : 
     abbrev IsQuietTo : List Message → D → Shop → Type 0
     IsQuietTo ms left t = AskNothing t ms → IsQuiet h t ms from.disk left
 
-    by_input : (left : D) → EndsBy h a o from asks out left faults.Input → IsRun h a o from.disk from.asks asks from.out out (Err (faults.Input, left))
+    by_input : (left : D) → EndsBy h a o from asks out left faults.Input
+        → IsRun h a o from.disk from.asks asks from.out out (Err (faults.Input, left))
     by_input left e = record {
       taken = e.0;
       takes = e.1;
@@ -39,7 +41,8 @@ module _ {D A T : Type 0} (h : History D) (a : Source A) (o : Output T) (from : 
       input = λ s is _. (e.2, subst (λ t. IsRunWhole h o t e.0 from.disk left from.out out) (same s is) e.3);
       output = λ s is (is_input : faults.Input ≡ faults.Output). cc;
       device = λ s is (is_input : faults.Input ≡ faults.Device). cc;
-      moments = λ s is. subst (λ t. HeldBeginnings h t (messages_in e.0) from.disk left) (same s is) (whole h from.shop (messages_in e.0) e.3.0.turns from.disk left e.3.0.run).1;
+      moments = λ s is. subst (λ t. HeldBeginnings h t (messages_in e.0) from.disk left) (same s is)
+          (whole h from.shop (messages_in e.0) e.3.0.turns from.disk left e.3.0.run).1;
       quiet = λ s is. subst (IsQuietTo (messages_in e.0) left) (same s is)
           (λ asks. quiet_run h from.shop (messages_in e.0) e.3.0.turns from.disk left asks e.3.0.run);
       plays = λ shop never. inl refl;
@@ -48,7 +51,8 @@ module _ {D A T : Type 0} (h : History D) (a : Source A) (o : Output T) (from : 
       after = λ _. (from.shop, is_shop);
     }
 
-    by_output : (left : D) → EndsBy h a o from asks out left faults.Output → IsRun h a o from.disk from.asks asks from.out out (Err (faults.Output, left))
+    by_output : (left : D) → EndsBy h a o from asks out left faults.Output
+        → IsRun h a o from.disk from.asks asks from.out out (Err (faults.Output, left))
     by_output left e = record {
       taken = e.0;
       takes = e.1;
@@ -68,7 +72,8 @@ module _ {D A T : Type 0} (h : History D) (a : Source A) (o : Output T) (from : 
       after = λ _. (from.shop, is_shop);
     }
 
-    by_device : (left : D) → EndsBy h a o from asks out left faults.Device → IsRun h a o from.disk from.asks asks from.out out (Err (faults.Device, left))
+    by_device : (left : D) → EndsBy h a o from asks out left faults.Device
+        → IsRun h a o from.disk from.asks asks from.out out (Err (faults.Device, left))
     by_device left e =
         let failed = run_failed h from.shop (messages_in e.0) e.2.0.turns e.2.0.last from.disk left e.2.0.run in
         record {
@@ -80,24 +85,28 @@ module _ {D A T : Type 0} (h : History D) (a : Source A) (o : Output T) (from : 
           output = λ s is (is_device : faults.Device ≡ faults.Output). cc;
           device = λ s is _. subst (λ t. IsRunToDevice h o t e.0 from.disk left from.out out) (same s is) e.2;
           moments = λ s is. subst (λ t. HeldBeginnings h t (messages_in e.0) from.disk left) (same s is)
-              (at_device h from.shop (messages_in e.0) [] (messages_in e.0) e.2.0.turns e.2.0.last from.disk left (append-nil (messages_in e.0)) e.2.0.run).1;
+              (at_device h from.shop (messages_in e.0) [] (messages_in e.0) e.2.0.turns e.2.0.last from.disk left
+              (append-nil (messages_in e.0)) e.2.0.run).1;
           quiet = λ s is. subst (IsQuietTo (messages_in e.0) left) (same s is)
               (λ asks. quiet_to_failure h from.shop (messages_in e.0) e.2.0.turns e.2.0.last from.disk left asks
               e.2.0.run);
           plays = λ shop never. absurd (never_failed h _ _ never failed);
           «open» = λ f (is_device : faults.Device ≡ faults.Open f). cc;
           cause = λ _. ((from.shop, is_shop), failed);
-          after = λ is. ⊎_elim (λ (x : faults.Device ≡ faults.Input). cc) (λ (x : faults.Device ≡ faults.Output). cc) is;
+          after = λ is. ⊎_elim (λ (x : faults.Device ≡ faults.Input). cc) (λ (x : faults.Device ≡ faults.Output). cc)
+              is;
         }
 
-    run_by : (left : D) (f : LoopFault) → EndsBy h a o from asks out left f → IsRun h a o from.disk from.asks asks from.out out (Err (f, left))
+    run_by : (left : D) (f : LoopFault) → EndsBy h a o from asks out left f
+        → IsRun h a o from.disk from.asks asks from.out out (Err (f, left))
     run_by left (faults.Open f) e = absurd e
     run_by left faults.Input e = by_input left e
     run_by left faults.Output e = by_output left e
     run_by left faults.Device e = by_device left e
 
     -- a run that was opened has ended
-    pub run_ended : (result : Result D (LoopFault × D)) → Ends h a o from asks out result → IsRun h a o from.disk from.asks asks from.out out result
+    pub run_ended : (result : Result D (LoopFault × D)) → Ends h a o from asks out result
+        → IsRun h a o from.disk from.asks asks from.out out result
     run_ended (Ok left) e = record {
       taken = e.0;
       takes = e.1;
@@ -106,7 +115,8 @@ module _ {D A T : Type 0} (h : History D) (a : Source A) (o : Output T) (from : 
       input = λ s is. tt;
       output = λ s is. tt;
       device = λ s is. tt;
-      moments = λ s is. subst (λ t. HeldBeginnings h t (messages_in e.0) from.disk left) (same s is) (whole h from.shop (messages_in e.0) e.3.0.turns from.disk left e.3.0.run).1;
+      moments = λ s is. subst (λ t. HeldBeginnings h t (messages_in e.0) from.disk left) (same s is)
+          (whole h from.shop (messages_in e.0) e.3.0.turns from.disk left e.3.0.run).1;
       quiet = λ s is. subst (IsQuietTo (messages_in e.0) left) (same s is)
           (λ asks. quiet_run h from.shop (messages_in e.0) e.3.0.turns from.disk left asks e.3.0.run);
       plays = λ shop never. tt;
@@ -122,10 +132,12 @@ opened_with (faults.Open f) = f
 opened_with _ = openings.Device
 
 -- a run that was refused
-pub run_refused : {D A T : Type 0} (h : History D) (a : Source A) (o : Output T) (disk left : D) (asks : A) (out : T) (f : OpenFault)
+pub run_refused : {D A T : Type 0} (h : History D) (a : Source A) (o : Output T) (disk left : D) (asks : A) (out : T)
+    (f : OpenFault)
     → IsRefused h disk f left → ((s : Shop) → IsShop (h.image disk) s → HeldBeginnings h s [] disk left)
     → ((s : Shop) → IsSettled (h.image disk) s → Untouched h disk left)
-    → (IsAShop (h.image disk) → NeverFailed h disk left → ⊥) → IsRun h a o disk asks asks out out (Err (faults.Open f, left))
+    → (IsAShop (h.image disk) → NeverFailed h disk left → ⊥)
+    → IsRun h a o disk asks asks out out (Err (faults.Open f, left))
 run_refused h a o disk left asks out f refused held quiet fails = record {
   taken = [];
   takes = a.none asks;

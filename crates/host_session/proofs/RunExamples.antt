@@ -31,7 +31,8 @@ abbrev pub AreCounted : List ℕ → List Bool → List (List Ask) → Type 0
 AreCounted script fails counted = IsCounted two_tills [] (messages_of (lines script)) fails counted
 
 -- power goes before the first write: the message never was
-pub cut_at_none_counts_not : told (codes "@0 1,1,R,7,5\n1,1,R,7,6\n") (false ∷ false ∷ []) ([] ∷ (receive 6 ∷ []) ∷ []) ≡ codes "CUT\n1,1,NO CARD\n"
+pub cut_at_none_counts_not : told (codes "@0 1,1,R,7,5\n1,1,R,7,6\n") (false ∷ false ∷ [])
+    ([] ∷ (receive 6 ∷ []) ∷ []) ≡ codes "CUT\n1,1,NO CARD\n"
 unfolding reset_of request_of number_before kind_before number_in amounts kind_of plain digits
 cut_at_none_counts_not = refl
 
@@ -40,7 +41,8 @@ unfolding reset_of request_of number_before kind_before number_in amounts kind_o
 and_may_not_count x = let e : receive 5 ∷ [] ≡ [] = x.0 in cc
 
 -- its answer is kept with one write: the number is used up
-pub refused_request_counts_once_written : told (codes "@1 1,1,R,7,5\n1,1,R,7,6\n1,1,R,7,5\n") (false ∷ false ∷ false ∷ [])
+pub refused_request_counts_once_written : told (codes "@1 1,1,R,7,5\n1,1,R,7,6\n1,1,R,7,5\n")
+    (false ∷ false ∷ false ∷ [])
     ((receive 5 ∷ []) ∷ (receive 6 ∷ []) ∷ (receive 5 ∷ []) ∷ []) ≡ codes "CUT\n1,1,CLASH\n1,1,NO CARD\n"
 unfolding reset_of request_of number_before kind_before number_in amounts kind_of plain digits
 refused_request_counts_once_written = refl
@@ -50,17 +52,20 @@ unfolding reset_of request_of number_before kind_before number_in amounts kind_o
 and_may_not_drop_out x = let e : [] ≡ receive 5 ∷ [] = x.0 in cc
 
 -- a first set cut early may have counted, or not
-pub first_set_counted : told (codes "@1 1,1,S,1,5\n2,1,I,1,5\n1,1,S,1,5\n") (false ∷ false ∷ false ∷ []) ((set ∷ []) ∷ (issue ∷ []) ∷ (set ∷ []) ∷ [])
+pub first_set_counted : told (codes "@1 1,1,S,1,5\n2,1,I,1,5\n1,1,S,1,5\n") (false ∷ false ∷ false ∷ [])
+    ((set ∷ []) ∷ (issue ∷ []) ∷ (set ∷ []) ∷ [])
     ≡ codes "CUT\n2,1,DONE,0\n1,1,DONE,5\n"
 unfolding reset_of request_of number_before kind_before number_in amounts kind_of plain digits
 first_set_counted = refl
 
-pub first_set_not_counted : told (codes "@1 1,1,S,1,5\n2,1,I,1,5\n1,1,S,1,5\n") (false ∷ false ∷ false ∷ []) ([] ∷ (issue ∷ []) ∷ (set ∷ []) ∷ [])
+pub first_set_not_counted : told (codes "@1 1,1,S,1,5\n2,1,I,1,5\n1,1,S,1,5\n") (false ∷ false ∷ false ∷ [])
+    ([] ∷ (issue ∷ []) ∷ (set ∷ []) ∷ [])
     ≡ codes "CUT\n2,1,NO CARD\n1,1,DONE,5\n"
 unfolding reset_of request_of number_before kind_before number_in amounts kind_of plain digits
 first_set_not_counted = refl
 
-pub both_are_allowed : AreCounted (codes "@1 1,1,S,1,5\n") (false ∷ []) ((set ∷ []) ∷ []) × AreCounted (codes "@1 1,1,S,1,5\n") (false ∷ []) ([] ∷ [])
+pub both_are_allowed : AreCounted (codes "@1 1,1,S,1,5\n") (false ∷ []) ((set ∷ []) ∷ [])
+    × AreCounted (codes "@1 1,1,S,1,5\n") (false ∷ []) ([] ∷ [])
 unfolding reset_of request_of number_before kind_before number_in amounts kind_of plain digits
 both_are_allowed = ((inl refl, tt), (inr refl, tt))
 

@@ -11,7 +11,8 @@ use Rattle.host_session.specs.Runs.{IsRefused}
 use Rattle.host_session.specs.Shop.{IsShop, Shop}
 
 -- a fault of opening other than the device's holds whether or not that failed
-holds_anyway : (failed : Type 0) (img : Image) (fault : OpenFault) → fault ≢ faults.Device → Refuses failed img fault → Refuses ⊥ img fault
+holds_anyway : (failed : Type 0) (img : Image) (fault : OpenFault) → fault ≢ faults.Device → Refuses failed img fault
+    → Refuses ⊥ img fault
 holds_anyway failed img (faults.Layout fault) other refused = refused
 holds_anyway failed img faults.NoStock other refused = refused
 holds_anyway failed img faults.NoRequests other refused = refused
@@ -21,8 +22,10 @@ holds_anyway failed img (faults.BadCard item) other refused = refused
 holds_anyway failed img faults.Device other refused = absurd (other refl)
 
 -- a shop is refused for the device alone
-pub refused_none : (failed : Type 0) (img : Image) (s : Shop) (fault : OpenFault) → Refuses failed img fault → fault ≢ faults.Device → IsShop img s → ⊥
-refused_none failed img s fault refused other = refused-no_shop img fault s (holds_anyway failed img fault other refused)
+pub refused_none : (failed : Type 0) (img : Image) (s : Shop) (fault : OpenFault) → Refuses failed img fault
+    → fault ≢ faults.Device → IsShop img s → ⊥
+refused_none failed img s fault refused other =
+    refused-no_shop img fault s (holds_anyway failed img fault other refused)
 
 module _ {D : Type 0} (h : History D) where
   pub opening_refused : (old new : D) (f : OpenFault) → Refuses (Failed h old new) (h.image old) f
@@ -36,7 +39,8 @@ module _ {D : Type 0} (h : History D) where
     unfit = unfit;
   }
 
-  pub opening_failed : (old new : D) (f : OpenFault) → Refuses (Failed h old new) (h.image old) f → IsAShop (h.image old)
+  pub opening_failed : (old new : D) (f : OpenFault) → Refuses (Failed h old new) (h.image old) f
+      → IsAShop (h.image old)
       → ((f ≡ faults.Device) × Failed h old new) ⊎ ((f ≢ faults.Device) × (h.failures new ≡ h.failures old))
       → NeverFailed h old new → ⊥
   opening_failed old new f refused shop fails never = ⊎_elim
@@ -45,5 +49,6 @@ module _ {D : Type 0} (h : History D) where
       fails
 
   pub opening_later : (old new : D) (f : OpenFault)
-      → ((f ≡ faults.Device) × Failed h old new) ⊎ ((f ≢ faults.Device) × (h.failures new ≡ h.failures old)) → h.failures old ≤ h.failures new
+      → ((f ≡ faults.Device) × Failed h old new) ⊎ ((f ≢ faults.Device) × (h.failures new ≡ h.failures old))
+      → h.failures old ≤ h.failures new
   opening_later old new f fails = ⊎_elim (λ x. x.1.later) (λ x. omega (arith, x.1)) fails

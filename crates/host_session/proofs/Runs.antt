@@ -1,5 +1,6 @@
 -- A run, event by event.
-use Rattle.std.proofs.Common.{◌≡◌, ◌≢◌, ◌≤◌, ◌+◌, ⊎_elim, ℕ, Bool, true, false, List, [], ◌∷◌, ◌++◌, Option, Some, None, refl, sym, subst, ◌∙◌, ap, arith, append_assoc, append-nil}
+use Rattle.std.proofs.Common.{◌≡◌, ◌≢◌, ◌≤◌, ◌+◌, ⊎_elim, ℕ, Bool, true, false, List, [], ◌∷◌, ◌++◌, Option, Some, None}
+use Rattle.std.proofs.Common.{refl, sym, subst, ◌∙◌, ap, arith, append_assoc, append-nil}
 use Rattle.std.specs.Prelude.{option_to_list, if◌then◌else◌, is_some}
 use Rattle.std.proofs.lemmas.Grind.{flat_map-append}
 use Rattle.d64_image.specs.Images.{Image}
@@ -17,12 +18,15 @@ use Rattle.host_session.specs.Counted.{IsCounted, MayCount, NoneGotMedia, after_
 use Rattle.host_session.specs.Events.{Message}
 use Rattle.host_session.specs.Handling.{media}
 use Rattle.host_session.specs.OneEvent.{EndsFailed, GoesOn, IsEvent, IsInEvent}
-use Rattle.host_session.specs.Runs.{HeldBeginnings, IsBlamed, IsPlayedWhole, IsSomeBeginning, StoppedByDevice, StoppedByOutput, blamed}
+use Rattle.host_session.specs.Runs.{HeldBeginnings, IsBlamed, IsPlayedWhole, IsSomeBeginning, StoppedByDevice}
+use Rattle.host_session.specs.Runs.{StoppedByOutput, blamed}
 use Rattle.host_session.specs.Shop.{IsSettled, IsShop, Shop, start_of, with_state}
 
 -- what one more message counts goes to the end
-counted_more : (start : Start) (before : List Ask) (ms : List Message) (fs : List Bool) (cs : List (List Ask)) (m : Message) (f : Bool) (c : List Ask)
-    → IsCounted start before ms fs cs → MayCount start.top (plain start (before ++ all_of cs)) (request_of m.bytes) m.cut_after f c
+counted_more : (start : Start) (before : List Ask) (ms : List Message) (fs : List Bool) (cs : List (List Ask))
+    (m : Message) (f : Bool) (c : List Ask)
+    → IsCounted start before ms fs cs → MayCount start.top (plain start (before ++ all_of cs)) (request_of m.bytes)
+    m.cut_after f c
     → IsCounted start before (ms ++ m ∷ []) (fs ++ f ∷ []) (cs ++ c ∷ [])
 counted_more start before [] [] [] m f c h k = (rw append-nil at k, tt)
 counted_more start before (n ∷ ms) (g ∷ fs) (d ∷ cs) m f c h k =
@@ -33,19 +37,23 @@ counted_more start before (n ∷ ms) [] cs m f c h k = absurd h
 counted_more start before (n ∷ ms) (g ∷ fs) [] m f c h k = absurd h
 
 -- and so does its reply
-answers_more : (start : Start) (before : List Ask) (ms : List Message) (fs : List Bool) (cs : List (List Ask)) (m : Message) (f : Bool) (c : List Ask)
+answers_more : (start : Start) (before : List Ask) (ms : List Message) (fs : List Bool) (cs : List (List Ask))
+    (m : Message) (f : Bool) (c : List Ask)
     → IsCounted start before ms fs cs
-    → answers start before (ms ++ m ∷ []) (fs ++ f ∷ []) (cs ++ c ∷ []) ≡ answers start before ms fs cs ++ answer start (plain start (before ++ all_of cs)) m f ∷ []
+    → answers start before (ms ++ m ∷ []) (fs ++ f ∷ []) (cs ++ c ∷ []) ≡ answers start before ms fs cs ++ answer start
+    (plain start (before ++ all_of cs)) m f ∷ []
 answers_more start before [] [] [] m f c h = ap (λ b. answer start (plain start b) m f ∷ []) (sym (append-nil before))
 answers_more start before (n ∷ ms) (g ∷ fs) (d ∷ cs) m f c h =
     ap (λ rs. answer start (plain start before) n g ∷ rs) (answers_more start (before ++ d) ms fs cs m f c h.1
-    ∙ ap (λ b. answers start (before ++ d) ms fs cs ++ answer start (plain start b) m f ∷ []) (append_assoc before d (all_of cs)))
+    ∙ ap (λ b. answers start (before ++ d) ms fs cs ++ answer start (plain start b) m f ∷ [])
+    (append_assoc before d (all_of cs)))
 answers_more start before [] [] (d ∷ cs) m f c h = absurd h
 answers_more start before [] (g ∷ fs) cs m f c h = absurd h
 answers_more start before (n ∷ ms) [] cs m f c h = absurd h
 answers_more start before (n ∷ ms) (g ∷ fs) [] m f c h = absurd h
 
-answered_more : (ms : List Message) (fs : List Bool) (m : Message) (f : Bool) → NoneGotMedia ms fs → (m.cut_after ≡ None → f ≡ false)
+answered_more : (ms : List Message) (fs : List Bool) (m : Message) (f : Bool) → NoneGotMedia ms fs
+    → (m.cut_after ≡ None → f ≡ false)
     → NoneGotMedia (ms ++ m ∷ []) (fs ++ f ∷ [])
 answered_more [] [] m f h k = (k, tt)
 answered_more (n ∷ ms) (g ∷ fs) m f h k = (h.0, answered_more ms fs m f h.1 k)
@@ -55,7 +63,8 @@ answered_more (n ∷ ms) [] m f h k = absurd h
 blamed_more : (fs : List Bool) (f : Bool) → blamed (fs ++ f ∷ []) ≡ blamed fs + (if f then 1 else 0)
 blamed_more [] true = refl
 blamed_more [] false = refl
-blamed_more (g ∷ fs) f = ap (λ n. (if g then 1 else 0) + n) (blamed_more fs f) ∙ +-assoc' (if g then 1 else 0) (blamed fs) (if f then 1 else 0)
+blamed_more (g ∷ fs) f = ap (λ n. (if g then 1 else 0) + n) (blamed_more fs f)
+    ∙ +-assoc' (if g then 1 else 0) (blamed fs) (if f then 1 else 0)
   where
     +-assoc' : (x y z : ℕ) → x + (y + z) ≡ x + y + z
     +-assoc' x y z = omega arith
@@ -71,24 +80,30 @@ plain_part start before (a ∷ c) =
 all_more : (cs : List (List Ask)) (c : List Ask) → all_of (cs ++ c ∷ []) ≡ all_of cs ++ c
 all_more cs c = flat_map-append (λ (x : List Ask). x) cs (c ∷ []) ∙ ap (λ xs. all_of cs ++ xs) (append-nil c)
 
-pub state_more : (start : Start) (cs : List (List Ask)) (c : List Ask) → plain start (all_of (cs ++ c ∷ [])) ≡ after_all start (plain start (all_of cs)) c
+pub state_more : (start : Start) (cs : List (List Ask)) (c : List Ask)
+    → plain start (all_of (cs ++ c ∷ [])) ≡ after_all start (plain start (all_of cs)) c
 state_more start cs c = ap (plain start) (all_more cs c) ∙ plain_part start (all_of cs) c
 
 -- a session goes on from the state that it found: the limits of the start alone count
-goes_on : (s : Shop) (state : State) (o : Option Ask) → after_message (start_of (with_state s state)) state o ≡ after_message (start_of s) state o
+goes_on : (s : Shop) (state : State) (o : Option Ask)
+    → after_message (start_of (with_state s state)) state o ≡ after_message (start_of s) state o
 goes_on s state None = refl
 goes_on s state (Some a) = refl
 
-replies_on : (s : Shop) (state : State) (m : Message) (f : Bool) → answer (start_of (with_state s state)) state m f ≡ answer (start_of s) state m f
+replies_on : (s : Shop) (state : State) (m : Message) (f : Bool)
+    → answer (start_of (with_state s state)) state m f ≡ answer (start_of s) state m f
 replies_on s state m f = pick (request_of m.bytes)
   where
-    pick : (o : Option Ask) → (if is_some m.cut_after then Cut else (if f then media o else reply_in (start_of (with_state s state)) state o))
+    pick : (o : Option Ask)
+        → (if is_some m.cut_after then Cut else (if f then media o else reply_in (start_of (with_state s state)) state
+        o))
         ≡ (if is_some m.cut_after then Cut else (if f then media o else reply_in (start_of s) state o))
     pick None = refl
     pick (Some a) = refl
 
 -- what was told, with the reply to one message more
-told_more : (s : Shop) (ms : List Message) (m : Message) (told : List Reply) (reply : Reply) (f : Bool) (c : List Ask) (fs : List Bool) (cs : List (List Ask))
+told_more : (s : Shop) (ms : List Message) (m : Message) (told : List Reply) (reply : Reply) (f : Bool) (c : List Ask)
+    (fs : List Bool) (cs : List (List Ask))
     → told ≡ answers (start_of s) [] ms fs cs → IsCounted (start_of s) [] ms fs cs
     → reply ≡ answer (start_of (with_state s (plain (start_of s) (all_of cs)))) (plain (start_of s) (all_of cs)) m f
     → told ++ reply ∷ [] ≡ answers (start_of s) [] (ms ++ m ∷ []) (fs ++ f ∷ []) (cs ++ c ∷ [])
@@ -99,16 +114,21 @@ told_more s ms m told reply f c fs cs is counted so =
 
 module _ {D : Type 0} (h : History D) where
   -- blame for earlier failures stands
-  blame_later : (old mid new : D) (fs : List Bool) → IsBlamed h old mid fs → h.failures mid ≤ h.failures new → IsBlamed h old new fs
+  blame_later : (old mid new : D) (fs : List Bool) → IsBlamed h old mid fs → h.failures mid ≤ h.failures new
+      → IsBlamed h old new fs
   blame_later old mid new fs blame later = λ lt. omega (arith, blame (omega (arith, later, lt)), later)
 
-  blame_more : (old mid new : D) (fs : List Bool) (f : Bool) → IsBlamed h old mid fs → h.failures mid ≤ h.failures new → (f ≡ true → Failed h mid new)
+  blame_more : (old mid new : D) (fs : List Bool) (f : Bool) → IsBlamed h old mid fs → h.failures mid ≤ h.failures new
+      → (f ≡ true → Failed h mid new)
       → IsBlamed h old new (fs ++ f ∷ [])
-  blame_more old mid new fs false blame later failed = λ lt. omega (arith, blame (omega (arith, later, lt)), later, blamed_more fs false)
-  blame_more old mid new fs true blame later failed = λ lt. omega (arith, blame (omega (arith, later, lt)), (failed refl).rose lt, blamed_more fs true)
+  blame_more old mid new fs false blame later failed =
+      λ lt. omega (arith, blame (omega (arith, later, lt)), later, blamed_more fs false)
+  blame_more old mid new fs true blame later failed =
+      λ lt. omega (arith, blame (omega (arith, later, lt)), (failed refl).rose lt, blamed_more fs true)
 
   -- a beginning of these messages is one of more
-  begins_more : (s : Shop) (ms : List Message) (m : Message) (old mid new : D) (i : Image) → h.failures mid ≤ h.failures new
+  begins_more : (s : Shop) (ms : List Message) (m : Message) (old mid new : D) (i : Image)
+      → h.failures mid ≤ h.failures new
       → IsSomeBeginning s ms (IsBlamed h old mid) i → IsSomeBeginning s (ms ++ m ∷ []) (IsBlamed h old new) i
   begins_more s ms m old mid new i later x = record {
     begun = x.begun;
@@ -123,9 +143,11 @@ module _ {D : Type 0} (h : History D) where
   }
 
   -- an image on the way through the next event is one of a beginning
-  way_begins : (s : Shop) (ms : List Message) (m : Message) (old mid new : D) (told : List Reply) (i : Image) → h.failures mid ≤ h.failures new
+  way_begins : (s : Shop) (ms : List Message) (m : Message) (old mid new : D) (told : List Reply) (i : Image)
+      → h.failures mid ≤ h.failures new
       → (p : IsPlayedWhole h s ms old mid told)
-      → IsInEvent (with_state s (plain (start_of s) (all_of p.counted))) m i → IsSomeBeginning s (ms ++ m ∷ []) (IsBlamed h old new) i
+      → IsInEvent (with_state s (plain (start_of s) (all_of p.counted))) m i
+      → IsSomeBeginning s (ms ++ m ∷ []) (IsBlamed h old new) i
   way_begins s ms m old mid new told i later p = ⊎_elim
       (λ before. record {
         begun = ms;
@@ -160,26 +182,30 @@ module _ {D : Type 0} (h : History D) where
   HasPlayed s ms old new told = IsPlayedWhole h s ms old new told × HeldBeginnings h s ms old new
 
   -- the shop on which the next message finds itself
-  abbrev pub now_of : (s : Shop) (ms : List Message) (old new : D) (told : List Reply) → HasPlayed s ms old new told → Shop
+  abbrev pub now_of : (s : Shop) (ms : List Message) (old new : D) (told : List Reply) → HasPlayed s ms old new told
+      → Shop
   now_of s ms old new told p = with_state s (plain (start_of s) (all_of p.0.counted))
 
   -- before the first message
-  pub held_none : (s : Shop) (messages : List Message) (old new : D) → HeldOnly h old new (λ i. IsShop i s) → h.failures old ≤ h.failures new
+  pub held_none : (s : Shop) (messages : List Message) (old new : D) → HeldOnly h old new (λ i. IsShop i s)
+      → h.failures old ≤ h.failures new
       → HeldBeginnings h s messages old new
-  held_none s messages old new held later = weaker h old new (λ i. IsShop i s) (IsSomeBeginning s messages (IsBlamed h old new)) (λ i x. record {
-    begun = [];
-    rest = messages;
-    parts = refl;
-    fails = [];
-    counted = [];
-    is = tt;
-    whole = tt;
-    blame = λ lt. omega (arith, later);
-    shop = subst (λ state. IsShop i (with_state s state)) (sym (plain_nil (start_of s))) x;
-  }) held
+  held_none s messages old new held later =
+      weaker h old new (λ i. IsShop i s) (IsSomeBeginning s messages (IsBlamed h old new)) (λ i x. record {
+        begun = [];
+        rest = messages;
+        parts = refl;
+        fails = [];
+        counted = [];
+        is = tt;
+        whole = tt;
+        blame = λ lt. omega (arith, later);
+        shop = subst (λ state. IsShop i (with_state s state)) (sym (plain_nil (start_of s))) x;
+      }) held
 
   -- nothing has been played
-  pub none_played : (s : Shop) (old new : D) → HeldOnly h old new (λ i. IsShop i s) → h.failures old ≤ h.failures new → IsSettled (h.image new) s
+  pub none_played : (s : Shop) (old new : D) → HeldOnly h old new (λ i. IsShop i s) → h.failures old ≤ h.failures new
+      → IsSettled (h.image new) s
       → HasPlayed s [] old new []
   none_played s old new held later settled = (
     record {
@@ -196,18 +222,23 @@ module _ {D : Type 0} (h : History D) where
   )
 
   -- the moments, with those of one message more
-  moments_more : (s : Shop) (ms : List Message) (m : Message) (old mid new : D) (told : List Reply) → h.failures mid ≤ h.failures new
-      → (p : HasPlayed s ms old mid told) → HeldOnly h mid new (IsInEvent (now_of s ms old mid told p) m) → HeldBeginnings h s (ms ++ m ∷ []) old new
+  moments_more : (s : Shop) (ms : List Message) (m : Message) (old mid new : D) (told : List Reply)
+      → h.failures mid ≤ h.failures new
+      → (p : HasPlayed s ms old mid told) → HeldOnly h mid new (IsInEvent (now_of s ms old mid told p) m)
+      → HeldBeginnings h s (ms ++ m ∷ []) old new
   moments_more s ms m old mid new told later p held =
       (then) h old mid new (IsSomeBeginning s (ms ++ m ∷ []) (IsBlamed h old new))
-      (weaker h old mid (IsSomeBeginning s ms (IsBlamed h old mid)) (IsSomeBeginning s (ms ++ m ∷ []) (IsBlamed h old new))
+      (weaker h old mid (IsSomeBeginning s ms (IsBlamed h old mid))
+      (IsSomeBeginning s (ms ++ m ∷ []) (IsBlamed h old new))
       (λ i x. begins_more s ms m old mid new i later x) p.1)
-      (weaker h mid new (IsInEvent (now_of s ms old mid told p) m) (IsSomeBeginning s (ms ++ m ∷ []) (IsBlamed h old new))
+      (weaker h mid new (IsInEvent (now_of s ms old mid told p) m)
+      (IsSomeBeginning s (ms ++ m ∷ []) (IsBlamed h old new))
       (λ i x. way_begins s ms m old mid new told i later p.0 x) held)
 
   -- one message more
   pub one_played : (s : Shop) (ms : List Message) (m : Message) (old mid new : D) (told : List Reply) (reply : Reply)
-      → (p : HasPlayed s ms old mid told) → IsEvent h (now_of s ms old mid told p) m mid new (GoesOn h (now_of s ms old mid told p) m reply new)
+      → (p : HasPlayed s ms old mid told)
+      → IsEvent h (now_of s ms old mid told p) m mid new (GoesOn h (now_of s ms old mid told p) m reply new)
       → HasPlayed s (ms ++ m ∷ []) old new (told ++ reply ∷ [])
   one_played s ms m old mid new told reply p e =
       let w = p.0 in
@@ -220,27 +251,34 @@ module _ {D : Type 0} (h : History D) where
           blame = blame_more old mid new w.fails e.failed w.blame e.later e.blame;
           sums = sums_counted (start_of s) (ms ++ m ∷ []) (w.fails ++ e.failed ∷ []) (w.counted ++ e.counted ∷ []) is;
           told_is = told_more s ms m told reply e.failed e.counted w.fails w.counted w.told_is w.is e.ends.told;
-          ends = subst (λ x. IsSettled (h.image new) (with_state s x)) (sym (state_more (start_of s) w.counted e.counted)) e.ends.settled;
+          ends = subst (λ x. IsSettled (h.image new) (with_state s x))
+              (sym (state_more (start_of s) w.counted e.counted)) e.ends.settled;
         },
         moments_more s ms m old mid new told e.later p e.moments,
       )
 
   -- the shop after no message, and after one more
-  pub now_none : (s : Shop) (old new : D) (held : HeldOnly h old new (λ i. IsShop i s)) (later : h.failures old ≤ h.failures new) (settled : IsSettled (h.image new) s)
+  pub now_none : (s : Shop) (old new : D) (held : HeldOnly h old new (λ i. IsShop i s))
+      (later : h.failures old ≤ h.failures new) (settled : IsSettled (h.image new) s)
       → now_of s [] old new [] (none_played s old new held later settled) ≡ s
   unfolding none_played
   now_none s old new held later settled = ap (λ state. with_state s state) (plain_nil (start_of s))
 
   pub now_more : (s : Shop) (ms : List Message) (m : Message) (old mid new : D) (told : List Reply) (reply : Reply)
-      → (p : HasPlayed s ms old mid told) → (e : IsEvent h (now_of s ms old mid told p) m mid new (GoesOn h (now_of s ms old mid told p) m reply new))
+      → (p : HasPlayed s ms old mid told)
+      → (e : IsEvent h (now_of s ms old mid told p) m mid new (GoesOn h (now_of s ms old mid told p) m reply new))
       → now_of s (ms ++ m ∷ []) old new (told ++ reply ∷ []) (one_played s ms m old mid new told reply p e)
-      ≡ with_state (now_of s ms old mid told p) (after_all (start_of (now_of s ms old mid told p)) (now_of s ms old mid told p).state e.counted)
+      ≡ with_state (now_of s ms old mid told p) (after_all (start_of (now_of s ms old mid told p))
+      (now_of s ms old mid told p).state e.counted)
   unfolding one_played
-  now_more s ms m old mid new told reply p e = ap (λ state. with_state s state) (state_more (start_of s) p.0.counted e.counted)
+  now_more s ms m old mid new told reply p e =
+      ap (λ state. with_state s state) (state_more (start_of s) p.0.counted e.counted)
 
   -- moments of a beginning are moments of the whole
-  pub held_of_more : (s : Shop) (ms rest all : List Message) (old new : D) → ms ++ rest ≡ all → HeldBeginnings h s ms old new → HeldBeginnings h s all old new
-  held_of_more s ms rest all old new is held = weaker h old new (IsSomeBeginning s ms (IsBlamed h old new)) (IsSomeBeginning s all (IsBlamed h old new))
+  pub held_of_more : (s : Shop) (ms rest all : List Message) (old new : D) → ms ++ rest ≡ all
+      → HeldBeginnings h s ms old new → HeldBeginnings h s all old new
+  held_of_more s ms rest all old new is held = weaker h old new (IsSomeBeginning s ms (IsBlamed h old new))
+      (IsSomeBeginning s all (IsBlamed h old new))
       (λ i x. record {
         begun = x.begun;
         rest = x.rest ++ rest;
@@ -254,13 +292,18 @@ module _ {D : Type 0} (h : History D) where
       }) held
 
   -- one message more of all of them, and it was the last that could be
-  pub and_no_more : (s : Shop) (ms rest all : List Message) (old new : D) (told : List Reply) → ms ++ rest ≡ all → ms ≢ [] → HasPlayed s ms old new told
+  pub and_no_more : (s : Shop) (ms rest all : List Message) (old new : D) (told : List Reply) → ms ++ rest ≡ all
+      → ms ≢ [] → HasPlayed s ms old new told
       → StoppedByOutput h s all old new told × HeldBeginnings h s all old new
-  and_no_more s ms rest all old new told parts some p =
-      (record { begun = ms; rest = rest; parts = parts; some = some; played = p.0 }, held_of_more s ms rest all old new parts p.1)
+  and_no_more s ms rest all old new told parts some p = (
+    record { begun = ms; rest = rest; parts = parts; some = some; played = p.0 },
+    held_of_more s ms rest all old new
+        parts p.1,
+  )
 
   -- one message more of all of them, in which the device failed
-  pub stopped : (s : Shop) (ms rest all : List Message) (m : Message) (old mid new : D) (told : List Reply) (reply : Reply)
+  pub stopped : (s : Shop) (ms rest all : List Message) (m : Message) (old mid new : D) (told : List Reply)
+      (reply : Reply)
       → (p : HasPlayed s ms old mid told) → (ms ++ m ∷ []) ++ rest ≡ all
       → IsEvent h (now_of s ms old mid told p) m mid new (EndsFailed h (now_of s ms old mid told p) m reply new)
       → StoppedByDevice h s all old new (told ++ reply ∷ []) × HeldBeginnings h s all old new
@@ -287,7 +330,8 @@ module _ {D : Type 0} (h : History D) where
             blame = blame_more old mid new w.fails e.failed w.blame e.later e.blame;
             sums = sums_counted (start_of s) (ms ++ m ∷ []) (w.fails ++ e.failed ∷ []) (w.counted ++ e.counted ∷ []) is;
             told_is = told_more s ms m told reply e.failed e.counted w.fails w.counted w.told_is w.is e.ends.told;
-            ends = subst (λ x. IsShop (h.image new) (with_state s x)) (sym (state_more (start_of s) w.counted e.counted)) e.ends.shop;
+            ends = subst (λ x. IsShop (h.image new) (with_state s x))
+                (sym (state_more (start_of s) w.counted e.counted)) e.ends.shop;
           };
         },
         held_of_more s (ms ++ m ∷ []) rest all old new parts (moments_more s ms m old mid new told e.later p e.moments),

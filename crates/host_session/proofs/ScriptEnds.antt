@@ -1,5 +1,6 @@
 -- What a run over the lines of a script comes to.
-use Rattle.std.proofs.Common.{◌≡◌, ◌≢◌, ◌++◌, ◌∙◌, ⊎_elim, ℕ, List, [], ◌∷◌, None, Some, Ok, Err, refl, sym, subst, ap, arith, inl, inr, length, append-nil}
+use Rattle.std.proofs.Common.{◌≡◌, ◌≢◌, ◌++◌, ◌∙◌, ⊎_elim, ℕ, List, [], ◌∷◌, None, Some, Ok, Err, refl, sym, subst, ap}
+use Rattle.std.proofs.Common.{arith, inl, inr, length, append-nil}
 use Rattle.std.proofs.lemmas.Option.{none-some}
 use Rattle.d64_image.specs.History.{History}
 use Rattle.script_lines.specs.Lines.{lines}
@@ -32,20 +33,24 @@ abbrev opened_with : ScriptFault → OpenFault
 opened_with (ends.Open f) = f
 opened_with _ = openings.Device
 
-module _ {D T : Type 0} (h : History D) (o : Output T) (disk : D) (script : List ℕ) (asked asks : OfScript) (old new : T)
+module _ {D T : Type 0} (h : History D) (o : Output T) (disk : D) (script : List ℕ) (asked asks : OfScript)
+    (old new : T)
     (is_all : asked.left.now ≡ script) (none : first_bad (lines script) ≡ None) where
   -- the messages that were taken, and those of the lines that are left
   parts : (taken : List (Message × Instant)) → of_script.gives asked asks taken
       → messages_in taken ++ messages_of (lines asks.left.now) ≡ messages_of (lines script)
-  parts taken takes = sym (takes (ap (λ xs. first_bad (lines xs)) is_all ∙ none)).1 ∙ ap (λ xs. messages_of (lines xs)) is_all
+  parts taken takes = sym (takes (ap (λ xs. first_bad (lines xs)) is_all ∙ none)).1
+      ∙ ap (λ xs. messages_of (lines xs)) is_all
 
   no_line : (n : ℕ) → first_bad (lines script) ≡ Some n → ⊥
   no_line n e = none-some n (sym none ∙ e)
 
-  pub played_out : (left : D) → IsRun h of_script o disk asked asks old new (Ok left) → IsScriptRun h o disk script old new (Ok left)
+  pub played_out : (left : D) → IsRun h of_script o disk asked asks old new (Ok left)
+      → IsScriptRun h o disk script old new (Ok left)
   played_out left k =
       let all : messages_in k.taken ≡ messages_of (lines script) =
-      sym (ap (λ ls. messages_in k.taken ++ messages_of ls) k.shop.1 ∙ append-nil (messages_in k.taken)) ∙ parts k.taken k.takes in
+      sym (ap (λ ls. messages_in k.taken ++ messages_of ls) k.shop.1 ∙ append-nil (messages_in k.taken))
+      ∙ parts k.taken k.takes in
       record {
         bad_line = λ n e. absurd (no_line n e);
         good = tt;
@@ -57,7 +62,8 @@ module _ {D T : Type 0} (h : History D) (o : Output T) (disk : D) (script : List
         without_resets = λ s is no.
             let run : IsToldWhole h o s (messages_of (lines script)) disk left old new =
             subst (λ ms. IsToldWhole h o s ms disk left old new) all (k.ok s is).0 in
-            let q = plain_played h s (lines script) disk left (told_in run.turns) no (whole h s (messages_of (lines script)) run.turns disk left run.run).0 in
+            let q = plain_played h s (lines script) disk left (told_in run.turns) no
+            (whole h s (messages_of (lines script)) run.turns disk left run.run).0 in
             (record { turns = over_instants h run.turns; is = run.told; replies = told_over h run.turns ∙ q.0 }, q.1);
         output = λ s is. tt;
         device = λ s is. tt;
@@ -86,9 +92,11 @@ module _ {D T : Type 0} (h : History D) (o : Output T) (disk : D) (script : List
     without_resets = λ s is no. tt;
     output = λ s is (e : ends.Open f ≡ ends.Output). cc;
     device = λ s is (e : ends.Open f ≡ ends.Device). cc;
-    moments = λ s is. held_of_more h s (messages_in k.taken) (messages_of (lines asks.left.now)) (messages_of (lines script)) disk left (parts k.taken k.takes) (k.moments s is);
+    moments = λ s is. held_of_more h s (messages_in k.taken) (messages_of (lines asks.left.now))
+        (messages_of (lines script)) disk left (parts k.taken k.takes) (k.moments s is);
     quiet = still left (runs.Open f) k;
-    plays = λ shop never. ⊎_elim (λ (e : runs.Open f ≡ runs.Input). cc) (λ (e : runs.Open f ≡ runs.Output). cc) (k.plays shop never);
+    plays = λ shop never. ⊎_elim (λ (e : runs.Open f ≡ runs.Input). cc) (λ (e : runs.Open f ≡ runs.Output). cc)
+        (k.plays shop never);
     «open» = λ x e. let y = k.«open» x (ap runs.Open (ap opened_with e)) in (y.0, y.3);
     cause = λ (e : ends.Open f ≡ ends.Device). cc;
     after = λ (e : ends.Open f ≡ ends.Output). cc;
@@ -110,11 +118,13 @@ module _ {D T : Type 0} (h : History D) (o : Output T) (disk : D) (script : List
           rest = messages_of (lines asks.left.now);
           parts = parts k.taken k.takes;
           run = x;
-          stopped = (at_output h s (messages_in k.taken) (messages_of (lines asks.left.now)) (messages_of (lines script)) (x.turns ++ x.last ∷ []) disk left
+          stopped = (at_output h s (messages_in k.taken) (messages_of (lines asks.left.now))
+              (messages_of (lines script)) (x.turns ++ x.last ∷ []) disk left
               (parts k.taken k.takes) some x.run).0;
         };
     device = λ s is (e : ends.Output ≡ ends.Device). cc;
-    moments = λ s is. held_of_more h s (messages_in k.taken) (messages_of (lines asks.left.now)) (messages_of (lines script)) disk left (parts k.taken k.takes) (k.moments s is);
+    moments = λ s is. held_of_more h s (messages_in k.taken) (messages_of (lines asks.left.now))
+        (messages_of (lines script)) disk left (parts k.taken k.takes) (k.moments s is);
     quiet = still left runs.Output k;
     plays = λ shop never. inr refl;
     «open» = λ f (e : ends.Output ≡ ends.Open f). cc;
@@ -138,12 +148,15 @@ module _ {D T : Type 0} (h : History D) (o : Output T) (disk : D) (script : List
           rest = messages_of (lines asks.left.now);
           parts = parts k.taken k.takes;
           run = x;
-          stopped = (at_device h s (messages_in k.taken) (messages_of (lines asks.left.now)) (messages_of (lines script)) x.turns x.last disk left
+          stopped = (at_device h s (messages_in k.taken) (messages_of (lines asks.left.now))
+              (messages_of (lines script)) x.turns x.last disk left
               (parts k.taken k.takes) x.run).0;
         };
-    moments = λ s is. held_of_more h s (messages_in k.taken) (messages_of (lines asks.left.now)) (messages_of (lines script)) disk left (parts k.taken k.takes) (k.moments s is);
+    moments = λ s is. held_of_more h s (messages_in k.taken) (messages_of (lines asks.left.now))
+        (messages_of (lines script)) disk left (parts k.taken k.takes) (k.moments s is);
     quiet = still left runs.Device k;
-    plays = λ shop never. ⊎_elim (λ (e : runs.Device ≡ runs.Input). cc) (λ (e : runs.Device ≡ runs.Output). cc) (k.plays shop never);
+    plays = λ shop never. ⊎_elim (λ (e : runs.Device ≡ runs.Input). cc) (λ (e : runs.Device ≡ runs.Output). cc)
+        (k.plays shop never);
     «open» = λ f (e : ends.Device ≡ ends.Open f). cc;
     cause = λ _. k.cause refl;
     after = λ (e : ends.Device ≡ ends.Output). cc;

@@ -22,7 +22,8 @@ use Rattle.request_cards.specs.Trade.{last_card}
 use Rattle.host_session.specs.Found.{AreFilesOf, IsFileNamed}
 use Rattle.host_session.specs.Opening.{HasFileOf, LacksFileOf}
 
-module _ (img : Image) (l : Layout) (h : IsLayout img l) (name : List ℕ) (long : ℕ) (v : RelFile) (found : (f : File) × IsFirst l name (entry_of v) f × IsFileOf img l (entry_of v) f v) where
+module _ (img : Image) (l : Layout) (h : IsLayout img l) (name : List ℕ) (long : ℕ) (v : RelFile) (found : (f : File)
+    × IsFirst l name (entry_of v) f × IsFileOf img l (entry_of v) f v) where
   pub named-found : length_of v ≡ long → IsFileNamed img l name long v
   named-found e = record { file = found.0; first = found.1; of = found.2; is_long = sym found.2.shows.size ∙ e }
 
@@ -30,17 +31,21 @@ module _ (img : Image) (l : Layout) (h : IsLayout img l) (name : List ℕ) (long
   named-lacks ne = record {
     layout = l;
     is_layout = h;
-    other = λ place file first e. ne (found.2.shows.size ∙ ap (λ (f : File). record_length f.slot) (IsFirst-one l name (entry_of v) place found.0 file found.1 first).1 ∙ e);
+    other = λ place file first e. ne (found.2.shows.size
+        ∙ ap (λ (f : File). record_length f.slot) (IsFirst-one l name (entry_of v) place found.0 file found.1 first).1
+        ∙ e);
   }
 
 -- so many sectors are open to a file: its greatest record number
-pub top-of : (l : Layout) (n outside : ℕ) → outside + taken_by_others l n ≡ 664 → IsTop l n (last_card (outside - (outside + 120) / 121))
+pub top-of : (l : Layout) (n outside : ℕ) → outside + taken_by_others l n ≡ 664
+    → IsTop l n (last_card (outside - (outside + 120) / 121))
 top-of l n outside e = IsTop-last l n (last_card (outside - (outside + 120) / 121))
     (record { number = omega (arith, e); blocks = omega (arith, e); room = omega (arith, e) })
     (λ fits. omega (arith, e, fits.room))
 
 -- a fault that the device isn't told for holds wherever the device failed
-pub told-nowhere : (failed_at : Place → Type 0) (img : Image) (fault : Fault) → ((p : Place) → fault ≢ faults.Device p) → Holds failed_at img fault → Holds nowhere img fault
+pub told-nowhere : (failed_at : Place → Type 0) (img : Image) (fault : Fault) → ((p : Place) → fault ≢ faults.Device p)
+    → Holds failed_at img fault → Holds nowhere img fault
 told-nowhere failed_at img (faults.BadLink p) ne h = h
 told-nowhere failed_at img (faults.Loop p) ne h = h
 told-nowhere failed_at img (faults.OwnedTwice p) ne h = h
@@ -53,14 +58,26 @@ told-nowhere failed_at img (faults.MapWrong p) ne h = h
 told-nowhere failed_at img (faults.Device p) ne h = absurd (ne p refl)
 
 -- a file that was found, as the judging of opening says it
-pub has-file : (img : Image) (l : Layout) (name : List ℕ) (long : ℕ) (v : RelFile) → IsLayout img l → IsFileNamed img l name long v → HasFileOf img name long
-has-file img l name long v h x = record { layout = l; is_layout = h; place = entry_of v; file = x.file; first = x.first; is_long = x.is_long }
+pub has-file : (img : Image) (l : Layout) (name : List ℕ) (long : ℕ) (v : RelFile) → IsLayout img l
+    → IsFileNamed img l name long v → HasFileOf img name long
+has-file img l name long v h x = record {
+  layout = l;
+  is_layout = h;
+  place = entry_of v;
+  file = x.file;
+  first =
+      x.first;
+  is_long = x.is_long;
+}
 
-pub entry-below : (img : Image) (l : Layout) (name : List ℕ) (long : ℕ) (v : RelFile) (s : Survey) → IsFileNamed img l name long v → IsSurveyOf l s → entry_of v < entries_of s
-entry-below img l name long v s x told = omega (arith, told.entries, slice_get_within l.files (entry_of v) x.file x.first.file)
+pub entry-below : (img : Image) (l : Layout) (name : List ℕ) (long : ℕ) (v : RelFile) (s : Survey)
+    → IsFileNamed img l name long v → IsSurveyOf l s → entry_of v < entries_of s
+entry-below img l name long v s x told =
+    omega (arith, told.entries, slice_get_within l.files (entry_of v) x.file x.first.file)
 
 -- the files of both, with the records that they have
-pub files-found : (img : Image) (l : Layout) (x : LedgerFiles) → IsLayout img l → IsFileNamed img l (codes "STOCK") 18 x.stock → IsFileNamed img l (codes "REQUESTS") 127 x.requests
+pub files-found : (img : Image) (l : Layout) (x : LedgerFiles) → IsLayout img l
+    → IsFileNamed img l (codes "STOCK") 18 x.stock → IsFileNamed img l (codes "REQUESTS") 127 x.requests
     → IsTop l (entry_of x.stock) x.top → (f : Files) × AreFilesOf img f x
 files-found img l x h s r t = (
   record {
@@ -95,13 +112,15 @@ files-found img l x h s r t = (
 )
 
 -- what was found in an image that is the same
-pub named-some : (a b : Image) (l : Layout) (name : List ℕ) (long : ℕ) (o : Option RelFile) (v : RelFile) → b ≡ a → o ≡ Some v → IsLayout a l
+pub named-some : (a b : Image) (l : Layout) (name : List ℕ) (long : ℕ) (o : Option RelFile) (v : RelFile) → b ≡ a
+    → o ≡ Some v → IsLayout a l
     → ((k : Layout) → IsLayout b k → IfSome o (IsFileNamed b k name long)) → IsFileNamed a l name long v
 named-some a b l name long o v same is h found =
     let P : Image → Type 0 = λ i. IsLayout i l → IfSome o (IsFileNamed i l name long) in
     subst (λ (x : Option RelFile). IfSome x (IsFileNamed a l name long)) is (subst P same (found l) h)
 
-pub lacks-none : (a b : Image) (name : List ℕ) (long : ℕ) (o : Option RelFile) → b ≡ a → ((v : RelFile) → o ≢ Some v) → IfNone o (LacksFileOf b name long) → LacksFileOf a name long
+pub lacks-none : (a b : Image) (name : List ℕ) (long : ℕ) (o : Option RelFile) → b ≡ a → ((v : RelFile) → o ≢ Some v)
+    → IfNone o (LacksFileOf b name long) → LacksFileOf a name long
 lacks-none a b name long None same none h = subst (λ (i : Image). LacksFileOf i name long) same h
 lacks-none a b name long (Some v) same none h = absurd (none v refl)
 

@@ -1,5 +1,5 @@
--- Worked values of what a message does to a shop, computed by the checker. Each is named by what it shows; the numbers of
--- writes are those of a fresh disk, where STOCK has one block with 14 records.
+-- Worked values of what a message does to a shop, computed by the checker. Each is named by what it shows; the numbers
+-- of writes are those of a fresh disk, where STOCK has one block with 14 records.
 use Rattle.std.proofs.Common.{◌≡◌, ℕ, true, false, List, [], ◌∷◌, ◌++◌, Option, Some, None, replicate, refl, sym, arith}
 use Rattle.std.specs.Fmt.{digits}
 use Rattle.std.specs.Prelude.{codes}
@@ -21,7 +21,8 @@ use Rattle.request_cards.specs.Ledgers.{Entry, State, nothing, reply_in}
 use Rattle.request_cards.specs.Reading.{amounts, kind_before, kind_of, number_before, number_in, request_of}
 use Rattle.request_cards.specs.Requests.{Ask, Body}
 use Rattle.host_session.specs.Answering.{after_ask}
-use Rattle.host_session.specs.Handling.{IsMedia, MayGrow, after_of, card_writes, is_first_set, is_next_request, kept_writes, media, most_writes, told_of}
+use Rattle.host_session.specs.Handling.{IsMedia, MayGrow, after_of, card_writes, is_first_set, is_next_request}
+use Rattle.host_session.specs.Handling.{kept_writes, media, most_writes, told_of}
 use Rattle.host_session.specs.Selecting.{IsReady}
 use Rattle.host_session.specs.Shop.{IsShop, Shop, start_of}
 use Rattle.host_session.specs.Standing.{IsStanding, nth, padded_to, state_in}
@@ -52,9 +53,10 @@ fresh_stock p = record {
   sides = p ∷ [];
 }
 
--- till 1 asks its first request: it is the next one; its second isn't yet, nor is any of till 3, which there isn't, nor what
--- is no request
-pub first_request_is_next : (rest : Rest) → (is_next_request (two_tills rest nothing) (request_of (codes "1,1,S,15,7")) ≡ true)
+-- till 1 asks its first request: it is the next one; its second isn't yet, nor is any of till 3, which there isn't,
+-- nor what is no request
+pub first_request_is_next : (rest : Rest)
+    → (is_next_request (two_tills rest nothing) (request_of (codes "1,1,S,15,7")) ≡ true)
     × ((is_next_request (two_tills rest nothing) (request_of (codes "1,2,S,15,7")) ≡ false)
     × ((is_next_request (two_tills rest nothing) (request_of (codes "3,1,S,15,7")) ≡ false)
     × (is_next_request (two_tills rest nothing) (request_of (codes "hello")) ≡ false)))
@@ -82,19 +84,22 @@ unfolding request_of number_before kind_before number_in amounts kind_of digits
 repeat_is_told_the_answer rest = (refl, refl)
 
 -- the request that a message is has the same shop after it
-pub request_of_the_message : (rest : Rest) → after_of (two_tills rest nothing) (codes "1,1,S,15,7") ≡ after_ask (two_tills rest nothing) set
+pub request_of_the_message : (rest : Rest) → after_of (two_tills rest nothing) (codes "1,1,S,15,7") ≡ after_ask
+    (two_tills rest nothing) set
 unfolding request_of number_before kind_before number_in amounts kind_of digits
 request_of_the_message rest = refl
 
 -- MEDIA names the till and the number of the message; what is no request is told so also where the device fails
-pub media_names_the_request : (media (request_of (codes "2,7,I,3,1")) ≡ Told 2 7 Media) × (media (request_of (codes "hello")) ≡ Syntax)
+pub media_names_the_request : (media (request_of (codes "2,7,I,3,1")) ≡ Told 2 7 Media)
+    × (media (request_of (codes "hello")) ≡ Syntax)
 unfolding request_of number_before kind_before number_in amounts kind_of digits
 media_names_the_request = (refl, refl)
 
 pub media_is_media : IsMedia (Told 2 7 Media)
 media_is_media = (2, 7, refl)
 
--- a set of an item without a card may let STOCK grow; of one that has a card it doesn't, nor past the top, nor does a receipt
+-- a set of an item without a card may let STOCK grow; of one that has a card it doesn't, nor past the top, nor does a
+-- receipt
 pub first_set_may_grow : (is_first_set nothing 9256 set ≡ true)
     × ((is_first_set (state_in (replicate 14 None ++ Some 3 ∷ []) []) 9256 set ≡ false)
     × ((is_first_set nothing 14 set ≡ false)
@@ -106,18 +111,21 @@ unfolding request_of number_before kind_before number_in amounts kind_of digits
 what_is_no_request_grows_nothing rest h = h
 
 -- the card of item 1 lies in one block, that of item 15 in two; a move from the one to the other writes three
-pub writes_of_cards : (card_writes ((1, 5) ∷ []) ≡ 1) × ((card_writes ((15, 7) ∷ []) ≡ 2) × (card_writes ((1, 5) ∷ (15, 7) ∷ []) ≡ 3))
+pub writes_of_cards : (card_writes ((1, 5) ∷ []) ≡ 1)
+    × ((card_writes ((15, 7) ∷ []) ≡ 2) × (card_writes ((1, 5) ∷ (15, 7) ∷ []) ≡ 3))
 writes_of_cards = (refl, (refl, refl))
 
--- an answer alone is one write; item 1, whose record is there, takes intent, card and answer; item 15 growth, intent, both
--- parts of its card, and answer
-pub writes_of_answers : (p : Place) → (kept_writes (fresh_stock p) 15 [] ≡ 1) × ((kept_writes (fresh_stock p) 1 ((1, 7) ∷ []) ≡ 3)
+-- an answer alone is one write; item 1, whose record is there, takes intent, card and answer; item 15 growth, intent,
+-- both parts of its card, and answer
+pub writes_of_answers : (p : Place) → (kept_writes (fresh_stock p) 15 [] ≡ 1)
+    × ((kept_writes (fresh_stock p) 1 ((1, 7) ∷ []) ≡ 3)
     × (kept_writes (fresh_stock p) 15 ((15, 7) ∷ []) ≡ 9))
 unfolding record_count
 writes_of_answers p = (refl, (refl, refl))
 
 -- a set of item 15 makes nine at most; a receipt without a card one; a message out of turn, or of no till, none
-pub writes_of_messages : (rest : Rest) (p : Place) → (most_writes (two_tills rest nothing) (fresh_stock p) (request_of (codes "1,1,S,15,7")) ≡ 9)
+pub writes_of_messages : (rest : Rest) (p : Place)
+    → (most_writes (two_tills rest nothing) (fresh_stock p) (request_of (codes "1,1,S,15,7")) ≡ 9)
     × ((most_writes (two_tills rest nothing) (fresh_stock p) (request_of (codes "1,1,R,15,7")) ≡ 1)
     × ((most_writes (two_tills rest nothing) (fresh_stock p) (request_of (codes "1,2,S,15,7")) ≡ 0)
     × (most_writes (two_tills rest nothing) (fresh_stock p) (request_of (codes "3,1,S,15,7")) ≡ 0)))
@@ -133,20 +141,23 @@ abbrev pub quantities_of_three : List (Option ℕ)
 quantities_of_three = Some 5 ∷ None ∷ Some 7 ∷ []
 
 pub tables_count_from_1 : (nth quantities_of_three 1 ≡ Some 5) × ((nth quantities_of_three 2 ≡ None)
-    × ((nth quantities_of_three 3 ≡ Some 7) × ((nth quantities_of_three 4 ≡ None) × (nth quantities_of_three 0 ≡ None))))
+    × ((nth quantities_of_three 3 ≡ Some 7)
+    × ((nth quantities_of_three 4 ≡ None) × (nth quantities_of_three 0 ≡ None))))
 tables_count_from_1 = (refl, (refl, (refl, (refl, refl))))
 
 pub table_of_five_places : padded_to 5 quantities_of_three ≡ quantities_of_three ++ None ∷ None ∷ []
 table_of_five_places = refl
 
 -- the tables of a session hold quantities, last requests and those before
-pub tables_hold_a_state : let held = state_in (replicate 14 None ++ Some 7 ∷ []) (Some set_card ∷ Some (record set_card { second = Some set_entry }) ∷ []) in
+pub tables_hold_a_state : let held = state_in (replicate 14 None ++ Some 7 ∷ [])
+    (Some set_card ∷ Some (record set_card { second = Some set_entry }) ∷ []) in
     (held.ledger.cards 15 ≡ Some 7) × ((held.ledger.cards 7 ≡ None) × ((held.ledger.kept 1 ≡ Some set_entry)
     × ((held.prior 1 ≡ None) × ((held.prior 2 ≡ Some set_entry) × (held.ledger.kept 3 ≡ None)))))
 tables_hold_a_state = (refl, (refl, (refl, (refl, (refl, refl)))))
 
 -- a dead session stands on a shop whatever its tables hold
-pub dead_session_stands : (img : Image) (s : Shop) → IsShop img s → (state : State) → IsStanding img true s.top s.tills state
+pub dead_session_stands : (img : Image) (s : Shop) → IsShop img s → (state : State)
+    → IsStanding img true s.top s.tills state
 dead_session_stands img s shop state = record {
   shop = s;
   is_shop = shop;
@@ -157,7 +168,8 @@ dead_session_stands img s shop state = record {
 }
 
 -- a drive just switched on over a clean disk is ready, and one with another channel open isn't
-pub drive_without_a_channel_is_ready : {D : Type 0} (S : History D) (d : Seen D) → d.dead ≡ false → IsClean (S.image d.disk)
+pub drive_without_a_channel_is_ready : {D : Type 0} (S : History D) (d : Seen D) → d.dead ≡ false
+    → IsClean (S.image d.disk)
     → d.channel ≡ None → IsReady S d
 drive_without_a_channel_is_ready S d alive clean none = record {
   alive = alive;

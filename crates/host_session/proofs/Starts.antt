@@ -14,13 +14,16 @@ use Rattle.host_session.specs.Files.{Files, HasFiles}
 use Rattle.host_session.proofs.Mended.{on-repair}
 
 -- a repaired disk has the files of the one before
-pub repaired-files : (old new : Image) (v : Survey) → IsRepaired old new v → (f : Files) → HasFiles old f → HasFiles new f
+pub repaired-files : (old new : Image) (v : Survey) → IsRepaired old new v → (f : Files) → HasFiles old f
+    → HasFiles new f
 repaired-files old new v r f h =
     let P : Layout → Type 0 = λ l. IsMended old l new in
-    on-repair old new f h (subst P (IsLayout-one old r.before h.layout r.sound h.is_layout) (record { layout = r.after; sound = r.clean.layout; same = r.same }))
+    on-repair old new f h (subst P (IsLayout-one old r.before h.layout r.sound h.is_layout)
+    (record { layout = r.after; sound = r.clean.layout; same = r.same }))
 
 -- a repair of a sound disk fails with the device alone
-pub repair-failed : {D : Type 0} (S : History D) (a b : D) (fault : Fault) → IsSound (S.image a) → Holds (S.failed_at b) (S.image a) fault → TellsFault {T = Survey} S a b (Err fault) → Failed S a b
+pub repair-failed : {D : Type 0} (S : History D) (a b : D) (fault : Fault) → IsSound (S.image a)
+    → Holds (S.failed_at b) (S.image a) fault → TellsFault {T = Survey} S a b (Err fault) → Failed S a b
 repair-failed S a b fault sound holds told =
     let (p, e, at) = told-sound (S.failed_at b) (S.image a) fault holds sound in
     subst (λ (x : Fault). TellsFault {T = Survey} S a b (Err x)) e told

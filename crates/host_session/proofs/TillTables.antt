@@ -1,9 +1,12 @@
 -- Tables of the tills' cards as they are read, and the open intents in them.
-use Rattle.std.proofs.Common.{ℕ, zero, suc, ◌≡◌, ◌≢◌, ◌<◌, ◌≤◌, ◌+◌, ◌-◌, ◌⊎◌, ⊎_elim, inl, inr, List, [], ◌∷◌, ◌++◌, None, Option, Some, false, true, add-one, ap, arith, append_assoc, length, length-append, refl, replicate, set, subst, sym, take, drop, ◌∙◌, get_or, min}
+use Rattle.std.proofs.Common.{ℕ, zero, suc, ◌≡◌, ◌≢◌, ◌<◌, ◌≤◌, ◌+◌, ◌-◌, ◌⊎◌, ⊎_elim, inl, inr, List, [], ◌∷◌, ◌++◌}
+use Rattle.std.proofs.Common.{None, Option, Some, false, true, add-one, ap, arith, append_assoc, length, length-append}
+use Rattle.std.proofs.Common.{refl, replicate, set, subst, sym, take, drop, ◌∙◌, get_or, min}
 use Rattle.std.specs.Prelude.{Contains, is_some, slice_get}
 use Rattle.std.specs.Option.{option_and_then}
 use Rattle.std.proofs.lemmas.Bool.{cases_eq, cases_lt, false≢true, ne_eqb}
-use Rattle.std.proofs.lemmas.List.{append-nil, get_or-set_same, get_or-set_other, length-map, length-set, length-take, take-append-drop}
+use Rattle.std.proofs.lemmas.List.{append-nil, get_or-set_same, get_or-set_other, length-map, length-set, length-take}
+use Rattle.std.proofs.lemmas.List.{take-append-drop}
 use Rattle.std.proofs.lemmas.List.Concat.{flat_map-append}
 use Rattle.std.proofs.lemmas.Option.{get_or_from_slice_get, none-some, same_Some}
 use Rattle.disk_layout.proofs.Once.{Contains-nil}
@@ -13,7 +16,8 @@ use Rattle.request_cards.specs.CardTexts.{Card}
 use Rattle.host_session.specs.Files.{Files, record_at}
 use Rattle.host_session.specs.Found.{Tells, TellsRecord}
 use Rattle.host_session.specs.declared.reading.Held.{Held}
-use Rattle.host_session.specs.Judged.{AreTills, IsIntentAmong, IsJudgedTill, IsOnlyIntent, IsReadTo, PassesRecords, listed}
+use Rattle.host_session.specs.Judged.{AreTills, IsIntentAmong, IsJudgedTill, IsOnlyIntent, IsReadTo, PassesRecords}
+use Rattle.host_session.specs.Judged.{listed}
 use Rattle.host_session.specs.Opening.{IsBadTill, IsLowest, LacksRecord}
 use Rattle.host_session.specs.Shop.{IsRequestRecord, card_at, cards_in, intents, items, open_in, results, results_of}
 use Rattle.host_session.specs.Standing.{nth}
@@ -28,19 +32,23 @@ nth-at xs k =
     let down : (k + 1) - 1 ≡ k = omega arith in
     rw (ne_eqb (k + 1) 0 zero_not) (ap (λ n. get_or xs n None) down)
 
-pub nth-set_same : {X : Type 0} (xs : List (Option X)) (k : ℕ) (x : Option X) → k < length xs → nth (set xs k x) (k + 1) ≡ x
+pub nth-set_same : {X : Type 0} (xs : List (Option X)) (k : ℕ) (x : Option X) → k < length xs
+    → nth (set xs k x) (k + 1) ≡ x
 nth-set_same xs k x lt = nth-at (set xs k x) k ∙ get_or-set_same xs k x None lt
 
-pub nth-set_other : {X : Type 0} (xs : List (Option X)) (k n : ℕ) (x : Option X) → n ≢ k + 1 → nth (set xs k x) n ≡ nth xs n
+pub nth-set_other : {X : Type 0} (xs : List (Option X)) (k n : ℕ) (x : Option X) → n ≢ k + 1
+    → nth (set xs k x) n ≡ nth xs n
 nth-set_other xs k zero x ne = refl
 nth-set_other xs k (suc n) x ne =
     let up : n + 1 ≡ suc n = add-one n in
-    ap (nth (set xs k x)) (sym up) ∙ nth-at (set xs k x) n ∙ get_or-set_other xs k n x None (λ e. ne (sym up ∙ ap (λ j. j + 1) e)) ∙ sym (nth-at xs n) ∙ ap (nth xs) up
+    ap (nth (set xs k x)) (sym up) ∙ nth-at (set xs k x) n
+    ∙ get_or-set_other xs k n x None (λ e. ne (sym up ∙ ap (λ j. j + 1) e)) ∙ sym (nth-at xs n) ∙ ap (nth xs) up
 
 -- a table in which nothing stands
 pub nth-none : (X : Type 0) (n t : ℕ) → nth {X = X} (replicate n None) t ≡ None
 nth-none X n zero = refl
-nth-none X n (suc t) = ap (nth {X = X} (replicate n None)) (sym (add-one t)) ∙ nth-at {X = X} (replicate n None) t ∙ blank X n t
+nth-none X n (suc t) = ap (nth {X = X} (replicate n None)) (sym (add-one t)) ∙ nth-at {X = X} (replicate n None) t
+    ∙ blank X n t
   where
     blank : (X : Type 0) (n t : ℕ) → get_or {A = Option X} (replicate n None) t None ≡ None
     blank X zero t = refl
@@ -63,10 +71,12 @@ unfolding request_card_of
 blank-request = refl
 
 -- the open intents up to one card more
-pub intents-next : (xs : List (Option Card)) (k : ℕ) (o : Option Card) → slice_get xs k ≡ Some o → intents (take (suc k) xs) ≡ intents (take k xs) ++ open_in o
+pub intents-next : (xs : List (Option Card)) (k : ℕ) (o : Option Card) → slice_get xs k ≡ Some o
+    → intents (take (suc k) xs) ≡ intents (take k xs) ++ open_in o
 intents-next [] k o e = absurd (none-some o e)
 intents-next (x ∷ xs) zero o e = append-nil (open_in x) ∙ ap open_in (same_Some x o e)
-intents-next (x ∷ xs) (suc k) o e = ap (λ cs. open_in x ++ cs) (intents-next xs k o e) ∙ sym (append_assoc (open_in x) (intents (take k xs)) (open_in o))
+intents-next (x ∷ xs) (suc k) o e = ap (λ cs. open_in x ++ cs) (intents-next xs k o e)
+    ∙ sym (append_assoc (open_in x) (intents (take k xs)) (open_in o))
 
 -- what was read at a place of a list stands there
 pub got : {X : Type 0} (xs : List X) (k : ℕ) (d x : X) → k < length xs → get_or xs k d ≡ x → slice_get xs k ≡ Some x
@@ -82,47 +92,61 @@ module _ (table : List (Option Card)) (k : ℕ) (d : Option Card) (lt : k < 64) 
   in-place o e = nth-at table k ∙ get_or_from_slice_get table k o None (at-place o e)
 
   -- a card that isn't an open intent
-  pub among-closed : (o : Option Intent) (c : Option Card) → get_or table k d ≡ c → open_in c ≡ [] → IsIntentAmong table (intents (take k table)) o → IsIntentAmong table (intents (take (k + 1) table)) o
+  pub among-closed : (o : Option Intent) (c : Option Card) → get_or table k d ≡ c → open_in c ≡ []
+      → IsIntentAmong table (intents (take k table)) o → IsIntentAmong table (intents (take (k + 1) table)) o
   among-closed o c e closed h =
-      let same : intents (take (k + 1) table) ≡ intents (take k table) = ap (λ n. intents (take n table)) (add-one k) ∙ intents-next table k c (at-place c e) ∙ ap (λ cs. intents (take k table) ++ cs) closed ∙ append-nil (intents (take k table)) in
+      let same : intents (take (k + 1) table) ≡ intents (take k table) = ap (λ n. intents (take n table)) (add-one k)
+      ∙ intents-next table k c (at-place c e) ∙ ap (λ cs. intents (take k table) ++ cs) closed
+      ∙ append-nil (intents (take k table)) in
       subst (λ cs. IsIntentAmong table cs o) (sym same) h
 
   -- the first open intent
-  pub among-open : (c : Card) → get_or table k d ≡ Some c → c.pending ≡ true → intents (take k table) ≡ [] → (x : Intent) → x.till ≡ k + 1 → x.card ≡ c → IsOnlyIntent table (intents (take (k + 1) table)) x
+  pub among-open : (c : Card) → get_or table k d ≡ Some c → c.pending ≡ true → intents (take k table) ≡ []
+      → (x : Intent) → x.till ≡ k + 1 → x.card ≡ c → IsOnlyIntent table (intents (take (k + 1) table)) x
   among-open c e pending none x till card = record {
     low = omega (arith, till);
     high = omega (arith, till, lt);
     at = ap (nth table) till ∙ in-place (Some c) e ∙ ap Some (sym card);
     pending = ap (λ (d : Card). d.pending) card ∙ pending;
-    only = ap (λ n. intents (take n table)) (add-one k) ∙ intents-next table k (Some c) (at-place (Some c) e) ∙ (λ i. none i ++ open_in-pending c pending i) ∙ ap (λ (d : Card). d ∷ []) (sym card);
+    only = ap (λ n. intents (take n table)) (add-one k) ∙ intents-next table k (Some c) (at-place (Some c) e)
+        ∙ (λ i. none i ++ open_in-pending c pending i) ∙ ap (λ (d : Card). d ∷ []) (sym card);
   }
 
   -- a second one
-  pub among-two : (c : Card) → get_or table k d ≡ Some c → c.pending ≡ true → (o : Option Intent) → is_some o ≡ true → IsIntentAmong table (intents (take k table)) o → 2 ≤ length (intents table)
+  pub among-two : (c : Card) → get_or table k d ≡ Some c → c.pending ≡ true → (o : Option Intent) → is_some o ≡ true
+      → IsIntentAmong table (intents (take k table)) o → 2 ≤ length (intents table)
   among-two c e pending None some h = absurd (false≢true some)
   among-two c e pending (Some x) some h =
       let one : length (intents (take k table)) ≡ 1 = ap length h.only in
       let next : length (intents (take (suc k) table)) ≡ length (intents (take k table)) + 1
-      = ap length (intents-next table k (Some c) (at-place (Some c) e)) ∙ length-append (intents (take k table)) (open_in (Some c)) ∙ ap (λ cs. length (intents (take k table)) + length cs) (open_in-pending c pending) in
+      = ap length (intents-next table k (Some c) (at-place (Some c) e))
+      ∙ length-append (intents (take k table)) (open_in (Some c))
+      ∙ ap (λ cs. length (intents (take k table)) + length cs) (open_in-pending c pending) in
       let split : length (intents table) ≡ length (intents (take (suc k) table)) + length (intents (drop (suc k) table))
-      = ap (λ cs. length (intents cs)) (sym (take-append-drop (suc k) table)) ∙ ap length (flat_map-append open_in (take (suc k) table) (drop (suc k) table)) ∙ length-append (intents (take (suc k) table)) (intents (drop (suc k) table)) in
+      = ap (λ cs. length (intents cs)) (sym (take-append-drop (suc k) table))
+      ∙ ap length (flat_map-append open_in (take (suc k) table) (drop (suc k) table))
+      ∙ length-append (intents (take (suc k) table)) (intents (drop (suc k) table)) in
       omega (arith, one, next, split)
 
 -- what a read of a record tells
-pub told-none : {C : Type 0} (card_of : List ℕ → Option C) (long : ℕ) (rs : List (List ℕ)) (r : ℕ) (o : Option (Held C)) → ((h : Held C) → o ≢ Some h) → TellsRecord card_of long rs r o → length rs < r
+pub told-none : {C : Type 0} (card_of : List ℕ → Option C) (long : ℕ) (rs : List (List ℕ)) (r : ℕ) (o : Option (Held C))
+    → ((h : Held C) → o ≢ Some h) → TellsRecord card_of long rs r o → length rs < r
 told-none card_of long rs r None ne told = told
 told-none card_of long rs r (Some h) ne told = absurd (ne h refl)
 
-pub told-some : {C : Type 0} (card_of : List ℕ → Option C) (long : ℕ) (rs : List (List ℕ)) (r : ℕ) (o : Option (Held C)) (h : Held C) → o ≡ Some h → TellsRecord card_of long rs r o
+pub told-some : {C : Type 0} (card_of : List ℕ → Option C) (long : ℕ) (rs : List (List ℕ)) (r : ℕ) (o : Option (Held C))
+    (h : Held C) → o ≡ Some h → TellsRecord card_of long rs r o
     → (bytes : List ℕ) × (record_at rs r ≡ Some bytes) × Tells card_of long bytes h
 told-some card_of long rs r o h e told = subst (TellsRecord card_of long rs r) e told
 
 -- a till's record, judged
 module _ (f : Files) (till : ℕ) (bytes : List ℕ) (here : record_at f.requests till ≡ Some bytes) where
   pub judged-empty : bytes ≡ empty_record 127 → IsJudgedTill f till (Some None)
-  judged-empty e = (bytes, here, ap request_card_of e ∙ blank-request, inl e, λ (item, has, none). Contains-nil item has)
+  judged-empty e =
+      (bytes, here, ap request_card_of e ∙ blank-request, inl e, λ (item, has, none). Contains-nil item has)
 
-  pub judged-card : (c : Card) → request_card_of bytes ≡ Some c → ¬ (LacksRecord f.stock (Some c)) → IsJudgedTill f till (Some (Some c))
+  pub judged-card : (c : Card) → request_card_of bytes ≡ Some c → ¬ (LacksRecord f.stock (Some c))
+      → IsJudgedTill f till (Some (Some c))
   judged-card c reads has = (bytes, here, reads, inr (ap is_some reads), has)
 
   pub bad-other : till ≤ 64 → (bytes ≢ empty_record 127) × (request_card_of bytes ≡ None) → IsBadTill f till
@@ -133,7 +157,8 @@ module _ (f : Files) (till : ℕ) (bytes : List ℕ) (here : record_at f.request
     bad = inl (λ good. ⊎_elim full (λ some. false≢true (sym (ap is_some none) ∙ some)) good);
   }
 
-  pub bad-intent : till ≤ 64 → (c : Card) → request_card_of bytes ≡ Some c → LacksRecord f.stock (Some c) → IsBadTill f till
+  pub bad-intent : till ≤ 64 → (c : Card) → request_card_of bytes ≡ Some c → LacksRecord f.stock (Some c)
+      → IsBadTill f till
   bad-intent low c reads lacks = record {
     bytes = bytes;
     low = low;
@@ -146,13 +171,16 @@ pub lacks-answered : (stock : List (List ℕ)) (c : Card) → c.pending ≡ fals
 lacks-answered stock c answered (item, has, none) =
     Contains-nil item (subst (λ (cs : List Card). Contains (items (results cs)) item) (open_in-answered c answered) has)
 
-module _ (stock : List (List ℕ)) (c : Card) (pending : c.pending ≡ true) (x : NewQuantities) (same : listed x ≡ results_of c.newest) (count : ℕ) (many : count ≡ length stock) where
+module _ (stock : List (List ℕ)) (c : Card) (pending : c.pending ≡ true) (x : NewQuantities)
+    (same : listed x ≡ results_of c.newest) (count : ℕ) (many : count ≡ length stock) where
   intended : results (open_in (Some c)) ≡ listed x
   intended = ap results (open_in-pending c pending) ∙ append-nil (results_of c.newest) ∙ sym same
 
-  pub lacks-none : ((item : ℕ) → Contains (items (listed x)) item → 1 ≤ item) → ¬ (PassesRecords x count) → ¬ (LacksRecord stock (Some c))
+  pub lacks-none : ((item : ℕ) → Contains (items (listed x)) item → 1 ≤ item) → ¬ (PassesRecords x count)
+      → ¬ (LacksRecord stock (Some c))
   lacks-none low within (item, has, none) =
-      let here : Contains (items (listed x)) item = subst (λ (qs : List (ℕ × ℕ)). Contains (items qs) item) intended has in
+      let here : Contains (items (listed x)) item = subst (λ (qs : List (ℕ × ℕ)). Contains (items qs) item) intended
+      has in
       within (item, here, omega (arith, many, past stock item (low item here) none))
     where
       gone : (rs : List (List ℕ)) (n : ℕ) → slice_get rs n ≡ None → length rs ≤ n
@@ -200,12 +228,14 @@ module _ (f : Files) (n : ℕ) (table : List (Option Card)) (few : n ≤ 64) (h 
   pub till-lowest : IsBadTill f (n + 1) → IsLowest (IsBadTill f) (n + 1)
   till-lowest bad = record { here = bad; lower = λ k lt. none-bad k (omega (arith, lt)) }
 
-  pub till-more : (card : Option Card) → n < 64 → IsJudgedTill f (n + 1) (Some card) → IsReadTo f (n + 1) (set table n card)
+  pub till-more : (card : Option Card) → n < 64 → IsJudgedTill f (n + 1) (Some card)
+      → IsReadTo f (n + 1) (set table n card)
   till-more card lt (bytes, here, reads, good, has) = record {
     long = length-set table n card ∙ h.long;
     there = (record-within f.requests (n + 1) (ap is_some here)).1;
     below = λ t le. elim (cases_eq t (n + 1)) [
-      | inl e ↦ ap (nth (set table n card)) e ∙ nth-set_same table n card (omega (arith, lt, h.long)) ∙ sym (ap (card_at (cards_in f.requests)) e ∙ at)
+      | inl e ↦ ap (nth (set table n card)) e ∙ nth-set_same table n card (omega (arith, lt, h.long))
+          ∙ sym (ap (card_at (cards_in f.requests)) e ∙ at)
       | inr ne ↦ nth-set_other table n t card ne ∙ h.below t (omega (arith, le, ne))
     ];
     above = λ t gt. nth-set_other table n t card (λ e. omega (arith, gt, e)) ∙ h.above t (omega (arith, gt));
@@ -219,7 +249,8 @@ module _ (f : Files) (n : ℕ) (table : List (Option Card)) (few : n ≤ 64) (h 
   }
     where
       at : card_at (cards_in f.requests) (n + 1) ≡ card
-      at = ap (option_and_then (λ c. c)) (record_at-map_take request_card_of 64 f.requests (n + 1) bytes (omega (arith, lt)) here) ∙ reads
+      at = ap (option_and_then (λ c. c)) (record_at-map_take request_card_of 64 f.requests (n + 1) bytes
+          (omega (arith, lt)) here) ∙ reads
 
   -- the last till, or the last that a card may stand for
   pub tills-done : (n ≡ 64) ⊎ (length f.requests < n + 1) → AreTills f n table
@@ -241,7 +272,8 @@ module _ (f : Files) (n : ℕ) (table : List (Option Card)) (few : n ≤ 64) (h 
         | inr lt ↦ by (omega (arith, lt, h.there)) (cases_lt 64 (length f.requests))
       ]
         where
-          by : n ≡ length f.requests → (64 < length f.requests) ⊎ (length f.requests ≤ 64) → n ≡ length (cards_in f.requests)
+          by : n ≡ length f.requests → (64 < length f.requests) ⊎ (length f.requests ≤ 64)
+              → n ≡ length (cards_in f.requests)
           by e (inr le) = omega (arith, e, long, le)
           by e (inl gt) = omega (arith, e, long, gt, few)
 
@@ -251,5 +283,7 @@ module _ (f : Files) (n : ℕ) (table : List (Option Card)) (few : n ≤ 64) (h 
       all : (t : ℕ) → nth table t ≡ card_at (cards_in f.requests) t
       all t = elim (cases_lt n t) [
         | inr le ↦ h.below t le
-        | inl gt ↦ h.above t gt ∙ sym (ap (option_and_then (λ (c : Option Card). c)) (record_at-past (cards_in f.requests) t (omega (arith, gt, many))))
+        | inl gt ↦ h.above t gt
+            ∙ sym (ap (option_and_then (λ (c : Option Card). c)) (record_at-past (cards_in f.requests) t
+            (omega (arith, gt, many))))
       ]

@@ -32,5 +32,6 @@ counted_asks start before [] (f ∷ fs) cs h = absurd h
 counted_asks start before (m ∷ ms) [] cs h = absurd h
 counted_asks start before (m ∷ ms) (f ∷ fs) [] h = absurd h
 
-pub sums_counted : (start : Start) (ms : List Message) (fs : List Bool) (cs : List (List Ask)) → IsCounted start [] ms fs cs → SumsAgree start (all_of cs)
+pub sums_counted : (start : Start) (ms : List Message) (fs : List Bool) (cs : List (List Ask))
+    → IsCounted start [] ms fs cs → SumsAgree start (all_of cs)
 sums_counted start ms fs cs h = sums_hold start (all_of cs) (counted_asks start [] ms fs cs h)

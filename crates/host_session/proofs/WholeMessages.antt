@@ -1,5 +1,6 @@
 -- A message that was answered, or told that the device failed.
-use Rattle.std.proofs.Common.{◌≡◌, ◌≢◌, ⊎_elim, inl, inr, ℕ, true, false, [], Option, Some, None, IsSome, refl, sym, subst, ◌∙◌, ap, arith}
+use Rattle.std.proofs.Common.{◌≡◌, ◌≢◌, ⊎_elim, inl, inr, ℕ, true, false, [], Option, Some, None, IsSome, refl, sym}
+use Rattle.std.proofs.Common.{subst, ◌∙◌, ap, arith}
 use Rattle.std.specs.Prelude.{option_to_list, is_some, if◌then◌else◌}
 use Rattle.d64_image.specs.History.{History, HeldOnly, Failed}
 use Rattle.d64_image.proofs.Moments.{weaker, at_end}
@@ -25,8 +26,10 @@ media_some None r is says = let e = sym is ∙ says.2 in cc
 media_some (Some a) r is says = refl
 
 module _ {D : Type 0} (h : History D) where
-  on_the_way : (s : Shop) (m : Message) (a b : D) → m.cut_after ≡ None → HeldOnly h a b (IsBeforeOrAfter s m.bytes) → HeldOnly h a b (IsInEvent s m)
-  on_the_way s m a b none held = weaker h a b (IsBeforeOrAfter s m.bytes) (IsInEvent s m) (λ i x. ⊎_elim (λ l. inl l) (λ r. inr (uncut m none, r)) x) held
+  on_the_way : (s : Shop) (m : Message) (a b : D) → m.cut_after ≡ None → HeldOnly h a b (IsBeforeOrAfter s m.bytes)
+      → HeldOnly h a b (IsInEvent s m)
+  on_the_way s m a b none held = weaker h a b (IsBeforeOrAfter s m.bytes) (IsInEvent s m)
+      (λ i x. ⊎_elim (λ l. inl l) (λ r. inr (uncut m none, r)) x) held
 
   -- the device itself, where power goes in no write
   left : (s : Shop) (m : Message) (a b : D) → m.cut_after ≡ None → (AsksNothing s m → b ≡ a) → LeavesAlone h s m a b
@@ -45,9 +48,11 @@ module _ {D : Type 0} (h : History D) where
     moments = on_the_way s m a b none held;
     quiet = left s m a b none alone;
     ends = record {
-      told = told ∙ sym (ap (λ (o : Option ℕ). if is_some o then Cut else reply_in (start_of s) s.state (request_of m.bytes)) none);
+      told = told ∙ sym
+          (ap (λ (o : Option ℕ). if is_some o then Cut else reply_in (start_of s) s.state (request_of m.bytes)) none);
       answered = λ e. refl;
-      settled = subst (λ state. IsSettled (h.image b) (with_state s state)) (sym (after_whole (start_of s) s.state (request_of m.bytes))) settled;
+      settled = subst (λ state. IsSettled (h.image b) (with_state s state))
+          (sym (after_whole (start_of s) s.state (request_of m.bytes))) settled;
     };
   }
 
@@ -56,8 +61,10 @@ module _ {D : Type 0} (h : History D) where
       → reply ≡ media (request_of m.bytes) → IsMedia reply
       → IsEvent h s m a b (EndsFailed h s m reply b)
   told_media s m a b reply none held alone failed told says =
-      let is : reply ≡ answer (start_of s) s.state m true = told ∙ sym (ap (λ (o : Option ℕ). if is_some o then Cut else media (request_of m.bytes)) none) in
-      let some : m.cut_after ≡ None → IsSome (request_of m.bytes) = λ e. media_some (request_of m.bytes) reply told says in
+      let is : reply ≡ answer (start_of s) s.state m true = told
+      ∙ sym (ap (λ (o : Option ℕ). if is_some o then Cut else media (request_of m.bytes)) none) in
+      let some : m.cut_after ≡ None → IsSome (request_of m.bytes) =
+      λ e. media_some (request_of m.bytes) reply told says in
       ⊎_elim
       (λ before. record {
         failed = true;
@@ -81,7 +88,8 @@ module _ {D : Type 0} (h : History D) where
           told = is;
           asked = some;
           is_failed = refl;
-          shop = subst (λ state. IsShop (h.image b) (with_state s state)) (sym (after_whole (start_of s) s.state (request_of m.bytes))) after;
+          shop = subst (λ state. IsShop (h.image b) (with_state s state))
+              (sym (after_whole (start_of s) s.state (request_of m.bytes))) after;
         };
       })
       (at_end h a b (IsBeforeOrAfter s m.bytes) held)

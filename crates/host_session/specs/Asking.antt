@@ -1,5 +1,6 @@
 -- Where the events of a run come from. All of it is our own.
-use Rattle.std.specs.Prelude.{◌≡◌, ◌⊎◌, ℕ, true, Vec, ◌<◌, ◌≤◌, ◌-◌, ◌==◌, if◌then◌else◌, drop, slice_get, List, [], ◌∷◌, ◌++◌, None, Some, Option, length, map, option_map, refl}
+use Rattle.std.specs.Prelude.{◌≡◌, ◌⊎◌, ℕ, true, Vec, ◌<◌, ◌≤◌, ◌-◌, ◌==◌, if◌then◌else◌, drop, slice_get, List, []}
+use Rattle.std.specs.Prelude.{◌∷◌, ◌++◌, None, Some, Option, length, map, option_map, refl}
 use Rattle.std.proofs.Common.{append-nil, sym}
 use Rattle.std.specs.declared.alloc.Global.{Global}
 use Rattle.d64_image.specs.Images.{Image}
@@ -21,8 +22,8 @@ messages_in taken = map (λ x. x.0) taken
 
 -- What a source says of the messages that it gives.
 pub record Source (A : Type 0) : Type 1 where
-  -- from the first to the second these messages were taken, each over a disk at this instant, in this order, and nothing
-  -- else
+  -- from the first to the second these messages were taken, each over a disk at this instant, in this order, and
+  -- nothing else
   pub gives : A → A → List (Message × Instant) → Type 0
   -- the message that was taken last
   pub here : A → Message

@@ -1,6 +1,7 @@
 -- Which requests of a run with resets count, and what each message is told. What counts is kept in parts, one for each
 -- message: a list of none or one request. All of it is our own.
-use Rattle.std.specs.Prelude.{◌≡◌, ℕ, zero, suc, ◌&&◌, ◌⊎◌, Bool, true, false, List, [], ◌∷◌, ◌++◌, Option, Some, None, IsSome, is_some, nat_lt, if◌then◌else◌, flat_map, fold, MatchBool}
+use Rattle.std.specs.Prelude.{◌≡◌, ℕ, zero, suc, ◌&&◌, ◌⊎◌, Bool, true, false, List, [], ◌∷◌, ◌++◌, Option, Some, None}
+use Rattle.std.specs.Prelude.{IsSome, is_some, nat_lt, if◌then◌else◌, flat_map, fold, MatchBool}
 use Rattle.request_cards.specs.declared.reply.Reply.{Reply}
 use Rattle.request_cards.specs.declared.reply.Reply.TheVariants.{Cut}
 use Rattle.request_cards.specs.Requests.{Ask}
@@ -17,9 +18,10 @@ IsIn a counted = counted ≡ a ∷ []
 abbrev pub MayBeIn : Ask → List Ask → Type 0
 MayBeIn a counted = IsIn a counted ⊎ (counted ≡ [])
 
--- What a request counts as: it counts where it was answered; it doesn't where power went before its first write; it does
--- where power went later, but a first set may be in or out up to the last write that it can make; and where the device
--- failed in it, it may be in or out. 7206 is past all writes of a message: 2 + 10 * 720 for growth by 720 blocks, and 4.
+-- What a request counts as: it counts where it was answered; it doesn't where power went before its first write; it
+-- does where power went later, but a first set may be in or out up to the last write that it can make; and where the
+-- device failed in it, it may be in or out. 7206 is past all writes of a message: 2 + 10 * 720 for growth by 720
+-- blocks, and 4.
 abbrev pub Counts : ℕ → State → Ask → Option ℕ → Bool → List Ask → Type 0
 Counts top state a None false counted = IsIn a counted
 Counts top state a None true counted = MayBeIn a counted

@@ -1,11 +1,13 @@
--- The two files of a ledger on a disk, as lists of records. Names and lengths are our own, relative files those of the 1541 User's Guide.
+-- The two files of a ledger on a disk, as lists of records. Names and lengths are our own, relative files those of the
+-- 1541 User's Guide.
 use Rattle.std.specs.Prelude.{◌≡◌, ℕ, zero, suc, List, Option, None, codes, length, set, slice_get}
 use Rattle.d64_image.specs.Images.{Image}
 use Rattle.disk_layout.specs.Layout.{File, IsLayout, Layout, record_length}
 use Rattle.disk_layout.specs.Records.{records}
 use Rattle.disk_layout.specs.Rest.{IsFirst, IsTop, Rest, rest_of}
 
--- the records of STOCK and of REQUESTS, how many data blocks STOCK has, the rest of the disk, and how far STOCK can grow
+-- the records of STOCK and of REQUESTS, how many data blocks STOCK has, the rest of the disk, and how far STOCK can
+-- grow
 pub record Files : Type 0 where
   pub stock : List (List ℕ)
   pub requests : List (List ℕ)

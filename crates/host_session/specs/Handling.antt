@@ -1,5 +1,6 @@
 -- What a message does to a shop's disk. All of it is our own.
-use Rattle.std.specs.Prelude.{◌≡◌, ◌⊎◌, ℕ, Bool, true, false, ◌+◌, ◌&&◌, List, [], ◌∷◌, Option, Some, None, is_none, if◌then◌else◌, nat_le}
+use Rattle.std.specs.Prelude.{◌≡◌, ◌⊎◌, ℕ, Bool, true, false, ◌+◌, ◌&&◌, List, [], ◌∷◌, Option, Some, None, is_none}
+use Rattle.std.specs.Prelude.{if◌then◌else◌, nat_le}
 use Rattle.d64_image.specs.Images.{Image}
 use Rattle.disk_layout.specs.Layout.{File}
 use Rattle.rel_records.specs.Growth.{growth_writes}
@@ -52,8 +53,8 @@ abbrev pub card_writes : List (ℕ × ℕ) → ℕ
 card_writes [] = 0
 card_writes (q ∷ more) = touched 18 q.0 1 + card_writes more
 
--- the sector writes of a kept answer: the answer alone; or growth of STOCK, which is this file, to the item's record, the
--- intent, the cards, and the answer
+-- the sector writes of a kept answer: the answer alone; or growth of STOCK, which is this file, to the item's record,
+-- the intent, the cards, and the answer
 abbrev pub kept_writes : File → ℕ → List (ℕ × ℕ) → ℕ
 kept_writes stock item [] = 1
 kept_writes stock item (q ∷ more) = growth_writes stock item + 2 + card_writes (q ∷ more)

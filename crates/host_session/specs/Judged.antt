@@ -1,11 +1,13 @@
 -- What opening reads and judges before it writes, record by record. All of it is our own.
-use Rattle.std.specs.Prelude.{◌≡◌, ◌≤◌, ◌<◌, ◌⊎◌, ℕ, true, ◌++◌, List, [], ◌∷◌, Option, None, Some, Contains, IsSome, length, replicate}
+use Rattle.std.specs.Prelude.{◌≡◌, ◌≤◌, ◌<◌, ◌⊎◌, ℕ, true, ◌++◌, List, [], ◌∷◌, Option, None, Some, Contains, IsSome}
+use Rattle.std.specs.Prelude.{length, replicate}
 use Rattle.request_cards.specs.CardReading.{request_card_of}
 use Rattle.request_cards.specs.CardTexts.{Card}
 use Rattle.request_cards.specs.Trade.{Cards}
 use Rattle.host_session.specs.Files.{Files, record_at}
 use Rattle.host_session.specs.Opening.{HasNoBadTill, LacksRecord, open_intents}
-use Rattle.host_session.specs.Shop.{AreLedgerRecords, IsIntended, IsRequestRecord, IsStockRecord, card_at, cards_in, intents, items, results, results_of, state_of}
+use Rattle.host_session.specs.Shop.{AreLedgerRecords, IsIntended, IsRequestRecord, IsStockRecord, card_at, cards_in}
+use Rattle.host_session.specs.Shop.{intents, items, results, results_of, state_of}
 use Rattle.host_session.specs.Standing.{nth}
 use Rattle.host_session.specs.declared.intents.Intent.{Intent}
 use Rattle.host_session.specs.declared.intents.NewQuantities.{NewQuantities}
@@ -75,19 +77,21 @@ abbrev pub given : Option Intent → List (ℕ × ℕ)
 given None = []
 given (Some x) = results_of x.card.newest
 
--- the tills' cards of these files are judged: no record is bad, at most one intent is open, these are its new quantities,
--- and STOCK has the records of their items
+-- the tills' cards of these files are judged: no record is bad, at most one intent is open, these are its new
+-- quantities, and STOCK has the records of their items
 pub record HasJudgedTills (f : Files) (x : NewQuantities) : Type 0 where
   pub no_bad_till : HasNoBadTill f
   pub few : open_intents f ≤ 1
   pub new : listed x ≡ results (intents (cards_in f.requests))
   pub there : (item : ℕ) → IsIntended f.requests item → IsSome (record_at f.stock item)
 
--- the item's record is empty, its card, or excused by an open intent, and so much is on hand; None: there is no such record
+-- the item's record is empty, its card, or excused by an open intent, and so much is on hand; None: there is no such
+-- record
 abbrev pub IsJudgedItem : Files → ℕ → Option (Option ℕ) → Type 0
 IsJudgedItem f item None = length f.stock < item
 IsJudgedItem f item (Some quantity) = (bytes : List ℕ) × (record_at f.stock item ≡ Some bytes)
-    × (quantity ≡ (state_of f.stock f.requests).ledger.cards item) × (IsIntended f.requests item ⊎ IsStockRecord item bytes)
+    × (quantity ≡ (state_of f.stock f.requests).ledger.cards item)
+    × (IsIntended f.requests item ⊎ IsStockRecord item bytes)
 
 -- the records of the items up to this one are read into a table, and stand
 pub record IsCountedTo (f : Files) (last : ℕ) (table : List (Option ℕ)) : Type 0 where

@@ -7,7 +7,8 @@ use Rattle.request_cards.specs.Ledgers.{applied}
 use Rattle.request_cards.specs.Requests.{Ask}
 use Rattle.request_cards.specs.Trade.{outcome}
 use Rattle.host_session.specs.Files.{Files, record_at}
-use Rattle.host_session.specs.Shop.{AreLedgerRecords, IsShop, Shop, any_old, cards_in, intents, items, results_of, shop_of, with_state}
+use Rattle.host_session.specs.Shop.{AreLedgerRecords, IsShop, Shop, any_old, cards_in, intents, items, results_of}
+use Rattle.host_session.specs.Shop.{shop_of, with_state}
 
 -- what the trade rule answers to a request in this shop
 abbrev pub answer_of : Shop → Ask → Answer
@@ -21,8 +22,8 @@ shop_after s a = with_state s (applied s.top s.state a)
 abbrev pub IsEither : Shop → Ask → Image → Type 0
 IsEither s a img = IsShop img s ⊎ IsShop img (shop_after s a)
 
--- f holds a shop at rest, whose tills the request's is one of, and c is the card that the till is to have: the request with
--- its answer, an open intent where it is done, and behind it the till's last request
+-- f holds a shop at rest, whose tills the request's is one of, and c is the card that the till is to have: the request
+-- with its answer, an open intent where it is done, and behind it the till's last request
 pub record IsKeeping (f : Files) (a : Ask) (c : Card) : Type 0 where
   pub records : AreLedgerRecords f.stock f.requests
   pub no_intent : intents (cards_in f.requests) ≡ []

@@ -103,7 +103,8 @@ EndsBy h a o from asks out left faults.Device = (taken : List (Message × Instan
     × IsRunToDevice h o from.shop taken from.disk left from.out out
 
 -- how a run ends that was opened
-abbrev pub Ends : {D A T : Type 0} → History D → Source A → Output T → Origin D A T → A → T → Result D (LoopFault × D) → Type 0
+abbrev pub Ends : {D A T : Type 0} → History D → Source A → Output T → Origin D A T → A → T → Result D (LoopFault × D)
+    → Type 0
 Ends h a o from asks out (Ok left) = (taken : List (Message × Instant)) × a.gives from.asks asks taken × a.is_over asks
     × IsRunWhole h o from.shop taken from.disk left from.out out
 Ends h a o from asks out (Err e) = EndsBy h a o from asks out e.1 e.0
@@ -114,12 +115,15 @@ with_disk disk (Ok _) = Ok disk
 with_disk disk (Err fault) = Err (fault, disk)
 
 -- what a stretch of whole messages came to
-abbrev pub IsStretch : {D A T : Type 0} → History D → Source A → Output T → Origin D A T → View D → A → T → Stretch → Type 0
-IsStretch h a o from session asks out stretches.Cut = (session.dead ≡ false) × HasComeBut h a o from session.disk asks out
+abbrev pub IsStretch : {D A T : Type 0} → History D → Source A → Output T → Origin D A T → View D → A → T → Stretch
+    → Type 0
+IsStretch h a o from session asks out stretches.Cut = (session.dead ≡ false)
+    × HasComeBut h a o from session.disk asks out
 IsStretch h a o from session asks out (stretches.Ended end) = Ends h a o from asks out (with_disk session.disk end)
 
 -- What comes of a run over a source and an output that were `asked` and `old`, and are `asks` and `new`.
-pub record IsRun {D A T : Type 0} (h : History D) (a : Source A) (o : Output T) (disk : D) (asked asks : A) (old new : T)
+pub record IsRun {D A T : Type 0} (h : History D) (a : Source A) (o : Output T) (disk : D) (asked asks : A)
+    (old new : T)
     (result : Result D (LoopFault × D)) : Type 0 where
   -- the messages that were taken of the source, each over the disk at an instant, and nothing beside them
   pub taken : List (Message × Instant)

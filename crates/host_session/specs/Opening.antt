@@ -1,5 +1,6 @@
 -- Why an image is no shop: the faults of opening, in the order in which they are judged. All of it is our own.
-use Rattle.std.specs.Prelude.{◌≡◌, ◌≢◌, ◌≤◌, ◌<◌, ◌⊎◌, ℕ, List, Option, Some, None, Contains, length, codes, Result, Ok, Err}
+use Rattle.std.specs.Prelude.{◌≡◌, ◌≢◌, ◌≤◌, ◌<◌, ◌⊎◌, ℕ, List, Option, Some, None, Contains, length, codes, Result, Ok}
+use Rattle.std.specs.Prelude.{Err}
 use Rattle.d64_image.specs.Images.{Image}
 use Rattle.d64_image.specs.History.{History, Failed, Changes}
 use Rattle.disk_layout.specs.Fault.{Holds, nowhere}
@@ -8,7 +9,8 @@ use Rattle.disk_layout.specs.Rest.{IsFirst}
 use Rattle.request_cards.specs.CardReading.{request_card_of}
 use Rattle.request_cards.specs.CardTexts.{Card}
 use Rattle.host_session.specs.Files.{Files, HasFiles, record_at}
-use Rattle.host_session.specs.Shop.{IsIntended, IsRequestRecord, IsShop, IsStockRecord, Shop, cards_in, intents, items, open_in, results}
+use Rattle.host_session.specs.Shop.{IsIntended, IsRequestRecord, IsShop, IsStockRecord, Shop, cards_in, intents, items}
+use Rattle.host_session.specs.Shop.{open_in, results}
 use Rattle.host_session.specs.declared.faults.OpenFault.{OpenFault}
 use Rattle.host_session.specs.declared.faults.OpenFault.TheVariants as faults
 
@@ -58,7 +60,8 @@ HasNoBadTill f = (till : ℕ) → ¬ (IsBadTill f till)
 abbrev pub open_intents : Files → ℕ
 open_intents f = length (intents (cards_in f.requests))
 
--- What a fault of opening says of the image, or of the device that failed: it holds, and none that is judged before it does.
+-- What a fault of opening says of the image, or of the device that failed: it holds, and none that is judged before it
+-- does.
 abbrev pub Refuses : Type 0 → Image → OpenFault → Type 0
 Refuses failed img (faults.Layout fault) = Holds nowhere img fault
 Refuses failed img faults.NoStock = LacksFileOf img (codes "STOCK") 18
@@ -82,7 +85,8 @@ disk_of disk (Err e) = e.1
 abbrev pub Untouched : {D : Type 0} → History D → D → D → Type 0
 Untouched S old new = Changes S old new 0 (λ c. c ≡ S.image old)
 
--- a call that judges tells the device's fault only where that failed, and any other answer only where no failure was counted
+-- a call that judges tells the device's fault only where that failed, and any other answer only where no failure was
+-- counted
 abbrev pub TellsJudging : {D T : Type 0} → History D → D → D → Result T OpenFault → Type 0
 TellsJudging S old new (Ok _) = S.failures new ≡ S.failures old
 TellsJudging S old new (Err faults.Device) = Failed S old new

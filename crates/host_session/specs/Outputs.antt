@@ -34,7 +34,8 @@ abbrev pub printed : {W : Type 0} → (W → Option (List ℕ)) → Output (Prin
 printed contents = record {
   told = λ old new turns. Appends (contents (printer_out old)) (contents (printer_out new)) (report (told_in turns));
   broken_off = λ old new turns last. (n : ℕ)
-      × Appends (contents (printer_out old)) (contents (printer_out new)) (report (told_in turns) ++ take n (line_of last.0));
+      × Appends (contents (printer_out old)) (contents (printer_out new))
+      (report (told_in turns) ++ take n (line_of last.0));
   is_handed_on = λ _. ⊤;
   room = λ _. 0;
   none = λ p. Appends-nil (contents (printer_out p));

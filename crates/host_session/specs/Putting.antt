@@ -15,8 +15,8 @@ pub record IsPlaced (img : Image) (name : List ℕ) (r : ℕ) (l : Layout) (n : 
   pub low : 1 ≤ r
   pub there : r ≤ length (records img f)
 
--- f, at place n of the layout l, is the first closed relative file of the name, and a record r of its length ends within the
--- 720 blocks of the longest file
+-- f, at place n of the layout l, is the first closed relative file of the name, and a record r of its length ends
+-- within the 720 blocks of the longest file
 pub record IsInReach (img : Image) (name : List ℕ) (r : ℕ) (l : Layout) (n : ℕ) (f : File) : Type 0 where
   pub layout : IsLayout img l
   pub first : IsFirst l name n f

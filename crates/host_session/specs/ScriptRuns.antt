@@ -18,8 +18,8 @@ use Rattle.host_session.specs.declared.faults.OpenFault.{OpenFault}
 use Rattle.host_session.specs.declared.running.ScriptFault.{ScriptFault}
 use Rattle.host_session.specs.declared.running.ScriptFault.TheVariants as faults
 
--- All of these messages were played: each has its reply, over what counted before it, and was told over the disk that it
--- left; and the shop is settled.
+-- All of these messages were played: each has its reply, over what counted before it, and was told over the disk that
+-- it left; and the shop is settled.
 pub record IsPlayedOut {D T : Type 0} (h : History D) (o : Output T) (s : Shop) (ms : List Message) (disk left : D)
     (old new : T) : Type 0 where
   pub run : IsToldWhole h o s ms disk left old new
@@ -34,8 +34,8 @@ pub record IsPlayedToOutput {D T : Type 0} (h : History D) (o : Output T) (s : S
   pub run : IsToldToOutput h o s begun disk left old new
   pub stopped : StoppedByOutput h s ms disk left (told_in (run.turns ++ run.last ∷ []))
 
--- A beginning of the messages was played, in the last of which the device failed. The replies before the last were told,
--- and nothing else but the last, or a part of it.
+-- A beginning of the messages was played, in the last of which the device failed. The replies before the last were
+-- told, and nothing else but the last, or a part of it.
 pub record IsPlayedToDevice {D T : Type 0} (h : History D) (o : Output T) (s : Shop) (ms : List Message) (disk left : D)
     (old new : T) : Type 0 where
   pub begun : List Message
@@ -58,8 +58,8 @@ pub record IsScriptRun {D T : Type 0} (h : History D) (o : Output T) (disk : D) 
   pub good : IfErr result (λ e. (n : ℕ) → e.0 ≡ faults.BadLine n → first_bad (lines script) ≡ Some n)
   -- A shop alone is played.
   pub shop : IfOk result (λ _. IsAShop (h.image disk))
-  -- At Ok each line has its reply, over what counted before it, and was told over the disk that it left, before the next
-  -- line was played; and the shop is settled.
+  -- At Ok each line has its reply, over what counted before it, and was told over the disk that it left, before the
+  -- next line was played; and the shop is settled.
   pub ok : (s : Shop) → IsShop (h.image disk) s → IfOk result (λ left.
       IsPlayedOut h o s (messages_of (lines script)) disk left old new)
   -- Where no line begins with @, each line has its reply over the lines before it, and each counts.
@@ -73,7 +73,8 @@ pub record IsScriptRun {D T : Type 0} (h : History D) (o : Output T) (disk : D) 
   pub device : (s : Shop) → IsShop (h.image disk) s → IfErr result (λ e. e.0 ≡ faults.Device
       → IsPlayedToDevice h o s (messages_of (lines script)) disk e.1 old new)
   -- At each moment the shop is that of a counted list of some beginning of the lines.
-  pub moments : (s : Shop) → IsShop (h.image disk) s → HeldBeginnings h s (messages_of (lines script)) disk (disk_of (λ d. d) result)
+  pub moments : (s : Shop) → IsShop (h.image disk) s
+      → HeldBeginnings h s (messages_of (lines script)) disk (disk_of (λ d. d) result)
   -- Lines that ask nothing new leave the disk alone, however it ends.
   pub quiet : (s : Shop) → IsShop (h.image disk) s → AskNothing s (messages_of (lines script))
       → IsQuiet h s (messages_of (lines script)) disk (disk_of (λ d. d) result)

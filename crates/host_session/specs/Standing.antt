@@ -1,5 +1,6 @@
 -- What an open session holds of the shop on its disk. All of it is our own.
-use Rattle.std.specs.Prelude.{refl, ◌≡◌, ℕ, Bool, false, ◌-◌, ◌==◌, ◌++◌, List, Option, None, if◌then◌else◌, length, option_map, replicate, slice_index_or}
+use Rattle.std.specs.Prelude.{refl, ◌≡◌, ℕ, Bool, false, ◌-◌, ◌==◌, ◌++◌, List, Option, None, if◌then◌else◌, length}
+use Rattle.std.specs.Prelude.{option_map, replicate, slice_index_or}
 use Rattle.std.specs.Coded.{Coded, code_by, coded×, coded_bool}
 use Rattle.std.specs.Option.{option_and_then}
 use Rattle.d64_image.specs.Images.{Image}
@@ -14,7 +15,8 @@ pub record View (D : Type 0) : Type 0 where
 
 abbrev pub view_code : {D : Type 0} → Coded D → Coded (View D)
 view_code {D} code =
-    code_by (D × Bool) (coded× code coded_bool) (λ v. (v.disk, v.dead)) (λ p. record { disk = p.0; dead = p.1 }) (λ _. refl)
+    code_by (D × Bool) (coded× code coded_bool) (λ v. (v.disk, v.dead)) (λ p. record { disk = p.0; dead = p.1 })
+    (λ _. refl)
 
 -- what a table holds for item or till n, which count from 1
 abbrev pub nth : {X : Type 0} → List (Option X) → ℕ → Option X

@@ -14,8 +14,8 @@ pub record IsWithin {D : Type 0} (h : History D) (m : Message) (old new : D) : T
   pub needed : (f : Files) → (x : HasFiles (h.image old) f)
       → h.writes new ≤ h.writes old + most_writes (shop_of f) x.stock_file (request_of m.bytes)
 
--- Each of these messages in which power doesn't go wrote so many, one after another from this disk on. Beside each reply
--- stands the disk that its message left.
+-- Each of these messages in which power doesn't go wrote so many, one after another from this disk on. Beside each
+-- reply stands the disk that its message left.
 abbrev pub AreWithin : {D : Type 0} → History D → List Message → List (Reply × D) → D → Type 0
 AreWithin h (m ∷ ms) (x ∷ xs) old = (m.cut_after ≡ None → IsWithin h m old x.1) × AreWithin h ms xs x.1
 AreWithin h _ _ old = Unit {0}

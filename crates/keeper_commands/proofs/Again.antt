@@ -1,5 +1,6 @@
 -- Records that were stored are so, and nothing is printed of them.
-use Rattle.std.proofs.Common.{◌≡◌, ◌≢◌, ◌≤◌, ◌<◌, ℕ, zero, suc, ◌-◌, List, [], ◌∷◌, ◌++◌, Some, Bool, length, set, get_or, refl, subst, ap, ◌∙◌, arith}
+use Rattle.std.proofs.Common.{◌≡◌, ◌≢◌, ◌≤◌, ◌<◌, ℕ, zero, suc, ◌-◌, List, [], ◌∷◌, ◌++◌, Some, Bool, length, set}
+use Rattle.std.proofs.Common.{get_or, refl, subst, ap, ◌∙◌, arith}
 use Rattle.std.specs.List.{AllByRecursion}
 use Rattle.std.specs.Prelude.{if◌then◌else◌, not, slice_get}
 use Rattle.std.proofs.lemmas.List.{length-set}
@@ -9,7 +10,8 @@ use Rattle.byte_text.specs.Lines.{padded}
 use Rattle.byte_text.specs.Texts.{record_line}
 use Rattle.keeper_commands.proofs.LastOnes.{AreNumbers, lines-numbers, ones-all, ones-apart, ones-greatest, stored-ones}
 use Rattle.keeper_commands.proofs.Padded.{so-stored_one}
-use Rattle.keeper_commands.specs.Stores.{AreApart, AreLinesOf, AreSo, IsSo, NewRecord, changed_line, changed_text, greatest, last_ones, stored, with_stored}
+use Rattle.keeper_commands.specs.Stores.{AreApart, AreLinesOf, AreSo, IsSo, NewRecord, changed_line, changed_text}
+use Rattle.keeper_commands.specs.Stores.{greatest, last_ones, stored, with_stored}
 
 get-set : {X : Type 0} (xs : List X) (i : ℕ) (y : X) → i < length xs → slice_get (set xs i y) i ≡ Some y
 get-set [] i y lt = absurd (omega (arith, lt))
@@ -53,8 +55,10 @@ so-again L had ls xs rs are few =
 
 same-line : (L : ℕ) (x : NewRecord) (rs : List (List ℕ)) → IsSo L rs x → changed_line L x rs ≡ []
 same-line L x rs so =
-    let is : get_or rs (x.number - 1) [] ≡ padded L x.bytes = get_or_from_slice_get rs (x.number - 1) (padded L x.bytes) [] so in
-    ap (λ (t : Bool). if not t then record_line x.number x.bytes else []) ((bytes_eq-Decides (get_or rs (x.number - 1) []) (padded L x.bytes)).1 is)
+    let is : get_or rs (x.number - 1) [] ≡ padded L x.bytes = get_or_from_slice_get rs (x.number - 1) (padded L x.bytes)
+    [] so in
+    ap (λ (t : Bool). if not t then record_line x.number x.bytes else [])
+    ((bytes_eq-Decides (get_or rs (x.number - 1) []) (padded L x.bytes)).1 is)
 
 pub so-unprinted : (L : ℕ) (xs : List NewRecord) (rs : List (List ℕ)) → AreSo L rs xs → changed_text L xs rs ≡ []
 so-unprinted L [] rs so = refl

@@ -1,5 +1,6 @@
 -- The bytes of a file, block by block.
-use Rattle.std.proofs.Common.{◌≡◌, ◌∙◌, ◌*◌, ◌+◌, ◌-◌, ◌<◌, ◌≤◌, ℕ, List, [], ◌∷◌, ◌++◌, Option, ap, arith, drop, get_or, length, length-append, length-drop, max, subst, sym, take}
+use Rattle.std.proofs.Common.{◌≡◌, ◌∙◌, ◌*◌, ◌+◌, ◌-◌, ◌<◌, ◌≤◌, ℕ, List, [], ◌∷◌, ◌++◌, Option, ap, arith, drop}
+use Rattle.std.proofs.Common.{get_or, length, length-append, length-drop, max, subst, sym, take}
 use Rattle.std.specs.Io.KnownBytes.{Appends}
 use Rattle.std.proofs.KnownBytes.{Appends-trans}
 use Rattle.std.proofs.Math.Seq.{take-append-add, take-nil}
@@ -12,14 +13,17 @@ use Rattle.disk_layout.specs.Records.{joined}
 use Rattle.keeper_commands.specs.Bytes.{file_bytes}
 
 joined-one : (img : Image) (p : Place) → joined img (p ∷ []) ≡ drop 2 (sector img p)
-joined-one img p = joined-cons img p [] ∙ ap (λ (zs : List ℕ). drop 2 (sector img p) ++ zs) (joined-nil img) ∙ append-nil (drop 2 (sector img p))
+joined-one img p = joined-cons img p [] ∙ ap (λ (zs : List ℕ). drop 2 (sector img p) ++ zs) (joined-nil img)
+    ∙ append-nil (drop 2 (sector img p))
 
 -- a block that another follows gives all of its bytes
 pub whole-block : (img : Image) (p : Place) → IsImage img → take 254 (drop 2 (sector img p)) ≡ drop 2 (sector img p)
-whole-block img p w = take_all 254 (drop 2 (sector img p)) (omega (arith, length-drop 2 (sector img p), sector-long img p w))
+whole-block img p w =
+    take_all 254 (drop 2 (sector img p)) (omega (arith, length-drop 2 (sector img p), sector-long img p w))
 
 -- one block more
-pub joined-more : (img : Image) (ps : List Place) (p : Place) → joined img (ps ++ p ∷ []) ≡ joined img ps ++ drop 2 (sector img p)
+pub joined-more : (img : Image) (ps : List Place) (p : Place)
+    → joined img (ps ++ p ∷ []) ≡ joined img ps ++ drop 2 (sector img p)
 joined-more img ps p = joined-append img ps (p ∷ []) ∙ ap (λ (zs : List ℕ). joined img ps ++ zs) (joined-one img p)
 
 -- the blocks before the last give all of their bytes, and the last one those up to its last index
@@ -34,24 +38,30 @@ file-split img front p u w =
 -- a file without blocks has no bytes
 pub file-none : (img : Image) (blocks : List Place) (u : ℕ) → length blocks ≤ 0 → [] ≡ file_bytes img blocks u
 unfolding file_bytes
-file-none img [] u none = sym (ap (take (254 * (0 - 1) + max u 1 - 1)) (joined-nil img) ∙ take-nil (254 * (0 - 1) + max u 1 - 1))
+file-none img [] u none = sym (ap (take (254 * (0 - 1) + max u 1 - 1)) (joined-nil img)
+    ∙ take-nil (254 * (0 - 1) + max u 1 - 1))
 file-none img (p ∷ ps) u none = absurd (omega (arith, none))
 
 -- one block's bytes more, printed
-pub block-more : (a b c : Option (List ℕ)) (img here : Image) (ps : List Place) (i : ℕ) (p : Place) → IsImage img → here ≡ img
+pub block-more : (a b c : Option (List ℕ)) (img here : Image) (ps : List Place) (i : ℕ) (p : Place) → IsImage img
+    → here ≡ img
     → i < length ps → get_or ps i p ≡ p → Appends a b (joined img (take i ps))
     → Appends b c (take (max 255 1 - 1) (drop 2 (sector here p))) → Appends a c (joined img (take (i + 1) ps))
 block-more a b c img here ps i p w same inside is before more =
-    let taken : take (i + 1) ps ≡ take i ps ++ p ∷ [] = take_more ps i p inside ∙ ap (λ (q : Place). take i ps ++ q ∷ []) is in
+    let taken : take (i + 1) ps ≡ take i ps ++ p ∷ [] = take_more ps i p inside
+    ∙ ap (λ (q : Place). take i ps ++ q ∷ []) is in
     let whole : take (max 255 1 - 1) (drop 2 (sector here p)) ≡ drop 2 (sector img p) =
     ap (λ (x : Image). take 254 (drop 2 (sector x p))) same ∙ whole-block img p w in
     let both : joined img (take i ps) ++ take (max 255 1 - 1) (drop 2 (sector here p)) ≡ joined img (take (i + 1) ps) =
-    ap (λ (zs : List ℕ). joined img (take i ps) ++ zs) whole ∙ sym (ap (joined img) taken ∙ joined-more img (take i ps) p) in
+    ap (λ (zs : List ℕ). joined img (take i ps) ++ zs) whole
+    ∙ sym (ap (joined img) taken ∙ joined-more img (take i ps) p) in
     subst (Appends a c) both (Appends-trans a b c _ _ before more)
 
 -- the whole blocks and the last one, printed
-pub file-printed : (a b c : Option (List ℕ)) (img here : Image) (blocks : List Place) (p : Place) (u : ℕ) → IsImage img → here ≡ img
-    → 1 ≤ length blocks → get_or blocks (length blocks - 1) p ≡ p → Appends a b (joined img (take (length blocks - 1) blocks))
+pub file-printed : (a b c : Option (List ℕ)) (img here : Image) (blocks : List Place) (p : Place) (u : ℕ) → IsImage img
+    → here ≡ img
+    → 1 ≤ length blocks → get_or blocks (length blocks - 1) p ≡ p
+    → Appends a b (joined img (take (length blocks - 1) blocks))
     → Appends b c (take (max u 1 - 1) (drop 2 (sector here p))) → Appends a c (file_bytes img blocks u)
 file-printed a b c img here blocks p u w same some is before last =
     let front : List Place = take (length blocks - 1) blocks in
@@ -61,5 +71,6 @@ file-printed a b c img here blocks p u w same some is before last =
     let end : take (max u 1 - 1) (drop 2 (sector here p)) ≡ take (max u 1 - 1) (drop 2 (sector img p)) =
     ap (λ (x : Image). take (max u 1 - 1) (drop 2 (sector x p))) same in
     let both : joined img front ++ take (max u 1 - 1) (drop 2 (sector here p)) ≡ file_bytes img blocks u =
-    ap (λ (zs : List ℕ). joined img front ++ zs) end ∙ sym (ap (λ (ps : List Place). file_bytes img ps u) whole ∙ file-split img front p u w) in
+    ap (λ (zs : List ℕ). joined img front ++ zs) end ∙ sym (ap (λ (ps : List Place). file_bytes img ps u) whole
+    ∙ file-split img front p u w) in
     subst (Appends a c) both (Appends-trans a b c _ _ before last)

@@ -1,5 +1,6 @@
 -- Lines stored one after another: what is left, held, printed and told of all of them.
-use Rattle.std.proofs.Common.{◌≡◌, ℕ, ◌*◌, List, [], ◌++◌, Option, Result, Ok, Err, length, refl, subst, sym, ap, ap₂, ◌∙◌, arith}
+use Rattle.std.proofs.Common.{◌≡◌, ℕ, ◌*◌, List, [], ◌++◌, Option, Result, Ok, Err, length, refl, subst, sym, ap, ap₂}
+use Rattle.std.proofs.Common.{◌∙◌, arith}
 use Rattle.std.specs.Prelude.{OnOk}
 use Rattle.std.specs.Io.KnownBytes.{Appends}
 use Rattle.std.proofs.KnownBytes.{Appends-nil, Appends-trans}
@@ -18,14 +19,16 @@ use Rattle.rel_records.specs.File.{IsFileOf, length_of, records_in}
 use Rattle.rel_records.specs.Growth.{records_had}
 use Rattle.rel_records.specs.Others.{LeavesRecords}
 use Rattle.rel_records.specs.declared.rel_file.RelFile.{RelFile}
-use Rattle.keeper_commands.proofs.Folds.{changed-append, long-stored, part-behind, part-front, so-behind, so-front, so-stored, stored-append}
+use Rattle.keeper_commands.proofs.Folds.{changed-append, long-stored, part-behind, part-front, so-behind, so-front}
+use Rattle.keeper_commands.proofs.Folds.{so-stored, stored-append}
 use Rattle.keeper_commands.proofs.Mendings.{tells-after}
 use Rattle.keeper_commands.specs.Stores.{AreSo, IsPartStored, NewRecord, changed_text, stored}
 use Rattle.keeper_commands.specs.Storing.{IsStoringOver, StoresLines}
 use Rattle.keeper_commands.specs.declared.faults.KeepFault.{KeepFault}
 
 -- how many records a file has, by what is kept of it
-pub had-is : (img : Image) (l : Layout) (n : ℕ) (f : File) (v : RelFile) → IsFileOf img l n f v → records_in v ≡ records_had f
+pub had-is : (img : Image) (l : Layout) (n : ℕ) (f : File) (v : RelFile) → IsFileOf img l n f v
+    → records_in v ≡ records_had f
 had-is img l n f v of =
     ap (λ (b : ℕ). record_count b v.last v.size) of.shows.blocks
     ∙ ap (λ (u : ℕ). record_count (length f.blocks) u v.size) of.shows.last
@@ -36,10 +39,12 @@ unfolding records
 count-is img f = length-pieces _ _ _
 
 pub clean-layout : (img : Image) (l : Layout) → IsClean img → IsLayout img l → IsCleanLayout img l
-clean-layout img l clean is = subst (λ (m : Layout). IsCleanLayout img m) (IsLayout-one img clean.0 l clean.1.layout is) clean.1
+clean-layout img l clean is = subst (λ (m : Layout). IsCleanLayout img m) (IsLayout-one img clean.0 l clean.1.layout is)
+    clean.1
 
 -- nothing is done
-pub leaves-same : (img : Image) (l : Layout) (n : ℕ) (f : File) (v : RelFile) → IsClean img → IsFileOf img l n f v → LeavesRecords img img l n (records img f) v
+pub leaves-same : (img : Image) (l : Layout) (n : ℕ) (f : File) (v : RelFile) → IsClean img → IsFileOf img l n f v
+    → LeavesRecords img img l n (records img f) v
 leaves-same img l n f v clean of = record {
   layout = l;
   clean = clean-layout img l clean of.layout;
@@ -51,7 +56,8 @@ leaves-same img l n f v clean of = record {
 }
 
 -- as many records are there as before
-pub had-kept : (a b : Image) (l : Layout) (n : ℕ) (f : File) (v w : RelFile) (L : ℕ) (xs : List NewRecord) → IsFileOf a l n f v
+pub had-kept : (a b : Image) (l : Layout) (n : ℕ) (f : File) (v w : RelFile) (L : ℕ) (xs : List NewRecord)
+    → IsFileOf a l n f v
     → LeavesRecords a b l n (stored L xs (records a f)) w → records_in w ≡ records_in v
 had-kept a b l n f v w L xs of h =
     had-is b h.layout n h.file w h.of
@@ -74,11 +80,13 @@ module _ {D W : Type 0} (S : History D) (contents : W → Option (List ℕ)) (l 
 
   -- a beginning of more lines, that ends with a fault
   pub stored-longer : (a c : D) (o p : W) (v w : RelFile) (xs ys : List NewRecord) (fault : KeepFault)
-      → StoresLines S contents a c o p l n f v w xs (Err fault) → StoresLines S contents a c o p l n f v w (xs ++ ys) (Err fault)
+      → StoresLines S contents a c o p l n f v w xs (Err fault)
+      → StoresLines S contents a c o p l n f v w (xs ++ ys) (Err fault)
   stored-longer a c o p v w xs ys fault s = record {
     ok = tt;
     moments = changes_weaker S a c (2 * length xs) (2 * length (xs ++ ys)) _ _ (omega (arith, length-append xs ys))
-        (λ i (ts, part, has). (ts, part-front (record_length f.slot) xs ys (records (S.image a) f) ts part, has)) s.moments;
+        (λ i (ts, part, has). (ts, part-front (record_length f.slot) xs ys (records (S.image a) f) ts part, has))
+        s.moments;
     quiet = λ so. s.quiet (so-front (record_length f.slot) (records (S.image a) f) xs ys so);
     clean = s.clean;
     told = s.told;
@@ -93,12 +101,14 @@ module _ {D W : Type 0} (S : History D) (contents : W → Option (List ℕ)) (l 
     pub same-length : record_length left.file.slot ≡ record_length f.slot
     same-length = size-kept (S.image a) (S.image b) l left.layout n n f left.file v w of left.of first.ok.1
 
-    both-stored : stored (record_length left.file.slot) ys (records (S.image b) left.file) ≡ stored (record_length f.slot) (xs ++ ys) (records (S.image a) f)
+    both-stored : stored (record_length left.file.slot) ys (records (S.image b) left.file) ≡ stored
+        (record_length f.slot) (xs ++ ys) (records (S.image a) f)
     both-stored =
         ap₂ (λ (L : ℕ) (rs : List (List ℕ)). stored L ys rs) same-length left.records
         ∙ sym (stored-append (record_length f.slot) xs ys (records (S.image a) f))
 
-    both-text : changed_text (record_length f.slot) xs (records (S.image a) f) ++ changed_text (record_length left.file.slot) ys (records (S.image b) left.file)
+    both-text : changed_text (record_length f.slot) xs (records (S.image a) f) ++ changed_text
+        (record_length left.file.slot) ys (records (S.image b) left.file)
         ≡ changed_text (record_length f.slot) (xs ++ ys) (records (S.image a) f)
     both-text =
         ap (λ (t : List ℕ). changed_text (record_length f.slot) xs (records (S.image a) f) ++ t)
@@ -107,7 +117,8 @@ module _ {D W : Type 0} (S : History D) (contents : W → Option (List ℕ)) (l 
 
     module _ (r : Result (Unit {0}) KeepFault)
         (second : StoresLines S contents b c p q left.layout n left.file w x ys r) where
-      behind : (i : Image) → IsStoringOver (S.image b) left.layout n (record_length left.file.slot) ys (records (S.image b) left.file) i
+      behind : (i : Image) → IsStoringOver (S.image b) left.layout n (record_length left.file.slot) ys
+          (records (S.image b) left.file) i
           → IsStoringOver (S.image a) l n (record_length f.slot) (xs ++ ys) (records (S.image a) f) i
       behind i (ts, part, has) = (
         ts,
@@ -117,30 +128,42 @@ module _ {D W : Type 0} (S : History D) (contents : W → Option (List ℕ)) (l 
         leaves_then (S.image a) (S.image b) i l n _ ts w left has,
       )
 
-      both-so : AreSo (record_length f.slot) (records (S.image a) f) (xs ++ ys) → AreSo (record_length left.file.slot) (records (S.image b) left.file) ys
+      both-so : AreSo (record_length f.slot) (records (S.image a) f) (xs ++ ys)
+          → AreSo (record_length left.file.slot) (records (S.image b) left.file) ys
       both-so so =
-          let same = left.records ∙ so-stored (record_length f.slot) (records (S.image a) f) xs (so-front (record_length f.slot) (records (S.image a) f) xs ys so) in
+          let same = left.records ∙ so-stored (record_length f.slot) (records (S.image a) f) xs
+          (so-front (record_length f.slot) (records (S.image a) f) xs ys so) in
           subst (λ (L : ℕ). AreSo L (records (S.image b) left.file) ys) (sym same-length)
-          (subst (λ (rs : List (List ℕ)). AreSo (record_length f.slot) rs ys) (sym same) (so-behind (record_length f.slot) (records (S.image a) f) xs ys so))
+          (subst (λ (rs : List (List ℕ)). AreSo (record_length f.slot) rs ys) (sym same)
+          (so-behind (record_length f.slot) (records (S.image a) f) xs ys so))
 
       pub stored-then : StoresLines S contents a c o q l n f v x (xs ++ ys) r
       stored-then = record {
         ok = both r second.ok;
-        moments = changes_then S a b c (2 * length xs) (2 * length ys) (2 * length (xs ++ ys)) _ (omega (arith, length-append xs ys))
+        moments = changes_then S a b c (2 * length xs) (2 * length ys) (2 * length (xs ++ ys)) _
+            (omega (arith, length-append xs ys))
             (changes_weaker S a b (2 * length xs) (2 * length xs) _ _ (omega arith)
-            (λ i (ts, part, has). (ts, part-front (record_length f.slot) xs ys (records (S.image a) f) ts part, has)) first.moments)
+            (λ i (ts, part, has). (ts, part-front (record_length f.slot) xs ys (records (S.image a) f) ts part, has))
+            first.moments)
             (changes_weaker S b c (2 * length ys) (2 * length ys) _ _ (omega arith) behind second.moments);
         quiet = λ so. no_write_then S a b c
-            (first.quiet (so-front (record_length f.slot) (records (S.image a) f) xs ys so)) (second.quiet (both-so so));
+            (first.quiet (so-front (record_length f.slot) (records (S.image a) f) xs ys so))
+            (second.quiet (both-so so));
         clean = second.clean;
         told = tells-after S a b c r first.told second.told;
       }
         where
           both : (r : Result (Unit {0}) KeepFault)
-              → OnOk r (LeavesRecords (S.image b) (S.image c) left.layout n (stored (record_length left.file.slot) ys (records (S.image b) left.file)) x
-              × (length_of x ≡ length_of w) × Appends (contents p) (contents q) (changed_text (record_length left.file.slot) ys (records (S.image b) left.file)))
-              → OnOk r (LeavesRecords (S.image a) (S.image c) l n (stored (record_length f.slot) (xs ++ ys) (records (S.image a) f)) x
-              × (length_of x ≡ length_of v) × Appends (contents o) (contents q) (changed_text (record_length f.slot) (xs ++ ys) (records (S.image a) f)))
+              → OnOk r (LeavesRecords (S.image b) (S.image c) left.layout n (stored (record_length left.file.slot) ys
+              (records (S.image b) left.file)) x
+              × (length_of x ≡ length_of w)
+              × Appends (contents p) (contents q) (changed_text (record_length left.file.slot) ys
+              (records (S.image b) left.file)))
+              → OnOk r (LeavesRecords (S.image a) (S.image c) l n (stored (record_length f.slot) (xs ++ ys)
+              (records (S.image a) f)) x
+              × (length_of x ≡ length_of v)
+              × Appends (contents o) (contents q) (changed_text (record_length f.slot) (xs ++ ys)
+              (records (S.image a) f)))
           both (Err e) done = tt
           both (Ok t) done = (
             subst (λ (rs : List (List ℕ)). LeavesRecords (S.image a) (S.image c) l n rs x) both-stored

@@ -5,11 +5,13 @@ use Rattle.std.proofs.lemmas.Bool.{false≢true}
 use Rattle.disk_layout.specs.declared.slot.Slot.{Slot}
 use Rattle.keeper_commands.specs.Bytes.{IsClosedNamed}
 
-pub same-slot : (entries : List Slot) (n : ℕ) (s t : Slot) → slice_get entries n ≡ Some s → slice_get entries n ≡ Some t → s ≡ t
+pub same-slot : (entries : List Slot) (n : ℕ) (s t : Slot) → slice_get entries n ≡ Some s → slice_get entries n ≡ Some t
+    → s ≡ t
 same-slot entries n s t at to = cc
 
 -- an entry that was judged not to be so named
-pub not-named : (name : List ℕ) (s t : Slot) (judged : Bool) → judged ≡ false → (IsClosedNamed name s → IsTrue judged) → s ≡ t
+pub not-named : (name : List ℕ) (s t : Slot) (judged : Bool) → judged ≡ false → (IsClosedNamed name s → IsTrue judged)
+    → s ≡ t
     → ¬ (IsClosedNamed name t)
 not-named name s t judged off tells same named =
     let P : Slot → Type 0 = IsClosedNamed name in

@@ -1,5 +1,6 @@
 -- The records of a file of an image: of one length, of bytes, and no more than a disk can have.
-use Rattle.std.proofs.Common.{◌≡◌, ◌≤◌, ◌<◌, inl, inr, ℕ, zero, suc, ◌+◌, ◌*◌, List, [], ◌∷◌, ◌++◌, length, take, drop, get_or, length-append, refl, subst, sym, ap, arith}
+use Rattle.std.proofs.Common.{◌≡◌, ◌≤◌, ◌<◌, inl, inr, ℕ, zero, suc, ◌+◌, ◌*◌, List, [], ◌∷◌, ◌++◌, length, take, drop}
+use Rattle.std.proofs.Common.{get_or, length-append, refl, subst, sym, ap, arith}
 use Rattle.std.specs.List.{AllByRecursion}
 use Rattle.std.proofs.Math.Nat.{suc-mul}
 use Rattle.std.proofs.lemmas.Bool.{cases_lt}
@@ -97,7 +98,8 @@ module _ (img : Image) (l : Layout) (n : ℕ) (f : File) (name : List ℕ) (w : 
   file-few =
       let count = count-is img f in
       let few = places-few f.blocks rel.chain.2.once in
-      let row = least (record_count (length f.blocks) f.last (record_length f.slot)) (record_length f.slot) rel.length_low in
+      let row = least (record_count (length f.blocks) f.last (record_length f.slot)) (record_length f.slot)
+      rel.length_low in
       omega (arith, count, fit, few, row)
 
   pub file-low : 1 ≤ record_length f.slot

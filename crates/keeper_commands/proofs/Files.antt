@@ -10,12 +10,14 @@ use Rattle.disk_layout.specs.declared.slot.Slot.{Slot}
 use Rattle.keeper_commands.proofs.Entries.{same-slot}
 use Rattle.keeper_commands.specs.Bytes.{HasEntries, HasFile, HasFileBlocks, HasNamed, HoldsOfFile, IsFirstClosed}
 
-pub has-entries : (image : List ℕ) (img : Image) (places : List Place) (listed slots : List Slot) → length image ≡ 174848
+pub has-entries : (image : List ℕ) (img : Image) (places : List Place) (listed slots : List Slot)
+    → length image ≡ 174848
     → img ≡ sectors_in image → slots ≡ listed → IsDirectory img places listed → HasEntries image slots
 has-entries image img places listed slots size same all directory = record {
   size = size;
   sectors = places;
-  directory = subst (λ (i : Image). IsDirectory i places slots) same (subst (IsDirectory img places) (sym all) directory);
+  directory = subst (λ (i : Image). IsDirectory i places slots) same
+      (subst (IsDirectory img places) (sym all) directory);
 }
 
 module _ (image name : List ℕ) (slots : List Slot) (n : ℕ) (s : Slot) (entries : HasEntries image slots)
@@ -26,12 +28,16 @@ module _ (image name : List ℕ) (slots : List Slot) (n : ℕ) (s : Slot) (entri
   -- the slot that is read is the entry's
   pub slot-is : s ≡ first.slot
   slot-is = same-slot slots n s first.slot
-      (slice_get_read slots (length slots) n s refl (slice_get_within slots n first.slot first.there) (sym is)) first.there
+      (slice_get_read slots (length slots) n s refl (slice_get_within slots n first.slot first.there) (sym is))
+      first.there
 
   pub fault-there : (fault : Fault) → HoldsOfFile img s fault
       → (entry : HasNamed image name) × HoldsOfFile (sectors_in image) entry.first.slot fault
-  fault-there fault holds =
-      (named, subst (λ (i : Image). HoldsOfFile i first.slot fault) same (subst (λ (t : Slot). HoldsOfFile img t fault) slot-is holds))
+  fault-there fault holds = (
+    named,
+    subst (λ (i : Image). HoldsOfFile i first.slot fault) same
+        (subst (λ (t : Slot). HoldsOfFile img t fault) slot-is holds),
+  )
 
   abbrev pub file-there : (blocks : List Place) (u : ℕ) → HasFileBlocks img s blocks u → HasFile image name
   file-there blocks u has = record {

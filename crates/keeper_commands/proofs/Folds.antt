@@ -3,9 +3,11 @@ use Rattle.std.proofs.Common.{◌≡◌, ◌≤◌, inl, inr, ℕ, ◌-◌, List
 use Rattle.std.specs.Prelude.{max}
 use Rattle.std.proofs.lemmas.List.{append_assoc, length-set}
 use Rattle.keeper_commands.proofs.Padded.{so-stored_one}
-use Rattle.keeper_commands.specs.Stores.{AreSo, IsPartStored, NewRecord, changed_line, changed_text, greatest, stored, with_stored}
+use Rattle.keeper_commands.specs.Stores.{AreSo, IsPartStored, NewRecord, changed_line, changed_text, greatest, stored}
+use Rattle.keeper_commands.specs.Stores.{with_stored}
 
-pub stored-append : (L : ℕ) (xs ys : List NewRecord) (rs : List (List ℕ)) → stored L (xs ++ ys) rs ≡ stored L ys (stored L xs rs)
+pub stored-append : (L : ℕ) (xs ys : List NewRecord) (rs : List (List ℕ))
+    → stored L (xs ++ ys) rs ≡ stored L ys (stored L xs rs)
 stored-append L [] ys rs = refl
 stored-append L (x ∷ xs) ys rs = stored-append L xs ys (with_stored L x rs)
 
@@ -14,7 +16,8 @@ pub changed-append : (L : ℕ) (xs ys : List NewRecord) (rs : List (List ℕ))
 changed-append L [] ys rs = refl
 changed-append L (x ∷ xs) ys rs =
     ap (λ (t : List ℕ). changed_line L x rs ++ t) (changed-append L xs ys (with_stored L x rs))
-    ∙ sym (append_assoc (changed_line L x rs) (changed_text L xs (with_stored L x rs)) (changed_text L ys (stored L xs (with_stored L x rs))))
+    ∙ sym (append_assoc (changed_line L x rs) (changed_text L xs (with_stored L x rs))
+    (changed_text L ys (stored L xs (with_stored L x rs))))
 
 pub long-stored : (L : ℕ) (xs : List NewRecord) (rs : List (List ℕ)) → length (stored L xs rs) ≡ length rs
 long-stored L [] rs = refl
@@ -29,13 +32,15 @@ pub part-all : (L : ℕ) (xs : List NewRecord) (rs : List (List ℕ)) → IsPart
 part-all L [] rs = refl
 part-all L (x ∷ xs) rs = inr (inr (part-all L xs (with_stored L x rs)))
 
-pub part-front : (L : ℕ) (xs ys : List NewRecord) (rs ts : List (List ℕ)) → IsPartStored L xs rs ts → IsPartStored L (xs ++ ys) rs ts
+pub part-front : (L : ℕ) (xs ys : List NewRecord) (rs ts : List (List ℕ)) → IsPartStored L xs rs ts
+    → IsPartStored L (xs ++ ys) rs ts
 part-front L [] ys rs ts same = subst (IsPartStored L ys rs) (sym same) (part-none L ys rs)
 part-front L (x ∷ xs) ys rs ts (inl same) = inl same
 part-front L (x ∷ xs) ys rs ts (inr (inl half)) = inr (inl half)
 part-front L (x ∷ xs) ys rs ts (inr (inr part)) = inr (inr (part-front L xs ys (with_stored L x rs) ts part))
 
-pub part-behind : (L : ℕ) (xs ys : List NewRecord) (rs ts : List (List ℕ)) → IsPartStored L ys (stored L xs rs) ts → IsPartStored L (xs ++ ys) rs ts
+pub part-behind : (L : ℕ) (xs ys : List NewRecord) (rs ts : List (List ℕ)) → IsPartStored L ys (stored L xs rs) ts
+    → IsPartStored L (xs ++ ys) rs ts
 part-behind L [] ys rs ts part = part
 part-behind L (x ∷ xs) ys rs ts part = inr (inr (part-behind L xs ys (with_stored L x rs) ts part))
 

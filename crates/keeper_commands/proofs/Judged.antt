@@ -1,5 +1,6 @@
 -- Lines judged one after another.
-use Rattle.std.proofs.Common.{◌≡◌, ◌≤◌, inl, inr, ℕ, suc, ◌+◌, List, [], ◌∷◌, ◌++◌, length, set, refl, subst, sym, ap, ◌∙◌, arith}
+use Rattle.std.proofs.Common.{◌≡◌, ◌≤◌, inl, inr, ℕ, suc, ◌+◌, List, [], ◌∷◌, ◌++◌, length, set, refl, subst, sym, ap}
+use Rattle.std.proofs.Common.{◌∙◌, arith}
 use Rattle.std.specs.Prelude.{max}
 use Rattle.std.proofs.lemmas.Bool.{cases_eq}
 use Rattle.std.proofs.lemmas.Grind.{get_or-set_at}
@@ -9,7 +10,8 @@ use Rattle.keeper_commands.proofs.Folds.{greatest-push}
 use Rattle.keeper_commands.proofs.LastOnes.{place-other, place-push}
 use Rattle.keeper_commands.specs.Stores.{AreLinesOf, CanStore, IsFirstBad, NewRecord, TellsLast, greatest}
 
-lines-push : (L had : ℕ) (front : List (List ℕ)) (xs : List NewRecord) (line : List ℕ) (x : NewRecord) → AreLinesOf L had front xs
+lines-push : (L had : ℕ) (front : List (List ℕ)) (xs : List NewRecord) (line : List ℕ) (x : NewRecord)
+    → AreLinesOf L had front xs
     → IsLineOf line x.number x.bytes → CanStore L had x → AreLinesOf L had (front ++ line ∷ []) (xs ++ x ∷ [])
 lines-push L had [] [] line x are is can = (is, can, tt)
 lines-push L had [] (y ∷ xs) line x are is can = absurd are
@@ -34,8 +36,8 @@ last-told table xs x place long high here tells n le = elim (cases_eq x.number n
       ∙ tells n le ∙ sym (place-other n xs x other)
 ]
 
--- so many lines of all were judged, and these are left; the greatest number is the one, and the table tells which is the
--- last one of each record
+-- so many lines of all were judged, and these are left; the greatest number is the one, and the table tells which is
+-- the last one of each record
 pub record JudgedTo (L had : ℕ) (all left : List (List ℕ)) (count most : ℕ) (table : List ℕ) : Type 0 where
   pub front : List (List ℕ)
   pub new : List NewRecord
@@ -59,7 +61,8 @@ module _ (L had : ℕ) (all left : List (List ℕ)) (count most : ℕ) (table : 
       let x : NewRecord = record { number = n; bytes = bytes } in record {
         front = to.front ++ line ∷ [];
         new = to.new ++ x ∷ [];
-        split = to.split ∙ ap (λ (ls : List (List ℕ)). to.front ++ ls) next ∙ sym (append_assoc to.front (line ∷ []) rest);
+        split = to.split ∙ ap (λ (ls : List (List ℕ)). to.front ++ ls) next
+            ∙ sym (append_assoc to.front (line ∷ []) rest);
         counted = omega (arith, to.counted, length-append to.front (line ∷ []));
         good = lines-push L had to.front to.new line x to.good is can;
         greatest_is = ap (λ (m : ℕ). max m n) to.greatest_is ∙ sym (greatest-push to.new x);
@@ -83,7 +86,8 @@ module _ (L had : ℕ) (all left : List (List ℕ)) (count most : ℕ) (table : 
       → (xs : List NewRecord) × AreLinesOf L had all xs × (most ≡ greatest xs) × TellsLast table xs
   judged-all none = (
     to.new,
-    subst (λ (ls : List (List ℕ)). AreLinesOf L had ls to.new) (sym (to.split ∙ ap (λ (ls : List (List ℕ)). to.front ++ ls) none ∙ append-nil to.front)) to.good,
+    subst (λ (ls : List (List ℕ)). AreLinesOf L had ls to.new)
+        (sym (to.split ∙ ap (λ (ls : List (List ℕ)). to.front ++ ls) none ∙ append-nil to.front)) to.good,
     to.greatest_is,
     to.tells,
   )

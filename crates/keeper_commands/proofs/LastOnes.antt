@@ -1,10 +1,12 @@
 -- Of two records of one number the last counts: what is stored of them, and how they are told.
-use Rattle.std.proofs.Common.{◌≡◌, ◌≢◌, ◌≤◌, ◌<◌, ◌+◌, ◌-◌, ℕ, zero, suc, List, [], ◌∷◌, ◌++◌, Bool, true, false, length, set, refl, subst, sym, ap, ap₂, ◌∙◌, arith, eq-eqb, ne_eqb, inl, inr, replicate}
+use Rattle.std.proofs.Common.{◌≡◌, ◌≢◌, ◌≤◌, ◌<◌, ◌+◌, ◌-◌, ℕ, zero, suc, List, [], ◌∷◌, ◌++◌, Bool, true, false}
+use Rattle.std.proofs.Common.{length, set, refl, subst, sym, ap, ap₂, ◌∙◌, arith, eq-eqb, ne_eqb, inl, inr, replicate}
 use Rattle.std.specs.List.{AllByRecursion}
 use Rattle.std.specs.Prelude.{◌||◌, if◌then◌else◌, max, nat_eq, slice_index}
 use Rattle.std.proofs.lemmas.Bool.{cases_Bool, cases_eq}
 use Rattle.byte_text.specs.Lines.{padded}
-use Rattle.keeper_commands.specs.Stores.{AreApart, AreLinesOf, NewRecord, TellsLast, greatest, is_among, last_ones, last_place, stored, with_stored}
+use Rattle.keeper_commands.specs.Stores.{AreApart, AreLinesOf, NewRecord, TellsLast, greatest, is_among, last_ones}
+use Rattle.keeper_commands.specs.Stores.{last_place, stored, with_stored}
 
 -- all of them have a number of a record
 abbrev pub AreNumbers : List NewRecord → Type 0
@@ -29,7 +31,8 @@ pub ones-all : (P : NewRecord → Type 0) (xs : List NewRecord) → AllByRecursi
 ones-all P [] all = tt
 ones-all P (x ∷ xs) all = pick (is_among x.number xs) (ones-all P xs all.1)
   where
-    pick : (b : Bool) → AllByRecursion P (last_ones xs) → AllByRecursion P (if b then last_ones xs else x ∷ last_ones xs)
+    pick : (b : Bool) → AllByRecursion P (last_ones xs)
+        → AllByRecursion P (if b then last_ones xs else x ∷ last_ones xs)
     pick true rest = rest
     pick false rest = (all.0, rest)
 
@@ -37,9 +40,11 @@ ones-all P (x ∷ xs) all = pick (is_among x.number xs) (ones-all P xs all.1)
 pub none-among : (n : ℕ) (xs : List NewRecord) → is_among n xs ≡ false → AllByRecursion (λ y. y.number ≢ n) xs
 none-among n [] none = tt
 none-among n (x ∷ xs) none = elim (cases_eq x.number n) [
-  | inl same ↦ let yes : is_among n (x ∷ xs) ≡ true = ap (λ (b : Bool). b || is_among n xs) (eq-eqb x.number n same) in cc
+  | inl same ↦ let yes : is_among n (x ∷ xs) ≡ true = ap (λ (b : Bool). b || is_among n xs) (eq-eqb x.number n same) in
+      cc
   | inr other ↦
-      let rest : is_among n (x ∷ xs) ≡ is_among n xs = ap (λ (b : Bool). b || is_among n xs) (ne_eqb x.number n other) in
+      let rest : is_among n (x ∷ xs) ≡ is_among n xs =
+      ap (λ (b : Bool). b || is_among n xs) (ne_eqb x.number n other) in
       (other, none-among n xs (sym rest ∙ none))
 ]
 
@@ -68,7 +73,8 @@ greatest-among n [] among = cc
 greatest-among n (x ∷ xs) among = elim (cases_eq x.number n) [
   | inl same ↦ omega (arith, same)
   | inr other ↦
-      let rest : is_among n (x ∷ xs) ≡ is_among n xs = ap (λ (b : Bool). b || is_among n xs) (ne_eqb x.number n other) in
+      let rest : is_among n (x ∷ xs) ≡ is_among n xs =
+      ap (λ (b : Bool). b || is_among n xs) (ne_eqb x.number n other) in
       omega (arith, greatest-among n xs (sym rest ∙ among))
 ]
 
@@ -101,7 +107,8 @@ stored-over L n r (x ∷ xs) rs low all among = elim (cases_eq x.number n) [
       ap (λ (m : ℕ). stored L xs (set (set rs (m - 1) r) (x.number - 1) (padded L x.bytes))) (sym same)
       ∙ ap (stored L xs) (set-twice rs (x.number - 1) r (padded L x.bytes))
   | inr other ↦
-      let rest : is_among n (x ∷ xs) ≡ is_among n xs = ap (λ (b : Bool). b || is_among n xs) (ne_eqb x.number n other) in
+      let rest : is_among n (x ∷ xs) ≡ is_among n xs =
+      ap (λ (b : Bool). b || is_among n xs) (ne_eqb x.number n other) in
       let apart : n - 1 ≢ x.number - 1 = λ same. other (omega (arith, same, low, all.0)) in
       ap (stored L xs) (set-swap rs (n - 1) (x.number - 1) r (padded L x.bytes) apart)
       ∙ stored-over L n r xs (set rs (x.number - 1) (padded L x.bytes)) low all.1 (sym rest ∙ among)

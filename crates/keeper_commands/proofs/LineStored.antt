@@ -1,5 +1,6 @@
 -- The record of one line stored, and its line printed where it was otherwise.
-use Rattle.std.proofs.Common.{◌≡◌, ◌≢◌, ◌≤◌, ℕ, ◌*◌, List, [], ◌∷◌, ◌++◌, Option, Ok, Err, Bool, true, false, length, subst, sym, ap, ◌∙◌, arith, eq-eqb, ne_eqb}
+use Rattle.std.proofs.Common.{◌≡◌, ◌≢◌, ◌≤◌, ℕ, ◌*◌, List, [], ◌∷◌, ◌++◌, Option, Ok, Err, Bool, true, false, length}
+use Rattle.std.proofs.Common.{subst, sym, ap, ◌∙◌, arith, eq-eqb, ne_eqb}
 use Rattle.std.specs.Prelude.{if◌then◌else◌, slice_index}
 use Rattle.std.specs.Io.KnownBytes.{Appends}
 use Rattle.std.proofs.KnownBytes.{Appends-nil}
@@ -29,7 +30,8 @@ line-record line bytes n L h x found is can =
 -- it is the last one of its record, or isn't
 pub if-last : (table : List ℕ) (place : ℕ) (x : NewRecord) → slice_index table x.number ≡ place
     → x ∷ [] ≡ if_last table place x
-if-last table place x same = sym (ap (λ (b : Bool). if b then x ∷ [] else []) (eq-eqb (slice_index table x.number) place same))
+if-last table place x same =
+    sym (ap (λ (b : Bool). if b then x ∷ [] else []) (eq-eqb (slice_index table x.number) place same))
 
 pub if-not_last : (table : List ℕ) (place : ℕ) (x : NewRecord) → slice_index table x.number ≢ place
     → [] ≡ if_last table place x
@@ -40,21 +42,26 @@ if-not_last table place x other =
 one-same : (L : ℕ) (x : NewRecord) (rs : List (List ℕ)) → false ≡ is_changed L x rs → [] ≡ changed_text L (x ∷ []) rs
 one-same L x rs is = ap (λ (t : Bool). (if t then record_line x.number x.bytes else []) ++ []) is
 
-one-line_text : (L : ℕ) (x : NewRecord) (rs : List (List ℕ)) → true ≡ is_changed L x rs → record_line x.number x.bytes ≡ changed_text L (x ∷ []) rs
+one-line_text : (L : ℕ) (x : NewRecord) (rs : List (List ℕ)) → true ≡ is_changed L x rs
+    → record_line x.number x.bytes ≡ changed_text L (x ∷ []) rs
 one-line_text L x rs is =
-    sym (append-nil (record_line x.number x.bytes)) ∙ ap (λ (t : Bool). (if t then record_line x.number x.bytes else []) ++ []) is
+    sym (append-nil (record_line x.number x.bytes))
+    ∙ ap (λ (t : Bool). (if t then record_line x.number x.bytes else []) ++ []) is
 
 device-no-file : (fault : KeepFault) → fault ≡ keep.Device → fault ≡ keep.File → ⊥
 device-no-file fault is other = cc
 
-module _ {D W : Type 0} (S : History D) (contents : W → Option (List ℕ)) (a d : D) (o p : W) (l : Layout) (n : ℕ) (f : File)
+module _ {D W : Type 0} (S : History D) (contents : W → Option (List ℕ)) (a d : D) (o p : W) (l : Layout) (n : ℕ)
+    (f : File)
     (v w : RelFile) (x : NewRecord) where
   moments-one : Changes S a d 2 (IsStoringOver (S.image a) l n (record_length f.slot) (x ∷ []) (records (S.image a) f))
-      → Changes S a d (2 * length (x ∷ [])) (IsStoringOver (S.image a) l n (record_length f.slot) (x ∷ []) (records (S.image a) f))
+      → Changes S a d (2 * length (x ∷ [])) (IsStoringOver (S.image a) l n (record_length f.slot) (x ∷ [])
+      (records (S.image a) f))
   moments-one m = changes_weaker S a d 2 (2 * length (x ∷ [])) _ _ (omega arith) (λ i h. h) m
 
   -- the device failed
-  pub line-failed : (fault : KeepFault) → StoresOne S a d l n f v w x (Err fault) → StoresLines S contents a d o o l n f v w (x ∷ []) (Err fault)
+  pub line-failed : (fault : KeepFault) → StoresOne S a d l n f v w x (Err fault)
+      → StoresLines S contents a d o o l n f v w (x ∷ []) (Err fault)
   line-failed fault one = record {
     ok = tt;
     moments = moments-one one.moments;
@@ -67,7 +74,12 @@ module _ {D W : Type 0} (S : History D) (contents : W → Option (List ℕ)) (a 
   -- it was so already
   pub line-same : StoresOne S a d l n f v w x (Ok false) → StoresLines S contents a d o o l n f v w (x ∷ []) (Ok tt)
   line-same one = record {
-    ok = (one.ok.0, one.ok.1, subst (Appends (contents o) (contents o)) (one-same (record_length f.slot) x (records (S.image a) f) one.ok.2) (Appends-nil (contents o)));
+    ok = (
+      one.ok.0,
+      one.ok.1,
+      subst (Appends (contents o) (contents o))
+          (one-same (record_length f.slot) x (records (S.image a) f) one.ok.2) (Appends-nil (contents o)),
+    );
     moments = moments-one one.moments;
     quiet = λ so. one.quiet so.0;
     clean = tt;
@@ -75,10 +87,16 @@ module _ {D W : Type 0} (S : History D) (contents : W → Option (List ℕ)) (a 
   }
 
   -- it was stored, and its line printed
-  pub line-printed : StoresOne S a d l n f v w x (Ok true) → Appends (contents o) (contents p) (record_line x.number x.bytes)
+  pub line-printed : StoresOne S a d l n f v w x (Ok true)
+      → Appends (contents o) (contents p) (record_line x.number x.bytes)
       → StoresLines S contents a d o p l n f v w (x ∷ []) (Ok tt)
   line-printed one printed = record {
-    ok = (one.ok.0, one.ok.1, subst (Appends (contents o) (contents p)) (one-line_text (record_length f.slot) x (records (S.image a) f) one.ok.2) printed);
+    ok = (
+      one.ok.0,
+      one.ok.1,
+      subst (Appends (contents o) (contents p))
+          (one-line_text (record_length f.slot) x (records (S.image a) f) one.ok.2) printed,
+    );
     moments = moments-one one.moments;
     quiet = λ so. one.quiet so.0;
     clean = tt;
@@ -86,7 +104,8 @@ module _ {D W : Type 0} (S : History D) (contents : W → Option (List ℕ)) (a 
   }
 
   -- it was stored, and the output failed
-  pub line-unprinted : StoresOne S a d l n f v w x (Ok true) → StoresLines S contents a d o p l n f v w (x ∷ []) (Err keep.File)
+  pub line-unprinted : StoresOne S a d l n f v w x (Ok true)
+      → StoresLines S contents a d o p l n f v w (x ∷ []) (Err keep.File)
   line-unprinted one = record {
     ok = tt;
     moments = moments-one one.moments;

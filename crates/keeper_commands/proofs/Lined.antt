@@ -1,5 +1,6 @@
 -- The text of a file's records, line by line.
-use Rattle.std.proofs.Common.{◌≡◌, ◌≢◌, ◌≤◌, ◌+◌, ◌-◌, ◌/◌, ◌%◌, ℕ, zero, suc, List, [], ◌∷◌, ◌++◌, Bool, true, false, length, take, get_or, length-append, refl, subst, sym, ap, ap₂, ◌∙◌, arith}
+use Rattle.std.proofs.Common.{◌≡◌, ◌≢◌, ◌≤◌, ◌+◌, ◌-◌, ◌/◌, ◌%◌, ℕ, zero, suc, List, [], ◌∷◌, ◌++◌, Bool, true, false}
+use Rattle.std.proofs.Common.{length, take, get_or, length-append, refl, subst, sym, ap, ap₂, ◌∙◌, arith}
 use Rattle.std.specs.Str.Parse.{AllDigits}
 use Rattle.std.proofs.lemmas.Str.Parse.{digit_from_value}
 use Rattle.std.specs.Prelude.{◌==◌, decimal, if◌then◌else◌, slice_index}
@@ -20,7 +21,8 @@ abbrev lines_from : ℕ → List (List ℕ) → ℕ → List ℕ
 lines_from k rs zero = []
 lines_from k rs (suc n) = lines_from k rs n ++ record_line (k + n) (get_or rs n [])
 
-first-before : (k n : ℕ) (r : List ℕ) (rs : List (List ℕ)) → lines_from k (r ∷ rs) (suc n) ≡ record_line k r ++ lines_from (suc k) rs n
+first-before : (k n : ℕ) (r : List ℕ) (rs : List (List ℕ))
+    → lines_from k (r ∷ rs) (suc n) ≡ record_line k r ++ lines_from (suc k) rs n
 first-before k zero r rs =
     let here : k + 0 ≡ k = omega arith in
     ap (λ (m : ℕ). record_line m r) here ∙ sym (append-nil (record_line k r))
@@ -44,11 +46,13 @@ pub text-is : (rs : List (List ℕ)) → records_text rs ≡ text_from 1 rs
 unfolding records_text
 text-is rs = to-from rs (length rs) ∙ all-from 1 rs
 
-pub text-append : (k : ℕ) (rs ts : List (List ℕ)) → text_from k (rs ++ ts) ≡ text_from k rs ++ text_from (k + length rs) ts
+pub text-append : (k : ℕ) (rs ts : List (List ℕ))
+    → text_from k (rs ++ ts) ≡ text_from k rs ++ text_from (k + length rs) ts
 text-append k [] ts = let here : k ≡ k + 0 = omega arith in ap (λ (m : ℕ). text_from m ts) here
 text-append k (r ∷ rs) ts =
     let next : suc k + length rs ≡ k + suc (length rs) = omega arith in
-    ap (λ (t : List ℕ). record_line k r ++ t) (text-append (suc k) rs ts ∙ ap (λ (m : ℕ). text_from (suc k) rs ++ text_from m ts) next)
+    ap (λ (t : List ℕ). record_line k r ++ t) (text-append (suc k) rs ts
+    ∙ ap (λ (m : ℕ). text_from (suc k) rs ++ text_from m ts) next)
     ∙ sym (append_assoc (record_line k r) (text_from (suc k) rs) (text_from (k + suc (length rs)) ts))
 
 -- a record's line without its LF has none, and no CR at its end

@@ -1,5 +1,6 @@
 -- The records of a text's lines stored, line after line.
-use Rattle.std.proofs.Common.{◌≡◌, ◌≢◌, ◌≤◌, ◌+◌, inl, inr, ℕ, List, [], ◌∷◌, ◌++◌, Option, Result, Ok, Err, length, refl, subst, sym, ap, ◌∙◌, arith}
+use Rattle.std.proofs.Common.{◌≡◌, ◌≢◌, ◌≤◌, ◌+◌, inl, inr, ℕ, List, [], ◌∷◌, ◌++◌, Option, Result, Ok, Err, length}
+use Rattle.std.proofs.Common.{refl, subst, sym, ap, ◌∙◌, arith}
 use Rattle.std.specs.Prelude.{slice_index}
 use Rattle.std.proofs.lemmas.Bool.{cases_Bool}
 use Rattle.std.proofs.lemmas.List.{append_assoc, append-nil, length-append}
@@ -15,12 +16,14 @@ use Rattle.keeper_commands.proofs.Composed.{had-kept, stored-longer, stored-then
 use Rattle.keeper_commands.proofs.Folds.{greatest-front}
 use Rattle.keeper_commands.proofs.LastOnes.{ones-keep, ones-skip, place-behind, place-last}
 use Rattle.keeper_commands.proofs.LineStored.{if-last, if-not_last}
-use Rattle.keeper_commands.specs.Stores.{AreLinesOf, CanStore, NewRecord, TellsLast, greatest, if_last, is_among, last_ones, last_place, stored}
+use Rattle.keeper_commands.specs.Stores.{AreLinesOf, CanStore, NewRecord, TellsLast, greatest, if_last, is_among}
+use Rattle.keeper_commands.specs.Stores.{last_ones, last_place, stored}
 use Rattle.keeper_commands.specs.Storing.{StoresLines}
 use Rattle.keeper_commands.specs.declared.faults.KeepFault.{KeepFault}
 
 -- of so many lines those that count were stored, and these lines, of the other records, are left
-pub record StoringTo {D W : Type 0} (S : History D) (contents : W → Option (List ℕ)) (a now : D) (o p : W) (l : Layout) (n : ℕ) (f : File)
+pub record StoringTo {D W : Type 0} (S : History D) (contents : W → Option (List ℕ)) (a now : D) (o p : W) (l : Layout)
+    (n : ℕ) (f : File)
     (v w : RelFile) (h : ℕ) (xs : List NewRecord) (rest : List (List ℕ)) (place : ℕ) : Type 0 where
   pub done : List NewRecord
   pub left : List NewRecord
@@ -41,9 +44,18 @@ pub record NextOf (L h : ℕ) (line : List ℕ) (rest : List (List ℕ)) (left :
   pub can : CanStore L h new
   pub are_lines : AreLinesOf L h rest more
 
-next-of : (L h : ℕ) (line : List ℕ) (rest : List (List ℕ)) (left : List NewRecord) → AreLinesOf L h (line ∷ rest) left → NextOf L h line rest left
+next-of : (L h : ℕ) (line : List ℕ) (rest : List (List ℕ)) (left : List NewRecord) → AreLinesOf L h (line ∷ rest) left
+    → NextOf L h line rest left
 next-of L h line rest [] are = absurd are
-next-of L h line rest (x ∷ more) are = record { new = x; more = more; is = refl; is_line = are.0; can = are.1; are_lines = are.2 }
+next-of L h line rest (x ∷ more) are = record {
+  new = x;
+  more = more;
+  is = refl;
+  is_line = are.0;
+  can =
+      are.1;
+  are_lines = are.2;
+}
 
 none-left : (L h : ℕ) (left : List NewRecord) → AreLinesOf L h [] left → left ≡ []
 none-left L h [] are = refl
@@ -85,7 +97,8 @@ module _ {D W : Type 0} (S : History D) (contents : W → Option (List ℕ)) (a 
     next = next-of (length_of v) h line rest to.left
         (subst (λ (ls : List (List ℕ)). AreLinesOf (length_of v) h ls to.left) next_is to.are_lines)
 
-    abbrev here : LeavesRecords (S.image a) (S.image b) l n (stored (record_length f.slot) to.kept (records (S.image a) f)) w
+    abbrev here : LeavesRecords (S.image a) (S.image b) l n
+        (stored (record_length f.slot) to.kept (records (S.image a) f)) w
     here = to.stores.ok.0
 
     pub next-clean : IsClean (S.image b)
@@ -143,7 +156,8 @@ module _ {D W : Type 0} (S : History D) (contents : W → Option (List ℕ)) (a 
         are_lines = next.are_lines;
         kept = to.kept ++ one;
         ones = all-ones;
-        stores = subst (λ (s : Result (Unit {0}) KeepFault). StoresLines S contents a c o q l n f v u (to.kept ++ one) s)
+        stores = subst (λ (s : Result (Unit {0}) KeepFault). StoresLines S contents a c o q l n f v u (to.kept ++ one)
+            s)
             ok both;
       }
 

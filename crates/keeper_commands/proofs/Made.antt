@@ -34,7 +34,8 @@ module _ {D : Type 0} (S : History D) (image name : List ℕ) (L : ℕ) (a b : D
   }
 
   module _ {W : Type 0} (w : W) where
-    left : (fault : RelFault) (Why : Layout → Type 0) → fault ≢ rel.Device → Why clean.0 → Creates S a b name L (Err fault)
+    left : (fault : RelFault) (Why : Layout → Type 0) → fault ≢ rel.Device → Why clean.0
+        → Creates S a b name L (Err fault)
         → IsLeft S image a b w w Why
     left fault Why other why c = record {
       size = size;
@@ -49,7 +50,8 @@ module _ {D : Type 0} (S : History D) (image name : List ℕ) (L : ℕ) (a b : D
         → (fault ≡ rel.Exists) ⊎ ((fault ≡ rel.Full) ⊎ (fault ≡ rel.Device)) → ⊥
     no-other fault x y z told = ⊎_elim x (⊎_elim y z) told
 
-    pub make-refused : (fault : RelFault) → Creates S a b name L (Err fault) → IsMakeFault S image name L a b w w (keep_fault fault)
+    pub make-refused : (fault : RelFault) → Creates S a b name L (Err fault)
+        → IsMakeFault S image name L a b w w (keep_fault fault)
     make-refused rel.Exists c = left rel.Exists _ (λ e. cc) ((c.refuses.layout clean.0 clean.1.layout).exists refl) c
     make-refused rel.Full c = left rel.Full _ (λ e. cc) ((c.refuses.layout clean.0 clean.1.layout).full refl) c
     make-refused rel.Device c = (make-run (Err rel.Device) c, c.refuses.failures, refl)
@@ -59,7 +61,8 @@ module _ {D : Type 0} (S : History D) (image name : List ℕ) (L : ℕ) (a b : D
     make-refused rel.TooLarge c = absurd (no-other rel.TooLarge (λ e. cc) (λ e. cc) (λ e. cc) c.refuses.told)
 
 -- the image isn't that of a clean disk
-pub make-unclean : {D W : Type 0} (S : History D) (image name : List ℕ) (L : ℕ) (a : D) (w : W) (fault : KeepFault) → IsCleanFault image fault
+pub make-unclean : {D W : Type 0} (S : History D) (image name : List ℕ) (L : ℕ) (a : D) (w : W) (fault : KeepFault)
+    → IsCleanFault image fault
     → IsMakeFault S image name L a a w w fault
 make-unclean S image name L a w keep.ImageSize told = (told, refl, refl)
 make-unclean S image name L a w keep.NoMemory told = (told, refl, refl)

@@ -16,7 +16,8 @@ unfolding up_to
 none-yet a line = Appends-nil a
 
 -- the lines of one number more
-one-more : (a b c : Option (List ℕ)) (n : ℕ) (line : ℕ → List ℕ) → Appends a b (up_to n line) → Appends b c (line (n + 1))
+one-more : (a b c : Option (List ℕ)) (n : ℕ) (line : ℕ → List ℕ) → Appends a b (up_to n line)
+    → Appends b c (line (n + 1))
     → Appends a c (up_to (n + 1) line)
 unfolding up_to
 one-more a b c n line before more =
@@ -26,7 +27,8 @@ one-more a b c n line before more =
 
 module _ (a b c : Option (List ℕ)) (old new old' new' : Image) (same : old' ≡ old) (same' : new' ≡ new) where
   pub sector-more : (track n : ℕ) → Appends a b (up_to n (λ n. mended_at old new (place_at track (n - 1))))
-      → Appends b c (mended_at old' new' (place_at track n)) → Appends a c (up_to (n + 1) (λ n. mended_at old new (place_at track (n - 1))))
+      → Appends b c (mended_at old' new' (place_at track n))
+      → Appends a c (up_to (n + 1) (λ n. mended_at old new (place_at track (n - 1))))
   sector-more track n before more =
       let here : n ≡ n + 1 - 1 = omega arith in
       one-more a b c n (λ n. mended_at old new (place_at track (n - 1))) before
@@ -41,13 +43,16 @@ module _ (a b c : Option (List ℕ)) (old new old' new' : Image) (same : old' �
       (subst (λ (img : Image). Appends b c (mended_on img new (n + 1))) same
       (subst (λ (img : Image). Appends b c (mended_on old' img (n + 1))) same' more))
 
-pub all-printed : (a b c d : Option (List ℕ)) (old new : Image) → Appends a b (up_to 35 (mended_on old new)) → Appends b c (codes "OK\n")
+pub all-printed : (a b c d : Option (List ℕ)) (old new : Image) → Appends a b (up_to 35 (mended_on old new))
+    → Appends b c (codes "OK\n")
     → Keeps c d → Appends a d (mended_text old new)
 unfolding mended_text
-all-printed a b c d old new tracks ok kept = Appends-kept a c d _ (Appends-trans a b c (up_to 35 (mended_on old new)) (codes "OK\n") tracks ok) kept
+all-printed a b c d old new tracks ok kept =
+    Appends-kept a c d _ (Appends-trans a b c (up_to 35 (mended_on old new)) (codes "OK\n") tracks ok) kept
 
 -- what a call tells behind others that met no failure
-pub tells-after : {D T : Type 0} (S : History D) (a b c : D) (r : Result T KeepFault) → S.failures b ≡ S.failures a → TellsKeep S b c r → TellsKeep S a c r
+pub tells-after : {D T : Type 0} (S : History D) (a b c : D) (r : Result T KeepFault) → S.failures b ≡ S.failures a
+    → TellsKeep S b c r → TellsKeep S a c r
 tells-after S a b c (Ok x) same told = told ∙ same
 tells-after S a b c (Err keep.File) same told = told ∙ same
 tells-after S a b c (Err keep.Device) same told = failed_later S a b c same told

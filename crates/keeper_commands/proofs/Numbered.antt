@@ -1,5 +1,6 @@
 -- What is printed of a file's records, stored: its lines are of these records, which are the first ones then.
-use Rattle.std.proofs.Common.{◌≡◌, ◌≢◌, ◌≤◌, ◌<◌, ◌+◌, ◌-◌, ◌*◌, inl, inr, ℕ, zero, suc, List, [], ◌∷◌, ◌++◌, length, drop, set, length-append, refl, subst, sym, ap, ap₂, ◌∙◌, arith}
+use Rattle.std.proofs.Common.{◌≡◌, ◌≢◌, ◌≤◌, ◌<◌, ◌+◌, ◌-◌, ◌*◌, inl, inr, ℕ, zero, suc, List, [], ◌∷◌, ◌++◌, length}
+use Rattle.std.proofs.Common.{drop, set, length-append, refl, subst, sym, ap, ap₂, ◌∙◌, arith}
 use Rattle.std.specs.List.{AllByRecursion}
 use Rattle.std.proofs.lemmas.List.Elements.{All-from_recursion, recursion_from_All}
 use Rattle.std.specs.Prelude.{max}
@@ -11,7 +12,8 @@ use Rattle.byte_text.specs.Lines.{padded}
 use Rattle.byte_text.specs.Texts.{AreBytes, kept_before, trimmed}
 use Rattle.script_lines.specs.Lines.{lines}
 use Rattle.keeper_commands.specs.Records.{records_text}
-use Rattle.keeper_commands.specs.Stores.{AreApart, AreLinesOf, AreRecords, CanHave, CanStore, NewRecord, greatest, new_record, numbered, stored, with_stored}
+use Rattle.keeper_commands.specs.Stores.{AreApart, AreLinesOf, AreRecords, CanHave, CanStore, NewRecord, greatest}
+use Rattle.keeper_commands.specs.Stores.{new_record, numbered, stored, with_stored}
 use Rattle.keeper_commands.proofs.Lined.{first-line, line-ended, line_at, text-is, text_from}
 
 -- what is trimmed has no other bytes, and no more
@@ -101,7 +103,8 @@ lines-these L had k (r ∷ rs) xs few are =
 pub lines-only : (L had : ℕ) (rs : List (List ℕ)) (xs : List NewRecord) → length rs ≤ 182880
     → AreLinesOf L had (lines (records_text rs)) xs → xs ≡ numbered 1 rs
 lines-only L had rs xs few are =
-    lines-these L had 0 rs xs (omega (arith, few)) (subst (λ (t : List ℕ). AreLinesOf L had (lines t) xs) (text-is rs) are)
+    lines-these L had 0 rs xs (omega (arith, few)) (subst (λ (t : List ℕ). AreLinesOf L had (lines t) xs) (text-is rs)
+    are)
 
 -- lines are of one list of records, whatever the file
 pub lines-one : (L had L' had' : ℕ) (ls : List (List ℕ)) (xs ys : List NewRecord) → AreLinesOf L had ls xs
@@ -146,7 +149,8 @@ stored-from L k [] ts pre count are few = refl
 stored-from L k (r ∷ rs) [] pre count are few = absurd (omega (arith, few))
 stored-from L k (r ∷ rs) (t ∷ ts) pre count are few =
     let more : suc k ≡ length (pre ++ r ∷ []) = omega (arith, count, length-append pre (r ∷ [])) in
-    ap (stored L (numbered (suc (suc k)) rs)) (stored-seam L k r t pre ts count are.0.0 ∙ sym (append_assoc pre (r ∷ []) ts))
+    ap (stored L (numbered (suc (suc k)) rs)) (stored-seam L k r t pre ts count are.0.0
+    ∙ sym (append_assoc pre (r ∷ []) ts))
     ∙ stored-from L (suc k) rs ts (pre ++ r ∷ []) more are.1 (omega (arith, few))
     ∙ append_assoc pre (r ∷ []) (rs ++ drop (length rs) ts)
 

@@ -1,5 +1,6 @@
 -- One record that is there, stored: what is left and held, where it is so already and where it is written.
-use Rattle.std.proofs.Common.{◌≡◌, ◌≢◌, ◌≤◌, ◌⊎◌, ⊎_elim, inl, inr, ℕ, zero, suc, ◌+◌, ◌-◌, ◌*◌, ◌/◌, List, [], ◌∷◌, Result, Ok, Err, true, false, length, refl, subst, sym, ap, ◌∙◌, arith}
+use Rattle.std.proofs.Common.{◌≡◌, ◌≢◌, ◌≤◌, ◌⊎◌, ⊎_elim, inl, inr, ℕ, zero, suc, ◌+◌, ◌-◌, ◌*◌, ◌/◌, List, [], ◌∷◌}
+use Rattle.std.proofs.Common.{Result, Ok, Err, true, false, length, refl, subst, sym, ap, ◌∙◌, arith}
 use Rattle.std.specs.Prelude.{is_err}
 use Rattle.std.proofs.Math.Nat.{suc-mul}
 use Rattle.std.proofs.lemmas.Bool.{le-leb}
@@ -38,7 +39,8 @@ none-written f r le = rw (le-leb r (records_had f) le) refl
 
 pub grown-none : (img : Image) (f : File) (r : ℕ) → r ≤ records_had f → grown_to img f r ≡ records img f
 grown-none img f r le =
-    ap (λ (m : ℕ). grown_by (record_length f.slot) m (records img f)) (none-added (record_length f.slot) (records_had f) r le)
+    ap (λ (m : ℕ). grown_by (record_length f.slot) m (records img f)) (none-added (record_length f.slot) (records_had f)
+    r le)
     ∙ append-nil (records img f)
 
 -- two blocks at most have bytes of a record
@@ -51,10 +53,12 @@ few-touched L (suc k) low high some =
     let less : suc k - 1 ≡ k = omega arith in
     let row : suc k * L ≡ k * L + L = suc-mul k L in
     subst (λ (z : ℕ). (z - 1) / 254 - ((suc k - 1) * L + (1 - 1)) / 254 + 1 ≤ 2) (sym row)
-    (subst (λ (j : ℕ). (k * L + L - 1) / 254 - (j * L + (1 - 1)) / 254 + 1 ≤ 2) (sym less) (few-blocks (k * L) L low high))
+    (subst (λ (j : ℕ). (k * L + L - 1) / 254 - (j * L + (1 - 1)) / 254 + 1 ≤ 2) (sym less)
+    (few-blocks (k * L) L low high))
 
 -- where the answer is Ok, no failure was counted
-pub ok-told : {D T : Type 0} (S : History D) (a b : D) (r : Result T RelFault) → TellsRelFault S a b r → is_err r ≡ false → S.failures b ≡ S.failures a
+pub ok-told : {D T : Type 0} (S : History D) (a b : D) (r : Result T RelFault) → TellsRelFault S a b r
+    → is_err r ≡ false → S.failures b ≡ S.failures a
 ok-told S a b (Ok x) told ok = told
 ok-told S a b (Err e) told ok = absurd cc
 
@@ -63,17 +67,23 @@ writing-over : (i c : Image) (l : Layout) (n : ℕ) (f : File) (x : NewRecord) �
     → IsWriting i l n f (added (record_length f.slot) (records_had f) x.number) x.number 1 x.bytes c
     → IsStoringOver i l n (record_length f.slot) (x ∷ []) (records i f) c
 writing-over i c l n f x le (inl (k, few, has)) =
-    let none : k ≡ 0 = omega (arith, few, none-added (record_length f.slot) (records_had f) x.number le) in
-    (records i f, inl refl, subst (HasRecords i c l n) (ap (λ (m : ℕ). grown_by (record_length f.slot) m (records i f)) none ∙ append-nil (records i f)) has)
+    let none : k ≡ 0 = omega (arith, few, none-added (record_length f.slot) (records_had f) x.number le) in (
+      records i f,
+      inl refl,
+      subst (HasRecords i c l n) (ap (λ (m : ℕ). grown_by (record_length f.slot) m (records i f))
+          none ∙ append-nil (records i f)) has,
+    )
 writing-over i c l n f x le (inr (inl has)) = (
   with_half (record_length f.slot) x.number 1 x.bytes (records i f),
   inr (inl refl),
-  subst (λ (rs : List (List ℕ)). HasRecords i c l n (with_half (record_length f.slot) x.number 1 x.bytes rs)) (grown-none i f x.number le) has,
+  subst (λ (rs : List (List ℕ)). HasRecords i c l n (with_half (record_length f.slot) x.number 1 x.bytes rs))
+      (grown-none i f x.number le) has,
 )
 writing-over i c l n f x le (inr (inr has)) = (
   with_stored (record_length f.slot) x (records i f),
   inr (inr refl),
-  subst (λ (rs : List (List ℕ)). HasRecords i c l n (with_written (record_length f.slot) x.number 1 x.bytes rs)) (grown-none i f x.number le) has,
+  subst (λ (rs : List (List ℕ)). HasRecords i c l n (with_written (record_length f.slot) x.number 1 x.bytes rs))
+      (grown-none i f x.number le) has,
 )
 
 is-done : (r : Result (Unit {0}) RelFault) → is_err r ≡ false → IsDone r
@@ -85,22 +95,28 @@ none-such : (e : RelFault) → e ≢ rel.Overflow → e ≢ rel.TooLarge → e �
 none-such e x y z t told = ⊎_elim x (⊎_elim y (⊎_elim z t)) told
 
 -- a write into a record that is there fails only where the device does
-write-fails : {D : Type 0} (S : History D) (b d : D) (l : Layout) (n : ℕ) (f : File) (v w : RelFile) (x : NewRecord) (r : Result (Unit {0}) RelFault)
+write-fails : {D : Type 0} (S : History D) (b d : D) (l : Layout) (n : ℕ) (f : File) (v w : RelFile) (x : NewRecord)
+    (r : Result (Unit {0}) RelFault)
     → IsFileOf (S.image b) l n f v → x.number ≤ records_had f → length x.bytes ≤ length_of v
     → WritesRecord S b d v w x.number 1 x.bytes r → is_err r ≡ true → Failed S b d
 write-fails S b d l n f v w x (Ok t) of le short wrote err = absurd cc
 write-fails S b d l n f v w x (Err rel.Device) of le short wrote err = wrote.failures
-write-fails S b d l n f v w x (Err rel.Overflow) of le short wrote err = absurd (omega (arith, wrote.overflow refl, short))
+write-fails S b d l n f v w x (Err rel.Overflow) of le short wrote err =
+    absurd (omega (arith, wrote.overflow refl, short))
 write-fails S b d l n f v w x (Err rel.TooLarge) of le short wrote err =
     absurd (omega (arith, le, ((wrote.file l n f of).too_large.0 refl).0))
 write-fails S b d l n f v w x (Err rel.Full) of le short wrote err =
     absurd (omega (arith, le, ((wrote.file l n f of).full refl).0))
-write-fails S b d l n f v w x (Err rel.NotFound) of le short wrote err = absurd (none-such rel.NotFound (λ e. cc) (λ e. cc) (λ e. cc) (λ e. cc) wrote.told)
-write-fails S b d l n f v w x (Err rel.NotPresent) of le short wrote err = absurd (none-such rel.NotPresent (λ e. cc) (λ e. cc) (λ e. cc) (λ e. cc) wrote.told)
-write-fails S b d l n f v w x (Err rel.Exists) of le short wrote err = absurd (none-such rel.Exists (λ e. cc) (λ e. cc) (λ e. cc) (λ e. cc) wrote.told)
+write-fails S b d l n f v w x (Err rel.NotFound) of le short wrote err =
+    absurd (none-such rel.NotFound (λ e. cc) (λ e. cc) (λ e. cc) (λ e. cc) wrote.told)
+write-fails S b d l n f v w x (Err rel.NotPresent) of le short wrote err =
+    absurd (none-such rel.NotPresent (λ e. cc) (λ e. cc) (λ e. cc) (λ e. cc) wrote.told)
+write-fails S b d l n f v w x (Err rel.Exists) of le short wrote err =
+    absurd (none-such rel.Exists (λ e. cc) (λ e. cc) (λ e. cc) (λ e. cc) wrote.told)
 
 module _ {D : Type 0} (S : History D) (a b : D) (l : Layout) (n : ℕ) (f : File) (v : RelFile) (x : NewRecord)
-    (clean : IsClean (S.image a)) (of : IsFileOf (S.image a) l n f v) (low : 1 ≤ x.number) (high : x.number ≤ records_in v)
+    (clean : IsClean (S.image a)) (of : IsFileOf (S.image a) l n f v) (low : 1 ≤ x.number)
+    (high : x.number ≤ records_in v)
     (short : length x.bytes ≤ length_of v) (text : List ℕ) (r : Result (Unit {0}) RelFault)
     (read : ReadsRecord S a b v x.number text 3 r) where
   reached : x.number ≤ records_had f
@@ -138,7 +154,8 @@ module _ {D : Type 0} (S : History D) (a b : D) (l : Layout) (n : ℕ) (f : File
     pub not-stored : trimmed text ≡ trimmed x.bytes → StoresOne S a b l n f v v x (Ok false)
     not-stored same = record {
       ok = (
-        subst (λ (i : Image). LeavesRecords (S.image a) i l n (with_stored (record_length f.slot) x (records (S.image a) f)) v) (sym read.reads.image)
+        subst (λ (i : Image). LeavesRecords (S.image a) i l n
+            (with_stored (record_length f.slot) x (records (S.image a) f)) v) (sym read.reads.image)
             (subst (λ (rs : List (List ℕ)). LeavesRecords (S.image a) (S.image a) l n rs v)
             (sym (so-stored_one (record_length f.slot) (records (S.image a) f) x
             (so-there (record_length f.slot) (records (S.image a) f) x text there.there long fits same)))
@@ -152,13 +169,21 @@ module _ {D : Type 0} (S : History D) (a b : D) (l : Layout) (n : ℕ) (f : File
       told = ok-told S a b r read.failures ok;
     }
 
-    module _ (d : D) (w : RelFile) (s : Result (Unit {0}) RelFault) (wrote : WritesRecord S b d v w x.number 1 x.bytes s)
+    module _ (d : D) (w : RelFile) (s : Result (Unit {0}) RelFault) (wrote : WritesRecord S b d v w x.number 1 x.bytes
+        s)
         (other : trimmed text ≢ trimmed x.bytes) where
       over : Changes S a d 2 (IsStoringOver (S.image a) l n (record_length f.slot) (x ∷ []) (records (S.image a) f))
-      over = reads_first S a b d 3 2 2 (λ (i : Image). IsStoringOver i l n (record_length f.slot) (x ∷ []) (records i f)) (omega arith) read.reads
+      over = reads_first S a b d 3 2 2 (λ (i : Image). IsStoringOver i l n (record_length f.slot) (x ∷ [])
+          (records i f)) (omega arith) read.reads
           (records (S.image a) f, inl refl, has_same (S.image a) l n f v of)
           (changes_weaker S b d (growth_writes f x.number + touched (record_length f.slot) x.number 1) 2 _ _
-          (omega (arith, none-written f x.number reached, few-touched (record_length f.slot) x.number (subst (λ (m : ℕ). 1 ≤ m) of.shows.size v.size_low) (subst (λ (m : ℕ). m ≤ 254) of.shows.size v.size_high) low))
+          (omega (
+            arith,
+            none-written f x.number reached,
+            few-touched (record_length f.slot) x.number
+                (subst (λ (m : ℕ). 1 ≤ m) of.shows.size v.size_low) (subst (λ (m : ℕ). m ≤ 254) of.shows.size v.size_high)
+                low,
+          ))
           (λ i h. writing-over (S.image b) i l n f x reached h)
           (wrote.file l n f of-read).moments)
 
@@ -172,15 +197,18 @@ module _ {D : Type 0} (S : History D) (a b : D) (l : Layout) (n : ℕ) (f : File
         moments = over;
         quiet = λ so. absurd (not-so so);
         err = refl;
-        told = failed_later S a b d (ok-told S a b r read.failures ok) (write-fails S b d l n f v w x s of-read reached short wrote err);
+        told = failed_later S a b d (ok-told S a b r read.failures ok) (write-fails S b d l n f v w x s of-read reached
+            short wrote err);
       }
 
       -- it was
       pub is-stored : is_err s ≡ false → StoresOne S a d l n f v w x (Ok true)
       is-stored done = record {
         ok = (
-          subst (λ (i : Image). LeavesRecords i (S.image d) l n (with_stored (record_length f.slot) x (records i f)) w) read.reads.image
-              (subst (λ (rs : List (List ℕ)). LeavesRecords (S.image b) (S.image d) l n (with_stored (record_length f.slot) x rs) w) (grown-none (S.image b) f x.number reached)
+          subst (λ (i : Image). LeavesRecords i (S.image d) l n (with_stored (record_length f.slot) x (records i f)) w)
+              read.reads.image
+              (subst (λ (rs : List (List ℕ)). LeavesRecords (S.image b) (S.image d) l n
+              (with_stored (record_length f.slot) x rs) w) (grown-none (S.image b) f x.number reached)
               ((wrote.file l n f of-read).done (is-done s done))),
           wrote.same (is-done s done),
           sym (other-changed (record_length f.slot) (records (S.image a) f) x text there.there long fits other),

@@ -1,5 +1,6 @@
 -- A record that is there is read from a disk in memory, and its line is printed behind the others.
-use Rattle.std.proofs.Common.{◌≡◌, ◌≤◌, ◌+◌, ◌-◌, ◌⊎◌, inl, inr, ℕ, suc, List, [], Option, Some, None, Result, Ok, Err, true, false, length, get_or, refl, subst, sym, arith}
+use Rattle.std.proofs.Common.{◌≡◌, ◌≤◌, ◌+◌, ◌-◌, ◌⊎◌, inl, inr, ℕ, suc, List, [], Option, Some, None, Result, Ok, Err}
+use Rattle.std.proofs.Common.{true, false, length, get_or, refl, subst, sym, arith}
 use Rattle.std.specs.Prelude.{IfErr, OnOk, is_err, slice_get}
 use Rattle.std.specs.Io.KnownBytes.{Appends}
 use Rattle.std.proofs.KnownBytes.{Appends-trans}
@@ -27,30 +28,42 @@ absent-no rs number low high absent = elim absent [
   | inr past ↦ omega (arith, high, past)
 ]
 
-other-no : (x : RelFault) → (x ≡ rel.NotPresent → ⊥) → (x ≡ rel.Device → ⊥) → (x ≡ rel.NotPresent) ⊎ (x ≡ rel.Device) → ⊥
+other-no : (x : RelFault) → (x ≡ rel.NotPresent → ⊥) → (x ≡ rel.Device → ⊥) → (x ≡ rel.NotPresent) ⊎ (x ≡ rel.Device)
+    → ⊥
 other-no x a b told = elim told [
   | inl e ↦ a e
   | inr e ↦ b e
 ]
 
 -- a record that is there isn't read only where the device failed
-pub read-fails : {D : Type 0} (S : History D) (r : Result Unit RelFault) (a b : D) (rs : List (List ℕ)) (number : ℕ) → TellsRelFault S a b r
-    → IfErr r (λ fault. (fault ≡ rel.NotPresent) ⊎ (fault ≡ rel.Device)) → IfErr r (λ fault. fault ≡ rel.NotPresent → IsAbsent rs number)
+pub read-fails : {D : Type 0} (S : History D) (r : Result Unit RelFault) (a b : D) (rs : List (List ℕ)) (number : ℕ)
+    → TellsRelFault S a b r
+    → IfErr r (λ fault. (fault ≡ rel.NotPresent) ⊎ (fault ≡ rel.Device)) → IfErr r (λ fault. fault ≡ rel.NotPresent
+    → IsAbsent rs number)
     → 1 ≤ number → number ≤ length rs → is_err r ≡ true → Failed S a b
 read-fails S (Ok x) a b rs number tells told absent low high err = cc
-read-fails S (Err rel.NotPresent) a b rs number tells told absent low high err = absurd (absent-no rs number low high (absent refl))
+read-fails S (Err rel.NotPresent) a b rs number tells told absent low high err =
+    absurd (absent-no rs number low high (absent refl))
 read-fails S (Err rel.Device) a b rs number tells told absent low high err = tells
-read-fails S (Err rel.NotFound) a b rs number tells told absent low high err = absurd (other-no rel.NotFound (λ e. cc) (λ e. cc) told)
-read-fails S (Err rel.Overflow) a b rs number tells told absent low high err = absurd (other-no rel.Overflow (λ e. cc) (λ e. cc) told)
-read-fails S (Err rel.TooLarge) a b rs number tells told absent low high err = absurd (other-no rel.TooLarge (λ e. cc) (λ e. cc) told)
-read-fails S (Err rel.Full) a b rs number tells told absent low high err = absurd (other-no rel.Full (λ e. cc) (λ e. cc) told)
-read-fails S (Err rel.Exists) a b rs number tells told absent low high err = absurd (other-no rel.Exists (λ e. cc) (λ e. cc) told)
+read-fails S (Err rel.NotFound) a b rs number tells told absent low high err =
+    absurd (other-no rel.NotFound (λ e. cc) (λ e. cc) told)
+read-fails S (Err rel.Overflow) a b rs number tells told absent low high err =
+    absurd (other-no rel.Overflow (λ e. cc) (λ e. cc) told)
+read-fails S (Err rel.TooLarge) a b rs number tells told absent low high err =
+    absurd (other-no rel.TooLarge (λ e. cc) (λ e. cc) told)
+read-fails S (Err rel.Full) a b rs number tells told absent low high err =
+    absurd (other-no rel.Full (λ e. cc) (λ e. cc) told)
+read-fails S (Err rel.Exists) a b rs number tells told absent low high err =
+    absurd (other-no rel.Exists (λ e. cc) (λ e. cc) told)
 
 -- a disk in memory gives each record that is there
-pub read-done : (r : Result Unit RelFault) (a b : MemDisk) (rs : List (List ℕ)) (number : ℕ) → TellsRelFault memory a b r
-    → IfErr r (λ fault. (fault ≡ rel.NotPresent) ⊎ (fault ≡ rel.Device)) → IfErr r (λ fault. fault ≡ rel.NotPresent → IsAbsent rs number)
+pub read-done : (r : Result Unit RelFault) (a b : MemDisk) (rs : List (List ℕ)) (number : ℕ)
+    → TellsRelFault memory a b r
+    → IfErr r (λ fault. (fault ≡ rel.NotPresent) ⊎ (fault ≡ rel.Device)) → IfErr r (λ fault. fault ≡ rel.NotPresent
+    → IsAbsent rs number)
     → 1 ≤ number → number ≤ length rs → is_err r ≡ true → ⊥
-read-done r a b rs number tells told absent low high err = memory-never a b (read-fails memory r a b rs number tells told absent low high err)
+read-done r a b rs number tells told absent low high err =
+    memory-never a b (read-fails memory r a b rs number tells told absent low high err)
 
 pub not-err : {T E P : Type 0} (r : Result T E) → is_err r ≡ false → OnOk r P → P
 not-err (Ok x) e p = p
@@ -76,6 +89,7 @@ line-more a b c rs n before more =
     (Appends-trans a b c (lines_to rs n) (record_line (n + 1) (get_or rs n [])) before
     (subst (λ (m : ℕ). Appends b c (record_line (n + 1) (get_or rs m []))) here more))
 
-pub all-lines : (a b : Option (List ℕ)) (rs : List (List ℕ)) (n : ℕ) → n ≡ length rs → Appends a b (lines_to rs n) → Appends a b (records_text rs)
+pub all-lines : (a b : Option (List ℕ)) (rs : List (List ℕ)) (n : ℕ) → n ≡ length rs → Appends a b (lines_to rs n)
+    → Appends a b (records_text rs)
 unfolding records_text
 all-lines a b rs n all lines = subst (λ (m : ℕ). Appends a b (lines_to rs m)) all lines

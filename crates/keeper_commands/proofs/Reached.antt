@@ -13,7 +13,8 @@ use Rattle.keeper_commands.specs.declared.faults.KeepFault.{KeepFault}
 use Rattle.keeper_commands.specs.declared.faults.KeepFault.TheVariants as keep
 
 -- the image isn't that of a clean disk
-pub store-unclean : {D W : Type 0} (S : History D) (image name text : List ℕ) (a : D) (o : W) (fault : KeepFault) → IsCleanFault image fault
+pub store-unclean : {D W : Type 0} (S : History D) (image name text : List ℕ) (a : D) (o : W) (fault : KeepFault)
+    → IsCleanFault image fault
     → IsStoreFault S image name text a a o o fault
 store-unclean S image name text a o keep.ImageSize told = (told, refl, refl)
 store-unclean S image name text a o keep.NoMemory told = (told, refl, refl)
@@ -26,7 +27,8 @@ store-unclean S image name text a o keep.File told = absurd told
 store-unclean S image name text a o keep.Device told = absurd told
 
 -- the greatest number that lines give is one that the file can have
-greatest-can : (L had : ℕ) (ls : List (List ℕ)) (xs : List NewRecord) → AreLinesOf L had ls xs → CanHave L had (greatest xs)
+greatest-can : (L had : ℕ) (ls : List (List ℕ)) (xs : List NewRecord) → AreLinesOf L had ls xs
+    → CanHave L had (greatest xs)
 greatest-can L had [] [] are = inl (omega arith)
 greatest-can L had [] (x ∷ xs) are = absurd are
 greatest-can L had (l ∷ ls) [] are = absurd are
@@ -44,8 +46,10 @@ too-large-no L had r (inl le) lt big = omega (arith, le, lt)
 too-large-no L had r (inr (few, blocks)) lt (inl big) = omega (arith, blocks, big)
 too-large-no L had r (inr (few, blocks)) lt (inr big) = omega (arith, few, big)
 
-pub not-too-large : (f : File) (ls : List (List ℕ)) (xs : List NewRecord) → AreLinesOf (record_length f.slot) (records_had f) ls xs → ¬ (IsTooLarge f (greatest xs))
-not-too-large f ls xs are (lt, big) = too-large-no (record_length f.slot) (records_had f) (greatest xs) (greatest-can (record_length f.slot) (records_had f) ls xs are) lt big
+pub not-too-large : (f : File) (ls : List (List ℕ)) (xs : List NewRecord)
+    → AreLinesOf (record_length f.slot) (records_had f) ls xs → ¬ (IsTooLarge f (greatest xs))
+not-too-large f ls xs are (lt, big) = too-large-no (record_length f.slot) (records_had f) (greatest xs)
+    (greatest-can (record_length f.slot) (records_had f) ls xs are) lt big
 
 -- records that are so already are there
 pub so-there : (L : ℕ) (rs : List (List ℕ)) (xs : List NewRecord) → AreSo L rs xs → greatest xs ≤ length rs

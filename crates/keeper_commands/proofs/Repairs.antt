@@ -24,7 +24,8 @@ module _ {D : Type 0} (S : History D) where
   -- images held, and then nothing written
   held-quiet : (a b c : D) (P : Image → Type 0) → HeldOnly S a b P → WritesNothing S b c → HeldOnly S a c P
   held-quiet a b c P held quiet =
-      then S a b c P held (weaker S b c (λ i. i ≡ S.image b) P (λ i e. subst P (sym e) (at_end S a b P held)) quiet.held)
+      then S a b c P held (weaker S b c (λ i. i ≡ S.image b) P (λ i e. subst P (sym e) (at_end S a b P held))
+      quiet.held)
 
   changes-quiet : (a b c : D) (n : ℕ) (P : Image → Type 0) → Changes S a b n P → WritesNothing S b c → Changes S a c n P
   changes-quiet a b c n P changes quiet = record {
@@ -32,13 +33,15 @@ module _ {D : Type 0} (S : History D) where
     writes = subst (λ (m : ℕ). m ≤ S.writes a + n) (sym quiet.writes) changes.writes;
   }
 
-  over-quiet : (a b c : D) (Right : Place → Sector → Type 0) (ps : List Place) → GoesOver S a b Right ps → WritesNothing S b c → GoesOver S a c Right ps
+  over-quiet : (a b c : D) (Right : Place → Sector → Type 0) (ps : List Place) → GoesOver S a b Right ps
+      → WritesNothing S b c → GoesOver S a c Right ps
   over-quiet a b c Right ps over quiet = record {
     held = held-quiet a b c (IsUnderWay Right ps (S.image a)) over.held quiet;
     once = record {
       written = over.once.written;
       once = over.once.once;
-      other = λ p in_them. subst (λ (img : Image). sector img p ≢ sector (S.image a) p) (sym quiet.image) (over.once.other p in_them);
+      other = λ p in_them. subst (λ (img : Image). sector img p ≢ sector (S.image a) p) (sym quiet.image)
+          (over.once.other p in_them);
       writes = subst (λ (m : ℕ). m ≤ S.writes a + length over.once.written) (sym quiet.writes) over.once.writes;
     };
   }
@@ -102,7 +105,8 @@ module _ {D : Type 0} (S : History D) where
     refused run (faults.Device p) told failures = (run, failures)
 
   -- the image wasn't taken into memory
-  pub load-refused : {W : Type 0} (image : List ℕ) (a : D) (w : W) (fault : KeepFault) → IsLoadFault image fault → IsRepairFault S image a a w w fault
+  pub load-refused : {W : Type 0} (image : List ℕ) (a : D) (w : W) (fault : KeepFault) → IsLoadFault image fault
+      → IsRepairFault S image a a w w fault
   load-refused image a w keep.ImageSize told = (told, refl, refl)
   load-refused image a w keep.NoMemory told = (told, refl, refl)
   load-refused image a w (keep.Layout fault) told = absurd told
@@ -114,7 +118,8 @@ module _ {D : Type 0} (S : History D) where
   load-refused image a w keep.Device told = absurd told
 
   -- the disk was mended, and the output or the device failed then
-  pub print-refused : {W : Type 0} (image : List ℕ) (a b c : D) (v w : W) (r : Result Unit KeepFault) → IsMendedDisk S image a c
+  pub print-refused : {W : Type 0} (image : List ℕ) (a b c : D) (v w : W) (r : Result Unit KeepFault)
+      → IsMendedDisk S image a c
       → S.failures b ≡ S.failures a → TellsKeep S b c r → IfErr r (IsRepairFault S image a c v w)
   print-refused image a b c v w (Ok x) mended same told = tt
   print-refused image a b c v w (Err keep.File) mended same told = mended

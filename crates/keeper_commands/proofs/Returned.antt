@@ -1,5 +1,6 @@
 -- Records of one image's file, stored into another's and printed again; and a text that is stored once more.
-use Rattle.std.proofs.Common.{◌≡◌, ◌≤◌, ◌<◌, ◌⊎◌, ⊎_elim, ℕ, ◌+◌, ◌-◌, ◌*◌, List, [], ◌++◌, Some, length, replicate, length-append, refl, subst, sym, ap, ◌∙◌, arith}
+use Rattle.std.proofs.Common.{◌≡◌, ◌≤◌, ◌<◌, ◌⊎◌, ⊎_elim, ℕ, ◌+◌, ◌-◌, ◌*◌, List, [], ◌++◌, Some, length, replicate}
+use Rattle.std.proofs.Common.{length-append, refl, subst, sym, ap, ◌∙◌, arith}
 use Rattle.std.proofs.lemmas.Bool.{cases_lt, le-leb, lt-leb}
 use Rattle.std.proofs.lemmas.List.{append-nil, drop_all, length-replicate}
 use Rattle.std.proofs.lemmas.Nat.{le-div}
@@ -23,7 +24,8 @@ use Rattle.keeper_commands.proofs.Numbered.{lines-one, lines-only, numbered-grea
 use Rattle.keeper_commands.proofs.OneStored.{grown-none}
 use Rattle.keeper_commands.proofs.Reached.{so-there}
 use Rattle.keeper_commands.specs.Records.{records_text}
-use Rattle.keeper_commands.specs.Stores.{AreRecords, AreSo, NewRecord, changed_text, greatest, last_ones, numbered, stored}
+use Rattle.keeper_commands.specs.Stores.{AreRecords, AreSo, NewRecord, changed_text, greatest, last_ones, numbered}
+use Rattle.keeper_commands.specs.Stores.{stored}
 use Rattle.keeper_commands.specs.Storing.{IsStoredDisk, put_over}
 
 -- how many records a file has when it has grown
@@ -33,7 +35,12 @@ grown-count img f r =
     let L = record_length f.slot in
     let empty : length (replicate (added L (records_had f) r) (empty_record L)) ≡ added L (records_had f) r =
     length-replicate {A = List ℕ} (added L (records_had f) r) (empty_record L) in
-    omega (arith, length-append (records img f) (replicate (added L (records_had f) r) (empty_record L)), empty, count-is img f)
+    omega (
+      arith,
+      length-append (records img f) (replicate (added L (records_had f) r) (empty_record L)),
+      empty,
+      count-is img f,
+    )
 
 added-none : (L had r : ℕ) → r ≤ had → added L had r ≡ 0
 added-none L had r le = rw (le-leb r had le) refl
@@ -57,7 +64,8 @@ grown-long img f r low = ⊎_elim
 
 -- where the file has as many, or fewer and these fill their blocks, nothing is behind them
 pub none-behind : (img : Image) (f : File) (rs : List (List ℕ)) → records_had f ≤ length rs
-    → (records_had f ≡ length rs) ⊎ (length rs ≡ full (record_length f.slot) (blocks_for (record_length f.slot) (length rs)))
+    → (records_had f ≡ length rs)
+    ⊎ (length rs ≡ full (record_length f.slot) (blocks_for (record_length f.slot) (length rs)))
     → put_over rs img f ≡ rs
 none-behind img f rs few either =
     let L = record_length f.slot in
@@ -102,9 +110,11 @@ module _ {D : Type 0} (S : History D) (image name : List ℕ) (a b : D) (rs : Li
     (are : AreRecords L rs) (few : length rs ≤ 182880) (done : IsStoredDisk S image name (records_text rs) a b)
     (same : record_length done.run.file.slot ≡ L) where
   all-is : done.run.all ≡ numbered 1 rs
-  all-is = lines-only (record_length done.run.file.slot) (records_had done.run.file) rs done.run.all few done.run.are_lines
+  all-is = lines-only (record_length done.run.file.slot) (records_had done.run.file) rs done.run.all few
+      done.run.are_lines
 
-  stored-is : stored (record_length done.run.file.slot) done.run.all (grown_to (S.image a) done.run.file (greatest done.run.all))
+  stored-is : stored (record_length done.run.file.slot) done.run.all
+      (grown_to (S.image a) done.run.file (greatest done.run.all))
       ≡ put_over rs (S.image a) done.run.file
   stored-is =
       let f = done.run.file in
@@ -116,18 +126,21 @@ module _ {D : Type 0} (S : History D) (image name : List ℕ) (a b : D) (rs : Li
       (grown-long (S.image a) f (length rs) (subst (λ (K : ℕ). 1 ≤ K) (sym same) low))
 
   -- the file has the records first, and then those behind them
-  pub put-back : HasRecords (S.image a) (S.image b) done.run.layout done.run.number (put_over rs (S.image a) done.run.file)
+  pub put-back : HasRecords (S.image a) (S.image b) done.run.layout done.run.number
+      (put_over rs (S.image a) done.run.file)
   put-back = subst (HasRecords (S.image a) (S.image b) done.run.layout done.run.number) stored-is done.has
 
   -- and so they are found
   pub found-back : (m : Layout) (k : ℕ) (g : File) → IsLayout (S.image b) m → IsFirst m name k g
       → records (S.image b) g ≡ put_over rs (S.image a) done.run.file
-  found-back m k g layout first = again-records (S.image a) (S.image b) done.run.layout done.run.number done.run.file name
+  found-back m k g layout first = again-records (S.image a) (S.image b) done.run.layout done.run.number done.run.file
+      name
       (put_over rs (S.image a) done.run.file) put-back done.run.first m k g layout first
 
 -- a text that was stored, stored once more
 module _ {D : Type 0} (S : History D) (image again name text : List ℕ) (a b c d : D) (held : S.image c ≡ S.image b)
-    (one : IsStoredDisk S image name text a b) (two : IsStoredDisk S again name text c d) (low : 1 ≤ record_length one.run.file.slot) where
+    (one : IsStoredDisk S image name text a b) (two : IsStoredDisk S again name text c d)
+    (low : 1 ≤ record_length one.run.file.slot) where
   abbrev left : List (List ℕ)
   left = stored (record_length one.run.file.slot) one.run.all (grown_to (S.image a) one.run.file (greatest one.run.all))
 

@@ -1,5 +1,6 @@
 -- What comes of the repair of a disk, and what is printed of it. Our own.
-use Rattle.std.specs.Prelude.{◌≡◌, ◌≢◌, ℕ, zero, suc, ◌-◌, ◌++◌, List, [], Option, Some, None, Result, Ok, Err, if◌then◌else◌, codes, length, bytes_eq}
+use Rattle.std.specs.Prelude.{◌≡◌, ◌≢◌, ℕ, zero, suc, ◌-◌, ◌++◌, List, [], Option, Some, None, Result, Ok, Err}
+use Rattle.std.specs.Prelude.{if◌then◌else◌, codes, length, bytes_eq}
 use Rattle.std.specs.Io.KnownBytes.{Appends}
 use Rattle.d64_image.specs.History.{Changes, Failed, History, WritesNothing}
 use Rattle.d64_image.specs.Images.{Image, sector}
@@ -25,7 +26,8 @@ up_to (suc n) line = up_to n line ++ line (suc n)
 -- the line of a sector that the two images have otherwise: MENDED 18/0
 abbrev pub mended_at : Image → Image → Option Place → List ℕ
 mended_at old new None = []
-mended_at old new (Some p) = if bytes_eq (sector old p) (sector new p) then [] else codes "MENDED " ++ place_text p ++ codes "\n"
+mended_at old new (Some p) = if bytes_eq (sector old p) (sector new p) then [] else codes "MENDED " ++ place_text p
+    ++ codes "\n"
 
 -- the lines of a track's sectors: no track has more than 21
 abbrev pub mended_on : Image → Image → ℕ → List ℕ
@@ -63,7 +65,8 @@ pub record IsMendedDisk {D : Type 0} (S : History D) (image : List ℕ) (old new
   pub spare : ClearsSpare (S.image old) (S.image new)
 
 -- the disk was repaired, and what was mended was printed
-pub record IsRepairDone {D W : Type 0} (S : History D) (contents : W → Option (List ℕ)) (image : List ℕ) (old new : D) (before after : W) : Type 0 where
+pub record IsRepairDone {D W : Type 0} (S : History D) (contents : W → Option (List ℕ)) (image : List ℕ) (old new : D)
+    (before after : W) : Type 0 where
   pub mended : IsMendedDisk S image old new
   pub printed : Appends (contents before) (contents after) (mended_text (S.image old) (S.image new))
 

@@ -1,5 +1,6 @@
 -- What comes of records that are stored from their lines. All of it is our own.
-use Rattle.std.specs.Prelude.{◌≡◌, ◌≢◌, ◌≤◌, ◌⊎◌, Bool, false, ℕ, suc, ◌+◌, ◌-◌, ◌||◌, ◌++◌, List, [], ◌∷◌, Some, bytes_eq, get_or, if◌then◌else◌, length, max, nat_eq, not, slice_get, slice_index}
+use Rattle.std.specs.Prelude.{◌≡◌, ◌≢◌, ◌≤◌, ◌⊎◌, Bool, false, ℕ, suc, ◌+◌, ◌-◌, ◌||◌, ◌++◌, List, [], ◌∷◌, Some}
+use Rattle.std.specs.Prelude.{bytes_eq, get_or, if◌then◌else◌, length, max, nat_eq, not, slice_get, slice_index}
 use Rattle.std.specs.List.{AllByRecursion}
 use Rattle.byte_text.specs.Lines.{IsLineOf, padded}
 use Rattle.byte_text.specs.Texts.{AreBytes, record_line, trimmed}

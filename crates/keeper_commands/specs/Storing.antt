@@ -1,5 +1,6 @@
 -- What a disk holds while records are stored from their lines, and what is left and told in the end. Our own.
-use Rattle.std.specs.Prelude.{◌≡◌, ◌≢◌, ◌⊎◌, Bool, ℕ, ◌+◌, ◌*◌, List, [], ◌∷◌, ◌++◌, Option, Result, Some, IfErr, IfOk, OnOk, drop, length, slice_get}
+use Rattle.std.specs.Prelude.{◌≡◌, ◌≢◌, ◌⊎◌, Bool, ℕ, ◌+◌, ◌*◌, List, [], ◌∷◌, ◌++◌, Option, Result, Some, IfErr, IfOk}
+use Rattle.std.specs.Prelude.{OnOk, drop, length, slice_get}
 use Rattle.std.specs.Io.KnownBytes.{Appends}
 use Rattle.d64_image.specs.History.{Changes, Failed, History, WritesNothing}
 use Rattle.d64_image.specs.Images.{Image}
@@ -17,7 +18,8 @@ use Rattle.rel_records.specs.declared.rel_file.RelFile.{RelFile}
 use Rattle.script_lines.specs.Lines.{lines}
 use Rattle.keeper_commands.specs.Refusals.{IsLeft}
 use Rattle.keeper_commands.specs.Repairs.{TellsKeep}
-use Rattle.keeper_commands.specs.Stores.{AreLinesOf, AreSo, IsFirstBad, IsPartStored, IsSo, NewRecord, changed_text, greatest, is_changed, last_ones, stored, with_stored}
+use Rattle.keeper_commands.specs.Stores.{AreLinesOf, AreSo, IsFirstBad, IsPartStored, IsSo, NewRecord, changed_text}
+use Rattle.keeper_commands.specs.Stores.{greatest, is_changed, last_ones, stored, with_stored}
 use Rattle.keeper_commands.specs.declared.faults.KeepFault.{KeepFault}
 use Rattle.keeper_commands.specs.declared.faults.KeepFault.TheVariants as keep
 
@@ -42,7 +44,8 @@ pub record StoresOne {D : Type 0} (S : History D) (old new : D) (l : Layout) (n 
 -- Records of f were stored, one after another, and the lines of those that were otherwise were printed. Of the file v
 -- was kept, and w is now.
 pub record StoresLines {D W : Type 0} (S : History D) (contents : W → Option (List ℕ)) (old new : D) (before after : W)
-    (l : Layout) (n : ℕ) (f : File) (v w : RelFile) (xs : List NewRecord) (result : Result (Unit {0}) KeepFault) : Type 0
+    (l : Layout) (n : ℕ) (f : File) (v w : RelFile) (xs : List NewRecord) (result : Result (Unit {0}) KeepFault) : Type
+    0
   where
     pub ok : OnOk result (
         LeavesRecords (S.image old) (S.image new) l n (stored (record_length f.slot) xs (records (S.image old) f)) w

@@ -1,5 +1,6 @@
--- Worked examples, computed by the checker. Each is named by what it shows. The bytes are those of a disk of an empty shop with
--- two tills, worked out by hand from the directory format and the block availability map (1541 User's Guide).
+-- Worked examples, computed by the checker. Each is named by what it shows. The bytes are those of a disk of an empty
+-- shop with two tills, worked out by hand from the directory format and the block availability map (1541 User's
+-- Guide).
 use Rattle.std.proofs.Common.{◌≡◌, ℕ, List, [], ◌∷◌, ◌++◌, refl, Some, None}
 use Rattle.std.specs.Prelude.{codes, flat_map, replicate}
 use Rattle.std.specs.Fmt.{digits}
@@ -14,7 +15,8 @@ use Rattle.request_cards.specs.Ledgers.{State}
 use Rattle.request_cards.specs.Trade.{put}
 use Rattle.ledger_commands.specs.Faults.{run_status}
 use Rattle.ledger_commands.specs.Shows.{shown_shop, told_part, up_to}
-use Rattle.ledger_commands.specs.Texts.{disk_text, dry_text, entry_text, listing, quoted, refusal_text, type_text, verdict_text}
+use Rattle.ledger_commands.specs.Texts.{disk_text, dry_text, entry_text, listing, quoted, refusal_text, type_text}
+use Rattle.ledger_commands.specs.Texts.{verdict_text}
 use Rattle.ledger_commands.specs.declared.dry_run.DryFault.TheVariants as dry
 use Rattle.ledger_commands.specs.declared.faults.RunFault.TheVariants as run
 
@@ -25,7 +27,8 @@ pub verdict_names_fault_and_place : verdict_text (Some (MapWrong map_place)) ≡
 unfolding digits
 verdict_names_fault_and_place = refl
 
-pub fault_of_the_directory_is_told_with_its_place : refusal_text (run.Layout (Loop directory_start)) ≡ codes "LAYOUT LOOP 18/1"
+pub fault_of_the_directory_is_told_with_its_place : refusal_text (run.Layout (Loop directory_start)) ≡ codes
+    "LAYOUT LOOP 18/1"
 unfolding digits
 fault_of_the_directory_is_told_with_its_place = refl
 
@@ -64,7 +67,8 @@ map_sector =
     counts : ℕ → ℕ → List ℕ
     counts tracks free = flat_map (λ (n : ℕ). n ∷ 255 ∷ 255 ∷ 255 ∷ []) (replicate tracks free)
 
-pub listing_of_a_disk : listing map_sector (stock ∷ []) ≡ codes "0 \"STOCK LEDGER\" 01 2A\n2 \"STOCK\" REL\n660 BLOCKS FREE\n"
+pub listing_of_a_disk : listing map_sector (stock ∷ []) ≡ codes
+    "0 \"STOCK LEDGER\" 01 2A\n2 \"STOCK\" REL\n660 BLOCKS FREE\n"
 unfolding listing disk_text entry_text quoted blocks_free digits
 listing_of_a_disk = refl
 
@@ -72,13 +76,19 @@ pub want_of_memory_isnt_a_file : run_status run.NoMemory ≡ 3
 want_of_memory_isnt_a_file = refl
 
 pub faults_of_an_opening_are_told_so :
-    refusal_text (run.BadCard 15) ++ codes ", " ++ refusal_text (run.BadRequestCard 64) ++ codes ", " ++ refusal_text run.TwoIntents
+    refusal_text (run.BadCard 15) ++ codes ", " ++ refusal_text (run.BadRequestCard 64) ++ codes ", " ++ refusal_text
+    run.TwoIntents
     ≡ codes "BAD CARD 15, BAD REQUEST CARD 64, TWO INTENTS"
 unfolding digits
 faults_of_an_opening_are_told_so = refl
 
 pub moved_goods_name_both_items :
-    told_part (codes "TILL ") (Some (record { till = 1; number = 3; body = record { kind = Move; item = 1; quantity = 4; to = 15 } }, Moved 6 7))
+    told_part (codes "TILL ")
+    (Some (
+      record { till = 1; number = 3; body = record { kind = Move; item = 1; quantity = 4; to = 15 } },
+      Moved 6
+          7,
+    ))
     ≡ codes "TILL 1,3,M,1,4,15,DONE,6,7\n"
 unfolding digits
 moved_goods_name_both_items = refl
@@ -88,9 +98,21 @@ abbrev shop : State
 shop = record {
   ledger = record {
     cards = put (λ _. None) 42 (Some 100);
-    kept = put (λ _. None) 1 (Some (record { number = 4; body = record { kind = Issue; item = 42; quantity = 20; to = 0 }; answer = Done 100 }));
+    kept = put (λ _. None) 1
+        (Some (record {
+          number = 4;
+          body = record { kind = Issue; item = 42; quantity = 20; to = 0 };
+          answer =
+              Done 100;
+        }));
   };
-  prior = put (λ _. None) 1 (Some (record { number = 3; body = record { kind = Issue; item = 42; quantity = 5; to = 0 }; answer = Done 120 }));
+  prior = put (λ _. None) 1
+      (Some (record {
+        number = 3;
+        body = record { kind = Issue; item = 42; quantity = 5; to = 0 };
+        answer =
+            Done 120;
+      }));
 }
 
 pub a_shop_is_shown_so :

@@ -1,5 +1,6 @@
 -- A run over a mirror, as one of its file: event by event.
-use Rattle.std.proofs.Common.{◌≡◌, ◌<◌, ◌≤◌, ◌+◌, ◌∙◌, ℕ, Bool, true, List, [], ◌∷◌, ◌++◌, None, Option, Some, ap, ap₂, arith, refl, subst, sym}
+use Rattle.std.proofs.Common.{◌≡◌, ◌<◌, ◌≤◌, ◌+◌, ◌∙◌, ℕ, Bool, true, List, [], ◌∷◌, ◌++◌, None, Option, Some, ap, ap₂}
+use Rattle.std.proofs.Common.{arith, refl, subst, sym}
 use Rattle.std.specs.Prelude.{map}
 use Rattle.d64_image.specs.declared.mirror.Mirror.{Mirror}
 use Rattle.d64_image.specs.declared.sector_file.SectorFile.{Ghosts}
@@ -38,11 +39,13 @@ module _ {F : Type 0} {G : Ghosts F} where
     abbrev pub of_file : History (FileDisk G.keeps)
     of_file = in_run G.keeps start.file
 
-    pub same_instants : (xs : List (Reply × Mirror F G)) → over_instants mirror xs ≡ over_instants of_file (over_files xs)
+    pub same_instants : (xs : List (Reply × Mirror F G))
+        → over_instants mirror xs ≡ over_instants of_file (over_files xs)
     same_instants [] = refl
     same_instants (x ∷ xs) = ap (λ rest. (x.0, instant_of mirror x.1) ∷ rest) (same_instants xs)
 
-    pub blamed_file : (a b : Mirror F G) → IsMirrored start b → IsMirrored a b → (fails : List Bool) → IsBlamed mirror a b fails
+    pub blamed_file : (a b : Mirror F G) → IsMirrored start b → IsMirrored a b → (fails : List Bool)
+        → IsBlamed mirror a b fails
         → IsBlamed of_file (file_disk a) (file_disk b) fails
     blamed_file a b x y fails blame few =
         let sound : one_if b.broken ≡ 0 = one_if-false b.broken (since_whole start whole b x few) in
@@ -56,45 +59,53 @@ module _ {F : Type 0} {G : Ghosts F} where
     alone_of_file (Some after) a b held = held_by_file start.file a b _ held
 
     -- one event
-    abbrev event_of_file : (s : Shop) (m : Message) (a b : Mirror F G) (Ends NewEnds : Bool → State → Type 0) → ((f : Bool) (t : State) → Ends f t → NewEnds f t)
+    abbrev event_of_file : (s : Shop) (m : Message) (a b : Mirror F G) (Ends NewEnds : Bool → State → Type 0)
+        → ((f : Bool) (t : State) → Ends f t → NewEnds f t)
         → IsMirrored start a → IsEvent mirror s m a b Ends → IsEvent of_file s m (file_disk a) (file_disk b) NewEnds
     event_of_file s m a b Ends NewEnds ends x e = record {
       failed = e.failed;
       counted = e.counted;
       is = e.is;
-      blame = λ so. failed_by_file start whole a b (mirrored_then start a b x e.moments.reached) e.moments.reached (e.blame so);
+      blame = λ so. failed_by_file start whole a b (mirrored_then start a b x e.moments.reached) e.moments.reached
+          (e.blame so);
       later = since_grows G.keeps start.file a.file b.file e.moments.reached.failures;
       moments = held_by_file start.file a b _ e.moments;
       quiet = λ asks. alone_of_file m.cut_after a b (e.quiet asks);
       ends = ends e.failed _ e.ends;
     }
 
-    goes_on : (s : Shop) (m : Message) (reply : Reply) (b : Mirror F G) (f : Bool) (t : State) → GoesOn mirror s m reply b f t
+    goes_on : (s : Shop) (m : Message) (reply : Reply) (b : Mirror F G) (f : Bool) (t : State)
+        → GoesOn mirror s m reply b f t
         → GoesOn of_file s m reply (file_disk b) f t
     goes_on s m reply b f t x = record { told = x.told; answered = x.answered; settled = x.settled }
 
-    ends_failed : (s : Shop) (m : Message) (reply : Reply) (b : Mirror F G) (f : Bool) (t : State) → EndsFailed mirror s m reply b f t
+    ends_failed : (s : Shop) (m : Message) (reply : Reply) (b : Mirror F G) (f : Bool) (t : State)
+        → EndsFailed mirror s m reply b f t
         → EndsFailed of_file s m reply (file_disk b) f t
     ends_failed s m reply b f t x = record { told = x.told; asked = x.asked; is_failed = x.is_failed; shop = x.shop }
 
-    pub chain_of_file : (s : Shop) (ms : List Message) (xs : List (Reply × Mirror F G)) (a : Mirror F G) (t : Shop) (b : Mirror F G) → IsMirrored start a
+    pub chain_of_file : (s : Shop) (ms : List Message) (xs : List (Reply × Mirror F G)) (a : Mirror F G) (t : Shop)
+        (b : Mirror F G) → IsMirrored start a
         → IsChain mirror s ms xs a t b → IsChain of_file s ms (over_files xs) (file_disk a) t (file_disk b)
     chain_of_file s [] [] a t b x chain = (chain.0, ap file_disk chain.1)
     chain_of_file s [] (y ∷ ys) a t b x chain = absurd chain
     chain_of_file s (m ∷ ms) [] a t b x chain = absurd chain
     chain_of_file s (m ∷ ms) (y ∷ ys) a t b x chain = (
       event_of_file s m a y.1 _ _ (goes_on s m y.0 y.1) x chain.0,
-      chain_of_file (with_state s (after_all (start_of s) s.state chain.0.counted)) ms ys y.1 t b (mirrored_then start a y.1 x chain.0.moments.reached) chain.1,
+      chain_of_file (with_state s (after_all (start_of s) s.state chain.0.counted)) ms ys y.1 t b
+          (mirrored_then start a y.1 x chain.0.moments.reached) chain.1,
     )
 
     -- the mirrors of a chain come of one another
-    pub chain_reached : (s : Shop) (ms : List Message) (xs : List (Reply × Mirror F G)) (a : Mirror F G) (t : Shop) (b : Mirror F G) → IsMirrored start a
+    pub chain_reached : (s : Shop) (ms : List Message) (xs : List (Reply × Mirror F G)) (a : Mirror F G) (t : Shop)
+        (b : Mirror F G) → IsMirrored start a
         → IsChain mirror s ms xs a t b → IsMirrored start b
     chain_reached s [] [] a t b x chain = subst (λ (m : Mirror F G). IsMirrored start m) (sym chain.1) x
     chain_reached s [] (y ∷ ys) a t b x chain = absurd chain
     chain_reached s (m ∷ ms) [] a t b x chain = absurd chain
     chain_reached s (m ∷ ms) (y ∷ ys) a t b x chain =
-        chain_reached (with_state s (after_all (start_of s) s.state chain.0.counted)) ms ys y.1 t b (mirrored_then start a y.1 x chain.0.moments.reached) chain.1
+        chain_reached (with_state s (after_all (start_of s) s.state chain.0.counted)) ms ys y.1 t b
+        (mirrored_then start a y.1 x chain.0.moments.reached) chain.1
 
     module _ (untaken : start.taken.n ≡ 0) where
       -- few writes from the start on
@@ -116,7 +127,8 @@ module _ {F : Type 0} {G : Ghosts F} where
         unwritten = λ uncut rests. changes_of_file b 0 _ (omega arith) (q.unwritten uncut rests);
       }
 
-      abbrev pub run_of_file : (s : Shop) (ms : List Message) (xs : List (Reply × Mirror F G)) (b : Mirror F G) → HasRun mirror s ms xs start b
+      abbrev pub run_of_file : (s : Shop) (ms : List Message) (xs : List (Reply × Mirror F G)) (b : Mirror F G)
+          → HasRun mirror s ms xs start b
           → HasRun of_file s ms (over_files xs) (file_disk start) (file_disk b)
       run_of_file s ms xs b run = record {
         first = file_disk run.first;
@@ -128,7 +140,8 @@ module _ {F : Type 0} {G : Ghosts F} where
         chain = chain_of_file s ms xs run.first run.now b run.opening.held.reached run.chain;
       }
 
-      pub failing_of_file : (s : Shop) (ms : List Message) (xs : List (Reply × Mirror F G)) (last : Reply) (b : Mirror F G) → HasRunToFailure mirror s ms xs last start b
+      pub failing_of_file : (s : Shop) (ms : List Message) (xs : List (Reply × Mirror F G)) (last : Reply)
+          (b : Mirror F G) → HasRunToFailure mirror s ms xs last start b
           → HasRunToFailure of_file s ms (over_files xs) last (file_disk start) (file_disk b)
       failing_of_file s ms xs last b run = record {
         before = run.before;
@@ -137,5 +150,6 @@ module _ {F : Type 0} {G : Ghosts F} where
         at = file_disk run.at;
         run = run_of_file s run.before xs run.at run.run;
         failed = event_of_file run.run.now run.message run.at b _ _ (ends_failed run.run.now run.message last b)
-            (chain_reached s run.before xs run.run.first run.run.now run.at run.run.opening.held.reached run.run.chain) run.failed;
+            (chain_reached s run.before xs run.run.first run.run.now run.at run.run.opening.held.reached run.run.chain)
+            run.failed;
       }

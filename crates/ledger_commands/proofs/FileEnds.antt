@@ -1,5 +1,6 @@
 -- What comes of a play over the file of a mirror, from that over the mirror and whether it is broken.
-use Rattle.std.proofs.Common.{◌≡◌, ◌≢◌, ◌<◌, ◌≤◌, ◌+◌, ◌⊎◌, ◌∙◌, ℕ, List, None, Some, Result, Ok, Err, arith, inl, inr, length, refl, subst, sym, ap, ⊎_elim}
+use Rattle.std.proofs.Common.{◌≡◌, ◌≢◌, ◌<◌, ◌≤◌, ◌+◌, ◌⊎◌, ◌∙◌, ℕ, List, None, Some, Result, Ok, Err, arith, inl, inr}
+use Rattle.std.proofs.Common.{length, refl, subst, sym, ap, ⊎_elim}
 use Rattle.std.proofs.lemmas.Bool.{cases_lt}
 use Rattle.d64_image.specs.declared.mirror.Mirror.{Mirror}
 use Rattle.d64_image.specs.declared.sector_file.SectorFile.{Ghosts}
@@ -39,9 +40,11 @@ failed_stably K a b not_never = record {
       (cases_lt (K.failures a) (K.failures b));
 }
 
-module _ {F T : Type 0} {G : Ghosts F} (o : Output T) (image script : List ℕ) (start : Mirror F G) (sound : is_broken start → ⊥) (untaken : start.taken.n ≡ 0)
+module _ {F T : Type 0} {G : Ghosts F} (o : Output T) (image script : List ℕ) (start : Mirror F G)
+    (sound : is_broken start → ⊥) (untaken : start.taken.n ≡ 0)
     (size : length image ≡ 174848) (holds : mirror_image start ≡ sectors_in image) (old new : T) (m : Mirror F G) where
-  taken_up : {Ends : FileDisk G.keeps → FileDisk G.keeps → Type 0} → Ends (file_disk start) (file_disk m) → IsTakenUp G.keeps image start.file m.file Ends
+  taken_up : {Ends : FileDisk G.keeps → FileDisk G.keeps → Type 0} → Ends (file_disk start) (file_disk m)
+      → IsTakenUp G.keeps image start.file m.file Ends
   taken_up ends = record {
     size = size;
     disk = file_disk start;
@@ -78,7 +81,8 @@ module _ {F T : Type 0} {G : Ghosts F} (o : Output T) (image script : List ℕ) 
       (x.quiet (omega (arith, taken, x.taken)) (omega (arith, taken, untaken)))
 
   -- each line was played, and the file is whole
-  pub whole_at_ok : (is_broken m → ⊥) → IsPlayEnd mirror o start script old new (Ok m) → IsPlayedFile G.keeps o image script start.file m.file old new
+  pub whole_at_ok : (is_broken m → ⊥) → IsPlayEnd mirror o start script old new (Ok m)
+      → IsPlayedFile G.keeps o image script start.file m.file old new
   whole_at_ok whole x = ((reached_at_ok x.0).unfailed whole, taken_up (over_file (Ok m) x))
 
   file_at : (is_broken m → ⊥) → IsMirrored start m → IsPlayEnd mirror o start script old new (Err (run.File, m))
@@ -87,16 +91,23 @@ module _ {F T : Type 0} {G : Ghosts F} (o : Output T) (image script : List ℕ) 
 
   refused_at : (f : OpenFault) → f ≢ opening.Device → first_bad (lines script) ≡ None → m.file ≡ start.file → new ≡ old
       → Refuses ⊥ (sectors_in image) f → IsFileFault G.keeps o image script start.file m.file old new (opening_fault f)
-  refused_at (opening.Layout x) other none same still is = (none, record { size = size; opening = opening.Layout x; is = refl; refuses = is }, (same, still))
-  refused_at opening.NoStock other none same still is = (none, record { size = size; opening = opening.NoStock; is = refl; refuses = is }, (same, still))
-  refused_at opening.NoRequests other none same still is = (none, record { size = size; opening = opening.NoRequests; is = refl; refuses = is }, (same, still))
-  refused_at (opening.BadCard r) other none same still is = (none, record { size = size; opening = opening.BadCard r; is = refl; refuses = is }, (same, still))
-  refused_at (opening.BadRequestCard t) other none same still is = (none, record { size = size; opening = opening.BadRequestCard t; is = refl; refuses = is }, (same, still))
-  refused_at opening.TwoIntents other none same still is = (none, record { size = size; opening = opening.TwoIntents; is = refl; refuses = is }, (same, still))
+  refused_at (opening.Layout x) other none same still is =
+      (none, record { size = size; opening = opening.Layout x; is = refl; refuses = is }, (same, still))
+  refused_at opening.NoStock other none same still is =
+      (none, record { size = size; opening = opening.NoStock; is = refl; refuses = is }, (same, still))
+  refused_at opening.NoRequests other none same still is =
+      (none, record { size = size; opening = opening.NoRequests; is = refl; refuses = is }, (same, still))
+  refused_at (opening.BadCard r) other none same still is =
+      (none, record { size = size; opening = opening.BadCard r; is = refl; refuses = is }, (same, still))
+  refused_at (opening.BadRequestCard t) other none same still is =
+      (none, record { size = size; opening = opening.BadRequestCard t; is = refl; refuses = is }, (same, still))
+  refused_at opening.TwoIntents other none same still is =
+      (none, record { size = size; opening = opening.TwoIntents; is = refl; refuses = is }, (same, still))
   refused_at opening.Device other none same still is = absurd (other refl)
 
   -- no line is bad, but where that is told
-  no_bad_line : (fault : ScriptFault) → IsScriptRun mirror o start script old new (Err (fault, m)) → ((n : ℕ) → fault ≢ script_faults.BadLine n)
+  no_bad_line : (fault : ScriptFault) → IsScriptRun mirror o start script old new (Err (fault, m))
+      → ((n : ℕ) → fault ≢ script_faults.BadLine n)
       → first_bad (lines script) ≡ None
   no_bad_line fault x other = none-of (first_bad (lines script)) (λ n is. other n (ap fault_in (x.bad_line n is).0))
 
@@ -105,7 +116,8 @@ module _ {F T : Type 0} {G : Ghosts F} (o : Output T) (image script : List ℕ) 
       → IsFileFault G.keeps o image script start.file m.file old new (script_fault f)
   script_at whole (script_faults.Open f) x =
       let y = x.«open» f refl in
-      let other : f ≢ opening.Device = λ is. not_failed whole (subst (Refuses (Failed mirror start m) (mirror_image start)) is y.0.refused) in
+      let other : f ≢ opening.Device =
+      λ is. not_failed whole (subst (Refuses (Failed mirror start m) (mirror_image start)) is y.0.refused) in
       refused_at f other (no_bad_line (script_faults.Open f) x (λ n is. cc)) (same_file (y.0.kept other) whole) y.1
       (subst (λ img. Refuses ⊥ img f) holds (refuses_so _ _ (mirror_image start) f (not_failed whole) y.0.refused))
   script_at whole (script_faults.BadLine n) x =
@@ -123,21 +135,27 @@ module _ {F T : Type 0} {G : Ghosts F} (o : Output T) (image script : List ℕ) 
   whole_at_err whole fault x = ⊎_elim
       (λ y. subst (λ f. IsFileFault G.keeps o image script start.file m.file old new f) (sym y.0)
       (file_at whole (reached_at_ok y.1) (inl (refl, y.1))))
-      (λ y. subst (λ f. IsFileFault G.keeps o image script start.file m.file old new f) (sym y.1) (script_at whole y.0 y.2))
+      (λ y. subst (λ f. IsFileFault G.keeps o image script start.file m.file old new f) (sym y.1)
+      (script_at whole y.0 y.2))
       x
 
-  failed_at_err : is_broken m → (f : ScriptFault) → IsScriptRun mirror o start script old new (Err (f, m)) → FileFailed G.keeps start.file m.file
+  failed_at_err : is_broken m → (f : ScriptFault) → IsScriptRun mirror o start script old new (Err (f, m))
+      → FileFailed G.keeps start.file m.file
   failed_at_err broken (script_faults.Open f) x = failed_stably G.keeps start.file m.file
-      (λ never. refused_reached o start sound untaken old new m f (x.«open» f refl).0 (λ y. never (file_failed start sound m y broken)))
+      (λ never. refused_reached o start sound untaken old new m f (x.«open» f refl).0
+      (λ y. never (file_failed start sound m y broken)))
   failed_at_err broken (script_faults.BadLine n) x =
       let y = x.bad_line n (x.good n refl) in
       let same : m ≡ start = ap left_in y.0 in
       absurd (sound (subst (λ (k : Mirror F G). is_broken k) same broken))
-  failed_at_err broken script_faults.Output x = let s = x.after refl in file_failed start sound m (x.moments s.0 s.1).reached broken
-  failed_at_err broken script_faults.Device x = let s = (x.cause refl).0 in file_failed start sound m (x.moments s.0 s.1).reached broken
+  failed_at_err broken script_faults.Output x = let s = x.after refl in
+      file_failed start sound m (x.moments s.0 s.1).reached broken
+  failed_at_err broken script_faults.Device x = let s = (x.cause refl).0 in
+      file_failed start sound m (x.moments s.0 s.1).reached broken
 
   -- the file failed
-  pub broken_at_ok : is_broken m → IsPlayEnd mirror o start script old new (Ok m) → IsStopped G.keeps o image script start.file m.file old new
+  pub broken_at_ok : is_broken m → IsPlayEnd mirror o start script old new (Ok m)
+      → IsStopped G.keeps o image script start.file m.file old new
   broken_at_ok broken x = (file_failed start sound m (reached_at_ok x.0) broken, inl (taken_up (over_file (Ok m) x)))
 
   pub broken_at_err : is_broken m → (fault : RunFault) → IsPlayEnd mirror o start script old new (Err (fault, m))

@@ -1,5 +1,6 @@
 -- A script that was run over a mirror, as a run over its file.
-use Rattle.std.proofs.Common.{◌≡◌, ◌≢◌, ◌<◌, ◌≤◌, ◌+◌, ◌∙◌, ◌⊎◌, ℕ, Bool, List, [], ◌∷◌, ◌++◌, Ok, Err, Result, ap, arith, inl, inr, refl, subst, sym, ⊎_elim}
+use Rattle.std.proofs.Common.{◌≡◌, ◌≢◌, ◌<◌, ◌≤◌, ◌+◌, ◌∙◌, ◌⊎◌, ℕ, Bool, List, [], ◌∷◌, ◌++◌, Ok, Err, Result, ap}
+use Rattle.std.proofs.Common.{arith, inl, inr, refl, subst, sym, ⊎_elim}
 use Rattle.std.proofs.lemmas.Bool.{cases_lt}
 use Rattle.d64_image.specs.declared.mirror.Mirror.{Mirror}
 use Rattle.d64_image.specs.declared.sector_file.SectorFile.{Ghosts}
@@ -15,7 +16,8 @@ use Rattle.host_session.specs.Events.{Message, messages_of}
 use Rattle.host_session.specs.Instants.{instant_of}
 use Rattle.host_session.specs.Loops.{IsToldToDevice, IsToldToOutput, IsToldWhole}
 use Rattle.host_session.specs.Opening.{IsAShop, Refuses, Untouched, disk_of}
-use Rattle.host_session.specs.Runs.{HeldBeginnings, IsBlamed, IsPlayed, IsPlayedWhole, IsRefused, IsSomeBeginning, StoppedByDevice, StoppedByOutput}
+use Rattle.host_session.specs.Runs.{HeldBeginnings, IsBlamed, IsPlayed, IsPlayedWhole, IsRefused, IsSomeBeginning}
+use Rattle.host_session.specs.Runs.{StoppedByDevice, StoppedByOutput}
 use Rattle.host_session.specs.ScriptRuns.{IsPlayedOut, IsPlayedToDevice, IsPlayedToOutput, IsScriptRun}
 use Rattle.host_session.specs.Shop.{IsShop, Shop}
 use Rattle.host_session.specs.Telling.{Output}
@@ -26,10 +28,12 @@ use Rattle.host_session.specs.declared.running.ScriptFault.TheVariants as faults
 use Rattle.request_cards.specs.Ledgers.{State}
 use Rattle.request_cards.specs.declared.reply.Reply.{Reply}
 use Rattle.script_lines.specs.Lines.{lines}
-use Rattle.ledger_commands.proofs.FileChains.{blamed_file, changes_of_file, failing_of_file, over_files, over_files-more, quiet_of_file, run_of_file, same_instants, same_told}
+use Rattle.ledger_commands.proofs.FileChains.{blamed_file, changes_of_file, failing_of_file, over_files}
+use Rattle.ledger_commands.proofs.FileChains.{over_files-more, quiet_of_file, run_of_file, same_instants, same_told}
 
 -- how a run over a mirror ended, as one over its file
-abbrev pub end_of_file : {E F : Type 0} {G : Ghosts F} → Result (Mirror F G) (E × Mirror F G) → Result (FileDisk G.keeps) (E × FileDisk G.keeps)
+abbrev pub end_of_file : {E F : Type 0} {G : Ghosts F} → Result (Mirror F G) (E × Mirror F G)
+    → Result (FileDisk G.keeps) (E × FileDisk G.keeps)
 end_of_file (Ok m) = Ok (file_disk m)
 end_of_file (Err e) = Err (e.0, file_disk e.1)
 
@@ -43,12 +47,15 @@ refuses_so P Q img (opening.BadRequestCard n) so is = is
 refuses_so P Q img opening.TwoIntents so is = is
 refuses_so P Q img opening.Device so is = so is
 
-module _ {F T : Type 0} {G : Ghosts F} (o : Output T) (start : Mirror F G) (whole : is_broken start → ⊥) (untaken : start.taken.n ≡ 0) (old new : T) where
+module _ {F T : Type 0} {G : Ghosts F} (o : Output T) (start : Mirror F G) (whole : is_broken start
+    → ⊥) (untaken : start.taken.n ≡ 0) (old new : T) where
   abbrev file_run : History (FileDisk G.keeps)
   file_run = in_run G.keeps start.file
 
-  played_of_file : (s : Shop) (ms : List Message) (b : Mirror F G) (told same : List Reply) (Whole : List Message → List Bool → Type 0) (Ends : State → Type 0)
-      → IsMirrored start b → told ≡ same → IsPlayed mirror s ms start b told Whole Ends → IsPlayed file_run s ms (file_disk start) (file_disk b) same Whole Ends
+  played_of_file : (s : Shop) (ms : List Message) (b : Mirror F G) (told same : List Reply) (Whole : List Message
+      → List Bool → Type 0) (Ends : State → Type 0)
+      → IsMirrored start b → told ≡ same → IsPlayed mirror s ms start b told Whole Ends
+      → IsPlayed file_run s ms (file_disk start) (file_disk b) same Whole Ends
   played_of_file s ms b told same Whole Ends x e p = record {
     fails = p.fails;
     counted = p.counted;
@@ -60,8 +67,10 @@ module _ {F T : Type 0} {G : Ghosts F} (o : Output T) (start : Mirror F G) (whol
     ends = p.ends;
   }
 
-  pub moments_of_file : (s : Shop) (ms : List Message) (b : Mirror F G) → HeldBeginnings mirror s ms start b → HeldBeginnings file_run s ms (file_disk start) (file_disk b)
-  moments_of_file s ms b held = weaker file_run (file_disk start) (file_disk b) (IsSomeBeginning s ms (IsBlamed mirror start b)) _
+  pub moments_of_file : (s : Shop) (ms : List Message) (b : Mirror F G) → HeldBeginnings mirror s ms start b
+      → HeldBeginnings file_run s ms (file_disk start) (file_disk b)
+  moments_of_file s ms b held = weaker file_run (file_disk start) (file_disk b)
+      (IsSomeBeginning s ms (IsBlamed mirror start b)) _
       (λ c x. record {
         begun = x.begun;
         rest = x.rest;
@@ -83,7 +92,8 @@ module _ {F T : Type 0} {G : Ghosts F} (o : Output T) (start : Mirror F G) (whol
     told = subst (λ xs. o.told old new xs) (same_instants start whole x.turns) x.told;
   }
 
-  out_of_file : (s : Shop) (ms : List Message) (b : Mirror F G) → IsMirrored start b → IsPlayedOut mirror o s ms start b old new
+  out_of_file : (s : Shop) (ms : List Message) (b : Mirror F G) → IsMirrored start b
+      → IsPlayedOut mirror o s ms start b old new
       → IsPlayedOut file_run o s ms (file_disk start) (file_disk b) old new
   unfolding told_of_file
   out_of_file s ms b x p = record {
@@ -91,11 +101,13 @@ module _ {F T : Type 0} {G : Ghosts F} (o : Output T) (start : Mirror F G) (whol
     played = played_of_file s ms b _ _ _ _ x (same_told p.run.turns) p.played;
   }
 
-  output_of_file : (s : Shop) (ms : List Message) (b : Mirror F G) → IsMirrored start b → IsPlayedToOutput mirror o s ms start b old new
+  output_of_file : (s : Shop) (ms : List Message) (b : Mirror F G) → IsMirrored start b
+      → IsPlayedToOutput mirror o s ms start b old new
       → IsPlayedToOutput file_run o s ms (file_disk start) (file_disk b) old new
   output_of_file s ms b x p =
       let last : Reply × FileDisk G.keeps = (p.run.last.0, file_disk p.run.last.1) in
-      let more : over_files (p.run.turns ++ p.run.last ∷ []) ≡ over_files p.run.turns ++ last ∷ [] = sym (over_files-more p.run.turns (p.run.last ∷ [])) in
+      let more : over_files (p.run.turns ++ p.run.last ∷ []) ≡ over_files p.run.turns ++ last ∷ [] =
+      sym (over_files-more p.run.turns (p.run.last ∷ [])) in
       record {
         begun = p.begun;
         rest = p.rest;
@@ -114,11 +126,13 @@ module _ {F T : Type 0} {G : Ghosts F} (o : Output T) (start : Mirror F G) (whol
           rest = p.stopped.rest;
           parts = p.stopped.parts;
           some = p.stopped.some;
-          played = played_of_file s p.stopped.begun b _ _ _ _ x (same_told (p.run.turns ++ p.run.last ∷ []) ∙ ap told_in more) p.stopped.played;
+          played = played_of_file s p.stopped.begun b _ _ _ _ x (same_told (p.run.turns ++ p.run.last ∷ [])
+              ∙ ap told_in more) p.stopped.played;
         };
       }
 
-  device_of_file : (s : Shop) (ms : List Message) (b : Mirror F G) → IsMirrored start b → IsPlayedToDevice mirror o s ms start b old new
+  device_of_file : (s : Shop) (ms : List Message) (b : Mirror F G) → IsMirrored start b
+      → IsPlayedToDevice mirror o s ms start b old new
       → IsPlayedToDevice file_run o s ms (file_disk start) (file_disk b) old new
   device_of_file s ms b x p = record {
     begun = p.begun;
@@ -129,35 +143,46 @@ module _ {F T : Type 0} {G : Ghosts F} (o : Output T) (start : Mirror F G) (whol
       last = p.run.last;
       run = failing_of_file start whole untaken s p.begun p.run.turns p.run.last b p.run.run;
       told = ⊎_elim
-          (λ t. inl (subst (λ xs. o.told old new (xs ++ (p.run.last, instant_of mirror b) ∷ [])) (same_instants start whole p.run.turns) t))
-          (λ t. inr (subst (λ xs. o.broken_off old new xs (p.run.last, instant_of mirror b)) (same_instants start whole p.run.turns) t.0, t.1))
+          (λ t. inl (subst (λ xs. o.told old new (xs ++ (p.run.last, instant_of mirror b) ∷ []))
+          (same_instants start whole p.run.turns) t))
+          (λ t. inr (
+            subst (λ xs. o.broken_off old new xs (p.run.last, instant_of mirror b))
+                (same_instants start whole p.run.turns) t.0,
+            t.1,
+          ))
           p.run.told;
     };
     stopped = record {
       begun = p.stopped.begun;
       rest = p.stopped.rest;
       parts = p.stopped.parts;
-      played = played_of_file s p.stopped.begun b _ _ _ _ x (ap (λ xs. xs ++ p.run.last ∷ []) (same_told p.run.turns)) p.stopped.played;
+      played = played_of_file s p.stopped.begun b _ _ _ _ x (ap (λ xs. xs ++ p.run.last ∷ []) (same_told p.run.turns))
+          p.stopped.played;
     };
   }
 
   -- a disk is a shop's or not; either way an opening that is refused is a run
-  pub refused_reached : (b : Mirror F G) (fault : OpenFault) → IsRefused mirror start fault b → (IsMirrored start b → ⊥) → ⊥
+  pub refused_reached : (b : Mirror F G) (fault : OpenFault) → IsRefused mirror start fault b → (IsMirrored start b → ⊥)
+      → ⊥
   refused_reached b fault x never =
       let no_shop : IsAShop (mirror.image start) → ⊥ = λ s. never (x.same s.0 s.1).held.reached in
       never (x.unfit no_shop).held.reached
 
-  refused_failed : (b : Mirror F G) (fault : OpenFault) → IsRefused mirror start fault b → Failed mirror start b → Failed file_run (file_disk start) (file_disk b)
+  refused_failed : (b : Mirror F G) (fault : OpenFault) → IsRefused mirror start fault b → Failed mirror start b
+      → Failed file_run (file_disk start) (file_disk b)
   refused_failed b fault x failed = record {
     later = ⊎_elim
         (λ (less : fails_since G.keeps start.file b.file < fails_since G.keeps start.file start.file).
-        absurd (refused_reached b fault x (λ y. omega (arith, less, since_grows G.keeps start.file start.file b.file y.failures))))
+        absurd (refused_reached b fault x
+        (λ y. omega (arith, less, since_grows G.keeps start.file start.file b.file y.failures))))
         (λ le. le)
         (cases_lt (fails_since G.keeps start.file b.file) (fails_since G.keeps start.file start.file));
-    rose = λ few. absurd (refused_reached b fault x (λ y. omega (arith, few, (failed_by_file start whole start b y y failed).rose few)));
+    rose = λ few. absurd
+        (refused_reached b fault x (λ y. omega (arith, few, (failed_by_file start whole start b y y failed).rose few)));
   }
 
-  pub refused_of_file : (b : Mirror F G) (fault : OpenFault) → IsRefused mirror start fault b → IsRefused file_run (file_disk start) fault (file_disk b)
+  pub refused_of_file : (b : Mirror F G) (fault : OpenFault) → IsRefused mirror start fault b
+      → IsRefused file_run (file_disk start) fault (file_disk b)
   refused_of_file b fault x = record {
     refused = refuses_so _ _ (mirror.image start) fault (refused_failed b fault x) x.refused;
     same = λ s is. changes_of_file start whole untaken b 952 _ (omega arith) (x.same s is);
@@ -166,7 +191,8 @@ module _ {F T : Type 0} {G : Ghosts F} (o : Output T) (start : Mirror F G) (whol
   }
 
   -- the run of a script over a mirror is one over its file
-  pub script_of_file : (script : List ℕ) (r : Result (Mirror F G) (ScriptFault × Mirror F G)) → IsScriptRun mirror o start script old new r
+  pub script_of_file : (script : List ℕ) (r : Result (Mirror F G) (ScriptFault × Mirror F G))
+      → IsScriptRun mirror o start script old new r
       → IsScriptRun file_run o (file_disk start) script old new (end_of_file r)
   script_of_file script (Ok b) x = record {
     bad_line = λ n is. (ap end_of_file (x.bad_line n is).0, (x.bad_line n is).1);
@@ -189,8 +215,10 @@ module _ {F T : Type 0} {G : Ghosts F} (o : Output T) (start : Mirror F G) (whol
     shop = tt;
     ok = λ _ _. tt;
     without_resets = λ _ _ _. tt;
-    output = λ s is told. output_of_file s (messages_of (lines script)) e.1 (x.moments s is).reached (x.output s is told);
-    device = λ s is told. device_of_file s (messages_of (lines script)) e.1 (x.moments s is).reached (x.device s is told);
+    output = λ s is told. output_of_file s (messages_of (lines script)) e.1 (x.moments s is).reached
+        (x.output s is told);
+    device = λ s is told. device_of_file s (messages_of (lines script)) e.1 (x.moments s is).reached
+        (x.device s is told);
     moments = λ s is. moments_of_file s (messages_of (lines script)) e.1 (x.moments s is);
     quiet = λ s is asks. quiet_of_file start whole untaken s (messages_of (lines script)) e.1 (x.quiet s is asks);
     plays = λ shop never. x.plays shop (never_failed start whole e.1 (x.moments shop.0 shop.1).reached never);

@@ -1,5 +1,6 @@
 -- A shop that was served over a mirror, as one over its file.
-use Rattle.std.proofs.Common.{◌≡◌, ◌<◌, ⊎_elim, arith, ℕ, List, [], ◌∷◌, ◌++◌, Option, Ok, Err, Result, inl, inr, subst, sym, append-nil}
+use Rattle.std.proofs.Common.{◌≡◌, ◌<◌, ⊎_elim, arith, ℕ, List, [], ◌∷◌, ◌++◌, Option, Ok, Err, Result, inl, inr, subst}
+use Rattle.std.proofs.Common.{sym, append-nil}
 use Rattle.d64_image.specs.declared.mirror.Mirror.{Mirror}
 use Rattle.d64_image.specs.declared.sector_file.SectorFile.{Ghosts}
 use Rattle.d64_image.specs.FileDisks.{FileDisk, in_run}
@@ -17,17 +18,21 @@ use Rattle.serving.proofs.Handled.{handled_run}
 use Rattle.serving.specs.AtOnce.{at_once}
 use Rattle.serving.specs.Inputs.{line_messages}
 use Rattle.serving.specs.Serves.{AreHandled, AreServed, AreServedToDevice, AreServedToOutput, IsServed, IsUnwritten}
-use Rattle.ledger_commands.proofs.FileChains.{changes_of_file, failing_of_file, over_files, over_files-more, run_of_file, same_instants}
+use Rattle.ledger_commands.proofs.FileChains.{changes_of_file, failing_of_file, over_files, over_files-more}
+use Rattle.ledger_commands.proofs.FileChains.{run_of_file, same_instants}
 use Rattle.ledger_commands.proofs.FileScripts.{end_of_file, moments_of_file, refused_of_file}
 
-module _ {F T : Type 0} {G : Ghosts F} (o : Output T) (start : Mirror F G) (whole : is_broken start → ⊥) (untaken : start.taken.n ≡ 0) (old new : T) where
+module _ {F T : Type 0} {G : Ghosts F} (o : Output T) (start : Mirror F G) (whole : is_broken start
+    → ⊥) (untaken : start.taken.n ≡ 0) (old new : T) where
   abbrev file_run : History (FileDisk G.keeps)
   file_run = in_run G.keeps start.file
 
-  handled_of_file : (s : Shop) (bytes : List ℕ) (turns : List (Reply × Mirror F G)) (b : Mirror F G) → AreHandled mirror s bytes turns start b
+  handled_of_file : (s : Shop) (bytes : List ℕ) (turns : List (Reply × Mirror F G)) (b : Mirror F G)
+      → AreHandled mirror s bytes turns start b
       → AreHandled file_run s bytes (over_files turns) (file_disk start) (file_disk b)
   handled_of_file s bytes turns b x =
-      handled_run file_run s bytes (over_files turns) (file_disk start) (file_disk b) (run_of_file start whole untaken s (line_messages bytes) turns b x.run)
+      handled_run file_run s bytes (over_files turns) (file_disk start) (file_disk b)
+      (run_of_file start whole untaken s (line_messages bytes) turns b x.run)
 
   served_of_file : (s : Shop) (bytes : List ℕ) (b : Mirror F G) → AreServed mirror o s bytes start b old new
       → AreServed file_run o s bytes (file_disk start) (file_disk b) old new
@@ -42,9 +47,11 @@ module _ {F T : Type 0} {G : Ghosts F} (o : Output T) (start : Mirror F G) (whol
   output_of_file s bytes b x = record {
     turns = over_files x.turns;
     last = (x.last.0, file_disk x.last.1);
-    handled = subst (λ turns. AreHandled file_run s bytes turns (file_disk start) (file_disk b)) (sym (over_files-more x.turns (x.last ∷ [])))
+    handled = subst (λ turns. AreHandled file_run s bytes turns (file_disk start) (file_disk b))
+        (sym (over_files-more x.turns (x.last ∷ [])))
         (handled_of_file s bytes (x.turns ++ x.last ∷ []) b x.handled);
-    told = subst (λ turns. (at_once o).broken_off old new turns (x.last.0, instant_of mirror x.last.1)) (same_instants start whole x.turns) x.told;
+    told = subst (λ turns. (at_once o).broken_off old new turns (x.last.0, instant_of mirror x.last.1))
+        (same_instants start whole x.turns) x.told;
   }
 
   device_of_file : (s : Shop) (bytes : List ℕ) (b : Mirror F G) → AreServedToDevice mirror o s bytes start b old new
@@ -59,11 +66,17 @@ module _ {F T : Type 0} {G : Ghosts F} (o : Output T) (start : Mirror F G) (whol
           last = x.run.last;
           run = run;
           told = ⊎_elim
-              (λ t. inl (subst (λ turns. (at_once o).told old new (turns ++ last ∷ [])) (same_instants start whole x.run.turns) t))
-              (λ t. inr (subst (λ turns. (at_once o).broken_off old new turns last) (same_instants start whole x.run.turns) t.0, t.1))
+              (λ t. inl (subst (λ turns. (at_once o).told old new (turns ++ last ∷ []))
+              (same_instants start whole x.run.turns) t))
+              (λ t. inr (
+                subst (λ turns. (at_once o).broken_off old new turns last)
+                    (same_instants start whole x.run.turns) t.0,
+                t.1,
+              ))
               x.run.told;
         };
-        stopped = (at_device file_run s ms [] ms (over_files x.run.turns) x.run.last (file_disk start) (file_disk b) (append-nil ms) run).0;
+        stopped = (at_device file_run s ms [] ms (over_files x.run.turns) x.run.last (file_disk start) (file_disk b)
+            (append-nil ms) run).0;
       }
 
   unwritten_of_file : (s : Shop) (b : Mirror F G) → IsUnwritten mirror s start b
@@ -74,7 +87,8 @@ module _ {F T : Type 0} {G : Ghosts F} (o : Output T) (start : Mirror F G) (whol
   )
 
   -- a service over a mirror is one over its file
-  pub service_of_file : {R : Type 0} (remaining : R → Option (List ℕ)) (old_in new_in : R) (r : Result (Mirror F G) (LoopFault × Mirror F G))
+  pub service_of_file : {R : Type 0} (remaining : R → Option (List ℕ)) (old_in new_in : R)
+      (r : Result (Mirror F G) (LoopFault × Mirror F G))
       → IsServed mirror remaining o start old_in new_in old new r
       → IsServed file_run remaining o (file_disk start) old_in new_in old new (end_of_file r)
   service_of_file remaining old_in new_in (Ok b) x = record {

@@ -21,7 +21,8 @@ no_memory into tills file result fault told is =
 
 -- the bytes of a disk were handed over, or a part of them
 pub written : {F : Type 0} (into : F → Option (List ℕ)) (tills : ℕ) (file new_file : F) (bytes : List ℕ)
-    → AreFreshBytes tills bytes → (result : Result Unit RunFault) → OnOk result (Appends (into file) (into new_file) bytes)
+    → AreFreshBytes tills bytes → (result : Result Unit RunFault)
+    → OnOk result (Appends (into file) (into new_file) bytes)
     → IfErr result (λ fault. (fault ≡ run.File) × AppendsPart (into file) (into new_file) bytes)
     → IsWritten into tills file new_file result
 written into tills file new_file bytes fresh (Ok _) all part = record { bytes = bytes; fresh = fresh; appended = all }

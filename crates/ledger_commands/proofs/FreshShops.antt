@@ -1,5 +1,6 @@
 -- A fresh disk is a shop, on which a script has the replies of the dry run.
-use Rattle.std.proofs.Common.{ℕ, zero, suc, ◌≡◌, ◌≢◌, ◌+◌, List, [], ◌∷◌, ◌++◌, Bool, true, false, None, Option, Some, ap, append-nil, arith, length, lit≤, refl, subst, sym, ◌∙◌}
+use Rattle.std.proofs.Common.{ℕ, zero, suc, ◌≡◌, ◌≢◌, ◌+◌, List, [], ◌∷◌, ◌++◌, Bool, true, false, None, Option, Some}
+use Rattle.std.proofs.Common.{ap, append-nil, arith, length, lit≤, refl, subst, sym, ◌∙◌}
 use Rattle.std.specs.Prelude.{◌↔◌, if◌then◌else◌, option_map, slice_index}
 use Rattle.std.proofs.lemmas.Bool.{eq-eqb, ne_eqb, true≢false}
 use Rattle.std.proofs.lemmas.Option.{none-some}
@@ -15,7 +16,8 @@ use Rattle.host_session.specs.Events.{HasNoReset}
 use Rattle.host_session.specs.Shop.{Shop, start_of}
 use Rattle.request_cards.specs.Ledgers.{nothing, replies, report}
 use Rattle.script_lines.specs.Lines.{first_reset, is_reset, lines}
-use Rattle.ledger_commands.specs.FreshShops.{DryBeginsFresh, DryTellsReplies, FreshBytesAreADisk, FreshIsAShop, FreshShowsItsTop, RunTellsDry, SamePlainScripts, fresh_shop}
+use Rattle.ledger_commands.specs.FreshShops.{DryBeginsFresh, DryTellsReplies, FreshBytesAreADisk, FreshIsAShop}
+use Rattle.ledger_commands.specs.FreshShops.{FreshShowsItsTop, RunTellsDry, SamePlainScripts, fresh_shop}
 use Rattle.ledger_commands.specs.Images.{IsFreshDisk}
 use Rattle.ledger_commands.specs.Shows.{shown_shop, till_lines, top_line, up_to}
 

@@ -12,7 +12,8 @@ unfolding up_to
 none-yet a line = Appends-nil a
 
 -- the lines of one number more
-pub one-more : (a b c : Option (List ℕ)) (n : ℕ) (line : ℕ → List ℕ) → Appends a b (up_to n line) → Appends b c (line (n + 1))
+pub one-more : (a b c : Option (List ℕ)) (n : ℕ) (line : ℕ → List ℕ) → Appends a b (up_to n line)
+    → Appends b c (line (n + 1))
     → Appends a c (up_to (n + 1) line)
 unfolding up_to
 one-more a b c n line before more =
@@ -21,7 +22,8 @@ one-more a b c n line before more =
     (Appends-trans a b c (up_to n line) (line (suc n)) before (subst (λ (m : ℕ). Appends b c (line m)) next more))
 
 -- one number's lines stand before those behind them
-pub one-before : (n : ℕ) (line : ℕ → List ℕ) (rest : List ℕ) → up_to n line ++ (line (n + 1) ++ rest) ≡ up_to (n + 1) line ++ rest
+pub one-before : (n : ℕ) (line : ℕ → List ℕ) (rest : List ℕ)
+    → up_to n line ++ (line (n + 1) ++ rest) ≡ up_to (n + 1) line ++ rest
 unfolding up_to
 one-before n line rest =
     let next : suc n ≡ n + 1 = omega arith in
@@ -29,5 +31,7 @@ one-before n line rest =
     ∙ ap (λ m. up_to m line ++ rest) next
 
 -- behind all of a room nothing stands
-pub none-behind : (n : ℕ) (line : ℕ → List ℕ) (room : List ℕ) (end : ℕ) → length room ≤ end → up_to n line ++ drop end room ≡ up_to n line
-none-behind n line room end le = ap (λ rest. up_to n line ++ rest) (drop_of_length-le room le) ∙ append-nil (up_to n line)
+pub none-behind : (n : ℕ) (line : ℕ → List ℕ) (room : List ℕ) (end : ℕ) → length room ≤ end
+    → up_to n line ++ drop end room ≡ up_to n line
+none-behind n line room end le = ap (λ rest. up_to n line ++ rest) (drop_of_length-le room le)
+    ∙ append-nil (up_to n line)

@@ -1,6 +1,8 @@
 -- A listing's lines, from what is read of the disk.
-use Rattle.std.proofs.Common.{◌≡◌, ◌≢◌, ◌<◌, ◌≤◌, ◌++◌, ◌+◌, ℕ, true, false, List, [], ◌∷◌, get_or, length, take, refl, subst, sym, ap, ◌∙◌, inl, inr, ne_eqb, arith}
-use Rattle.std.specs.Prelude.{Err, IfErr, Option, Result, codes, decimal, flat_map, map, nat_eq, not, slice_range, take_while}
+use Rattle.std.proofs.Common.{◌≡◌, ◌≢◌, ◌<◌, ◌≤◌, ◌++◌, ◌+◌, ℕ, true, false, List, [], ◌∷◌, get_or, length, take, refl}
+use Rattle.std.proofs.Common.{subst, sym, ap, ◌∙◌, inl, inr, ne_eqb, arith}
+use Rattle.std.specs.Prelude.{Err, IfErr, Option, Result, codes, decimal, flat_map, map, nat_eq, not, slice_range}
+use Rattle.std.specs.Prelude.{take_while}
 use Rattle.std.specs.Io.KnownBytes.{Appends, Keeps}
 use Rattle.std.proofs.KnownBytes.{Appends-kept, Appends-trans}
 use Rattle.std.proofs.lemmas.List.{append_assoc, flat_map_more, length-take, take_more}
@@ -27,7 +29,8 @@ unpadded-is padded name is =
     let ends : length name < length padded → not (nat_eq (get_or padded (length name) 0) 160) ≡ false =
     λ more. elim is.ends [ inl all ↦ absurd (omega (arith, all, more)) | inr pad ↦ rw pad refl ] in
     ap (λ n. take n padded)
-    (prefix_len_is (λ b. not (nat_eq b 160)) padded (length name) 0 fits (λ k below. plain-byte (get_or padded k 0) (is.bytes k below)) ends)
+    (prefix_len_is (λ b. not (nat_eq b 160)) padded (length name) 0 fits (λ k below. plain-byte (get_or padded k 0)
+    (is.bytes k below)) ends)
     ∙ sym is.front
 
 -- a name between quotation marks, and what follows
@@ -40,25 +43,34 @@ quoted-written padded name rest is =
 
 -- an entry's parts, as they are written one after another
 pub entry-written : (s : Slot) (name : List ℕ) → IsUnpadded (slice_range s.bytes 5 21) name
-    → decimal (count_field s) ++ (codes " \"" ++ (map shown name ++ (codes "\" " ++ type_text (type_byte s)))) ≡ entry_text s
+    → decimal (count_field s) ++ (codes " \"" ++ (map shown name ++ (codes "\" " ++ type_text (type_byte s)))) ≡
+    entry_text s
 unfolding entry_text
 entry-written s name is =
-    ap (λ t. decimal (count_field s) ++ (codes " " ++ t)) (quoted-written (slice_range s.bytes 5 21) name (codes " " ++ type_text (type_byte s)) is)
+    ap (λ t. decimal (count_field s) ++ (codes " " ++ t)) (quoted-written (slice_range s.bytes 5 21) name
+    (codes " " ++ type_text (type_byte s)) is)
 
 -- the same of a disk's name, id and version
 pub disk-written : (bytes : Sector) (name : List ℕ) → IsUnpadded (slice_range bytes 144 160) name
-    → codes "0 \"" ++ (map shown name ++ (codes "\" " ++ (map shown (slice_range bytes 162 164) ++ (codes " " ++ map shown (slice_range bytes 165 167))))) ≡ disk_text bytes
+    → codes "0 \""
+    ++ (map shown name
+    ++ (codes "\" " ++ (map shown (slice_range bytes 162 164)
+    ++ (codes " " ++ map shown (slice_range bytes 165 167))))) ≡ disk_text bytes
 unfolding disk_text
 disk-written bytes name is =
     ap (λ t. codes "0 " ++ t)
-    (quoted-written (slice_range bytes 144 160) name (codes " " ++ (map shown (slice_range bytes 162 164) ++ (codes " " ++ map shown (slice_range bytes 165 167)))) is)
+    (quoted-written (slice_range bytes 144 160) name
+    (codes " " ++ (map shown (slice_range bytes 162 164) ++ (codes " " ++ map shown (slice_range bytes 165 167))))
+    is)
 
 -- one entry's line more
-pub lines-more : (a b c : Option (List ℕ)) (slots : List Slot) (i : ℕ) (s : Slot) → i < length slots → get_or slots i s ≡ s
+pub lines-more : (a b c : Option (List ℕ)) (slots : List Slot) (i : ℕ) (s : Slot) → i < length slots
+    → get_or slots i s ≡ s
     → Appends a b (flat_map entry_line (take i slots)) → Appends b c (entry_text s ++ codes "\n")
     → Appends a c (flat_map entry_line (take (i + 1) slots))
 lines-more a b c slots i s inside here before line =
-    let taken : take (i + 1) slots ≡ take i slots ++ s ∷ [] = take_more slots i s inside ∙ ap (λ (x : Slot). take i slots ++ x ∷ []) here in
+    let taken : take (i + 1) slots ≡ take i slots ++ s ∷ [] = take_more slots i s inside
+    ∙ ap (λ (x : Slot). take i slots ++ x ∷ []) here in
     subst (Appends a c) (flat_map_more entry_line [] (take i slots) s ∙ ap (flat_map entry_line) (sym taken))
     (Appends-trans a b c _ _ before line)
 
@@ -71,11 +83,13 @@ unfolding listing
 listing-written a b c d e bytes slots first entries last kept =
     let free = free_text (blocks_free bytes) in
     Appends-kept a d e _
-    (subst (Appends a d) (sym (append_assoc (disk_text bytes ++ codes "\n" ++ flat_map entry_line slots) free (codes "\n")))
+    (subst (Appends a d) (sym (append_assoc (disk_text bytes ++ codes "\n" ++ flat_map entry_line slots) free
+    (codes "\n")))
     (Appends-trans a c d _ _ (Appends-trans a b c _ _ first entries) last)) kept
 
 -- what was printed is the listing of the image
-pub is-listed : {W : Type 0} (contents : W → Option (List ℕ)) (image : List ℕ) (old new : W) (directory : HasDirectory image)
+pub is-listed : {W : Type 0} (contents : W → Option (List ℕ)) (image : List ℕ) (old new : W)
+    (directory : HasDirectory image)
     → (bytes : Sector) (slots : List Slot) → bytes ≡ sector (sectors_in image) map_place → slots ≡ directory.entries
     → Appends (contents old) (contents new) (listing bytes slots) → IsListed contents image old new
 is-listed contents image old new directory bytes slots here same printed = record {
@@ -85,8 +99,10 @@ is-listed contents image old new directory bytes slots here same printed = recor
 }
 
 -- what isn't loaded isn't listed
-pub load-listed : {T : Type 0} (image : List ℕ) (fault : RunFault) (r : Result T RunFault) → r ≡ Err fault → IsLoadFault image fault → IfErr r (IsListFault image)
-load-listed {T = T} image fault r told load = subst (λ (x : Result T RunFault). IfErr x (IsListFault image)) (sym told) (by fault load)
+pub load-listed : {T : Type 0} (image : List ℕ) (fault : RunFault) (r : Result T RunFault) → r ≡ Err fault
+    → IsLoadFault image fault → IfErr r (IsListFault image)
+load-listed {T = T} image fault r told load = subst (λ (x : Result T RunFault). IfErr x (IsListFault image)) (sym told)
+    (by fault load)
   where
     by : (f : RunFault) → IsLoadFault image f → IsListFault image f
     by run.ImageSize h = h

@@ -1,5 +1,6 @@
 -- What comes of a script that is played: once what was told is handed on, and over a file.
-use Rattle.std.proofs.Common.{◌≡◌, ◌≢◌, ◌<◌, ◌≤◌, ◌+◌, ◌⊎◌, ◌∙◌, ℕ, List, Option, None, Some, Result, Ok, Err, inl, inr, length, refl, subst, sym, ap, ⊎_elim}
+use Rattle.std.proofs.Common.{◌≡◌, ◌≢◌, ◌<◌, ◌≤◌, ◌+◌, ◌⊎◌, ◌∙◌, ℕ, List, Option, None, Some, Result, Ok, Err, inl, inr}
+use Rattle.std.proofs.Common.{length, refl, subst, sym, ap, ⊎_elim}
 use Rattle.std.specs.Prelude.{IfErr}
 use Rattle.d64_image.specs.History.{History}
 use Rattle.host_session.specs.Events.{Message, messages_of}
@@ -28,8 +29,10 @@ abbrev pub left_in : {D : Type 0} → Result D (ScriptFault × D) → D
 left_in (Ok left) = left
 left_in (Err e) = e.1
 
-module _ {D T : Type 0} (h : History D) (o : Output T) (disk : D) (script : List ℕ) (old mid new : T) (kept : TellsNone o mid new) where
-  out_on : (s : Shop) (ms : List Message) (left : D) → IsPlayedOut h o s ms disk left old mid → IsPlayedOut h o s ms disk left old new
+module _ {D T : Type 0} (h : History D) (o : Output T) (disk : D) (script : List ℕ) (old mid new : T)
+    (kept : TellsNone o mid new) where
+  out_on : (s : Shop) (ms : List Message) (left : D) → IsPlayedOut h o s ms disk left old mid
+      → IsPlayedOut h o s ms disk left old new
   out_on s ms left p = record {
     run = record { turns = p.run.turns; run = p.run.run; told = kept.0 old _ p.run.told };
     played = p.played;
@@ -38,16 +41,25 @@ module _ {D T : Type 0} (h : History D) (o : Output T) (disk : D) (script : List
   so_on : (told : List Reply) → AreToldSo o old mid told → AreToldSo o old new told
   so_on told x = record { turns = x.turns; is = kept.0 old x.turns x.is; replies = x.replies }
 
-  output_on : (s : Shop) (ms : List Message) (left : D) → IsPlayedToOutput h o s ms disk left old mid → IsPlayedToOutput h o s ms disk left old new
+  output_on : (s : Shop) (ms : List Message) (left : D) → IsPlayedToOutput h o s ms disk left old mid
+      → IsPlayedToOutput h o s ms disk left old new
   output_on s ms left p = record {
     begun = p.begun;
     rest = p.rest;
     parts = p.parts;
-    run = record { turns = p.run.turns; last = p.run.last; run = p.run.run; told = kept.1 old _ _ p.run.told; full = p.run.full };
+    run = record {
+      turns = p.run.turns;
+      last = p.run.last;
+      run = p.run.run;
+      told = kept.1 old _ _ p.run.told;
+      full =
+          p.run.full;
+    };
     stopped = p.stopped;
   }
 
-  device_on : (s : Shop) (ms : List Message) (left : D) → IsPlayedToDevice h o s ms disk left old mid → IsPlayedToDevice h o s ms disk left old new
+  device_on : (s : Shop) (ms : List Message) (left : D) → IsPlayedToDevice h o s ms disk left old mid
+      → IsPlayedToDevice h o s ms disk left old new
   device_on s ms left p = record {
     begun = p.begun;
     rest = p.rest;
@@ -62,7 +74,8 @@ module _ {D T : Type 0} (h : History D) (o : Output T) (disk : D) (script : List
   }
 
   -- a run to its end, once what it told is handed on
-  pub handed_on : (left : D) → IsScriptRun h o disk script old mid (Ok left) → IsScriptRun h o disk script old new (Ok left)
+  pub handed_on : (left : D) → IsScriptRun h o disk script old mid (Ok left)
+      → IsScriptRun h o disk script old new (Ok left)
   handed_on left x = record {
     bad_line = λ n is. let never = (x.bad_line n is).0 in cc;
     good = tt;

@@ -1,6 +1,7 @@
--- What comes of a shop that is served over the file of a mirror, from what came of it over the mirror and whether that is
--- broken.
-use Rattle.std.proofs.Common.{◌≡◌, ◌≢◌, ◌<◌, ◌≤◌, ◌+◌, ℕ, List, Option, Result, Ok, Err, arith, inl, inr, length, refl, subst, ⊎_elim}
+-- What comes of a shop that is served over the file of a mirror, from what came of it over the mirror and whether that
+-- is broken.
+use Rattle.std.proofs.Common.{◌≡◌, ◌≢◌, ◌<◌, ◌≤◌, ◌+◌, ℕ, List, Option, Result, Ok, Err, arith, inl, inr, length, refl}
+use Rattle.std.proofs.Common.{subst, ⊎_elim}
 use Rattle.d64_image.specs.declared.mirror.Mirror.{Mirror}
 use Rattle.d64_image.specs.declared.sector_file.SectorFile.{Ghosts}
 use Rattle.d64_image.specs.FileDisks.{FileDisk, in_run}
@@ -22,8 +23,10 @@ use Rattle.ledger_commands.proofs.FileEnds.{failed_stably}
 use Rattle.ledger_commands.proofs.FileScripts.{refused_reached, refuses_so}
 use Rattle.ledger_commands.proofs.FileServes.{service_of_file}
 
-module _ {F R T : Type 0} {G : Ghosts F} (remaining : R → Option (List ℕ)) (o : Output T) (image : List ℕ) (start : Mirror F G)
-    (sound : is_broken start → ⊥) (untaken : start.taken.n ≡ 0) (size : length image ≡ 174848) (holds : mirror_image start ≡ sectors_in image)
+module _ {F R T : Type 0} {G : Ghosts F} (remaining : R → Option (List ℕ)) (o : Output T) (image : List ℕ)
+    (start : Mirror F G)
+    (sound : is_broken start → ⊥) (untaken : start.taken.n ≡ 0) (size : length image ≡ 174848)
+    (holds : mirror_image start ≡ sectors_in image)
     (old_in new_in : R) (old new : T) (m : Mirror F G) where
   abbrev Served : Result (Mirror F G) (LoopFault × Mirror F G) → Type 0
   Served r = IsServed mirror remaining o start old_in new_in old new r
@@ -42,12 +45,14 @@ module _ {F R T : Type 0} {G : Ghosts F} (remaining : R → Option (List ℕ)) (
     ends = x;
   }
 
-  at_ok : Served (Ok m) → IsServedOver G.keeps remaining o image start.file m.file old_in new_in old new (λ left. Ok left)
+  at_ok : Served (Ok m) → IsServedOver G.keeps remaining o image start.file m.file old_in new_in old new
+      (λ left. Ok left)
   at_ok x = over_file (λ left. Ok left) (service_of_file o start sound untaken old new remaining old_in new_in (Ok m) x)
 
   at_err : (f : LoopFault) → Served (Err (f, m))
       → IsServedOver G.keeps remaining o image start.file m.file old_in new_in old new (λ left. Err (f, left))
-  at_err f x = over_file (λ left. Err (f, left)) (service_of_file o start sound untaken old new remaining old_in new_in (Err (f, m)) x)
+  at_err f x = over_file (λ left. Err (f, left)) (service_of_file o start sound untaken old new remaining old_in new_in
+      (Err (f, m)) x)
 
   reached_at_ok : Served (Ok m) → IsMirrored start m
   reached_at_ok x = let s = x.shop in (x.moments s.0 s.1).reached
@@ -67,17 +72,25 @@ module _ {F R T : Type 0} {G : Ghosts F} (remaining : R → Option (List ℕ)) (
       (x.quiet (omega (arith, taken, x.taken)) (omega (arith, taken, untaken)))
 
   -- each line was served, and the file is whole
-  pub served_at_ok : (is_broken m → ⊥) → Served (Ok m) → IsServedFile G.keeps remaining o image start.file m.file old_in new_in old new
+  pub served_at_ok : (is_broken m → ⊥) → Served (Ok m)
+      → IsServedFile G.keeps remaining o image start.file m.file old_in new_in old new
   served_at_ok whole x = ((reached_at_ok x).unfailed whole, at_ok x)
 
-  refused_at : (f : OpenFault) → f ≢ opening.Device → m.file ≡ start.file → new_in ≡ old_in → new ≡ old → Refuses ⊥ (sectors_in image) f
+  refused_at : (f : OpenFault) → f ≢ opening.Device → m.file ≡ start.file → new_in ≡ old_in → new ≡ old
+      → Refuses ⊥ (sectors_in image) f
       → IsServeFault G.keeps remaining o image start.file m.file old_in new_in old new (opening_fault f)
-  refused_at (opening.Layout x) other same unread still is = (record { size = size; opening = opening.Layout x; is = refl; refuses = is }, ((same, still), unread))
-  refused_at opening.NoStock other same unread still is = (record { size = size; opening = opening.NoStock; is = refl; refuses = is }, ((same, still), unread))
-  refused_at opening.NoRequests other same unread still is = (record { size = size; opening = opening.NoRequests; is = refl; refuses = is }, ((same, still), unread))
-  refused_at (opening.BadCard r) other same unread still is = (record { size = size; opening = opening.BadCard r; is = refl; refuses = is }, ((same, still), unread))
-  refused_at (opening.BadRequestCard t) other same unread still is = (record { size = size; opening = opening.BadRequestCard t; is = refl; refuses = is }, ((same, still), unread))
-  refused_at opening.TwoIntents other same unread still is = (record { size = size; opening = opening.TwoIntents; is = refl; refuses = is }, ((same, still), unread))
+  refused_at (opening.Layout x) other same unread still is =
+      (record { size = size; opening = opening.Layout x; is = refl; refuses = is }, ((same, still), unread))
+  refused_at opening.NoStock other same unread still is =
+      (record { size = size; opening = opening.NoStock; is = refl; refuses = is }, ((same, still), unread))
+  refused_at opening.NoRequests other same unread still is =
+      (record { size = size; opening = opening.NoRequests; is = refl; refuses = is }, ((same, still), unread))
+  refused_at (opening.BadCard r) other same unread still is =
+      (record { size = size; opening = opening.BadCard r; is = refl; refuses = is }, ((same, still), unread))
+  refused_at (opening.BadRequestCard t) other same unread still is =
+      (record { size = size; opening = opening.BadRequestCard t; is = refl; refuses = is }, ((same, still), unread))
+  refused_at opening.TwoIntents other same unread still is =
+      (record { size = size; opening = opening.TwoIntents; is = refl; refuses = is }, ((same, still), unread))
   refused_at opening.Device other same unread still is = absurd (other refl)
 
   -- a fault ended it, and the file is whole
@@ -85,22 +98,30 @@ module _ {F R T : Type 0} {G : Ghosts F} (remaining : R → Option (List ℕ)) (
       → IsServeFault G.keeps remaining o image start.file m.file old_in new_in old new (loop_fault f)
   served_at_err whole (loop.Open f) x =
       let y = x.«open» f refl in
-      let other : f ≢ opening.Device = λ is. not_failed whole (subst (Refuses (Failed mirror start m) (mirror_image start)) is y.0.refused) in
+      let other : f ≢ opening.Device =
+      λ is. not_failed whole (subst (Refuses (Failed mirror start m) (mirror_image start)) is y.0.refused) in
       refused_at f other (same_file (y.0.kept other) whole) y.1 y.2
       (subst (λ img. Refuses ⊥ img f) holds (refuses_so _ _ (mirror_image start) f (not_failed whole) y.0.refused))
-  served_at_err whole loop.Input x = let s = x.after (inl refl) in ((x.moments s.0 s.1).reached.unfailed whole, inl (at_err loop.Input x))
-  served_at_err whole loop.Output x = let s = x.after (inr refl) in ((x.moments s.0 s.1).reached.unfailed whole, inr (at_err loop.Output x))
+  served_at_err whole loop.Input x = let s = x.after (inl refl) in
+      ((x.moments s.0 s.1).reached.unfailed whole, inl (at_err loop.Input x))
+  served_at_err whole loop.Output x = let s = x.after (inr refl) in
+      ((x.moments s.0 s.1).reached.unfailed whole, inr (at_err loop.Output x))
   served_at_err whole loop.Device x = absurd (not_failed whole (x.cause refl).1)
 
   -- the file failed
   failed_at_err : is_broken m → (f : LoopFault) → Served (Err (f, m)) → FileFailed G.keeps start.file m.file
   failed_at_err broken (loop.Open f) x = failed_stably G.keeps start.file m.file
-      (λ never. refused_reached o start sound untaken old new m f (x.«open» f refl).0 (λ y. never (file_failed start sound m y broken)))
-  failed_at_err broken loop.Input x = let s = x.after (inl refl) in file_failed start sound m (x.moments s.0 s.1).reached broken
-  failed_at_err broken loop.Output x = let s = x.after (inr refl) in file_failed start sound m (x.moments s.0 s.1).reached broken
-  failed_at_err broken loop.Device x = let s = (x.cause refl).0 in file_failed start sound m (x.moments s.0 s.1).reached broken
+      (λ never. refused_reached o start sound untaken old new m f (x.«open» f refl).0
+      (λ y. never (file_failed start sound m y broken)))
+  failed_at_err broken loop.Input x = let s = x.after (inl refl) in
+      file_failed start sound m (x.moments s.0 s.1).reached broken
+  failed_at_err broken loop.Output x = let s = x.after (inr refl) in
+      file_failed start sound m (x.moments s.0 s.1).reached broken
+  failed_at_err broken loop.Device x = let s = (x.cause refl).0 in file_failed start sound m (x.moments s.0 s.1).reached
+      broken
 
-  pub stopped_at_ok : is_broken m → Served (Ok m) → IsServiceStopped G.keeps remaining o image start.file m.file old_in new_in old new
+  pub stopped_at_ok : is_broken m → Served (Ok m)
+      → IsServiceStopped G.keeps remaining o image start.file m.file old_in new_in old new
   stopped_at_ok broken x = (file_failed start sound m (reached_at_ok x) broken, inl (at_ok x))
 
   pub stopped_at_err : is_broken m → (f : LoopFault) → Served (Err (f, m))

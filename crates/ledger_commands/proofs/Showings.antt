@@ -19,7 +19,8 @@ at-ok (Ok x) p = p
 at-ok (Err e) p = tt
 
 -- the top's line, the cards and the tills, handed over
-pub shop-shown : (a b c d e : Option (List ℕ)) (top : ℕ) (state : State) → Appends a b (top_line top) → Appends b c (card_lines state)
+pub shop-shown : (a b c d e : Option (List ℕ)) (top : ℕ) (state : State) → Appends a b (top_line top)
+    → Appends b c (card_lines state)
     → Appends c d (till_lines state) → Keeps d e → Appends a e (shown_shop top state)
 unfolding shown_shop
 shop-shown a b c d e top state first cards tills kept =
@@ -32,10 +33,26 @@ memory-never a b failed = omega (arith, failed.rose (omega arith))
 -- an image that isn't opened isn't shown
 pub show-refused : (image : List ℕ) (failed : Type 0) (f : OpenFault) → (failed → ⊥) → length image ≡ 174848
     → Refuses failed (sectors_in image) f → IsShowFault image (opening_fault f)
-show-refused image failed (opening.Layout x) never size refuses = record { size = size; opening = opening.Layout x; is = refl; refuses = refuses }
-show-refused image failed opening.NoStock never size refuses = record { size = size; opening = opening.NoStock; is = refl; refuses = refuses }
-show-refused image failed opening.NoRequests never size refuses = record { size = size; opening = opening.NoRequests; is = refl; refuses = refuses }
-show-refused image failed (opening.BadCard item) never size refuses = record { size = size; opening = opening.BadCard item; is = refl; refuses = refuses }
-show-refused image failed (opening.BadRequestCard till) never size refuses = record { size = size; opening = opening.BadRequestCard till; is = refl; refuses = refuses }
-show-refused image failed opening.TwoIntents never size refuses = record { size = size; opening = opening.TwoIntents; is = refl; refuses = refuses }
+show-refused image failed (opening.Layout x) never size refuses = record {
+  size = size;
+  opening = opening.Layout x;
+  is =
+      refl;
+  refuses = refuses;
+}
+show-refused image failed opening.NoStock never size refuses = record {
+  size = size;
+  opening = opening.NoStock;
+  is =
+      refl;
+  refuses = refuses;
+}
+show-refused image failed opening.NoRequests never size refuses =
+    record { size = size; opening = opening.NoRequests; is = refl; refuses = refuses }
+show-refused image failed (opening.BadCard item) never size refuses =
+    record { size = size; opening = opening.BadCard item; is = refl; refuses = refuses }
+show-refused image failed (opening.BadRequestCard till) never size refuses =
+    record { size = size; opening = opening.BadRequestCard till; is = refl; refuses = refuses }
+show-refused image failed opening.TwoIntents never size refuses =
+    record { size = size; opening = opening.TwoIntents; is = refl; refuses = refuses }
 show-refused image failed opening.Device never size refuses = absurd (never refuses)

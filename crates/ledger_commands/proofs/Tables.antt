@@ -1,5 +1,6 @@
 -- What three arrays hold of a ledger.
-use Rattle.std.proofs.Common.{◌≡◌, ℕ, true, false, ◌-◌, ◌+◌, ◌<◌, ◌≤◌, get_or, refl, sym, subst, ap, ◌∙◌, inl, inr, arith}
+use Rattle.std.proofs.Common.{◌≡◌, ℕ, true, false, ◌-◌, ◌+◌, ◌<◌, ◌≤◌, get_or, refl, sym, subst, ap, ◌∙◌, inl, inr}
+use Rattle.std.proofs.Common.{arith}
 use Rattle.std.specs.Prelude.{◌==◌, if◌then◌else◌, Option, Some, None, IfSome, IsSome, nat_lt, option_map, replicate}
 use Rattle.std.proofs.lemmas.Bool.{cases_Bool}
 use Rattle.std.proofs.lemmas.Bool.Decides.{leb_tells}
@@ -59,7 +60,8 @@ pub applied_is : (old new : Table) (a : Ask) (o : Outcome)
     → state_of new ≡ applied 8819 (state_of old) a
 applied_is old new a o cards kept prior decided i = record {
   ledger = record {
-    cards = (cards ∙ ap (λ (p : Outcome). cards_after (cards_after (nth old.cards) a.body.item p.quantity) a.body.to p.to_quantity) decided) i;
+    cards = (cards ∙ ap (λ (p : Outcome). cards_after (cards_after (nth old.cards) a.body.item p.quantity) a.body.to
+        p.to_quantity) decided) i;
     kept = (ap entries kept
         ∙ entry_put (nth old.kept) a.till (Some (a, o.answer))
         ∙ ap (λ (p : Outcome). put (entries (nth old.kept)) a.till (Some (entry_of (a, p.answer)))) decided) i;
@@ -68,7 +70,8 @@ applied_is old new a o cards kept prior decided i = record {
 }
 
 -- blank arrays hold nothing
-pub blank_state : (m n : ℕ) → state_of (record { cards = replicate m None; kept = replicate n None; prior = replicate n None }) ≡ nothing
+pub blank_state : (m n : ℕ)
+    → state_of (record { cards = replicate m None; kept = replicate n None; prior = replicate n None }) ≡ nothing
 blank_state m n i = record {
   ledger = record { cards = nth_blank m i; kept = λ till. option_map entry_of (nth_blank n i till) };
   prior = λ till. option_map entry_of (nth_blank n i till);
@@ -82,7 +85,8 @@ second_there None to_hand rooms.Fits Set q = tt
 second_there None to_hand rooms.Full Set q = tt
 second_there None to_hand rooms.TooLarge Set q = tt
 second_there None to_hand room Receive q = tt
-second_there (Some on) to_hand room Receive q = elim (cases_Bool (nat_lt 999999999 (on + q))) [ inl e ↦ rw e tt | inr e ↦ rw e tt ]
+second_there (Some on) to_hand room Receive q =
+    elim (cases_Bool (nat_lt 999999999 (on + q))) [ inl e ↦ rw e tt | inr e ↦ rw e tt ]
 second_there None to_hand room Issue q = tt
 second_there (Some on) to_hand room Issue q = elim (cases_Bool (nat_lt on q)) [ inl e ↦ rw e tt | inr e ↦ rw e tt ]
 second_there None to_hand room Move q = tt

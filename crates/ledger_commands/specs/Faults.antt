@@ -26,8 +26,8 @@ abbrev pub IsDryFault : Option ℕ → DryFault → Type 0
 IsDryFault bad (dry.BadLine line) = bad ≡ Some line
 IsDryFault bad dry.Output = bad ≡ None
 
--- the exit status for a fault of a run over an image: 1 for what the image or the script holds, 3 for a file, the output or
--- memory
+-- the exit status for a fault of a run over an image: 1 for what the image or the script holds, 3 for a file, the
+-- output or memory
 abbrev pub run_status : RunFault → ℕ
 run_status run.ImageSize = 1
 run_status (run.Layout fault) = 1

@@ -23,7 +23,8 @@ IsPlayEnd h o disk script old new (Err e) =
     ⊎ ((fault : ScriptFault) × (e.0 ≡ script_fault fault) × IsScriptRun h o disk script old new (Err (fault, e.1)))
 
 -- The image of a file was taken up: the file is a disk that holds it, and was left as another, in the end `after`.
-pub record IsTakenUp {F : Type 0} (K : Keeps F) (image : List ℕ) (file after : F) (Ends : FileDisk K → FileDisk K → Type 0) : Type 0 where
+pub record IsTakenUp {F : Type 0} (K : Keeps F) (image : List ℕ) (file after : F) (Ends : FileDisk K → FileDisk K
+    → Type 0) : Type 0 where
   pub size : length image ≡ 174848
   pub disk : FileDisk K
   pub is_file : disk.file ≡ file
@@ -59,7 +60,8 @@ IsUntouched file after old new = (after ≡ file) × (new ≡ old)
 
 -- Why a script isn't played to its end: its size, memory, a bad line or that it is no shop's, and then nothing was
 -- done; the output; or the file.
-abbrev pub IsFileFault : {F T : Type 0} → Keeps F → Output T → (image script : List ℕ) → F → F → T → T → RunFault → Type 0
+abbrev pub IsFileFault : {F T : Type 0} → Keeps F → Output T → (image script : List ℕ) → F → F → T → T → RunFault
+    → Type 0
 IsFileFault K o image script file after old new run.ImageSize = (length image ≢ 174848) × IsUntouched file after old new
 IsFileFault K o image script file after old new run.NoMemory = (length image ≡ 174848) × IsUntouched file after old new
 IsFileFault K o image script file after old new (run.BadLine line) =

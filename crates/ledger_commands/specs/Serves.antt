@@ -23,7 +23,8 @@ loop_fault loop.Device = run.Device
 abbrev pub IsServedOver : {F R T : Type 0} → (K : Keeps F) → (R → Option (List ℕ)) → Output T → (image : List ℕ)
     → F → F → R → R → T → T → (FileDisk K → Result (FileDisk K) (LoopFault × FileDisk K)) → Type 0
 IsServedOver K remaining o image file after old_in new_in old new end =
-    IsTakenUp K image file after (λ disk left. IsServed (in_run K file) remaining o disk old_in new_in old new (end left))
+    IsTakenUp K image file after (λ disk left. IsServed (in_run K file) remaining o disk old_in new_in old new
+    (end left))
 
 -- each line of the input was served on the disk of the file
 abbrev pub IsServedFile : {F R T : Type 0} → Keeps F → (R → Option (List ℕ)) → Output T → (image : List ℕ)
@@ -36,14 +37,15 @@ abbrev pub IsServiceStopped : {F R T : Type 0} → Keeps F → (R → Option (Li
     → F → F → R → R → T → T → Type 0
 IsServiceStopped K remaining o image file after old_in new_in old new =
     FileFailed K file after × (IsServedOver K remaining o image file after old_in new_in old new (λ left. Ok left)
-    ⊎ ((fault : LoopFault) × IsServedOver K remaining o image file after old_in new_in old new (λ left. Err (fault, left))))
+    ⊎ ((fault : LoopFault) × IsServedOver K remaining o image file after old_in new_in old new
+    (λ left. Err (fault, left))))
 
 -- the file, the input and the output are as they were
 abbrev pub IsUnserved : {F R T : Type 0} → F → F → R → R → T → T → Type 0
 IsUnserved file after old_in new_in old new = IsUntouched file after old new × (new_in ≡ old_in)
 
--- Why a shop isn't served to the end of the input: its size, memory or that it is no shop's, and then nothing was done or
--- read; the input or the output; or the file.
+-- Why a shop isn't served to the end of the input: its size, memory or that it is no shop's, and then nothing was done
+-- or read; the input or the output; or the file.
 abbrev pub IsServeFault : {F R T : Type 0} → Keeps F → (R → Option (List ℕ)) → Output T → (image : List ℕ)
     → F → F → R → R → T → T → RunFault → Type 0
 IsServeFault K remaining o image file after old_in new_in old new run.ImageSize =

@@ -48,7 +48,8 @@ card_lines state = cards_to state 10160
 -- the requests in the order of the tills
 abbrev pub till_lines : State → List ℕ
 till_lines state =
-    up_to 64 (λ till. till_part (option_map (told_of till) (state.ledger.kept till)) (option_map (told_of till) (state.prior till)))
+    up_to 64 (λ till. till_part (option_map (told_of till) (state.ledger.kept till))
+    (option_map (told_of till) (state.prior till)))
 
 -- all that is shown of a shop: how far new cards may go, its cards, and the last two requests of each till
 unfoldable pub shown_shop : ℕ → State → List ℕ

@@ -1,6 +1,7 @@
--- What is printed of an image, byte by byte. A listing has the form of a drive's directory (1541 User's Guide, directory);
--- how a fault is told is our own.
-use Rattle.std.specs.Prelude.{ℕ, ◌%◌, ◌++◌, [], not, ◌&&◌, List, Option, Some, None, if◌then◌else◌, codes, decimal, flat_map, map, nat_eq, nat_le, nat_lt, slice_range, take_while}
+-- What is printed of an image, byte by byte. A listing has the form of a drive's directory (1541 User's Guide,
+-- directory); how a fault is told is our own.
+use Rattle.std.specs.Prelude.{ℕ, ◌%◌, ◌++◌, [], not, ◌&&◌, List, Option, Some, None, if◌then◌else◌, codes, decimal}
+use Rattle.std.specs.Prelude.{flat_map, map, nat_eq, nat_le, nat_lt, slice_range, take_while}
 use Rattle.std.specs.Int.{bit_at}
 use Rattle.d64_image.specs.Images.{Sector}
 use Rattle.disk_layout.specs.Directory.{type_byte}
@@ -66,7 +67,8 @@ type_text byte =
 -- an entry: its block count as stored, its name, its type
 unfoldable pub entry_text : Slot → List ℕ
 entry_text s =
-    decimal (count_field s) ++ (codes " " ++ (quoted (slice_range s.bytes 5 21) ++ (codes " " ++ type_text (type_byte s))))
+    decimal (count_field s)
+    ++ (codes " " ++ (quoted (slice_range s.bytes 5 21) ++ (codes " " ++ type_text (type_byte s))))
 
 -- the line of an entry
 abbrev pub entry_line : Slot → List ℕ
@@ -82,8 +84,8 @@ disk_text bytes =
 abbrev pub free_text : ℕ → List ℕ
 free_text blocks = decimal blocks ++ codes " BLOCKS FREE"
 
--- the listing of a disk with these bytes of 18/0 and these entries: the disk, its entries, and the free blocks as 18/0 counts
--- them
+-- the listing of a disk with these bytes of 18/0 and these entries: the disk, its entries, and the free blocks as 18/0
+-- counts them
 unfoldable pub listing : Sector → List Slot → List ℕ
 listing bytes entries =
     disk_text bytes ++ codes "\n" ++ flat_map entry_line entries ++ free_text (blocks_free bytes) ++ codes "\n"

@@ -14,7 +14,8 @@ use Rattle.ledger_commands.specs.declared.faults.RunFault.TheVariants as run
 use Rattle.ledger_program.proofs.Ends.{not-file}
 
 -- a check
-pub check-run : {W : Type 0} (contents : W → Option (List ℕ)) (image : List ℕ) (old new : W) (ended : Result (Option Fault) RunFault)
+pub check-run : {W : Type 0} (contents : W → Option (List ℕ)) (image : List ℕ) (old new : W)
+    (ended : Result (Option Fault) RunFault)
     → IfOk ended (λ _. length image ≡ 174848) → IfOk ended (IsVerdict (sectors_in image))
     → IfOk ended (λ found. Appends (contents old) (contents new) (verdict_text found))
     → IfErr ended (IsCheckFault image) → IfErr ended (λ fault. fault ≢ run.File → new ≡ old)

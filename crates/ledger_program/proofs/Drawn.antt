@@ -13,7 +13,8 @@ use Rattle.ledger_program.specs.declared.jobs.Drawing.TheVariants as drawings
 
 module _ {W : Type 0} (contents : W → Option (List ℕ)) (what : Drawing) (image : List ℕ) (old new : W) where
   -- it was drawn
-  drawn : (found : Option Fault) (l : Layout) → IsDrawnAndJudged image l found → IsDrawnAs contents what image old new found
+  drawn : (found : Option Fault) (l : Layout) → IsDrawnAndJudged image l found
+      → IsDrawnAs contents what image old new found
       → IsDrawingRun contents what image old new (Ok found)
   drawn None l judged is = record {
     done = is;
@@ -68,12 +69,14 @@ module _ {W : Type 0} (contents : W → Option (List ℕ)) (what : Drawing) (ima
   undrawn faults.Device told untouched = absurd told
 
 module _ {W : Type 0} (contents : W → Option (List ℕ)) (image : List ℕ) (old new : W) where
-  pub map-run : (r : Result (Option Fault) PictureFault) → IfOk r (IsMapPrinted contents image old new) → IfErr r (IsPictureFault image)
+  pub map-run : (r : Result (Option Fault) PictureFault) → IfOk r (IsMapPrinted contents image old new)
+      → IfErr r (IsPictureFault image)
       → IfErr r (λ fault. fault ≢ faults.File → new ≡ old) → IsDrawingRun contents drawings.Map image old new r
   map-run (Ok found) ok err untouched = drawn contents drawings.Map image old new found ok.layout ok.judged ok
   map-run (Err fault) ok err untouched = undrawn contents drawings.Map image old new fault err untouched
 
-  pub picture-run : (r : Result (Option Fault) PictureFault) → IfOk r (IsPicturePrinted contents image old new) → IfErr r (IsPictureFault image)
+  pub picture-run : (r : Result (Option Fault) PictureFault) → IfOk r (IsPicturePrinted contents image old new)
+      → IfErr r (IsPictureFault image)
       → IfErr r (λ fault. fault ≢ faults.File → new ≡ old) → IsDrawingRun contents drawings.Picture image old new r
   picture-run (Ok found) ok err untouched = drawn contents drawings.Picture image old new found ok.layout ok.judged ok
   picture-run (Err fault) ok err untouched = undrawn contents drawings.Picture image old new fault err untouched

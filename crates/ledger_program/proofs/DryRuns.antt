@@ -12,8 +12,10 @@ use Rattle.ledger_commands.specs.declared.dry_run.DryFault.{DryFault}
 use Rattle.ledger_commands.specs.declared.dry_run.DryFault.TheVariants as dry
 
 -- a run without a disk
-pub dry-run : {W : Type 0} (contents : W → Option (List ℕ)) (script : List ℕ) (old new : W) (ended : Result Unit DryFault)
-    → OnOk ended (first_reset (lines script) ≡ None) → OnOk ended (Appends (contents old) (contents new) (dry_report script))
+pub dry-run : {W : Type 0} (contents : W → Option (List ℕ)) (script : List ℕ) (old new : W)
+    (ended : Result Unit DryFault)
+    → OnOk ended (first_reset (lines script) ≡ None)
+    → OnOk ended (Appends (contents old) (contents new) (dry_report script))
     → IfErr ended (IsDryFault (first_reset (lines script))) → (IsSome (first_reset (lines script)) → new ≡ old)
     → IsDryRun contents script old new (exit_status (dry_end ended))
 dry-run contents script old new (Ok _) good said err untouched = record {

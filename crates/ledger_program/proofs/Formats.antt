@@ -9,7 +9,8 @@ use Rattle.ledger_commands.specs.declared.faults.RunFault.{RunFault}
 use Rattle.ledger_commands.specs.declared.faults.RunFault.TheVariants as run
 
 -- an image made
-pub format-run : {F W : Type 0} (into : F → Option (List ℕ)) (contents : W → Option (List ℕ)) (tills : ℕ) (file new_file : F)
+pub format-run : {F W : Type 0} (into : F → Option (List ℕ)) (contents : W → Option (List ℕ)) (tills : ℕ)
+    (file new_file : F)
     (old new : W) (ended : Result Unit RunFault) → IsFormatted into contents tills file new_file old new ended
     → IsFormatRun into contents tills file new_file old new (end_of ended)
 format-run into contents tills file new_file old new (Ok _) is = record {

@@ -5,7 +5,8 @@ use Rattle.ledger_commands.specs.Plays.{IsUntouched}
 use Rattle.ledger_program.specs.Keeping.{keep_end}
 use Rattle.ledger_program.specs.Kept.{IsKeptOver}
 
-module _ {F W : Type 0} (image : List ℕ) (file after : F) (old new : W) (Done : Type 0) (Fault : KeepFault → Type 0) where
+module _ {F W : Type 0} (image : List ℕ) (file after : F) (old new : W) (Done : Type 0) (Fault : KeepFault
+    → Type 0) where
   -- it is done
   pub is-done : length image ≡ 174848 → Done → IsKeptOver image file after old new Done Fault (Ok tt)
   is-done size is = record {

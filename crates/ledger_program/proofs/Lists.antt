@@ -9,8 +9,10 @@ use Rattle.ledger_commands.specs.declared.faults.RunFault.TheVariants as run
 use Rattle.ledger_program.proofs.Ends.{not-file}
 
 -- a listing
-pub list-run : {W : Type 0} (contents : W → Option (List ℕ)) (image : List ℕ) (old new : W) (ended : Result Unit RunFault)
-    → OnOk ended (IsListed contents image old new) → IfErr ended (IsListFault image) → IfErr ended (λ fault. fault ≢ run.File → new ≡ old)
+pub list-run : {W : Type 0} (contents : W → Option (List ℕ)) (image : List ℕ) (old new : W)
+    (ended : Result Unit RunFault)
+    → OnOk ended (IsListed contents image old new) → IfErr ended (IsListFault image)
+    → IfErr ended (λ fault. fault ≢ run.File → new ≡ old)
     → IsListRun contents image old new (exit_status (end_of ended))
 list-run contents image old new (Ok _) ok err untouched = record {
   done = λ _. ok;

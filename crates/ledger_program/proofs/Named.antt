@@ -14,7 +14,8 @@ too-long text found bytes is long name =
     omega (arith, long, equal, short)
 
 -- or end in a shifted space
-pub ends-in-space : (text found bytes : List ℕ) → text ≡ text_of found → slice_get found (length found - 1) ≡ Some 160 → IsNameOf text bytes → ⊥
+pub ends-in-space : (text found bytes : List ℕ) → text ≡ text_of found → slice_get found (length found - 1) ≡ Some 160
+    → IsNameOf text bytes → ⊥
 ends-in-space text found bytes is ends name =
     let same : found ≡ bytes = one-text found bytes (sym is ∙ name.is) in
     name.ended (subst (λ xs. slice_get xs (length xs - 1) ≡ Some 160) same ends)

@@ -1,5 +1,6 @@
 -- What changed a mirror changed its file: how a run over the mirror of a file is one over the file.
-use Rattle.std.proofs.Common.{◌≡◌, ◌<◌, ◌≤◌, ◌+◌, ◌⊎◌, ℕ, List, Result, Err, ap, arith, length, refl, subst, sym, ⊎_elim}
+use Rattle.std.proofs.Common.{◌≡◌, ◌<◌, ◌≤◌, ◌+◌, ◌⊎◌, ℕ, List, Result, Err, ap, arith, length, refl, subst, sym}
+use Rattle.std.proofs.Common.{⊎_elim}
 use Rattle.std.specs.Prelude.{if◌then◌else◌, nat_lt}
 use Rattle.d64_image.proofs.FileRuns.{file_disk, file_failed, held_by_file, one_if-false}
 use Rattle.d64_image.specs.FileDisks.{FileDisk, in_run}
@@ -18,7 +19,8 @@ use Rattle.keeper_commands.specs.Refusals.{IsLeft}
 use Rattle.ledger_program.specs.Kept.{IsRefused}
 use Rattle.ledger_commands.specs.Plays.{IsTakenUp, IsUnfailed}
 
-module _ {F : Type 0} {G : Ghosts F} (start : Mirror F G) (sound : is_broken start → ⊥) (untaken : start.taken.n ≡ 0) (b : Mirror F G) where
+module _ {F : Type 0} {G : Ghosts F} (start : Mirror F G) (sound : is_broken start → ⊥) (untaken : start.taken.n ≡ 0)
+    (b : Mirror F G) where
   abbrev pub file_run : History (FileDisk G.keeps)
   file_run = in_run G.keeps start.file
 
@@ -59,15 +61,19 @@ module _ {F : Type 0} {G : Ghosts F} (start : Mirror F G) (sound : is_broken sta
       omega (arith, none, one, equal)
 
   -- the file of a mirror that broke has failed
-  pub broken_file : {P : Image → Type 0} → HeldOnly mirror start b P → is_broken b → FileFailed G.keeps start.file b.file
+  pub broken_file : {P : Image → Type 0} → HeldOnly mirror start b P → is_broken b
+      → FileFailed G.keeps start.file b.file
   broken_file held broken = file_failed start sound b held.reached broken
 
   -- and that of another hasn't
-  pub whole_file : {P : Image → Type 0} → HeldOnly mirror start b P → (is_broken b → ⊥) → IsUnfailed G.keeps start.file b.file
+  pub whole_file : {P : Image → Type 0} → HeldOnly mirror start b P → (is_broken b → ⊥)
+      → IsUnfailed G.keeps start.file b.file
   whole_file held whole = held.reached.unfailed whole
 
-  pub same_failures : IsUnfailed G.keeps start.file b.file → file_run.failures (file_disk b) ≡ file_run.failures (file_disk start)
-  same_failures same = ap (λ n. if nat_lt n G.keeps.last then (if nat_lt (G.keeps.failures start.file) n then 1 else 0) else 1) same
+  pub same_failures : IsUnfailed G.keeps start.file b.file
+      → file_run.failures (file_disk b) ≡ file_run.failures (file_disk start)
+  same_failures same = ap (λ n. if nat_lt n G.keeps.last then (if nat_lt (G.keeps.failures start.file) n then 1 else 0)
+      else 1) same
 
   module _ (image : List ℕ) (size : length image ≡ 174848) (holds : mirror_image start ≡ sectors_in image) where
     pub taken_up : {Ends : FileDisk G.keeps → FileDisk G.keeps → Type 0} → Ends (file_disk start) (file_disk b)
@@ -95,7 +101,8 @@ module _ {F : Type 0} {G : Ghosts F} (start : Mirror F G) (sound : is_broken sta
       }
 
 -- what holds of the file that is handed back, and of what is told of it, by whether the mirror broke
-pub handed-back : {F : Type 0} {G : Ghosts F} (P : F → F → Result Unit KeepFault → Type 0) (start b : Mirror F G) (file : F)
+pub handed-back : {F : Type 0} {G : Ghosts F} (P : F → F → Result Unit KeepFault → Type 0) (start b : Mirror F G)
+    (file : F)
     (r : Result Unit KeepFault) (out : F × Result Unit KeepFault) → start.file ≡ file → out.0 ≡ b.file
     → (is_broken b → P start.file b.file (Err keep.Device)) → ((is_broken b → ⊥) → P start.file b.file r)
     → (is_broken b × (out.1 ≡ Err keep.Device)) ⊎ ((is_broken b → ⊥) × (out.1 ≡ r)) → P file out.0 out.1

@@ -14,9 +14,11 @@ use Rattle.ledger_commands.specs.declared.faults.RunFault.{RunFault}
 use Rattle.ledger_commands.specs.declared.faults.RunFault.TheVariants as run
 
 -- an image that no opening takes, and on which no line was played
-play-refused : {F T : Type 0} (K : Keeps F) (o : Output T) (image script : List ℕ) (file new_file : F) (old new : T) (fault : RunFault)
+play-refused : {F T : Type 0} (K : Keeps F) (o : Output T) (image script : List ℕ) (file new_file : F) (old new : T)
+    (fault : RunFault)
     → run_status fault ≡ 1 → IsOpenRefusal image fault → IsUntouched file new_file old new
-    → IsFileFault K o image script file new_file old new fault → IsPlayRun K o image script file new_file old new (Err fault)
+    → IsFileFault K o image script file new_file old new fault
+    → IsPlayRun K o image script file new_file old new (Err fault)
 play-refused K o image script file new_file old new fault one refusal untouched end = record {
   done = λ zero'. absurd (omega (arith, zero', one));
   fault = end;
@@ -29,7 +31,8 @@ play-refused K o image script file new_file old new fault one refusal untouched 
 }
 
 -- the output or the file failed, or there was no memory
-play-stopped : {F T : Type 0} (K : Keeps F) (o : Output T) (image script : List ℕ) (file new_file : F) (old new : T) (fault : RunFault)
+play-stopped : {F T : Type 0} (K : Keeps F) (o : Output T) (image script : List ℕ) (file new_file : F) (old new : T)
+    (fault : RunFault)
     → run_status fault ≡ 3 → length image ≡ 174848 → IsFileFault K o image script file new_file old new fault
     → IsPlayRun K o image script file new_file old new (Err fault)
 play-stopped K o image script file new_file old new fault three size end = record {
@@ -44,8 +47,10 @@ play-stopped K o image script file new_file old new fault three size end = recor
 }
 
 -- a script that wasn't played to its end
-pub play-failed : {F T : Type 0} (K : Keeps F) (o : Output T) (image script : List ℕ) (file new_file : F) (old new : T) (fault : RunFault)
-    → IsFileFault K o image script file new_file old new fault → IsPlayRun K o image script file new_file old new (Err fault)
+pub play-failed : {F T : Type 0} (K : Keeps F) (o : Output T) (image script : List ℕ) (file new_file : F) (old new : T)
+    (fault : RunFault)
+    → IsFileFault K o image script file new_file old new fault
+    → IsPlayRun K o image script file new_file old new (Err fault)
 play-failed K o image script file new_file old new run.ImageSize end = record {
   done = λ zero'. absurd (omega (arith, zero'));
   fault = end;
@@ -66,17 +71,25 @@ play-failed K o image script file new_file old new (run.BadLine line) end = reco
   statuses = inr (inl refl);
   quiet = λ ok. absurd (false≢true ok);
 }
-play-failed K o image script file new_file old new run.NoMemory end = play-stopped K o image script file new_file old new _ refl end.0 end
-play-failed K o image script file new_file old new run.File end = play-stopped K o image script file new_file old new _ refl end.1.size end
+play-failed K o image script file new_file old new run.NoMemory end =
+    play-stopped K o image script file new_file old new _ refl end.0 end
+play-failed K o image script file new_file old new run.File end = play-stopped K o image script file new_file old new _
+    refl end.1.size end
 play-failed K o image script file new_file old new run.Device end =
     let size : length image ≡ 174848 = ⊎_elim (λ whole. whole.size) (λ part. part.1.size) end.1 in
     play-stopped K o image script file new_file old new _ refl size end
-play-failed K o image script file new_file old new (run.Layout fault) end = play-refused K o image script file new_file old new _ refl end.1 end.2 end
-play-failed K o image script file new_file old new run.NoStock end = play-refused K o image script file new_file old new _ refl end.1 end.2 end
-play-failed K o image script file new_file old new run.NoRequests end = play-refused K o image script file new_file old new _ refl end.1 end.2 end
-play-failed K o image script file new_file old new (run.BadCard item) end = play-refused K o image script file new_file old new _ refl end.1 end.2 end
-play-failed K o image script file new_file old new (run.BadRequestCard till) end = play-refused K o image script file new_file old new _ refl end.1 end.2 end
-play-failed K o image script file new_file old new run.TwoIntents end = play-refused K o image script file new_file old new _ refl end.1 end.2 end
+play-failed K o image script file new_file old new (run.Layout fault) end =
+    play-refused K o image script file new_file old new _ refl end.1 end.2 end
+play-failed K o image script file new_file old new run.NoStock end = play-refused K o image script file new_file old new
+    _ refl end.1 end.2 end
+play-failed K o image script file new_file old new run.NoRequests end =
+    play-refused K o image script file new_file old new _ refl end.1 end.2 end
+play-failed K o image script file new_file old new (run.BadCard item) end =
+    play-refused K o image script file new_file old new _ refl end.1 end.2 end
+play-failed K o image script file new_file old new (run.BadRequestCard till) end =
+    play-refused K o image script file new_file old new _ refl end.1 end.2 end
+play-failed K o image script file new_file old new run.TwoIntents end =
+    play-refused K o image script file new_file old new _ refl end.1 end.2 end
 
 -- a script played to its end
 pub play-done : {F T : Type 0} (K : Keeps F) (o : Output T) (image script : List ℕ) (file new_file : F) (old new : T)

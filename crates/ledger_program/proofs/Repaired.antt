@@ -1,5 +1,6 @@
 -- What comes of a repair over the file of a mirror, from that over the mirror and whether it is broken.
-use Rattle.std.proofs.Common.{◌≡◌, ◌<◌, ◌≤◌, ◌+◌, ◌⊎◌, ℕ, List, Option, Result, Ok, Err, ap, arith, inl, inr, length, refl, subst}
+use Rattle.std.proofs.Common.{◌≡◌, ◌<◌, ◌≤◌, ◌+◌, ◌⊎◌, ℕ, List, Option, Result, Ok, Err, ap, arith, inl, inr, length}
+use Rattle.std.proofs.Common.{refl, subst}
 use Rattle.std.specs.Prelude.{IfErr, OnOk}
 use Rattle.d64_image.proofs.FileRuns.{file_disk, file_failed, held_by_file}
 use Rattle.d64_image.specs.FileDisks.{FileDisk, in_run}
@@ -25,31 +26,35 @@ use Rattle.ledger_commands.specs.Plays.{IsUntouched}
 use Rattle.ledger_program.proofs.OverFiles.{changes_of_file, handed-back, not_failed, same_file, taken_up}
 use Rattle.ledger_program.specs.Keeping.{IsRepairOver, IsRepairedFault, IsRepairedFile, keep_end}
 
-module _ {F W : Type 0} (K : Keeps F) (contents : W → Option (List ℕ)) (image : List ℕ) (file after : F) (old new : W) where
-  -- the output or the file failed, or there was no memory
-  stopped : (fault : KeepFault) → keep_end (Err fault) ≡ 3 → length image ≡ 174848 → IsRepairedFault K image file after old new fault
-      → IsRepairOver K contents image file after old new (Err fault)
-  stopped fault three size told = record {
-    done = λ zero'. absurd (omega (arith, three, zero'));
-    fault = told;
-    size = λ other. absurd (other size);
-    sound = λ one. absurd (omega (arith, three, one));
-    untouched = λ one. absurd (omega (arith, three, one));
-    statuses = inr (inr three);
-  }
+module _ {F W : Type 0} (K : Keeps F) (contents : W → Option (List ℕ)) (image : List ℕ) (file after : F) (old new : W)
+  where
+    -- the output or the file failed, or there was no memory
+    stopped : (fault : KeepFault) → keep_end (Err fault) ≡ 3 → length image ≡ 174848
+        → IsRepairedFault K image file after old new fault
+        → IsRepairOver K contents image file after old new (Err fault)
+    stopped fault three size told = record {
+      done = λ zero'. absurd (omega (arith, three, zero'));
+      fault = told;
+      size = λ other. absurd (other size);
+      sound = λ one. absurd (omega (arith, three, one));
+      untouched = λ one. absurd (omega (arith, three, one));
+      statuses = inr (inr three);
+    }
 
-  mended : length image ≡ 174848 → IsRepairedFile K contents image file after old new → IsRepairOver K contents image file after old new (Ok tt)
-  mended size is = record {
-    done = λ _. is;
-    fault = tt;
-    size = λ other. absurd (other size);
-    sound = λ one. absurd (omega (arith, one));
-    untouched = λ one. absurd (omega (arith, one));
-    statuses = inl refl;
-  }
+    mended : length image ≡ 174848 → IsRepairedFile K contents image file after old new
+        → IsRepairOver K contents image file after old new (Ok tt)
+    mended size is = record {
+      done = λ _. is;
+      fault = tt;
+      size = λ other. absurd (other size);
+      sound = λ one. absurd (omega (arith, one));
+      untouched = λ one. absurd (omega (arith, one));
+      statuses = inl refl;
+    }
 
 -- the image wasn't taken into memory
-pub not-loaded : {F W : Type 0} (K : Keeps F) (contents : W → Option (List ℕ)) (image : List ℕ) (file : F) (old : W) (fault : KeepFault)
+pub not-loaded : {F W : Type 0} (K : Keeps F) (contents : W → Option (List ℕ)) (image : List ℕ) (file : F) (old : W)
+    (fault : KeepFault)
     → IsLoadFault image fault → IsRepairOver K contents image file file old old (Err fault)
 not-loaded K contents image file old keep.ImageSize told = record {
   done = λ zero'. absurd (omega (arith, zero'));
@@ -59,7 +64,8 @@ not-loaded K contents image file old keep.ImageSize told = record {
   untouched = λ _. (refl, refl);
   statuses = inr (inl refl);
 }
-not-loaded K contents image file old keep.NoMemory told = stopped K contents image file file old old keep.NoMemory refl told (told, (refl, refl))
+not-loaded K contents image file old keep.NoMemory told = stopped K contents image file file old old keep.NoMemory refl
+    told (told, (refl, refl))
 not-loaded K contents image file old (keep.Layout fault) told = absurd told
 not-loaded K contents image file old keep.NoFile told = absurd told
 not-loaded K contents image file old keep.FileExists told = absurd told
@@ -68,11 +74,13 @@ not-loaded K contents image file old keep.DiskFull told = absurd told
 not-loaded K contents image file old keep.File told = absurd told
 not-loaded K contents image file old keep.Device told = absurd told
 
-module _ {F : Type 0} {G : Ghosts F} (start : Mirror F G) (sound : is_broken start → ⊥) (untaken : start.taken.n ≡ 0) (b : Mirror F G) where
+module _ {F : Type 0} {G : Ghosts F} (start : Mirror F G) (sound : is_broken start → ⊥) (untaken : start.taken.n ≡ 0)
+    (b : Mirror F G) where
   abbrev file_run : History (FileDisk G.keeps)
   file_run = in_run G.keeps start.file
 
-  over_of_file : (Right : Place → Sector → Type 0) (ps : List Place) (n : ℕ) (P : Image → Type 0) → n < 1000 → Changes mirror start b n P
+  over_of_file : (Right : Place → Sector → Type 0) (ps : List Place) (n : ℕ) (P : Image → Type 0) → n < 1000
+      → Changes mirror start b n P
       → GoesOver mirror start b Right ps → GoesOver file_run (file_disk start) (file_disk b) Right ps
   over_of_file Right ps n P few changes x = record {
     held = held_by_file start.file start b _ x.held;
@@ -87,7 +95,8 @@ module _ {F : Type 0} {G : Ghosts F} (start : Mirror F G) (sound : is_broken sta
     };
   }
 
-  run_of_file : (image : List ℕ) → IsRepairRun mirror image start b → IsRepairRun file_run image (file_disk start) (file_disk b)
+  run_of_file : (image : List ℕ) → IsRepairRun mirror image start b
+      → IsRepairRun file_run image (file_disk start) (file_disk b)
   run_of_file image x = record {
     size = x.size;
     moments = λ l is. changes_of_file start sound untaken b 883 _ (omega arith) (x.moments l is);
@@ -95,8 +104,15 @@ module _ {F : Type 0} {G : Ghosts F} (start : Mirror F G) (sound : is_broken sta
     unsound = λ none. changes_of_file start sound untaken b 0 _ (omega arith) (x.unsound none);
   }
 
-  mended_of_file : (image : List ℕ) → IsMendedDisk mirror image start b → IsMendedDisk file_run image (file_disk start) (file_disk b)
-  mended_of_file image x = record { run = run_of_file image x.run; survey = x.survey; repaired = x.repaired; spare = x.spare }
+  mended_of_file : (image : List ℕ) → IsMendedDisk mirror image start b
+      → IsMendedDisk file_run image (file_disk start) (file_disk b)
+  mended_of_file image x = record {
+    run = run_of_file image x.run;
+    survey = x.survey;
+    repaired = x.repaired;
+    spare =
+        x.spare;
+  }
 
   reached : (image : List ℕ) → IsMendedDisk mirror image start b → IsMirrored start b
   reached image x = (x.run.moments x.repaired.before x.repaired.sound).held.reached
@@ -112,7 +128,8 @@ module _ {F : Type 0} {G : Ghosts F} (start : Mirror F G) (sound : is_broken sta
   module _ {W : Type 0} (contents : W → Option (List ℕ)) (image : List ℕ) (size : length image ≡ 174848)
       (holds : mirror_image start ≡ sectors_in image) (old new : W) where
     -- a disk that isn't sound: a fault holds of it, and the repair was one that does nothing
-    left-alone : (fault : Fault) → Holds nowhere (mirror_image start) fault → WritesNothing mirror start b → IsRepairRun mirror image start b
+    left-alone : (fault : Fault) → Holds nowhere (mirror_image start) fault → WritesNothing mirror start b
+        → IsRepairRun mirror image start b
     left-alone fault told quiet =
         let unsound = told-unsound (mirror_image start) fault told in
         let same : mirror.writes b ≡ mirror.writes start = quiet.writes in
@@ -124,10 +141,15 @@ module _ {F : Type 0} {G : Ghosts F} (start : Mirror F G) (sound : is_broken sta
         }
 
     -- the file didn't fail
-    pub whole-ended : (is_broken b → ⊥) → (r : Result Unit KeepFault) → OnOk r (IsRepairDone mirror contents image start b old new)
-        → IfErr r (IsRepairFault mirror image start b old new) → IsRepairOver G.keeps contents image start.file b.file old new r
-    whole-ended whole (Ok x) ok err = mended G.keeps contents image start.file b.file old new size
-        ((reached image ok.mended).unfailed whole, taken_up start sound untaken b image size holds (record { mended = mended_of_file image ok.mended; printed = ok.printed }))
+    pub whole-ended : (is_broken b → ⊥) → (r : Result Unit KeepFault)
+        → OnOk r (IsRepairDone mirror contents image start b old new)
+        → IfErr r (IsRepairFault mirror image start b old new)
+        → IsRepairOver G.keeps contents image start.file b.file old new r
+    whole-ended whole (Ok x) ok err = mended G.keeps contents image start.file b.file old new size (
+      (reached image ok.mended).unfailed whole,
+      taken_up start sound untaken b image size holds
+          (record { mended = mended_of_file image ok.mended; printed = ok.printed }),
+    )
     whole-ended whole (Err keep.ImageSize) ok err = absurd (err.0 size)
     whole-ended whole (Err keep.NoMemory) ok err =
         stopped G.keeps contents image start.file b.file old new keep.NoMemory refl size
@@ -166,7 +188,8 @@ module _ {F : Type 0} {G : Ghosts F} (start : Mirror F G) (sound : is_broken sta
     run-of broken (Err keep.DiskFull) ok err = absurd err
 
     -- the file failed
-    pub broken-ended : is_broken b → (r : Result Unit KeepFault) → OnOk r (IsRepairDone mirror contents image start b old new)
+    pub broken-ended : is_broken b → (r : Result Unit KeepFault)
+        → OnOk r (IsRepairDone mirror contents image start b old new)
         → IfErr r (IsRepairFault mirror image start b old new)
         → IsRepairOver G.keeps contents image start.file b.file old new (Err keep.Device)
     broken-ended broken r ok err =
@@ -175,8 +198,10 @@ module _ {F : Type 0} {G : Ghosts F} (start : Mirror F G) (sound : is_broken sta
         (failed_file image broken run, taken_up start sound untaken b image size holds (run_of_file image run))
 
     -- the file that is handed back, and what is told of it
-    pub file-ended : (file : F) (r : Result Unit KeepFault) (out : F × Result Unit KeepFault) → start.file ≡ file → out.0 ≡ b.file
-        → OnOk r (IsRepairDone mirror contents image start b old new) → IfErr r (IsRepairFault mirror image start b old new)
+    pub file-ended : (file : F) (r : Result Unit KeepFault) (out : F × Result Unit KeepFault) → start.file ≡ file
+        → out.0 ≡ b.file
+        → OnOk r (IsRepairDone mirror contents image start b old new)
+        → IfErr r (IsRepairFault mirror image start b old new)
         → (is_broken b × (out.1 ≡ Err keep.Device)) ⊎ ((is_broken b → ⊥) × (out.1 ≡ r))
         → IsRepairOver G.keeps contents image file out.0 old new out.1
     file-ended file r out first after ok err end =

@@ -13,14 +13,19 @@ use Rattle.ledger_program.specs.declared.jobs.Reading.{Reading}
 use Rattle.ledger_commands.specs.declared.faults.RunFault.TheVariants as run
 
 -- what is asked, and how it ended, are these
-pub reading-as : {W : Type 0} (contents : W → Option (List ℕ)) (what at : Reading) (bytes : List ℕ) (old new : W) (ended end : Ended)
-    → what ≡ at → ended ≡ end → IsReadingRun contents at bytes old new (exit_status end) → IfErr end (HoldsOfBytes at bytes)
-    → IsQuiet at bytes end → IsReadingRun contents what bytes old new (exit_status ended) × IfErr ended (HoldsOfBytes what bytes)
+pub reading-as : {W : Type 0} (contents : W → Option (List ℕ)) (what at : Reading) (bytes : List ℕ) (old new : W)
+    (ended end : Ended)
+    → what ≡ at → ended ≡ end → IsReadingRun contents at bytes old new (exit_status end)
+    → IfErr end (HoldsOfBytes at bytes)
+    → IsQuiet at bytes end → IsReadingRun contents what bytes old new (exit_status ended)
+    × IfErr ended (HoldsOfBytes what bytes)
     × IsQuiet what bytes ended
 reading-as contents what at bytes old new ended end is told run fault quiet =
-    subst (λ (w : Reading). IsReadingRun contents w bytes old new (exit_status ended) × IfErr ended (HoldsOfBytes w bytes) × IsQuiet w bytes ended)
+    subst (λ (w : Reading). IsReadingRun contents w bytes old new (exit_status ended)
+    × IfErr ended (HoldsOfBytes w bytes) × IsQuiet w bytes ended)
     (sym is)
-    (subst (λ (e : Ended). IsReadingRun contents at bytes old new (exit_status e) × IfErr e (HoldsOfBytes at bytes) × IsQuiet at bytes e) (sym told)
+    (subst (λ (e : Ended). IsReadingRun contents at bytes old new (exit_status e) × IfErr e (HoldsOfBytes at bytes)
+    × IsQuiet at bytes e) (sym told)
     (run, fault, quiet))
 
 -- the system's failures are told by two words
@@ -29,7 +34,8 @@ two-words kinds.OutOfMemory = inr refl
 two-words _ = inl refl
 
 -- what is asked of a file, from what was read of it
-pub reading-of : {W B : Type 0} (contents : W → Option (List ℕ)) (items : B → List ℕ) (what : Reading) (all : Option (List ℕ))
+pub reading-of : {W B : Type 0} (contents : W → Option (List ℕ)) (items : B → List ℕ) (what : Reading)
+    (all : Option (List ℕ))
     (read : Result B Error) (old new : W) (ended : Ended)
     → IfOk read (λ b. IfSome all (λ bytes. items b ≡ needed what bytes))
     → IfErr read (λ e. (ended ≡ Err (io_fault (error_kind e))) × (new ≡ old))

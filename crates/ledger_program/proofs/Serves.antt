@@ -11,7 +11,8 @@ use Rattle.ledger_commands.specs.declared.faults.RunFault.{RunFault}
 use Rattle.ledger_commands.specs.declared.faults.RunFault.TheVariants as run
 use Rattle.ledger_program.specs.Serves.{IsServeRun}
 
-module _ {F R T : Type 0} (K : Keeps F) (remaining : R → Option (List ℕ)) (o : Output T) (image : List ℕ) (file new_file : F)
+module _ {F R T : Type 0} (K : Keeps F) (remaining : R → Option (List ℕ)) (o : Output T) (image : List ℕ)
+    (file new_file : F)
     (old_in new_in : R) (old new : T) where
   abbrev Failed : RunFault → Type 0
   Failed fault = IsServeFault K remaining o image file new_file old_in new_in old new fault
@@ -20,7 +21,8 @@ module _ {F R T : Type 0} (K : Keeps F) (remaining : R → Option (List ℕ)) (o
   Ran fault = IsServeRun K remaining o image file new_file old_in new_in old new (Err fault)
 
   -- an image that no opening takes, and of whose input nothing was read
-  refused : (fault : RunFault) → run_status fault ≡ 1 → IsOpenRefusal image fault → IsUnserved file new_file old_in new_in old new
+  refused : (fault : RunFault) → run_status fault ≡ 1 → IsOpenRefusal image fault
+      → IsUnserved file new_file old_in new_in old new
       → Failed fault → Ran fault
   refused fault one refusal untouched end = record {
     done = λ zero'. absurd (omega (arith, zero', one));

@@ -24,8 +24,10 @@ show-refused contents image old new fault one other refusal untouched = record {
 }
 
 -- what an image holds, shown
-pub show-run : {W : Type 0} (contents : W → Option (List ℕ)) (image : List ℕ) (old new : W) (ended : Result Unit RunFault)
-    → OnOk ended (IsShown contents image old new) → IfErr ended (IsShowFault image) → IfErr ended (λ fault. fault ≢ run.File → new ≡ old)
+pub show-run : {W : Type 0} (contents : W → Option (List ℕ)) (image : List ℕ) (old new : W)
+    (ended : Result Unit RunFault)
+    → OnOk ended (IsShown contents image old new) → IfErr ended (IsShowFault image)
+    → IfErr ended (λ fault. fault ≢ run.File → new ≡ old)
     → IsShowRun contents image old new (exit_status (end_of ended))
 show-run contents image old new (Ok _) ok err untouched = record {
   done = λ _. ok;
@@ -67,10 +69,17 @@ show-run contents image old new (Err run.Device) ok err untouched = record {
   untouched = λ one. absurd (omega (arith, one));
   statuses = inr (inr refl);
 }
-show-run contents image old new (Err (run.BadLine line)) ok err untouched = show-refused contents image old new (run.BadLine line) refl refl err untouched
-show-run contents image old new (Err (run.Layout fault)) ok err untouched = show-refused contents image old new (run.Layout fault) refl refl err untouched
-show-run contents image old new (Err run.NoStock) ok err untouched = show-refused contents image old new run.NoStock refl refl err untouched
-show-run contents image old new (Err run.NoRequests) ok err untouched = show-refused contents image old new run.NoRequests refl refl err untouched
-show-run contents image old new (Err (run.BadCard item)) ok err untouched = show-refused contents image old new (run.BadCard item) refl refl err untouched
-show-run contents image old new (Err (run.BadRequestCard till)) ok err untouched = show-refused contents image old new (run.BadRequestCard till) refl refl err untouched
-show-run contents image old new (Err run.TwoIntents) ok err untouched = show-refused contents image old new run.TwoIntents refl refl err untouched
+show-run contents image old new (Err (run.BadLine line)) ok err untouched =
+    show-refused contents image old new (run.BadLine line) refl refl err untouched
+show-run contents image old new (Err (run.Layout fault)) ok err untouched =
+    show-refused contents image old new (run.Layout fault) refl refl err untouched
+show-run contents image old new (Err run.NoStock) ok err untouched =
+    show-refused contents image old new run.NoStock refl refl err untouched
+show-run contents image old new (Err run.NoRequests) ok err untouched =
+    show-refused contents image old new run.NoRequests refl refl err untouched
+show-run contents image old new (Err (run.BadCard item)) ok err untouched =
+    show-refused contents image old new (run.BadCard item) refl refl err untouched
+show-run contents image old new (Err (run.BadRequestCard till)) ok err untouched =
+    show-refused contents image old new (run.BadRequestCard till) refl refl err untouched
+show-run contents image old new (Err run.TwoIntents) ok err untouched =
+    show-refused contents image old new run.TwoIntents refl refl err untouched

@@ -1,5 +1,6 @@
 -- What comes of storing records over the file of a mirror, from that over the mirror and whether it is broken.
-use Rattle.std.proofs.Common.{◌≡◌, ◌⊎◌, ℕ, List, Option, Result, Ok, Err, ap, inl, inr, length, refl, slice_get, Some, subst, ⊎_elim}
+use Rattle.std.proofs.Common.{◌≡◌, ◌⊎◌, ℕ, List, Option, Result, Ok, Err, ap, inl, inr, length, refl, slice_get, Some}
+use Rattle.std.proofs.Common.{subst, ⊎_elim}
 use Rattle.std.specs.Prelude.{IfErr, OnOk}
 use Rattle.d64_image.proofs.FileRuns.{file_disk, held_by_file}
 use Rattle.d64_image.specs.FileDisks.{in_run}
@@ -17,7 +18,8 @@ use Rattle.keeper_commands.specs.declared.faults.KeepFault.{KeepFault}
 use Rattle.keeper_commands.specs.declared.faults.KeepFault.TheVariants as keep
 use Rattle.ledger_commands.specs.Plays.{IsTakenUp, IsUntouched}
 use Rattle.ledger_program.proofs.KeptOver.{is-done, is-refused, is-stopped}
-use Rattle.ledger_program.proofs.OverFiles.{broken_file, handed-back, kept_of_file, not_failed, refused_of_file, same_file, taken_up, whole_file}
+use Rattle.ledger_program.proofs.OverFiles.{broken_file, handed-back, kept_of_file, not_failed, refused_of_file}
+use Rattle.ledger_program.proofs.OverFiles.{same_file, taken_up, whole_file}
 use Rattle.ledger_program.specs.Kept.{IsKeptAsItWas, IsStoreOver, IsStoredFault, IsStoredFile, IsStoringRun}
 
 module _ {F W : Type 0} (K : Keeps F) (contents : W → Option (List ℕ)) (image name text : List ℕ) where
@@ -25,9 +27,11 @@ module _ {F W : Type 0} (K : Keeps F) (contents : W → Option (List ℕ)) (imag
   pub store-not-loaded : (file : F) (old : W) (fault : KeepFault) → IsLoadFault image fault
       → IsStoreOver K contents image name text file file old old (Err fault)
   store-not-loaded file old keep.ImageSize told =
-      is-refused image file file old old _ (IsStoredFault K image name text file file old old) keep.ImageSize refl (told, (refl, refl)) (refl, refl)
+      is-refused image file file old old _ (IsStoredFault K image name text file file old old) keep.ImageSize refl
+      (told, (refl, refl)) (refl, refl)
   store-not-loaded file old keep.NoMemory told =
-      is-stopped image file file old old _ (IsStoredFault K image name text file file old old) keep.NoMemory refl told (told, (refl, refl))
+      is-stopped image file file old old _ (IsStoredFault K image name text file file old old) keep.NoMemory refl told
+      (told, (refl, refl))
   store-not-loaded file old (keep.Layout fault) told = absurd told
   store-not-loaded file old keep.NoFile told = absurd told
   store-not-loaded file old keep.FileExists told = absurd told
@@ -36,9 +40,11 @@ module _ {F W : Type 0} (K : Keeps F) (contents : W → Option (List ℕ)) (imag
   store-not-loaded file old keep.File told = absurd told
   store-not-loaded file old keep.Device told = absurd told
 
-module _ {F : Type 0} {G : Ghosts F} (start : Mirror F G) (sound : is_broken start → ⊥) (untaken : start.taken.n ≡ 0) (b : Mirror F G)
+module _ {F : Type 0} {G : Ghosts F} (start : Mirror F G) (sound : is_broken start → ⊥) (untaken : start.taken.n ≡ 0)
+    (b : Mirror F G)
     (image name text : List ℕ) where
-  abbrev run_of_file : IsStoreRun mirror image name text start b → IsStoringRun (in_run G.keeps start.file) name text (file_disk start) (file_disk b)
+  abbrev run_of_file : IsStoreRun mirror image name text start b
+      → IsStoringRun (in_run G.keeps start.file) name text (file_disk start) (file_disk b)
   run_of_file x = record {
     layout = x.layout;
     clean = x.clean;
@@ -50,7 +56,8 @@ module _ {F : Type 0} {G : Ghosts F} (start : Mirror F G) (sound : is_broken sta
     held = held_by_file start.file start b _ x.moments.held;
   }
 
-  module _ {W : Type 0} (contents : W → Option (List ℕ)) (size : length image ≡ 174848) (holds : mirror_image start ≡ sectors_in image)
+  module _ {W : Type 0} (contents : W → Option (List ℕ)) (size : length image ≡ 174848)
+      (holds : mirror_image start ≡ sectors_in image)
       (old new : W) where
     abbrev Stored : Type 0
     Stored = IsStoredFile G.keeps contents image name text start.file b.file old new
@@ -59,7 +66,8 @@ module _ {F : Type 0} {G : Ghosts F} (start : Mirror F G) (sound : is_broken sta
     Fault = IsStoredFault G.keeps image name text start.file b.file old new
 
     -- the file didn't fail
-    whole-ended : (is_broken b → ⊥) → (r : Result Unit KeepFault) → OnOk r (IsStoreDone mirror contents image name text start b old new)
+    whole-ended : (is_broken b → ⊥) → (r : Result Unit KeepFault)
+        → OnOk r (IsStoreDone mirror contents image name text start b old new)
         → IfErr r (IsStoreFault mirror image name text start b old new)
         → IsStoreOver G.keeps contents image name text start.file b.file old new r
     whole-ended whole (Ok x) ok err = is-done image start.file b.file old new Stored Fault size (
@@ -78,7 +86,8 @@ module _ {F : Type 0} {G : Ghosts F} (start : Mirror F G) (sound : is_broken sta
       }),
     )
     whole-ended whole (Err keep.ImageSize) ok err = absurd (err.0 size)
-    whole-ended whole (Err keep.NoMemory) ok err = is-stopped image start.file b.file old new Stored Fault keep.NoMemory refl size
+    whole-ended whole (Err keep.NoMemory) ok err = is-stopped image start.file b.file old new Stored Fault keep.NoMemory
+        refl size
         (size, (ap (λ (m : Mirror F G). m.file) err.1, err.2))
     whole-ended whole (Err (keep.Layout fault)) ok err =
         let same : IsUntouched start.file b.file old new = (ap (λ (m : Mirror F G). m.file) err.2, err.3) in
@@ -88,22 +97,26 @@ module _ {F : Type 0} {G : Ghosts F} (start : Mirror F G) (sound : is_broken sta
         (λ l. (k : ℕ) (f : File) → slice_get l.files k ≡ Some f → ¬ (IsNamed name f)) (λ l w. w) whole err in
         is-refused image start.file b.file old new Stored Fault keep.NoFile refl x x.untouched
     whole-ended whole (Err (keep.BadLine line)) ok err =
-        let x = refused_of_file start sound untaken b image size holds old new _ (HasBadLine name text line) (λ l w. w) whole err in
+        let x = refused_of_file start sound untaken b image size holds old new _ (HasBadLine name text line) (λ l w. w)
+        whole err in
         is-refused image start.file b.file old new Stored Fault (keep.BadLine line) refl x x.untouched
     whole-ended whole (Err keep.DiskFull) ok err =
-        let x = refused_of_file start sound untaken b image size holds old new _ (HasNoStoreRoom (sectors_in image) name text)
+        let x = refused_of_file start sound untaken b image size holds old new _
+        (HasNoStoreRoom (sectors_in image) name text)
         (λ l w. subst (λ img. HasNoStoreRoom img name text l) holds w) whole err in
         is-refused image start.file b.file old new Stored Fault keep.DiskFull refl x x.untouched
-    whole-ended whole (Err keep.File) ok err = is-stopped image start.file b.file old new Stored Fault keep.File refl size (
-      whole_file start sound untaken b err.0.moments.held whole,
-      taken_up start sound untaken b image size holds (run_of_file err.0, err.1),
-    )
+    whole-ended whole (Err keep.File) ok err = is-stopped image start.file b.file old new Stored Fault keep.File refl
+        size (
+          whole_file start sound untaken b err.0.moments.held whole,
+          taken_up start sound untaken b image size holds (run_of_file err.0, err.1),
+        )
     whole-ended whole (Err keep.Device) ok err = absurd (not_failed start sound untaken b whole err.0)
     whole-ended whole (Err keep.FileExists) ok err = absurd err
 
     abbrev Kept : Type 0
     Kept = IsKeptAsItWas G.keeps image start.file b.file old new
-        ⊎ IsTakenUp G.keeps image start.file b.file (λ disk left. IsStoringRun (in_run G.keeps start.file) name text disk left)
+        ⊎ IsTakenUp G.keeps image start.file b.file (λ disk left. IsStoringRun (in_run G.keeps start.file) name text
+        disk left)
 
     kept-left : (Why : Layout → Type 0) → is_broken b → IsLeft mirror image start b old new Why
         → FileFailed G.keeps start.file b.file × Kept
@@ -119,12 +132,14 @@ module _ {F : Type 0} {G : Ghosts F} (start : Mirror F G) (sound : is_broken sta
     )
 
     -- whatever a run over a mirror that broke ended with
-    run-of : is_broken b → (r : Result Unit KeepFault) → OnOk r (IsStoreDone mirror contents image name text start b old new)
+    run-of : is_broken b → (r : Result Unit KeepFault)
+        → OnOk r (IsStoreDone mirror contents image name text start b old new)
         → IfErr r (IsStoreFault mirror image name text start b old new) → FileFailed G.keeps start.file b.file × Kept
     run-of broken (Ok x) ok err = kept-run broken ok.disk.run
     run-of broken (Err keep.ImageSize) ok err = absurd (err.0 size)
     run-of broken (Err keep.NoMemory) ok err = absurd (sound (subst (λ (m : Mirror F G). is_broken m) err.1 broken))
-    run-of broken (Err (keep.Layout fault)) ok err = absurd (sound (subst (λ (m : Mirror F G). is_broken m) err.2 broken))
+    run-of broken (Err (keep.Layout fault)) ok err =
+        absurd (sound (subst (λ (m : Mirror F G). is_broken m) err.2 broken))
     run-of broken (Err keep.NoFile) ok err = kept-left _ broken err
     run-of broken (Err (keep.BadLine line)) ok err = kept-left _ broken err
     run-of broken (Err keep.DiskFull) ok err = kept-left _ broken err
@@ -133,14 +148,18 @@ module _ {F : Type 0} {G : Ghosts F} (start : Mirror F G) (sound : is_broken sta
     run-of broken (Err keep.FileExists) ok err = absurd err
 
     -- the file failed
-    broken-ended : is_broken b → (r : Result Unit KeepFault) → OnOk r (IsStoreDone mirror contents image name text start b old new)
+    broken-ended : is_broken b → (r : Result Unit KeepFault)
+        → OnOk r (IsStoreDone mirror contents image name text start b old new)
         → IfErr r (IsStoreFault mirror image name text start b old new)
         → IsStoreOver G.keeps contents image name text start.file b.file old new (Err keep.Device)
-    broken-ended broken r ok err = is-stopped image start.file b.file old new Stored Fault keep.Device refl size (run-of broken r ok err)
+    broken-ended broken r ok err = is-stopped image start.file b.file old new Stored Fault keep.Device refl size
+        (run-of broken r ok err)
 
     -- the file that is handed back, and what is told of it
-    pub store-ended : (file : F) (r : Result Unit KeepFault) (out : F × Result Unit KeepFault) → start.file ≡ file → out.0 ≡ b.file
-        → OnOk r (IsStoreDone mirror contents image name text start b old new) → IfErr r (IsStoreFault mirror image name text start b old new)
+    pub store-ended : (file : F) (r : Result Unit KeepFault) (out : F × Result Unit KeepFault) → start.file ≡ file
+        → out.0 ≡ b.file
+        → OnOk r (IsStoreDone mirror contents image name text start b old new)
+        → IfErr r (IsStoreFault mirror image name text start b old new)
         → (is_broken b × (out.1 ≡ Err keep.Device)) ⊎ ((is_broken b → ⊥) × (out.1 ≡ r))
         → IsStoreOver G.keeps contents image name text file out.0 old new out.1
     store-ended file r out first after ok err end =

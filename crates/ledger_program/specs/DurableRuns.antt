@@ -27,8 +27,8 @@ pub record IsDurableRun {F : Type 0} {G : Ghosts F} (durability : Durability) (i
   pub same : G.held after ≡ G.held (placed_file left)
   pub reached : placed.reached left last
   pub untouched : is_synced left → last ≡ left
-  -- Where each sector is brought to the disk, what such a file keeps at any time of the run is the image that stays there
-  -- where the machine loses power.
+  -- Where each sector is brought to the disk, what such a file keeps at any time of the run is the image that stays
+  -- there where the machine loses power.
   pub lasts : durability ≡ durabilities.EachSector → length image ≡ 174848 → (now : Placed F G)
       → placed.reached first now → placed.kept now ≡ image_of (G.lasting.bytes (placed_file now))
   -- Done, or where the output alone failed, all that the file holds stays.

@@ -51,8 +51,8 @@ end_status (Ok None) = 0
 end_status (Ok (Some _)) = 1
 end_status (Err refusal) = refusal_status refusal
 
--- a run over the bytes of a job's files is done, with the fault of the layout that it printed, where it printed one; or it
--- isn't, for a fault
+-- a run over the bytes of a job's files is done, with the fault of the layout that it printed, where it printed one;
+-- or it isn't, for a fault
 abbrev pub Ended : Type 0
 Ended = Result (Option Fault) RunFault
 

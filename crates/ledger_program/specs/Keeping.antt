@@ -46,10 +46,12 @@ pub record IsTakingRun {W : Type 0} (contents : W → Option (List ℕ)) (what :
 -- the disk of the file was repaired, and what was mended was printed
 abbrev pub IsRepairedFile : {F W : Type 0} → Keeps F → (W → Option (List ℕ)) → (image : List ℕ) → F → F → W → W → Type 0
 IsRepairedFile K contents image file after old new =
-    IsUnfailed K file after × IsTakenUp K image file after (λ disk left. IsRepairDone (in_run K file) contents image disk left old new)
+    IsUnfailed K file after
+    × IsTakenUp K image file after (λ disk left. IsRepairDone (in_run K file) contents image disk left old new)
 
--- Why a file isn't repaired, or that not told: its size, memory, or that its disk isn't sound, and then nothing was done; the
--- output, and then it is mended; or the file, and then each image that it kept on the way is sound and has the same files.
+-- Why a file isn't repaired, or that not told: its size, memory, or that its disk isn't sound, and then nothing was
+-- done; the output, and then it is mended; or the file, and then each image that it kept on the way is sound and has
+-- the same files.
 abbrev pub IsRepairedFault : {F W : Type 0} → Keeps F → (image : List ℕ) → F → F → W → W → KeepFault → Type 0
 IsRepairedFault K image file after old new keep.ImageSize = (length image ≢ 174848) × IsUntouched file after old new
 IsRepairedFault K image file after old new keep.NoMemory = (length image ≡ 174848) × IsUntouched file after old new
@@ -62,7 +64,8 @@ IsRepairedFault K image file after old new keep.Device =
 IsRepairedFault K image file after old new _ = ⊥
 
 -- the repair of the disk of an image, over the file that was handed in and is handed back, ended so
-pub record IsRepairOver {F W : Type 0} (K : Keeps F) (contents : W → Option (List ℕ)) (image : List ℕ) (file new_file : F)
+pub record IsRepairOver {F W : Type 0} (K : Keeps F) (contents : W → Option (List ℕ)) (image : List ℕ)
+    (file new_file : F)
     (old new : W) (ended : Result Unit KeepFault) : Type 0 where
   -- 0: it is repaired, and that was told
   pub done : keep_end ended ≡ 0 → IsRepairedFile K contents image file new_file old new

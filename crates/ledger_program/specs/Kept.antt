@@ -53,7 +53,8 @@ IsUnclean image fault file after old new =
     (length image ≡ 174848) × HoldsOfClean nowhere (sectors_in image) fault × IsUntouched file after old new
 
 -- a relative file was made on the disk of the file, and that was printed
-abbrev pub IsMadeFile : {F W : Type 0} → Keeps F → (W → Option (List ℕ)) → (image name : List ℕ) → ℕ → F → F → W → W → Type 0
+abbrev pub IsMadeFile : {F W : Type 0} → Keeps F → (W → Option (List ℕ)) → (image name : List ℕ) → ℕ → F → F → W → W
+    → Type 0
 IsMadeFile K contents image name L file after old new =
     IsUnfailed K file after
     × IsTakenUp K image file after (λ disk left. IsMakeDone (in_run K file) contents image name L disk left old new)
@@ -70,7 +71,8 @@ IsMadeFault K image name L file after old new keep.FileExists =
 IsMadeFault K image name L file after old new keep.DiskFull =
     IsRefused image file after old new (λ l. HasNoRoom (sectors_in image) l × ¬ (IsTakenName l name))
 IsMadeFault K image name L file after old new keep.File =
-    IsUnfailed K file after × IsTakenUp K image file after (λ disk left. IsMadeDisk (in_run K file) image name L disk left)
+    IsUnfailed K file after
+    × IsTakenUp K image file after (λ disk left. IsMadeDisk (in_run K file) image name L disk left)
 IsMadeFault K image name L file after old new keep.Device =
     FileFailed K file after
     × IsTakenUp K image file after (λ disk left. IsMakeRun (in_run K file) image name L disk left) × (new ≡ old)
@@ -83,8 +85,8 @@ IsMakeOver K contents image name L file after old new ended =
     IsKeptOver image file after old new (IsMadeFile K contents image name L file after old new)
     (IsMadeFault K image name L file after old new) ended
 
--- The disk was clean, `file` is the first closed relative file of the name, the text's lines are of these records, which
--- it has or can have, and whatever was held on the way is sound, with a beginning of those that count.
+-- The disk was clean, `file` is the first closed relative file of the name, the text's lines are of these records,
+-- which it has or can have, and whatever was held on the way is sound, with a beginning of those that count.
 pub record IsStoringRun {D : Type 0} (S : History D) (name text : List ℕ) (old new : D) : Type 0 where
   pub layout : Layout
   pub clean : IsCleanLayout (S.image old) layout
@@ -109,10 +111,12 @@ pub record IsStoringDone {D W : Type 0} (S : History D) (contents : W → Option
   pub quiet : AreSo (record_length run.file.slot) (records (S.image old) run.file) (last_ones run.all)
       → WritesNothing S old new
   pub printed : Appends (contents before) (contents after)
-      (changed_text (record_length run.file.slot) (last_ones run.all) (grown_to (S.image old) run.file (greatest run.all)))
+      (changed_text (record_length run.file.slot) (last_ones run.all)
+      (grown_to (S.image old) run.file (greatest run.all)))
 
 -- the records were stored on the disk of the file, and what was otherwise was printed
-abbrev pub IsStoredFile : {F W : Type 0} → Keeps F → (W → Option (List ℕ)) → (image name text : List ℕ) → F → F → W → W → Type 0
+abbrev pub IsStoredFile : {F W : Type 0} → Keeps F → (W → Option (List ℕ)) → (image name text : List ℕ) → F → F → W → W
+    → Type 0
 IsStoredFile K contents image name text file after old new =
     IsUnfailed K file after
     × IsTakenUp K image file after (λ disk left. IsStoringDone (in_run K file) contents name text disk left old new)
@@ -122,11 +126,13 @@ abbrev pub IsKeptAsItWas : {F W : Type 0} → Keeps F → (image : List ℕ) →
 IsKeptAsItWas K image file after old new =
     IsTakenUp K image file after (λ disk left. Changes (in_run K file) disk left 0 (λ c. c ≡ disk.image)) × (new ≡ old)
 
--- Why records aren't stored, or that not told: what the image or the text holds is in the way, and then nothing was done;
--- or the output or the file failed, and then what was stored until then stays.
+-- Why records aren't stored, or that not told: what the image or the text holds is in the way, and then nothing was
+-- done; or the output or the file failed, and then what was stored until then stays.
 abbrev pub IsStoredFault : {F W : Type 0} → Keeps F → (image name text : List ℕ) → F → F → W → W → KeepFault → Type 0
-IsStoredFault K image name text file after old new keep.ImageSize = (length image ≢ 174848) × IsUntouched file after old new
-IsStoredFault K image name text file after old new keep.NoMemory = (length image ≡ 174848) × IsUntouched file after old new
+IsStoredFault K image name text file after old new keep.ImageSize = (length image ≢ 174848)
+    × IsUntouched file after old new
+IsStoredFault K image name text file after old new keep.NoMemory = (length image ≡ 174848)
+    × IsUntouched file after old new
 IsStoredFault K image name text file after old new (keep.Layout fault) = IsUnclean image fault file after old new
 IsStoredFault K image name text file after old new keep.NoFile = IsRefused image file after old new
     (λ l. (k : ℕ) (f : File) → slice_get l.files k ≡ Some f → ¬ (IsNamed name f))

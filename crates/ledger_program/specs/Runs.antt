@@ -9,7 +9,8 @@ use Rattle.disk_layout.specs.declared.faults.Fault.{Fault}
 use Rattle.host_session.specs.Opening.{IsAShop, Refuses}
 use Rattle.host_session.specs.Telling.{Output}
 use Rattle.host_session.specs.declared.faults.OpenFault.{OpenFault}
-use Rattle.ledger_commands.specs.Images.{IsCheckFault, IsFormatFault, IsFormattedPart, IsHandedOver, IsListFault, IsListed}
+use Rattle.ledger_commands.specs.Images.{IsCheckFault, IsFormatFault, IsFormattedPart, IsHandedOver, IsListFault}
+use Rattle.ledger_commands.specs.Images.{IsListed}
 use Rattle.ledger_commands.specs.Plays.{IsFileFault, IsPlayedFile, IsUntouched}
 use Rattle.ledger_commands.specs.Shops.{IsShowFault, IsShown}
 use Rattle.script_lines.specs.Lines.{first_reset, lines}
@@ -23,14 +24,15 @@ use Rattle.ledger_program.specs.declared.jobs.Reading.{Reading}
 use Rattle.ledger_program.specs.declared.jobs.Reading.TheVariants as readings
 
 -- a run without a disk, over an output that held `old` and holds `new`, ended with this status
-pub record IsDryRun {W : Type 0} (contents : W → Option (List ℕ)) (script : List ℕ) (old new : W) (status : ℕ) : Type 0 where
-  -- 0: each line has its reply over the lines before it, and all of them were handed over
-  pub done : status ≡ 0 → Appends (contents old) (contents new) (dry_report script)
-  -- 1: exactly where a line is bad, and then nothing was written
-  pub bad_line : (status ≡ 1) ↔ IsSome (first_reset (lines script))
-  pub untouched : status ≡ 1 → new ≡ old
-  -- 3: the output failed
-  pub statuses : (status ≡ 0) ⊎ ((status ≡ 1) ⊎ (status ≡ 3))
+pub record IsDryRun {W : Type 0} (contents : W → Option (List ℕ)) (script : List ℕ) (old new : W) (status : ℕ) : Type 0
+  where
+    -- 0: each line has its reply over the lines before it, and all of them were handed over
+    pub done : status ≡ 0 → Appends (contents old) (contents new) (dry_report script)
+    -- 1: exactly where a line is bad, and then nothing was written
+    pub bad_line : (status ≡ 1) ↔ IsSome (first_reset (lines script))
+    pub untouched : status ≡ 1 → new ≡ old
+    -- 3: the output failed
+    pub statuses : (status ≡ 0) ⊎ ((status ≡ 1) ⊎ (status ≡ 3))
 
 -- a run that makes an image for so many tills, over the file that was handed in, and that ended so
 pub record IsFormatRun {F W : Type 0} (into : F → Option (List ℕ)) (contents : W → Option (List ℕ)) (tills : ℕ)
@@ -48,15 +50,17 @@ pub record IsFormatRun {F W : Type 0} (into : F → Option (List ℕ)) (contents
   pub untouched : IfErr ended (λ fault. fault ≡ refusals.NoMemory → IsUntouched file new_file old new)
 
 -- a run that lists an image
-pub record IsListRun {W : Type 0} (contents : W → Option (List ℕ)) (image : List ℕ) (old new : W) (status : ℕ) : Type 0 where
-  -- 0: it has the size of a disk and a directory, whose listing was handed over
-  pub done : status ≡ 0 → IsListed contents image old new
-  -- 1: it has another size, or a fault of its directory holds; nothing was written
-  pub size : length image ≢ 174848 → status ≡ 1
-  pub refused : status ≡ 1 → (length image ≢ 174848) ⊎ ((fault : Fault) × HoldsOfDirectory nowhere (sectors_in image) fault)
-  pub untouched : status ≡ 1 → new ≡ old
-  -- 3: the output failed, or there was no memory
-  pub statuses : (status ≡ 0) ⊎ ((status ≡ 1) ⊎ (status ≡ 3))
+pub record IsListRun {W : Type 0} (contents : W → Option (List ℕ)) (image : List ℕ) (old new : W) (status : ℕ) : Type 0
+  where
+    -- 0: it has the size of a disk and a directory, whose listing was handed over
+    pub done : status ≡ 0 → IsListed contents image old new
+    -- 1: it has another size, or a fault of its directory holds; nothing was written
+    pub size : length image ≢ 174848 → status ≡ 1
+    pub refused : status ≡ 1 → (length image ≢ 174848)
+        ⊎ ((fault : Fault) × HoldsOfDirectory nowhere (sectors_in image) fault)
+    pub untouched : status ≡ 1 → new ≡ old
+    -- 3: the output failed, or there was no memory
+    pub statuses : (status ≡ 0) ⊎ ((status ≡ 1) ⊎ (status ≡ 3))
 
 -- a fault that holds of the image was told on the output
 pub record TellsOfImage {W : Type 0} (contents : W → Option (List ℕ)) (image : List ℕ) (old new : W) : Type 0 where
@@ -65,16 +69,18 @@ pub record TellsOfImage {W : Type 0} (contents : W → Option (List ℕ)) (image
   pub told : Appends (contents old) (contents new) (verdict_text (Some fault))
 
 -- a run that judges an image
-pub record IsCheckRun {W : Type 0} (contents : W → Option (List ℕ)) (image : List ℕ) (old new : W) (status : ℕ) : Type 0 where
-  -- 0: the image is clean, and that was handed over
-  pub done : status ≡ 0 → (length image ≡ 174848) × IsClean (sectors_in image) × Appends (contents old) (contents new) (verdict_text None)
-  -- 1: it has another size, and nothing was written; or a fault holds of it, which was handed over
-  pub size : length image ≢ 174848 → (status ≡ 1) × (new ≡ old)
-  pub refused : status ≡ 1 → (length image ≢ 174848) ⊎ TellsOfImage contents image old new
-  -- so a clean image isn't refused
-  pub clean : status ≡ 1 → length image ≡ 174848 → ¬ (IsClean (sectors_in image))
-  -- 3: the output failed, or there was no memory
-  pub statuses : (status ≡ 0) ⊎ ((status ≡ 1) ⊎ (status ≡ 3))
+pub record IsCheckRun {W : Type 0} (contents : W → Option (List ℕ)) (image : List ℕ) (old new : W) (status : ℕ) : Type 0
+  where
+    -- 0: the image is clean, and that was handed over
+    pub done : status ≡ 0 → (length image ≡ 174848) × IsClean (sectors_in image)
+        × Appends (contents old) (contents new) (verdict_text None)
+    -- 1: it has another size, and nothing was written; or a fault holds of it, which was handed over
+    pub size : length image ≢ 174848 → (status ≡ 1) × (new ≡ old)
+    pub refused : status ≡ 1 → (length image ≢ 174848) ⊎ TellsOfImage contents image old new
+    -- so a clean image isn't refused
+    pub clean : status ≡ 1 → length image ≡ 174848 → ¬ (IsClean (sectors_in image))
+    -- 3: the output failed, or there was no memory
+    pub statuses : (status ≡ 0) ⊎ ((status ≡ 1) ⊎ (status ≡ 3))
 
 -- a fault of opening holds of the image
 pub record IsNoShop (image : List ℕ) : Type 0 where
@@ -82,20 +88,22 @@ pub record IsNoShop (image : List ℕ) : Type 0 where
   pub holds : Refuses ⊥ (sectors_in image) fault
 
 -- a run that shows what an image holds of a shop
-pub record IsShowRun {W : Type 0} (contents : W → Option (List ℕ)) (image : List ℕ) (old new : W) (status : ℕ) : Type 0 where
-  -- 0: the image is a shop's, and what is shown of it was handed over
-  pub done : status ≡ 0 → IsShown contents image old new
-  -- 1: it has another size, or a fault of opening holds of it; nothing was written
-  pub size : length image ≢ 174848 → status ≡ 1
-  pub refused : status ≡ 1 → (length image ≢ 174848) ⊎ IsNoShop image
-  -- so a shop isn't refused
-  pub shop : status ≡ 1 → length image ≡ 174848 → ¬ (IsAShop (sectors_in image))
-  pub untouched : status ≡ 1 → new ≡ old
-  -- 3: the output failed, or there was no memory
-  pub statuses : (status ≡ 0) ⊎ ((status ≡ 1) ⊎ (status ≡ 3))
+pub record IsShowRun {W : Type 0} (contents : W → Option (List ℕ)) (image : List ℕ) (old new : W) (status : ℕ) : Type 0
+  where
+    -- 0: the image is a shop's, and what is shown of it was handed over
+    pub done : status ≡ 0 → IsShown contents image old new
+    -- 1: it has another size, or a fault of opening holds of it; nothing was written
+    pub size : length image ≢ 174848 → status ≡ 1
+    pub refused : status ≡ 1 → (length image ≢ 174848) ⊎ IsNoShop image
+    -- so a shop isn't refused
+    pub shop : status ≡ 1 → length image ≡ 174848 → ¬ (IsAShop (sectors_in image))
+    pub untouched : status ≡ 1 → new ≡ old
+    -- 3: the output failed, or there was no memory
+    pub statuses : (status ≡ 0) ⊎ ((status ≡ 1) ⊎ (status ≡ 3))
 
 -- a run that plays a script on the shop of an image, over the file that was handed in and is handed back
-pub record IsPlayRun {F T : Type 0} (K : Keeps F) (o : Output T) (image script : List ℕ) (file new_file : F) (old new : T)
+pub record IsPlayRun {F T : Type 0} (K : Keeps F) (o : Output T) (image script : List ℕ) (file new_file : F)
+    (old new : T)
     (ended : Ended) : Type 0 where
   -- 0: no line is bad, each was played on the disk of the file, told, and handed on
   pub done : exit_status ended ≡ 0 → IsPlayedFile K o image script file new_file old new
@@ -105,7 +113,8 @@ pub record IsPlayRun {F T : Type 0} (K : Keeps F) (o : Output T) (image script :
   pub size : length image ≢ 174848 → exit_status ended ≡ 1
   pub refused : exit_status ended ≡ 1 → (length image ≢ 174848) ⊎ (IsSome (first_bad (lines script)) ⊎ IsNoShop image)
   -- so good lines on a shop aren't refused
-  pub shop : exit_status ended ≡ 1 → length image ≡ 174848 → first_bad (lines script) ≡ None → ¬ (IsAShop (sectors_in image))
+  pub shop : exit_status ended ≡ 1 → length image ≡ 174848 → first_bad (lines script) ≡ None
+      → ¬ (IsAShop (sectors_in image))
   pub untouched : exit_status ended ≡ 1 → IsUntouched file new_file old new
   -- 3: the file or the output failed, or there was no memory
   pub statuses : (exit_status ended ≡ 0) ⊎ ((exit_status ended ≡ 1) ⊎ (exit_status ended ≡ 3))

@@ -9,13 +9,16 @@ use Rattle.clap.specs.declared.builder.command.Command.TheViews.{out-Command}
 use Rattle.ledger_words.specs.Grammar.{AddsTo, IsSubcommand}
 
 -- both could be made
-pub adds-made : {E : Type 0} (p s r : Result Command E) (a b : Command) → p ≡ Ok a → s ≡ Ok b → IfOk r (AddsSubcommand a b) → IfOk r (AddsTo p s)
-adds-made p s r a b by-p by-s made = subst (λ q. IfOk r (AddsTo q s)) (sym by-p) (subst (λ q. IfOk r (AddsTo (Ok a) q)) (sym by-s) made)
+pub adds-made : {E : Type 0} (p s r : Result Command E) (a b : Command) → p ≡ Ok a → s ≡ Ok b
+    → IfOk r (AddsSubcommand a b) → IfOk r (AddsTo p s)
+adds-made p s r a b by-p by-s made = subst (λ q. IfOk r (AddsTo q s)) (sym by-p)
+    (subst (λ q. IfOk r (AddsTo (Ok a) q)) (sym by-s) made)
 
 -- the subcommand is known, and so is what had been made before
 added : {E : Type 0} (before sub : App) (p s : Result Command E) (program : Command) → IfOk p (λ c. app_of c ≡ before)
     → IfOk s (IsSubcommand sub) → AddsTo p s program → app_of program ≡ with_subcommand before sub.top
-added before sub (Ok _) (Ok _) program known is adds = adds.shape is.own ∙ ap₂ with_subcommand known (ap (λ (a : App). a.top) is.is)
+added before sub (Ok _) (Ok _) program known is adds = adds.shape is.own
+    ∙ ap₂ with_subcommand known (ap (λ (a : App). a.top) is.is)
 added before sub (Ok _) (Err _) program known is adds = absurd adds
 added before sub (Err _) s program known is adds = absurd adds
 
@@ -33,8 +36,10 @@ arg-made old a (Ok c) before is own adds = record {
 arg-made old a (Err e) before is own adds = tt
 
 -- a subcommand that was known has it
-pub takes-known : {E F : Type 0} (s : Result Command E) (old : Command) (a : Arg) (r : Result Command F) (before : App) → s ≡ Ok old
-    → a.global ≡ false → IfOk r (AddsArg old a) → IfOk s (IsSubcommand before) → IfOk r (IsSubcommand (with_rule before (rule_of a)))
+pub takes-known : {E F : Type 0} (s : Result Command E) (old : Command) (a : Arg) (r : Result Command F) (before : App)
+    → s ≡ Ok old
+    → a.global ≡ false → IfOk r (AddsArg old a) → IfOk s (IsSubcommand before)
+    → IfOk r (IsSubcommand (with_rule before (rule_of a)))
 takes-known s old a r before was own adds known =
     arg-made old a r before (subst (λ q. IfOk q (IsSubcommand before)) was known) own adds
 

@@ -1,11 +1,13 @@
 -- What a job is where its words are parsed.
 use Rattle.std.proofs.Common.{◌≡◌, Bor, List, Option, Some, true, inl, inr, refl, ap, sym, ◌∙◌, subst, []}
 use Rattle.std.specs.Prelude.{Result, Ok, Err, IfErr, IfOk, MatchResult, codes, option_map}
-use Rattle.clap.specs.Words.{App, FailsBy, HasKind, HasMatchesOf, Kinds, Row, Text, fault_of, found_of, is_simple, is_simple_and_free, rows_of, subcommand_of}
+use Rattle.clap.specs.Words.{App, FailsBy, HasKind, HasMatchesOf, Kinds, Row, Text, fault_of, found_of, is_simple}
+use Rattle.clap.specs.Words.{is_simple_and_free, rows_of, subcommand_of}
 use Rattle.clap.specs.declared.error.Error.{Error}
 use Rattle.clap.specs.declared.parser.matches.ArgMatches.{ArgMatches}
 use Rattle.ledger_words.specs.Grammar.{ledger, value}
-use Rattle.ledger_words.specs.Jobs.{Has, HasNoName, HasNoNewName, IsJob, IsMakingJob, IsNoJob, IsParse, IsStoringJob, IsTakingJob, word_of_taking}
+use Rattle.ledger_words.specs.Jobs.{Has, HasNoName, HasNoNewName, IsJob, IsMakingJob, IsNoJob, IsParse, IsStoringJob}
+use Rattle.ledger_words.specs.Jobs.{IsTakingJob, word_of_taking}
 use Rattle.ledger_program.specs.Jobs.{IsFit}
 use Rattle.ledger_program.specs.Names.{IsNameOf, name_bytes}
 use Rattle.ledger_program.specs.declared.jobs.Job.{Job}
@@ -15,8 +17,10 @@ use Rattle.ledger_words.specs.declared.faults.JobFault.{JobFault}
 use Rattle.ledger_words.specs.declared.faults.JobFault.TheVariants as faults
 
 -- the command line is a simple one, so words are refused for one of its reasons
-parse-known : (app : App) (texts : List Text) (r : Result ArgMatches Error) → is_simple app ≡ true → FailsBy (fault_of app texts) r
-    → IfOk r (HasMatchesOf app texts) → MatchResult r (IsParse (fault_of app texts) (subcommand_of app texts)) (HasKind (fault_of app texts))
+parse-known : (app : App) (texts : List Text) (r : Result ArgMatches Error) → is_simple app ≡ true
+    → FailsBy (fault_of app texts) r
+    → IfOk r (HasMatchesOf app texts) → MatchResult r (IsParse (fault_of app texts) (subcommand_of app texts))
+    (HasKind (fault_of app texts))
 parse-known app texts (Ok m) simple fails has = record { fine = fails; is = (has simple).1 }
 parse-known app texts (Err e) simple fails has = fails
 
@@ -30,23 +34,29 @@ pub ledger-parse : (app : App) (texts : List Text) (r : Result ArgMatches Error)
     → (is_simple_and_free app ≡ true → FailsBy (fault_of app texts) r) → IfOk r (HasMatchesOf app texts)
     → MatchResult r (IsParse (fault_of ledger texts) (subcommand_of ledger texts)) (HasKind (fault_of ledger texts))
 ledger-parse app texts r same fails has =
-    subst (λ (a : App). MatchResult r (IsParse (fault_of a texts) (subcommand_of a texts)) (HasKind (fault_of a texts))) same
+    subst (λ (a : App). MatchResult r (IsParse (fault_of a texts) (subcommand_of a texts)) (HasKind (fault_of a texts)))
+    same
     (parse-known app texts r (ap is_simple same ∙ simple) (fails (ap is_simple_and_free same ∙ free)) has)
 
 -- the same of what was found under another name
-pub job-found : (kinds : Kinds) (found at : Option (Text × List Row)) (r : Result Job JobFault) → kinds ≡ [] → found ≡ at
+pub job-found : (kinds : Kinds) (found at : Option (Text × List Row)) (r : Result Job JobFault) → kinds ≡ []
+    → found ≡ at
     → MatchResult r (IsJob found) (IsNoJob [] found) → IfOk r (λ j. (kinds ≡ []) × IsJob at j)
 job-found kinds found at (Ok j) fine same is = (fine, subst (λ f. IsJob f j) same is)
 job-found kinds found at (Err e) fine same is = tt
 
-pub no-job-found : (kinds : Kinds) (found at : Option (Text × List Row)) (r : Result Job JobFault) → kinds ≡ [] → found ≡ at
+pub no-job-found : (kinds : Kinds) (found at : Option (Text × List Row)) (r : Result Job JobFault) → kinds ≡ []
+    → found ≡ at
     → MatchResult r (IsJob found) (IsNoJob [] found) → IfErr r (IsNoJob kinds at)
 no-job-found kinds found at (Ok j) fine same is = tt
-no-job-found kinds found at (Err e) fine same is = subst (λ ks. IsNoJob ks at e) (sym fine) (subst (λ f. IsNoJob [] f e) same is)
+no-job-found kinds found at (Err e) fine same is =
+    subst (λ ks. IsNoJob ks at e) (sym fine) (subst (λ f. IsNoJob [] f e) same is)
 
 -- the subcommand that was met is this one, and this holds of its values
-pub met-has : (o : Option (Bor Text × Bor ArgMatches)) (found : Option (Text × List Row)) (name : Bor Text) (at : Bor ArgMatches) (word : Text)
-    (P : List Row → Type 0) → option_map (λ (p : Bor Text × Bor ArgMatches). (p.0.now, rows_of (found_of p.1.now))) o ≡ found → o ≡ Some (name, at) → name.now ≡ word
+pub met-has : (o : Option (Bor Text × Bor ArgMatches)) (found : Option (Text × List Row)) (name : Bor Text)
+    (at : Bor ArgMatches) (word : Text)
+    (P : List Row → Type 0) → option_map (λ (p : Bor Text × Bor ArgMatches). (p.0.now, rows_of (found_of p.1.now)))
+    o ≡ found → o ≡ Some (name, at) → name.now ≡ word
     → P (rows_of (found_of at.now)) → Has found word P
 met-has o found name at word P told some is holds =
     let f : Bor Text × Bor ArgMatches → Text × List Row = λ p. (p.0.now, rows_of (found_of p.1.now)) in
@@ -57,19 +67,24 @@ met-has o found name at word P told some is holds =
     }
 
 -- what it takes out of an image is the job of a subcommand that was met, or its name is none
-pub taking-met : (o : Option (Bor Text × Bor ArgMatches)) (found : Option (Text × List Row)) (name : Bor Text) (at : Bor ArgMatches)
-    (what : Taking) (image : Text) (r : Result Job JobFault) → option_map (λ (p : Bor Text × Bor ArgMatches). (p.0.now, rows_of (found_of p.1.now))) o ≡ found
+pub taking-met : (o : Option (Bor Text × Bor ArgMatches)) (found : Option (Text × List Row)) (name : Bor Text)
+    (at : Bor ArgMatches)
+    (what : Taking) (image : Text) (r : Result Job JobFault)
+    → option_map (λ (p : Bor Text × Bor ArgMatches). (p.0.now, rows_of (found_of p.1.now))) o ≡ found
     → o ≡ Some (name, at) → name.now ≡ word_of_taking what → image ≡ value (codes "IMAGE") (rows_of (found_of at.now))
-    → IsTakingJob (rows_of (found_of at.now)) what image r → MatchResult r (IsJob found) (IsNoJob [] found) × IfOk r IsFit
+    → IsTakingJob (rows_of (found_of at.now)) what image r → MatchResult r (IsJob found) (IsNoJob [] found)
+    × IfOk r IsFit
 taking-met o found name at what image (Ok (jobs.Take asked path text)) told some is by-image taking = (
-  subst (λ (w : Taking). Has found (word_of_taking w) (λ rows. (path.now ≡ value (codes "IMAGE") rows) × IsNameOf (value (codes "NAME") rows) (name_bytes text)))
+  subst (λ (w : Taking). Has found (word_of_taking w) (λ rows. (path.now ≡ value (codes "IMAGE") rows)
+      × IsNameOf (value (codes "NAME") rows) (name_bytes text)))
       (sym taking.0)
       (met-has o found name at (word_of_taking what) _ told some is (taking.1 ∙ by-image, taking.2)),
   tt,
 )
 taking-met o found name at what image (Ok (jobs.Format path tills)) told some is by-image taking = absurd taking
 taking-met o found name at what image (Ok (jobs.Read asked path)) told some is by-image taking = absurd taking
-taking-met o found name at what image (Ok (jobs.Play path script durability)) told some is by-image taking = absurd taking
+taking-met o found name at what image (Ok (jobs.Play path script durability)) told some is by-image taking =
+    absurd taking
 taking-met o found name at what image (Ok (jobs.Serve path durability)) told some is by-image taking = absurd taking
 taking-met o found name at what image (Ok (jobs.Repair path)) told some is by-image taking = absurd taking
 taking-met o found name at what image (Ok (jobs.Make path text length)) told some is by-image taking = absurd taking
@@ -82,8 +97,10 @@ taking-met o found name at what image (Err (faults.Words e)) told some is by-ima
 taking-met o found name at what image (Err faults.Length) told some is by-image taking = absurd taking
 
 -- what makes a relative file is the job of the subcommand that was met, or its words give none
-pub making-met : (o : Option (Bor Text × Bor ArgMatches)) (found : Option (Text × List Row)) (name : Bor Text) (at : Bor ArgMatches)
-    (image : Text) (r : Result Job JobFault) → option_map (λ (p : Bor Text × Bor ArgMatches). (p.0.now, rows_of (found_of p.1.now))) o ≡ found
+pub making-met : (o : Option (Bor Text × Bor ArgMatches)) (found : Option (Text × List Row)) (name : Bor Text)
+    (at : Bor ArgMatches)
+    (image : Text) (r : Result Job JobFault)
+    → option_map (λ (p : Bor Text × Bor ArgMatches). (p.0.now, rows_of (found_of p.1.now))) o ≡ found
     → o ≡ Some (name, at) → name.now ≡ codes "make" → image ≡ value (codes "IMAGE") (rows_of (found_of at.now))
     → IsMakingJob (rows_of (found_of at.now)) image r → MatchResult r (IsJob found) (IsNoJob [] found) × IfOk r IsFit
 making-met o found name at image (Ok (jobs.Make path text length)) told some is by-image job =
@@ -104,8 +121,10 @@ making-met o found name at image (Err faults.Tills) told some is by-image job = 
 making-met o found name at image (Err (faults.Words e)) told some is by-image job = absurd job
 
 -- what stores records in one is the job of the subcommand that was met, or its words give none
-pub storing-met : (o : Option (Bor Text × Bor ArgMatches)) (found : Option (Text × List Row)) (name : Bor Text) (at : Bor ArgMatches)
-    (image : Text) (r : Result Job JobFault) → option_map (λ (p : Bor Text × Bor ArgMatches). (p.0.now, rows_of (found_of p.1.now))) o ≡ found
+pub storing-met : (o : Option (Bor Text × Bor ArgMatches)) (found : Option (Text × List Row)) (name : Bor Text)
+    (at : Bor ArgMatches)
+    (image : Text) (r : Result Job JobFault)
+    → option_map (λ (p : Bor Text × Bor ArgMatches). (p.0.now, rows_of (found_of p.1.now))) o ≡ found
     → o ≡ Some (name, at) → name.now ≡ codes "store" → image ≡ value (codes "IMAGE") (rows_of (found_of at.now))
     → IsStoringJob (rows_of (found_of at.now)) image r → MatchResult r (IsJob found) (IsNoJob [] found) × IfOk r IsFit
 storing-met o found name at image (Ok (jobs.Store path text records)) told some is by-image job =

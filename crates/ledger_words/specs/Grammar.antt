@@ -4,7 +4,8 @@ use Rattle.std.specs.Prelude.{unwrap_or}
 use Rattle.clap.specs.declared.builder.action.ArgAction.TheVariants.{SetTrue}
 use Rattle.clap.specs.declared.builder.command.Command.{Command}
 use Rattle.clap.specs.declared.builder.command.Command.TheViews.{out-Command}
-use Rattle.clap.specs.Words.{AddsSubcommand, App, Row, Rule, Text, app_of, first_of, new_app, new_rule, with_rule, with_subcommand}
+use Rattle.clap.specs.Words.{AddsSubcommand, App, Row, Rule, Text, app_of, first_of, new_app, new_rule, with_rule}
+use Rattle.clap.specs.Words.{with_subcommand}
 
 -- a value that is required, shown by this name
 abbrev pub required : Text → Rule
@@ -60,7 +61,8 @@ bytes = with_rule (over_image (codes "bytes")) (required (codes "NAME"))
 
 -- make IMAGE NAME --length L
 abbrev pub make : App
-make = with_rule (with_rule (over_image (codes "make")) (required (codes "NAME"))) (required_behind (codes "length") (codes "L"))
+make = with_rule (with_rule (over_image (codes "make")) (required (codes "NAME")))
+    (required_behind (codes "length") (codes "L"))
 
 -- store IMAGE NAME RECORDS
 abbrev pub store : App

@@ -1,5 +1,6 @@
 -- What the words of a command line ask for (our own).
-use Rattle.std.specs.Prelude.{◌≡◌, ◌⊎◌, ℕ, Bool, List, Option, Some, None, Result, Ok, Err, [], bytes_eq, codes, if◌then◌else◌}
+use Rattle.std.specs.Prelude.{◌≡◌, ◌⊎◌, ℕ, Bool, List, Option, Some, None, Result, Ok, Err, [], bytes_eq, codes}
+use Rattle.std.specs.Prelude.{if◌then◌else◌}
 use Rattle.clap.specs.Words.{HasKind, Kinds, Row, Text, subcommand_rows_of}
 use Rattle.clap.specs.declared.parser.matches.ArgMatches.{ArgMatches}
 use Rattle.byte_text.specs.Texts.{AreBytes}
@@ -92,7 +93,8 @@ IsJob found (jobs.Format image tills) = Has found (codes "format")
     (λ rows. (image.now ≡ value (codes "IMAGE") rows) × (tills_in rows ≡ Some tills))
 IsJob found (jobs.Read what path) = Has found (word_of what) (λ rows. path.now ≡ value (file_of what) rows)
 IsJob found (jobs.Play image script durability) = Has found (codes "play")
-    (λ rows. (image.now ≡ value (codes "IMAGE") rows) × (script.now ≡ value (codes "SCRIPT") rows) × (durability ≡ play_durability rows))
+    (λ rows. (image.now ≡ value (codes "IMAGE") rows) × (script.now ≡ value (codes "SCRIPT") rows)
+    × (durability ≡ play_durability rows))
 IsJob found (jobs.Serve image durability) = Has found (codes "serve")
     (λ rows. (image.now ≡ value (codes "IMAGE") rows) × (durability ≡ serve_durability rows))
 IsJob found (jobs.Repair image) = Has found (codes "repair") (λ rows. image.now ≡ value (codes "IMAGE") rows)
@@ -127,7 +129,8 @@ IsMakingJob rows image (Err _) = ⊥
 -- and of the one that stores records in one
 abbrev pub IsStoringJob : List Row → Text → Result Job JobFault → Type 0
 IsStoringJob rows image (Ok (jobs.Store path name records)) =
-    (path.now ≡ image) × IsNameOf (value (codes "NAME") rows) (name_bytes name) × (records.now ≡ value (codes "RECORDS") rows)
+    (path.now ≡ image) × IsNameOf (value (codes "NAME") rows) (name_bytes name)
+    × (records.now ≡ value (codes "RECORDS") rows)
 IsStoringJob rows image (Ok _) = ⊥
 IsStoringJob rows image (Err faults.Name) = HasNoName rows
 IsStoringJob rows image (Err _) = ⊥
@@ -138,8 +141,8 @@ IsRefusedName found =
     ((what : Taking) × Has found (word_of_taking what) HasNoName)
     ⊎ (Has found (codes "store") HasNoName ⊎ Has found (codes "make") HasNoNewName)
 
--- why there is none: the words are refused for one of these kinds, or memory ran out; or the number of tills is none, or the
--- name of a file, or the length of a record
+-- why there is none: the words are refused for one of these kinds, or memory ran out; or the number of tills is none,
+-- or the name of a file, or the length of a record
 abbrev pub IsNoJob : Kinds → Option (Text × List Row) → JobFault → Type 0
 IsNoJob kinds found (faults.Words e) = HasKind kinds e
 IsNoJob kinds found faults.Tills = (kinds ≡ []) × Has found (codes "format") (λ rows. tills_in rows ≡ None)

@@ -154,12 +154,14 @@ module _ {D : Type 0} (S : History D) (d : D) (l : Layout) (n : ℕ) (f : File) 
       -- the count
       module _ (e : D) (place : Place) (entry : place ≡ f.slot.sector) (done : S.image c ≡ put (S.image b) old q.last)
         where
-          end-is : put (S.image c) place q.directory ≡ put (put (S.image b) at.last_place q.last) f.slot.sector q.directory
+          end-is : put (S.image c) place q.directory ≡ put (put (S.image b) at.last_place q.last) f.slot.sector
+              q.directory
           end-is = ap (λ x. put x place q.directory) (done ∙ ap (λ x. put (S.image b) x q.last) last)
               ∙ ap (λ x. put (put (S.image b) at.last_place q.last) x q.directory) entry
 
           counted-now : Adds (put (S.image c) place q.directory)
-          counted-now = subst Adds (sym end-is) (counted-adds a l n f p q fresh block (S.whole d) at few lay up (S.image b)
+          counted-now = subst Adds (sym end-is) (counted-adds a l n f p q fresh block (S.whole d) at few lay up
+              (S.image b)
               (S.whole b) v ready)
 
           pub counting-moments : HeldOnly S c e (OldOr (S.image c) (put (S.image c) place q.directory))

@@ -97,7 +97,8 @@ module _ {D : Type 0} (S : History D) (d b : D) (l : Layout) (n : ℕ) (f : File
           has-run z v h kept = record {
             parts = z;
             run = run-run (S.image d) (S.image x) l n f (length f.blocks) w q
-                (had-full (S.image d) l n f p at (S.whole d)) more (pos (S.image d) l n f p at) at.there run (S.image y) z
+                (had-full (S.image d) l n f p at (S.whole d)) more (pos (S.image d) l n f p at) at.there run (S.image y)
+                z
                 h;
             kept = kept;
           }

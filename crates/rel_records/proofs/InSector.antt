@@ -179,7 +179,8 @@ module _ (c : Image) (l : Layout) (p : Place) (bytes : Sector) (full : length c 
           (l.directory ++ fresh ∷ [])
       slots =
           all-slots (map (reread (put c p bytes)) l.files)
-          ∙ ap (λ xs. xs ++ slot_in fresh (sector c fresh) 0 ∷ []) (map-map (λ f. f.slot) (reread (put c p bytes)) l.files
+          ∙ ap (λ xs. xs ++ slot_in fresh (sector c fresh) 0 ∷ [])
+          (map-map (λ f. f.slot) (reread (put c p bytes)) l.files
           ∙ sym (map-map (reslot (put c p bytes)) (λ f. f.slot) l.files)
           ∙ ap (map (reslot (put c p bytes))) h.directory.slots
           ∙ sym (used_slots-relinked c p bytes full relinked l.directory))
@@ -220,12 +221,15 @@ module _ (c : Image) (l : Layout) (p : Place) (bytes : Sector) (full : length c 
         files = with_new (put c p bytes) l.files [] (new_file (slot_in fresh (sector c fresh) 0) block side u);
       })
           (new_file (slot_in fresh (sector c fresh) 0) block side u)
-      linked-adds = created-adds c (put c p bytes) l l.files [] k (l.directory ++ fresh ∷ []) h (sym (append-nil l.files))
-          keeps entries directory (new-is_file (put c p bytes) (slot_in fresh (sector c fresh) 0) block side u new) a was
+      linked-adds = created-adds c (put c p bytes) l l.files [] k (l.directory ++ fresh ∷ []) h
+          (sym (append-nil l.files))
+          keeps entries directory (new-is_file (put c p bytes) (slot_in fresh (sector c fresh) 0) block side u new) a
+          was
           (λ f d q e. unless-same c p q bytes (λ one. not_file (let P : Place
           → Type 0 = Contains (flat_map file_owns l.files) in
           subst P (sym one) (flat_map-in file_owns l.files f q d (Contains-append_left f.blocks f.sides q e)))))
-          (ap (λ s. take 4 s ++ drop 144 s) (sector-put_other c p map_place bytes (λ e. h.directory.not_map (let P : Place
+          (ap (λ s. take 4 s ++ drop 144 s)
+          (sector-put_other c p map_place bytes (λ e. h.directory.not_map (let P : Place
           → Type 0 = Contains l.directory in subst P e on))))
 
       -- and where the image at the start was clean, and the map is that of the new owners, it is clean
@@ -247,7 +251,8 @@ module _ (c : Image) (l : Layout) (p : Place) (bytes : Sector) (full : length c 
               record {
                 sides = λ j q at.
                     let own = get-contains f.sides j q at in
-                    let apart-p : p ≢ q = λ one. not_file (let Q : Place → Type 0 = Contains (flat_map file_owns l.files) in
+                    let apart-p : p ≢ q = λ one. not_file (let Q : Place
+                    → Type 0 = Contains (flat_map file_owns l.files) in
                     subst Q (sym one)
                     (flat_map-in file_owns l.files f q d (Contains-append_right f.blocks f.sides q own))) in
                     sector-put_other c p q bytes apart-p ∙ sym (same q (owned-side l f q d own)) ∙ old.sides j q at

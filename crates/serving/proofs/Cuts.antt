@@ -1,5 +1,6 @@
 -- The lines of bytes to which one more line comes.
-use Rattle.std.proofs.Common.{◌≡◌, ◌<◌, ℕ, Bool, true, false, List, [], ◌∷◌, ◌++◌, length, map, refl, sym, subst, ◌∙◌, ap, inr, ⊎_elim, arith, append_assoc, append-nil}
+use Rattle.std.proofs.Common.{◌≡◌, ◌<◌, ℕ, Bool, true, false, List, [], ◌∷◌, ◌++◌, length, map, refl, sym, subst, ◌∙◌}
+use Rattle.std.proofs.Common.{ap, inr, ⊎_elim, arith, append_assoc, append-nil}
 use Rattle.std.specs.Prelude.{◌==◌, if◌then◌else◌}
 use Rattle.script_lines.specs.Lines.{ended, lines, onto_first, split, without_cr}
 use Rattle.script_lines.proofs.Lines.{split_whole}
@@ -14,7 +15,8 @@ split_some : (xs : List ℕ) → 0 < length (split 10 xs)
 split_some [] = omega arith
 split_some (x ∷ xs) = pick (x == 10) (split_some xs)
   where
-    pick : (t : Bool) → 0 < length (split 10 xs) → 0 < length (if t then [] ∷ split 10 xs else onto_first x (split 10 xs))
+    pick : (t : Bool) → 0 < length (split 10 xs)
+        → 0 < length (if t then [] ∷ split 10 xs else onto_first x (split 10 xs))
     pick true some = omega arith
     pick false some = onto_some x (split 10 xs) some
 
@@ -27,7 +29,8 @@ split_append : (xs ys : List ℕ) → split 10 (xs ++ 10 ∷ ys) ≡ split 10 xs
 split_append [] ys = refl
 split_append (x ∷ xs) ys = pick (x == 10) (split_append xs ys)
   where
-    pick : (t : Bool) → split 10 (xs ++ 10 ∷ ys) ≡ split 10 xs ++ split 10 ys → (if t then [] ∷ split 10 (xs ++ 10 ∷ ys) else onto_first x (split 10 (xs ++ 10 ∷ ys)))
+    pick : (t : Bool) → split 10 (xs ++ 10 ∷ ys) ≡ split 10 xs ++ split 10 ys
+        → (if t then [] ∷ split 10 (xs ++ 10 ∷ ys) else onto_first x (split 10 (xs ++ 10 ∷ ys)))
         ≡ (if t then [] ∷ split 10 xs else onto_first x (split 10 xs)) ++ split 10 ys
     pick true is = ap (λ ps. [] ∷ ps) is
     pick false is = ap (onto_first x) is ∙ onto_append x (split 10 xs) (split 10 ys) (split_some xs)
@@ -52,12 +55,14 @@ lines_more handled raw whole lacks = ⊎_elim
     (λ w. subst (λ hs. lines (hs ++ (raw ++ 10 ∷ [])) ≡ lines hs ++ without_cr raw ∷ []) (sym w.1) (behind w.0))
     whole
   where
-    behind : (front : List ℕ) → lines ((front ++ 10 ∷ []) ++ (raw ++ 10 ∷ [])) ≡ lines (front ++ 10 ∷ []) ++ without_cr raw ∷ []
+    behind : (front : List ℕ) → lines ((front ++ 10 ∷ []) ++ (raw ++ 10 ∷ [])) ≡ lines (front ++ 10 ∷ []) ++ without_cr
+        raw ∷ []
     behind front =
         ap lines (append_assoc front (10 ∷ []) (raw ++ 10 ∷ []))
         ∙ lines_append front (raw ++ 10 ∷ [])
         ∙ ap (λ ls. map without_cr (split 10 front) ++ ls) (lines_one raw lacks)
-        ∙ ap (λ ls. ls ++ without_cr raw ∷ []) (sym (lines_append front [] ∙ append-nil (map without_cr (split 10 front))))
+        ∙ ap (λ ls. ls ++ without_cr raw ∷ [])
+        (sym (lines_append front [] ∙ append-nil (map without_cr (split 10 front))))
 
 pub whole_more : (handled raw : List ℕ) → AreWhole (handled ++ (raw ++ 10 ∷ []))
 whole_more handled raw = inr (handled ++ raw, sym (append_assoc handled raw (10 ∷ [])))

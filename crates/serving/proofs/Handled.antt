@@ -1,5 +1,6 @@
 -- Lines that were run, each over the lines before it.
-use Rattle.std.proofs.Common.{◌≡◌, ℕ, Bool, true, false, List, [], ◌∷◌, ◌++◌, Option, None, Some, map, refl, sym, subst, ◌∙◌, ap, ap₂, append_assoc, append-nil}
+use Rattle.std.proofs.Common.{◌≡◌, ℕ, Bool, true, false, List, [], ◌∷◌, ◌++◌, Option, None, Some, map, refl, sym, subst}
+use Rattle.std.proofs.Common.{◌∙◌, ap, ap₂, append_assoc, append-nil}
 use Rattle.std.specs.Prelude.{if◌then◌else◌, option_to_list}
 use Rattle.d64_image.specs.History.{History}
 use Rattle.request_cards.proofs.Plain.{plain_more, plain_nil}
@@ -18,17 +19,21 @@ use Rattle.serving.specs.Inputs.{line_messages}
 use Rattle.serving.specs.Serves.{AreHandled, SettledInTurn}
 
 -- what was told of a message that was answered, and the state after it
-record IsAnswered (s : Shop) (state : State) (before : List Ask) (o : Option Ask) (reply : Reply) (counted : List Ask) : Type 0 where
+record IsAnswered (s : Shop) (state : State) (before : List Ask) (o : Option Ask) (reply : Reply)
+    (counted : List Ask) : Type 0 where
   told : reply ≡ reply_in (start_of s) (plain (start_of s) before) o
   after : after_all (start_of (with_state s state)) state counted ≡ plain (start_of s) (before ++ option_to_list o)
 
-is_answered : (s : Shop) (state : State) (before : List Ask) (o : Option Ask) (failed : Bool) (reply : Reply) (counted : List Ask)
+is_answered : (s : Shop) (state : State) (before : List Ask) (o : Option Ask) (failed : Bool) (reply : Reply)
+    (counted : List Ask)
     → state ≡ plain (start_of s) before → failed ≡ false → MayCount s.top state o None failed counted
-    → reply ≡ (if failed then media o else reply_in (start_of (with_state s state)) state o) → IsAnswered s state before o reply counted
+    → reply ≡ (if failed then media o else reply_in (start_of (with_state s state)) state o)
+    → IsAnswered s state before o reply counted
 is_answered s state before o true reply counted is none counts told = cc
 is_answered s state before None false reply counted is none counts told = record {
   told = told;
-  after = ap (after_all (start_of (with_state s state)) state) counts ∙ is ∙ ap (plain (start_of s)) (sym (append-nil before));
+  after = ap (after_all (start_of (with_state s state)) state) counts ∙ is
+      ∙ ap (plain (start_of s)) (sym (append-nil before));
 }
 is_answered s state before (Some a) false reply counted is none counts told = record {
   told = told ∙ ap (λ st. reply_in (start_of s) st (Some a)) is;
@@ -37,14 +42,17 @@ is_answered s state before (Some a) false reply counted is none counts told = re
 }
 
 -- lines that were run in a chain, from this state on
-record AreAnswered {D : Type 0} (h : History D) (s : Shop) (before : List Ask) (ls : List (List ℕ)) (turns : List (Reply × D)) (t : Shop) : Type 0 where
+record AreAnswered {D : Type 0} (h : History D) (s : Shop) (before : List Ask) (ls : List (List ℕ))
+    (turns : List (Reply × D)) (t : Shop) : Type 0 where
   replies_are : told_in turns ≡ replies (start_of s) before ls
   in_turn : SettledInTurn s before ls (over_instants h turns)
   now : t ≡ with_state s (plain (start_of s) (before ++ requests_of ls))
 
 module _ {D : Type 0} (h : History D) where
-  chain_answered : (s : Shop) (state : State) (before : List Ask) (ls : List (List ℕ)) (xs : List (Reply × D)) (old : D) (t : Shop) (new : D)
-      → state ≡ plain (start_of s) before → IsChain h (with_state s state) (map uncut ls) xs old t new → AreAnswered h s before ls xs t
+  chain_answered : (s : Shop) (state : State) (before : List Ask) (ls : List (List ℕ)) (xs : List (Reply × D)) (old : D)
+      (t : Shop) (new : D)
+      → state ≡ plain (start_of s) before → IsChain h (with_state s state) (map uncut ls) xs old t new
+      → AreAnswered h s before ls xs t
   chain_answered s state before [] [] old t new is c = record {
     replies_are = refl;
     in_turn = tt;
@@ -56,18 +64,22 @@ module _ {D : Type 0} (h : History D) where
       let e = c.0 in
       let o : Option Ask = request_of l in
       let a = is_answered s state before o e.failed x.0 e.counted is (e.ends.answered refl) e.is e.ends.told in
-      let rest = chain_answered s (after_all (start_of (with_state s state)) state e.counted) (before ++ option_to_list o) ls xs x.1 t new a.after c.1 in
+      let rest = chain_answered s (after_all (start_of (with_state s state)) state e.counted)
+      (before ++ option_to_list o) ls xs x.1 t new a.after c.1 in
       record {
         replies_are = ap₂ (λ r rs. r ∷ rs) a.told rest.replies_are;
         in_turn = (subst (λ st. IsSettled (h.image x.1) (with_state s st)) a.after e.ends.settled, rest.in_turn);
-        now = rest.now ∙ ap (λ asks. with_state s (plain (start_of s) asks)) (append_assoc before (option_to_list o) (requests_of ls));
+        now = rest.now ∙ ap (λ asks. with_state s (plain (start_of s) asks))
+            (append_assoc before (option_to_list o) (requests_of ls));
       }
 
   -- lines that were run are handled
-  pub handled_run : (s : Shop) (bytes : List ℕ) (turns : List (Reply × D)) (old new : D) → HasRun h s (line_messages bytes) turns old new
+  pub handled_run : (s : Shop) (bytes : List ℕ) (turns : List (Reply × D)) (old new : D)
+      → HasRun h s (line_messages bytes) turns old new
       → AreHandled h s bytes turns old new
   handled_run s bytes turns old new r =
-      let a = chain_answered s s.state [] (lines bytes) turns r.first r.now new (sym (plain_nil (start_of s))) r.chain in
+      let a = chain_answered s s.state [] (lines bytes) turns r.first r.now new (sym (plain_nil (start_of s)))
+      r.chain in
       record {
         run = r;
         replies_are = a.replies_are;

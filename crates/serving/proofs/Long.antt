@@ -1,5 +1,6 @@
 -- What has more than 36 bytes is no request, so that of a long line a part tells as much as all of it.
-use Rattle.std.proofs.Common.{◌≡◌, ◌<◌, ◌≤◌, ◌+◌, ◌-◌, ℕ, Bool, true, false, List, ◌∷◌, ◌++◌, Option, None, Some, length, take, refl, sym, ◌∙◌, ap, ⊎_elim, arith, length-append}
+use Rattle.std.proofs.Common.{◌≡◌, ◌<◌, ◌≤◌, ◌+◌, ◌-◌, ℕ, Bool, true, false, List, ◌∷◌, ◌++◌, Option, None, Some}
+use Rattle.std.proofs.Common.{length, take, refl, sym, ◌∙◌, ap, ⊎_elim, arith, length-append}
 use Rattle.std.specs.Prelude.{◌==◌, if◌then◌else◌, decimal, slice_index}
 use Rattle.std.proofs.lemmas.List.{length-take, take_all}
 use Rattle.std.proofs.lemmas.Fmt.{length-decimal-le}
@@ -23,7 +24,8 @@ to_high Receive item to is = let none : to ≡ 0 = eqb-true to 0 is in omega (ar
 to_high Issue item to is = let none : to ≡ 0 = eqb-true to 0 is in omega (arith, none)
 to_high Set item to is = let none : to ≡ 0 = eqb-true to 0 is in omega (arith, none)
 
-last : (k : Kind) (quantity to : ℕ) → quantity ≤ 999999999 → to ≤ 65535 → length (commas (decimal quantity ∷ to_fields k to)) ≤ 15
+last : (k : Kind) (quantity to : ℕ) → quantity ≤ 999999999 → to ≤ 65535
+    → length (commas (decimal quantity ∷ to_fields k to)) ≤ 15
 last Move quantity to q t = two (decimal quantity) (decimal to) 9 5 (nine_digits quantity q) (five_digits to t)
 last Receive quantity to q t = omega (arith, nine_digits quantity q)
 last Issue quantity to q t = omega (arith, nine_digits quantity q)
@@ -63,7 +65,8 @@ without_cr_long line = pick (slice_index line (length line - 1) == 13)
 pub same_message : (raw kept : List ℕ) → kept ≡ take 40 raw → request_of (without_cr kept) ≡ request_of (without_cr raw)
 same_message raw kept is = ap (λ bs. request_of (without_cr bs)) is ∙ ⊎_elim
     (λ (long : 40 < length raw).
-    let cut : 36 < length (without_cr (take 40 raw)) = omega (arith, without_cr_long (take 40 raw), length-take 40 raw, long) in
+    let cut : 36 < length (without_cr (take 40 raw)) =
+    omega (arith, without_cr_long (take 40 raw), length-take 40 raw, long) in
     let all : 36 < length (without_cr raw) = omega (arith, without_cr_long raw, long) in
     long_none (without_cr (take 40 raw)) cut ∙ sym (long_none (without_cr raw) all))
     (λ (short : length raw ≤ 40). ap (λ bs. request_of (without_cr bs)) (take_all 40 raw short))

@@ -1,5 +1,6 @@
 -- Messages that ask the same are run the same way.
-use Rattle.std.proofs.Common.{◌≡◌, ◌≢◌, ◌⊎◌, ℕ, List, [], ◌∷◌, ◌++◌, Option, None, Some, false, map, refl, sym, subst, ◌∙◌, ap}
+use Rattle.std.proofs.Common.{◌≡◌, ◌≢◌, ◌⊎◌, ℕ, List, [], ◌∷◌, ◌++◌, Option, None, Some, false, map, refl, sym, subst}
+use Rattle.std.proofs.Common.{◌∙◌, ap}
 use Rattle.std.specs.Prelude.{IsSome, if◌then◌else◌, is_some}
 use Rattle.d64_image.specs.History.{HeldOnly, History}
 use Rattle.request_cards.specs.Ledgers.{after_message, reply_in}
@@ -37,15 +38,25 @@ pub record SameParts (before : List Message) (m : Message) (all : List Message) 
   pub asks : AskTheSame before front
   pub same : asked_in m ≡ asked_in last
 
-same_parts : (before : List Message) (m : Message) (all : List Message) → AskTheSame (before ++ m ∷ []) all → SameParts before m all
+same_parts : (before : List Message) (m : Message) (all : List Message) → AskTheSame (before ++ m ∷ []) all
+    → SameParts before m all
 same_parts [] m [] e = absurd (none_same (asked_in m) [] (sym e))
-same_parts [] m (n ∷ []) e = record { front = []; last = n; parts = refl; asks = refl; same = first_same (asked_in m) (asked_in n) [] [] e }
+same_parts [] m (n ∷ []) e = record {
+  front = [];
+  last = n;
+  parts = refl;
+  asks = refl;
+  same =
+      first_same (asked_in m) (asked_in n) [] [] e;
+}
 same_parts [] m (n ∷ o ∷ ns) e =
-    absurd (none_same (asked_in o) (map asked_in ns) (rest_same (asked_in m) (asked_in n) [] (asked_in o ∷ map asked_in ns) e))
+    absurd (none_same (asked_in o) (map asked_in ns)
+    (rest_same (asked_in m) (asked_in n) [] (asked_in o ∷ map asked_in ns) e))
 same_parts (b ∷ bs) m [] e = absurd (none_same (asked_in b) (map asked_in (bs ++ m ∷ [])) (sym e))
 same_parts (b ∷ bs) m (n ∷ ns) e =
     let first = first_same (asked_in b) (asked_in n) (map asked_in (bs ++ m ∷ [])) (map asked_in ns) e in
-    let x = same_parts bs m ns (rest_same (asked_in b) (asked_in n) (map asked_in (bs ++ m ∷ [])) (map asked_in ns) e) in
+    let x = same_parts bs m ns (rest_same (asked_in b) (asked_in n) (map asked_in (bs ++ m ∷ [])) (map asked_in ns) e)
+    in
     record {
       front = n ∷ x.front;
       last = x.last;
@@ -57,40 +68,49 @@ same_parts (b ∷ bs) m (n ∷ ns) e =
 module _ {D : Type 0} (h : History D) where
   module _ (s : Shop) (m n : Message) (old new : D) (reply : Reply) (same : asked_in m ≡ asked_in n) where
     -- the event of a message is that of another that asks the same
-    abbrev pub same_event : IsEvent h s m old new (GoesOn h s m reply new) → IsEvent h s n old new (GoesOn h s n reply new)
+    abbrev pub same_event : IsEvent h s m old new (GoesOn h s m reply new)
+        → IsEvent h s n old new (GoesOn h s n reply new)
     same_event e = record {
       failed = e.failed;
       counted = e.counted;
       is = subst (λ (a : Asked). MayCount s.top s.state a.0 a.1 e.failed e.counted) same e.is;
       blame = e.blame;
       later = e.later;
-      moments = subst (λ (a : Asked). HeldOnly h old new (λ i. IsShop i s ⊎ ((a.1 ≢ Some 0) × IsShop i (with_state s (after_message (start_of s) s.state a.0))))) same e.moments;
+      moments = subst (λ (a : Asked). HeldOnly h old new (λ i. IsShop i s
+          ⊎ ((a.1 ≢ Some 0) × IsShop i (with_state s (after_message (start_of s) s.state a.0))))) same e.moments;
       quiet = subst (λ (a : Asked). is_next_request s a.0 ≡ false → IsLeftAlone h a.1 old new) same e.quiet;
       ends = record {
-        told = subst (λ (a : Asked). reply ≡ (if is_some a.1 then Cut else (if e.failed then media a.0 else reply_in (start_of s) s.state a.0))) same e.ends.told;
+        told = subst
+            (λ (a : Asked). reply ≡ (if is_some a.1 then Cut else (if e.failed then media a.0 else reply_in (start_of s)
+            s.state a.0))) same e.ends.told;
         answered = subst (λ (a : Asked). a.1 ≡ None → e.failed ≡ false) same e.ends.answered;
         settled = e.ends.settled;
       };
     }
 
-    same_failure : IsEvent h s m old new (EndsFailed h s m reply new) → IsEvent h s n old new (EndsFailed h s n reply new)
+    same_failure : IsEvent h s m old new (EndsFailed h s m reply new)
+        → IsEvent h s n old new (EndsFailed h s n reply new)
     same_failure e = record {
       failed = e.failed;
       counted = e.counted;
       is = subst (λ (a : Asked). MayCount s.top s.state a.0 a.1 e.failed e.counted) same e.is;
       blame = e.blame;
       later = e.later;
-      moments = subst (λ (a : Asked). HeldOnly h old new (λ i. IsShop i s ⊎ ((a.1 ≢ Some 0) × IsShop i (with_state s (after_message (start_of s) s.state a.0))))) same e.moments;
+      moments = subst (λ (a : Asked). HeldOnly h old new (λ i. IsShop i s
+          ⊎ ((a.1 ≢ Some 0) × IsShop i (with_state s (after_message (start_of s) s.state a.0))))) same e.moments;
       quiet = subst (λ (a : Asked). is_next_request s a.0 ≡ false → IsLeftAlone h a.1 old new) same e.quiet;
       ends = record {
-        told = subst (λ (a : Asked). reply ≡ (if is_some a.1 then Cut else (if e.failed then media a.0 else reply_in (start_of s) s.state a.0))) same e.ends.told;
+        told = subst
+            (λ (a : Asked). reply ≡ (if is_some a.1 then Cut else (if e.failed then media a.0 else reply_in (start_of s)
+            s.state a.0))) same e.ends.told;
         asked = subst (λ (a : Asked). a.1 ≡ None → IsSome a.0) same e.ends.asked;
         is_failed = e.ends.is_failed;
         shop = e.ends.shop;
       };
     }
 
-  pub same_chain : (s : Shop) (ms ns : List Message) (xs : List (Reply × D)) (old : D) (t : Shop) (new : D) → AskTheSame ms ns
+  pub same_chain : (s : Shop) (ms ns : List Message) (xs : List (Reply × D)) (old : D) (t : Shop) (new : D)
+      → AskTheSame ms ns
       → IsChain h s ms xs old t new → IsChain h s ns xs old t new
   same_chain s [] [] xs old t new same c = c
   same_chain s [] (n ∷ ns) xs old t new same c = absurd (none_same (asked_in n) (map asked_in ns) same)
@@ -115,7 +135,8 @@ module _ {D : Type 0} (h : History D) where
     chain = same_chain s ms ns xs r.first r.now new same r.chain;
   }
 
-  pub same_run_to_failure : (s : Shop) (ms ns : List Message) (xs : List (Reply × D)) (last : Reply) (old new : D) → AskTheSame ms ns
+  pub same_run_to_failure : (s : Shop) (ms ns : List Message) (xs : List (Reply × D)) (last : Reply) (old new : D)
+      → AskTheSame ms ns
       → HasRunToFailure h s ms xs last old new → HasRunToFailure h s ns xs last old new
   same_run_to_failure s ms ns xs last old new same r =
       let p = same_parts r.before r.message ns (ap (map asked_in) r.parts ∙ same) in

@@ -1,5 +1,6 @@
 -- What a run over the lines of an input comes to, where each reply is handed on by itself.
-use Rattle.std.proofs.Common.{◌≡◌, ◌<◌, ⊎_elim, ◌∙◌, ℕ, List, [], ◌∷◌, ◌++◌, Option, Ok, Err, Result, map, refl, sym, subst, ap, inl, inr, append-nil, length}
+use Rattle.std.proofs.Common.{◌≡◌, ◌<◌, ⊎_elim, ◌∙◌, ℕ, List, [], ◌∷◌, ◌++◌, Option, Ok, Err, Result, map, refl, sym}
+use Rattle.std.proofs.Common.{subst, ap, inl, inr, append-nil, length}
 use Rattle.std.proofs.lemmas.List.{length-map}
 use Rattle.d64_image.specs.History.{History}
 use Rattle.host_session.proofs.Chained.{at_device, whole}
@@ -29,7 +30,8 @@ all_uncut : (ls : List (List ℕ)) → AreUncut (map uncut ls)
 all_uncut [] = tt
 all_uncut (l ∷ ls) = (refl, all_uncut ls)
 
-module _ {D R T : Type 0} (h : History D) (remaining : R → Option (List ℕ)) (o : Output T) (disk : D) (asked asks : OfInput R) (old new : AtOnce T) where
+module _ {D R T : Type 0} (h : History D) (remaining : R → Option (List ℕ)) (o : Output T) (disk : D)
+    (asked asks : OfInput R) (old new : AtOnce T) where
   abbrev Ran : Result D (LoopFault × D) → Type 0
   Ran r = IsRun h (of_input remaining) (lent (at_once o)) disk asked asks old new r
 
@@ -42,7 +44,8 @@ module _ {D R T : Type 0} (h : History D) (remaining : R → Option (List ℕ)) 
   still_lent (Err (faults.Device, left)) k =
       let s = (k.cause refl).0 in ⊎_elim (λ t. t.0) (λ t. t.0.0) (k.device s.0 s.1 refl).0.told
 
-  module _ (taken : List (Message × Instant)) (x : HasTaken remaining asked asks (messages_in taken)) (s : Shop) (left : D) where
+  module _ (taken : List (Message × Instant)) (x : HasTaken remaining asked asks (messages_in taken)) (s : Shop)
+      (left : D) where
     abbrev Lines : List Message
     Lines = line_messages x.handled
 
@@ -58,7 +61,11 @@ module _ {D R T : Type 0} (h : History D) (remaining : R → Option (List ℕ)) 
     served k =
         let run = same_run h s (messages_in taken) Lines k.0.turns disk left x.asks k.0.run in (
           record { turns = k.0.turns; handled = handled_run h s x.handled k.0.turns disk left run; told = k.0.told.1 },
-          ((whole h s Lines k.0.turns disk left run).1, λ asks. unwritten (quiet_run h s Lines k.0.turns disk left asks run)),
+          (
+            (whole h s Lines k.0.turns disk left run).1,
+            λ asks. unwritten
+                (quiet_run h s Lines k.0.turns disk left asks run),
+          ),
         )
 
     served_to_output : IsRunToOutput h (lent (at_once o)) s taken disk left old new
@@ -160,7 +167,8 @@ module _ {D R T : Type 0} (h : History D) (remaining : R → Option (List ℕ)) 
   }
 
   -- and so for what the input and the output end as
-  pub served_over : (r : Result D (LoopFault × D)) → asked.said ≡ next.Event → Ran r → (first_in last_in : R) (first last : T)
+  pub served_over : (r : Result D (LoopFault × D)) → asked.said ≡ next.Event → Ran r
+      → (first_in last_in : R) (first last : T)
       → asked.input.now ≡ first_in → (asked.input.ghost_name ≡ asks.input.ghost_name → last_in ≡ asks.input.now)
       → old.out.now ≡ first → (old.out.ghost_name ≡ new.out.ghost_name → last ≡ new.out.now)
       → IsServed h remaining o disk first_in last_in first last r
@@ -168,5 +176,6 @@ module _ {D R T : Type 0} (h : History D) (remaining : R → Option (List ℕ)) 
       subst (λ a. IsServed h remaining o disk a last_in first last r) was_in
       (subst (λ a. IsServed h remaining o disk asked.input.now a first last r) (sym (is_in (sym k.takes.same)))
       (subst (λ a. IsServed h remaining o disk asked.input.now asks.input.now a last r) was
-      (subst (λ a. IsServed h remaining o disk asked.input.now asks.input.now old.out.now a r) (sym (is (sym (still_lent r k))))
+      (subst (λ a. IsServed h remaining o disk asked.input.now asks.input.now old.out.now a r)
+      (sym (is (sym (still_lent r k))))
       (is_served r fresh k))))

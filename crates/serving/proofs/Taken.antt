@@ -1,5 +1,6 @@
 -- Lines that are taken of an input, and one more of them.
-use Rattle.std.proofs.Common.{◌≡◌, ◌<◌, ℕ, List, [], ◌∷◌, ◌++◌, Option, None, map, refl, sym, subst, ◌∙◌, ap, inr, append-nil}
+use Rattle.std.proofs.Common.{◌≡◌, ◌<◌, ℕ, List, [], ◌∷◌, ◌++◌, Option, None, map, refl, sym, subst, ◌∙◌, ap, inr}
+use Rattle.std.proofs.Common.{append-nil}
 use Rattle.std.specs.Prelude.{OnSome}
 use Rattle.std.specs.Io.KnownBytes.{Consumes, IsAtEnd}
 use Rattle.std.proofs.KnownBytes.{Consumes-nil, Consumes-trans}
@@ -19,8 +20,10 @@ use Rattle.serving.proofs.Cuts.{lines_more, whole_more}
 use Rattle.serving.proofs.Kept.{still_at_end}
 
 -- what a line more asks
-asks_more : (ms : List Message) (handled raw kept : List ℕ) → AreWhole handled → LacksLf raw → request_of kept ≡ request_of (without_cr raw)
-    → AskTheSame ms (line_messages handled) → AskTheSame (ms ++ uncut kept ∷ []) (line_messages (handled ++ (raw ++ 10 ∷ [])))
+asks_more : (ms : List Message) (handled raw kept : List ℕ) → AreWhole handled → LacksLf raw
+    → request_of kept ≡ request_of (without_cr raw)
+    → AskTheSame ms (line_messages handled)
+    → AskTheSame (ms ++ uncut kept ∷ []) (line_messages (handled ++ (raw ++ 10 ∷ [])))
 asks_more ms handled raw kept whole lacks same asks =
     let l : List ℕ = without_cr raw in
     let one : Option Ask → List (Option Ask × Option ℕ) = λ o. (o, None) ∷ [] in
@@ -37,16 +40,19 @@ module _ {R : Type 0} (remaining : R → Option (List ℕ)) (old new : OfInput R
   read_whole : (first : OfInput R) (ms : List Message) → old.said ≡ next.Event → (x : HasTaken remaining first old ms)
       → Consumes (remaining first.input.now) (remaining old.input.now) x.handled
   read_whole first ms fresh x =
-      subst (Consumes (remaining first.input.now) (remaining old.input.now)) (ap (λ bs. x.handled ++ bs) (x.ahead fresh) ∙ append-nil x.handled) x.read
+      subst (Consumes (remaining first.input.now) (remaining old.input.now)) (ap (λ bs. x.handled ++ bs) (x.ahead fresh)
+      ∙ append-nil x.handled) x.read
 
   module _ (fresh : old.said ≡ next.Event) (same : new.input.ghost_name ≡ old.input.ghost_name) where
     -- a line more
     line_taken : (at : Instant) → new.said ≡ next.Event
-        → IsLineTaken (remaining old.input.now) (remaining new.input.now) new.line.items next.Event → TakesOne (of_input remaining) old new at
+        → IsLineTaken (remaining old.input.now) (remaining new.input.now) new.line.items next.Event
+        → TakesOne (of_input remaining) old new at
     line_taken at said x = λ first xs k.
         let all : List ℕ = k.handled ++ (x.0 ++ 10 ∷ []) in
         let ms : List Message = messages_in xs in
-        let asks : AskTheSame (ms ++ uncut new.line.items ∷ []) (line_messages all) = asks_more ms k.handled x.0 new.line.items k.whole x.1 x.2 k.asks in
+        let asks : AskTheSame (ms ++ uncut new.line.items ∷ []) (line_messages all) =
+        asks_more ms k.handled x.0 new.line.items k.whole x.1 x.2 k.asks in
         record {
           same = same ∙ k.same;
           handled = all;
@@ -54,15 +60,19 @@ module _ {R : Type 0} (remaining : R → Option (List ℕ)) (old new : OfInput R
           whole = whole_more k.handled x.0;
           lacks = tt;
           read = subst (Consumes (remaining first.input.now) (remaining new.input.now)) (sym (append-nil all))
-              (Consumes-trans (remaining first.input.now) (remaining old.input.now) (remaining new.input.now) k.handled (x.0 ++ 10 ∷ []) (read_whole first ms fresh k) x.3);
-          asks = subst (λ taken. AskTheSame taken (line_messages all)) (sym (map-append (λ y. y.0) xs ((uncut new.line.items, at) ∷ []))) asks;
+              (Consumes-trans (remaining first.input.now) (remaining old.input.now) (remaining new.input.now) k.handled
+              (x.0 ++ 10 ∷ []) (read_whole first ms fresh k) x.3);
+          asks = subst (λ taken. AskTheSame taken (line_messages all))
+              (sym (map-append (λ y. y.0) xs ((uncut new.line.items, at) ∷ []))) asks;
           ahead = λ _. refl;
           end = λ over. absurd (let e = sym said ∙ over in cc);
         }
 
     -- what was read is no line
-    rest_taken : (new.said ≡ next.Event → ⊥) → (rest : List ℕ) → LacksLf rest → Consumes (remaining old.input.now) (remaining new.input.now) rest
-        → (new.said ≡ next.End → OnSome (remaining old.input.now) (IsAtEnd (remaining new.input.now))) → TakesNone (of_input remaining) old new
+    rest_taken : (new.said ≡ next.Event → ⊥) → (rest : List ℕ) → LacksLf rest
+        → Consumes (remaining old.input.now) (remaining new.input.now) rest
+        → (new.said ≡ next.End → OnSome (remaining old.input.now) (IsAtEnd (remaining new.input.now)))
+        → TakesNone (of_input remaining) old new
     rest_taken closed rest lacks read over = λ first xs k.
         let whole = read_whole first (messages_in xs) fresh k in
         record {
@@ -71,29 +81,37 @@ module _ {R : Type 0} (remaining : R → Option (List ℕ)) (old new : OfInput R
           rest = rest;
           whole = k.whole;
           lacks = lacks;
-          read = Consumes-trans (remaining first.input.now) (remaining old.input.now) (remaining new.input.now) k.handled rest whole read;
+          read = Consumes-trans (remaining first.input.now) (remaining old.input.now) (remaining new.input.now)
+              k.handled rest whole read;
           asks = k.asks;
           ahead = λ said. absurd (closed said);
-          end = λ said. inr (still_at_end (remaining first.input.now) (remaining old.input.now) (remaining new.input.now) k.handled whole (over said));
+          end = λ said. inr (still_at_end (remaining first.input.now) (remaining old.input.now)
+              (remaining new.input.now) k.handled whole (over said));
         }
 
     -- what taking a line came to
     pub next_taken : (at : Instant) (said : Next) → new.said ≡ said → new.left < old.left
-        → IsLineTaken (remaining old.input.now) (remaining new.input.now) new.line.items said → IsNext (of_input remaining) old new at said
+        → IsLineTaken (remaining old.input.now) (remaining new.input.now) new.line.items said
+        → IsNext (of_input remaining) old new at said
     next_taken at next.Event is fewer x = (line_taken at is x, fewer)
     next_taken at next.End is fewer x = (rest_taken (λ said. let e = sym is ∙ said in cc) x.0 x.1 x.2 (λ _. x.3), is)
-    next_taken at next.Failed is fewer x =
-        (rest_taken (λ said. let e = sym is ∙ said in cc) x.0 x.1 x.2 (λ said. absurd (let e = sym is ∙ said in cc)), is)
+    next_taken at next.Failed is fewer x = (
+      rest_taken (λ said. let e = sym is ∙ said in cc) x.0 x.1 x.2 (λ said. absurd (let e = sym is ∙ said in cc)),
+      is,
+    )
 
     -- as many lines were taken as there may be
-    pub none_left : (at : Instant) → new.input.now ≡ old.input.now → new.said ≡ next.Failed → IsNext (of_input remaining) old new at next.Failed
+    pub none_left : (at : Instant) → new.input.now ≡ old.input.now → new.said ≡ next.Failed
+        → IsNext (of_input remaining) old new at next.Failed
     none_left at input is =
         let none : Consumes (remaining old.input.now) (remaining new.input.now) [] =
-        subst (λ i. Consumes (remaining old.input.now) (remaining i) []) (sym input) (Consumes-nil (remaining old.input.now)) in
+        subst (λ i. Consumes (remaining old.input.now) (remaining i) []) (sym input)
+        (Consumes-nil (remaining old.input.now)) in
         (rest_taken (λ said. let e = sym is ∙ said in cc) [] tt none (λ said. absurd (let e = sym is ∙ said in cc)), is)
 
 -- behind an end or a failure the same is said again
-pub said_again : {R : Type 0} (remaining : R → Option (List ℕ)) (x : OfInput R) (at : Instant) (said : Next) → x.said ≡ said → (said ≡ next.Event → ⊥)
+pub said_again : {R : Type 0} (remaining : R → Option (List ℕ)) (x : OfInput R) (at : Instant) (said : Next)
+    → x.said ≡ said → (said ≡ next.Event → ⊥)
     → IsNext (of_input remaining) x x at said
 said_again remaining x at next.Event is never = absurd (never refl)
 said_again remaining x at next.End is never = (λ first xs k. k, is)

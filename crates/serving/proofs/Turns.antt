@@ -9,7 +9,8 @@ use Rattle.serving.specs.declared.at_once.AtOnce.{AtOnce}
 
 module _ {T : Type 0} (o : Output T) where
   -- one reply more, told and then handed on
-  in_turn_more : (first a b d : T) (xs : List (Reply × Instant)) (reply : Reply) (at : Instant) → HandedOnInTurn o first a xs
+  in_turn_more : (first a b d : T) (xs : List (Reply × Instant)) (reply : Reply) (at : Instant)
+      → HandedOnInTurn o first a xs
       → TellsOne o a b reply at → TellsNone o b d → o.is_handed_on d → HandedOnInTurn o first d (xs ++ (reply, at) ∷ [])
   in_turn_more first a b d [] reply at k tells kept handed =
       (d, kept.0 first ((reply, at) ∷ []) (tells first [] k), handed, o.none d)
@@ -17,7 +18,8 @@ module _ {T : Type 0} (o : Output T) where
       (k.0, k.1, k.2, in_turn_more k.0 a b d xs reply at k.3 tells kept handed)
 
   -- handing on once more changes nothing of it
-  in_turn_kept : (first b d : T) (xs : List (Reply × Instant)) → TellsNone o b d → HandedOnInTurn o first b xs → HandedOnInTurn o first d xs
+  in_turn_kept : (first b d : T) (xs : List (Reply × Instant)) → TellsNone o b d → HandedOnInTurn o first b xs
+      → HandedOnInTurn o first d xs
   in_turn_kept first b d [] kept k = kept.0 first [] k
   in_turn_kept first b d (x ∷ xs) kept k = (k.0, k.1, k.2, in_turn_kept k.0 b d xs kept k.3)
 
@@ -26,10 +28,14 @@ module _ {T : Type 0} (o : Output T) where
   held_back_kept first b d xs last kept k =
       ⊎_elim (λ x. inl (kept.1 first xs last x)) (λ x. inr (kept.0 first (xs ++ last ∷ []) x)) k
 
-  pub told_once : (a b d : T) (reply : Reply) (at : Instant) → TellsOne o a b reply at → TellsNone o b d → o.is_handed_on d
+  pub told_once : (a b d : T) (reply : Reply) (at : Instant) → TellsOne o a b reply at → TellsNone o b d
+      → o.is_handed_on d
       → TellsOne (at_once o) a d reply at
-  told_once a b d reply at tells kept handed = λ first xs k.
-      (kept.0 first (xs ++ (reply, at) ∷ []) (tells first xs k.0), in_turn_more first a b d xs reply at k.1 tells kept handed)
+  told_once a b d reply at tells kept handed = λ first xs k. (
+    kept.0 first (xs ++ (reply, at) ∷ []) (tells first xs k.0),
+    in_turn_more first a b d xs reply at k.1 tells kept
+        handed,
+  )
 
   -- the reply wasn't told whole
   pub untold : (a b : T) (reply : Reply) (at : Instant) → BreaksOff o a b reply at → BreaksOff (at_once o) a b reply at
@@ -62,13 +68,15 @@ module _ {T : Type 0} (o : Output T) where
   )
 
   -- what came of handing it on, once it was told
-  pub told_on : {E : Type 0} (a b d : T) (reply : Reply) (at : Instant) (result : Result Unit E) → TellsOne o a b reply at → TellsNone o b d
+  pub told_on : {E : Type 0} (a b d : T) (reply : Reply) (at : Instant) (result : Result Unit E)
+      → TellsOne o a b reply at → TellsNone o b d
       → OnOk result (o.is_handed_on d) → IsTold (at_once o) a d reply at result
   told_on a b d reply at (Ok _) tells kept handed = (told_once a b d reply at tells kept handed, omega arith)
   told_on a b d reply at (Err _) tells kept handed = (not_handed_on a b d reply at tells kept, refl)
 
   -- the same of the output that was lent
   pub lent_told : {E : Type 0} (old new : AtOnce T) (reply : Reply) (at : Instant) (result : Result Unit E)
-      → new.out.ghost_name ≡ old.out.ghost_name → IsTold o old.out.now new.out.now reply at result → IsTold (lent o) old new reply at result
+      → new.out.ghost_name ≡ old.out.ghost_name → IsTold o old.out.now new.out.now reply at result
+      → IsTold (lent o) old new reply at result
   lent_told old new reply at (Ok _) same x = (λ first xs k. (same ∙ k.0, x.0 first.out.now xs k.1), x.1)
   lent_told old new reply at (Err _) same x = (λ first xs k. (same ∙ k.0, x.0 first.out.now xs k.1), x.1)

@@ -50,8 +50,8 @@ pub record AreServed {D T : Type 0} (h : History D) (o : Output T) (s : Shop) (b
   pub handled : AreHandled h s bytes turns disk left
   pub told : (at_once o).told old new (over_instants h turns)
 
--- The same of all replies but the last, which was broken off over the disk that is left, or told over it and couldn't be
--- handed on; and nothing else was told.
+-- The same of all replies but the last, which was broken off over the disk that is left, or told over it and couldn't
+-- be handed on; and nothing else was told.
 pub record AreServedToOutput {D T : Type 0} (h : History D) (o : Output T) (s : Shop) (bytes : List ℕ) (disk left : D)
     (old new : T) : Type 0 where
   pub turns : List (Reply × D)

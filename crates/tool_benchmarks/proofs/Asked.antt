@@ -24,7 +24,8 @@ module _ {D : Type 0} (S : History D) where
   pub asked : (a b : View D) (s : Shop) (message : List ℕ) (n : ℕ) (IsMedia : Type 0) → IsShop (S.image a.disk) s
       → Changes S a.disk b.disk n (IsBeforeOrAfter s message)
       → (a.dead ≡ true → b ≡ a) → (a.dead ≡ false → ¬ IsMedia → b.dead ≡ false)
-      → (IsMedia × (b.dead ≡ true) × ((a.dead ≡ true) ⊎ Failed S a.disk b.disk)) ⊎ ((¬ IsMedia) × (S.failures b.disk ≡ S.failures a.disk))
+      → (IsMedia × (b.dead ≡ true) × ((a.dead ≡ true) ⊎ Failed S a.disk b.disk))
+      ⊎ ((¬ IsMedia) × (S.failures b.disk ≡ S.failures a.disk))
       → StaysOpen S a b
   asked a b s message n IsMedia shop changes dead told how = record {
     shop = is (at_end S a.disk b.disk (IsBeforeOrAfter s message) changes.held);
@@ -36,13 +37,15 @@ module _ {D : Type 0} (S : History D) where
       is (inl before) = (s, before)
       is (inr after) = (after_of s message, after)
 
-      later : (IsMedia × (b.dead ≡ true) × ((a.dead ≡ true) ⊎ Failed S a.disk b.disk)) ⊎ ((¬ IsMedia) × (S.failures b.disk ≡ S.failures a.disk))
+      later : (IsMedia × (b.dead ≡ true) × ((a.dead ≡ true) ⊎ Failed S a.disk b.disk))
+          ⊎ ((¬ IsMedia) × (S.failures b.disk ≡ S.failures a.disk))
           → S.failures a.disk ≤ S.failures b.disk
       later (inl (m, d, inl e)) = rw (dead e) (omega arith)
       later (inl (m, d, inr f)) = f.later
       later (inr (m, e)) = omega (arith, e)
 
-      alive : (IsMedia × (b.dead ≡ true) × ((a.dead ≡ true) ⊎ Failed S a.disk b.disk)) ⊎ ((¬ IsMedia) × (S.failures b.disk ≡ S.failures a.disk))
+      alive : (IsMedia × (b.dead ≡ true) × ((a.dead ≡ true) ⊎ Failed S a.disk b.disk))
+          ⊎ ((¬ IsMedia) × (S.failures b.disk ≡ S.failures a.disk))
           → NeverFailed S a.disk b.disk → a.dead ≡ false → b.dead ≡ false
       alive (inl (m, d, inl e)) never was = absurd (cc)
       alive (inl (m, d, inr f)) never was = absurd (never_failed S a.disk b.disk never f)

@@ -16,7 +16,8 @@ module _ {D : Type 0} (S : History D) where
   }
 
   -- the disk is found clean
-  pub found : (a b c : D) (checks count : ℕ) → IsTally S a b checks count → OnlyReads S b c 2115 → S.failures b ≤ S.failures c → IsClean (S.image b)
+  pub found : (a b c : D) (checks count : ℕ) → IsTally S a b checks count → OnlyReads S b c 2115
+      → S.failures b ≤ S.failures c → IsClean (S.image b)
       → IsTally S a c (checks + 1) (count + 1)
   found a b c checks count t read later is = record {
     reads = reads_then S a b c (2115 * checks) 2115 (2115 * (checks + 1)) (omega arith) t.reads read;
@@ -27,12 +28,14 @@ module _ {D : Type 0} (S : History D) where
   }
 
   -- it isn't
-  pub missed : (a b c : D) (checks count : ℕ) → IsTally S a b checks count → OnlyReads S b c 2115 → S.failures b ≤ S.failures c
+  pub missed : (a b c : D) (checks count : ℕ) → IsTally S a b checks count → OnlyReads S b c 2115
+      → S.failures b ≤ S.failures c
       → (NeverFailed S b c → IsClean (S.image b) → ⊥) → IsTally S a c (checks + 1) count
   missed a b c checks count t read later unclean = record {
     reads = reads_then S a b c (2115 * checks) 2115 (2115 * (checks + 1)) (omega arith) t.reads read;
     later = omega (arith, t.later, later);
     few = omega (arith, t.few);
-    clean = λ never here. absurd (unclean (never_failed_rest S a b c t.later later never) (subst IsClean (sym t.reads.image) here));
+    clean = λ never here. absurd (unclean (never_failed_rest S a b c t.later later never)
+        (subst IsClean (sym t.reads.image) here));
     unclean = t.unclean;
   }

@@ -12,4 +12,5 @@ record_line bytes = bytes ++ 10 ∷ []
 
 -- the lines of all records of the first relative file of this name were added to what was written
 abbrev pub IsPrinted : Image → Layout → List ℕ → Option (List ℕ) → Option (List ℕ) → Type 0
-IsPrinted img l name old new = (n : ℕ) × (f : File) × IsFirst l name n f × Appends old new (flat_map record_line (records img f))
+IsPrinted img l name old new = (n : ℕ) × (f : File) × IsFirst l name n f
+    × Appends old new (flat_map record_line (records img f))

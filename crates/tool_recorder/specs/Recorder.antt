@@ -62,7 +62,12 @@ recorded h = record {
   up_to_last = λ r. r.fits;
   reached = IsRecorded h;
   reached_same = λ r. record { beneath = h.reached_same r.disk; full = λ e. e };
-  reached_then = λ a b c x y. record { beneath = h.reached_then a.disk b.disk c.disk x.beneath y.beneath; full = λ e. y.full (x.full e) };
+  reached_then = λ a b c x y. record {
+    beneath = h.reached_then a.disk b.disk c.disk x.beneath y.beneath;
+    full =
+        λ e. y.full (x.full e);
+  };
   failed_at = fails_at h;
-  failed_stays = λ a b p x failed. ⊎_elim (λ full. inl (x.full full)) (λ there. inr (h.failed_stays a.disk b.disk p x.beneath there)) failed;
+  failed_stays = λ a b p x failed. ⊎_elim (λ full. inl (x.full full))
+      (λ there. inr (h.failed_stays a.disk b.disk p x.beneath there)) failed;
 }

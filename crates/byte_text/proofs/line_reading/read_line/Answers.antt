@@ -9,9 +9,11 @@ returns-in_err-number-clause-none c = λ _ n bytes low high small few line.
 pub returns-then-not-fill_from-clause-none : goal.returns-then-not-fill_from-clause-none
 returns-then-not-fill_from-clause-none c = λ _ n bytes low high small few line.
     c.if-not-fill_from.ensures.none refl bytes small few
-    (text-refused c.args.line.now c.in_ok-number.number c.in_ok-number.text.now c.unquoted.result.now c.in_ok-number.ensures.exact c.unquoted.ensures n bytes low high line)
+    (text-refused c.args.line.now c.in_ok-number.number c.in_ok-number.text.now c.unquoted.result.now
+    c.in_ok-number.ensures.exact c.unquoted.ensures n bytes low high line)
 
 pub returns-clause-found : goal.returns-clause-found
 returns-clause-found c =
-    line-found c.args.line.now c.in_ok-number.number c.in_ok-number.text.now c.unquoted.result.now c.fill_from.new.bytes.items
+    line-found c.args.line.now c.in_ok-number.number c.in_ok-number.text.now c.unquoted.result.now
+    c.fill_from.new.bytes.items
     c.in_ok-number.ensures.exact c.unquoted.ensures (c.if-not-fill_from.ensures.found refl)

@@ -13,11 +13,13 @@ write_long-requires g c =
 
 pub returns-then-bytes-gt16 : goal.returns-then-bytes-gt16
 returns-then-bytes-gt16 g c = on_ok_weaker c.write_long.result
-    (λ end. line-trimmed _ _ c.args.number c.args.bytes.now.items _ (c.trim-bytes.ensures ∙ ap trimmed c.as_slice.ensures.value) end)
+    (λ end. line-trimmed _ _ c.args.number c.args.bytes.now.items _ (c.trim-bytes.ensures
+    ∙ ap trimmed c.as_slice.ensures.value) end)
     c.write_long.ensures
 
 pub returns : goal.returns
 returns g c = on_ok_weaker c.write_all.result
-    (λ end. line-trimmed _ _ c.args.number c.args.bytes.now.items _ (c.trim-bytes.ensures ∙ ap trimmed c.as_slice.ensures.value)
+    (λ end. line-trimmed _ _ c.args.number c.args.bytes.now.items _ (c.trim-bytes.ensures
+    ∙ ap trimmed c.as_slice.ensures.value)
     (in-room _ _ _ c.put_line-start.result _ _ c.put_line-start.auto.room c.put_line-start.ensures.written end))
     c.write_all.ensures.bytes

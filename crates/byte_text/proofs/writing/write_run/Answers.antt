@@ -11,6 +11,7 @@ returns g c =
         omega (arith, found.low, c.if-end-start.false),
         found.high,
         subst (Appends (g.W.Write.contents c.args.out.now) (g.W.Write.contents c.write_all.new.self))
-            (sym (range-plain c.args.bytes.now c.args.start c.plain_end-end.result found.low found.high found.plain)) c.in_ok-write_all.ensures.bytes,
+            (sym (range-plain c.args.bytes.now c.args.start c.plain_end-end.result found.low found.high found.plain))
+            c.in_ok-write_all.ensures.bytes,
       );
     }

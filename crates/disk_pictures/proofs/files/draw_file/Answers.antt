@@ -14,8 +14,11 @@ returns-clause-ok c =
     record {
       unclosed = λ few. let here = c.type_byte.ensures ∙ ap (λ (bs : List ℕ). slice_index bs 2) c.new-entry.ensures in
           absurd (omega (arith, few, here, c.if-type_byte-lt128.false));
-      blocks = λ closed. subst (λ (ps : List Place). GoesFrom img bytes 3 ps last) (sym (c.in_ok-blocks.ensures.ok ∙ c.as_slice.ensures.value))
-          (goes-from img bytes _ 3 c.first_block.result _ last c.new-entry.ensures c.first_block.ensures c.in_ok-last.ensures.ok);
+      blocks = λ closed. subst (λ (ps : List Place). GoesFrom img bytes 3 ps last) (sym (c.in_ok-blocks.ensures.ok
+          ∙ c.as_slice.ensures.value))
+          (goes-from img bytes _ 3 c.first_block.result _ last c.new-entry.ensures c.first_block.ensures
+          c.in_ok-last.ensures.ok);
       plain = c.in_ok-sides.ensures.plain;
-      relative = λ rel. sides-at _ img bytes _ _ _ c.in_ok-last.ensures.same (ap length c.as_slice-2.ensures.value) (c.in_ok-sides.ensures.relative rel);
+      relative = λ rel. sides-at _ img bytes _ _ _ c.in_ok-last.ensures.same (ap length c.as_slice-2.ensures.value)
+          (c.in_ok-sides.ensures.relative rel);
     }

@@ -6,4 +6,5 @@ pub loop-sector-init : goal.loop-sector-init
 loop-sector-init g c = none-below _ _
 
 pub loop-sector-preserved : goal.loop-sector-preserved
-loop-sector-preserved g c = below-more _ _ _ c.loop-sector.sector _ c.loop-sector.invariant c.in_ok-put_layer_at.ensures.ok
+loop-sector-preserved g c = below-more _ _ _ c.loop-sector.sector _ c.loop-sector.invariant
+    c.in_ok-put_layer_at.ensures.ok

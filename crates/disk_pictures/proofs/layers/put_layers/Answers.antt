@@ -12,4 +12,5 @@ loop-below-preserved g c = below-more _ _ _ c.loop-below.below _ c.loop-below.in
 
 pub returns-clause-ok : goal.returns-clause-ok
 unfolding each_place
-returns-clause-ok g c = all-below _ _ _ 35 _ (omega (arith, c.loop-below-test.false, c.loop-below.auto.below-end)) c.loop-below.invariant
+returns-clause-ok g c = all-below _ _ _ 35 _ (omega (arith, c.loop-below-test.false, c.loop-below.auto.below-end))
+    c.loop-below.invariant

@@ -9,4 +9,5 @@ use Rattle.disk_pictures.proofs.layers.put_layers.Given as goal
 
 abbrev pub invariant-loop-below : goal.invariant-loop-below
 invariant-loop-below g l = Appends (g.W.Write.contents l.fn.out) (g.W.Write.contents l.out)
-    (each_below l.below (λ b. each_below 21 (λ s. at_place (layer_arc l.layer l.drawing.map (drawn_in l.drawing)) (place_at (b + 1) s))))
+    (each_below l.below (λ b. each_below 21 (λ s. at_place (layer_arc l.layer l.drawing.map (drawn_in l.drawing))
+    (place_at (b + 1) s))))

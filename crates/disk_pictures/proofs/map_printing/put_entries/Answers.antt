@@ -10,5 +10,6 @@ loop-number-init g c = no-items entry_line _ _ refl
 
 pub loop-number-preserved : goal.loop-number-preserved
 loop-number-preserved g c =
-    item-more file_in entry_line _ _ _ c.args.files.now c.loop-number.number c.index-files-number.result c.loop-number-test.true
+    item-more file_in entry_line _ _ _ c.args.files.now c.loop-number.number c.index-files-number.result
+    c.loop-number-test.true
     (sym c.index-files-number.is) c.loop-number.invariant c.in_ok-put.ensures.ok

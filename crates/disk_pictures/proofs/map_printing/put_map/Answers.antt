@@ -18,12 +18,15 @@ all-printed : (a b c d e f h : Option (List ℕ)) (v : Option Fault) (bytes : Se
     → Appends d e (verdict_text v) → Appends e f (codes "\n") → Keeps f h → Appends a h (map_text v bytes l)
 unfolding map_text
 all-printed a b c d e f h v bytes l head tracks entries verdict end kept =
-    Appends-kept a f h _ (Appends-trans a b f _ _ head (Appends-trans b c f _ _ tracks (three c d e f _ _ _ entries verdict end))) kept
+    Appends-kept a f h _
+    (Appends-trans a b f _ _ head (Appends-trans b c f _ _ tracks (three c d e f _ _ _ entries verdict end))) kept
 
 pub returns-clause-ok : goal.returns-clause-ok
 returns-clause-ok g c =
     let d = c.args.drawing.now in
-    let entries = subst (λ fs. Appends (g.W.Write.contents c.put_tracks.new.out) (g.W.Write.contents c.put_entries.new.out)
+    let entries =
+    subst (λ fs. Appends (g.W.Write.contents c.put_tracks.new.out) (g.W.Write.contents c.put_entries.new.out)
     (numbered entry_line 0 (map file_in fs))) c.as_slice.ensures.value c.in_ok-put_entries.ensures.ok in
-    at-ok c.flush.result (all-printed _ _ _ _ _ _ _ c.args.found d.map (drawn_in d) c.in_ok-put.ensures.ok c.in_ok-put_tracks.ensures.ok
+    at-ok c.flush.result (all-printed _ _ _ _ _ _ _ c.args.found d.map (drawn_in d) c.in_ok-put.ensures.ok
+    c.in_ok-put_tracks.ensures.ok
     entries c.in_ok-put-2.ensures.ok c.in_ok-put-3.ensures.ok c.flush.ensures.kept)

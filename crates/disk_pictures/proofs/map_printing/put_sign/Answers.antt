@@ -17,5 +17,7 @@ returns-in-Some-clause-ok g c =
     let one : Place → List ℕ = λ p. mark_of c.args.found d.map (drawn_in d) p ∷ [] in
     let here = ap (at_place one) (sym (sym c.new.ensures.value ∙ c.in-Some.is)) in
     let byte = ap encode_utf8 c.sign.ensures ∙ ascii _ (mark-small c.args.found d.map (drawn_in d) c.in-Some.place) in
-    on_ok_weaker c.put.result (λ printed. subst (Appends (g.W.Write.contents c.args.out.now) (g.W.Write.contents c.put.new.out)) (byte ∙ here) printed)
+    on_ok_weaker c.put.result
+    (λ printed. subst (Appends (g.W.Write.contents c.args.out.now) (g.W.Write.contents c.put.new.out)) (byte
+    ∙ here) printed)
     c.put.ensures.ok

@@ -9,4 +9,5 @@ use Rattle.disk_pictures.proofs.map_printing.put_signs.Given as goal
 
 abbrev pub invariant-loop-sector : goal.invariant-loop-sector
 invariant-loop-sector g l = Appends (g.W.Write.contents l.fn.out) (g.W.Write.contents l.out)
-    (each_below l.sector (λ s. at_place (λ p. mark_of l.found l.drawing.map (drawn_in l.drawing) p ∷ []) (place_at l.track s)))
+    (each_below l.sector (λ s. at_place (λ p. mark_of l.found l.drawing.map (drawn_in l.drawing) p ∷ [])
+    (place_at l.track s)))

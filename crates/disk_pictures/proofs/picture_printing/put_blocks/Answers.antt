@@ -11,6 +11,8 @@ pub loop-index-init : goal.loop-index-init
 loop-index-init g c = no-items _ _ _ refl
 
 pub loop-index-preserved : goal.loop-index-preserved
-loop-index-preserved g c = plain-more (own_block html_of (drawn_in c.args.drawing.now) c.args.number (file_in c.args.file.now)) _ _ _ _ c.loop-index.index
+loop-index-preserved g c =
+    plain-more (own_block html_of (drawn_in c.args.drawing.now) c.args.number (file_in c.args.file.now)) _ _ _ _
+    c.loop-index.index
     c.index-blocks-index.result c.loop-index-test.true (sym c.index-blocks-index.is)
     c.loop-index.invariant c.in_ok-put_block.ensures.ok

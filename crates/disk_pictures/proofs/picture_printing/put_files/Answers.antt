@@ -12,5 +12,6 @@ loop-number-init g c = no-items _ _ _ refl
 
 pub loop-number-preserved : goal.loop-number-preserved
 loop-number-preserved g c =
-    item-more file_in (file_group html_of (drawn_in c.args.drawing.now)) _ _ _ c.as_slice-files.result.now c.loop-number.number c.index-files-number.result
+    item-more file_in (file_group html_of (drawn_in c.args.drawing.now)) _ _ _ c.as_slice-files.result.now
+    c.loop-number.number c.index-files-number.result
     c.loop-number-test.true (sym c.index-files-number.is) c.loop-number.invariant c.in_ok-put_file.ensures.ok

@@ -10,6 +10,9 @@ use Rattle.disk_pictures.proofs.picture_printing.put_system.Goals as goal
 pub returns-clause-ok : goal.returns-clause-ok
 unfolding system_group
 returns-clause-ok g c =
-    let directory = subst (λ ps. Appends (g.W.Write.contents c.put-2.new.out) (g.W.Write.contents c.put_directory.new.out) (flat_map directory_arc ps))
+    let directory =
+    subst (λ ps. Appends (g.W.Write.contents c.put-2.new.out) (g.W.Write.contents c.put_directory.new.out)
+    (flat_map directory_arc ps))
     c.as_slice.ensures.value c.in_ok-put_directory.ensures.ok in
-    on_ok_weaker c.put-3.result (λ end. four _ _ _ _ _ _ _ _ _ c.in_ok-put.ensures.ok c.in_ok-put-2.ensures.ok directory end) c.put-3.ensures.ok
+    on_ok_weaker c.put-3.result (λ end. four _ _ _ _ _ _ _ _ _ c.in_ok-put.ensures.ok c.in_ok-put-2.ensures.ok directory
+    end) c.put-3.ensures.ok

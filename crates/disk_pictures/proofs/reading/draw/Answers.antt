@@ -18,7 +18,8 @@ returns-clause-ok c =
     let img = disk_image c.args.disk.now in
     let walked = c.walk.new.places.items in
     let walk = subst (λ (p : Place). IsWalk img p walked c.in_ok-walk.field-0) c.directory_start.ensures
-    (subst (λ (i : Image). IsWalk i c.directory_start.result walked c.in_ok-walk.field-0) first c.in_ok-walk.ensures.ok) in
+    (subst (λ (i : Image). IsWalk i c.directory_start.result walked c.in_ok-walk.field-0) first c.in_ok-walk.ensures.ok)
+    in
     let files = map file_in c.in_ok-files.files.items in
     let drawn = subst (λ (ss : List Slot). AreDrawn img ss files) c.as_slice-2.ensures.value
     (subst (λ (i : Image). AreDrawn i c.as_slice-2.result.now files) last c.in_ok-files.ensures.ok) in

@@ -9,7 +9,8 @@ use Rattle.host_session.proofs.asking.reset_of.Goals as goal
 
 pub returns-in-Some : goal.returns-in-Some
 returns-in-Some c = λ l is.
-    let e : Some (line_in c.in-Some.field-0) ≡ Some l = ap (option_map line_in) (sym c.in-Some.is) ∙ c.event_at.ensures ∙ is in
+    let e : Some (line_in c.in-Some.field-0) ≡ Some l = ap (option_map line_in) (sym c.in-Some.is) ∙ c.event_at.ensures
+    ∙ is in
     ap message_in (sym (same_Some _ _ e)) ∙ same_message c.in-Some.field-0
 
 pub returns-in-None : goal.returns-in-None

@@ -13,7 +13,8 @@ returns-in_err-put_results g c =
       ready = rw p.1 tt;
       ok = rw p.1 (λ f h x. tt);
       moments = λ f h x.
-          changes_weaker g.D.Sectors.history c.args.drive.now.disk c.put_results.new.drive.disk _ _ _ _ (omega arith) (λ i s. s) (c.put_results.ensures.moments f h x);
+          changes_weaker g.D.Sectors.history c.args.drive.now.disk c.put_results.new.drive.disk _ _ _ _ (omega arith)
+          (λ i s. s) (c.put_results.ensures.moments f h x);
       failures = rw p.1 c.in_err-put_results.ensures.failures;
       dies = rw p.1 (λ is. c.in_err-put_results.ensures.dies refl);
     }
@@ -33,11 +34,15 @@ returns g c = record {
   ready = c.put_answer.ensures.ready;
   ok = λ f h x.
       let r = c.in_ok-put_results.ensures.ok f h x in
-      completing-ok f c.args.till c.args.card.now x _ r _ c.requires.text _ c.put_answer.result (c.put_answer.ensures.ok _ r.has);
+      completing-ok f c.args.till c.args.card.now x _ r _ c.requires.text _ c.put_answer.result
+      (c.put_answer.ensures.ok _ r.has);
   moments = λ f h x.
       let r = c.in_ok-put_results.ensures.ok f h x in
       completing-moments f c.args.till c.args.card.now x _ r _ c.requires.text
-      g.D.Sectors.history c.args.drive.now.disk c.put_results.new.drive.disk c.put_answer.new.drive.disk _ (c.put_results.ensures.moments f h x) (c.put_answer.ensures.moments _ r.has);
-  failures = told-after g.D.Sectors.history c.args.drive.now.disk c.put_results.new.drive.disk c.put_answer.new.drive.disk c.put_answer.result c.in_ok-put_results.ensures.failures c.put_answer.ensures.failures;
+      g.D.Sectors.history c.args.drive.now.disk c.put_results.new.drive.disk c.put_answer.new.drive.disk _
+      (c.put_results.ensures.moments f h x) (c.put_answer.ensures.moments _ r.has);
+  failures = told-after g.D.Sectors.history c.args.drive.now.disk c.put_results.new.drive.disk
+      c.put_answer.new.drive.disk c.put_answer.result c.in_ok-put_results.ensures.failures
+      c.put_answer.ensures.failures;
   dies = c.put_answer.ensures.dies;
 }

@@ -10,14 +10,18 @@ use Rattle.host_session.proofs.completing.put_quantity.Goals as goal
 
 pub returns-clause-ok : goal.returns-clause-ok
 returns-clause-ok g c = λ f h.
-    subst (λ (t : List ℕ). OnOk c.put_card.result (HasCard f c.args.item t (g.D.Sectors.history.image c.put_card.new.drive.disk)))
-    (c.print.ensures ∙ ap stock_text (some-of _ c.new.result c.unwrap-card.result c.unwrap-card.ensures c.new.ensures.some))
+    subst (λ (t : List ℕ). OnOk c.put_card.result
+    (HasCard f c.args.item t (g.D.Sectors.history.image c.put_card.new.drive.disk)))
+    (c.print.ensures
+    ∙ ap stock_text (some-of _ c.new.result c.unwrap-card.result c.unwrap-card.ensures c.new.ensures.some))
     (c.put_card.ensures.ok f h)
 
 pub returns-clause-moments : goal.returns-clause-moments
 returns-clause-moments g c = λ f h.
-    subst (λ (t : List ℕ). Changes g.D.Sectors.history c.args.drive.now.disk c.put_card.new.drive.disk (touched 18 c.args.item 1) (IsPuttingCard f c.args.item t))
-    (c.print.ensures ∙ ap stock_text (some-of _ c.new.result c.unwrap-card.result c.unwrap-card.ensures c.new.ensures.some))
+    subst (λ (t : List ℕ). Changes g.D.Sectors.history c.args.drive.now.disk c.put_card.new.drive.disk
+    (touched 18 c.args.item 1) (IsPuttingCard f c.args.item t))
+    (c.print.ensures
+    ∙ ap stock_text (some-of _ c.new.result c.unwrap-card.result c.unwrap-card.ensures c.new.ensures.some))
     (c.put_card.ensures.moments f h)
 
 pub put_card-requires-clause-ready : goal.put_card-requires-clause-ready

@@ -1,18 +1,22 @@
 -- One card or two; whatever their records held, the open intent has their quantities already.
 use Rattle.std.proofs.Common.{refl}
 use Rattle.std.proofs.lemmas.Result.{err_from_is_err_and}
-use Rattle.host_session.proofs.Completions.{done-fits, done-moments, done-of, done-ok, done-there, intent-fits, moved-fits, moved-fits', moved-half, moved-moments, moved-of, moved-ok, moved-there, moved-there', none-in, one-in, some-results, two-in}
+use Rattle.host_session.proofs.Completions.{done-fits, done-moments, done-of, done-ok, done-there, intent-fits}
+use Rattle.host_session.proofs.Completions.{moved-fits, moved-fits', moved-half, moved-moments, moved-of, moved-ok}
+use Rattle.host_session.proofs.Completions.{moved-there, moved-there', none-in, one-in, some-results, two-in}
 use Rattle.host_session.proofs.Selection.{told-after}
 use Rattle.host_session.proofs.completing.put_results.Goals as goal
 
 pub new_quantities-new-requires-clause-fits : goal.new_quantities-new-requires-clause-fits
-new_quantities-new-requires-clause-fits g c = let (f, h, x) = c.requires.intent in intent-fits f c.args.till c.args.card.now x
+new_quantities-new-requires-clause-fits g c = let (f, h, x) = c.requires.intent in
+    intent-fits f c.args.till c.args.card.now x
 
 pub returns-in_default : goal.returns-in_default
 returns-in_default g c =
     let (f, h, x) = c.requires.intent in
     absurd (some-results f c.args.till c.args.card.now x
-    (none-in c.new_quantities-new.result _ c.new_quantities-new.ensures.value c.in_default.is c.new_quantities-new.ensures.order))
+    (none-in c.new_quantities-new.result _ c.new_quantities-new.ensures.value c.in_default.is
+    c.new_quantities-new.ensures.order))
 
 pub put_quantity-requires-clause-there : goal.put_quantity-requires-clause-there
 put_quantity-requires-clause-there g c =
@@ -34,7 +38,8 @@ returns-in_default-second g c =
     (one-in c.new_quantities-new.result _ c.new_quantities-new.ensures.value _ c.in-Some.is c.in_default-second.is) in
     record {
       ready = c.put_quantity.ensures.ready;
-      ok = λ f h x. done-ok f c.args.till c.args.card.now x c.in-Some.item c.in-Some.quantity at is _ c.put_quantity.result (c.put_quantity.ensures.ok f h);
+      ok = λ f h x. done-ok f c.args.till c.args.card.now x c.in-Some.item c.in-Some.quantity at is _
+          c.put_quantity.result (c.put_quantity.ensures.ok f h);
       moments = λ f h x. done-moments f c.args.till c.args.card.now x c.in-Some.item c.in-Some.quantity at is
           g.D.Sectors.history c.args.drive.now.disk c.put_quantity.new.drive.disk (c.put_quantity.ensures.moments f h);
       failures = c.put_quantity.ensures.failures;
@@ -44,27 +49,37 @@ returns-in_default-second g c =
 pub put_quantity-requires-2-clause-there : goal.put_quantity-requires-2-clause-there
 put_quantity-requires-2-clause-there g c =
     let (f, h, x) = c.requires.intent in
-    let (at, to, is) = moved-of c.args.card.now.newest.body c.in-Some.item c.in-Some.quantity c.in-Some-second.to c.in-Some-second.to_quantity c.args.card.now.newest.answer
-    (two-in c.new_quantities-new.result _ c.new_quantities-new.ensures.value _ _ c.in-Some.is c.in-Some-second.is) in
-    (f, h, moved-there f c.args.till c.args.card.now x c.in-Some.item c.in-Some.quantity c.in-Some-second.to c.in-Some-second.to_quantity at to is)
+    let (at, to, is) = moved-of c.args.card.now.newest.body c.in-Some.item c.in-Some.quantity c.in-Some-second.to
+    c.in-Some-second.to_quantity c.args.card.now.newest.answer
+    (two-in c.new_quantities-new.result _ c.new_quantities-new.ensures.value _ _ c.in-Some.is c.in-Some-second.is) in (
+      f,
+      h,
+      moved-there f c.args.till c.args.card.now x c.in-Some.item c.in-Some.quantity c.in-Some-second.to
+          c.in-Some-second.to_quantity at to is,
+    )
 
 pub put_quantity-requires-2-clause-fits : goal.put_quantity-requires-2-clause-fits
 put_quantity-requires-2-clause-fits g c =
     let (f, h, x) = c.requires.intent in
-    let (at, to, is) = moved-of c.args.card.now.newest.body c.in-Some.item c.in-Some.quantity c.in-Some-second.to c.in-Some-second.to_quantity c.args.card.now.newest.answer
+    let (at, to, is) = moved-of c.args.card.now.newest.body c.in-Some.item c.in-Some.quantity c.in-Some-second.to
+    c.in-Some-second.to_quantity c.args.card.now.newest.answer
     (two-in c.new_quantities-new.result _ c.new_quantities-new.ensures.value _ _ c.in-Some.is c.in-Some-second.is) in
-    moved-fits f c.args.till c.args.card.now x c.in-Some.item c.in-Some.quantity c.in-Some-second.to c.in-Some-second.to_quantity at to is
+    moved-fits f c.args.till c.args.card.now x c.in-Some.item c.in-Some.quantity c.in-Some-second.to
+    c.in-Some-second.to_quantity at to is
 
 pub returns-in_err-put_quantity : goal.returns-in_err-put_quantity
 returns-in_err-put_quantity g c =
     let p = err_from_is_err_and c.from_residual.result c.from_residual.ensures.1 in
-    let (at, to, is) = moved-of c.args.card.now.newest.body c.in-Some.item c.in-Some.quantity c.in-Some-second.to c.in-Some-second.to_quantity c.args.card.now.newest.answer
+    let (at, to, is) = moved-of c.args.card.now.newest.body c.in-Some.item c.in-Some.quantity c.in-Some-second.to
+    c.in-Some-second.to_quantity c.args.card.now.newest.answer
     (two-in c.new_quantities-new.result _ c.new_quantities-new.ensures.value _ _ c.in-Some.is c.in-Some-second.is) in
     record {
       ready = rw p.1 tt;
       ok = rw p.1 (λ f h x. tt);
-      moments = λ f h x. moved-half f c.args.till c.args.card.now x c.in-Some.item c.in-Some.quantity c.in-Some-second.to c.in-Some-second.to_quantity at to is
-          g.D.Sectors.history c.args.drive.now.disk c.put_quantity-2.new.drive.disk (c.put_quantity-2.ensures.moments f h);
+      moments = λ f h x. moved-half f c.args.till c.args.card.now x c.in-Some.item c.in-Some.quantity
+          c.in-Some-second.to c.in-Some-second.to_quantity at to is
+          g.D.Sectors.history c.args.drive.now.disk c.put_quantity-2.new.drive.disk
+          (c.put_quantity-2.ensures.moments f h);
       failures = rw p.1 c.in_err-put_quantity.ensures.failures;
       dies = rw p.1 (λ is. c.in_err-put_quantity.ensures.dies refl);
     }
@@ -72,33 +87,45 @@ returns-in_err-put_quantity g c =
 pub put_quantity-requires-3-clause-there : goal.put_quantity-requires-3-clause-there
 put_quantity-requires-3-clause-there g c =
     let (f, h, x) = c.requires.intent in
-    let (at, to, is) = moved-of c.args.card.now.newest.body c.in-Some.item c.in-Some.quantity c.in-Some-second.to c.in-Some-second.to_quantity c.args.card.now.newest.answer
+    let (at, to, is) = moved-of c.args.card.now.newest.body c.in-Some.item c.in-Some.quantity c.in-Some-second.to
+    c.in-Some-second.to_quantity c.args.card.now.newest.answer
     (two-in c.new_quantities-new.result _ c.new_quantities-new.ensures.value _ _ c.in-Some.is c.in-Some-second.is) in
-    let (b, has) = c.in_ok-put_quantity.ensures.ok f h in
-    (_, has, moved-there' f c.args.till c.args.card.now x c.in-Some.item c.in-Some.quantity c.in-Some-second.to c.in-Some-second.to_quantity at to is)
+    let (b, has) = c.in_ok-put_quantity.ensures.ok f h in (
+      _,
+      has,
+      moved-there' f c.args.till c.args.card.now x c.in-Some.item c.in-Some.quantity c.in-Some-second.to
+          c.in-Some-second.to_quantity at to is,
+    )
 
 pub put_quantity-requires-3-clause-fits : goal.put_quantity-requires-3-clause-fits
 put_quantity-requires-3-clause-fits g c =
     let (f, h, x) = c.requires.intent in
-    let (at, to, is) = moved-of c.args.card.now.newest.body c.in-Some.item c.in-Some.quantity c.in-Some-second.to c.in-Some-second.to_quantity c.args.card.now.newest.answer
+    let (at, to, is) = moved-of c.args.card.now.newest.body c.in-Some.item c.in-Some.quantity c.in-Some-second.to
+    c.in-Some-second.to_quantity c.args.card.now.newest.answer
     (two-in c.new_quantities-new.result _ c.new_quantities-new.ensures.value _ _ c.in-Some.is c.in-Some-second.is) in
-    moved-fits' f c.args.till c.args.card.now x c.in-Some.item c.in-Some.quantity c.in-Some-second.to c.in-Some-second.to_quantity at to is
+    moved-fits' f c.args.till c.args.card.now x c.in-Some.item c.in-Some.quantity c.in-Some-second.to
+    c.in-Some-second.to_quantity at to is
 
 pub returns : goal.returns
 returns g c =
-    let (at, to, is) = moved-of c.args.card.now.newest.body c.in-Some.item c.in-Some.quantity c.in-Some-second.to c.in-Some-second.to_quantity c.args.card.now.newest.answer
+    let (at, to, is) = moved-of c.args.card.now.newest.body c.in-Some.item c.in-Some.quantity c.in-Some-second.to
+    c.in-Some-second.to_quantity c.args.card.now.newest.answer
     (two-in c.new_quantities-new.result _ c.new_quantities-new.ensures.value _ _ c.in-Some.is c.in-Some-second.is) in
     record {
       ready = c.put_quantity-3.ensures.ready;
       ok = λ f h x.
           let (b, has) = c.in_ok-put_quantity.ensures.ok f h in
-          moved-ok f c.args.till c.args.card.now x c.in-Some.item c.in-Some.quantity c.in-Some-second.to c.in-Some-second.to_quantity at to is
+          moved-ok f c.args.till c.args.card.now x c.in-Some.item c.in-Some.quantity c.in-Some-second.to
+          c.in-Some-second.to_quantity at to is
           b _ c.put_quantity-3.result (c.put_quantity-3.ensures.ok _ has);
       moments = λ f h x.
           let (b, has) = c.in_ok-put_quantity.ensures.ok f h in
-          moved-moments f c.args.till c.args.card.now x c.in-Some.item c.in-Some.quantity c.in-Some-second.to c.in-Some-second.to_quantity at to is
+          moved-moments f c.args.till c.args.card.now x c.in-Some.item c.in-Some.quantity c.in-Some-second.to
+          c.in-Some-second.to_quantity at to is
           g.D.Sectors.history c.args.drive.now.disk c.put_quantity-2.new.drive.disk c.put_quantity-3.new.drive.disk b
           (c.put_quantity-2.ensures.moments f h) (c.put_quantity-3.ensures.moments _ has);
-      failures = told-after g.D.Sectors.history c.args.drive.now.disk c.put_quantity-2.new.drive.disk c.put_quantity-3.new.drive.disk c.put_quantity-3.result c.in_ok-put_quantity.ensures.failures c.put_quantity-3.ensures.failures;
+      failures = told-after g.D.Sectors.history c.args.drive.now.disk c.put_quantity-2.new.drive.disk
+          c.put_quantity-3.new.drive.disk c.put_quantity-3.result c.in_ok-put_quantity.ensures.failures
+          c.put_quantity-3.ensures.failures;
       dies = c.put_quantity-3.ensures.dies;
     }

@@ -25,7 +25,8 @@ returns-in-Ok-clause-done g c = λ s settled alive.
     let m = cut_at c.args.message.now c.args.cut.now.after in (
       ok.3,
       event_then h s m _ _ _ (Leaves h s c.cut_message-cut_disk.result) (GoesOn h s m Cut c.in-Ok.session.disk) x
-          (then h _ _ _ (λ i. IsShop i t) listed last.held) (omega (arith, c.cut_openings-disk.ensures.later t x.ends, c.in-Ok.ensures.failures))
+          (then h _ _ _ (λ i. IsShop i t) listed last.held)
+          (omega (arith, c.cut_openings-disk.ensures.later t x.ends, c.in-Ok.ensures.failures))
           (λ asks. held_on h _ _ _
           (held_on h _ _ _ (x.quiet asks)
           (λ same. c.cut_openings-disk.ensures.quiet s (subst (λ i. IsSettled i s) (sym same) settled)))
@@ -47,7 +48,9 @@ returns-in-Err-clause-stopped g c = λ s settled alive.
     let last = c.in-Err.ensures.moments t there in
     let held = then h _ _ _ (λ i. IsShop i t) listed last.held in
     let m = cut_at c.args.message.now c.args.cut.now.after in
-    let failed : Failed h c.cut_openings-disk.result c.in-Err.disk = ⊎_elim (λ f. f.1) (λ f. absurd (refused_none _ _ t c.in-Err.field-0-0 c.in-Err.ensures.err f.0 there)) c.in-Err.ensures.failures in
+    let failed : Failed h c.cut_openings-disk.result c.in-Err.disk =
+    ⊎_elim (λ f. f.1) (λ f. absurd (refused_none _ _ t c.in-Err.field-0-0 c.in-Err.ensures.err f.0 there))
+    c.in-Err.ensures.failures in
     event_failed h s m _ _ _ _ (Leaves h s c.cut_message-cut_disk.result) (EndsFailed h s m Cut c.in-Err.disk) x
     held (c.cut_openings-disk.ensures.later t x.ends) failed
     (λ asks. held_on h _ _ _

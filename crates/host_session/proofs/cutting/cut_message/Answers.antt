@@ -6,10 +6,12 @@ use Rattle.host_session.proofs.Cuts.{cut_writes, message_cut}
 use Rattle.host_session.proofs.cutting.cut_message.Goals as goal
 
 pub returns-clause-writes : goal.returns-clause-writes
-returns-clause-writes g c = λ s settled. cut_writes g.D.Sectors.history c.args.after 3618 c.args.session.disk c.into_inner.result
+returns-clause-writes g c = λ s settled. cut_writes g.D.Sectors.history c.args.after 3618 c.args.session.disk
+    c.into_inner.result
     c.fused-cut.result.disk c.handle.new.self.disk (IsBeforeOrAfter s c.args.message.now)
     c.fused-cut.ensures.disk (c.into_inner.ensures ∙ ap (λ f. f.disk) c.close.ensures) c.fused-cut.ensures.limit
-    (c.handle.ensures.moments s (subst (λ d. IsShop (g.D.Sectors.history.image d) s) (sym c.fused-cut.ensures.disk) settled.shop))
+    (c.handle.ensures.moments s (subst (λ d. IsShop (g.D.Sectors.history.image d) s) (sym c.fused-cut.ensures.disk)
+    settled.shop))
 
 pub returns-clause-event : goal.returns-clause-event
 returns-clause-event g c = λ s settled alive.

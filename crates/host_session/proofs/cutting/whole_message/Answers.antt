@@ -21,7 +21,8 @@ pub returns-clause-stopped : goal.returns-clause-stopped
 returns-clause-stopped g c = λ s settled alive is.
     let h = g.D.Sectors.history in
     ⊎_elim
-    (λ f. told_media h s (uncut c.args.message.now) _ _ c.handle.result refl (c.handle.ensures.moments s settled.shop).held
+    (λ f. told_media h s (uncut c.args.message.now) _ _ c.handle.result refl
+    (c.handle.ensures.moments s settled.shop).held
     (λ asks. ap (λ v. v.disk) (c.handle.ensures.quiet s settled.shop alive asks).1)
     (⊎_elim (λ dead. absurd (let e = sym dead ∙ alive in cc)) (λ x. x) f.2) (c.handle.ensures.media is) is)
     (λ f. absurd (f.0 is))

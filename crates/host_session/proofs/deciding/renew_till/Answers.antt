@@ -7,4 +7,5 @@ use Rattle.host_session.proofs.deciding.renew_till.Goals as goal
 pub returns : goal.returns
 returns c =
     ap (λ (n : ℕ). nth (set c.args.requests.now (n - 1) (Some c.args.card))) c.from.ensures
-    ∙ nth-set c.args.requests.now c.args.till (Some c.args.card) c.requires.low (omega (arith, c.requires.high, c.told-requests))
+    ∙ nth-set c.args.requests.now c.args.till (Some c.args.card) c.requires.low
+    (omega (arith, c.requires.high, c.told-requests))

@@ -16,7 +16,8 @@ returns-then-not-pending g c = record {
   ok = c.put_refusal.ensures.ok;
   moments = λ f h k.
       changes_weaker g.D.Sectors.history c.args.drive.now.disk c.put_refusal.new.drive.disk 1 _ _ _
-      (refused-writes f c.args.request.now c.args.card.now k (sym c.pending.ensures ∙ c.if-not-pending.true) h.stock_file) (λ i x. x) (c.put_refusal.ensures.moments f h k);
+      (refused-writes f c.args.request.now c.args.card.now k (sym c.pending.ensures ∙ c.if-not-pending.true)
+      h.stock_file) (λ i x. x) (c.put_refusal.ensures.moments f h k);
   counted = λ _. c.put_refusal.ensures.counted;
   refused = λ _. c.put_refusal.ensures.counted;
   failures = c.put_refusal.ensures.failures;
@@ -26,7 +27,12 @@ returns-then-not-pending g c = record {
 pub put_first_set-requires : goal.put_first_set-requires
 put_first_set-requires g c =
     let (f, h, k, e) = c.requires.keeping in
-    record { ready = c.requires.ready; keeping = (f, h, k, sym e ∙ c.if-has_no_card.true); intent = sym c.pending.ensures ∙ c.if-not-pending.false }
+    record {
+      ready = c.requires.ready;
+      keeping = (f, h, k, sym e ∙ c.if-has_no_card.true);
+      intent =
+          sym c.pending.ensures ∙ c.if-not-pending.false;
+    }
 
 pub returns-then-has_no_card : goal.returns-then-has_no_card
 returns-then-has_no_card g c = record {
@@ -34,7 +40,8 @@ returns-then-has_no_card g c = record {
   ok = c.put_first_set.ensures.ok;
   moments = λ f h k.
       changes_weaker g.D.Sectors.history c.args.drive.now.disk c.put_first_set.new.drive.disk _ _ _ _
-      (intent-writes f c.args.request.now c.args.card.now k (sym c.pending.ensures ∙ c.if-not-pending.false) h.stock_file) (λ i x. x) (c.put_first_set.ensures.moments f h k);
+      (intent-writes f c.args.request.now c.args.card.now k (sym c.pending.ensures ∙ c.if-not-pending.false)
+      h.stock_file) (λ i x. x) (c.put_first_set.ensures.moments f h k);
   counted = λ old. absurd (false≢true (sym old ∙ c.if-has_no_card.true));
   refused = λ no. absurd (false≢true (sym no ∙ sym c.pending.ensures ∙ c.if-not-pending.false));
   failures = c.put_first_set.ensures.failures;
@@ -46,7 +53,13 @@ put_intent-requires g c =
     let (f, h, k, e) = c.requires.keeping in
     record {
       ready = c.requires.ready;
-      keeping = (f, h, k, known-items f c.args.request.now c.args.card.now k (none-or _ (sym e ∙ c.if-has_no_card.false)));
+      keeping = (
+        f,
+        h,
+        k,
+        known-items f c.args.request.now c.args.card.now k
+            (none-or _ (sym e ∙ c.if-has_no_card.false)),
+      );
       intent = sym c.pending.ensures ∙ c.if-not-pending.false;
     }
 
@@ -56,7 +69,11 @@ returns g c = record {
   ok = c.put_intent.ensures.ok;
   moments = λ f h k.
       changes_weaker g.D.Sectors.history c.args.drive.now.disk c.put_intent.new.drive.disk _ _ _ _
-      (omega (arith, intent-writes f c.args.request.now c.args.card.now k (sym c.pending.ensures ∙ c.if-not-pending.false) h.stock_file)) (λ i x. x) (c.put_intent.ensures.moments f h k);
+      (omega (
+        arith,
+        intent-writes f c.args.request.now c.args.card.now k (sym c.pending.ensures
+            ∙ c.if-not-pending.false) h.stock_file,
+      )) (λ i x. x) (c.put_intent.ensures.moments f h k);
   counted = λ _. c.put_intent.ensures.counted;
   refused = λ no. absurd (false≢true (sym no ∙ sym c.pending.ensures ∙ c.if-not-pending.false));
   failures = c.put_intent.ensures.failures;

@@ -1,7 +1,8 @@
 -- While STOCK grows the shop is the one before the request; from then on it is as for a card that is there.
 use Rattle.std.proofs.Common.{arith, ap, refl}
 use Rattle.host_session.proofs.GrownStock.{grown-long}
-use Rattle.host_session.proofs.Keepings.{first-moments, first-set, first-settled, grown-items, growing-either, keeping-grown}
+use Rattle.host_session.proofs.Keepings.{first-moments, first-set, first-settled, grown-items, growing-either}
+use Rattle.host_session.proofs.Keepings.{keeping-grown}
 use Rattle.rel_records.specs.Growth.{growth_writes}
 use Rattle.std.proofs.lemmas.Result.{err_from_is_err_and}
 use Rattle.host_session.proofs.Selection.{told-after}
@@ -20,7 +21,8 @@ put_intent-requires-clause-keeping g c =
       _,
       has,
       keeping-grown f c.args.request.now c.args.card.now k m b,
-      grown-items f c.args.request.now c.args.card.now k m b (omega (arith, grown-long f m b c.item.result far, c.item.ensures.value)),
+      grown-items f c.args.request.now c.args.card.now k m b
+          (omega (arith, grown-long f m b c.item.result far, c.item.ensures.value)),
     )
 
 pub returns-in_err-grow_stock : goal.returns-in_err-grow_stock
@@ -30,7 +32,8 @@ returns-in_err-grow_stock g c =
       ready = rw p.1 tt;
       ok = rw p.1 (λ f h k. tt);
       moments = λ f h k.
-          growing-either f c.args.request.now c.args.card.now k g.D.Sectors.history c.args.drive.now.disk c.grow_stock.new.drive.disk _ _
+          growing-either f c.args.request.now c.args.card.now k g.D.Sectors.history c.args.drive.now.disk
+          c.grow_stock.new.drive.disk _ _
           (omega (arith, ap (growth_writes h.stock_file) c.item.ensures.value)) (c.grow_stock.ensures.moments f h);
       failures = rw p.1 c.in_err-grow_stock.ensures.failures;
       dies = rw p.1 (λ is. c.in_err-grow_stock.ensures.dies refl);
@@ -41,13 +44,17 @@ returns g c = record {
   ready = c.put_intent.ensures.ready;
   ok = λ f h k.
       let (m, b, has, far) = c.in_ok-grow_stock.ensures.ok f h in
-      first-settled f c.args.request.now c.args.card.now k g.D.Sectors.history m b c.put_intent.new.drive.disk c.put_intent.result
+      first-settled f c.args.request.now c.args.card.now k g.D.Sectors.history m b c.put_intent.new.drive.disk
+      c.put_intent.result
       (c.put_intent.ensures.ok _ has (keeping-grown f c.args.request.now c.args.card.now k m b));
   moments = λ f h k.
       let (m, b, has, far) = c.in_ok-grow_stock.ensures.ok f h in
-      let w = first-moments f c.args.request.now c.args.card.now k g.D.Sectors.history m b c.args.drive.now.disk c.grow_stock.new.drive.disk c.put_intent.new.drive.disk _ _
-      (c.grow_stock.ensures.moments f h) (c.put_intent.ensures.moments _ has (keeping-grown f c.args.request.now c.args.card.now k m b)) in
+      let w = first-moments f c.args.request.now c.args.card.now k g.D.Sectors.history m b c.args.drive.now.disk
+      c.grow_stock.new.drive.disk c.put_intent.new.drive.disk _ _
+      (c.grow_stock.ensures.moments f h)
+      (c.put_intent.ensures.moments _ has (keeping-grown f c.args.request.now c.args.card.now k m b)) in
       record { held = w.held; writes = omega (arith, w.writes, ap (growth_writes h.stock_file) c.item.ensures.value) };
-  failures = told-after g.D.Sectors.history c.args.drive.now.disk c.grow_stock.new.drive.disk c.put_intent.new.drive.disk c.put_intent.result c.in_ok-grow_stock.ensures.failures c.put_intent.ensures.failures;
+  failures = told-after g.D.Sectors.history c.args.drive.now.disk c.grow_stock.new.drive.disk
+      c.put_intent.new.drive.disk c.put_intent.result c.in_ok-grow_stock.ensures.failures c.put_intent.ensures.failures;
   dies = c.put_intent.ensures.dies;
 }

@@ -1,6 +1,7 @@
 -- The intent, whose record is written at once, and its completion, during which the shop is the one after the request.
 use Rattle.std.proofs.Common.{arith, refl}
-use Rattle.host_session.proofs.Keepings.{answer-named, intent-counted, intent-moments, intent-settled, items-for, named-intent, open-items, put-counted, put-moments}
+use Rattle.host_session.proofs.Keepings.{answer-named, intent-counted, intent-moments, intent-settled, items-for}
+use Rattle.host_session.proofs.Keepings.{named-intent, open-items, put-counted, put-moments}
 use Rattle.std.proofs.lemmas.Result.{err_from_is_err_and}
 use Rattle.host_session.proofs.Selection.{told-after}
 use Rattle.host_session.proofs.doing.put_intent.Goals as goal
@@ -9,8 +10,10 @@ pub complete_with-requires-clause-intent : goal.complete_with-requires-clause-in
 complete_with-requires-clause-intent g c =
     let (f, h, k, all) = c.requires.keeping in (
       _,
-      answer-named f c.args.request.now c.args.card.now c.till-till.result c.print-text.result c.till-till.ensures.value c.print-text.ensures _ (c.in_ok-put_answer.ensures.ok f h),
-      named-intent f c.args.request.now c.args.card.now c.till-till.result c.print-text.result c.till-till.ensures.value c.print-text.ensures k g.D.Sectors.history c.requires.intent all,
+      answer-named f c.args.request.now c.args.card.now c.till-till.result c.print-text.result c.till-till.ensures.value
+          c.print-text.ensures _ (c.in_ok-put_answer.ensures.ok f h),
+      named-intent f c.args.request.now c.args.card.now c.till-till.result c.print-text.result c.till-till.ensures.value
+          c.print-text.ensures k g.D.Sectors.history c.requires.intent all,
     )
 
 pub complete_with-requires-clause-text : goal.complete_with-requires-clause-text
@@ -27,13 +30,18 @@ returns-in_err-put_answer g c =
       moments = λ f h k.
           let (f', h', k', all) = c.requires.keeping in
           let items = items-for (g.D.Sectors.history.image c.args.drive.now.disk) f' f c.args.card.now h' h all in
-          put-moments f c.args.request.now c.args.card.now c.till-till.result c.print-text.result c.till-till.ensures.value c.print-text.ensures k g.D.Sectors.history
-          (open-items f c.args.request.now c.args.card.now k c.requires.intent items) c.args.drive.now.disk c.put_answer.new.drive.disk 1 _ (omega arith) (c.put_answer.ensures.moments f h);
+          put-moments f c.args.request.now c.args.card.now c.till-till.result c.print-text.result
+          c.till-till.ensures.value c.print-text.ensures k g.D.Sectors.history
+          (open-items f c.args.request.now c.args.card.now k c.requires.intent items) c.args.drive.now.disk
+          c.put_answer.new.drive.disk 1 _ (omega arith) (c.put_answer.ensures.moments f h);
       counted = λ f h k.
           let (f', h', k', all) = c.requires.keeping in
           let items = items-for (g.D.Sectors.history.image c.args.drive.now.disk) f' f c.args.card.now h' h all in
-          put-counted f c.args.request.now c.args.card.now c.till-till.result c.print-text.result c.till-till.ensures.value c.print-text.ensures k g.D.Sectors.history
-          (open-items f c.args.request.now c.args.card.now k c.requires.intent items) c.args.drive.now.disk c.put_answer.new.drive.disk c.put_answer.result (c.put_answer.ensures.ok f h) c.put_answer.ensures.uncounted;
+          put-counted f c.args.request.now c.args.card.now c.till-till.result c.print-text.result
+          c.till-till.ensures.value c.print-text.ensures k g.D.Sectors.history
+          (open-items f c.args.request.now c.args.card.now k c.requires.intent items) c.args.drive.now.disk
+          c.put_answer.new.drive.disk c.put_answer.result (c.put_answer.ensures.ok f h)
+          c.put_answer.ensures.uncounted;
       failures = rw p.1 c.in_err-put_answer.ensures.failures;
       dies = rw p.1 (λ is. c.in_err-put_answer.ensures.dies refl);
     }
@@ -44,24 +52,40 @@ returns g c = record {
   ok = λ f h k.
       let (f', h', k', all) = c.requires.keeping in
       let items = items-for (g.D.Sectors.history.image c.args.drive.now.disk) f' f c.args.card.now h' h all in
-      let has = answer-named f c.args.request.now c.args.card.now c.till-till.result c.print-text.result c.till-till.ensures.value c.print-text.ensures _ (c.in_ok-put_answer.ensures.ok f h) in
-      intent-settled f c.args.request.now c.args.card.now c.till-till.result c.print-text.result c.till-till.ensures.value c.print-text.ensures k g.D.Sectors.history c.complete_with.new.drive c.complete_with.result
-      (c.complete_with.ensures.ok _ has (named-intent f c.args.request.now c.args.card.now c.till-till.result c.print-text.result c.till-till.ensures.value c.print-text.ensures k g.D.Sectors.history c.requires.intent items))
+      let has = answer-named f c.args.request.now c.args.card.now c.till-till.result c.print-text.result
+      c.till-till.ensures.value c.print-text.ensures _ (c.in_ok-put_answer.ensures.ok f h) in
+      intent-settled f c.args.request.now c.args.card.now c.till-till.result c.print-text.result
+      c.till-till.ensures.value c.print-text.ensures k g.D.Sectors.history c.complete_with.new.drive
+      c.complete_with.result
+      (c.complete_with.ensures.ok _ has (named-intent f c.args.request.now c.args.card.now c.till-till.result
+      c.print-text.result c.till-till.ensures.value c.print-text.ensures k g.D.Sectors.history c.requires.intent
+      items))
       c.complete_with.ensures.ready;
   moments = λ f h k.
       let (f', h', k', all) = c.requires.keeping in
       let items = items-for (g.D.Sectors.history.image c.args.drive.now.disk) f' f c.args.card.now h' h all in
-      let has = answer-named f c.args.request.now c.args.card.now c.till-till.result c.print-text.result c.till-till.ensures.value c.print-text.ensures _ (c.in_ok-put_answer.ensures.ok f h) in
-      intent-moments f c.args.request.now c.args.card.now c.till-till.result c.print-text.result c.till-till.ensures.value c.print-text.ensures k g.D.Sectors.history c.requires.intent items
-      c.args.drive.now.disk c.put_answer.new.drive.disk c.complete_with.new.drive.disk (c.put_answer.ensures.moments f h)
-      (c.complete_with.ensures.moments _ has (named-intent f c.args.request.now c.args.card.now c.till-till.result c.print-text.result c.till-till.ensures.value c.print-text.ensures k g.D.Sectors.history c.requires.intent items));
+      let has = answer-named f c.args.request.now c.args.card.now c.till-till.result c.print-text.result
+      c.till-till.ensures.value c.print-text.ensures _ (c.in_ok-put_answer.ensures.ok f h) in
+      intent-moments f c.args.request.now c.args.card.now c.till-till.result c.print-text.result
+      c.till-till.ensures.value c.print-text.ensures k g.D.Sectors.history c.requires.intent items
+      c.args.drive.now.disk c.put_answer.new.drive.disk c.complete_with.new.drive.disk
+      (c.put_answer.ensures.moments f h)
+      (c.complete_with.ensures.moments _ has (named-intent f c.args.request.now c.args.card.now c.till-till.result
+      c.print-text.result c.till-till.ensures.value c.print-text.ensures k g.D.Sectors.history c.requires.intent
+      items));
   counted = λ f h k.
       let (f', h', k', all) = c.requires.keeping in
       let items = items-for (g.D.Sectors.history.image c.args.drive.now.disk) f' f c.args.card.now h' h all in
-      let has = answer-named f c.args.request.now c.args.card.now c.till-till.result c.print-text.result c.till-till.ensures.value c.print-text.ensures _ (c.in_ok-put_answer.ensures.ok f h) in
-      intent-counted f c.args.request.now c.args.card.now c.till-till.result c.print-text.result c.till-till.ensures.value c.print-text.ensures k g.D.Sectors.history
+      let has = answer-named f c.args.request.now c.args.card.now c.till-till.result c.print-text.result
+      c.till-till.ensures.value c.print-text.ensures _ (c.in_ok-put_answer.ensures.ok f h) in
+      intent-counted f c.args.request.now c.args.card.now c.till-till.result c.print-text.result
+      c.till-till.ensures.value c.print-text.ensures k g.D.Sectors.history
       c.args.drive.now.disk c.put_answer.new.drive.disk c.complete_with.new.drive.disk _
-      (c.complete_with.ensures.moments _ has (named-intent f c.args.request.now c.args.card.now c.till-till.result c.print-text.result c.till-till.ensures.value c.print-text.ensures k g.D.Sectors.history c.requires.intent items));
-  failures = told-after g.D.Sectors.history c.args.drive.now.disk c.put_answer.new.drive.disk c.complete_with.new.drive.disk c.complete_with.result c.in_ok-put_answer.ensures.failures c.complete_with.ensures.failures;
+      (c.complete_with.ensures.moments _ has (named-intent f c.args.request.now c.args.card.now c.till-till.result
+      c.print-text.result c.till-till.ensures.value c.print-text.ensures k g.D.Sectors.history c.requires.intent
+      items));
+  failures = told-after g.D.Sectors.history c.args.drive.now.disk c.put_answer.new.drive.disk
+      c.complete_with.new.drive.disk c.complete_with.result c.in_ok-put_answer.ensures.failures
+      c.complete_with.ensures.failures;
   dies = c.complete_with.ensures.dies;
 }

@@ -11,4 +11,5 @@ pub last_card-requires : goal.last_card-requires
 last_card-requires c = let (l, told) = c.requires.told in omega (arith, c.outside-outside.ensures l told)
 
 pub returns : goal.returns
-returns c = λ l told. subst (IsTop l c.args.entry) (sym c.last_card.ensures) (top-of l c.args.entry c.outside-outside.result (c.outside-outside.ensures l told))
+returns c = λ l told. subst (IsTop l c.args.entry) (sym c.last_card.ensures)
+    (top-of l c.args.entry c.outside-outside.result (c.outside-outside.ensures l told))

@@ -1,5 +1,6 @@
 -- An item up to the top is in reach, and its growth isn't refused.
-use Rattle.host_session.proofs.GrownStock.{grown-moments, grown-ok, grown-part, ready-part, stock-reach, top-of, unread-moments}
+use Rattle.host_session.proofs.GrownStock.{grown-moments, grown-ok, grown-part, ready-part, stock-reach, top-of}
+use Rattle.host_session.proofs.GrownStock.{unread-moments}
 use Rattle.host_session.proofs.Selection.{told-after}
 use Rattle.std.proofs.Common.{refl}
 use Rattle.std.proofs.lemmas.Result.{err_from_is_err_and}
@@ -7,8 +8,13 @@ use Rattle.host_session.proofs.growing.grow_stock.Goals as goal
 
 pub select-requires-clause-reach : goal.select-requires-clause-reach
 select-requires-clause-reach g c =
-    let (f, h, low, le) = c.requires.fits in
-    (h.layout, h.stock_place, h.stock_file, stock-reach (g.D.Sectors.history.image c.args.drive.now.disk) f h c.args.item le low)
+    let (f, h, low, le) = c.requires.fits in (
+      h.layout,
+      h.stock_place,
+      h.stock_file,
+      stock-reach (g.D.Sectors.history.image c.args.drive.now.disk) f h
+          c.args.item le low,
+    )
 
 pub returns-in_err-select : goal.returns-in_err-select
 returns-in_err-select g c =
@@ -17,7 +23,8 @@ returns-in_err-select g c =
       ready = rw p.1 tt;
       ok = rw p.1 (λ f h. tt);
       moments = λ f h.
-          unread-moments g.D.Sectors.history c.args.drive.now.disk c.select.new.self.disk 2817 _ f h c.select.ensures.reads;
+          unread-moments g.D.Sectors.history c.args.drive.now.disk c.select.new.self.disk 2817 _ f h
+          c.select.ensures.reads;
       failures = rw p.1 c.in_err-select.ensures.failures;
       dies = rw p.1 (λ is. c.in_err-select.ensures.dies refl);
     }
@@ -27,15 +34,19 @@ returns g c = record {
   ready = let (f, h, low, le) = c.requires.fits in
       let S = g.D.Sectors.history in
       let reach = stock-reach (S.image c.args.drive.now.disk) f h c.args.item le low in
-      ready-part c.write.result _ _ (grown-ok S c.args.drive.now c.select.new.self c.write.new.self c.write.result f h c.args.item le c.requires.ready.clean
-      c.select.ensures.reads.image (c.in_ok-select.ensures.at h.layout h.stock_place h.stock_file reach) c.write.ensures.serves c.write.ensures.row);
+      ready-part c.write.result _ _ (grown-ok S c.args.drive.now c.select.new.self c.write.new.self c.write.result f h
+      c.args.item le c.requires.ready.clean
+      c.select.ensures.reads.image (c.in_ok-select.ensures.at h.layout h.stock_place h.stock_file reach)
+      c.write.ensures.serves c.write.ensures.row);
   ok = λ f h.
       let (k, other, low, le) = c.requires.fits in
       let S = g.D.Sectors.history in
       let top = top-of (S.image c.args.drive.now.disk) k f c.args.item other h le in
       let reach = stock-reach (S.image c.args.drive.now.disk) f h c.args.item top low in
-      grown-part c.write.result _ _ (grown-ok S c.args.drive.now c.select.new.self c.write.new.self c.write.result f h c.args.item top c.requires.ready.clean
-      c.select.ensures.reads.image (c.in_ok-select.ensures.at h.layout h.stock_place h.stock_file reach) c.write.ensures.serves c.write.ensures.row);
+      grown-part c.write.result _ _ (grown-ok S c.args.drive.now c.select.new.self c.write.new.self c.write.result f h
+      c.args.item top c.requires.ready.clean
+      c.select.ensures.reads.image (c.in_ok-select.ensures.at h.layout h.stock_place h.stock_file reach)
+      c.write.ensures.serves c.write.ensures.row);
   moments = λ f h.
       let (k, other, low, le) = c.requires.fits in
       let S = g.D.Sectors.history in
@@ -45,7 +56,8 @@ returns g c = record {
       (c.in_ok-select.ensures.at h.layout h.stock_place h.stock_file reach) c.write.ensures.moments;
   failures = let (f, h, low, le) = c.requires.fits in
       let reach = stock-reach (g.D.Sectors.history.image c.args.drive.now.disk) f h c.args.item le low in
-      told-after g.D.Sectors.history c.args.drive.now.disk c.select.new.self.disk c.write.new.self.disk c.write.result c.in_ok-select.ensures.failures
+      told-after g.D.Sectors.history c.args.drive.now.disk c.select.new.self.disk c.write.new.self.disk c.write.result
+      c.in_ok-select.ensures.failures
       (c.write.ensures.serves.failures (c.in_ok-select.ensures.at h.layout h.stock_place h.stock_file reach).alive);
   dies = c.write.ensures.serves.dies.1;
 }

@@ -6,8 +6,10 @@ use Rattle.host_session.proofs.intents.open_intent.Goals as goal
 pub returns-then-is_some-clause-err : goal.returns-then-is_some-clause-err
 returns-then-is_some-clause-err c = (
   refl,
-  among-two c.args.requests.now c.loop-place.place c.index-requests-place.result c.loop-place-test.true c.type_inv.requests
-      c.in-Some.card c.in-Some.is (sym c.pending.ensures ∙ c.if-pending.true) c.loop-place.found (sym c.is_some.ensures ∙ c.if-is_some.true) c.loop-place.invariant,
+  among-two c.args.requests.now c.loop-place.place c.index-requests-place.result c.loop-place-test.true
+      c.type_inv.requests
+      c.in-Some.card c.in-Some.is (sym c.pending.ensures ∙ c.if-pending.true) c.loop-place.found (sym c.is_some.ensures
+      ∙ c.if-is_some.true) c.loop-place.invariant,
 )
 
 pub returns-then-is_some-clause-ok : goal.returns-then-is_some-clause-ok

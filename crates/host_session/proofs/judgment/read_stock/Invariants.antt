@@ -13,5 +13,6 @@ invariant-loop-place g l =
       kept : IsKept (S.image l.initial.disk) l.files.stock l.last;
       failures : S.failures l.disk ≡ S.failures l.initial.disk;
       few : l.place ≤ 10160;
-      so_far : (f : Files) → AreFilesOf (S.image l.initial.disk) f l.files → HasJudgedTills f l.new → IsCountedTo f l.place l.cards;
+      so_far : (f : Files) → AreFilesOf (S.image l.initial.disk) f l.files → HasJudgedTills f l.new
+          → IsCountedTo f l.place l.cards;
     }

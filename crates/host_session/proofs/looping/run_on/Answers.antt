@@ -20,7 +20,8 @@ returns-in-Err g c = λ from w alive.
     let m = a.here c.loop-next.asks in
     fails h a o from x y c.loop-next.asks Cut c.loop-next.out c.tell.new.self c.tell.result c.tell.ensures
     (λ t settled. subst (λ n. IsEvent h t n x y (EndsFailed h t n Cut y))
-    (is_reset m c.message.result.now _ c.message.ensures (cut_is _ c.cut.result c.unwrap-cut.result _ c.unwrap-cut.ensures c.cut.ensures))
+    (is_reset m c.message.result.now _ c.message.ensures
+    (cut_is _ c.cut.result c.unwrap-cut.result _ c.unwrap-cut.ensures c.cut.ensures))
     (c.in-Err.ensures.stopped t settled before.0))
     (λ none. absurd (no_none _ _ (cut_is _ c.cut.result c.unwrap-cut.result _ c.unwrap-cut.ensures c.cut.ensures) none))
     before.1
@@ -37,13 +38,15 @@ returns-then-is_err g c = λ from w alive.
     let told = c.tell-in-loop-next in
     subst (λ d. EndsBy h a o from c.loop-next.asks told.new.self d faults.Output) (sym c.close.ensures)
     (breaks_off h a o from x y c.loop-next.asks Cut c.loop-next.out told.new.self (c.in-Ok.next.dead ≡ false)
-    (was_broken o c.loop-next.out told.new.self Cut (instant_of h y) told.result (sym c.is_err.ensures.value ∙ c.if-is_err.true)
+    (was_broken o c.loop-next.out told.new.self Cut (instant_of h y) told.result (sym c.is_err.ensures.value
+    ∙ c.if-is_err.true)
     (subst (λ d. IsTold o c.loop-next.out told.new.self Cut (instant_of h d) told.result) c.disk.ensures told.ensures))
     (λ t settled.
     let e = c.in-Ok.ensures.done t settled before.0 in (
       e.0,
       subst (λ n. IsEvent h t n x y (GoesOn h t n Cut y))
-          (is_reset m c.message.result.now _ c.message.ensures (cut_is _ c.cut.result c.unwrap-cut.result _ c.unwrap-cut.ensures c.cut.ensures)) e.1,
+          (is_reset m c.message.result.now _ c.message.ensures
+          (cut_is _ c.cut.result c.unwrap-cut.result _ c.unwrap-cut.ensures c.cut.ensures)) e.1,
     ))
     (λ none. absurd (no_none _ _ (cut_is _ c.cut.result c.unwrap-cut.result _ c.unwrap-cut.ensures c.cut.ensures) none))
     before.1)
@@ -61,19 +64,24 @@ loop-next-preserved g c =
       cut = (c.whole_messages.ensures.cut c.in-Cut.is).0;
       way = λ from w alive.
           let before = c.loop-next.invariant.way from w alive in
-          let come = goes_on h a o from x y c.loop-next.asks Cut c.loop-next.out told.new.self (c.in-Ok.next.dead ≡ false)
-          (was_told o c.loop-next.out told.new.self Cut (instant_of h y) told.result (c.is_err.ensures.negation ∙ ap not c.if-is_err.false)
-          (subst (λ d. IsTold o c.loop-next.out told.new.self Cut (instant_of h d) told.result) c.disk.ensures told.ensures))
+          let come = goes_on h a o from x y c.loop-next.asks Cut c.loop-next.out told.new.self
+          (c.in-Ok.next.dead ≡ false)
+          (was_told o c.loop-next.out told.new.self Cut (instant_of h y) told.result (c.is_err.ensures.negation
+          ∙ ap not c.if-is_err.false)
+          (subst (λ d. IsTold o c.loop-next.out told.new.self Cut (instant_of h d) told.result) c.disk.ensures
+          told.ensures))
           (λ t settled.
           let e = c.in-Ok.ensures.done t settled before.0 in (
             e.0,
             subst (λ n. IsEvent h t n x y (GoesOn h t n Cut y))
-                (is_reset m c.message.result.now _ c.message.ensures (cut_is _ c.cut.result c.unwrap-cut.result _ c.unwrap-cut.ensures c.cut.ensures)) e.1,
+                (is_reset m c.message.result.now _ c.message.ensures
+                (cut_is _ c.cut.result c.unwrap-cut.result _ c.unwrap-cut.ensures c.cut.ensures)) e.1,
           ))
           (λ none. absurd (no_none _ _
           (cut_is _ c.cut.result c.unwrap-cut.result _ c.unwrap-cut.ensures c.cut.ensures) none))
           before.1 in
-          subst (IsStretch h a o from c.whole_messages.new.session c.whole_messages.new.asks c.whole_messages.new.out) c.in-Cut.is
+          subst (IsStretch h a o from c.whole_messages.new.session c.whole_messages.new.asks c.whole_messages.new.out)
+          c.in-Cut.is
           (c.whole_messages.ensures.way from come.1 come.0);
     }
 
@@ -88,17 +96,21 @@ returns-in-Ended g c = λ from w alive.
     let m = a.here c.loop-next.asks in
     let told = c.tell-in-loop-next in
     let come = goes_on h a o from x y c.loop-next.asks Cut c.loop-next.out told.new.self (c.in-Ok.next.dead ≡ false)
-    (was_told o c.loop-next.out told.new.self Cut (instant_of h y) told.result (c.is_err.ensures.negation ∙ ap not c.if-is_err.false)
+    (was_told o c.loop-next.out told.new.self Cut (instant_of h y) told.result (c.is_err.ensures.negation
+    ∙ ap not c.if-is_err.false)
     (subst (λ d. IsTold o c.loop-next.out told.new.self Cut (instant_of h d) told.result) c.disk.ensures told.ensures))
     (λ t settled.
     let e = c.in-Ok.ensures.done t settled before.0 in (
       e.0,
       subst (λ n. IsEvent h t n x y (GoesOn h t n Cut y))
-          (is_reset m c.message.result.now _ c.message.ensures (cut_is _ c.cut.result c.unwrap-cut.result _ c.unwrap-cut.ensures c.cut.ensures)) e.1,
+          (is_reset m c.message.result.now _ c.message.ensures
+          (cut_is _ c.cut.result c.unwrap-cut.result _ c.unwrap-cut.ensures c.cut.ensures)) e.1,
     ))
     (λ none. absurd (no_none _ _ (cut_is _ c.cut.result c.unwrap-cut.result _ c.unwrap-cut.ensures c.cut.ensures) none))
     before.1 in
-    let stretch = subst (IsStretch h a o from c.whole_messages.new.session c.whole_messages.new.asks c.whole_messages.new.out) c.in-Ended.is
+    let stretch =
+    subst (IsStretch h a o from c.whole_messages.new.session c.whole_messages.new.asks c.whole_messages.new.out)
+    c.in-Ended.is
     (c.whole_messages.ensures.way from come.1 come.0) in
     subst (Ends h a o from c.whole_messages.new.asks c.whole_messages.new.out)
     (ap (λ d. with_disk d c.in-Ended.end) (sym c.close-in-Ended.ensures) ∙ sym c.ended.ensures) stretch

@@ -11,7 +11,8 @@ invariant-loop-next g l =
     let o = g.T.Tells.output in
     record {
       cut : IsSome (a.here l.asks).cut_after;
-      way : (from : Origin g.row.D.Denot g.row.A.Denot g.row.T.Denot) → HasComeBut h a o from l.fn.session.disk l.fn.asks l.fn.out
+      way : (from : Origin g.row.D.Denot g.row.A.Denot g.row.T.Denot)
+          → HasComeBut h a o from l.fn.session.disk l.fn.asks l.fn.out
           → l.fn.session.dead ≡ false → (l.session.dead ≡ false) × HasComeBut h a o from l.session.disk l.asks l.out;
     }
 

@@ -10,7 +10,8 @@ invariant-loop-asks g l =
     let o = g.T.Tells.output in
     record {
       fuel : a.fuel l.asks ≤ a.fuel l.fn.asks;
-      way : (from : Origin g.row.D.Denot g.row.A.Denot g.row.T.Denot) → HasCome h a o from l.fn.session.disk l.fn.asks l.fn.out → l.fn.session.dead ≡ false
+      way : (from : Origin g.row.D.Denot g.row.A.Denot g.row.T.Denot)
+          → HasCome h a o from l.fn.session.disk l.fn.asks l.fn.out → l.fn.session.dead ≡ false
           → (l.session.dead ≡ false) × HasCome h a o from l.session.disk l.asks l.out;
     }
 

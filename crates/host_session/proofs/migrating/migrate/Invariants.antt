@@ -12,6 +12,7 @@ invariant-loop-place g l =
       failures : S.failures l.drive.disk ≡ S.failures l.initial.drive.disk;
       few : l.place ≤ 64;
       so_far : (s : Shop) → HasClosedTable (S.image l.initial.drive.disk) s l.initial.requests
-          → HasNewTable (S.image l.drive.disk) s l.requests l.place × Changes S l.initial.drive.disk l.drive.disk l.place (λ i. IsShop i s);
+          → HasNewTable (S.image l.drive.disk) s l.requests l.place
+          × Changes S l.initial.drive.disk l.drive.disk l.place (λ i. IsShop i s);
       quiet : any_old l.initial.requests ≡ false → (l.drive ≡ l.initial.drive) × (l.requests ≡ l.initial.requests);
     }

@@ -15,7 +15,8 @@ use Rattle.host_session.proofs.playing.play.Goals as goal
 pub returns-in-Err-clause-moments : goal.returns-in-Err-clause-moments
 returns-in-Err-clause-moments g c = λ s shop.
     let h = g.D.Sectors.history in
-    held_none h s (map message_of c.args.events.now) c.args.disk c.args.disk (start h c.args.disk (λ i. IsShop i s) shop) (le_refl (h.failures c.args.disk))
+    held_none h s (map message_of c.args.events.now) c.args.disk c.args.disk
+    (start h c.args.disk (λ i. IsShop i s) shop) (le_refl (h.failures c.args.disk))
 
 pub returns-in-Err-clause-quiet : goal.returns-in-Err-clause-quiet
 returns-in-Err-clause-quiet g c = λ s shop _.
@@ -26,8 +27,10 @@ returns-in-Ok-run g c =
     let h = g.D.Sectors.history in
     let old = c.try_reserve.new.self in
     let new = c.run.new.out in
-    let k = subst (IsRun h of_events listed c.args.disk c.new-asks.result c.run.new.asks old new) c.in-Ok-run.is c.run.ensures in
-    let w = whole_run h c.args.disk c.args.events.now c.new-asks.result c.run.new.asks old new c.new-asks.ensures.events c.new-asks.ensures.none
+    let k = subst (IsRun h of_events listed c.args.disk c.new-asks.result c.run.new.asks old new) c.in-Ok-run.is
+    c.run.ensures in
+    let w = whole_run h c.args.disk c.args.events.now c.new-asks.result c.run.new.asks old new c.new-asks.ensures.events
+    c.new-asks.ensures.none
     (omega (arith, c.in-Ok.ensures.ok)) c.in-Ok-run.disk k in
     record {
       shop = k.shop.0;
@@ -49,9 +52,12 @@ returns-in-Err-run g c =
     let h = g.D.Sectors.history in
     let old = c.try_reserve.new.self in
     let new = c.run.new.out in
-    let k = subst (IsRun h of_events listed c.args.disk c.new-asks.result c.run.new.asks old new) c.in-Err-run.is c.run.ensures in
-    let e = subst (IsEventsEnd h c.args.disk c.in-Err-run.disk (map message_of c.args.events.now) old.items new.items) (sym c.fault_of.ensures)
-    (faulted h c.args.disk c.args.events.now c.new-asks.result c.run.new.asks old new c.new-asks.ensures.events c.new-asks.ensures.none
+    let k = subst (IsRun h of_events listed c.args.disk c.new-asks.result c.run.new.asks old new) c.in-Err-run.is
+    c.run.ensures in
+    let e = subst (IsEventsEnd h c.args.disk c.in-Err-run.disk (map message_of c.args.events.now) old.items new.items)
+    (sym c.fault_of.ensures)
+    (faulted h c.args.disk c.args.events.now c.new-asks.result c.run.new.asks old new c.new-asks.ensures.events
+    c.new-asks.ensures.none
     (omega (arith, c.in-Ok.ensures.ok)) c.in-Err-run.disk c.in-Err-run.fault k) in
     record {
       shop = tt;

@@ -16,7 +16,8 @@ loop-preserved g c =
     let bytes : List ℕ = c.args.bytes.now in
     let rest : List ℕ = drop c.loop.written bytes in
     let long = length-drop c.loop.written bytes in
-    let all : take (length bytes - c.loop.written) rest ≡ rest = take_all (length bytes - c.loop.written) rest (omega (arith, long, k.within)) in
+    let all : take (length bytes - c.loop.written) rest ≡ rest = take_all (length bytes - c.loop.written) rest
+    (omega (arith, long, k.within)) in
     elim c.match-write.branch [
       | in-Ok w ↦ record {
         within = omega (arith, k.within, w.in-Ok.ensures.bound, ap length all, long, w.written-is);
@@ -27,6 +28,7 @@ loop-preserved g c =
       }
       | in-Err+else-ne w ↦ record {
         within = omega (arith, k.within, w.written-is);
-        wrote = subst (λ n. Appends a d (take n bytes)) (sym w.written-is) (Appends-kept a b d (take c.loop.written bytes) k.wrote w.in-Err.ensures.bytes);
+        wrote = subst (λ n. Appends a d (take n bytes)) (sym w.written-is)
+            (Appends-kept a b d (take c.loop.written bytes) k.wrote w.in-Err.ensures.bytes);
       }
     ]

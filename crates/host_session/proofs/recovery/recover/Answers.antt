@@ -13,13 +13,18 @@ pub returns-in_default-clause-moments : goal.returns-in_default-clause-moments
 returns-in_default-clause-moments g c = λ s h is.
     let S = g.D.Sectors.history in
     let d = c.args.drive.now.disk in
-    changes_weaker S d d 0 5 (λ i. IsShop i s) (λ i. IsShop i s) (omega arith) (λ i x. x) (no_change S d (λ i. IsShop i s) h.shop)
+    changes_weaker S d d 0 5 (λ i. IsShop i s) (λ i. IsShop i s) (omega arith) (λ i x. x)
+    (no_change S d (λ i. IsShop i s) h.shop)
 
 pub complete-requires-clause-intent : goal.complete-requires-clause-intent
 complete-requires-clause-intent g c =
     let (s, h, is) = c.requires.table in
-    let only = subst (IsIntentOf c.args.requests.now) c.in-Some.is is in
-    (h.shop.files, h.shop.has, has-intent (g.D.Sectors.history.image c.args.drive.now.disk) s c.args.requests.now h c.in-Some.open only)
+    let only = subst (IsIntentOf c.args.requests.now) c.in-Some.is is in (
+      h.shop.files,
+      h.shop.has,
+      has-intent (g.D.Sectors.history.image c.args.drive.now.disk) s c.args.requests.now h
+          c.in-Some.open only,
+    )
 
 pub returns-in_err-complete-clause-moments : goal.returns-in_err-complete-clause-moments
 returns-in_err-complete-clause-moments g c = λ s h is.
@@ -33,7 +38,10 @@ pub answered-requires : goal.answered-requires
 answered-requires g c =
     let (s, h, is) = c.requires.table in
     let only = subst (IsIntentOf c.args.requests.now) c.in-Some.is is in
-    record { fits = intent-card (g.D.Sectors.history.image c.args.drive.now.disk) s c.args.requests.now h c.in-Some.open only }
+    record {
+      fits = intent-card (g.D.Sectors.history.image c.args.drive.now.disk) s c.args.requests.now h c.in-Some.open
+          only;
+    }
 
 pub returns-clause-ok : goal.returns-clause-ok
 returns-clause-ok g c = λ s h is.
@@ -42,9 +50,12 @@ returns-clause-ok g c = λ s h is.
     let new = S.image c.complete.new.drive.disk in
     let only = subst (IsIntentOf c.args.requests.now) c.in-Some.is is in
     let place : (c.from.result - 1) + 1 ≡ c.in-Some.open.till = omega (arith, c.from.ensures, only.low) in
-    let done = c.in_ok-complete.ensures.ok h.shop.files h.shop.has (has-intent img s c.args.requests.now h c.in-Some.open only) in
-    let table = completed-table img s c.args.requests.now h c.in-Some.open (c.from.result - 1) place c.told-requests only new done in
-    subst (λ o. HasClosedTable new s (set c.args.requests.now (c.from.result - 1) (Some o))) (sym c.answered.ensures) table
+    let done = c.in_ok-complete.ensures.ok h.shop.files h.shop.has
+    (has-intent img s c.args.requests.now h c.in-Some.open only) in
+    let table = completed-table img s c.args.requests.now h c.in-Some.open (c.from.result - 1) place c.told-requests
+    only new done in
+    subst (λ o. HasClosedTable new s (set c.args.requests.now (c.from.result - 1) (Some o))) (sym c.answered.ensures)
+    table
 
 pub returns-clause-moments : goal.returns-clause-moments
 returns-clause-moments g c = λ s h is.
@@ -77,7 +88,8 @@ pub returns-in_err-complete-clause-quiet : goal.returns-in_err-complete-clause-q
 returns-in_err-complete-clause-quiet g c = for-some _ c.args.intent.now c.in-Some.open c.in-Some.is
 
 pub returns-in_err-complete-clause-failures : goal.returns-in_err-complete-clause-failures
-returns-in_err-complete-clause-failures g c = tells-failed g.D.Sectors.history _ _ _ refl c.from_residual.result _ c.from_residual.ensures.1 c.in_err-complete.ensures.failures
+returns-in_err-complete-clause-failures g c = tells-failed g.D.Sectors.history _ _ _ refl c.from_residual.result _
+    c.from_residual.ensures.1 c.in_err-complete.ensures.failures
 
 pub returns-in_err-complete-clause-dies : goal.returns-in_err-complete-clause-dies
 returns-in_err-complete-clause-dies g c = λ failed. c.in_err-complete.ensures.dies refl

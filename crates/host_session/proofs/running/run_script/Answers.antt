@@ -27,7 +27,8 @@ returns-in-Some g c = record {
   device = λ s shop e. absurd (line-device c.in-Some.line e);
   moments = λ s shop.
       let h = g.D.Sectors.history in
-      held_none h s (messages_of (lines c.args.script.now)) c.args.disk c.args.disk (start h c.args.disk (λ i. IsShop i s) shop) (le_refl (h.failures c.args.disk));
+      held_none h s (messages_of (lines c.args.script.now)) c.args.disk c.args.disk
+      (start h c.args.disk (λ i. IsShop i s) shop) (le_refl (h.failures c.args.disk));
   quiet = λ s shop _. quiet_same g.D.Sectors.history s (messages_of (lines c.args.script.now)) c.args.disk shop;
   plays = λ shop never. inl (c.in-Some.line, refl);
   «open» = λ f e. absurd (line-open c.in-Some.line f e);
@@ -39,14 +40,19 @@ pub returns-in-Ok : goal.returns-in-Ok
 returns-in-Ok g c =
     let h = g.D.Sectors.history in
     let o = g.T.Tells.output in
-    played_out h o c.args.disk c.args.script.now c.new-asks.result c.run.new.asks c.args.out.now c.run.new.out c.new-asks.ensures (sym c.in_default.ensures)
-    c.in-Ok.disk (subst (IsRun h of_script o c.args.disk c.new-asks.result c.run.new.asks c.args.out.now c.run.new.out) c.in-Ok.is c.run.ensures)
+    played_out h o c.args.disk c.args.script.now c.new-asks.result c.run.new.asks c.args.out.now c.run.new.out
+    c.new-asks.ensures (sym c.in_default.ensures)
+    c.in-Ok.disk (subst (IsRun h of_script o c.args.disk c.new-asks.result c.run.new.asks c.args.out.now c.run.new.out)
+    c.in-Ok.is c.run.ensures)
 
 pub returns-in-Err : goal.returns-in-Err
 returns-in-Err g c =
     let h = g.D.Sectors.history in
     let o = g.T.Tells.output in
-    subst (λ f. IsScriptRun h o c.args.disk c.args.script.now c.args.out.now c.run.new.out (Err (f, c.in-Err.disk))) (sym c.fault_of.ensures)
-    (faulted h o c.args.disk c.args.script.now c.new-asks.result c.run.new.asks c.args.out.now c.run.new.out c.new-asks.ensures (sym c.in_default.ensures)
+    subst (λ f. IsScriptRun h o c.args.disk c.args.script.now c.args.out.now c.run.new.out (Err (f, c.in-Err.disk)))
+    (sym c.fault_of.ensures)
+    (faulted h o c.args.disk c.args.script.now c.new-asks.result c.run.new.asks c.args.out.now c.run.new.out
+    c.new-asks.ensures (sym c.in_default.ensures)
     c.in-Err.disk c.in-Err.fault
-    (subst (IsRun h of_script o c.args.disk c.new-asks.result c.run.new.asks c.args.out.now c.run.new.out) c.in-Err.is c.run.ensures))
+    (subst (IsRun h of_script o c.args.disk c.new-asks.result c.run.new.asks c.args.out.now c.run.new.out) c.in-Err.is
+    c.run.ensures))

@@ -16,6 +16,8 @@ pub loop-place-preserved : goal.loop-place-preserved
 loop-place-preserved g c =
     let same = c.loop-place.invariant.0 in (
       c.in_ok-put_block.ensures.same ∙ same,
-      block-more _ _ _ (disk_image c.args.disk.now) (disk_image c.loop-place.disk) c.args.places.now c.loop-place.place-index c.place-item.result c.args.disk.now.whole same c.loop-place-test.true (sym c.place-item.is)
+      block-more _ _ _ (disk_image c.args.disk.now) (disk_image c.loop-place.disk) c.args.places.now
+          c.loop-place.place-index c.place-item.result c.args.disk.now.whole same c.loop-place-test.true
+          (sym c.place-item.is)
           c.loop-place.invariant.1 c.in_ok-put_block.ensures.ok,
     )

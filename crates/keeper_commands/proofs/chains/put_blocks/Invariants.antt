@@ -8,4 +8,5 @@ use Rattle.keeper_commands.proofs.chains.put_blocks.Given as goal
 abbrev pub invariant-loop-place : goal.invariant-loop-place
 invariant-loop-place g l =
     (disk_image l.disk ≡ disk_image l.fn.disk)
-    × Appends (g.W.Write.contents l.fn.out) (g.W.Write.contents l.out) (joined (disk_image l.fn.disk) (take l.place-index l.places))
+    × Appends (g.W.Write.contents l.fn.out) (g.W.Write.contents l.out)
+    (joined (disk_image l.fn.disk) (take l.place-index l.places))

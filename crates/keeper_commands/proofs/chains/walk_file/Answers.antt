@@ -19,5 +19,9 @@ returns-clause-ok c = IfOk-weaker c.walk_chain.result _ _
 
 pub returns-clause-err : goal.returns-clause-err
 returns-clause-err c = IfErr-weaker c.walk_chain.result _ _
-    (λ fault holds. inr (c.in-Some.first, named-match c.args.slot.now.bytes _ 3 _ c.new.ensures c.in-Some.ensures, holds))
+    (λ fault holds. inr (
+      c.in-Some.first,
+      named-match c.args.slot.now.bytes _ 3 _ c.new.ensures c.in-Some.ensures,
+      holds,
+    ))
     c.walk_chain.ensures.fault

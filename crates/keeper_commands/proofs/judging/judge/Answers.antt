@@ -9,37 +9,48 @@ use Rattle.keeper_commands.proofs.judging.judge.Goals as goal
 pub loop-line-init : goal.loop-line-init
 loop-line-init c = record {
   room = omega arith;
-  judged = judged-none (length_of c.args.file.now) (records_in c.args.file.now) (lines c.args.text.now) c.args.last.now.places.items c.requires;
+  judged = judged-none (length_of c.args.file.now) (records_in c.args.file.now) (lines c.args.text.now)
+      c.args.last.now.places.items c.requires;
 }
 
 pub loop-line-preserved-then-number-most : goal.loop-line-preserved-then-number-most
 loop-line-preserved-then-number-most c =
     let v = c.args.file.now in
-    let to = judged-more (length_of v) (records_in v) (lines c.args.text.now) (lines c.loop-line.rest.now) c.loop-line.count c.loop-line.most c.loop-line.last.places.items
-    c.loop-line.invariant.judged c.in-Some.line.now (lines c.in-Some.more.now) c.in-Some-number_of.number c.in-Some.ensures.0
+    let to = judged-more (length_of v) (records_in v) (lines c.args.text.now) (lines c.loop-line.rest.now)
+    c.loop-line.count c.loop-line.most c.loop-line.last.places.items
+    c.loop-line.invariant.judged c.in-Some.line.now (lines c.in-Some.more.now) c.in-Some-number_of.number
+    c.in-Some.ensures.0
     c.loop-line.last.size c.in-Some-number_of.ensures.found in
-    let greater : max c.loop-line.most c.in-Some-number_of.number ≡ c.in-Some-number_of.number = omega (arith, c.if-number-most.true) in
+    let greater : max c.loop-line.most c.in-Some-number_of.number ≡ c.in-Some-number_of.number =
+    omega (arith, c.if-number-most.true) in
     record {
       room = omega (arith, c.loop-line.invariant.room, c.in-Some.ensures.1);
-      judged = subst (λ (t : List ℕ). JudgedTo (length_of v) (records_in v) (lines c.args.text.now) (lines c.in-Some.more.now)
+      judged = subst (λ (t : List ℕ). JudgedTo (length_of v) (records_in v) (lines c.args.text.now)
+          (lines c.in-Some.more.now)
           (c.loop-line.count + 1) c.in-Some-number_of.number t) (sym c.count.ensures)
           (subst (λ (m : ℕ). JudgedTo (length_of v) (records_in v) (lines c.args.text.now) (lines c.in-Some.more.now)
-          (c.loop-line.count + 1) m (set c.loop-line.last.places.items c.in-Some-number_of.number (c.loop-line.count + 1))) greater to);
+          (c.loop-line.count + 1) m (set c.loop-line.last.places.items c.in-Some-number_of.number
+          (c.loop-line.count + 1))) greater to);
     }
 
 pub loop-line-preserved : goal.loop-line-preserved
 loop-line-preserved c =
     let v = c.args.file.now in
-    let to = judged-more (length_of v) (records_in v) (lines c.args.text.now) (lines c.loop-line.rest.now) c.loop-line.count c.loop-line.most c.loop-line.last.places.items
-    c.loop-line.invariant.judged c.in-Some.line.now (lines c.in-Some.more.now) c.in-Some-number_of.number c.in-Some.ensures.0
+    let to = judged-more (length_of v) (records_in v) (lines c.args.text.now) (lines c.loop-line.rest.now)
+    c.loop-line.count c.loop-line.most c.loop-line.last.places.items
+    c.loop-line.invariant.judged c.in-Some.line.now (lines c.in-Some.more.now) c.in-Some-number_of.number
+    c.in-Some.ensures.0
     c.loop-line.last.size c.in-Some-number_of.ensures.found in
-    let same : max c.loop-line.most c.in-Some-number_of.number ≡ c.loop-line.most = omega (arith, c.if-number-most.false) in
+    let same : max c.loop-line.most c.in-Some-number_of.number ≡ c.loop-line.most =
+    omega (arith, c.if-number-most.false) in
     record {
       room = omega (arith, c.loop-line.invariant.room, c.in-Some.ensures.1);
-      judged = subst (λ (t : List ℕ). JudgedTo (length_of v) (records_in v) (lines c.args.text.now) (lines c.in-Some.more.now)
+      judged = subst (λ (t : List ℕ). JudgedTo (length_of v) (records_in v) (lines c.args.text.now)
+          (lines c.in-Some.more.now)
           (c.loop-line.count + 1) c.loop-line.most t) (sym c.count.ensures)
           (subst (λ (m : ℕ). JudgedTo (length_of v) (records_in v) (lines c.args.text.now) (lines c.in-Some.more.now)
-          (c.loop-line.count + 1) m (set c.loop-line.last.places.items c.in-Some-number_of.number (c.loop-line.count + 1))) same to);
+          (c.loop-line.count + 1) m (set c.loop-line.last.places.items c.in-Some-number_of.number
+          (c.loop-line.count + 1))) same to);
     }
 
 pub returns-in_default-number_of-clause-err : goal.returns-in_default-number_of-clause-err
@@ -47,12 +58,15 @@ returns-in_default-number_of-clause-err c =
     let v = c.args.file.now in (
       c.loop-line.count + 1,
       refl,
-      judged-bad (length_of v) (records_in v) (lines c.args.text.now) (lines c.loop-line.rest.now) c.loop-line.count c.loop-line.most c.loop-line.last.places.items
-          c.loop-line.invariant.judged c.in-Some.line.now (lines c.in-Some.more.now) c.in-Some.ensures.0 (c.in_default-number_of.ensures.none refl),
+      judged-bad (length_of v) (records_in v) (lines c.args.text.now) (lines c.loop-line.rest.now) c.loop-line.count
+          c.loop-line.most c.loop-line.last.places.items
+          c.loop-line.invariant.judged c.in-Some.line.now (lines c.in-Some.more.now) c.in-Some.ensures.0
+          (c.in_default-number_of.ensures.none refl),
     )
 
 pub returns-clause-ok : goal.returns-clause-ok
 returns-clause-ok c =
     let v = c.args.file.now in
-    judged-all (length_of v) (records_in v) (lines c.args.text.now) (lines c.loop-line.rest.now) c.loop-line.count c.loop-line.most c.loop-line.last.places.items
+    judged-all (length_of v) (records_in v) (lines c.args.text.now) (lines c.loop-line.rest.now) c.loop-line.count
+    c.loop-line.most c.loop-line.last.places.items
     c.loop-line.invariant.judged c.in_default.ensures

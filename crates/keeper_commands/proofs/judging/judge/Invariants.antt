@@ -8,7 +8,8 @@ use Rattle.keeper_commands.proofs.judging.judge.Given as goal
 abbrev pub invariant-loop-line : goal.invariant-loop-line
 invariant-loop-line l = record {
   room : l.count + length l.rest ≤ length l.text;
-  judged : JudgedTo (length_of l.file) (records_in l.file) (lines l.text) (lines l.rest) l.count l.most l.last.places.items;
+  judged : JudgedTo (length_of l.file) (records_in l.file) (lines l.text) (lines l.rest) l.count l.most
+      l.last.places.items;
 }
 
 abbrev pub decreases-loop-line : goal.decreases-loop-line

@@ -9,20 +9,25 @@ use Rattle.keeper_commands.proofs.judging.number_of.Goals as goal
 
 pub returns-in_err-number-clause-none : goal.returns-in_err-number-clause-none
 returns-in_err-number-clause-none c = λ _ x can is.
-    c.in_err-number.ensures.none refl x.number x.bytes can.low can.high can.bytes (omega (arith, can.short, c.args.file.now.size_high)) is
+    c.in_err-number.ensures.none refl x.number x.bytes can.low can.high can.bytes
+    (omega (arith, can.short, c.args.file.now.size_high)) is
 
 pub returns-then-not-has_room-clause-none : goal.returns-then-not-has_room-clause-none
 returns-then-not-has_room-clause-none c = λ _ x can is.
     let found = c.in_ok-number.ensures.found in
-    let same = one-line c.args.line.now c.in_ok-number.number x.number c.read_line.new.bytes.items x.bytes found.0 found.1 can.low can.high found.2 is in
+    let same = one-line c.args.line.now c.in_ok-number.number x.number c.read_line.new.bytes.items x.bytes found.0
+    found.1 can.low can.high found.2 is in
     let view : c.as_slice.result.now ≡ c.read_line.new.bytes.items = c.as_slice.ensures.value in
-    false≢true (c.if-not-has_room.ensures.room.1 (subst (λ (bs : List ℕ). length bs ≤ length_of c.args.file.now) (sym (view ∙ same.1)) can.short))
+    false≢true (c.if-not-has_room.ensures.room.1 (subst (λ (bs : List ℕ). length bs ≤ length_of c.args.file.now)
+    (sym (view ∙ same.1)) can.short))
 
 pub returns-then-not-can_have-clause-none : goal.returns-then-not-can_have-clause-none
 returns-then-not-can_have-clause-none c = λ _ x can is.
     let found = c.in_ok-number.ensures.found in
-    let same = one-line c.args.line.now c.in_ok-number.number x.number c.read_line.new.bytes.items x.bytes found.0 found.1 can.low can.high found.2 is in
-    false≢true (c.if-not-can_have.ensures.1 (subst (CanHave (length_of c.args.file.now) (records_in c.args.file.now)) (sym same.0) can.reach))
+    let same = one-line c.args.line.now c.in_ok-number.number x.number c.read_line.new.bytes.items x.bytes found.0
+    found.1 can.low can.high found.2 is in
+    false≢true (c.if-not-can_have.ensures.1 (subst (CanHave (length_of c.args.file.now) (records_in c.args.file.now))
+    (sym same.0) can.reach))
 
 pub returns-clause-found : goal.returns-clause-found
 returns-clause-found c =
@@ -34,7 +39,8 @@ returns-clause-found c =
         low = found.0;
         high = found.1;
         bytes = subst AreBytes view c.has_room.ensures.bytes;
-        short = subst (λ (bs : List ℕ). length bs ≤ length_of c.args.file.now) view (c.if-not-has_room.ensures.room.0 refl);
+        short = subst (λ (bs : List ℕ). length bs ≤ length_of c.args.file.now) view
+            (c.if-not-has_room.ensures.room.0 refl);
         reach = c.if-not-can_have.ensures.0 refl;
       },
     )

@@ -6,7 +6,13 @@ use Rattle.keeper_commands.proofs.Mendings.{none-yet, track-more, tells-after}
 use Rattle.keeper_commands.proofs.mending.put_tracks.Goals as goal
 
 pub loop-below-init : goal.loop-below-init
-loop-below-init g c = record { printed = none-yet _ _; same = refl; quiet = no_write g.D.Sectors.history c.args.after.now; failures = refl }
+loop-below-init g c = record {
+  printed = none-yet _ _;
+  same = refl;
+  quiet =
+      no_write g.D.Sectors.history c.args.after.now;
+  failures = refl;
+}
 
 pub loop-below-preserved : goal.loop-below-preserved
 loop-below-preserved g c =
@@ -19,9 +25,11 @@ loop-below-preserved g c =
     }
 
 pub returns-in_err-put_track-clause-quiet : goal.returns-in_err-put_track-clause-quiet
-returns-in_err-put_track-clause-quiet g c = no_write_then g.D.Sectors.history _ _ _ c.loop-below.invariant.quiet c.put_track.ensures.quiet
+returns-in_err-put_track-clause-quiet g c = no_write_then g.D.Sectors.history _ _ _ c.loop-below.invariant.quiet
+    c.put_track.ensures.quiet
 
 pub returns-in_err-put_track-clause-told : goal.returns-in_err-put_track-clause-told
 returns-in_err-put_track-clause-told g c =
     let p = err_from_is_err_and c.from_residual.result c.from_residual.ensures.1 in
-    rw (p.1 ∙ ap Err p.2) (tells-after {T = Unit} g.D.Sectors.history _ _ _ (Err c.in_err-put_track.field-0.0) c.loop-below.invariant.failures c.in_err-put_track.ensures.told)
+    rw (p.1 ∙ ap Err p.2) (tells-after {T = Unit} g.D.Sectors.history _ _ _ (Err c.in_err-put_track.field-0.0)
+    c.loop-below.invariant.failures c.in_err-put_track.ensures.told)

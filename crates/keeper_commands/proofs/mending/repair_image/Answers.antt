@@ -10,15 +10,18 @@ use Rattle.keeper_commands.proofs.mending.repair_image.Goals as goal
 pub returns-in_err-before-clause-err : goal.returns-in_err-before-clause-err
 returns-in_err-before-clause-err g c =
     let p = err_from_is_err_and c.from_residual.result c.from_residual.ensures.1 in
-    rw (p.1 ∙ ap Err p.2) (load-refused g.D.Sectors.history c.args.image.now c.args.disk.now c.args.out.now _ c.in_err-before.ensures.err)
+    rw (p.1 ∙ ap Err p.2) (load-refused g.D.Sectors.history c.args.image.now c.args.disk.now c.args.out.now _
+    c.in_err-before.ensures.err)
 
 pub returns-in-Err-clause-err : goal.returns-in-Err-clause-err
 returns-in-Err-clause-err g c =
     let S = g.D.Sectors.history in
     let size = c.in_ok-before.ensures.ok.0 in
-    let run = run-only S c.args.image.now c.args.disk.now c.repair.new.disk size c.repair.ensures.moments c.repair.ensures.order c.repair.ensures.unsound in
+    let run = run-only S c.args.image.now c.args.disk.now c.repair.new.disk size c.repair.ensures.moments
+    c.repair.ensures.order c.repair.ensures.unsound in
     rw c.refusal.ensures
-    (refused S c.args.image.now c.args.disk.now c.repair.new.disk c.args.out.now size c.repair.ensures.unsound run c.in-Err.fault
+    (refused S c.args.image.now c.args.disk.now c.repair.new.disk c.args.out.now size c.repair.ensures.unsound run
+    c.in-Err.fault
     c.in-Err.ensures.err c.in-Err.ensures.failures)
 
 pub returns-clause-ok : goal.returns-clause-ok
@@ -27,11 +30,15 @@ returns-clause-ok g c =
     let loaded = c.in_ok-before.ensures.ok in
     on_ok_weaker c.put_mended.result
     (λ printed. record {
-      mended = mended-quiet S c.args.image.now c.args.disk.now c.repair.new.disk loaded.0 c.repair.ensures.moments c.repair.ensures.order c.repair.ensures.unsound
-          c.put_mended.new.after c.put_mended.ensures.quiet c.in_default.field-0 c.in_default.ensures.ok c.repair.ensures.spare;
-      printed = subst (λ (img : Image). Appends (g.W.Write.contents c.args.out.now) (g.W.Write.contents c.put_mended.new.out) (mended_text (S.image c.args.disk.now) img))
+      mended = mended-quiet S c.args.image.now c.args.disk.now c.repair.new.disk loaded.0 c.repair.ensures.moments
+          c.repair.ensures.order c.repair.ensures.unsound
+          c.put_mended.new.after c.put_mended.ensures.quiet c.in_default.field-0 c.in_default.ensures.ok
+          c.repair.ensures.spare;
+      printed = subst (λ (img : Image). Appends (g.W.Write.contents c.args.out.now)
+          (g.W.Write.contents c.put_mended.new.out) (mended_text (S.image c.args.disk.now) img))
           (sym c.put_mended.ensures.quiet.image)
-          (subst (λ (img : Image). Appends (g.W.Write.contents c.args.out.now) (g.W.Write.contents c.put_mended.new.out) (mended_text img (S.image c.repair.new.disk)))
+          (subst (λ (img : Image). Appends (g.W.Write.contents c.args.out.now) (g.W.Write.contents c.put_mended.new.out)
+          (mended_text img (S.image c.repair.new.disk)))
           (loaded.1 ∙ sym c.requires.holds) printed);
     })
     c.put_mended.ensures.ok
@@ -40,7 +47,10 @@ pub returns-clause-err : goal.returns-clause-err
 returns-clause-err g c =
     let S = g.D.Sectors.history in
     let loaded = c.in_ok-before.ensures.ok in
-    print-refused S c.args.image.now c.args.disk.now c.repair.new.disk c.put_mended.new.after c.args.out.now c.put_mended.new.out c.put_mended.result
-    (mended-quiet S c.args.image.now c.args.disk.now c.repair.new.disk loaded.0 c.repair.ensures.moments c.repair.ensures.order c.repair.ensures.unsound
-    c.put_mended.new.after c.put_mended.ensures.quiet c.in_default.field-0 c.in_default.ensures.ok c.repair.ensures.spare)
+    print-refused S c.args.image.now c.args.disk.now c.repair.new.disk c.put_mended.new.after c.args.out.now
+    c.put_mended.new.out c.put_mended.result
+    (mended-quiet S c.args.image.now c.args.disk.now c.repair.new.disk loaded.0 c.repair.ensures.moments
+    c.repair.ensures.order c.repair.ensures.unsound
+    c.put_mended.new.after c.put_mended.ensures.quiet c.in_default.field-0 c.in_default.ensures.ok
+    c.repair.ensures.spare)
     c.in_default.ensures.failures c.put_mended.ensures.told

@@ -16,8 +16,10 @@ returns-then-is_err-clause-err g c =
     let f = of.2 in
     let there = c.requires.there l n f of.3 in
     let err : is_err c.read_next.result ≡ true = sym c.is_err.ensures.value ∙ c.if-is_err.true in
-    absurd (read-done c.read_next.result c.args.disk.now c.read_next.new.disk (records_of.records (disk_image c.args.disk.now) f) c.args.number
-    c.read_next.ensures.text.failures c.read_next.ensures.text.told (c.read_next.ensures.text.not_present l n f of.3) there.0 there.1 err)
+    absurd (read-done c.read_next.result c.args.disk.now c.read_next.new.disk
+    (records_of.records (disk_image c.args.disk.now) f) c.args.number
+    c.read_next.ensures.text.failures c.read_next.ensures.text.told (c.read_next.ensures.text.not_present l n f of.3)
+    there.0 there.1 err)
 
 pub returns-clause-ok : goal.returns-clause-ok
 returns-clause-ok g c = λ l n f of.
@@ -25,5 +27,6 @@ returns-clause-ok g c = λ l n f of.
     let wrote : is_err c.write_line.result ≡ false = sym c.is_err-2.ensures.value ∙ c.if-is_err-2.false in
     let read = not-err c.read_next.result ok (c.read_next.ensures.text.ok l n f of) in
     let bytes = got (records_of.records (disk_image c.args.disk.now) f) _ _ read.there in
-    subst (λ (xs : List ℕ). Appends (g.W.Write.contents c.args.out.now) (g.W.Write.contents c.write_line.new.out) (record_line c.args.number xs))
+    subst (λ (xs : List ℕ). Appends (g.W.Write.contents c.args.out.now) (g.W.Write.contents c.write_line.new.out)
+    (record_line c.args.number xs))
     (sym bytes) (not-err c.write_line.result wrote c.write_line.ensures)

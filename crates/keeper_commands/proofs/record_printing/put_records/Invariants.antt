@@ -13,4 +13,5 @@ invariant-loop-before g l =
     (disk_image l.disk ≡ disk_image l.fn.disk)
     × IsKept (disk_image l.fn.disk) l.file l.last
     × OfItsFile (disk_image l.fn.disk) l.file (λ _ n f.
-    Appends (g.W.Write.contents l.fn.out) (g.W.Write.contents l.out) (lines_to (records_of.records (disk_image l.fn.disk) f) l.before))
+    Appends (g.W.Write.contents l.fn.out) (g.W.Write.contents l.out)
+    (lines_to (records_of.records (disk_image l.fn.disk) f) l.before))

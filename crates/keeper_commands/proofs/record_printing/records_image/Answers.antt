@@ -27,7 +27,8 @@ put_records-requires g c =
         sound.0,
         entry_of c.in-Ok.file,
         found.0,
-        subst (λ (img : Image). IsFileOf img sound.0 (entry_of c.in-Ok.file) found.0 c.in-Ok.file) (sym c.find.ensures.reads.image) found.2,
+        subst (λ (img : Image). IsFileOf img sound.0 (entry_of c.in-Ok.file) found.0 c.in-Ok.file)
+            (sym c.find.ensures.reads.image) found.2,
       );
     }
 
@@ -46,7 +47,8 @@ returns-in_err-put_records-clause-err g c =
     let loaded = c.in_ok-disk.ensures.ok in
     let sound = loaded.2 in
     let found = c.in-Ok.ensures.ok sound.0 sound.1 in
-    let p = err_from_is_err_and c.from_residual-in_err-put_records.result c.from_residual-in_err-put_records.ensures.1 in
+    let p = err_from_is_err_and c.from_residual-in_err-put_records.result c.from_residual-in_err-put_records.ensures.1
+    in
     rw (p.1 ∙ ap Err (p.2 ∙ c.in_err-put_records.ensures.err))
     (found.0, found-file c.args.image.now c.args.name.now _ sound.0 _ found.0 loaded.0 loaded.1 sound.1 found.1)
 
@@ -56,7 +58,11 @@ returns-clause-err g c =
     let sound = loaded.2 in
     let found = c.in-Ok.ensures.ok sound.0 sound.1 in
     IfErr-weaker c.flush.result _ _
-    (λ fault is. rw is (found.0, found-file c.args.image.now c.args.name.now _ sound.0 _ found.0 loaded.0 loaded.1 sound.1 found.1))
+    (λ fault is. rw is (
+      found.0,
+      found-file c.args.image.now c.args.name.now _ sound.0 _ found.0 loaded.0 loaded.1
+          sound.1 found.1,
+    ))
     c.flush.ensures.err
 
 pub returns-clause-ok : goal.returns-clause-ok
@@ -64,11 +70,14 @@ returns-clause-ok g c =
     let loaded = c.in_ok-disk.ensures.ok in
     let sound = loaded.2 in
     let found = c.in-Ok.ensures.ok sound.0 sound.1 in
-    let of = subst (λ (img : Image). IsFileOf img sound.0 (entry_of c.in-Ok.file) found.0 c.in-Ok.file) (sym c.find.ensures.reads.image) found.2 in
+    let of = subst (λ (img : Image). IsFileOf img sound.0 (entry_of c.in-Ok.file) found.0 c.in-Ok.file)
+    (sym c.find.ensures.reads.image) found.2 in
     at-ok c.flush.result (record {
       file = found.0;
       is_file = found-file c.args.image.now c.args.name.now _ sound.0 _ found.0 loaded.0 loaded.1 sound.1 found.1;
-      printed = subst (λ (img : Image). Appends (g.W.Write.contents c.args.out.now) (g.W.Write.contents c.flush.new.out) (records_text (records_of.records img found.0)))
+      printed = subst (λ (img : Image). Appends (g.W.Write.contents c.args.out.now) (g.W.Write.contents c.flush.new.out)
+          (records_text (records_of.records img found.0)))
           (c.find.ensures.reads.image ∙ loaded.1)
-          (Appends-kept _ _ _ _ (c.in_ok-put_records.ensures.ok sound.0 (entry_of c.in-Ok.file) found.0 of) c.flush.ensures.kept);
+          (Appends-kept _ _ _ _ (c.in_ok-put_records.ensures.ok sound.0 (entry_of c.in-Ok.file) found.0 of)
+          c.flush.ensures.kept);
     })

@@ -4,7 +4,8 @@ use Rattle.std.proofs.lemmas.Result.{IfErr-weaker, err_from_is_err_and}
 use Rattle.disk_layout.specs.Clean.{IsClean}
 use Rattle.keeper_commands.proofs.Printing.{at-ok}
 use Rattle.keeper_commands.proofs.Reached.{store-unclean}
-use Rattle.keeper_commands.proofs.TextStored.{bad-line, find-refused, found-file, grow-refused, grown-clean, grown-file, grown-lines, store-done, store-refused, store-unprinted}
+use Rattle.keeper_commands.proofs.TextStored.{bad-line, find-refused, found-file, grow-refused, grown-clean, grown-file}
+use Rattle.keeper_commands.proofs.TextStored.{grown-lines, store-done, store-refused, store-unprinted}
 use Rattle.keeper_commands.specs.Storing.{IsStoreFault}
 use Rattle.keeper_commands.specs.declared.faults.KeepFault.TheVariants as keep
 use Rattle.rel_records.specs.Calls.{Grows}
@@ -14,7 +15,8 @@ pub returns-in_err-check_image-clause-err : goal.returns-in_err-check_image-clau
 returns-in_err-check_image-clause-err g c =
     let p = err_from_is_err_and c.from_residual.result c.from_residual.ensures.1 in
     rw (p.1 ∙ ap Err p.2)
-    (store-unclean g.D.Sectors.history c.args.image.now c.args.name.now c.args.text.now c.args.disk.now c.args.out.now _ c.in_err-check_image.ensures.err)
+    (store-unclean g.D.Sectors.history c.args.image.now c.args.name.now c.args.text.now c.args.disk.now c.args.out.now _
+    c.in_err-check_image.ensures.err)
 
 pub returns-in_err-last-clause-err : goal.returns-in_err-last-clause-err
 returns-in_err-last-clause-err g c =
@@ -32,7 +34,8 @@ returns-in-Err-clause-err g c =
     let S = g.D.Sectors.history in
     let clean = c.in_ok-check_image.ensures.ok in
     rw c.refusal.ensures
-    (find-refused S c.args.image.now c.args.name.now c.args.text.now c.args.disk.now c.find.new.disk clean.0 (subst IsClean (sym c.requires.holds) clean.1)
+    (find-refused S c.args.image.now c.args.name.now c.args.text.now c.args.disk.now c.find.new.disk clean.0
+    (subst IsClean (sym c.requires.holds) clean.1)
     c.args.out.now c.in-Err.fault c.in-Err.ensures)
 
 pub returns-in_err-most-clause-err : goal.returns-in_err-most-clause-err
@@ -42,7 +45,8 @@ returns-in_err-most-clause-err g c =
     let p = err_from_is_err_and c.from_residual-in_err-most.result c.from_residual-in_err-most.ensures.1 in
     let (k, is, bad) = c.in_err-most.ensures.err in
     rw (p.1 ∙ ap Err (p.2 ∙ is))
-    (bad-line S c.args.image.now c.args.name.now c.args.text.now c.args.disk.now c.find.new.disk clean.0 (subst IsClean (sym c.requires.holds) clean.1)
+    (bad-line S c.args.image.now c.args.name.now c.args.text.now c.args.disk.now c.find.new.disk clean.0
+    (subst IsClean (sym c.requires.holds) clean.1)
     c.args.out.now c.in-Ok.file c.in-Ok.ensures k bad)
 
 pub grow_to-requires-clause-clean : goal.grow_to-requires-clause-clean
@@ -53,7 +57,8 @@ pub grow_to-requires-clause-of : goal.grow_to-requires-clause-of
 grow_to-requires-clause-of g c =
     let S = g.D.Sectors.history in
     let clean = c.in_ok-check_image.ensures.ok in
-    found-file S c.args.image.now c.args.name.now c.args.text.now c.args.disk.now c.find.new.disk clean.0 (subst IsClean (sym c.requires.holds) clean.1)
+    found-file S c.args.image.now c.args.name.now c.args.text.now c.args.disk.now c.find.new.disk clean.0
+    (subst IsClean (sym c.requires.holds) clean.1)
     c.args.out.now c.in-Ok.file c.in-Ok.ensures
 
 pub returns-in-Err-grow_to-clause-err : goal.returns-in-Err-grow_to-clause-err
@@ -62,48 +67,65 @@ returns-in-Err-grow_to-clause-err g c =
     let clean = c.in_ok-check_image.ensures.ok in
     let (xs, are, is, tells) = c.in_ok-most.ensures.ok in
     rw c.refusal-in-Err-grow_to.ensures
-    (grow-refused S c.args.image.now c.args.name.now c.args.text.now c.args.disk.now c.find.new.disk clean.0 (subst IsClean (sym c.requires.holds) clean.1)
-    c.args.out.now c.in-Ok.file c.in-Ok.ensures xs are c.judge.new.last.places.items tells c.grow_to.new.disk c.grow_to.new.file c.in-Err-grow_to.fault
-    (subst (λ (m : ℕ). Grows S c.find.new.disk c.grow_to.new.disk c.in-Ok.file c.grow_to.new.file m (Err c.in-Err-grow_to.fault)) is c.in-Err-grow_to.ensures))
+    (grow-refused S c.args.image.now c.args.name.now c.args.text.now c.args.disk.now c.find.new.disk clean.0
+    (subst IsClean (sym c.requires.holds) clean.1)
+    c.args.out.now c.in-Ok.file c.in-Ok.ensures xs are c.judge.new.last.places.items tells c.grow_to.new.disk
+    c.grow_to.new.file c.in-Err-grow_to.fault
+    (subst (λ (m : ℕ). Grows S c.find.new.disk c.grow_to.new.disk c.in-Ok.file c.grow_to.new.file m
+    (Err c.in-Err-grow_to.fault)) is c.in-Err-grow_to.ensures))
 
 pub store_lines-requires-clause-clean : goal.store_lines-requires-clause-clean
 store_lines-requires-clause-clean g c =
     let S = g.D.Sectors.history in
     let clean = c.in_ok-check_image.ensures.ok in
     let (xs, are, is, tells) = c.in_ok-most.ensures.ok in
-    grown-clean S c.args.image.now c.args.name.now c.args.text.now c.args.disk.now c.find.new.disk clean.0 (subst IsClean (sym c.requires.holds) clean.1)
-    c.args.out.now c.in-Ok.file c.in-Ok.ensures xs are c.judge.new.last.places.items tells c.grow_to.new.disk c.grow_to.new.file
-    (subst (λ (m : ℕ). Grows S c.find.new.disk c.grow_to.new.disk c.in-Ok.file c.grow_to.new.file m (Ok c.in_default.field-0)) is c.in_default.ensures)
+    grown-clean S c.args.image.now c.args.name.now c.args.text.now c.args.disk.now c.find.new.disk clean.0
+    (subst IsClean (sym c.requires.holds) clean.1)
+    c.args.out.now c.in-Ok.file c.in-Ok.ensures xs are c.judge.new.last.places.items tells c.grow_to.new.disk
+    c.grow_to.new.file
+    (subst (λ (m : ℕ). Grows S c.find.new.disk c.grow_to.new.disk c.in-Ok.file c.grow_to.new.file m
+    (Ok c.in_default.field-0)) is c.in_default.ensures)
 
 pub store_lines-requires-clause-of : goal.store_lines-requires-clause-of
 store_lines-requires-clause-of g c =
     let S = g.D.Sectors.history in
     let clean = c.in_ok-check_image.ensures.ok in
     let (xs, are, is, tells) = c.in_ok-most.ensures.ok in
-    grown-file S c.args.image.now c.args.name.now c.args.text.now c.args.disk.now c.find.new.disk clean.0 (subst IsClean (sym c.requires.holds) clean.1)
-    c.args.out.now c.in-Ok.file c.in-Ok.ensures xs are c.judge.new.last.places.items tells c.grow_to.new.disk c.grow_to.new.file
-    (subst (λ (m : ℕ). Grows S c.find.new.disk c.grow_to.new.disk c.in-Ok.file c.grow_to.new.file m (Ok c.in_default.field-0)) is c.in_default.ensures)
+    grown-file S c.args.image.now c.args.name.now c.args.text.now c.args.disk.now c.find.new.disk clean.0
+    (subst IsClean (sym c.requires.holds) clean.1)
+    c.args.out.now c.in-Ok.file c.in-Ok.ensures xs are c.judge.new.last.places.items tells c.grow_to.new.disk
+    c.grow_to.new.file
+    (subst (λ (m : ℕ). Grows S c.find.new.disk c.grow_to.new.disk c.in-Ok.file c.grow_to.new.file m
+    (Ok c.in_default.field-0)) is c.in_default.ensures)
 
 pub store_lines-requires-clause-lines : goal.store_lines-requires-clause-lines
 store_lines-requires-clause-lines g c =
     let S = g.D.Sectors.history in
     let clean = c.in_ok-check_image.ensures.ok in
     let (xs, are, is, tells) = c.in_ok-most.ensures.ok in
-    grown-lines S c.args.image.now c.args.name.now c.args.text.now c.args.disk.now c.find.new.disk clean.0 (subst IsClean (sym c.requires.holds) clean.1)
-    c.args.out.now c.in-Ok.file c.in-Ok.ensures xs are c.judge.new.last.places.items tells c.grow_to.new.disk c.grow_to.new.file
-    (subst (λ (m : ℕ). Grows S c.find.new.disk c.grow_to.new.disk c.in-Ok.file c.grow_to.new.file m (Ok c.in_default.field-0)) is c.in_default.ensures)
+    grown-lines S c.args.image.now c.args.name.now c.args.text.now c.args.disk.now c.find.new.disk clean.0
+    (subst IsClean (sym c.requires.holds) clean.1)
+    c.args.out.now c.in-Ok.file c.in-Ok.ensures xs are c.judge.new.last.places.items tells c.grow_to.new.disk
+    c.grow_to.new.file
+    (subst (λ (m : ℕ). Grows S c.find.new.disk c.grow_to.new.disk c.in-Ok.file c.grow_to.new.file m
+    (Ok c.in_default.field-0)) is c.in_default.ensures)
 
 pub returns-in_err-store_lines-clause-err : goal.returns-in_err-store_lines-clause-err
 returns-in_err-store_lines-clause-err g c =
     let S = g.D.Sectors.history in
     let clean = c.in_ok-check_image.ensures.ok in
     let (xs, are, is, tells) = c.in_ok-most.ensures.ok in
-    let p = err_from_is_err_and c.from_residual-in_err-store_lines.result c.from_residual-in_err-store_lines.ensures.1 in
+    let p = err_from_is_err_and c.from_residual-in_err-store_lines.result c.from_residual-in_err-store_lines.ensures.1
+    in
     rw (p.1 ∙ ap Err p.2)
-    (store-refused S c.args.image.now c.args.name.now c.args.text.now c.args.disk.now c.find.new.disk clean.0 (subst IsClean (sym c.requires.holds) clean.1)
-    c.args.out.now c.in-Ok.file c.in-Ok.ensures xs are c.judge.new.last.places.items tells c.grow_to.new.disk c.grow_to.new.file
-    (subst (λ (m : ℕ). Grows S c.find.new.disk c.grow_to.new.disk c.in-Ok.file c.grow_to.new.file m (Ok c.in_default.field-0)) is c.in_default.ensures)
-    g.W.Write.contents c.store_lines.new.disk c.store_lines.new.out c.store_lines.new.file c.in_err-store_lines.field-0.0 c.in_err-store_lines.ensures)
+    (store-refused S c.args.image.now c.args.name.now c.args.text.now c.args.disk.now c.find.new.disk clean.0
+    (subst IsClean (sym c.requires.holds) clean.1)
+    c.args.out.now c.in-Ok.file c.in-Ok.ensures xs are c.judge.new.last.places.items tells c.grow_to.new.disk
+    c.grow_to.new.file
+    (subst (λ (m : ℕ). Grows S c.find.new.disk c.grow_to.new.disk c.in-Ok.file c.grow_to.new.file m
+    (Ok c.in_default.field-0)) is c.in_default.ensures)
+    g.W.Write.contents c.store_lines.new.disk c.store_lines.new.out c.store_lines.new.file
+    c.in_err-store_lines.field-0.0 c.in_err-store_lines.ensures)
 
 pub returns-clause-ok : goal.returns-clause-ok
 returns-clause-ok g c =
@@ -111,10 +133,14 @@ returns-clause-ok g c =
     let clean = c.in_ok-check_image.ensures.ok in
     let (xs, are, is, tells) = c.in_ok-most.ensures.ok in
     at-ok c.flush.result
-    (store-done S c.args.image.now c.args.name.now c.args.text.now c.args.disk.now c.find.new.disk clean.0 (subst IsClean (sym c.requires.holds) clean.1)
-    c.args.out.now c.in-Ok.file c.in-Ok.ensures xs are c.judge.new.last.places.items tells c.grow_to.new.disk c.grow_to.new.file
-    (subst (λ (m : ℕ). Grows S c.find.new.disk c.grow_to.new.disk c.in-Ok.file c.grow_to.new.file m (Ok c.in_default.field-0)) is c.in_default.ensures)
-    g.W.Write.contents c.store_lines.new.disk c.store_lines.new.out c.flush.new.out c.store_lines.new.file c.in_ok-store_lines.ensures c.flush.ensures.kept)
+    (store-done S c.args.image.now c.args.name.now c.args.text.now c.args.disk.now c.find.new.disk clean.0
+    (subst IsClean (sym c.requires.holds) clean.1)
+    c.args.out.now c.in-Ok.file c.in-Ok.ensures xs are c.judge.new.last.places.items tells c.grow_to.new.disk
+    c.grow_to.new.file
+    (subst (λ (m : ℕ). Grows S c.find.new.disk c.grow_to.new.disk c.in-Ok.file c.grow_to.new.file m
+    (Ok c.in_default.field-0)) is c.in_default.ensures)
+    g.W.Write.contents c.store_lines.new.disk c.store_lines.new.out c.flush.new.out c.store_lines.new.file
+    c.in_ok-store_lines.ensures c.flush.ensures.kept)
 
 pub returns-clause-err : goal.returns-clause-err
 returns-clause-err g c =
@@ -122,10 +148,15 @@ returns-clause-err g c =
     let clean = c.in_ok-check_image.ensures.ok in
     let (xs, are, is, tells) = c.in_ok-most.ensures.ok in
     IfErr-weaker c.flush.result (λ fault. fault ≡ keep.File)
-    (IsStoreFault S c.args.image.now c.args.name.now c.args.text.now c.args.disk.now c.store_lines.new.disk c.args.out.now c.flush.new.out)
+    (IsStoreFault S c.args.image.now c.args.name.now c.args.text.now c.args.disk.now c.store_lines.new.disk
+    c.args.out.now c.flush.new.out)
     (λ fault told. rw told
-    (store-unprinted S c.args.image.now c.args.name.now c.args.text.now c.args.disk.now c.find.new.disk clean.0 (subst IsClean (sym c.requires.holds) clean.1)
-    c.args.out.now c.in-Ok.file c.in-Ok.ensures xs are c.judge.new.last.places.items tells c.grow_to.new.disk c.grow_to.new.file
-    (subst (λ (m : ℕ). Grows S c.find.new.disk c.grow_to.new.disk c.in-Ok.file c.grow_to.new.file m (Ok c.in_default.field-0)) is c.in_default.ensures)
-    g.W.Write.contents c.store_lines.new.disk c.store_lines.new.out c.flush.new.out c.store_lines.new.file c.in_ok-store_lines.ensures))
+    (store-unprinted S c.args.image.now c.args.name.now c.args.text.now c.args.disk.now c.find.new.disk clean.0
+    (subst IsClean (sym c.requires.holds) clean.1)
+    c.args.out.now c.in-Ok.file c.in-Ok.ensures xs are c.judge.new.last.places.items tells c.grow_to.new.disk
+    c.grow_to.new.file
+    (subst (λ (m : ℕ). Grows S c.find.new.disk c.grow_to.new.disk c.in-Ok.file c.grow_to.new.file m
+    (Ok c.in_default.field-0)) is c.in_default.ensures)
+    g.W.Write.contents c.store_lines.new.disk c.store_lines.new.out c.flush.new.out c.store_lines.new.file
+    c.in_ok-store_lines.ensures))
     c.flush.ensures.err

@@ -6,7 +6,8 @@ use Rattle.std.proofs.lemmas.Result.{err_from_is_err_and}
 use Rattle.rel_records.specs.File.{length_of, records_in}
 use Rattle.byte_text.specs.Texts.{record_line}
 use Rattle.keeper_commands.proofs.Composed.{none-stored}
-use Rattle.keeper_commands.proofs.LineStored.{if-last, if-not_last, line-failed, line-printed, line-record, line-same, line-unprinted}
+use Rattle.keeper_commands.proofs.LineStored.{if-last, if-not_last, line-failed, line-printed, line-record, line-same}
+use Rattle.keeper_commands.proofs.LineStored.{line-unprinted}
 use Rattle.keeper_commands.proofs.Printing.{not-err}
 use Rattle.keeper_commands.specs.Stores.{NewRecord, new_record}
 use Rattle.keeper_commands.specs.Storing.{StoresLines, StoresOne}
@@ -28,72 +29,97 @@ pub store_record-requires-clause-high : goal.store_record-requires-clause-high
 store_record-requires-clause-high g c =
     let (h, x, is, can, there) = c.requires.line in
     subst (λ (y : NewRecord). y.number ≤ records_in c.args.file.now)
-    (sym (line-record c.args.line.now c.read_last.new.bytes.items c.in-Some.number (length_of c.args.file.now) h x c.in-Some.ensures.found is can)) there
+    (sym (line-record c.args.line.now c.read_last.new.bytes.items c.in-Some.number (length_of c.args.file.now) h x
+    c.in-Some.ensures.found is can)) there
 
 pub store_record-requires-clause-short : goal.store_record-requires-clause-short
 store_record-requires-clause-short g c =
     let (h, x, is, can, there) = c.requires.line in
     let view : c.as_slice.result.now ≡ c.read_last.new.bytes.items = c.as_slice.ensures.value in
     subst (λ (bs : List ℕ). length bs ≤ length_of c.args.file.now)
-    (sym (view ∙ ap (λ (y : NewRecord). y.bytes) (line-record c.args.line.now c.read_last.new.bytes.items c.in-Some.number (length_of c.args.file.now) h x c.in-Some.ensures.found is can))) can.short
+    (sym (view ∙ ap (λ (y : NewRecord). y.bytes) (line-record c.args.line.now c.read_last.new.bytes.items
+    c.in-Some.number (length_of c.args.file.now) h x c.in-Some.ensures.found is can))) can.short
 
 pub returns-in_err-store_record : goal.returns-in_err-store_record
 returns-in_err-store_record g c = λ l n f of h x is can there.
     let S = g.D.Sectors.history in
     let p = err_from_is_err_and c.from_residual.result c.from_residual.ensures.1 in
     let view : c.as_slice.result.now ≡ c.read_last.new.bytes.items = c.as_slice.ensures.value in
-    let same = ap (new_record c.in-Some.number) view ∙ line-record c.args.line.now c.read_last.new.bytes.items c.in-Some.number (length_of c.args.file.now) h x c.in-Some.ensures.found is can in
+    let same = ap (new_record c.in-Some.number) view ∙ line-record c.args.line.now c.read_last.new.bytes.items
+    c.in-Some.number (length_of c.args.file.now) h x c.in-Some.ensures.found is can in
     let one = ap (λ (y : NewRecord). y.number) same in
     let is_last = ap (λ (m : ℕ). slice_index c.args.last.now.places.items m) (sym one) ∙ c.in-Some.ensures.found.3 in
-    subst (λ (ys : List NewRecord). StoresLines S g.W.Write.contents c.args.disk.now c.store_record.new.disk c.args.out.now
+    subst (λ (ys : List NewRecord). StoresLines S g.W.Write.contents c.args.disk.now c.store_record.new.disk
+    c.args.out.now
     c.args.out.now l n f c.args.file.now c.store_record.new.file ys c.from_residual.result)
     (if-last c.args.last.now.places.items c.args.place x is_last)
-    (subst (λ (r : Result (Unit {0}) KeepFault). StoresLines S g.W.Write.contents c.args.disk.now c.store_record.new.disk c.args.out.now c.args.out.now l n f c.args.file.now c.store_record.new.file (x ∷ []) r)
+    (subst (λ (r : Result (Unit {0}) KeepFault). StoresLines S g.W.Write.contents c.args.disk.now
+    c.store_record.new.disk c.args.out.now c.args.out.now l n f c.args.file.now c.store_record.new.file (x ∷ []) r)
     (sym (p.1 ∙ ap Err p.2))
-    (line-failed S g.W.Write.contents c.args.disk.now c.store_record.new.disk c.args.out.now c.args.out.now l n f c.args.file.now c.store_record.new.file x c.in_err-store_record.field-0.0
-    (subst (λ (y : NewRecord). StoresOne S c.args.disk.now c.store_record.new.disk l n f c.args.file.now c.store_record.new.file y (Err c.in_err-store_record.field-0.0)) same (c.in_err-store_record.ensures l n f of))))
+    (line-failed S g.W.Write.contents c.args.disk.now c.store_record.new.disk c.args.out.now c.args.out.now l n f
+    c.args.file.now c.store_record.new.file x c.in_err-store_record.field-0.0
+    (subst (λ (y : NewRecord). StoresOne S c.args.disk.now c.store_record.new.disk l n f c.args.file.now
+    c.store_record.new.file y (Err c.in_err-store_record.field-0.0)) same
+    (c.in_err-store_record.ensures l n f of))))
 
 pub returns-then-not-branch : goal.returns-then-not-branch
 returns-then-not-branch g c = λ l n f of h x is can there.
     let S = g.D.Sectors.history in
     let view : c.as_slice.result.now ≡ c.read_last.new.bytes.items = c.as_slice.ensures.value in
-    let same = ap (new_record c.in-Some.number) view ∙ line-record c.args.line.now c.read_last.new.bytes.items c.in-Some.number (length_of c.args.file.now) h x c.in-Some.ensures.found is can in
+    let same = ap (new_record c.in-Some.number) view ∙ line-record c.args.line.now c.read_last.new.bytes.items
+    c.in-Some.number (length_of c.args.file.now) h x c.in-Some.ensures.found is can in
     let one = ap (λ (y : NewRecord). y.number) same in
     let is_last = ap (λ (m : ℕ). slice_index c.args.last.now.places.items m) (sym one) ∙ c.in-Some.ensures.found.3 in
-    subst (λ (ys : List NewRecord). StoresLines S g.W.Write.contents c.args.disk.now c.store_record.new.disk c.args.out.now
+    subst (λ (ys : List NewRecord). StoresLines S g.W.Write.contents c.args.disk.now c.store_record.new.disk
+    c.args.out.now
     c.args.out.now l n f c.args.file.now c.store_record.new.file ys (Ok tt))
     (if-last c.args.last.now.places.items c.args.place x is_last)
-    (line-same S g.W.Write.contents c.args.disk.now c.store_record.new.disk c.args.out.now c.args.out.now l n f c.args.file.now c.store_record.new.file x
-    (subst (λ (t : Bool). StoresOne S c.args.disk.now c.store_record.new.disk l n f c.args.file.now c.store_record.new.file x (Ok t)) c.if-not-branch.true
-    (subst (λ (y : NewRecord). StoresOne S c.args.disk.now c.store_record.new.disk l n f c.args.file.now c.store_record.new.file y (Ok c.in_ok-store_record.field-0)) same (c.in_ok-store_record.ensures l n f of))))
+    (line-same S g.W.Write.contents c.args.disk.now c.store_record.new.disk c.args.out.now c.args.out.now l n f
+    c.args.file.now c.store_record.new.file x
+    (subst (λ (t : Bool). StoresOne S c.args.disk.now c.store_record.new.disk l n f c.args.file.now
+    c.store_record.new.file x (Ok t)) c.if-not-branch.true
+    (subst (λ (y : NewRecord). StoresOne S c.args.disk.now c.store_record.new.disk l n f c.args.file.now
+    c.store_record.new.file y (Ok c.in_ok-store_record.field-0)) same (c.in_ok-store_record.ensures l n f of))))
 
 pub returns-then-is_err : goal.returns-then-is_err
 returns-then-is_err g c = λ l n f of h x is can there.
     let S = g.D.Sectors.history in
     let view : c.as_slice.result.now ≡ c.read_last.new.bytes.items = c.as_slice.ensures.value in
-    let same = ap (new_record c.in-Some.number) view ∙ line-record c.args.line.now c.read_last.new.bytes.items c.in-Some.number (length_of c.args.file.now) h x c.in-Some.ensures.found is can in
+    let same = ap (new_record c.in-Some.number) view ∙ line-record c.args.line.now c.read_last.new.bytes.items
+    c.in-Some.number (length_of c.args.file.now) h x c.in-Some.ensures.found is can in
     let one = ap (λ (y : NewRecord). y.number) same in
     let is_last = ap (λ (m : ℕ). slice_index c.args.last.now.places.items m) (sym one) ∙ c.in-Some.ensures.found.3 in
-    subst (λ (ys : List NewRecord). StoresLines S g.W.Write.contents c.args.disk.now c.store_record.new.disk c.args.out.now
+    subst (λ (ys : List NewRecord). StoresLines S g.W.Write.contents c.args.disk.now c.store_record.new.disk
+    c.args.out.now
     c.write_line.new.out l n f c.args.file.now c.store_record.new.file ys (Err keep.File))
     (if-last c.args.last.now.places.items c.args.place x is_last)
-    (line-unprinted S g.W.Write.contents c.args.disk.now c.store_record.new.disk c.args.out.now c.write_line.new.out l n f c.args.file.now c.store_record.new.file x
-    (subst (λ (t : Bool). StoresOne S c.args.disk.now c.store_record.new.disk l n f c.args.file.now c.store_record.new.file x (Ok t)) c.if-not-branch.false
-    (subst (λ (y : NewRecord). StoresOne S c.args.disk.now c.store_record.new.disk l n f c.args.file.now c.store_record.new.file y (Ok c.in_ok-store_record.field-0)) same (c.in_ok-store_record.ensures l n f of))))
+    (line-unprinted S g.W.Write.contents c.args.disk.now c.store_record.new.disk c.args.out.now c.write_line.new.out l n
+    f c.args.file.now c.store_record.new.file x
+    (subst (λ (t : Bool). StoresOne S c.args.disk.now c.store_record.new.disk l n f c.args.file.now
+    c.store_record.new.file x (Ok t)) c.if-not-branch.false
+    (subst (λ (y : NewRecord). StoresOne S c.args.disk.now c.store_record.new.disk l n f c.args.file.now
+    c.store_record.new.file y (Ok c.in_ok-store_record.field-0)) same (c.in_ok-store_record.ensures l n f of))))
 
 pub returns : goal.returns
 returns g c = λ l n f of h x is can there.
     let S = g.D.Sectors.history in
     let view : c.as_slice.result.now ≡ c.read_last.new.bytes.items = c.as_slice.ensures.value in
-    let same = ap (new_record c.in-Some.number) view ∙ line-record c.args.line.now c.read_last.new.bytes.items c.in-Some.number (length_of c.args.file.now) h x c.in-Some.ensures.found is can in
+    let same = ap (new_record c.in-Some.number) view ∙ line-record c.args.line.now c.read_last.new.bytes.items
+    c.in-Some.number (length_of c.args.file.now) h x c.in-Some.ensures.found is can in
     let one = ap (λ (y : NewRecord). y.number) same in
     let is_last = ap (λ (m : ℕ). slice_index c.args.last.now.places.items m) (sym one) ∙ c.in-Some.ensures.found.3 in
-    subst (λ (ys : List NewRecord). StoresLines S g.W.Write.contents c.args.disk.now c.store_record.new.disk c.args.out.now
+    subst (λ (ys : List NewRecord). StoresLines S g.W.Write.contents c.args.disk.now c.store_record.new.disk
+    c.args.out.now
     c.write_line.new.out l n f c.args.file.now c.store_record.new.file ys (Ok tt))
     (if-last c.args.last.now.places.items c.args.place x is_last)
-    (line-printed S g.W.Write.contents c.args.disk.now c.store_record.new.disk c.args.out.now c.write_line.new.out l n f c.args.file.now c.store_record.new.file x
-    (subst (λ (t : Bool). StoresOne S c.args.disk.now c.store_record.new.disk l n f c.args.file.now c.store_record.new.file x (Ok t)) c.if-not-branch.false
-    (subst (λ (y : NewRecord). StoresOne S c.args.disk.now c.store_record.new.disk l n f c.args.file.now c.store_record.new.file y (Ok c.in_ok-store_record.field-0)) same (c.in_ok-store_record.ensures l n f of)))
-    (subst (λ (y : NewRecord). Appends (g.W.Write.contents c.args.out.now) (g.W.Write.contents c.write_line.new.out) (record_line y.number y.bytes))
-    (line-record c.args.line.now c.read_last.new.bytes.items c.in-Some.number (length_of c.args.file.now) h x c.in-Some.ensures.found is can)
+    (line-printed S g.W.Write.contents c.args.disk.now c.store_record.new.disk c.args.out.now c.write_line.new.out l n f
+    c.args.file.now c.store_record.new.file x
+    (subst (λ (t : Bool). StoresOne S c.args.disk.now c.store_record.new.disk l n f c.args.file.now
+    c.store_record.new.file x (Ok t)) c.if-not-branch.false
+    (subst (λ (y : NewRecord). StoresOne S c.args.disk.now c.store_record.new.disk l n f c.args.file.now
+    c.store_record.new.file y (Ok c.in_ok-store_record.field-0)) same (c.in_ok-store_record.ensures l n f of)))
+    (subst (λ (y : NewRecord). Appends (g.W.Write.contents c.args.out.now) (g.W.Write.contents c.write_line.new.out)
+    (record_line y.number y.bytes))
+    (line-record c.args.line.now c.read_last.new.bytes.items c.in-Some.number (length_of c.args.file.now) h x
+    c.in-Some.ensures.found is can)
     (not-err c.write_line.result (sym c.is_err.ensures.value ∙ c.if-is_err.false) c.write_line.ensures)))

@@ -11,9 +11,11 @@ abbrev pub invariant-loop-line : goal.invariant-loop-line
 invariant-loop-line g l = record {
   room : l.place + length l.rest ≤ length l.text;
   storing : (k : Layout) (n : ℕ) (f : File) → IsFileOf (g.D.Sectors.history.image l.fn.disk) k n f l.fn.file
-      → (h : ℕ) (xs : List NewRecord) → AreLinesOf (length_of l.fn.file) h (lines l.text) xs → greatest xs ≤ records_in l.fn.file
+      → (h : ℕ) (xs : List NewRecord) → AreLinesOf (length_of l.fn.file) h (lines l.text) xs
+      → greatest xs ≤ records_in l.fn.file
       → TellsLast l.last.places.items xs
-      → StoringTo g.D.Sectors.history g.W.Write.contents l.fn.disk l.disk l.fn.out l.out k n f l.fn.file l.file h xs (lines l.rest) l.place;
+      → StoringTo g.D.Sectors.history g.W.Write.contents l.fn.disk l.disk l.fn.out l.out k n f l.fn.file l.file h xs
+      (lines l.rest) l.place;
 }
 
 abbrev pub decreases-loop-line : goal.decreases-loop-line

@@ -1,4 +1,5 @@
--- The replies from an empty state on are the replies over the requests before each line; they stay when they are handed on.
+-- The replies from an empty state on are the replies over the requests before each line; they stay when they are
+-- handed on.
 use Rattle.std.proofs.Common.{[]}
 use Rattle.std.proofs.KnownBytes.{Appends-kept}
 use Rattle.request_cards.proofs.Plain.{replies_by_ledger, plain_nil}

@@ -13,7 +13,10 @@ pub loop-line-preserved : goal.loop-line-preserved
 loop-line-preserved g c =
     let kept = c.loop-line.invariant in (
       kept.0 ++ (reply_text c.reply.result ++ codes "\n"),
-      Appends-trans _ _ _ _ _ kept.1 (wrote_line c.write_line.result _ (c.is_err.ensures.negation ∙ ap not c.if-is_err.false) c.write_line.ensures),
-      report_more dry_start (state_of c.loop-line.table) (state_of c.reply.new.self) c.in-Some.line.now (lines c.in-Some.more.now)
-          (lines c.loop-line.rest.now) c.reply.result kept.0 _ c.in-Some.ensures.0 c.reply.ensures.reply c.reply.ensures.after kept.2,
+      Appends-trans _ _ _ _ _ kept.1 (wrote_line c.write_line.result _ (c.is_err.ensures.negation
+          ∙ ap not c.if-is_err.false) c.write_line.ensures),
+      report_more dry_start (state_of c.loop-line.table) (state_of c.reply.new.self) c.in-Some.line.now
+          (lines c.in-Some.more.now)
+          (lines c.loop-line.rest.now) c.reply.result kept.0 _ c.in-Some.ensures.0 c.reply.ensures.reply
+          c.reply.ensures.after kept.2,
     )

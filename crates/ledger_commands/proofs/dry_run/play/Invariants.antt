@@ -9,7 +9,8 @@ use Rattle.ledger_commands.proofs.dry_run.play.Given as goal
 abbrev pub invariant-loop-line : goal.invariant-loop-line
 invariant-loop-line g l =
     (written : List ℕ) × Appends (g.W.Write.contents l.fn.out) (g.W.Write.contents l.out) written
-    × (written ++ report (replies_from dry_start (state_of l.table) (lines l.rest)) ≡ report (replies_from dry_start (state_of l.fn.table) (lines l.script)))
+    × (written ++ report (replies_from dry_start (state_of l.table) (lines l.rest)) ≡ report
+    (replies_from dry_start (state_of l.fn.table) (lines l.script)))
 
 abbrev pub decreases-loop-line : goal.decreases-loop-line
 decreases-loop-line g l = length l.rest

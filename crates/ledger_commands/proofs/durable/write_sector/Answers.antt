@@ -14,6 +14,8 @@ returns-in-EachSector-clause-written g c =
 
 pub returns-in-EachSector-clause-stays : goal.returns-in-EachSector-clause-stays
 returns-in-EachSector-clause-stays g c = λ each there is.
-    brought g.F.WritesAt.held g.F.WritesAt.lasting c.args.file.now c.write_all_at.new.self c.sync.new.self c.args.at c.args.bytes.now c.sync.result
-    there is c.in_ok-write_all_at.ensures.written (c.write_all_at.ensures.stays there is) c.sync.ensures.same c.sync.ensures.stays
+    brought g.F.WritesAt.held g.F.WritesAt.lasting c.args.file.now c.write_all_at.new.self c.sync.new.self c.args.at
+    c.args.bytes.now c.sync.result
+    there is c.in_ok-write_all_at.ensures.written (c.write_all_at.ensures.stays there is) c.sync.ensures.same
+    c.sync.ensures.stays
     c.sync.ensures.lasting

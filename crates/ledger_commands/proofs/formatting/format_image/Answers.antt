@@ -12,5 +12,6 @@ returns-in_err-write_image g c =
 
 pub returns : goal.returns
 returns g c =
-    formatted g.F.Write.contents g.W.Write.contents c.args.tills c.args.file.now c.write_image.new.file c.args.out.now c.put_whole.new.out
+    formatted g.F.Write.contents g.W.Write.contents c.args.tills c.args.file.now c.write_image.new.file c.args.out.now
+    c.put_whole.new.out
     c.in_ok-write_image.ensures c.put_whole.result c.put_whole.ensures.ok c.put_whole.ensures.err

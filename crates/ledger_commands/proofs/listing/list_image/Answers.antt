@@ -25,7 +25,8 @@ pub returns-in_err-disk : goal.returns-in_err-disk
 returns-in_err-disk g c =
     let p = err_from_is_err_and c.from_residual.result c.from_residual.ensures.1 in record {
       ok = rw p.1 tt;
-      err = load-listed c.args.image.now c.in_err-disk.field-0.0 c.from_residual.result (p.1 ∙ ap Err p.2) c.in_err-disk.ensures.err;
+      err = load-listed c.args.image.now c.in_err-disk.field-0.0 c.from_residual.result (p.1
+          ∙ ap Err p.2) c.in_err-disk.ensures.err;
       untouched = rw p.1 (λ _. refl);
     }
 
@@ -45,9 +46,13 @@ returns g c =
     let loaded = c.in_ok-disk.ensures.ok in
     let found = c.in_default.ensures.ok in
     let directory = has_directory c.args.image.now _ found.0 _ loaded.0 loaded.1 found.1 in
-    let here = c.new.ensures ∙ c.in_ok-map.ensures.ok ∙ ap (λ (i : Image). sector i map_place) (c.read_directory.ensures.reads.image ∙ loaded.1) in record {
+    let here = c.new.ensures ∙ c.in_ok-map.ensures.ok
+    ∙ ap (λ (i : Image). sector i map_place) (c.read_directory.ensures.reads.image ∙ loaded.1) in record {
       ok = on_ok_weaker c.put_directory.result
-          (is-listed _ c.args.image.now c.args.out.now c.put_directory.new.out directory _ _ here c.as_slice.ensures.value) c.put_directory.ensures.ok;
-      err = IfErr-weaker c.put_directory.result _ _ (λ fault is. subst (IsListFault c.args.image.now) (sym is) directory) c.put_directory.ensures.err;
-      untouched = IfErr-weaker c.put_directory.result _ _ (λ fault is other. absurd (other is)) c.put_directory.ensures.err;
+          (is-listed _ c.args.image.now c.args.out.now c.put_directory.new.out directory _ _ here
+          c.as_slice.ensures.value) c.put_directory.ensures.ok;
+      err = IfErr-weaker c.put_directory.result _ _ (λ fault is. subst (IsListFault c.args.image.now) (sym is)
+          directory) c.put_directory.ensures.err;
+      untouched = IfErr-weaker c.put_directory.result _ _ (λ fault is other. absurd (other is))
+          c.put_directory.ensures.err;
     }

@@ -27,11 +27,13 @@ returns-in-Ok-play_image-clause-ok g c =
     let new = c.play_image.new.out in
     let loaded = c.in-Ok.ensures.ok in
     let holds : mirror_image start ≡ sectors_in image =
-    ap₂ (λ f d. kept_or (g.F.SectorFile.keeps.kept f) d) c.new.ensures.file (ap disk_image c.new.ensures.disk ∙ loaded.1) ∙ c.requires.agrees in
+    ap₂ (λ f d. kept_or (g.F.SectorFile.keeps.kept f) d) c.new.ensures.file (ap disk_image c.new.ensures.disk
+    ∙ loaded.1) ∙ c.requires.agrees in
     let mirror = c.in-Ok-play_image.mirror in
     IfOk-weaker c.file_of.result _ _ (λ after x.
     of_files (λ f d. IsPlayedFile g.F.SectorFile.keeps o image script f d old new) c.new.ensures.file x.0
-    (whole_at_ok o image script start c.new.ensures.whole c.new.ensures.untaken loaded.0 holds old new mirror x.1 c.in-Ok-play_image.ensures))
+    (whole_at_ok o image script start c.new.ensures.whole c.new.ensures.untaken loaded.0 holds old new mirror x.1
+    c.in-Ok-play_image.ensures))
     c.file_of.ensures.ok
 
 pub returns-in-Ok-play_image-clause-err : goal.returns-in-Ok-play_image-clause-err
@@ -44,12 +46,15 @@ returns-in-Ok-play_image-clause-err g c =
     let new = c.play_image.new.out in
     let loaded = c.in-Ok.ensures.ok in
     let holds : mirror_image start ≡ sectors_in image =
-    ap₂ (λ f d. kept_or (g.F.SectorFile.keeps.kept f) d) c.new.ensures.file (ap disk_image c.new.ensures.disk ∙ loaded.1) ∙ c.requires.agrees in
+    ap₂ (λ f d. kept_or (g.F.SectorFile.keeps.kept f) d) c.new.ensures.file (ap disk_image c.new.ensures.disk
+    ∙ loaded.1) ∙ c.requires.agrees in
     let mirror = c.in-Ok-play_image.mirror in
     IfErr-weaker c.file_of.result _ _ (λ e x. ⊎_elim
-    (λ broken. subst (λ (f : RunFault). IsFileFault g.F.SectorFile.keeps o image script c.args.file e.1 old new f) (sym broken.1)
+    (λ broken. subst (λ (f : RunFault). IsFileFault g.F.SectorFile.keeps o image script c.args.file e.1 old new f)
+    (sym broken.1)
     (of_files (λ f d. IsFileFault g.F.SectorFile.keeps o image script f d old new run.Device) c.new.ensures.file x.0
-    (broken_at_ok o image script start c.new.ensures.whole c.new.ensures.untaken loaded.0 holds old new mirror broken.0 c.in-Ok-play_image.ensures)))
+    (broken_at_ok o image script start c.new.ensures.whole c.new.ensures.untaken loaded.0 holds old new mirror broken.0
+    c.in-Ok-play_image.ensures)))
     (λ whole. let never = whole.1 in cc)
     x.1)
     c.file_of.ensures.err
@@ -64,15 +69,20 @@ returns-in-Err-play_image-clause-err g c =
     let new = c.play_image.new.out in
     let loaded = c.in-Ok.ensures.ok in
     let holds : mirror_image start ≡ sectors_in image =
-    ap₂ (λ f d. kept_or (g.F.SectorFile.keeps.kept f) d) c.new.ensures.file (ap disk_image c.new.ensures.disk ∙ loaded.1) ∙ c.requires.agrees in
+    ap₂ (λ f d. kept_or (g.F.SectorFile.keeps.kept f) d) c.new.ensures.file (ap disk_image c.new.ensures.disk
+    ∙ loaded.1) ∙ c.requires.agrees in
     let mirror = c.in-Err-play_image.mirror in
     let fault = c.in-Err-play_image.fault in
     IfErr-weaker c.file_of-in-Err-play_image.result _ _ (λ e x. ⊎_elim
-    (λ broken. subst (λ (f : RunFault). IsFileFault g.F.SectorFile.keeps o image script c.args.file e.1 old new f) (sym broken.1)
+    (λ broken. subst (λ (f : RunFault). IsFileFault g.F.SectorFile.keeps o image script c.args.file e.1 old new f)
+    (sym broken.1)
     (of_files (λ f d. IsFileFault g.F.SectorFile.keeps o image script f d old new run.Device) c.new.ensures.file x.0
-    (broken_at_err o image script start c.new.ensures.whole c.new.ensures.untaken loaded.0 holds old new mirror broken.0 fault c.in-Err-play_image.ensures)))
-    (λ whole. subst (λ (f : RunFault). IsFileFault g.F.SectorFile.keeps o image script c.args.file e.1 old new f) (err_is whole.1)
+    (broken_at_err o image script start c.new.ensures.whole c.new.ensures.untaken loaded.0 holds old new mirror broken.0
+    fault c.in-Err-play_image.ensures)))
+    (λ whole. subst (λ (f : RunFault). IsFileFault g.F.SectorFile.keeps o image script c.args.file e.1 old new f)
+    (err_is whole.1)
     (of_files (λ f d. IsFileFault g.F.SectorFile.keeps o image script f d old new fault) c.new.ensures.file x.0
-    (whole_at_err o image script start c.new.ensures.whole c.new.ensures.untaken loaded.0 holds old new mirror whole.0 fault c.in-Err-play_image.ensures)))
+    (whole_at_err o image script start c.new.ensures.whole c.new.ensures.untaken loaded.0 holds old new mirror whole.0
+    fault c.in-Err-play_image.ensures)))
     x.1)
     c.file_of-in-Err-play_image.ensures.err

@@ -23,5 +23,6 @@ taken {R} remaining t reader n bytes limit inner given =
 pub returns : goal.returns
 returns g c =
     IfOk-weaker c.read_script.result _ _
-    (λ bytes given. taken g.R.Read.remaining c.take.result c.args.reader 174849 (vec_items bytes) c.take.ensures.limit c.take.ensures.inner given)
+    (λ bytes given. taken g.R.Read.remaining c.take.result c.args.reader 174849 (vec_items bytes) c.take.ensures.limit
+    c.take.ensures.inner given)
     c.read_script.ensures

@@ -30,11 +30,13 @@ returns-in-Ok-serve-clause-ok g c =
     let new = c.serve.new.out in
     let loaded = c.in-Ok.ensures.ok in
     let holds : mirror_image start ≡ sectors_in image =
-    ap₂ (λ f d. kept_or (K.kept f) d) c.new.ensures.file (ap disk_image c.new.ensures.disk ∙ loaded.1) ∙ c.requires.agrees in
+    ap₂ (λ f d. kept_or (K.kept f) d) c.new.ensures.file (ap disk_image c.new.ensures.disk ∙ loaded.1)
+    ∙ c.requires.agrees in
     let mirror = c.in-Ok-serve.mirror in
     IfOk-weaker c.file_of.result _ _ (λ after x.
     of_files (λ f d. IsServedFile K left o image f d old_in new_in old new) c.new.ensures.file x.0
-    (served_at_ok left o image start c.new.ensures.whole c.new.ensures.untaken loaded.0 holds old_in new_in old new mirror x.1 c.in-Ok-serve.ensures))
+    (served_at_ok left o image start c.new.ensures.whole c.new.ensures.untaken loaded.0 holds old_in new_in old new
+    mirror x.1 c.in-Ok-serve.ensures))
     c.file_of.ensures.ok
 
 pub returns-in-Ok-serve-clause-err : goal.returns-in-Ok-serve-clause-err
@@ -50,12 +52,15 @@ returns-in-Ok-serve-clause-err g c =
     let new = c.serve.new.out in
     let loaded = c.in-Ok.ensures.ok in
     let holds : mirror_image start ≡ sectors_in image =
-    ap₂ (λ f d. kept_or (K.kept f) d) c.new.ensures.file (ap disk_image c.new.ensures.disk ∙ loaded.1) ∙ c.requires.agrees in
+    ap₂ (λ f d. kept_or (K.kept f) d) c.new.ensures.file (ap disk_image c.new.ensures.disk ∙ loaded.1)
+    ∙ c.requires.agrees in
     let mirror = c.in-Ok-serve.mirror in
     IfErr-weaker c.file_of.result _ _ (λ e x. ⊎_elim
-    (λ broken. subst (λ (f : RunFault). IsServeFault K left o image c.args.file e.1 old_in new_in old new f) (sym broken.1)
+    (λ broken. subst (λ (f : RunFault). IsServeFault K left o image c.args.file e.1 old_in new_in old new f)
+    (sym broken.1)
     (of_files (λ f d. IsServeFault K left o image f d old_in new_in old new run.Device) c.new.ensures.file x.0
-    (stopped_at_ok left o image start c.new.ensures.whole c.new.ensures.untaken loaded.0 holds old_in new_in old new mirror broken.0 c.in-Ok-serve.ensures)))
+    (stopped_at_ok left o image start c.new.ensures.whole c.new.ensures.untaken loaded.0 holds old_in new_in old new
+    mirror broken.0 c.in-Ok-serve.ensures)))
     (λ whole. let never = whole.1 in cc)
     x.1)
     c.file_of.ensures.err
@@ -73,15 +78,20 @@ returns-in-Err-serve-clause-err g c =
     let new = c.serve.new.out in
     let loaded = c.in-Ok.ensures.ok in
     let holds : mirror_image start ≡ sectors_in image =
-    ap₂ (λ f d. kept_or (K.kept f) d) c.new.ensures.file (ap disk_image c.new.ensures.disk ∙ loaded.1) ∙ c.requires.agrees in
+    ap₂ (λ f d. kept_or (K.kept f) d) c.new.ensures.file (ap disk_image c.new.ensures.disk ∙ loaded.1)
+    ∙ c.requires.agrees in
     let mirror = c.in-Err-serve.mirror in
     let fault = c.in-Err-serve.fault in
     IfErr-weaker c.file_of-in-Err-serve.result _ _ (λ e x. ⊎_elim
-    (λ broken. subst (λ (f : RunFault). IsServeFault K left o image c.args.file e.1 old_in new_in old new f) (sym broken.1)
+    (λ broken. subst (λ (f : RunFault). IsServeFault K left o image c.args.file e.1 old_in new_in old new f)
+    (sym broken.1)
     (of_files (λ f d. IsServeFault K left o image f d old_in new_in old new run.Device) c.new.ensures.file x.0
-    (stopped_at_err left o image start c.new.ensures.whole c.new.ensures.untaken loaded.0 holds old_in new_in old new mirror broken.0 fault c.in-Err-serve.ensures)))
-    (λ whole. subst (λ (f : RunFault). IsServeFault K left o image c.args.file e.1 old_in new_in old new f) (sym c.told.ensures ∙ err_is whole.1)
+    (stopped_at_err left o image start c.new.ensures.whole c.new.ensures.untaken loaded.0 holds old_in new_in old new
+    mirror broken.0 fault c.in-Err-serve.ensures)))
+    (λ whole. subst (λ (f : RunFault). IsServeFault K left o image c.args.file e.1 old_in new_in old new f)
+    (sym c.told.ensures ∙ err_is whole.1)
     (of_files (λ f d. IsServeFault K left o image f d old_in new_in old new (loop_fault fault)) c.new.ensures.file x.0
-    (served_at_err left o image start c.new.ensures.whole c.new.ensures.untaken loaded.0 holds old_in new_in old new mirror whole.0 fault c.in-Err-serve.ensures)))
+    (served_at_err left o image start c.new.ensures.whole c.new.ensures.untaken loaded.0 holds old_in new_in old new
+    mirror whole.0 fault c.in-Err-serve.ensures)))
     x.1)
     c.file_of-in-Err-serve.ensures.err

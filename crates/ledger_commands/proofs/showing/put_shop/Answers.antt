@@ -5,4 +5,5 @@ use Rattle.ledger_commands.proofs.showing.put_shop.Goals as goal
 pub returns-clause-ok : goal.returns-clause-ok
 returns-clause-ok g c = λ s is. at-ok c.flush.result
     (shop-shown _ _ _ _ _ s.top s.state
-    (rw (← c.top.ensures s is) c.in_ok-put_top.ensures.ok) (c.in_ok-put_cards.ensures.ok s is) (c.in_ok-put_tills.ensures.ok s is) c.flush.ensures.kept)
+    (rw (← c.top.ensures s is) c.in_ok-put_top.ensures.ok) (c.in_ok-put_cards.ensures.ok s is)
+    (c.in_ok-put_tills.ensures.ok s is) c.flush.ensures.kept)

@@ -13,7 +13,8 @@ loop-before-init g c = λ s is. none-yet _ _
 pub loop-before-preserved : goal.loop-before-preserved
 loop-before-preserved g c = λ s is.
     one-more _ _ _ c.loop-before.before
-    (λ till. till_part (option_map (told_of till) (s.state.ledger.kept till)) (option_map (told_of till) (s.state.prior till)))
+    (λ till. till_part (option_map (told_of till) (s.state.ledger.kept till))
+    (option_map (told_of till) (s.state.prior till)))
     (c.loop-before.invariant s is)
     (rw (← c.in-Ok-Ok.ensures.ok s is, ← c.in-Ok-Ok.ensures'.ok s is) c.in_ok-put_till.ensures.ok)
 
@@ -21,5 +22,6 @@ pub returns-clause-ok : goal.returns-clause-ok
 returns-clause-ok g c = λ s is.
     let all : c.loop-before.before ≡ 64 = omega (arith, c.loop-before.auto.before-end, c.loop-before-test.false) in
     subst (λ (n : ℕ). Appends (g.W.Write.contents c.args.out.now) (g.W.Write.contents c.loop-before.out)
-    (up_to n (λ till. till_part (option_map (told_of till) (s.state.ledger.kept till)) (option_map (told_of till) (s.state.prior till)))))
+    (up_to n (λ till. till_part (option_map (told_of till) (s.state.ledger.kept till))
+    (option_map (told_of till) (s.state.prior till)))))
     all (c.loop-before.invariant s is)

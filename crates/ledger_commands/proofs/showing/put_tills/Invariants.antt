@@ -10,4 +10,5 @@ abbrev pub invariant-loop-before : goal.invariant-loop-before
 invariant-loop-before g l =
     (s : Shop) → IsShop (g.D.Sectors.history.image l.session.disk) s
     → Appends (g.W.Write.contents l.fn.out) (g.W.Write.contents l.out)
-    (up_to l.before (λ till. till_part (option_map (told_of till) (s.state.ledger.kept till)) (option_map (told_of till) (s.state.prior till))))
+    (up_to l.before (λ till. till_part (option_map (told_of till) (s.state.ledger.kept till))
+    (option_map (told_of till) (s.state.prior till))))

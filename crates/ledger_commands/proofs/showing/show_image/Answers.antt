@@ -26,7 +26,8 @@ returns-in-Ok-clause-err g c =
     let loaded = c.in_ok-disk.ensures.ok in
     let opened = c.in-Ok.ensures.ok in
     IfErr-weaker c.put_shop-shown.result _ _
-    (λ fault is. subst (IsShowFault c.args.image.now) (sym is) (loaded.0, (opened.0, subst (λ (i : Image). IsShop i opened.0) loaded.1 opened.1)))
+    (λ fault is. subst (IsShowFault c.args.image.now) (sym is)
+    (loaded.0, (opened.0, subst (λ (i : Image). IsShop i opened.0) loaded.1 opened.1)))
     c.put_shop-shown.ensures.err
 
 pub returns-in-Ok-clause-untouched : goal.returns-in-Ok-clause-untouched

@@ -5,5 +5,6 @@ use Rattle.ledger_words.proofs.Grammars.{of-rule}
 use Rattle.ledger_words.proofs.grammar.format_command.Goals as goal
 
 pub returns : goal.returns
-returns c = of-rule (grammar.over_image (codes "format")) _ (grammar.required_behind (codes "tills") (codes "T")) c.takes.result c.required_behind.ensures.rule
+returns c = of-rule (grammar.over_image (codes "format")) _ (grammar.required_behind (codes "tills") (codes "T"))
+    c.takes.result c.required_behind.ensures.rule
     (c.takes.ensures (grammar.over_image (codes "format")) c.over_image.ensures)

@@ -6,7 +6,8 @@ use Rattle.ledger_words.proofs.grammar.ledger_command.Goals as goal
 
 pub returns : goal.returns
 returns c =
-    let with_format = adds-known grammar.bare grammar.format (Ok c.bare.result) c.format_command.result c.adds-program.result
+    let with_format = adds-known grammar.bare grammar.format (Ok c.bare.result) c.format_command.result
+    c.adds-program.result
     c.bare.ensures c.format_command.ensures c.adds-program.ensures in
     let with_list = adds-known _ grammar.list c.adds-program.result c.list_command.result c.adds-program-2.result
     with_format c.list_command.ensures c.adds-program-2.ensures in
@@ -18,9 +19,11 @@ returns c =
     with_show c.play_command.ensures c.adds-program-5.ensures in
     let with_serve = adds-known _ grammar.serve c.adds-program-5.result c.serve_command.result c.adds-program-6.result
     with_play c.serve_command.ensures c.adds-program-6.ensures in
-    let with_repair = adds-known _ grammar.repair c.adds-program-6.result c.repair_command.result c.adds-program-7.result
+    let with_repair = adds-known _ grammar.repair c.adds-program-6.result c.repair_command.result
+    c.adds-program-7.result
     with_serve c.repair_command.ensures c.adds-program-7.ensures in
-    let with_records = adds-known _ grammar.records c.adds-program-7.result c.records_command.result c.adds-program-8.result
+    let with_records = adds-known _ grammar.records c.adds-program-7.result c.records_command.result
+    c.adds-program-8.result
     with_repair c.records_command.ensures c.adds-program-8.ensures in
     let with_bytes = adds-known _ grammar.bytes c.adds-program-8.result c.bytes_command.result c.adds-program-9.result
     with_records c.bytes_command.ensures c.adds-program-9.ensures in
@@ -30,7 +33,8 @@ returns c =
     with_make c.store_command.ensures c.adds-program-11.ensures in
     let with_map = adds-known _ grammar.map c.adds-program-11.result c.map_command.result c.adds-program-12.result
     with_store c.map_command.ensures c.adds-program-12.ensures in
-    let with_picture = adds-known _ grammar.picture c.adds-program-12.result c.picture_command.result c.adds-program-13.result
+    let with_picture = adds-known _ grammar.picture c.adds-program-12.result c.picture_command.result
+    c.adds-program-13.result
     with_map c.picture_command.ensures c.adds-program-13.ensures in
     adds-known _ grammar.dry c.adds-program-13.result c.dry_command.result c.adds.result
     with_picture c.dry_command.ensures c.adds.ensures

@@ -9,6 +9,7 @@ pub returns : goal.returns
 returns c =
     let image = grammar.over_image (codes "make") in
     let name = grammar.required (codes "NAME") in
-    of-rule (with_rule image name) _ (grammar.required_behind (codes "length") (codes "L")) c.takes.result c.required_behind.ensures.rule
+    of-rule (with_rule image name) _ (grammar.required_behind (codes "length") (codes "L")) c.takes.result
+    c.required_behind.ensures.rule
     (c.takes.ensures (with_rule image name)
     (of-rule image _ name c.takes-make.result c.name_of.ensures.rule (c.takes-make.ensures image c.over_image.ensures)))

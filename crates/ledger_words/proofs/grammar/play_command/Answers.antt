@@ -11,4 +11,5 @@ returns c =
     let script = grammar.required (codes "SCRIPT") in
     of-rule (with_rule image script) _ (grammar.flag (codes "sync")) c.takes.result c.flag.ensures.rule
     (c.takes.ensures (with_rule image script)
-    (of-rule image _ script c.takes-play.result c.script_of.ensures.rule (c.takes-play.ensures image c.over_image.ensures)))
+    (of-rule image _ script c.takes-play.result c.script_of.ensures.rule
+    (c.takes-play.ensures image c.over_image.ensures)))

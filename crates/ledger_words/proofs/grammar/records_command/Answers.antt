@@ -5,5 +5,6 @@ use Rattle.ledger_words.proofs.Grammars.{of-rule}
 use Rattle.ledger_words.proofs.grammar.records_command.Goals as goal
 
 pub returns : goal.returns
-returns c = of-rule (grammar.over_image (codes "records")) _ (grammar.required (codes "NAME")) c.takes.result c.name_of.ensures.rule
+returns c = of-rule (grammar.over_image (codes "records")) _ (grammar.required (codes "NAME")) c.takes.result
+    c.name_of.ensures.rule
     (c.takes.ensures (grammar.over_image (codes "records")) c.over_image.ensures)

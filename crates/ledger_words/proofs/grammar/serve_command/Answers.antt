@@ -5,5 +5,6 @@ use Rattle.ledger_words.proofs.Grammars.{of-rule}
 use Rattle.ledger_words.proofs.grammar.serve_command.Goals as goal
 
 pub returns : goal.returns
-returns c = of-rule (grammar.over_image (codes "serve")) _ (grammar.flag (codes "unsynced")) c.takes.result c.flag-unsynced.ensures.rule
+returns c = of-rule (grammar.over_image (codes "serve")) _ (grammar.flag (codes "unsynced")) c.takes.result
+    c.flag-unsynced.ensures.rule
     (c.takes.ensures (grammar.over_image (codes "serve")) c.over_image.ensures)

@@ -11,4 +11,5 @@ returns c =
     let name = grammar.required (codes "NAME") in
     of-rule (with_rule image name) _ (grammar.required (codes "RECORDS")) c.takes.result c.records_of.ensures.rule
     (c.takes.ensures (with_rule image name)
-    (of-rule image _ name c.takes-store.result c.name_of.ensures.rule (c.takes-store.ensures image c.over_image.ensures)))
+    (of-rule image _ name c.takes-store.result c.name_of.ensures.rule
+    (c.takes-store.ensures image c.over_image.ensures)))

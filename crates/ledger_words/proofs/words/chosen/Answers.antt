@@ -30,78 +30,91 @@ returns-in-None c = record {
 
 pub returns-in-list : goal.returns-in-list
 returns-in-list c = record {
-  job = met-has c.met.result _ c.in-Some.name c.in-Some.found _ _ c.met.ensures c.in-Some.is c.in-list.is c.value_of-image.ensures;
+  job = met-has c.met.result _ c.in-Some.name c.in-Some.found _ _ c.met.ensures c.in-Some.is c.in-list.is
+      c.value_of-image.ensures;
   fit = tt;
 }
 
 pub returns-in-check : goal.returns-in-check
 returns-in-check c = record {
-  job = met-has c.met.result _ c.in-Some.name c.in-Some.found _ _ c.met.ensures c.in-Some.is c.in-check.is c.value_of-image.ensures;
+  job = met-has c.met.result _ c.in-Some.name c.in-Some.found _ _ c.met.ensures c.in-Some.is c.in-check.is
+      c.value_of-image.ensures;
   fit = tt;
 }
 
 pub returns-in-show : goal.returns-in-show
 returns-in-show c = record {
-  job = met-has c.met.result _ c.in-Some.name c.in-Some.found _ _ c.met.ensures c.in-Some.is c.in-show.is c.value_of-image.ensures;
+  job = met-has c.met.result _ c.in-Some.name c.in-Some.found _ _ c.met.ensures c.in-Some.is c.in-show.is
+      c.value_of-image.ensures;
   fit = tt;
 }
 
 pub returns-in-play : goal.returns-in-play
 returns-in-play c = record {
-  job = met-has c.met.result _ c.in-Some.name c.in-Some.found _ _ c.met.ensures c.in-Some.is c.in-play.is (c.value_of-image.ensures, c.value_of-script.ensures, c.play_durability.ensures);
+  job = met-has c.met.result _ c.in-Some.name c.in-Some.found _ _ c.met.ensures c.in-Some.is c.in-play.is
+      (c.value_of-image.ensures, c.value_of-script.ensures, c.play_durability.ensures);
   fit = tt;
 }
 
 pub returns-in-dry : goal.returns-in-dry
 returns-in-dry c = record {
-  job = met-has c.met.result _ c.in-Some.name c.in-Some.found _ _ c.met.ensures c.in-Some.is c.in-dry.is c.value_of-script.ensures;
+  job = met-has c.met.result _ c.in-Some.name c.in-Some.found _ _ c.met.ensures c.in-Some.is c.in-dry.is
+      c.value_of-script.ensures;
   fit = tt;
 }
 
 pub returns-in-serve : goal.returns-in-serve
 returns-in-serve c = record {
-  job = met-has c.met.result _ c.in-Some.name c.in-Some.found _ _ c.met.ensures c.in-Some.is c.in-serve.is (c.value_of-image.ensures, c.serve_durability.ensures);
+  job = met-has c.met.result _ c.in-Some.name c.in-Some.found _ _ c.met.ensures c.in-Some.is c.in-serve.is
+      (c.value_of-image.ensures, c.serve_durability.ensures);
   fit = tt;
 }
 
 pub returns-in-repair : goal.returns-in-repair
 returns-in-repair c = record {
-  job = met-has c.met.result _ c.in-Some.name c.in-Some.found _ _ c.met.ensures c.in-Some.is c.in-repair.is c.value_of-image.ensures;
+  job = met-has c.met.result _ c.in-Some.name c.in-Some.found _ _ c.met.ensures c.in-Some.is c.in-repair.is
+      c.value_of-image.ensures;
   fit = tt;
 }
 
 pub returns-in-records : goal.returns-in-records
 returns-in-records c =
-    let met = taking-met c.met.result _ c.in-Some.name c.in-Some.found takings.Records _ c.taking.result c.met.ensures c.in-Some.is c.in-records.is
+    let met = taking-met c.met.result _ c.in-Some.name c.in-Some.found takings.Records _ c.taking.result c.met.ensures
+    c.in-Some.is c.in-records.is
     c.value_of-image.ensures c.taking.ensures in
     record { job = met.0; fit = met.1 }
 
 pub returns-in-bytes : goal.returns-in-bytes
 returns-in-bytes c =
-    let met = taking-met c.met.result _ c.in-Some.name c.in-Some.found takings.Bytes _ c.taking-in-bytes.result c.met.ensures c.in-Some.is c.in-bytes.is
+    let met = taking-met c.met.result _ c.in-Some.name c.in-Some.found takings.Bytes _ c.taking-in-bytes.result
+    c.met.ensures c.in-Some.is c.in-bytes.is
     c.value_of-image.ensures c.taking-in-bytes.ensures in
     record { job = met.0; fit = met.1 }
 
 pub returns-in-make : goal.returns-in-make
 returns-in-make c =
-    let met = making-met c.met.result _ c.in-Some.name c.in-Some.found _ c.making.result c.met.ensures c.in-Some.is c.in-make.is
+    let met = making-met c.met.result _ c.in-Some.name c.in-Some.found _ c.making.result c.met.ensures c.in-Some.is
+    c.in-make.is
     c.value_of-image.ensures c.making.ensures in
     record { job = met.0; fit = met.1 }
 
 pub returns-in-store : goal.returns-in-store
 returns-in-store c =
-    let met = storing-met c.met.result _ c.in-Some.name c.in-Some.found _ c.storing.result c.met.ensures c.in-Some.is c.in-store.is
+    let met = storing-met c.met.result _ c.in-Some.name c.in-Some.found _ c.storing.result c.met.ensures c.in-Some.is
+    c.in-store.is
     c.value_of-image.ensures c.storing.ensures in
     record { job = met.0; fit = met.1 }
 
 pub returns-in-map : goal.returns-in-map
 returns-in-map c = record {
-  job = met-has c.met.result _ c.in-Some.name c.in-Some.found _ _ c.met.ensures c.in-Some.is c.in-map.is c.value_of-image.ensures;
+  job = met-has c.met.result _ c.in-Some.name c.in-Some.found _ _ c.met.ensures c.in-Some.is c.in-map.is
+      c.value_of-image.ensures;
   fit = tt;
 }
 
 pub returns-in-picture : goal.returns-in-picture
 returns-in-picture c = record {
-  job = met-has c.met.result _ c.in-Some.name c.in-Some.found _ _ c.met.ensures c.in-Some.is c.in-picture.is c.value_of-image.ensures;
+  job = met-has c.met.result _ c.in-Some.name c.in-Some.found _ _ c.met.ensures c.in-Some.is c.in-picture.is
+      c.value_of-image.ensures;
   fit = tt;
 }

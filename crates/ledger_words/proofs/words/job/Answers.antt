@@ -9,7 +9,8 @@ pub returns-in-Ok-clause-fit : goal.returns-in-Ok-clause-fit
 returns-in-Ok-clause-fit c = c.chosen.ensures.fit
 
 pub returns-in-Ok-clause-err : goal.returns-in-Ok-clause-err
-returns-in-Ok-clause-err c = no-job-found _ _ _ c.chosen.result c.in-Ok.ensures.fine c.in-Ok.ensures.is c.chosen.ensures.job
+returns-in-Ok-clause-err c = no-job-found _ _ _ c.chosen.result c.in-Ok.ensures.fine c.in-Ok.ensures.is
+    c.chosen.ensures.job
 
 pub returns-in-Err-clause-ok : goal.returns-in-Err-clause-ok
 returns-in-Err-clause-ok c = tt

@@ -1,4 +1,5 @@
--- The command line is a simple one, so its matches are those of the words, and words are refused for one of its reasons.
+-- The command line is a simple one, so its matches are those of the words, and words are refused for one of its
+-- reasons.
 use Rattle.ledger_words.proofs.Parses.{ledger-parse}
 use Rattle.ledger_words.proofs.words.parsed.Goals as goal
 

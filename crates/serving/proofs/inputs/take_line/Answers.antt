@@ -12,5 +12,6 @@ returns-in-Ok-true g c =
       x.0,
       x.1,
       ap request_of c.drop_cr.ensures ∙ same_message x.0 c.read_line.new.line.items x.2,
-      subst (λ t. Consumes (g.R.Read.remaining c.args.input.now) (g.R.Read.remaining c.read_line.new.input) (x.0 ++ lf_after t)) c.in-Ok-true.field-0-test x.3,
+      subst (λ t. Consumes (g.R.Read.remaining c.args.input.now) (g.R.Read.remaining c.read_line.new.input)
+          (x.0 ++ lf_after t)) c.in-Ok-true.field-0-test x.3,
     )

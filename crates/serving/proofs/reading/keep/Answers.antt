@@ -13,5 +13,7 @@ pub returns : goal.returns
 returns c =
     let fits : length c.args.line.now.items + length (take c.min-count.result c.args.bytes.now) ≤ 40 =
     omega (arith, length-take c.min-count.result c.args.bytes.now, c.remaining_capacity.ensures, c.min-count.ensures) in
-    ok_holds c.try_extend_from_slice.result _ (c.try_extend_from_slice.ensures.variant.1 fits) c.try_extend_from_slice.ensures.ok
-    ∙ kept_front c.args.line.now.items c.args.bytes.now c.remaining_capacity.result c.min-count.result c.remaining_capacity.ensures c.min-count.ensures
+    ok_holds c.try_extend_from_slice.result _ (c.try_extend_from_slice.ensures.variant.1 fits)
+    c.try_extend_from_slice.ensures.ok
+    ∙ kept_front c.args.line.now.items c.args.bytes.now c.remaining_capacity.result c.min-count.result
+    c.remaining_capacity.ensures c.min-count.ensures

@@ -17,21 +17,29 @@ loop-init g c = record { raw = []; lacks = tt; kept_is = c.clear.ensures; consum
 pub returns-in_err-take_part-clause-err : goal.returns-in_err-take_part-clause-err
 returns-in_err-take_part-clause-err g c =
     let k = c.loop.invariant in
-    on_err c.from_residual.result _ (k.raw, k.lacks, subst (Consumes _ _) (append-nil k.raw) (Consumes-trans _ _ _ k.raw [] k.consumed c.in_err-take_part.ensures.err))
+    on_err c.from_residual.result _ (
+      k.raw,
+      k.lacks,
+      subst (Consumes _ _) (append-nil k.raw)
+          (Consumes-trans _ _ _ k.raw [] k.consumed c.in_err-take_part.ensures.err),
+    )
 
 pub returns-in-Ended-clause-ok : goal.returns-in-Ended-clause-ok
 returns-in-Ended-clause-ok g c =
-    let x = read_more _ _ _ c.loop.line.items c.take_part.new.line.items c.in_ok-take_part.field-0 Ended c.in-Ended.is c.loop.invariant c.in_ok-take_part.ensures.ok in
+    let x = read_more _ _ _ c.loop.line.items c.take_part.new.line.items c.in_ok-take_part.field-0 Ended c.in-Ended.is
+    c.loop.invariant c.in_ok-take_part.ensures.ok in
     (x.0, x.1, x.2, x.3, λ e. cc)
 
 pub returns-in-Over-clause-ok : goal.returns-in-Over-clause-ok
 returns-in-Over-clause-ok g c =
-    let x = read_more _ _ _ c.loop.line.items c.take_part.new.line.items c.in_ok-take_part.field-0 Over c.in-Over.is c.loop.invariant c.in_ok-take_part.ensures.ok in
+    let x = read_more _ _ _ c.loop.line.items c.take_part.new.line.items c.in_ok-take_part.field-0 Over c.in-Over.is
+    c.loop.invariant c.in_ok-take_part.ensures.ok in
     (x.0, x.1, x.2, x.3, λ e. x.4 c.in-Over.is)
 
 pub loop-preserved : goal.loop-preserved
 loop-preserved g c =
-    let x = read_more _ _ _ c.loop.line.items c.take_part.new.line.items c.in_ok-take_part.field-0 More c.in-More.is c.loop.invariant c.in_ok-take_part.ensures.ok in
+    let x = read_more _ _ _ c.loop.line.items c.take_part.new.line.items c.in_ok-take_part.field-0 More c.in-More.is
+    c.loop.invariant c.in_ok-take_part.ensures.ok in
     record { raw = x.0; lacks = x.1; kept_is = x.2; consumed = subst (Consumes _ _) (append-nil x.0) x.3 }
 
 pub returns-clause-err : goal.returns-clause-err

@@ -16,7 +16,9 @@ loop-round-preserved g c =
     let old = c.loop-round.invariant in
     let told = c.is_clean.ensures in
     elim c.if-is_clean.branch [
-      | then-is_clean w ↦ rw w.count-is (found S c.args.disk.now c.loop-round.disk c.is_clean.new.disk _ _ old told.reads told.later (told.found w.if-is_clean.true))
-      | else-is_clean w ↦ rw w.count-is (missed S c.args.disk.now c.loop-round.disk c.is_clean.new.disk _ _ old told.reads told.later
+      | then-is_clean w ↦ rw w.count-is (found S c.args.disk.now c.loop-round.disk c.is_clean.new.disk _ _ old
+          told.reads told.later (told.found w.if-is_clean.true))
+      | else-is_clean w ↦ rw w.count-is (missed S c.args.disk.now c.loop-round.disk c.is_clean.new.disk _ _ old
+          told.reads told.later
           (λ never here. let e = told.clean never here in let f = w.if-is_clean.false in absurd (cc)))
     ]

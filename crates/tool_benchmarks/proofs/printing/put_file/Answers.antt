@@ -32,7 +32,8 @@ returns-clause-ok g c = λ l layout.
     let Q : Image → Type 0 = λ img. IsFileOf img l (entry_of v) f v in
     let same = c.in-Ok-find.ensures.reads.image ∙ c.in-Ok.ensures.reads.image in
     let W = g.W.Write.contents in
-    let R : Image → Type 0 = λ img. Appends (W c.args.out.now) (W c.put_records.new.out) (flat_map record_line (records img f)) in
+    let R : Image → Type 0 = λ img. Appends (W c.args.out.now) (W c.put_records.new.out)
+    (flat_map record_line (records img f)) in
     on-ok c.put_records.result _ _ (λ printed. (entry_of v, f, first, subst R same printed))
     (c.put_records.ensures.ok l (entry_of v) f (subst Q (sym c.in-Ok-find.ensures.reads.image) of))
 

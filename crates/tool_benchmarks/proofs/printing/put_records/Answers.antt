@@ -31,12 +31,15 @@ loop-before-preserved g c =
       quiet = no_write_then S _ _ _ c.loop-before.invariant.quiet (reads_no_write S _ _ _ c.read_record.ensures.reads);
       printed = λ l n f of.
           let P : Image → Type 0 = λ img. IsFileOf img l n f c.args.file.now in
-          let Q : Image → Type 0 = λ img. IsRecord (records img f) (c.loop-before.before + 1) c.read_record.new.text.items in
+          let Q : Image
+          → Type 0 = λ img. IsRecord (records img f) (c.loop-before.before + 1) c.read_record.new.text.items in
           let W = g.W.Write.contents in
-          lines-more (W c.args.out.now) (W c.loop-before.out) (W c.put_line.new.out) _ c.loop-before.before c.read_record.new.text.items
+          lines-more (W c.args.out.now) (W c.loop-before.out) (W c.put_line.new.out) _ c.loop-before.before
+          c.read_record.new.text.items
           (subst Q same (c.in-Ok.ensures.ok l n f (subst P (sym same) of)))
           (c.loop-before.invariant.printed l n f of)
-          (subst (λ (bytes : List ℕ). Appends (W c.loop-before.out) (W c.put_line.new.out) (record_line bytes)) c.as_slice.ensures.value c.in_ok-put_line.ensures.ok);
+          (subst (λ (bytes : List ℕ). Appends (W c.loop-before.out) (W c.put_line.new.out) (record_line bytes))
+          c.as_slice.ensures.value c.in_ok-put_line.ensures.ok);
     }
 
 pub returns-in_err-put_line-clause-quiet : goal.returns-in_err-put_line-clause-quiet
@@ -47,7 +50,8 @@ returns-in_err-put_line-clause-quiet g c =
 pub returns-clause-ok : goal.returns-clause-ok
 returns-clause-ok g c = λ l n f of.
     let all = c.records-before-end.ensures.exact (g.D.Sectors.history.image c.args.disk.now) l n f of in
-    all-lines _ _ _ c.loop-before.before (omega (arith, all, c.loop-before-test.false)) (c.loop-before.invariant.printed l n f of)
+    all-lines _ _ _ c.loop-before.before (omega (arith, all, c.loop-before-test.false))
+    (c.loop-before.invariant.printed l n f of)
 
 pub returns-clause-quiet : goal.returns-clause-quiet
 returns-clause-quiet g c = c.loop-before.invariant.quiet

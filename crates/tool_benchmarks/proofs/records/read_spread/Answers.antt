@@ -6,7 +6,12 @@ use Rattle.rel_records.specs.File.{IsOf}
 use Rattle.tool_benchmarks.proofs.records.read_spread.Goals as goal
 
 pub loop-round-init : goal.loop-round-init
-loop-round-init g c = record { high = omega arith; reads = no_reads g.D.Sectors.history c.args.disk.now; failures = refl }
+loop-round-init g c = record {
+  high = omega arith;
+  reads = no_reads g.D.Sectors.history c.args.disk.now;
+  failures =
+      refl;
+}
 
 pub read_record-requires : goal.read_record-requires
 read_record-requires g c =

@@ -12,5 +12,6 @@ returns g c =
     let shop = c.requires.shop in
     record {
       stays = asked g.D.Sectors.history c.args.session.now c.handle-reply.new.self shop.0 _ 3618 _ shop.1
-          (told.moments shop.0 shop.1) (λ e. (told.dead e).1) (λ e not. (told.reply shop.0 shop.1 e not).2) told.failures;
+          (told.moments shop.0 shop.1) (λ e. (told.dead e).1) (λ e not. (told.reply shop.0 shop.1 e not).2)
+          told.failures;
     }

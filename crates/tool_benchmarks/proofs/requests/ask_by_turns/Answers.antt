@@ -10,6 +10,7 @@ ask-requires g c = record { shop = c.loop-round.invariant.0.shop }
 
 pub loop-round-preserved : goal.loop-round-preserved
 loop-round-preserved g c = (
-  then_asked g.D.Sectors.history c.args.session.now c.loop-round.session c.ask.new.session c.loop-round.invariant.0 c.ask.ensures.stays,
+  then_asked g.D.Sectors.history c.args.session.now c.loop-round.session c.ask.new.session c.loop-round.invariant.0
+      c.ask.ensures.stays,
   search (rules, c.loop-round.invariant.1),
 )

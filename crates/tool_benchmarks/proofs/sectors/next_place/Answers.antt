@@ -4,7 +4,8 @@ use Rattle.tool_benchmarks.proofs.Walks.{first_again, next_track, on_track}
 use Rattle.tool_benchmarks.proofs.sectors.next_place.Goals as goal
 
 pub returns-in-Some : goal.returns-in-Some
-returns-in-Some c = on_track c.args.place c.in-Some.next (rw (c.track.ensures, c.sector.ensures) at c.in-Some.ensures.value)
+returns-in-Some c =
+    on_track c.args.place c.in-Some.next (rw (c.track.ensures, c.sector.ensures) at c.in-Some.ensures.value)
 
 pub returns-in-Some-new : goal.returns-in-Some-new
 returns-in-Some-new c =

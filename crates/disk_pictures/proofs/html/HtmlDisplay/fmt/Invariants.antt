@@ -6,4 +6,5 @@ use Rattle.disk_pictures.proofs.html.HtmlDisplay.fmt.Given as goal
 
 abbrev pub invariant-loop-byte : goal.invariant-loop-byte
 invariant-loop-byte g l =
-    IsPlainFormatter l.initial.f → HasWritten g.W.Write.write_str_gives l.initial.f (html_of (take l.byte-index l.byte-items)) l.f
+    IsPlainFormatter l.initial.f
+    → HasWritten g.W.Write.write_str_gives l.initial.f (html_of (take l.byte-index l.byte-items)) l.f

@@ -13,7 +13,8 @@ returns g c =
     let es = c.args.self.now.events.now in (
       λ first xs given.
           let below : n < length first.events.now = omega (arith, ap length given.0) in
-          let here = ap (λ es. message_here (last_taken (n + 1) es)) given.0 ∙ ap message_here (taken_last first.events.now n) in
+          let here = ap (λ es. message_here (last_taken (n + 1) es)) given.0
+          ∙ ap message_here (taken_last first.events.now n) in
           let left : List Message = map message_of (drop (n + 1) first.events.now) in (
             given.0,
             taken_on xs _ _ _ _ (instant_of g.D.Sectors.history c.args._disk.now) given.1

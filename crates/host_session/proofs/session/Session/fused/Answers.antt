@@ -9,8 +9,10 @@ pub invariant_of-result : goal.invariant_of-result
 invariant_of-result g c =
     let h = g.D.Sectors.history in
     let s = c.self.inside in
-    let same : fuse_disk c.power_on.result.disk ≡ s.drive.disk = ap fuse_disk c.power_on.ensures.disk ∙ c.new.ensures.disk ∙ c.into_disk.ensures in (
-      subst (λ d. IsStanding (h.image d) s.dead s.top s.tills (state_in s.cards s.requests)) (sym same) c.self.invariant.0,
+    let same : fuse_disk c.power_on.result.disk ≡ s.drive.disk = ap fuse_disk c.power_on.ensures.disk
+    ∙ c.new.ensures.disk ∙ c.into_disk.ensures in (
+      subst (λ d. IsStanding (h.image d) s.dead s.top s.tills (state_in s.cards s.requests)) (sym same)
+          c.self.invariant.0,
       λ alive. record {
         alive = c.power_on.ensures.alive;
         clean = subst (λ d. IsClean (h.image d)) (sym same) (c.self.invariant.1 alive).clean;

@@ -6,7 +6,8 @@ use Rattle.d64_image.proofs.Moments.{changes_then, changes_weaker, reads_change}
 use Rattle.host_session.specs.Files.{HasFiles}
 use Rattle.host_session.specs.Shop.{IsSettled, IsShop, shop_of}
 use Rattle.host_session.specs.Standing.{View}
-use Rattle.host_session.proofs.Opens.{device-ok, device-refused, error-changes, error-device, error-told, judged-opening, judged-same, ok-of, opening-later, refused-no}
+use Rattle.host_session.proofs.Opens.{device-ok, device-refused, error-changes, error-device, error-told}
+use Rattle.host_session.proofs.Opens.{judged-opening, judged-same, ok-of, opening-later, refused-no}
 use Rattle.host_session.proofs.session.Session.open.Goals as goal
 
 pub settle-requires : goal.settle-requires
@@ -18,25 +19,37 @@ settle-requires g c =
 pub returns-in_err-drive-clause-err : goal.returns-in_err-drive-clause-err
 returns-in_err-drive-clause-err g c =
     let S = g.D.Sectors.history in
-    let same = judged-same S c.args.disk c.judge.new.disk c.judge.result c.in_default.not-Err c.judge.ensures.failures in
+    let same = judged-same S c.args.disk c.judge.new.disk c.judge.result c.in_default.not-Err c.judge.ensures.failures
+    in
     let p = err_from_is_err_and c.from_residual.result c.from_residual.ensures.1 in
     let is = p.1 ∙ ap Err p.2 in
     device-refused S (λ (x : View g.row.D.Denot). x.disk) c.args.disk c.judge.new.disk same c.from_residual.result
-    (error-told S (λ (x : View g.row.D.Denot). x.disk) c.judge.new.disk c.from_residual.result c.in_err-drive.field-0.0 is c.in_err-drive.ensures.failures) (S.image c.args.disk)
-    (error-device S (λ (x : View g.row.D.Denot). x.disk) c.judge.new.disk c.from_residual.result c.in_err-drive.field-0.0 is c.in_err-drive.ensures.err)
+    (error-told S (λ (x : View g.row.D.Denot). x.disk) c.judge.new.disk c.from_residual.result c.in_err-drive.field-0.0
+    is c.in_err-drive.ensures.failures) (S.image c.args.disk)
+    (error-device S (λ (x : View g.row.D.Denot). x.disk) c.judge.new.disk c.from_residual.result
+    c.in_err-drive.field-0.0 is c.in_err-drive.ensures.err)
 
 pub returns-in_err-drive-clause-opens : goal.returns-in_err-drive-clause-opens
 returns-in_err-drive-clause-opens g c = λ never.
     let S = g.D.Sectors.history in
     let (f, has, j) = ok-of c.judge.result c.in_default.not-Err _ c.judge.ensures.ok in
-    let shop : IsShop (S.image c.args.disk) (shop_of f) = record { files = f; has = has; records = j.records; is = refl } in
-    let same = judged-same S c.args.disk c.judge.new.disk c.judge.result c.in_default.not-Err c.judge.ensures.failures in
+    let shop : IsShop (S.image c.args.disk) (shop_of f) = record {
+      files = f;
+      has = has;
+      records = j.records;
+      is =
+          refl;
+    } in
+    let same = judged-same S c.args.disk c.judge.new.disk c.judge.result c.in_default.not-Err c.judge.ensures.failures
+    in
     let p = err_from_is_err_and c.from_residual.result c.from_residual.ensures.1 in
     let is = p.1 ∙ ap Err p.2 in (
       λ ok. (shop_of f, shop),
       λ some. device-ok S (λ (x : View g.row.D.Denot). x.disk) c.args.disk c.judge.new.disk same c.from_residual.result
-          (error-told S (λ (x : View g.row.D.Denot). x.disk) c.judge.new.disk c.from_residual.result c.in_err-drive.field-0.0 is c.in_err-drive.ensures.failures)
-          (error-device S (λ (x : View g.row.D.Denot). x.disk) c.judge.new.disk c.from_residual.result c.in_err-drive.field-0.0 is c.in_err-drive.ensures.err) never,
+          (error-told S (λ (x : View g.row.D.Denot). x.disk) c.judge.new.disk c.from_residual.result
+          c.in_err-drive.field-0.0 is c.in_err-drive.ensures.failures)
+          (error-device S (λ (x : View g.row.D.Denot). x.disk) c.judge.new.disk c.from_residual.result
+          c.in_err-drive.field-0.0 is c.in_err-drive.ensures.err) never,
     )
 
 pub returns-in_err-drive-clause-moments : goal.returns-in_err-drive-clause-moments
@@ -44,14 +57,23 @@ returns-in_err-drive-clause-moments g c = λ s h.
     let S = g.D.Sectors.history in
     let now : IsShop (S.image c.judge.new.disk) s = subst (λ i. IsShop i s) (sym c.judge.ensures.reads.image) h in
     let p = err_from_is_err_and c.from_residual.result c.from_residual.ensures.1 in
-    changes_then S c.args.disk c.judge.new.disk _ 0 952 952 (λ i. IsShop i s) (omega arith) (reads_change S c.args.disk c.judge.new.disk 34190 (λ i. IsShop i s) c.judge.ensures.reads h)
-    (error-changes S c.judge.new.disk 952 952 (λ i. IsShop i s) (λ (x : View g.row.D.Denot). x.disk) c.from_residual.result c.in_err-drive.field-0.0 (omega arith) (p.1 ∙ ap Err p.2) (c.in_err-drive.ensures.moments s now))
+    changes_then S c.args.disk c.judge.new.disk _ 0 952 952 (λ i. IsShop i s) (omega arith)
+    (reads_change S c.args.disk c.judge.new.disk 34190 (λ i. IsShop i s) c.judge.ensures.reads h)
+    (error-changes S c.judge.new.disk 952 952 (λ i. IsShop i s) (λ (x : View g.row.D.Denot). x.disk)
+    c.from_residual.result c.in_err-drive.field-0.0 (omega arith) (p.1 ∙ ap Err p.2)
+    (c.in_err-drive.ensures.moments s now))
 
 pub returns-in_err-drive-clause-unfit : goal.returns-in_err-drive-clause-unfit
 returns-in_err-drive-clause-unfit g c = λ none.
     let S = g.D.Sectors.history in
     let (f, has, j) = ok-of c.judge.result c.in_default.not-Err _ c.judge.ensures.ok in
-    let shop : IsShop (S.image c.args.disk) (shop_of f) = record { files = f; has = has; records = j.records; is = refl } in
+    let shop : IsShop (S.image c.args.disk) (shop_of f) = record {
+      files = f;
+      has = has;
+      records = j.records;
+      is =
+          refl;
+    } in
     absurd (none (shop_of f, shop))
 
 pub returns-in_err-drive-clause-quiet : goal.returns-in_err-drive-clause-quiet
@@ -60,17 +82,23 @@ returns-in_err-drive-clause-quiet g c = λ s r.
     let same = c.judge.ensures.reads.image in
     let now : IsSettled (S.image c.judge.new.disk) s = subst (λ i. IsSettled i s) (sym same) r in
     let p = err_from_is_err_and c.from_residual.result c.from_residual.ensures.1 in
-    changes_then S c.args.disk c.judge.new.disk _ 0 0 0 (λ i. i ≡ S.image c.args.disk) (omega arith) (reads_change S c.args.disk c.judge.new.disk 34190 (λ i. i ≡ S.image c.args.disk) c.judge.ensures.reads refl)
-    (changes_weaker S c.judge.new.disk _ 0 0 (λ i. i ≡ S.image c.judge.new.disk) (λ i. i ≡ S.image c.args.disk) (omega arith) (λ i e. e ∙ same)
-    (error-changes S c.judge.new.disk 0 0 (λ i. i ≡ S.image c.judge.new.disk) (λ (x : View g.row.D.Denot). x.disk) c.from_residual.result c.in_err-drive.field-0.0 (omega arith) (p.1 ∙ ap Err p.2) (c.in_err-drive.ensures.quiet s now)))
+    changes_then S c.args.disk c.judge.new.disk _ 0 0 0 (λ i. i ≡ S.image c.args.disk) (omega arith)
+    (reads_change S c.args.disk c.judge.new.disk 34190 (λ i. i ≡ S.image c.args.disk) c.judge.ensures.reads refl)
+    (changes_weaker S c.judge.new.disk _ 0 0 (λ i. i ≡ S.image c.judge.new.disk) (λ i. i ≡ S.image c.args.disk)
+    (omega arith) (λ i e. e ∙ same)
+    (error-changes S c.judge.new.disk 0 0 (λ i. i ≡ S.image c.judge.new.disk) (λ (x : View g.row.D.Denot). x.disk)
+    c.from_residual.result c.in_err-drive.field-0.0 (omega arith) (p.1 ∙ ap Err p.2)
+    (c.in_err-drive.ensures.quiet s now)))
 
 pub returns-in_err-drive-clause-failures : goal.returns-in_err-drive-clause-failures
 returns-in_err-drive-clause-failures g c =
     let S = g.D.Sectors.history in
-    let same = judged-same S c.args.disk c.judge.new.disk c.judge.result c.in_default.not-Err c.judge.ensures.failures in
+    let same = judged-same S c.args.disk c.judge.new.disk c.judge.result c.in_default.not-Err c.judge.ensures.failures
+    in
     let p = err_from_is_err_and c.from_residual.result c.from_residual.ensures.1 in
     opening-later S (λ (x : View g.row.D.Denot). x.disk) c.args.disk c.judge.new.disk same c.from_residual.result
-    (error-told S (λ (x : View g.row.D.Denot). x.disk) c.judge.new.disk c.from_residual.result c.in_err-drive.field-0.0 (p.1 ∙ ap Err p.2) c.in_err-drive.ensures.failures)
+    (error-told S (λ (x : View g.row.D.Denot). x.disk) c.judge.new.disk c.from_residual.result c.in_err-drive.field-0.0
+    (p.1 ∙ ap Err p.2) c.in_err-drive.ensures.failures)
 
 pub invariant_of-result : goal.invariant_of-result
 invariant_of-result g c = (c.in_ok-drive.ensures.standing, λ _. c.in_ok-drive.ensures.ready)
@@ -79,28 +107,49 @@ pub returns-clause-ok : goal.returns-clause-ok
 returns-clause-ok g c =
     let S = g.D.Sectors.history in
     let (f, has, j) = ok-of c.judge.result c.in_default.not-Err _ c.judge.ensures.ok in
-    let shop : IsShop (S.image c.args.disk) (shop_of f) = record { files = f; has = has; records = j.records; is = refl } in
-    let now : IsShop (S.image c.judge.new.disk) (shop_of f) = subst (λ i. IsShop i (shop_of f)) (sym c.judge.ensures.reads.image) shop in
+    let shop : IsShop (S.image c.args.disk) (shop_of f) = record {
+      files = f;
+      has = has;
+      records = j.records;
+      is =
+          refl;
+    } in
+    let now : IsShop (S.image c.judge.new.disk) (shop_of f) =
+    subst (λ i. IsShop i (shop_of f)) (sym c.judge.ensures.reads.image) shop in
     (shop_of f, shop, c.in_ok-drive.ensures.ok (shop_of f) now, refl)
 
 pub returns-clause-opens : goal.returns-clause-opens
 returns-clause-opens g c = λ never.
     let S = g.D.Sectors.history in
     let (f, has, j) = ok-of c.judge.result c.in_default.not-Err _ c.judge.ensures.ok in
-    let shop : IsShop (S.image c.args.disk) (shop_of f) = record { files = f; has = has; records = j.records; is = refl } in
+    let shop : IsShop (S.image c.args.disk) (shop_of f) = record {
+      files = f;
+      has = has;
+      records = j.records;
+      is =
+          refl;
+    } in
     (λ ok. (shop_of f, shop), λ some. refl)
 
 pub returns-clause-moments : goal.returns-clause-moments
 returns-clause-moments g c = λ s h.
     let S = g.D.Sectors.history in
     let now : IsShop (S.image c.judge.new.disk) s = subst (λ i. IsShop i s) (sym c.judge.ensures.reads.image) h in
-    changes_then S c.args.disk c.judge.new.disk c.in_ok-drive.drive.disk 0 952 952 (λ i. IsShop i s) (omega arith) (reads_change S c.args.disk c.judge.new.disk 34190 (λ i. IsShop i s) c.judge.ensures.reads h) (c.in_ok-drive.ensures.moments s now)
+    changes_then S c.args.disk c.judge.new.disk c.in_ok-drive.drive.disk 0 952 952 (λ i. IsShop i s) (omega arith)
+    (reads_change S c.args.disk c.judge.new.disk 34190 (λ i. IsShop i s) c.judge.ensures.reads h)
+    (c.in_ok-drive.ensures.moments s now)
 
 pub returns-clause-unfit : goal.returns-clause-unfit
 returns-clause-unfit g c = λ none.
     let S = g.D.Sectors.history in
     let (f, has, j) = ok-of c.judge.result c.in_default.not-Err _ c.judge.ensures.ok in
-    let shop : IsShop (S.image c.args.disk) (shop_of f) = record { files = f; has = has; records = j.records; is = refl } in
+    let shop : IsShop (S.image c.args.disk) (shop_of f) = record {
+      files = f;
+      has = has;
+      records = j.records;
+      is =
+          refl;
+    } in
     absurd (none (shop_of f, shop))
 
 pub returns-clause-quiet : goal.returns-clause-quiet
@@ -108,22 +157,30 @@ returns-clause-quiet g c = λ s r.
     let S = g.D.Sectors.history in
     let same = c.judge.ensures.reads.image in
     let now : IsSettled (S.image c.judge.new.disk) s = subst (λ i. IsSettled i s) (sym same) r in
-    changes_then S c.args.disk c.judge.new.disk c.in_ok-drive.drive.disk 0 0 0 (λ i. i ≡ S.image c.args.disk) (omega arith) (reads_change S c.args.disk c.judge.new.disk 34190 (λ i. i ≡ S.image c.args.disk) c.judge.ensures.reads refl)
-    (changes_weaker S c.judge.new.disk c.in_ok-drive.drive.disk 0 0 (λ i. i ≡ S.image c.judge.new.disk) (λ i. i ≡ S.image c.args.disk) (omega arith) (λ i e. e ∙ same) (c.in_ok-drive.ensures.quiet s now))
+    changes_then S c.args.disk c.judge.new.disk c.in_ok-drive.drive.disk 0 0 0 (λ i. i ≡ S.image c.args.disk)
+    (omega arith) (reads_change S c.args.disk c.judge.new.disk 34190 (λ i. i ≡ S.image c.args.disk)
+    c.judge.ensures.reads refl)
+    (changes_weaker S c.judge.new.disk c.in_ok-drive.drive.disk 0 0 (λ i. i ≡ S.image c.judge.new.disk)
+    (λ i. i ≡ S.image c.args.disk) (omega arith) (λ i e. e ∙ same) (c.in_ok-drive.ensures.quiet s now))
 
 pub returns-clause-failures : goal.returns-clause-failures
 returns-clause-failures g c =
-    c.in_ok-drive.ensures.failures ∙ judged-same g.D.Sectors.history c.args.disk c.judge.new.disk c.judge.result c.in_default.not-Err c.judge.ensures.failures
+    c.in_ok-drive.ensures.failures ∙ judged-same g.D.Sectors.history c.args.disk c.judge.new.disk c.judge.result
+    c.in_default.not-Err c.judge.ensures.failures
 
 pub returns-in-Err-clause-opens : goal.returns-in-Err-clause-opens
 returns-in-Err-clause-opens g c = λ never.
-    let S = g.D.Sectors.history in
-    (λ ok. absurd (false≢true ok), λ some. absurd (refused-no S c.args.disk c.judge.new.disk c.in-Err.fault never c.in-Err.ensures.err some))
+    let S = g.D.Sectors.history in (
+      λ ok. absurd (false≢true ok),
+      λ some. absurd (refused-no S c.args.disk c.judge.new.disk c.in-Err.fault never
+          c.in-Err.ensures.err some),
+    )
 
 pub returns-in-Err-clause-moments : goal.returns-in-Err-clause-moments
 returns-in-Err-clause-moments g c = λ s h.
     let S = g.D.Sectors.history in
-    changes_weaker S c.args.disk c.judge.new.disk 0 952 (λ i. IsShop i s) (λ i. IsShop i s) (omega arith) (λ i x. x) (reads_change S c.args.disk c.judge.new.disk 34190 (λ i. IsShop i s) c.judge.ensures.reads h)
+    changes_weaker S c.args.disk c.judge.new.disk 0 952 (λ i. IsShop i s) (λ i. IsShop i s) (omega arith) (λ i x. x)
+    (reads_change S c.args.disk c.judge.new.disk 34190 (λ i. IsShop i s) c.judge.ensures.reads h)
 
 pub returns-in-Err-clause-unfit : goal.returns-in-Err-clause-unfit
 returns-in-Err-clause-unfit g c = λ none.
@@ -136,4 +193,5 @@ returns-in-Err-clause-quiet g c = λ s r.
     reads_change S c.args.disk c.judge.new.disk 34190 (λ i. i ≡ S.image c.args.disk) c.judge.ensures.reads refl
 
 pub returns-in-Err-clause-failures : goal.returns-in-Err-clause-failures
-returns-in-Err-clause-failures g c = judged-opening (Unit {0}) g.D.Sectors.history c.args.disk c.judge.new.disk c.in-Err.fault c.in-Err.ensures.failures
+returns-in-Err-clause-failures g c = judged-opening (Unit {0}) g.D.Sectors.history c.args.disk c.judge.new.disk
+    c.in-Err.fault c.in-Err.ensures.failures

@@ -14,11 +14,13 @@ pub returns-in_err-close-clause-reads : goal.returns-in_err-close-clause-reads
 returns-in_err-close-clause-reads g c =
     let S = g.D.Sectors.history in
     let d = c.self.inside.drive.disk in
-    rw (← c.self.view_is) (reads-between S d d d c.close.new.self.disk 2817 refl (nothing-read S d 2817) c.close.ensures.disk)
+    rw (← c.self.view_is) (reads-between S d d d c.close.new.self.disk 2817 refl (nothing-read S d 2817)
+    c.close.ensures.disk)
 
 pub returns-in_err-open-clause-reads : goal.returns-in_err-open-clause-reads
 returns-in_err-open-clause-reads g c = rw (← c.self.view_is)
-    (reads-between g.D.Sectors.history c.self.inside.drive.disk c.close.new.self.disk c.open.new.self.disk c.open.new.self.disk 2817
+    (reads-between g.D.Sectors.history c.self.inside.drive.disk c.close.new.self.disk c.open.new.self.disk
+    c.open.new.self.disk 2817
     c.close.ensures.disk (c.open.ensures.plain (name-plain c.name.result.now c.name.ensures.name)) refl)
 
 pub returns-in_err-open-clause-failures : goal.returns-in_err-open-clause-failures
@@ -34,20 +36,23 @@ invariant_of-self-2 g c = λ alive.
     let S = g.D.Sectors.history in
     let t = c.requires.there in
     opened-on S c.self.inside.drive c.close.new.self c.open.new.self c.args.file c.name.result.now t.0 t.1 t.2
-    (subst (λ d. IsReady S d) (sym c.self.view_is) c.requires.ready) c.name.ensures.value c.name.ensures.name c.in_ok-close.ensures.row c.in_ok-open.ensures.row alive
+    (subst (λ d. IsReady S d) (sym c.self.view_is) c.requires.ready) c.name.ensures.value c.name.ensures.name
+    c.in_ok-close.ensures.row c.in_ok-open.ensures.row alive
     (subst (λ d. IsLayout (S.image d.disk) t.0) (sym c.self.view_is) t.3) t.4
 
 pub returns-clause-on : goal.returns-clause-on
 returns-clause-on g c = λ l n f is first.
     let S = g.D.Sectors.history in
     opened-inside S c.self.inside.drive c.close.new.self c.open.new.self c.args.file c.name.result.now l n f
-    (subst (λ d. IsReady S d) (sym c.self.view_is) c.requires.ready) c.name.ensures.value c.name.ensures.name c.in_ok-close.ensures.row c.in_ok-open.ensures.row
+    (subst (λ d. IsReady S d) (sym c.self.view_is) c.requires.ready) c.name.ensures.value c.name.ensures.name
+    c.in_ok-close.ensures.row c.in_ok-open.ensures.row
     (alive-of S c.close.new.self c.open.new.self _ c.in_ok-open.ensures.serves)
     (subst (λ d. IsLayout (S.image d.disk) l) (sym c.self.view_is) is) first
 
 pub returns-clause-reads : goal.returns-clause-reads
 returns-clause-reads g c = rw (← c.self.view_is)
-    (reads-between g.D.Sectors.history c.self.inside.drive.disk c.close.new.self.disk c.open.new.self.disk c.open.new.self.disk 2817
+    (reads-between g.D.Sectors.history c.self.inside.drive.disk c.close.new.self.disk c.open.new.self.disk
+    c.open.new.self.disk 2817
     c.close.ensures.disk (c.open.ensures.plain (name-plain c.name.result.now c.name.ensures.name)) refl)
 
 pub returns-clause-failures : goal.returns-clause-failures
@@ -63,7 +68,8 @@ pub returns-in_err-close-clause-dies : goal.returns-in_err-close-clause-dies
 returns-in_err-close-clause-dies g c = λ failed. c.in_err-close.ensures.serves.dies.1 refl
 
 pub returns-in_err-open-clause-on : goal.returns-in_err-open-clause-on
-returns-in_err-open-clause-on g c = λ l n f is first. not-done c.from_residual-in_err-open.result _ c.from_residual-in_err-open.ensures.1 _
+returns-in_err-open-clause-on g c = λ l n f is first. not-done c.from_residual-in_err-open.result _
+    c.from_residual-in_err-open.ensures.1 _
 
 pub returns-in_err-open-clause-dies : goal.returns-in_err-open-clause-dies
 returns-in_err-open-clause-dies g c = λ failed. c.in_err-open.ensures.serves.dies.1 refl

@@ -3,7 +3,8 @@ use Rattle.host_session.proofs.Channels.{known-written}
 use Rattle.host_session.proofs.shop_drive.ShopDrive.write.Goals as goal
 
 pub invariant_of-self : goal.invariant_of-self
-invariant_of-self g c = known-written g.D.Sectors.history c.self.inside.drive c.write.new.self c.write.result c.args.text.now c.self.inside.known
+invariant_of-self g c = known-written g.D.Sectors.history c.self.inside.drive c.write.new.self c.write.result
+    c.args.text.now c.self.inside.known
     c.write.ensures.serves c.write.ensures.row c.self.invariant
 
 pub returns-clause-row : goal.returns-clause-row

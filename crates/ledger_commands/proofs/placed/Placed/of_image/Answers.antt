@@ -15,4 +15,5 @@ invariant_of-result g c = record {
 pub returns-clause-agrees : goal.returns-clause-agrees
 returns-clause-agrees g c =
     agrees_at c.is_brought.result (g.F.WritesAt.held c.args.file) (g.F.WritesAt.lasting.bytes c.args.file)
-    c.args.image.now c.requires.image (λ b. (c.is_brought.ensures.0 b).1) (λ b. c.requires.there (c.is_brought.ensures.0 b).0)
+    c.args.image.now c.requires.image (λ b. (c.is_brought.ensures.0 b).1)
+    (λ b. c.requires.there (c.is_brought.ensures.0 b).0)

@@ -10,7 +10,8 @@ use Rattle.ledger_commands.proofs.table.Table.serve.Goals as goal
 
 pub store_to-requires : goal.store_to-requires
 store_to-requires c =
-    second_fits c.on_hand.result c.to_hand-to_hand.result c.room_for.result c.args.request.now.body c.decide-outcome.result
+    second_fits c.on_hand.result c.to_hand-to_hand.result c.room_for.result c.args.request.now.body
+    c.decide-outcome.result
     c.decide-outcome.ensures c.to_hand-to_hand.ensures.past
 
 pub returns-clause-applied : goal.returns-clause-applied
@@ -31,6 +32,7 @@ returns-clause-applied c =
     ∙ ap₂ (λ (xs ys : List (Option (Ask × Answer))). put (nth xs) asked.till (nth ys asked.till))
     (c.store_to.ensures.prior ∙ c.store.ensures.prior) (c.store_to.ensures.kept ∙ c.store.ensures.kept))
     (c.decide-outcome.ensures
-    ∙ ap (λ h. trade h c.to_hand-to_hand.result c.room_for.result asked.body) (c.on_hand.ensures.value ∙ ap (nth old.cards) item)
+    ∙ ap (λ h. trade h c.to_hand-to_hand.result c.room_for.result asked.body) (c.on_hand.ensures.value
+    ∙ ap (nth old.cards) item)
     ∙ ap₂ (λ h r. trade (nth old.cards asked.body.item) h r asked.body) c.to_hand-to_hand.ensures.value
     (c.room_for.ensures ∙ ap (room_for 8819) item))

@@ -14,7 +14,8 @@ returns-then-not-zeros_at-clause-none c = λ card one m.
 
 pub returns-clause-found : goal.returns-clause-found
 returns-clause-found c =
-    both_then c.made.result _ _ (IsCardText c.args.bytes.now) c.made.ensures.some c.made.ensures.range (λ card same is. (
+    both_then c.made.result _ _ (IsCardText c.args.bytes.now) c.made.ensures.some c.made.ensures.range
+    (λ card same is. (
       is,
       old_whole c.args.bytes.now c.in_ok-pending.pending c.in_ok-pending.newest card c.told-bytes
           c.in_ok-pending.ensures.found (c.if-not-zeros_at.ensures.found refl) same,

@@ -11,7 +11,14 @@ returns g c =
     let o = g.T.Tells.output in
     let at = instant_of g.D.Sectors.history c.args.disk.now in
     let lent = c.args.self.now.out in
-    let now : AtOnce g.row.T.Denot = record { out = record { ref_ptr = lent.ref_ptr; ghost_name = lent.ghost_name; now = c.hand_on.new.self } } in
+    let now : AtOnce g.row.T.Denot = record {
+      out = record {
+        ref_ptr = lent.ref_ptr;
+        ghost_name = lent.ghost_name;
+        now =
+            c.hand_on.new.self;
+      };
+    } in
     lent_told (at_once o) c.args.self.now now c.args.reply.now at c.hand_on.result refl
     (told_on o c.args.self.now.out.now c.tell.new.self c.hand_on.new.self c.args.reply.now at c.hand_on.result
     c.in_ok-tell.ensures.0 c.hand_on.ensures.kept c.hand_on.ensures.ok)

@@ -6,5 +6,6 @@ use Rattle.serving.proofs.inputs.OfInputAsks.next.Goals as goal
 
 pub returns : goal.returns
 returns g c =
-    next_taken g.R.Read.remaining c.args.self.now _ c.in-Event.is refl (instant_of g.D.Sectors.history c.args._disk.now) c.take_line-self.result refl
+    next_taken g.R.Read.remaining c.args.self.now _ c.in-Event.is refl (instant_of g.D.Sectors.history c.args._disk.now)
+    c.take_line-self.result refl
     (omega (arith, c.in-Some.ensures)) c.take_line-self.ensures

@@ -5,4 +5,5 @@ use Rattle.tool_recorder.proofs.change.Change.bytes_before.Given as goal
 
 -- no change of the place was passed
 abbrev pub invariant-loop-change : goal.invariant-loop-change
-invariant-loop-change l = (img : Image) → sector (undone l.changes img) l.place ≡ sector (undone (drop l.change-index l.changes) img) l.place
+invariant-loop-change l = (img : Image)
+    → sector (undone l.changes img) l.place ≡ sector (undone (drop l.change-index l.changes) img) l.place
