@@ -27,12 +27,12 @@ printf '\376' | dd of="$work/shelf/two  blanks.d64" bs=1 seek=91397 conv=notrunc
 head -c 1000 "$work/shop.d64" >"$work/shelf/part of one.d64"
 (cd "$work/shelf" && PATH="$work/bin:$PATH" LC_ALL=C sh -c "$line") >"$work/judged" 2>&1 || true
 LC_ALL=C sort <<'END' | diff - "$work/judged"
- begins with a blank.d64 OK
-a shop.d64 OK
-all*.d64 OK
-it's.d64 OK
-part of one.d64 IMAGE SIZE
-plain.d64 OK
-two  blanks.d64 MAPWRONG 1/0
+./ begins with a blank.d64 OK
+./a shop.d64 OK
+./all*.d64 OK
+./it's.d64 OK
+./part of one.d64 IMAGE SIZE
+./plain.d64 OK
+./two  blanks.d64 MAPWRONG 1/0
 END
 echo "examples: no difference"

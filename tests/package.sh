@@ -40,19 +40,19 @@ files() {
 }
 
 files >"$work/before"
-cp "$work"/ledger_*.deb "$debian/home/ledger.deb"
+cp "$work"/ledger-1541_*.deb "$debian/home/ledger.deb"
 chroot "$debian" dpkg --install /home/ledger.deb >"$work/log"
 first_minute ledger
 inside "man --warnings ledger" >"$work/page" 2>"$work/warned"
 grep -q '^NAME' "$work/page" && [ ! -s "$work/warned" ] || { cat "$work/warned"; exit 1; }
 chroot "$debian" bash -c '. /usr/share/bash-completion/completions/ledger && complete -p ledger' >"$work/completed"
-chroot "$debian" dpkg --purge ledger >"$work/log"
+chroot "$debian" dpkg --purge ledger-1541 >"$work/log"
 files >"$work/after"
 diff "$work/before" "$work/after"
 
 rm -rf "$debian/opt/ledger"
 mkdir -p "$debian/opt/ledger"
-tar -xzf "$work"/ledger-*.tar.gz -C "$debian/opt/ledger" --strip-components=1
+tar -xzf "$work"/ledger-1541-*.tar.gz -C "$debian/opt/ledger" --strip-components=1
 first_minute "/opt/ledger/$(cd "$debian/opt/ledger" && find . -type f -name ledger -perm -u+x | head -n 1)"
 rm -rf "$debian/opt/ledger" "$debian/home/keeper" "$debian/home/ledger.deb"
 echo "package: installed, used for a minute, removed without a file left; the tarball unpacked and used: no difference"
