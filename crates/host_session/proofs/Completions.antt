@@ -142,7 +142,8 @@ module _ (f : Files) (till : ℕ) (c : Card) (x : HasIntent f till c) (item q : 
         written = subst (AllByRecursion (λ (r : ℕ × ℕ). quantities (with_record half to text') r.0 ≡ Some r.1))
             (sym two) (
               quantity-other half to item text' (λ e. other (sym e))
-                  ∙ quantity-there f.stock item q text (x.records.intent_has_records item excused) (stock-text_read _ fits),
+                  ∙ quantity-there f.stock item q text (x.records.intent_has_records item excused)
+                      (stock-text_read _ fits),
               (quantity-there half to p text' there' (stock-text_read _ fits'), tt),
             );
       }

@@ -22,7 +22,8 @@ module _ (old : Image) (f g : Files) (h : HasFiles old f) (k r : ℕ) (same : k 
     answer-in = subst (λ (x : Files). r ≤ length x.requests) (HasFiles-one old g f other h) there
 
     answer-at : IsPlaced old (codes "REQUESTS") k h.layout h.requests_place h.requests_file
-    answer-at = subst (λ (j : ℕ). IsPlaced old (codes "REQUESTS") j h.layout h.requests_place h.requests_file) (sym same)
+    answer-at = subst (λ (j : ℕ). IsPlaced old (codes "REQUESTS") j h.layout h.requests_place h.requests_file)
+        (sym same)
         (answer-placed old f h r low answer-in)
 
     pub answer-ok : {T E : Type 0} (new : Image) (res : Result T E)
