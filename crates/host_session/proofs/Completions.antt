@@ -143,7 +143,7 @@ module _ (f : Files) (till : ℕ) (c : Card) (x : HasIntent f till c) (item q : 
             (sym two) (
               quantity-other half to item text' (λ e. other (sym e))
                   ∙ quantity-there f.stock item q text (x.records.intent_has_records item excused)
-                      (stock-text_read _ fits),
+                  (stock-text_read _ fits),
               (quantity-there half to p text' there' (stock-text_read _ fits'), tt),
             );
       }

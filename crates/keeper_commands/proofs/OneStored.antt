@@ -182,7 +182,7 @@ module _ {D : Type 0} (S : History D) (a b : D) (l : Layout) (n : ℕ) (f : File
             none-written f x.number reached,
             few-touched (record_length f.slot) x.number
                 (subst (λ (m : ℕ). 1 ≤ m) of.shows.size v.size_low)
-                    (subst (λ (m : ℕ). m ≤ 254) of.shows.size v.size_high)
+                (subst (λ (m : ℕ). m ≤ 254) of.shows.size v.size_high)
                 low,
           ))
           (λ i h. writing-over (S.image b) i l n f x reached h)
