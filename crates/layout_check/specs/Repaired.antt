@@ -1,13 +1,17 @@
 -- What a repair leaves. Our own.
-use Rattle.d64_image.specs.History.{Changes, History}
+use Rattle.d64_image.specs.History.{Changes, History, NeverFailed, OnlyReads, WritesNothing}
 use Rattle.d64_image.specs.Images.{Image}
-use Rattle.disk_layout.specs.Clean.{IsCleanLayout}
-use Rattle.disk_layout.specs.Layout.{IsLayout, Layout}
+use Rattle.disk_layout.specs.Clean.{IsClean, IsCleanLayout}
+use Rattle.disk_layout.specs.Fault.{Holds, TellsFault}
+use Rattle.disk_layout.specs.InOrder.{GoesOver}
+use Rattle.disk_layout.specs.Layout.{IsLayout, IsSound, Layout}
 use Rattle.disk_layout.specs.Same.{SameFiles}
+use Rattle.disk_layout.specs.declared.faults.Fault.{Fault}
 use Rattle.layout_check.specs.Mended.{IsMended}
+use Rattle.layout_check.specs.RepairOrder.{ClearsSpare, IsRight, repair_order}
 use Rattle.layout_check.specs.Survey.{IsSurveyOf}
 use Rattle.layout_check.specs.declared.outcome.Survey.{Survey}
-use Rattle.std.specs.Prelude.{ℕ}
+use Rattle.std.specs.Prelude.{◌↔◌, ℕ, IfErr, IfOk, IsOk, Result}
 
 -- the new image is clean and has the files of the old one, which the survey tells
 pub record IsRepaired (old new : Image) (s : Survey) : Type 0 where
@@ -21,3 +25,19 @@ pub record IsRepaired (old new : Image) (s : Survey) : Type 0 where
 -- a call that makes at most n writes: each image held has the files of the old one, if that is sound
 abbrev pub MendsFrom : {D : Type 0} → History D → D → D → ℕ → Type 0
 MendsFrom S old new n = (l : Layout) → IsLayout (S.image old) l → Changes S old new n (IsMended (S.image old) l)
+
+-- What comes of a repair: a sound disk is made clean, and any other is left as it is.
+pub record Repairs {D : Type 0} (S : History D) (old new : D) (result : Result Survey Fault) : Type 0 where
+  pub ok : IfOk result (IsRepaired (S.image old) (S.image new))
+  pub err : IfErr result (Holds (S.failed_at new) (S.image old))
+  -- neither a fault nor a layout is told always
+  pub sound : NeverFailed S old new → (IsOk result ↔ IsSound (S.image old))
+  pub moments : MendsFrom S old new 883
+  -- no sector that is right is written, the others once, the map first, then the side sectors, then the directory
+  pub order : (l : Layout) → IsLayout (S.image old) l → GoesOver S old new (IsRight l) (repair_order l)
+  pub spare : ClearsSpare (S.image old) (S.image new)
+  -- a disk that isn't sound is not written
+  pub unsound : (IsSound (S.image old) → ⊥) → OnlyReads S old new 2114
+  -- nor is one that is clean
+  pub quiet : IsClean (S.image old) → WritesNothing S old new
+  pub failures : TellsFault S old new result

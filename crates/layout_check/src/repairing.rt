@@ -1,13 +1,12 @@
 //! The repair of a disk: where it is sound, it is made clean.
-ghost use Rattle.std.specs.Prelude.{◌↔◌, IfErr, IfOk, IsOk, OnOk};
-ghost use Rattle.d64_image.specs.History.{NeverFailed, OnlyReads, WritesNothing};
+ghost use Rattle.std.specs.Prelude.{OnOk};
+ghost use Rattle.d64_image.specs.History.{WritesNothing};
 ghost use Rattle.disk_layout.specs.Clean.{IsClean};
-ghost use Rattle.disk_layout.specs.Fault.{Holds, TellsFault};
 ghost use Rattle.disk_layout.specs.InOrder.{GoesOver};
-ghost use Rattle.disk_layout.specs.Layout.{IsLayout, IsSound, Layout};
+ghost use Rattle.disk_layout.specs.Layout.{IsLayout, Layout};
 ghost use Rattle.layout_check.specs.RepairOrder.{ClearsSpare, IsRight, repair_order};
 ghost use Rattle.layout_check.specs.Mended.{TellsDevice};
-ghost use Rattle.layout_check.specs.Repaired.{IsRepaired, MendsFrom};
+ghost use Rattle.layout_check.specs.Repaired.{IsRepaired, MendsFrom, Repairs};
 ghost use Rattle.layout_check.specs.Survey.{IsToldBy};
 
 use crate::mending::{mend_entries, mend_map};
@@ -44,20 +43,7 @@ fn mend<D: Sectors>(disk: &mut D, found: &Survey) -> Result<(), Fault>
 ///
 /// `Device` is told where the device failed; what was mended until then stays mended.
 pub fn repair<D: Sectors>(disk: &mut D) -> Result<Survey, Fault>
-    ensures ok { IfOk result (IsRepaired (D.history.image disk.old) (D.history.image disk.new)) }
-    ensures err { IfErr result (Holds (D.history.failed_at disk.new) (D.history.image disk.old)) }
-    // neither a fault nor a layout is told always
-    ensures sound { NeverFailed D.history disk.old disk.new → (IsOk result ↔ IsSound (D.history.image disk.old)) }
-    ensures moments { MendsFrom D.history disk.old disk.new 883 }
-    // no sector that is right is written, the others once, the map first, then the side sectors, then the directory
-    ensures order { (l : Layout) → IsLayout (D.history.image disk.old) l
-        → GoesOver D.history disk.old disk.new (IsRight l) (repair_order l) }
-    ensures spare { ClearsSpare (D.history.image disk.old) (D.history.image disk.new) }
-    // a disk that isn't sound is not written
-    ensures unsound { (IsSound (D.history.image disk.old) → ⊥) → OnlyReads D.history disk.old disk.new 2114 }
-    // nor is one that is clean
-    ensures quiet { IsClean (D.history.image disk.old) → WritesNothing D.history disk.old disk.new }
-    ensures failures { TellsFault D.history disk.old disk.new result }
+    ensures { Repairs D.history disk.old disk.new result }
 {
     let found = survey(disk)?;
     mend(disk, &found)?;

@@ -1,8 +1,10 @@
 -- The survey, then what is to be mended.
-use Rattle.std.proofs.Common.{refl, ◌∙◌}
+use Rattle.std.proofs.Common.{ap, refl, ◌∙◌}
 use Rattle.std.proofs.lemmas.Result.{err_from_is_err_and}
 use Rattle.d64_image.proofs.Moments.{no_write_then, reads_no_write}
+use Rattle.d64_image.specs.Images.{sector}
 use Rattle.disk_layout.proofs.Orders.{over_none}
+use Rattle.disk_layout.specs.Directory.{map_place}
 use Rattle.layout_check.specs.RepairOrder.{IsRight, repair_order}
 use Rattle.layout_check.proofs.RepairOrder.{order_after, spare_after}
 use Rattle.layout_check.proofs.RepairRuns.{
@@ -18,27 +20,26 @@ use Rattle.layout_check.proofs.RepairRuns.{
 use Rattle.layout_check.specs.declared.outcome.Survey.{Survey}
 use Rattle.layout_check.proofs.repairing.repair.Goals as goal
 
-pub returns-in_err-found-clause-err : goal.returns-in_err-found-clause-err
-returns-in_err-found-clause-err g c =
-    let p = err_from_is_err_and c.from_residual.result c.from_residual.ensures.1 in
-    rw (p.1, p.2) c.in_err-found.ensures.err
-
-pub returns-in_err-found-clause-moments : goal.returns-in_err-found-clause-moments
-returns-in_err-found-clause-moments g c = mends_none g.D.Sectors.history _ _ 2114 c.survey.ensures.reads
-
-pub returns-in_err-found-clause-unsound : goal.returns-in_err-found-clause-unsound
-returns-in_err-found-clause-unsound g c not_sound = c.survey.ensures.reads
-
 pub mend-requires : goal.mend-requires
 mend-requires g c = told_after g.D.Sectors.history _ _ _ 2114 c.survey.ensures.reads (let h =
     c.in_ok-found.ensures.ok in (h.0, h.1, h.2))
 
-pub returns-in_err-found-clause-quiet : goal.returns-in_err-found-clause-quiet
-returns-in_err-found-clause-quiet g c clean = reads_no_write g.D.Sectors.history _ _ 2114 c.survey.ensures.reads
-
-pub returns-in_err-found-clause-order : goal.returns-in_err-found-clause-order
-returns-in_err-found-clause-order g c l is = over_none g.D.Sectors.history (IsRight l) (repair_order l) _ _ 2114
-    c.survey.ensures.reads
+pub returns-in_err-found : goal.returns-in_err-found
+returns-in_err-found g c =
+    let S = g.D.Sectors.history in
+    let reads = c.survey.ensures.reads in
+    let p = err_from_is_err_and c.from_residual.result c.from_residual.ensures.1 in
+    record {
+      ok = rw p.1 tt;
+      err = rw (p.1, p.2) c.in_err-found.ensures.err;
+      sound = λ never. rw p.1 (c.in_err-found.ensures.sound never);
+      moments = mends_none S _ _ 2114 reads;
+      order = λ l is. over_none S (IsRight l) (repair_order l) _ _ 2114 reads;
+      spare = λ changed. absurd (changed (ap (λ i. sector i map_place) reads.image));
+      unsound = λ not_sound. reads;
+      quiet = λ clean. reads_no_write S _ _ 2114 reads;
+      failures = rw (p.1, p.2) c.in_err-found.ensures.failures;
+    }
 
 pub returns : goal.returns
 returns g c =
