@@ -1,5 +1,5 @@
 -- How a run over a source and an output ended, or that it was refused.
-use Rattle.std.proofs.Common.{◌≡◌, ◌+◌, ◌++◌, ◌⊎◌, ⊎_elim, List, [], ◌∷◌, Ok, Err, refl, subst, ap, inl, inr}
+use Rattle.std.proofs.Common.{◌≡◌, ◌++◌, ⊎_elim, List, [], ◌∷◌, Ok, Err, refl, subst, ap, inl, inr}
 use Rattle.std.proofs.Common.{append-nil}
 use Rattle.std.specs.Prelude.{Result}
 use Rattle.d64_image.proofs.Moments.{never_failed}

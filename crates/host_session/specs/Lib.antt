@@ -12,6 +12,7 @@ pub mod Selecting
 pub mod Completing
 pub mod Keeping
 pub mod Answering
+pub mod Handled
 pub mod Judged
 pub mod Settling
 pub mod Channels

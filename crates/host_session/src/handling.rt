@@ -1,16 +1,10 @@
 //! A message of a till, answered.
-ghost use Rattle.std.specs.Prelude.{◌≡◌, ◌<◌, ◌≤◌, ◌+◌, ◌⊎◌, None, false, option_to_list, true};
-ghost use Rattle.d64_image.specs.History.{Changes, Failed};
+ghost use Rattle.std.specs.Prelude.{◌≡◌, false, true};
 ghost use Rattle.host_session.specs.Answering.{IsAnswered};
-ghost use Rattle.host_session.specs.Files.{Files, HasFiles};
-ghost use Rattle.host_session.specs.Handling.{IsBeforeOrAfter, IsMedia, MayGrow, after_of, is_next_request, media, most_writes};
-ghost use Rattle.host_session.specs.Shop.{IsSettled, IsShop, Shop, shop_of, start_of};
-ghost use Rattle.request_cards.specs.Ledgers.{next_in, reply_in, word_in};
-ghost use Rattle.request_cards.specs.Reading.{request_of};
-ghost use Rattle.request_cards.specs.Sums.{SumsAgree};
+ghost use Rattle.host_session.specs.Handled.{IsHandled};
+ghost use Rattle.host_session.specs.Shop.{IsShop, Shop, start_of};
+ghost use Rattle.request_cards.specs.Ledgers.{next_in, word_in};
 ghost use Rattle.request_cards.specs.Requests.{IsAsk};
-ghost use Rattle.request_cards.specs.declared.reply.Reply.TheVariants.{Syntax};
-ghost use Rattle.request_cards.specs.declared.reply.Word.TheVariants.{Media};
 
 use crate::deciding::{decided, next_card, renew, standing_by};
 use crate::doing::keep;
@@ -28,33 +22,7 @@ impl<D: Sectors> Session<D> {
     /// earlier message, the reply is `MEDIA`, and the session is dead; the shop is then the one before the message or the
     /// one after it.
     pub fn handle(&mut self, message: &[u8]) -> Reply
-        // what lies outside the grammar changes nothing
-        ensures syntax { request_of message.now ≡ None → (result ≡ Syntax) × (self.new ≡ self.old) }
-        // neither does any message to a dead session
-        ensures dead { self.old.dead ≡ true → (result ≡ media (request_of message.now)) × (self.new ≡ self.old) }
-        // nor one that isn't its till's next request: the shop is the one after the message as it is
-        ensures quiet { (s : Shop) → IsShop (D.history.image self.old.disk) s → self.old.dead ≡ false → is_next_request s (request_of message.now) ≡ false
-            → (result ≡ reply_in (start_of s) s.state (request_of message.now)) × (self.new ≡ self.old) }
-        // any reply but MEDIA is the message's, and leaves the shop after it
-        ensures reply { (s : Shop) → IsShop (D.history.image self.old.disk) s → self.old.dead ≡ false → ¬ (IsMedia result)
-            → (result ≡ reply_in (start_of s) s.state (request_of message.now)) × IsSettled (D.history.image self.new.disk) (after_of s message.now) × (self.new.dead ≡ false) }
-        // each image held on the way is the shop's before the message or after it
-        ensures moments { (s : Shop) → IsShop (D.history.image self.old.disk) s
-            → Changes D.history self.old.disk self.new.disk 3618 (IsBeforeOrAfter s message.now) }
-        // how many sectors are written at most
-        ensures writes { (f : Files) → (h : HasFiles (D.history.image self.old.disk) f)
-            → D.history.writes self.new.disk ≤ D.history.writes self.old.disk + most_writes (shop_of f) h.stock_file (request_of message.now) }
-        // once a write was counted the shop is the one after, but where STOCK may have grown
-        ensures counted { (s : Shop) → IsShop (D.history.image self.old.disk) s → D.history.writes self.old.disk < D.history.writes self.new.disk
-            → MayGrow s (request_of message.now) ⊎ IsShop (D.history.image self.new.disk) (after_of s message.now) }
-        // MEDIA names the message's own request
-        ensures media { IsMedia result → result ≡ media (request_of message.now) }
-        // and comes exactly where the session is dead, or the device failed now, and then it is dead
-        ensures failures { (IsMedia result × (self.new.dead ≡ true) × ((self.old.dead ≡ true) ⊎ Failed D.history self.old.disk self.new.disk))
-            ⊎ (¬ (IsMedia result) × (D.history.failures self.new.disk ≡ D.history.failures self.old.disk)) }
-        // no goods appear and none are lost
-        ensures sums { (s : Shop) → IsShop (D.history.image self.old.disk) s
-            → SumsAgree (start_of s) (option_to_list (request_of message.now)) }
+        ensures { IsHandled D.history self.old self.new message.now result }
     {
         let dead = self.dead;
         let Some(request) = Request::parse(message) else {
