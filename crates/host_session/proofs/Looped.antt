@@ -6,7 +6,7 @@ use Rattle.std.specs.Prelude.{IsSome, Result, is_err, is_ok, is_some, option_map
 use Rattle.d64_image.specs.History.{Changes, History}
 use Rattle.request_cards.specs.declared.reply.Reply.{Reply}
 use Rattle.host_session.proofs.Chained.{asked_more, run_more, run_more-first}
-use Rattle.host_session.proofs.Chained.{run_none, run_rests, whole}
+use Rattle.host_session.proofs.Chained.{run_none, run_rests}
 use Rattle.host_session.proofs.Sparing.{within_more}
 use Rattle.host_session.specs.Asking.{IsNext, Source, TakesNone, TakesOne, messages_in}
 use Rattle.host_session.specs.Chains.{asked_over, over_instants}
