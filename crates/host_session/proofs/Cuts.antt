@@ -83,12 +83,12 @@ module _ {D : Type 0} (h : History D) where
       (failed_out s.top s.state (request_of bytes) (Some n)) held quiet before)
       (λ after. counted_whole s bytes n a b low failed.later held quiet after)
 
-  first_out : (s : Shop) (o : Option Ask) (n : ℕ) → MayGrow s o → n < 7206 → MayCount s.top s.state o (Some n) false []
+  first_out : (s : Shop) (o : Option Ask) (n : ℕ) → MayGrow s o → n < 3619 → MayCount s.top s.state o (Some n) false []
   first_out s None n grow high = refl
   first_out s (Some a) n grow high = first_set_out s.top s.state a n false grow high
 
   -- power went in a message that may grow the file of cards
-  grown_within : (s : Shop) (bytes : List ℕ) (n : ℕ) (a b : D) → 0 < n → n < 7206 → h.failures a ≤ h.failures b
+  grown_within : (s : Shop) (bytes : List ℕ) (n : ℕ) (a b : D) → 0 < n → n < 3619 → h.failures a ≤ h.failures b
       → MayGrow s (request_of bytes)
       → HeldOnly h a b (IsInEvent s (cut_at bytes n)) → LeavesAlone h s (cut_at bytes n) a b
       → IsBeforeOrAfter s bytes (h.image b)

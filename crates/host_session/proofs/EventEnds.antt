@@ -1,7 +1,7 @@
 -- What a run over a list of events comes to.
 use Rattle.std.proofs.Common.{◌≡◌, ◌≢◌, ◌<◌, ◌≤◌, ◌-◌, ◌++◌, ◌+◌, ◌∙◌, ⊎_elim, ℕ, zero, suc, List, [], ◌∷◌, Ok, Err}
 use Rattle.std.proofs.Common.{refl, sym, subst, ap, arith, inl, inr, length, length-append, append-nil, map, drop}
-use Rattle.std.proofs.Common.{ne_eqb}
+use Rattle.std.proofs.Common.{Result, ne_eqb}
 use Rattle.std.specs.Prelude.{Vec, slice_get, vec_capacity, vec_len}
 use Rattle.std.specs.declared.alloc.Global.{Global}
 use Rattle.std.proofs.lemmas.List.{drop_all}
@@ -12,17 +12,19 @@ use Rattle.host_session.proofs.Chained.{at_device, told_over, whole}
 use Rattle.host_session.proofs.Printed.{told_more}
 use Rattle.host_session.proofs.QuietRuns.{quiet_of_more}
 use Rattle.host_session.proofs.Runs.{held_of_more}
+use Rattle.host_session.proofs.Sparing.{bound_of_more}
 use Rattle.host_session.specs.Asking.{last_taken, message_here, messages_in, of_events}
 use Rattle.host_session.specs.Chains.{over_instants, told_in}
 use Rattle.host_session.specs.Events.{Message, message_of}
 use Rattle.host_session.specs.Faults.{play_fault_of}
 use Rattle.host_session.specs.Instants.{Instant, instant_of}
 use Rattle.host_session.specs.Loops.{IsRun, IsToldWhole}
-use Rattle.host_session.specs.Opening.{IsAShop}
+use Rattle.host_session.specs.Opening.{IsAShop, disk_of}
 use Rattle.host_session.specs.Outputs.{listed}
-use Rattle.host_session.specs.Quiet.{AskNothing, IsQuiet}
+use Rattle.host_session.specs.Quiet.{AreUncut, AskNothing, IsQuiet}
 use Rattle.host_session.specs.Runs.{HeldBeginnings, IsPlayedWhole, IsRefused, StoppedByDevice}
 use Rattle.host_session.specs.Shop.{IsShop, Shop}
+use Rattle.host_session.specs.Within.{IsBounded}
 use Rattle.host_session.specs.declared.asking.OfEvents.{OfEvents}
 use Rattle.host_session.specs.declared.faults.OpenFault.{OpenFault}
 use Rattle.host_session.specs.declared.faults.OpenFault.TheVariants as openings
@@ -63,6 +65,7 @@ pub record IsEventsEnd {D : Type 0} (h : History D) (disk left : D) (ms : List M
       → (told : List Reply) × (new ≡ old ++ told) × StoppedByDevice h s ms disk left told
   pub moments : (s : Shop) → IsShop (h.image disk) s → HeldBeginnings h s ms disk left
   pub quiet : (s : Shop) → IsShop (h.image disk) s → AskNothing s ms → IsQuiet h s ms disk left
+  pub writes : (s : Shop) → IsShop (h.image disk) s → AreUncut ms → IsBounded h ms disk left
   pub plays : IsAShop (h.image disk) → NeverFailed h disk left → e ≡ ends.NoMemory
   pub «open» : (f : OpenFault) → e ≡ ends.Open f → IsRefused h disk f left
   pub cause : e ≡ ends.Device → IsAShop (h.image disk) × Failed h disk left
@@ -85,6 +88,13 @@ module _ {D : Type 0} (h : History D) (disk : D) (events : List Event) (asked as
       let both = length-append (messages_in taken) (map message_of (drop asks.taken asked.events.now)) in
       omega (arith, all, both, room, less, length_messages events)
 
+  -- what the events that were taken wrote, all of them may
+  sparing : (r : Result D (LoopFault × D)) → IsRun h of_events listed disk asked asks old new r
+      → (s : Shop) → IsShop (h.image disk) s → AreUncut (map message_of events)
+      → IsBounded h (map message_of events) disk (disk_of (λ d. d) r)
+  sparing r k s is = bound_of_more h (messages_in k.taken) (map message_of (drop asks.taken asked.events.now))
+      (map message_of events) disk (disk_of (λ d. d) r) (parts k.taken k.takes) (k.writes s is)
+
   -- all were taken
   pub whole_run : (left : D) → IsRun h of_events listed disk asked asks old new (Ok left)
       → ((s : Shop) → IsShop (h.image disk) s → (told : List Reply) × (new.items ≡ old.items ++ told)
@@ -92,6 +102,8 @@ module _ {D : Type 0} (h : History D) (disk : D) (events : List Event) (asked as
       × ((s : Shop) → IsShop (h.image disk) s → HeldBeginnings h s (map message_of events) disk left)
       × ((s : Shop) → IsShop (h.image disk) s → AskNothing s (map message_of events)
       → IsQuiet h s (map message_of events) disk left)
+      × ((s : Shop) → IsShop (h.image disk) s → AreUncut (map message_of events)
+      → IsBounded h (map message_of events) disk left)
   whole_run left k =
       let none : drop asks.taken asked.events.now ≡ [] =
       drop_all asks.taken asked.events.now (omega (arith, k.shop.1, ap length k.takes.0)) in
@@ -107,6 +119,7 @@ module _ {D : Type 0} (h : History D) (disk : D) (events : List Event) (asked as
             ),
         λ s is. subst (λ ms. HeldBeginnings h s ms disk left) all (k.moments s is),
         λ s is. subst (λ ms. AskNothing s ms → IsQuiet h s ms disk left) all (k.quiet s is),
+        λ s is. sparing (Ok left) k s is,
       )
 
   -- events that ask nothing new were taken up to one of them
@@ -123,6 +136,7 @@ module _ {D : Type 0} (h : History D) (disk : D) (events : List Event) (asked as
     moments = λ s is. held_of_more h s (messages_in k.taken) (map message_of (drop asks.taken asked.events.now))
         (map message_of events) disk left (parts k.taken k.takes) (k.moments s is);
     quiet = still left (runs.Open f) k;
+    writes = λ s is. sparing (Err (runs.Open f, left)) k s is;
     plays = λ shop never. ⊎_elim (λ (e : runs.Open f ≡ runs.Input). cc) (λ (e : runs.Open f ≡ runs.Output). cc)
         (k.plays shop never);
     «open» = λ x e. (k.«open» x (ap runs.Open (ap opened_with e))).0;
@@ -148,6 +162,7 @@ module _ {D : Type 0} (h : History D) (disk : D) (events : List Event) (asked as
     moments = λ s is. held_of_more h s (messages_in k.taken) (map message_of (drop asks.taken asked.events.now))
         (map message_of events) disk left (parts k.taken k.takes) (k.moments s is);
     quiet = still left runs.Device k;
+    writes = λ s is. sparing (Err (runs.Device, left)) k s is;
     plays = λ shop never. ⊎_elim (λ (e : runs.Device ≡ runs.Input). cc) (λ (e : runs.Device ≡ runs.Output). cc)
         (k.plays shop never);
     «open» = λ f (e : ends.Device ≡ ends.Open f). cc;

@@ -24,7 +24,7 @@ whole_counts top state (Some a) None false some = refl
 whole_counts top state (Some a) None true some = inl refl
 whole_counts top state (Some a) (Some zero) failed some = absurd (some refl)
 whole_counts top state (Some a) (Some (suc n)) true some = inl refl
-whole_counts top state (Some a) (Some (suc n)) false some = in_or (is_first_set state top a && nat_lt (suc n) 7206) a
+whole_counts top state (Some a) (Some (suc n)) false some = in_or (is_first_set state top a && nat_lt (suc n) 3619) a
 
 -- where the device failed it may be out
 pub failed_out : (top : ℕ) (state : State) (o : Option Ask) (after : Option ℕ) → MayCount top state o after true []
@@ -40,11 +40,11 @@ out_or false c a x y = cc
 
 -- a first set that was cut early may be out
 pub first_set_out : (top : ℕ) (state : State) (a : Ask) (n : ℕ) (failed : Bool) → is_first_set state top a ≡ true
-    → n < 7206
+    → n < 3619
     → MayCount top state (Some a) (Some n) failed []
 first_set_out top state a zero failed first early = refl
 first_set_out top state a (suc n) true first early = inr refl
-first_set_out top state a (suc n) false first early = out_or (is_first_set state top a) (nat_lt (suc n) 7206) a first
+first_set_out top state a (suc n) false first early = out_or (is_first_set state top a) (nat_lt (suc n) 3619) a first
     (grind (arith))
 
 -- the state after what a whole message counts
@@ -62,7 +62,7 @@ counted_either top state (Some a) None false c h = inr (λ e. cc, h)
 counted_either top state (Some a) None true c h = ⊎_elim (λ e. inr (λ z. cc, e)) (λ e. inl e) h
 counted_either top state (Some a) (Some zero) failed c h = inl h
 counted_either top state (Some a) (Some (suc n)) true c h = ⊎_elim (λ e. inr (λ z. cc, e)) (λ e. inl e) h
-counted_either top state (Some a) (Some (suc n)) false c h = pick (is_first_set state top a && nat_lt (suc n) 7206) h
+counted_either top state (Some a) (Some (suc n)) false c h = pick (is_first_set state top a && nat_lt (suc n) 3619) h
   where
     pick : (b : Bool) → MatchBool b (MayBeIn a c) (IsIn a c) → (c ≡ []) ⊎ ((Some (suc n) ≢ Some 0) × (c ≡ a ∷ []))
     pick true x = ⊎_elim (λ e. inr (λ z. cc, e)) (λ e. inl e) x
@@ -77,7 +77,7 @@ counts_failed top state (Some a) None false c h = inl h
 counts_failed top state (Some a) None true c h = h
 counts_failed top state (Some a) (Some zero) failed c h = h
 counts_failed top state (Some a) (Some (suc n)) true c h = h
-counts_failed top state (Some a) (Some (suc n)) false c h = pick (is_first_set state top a && nat_lt (suc n) 7206) h
+counts_failed top state (Some a) (Some (suc n)) false c h = pick (is_first_set state top a && nat_lt (suc n) 3619) h
   where
     pick : (b : Bool) → MatchBool b (MayBeIn a c) (IsIn a c) → MayBeIn a c
     pick true x = x

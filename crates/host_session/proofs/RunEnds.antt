@@ -8,6 +8,7 @@ use Rattle.host_session.proofs.Chained.{at_device, run_failed}
 use Rattle.host_session.proofs.Chained.{whole}
 use Rattle.host_session.proofs.QuietRuns.{quiet_refused, quiet_run, quiet_to_failure}
 use Rattle.host_session.proofs.Shops.{IsShop-one}
+use Rattle.host_session.proofs.Sparing.{failure_bound, refused_bound, run_bound}
 use Rattle.host_session.specs.Asking.{Source, messages_in}
 use Rattle.host_session.specs.Events.{Message}
 use Rattle.host_session.specs.Loops.{Ends, EndsBy, IsRun, Origin}
@@ -45,6 +46,7 @@ module _ {D A T : Type 0} (h : History D) (a : Source A) (o : Output T) (from : 
           (whole h from.shop (messages_in e.0) e.3.0.turns from.disk left e.3.0.run).1;
       quiet = λ s is. subst (IsQuietTo (messages_in e.0) left) (same s is)
           (λ asks. quiet_run h from.shop (messages_in e.0) e.3.0.turns from.disk left asks e.3.0.run);
+      writes = λ s is. run_bound h from.shop (messages_in e.0) e.3.0.turns from.disk left e.3.0.run e.3.2;
       plays = λ shop never. inl refl;
       «open» = λ f (is_input : faults.Input ≡ faults.Open f). cc;
       cause = λ (is_input : faults.Input ≡ faults.Device). cc;
@@ -66,6 +68,8 @@ module _ {D A T : Type 0} (h : History D) (a : Source A) (o : Output T) (from : 
       quiet = λ s is. subst (IsQuietTo (messages_in e.0) left) (same s is)
           (λ asks. quiet_run h from.shop (messages_in e.0) (e.2.0.turns ++ e.2.0.last ∷ []) from.disk left asks
           e.2.0.run);
+      writes = λ s is. run_bound h from.shop (messages_in e.0) (e.2.0.turns ++ e.2.0.last ∷ []) from.disk left e.2.0.run
+          e.2.2;
       plays = λ shop never. inr refl;
       «open» = λ f (is_output : faults.Output ≡ faults.Open f). cc;
       cause = λ (is_output : faults.Output ≡ faults.Device). cc;
@@ -90,6 +94,8 @@ module _ {D A T : Type 0} (h : History D) (a : Source A) (o : Output T) (from : 
           quiet = λ s is. subst (IsQuietTo (messages_in e.0) left) (same s is)
               (λ asks. quiet_to_failure h from.shop (messages_in e.0) e.2.0.turns e.2.0.last from.disk left asks
               e.2.0.run);
+          writes = λ s is. failure_bound h from.shop (messages_in e.0) e.2.0.turns e.2.0.last from.disk left e.2.0.run
+              e.2.2;
           plays = λ shop never. absurd (never_failed h _ _ never failed);
           «open» = λ f (is_device : faults.Device ≡ faults.Open f). cc;
           cause = λ _. ((from.shop, is_shop), failed);
@@ -119,6 +125,7 @@ module _ {D A T : Type 0} (h : History D) (a : Source A) (o : Output T) (from : 
           (whole h from.shop (messages_in e.0) e.3.0.turns from.disk left e.3.0.run).1;
       quiet = λ s is. subst (IsQuietTo (messages_in e.0) left) (same s is)
           (λ asks. quiet_run h from.shop (messages_in e.0) e.3.0.turns from.disk left asks e.3.0.run);
+      writes = λ s is. run_bound h from.shop (messages_in e.0) e.3.0.turns from.disk left e.3.0.run e.3.2;
       plays = λ shop never. tt;
       «open» = tt;
       cause = tt;
@@ -148,6 +155,7 @@ run_refused h a o disk left asks out f refused held quiet fails = record {
   device = λ s is (e : faults.Open f ≡ faults.Device). cc;
   moments = held;
   quiet = λ s is _. quiet_refused h s disk left (refused.same s is) (quiet s);
+  writes = λ s is _. refused_bound h (λ i. IsShop i s) disk left (refused.same s is);
   plays = λ shop never. absurd (fails shop never);
   «open» = λ x e. (subst (λ y. IsRefused h disk y left) (ap opened_with e) refused, refl, refl, refl);
   cause = λ (e : faults.Open f ≡ faults.Device). cc;

@@ -70,7 +70,7 @@ unfolding reset_of request_of number_before kind_before number_in amounts kind_o
 both_are_allowed = ((inl refl, tt), (inr refl, tt))
 
 -- past all its writes it has counted
-pub late_cut_may_not_drop_out : AreCounted (codes "@7206 1,1,S,1,5\n") (false ∷ []) ([] ∷ []) → ⊥
+pub late_cut_may_not_drop_out : AreCounted (codes "@3619 1,1,S,1,5\n") (false ∷ []) ([] ∷ []) → ⊥
 unfolding reset_of request_of number_before kind_before number_in amounts kind_of plain digits
 late_cut_may_not_drop_out x = let e : [] ≡ set ∷ [] = x.0 in cc
 

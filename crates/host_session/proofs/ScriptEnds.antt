@@ -1,6 +1,6 @@
 -- What a run over the lines of a script comes to.
 use Rattle.std.proofs.Common.{◌≡◌, ◌≢◌, ◌++◌, ◌∙◌, ⊎_elim, ℕ, List, [], ◌∷◌, None, Some, Ok, Err, refl, sym, subst, ap}
-use Rattle.std.proofs.Common.{arith, inl, inr, length, append-nil}
+use Rattle.std.proofs.Common.{Result, arith, inl, inr, length, append-nil}
 use Rattle.std.proofs.lemmas.Option.{none-some}
 use Rattle.d64_image.specs.History.{History}
 use Rattle.script_lines.specs.Lines.{lines}
@@ -9,16 +9,19 @@ use Rattle.host_session.proofs.Chained.{at_device, at_output, told_over, whole}
 use Rattle.host_session.proofs.PlainRuns.{plain_played}
 use Rattle.host_session.proofs.QuietRuns.{quiet_of_more}
 use Rattle.host_session.proofs.Runs.{held_of_more}
+use Rattle.host_session.proofs.Sparing.{bound_of_more}
 use Rattle.host_session.specs.Asking.{messages_in, of_script}
 use Rattle.host_session.specs.Chains.{over_instants, told_in}
 use Rattle.host_session.specs.Events.{Message, messages_of}
 use Rattle.host_session.specs.Instants.{Instant}
 use Rattle.host_session.specs.Loops.{IsRun, IsToldWhole}
-use Rattle.host_session.specs.Quiet.{AskNothing, IsQuiet}
+use Rattle.host_session.specs.Opening.{disk_of}
+use Rattle.host_session.specs.Quiet.{AreUncut, AskNothing, IsQuiet}
 use Rattle.host_session.specs.Runs.{HeldBeginnings}
 use Rattle.host_session.specs.ScriptRuns.{IsScriptRun}
 use Rattle.host_session.specs.Shop.{IsShop, Shop}
 use Rattle.host_session.specs.Telling.{Output}
+use Rattle.host_session.specs.Within.{IsBounded}
 use Rattle.host_session.specs.declared.asking.OfScript.{OfScript}
 use Rattle.host_session.specs.declared.faults.OpenFault.{OpenFault}
 use Rattle.host_session.specs.declared.faults.OpenFault.TheVariants as openings
@@ -45,6 +48,13 @@ module _ {D T : Type 0} (h : History D) (o : Output T) (disk : D) (script : List
   no_line : (n : ℕ) → first_bad (lines script) ≡ Some n → ⊥
   no_line n e = none-some n (sym none ∙ e)
 
+  -- what the lines that were taken wrote, all of them may
+  sparing : (r : Result D (LoopFault × D)) → IsRun h of_script o disk asked asks old new r
+      → (s : Shop) → IsShop (h.image disk) s → AreUncut (messages_of (lines script))
+      → IsBounded h (messages_of (lines script)) disk (disk_of (λ d. d) r)
+  sparing r k s is = bound_of_more h (messages_in k.taken) (messages_of (lines asks.left.now))
+      (messages_of (lines script)) disk (disk_of (λ d. d) r) (parts k.taken k.takes) (k.writes s is)
+
   pub played_out : (left : D) → IsRun h of_script o disk asked asks old new (Ok left)
       → IsScriptRun h o disk script old new (Ok left)
   played_out left k =
@@ -69,6 +79,7 @@ module _ {D T : Type 0} (h : History D) (o : Output T) (disk : D) (script : List
         device = λ s is. tt;
         moments = λ s is. subst (λ ms. HeldBeginnings h s ms disk left) all (k.moments s is);
         quiet = λ s is. subst (λ ms. AskNothing s ms → IsQuiet h s ms disk left) all (k.quiet s is);
+        writes = λ s is _. sparing (Ok left) k s is;
         plays = λ shop never. tt;
         «open» = tt;
         cause = tt;
@@ -95,6 +106,7 @@ module _ {D T : Type 0} (h : History D) (o : Output T) (disk : D) (script : List
     moments = λ s is. held_of_more h s (messages_in k.taken) (messages_of (lines asks.left.now))
         (messages_of (lines script)) disk left (parts k.taken k.takes) (k.moments s is);
     quiet = still left (runs.Open f) k;
+    writes = λ s is _. sparing (Err (runs.Open f, left)) k s is;
     plays = λ shop never. ⊎_elim (λ (e : runs.Open f ≡ runs.Input). cc) (λ (e : runs.Open f ≡ runs.Output). cc)
         (k.plays shop never);
     «open» = λ x e. let y = k.«open» x (ap runs.Open (ap opened_with e)) in (y.0, y.3);
@@ -126,6 +138,7 @@ module _ {D T : Type 0} (h : History D) (o : Output T) (disk : D) (script : List
     moments = λ s is. held_of_more h s (messages_in k.taken) (messages_of (lines asks.left.now))
         (messages_of (lines script)) disk left (parts k.taken k.takes) (k.moments s is);
     quiet = still left runs.Output k;
+    writes = λ s is _. sparing (Err (runs.Output, left)) k s is;
     plays = λ shop never. inr refl;
     «open» = λ f (e : ends.Output ≡ ends.Open f). cc;
     cause = λ (e : ends.Output ≡ ends.Device). cc;
@@ -155,6 +168,7 @@ module _ {D T : Type 0} (h : History D) (o : Output T) (disk : D) (script : List
     moments = λ s is. held_of_more h s (messages_in k.taken) (messages_of (lines asks.left.now))
         (messages_of (lines script)) disk left (parts k.taken k.takes) (k.moments s is);
     quiet = still left runs.Device k;
+    writes = λ s is _. sparing (Err (runs.Device, left)) k s is;
     plays = λ shop never. ⊎_elim (λ (e : runs.Device ≡ runs.Input). cc) (λ (e : runs.Device ≡ runs.Output). cc)
         (k.plays shop never);
     «open» = λ f (e : ends.Device ≡ ends.Open f). cc;

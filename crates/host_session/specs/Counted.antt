@@ -20,15 +20,14 @@ MayBeIn a counted = IsIn a counted ⊎ (counted ≡ [])
 
 -- What a request counts as: it counts where it was answered; it doesn't where power went before its first write; it
 -- does where power went later, but a first set may be in or out up to the last write that it can make; and where the
--- device failed in it, it may be in or out. 7206 is past all writes of a message: 2 + 10 * 720 for growth by 720
--- blocks, and 4.
+-- device failed in it, it may be in or out. 3619 is past all writes of a message, which writes 3618 sectors at most.
 abbrev pub Counts : ℕ → State → Ask → Option ℕ → Bool → List Ask → Type 0
 Counts top state a None false counted = IsIn a counted
 Counts top state a None true counted = MayBeIn a counted
 Counts top state a (Some zero) failed counted = counted ≡ []
 Counts top state a (Some (suc n)) true counted = MayBeIn a counted
 Counts top state a (Some (suc n)) false counted =
-    MatchBool (is_first_set state top a && nat_lt (suc n) 7206) (MayBeIn a counted) (IsIn a counted)
+    MatchBool (is_first_set state top a && nat_lt (suc n) 3619) (MayBeIn a counted) (IsIn a counted)
 
 -- the same of a message: what lies outside the grammar counts nowhere
 abbrev pub MayCount : ℕ → State → Option Ask → Option ℕ → Bool → List Ask → Type 0

@@ -7,12 +7,12 @@ use Rattle.host_session.specs.Chains.{HasRun, HasRunToFailure, asked_over, over_
 use Rattle.host_session.specs.Events.{Message}
 use Rattle.host_session.specs.Instants.{Instant, instant_of}
 use Rattle.host_session.specs.Opening.{IsAShop, disk_of}
-use Rattle.host_session.specs.Quiet.{AskNothing, IsQuiet}
+use Rattle.host_session.specs.Quiet.{AreUncut, AskNothing, IsQuiet}
 use Rattle.host_session.specs.Runs.{HeldBeginnings, IsRefused}
 use Rattle.host_session.specs.Shop.{IsShop, Shop}
 use Rattle.host_session.specs.Standing.{View}
 use Rattle.host_session.specs.Telling.{Output}
-use Rattle.host_session.specs.Within.{AreWithin}
+use Rattle.host_session.specs.Within.{AreWithin, IsBounded}
 use Rattle.host_session.specs.declared.faults.OpenFault.{OpenFault}
 use Rattle.host_session.specs.declared.looping.LoopFault.{LoopFault}
 use Rattle.host_session.specs.declared.looping.LoopFault.TheVariants as faults
@@ -148,6 +148,9 @@ pub record IsRun {D A T : Type 0} (h : History D) (a : Source A) (o : Output T) 
   -- Messages that ask nothing new leave the disk alone, however it ends.
   pub quiet : (s : Shop) → IsShop (h.image disk) s → AskNothing s (messages_in taken)
       → IsQuiet h s (messages_in taken) disk (disk_of (λ d. d) result)
+  -- Where power goes in none of the events, 952 sectors were written at most, and 3618 for each, however it ends.
+  pub writes : (s : Shop) → IsShop (h.image disk) s → AreUncut (messages_in taken)
+      → IsBounded h (messages_in taken) disk (disk_of (λ d. d) result)
   -- On a shop whose device doesn't fail it answers Ok, unless the input or the output fails.
   pub plays : IsAShop (h.image disk) → NeverFailed h disk (disk_of (λ d. d) result)
       → IfErr result (λ e. (e.0 ≡ faults.Input) ⊎ (e.0 ≡ faults.Output))

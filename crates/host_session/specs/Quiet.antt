@@ -31,7 +31,7 @@ abbrev pub AreUncut : List Message → Type 0
 AreUncut ms = AllByRecursion (λ m. m.cut_after ≡ None) ms
 
 -- From old to new the shop stayed the same one, and a disk at rest held nothing else. Where power goes in no message,
--- only the opening wrote, and a disk at rest wasn't written at all.
+-- no more sectors were written than an opening writes at most, and of a disk at rest none.
 pub record IsQuiet {D : Type 0} (h : History D) (s : Shop) (ms : List Message) (old new : D) : Type 0 where
   pub shop : HeldOnly h old new (λ i. IsShop i s)
   pub rests : IsSettled (h.image old) s → HeldOnly h old new (λ i. i ≡ h.image old)

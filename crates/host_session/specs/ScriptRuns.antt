@@ -10,10 +10,11 @@ use Rattle.host_session.specs.Events.{HasNoReset, Message, messages_of, requests
 use Rattle.host_session.specs.Instants.{Instant}
 use Rattle.host_session.specs.Loops.{IsToldToDevice, IsToldToOutput, IsToldWhole}
 use Rattle.host_session.specs.Opening.{IsAShop, disk_of}
-use Rattle.host_session.specs.Quiet.{AskNothing, IsQuiet}
+use Rattle.host_session.specs.Quiet.{AreUncut, AskNothing, IsQuiet}
 use Rattle.host_session.specs.Runs.{HeldBeginnings, IsPlayedWhole, IsRefused, StoppedByDevice, StoppedByOutput}
 use Rattle.host_session.specs.Shop.{IsSettled, IsShop, Shop, start_of, with_state}
 use Rattle.host_session.specs.Telling.{Output}
+use Rattle.host_session.specs.Within.{AreFew, IsBounded}
 use Rattle.host_session.specs.declared.faults.OpenFault.{OpenFault}
 use Rattle.host_session.specs.declared.running.ScriptFault.{ScriptFault}
 use Rattle.host_session.specs.declared.running.ScriptFault.TheVariants as faults
@@ -78,6 +79,11 @@ pub record IsScriptRun {D T : Type 0} (h : History D) (o : Output T) (disk : D) 
   -- Lines that ask nothing new leave the disk alone, however it ends.
   pub quiet : (s : Shop) → IsShop (h.image disk) s → AskNothing s (messages_of (lines script))
       → IsQuiet h s (messages_of (lines script)) disk (disk_of (λ d. d) result)
+  -- Where power goes in none of the lines, 952 sectors were written at most, and 3618 for each line, however it ends.
+  -- They are few, since the count of a mirror, and so of a file, is exact below 2^64 - 1 alone.
+  pub writes : (s : Shop) → IsShop (h.image disk) s → AreFew (messages_of (lines script))
+      → AreUncut (messages_of (lines script))
+      → IsBounded h (messages_of (lines script)) disk (disk_of (λ d. d) result)
   -- On a shop whose device doesn't fail it answers Ok, unless a line is bad or the output fails.
   pub plays : IsAShop (h.image disk) → NeverFailed h disk (disk_of (λ d. d) result)
       → IfErr result (λ e. ((n : ℕ) × (e.0 ≡ faults.BadLine n)) ⊎ (e.0 ≡ faults.Output))

@@ -1,5 +1,5 @@
 -- How many sectors the messages of a run write at most. All of it is our own.
-use Rattle.std.specs.Prelude.{◌≡◌, ◌≤◌, ◌+◌, List, ◌∷◌, None}
+use Rattle.std.specs.Prelude.{◌≡◌, ◌<◌, ◌≤◌, ◌+◌, ◌*◌, ℕ, List, ◌∷◌, None, length}
 use Rattle.d64_image.specs.History.{History}
 use Rattle.request_cards.specs.Reading.{request_of}
 use Rattle.request_cards.specs.declared.reply.Reply.{Reply}
@@ -19,3 +19,15 @@ pub record IsWithin {D : Type 0} (h : History D) (m : Message) (old new : D) : T
 abbrev pub AreWithin : {D : Type 0} → History D → List Message → List (Reply × D) → D → Type 0
 AreWithin h (m ∷ ms) (x ∷ xs) old = (m.cut_after ≡ None → IsWithin h m old x.1) × AreWithin h ms xs x.1
 AreWithin h _ _ old = Unit {0}
+
+-- the most sectors that a run of so many messages writes: 952 as its disk is opened, and 3618 in each of them
+abbrev pub most_of_run : ℕ → ℕ
+most_of_run n = 952 + 3618 * n
+
+-- a run of these messages wrote no more than that
+abbrev pub IsBounded : {D : Type 0} → History D → List Message → D → D → Type 0
+IsBounded h ms old new = h.writes new ≤ h.writes old + most_of_run (length ms)
+
+-- so few messages that a count that is exact below 2^64 - 1 has room for all that a run of them writes
+abbrev pub AreFew : List Message → Type 0
+AreFew ms = most_of_run (length ms) < 18446744073709551615

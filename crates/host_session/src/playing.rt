@@ -4,9 +4,10 @@ ghost use Rattle.d64_image.specs.History.{Failed, NeverFailed};
 ghost use Rattle.host_session.specs.Events.{message_of};
 ghost use Rattle.host_session.specs.Faults.{play_fault_of, play_number};
 ghost use Rattle.host_session.specs.Opening.{IsAShop, disk_of};
-ghost use Rattle.host_session.specs.Quiet.{AskNothing, IsQuiet};
+ghost use Rattle.host_session.specs.Quiet.{AreUncut, AskNothing, IsQuiet};
 ghost use Rattle.host_session.specs.Runs.{HeldBeginnings, IsPlayedWhole, IsRefused, StoppedByDevice};
 ghost use Rattle.host_session.specs.Shop.{IsShop, Shop};
+ghost use Rattle.host_session.specs.Within.{IsBounded};
 ghost use Rattle.host_session.specs.declared.faults.OpenFault.{OpenFault};
 ghost use Rattle.request_cards.specs.declared.reply.Reply.{Reply};
 
@@ -82,6 +83,9 @@ pub fn play<D: Sectors>(
     // Events that ask nothing new leave the disk alone, however it ends.
     ensures quiet { (s : Shop) → IsShop (D.history.image disk) s → AskNothing s (map message_of events.now)
         → IsQuiet D.history s (map message_of events.now) disk (disk_of (λ d. d) result) }
+    // Where power goes in none of the events, 952 sectors were written at most, and 3618 for each, however it ends.
+    ensures writes { (s : Shop) → IsShop (D.history.image disk) s → AreUncut (map message_of events.now)
+        → IsBounded D.history (map message_of events.now) disk (disk_of (λ d. d) result) }
     // On a shop whose device doesn't fail it answers Ok, unless memory ran out.
     ensures plays { IsAShop (D.history.image disk) → NeverFailed D.history disk (disk_of (λ d. d) result)
         → IfErr result (λ e. e.0 ≡ PlayFault.NoMemory) }

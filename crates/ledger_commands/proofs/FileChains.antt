@@ -1,6 +1,6 @@
 -- A run over a mirror, as one of its file: event by event.
 use Rattle.std.proofs.Common.{◌≡◌, ◌<◌, ◌≤◌, ◌+◌, ◌∙◌, ℕ, Bool, true, List, [], ◌∷◌, ◌++◌, None, Option, Some, ap, ap₂}
-use Rattle.std.proofs.Common.{arith, refl, subst, sym}
+use Rattle.std.proofs.Common.{arith, length, refl, subst, sym}
 use Rattle.std.specs.Prelude.{map}
 use Rattle.d64_image.specs.declared.mirror.Mirror.{Mirror}
 use Rattle.d64_image.specs.declared.sector_file.SectorFile.{Ghosts}
@@ -18,6 +18,7 @@ use Rattle.host_session.specs.OneEvent.{EndsFailed, GoesOn, IsEvent}
 use Rattle.host_session.specs.Quiet.{IsLeftAlone, IsQuiet}
 use Rattle.host_session.specs.Runs.{HeldBeginnings, IsBlamed, IsPlayed, IsSomeBeginning, blamed}
 use Rattle.host_session.specs.Shop.{IsShop, Shop, start_of, with_state}
+use Rattle.host_session.specs.Within.{AreFew, IsBounded, most_of_run}
 use Rattle.request_cards.specs.Ledgers.{State}
 use Rattle.request_cards.specs.declared.reply.Reply.{Reply}
 
@@ -117,6 +118,13 @@ module _ {F : Type 0} {G : Ghosts F} where
             let taken : b.taken.n ≤ start.taken.n + n = x.writes in
             omega (arith, taken, untaken, x.held.reached.counted (omega (arith, taken, untaken, few)));
       }
+
+      -- of so few messages the mirror's count is exact
+      pub bounded_of_file : (ms : List Message) (b : Mirror F G) → IsMirrored start b → AreFew ms
+          → IsBounded mirror ms start b → IsBounded of_file ms (file_disk start) (file_disk b)
+      bounded_of_file ms b x few bound =
+          let taken : b.taken.n ≤ start.taken.n + most_of_run (length ms) = bound in
+          omega (arith, taken, untaken, x.counted (omega (arith, taken, untaken, few)))
 
       pub quiet_of_file : (s : Shop) (ms : List Message) (b : Mirror F G) → IsQuiet mirror s ms start b
           → IsQuiet of_file s ms (file_disk start) (file_disk b)

@@ -18,7 +18,7 @@ use Rattle.serving.proofs.Handled.{handled_run}
 use Rattle.serving.specs.AtOnce.{at_once}
 use Rattle.serving.specs.Inputs.{line_messages}
 use Rattle.serving.specs.Serves.{AreHandled, AreServed, AreServedToDevice, AreServedToOutput, IsServed, IsUnwritten}
-use Rattle.ledger_commands.proofs.FileChains.{changes_of_file, failing_of_file, over_files, over_files-more}
+use Rattle.ledger_commands.proofs.FileChains.{bounded_of_file, changes_of_file, failing_of_file, over_files, over_files-more}
 use Rattle.ledger_commands.proofs.FileChains.{run_of_file, same_instants}
 use Rattle.ledger_commands.proofs.FileScripts.{end_of_file, moments_of_file, refused_of_file}
 
@@ -105,6 +105,8 @@ module _ {F T : Type 0} {G : Ghosts F} (o : Output T) (start : Mirror F G) (whol
     device = λ _ _. tt;
     moments = λ s is. moments_of_file o start whole untaken old new s (line_messages x.handled) b (x.moments s is);
     quiet = λ s is asks. unwritten_of_file s b (x.quiet s is asks);
+    writes = λ s is few. bounded_of_file start whole untaken (line_messages x.handled) b
+        (x.moments s is).reached few (x.writes s is few);
     plays = λ _ _. tt;
     «open» = tt;
     cause = tt;
@@ -124,6 +126,8 @@ module _ {F T : Type 0} {G : Ghosts F} (o : Output T) (start : Mirror F G) (whol
     device = λ s is told. device_of_file s x.handled e.1 (x.device s is told);
     moments = λ s is. moments_of_file o start whole untaken old new s (line_messages x.handled) e.1 (x.moments s is);
     quiet = λ s is asks. unwritten_of_file s e.1 (x.quiet s is asks);
+    writes = λ s is few. bounded_of_file start whole untaken (line_messages x.handled) e.1
+        (x.moments s is).reached few (x.writes s is few);
     plays = λ shop never. x.plays shop (never_failed start whole e.1 (x.moments shop.0 shop.1).reached never);
     «open» = λ f is. let y = x.«open» f is in (refused_of_file o start whole untaken old new e.1 f y.0, y.1, y.2);
     cause = λ is.

@@ -8,7 +8,7 @@ use Rattle.std.specs.declared.io.ErrorKind.TheVariants as kinds
 use Rattle.ledger_commands.specs.Faults.{io_fault}
 use Rattle.ledger_program.specs.Ends.{Ended, exit_status}
 use Rattle.ledger_program.specs.Jobs.{needed}
-use Rattle.ledger_program.specs.Runs.{HoldsOfBytes, IsQuiet, IsReadingEnd, IsReadingOf, IsReadingRun}
+use Rattle.ledger_program.specs.Runs.{HoldsOfBytes, IsUntold, IsReadingEnd, IsReadingOf, IsReadingRun}
 use Rattle.ledger_program.specs.declared.jobs.Reading.{Reading}
 use Rattle.ledger_commands.specs.declared.faults.RunFault.TheVariants as run
 
@@ -17,15 +17,15 @@ pub reading-as : {W : Type 0} (contents : W → Option (List ℕ)) (what at : Re
     (ended end : Ended)
     → what ≡ at → ended ≡ end → IsReadingRun contents at bytes old new (exit_status end)
     → IfErr end (HoldsOfBytes at bytes)
-    → IsQuiet at bytes end → IsReadingRun contents what bytes old new (exit_status ended)
+    → IsUntold at bytes end → IsReadingRun contents what bytes old new (exit_status ended)
     × IfErr ended (HoldsOfBytes what bytes)
-    × IsQuiet what bytes ended
+    × IsUntold what bytes ended
 reading-as contents what at bytes old new ended end is told run fault quiet =
     subst (λ (w : Reading). IsReadingRun contents w bytes old new (exit_status ended)
-    × IfErr ended (HoldsOfBytes w bytes) × IsQuiet w bytes ended)
+    × IfErr ended (HoldsOfBytes w bytes) × IsUntold w bytes ended)
     (sym is)
     (subst (λ (e : Ended). IsReadingRun contents at bytes old new (exit_status e) × IfErr e (HoldsOfBytes at bytes)
-    × IsQuiet at bytes e) (sym told)
+    × IsUntold at bytes e) (sym told)
     (run, fault, quiet))
 
 -- the system's failures are told by two words

@@ -23,7 +23,7 @@ pub record IsDurableRun {F : Type 0} {G : Ghosts F} (durability : Durability) (i
   pub end : Ended
   pub run : IsRun first left end
   pub told : (ended ≡ end) ⊎ (ended ≡ Err faults.Device)
-  -- nothing was written behind the run
+  -- what the file holds at the end is what the run left
   pub same : G.held after ≡ G.held (placed_file left)
   pub reached : placed.reached left last
   pub untouched : is_synced left → last ≡ left

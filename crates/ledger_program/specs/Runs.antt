@@ -143,16 +143,16 @@ HoldsOfBytes readings.Dry bytes fault = IsDryRefusal bytes fault
 
 -- where nothing is told on standard error: at status 0, and where what is wrong with a disk's layout is what was asked
 -- for
-abbrev pub IsQuiet : Reading → (bytes : List ℕ) → Ended → Type 0
-IsQuiet readings.Check bytes ended = length bytes ≡ 174848 → exit_status ended ≢ 3 → IsOk ended
-IsQuiet _ bytes ended = IsOk ended ↔ (exit_status ended ≡ 0)
+abbrev pub IsUntold : Reading → (bytes : List ℕ) → Ended → Type 0
+IsUntold readings.Check bytes ended = length bytes ≡ 174848 → exit_status ended ≢ 3 → IsOk ended
+IsUntold _ bytes ended = IsOk ended ↔ (exit_status ended ≡ 0)
 
 -- What was asked of these bytes ended so: with its status and what it printed, and what is told of it holds.
 pub record IsReadingEnd {W : Type 0} (contents : W → Option (List ℕ)) (what : Reading) (bytes : List ℕ) (old new : W)
     (ended : Ended) : Type 0 where
   pub run : IsReadingRun contents what bytes old new (exit_status ended)
   pub fault : IfErr ended (HoldsOfBytes what bytes)
-  pub quiet : IsQuiet what bytes ended
+  pub quiet : IsUntold what bytes ended
 
 -- what comes of what is asked of a file that has these bytes: they were read; or `File` or `NoMemory` was told, and
 -- nothing was written

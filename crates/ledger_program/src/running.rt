@@ -3,7 +3,7 @@ ghost use Rattle.std.specs.Prelude.{◌≡◌, ◌≤◌, IfErr};
 ghost use Rattle.d64_image.specs.Keeps.{Agrees};
 ghost use Rattle.d64_image.specs.Memory.{sectors_in};
 ghost use Rattle.ledger_program.specs.Ends.{dry_end, end_of, exit_status};
-ghost use Rattle.ledger_program.specs.Runs.{HoldsOfBytes, IsFormatRun, IsPlayRun, IsQuiet, IsReadingRun};
+ghost use Rattle.ledger_program.specs.Runs.{HoldsOfBytes, IsFormatRun, IsPlayRun, IsUntold, IsReadingRun};
 
 use crate::jobs::Reading;
 use d64_image::{Mirror, SectorFile};
@@ -48,7 +48,7 @@ pub fn reading_run<W: Write>(
     // What is told holds of the bytes.
     ensures fault { IfErr result (HoldsOfBytes what bytes.now) }
     // What is wrong with a layout is what a check is asked for, and no fault of the run.
-    ensures quiet { IsQuiet what bytes.now result }
+    ensures quiet { IsUntold what bytes.now result }
 {
     match what {
         Reading::List => ended(list_image(alloc, bytes, out)),

@@ -12,7 +12,7 @@ use Rattle.host_session.specs.Counted.{MayCount, after_all}
 use Rattle.host_session.specs.Events.{Message}
 use Rattle.host_session.specs.Handling.{is_next_request, media}
 use Rattle.host_session.specs.OneEvent.{EndsFailed, GoesOn, IsEvent}
-use Rattle.host_session.specs.Quiet.{IsLeftAlone}
+use Rattle.host_session.specs.Quiet.{AreUncut, IsLeftAlone}
 use Rattle.host_session.specs.Shop.{IsShop, Shop, start_of, with_state}
 use Rattle.serving.specs.Inputs.{AskTheSame, asked_in}
 
@@ -29,6 +29,15 @@ rest_same x y xs ys e = cc
 
 none_same : (x : Asked) (xs : List Asked) → [] ≡ x ∷ xs → ⊥
 none_same x xs e = cc
+
+-- and so power goes in none
+pub uncut_same : (ms ns : List Message) → AskTheSame ms ns → AreUncut ns → AreUncut ms
+uncut_same [] ns e uncut = tt
+uncut_same (m ∷ ms) [] e uncut = absurd (none_same (asked_in m) (map asked_in ms) (sym e))
+uncut_same (m ∷ ms) (n ∷ ns) e uncut = (
+  ap (λ (a : Asked). a.1) (first_same (asked_in m) (asked_in n) (map asked_in ms) (map asked_in ns) e) ∙ uncut.0,
+  uncut_same ms ns (rest_same (asked_in m) (asked_in n) (map asked_in ms) (map asked_in ns) e) uncut.1,
+)
 
 -- messages that ask the same as some, cut before the last
 pub record SameParts (before : List Message) (m : Message) (all : List Message) : Type 0 where

@@ -1,5 +1,5 @@
 -- What a run over the lines of an input comes to, where each reply is handed on by itself.
-use Rattle.std.proofs.Common.{◌≡◌, ◌<◌, ⊎_elim, ◌∙◌, ℕ, List, [], ◌∷◌, ◌++◌, Option, Ok, Err, Result, map, refl, sym}
+use Rattle.std.proofs.Common.{◌≡◌, ◌<◌, ◌≤◌, ◌+◌, ⊎_elim, ◌∙◌, ℕ, List, [], ◌∷◌, ◌++◌, Option, Ok, Err, Result, map, refl, sym}
 use Rattle.std.proofs.Common.{subst, ap, inl, inr, append-nil, length}
 use Rattle.std.proofs.lemmas.List.{length-map}
 use Rattle.d64_image.specs.History.{History}
@@ -10,9 +10,11 @@ use Rattle.host_session.specs.Events.{Message, uncut}
 use Rattle.host_session.specs.Instants.{Instant}
 use Rattle.host_session.specs.Loops.{IsRun, IsRunToDevice, IsRunToOutput, IsRunWhole}
 use Rattle.host_session.specs.Quiet.{AreUncut, AskNothing, IsQuiet}
+use Rattle.host_session.specs.Opening.{disk_of}
 use Rattle.host_session.specs.Runs.{HeldBeginnings}
 use Rattle.host_session.specs.Shop.{IsShop, Shop}
 use Rattle.host_session.specs.Telling.{Output}
+use Rattle.host_session.specs.Within.{IsBounded, most_of_run}
 use Rattle.host_session.specs.declared.asking.Next.TheVariants as next
 use Rattle.host_session.specs.declared.looping.LoopFault.{LoopFault}
 use Rattle.host_session.specs.declared.looping.LoopFault.TheVariants as faults
@@ -23,7 +25,7 @@ use Rattle.serving.specs.Serves.{AreServed, AreServedToDevice, AreServedToOutput
 use Rattle.serving.specs.declared.at_once.AtOnce.{AtOnce}
 use Rattle.serving.specs.declared.inputs.OfInput.{OfInput}
 use Rattle.serving.proofs.Handled.{handled_run}
-use Rattle.serving.proofs.Same.{same_run, same_run_to_failure}
+use Rattle.serving.proofs.Same.{same_run, same_run_to_failure, uncut_same}
 
 -- power goes in no line
 all_uncut : (ls : List (List ℕ)) → AreUncut (map uncut ls)
@@ -101,6 +103,18 @@ module _ {D R T : Type 0} (h : History D) (remaining : R → Option (List ℕ)) 
           (q.1, λ asks. unwritten (quiet_to_failure h s Lines k.0.turns k.0.last disk left asks run)),
         )
 
+  -- how much the lines wrote
+  sparing : (r : Result D (LoopFault × D)) (k : Ran r) (s : Shop) → IsShop (h.image disk) s
+      → IsBounded h (line_messages k.takes.handled) disk (disk_of (λ d. d) r)
+  sparing r k s is =
+      let x = k.takes in
+      let ms : List Message = messages_in k.taken in
+      let ns : List Message = line_messages x.handled in
+      let same : length ms ≡ length ns =
+      sym (length-map ms asked_in) ∙ ap length x.asks ∙ length-map ns asked_in in
+      subst (λ n. h.writes (disk_of (λ d. d) r) ≤ h.writes disk + most_of_run n) same
+      (k.writes s is (uncut_same ms ns x.asks (all_uncut (lines x.handled))))
+
   -- no message asks the same as none
   none_asked : (ms : List Message) → [] ≡ map asked_in ms → [] ≡ ms
   none_asked [] e = refl
@@ -137,6 +151,7 @@ module _ {D R T : Type 0} (h : History D) (remaining : R → Option (List ℕ)) 
     device = λ s is. tt;
     moments = λ s is. (served k.taken k.takes s left (k.ok s is)).1.0;
     quiet = λ s is. (served k.taken k.takes s left (k.ok s is)).1.1;
+    writes = λ s is _. sparing (Ok left) k s is;
     plays = λ shop never. tt;
     «open» = tt;
     cause = tt;
@@ -156,6 +171,7 @@ module _ {D R T : Type 0} (h : History D) (remaining : R → Option (List ℕ)) 
     device = λ s is told. (served_to_device k.taken k.takes s e.1 (k.device s is told)).0;
     moments = λ s is. (held_at e k e.0 refl s is).0;
     quiet = λ s is. (held_at e k e.0 refl s is).1;
+    writes = λ s is _. sparing (Err e) k s is;
     plays = k.plays;
     «open» = λ f is. (
       (k.«open» f is).0,

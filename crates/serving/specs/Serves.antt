@@ -16,6 +16,7 @@ use Rattle.host_session.specs.Quiet.{AskNothing}
 use Rattle.host_session.specs.Runs.{HeldBeginnings, IsPlayedWhole, IsRefused, StoppedByDevice}
 use Rattle.host_session.specs.Shop.{IsSettled, IsShop, Shop, start_of, with_state}
 use Rattle.host_session.specs.Telling.{Output}
+use Rattle.host_session.specs.Within.{AreFew, IsBounded}
 use Rattle.host_session.specs.declared.faults.OpenFault.{OpenFault}
 use Rattle.host_session.specs.declared.looping.LoopFault.{LoopFault}
 use Rattle.host_session.specs.declared.looping.LoopFault.TheVariants as faults
@@ -66,7 +67,7 @@ pub record AreServedToDevice {D T : Type 0} (h : History D) (o : Output T) (s : 
   pub run : IsToldToDevice h (at_once o) s (line_messages bytes) disk left old new
   pub stopped : StoppedByDevice h s (line_messages bytes) disk left (told_in run.turns ++ run.last ∷ [])
 
--- Only the opening wrote, and a disk at rest wasn't written.
+-- No more sectors were written than an opening writes at most, and of a disk at rest none.
 abbrev pub IsUnwritten : {D : Type 0} → History D → Shop → D → D → Type 0
 IsUnwritten h s old new = Changes h old new 952 (λ i. IsShop i s) × (IsSettled (h.image old) s → Untouched h old new)
 
@@ -96,9 +97,14 @@ pub record IsServed {D R T : Type 0} (h : History D) (remaining : R → Option (
   -- At each moment the shop is that of a counted list of some beginning of the lines.
   pub moments : (s : Shop) → IsShop (h.image disk) s
       → HeldBeginnings h s (line_messages handled) disk (disk_of (λ d. d) result)
-  -- Where the lines ask nothing new, only the opening wrote, and a disk at rest wasn't written, however it ends.
+  -- Where the lines ask nothing new, no more was written than an opening writes at most, and of a disk at rest nothing,
+  -- however it ends.
   pub quiet : (s : Shop) → IsShop (h.image disk) s → AskNothing s (line_messages handled)
       → IsUnwritten h s disk (disk_of (λ d. d) result)
+  -- 952 sectors were written at most, and 3618 for each line, however it ends. They are few, since the count of a mirror,
+  -- and so of a file, is exact below 2^64 - 1 alone.
+  pub writes : (s : Shop) → IsShop (h.image disk) s → AreFew (line_messages handled)
+      → IsBounded h (line_messages handled) disk (disk_of (λ d. d) result)
   -- On a shop whose device doesn't fail it answers Ok, unless the input or the output fails.
   pub plays : IsAShop (h.image disk) → NeverFailed h disk (disk_of (λ d. d) result)
       → IfErr result (λ e. (e.0 ≡ faults.Input) ⊎ (e.0 ≡ faults.Output))

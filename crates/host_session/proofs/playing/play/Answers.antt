@@ -5,6 +5,7 @@ use Rattle.request_cards.specs.declared.reply.Reply.{Reply}
 use Rattle.host_session.proofs.EventEnds.{IsEventsEnd, faulted, whole_run}
 use Rattle.host_session.proofs.QuietRuns.{quiet_same}
 use Rattle.host_session.proofs.Runs.{held_none}
+use Rattle.host_session.proofs.Sparing.{same_bound}
 use Rattle.host_session.specs.Asking.{of_events}
 use Rattle.host_session.specs.Events.{message_of}
 use Rattle.host_session.specs.Loops.{IsRun}
@@ -21,6 +22,10 @@ returns-in-Err-clause-moments g c = λ s shop.
 pub returns-in-Err-clause-quiet : goal.returns-in-Err-clause-quiet
 returns-in-Err-clause-quiet g c = λ s shop _.
     quiet_same g.D.Sectors.history s (map message_of c.args.events.now) c.args.disk shop
+
+pub returns-in-Err-clause-writes : goal.returns-in-Err-clause-writes
+returns-in-Err-clause-writes g c = λ s shop _.
+    same_bound g.D.Sectors.history (map message_of c.args.events.now) c.args.disk
 
 pub returns-in-Ok-run : goal.returns-in-Ok-run
 returns-in-Ok-run g c =
@@ -40,6 +45,7 @@ returns-in-Ok-run g c =
       device = λ s shop. tt;
       moments = w.1;
       quiet = w.2;
+      writes = w.3;
       plays = λ shop never. tt;
       «open» = tt;
       cause = tt;
@@ -67,6 +73,7 @@ returns-in-Err-run g c =
           (x.0, subst (λ (xs : List Reply). new.items ≡ xs ++ x.0) c.in-Ok.ensures.items x.1, x.2);
       moments = e.moments;
       quiet = e.quiet;
+      writes = e.writes;
       plays = e.plays;
       «open» = e.«open»;
       cause = e.cause;

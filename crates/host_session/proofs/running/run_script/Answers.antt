@@ -7,6 +7,7 @@ use Rattle.host_session.proofs.QuietRuns.{quiet_same}
 use Rattle.host_session.proofs.Runs.{held_none}
 use Rattle.host_session.proofs.ScriptFaults.{line-device, line-open, line-output, line_of}
 use Rattle.host_session.proofs.ScriptEnds.{faulted, played_out}
+use Rattle.host_session.proofs.Sparing.{same_bound}
 use Rattle.host_session.specs.Asking.{of_script}
 use Rattle.host_session.specs.Events.{messages_of}
 use Rattle.host_session.specs.Loops.{IsRun}
@@ -30,6 +31,7 @@ returns-in-Some g c = record {
       held_none h s (messages_of (lines c.args.script.now)) c.args.disk c.args.disk
       (start h c.args.disk (λ i. IsShop i s) shop) (le_refl (h.failures c.args.disk));
   quiet = λ s shop _. quiet_same g.D.Sectors.history s (messages_of (lines c.args.script.now)) c.args.disk shop;
+  writes = λ s shop _ _. same_bound g.D.Sectors.history (messages_of (lines c.args.script.now)) c.args.disk;
   plays = λ shop never. inl (c.in-Some.line, refl);
   «open» = λ f e. absurd (line-open c.in-Some.line f e);
   cause = λ e. absurd (line-device c.in-Some.line e);
