@@ -29,4 +29,5 @@ pub mod Within
 pub mod Asking
 pub mod Telling
 pub mod Loops
+pub mod Played
 pub mod Outputs

@@ -1,5 +1,6 @@
 -- The ends of a run of events.
-use Rattle.std.proofs.Common.{◌≡◌, ◌++◌, ◌∙◌, List, arith, le_refl, map, subst, sym}
+use Rattle.std.proofs.Common.{◌≡◌, ◌++◌, ◌∙◌, List, arith, le_refl, map, refl, subst, sym}
+use Rattle.std.proofs.lemmas.List.{length-map}
 use Rattle.d64_image.proofs.Moments.{start}
 use Rattle.request_cards.specs.declared.reply.Reply.{Reply}
 use Rattle.host_session.proofs.EventEnds.{IsEventsEnd, faulted, whole_run}
@@ -13,19 +14,25 @@ use Rattle.host_session.specs.Outputs.{listed}
 use Rattle.host_session.specs.Shop.{IsShop}
 use Rattle.host_session.proofs.playing.play.Goals as goal
 
-pub returns-in-Err-clause-moments : goal.returns-in-Err-clause-moments
-returns-in-Err-clause-moments g c = λ s shop.
+-- no room for the replies
+pub returns-in-Err : goal.returns-in-Err
+returns-in-Err g c =
     let h = g.D.Sectors.history in
-    held_none h s (map message_of c.args.events.now) c.args.disk c.args.disk
-    (start h c.args.disk (λ i. IsShop i s) shop) (le_refl (h.failures c.args.disk))
-
-pub returns-in-Err-clause-quiet : goal.returns-in-Err-clause-quiet
-returns-in-Err-clause-quiet g c = λ s shop _.
-    quiet_same g.D.Sectors.history s (map message_of c.args.events.now) c.args.disk shop
-
-pub returns-in-Err-clause-writes : goal.returns-in-Err-clause-writes
-returns-in-Err-clause-writes g c = λ s shop _.
-    same_bound g.D.Sectors.history (map message_of c.args.events.now) c.args.disk
+    let ms = map message_of c.args.events.now in
+    let disk = c.args.disk in
+    record {
+      shop = tt;
+      ok = λ s shop. tt;
+      device = λ s shop is. absurd (let e = is in cc);
+      moments = λ s shop. held_none h s ms disk disk (start h disk (λ i. IsShop i s) shop) (le_refl (h.failures disk));
+      quiet = λ s shop _. quiet_same h s ms disk shop;
+      writes = λ s shop _. same_bound h ms disk;
+      plays = λ shop never. refl;
+      «open» = λ f is. absurd (let e = is in cc);
+      cause = λ is. absurd (let e = is in cc);
+      memory = λ is. (refl, omega (arith, c.in-Err.ensures.full, length-map c.args.events.now message_of));
+      silent = λ other. c.try_reserve.ensures.items;
+    }
 
 pub returns-in-Ok-run : goal.returns-in-Ok-run
 returns-in-Ok-run g c =
