@@ -21,7 +21,7 @@ use Rattle.host_session.specs.Runs.{HeldBeginnings}
 use Rattle.host_session.specs.ScriptRuns.{IsScriptRun}
 use Rattle.host_session.specs.Shop.{IsShop, Shop}
 use Rattle.host_session.specs.Telling.{Output}
-use Rattle.host_session.specs.Within.{IsBounded}
+use Rattle.host_session.specs.Within.{AreWithin, IsBounded}
 use Rattle.host_session.specs.declared.asking.OfScript.{OfScript}
 use Rattle.host_session.specs.declared.faults.OpenFault.{OpenFault}
 use Rattle.host_session.specs.declared.faults.OpenFault.TheVariants as openings
@@ -66,9 +66,14 @@ module _ {D T : Type 0} (h : History D) (o : Output T) (disk : D) (script : List
         good = tt;
         shop = k.shop.0;
         ok = λ s is.
-            let run : IsToldWhole h o s (messages_of (lines script)) disk left old new =
-            subst (λ ms. IsToldWhole h o s ms disk left old new) all (k.ok s is).0 in
-            record { run = run; played = (whole h s (messages_of (lines script)) run.turns disk left run.run).0 };
+            let x = subst
+            (λ ms. (run : IsToldWhole h o s ms disk left old new) × AreWithin h ms run.turns run.run.first) all
+            ((k.ok s is).0, (k.ok s is).2) in
+            record {
+              run = x.0;
+              played = (whole h s (messages_of (lines script)) x.0.turns disk left x.0.run).0;
+              within = λ _ _. x.1;
+            };
         without_resets = λ s is no.
             let run : IsToldWhole h o s (messages_of (lines script)) disk left old new =
             subst (λ ms. IsToldWhole h o s ms disk left old new) all (k.ok s is).0 in
@@ -133,6 +138,7 @@ module _ {D T : Type 0} (h : History D) (o : Output T) (disk : D) (script : List
           stopped = (at_output h s (messages_in k.taken) (messages_of (lines asks.left.now))
               (messages_of (lines script)) (x.turns ++ x.last ∷ []) disk left
               (parts k.taken k.takes) some x.run).0;
+          within = λ _ _. (k.output s is refl).2;
         };
     device = λ s is (e : ends.Output ≡ ends.Device). cc;
     moments = λ s is. held_of_more h s (messages_in k.taken) (messages_of (lines asks.left.now))
@@ -164,6 +170,7 @@ module _ {D T : Type 0} (h : History D) (o : Output T) (disk : D) (script : List
           stopped = (at_device h s (messages_in k.taken) (messages_of (lines asks.left.now))
               (messages_of (lines script)) x.turns x.last disk left
               (parts k.taken k.takes) x.run).0;
+          within = λ _ _. (k.device s is refl).2;
         };
     moments = λ s is. held_of_more h s (messages_in k.taken) (messages_of (lines asks.left.now))
         (messages_of (lines script)) disk left (parts k.taken k.takes) (k.moments s is);

@@ -14,7 +14,7 @@ use Rattle.host_session.specs.Quiet.{AreUncut, AskNothing, IsQuiet}
 use Rattle.host_session.specs.Runs.{HeldBeginnings, IsPlayedWhole, IsRefused, StoppedByDevice, StoppedByOutput}
 use Rattle.host_session.specs.Shop.{IsSettled, IsShop, Shop, start_of, with_state}
 use Rattle.host_session.specs.Telling.{Output}
-use Rattle.host_session.specs.Within.{AreFew, IsBounded}
+use Rattle.host_session.specs.Within.{AreFew, AreFewWithin, IsBounded}
 use Rattle.host_session.specs.declared.faults.OpenFault.{OpenFault}
 use Rattle.host_session.specs.declared.running.ScriptFault.{ScriptFault}
 use Rattle.host_session.specs.declared.running.ScriptFault.TheVariants as faults
@@ -25,6 +25,7 @@ pub record IsPlayedOut {D T : Type 0} (h : History D) (o : Output T) (s : Shop) 
     (old new : T) : Type 0 where
   pub run : IsToldWhole h o s ms disk left old new
   pub played : IsPlayedWhole h s ms disk left (told_in run.turns)
+  pub within : AreFewWithin h ms run.turns run.run.first
 
 -- A beginning of the messages was played. Its last reply was broken off; those before it were told, and nothing else.
 pub record IsPlayedToOutput {D T : Type 0} (h : History D) (o : Output T) (s : Shop) (ms : List Message) (disk left : D)
@@ -34,6 +35,7 @@ pub record IsPlayedToOutput {D T : Type 0} (h : History D) (o : Output T) (s : S
   pub parts : begun ++ rest ≡ ms
   pub run : IsToldToOutput h o s begun disk left old new
   pub stopped : StoppedByOutput h s ms disk left (told_in (run.turns ++ run.last ∷ []))
+  pub within : AreFewWithin h begun (run.turns ++ run.last ∷ []) run.run.first
 
 -- A beginning of the messages was played, in the last of which the device failed. The replies before the last were
 -- told, and nothing else but the last, or a part of it.
@@ -44,6 +46,7 @@ pub record IsPlayedToDevice {D T : Type 0} (h : History D) (o : Output T) (s : S
   pub parts : begun ++ rest ≡ ms
   pub run : IsToldToDevice h o s begun disk left old new
   pub stopped : StoppedByDevice h s ms disk left (told_in run.turns ++ run.last ∷ [])
+  pub within : AreFewWithin h begun (run.turns ++ (run.last, left) ∷ []) run.run.run.first
 
 -- These replies were told, each over the disk at some instant, and nothing else.
 pub record AreToldSo {T : Type 0} (o : Output T) (old new : T) (told : List Reply) : Type 0 where

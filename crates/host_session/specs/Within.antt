@@ -6,6 +6,7 @@ use Rattle.request_cards.specs.declared.reply.Reply.{Reply}
 use Rattle.host_session.specs.Events.{Message}
 use Rattle.host_session.specs.Files.{Files, HasFiles}
 use Rattle.host_session.specs.Handling.{most_writes}
+use Rattle.host_session.specs.Quiet.{AreUncut}
 use Rattle.host_session.specs.Shop.{shop_of}
 
 -- Whatever the message, 3618 sectors were written at most, and no more than its request can need on that disk.
@@ -31,3 +32,7 @@ IsBounded h ms old new = h.writes new ≤ h.writes old + most_of_run (length ms)
 -- so few messages that a count that is exact below 2^64 - 1 has room for all that a run of them writes
 abbrev pub AreFew : List Message → Type 0
 AreFew ms = most_of_run (length ms) < 18446744073709551615
+
+-- where power goes in none of few messages, each wrote no more than it can need
+abbrev pub AreFewWithin : {D : Type 0} → History D → List Message → List (Reply × D) → D → Type 0
+AreFewWithin h ms xs old = AreFew ms → AreUncut ms → AreWithin h ms xs old

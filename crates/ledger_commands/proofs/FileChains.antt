@@ -1,25 +1,27 @@
 -- A run over a mirror, as one of its file: event by event.
-use Rattle.std.proofs.Common.{◌≡◌, ◌<◌, ◌≤◌, ◌+◌, ◌∙◌, ℕ, Bool, true, List, [], ◌∷◌, ◌++◌, None, Option, Some, ap, ap₂}
+use Rattle.std.proofs.Common.{◌≡◌, ◌<◌, ◌≤◌, ◌+◌, ℕ, Bool, List, [], ◌∷◌, ◌++◌, None, Option, Some, ap}
 use Rattle.std.proofs.Common.{arith, length, refl, subst, sym}
-use Rattle.std.specs.Prelude.{map}
+use Rattle.std.specs.Prelude.{◌*◌, map}
 use Rattle.d64_image.specs.declared.mirror.Mirror.{Mirror}
 use Rattle.d64_image.specs.declared.sector_file.SectorFile.{Ghosts}
-use Rattle.d64_image.specs.FileDisks.{FileDisk, fails_since, in_run}
+use Rattle.d64_image.specs.FileDisks.{FileDisk, in_run}
 use Rattle.d64_image.specs.History.{Changes, History}
 use Rattle.d64_image.specs.Images.{Image}
 use Rattle.d64_image.specs.Mirrors.{IsMirrored, is_broken, mirror, mirrored_then, one_if}
 use Rattle.d64_image.proofs.FileRuns.{failed_by_file, file_disk, held_by_file, one_if-false, since_grows, since_whole}
-use Rattle.d64_image.proofs.Moments.{weaker}
 use Rattle.host_session.specs.Chains.{HasRun, HasRunToFailure, IsChain, over_instants, told_in}
-use Rattle.host_session.specs.Counted.{NoneGotMedia, after_all}
+use Rattle.host_session.specs.Counted.{after_all}
 use Rattle.host_session.specs.Events.{Message}
 use Rattle.host_session.specs.Instants.{instant_of}
 use Rattle.host_session.specs.OneEvent.{EndsFailed, GoesOn, IsEvent}
-use Rattle.host_session.specs.Quiet.{IsLeftAlone, IsQuiet}
-use Rattle.host_session.specs.Runs.{HeldBeginnings, IsBlamed, IsPlayed, IsSomeBeginning, blamed}
-use Rattle.host_session.specs.Shop.{IsShop, Shop, start_of, with_state}
-use Rattle.host_session.specs.Within.{AreFew, IsBounded, most_of_run}
+use Rattle.host_session.specs.Files.{Files, HasFiles}
+use Rattle.host_session.specs.Handling.{most_writes}
+use Rattle.host_session.specs.Quiet.{AreUncut, IsLeftAlone, IsQuiet}
+use Rattle.host_session.specs.Runs.{IsBlamed, blamed}
+use Rattle.host_session.specs.Shop.{Shop, shop_of, start_of, with_state}
+use Rattle.host_session.specs.Within.{AreFew, AreWithin, IsBounded, IsWithin, most_of_run}
 use Rattle.request_cards.specs.Ledgers.{State}
+use Rattle.request_cards.specs.Reading.{request_of}
 use Rattle.request_cards.specs.declared.reply.Reply.{Reply}
 
 -- the turns of a run, each over the file of its mirror
@@ -54,7 +56,7 @@ module _ {F : Type 0} {G : Ghosts F} where
         omega (arith, none, sound, since_grows G.keeps start.file a.file b.file y.failures)
 
     -- what left the mirror alone left its file alone
-    alone_of_file : (cut : Option ℕ) (a b : Mirror F G) → IsLeftAlone mirror cut a b
+    pub alone_of_file : (cut : Option ℕ) (a b : Mirror F G) → IsLeftAlone mirror cut a b
         → IsLeftAlone of_file cut (file_disk a) (file_disk b)
     alone_of_file None a b same = ap file_disk same
     alone_of_file (Some after) a b held = held_by_file start.file a b _ held
@@ -80,7 +82,7 @@ module _ {F : Type 0} {G : Ghosts F} where
         → GoesOn of_file s m reply (file_disk b) f t
     goes_on s m reply b f t x = record { told = x.told; answered = x.answered; settled = x.settled }
 
-    ends_failed : (s : Shop) (m : Message) (reply : Reply) (b : Mirror F G) (f : Bool) (t : State)
+    pub ends_failed : (s : Shop) (m : Message) (reply : Reply) (b : Mirror F G) (f : Bool) (t : State)
         → EndsFailed mirror s m reply b f t
         → EndsFailed of_file s m reply (file_disk b) f t
     ends_failed s m reply b f t x = record { told = x.told; asked = x.asked; is_failed = x.is_failed; shop = x.shop }
@@ -107,6 +109,55 @@ module _ {F : Type 0} {G : Ghosts F} where
     chain_reached s (m ∷ ms) (y ∷ ys) a t b x chain =
         chain_reached (with_state s (after_all (start_of s) s.state chain.0.counted)) ms ys y.1 t b
         (mirrored_then start a y.1 x chain.0.moments.reached) chain.1
+
+    -- what a message wrote, of a file that counts no sector that the mirror doesn't
+    within_one : (m : Message) (a b : Mirror F G) → IsWithin mirror m a b
+        → G.keeps.writes b.file + a.taken.n ≤ G.keeps.writes a.file + b.taken.n
+        → IsWithin of_file m (file_disk a) (file_disk b)
+    within_one m a b x counted = record {
+      most = let most : b.taken.n ≤ a.taken.n + 3618 = x.most in omega (arith, most, counted);
+      needed = λ (f : Files) (y : HasFiles (mirror.image a) f).
+          let need : b.taken.n ≤ a.taken.n + most_writes (shop_of f) y.stock_file (request_of m.bytes) = x.needed f y in
+          omega (arith, need, counted);
+    }
+
+    -- each message of a chain, whose mirror's count stays exact
+    within_on : (s : Shop) (ms : List Message) (xs : List (Reply × Mirror F G)) (a : Mirror F G) (t : Shop)
+        (b : Mirror F G) → IsChain mirror s ms xs a t b → AreUncut ms
+        → a.taken.n + 3618 * length ms < 18446744073709551615
+        → AreWithin mirror ms xs a → AreWithin of_file ms (over_files xs) (file_disk a)
+    within_on s [] [] a t b chain uncut few each = tt
+    within_on s [] (y ∷ ys) a t b chain uncut few each = absurd chain
+    within_on s (m ∷ ms) [] a t b chain uncut few each = absurd chain
+    within_on s (m ∷ ms) (y ∷ ys) a t b chain uncut few each =
+        let one : IsWithin mirror m a y.1 = each.0 uncut.0 in
+        let most : y.1.taken.n ≤ a.taken.n + 3618 = one.most in (
+          λ _. within_one m a y.1 one (chain.0.moments.reached.counted (omega (arith, most, few))),
+          within_on (with_state s (after_all (start_of s) s.state chain.0.counted)) ms ys y.1 t b chain.1 uncut.1
+              (omega (arith, most, few)) each.1,
+        )
+
+    -- and one message behind it
+    within_last : (s : Shop) (ms : List Message) (xs : List (Reply × Mirror F G)) (a : Mirror F G) (t : Shop)
+        (at : Mirror F G) (m : Message) (reply : Reply) (b : Mirror F G) → IsChain mirror s ms xs a t at
+        → IsMirrored at b → AreUncut (ms ++ m ∷ [])
+        → a.taken.n + 3618 * length (ms ++ m ∷ []) < 18446744073709551615
+        → AreWithin mirror (ms ++ m ∷ []) (xs ++ (reply, b) ∷ []) a
+        → AreWithin of_file (ms ++ m ∷ []) (over_files xs ++ (reply, file_disk b) ∷ []) (file_disk a)
+    within_last s [] [] a t at m reply b chain x uncut few each =
+        let one : IsWithin mirror m a b = each.0 uncut.0 in
+        let most : b.taken.n ≤ a.taken.n + 3618 = one.most in
+        let step : IsMirrored a b = subst (λ (d : Mirror F G). IsMirrored d b) chain.1 x in
+        (λ _. within_one m a b one (step.counted (omega (arith, most, few))), tt)
+    within_last s [] (y ∷ ys) a t at m reply b chain x uncut few each = absurd chain
+    within_last s (n ∷ ms) [] a t at m reply b chain x uncut few each = absurd chain
+    within_last s (n ∷ ms) (y ∷ ys) a t at m reply b chain x uncut few each =
+        let one : IsWithin mirror n a y.1 = each.0 uncut.0 in
+        let most : y.1.taken.n ≤ a.taken.n + 3618 = one.most in (
+          λ _. within_one n a y.1 one (chain.0.moments.reached.counted (omega (arith, most, few))),
+          within_last (with_state s (after_all (start_of s) s.state chain.0.counted)) ms ys y.1 t at m reply b chain.1
+              x uncut.1 (omega (arith, most, few)) each.1,
+        )
 
     module _ (untaken : start.taken.n ≡ 0) where
       -- few writes from the start on
@@ -148,7 +199,7 @@ module _ {F : Type 0} {G : Ghosts F} where
         chain = chain_of_file s ms xs run.first run.now b run.opening.held.reached run.chain;
       }
 
-      pub failing_of_file : (s : Shop) (ms : List Message) (xs : List (Reply × Mirror F G)) (last : Reply)
+      abbrev pub failing_of_file : (s : Shop) (ms : List Message) (xs : List (Reply × Mirror F G)) (last : Reply)
           (b : Mirror F G) → HasRunToFailure mirror s ms xs last start b
           → HasRunToFailure of_file s ms (over_files xs) last (file_disk start) (file_disk b)
       failing_of_file s ms xs last b run = record {
@@ -161,3 +212,23 @@ module _ {F : Type 0} {G : Ghosts F} where
             (chain_reached s run.before xs run.run.first run.run.now run.at run.run.opening.held.reached run.run.chain)
             run.failed;
       }
+
+      pub within_run : (s : Shop) (ms : List Message) (xs : List (Reply × Mirror F G)) (b : Mirror F G)
+          (r : HasRun mirror s ms xs start b) → AreFew ms → AreUncut ms → AreWithin mirror ms xs r.first
+          → AreWithin of_file ms (over_files xs) (file_disk r.first)
+      within_run s ms xs b r few uncut each =
+          let opened : r.first.taken.n ≤ start.taken.n + 952 = r.opening.writes in
+          within_on s ms xs r.first r.now b r.chain uncut (omega (arith, opened, untaken, few)) each
+
+      pub within_failing : (s : Shop) (ms : List Message) (xs : List (Reply × Mirror F G)) (last : Reply)
+          (b : Mirror F G) (f : HasRunToFailure mirror s ms xs last start b) → AreFew ms → AreUncut ms
+          → AreWithin mirror ms (xs ++ (last, b) ∷ []) f.run.first
+          → AreWithin of_file ms (over_files xs ++ (last, file_disk b) ∷ []) (file_disk f.run.first)
+      within_failing s ms xs last b f few uncut each =
+          let r = f.run in
+          let opened : r.first.taken.n ≤ start.taken.n + 952 = r.opening.writes in
+          let long : length (f.before ++ f.message ∷ []) ≡ length ms = ap length f.parts in
+          subst (λ all. AreWithin of_file all (over_files xs ++ (last, file_disk b) ∷ []) (file_disk r.first)) f.parts
+          (within_last s f.before xs r.first r.now f.at f.message last b r.chain f.failed.moments.reached
+          (subst (λ all. AreUncut all) (sym f.parts) uncut) (omega (arith, opened, untaken, few, long))
+          (subst (λ all. AreWithin mirror all (xs ++ (last, b) ∷ []) r.first) (sym f.parts) each))

@@ -1,5 +1,5 @@
 -- What comes of a play over the file of a mirror, from that over the mirror and whether it is broken.
-use Rattle.std.proofs.Common.{◌≡◌, ◌≢◌, ◌<◌, ◌≤◌, ◌+◌, ◌⊎◌, ◌∙◌, ℕ, List, None, Some, Result, Ok, Err, arith, inl, inr}
+use Rattle.std.proofs.Common.{◌≡◌, ◌≢◌, ◌<◌, ◌≤◌, ◌+◌, ℕ, List, None, Result, Ok, Err, arith, inl, inr}
 use Rattle.std.proofs.Common.{length, refl, subst, sym, ap, ⊎_elim}
 use Rattle.std.proofs.lemmas.Bool.{cases_lt}
 use Rattle.d64_image.specs.declared.mirror.Mirror.{Mirror}
@@ -10,8 +10,7 @@ use Rattle.d64_image.specs.Keeps.{FileFailed, Keeps}
 use Rattle.d64_image.specs.Memory.{sectors_in}
 use Rattle.d64_image.specs.Mirrors.{IsMirrored, is_broken, mirror, mirror_image, one_if}
 use Rattle.d64_image.proofs.FileRuns.{file_disk, file_failed, one_if-false}
-use Rattle.host_session.specs.Opening.{IsAShop, Refuses, Untouched}
-use Rattle.host_session.specs.Runs.{IsRefused}
+use Rattle.host_session.specs.Opening.{Refuses, Untouched}
 use Rattle.host_session.specs.ScriptRuns.{IsScriptRun}
 use Rattle.host_session.specs.Telling.{Output}
 use Rattle.host_session.specs.declared.faults.OpenFault.{OpenFault}

@@ -1,35 +1,34 @@
 -- A script that was run over a mirror, as a run over its file.
-use Rattle.std.proofs.Common.{◌≡◌, ◌≢◌, ◌<◌, ◌≤◌, ◌+◌, ◌∙◌, ◌⊎◌, ℕ, Bool, List, [], ◌∷◌, ◌++◌, Ok, Err, Result, ap}
-use Rattle.std.proofs.Common.{arith, inl, inr, refl, subst, sym, ⊎_elim}
+use Rattle.std.proofs.Common.{◌≡◌, ◌<◌, ◌∙◌, ℕ, Bool, List, [], ◌∷◌, ◌++◌, Ok, Err, Result, ap}
+use Rattle.std.proofs.Common.{arith, inl, inr, subst, sym, ⊎_elim}
 use Rattle.std.proofs.lemmas.Bool.{cases_lt}
 use Rattle.d64_image.specs.declared.mirror.Mirror.{Mirror}
 use Rattle.d64_image.specs.declared.sector_file.SectorFile.{Ghosts}
 use Rattle.d64_image.specs.FileDisks.{FileDisk, fails_since, in_run}
-use Rattle.d64_image.specs.History.{Failed, History, NeverFailed}
+use Rattle.d64_image.specs.History.{Failed, History}
 use Rattle.d64_image.specs.Images.{Image}
-use Rattle.d64_image.specs.Mirrors.{IsMirrored, is_broken, mirror, mirrored_then}
-use Rattle.d64_image.proofs.FileRuns.{failed_by_file, file_disk, held_by_file, never_failed, since_grows, since_whole}
+use Rattle.d64_image.specs.Mirrors.{IsMirrored, is_broken, mirror}
+use Rattle.d64_image.proofs.FileRuns.{failed_by_file, file_disk, held_by_file, never_failed, since_grows}
 use Rattle.d64_image.proofs.Moments.{weaker}
 use Rattle.host_session.specs.Chains.{HasRun, told_in}
-use Rattle.host_session.specs.Counted.{NoneGotMedia}
 use Rattle.host_session.specs.Events.{Message, messages_of}
 use Rattle.host_session.specs.Instants.{instant_of}
-use Rattle.host_session.specs.Loops.{IsToldToDevice, IsToldToOutput, IsToldWhole}
-use Rattle.host_session.specs.Opening.{IsAShop, Refuses, Untouched, disk_of}
-use Rattle.host_session.specs.Runs.{HeldBeginnings, IsBlamed, IsPlayed, IsPlayedWhole, IsRefused, IsSomeBeginning}
-use Rattle.host_session.specs.Runs.{StoppedByDevice, StoppedByOutput}
+use Rattle.host_session.specs.Loops.{IsToldWhole}
+use Rattle.host_session.specs.Opening.{IsAShop, Refuses}
+use Rattle.host_session.specs.Runs.{HeldBeginnings, IsBlamed, IsPlayed, IsRefused, IsSomeBeginning}
 use Rattle.host_session.specs.ScriptRuns.{IsPlayedOut, IsPlayedToDevice, IsPlayedToOutput, IsScriptRun}
-use Rattle.host_session.specs.Shop.{IsShop, Shop}
+use Rattle.host_session.specs.Shop.{Shop}
 use Rattle.host_session.specs.Telling.{Output}
+use Rattle.host_session.specs.Within.{AreFewWithin}
 use Rattle.host_session.specs.declared.faults.OpenFault.{OpenFault}
 use Rattle.host_session.specs.declared.faults.OpenFault.TheVariants as opening
 use Rattle.host_session.specs.declared.running.ScriptFault.{ScriptFault}
-use Rattle.host_session.specs.declared.running.ScriptFault.TheVariants as faults
 use Rattle.request_cards.specs.Ledgers.{State}
 use Rattle.request_cards.specs.declared.reply.Reply.{Reply}
 use Rattle.script_lines.specs.Lines.{lines}
 use Rattle.ledger_commands.proofs.FileChains.{blamed_file, bounded_of_file, changes_of_file, failing_of_file, over_files}
 use Rattle.ledger_commands.proofs.FileChains.{over_files-more, quiet_of_file, run_of_file, same_instants, same_told}
+use Rattle.ledger_commands.proofs.FileChains.{within_failing, within_run}
 
 -- how a run over a mirror ended, as one over its file
 abbrev pub end_of_file : {E F : Type 0} {G : Ghosts F} → Result (Mirror F G) (E × Mirror F G)
@@ -99,6 +98,7 @@ module _ {F T : Type 0} {G : Ghosts F} (o : Output T) (start : Mirror F G) (whol
   out_of_file s ms b x p = record {
     run = told_of_file s ms b p.run;
     played = played_of_file s ms b _ _ _ _ x (same_told p.run.turns) p.played;
+    within = λ few uncut. within_run start whole untaken s ms p.run.turns b p.run.run few uncut (p.within few uncut);
   }
 
   output_of_file : (s : Shop) (ms : List Message) (b : Mirror F G) → IsMirrored start b
@@ -108,6 +108,12 @@ module _ {F T : Type 0} {G : Ghosts F} (o : Output T) (start : Mirror F G) (whol
       let last : Reply × FileDisk G.keeps = (p.run.last.0, file_disk p.run.last.1) in
       let more : over_files (p.run.turns ++ p.run.last ∷ []) ≡ over_files p.run.turns ++ last ∷ [] =
       sym (over_files-more p.run.turns (p.run.last ∷ [])) in
+      let all : List (Reply × Mirror F G) = p.run.turns ++ p.run.last ∷ [] in
+      let so = subst (λ turns. (r : HasRun file_run s p.begun turns (file_disk start) (file_disk b))
+      × AreFewWithin file_run p.begun turns r.first) more (
+        run_of_file start whole untaken s p.begun all b p.run.run,
+        λ few uncut. within_run start whole untaken s p.begun all b p.run.run few uncut (p.within few uncut),
+      ) in
       record {
         begun = p.begun;
         rest = p.rest;
@@ -115,8 +121,7 @@ module _ {F T : Type 0} {G : Ghosts F} (o : Output T) (start : Mirror F G) (whol
         run = record {
           turns = over_files p.run.turns;
           last = last;
-          run = subst (λ turns. HasRun file_run s p.begun turns (file_disk start) (file_disk b)) more
-              (run_of_file start whole untaken s p.begun (p.run.turns ++ p.run.last ∷ []) b p.run.run);
+          run = so.0;
           told = subst (λ xs. o.broken_off old new xs (p.run.last.0, instant_of mirror p.run.last.1))
               (same_instants start whole p.run.turns) p.run.told;
           full = p.run.full;
@@ -129,6 +134,7 @@ module _ {F T : Type 0} {G : Ghosts F} (o : Output T) (start : Mirror F G) (whol
           played = played_of_file s p.stopped.begun b _ _ _ _ x (same_told (p.run.turns ++ p.run.last ∷ [])
               ∙ ap told_in more) p.stopped.played;
         };
+        within = so.1;
       }
 
   device_of_file : (s : Shop) (ms : List Message) (b : Mirror F G) → IsMirrored start b
@@ -159,6 +165,8 @@ module _ {F T : Type 0} {G : Ghosts F} (o : Output T) (start : Mirror F G) (whol
       played = played_of_file s p.stopped.begun b _ _ _ _ x (ap (λ xs. xs ++ p.run.last ∷ []) (same_told p.run.turns))
           p.stopped.played;
     };
+    within = λ few uncut. within_failing start whole untaken s p.begun p.run.turns p.run.last b p.run.run few uncut
+        (p.within few uncut);
   }
 
   -- a disk is a shop's or not; either way an opening that is refused is a run

@@ -1,5 +1,5 @@
 -- A shop that was served over a mirror, as one over its file.
-use Rattle.std.proofs.Common.{◌≡◌, ◌<◌, ⊎_elim, arith, ℕ, List, [], ◌∷◌, ◌++◌, Option, Ok, Err, Result, inl, inr, subst}
+use Rattle.std.proofs.Common.{◌≡◌, ⊎_elim, arith, ℕ, List, [], ◌∷◌, ◌++◌, Option, Ok, Err, Result, inl, inr, subst}
 use Rattle.std.proofs.Common.{sym, append-nil}
 use Rattle.d64_image.specs.declared.mirror.Mirror.{Mirror}
 use Rattle.d64_image.specs.declared.sector_file.SectorFile.{Ghosts}
@@ -13,13 +13,16 @@ use Rattle.host_session.specs.Events.{Message}
 use Rattle.host_session.specs.Instants.{Instant, instant_of}
 use Rattle.host_session.specs.Shop.{Shop}
 use Rattle.host_session.specs.Telling.{Output}
+use Rattle.host_session.specs.Within.{AreFew, AreWithin}
+use Rattle.script_lines.specs.Lines.{lines}
 use Rattle.host_session.specs.declared.looping.LoopFault.{LoopFault}
 use Rattle.serving.proofs.Handled.{handled_run}
+use Rattle.serving.proofs.Served.{all_uncut}
 use Rattle.serving.specs.AtOnce.{at_once}
 use Rattle.serving.specs.Inputs.{line_messages}
 use Rattle.serving.specs.Serves.{AreHandled, AreServed, AreServedToDevice, AreServedToOutput, IsServed, IsUnwritten}
 use Rattle.ledger_commands.proofs.FileChains.{bounded_of_file, changes_of_file, failing_of_file, over_files, over_files-more}
-use Rattle.ledger_commands.proofs.FileChains.{run_of_file, same_instants}
+use Rattle.ledger_commands.proofs.FileChains.{run_of_file, same_instants, within_failing, within_run}
 use Rattle.ledger_commands.proofs.FileScripts.{end_of_file, moments_of_file, refused_of_file}
 
 module _ {F T : Type 0} {G : Ghosts F} (o : Output T) (start : Mirror F G) (whole : is_broken start
@@ -36,23 +39,35 @@ module _ {F T : Type 0} {G : Ghosts F} (o : Output T) (start : Mirror F G) (whol
 
   served_of_file : (s : Shop) (bytes : List ℕ) (b : Mirror F G) → AreServed mirror o s bytes start b old new
       → AreServed file_run o s bytes (file_disk start) (file_disk b) old new
+  unfolding handled_of_file
   served_of_file s bytes b x = record {
     turns = over_files x.turns;
     handled = handled_of_file s bytes x.turns b x.handled;
+    within = λ few. within_run start whole untaken s (line_messages bytes) x.turns b x.handled.run few
+        (all_uncut (lines bytes)) (x.within few);
     told = subst ((at_once o).told old new) (same_instants start whole x.turns) x.told;
   }
 
   output_of_file : (s : Shop) (bytes : List ℕ) (b : Mirror F G) → AreServedToOutput mirror o s bytes start b old new
       → AreServedToOutput file_run o s bytes (file_disk start) (file_disk b) old new
-  output_of_file s bytes b x = record {
-    turns = over_files x.turns;
-    last = (x.last.0, file_disk x.last.1);
-    handled = subst (λ turns. AreHandled file_run s bytes turns (file_disk start) (file_disk b))
-        (sym (over_files-more x.turns (x.last ∷ [])))
-        (handled_of_file s bytes (x.turns ++ x.last ∷ []) b x.handled);
-    told = subst (λ turns. (at_once o).broken_off old new turns (x.last.0, instant_of mirror x.last.1))
-        (same_instants start whole x.turns) x.told;
-  }
+  unfolding handled_of_file
+  output_of_file s bytes b x =
+      let all : List (Reply × Mirror F G) = x.turns ++ x.last ∷ [] in
+      let so = subst (λ turns. (y : AreHandled file_run s bytes turns (file_disk start) (file_disk b))
+      × (AreFew (line_messages bytes) → AreWithin file_run (line_messages bytes) turns y.run.first))
+      (sym (over_files-more x.turns (x.last ∷ []))) (
+        handled_of_file s bytes all b x.handled,
+        λ few. within_run start whole untaken s (line_messages bytes) all b x.handled.run few (all_uncut (lines bytes))
+            (x.within few),
+      ) in
+      record {
+        turns = over_files x.turns;
+        last = (x.last.0, file_disk x.last.1);
+        handled = so.0;
+        within = so.1;
+        told = subst (λ turns. (at_once o).broken_off old new turns (x.last.0, instant_of mirror x.last.1))
+            (same_instants start whole x.turns) x.told;
+      }
 
   device_of_file : (s : Shop) (bytes : List ℕ) (b : Mirror F G) → AreServedToDevice mirror o s bytes start b old new
       → AreServedToDevice file_run o s bytes (file_disk start) (file_disk b) old new
@@ -75,6 +90,8 @@ module _ {F T : Type 0} {G : Ghosts F} (o : Output T) (start : Mirror F G) (whol
               ))
               x.run.told;
         };
+        within = λ few. within_failing start whole untaken s ms x.run.turns x.run.last b x.run.run few
+            (all_uncut (lines bytes)) (x.within few);
         stopped = (at_device file_run s ms [] ms (over_files x.run.turns) x.run.last (file_disk start) (file_disk b)
             (append-nil ms) run).0;
       }

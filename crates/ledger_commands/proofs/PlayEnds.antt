@@ -1,19 +1,15 @@
 -- What comes of a script that is played: once what was told is handed on, and over a file.
-use Rattle.std.proofs.Common.{◌≡◌, ◌≢◌, ◌<◌, ◌≤◌, ◌+◌, ◌⊎◌, ◌∙◌, ℕ, List, Option, None, Some, Result, Ok, Err, inl, inr}
-use Rattle.std.proofs.Common.{length, refl, subst, sym, ap, ⊎_elim}
-use Rattle.std.specs.Prelude.{IfErr}
+use Rattle.std.proofs.Common.{◌≡◌, ◌≢◌, ◌∙◌, ℕ, List, Option, None, Some, Result, Ok, Err, inl, inr}
+use Rattle.std.proofs.Common.{refl, ap, ⊎_elim}
 use Rattle.d64_image.specs.History.{History}
 use Rattle.host_session.specs.Events.{Message, messages_of}
-use Rattle.host_session.specs.Loops.{IsToldWhole}
 use Rattle.host_session.specs.ScriptRuns.{AreToldSo, IsPlayedOut, IsPlayedToDevice, IsPlayedToOutput, IsScriptRun}
 use Rattle.host_session.specs.Shop.{Shop}
 use Rattle.host_session.specs.Telling.{Output, TellsNone}
-use Rattle.host_session.specs.declared.faults.OpenFault.{OpenFault}
 use Rattle.host_session.specs.declared.running.ScriptFault.{ScriptFault}
 use Rattle.host_session.specs.declared.running.ScriptFault.TheVariants as script_faults
 use Rattle.request_cards.specs.declared.reply.Reply.{Reply}
 use Rattle.script_lines.specs.Lines.{lines}
-use Rattle.script_lines.specs.Resets.{first_bad}
 
 -- an option that is never some is none
 pub none-of : (o : Option ℕ) → ((n : ℕ) → o ≡ Some n → ⊥) → o ≡ None
@@ -36,6 +32,7 @@ module _ {D T : Type 0} (h : History D) (o : Output T) (disk : D) (script : List
   out_on s ms left p = record {
     run = record { turns = p.run.turns; run = p.run.run; told = kept.0 old _ p.run.told };
     played = p.played;
+    within = p.within;
   }
 
   so_on : (told : List Reply) → AreToldSo o old mid told → AreToldSo o old new told
@@ -56,6 +53,7 @@ module _ {D T : Type 0} (h : History D) (o : Output T) (disk : D) (script : List
           p.run.full;
     };
     stopped = p.stopped;
+    within = p.within;
   }
 
   device_on : (s : Shop) (ms : List Message) (left : D) → IsPlayedToDevice h o s ms disk left old mid
@@ -71,6 +69,7 @@ module _ {D T : Type 0} (h : History D) (o : Output T) (disk : D) (script : List
       told = ⊎_elim (λ t. inl (kept.0 old _ t)) (λ t. inr (kept.1 old _ _ t.0, t.1)) p.run.told;
     };
     stopped = p.stopped;
+    within = p.within;
   }
 
   -- a run to its end, once what it told is handed on

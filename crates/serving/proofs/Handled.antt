@@ -42,14 +42,14 @@ is_answered s state before (Some a) false reply counted is none counts told = re
 }
 
 -- lines that were run in a chain, from this state on
-record AreAnswered {D : Type 0} (h : History D) (s : Shop) (before : List Ask) (ls : List (List ℕ))
+pub record AreAnswered {D : Type 0} (h : History D) (s : Shop) (before : List Ask) (ls : List (List ℕ))
     (turns : List (Reply × D)) (t : Shop) : Type 0 where
-  replies_are : told_in turns ≡ replies (start_of s) before ls
-  in_turn : SettledInTurn s before ls (over_instants h turns)
-  now : t ≡ with_state s (plain (start_of s) (before ++ requests_of ls))
+  pub replies_are : told_in turns ≡ replies (start_of s) before ls
+  pub in_turn : SettledInTurn s before ls (over_instants h turns)
+  pub now : t ≡ with_state s (plain (start_of s) (before ++ requests_of ls))
 
 module _ {D : Type 0} (h : History D) where
-  chain_answered : (s : Shop) (state : State) (before : List Ask) (ls : List (List ℕ)) (xs : List (Reply × D)) (old : D)
+  pub chain_answered : (s : Shop) (state : State) (before : List Ask) (ls : List (List ℕ)) (xs : List (Reply × D)) (old : D)
       (t : Shop) (new : D)
       → state ≡ plain (start_of s) before → IsChain h (with_state s state) (map uncut ls) xs old t new
       → AreAnswered h s before ls xs t
@@ -74,7 +74,7 @@ module _ {D : Type 0} (h : History D) where
       }
 
   -- lines that were run are handled
-  pub handled_run : (s : Shop) (bytes : List ℕ) (turns : List (Reply × D)) (old new : D)
+  abbrev pub handled_run : (s : Shop) (bytes : List ℕ) (turns : List (Reply × D)) (old new : D)
       → HasRun h s (line_messages bytes) turns old new
       → AreHandled h s bytes turns old new
   handled_run s bytes turns old new r =

@@ -1,5 +1,5 @@
 -- Messages that ask the same are run the same way.
-use Rattle.std.proofs.Common.{◌≡◌, ◌≢◌, ◌⊎◌, ℕ, List, [], ◌∷◌, ◌++◌, Option, None, Some, false, map, refl, sym, subst}
+use Rattle.std.proofs.Common.{◌≡◌, ◌≢◌, ◌≤◌, ◌+◌, ◌⊎◌, ℕ, List, [], ◌∷◌, ◌++◌, Option, None, Some, false, map, refl, sym, subst}
 use Rattle.std.proofs.Common.{◌∙◌, ap}
 use Rattle.std.specs.Prelude.{IsSome, if◌then◌else◌, is_some}
 use Rattle.d64_image.specs.History.{HeldOnly, History}
@@ -10,10 +10,11 @@ use Rattle.request_cards.specs.declared.reply.Reply.TheVariants.{Cut}
 use Rattle.host_session.specs.Chains.{HasRun, HasRunToFailure, IsChain}
 use Rattle.host_session.specs.Counted.{MayCount, after_all}
 use Rattle.host_session.specs.Events.{Message}
-use Rattle.host_session.specs.Handling.{is_next_request, media}
+use Rattle.host_session.specs.Handling.{is_next_request, media, most_writes}
 use Rattle.host_session.specs.OneEvent.{EndsFailed, GoesOn, IsEvent}
 use Rattle.host_session.specs.Quiet.{AreUncut, IsLeftAlone}
-use Rattle.host_session.specs.Shop.{IsShop, Shop, start_of, with_state}
+use Rattle.host_session.specs.Shop.{IsShop, Shop, shop_of, start_of, with_state}
+use Rattle.host_session.specs.Within.{AreWithin, IsWithin}
 use Rattle.serving.specs.Inputs.{AskTheSame, asked_in}
 
 -- what is asked, and where power goes
@@ -47,7 +48,7 @@ pub record SameParts (before : List Message) (m : Message) (all : List Message) 
   pub asks : AskTheSame before front
   pub same : asked_in m ≡ asked_in last
 
-same_parts : (before : List Message) (m : Message) (all : List Message) → AskTheSame (before ++ m ∷ []) all
+pub same_parts : (before : List Message) (m : Message) (all : List Message) → AskTheSame (before ++ m ∷ []) all
     → SameParts before m all
 same_parts [] m [] e = absurd (none_same (asked_in m) [] (sym e))
 same_parts [] m (n ∷ []) e = record {
@@ -97,7 +98,7 @@ module _ {D : Type 0} (h : History D) where
       };
     }
 
-    same_failure : IsEvent h s m old new (EndsFailed h s m reply new)
+    pub same_failure : IsEvent h s m old new (EndsFailed h s m reply new)
         → IsEvent h s n old new (EndsFailed h s n reply new)
     same_failure e = record {
       failed = e.failed;
@@ -144,7 +145,7 @@ module _ {D : Type 0} (h : History D) where
     chain = same_chain s ms ns xs r.first r.now new same r.chain;
   }
 
-  pub same_run_to_failure : (s : Shop) (ms ns : List Message) (xs : List (Reply × D)) (last : Reply) (old new : D)
+  abbrev pub same_run_to_failure : (s : Shop) (ms ns : List Message) (xs : List (Reply × D)) (last : Reply) (old new : D)
       → AskTheSame ms ns
       → HasRunToFailure h s ms xs last old new → HasRunToFailure h s ns xs last old new
   same_run_to_failure s ms ns xs last old new same r =
@@ -157,3 +158,21 @@ module _ {D : Type 0} (h : History D) where
         run = same_run s r.before p.front xs old r.at p.asks r.run;
         failed = same_failure r.run.now r.message p.last r.at new last p.same r.failed;
       }
+
+  -- and each wrote no more than the other can need
+  pub same_within : (ms ns : List Message) (xs : List (Reply × D)) (old : D) → AskTheSame ms ns
+      → AreWithin h ms xs old → AreWithin h ns xs old
+  same_within ms [] xs old same each = tt
+  same_within ms (n ∷ ns) [] old same each = tt
+  same_within [] (n ∷ ns) (x ∷ xs) old same each = absurd (none_same (asked_in n) (map asked_in ns) same)
+  same_within (m ∷ ms) (n ∷ ns) (x ∷ xs) old same each =
+      let first = first_same (asked_in m) (asked_in n) (map asked_in ms) (map asked_in ns) same in (
+        λ none.
+            let one : IsWithin h m old x.1 = each.0 (ap (λ (a : Asked). a.1) first ∙ none) in
+            record {
+              most = one.most;
+              needed = λ f y. subst (λ (a : Asked). h.writes x.1 ≤ h.writes old
+                  + most_writes (shop_of f) y.stock_file a.0) first (one.needed f y);
+            },
+        same_within ms ns xs x.1 (rest_same (asked_in m) (asked_in n) (map asked_in ms) (map asked_in ns) same) each.1,
+      )

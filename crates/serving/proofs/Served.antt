@@ -25,10 +25,10 @@ use Rattle.serving.specs.Serves.{AreServed, AreServedToDevice, AreServedToOutput
 use Rattle.serving.specs.declared.at_once.AtOnce.{AtOnce}
 use Rattle.serving.specs.declared.inputs.OfInput.{OfInput}
 use Rattle.serving.proofs.Handled.{handled_run}
-use Rattle.serving.proofs.Same.{same_run, same_run_to_failure, uncut_same}
+use Rattle.serving.proofs.Same.{same_run, same_run_to_failure, same_within, uncut_same}
 
 -- power goes in no line
-all_uncut : (ls : List (List ℕ)) → AreUncut (map uncut ls)
+pub all_uncut : (ls : List (List ℕ)) → AreUncut (map uncut ls)
 all_uncut [] = tt
 all_uncut (l ∷ ls) = (refl, all_uncut ls)
 
@@ -62,7 +62,12 @@ module _ {D R T : Type 0} (h : History D) (remaining : R → Option (List ℕ)) 
         → AreServed h o s x.handled disk left old.out.now new.out.now × Held
     served k =
         let run = same_run h s (messages_in taken) Lines k.0.turns disk left x.asks k.0.run in (
-          record { turns = k.0.turns; handled = handled_run h s x.handled k.0.turns disk left run; told = k.0.told.1 },
+          record {
+            turns = k.0.turns;
+            handled = handled_run h s x.handled k.0.turns disk left run;
+            within = λ _. same_within h (messages_in taken) Lines k.0.turns k.0.run.first x.asks k.2;
+            told = k.0.told.1;
+          },
           (
             (whole h s Lines k.0.turns disk left run).1,
             λ asks. unwritten
@@ -79,6 +84,7 @@ module _ {D R T : Type 0} (h : History D) (remaining : R → Option (List ℕ)) 
             turns = k.0.turns;
             last = k.0.last;
             handled = handled_run h s x.handled turns disk left run;
+            within = λ _. same_within h (messages_in taken) Lines turns k.0.run.first x.asks k.2;
             told = k.0.told.1;
           },
           ((whole h s Lines turns disk left run).1, λ asks. unwritten (quiet_run h s Lines turns disk left asks run)),
@@ -98,6 +104,8 @@ module _ {D R T : Type 0} (h : History D) (remaining : R → Option (List ℕ)) 
               run = run;
               told = ⊎_elim (λ t. inl t.1) (λ t. inr (t.0.1, subst (λ n. 0 < n) same t.1)) k.0.told;
             };
+            within = λ _. same_within h (messages_in taken) Lines (k.0.turns ++ (k.0.last, left) ∷ []) k.0.run.run.first
+                x.asks k.2;
             stopped = q.0;
           },
           (q.1, λ asks. unwritten (quiet_to_failure h s Lines k.0.turns k.0.last disk left asks run)),

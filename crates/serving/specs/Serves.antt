@@ -16,7 +16,7 @@ use Rattle.host_session.specs.Quiet.{AskNothing}
 use Rattle.host_session.specs.Runs.{HeldBeginnings, IsPlayedWhole, IsRefused, StoppedByDevice}
 use Rattle.host_session.specs.Shop.{IsSettled, IsShop, Shop, start_of, with_state}
 use Rattle.host_session.specs.Telling.{Output}
-use Rattle.host_session.specs.Within.{AreFew, IsBounded}
+use Rattle.host_session.specs.Within.{AreFew, AreWithin, IsBounded}
 use Rattle.host_session.specs.declared.faults.OpenFault.{OpenFault}
 use Rattle.host_session.specs.declared.looping.LoopFault.{LoopFault}
 use Rattle.host_session.specs.declared.looping.LoopFault.TheVariants as faults
@@ -49,6 +49,7 @@ pub record AreServed {D T : Type 0} (h : History D) (o : Output T) (s : Shop) (b
     (old new : T) : Type 0 where
   pub turns : List (Reply × D)
   pub handled : AreHandled h s bytes turns disk left
+  pub within : AreFew (line_messages bytes) → AreWithin h (line_messages bytes) turns handled.run.first
   pub told : (at_once o).told old new (over_instants h turns)
 
 -- The same of all replies but the last, which was broken off over the disk that is left, or told over it and couldn't
@@ -58,6 +59,8 @@ pub record AreServedToOutput {D T : Type 0} (h : History D) (o : Output T) (s : 
   pub turns : List (Reply × D)
   pub last : Reply × D
   pub handled : AreHandled h s bytes (turns ++ last ∷ []) disk left
+  pub within : AreFew (line_messages bytes)
+      → AreWithin h (line_messages bytes) (turns ++ last ∷ []) handled.run.first
   pub told : (at_once o).broken_off old new (over_instants h turns) (last.0, instant_of h last.1)
 
 -- The lines of these bytes were handled up to the last, in which the device failed. The replies before its own were
@@ -65,6 +68,8 @@ pub record AreServedToOutput {D T : Type 0} (h : History D) (o : Output T) (s : 
 pub record AreServedToDevice {D T : Type 0} (h : History D) (o : Output T) (s : Shop) (bytes : List ℕ) (disk left : D)
     (old new : T) : Type 0 where
   pub run : IsToldToDevice h (at_once o) s (line_messages bytes) disk left old new
+  pub within : AreFew (line_messages bytes)
+      → AreWithin h (line_messages bytes) (run.turns ++ (run.last, left) ∷ []) run.run.run.first
   pub stopped : StoppedByDevice h s (line_messages bytes) disk left (told_in run.turns ++ run.last ∷ [])
 
 -- No more sectors were written than an opening writes at most, and of a disk at rest none.

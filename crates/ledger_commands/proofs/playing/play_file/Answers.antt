@@ -1,5 +1,5 @@
 -- The cases of a play: it came to its end, or a fault ended it; and its file failed, or not.
-use Rattle.std.proofs.Common.{◌≡◌, ◌∙◌, Err, Ok, Result, ap, ap₂, subst, sym, ⊎_elim}
+use Rattle.std.proofs.Common.{◌≡◌, ◌∙◌, Err, Result, ap, ap₂, subst, sym, ⊎_elim}
 use Rattle.std.proofs.lemmas.Result.{IfErr-weaker, IfOk-weaker}
 use Rattle.d64_image.specs.Keeps.{kept_or}
 use Rattle.d64_image.specs.Memory.{disk_image, sectors_in}
