@@ -37,7 +37,8 @@ pub trait WritesAt {
         ensures same { held self.new ≡ held self.old }
         ensures lasting { OnOk result (AllStays held lasting self.new) }
         ensures stays { LacksASector (lasting.bytes self.old) (held self.old) → StaysOr lasting self.old self.new (held self.old) }
-        ensures owned { IsOwned self.old → IsOwned self.new };
+        ensures owned { IsOwned self.old → IsOwned self.new }
+        ensures shared { IsShared self.old → IsShared self.new };
 }
 
 impl WritesAt for File {

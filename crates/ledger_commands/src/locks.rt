@@ -12,7 +12,8 @@ pub trait Locks: WritesAt {
 
     /// Locks the file for this program alone. `WouldBlock` where another has a lock on it.
     fn lock_alone(&mut self) -> Result<(), TryLockError>
-        ensures owned { OnOk result (Self.IsOwned self.new) };
+        ensures owned { OnOk result (Self.IsOwned self.new) }
+        ensures shared { OnOk result (Self.IsShared self.new) };
 
     /// Locks the file so that others may read it too, and none writes it. `WouldBlock` where another has it alone.
     fn lock_shared(&mut self) -> Result<(), TryLockError>
@@ -21,7 +22,10 @@ pub trait Locks: WritesAt {
     /// The bytes of the image that it is: the first 174,849, or all of them where there are fewer. Nothing was read of it
     /// before. Its error where it failed, or where there was no memory for them.
     fn image(&mut self, alloc: Global) -> io::Result<Vec<u8>>
+        // it is locked first, alone or with others that read it
+        requires shared { Self.IsShared self.old }
         ensures ok { IfOk result (λ bytes. IfSome (Self.held self.old) (λ all. vec_items bytes ≡ take 174849 all)) }
+        ensures owned { Self.IsOwned self.old → Self.IsOwned self.new }
         ensures held { Self.held self.new ≡ Self.held self.old }
         ensures lasting { Self.lasting.bytes self.new ≡ Self.lasting.bytes self.old };
 }

@@ -34,7 +34,7 @@ fn is_brought(durability: Durability, image: &[u8]) -> bool
 }
 
 impl<F: WritesAt> Placed<F> {
-    ghost use Rattle.std.specs.Prelude.{IfSome, OnOk, take};
+    ghost use Rattle.std.specs.Prelude.{IfSome, IsOk, OnOk, take};
     ghost use Rattle.d64_image.specs.Keeps.{Agrees};
     ghost use Rattle.d64_image.specs.Memory.{sectors_in};
     ghost use Rattle.ledger_commands.specs.Durable.{AllStays, IsSynced};
@@ -100,9 +100,10 @@ impl<F: WritesAt> Placed<F> {
     }
 
     /// Brings all that was written to the disk, where that wasn't done behind each sector. A file that failed to bring a
-    /// sector there isn't asked again.
+    /// sector there isn't asked again. Where each is there, and none failed, there is nothing to bring, and no error.
     pub fn finish(&mut self) -> io::Result<()>
         ensures lasting { OnOk result (AllStays F.held F.lasting (placed_file self.new)) }
+        ensures whole { is_synced self.old → placed.failures self.old ≡ 0 → IsOk result }
         ensures same { F.held (placed_file self.new) ≡ F.held (placed_file self.old) }
         ensures reached { placed.reached self.old self.new }
         ensures untouched { is_synced self.old → self.new ≡ self.old }

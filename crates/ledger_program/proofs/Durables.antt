@@ -1,5 +1,5 @@
 -- Runs over a file that is brought to the disk, once its sectors stand at their places.
-use Rattle.std.proofs.Common.{◌≡◌, ◌∙◌, ◌⊎◌, ℕ, Err, List, ap, length, subst, sym}
+use Rattle.std.proofs.Common.{◌≡◌, ◌≢◌, ◌∙◌, ◌⊎◌, ℕ, Err, List, ap, length, subst, sym}
 use Rattle.std.specs.Prelude.{IfErr, OnOk}
 use Rattle.ledger_commands.specs.Durable.{AllStays}
 use Rattle.ledger_commands.specs.LastingImages.{image_if, image_of}
@@ -15,22 +15,28 @@ use Rattle.ledger_program.specs.Ends.{Ended}
 module _ {F : Type 0} {G : Ghosts F} (durability : Durability) (image : List ℕ) (file after : F)
     (first left last : Placed F G) (end ended : Ended) (IsRun : Placed F G → Placed F G → Ended → Type 0) where
   -- whatever the run was, its file was taken up, brought to the disk and handed back
-  pub durable_run : placed_file first ≡ file → after ≡ placed_file last → IsRun first left end
-      → (ended ≡ end) ⊎ (ended ≡ Err faults.Device) → G.held (placed_file last) ≡ G.held (placed_file left)
+  pub durable_run : placed_file first ≡ file → placed.failures first ≡ 0 → after ≡ placed_file last
+      → IsRun first left end → (ended ≡ end) ⊎ (ended ≡ Err faults.Device)
+      → IfErr end (λ fault. fault ≢ faults.File → ended ≡ end)
+      → (is_synced left → placed.failures left ≡ 0 → ended ≡ end) → G.held (placed_file last) ≡ G.held (placed_file left)
       → placed.reached left last → (is_synced left → last ≡ left)
       → (durability ≡ durabilities.EachSector → length image ≡ 174848 → is_synced first)
       → OnOk ended (AllStays G.held G.lasting (placed_file last))
       → IfErr ended (λ fault. fault ≡ faults.File → AllStays G.held G.lasting (placed_file last))
       → IsDurableRun durability image file after ended IsRun
-  durable_run is_file is_last run told same reached untouched synced there stands = record {
+  durable_run is_file unfailed is_last run told refused unblamed same reached untouched synced there stands = record {
     first = first;
     left = left;
     last = last;
     is_file = is_file;
+    unfailed = unfailed;
+    synced = synced;
     is_after = sym is_last;
     end = end;
     run = run;
     told = told;
+    refused = refused;
+    unblamed = unblamed;
     same = ap G.held is_last ∙ same;
     reached = reached;
     untouched = untouched;

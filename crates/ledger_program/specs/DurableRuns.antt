@@ -1,5 +1,5 @@
 -- A run over a file of which it is known what stays where the machine loses power. All of it is our own.
-use Rattle.std.specs.Prelude.{◌≡◌, ◌⊎◌, List, ℕ, Err, IfErr, OnOk, length}
+use Rattle.std.specs.Prelude.{◌≡◌, ◌≢◌, ◌⊎◌, List, ℕ, Err, IfErr, OnOk, length}
 use Rattle.ledger_commands.specs.Durable.{AllStays}
 use Rattle.ledger_commands.specs.LastingImages.{image_of}
 use Rattle.ledger_commands.specs.Placed.{is_synced, placed, placed_file}
@@ -18,11 +18,16 @@ pub record IsDurableRun {F : Type 0} {G : Ghosts F} (durability : Durability) (i
   pub left : Placed F G
   pub last : Placed F G
   pub is_file : placed_file first ≡ file
+  pub unfailed : placed.failures first ≡ 0
+  pub synced : durability ≡ durabilities.EachSector → length image ≡ 174848 → is_synced first
   pub is_after : placed_file last ≡ after
   -- how the run alone ended; a file that then couldn't be brought to the disk is told of in its place
   pub end : Ended
   pub run : IsRun first left end
   pub told : (ended ≡ end) ⊎ (ended ≡ Err faults.Device)
+  -- A run that was refused is told as it ended, and so is one over a file whose sectors are all on the disk.
+  pub refused : IfErr end (λ fault. fault ≢ faults.File → ended ≡ end)
+  pub unblamed : is_synced left → placed.failures left ≡ 0 → ended ≡ end
   -- what the file holds at the end is what the run left
   pub same : G.held after ≡ G.held (placed_file left)
   pub reached : placed.reached left last

@@ -1,5 +1,5 @@
 //! Image files that a job locks, reads, writes and brings to the disk.
-ghost use Rattle.std.specs.Prelude.{◌≡◌, ◌⊎◌, Err, IfErr, IfOk, IfSome, IsOk, OnOk, take, vec_items};
+ghost use Rattle.std.specs.Prelude.{◌≡◌, ◌≢◌, ◌⊎◌, Err, IfErr, IfOk, IfSome, IsOk, OnOk, take, vec_items};
 ghost use Rattle.ledger_commands.specs.Durable.{AllStays, IsSynced};
 ghost use Rattle.ledger_commands.specs.Placed.{is_synced, placed, placed_file};
 ghost use Rattle.ledger_commands.specs.declared.faults.RunFault.TheVariants as faults;
@@ -14,6 +14,7 @@ use std::io::{self, Read};
 /// an earlier program's writes may still be on their way. `InUse`; `Device` where that failed. Nothing was read or changed.
 pub(crate) fn own<F: Locks>(file: &mut F, durability: Durability) -> Result<(), Refusal>
     ensures owned { OnOk result (F.IsOwned file.new) }
+    ensures shared { OnOk result (F.IsShared file.new) }
     ensures synced { OnOk result (IsSynced F.held F.lasting durability file.new) }
 {
     if let Err(error) = file.lock_alone() {
@@ -46,8 +47,10 @@ pub(crate) fn read_shared<F: Read + Locks>(alloc: Global, file: &mut F) -> io::R
 /// The bytes of an image that this program has alone, and which are on the disk where each sector is brought there.
 fn read_own<F: Locks>(alloc: Global, file: &mut F, durability: Durability) -> io::Result<Vec<u8>>
     requires owned { F.IsOwned file.old }
+    requires shared { F.IsShared file.old }
     requires synced { IsSynced F.held F.lasting durability file.old }
     ensures bytes { IfOk result (λ bytes. IfSome (F.held file.new) (λ all. vec_items bytes ≡ take 174849 all)) }
+    ensures owned { F.IsOwned file.new }
     ensures synced { IsSynced F.held F.lasting durability file.new }
 {
     file.image(alloc)
@@ -61,6 +64,7 @@ pub(crate) fn own_image<F: Locks>(
     durability: Durability,
 ) -> Result<Vec<u8>, Refusal>
     ensures bytes { IfOk result (λ bytes. IfSome (F.held file.new) (λ all. vec_items bytes ≡ take 174849 all)) }
+    ensures owned { OnOk result (F.IsOwned file.new) }
     ensures synced { OnOk result (IsSynced F.held F.lasting durability file.new) }
 {
     own(file, durability)?;
@@ -80,6 +84,8 @@ pub(crate) fn finished<F: WritesAt>(
     ensures lasting { OnOk result (AllStays F.held F.lasting (placed_file file.new)) }
     ensures stands { IfErr result (λ fault. fault ≡ faults.File → AllStays F.held F.lasting (placed_file file.new)) }
     ensures told { (result ≡ ended) ⊎ (result ≡ Err faults.Device) }
+    ensures unblamed { is_synced file.old → placed.failures file.old ≡ 0 → result ≡ ended }
+    ensures refused { IfErr ended (λ fault. fault ≢ faults.File → result ≡ ended) }
     ensures fault { IfErr ended (λ fault. (fault ≡ faults.File → IsOk result → ⊥)) }
     ensures same { F.held (placed_file file.new) ≡ F.held (placed_file file.old) }
     ensures reached { placed.reached file.old file.new }
