@@ -9,3 +9,6 @@ mod runs;
 pub use disk::{Disk, IMAGE_BYTES};
 pub use disk_file::{Bringing, DiskFile, Lock};
 pub use runs::play_on_disk;
+
+#[cfg(test)]
+mod rows;
