@@ -1,0 +1,4 @@
+pub mod Past
+pub mod Disks
+pub mod Files
+pub mod Shops

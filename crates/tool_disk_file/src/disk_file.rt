@@ -1,0 +1,200 @@
+//! A file in memory, of which it is known what it holds and what of that is on its disk.
+ghost use Rattle.std.specs.Prelude.{◌≡◌, ◌<◌, ◌+◌, Some, false, length, true};
+ghost use Rattle.d64_image.specs.Offsets.{overwritten};
+ghost use Rattle.ledger_commands.specs.Durable.{WritesOver};
+
+use crate::disk::{Disk, IMAGE_BYTES};
+use ledger_commands::{Locks, WritesAt};
+use std::alloc::{AllocError, Global};
+use std::fs::TryLockError;
+use std::io::{self, ErrorKind};
+
+/// When what is written to a file comes to its disk.
+#[derive(Clone, Copy, Debug, PartialEq, Eq)]
+pub enum Bringing {
+    /// With each write.
+    AtOnce,
+    /// When the file is brought there, and not before.
+    WhenSynced,
+}
+
+/// How a file is locked.
+#[derive(Clone, Copy, Debug, PartialEq, Eq)]
+pub enum Lock {
+    /// Not at all.
+    None,
+    /// So that nobody writes it.
+    Shared,
+    /// For its program alone.
+    Alone,
+}
+
+/// A file of an image, in memory: what it holds, and its disk. One of its calls fails, and each one behind it.
+#[derive(Drop)]
+pub struct DiskFile {
+    held: Vec<u8>,
+    disk: Disk,
+    bringing: Bringing,
+    lock: Lock,
+    /// How many calls pass yet.
+    calls: u64,
+    /// How many bytes a write that fails has written.
+    part: usize,
+    /// Whether a failing call that brings it to the disk does so.
+    done: bool,
+    ghost size: { length held.items ≡ 174848 },
+}
+
+/// Counts a call. Whether it passes.
+fn passes(calls: &mut u64) -> bool {
+    let left = *calls > 0;
+    *calls = calls.saturating_sub(1);
+    left
+}
+
+/// The error of a call that failed.
+fn failed() -> io::Error {
+    io::Error::from(ErrorKind::Other)
+}
+
+/// Puts bytes in the place of those from there on. Whether the file reaches so far: else nothing changes.
+fn put(held: &mut [u8], at: u64, bytes: &[u8]) -> bool
+    ensures size { length held.new ≡ length held.old }
+    ensures done { result ≡ true → held.new ≡ overwritten held.old at bytes.now }
+    ensures beyond { result ≡ false → length held.old < at + length bytes.now }
+{
+    let from = at as usize;
+    let size = bytes.len();
+    if held.len() < size || held.len() - size < from {
+        return false;
+    }
+    held[from..from + size].copy_from_slice(bytes);
+    true
+}
+
+/// Writes all these bytes from there on, or so many of them at most and fails.
+fn write(held: &mut Vec<u8>, at: u64, bytes: &[u8], most: Option<usize>) -> io::Result<()>
+    ensures size { length held.new.items ≡ length held.old.items }
+    ensures written { WritesOver (Some held.old.items) (Some held.new.items) at bytes.now result }
+{
+    match most {
+        Some(most) => {
+            let _ = put(held.as_mut_slice(), at, &bytes[..bytes.len().min(most)]);
+            Err(failed())
+        }
+        None if put(held.as_mut_slice(), at, bytes) => Ok(()),
+        None => Err(failed()),
+    }
+}
+
+impl DiskFile {
+    ghost use Rattle.std.specs.Prelude.{IfOk};
+    ghost use Rattle.tool_disk_file.specs.Disks.{disk_bytes};
+    ghost use Rattle.tool_disk_file.specs.Files.{file_disk, file_held};
+
+    /// A file of this image, all of which is on its disk. No call of it fails before the last that can be counted. An error
+    /// where memory for it was refused.
+    pub fn new(alloc: Global, image: &[u8], bringing: Bringing) -> Result<DiskFile, AllocError>
+        requires size { length image.now ≡ 174848 }
+        ensures held { IfOk result (λ file. file_held file ≡ image.now) }
+        ensures disk { IfOk result (λ file. disk_bytes (file_disk file) ≡ image.now) }
+    {
+        Ok(DiskFile {
+            held: image.to_vec(alloc)?,
+            disk: Disk::new(alloc, image)?,
+            bringing,
+            lock: Lock::None,
+            calls: u64::MAX,
+            part: 0,
+            done: false,
+        })
+    }
+
+    /// The same file, of which only so many calls pass. A write that fails has written so many bytes at most; a call that is to
+    /// bring it to the disk and fails does so, or not.
+    pub fn failing(self, calls: u64, part: usize, done: bool) -> DiskFile
+        ensures held { file_held result ≡ file_held self }
+        ensures disk { file_disk result ≡ file_disk self }
+    {
+        let DiskFile {
+            held,
+            disk,
+            bringing,
+            lock,
+            ..
+        } = self;
+        DiskFile {
+            held,
+            disk,
+            bringing,
+            lock,
+            calls,
+            part,
+            done,
+        }
+    }
+
+    /// All that it holds.
+    pub fn held(&self) -> &[u8]
+        ensures { result.now ≡ file_held self.now }
+    {
+        self.held.as_slice()
+    }
+
+    /// Its disk.
+    pub fn disk(&self) -> &Disk
+        ensures { result.now ≡ file_disk self.now }
+    {
+        &self.disk
+    }
+}
+
+impl WritesAt for DiskFile {
+    ghost use Rattle.std.specs.Prelude.{◌≡◌, ◌≢◌, Some};
+    ghost use Rattle.tool_disk_file.specs.Files.{file_held, file_lasting, is_alone, is_locked};
+
+    ghost held = { λ f. Some (file_held f) };
+
+    ghost lasting = { file_lasting };
+
+    ghost IsShared = { is_locked };
+
+    ghost IsOwned = { is_alone };
+
+    fn write_all_at(&mut self, bytes: &[u8], at: u64) -> io::Result<()> {
+        let most = if passes(&mut self.calls) {
+            None
+        } else {
+            Some(self.part)
+        };
+        write(&mut self.held, at, bytes, most)?;
+        if self.bringing == Bringing::AtOnce {
+            self.disk.bring(self.held.as_slice())?;
+        }
+        Ok(())
+    }
+
+    fn sync(&mut self) -> io::Result<()> {
+        let passes = passes(&mut self.calls);
+        if passes || self.done {
+            self.disk.bring(self.held.as_slice())?;
+        }
+        if passes { Ok(()) } else { Err(failed()) }
+    }
+}
+
+impl Locks for DiskFile {
+    fn lock_alone(&mut self) -> Result<(), TryLockError> {
+        self.lock = Lock::Alone;
+        Ok(())
+    }
+
+    fn lock_shared(&mut self) -> Result<(), TryLockError> {
+        self.lock = Lock::Shared;
+        Ok(())
+    }
+
+    fn image(&mut self, alloc: Global) -> io::Result<Vec<u8>> {
+        Ok(self.held.as_slice().to_vec(alloc)?)
+    }
+}

@@ -1,0 +1,83 @@
+//! Days on files whose disks are known: played whole, and with a call that fails.
+use crate::disk::IMAGE_BYTES;
+use crate::disk_file::{Bringing, DiskFile};
+use crate::runs::play_on_disk;
+use disk_layout::Fault;
+use host_session::Printer;
+use ledger_commands::{RunFault, format_image, show_image};
+use std::process::Abort;
+
+const SCRIPT: &[u8] = b"1,1,S,42,120\n1,2,I,42,20\n";
+
+/// What is shown of the shop before the lines and after each.
+const SHOPS: [&[u8]; 3] = [
+    b"TOP 9256\n",
+    b"TOP 9256\nCARD 42,120\nTILL 1,1,S,42,120,DONE,120\n",
+    b"TOP 9256\nCARD 42,100\nTILL 1,2,I,42,20,DONE,100\nPRIOR 1,1,S,42,120,DONE,120\n",
+];
+
+/// The image of a fresh shop.
+fn fresh(rt: &(impl AllocGlobal + Abort)) -> Vec<u8> {
+    let mut image = Vec::new(rt.alloc());
+    let mut out = Vec::new(rt.alloc());
+    let _ = format_image(rt.alloc(), 2, &mut image, &mut out);
+    image
+}
+
+/// Plays the script on a file of this image, of which so many calls pass: how that ends, and the file then.
+fn played(
+    rt: &(impl AllocGlobal + Abort),
+    image: &[u8],
+    bringing: Bringing,
+    calls: u64,
+) -> (DiskFile, Result<Option<Fault>, RunFault>) {
+    if image.len() != IMAGE_BYTES {
+        panic!(rt; "no image");
+    }
+    let file = DiskFile::new(rt.alloc(), image, bringing).expect(rt, "a file");
+    let file = file.failing(calls, 100, false);
+    let mut out = Printer::new(Vec::new(rt.alloc()));
+    play_on_disk(rt.alloc(), image, SCRIPT, file, &mut out)
+}
+
+/// Which shop is on the disk once such a day has ended, and whether that ended well.
+fn shop_after(
+    rt: &(impl AllocGlobal + Abort),
+    bringing: Bringing,
+    calls: u64,
+) -> (Option<usize>, bool) {
+    let image = fresh(rt);
+    let (file, ended) = played(rt, image.as_slice(), bringing, calls);
+    let mut shown = Vec::new(rt.alloc());
+    let _ = show_image(rt.alloc(), file.disk().bytes(), &mut shown);
+    let shop = SHOPS.iter().position(|shop| *shop == shown.as_slice());
+    (shop, ended == Ok(None))
+}
+
+/// Sees that the disk has this shop, and that the day ended so.
+fn leaves(rt: &(impl AllocGlobal + Abort), bringing: Bringing, calls: u64, wanted: (usize, bool)) {
+    let (shop, done) = shop_after(rt, bringing, calls);
+    assert!(rt;
+        shop == Some(wanted.0) && done == wanted.1,
+        "{calls}: {shop:?}, {done}"
+    );
+}
+
+#[test]
+fn a_day_is_on_the_disk(rt: HostRuntime) {
+    leaves(&rt, Bringing::WhenSynced, u64::MAX, (2, true));
+    leaves(&rt, Bringing::AtOnce, u64::MAX, (2, true));
+}
+
+#[test]
+fn a_failing_call_leaves_a_beginning(rt: HostRuntime) {
+    leaves(&rt, Bringing::WhenSynced, 1, (0, false));
+    let mut before = (0, false);
+    for calls in 0..120u64 {
+        let (shop, done) = shop_after(&rt, Bringing::WhenSynced, calls);
+        let now = (shop.unwrap_or(0), done);
+        assert!(&rt; now >= before && (now.0 == 2 || !done), "{calls}: {now:?}");
+        before = now;
+    }
+    assert!(&rt; before == (2, true), "{before:?}");
+}

@@ -1,0 +1,34 @@
+//! Scripts that are played on the shop of a file in memory, so that each sector is on its disk before anything else is done.
+ghost use Rattle.std.specs.Prelude.{◌≡◌, OnOk};
+ghost use Rattle.host_session.specs.Events.{messages_of};
+ghost use Rattle.script_lines.specs.Lines.{lines};
+ghost use Rattle.tool_disk_file.specs.Files.{file_held};
+ghost use Rattle.tool_disk_file.specs.Shops.{IsPlayedToDisk, StaysAShop, bytes_there};
+
+use crate::disk_file::DiskFile;
+use d64_image::Mirror;
+use disk_layout::Fault;
+use host_session::Tells;
+use ledger_commands::{Durability, Placed, RunFault};
+use ledger_program::play_durably;
+use std::alloc::Global;
+
+/// Plays a script on the shop of the image that the file holds: the file then, and how that ended. Wherever power is lost in it,
+/// the disk has the shop after a beginning of the lines.
+pub fn play_on_disk<T: Tells<Mirror<Placed<DiskFile>>>>(
+    alloc: Global,
+    image: &[u8],
+    script: &[u8],
+    file: DiskFile,
+    out: &mut T,
+) -> (DiskFile, Result<Option<Fault>, RunFault>)
+    requires there { bytes_there file ≡ file_held file }
+    requires image { image.now ≡ file_held file }
+    ensures done { OnOk result.1 (IsPlayedToDisk T.output script.now file result.0 out.old out.new) }
+    // all that it holds then is there
+    ensures held { OnOk result.1 (bytes_there result.0 ≡ file_held result.0) }
+    // however it ended
+    ensures stays { StaysAShop (messages_of (lines script.now)) file result.0 }
+{
+    play_durably(alloc, image, script, file, Durability::EachSector, out)
+}
