@@ -169,12 +169,12 @@ none-more text rest pre is some full bytes few same =
     let x = behind-of pre bytes rest (sym is ∙ same) in
     no-room rest pre bytes x.behind some full few x.split x.text
 
--- the text of a line whose bytes were trimmed, before it is said that they were
-pub line-trimmed : (a b : Option (List ℕ)) (n : ℕ) (bytes kept : List ℕ) → kept ≡ trimmed bytes
-    → Appends a b (decimal n ++ (codes ",\"" ++ (text_of kept ++ codes "\"\n"))) → Appends a b (record_line n bytes)
+-- the text of a line whose bytes were trimmed
+pub line-put : (line : List ℕ) (n : ℕ) (bytes kept : List ℕ) → kept ≡ trimmed bytes
+    → line ≡ decimal n ++ (codes ",\"" ++ (text_of kept ++ codes "\"\n")) → line ≡ record_line n bytes
 unfolding record_line
-line-trimmed a b n bytes kept is written =
-    subst (λ (xs : List ℕ). Appends a b (decimal n ++ (codes ",\"" ++ (text_of xs ++ codes "\"\n")))) is written
+line-put line n bytes kept is put =
+    put ∙ ap (λ (xs : List ℕ). decimal n ++ (codes ",\"" ++ (text_of xs ++ codes "\"\n"))) is
 
 -- what stands at a room's end
 pub in-room : (a b : Option (List ℕ)) (size start : ℕ) (text room : List ℕ) → length room ≡ size
