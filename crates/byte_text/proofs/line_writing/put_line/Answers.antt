@@ -10,8 +10,9 @@ use Rattle.byte_text.proofs.line_writing.put_line.Goals as goal
 
 pub put_text-start-requires : goal.put_text-start-requires
 put_text-start-requires c =
-    let kept = ap (λ xs. length xs) c.trim.ensures in (
-      omega (arith, kept, trimmed-short c.as_slice.result.now, c.as_slice.ensures.fits, c.put_before-start.ensures.start),
+    let kept = ap (λ xs. length xs) c.trim.ensures in
+    let few = trimmed-short c.as_slice.result.now in (
+      omega (arith, kept, few, c.as_slice.ensures.fits, c.put_before-start.ensures.start),
       omega (arith, c.put_before-start.ensures.start),
     )
 
@@ -37,7 +38,8 @@ write_digits-requires c =
 
 pub returns-clause-written : goal.returns-clause-written
 returns-clause-written c =
-    let none : drop 776 c.args.room.now ≡ [] = drop_of_length-le c.args.room.now {i = 776} (omega (arith, c.told-room)) in
+    let none : drop 776 c.args.room.now ≡ [] =
+    drop_of_length-le c.args.room.now {i = 776} (omega (arith, c.told-room)) in
     line-put _ c.args.number c.args.bytes.now.items c.trim.result.now
     (c.trim.ensures ∙ ap trimmed c.as_slice.ensures.value)
     (c.write_digits.ensures.written ∙ ap₂ (λ (n : ℕ) (xs : List ℕ). decimal n ++ xs) c.from.ensures
