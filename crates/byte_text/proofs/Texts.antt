@@ -7,8 +7,8 @@ use Rattle.std.proofs.Math.Seq.{get_or-append_seam}
 use Rattle.std.proofs.KnownBytes.{Appends-trans}
 use Rattle.std.proofs.Math.Seq.{take-append-add}
 use Rattle.std.proofs.lemmas.Grind.{flat_map-append}
-use Rattle.std.proofs.lemmas.List.{append_assoc, append-nil, get_or-drop, get_or-take, length-drop, length-take}
-use Rattle.std.proofs.lemmas.List.{length-take-le, take-append-drop, take_all}
+use Rattle.std.proofs.lemmas.List.{append_assoc, append-nil, drop-drop, get_or-drop, get_or-take, length-drop}
+use Rattle.std.proofs.lemmas.List.{length-take, length-take-le, take-append-drop, take_all}
 use Rattle.byte_text.specs.Texts.{AreBytes, byte_text, digit, is_plain, record_line, text_of, trimmed}
 
 -- a digit is of one number
@@ -20,6 +20,18 @@ chosen plain b = if plain then b ∷ [] else 92 ∷ digit (b / 16) ∷ digit (b 
 
 plain-byte : (b : ℕ) → is_plain b ≡ true → byte_text b ≡ b ∷ []
 plain-byte b plain = ap (λ (p : Bool). chosen p b) plain
+
+-- a byte behind two others stands for itself, or all three are its text
+pub put-plain : (b d start : ℕ) (room rest : List ℕ) → is_plain b ≡ true → drop start room ≡ 92 ∷ d ∷ b ∷ rest
+    → drop (start + 2) room ≡ byte_text b ++ rest
+put-plain b d start room rest plain put = sym (drop-drop 2 start room) ∙ ap (λ (xs : List ℕ). drop 2 xs) put
+    ∙ sym (ap (λ (xs : List ℕ). xs ++ rest) (plain-byte b plain))
+
+pub put-digits : (b start : ℕ) (room rest : List ℕ) → is_plain b ≡ false
+    → drop start room ≡ 92 ∷ digit (b / 16) ∷ digit (b % 16) ∷ rest → drop (start + 0) room ≡ byte_text b ++ rest
+put-digits b start room rest other put =
+    let here : start + 0 ≡ start = omega arith in
+    ap (λ (n : ℕ). drop n room) here ∙ put ∙ sym (ap (λ (p : Bool). chosen p b ++ rest) other)
 
 -- bytes that stand for themselves are their own text
 text-plain : (xs : List ℕ) → ((i : ℕ) → i < length xs → is_plain (get_or xs i 0) ≡ true) → text_of xs ≡ xs
@@ -157,12 +169,12 @@ none-more text rest pre is some full bytes few same =
     let x = behind-of pre bytes rest (sym is ∙ same) in
     no-room rest pre bytes x.behind some full few x.split x.text
 
--- the text of a line whose bytes were trimmed, before it is said that they were
-pub line-trimmed : (a b : Option (List ℕ)) (n : ℕ) (bytes kept : List ℕ) → kept ≡ trimmed bytes
-    → Appends a b (decimal n ++ (codes ",\"" ++ (text_of kept ++ codes "\"\n"))) → Appends a b (record_line n bytes)
+-- the text of a line whose bytes were trimmed
+pub line-put : (line : List ℕ) (n : ℕ) (bytes kept : List ℕ) → kept ≡ trimmed bytes
+    → line ≡ decimal n ++ (codes ",\"" ++ (text_of kept ++ codes "\"\n")) → line ≡ record_line n bytes
 unfolding record_line
-line-trimmed a b n bytes kept is written =
-    subst (λ (xs : List ℕ). Appends a b (decimal n ++ (codes ",\"" ++ (text_of xs ++ codes "\"\n")))) is written
+line-put line n bytes kept is put =
+    put ∙ ap (λ (xs : List ℕ). decimal n ++ (codes ",\"" ++ (text_of xs ++ codes "\"\n"))) is
 
 -- what stands at a room's end
 pub in-room : (a b : Option (List ℕ)) (size start : ℕ) (text room : List ℕ) → length room ≡ size

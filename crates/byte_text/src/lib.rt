@@ -12,7 +12,7 @@ mod writing;
 
 pub use laws::{lines_give_records, texts_differ};
 pub use line_reading::read_line;
-pub use line_writing::write_line;
+pub use line_writing::{LINE_ROOM, put_line, write_line};
 pub use reading::read_text;
 pub use text::Text;
 pub use trimming::trim;

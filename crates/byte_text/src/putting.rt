@@ -17,16 +17,17 @@ pub(crate) fn put_before(text: &[u8], room: &mut [u8], end: usize) -> usize
 }
 
 /// Puts a byte as text, three bytes at most, so that it ends at `end`, and returns where it starts.
+// Without a branch, which the processor would have to guess: three bytes are put, and two of them left out.
 #[inline(always)]
 fn put_byte(byte: u8, room: &mut [u8], end: usize) -> usize
     requires { (3 ≤ end) × (end ≤ length room.old) }
     ensures start { (result ≤ end) × (end ≤ result + 3) }
     ensures written { drop result room.new ≡ byte_text byte ++ drop end room.old }
 {
-    if is_plain(byte) {
-        return put_before(&[byte], room, end);
-    }
-    put_before(&[b'\\', digit(byte / 16), digit(byte % 16)], room, end)
+    let plain = is_plain(byte);
+    let last = if plain { byte } else { digit(byte % 16) };
+    let start = put_before(&[b'\\', digit(byte / 16), last], room, end);
+    start + 2 * usize::from(plain)
 }
 
 /// Puts bytes as text so that it ends at `end`, and returns where it starts.

@@ -1,10 +1,9 @@
 -- Lines judged one after another.
-use Rattle.std.proofs.Common.{◌≡◌, ◌≤◌, inl, inr, ℕ, suc, ◌+◌, List, [], ◌∷◌, ◌++◌, length, set, refl, subst, sym, ap}
+use Rattle.std.proofs.Common.{◌≡◌, ◌≢◌, inl, inr, ℕ, suc, ◌+◌, List, [], ◌∷◌, ◌++◌, length, refl, subst, sym, ap}
 use Rattle.std.proofs.Common.{◌∙◌, arith}
-use Rattle.std.specs.Prelude.{max}
+use Rattle.std.specs.Prelude.{max, slice_index}
 use Rattle.std.proofs.lemmas.Bool.{cases_eq}
-use Rattle.std.proofs.lemmas.Grind.{get_or-set_at}
-use Rattle.std.proofs.lemmas.List.{append_assoc, append-nil, get_or-set_other, length-append}
+use Rattle.std.proofs.lemmas.List.{append_assoc, append-nil, length-append}
 use Rattle.byte_text.specs.Lines.{IsLineOf}
 use Rattle.keeper_commands.proofs.Folds.{greatest-push}
 use Rattle.keeper_commands.proofs.LastOnes.{place-other, place-push}
@@ -26,14 +25,13 @@ lines-long L had (l ∷ front) [] are = absurd are
 lines-long L had (l ∷ front) (x ∷ xs) are = ap suc (lines-long L had front xs are.2)
 
 -- one more is the last of its record
-last-told : (table : List ℕ) (xs : List NewRecord) (x : NewRecord) (place : ℕ) → length table ≡ 182881
-    → x.number ≤ 182880 → place ≡ length xs + 1 → TellsLast table xs
-    → TellsLast (set table x.number place) (xs ++ x ∷ [])
-last-told table xs x place long high here tells n le = elim (cases_eq x.number n) [
-  | inl same ↦ get_or-set_at table x.number n place 0 (sym same) (omega (arith, long, high))
-      ∙ here ∙ sym (place-push n xs x same)
-  | inr other ↦ get_or-set_other table x.number n place 0 (λ e. other (sym e))
-      ∙ tells n le ∙ sym (place-other n xs x other)
+last-told : (table told : List ℕ) (xs : List NewRecord) (x : NewRecord) (place : ℕ)
+    → slice_index told x.number ≡ place
+    → ((n : ℕ) → n ≢ x.number → slice_index told n ≡ slice_index table n)
+    → place ≡ length xs + 1 → TellsLast table xs → TellsLast told (xs ++ x ∷ [])
+last-told table told xs x place put others here tells n le = elim (cases_eq x.number n) [
+  | inl same ↦ ap (slice_index told) (sym same) ∙ put ∙ here ∙ sym (place-push n xs x same)
+  | inr other ↦ others n (λ e. other (sym e)) ∙ tells n le ∙ sym (place-other n xs x other)
 ]
 
 -- so many lines of all were judged, and these are left; the greatest number is the one, and the table tells which is
@@ -54,10 +52,11 @@ judged-none L had all table none =
 
 module _ (L had : ℕ) (all left : List (List ℕ)) (count most : ℕ) (table : List ℕ)
     (to : JudgedTo L had all left count most table) where
-  pub judged-more : (line : List ℕ) (rest : List (List ℕ)) (n : ℕ) → left ≡ line ∷ rest → length table ≡ 182881
+  pub judged-more : (line : List ℕ) (rest : List (List ℕ)) (n : ℕ) (told : List ℕ) → left ≡ line ∷ rest
+      → slice_index told n ≡ count + 1 → ((m : ℕ) → m ≢ n → slice_index told m ≡ slice_index table m)
       → (bytes : List ℕ) × IsLineOf line n bytes × CanStore L had (record { number = n; bytes = bytes })
-      → JudgedTo L had all rest (count + 1) (max most n) (set table n (count + 1))
-  judged-more line rest n next long (bytes, is, can) =
+      → JudgedTo L had all rest (count + 1) (max most n) told
+  judged-more line rest n told next put others (bytes, is, can) =
       let x : NewRecord = record { number = n; bytes = bytes } in record {
         front = to.front ++ line ∷ [];
         new = to.new ++ x ∷ [];
@@ -66,7 +65,7 @@ module _ (L had : ℕ) (all left : List (List ℕ)) (count most : ℕ) (table : 
         counted = omega (arith, to.counted, length-append to.front (line ∷ []));
         good = lines-push L had to.front to.new line x to.good is can;
         greatest_is = ap (λ (m : ℕ). max m n) to.greatest_is ∙ sym (greatest-push to.new x);
-        tells = last-told table to.new x (count + 1) long can.high
+        tells = last-told table told to.new x (count + 1) put others
             (omega (arith, to.counted, lines-long L had to.front to.new to.good)) to.tells;
       }
 

@@ -1,5 +1,5 @@
 //! Which line of each record is its last one.
-ghost use Rattle.std.specs.Prelude.{◌≡◌, ◌↔◌, ◌≤◌, [], IfErr, IfOk, IsTrue, length, set, slice_index};
+ghost use Rattle.std.specs.Prelude.{◌≡◌, ◌≢◌, ◌↔◌, ◌<◌, ◌≤◌, ℕ, [], IfErr, IfOk, IsTrue, length, slice_index, vec_capacity};
 ghost use Rattle.keeper_commands.specs.Stores.{TellsLast};
 ghost use Rattle.keeper_commands.specs.declared.faults.KeepFault.TheVariants as faults;
 
@@ -12,9 +12,9 @@ const NUMBERS: usize = 182_881;
 /// The last line of each record that a disk can have, among those that were counted, from 1 on; 0 where none is of it.
 #[derive(Drop)]
 pub(crate) struct LastLines {
-    /// By the record's number.
+    /// By the record's number, up to the greatest that was counted: memory that isn't touched costs no time.
     places: Vec<usize>,
-    ghost size: { length places.items ≡ 182881 },
+    ghost room: { 182881 ≤ vec_capacity places },
 }
 
 impl LastLines {
@@ -23,25 +23,37 @@ impl LastLines {
         ensures ok { IfOk result (λ last. TellsLast last.places.items []) }
         ensures err { IfErr result (λ fault. fault ≡ faults.NoMemory) }
     {
-        match vec![in alloc; 0; NUMBERS] {
+        match Vec::with_capacity(alloc, NUMBERS) {
             Ok(places) => Ok(LastLines { places }),
             Err(_) => Err(KeepFault::NoMemory),
+        }
+    }
+
+    /// Goes on with zeros until the record has a place.
+    fn reach(&mut self, number: u32)
+        requires { number ≤ 182880 }
+        ensures there { number < length self.new.places.items }
+        ensures same { (n : ℕ) → slice_index self.new.places.items n ≡ slice_index self.old.places.items n }
+    {
+        while self.places.len() <= number as usize {
+            self.places.push(0).unwrap();
         }
     }
 
     /// The line at this place is of this record.
     pub(crate) fn count(&mut self, number: u32, place: usize)
         requires { number ≤ 182880 }
-        ensures { self.new.places.items ≡ set self.old.places.items number place }
+        ensures here { slice_index self.new.places.items number ≡ place }
+        ensures others { (n : ℕ) → n ≢ number → slice_index self.new.places.items n ≡ slice_index self.old.places.items n }
     {
+        self.reach(number);
         self.places[number as usize] = place;
     }
 
     /// Whether the last line of this record is at this place.
     pub(crate) fn is_last(&self, number: u32, place: usize) -> bool
-        requires { number ≤ 182880 }
         ensures { IsTrue result ↔ (slice_index self.now.places.items number ≡ place) }
     {
-        self.places[number as usize] == place
+        self.places.get(number as usize).copied().unwrap_or(0) == place
     }
 }

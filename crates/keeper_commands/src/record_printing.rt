@@ -11,21 +11,23 @@ ghost use Rattle.byte_text.specs.Texts.{record_line};
 
 use crate::faults::KeepFault;
 use crate::loading::load_sound;
-use crate::output::flush;
+use crate::output::{flush, put};
 use arrayvec::ArrayVec;
-use byte_text::write_line;
+use byte_text::{LINE_ROOM, put_line};
 use d64_image::MemDisk;
 use rel_records::{LastBlock, RelFault, RelFile, find, read_next, records};
 use std::alloc::Global;
 use std::io::Write;
 
-/// Prints the line of a record that is there. `last` is the block that was read last, `bytes` is room for the record.
+/// Prints the line of a record that is there. `last` is the block that was read last, `bytes` is room for the record, and
+/// `room` for its line.
 fn put_record<W: Write>(
     out: &mut W,
     disk: &mut MemDisk,
     file: &RelFile,
     last: &mut LastBlock,
     bytes: &mut ArrayVec<u8, 254>,
+    room: &mut [u8; LINE_ROOM],
     number: u32,
 ) -> Result<(), KeepFault>
     requires of { IsOf (disk_image disk.old) file.now }
@@ -42,10 +44,8 @@ fn put_record<W: Write>(
     if read_next(disk, file, last, number, bytes).is_err() {
         return Err(KeepFault::Device);
     }
-    if write_line(out, number, bytes).is_err() {
-        return Err(KeepFault::File);
-    }
-    Ok(())
+    let start = put_line(number, bytes, room);
+    put(out, &room[start..])
 }
 
 /// Prints the lines of the records of a file, record 1 first.
@@ -58,8 +58,17 @@ fn put_records<W: Write>(out: &mut W, disk: &mut MemDisk, file: &RelFile) -> Res
 {
     let mut last = LastBlock::none();
     let mut bytes = ArrayVec::new();
+    let mut room = [0; LINE_ROOM];
     for before in 0..records(file) {
-        put_record(out, disk, file, &mut last, &mut bytes, before + 1)?;
+        put_record(
+            out,
+            disk,
+            file,
+            &mut last,
+            &mut bytes,
+            &mut room,
+            before + 1,
+        )?;
     }
     Ok(())
 }

@@ -1,5 +1,5 @@
 -- Each line is of a record that the file has or can have, or is the first that isn't.
-use Rattle.std.proofs.Common.{◌≡◌, ◌+◌, List, ℕ, arith, refl, set, subst, sym}
+use Rattle.std.proofs.Common.{◌≡◌, ◌+◌, ℕ, arith, refl, subst}
 use Rattle.std.specs.Prelude.{max}
 use Rattle.keeper_commands.proofs.Judged.{JudgedTo, judged-all, judged-bad, judged-more, judged-none}
 use Rattle.rel_records.specs.File.{length_of, records_in}
@@ -19,18 +19,15 @@ loop-line-preserved-then-number-most c =
     let to = judged-more (length_of v) (records_in v) (lines c.args.text.now) (lines c.loop-line.rest.now)
     c.loop-line.count c.loop-line.most c.loop-line.last.places.items
     c.loop-line.invariant.judged c.in-Some.line.now (lines c.in-Some.more.now) c.in-Some-number_of.number
-    c.in-Some.ensures.0
-    c.loop-line.last.size c.in-Some-number_of.ensures.found in
+    c.count.new.self.places.items c.in-Some.ensures.0 c.count.ensures.here c.count.ensures.others
+    c.in-Some-number_of.ensures.found in
     let greater : max c.loop-line.most c.in-Some-number_of.number ≡ c.in-Some-number_of.number =
     omega (arith, c.if-number-most.true) in
     record {
       room = omega (arith, c.loop-line.invariant.room, c.in-Some.ensures.1);
-      judged = subst (λ (t : List ℕ). JudgedTo (length_of v) (records_in v) (lines c.args.text.now)
+      judged = subst (λ (m : ℕ). JudgedTo (length_of v) (records_in v) (lines c.args.text.now)
           (lines c.in-Some.more.now)
-          (c.loop-line.count + 1) c.in-Some-number_of.number t) (sym c.count.ensures)
-          (subst (λ (m : ℕ). JudgedTo (length_of v) (records_in v) (lines c.args.text.now) (lines c.in-Some.more.now)
-          (c.loop-line.count + 1) m (set c.loop-line.last.places.items c.in-Some-number_of.number
-          (c.loop-line.count + 1))) greater to);
+          (c.loop-line.count + 1) m c.count.new.self.places.items) greater to;
     }
 
 pub loop-line-preserved : goal.loop-line-preserved
@@ -39,18 +36,15 @@ loop-line-preserved c =
     let to = judged-more (length_of v) (records_in v) (lines c.args.text.now) (lines c.loop-line.rest.now)
     c.loop-line.count c.loop-line.most c.loop-line.last.places.items
     c.loop-line.invariant.judged c.in-Some.line.now (lines c.in-Some.more.now) c.in-Some-number_of.number
-    c.in-Some.ensures.0
-    c.loop-line.last.size c.in-Some-number_of.ensures.found in
+    c.count.new.self.places.items c.in-Some.ensures.0 c.count.ensures.here c.count.ensures.others
+    c.in-Some-number_of.ensures.found in
     let same : max c.loop-line.most c.in-Some-number_of.number ≡ c.loop-line.most =
     omega (arith, c.if-number-most.false) in
     record {
       room = omega (arith, c.loop-line.invariant.room, c.in-Some.ensures.1);
-      judged = subst (λ (t : List ℕ). JudgedTo (length_of v) (records_in v) (lines c.args.text.now)
+      judged = subst (λ (m : ℕ). JudgedTo (length_of v) (records_in v) (lines c.args.text.now)
           (lines c.in-Some.more.now)
-          (c.loop-line.count + 1) c.loop-line.most t) (sym c.count.ensures)
-          (subst (λ (m : ℕ). JudgedTo (length_of v) (records_in v) (lines c.args.text.now) (lines c.in-Some.more.now)
-          (c.loop-line.count + 1) m (set c.loop-line.last.places.items c.in-Some-number_of.number
-          (c.loop-line.count + 1))) same to);
+          (c.loop-line.count + 1) m c.count.new.self.places.items) same to;
     }
 
 pub returns-in_default-number_of-clause-err : goal.returns-in_default-number_of-clause-err

@@ -2,6 +2,8 @@
 use Rattle.std.proofs.Common.{◌≡◌, List, ℕ, subst, sym, ◌∙◌, true, false}
 use Rattle.std.specs.Prelude.{is_err}
 use Rattle.std.specs.Io.KnownBytes.{Appends}
+use Rattle.std.proofs.lemmas.Result.{on_ok_weaker}
+use Rattle.byte_text.proofs.Texts.{in-room}
 use Rattle.byte_text.specs.Texts.{record_line}
 use Rattle.disk_layout.specs.Records as records_of
 use Rattle.d64_image.specs.Memory.{disk_image}
@@ -24,9 +26,11 @@ returns-then-is_err-clause-err g c =
 pub returns-clause-ok : goal.returns-clause-ok
 returns-clause-ok g c = λ l n f of.
     let ok : is_err c.read_next.result ≡ false = sym c.is_err.ensures.value ∙ c.if-is_err.false in
-    let wrote : is_err c.write_line.result ≡ false = sym c.is_err-2.ensures.value ∙ c.if-is_err-2.false in
     let read = not-err c.read_next.result ok (c.read_next.ensures.text.ok l n f of) in
     let bytes = got (records_of.records (disk_image c.args.disk.now) f) _ _ read.there in
-    subst (λ (xs : List ℕ). Appends (g.W.Write.contents c.args.out.now) (g.W.Write.contents c.write_line.new.out)
+    on_ok_weaker c.put.result
+    (λ end. subst (λ (xs : List ℕ). Appends (g.W.Write.contents c.args.out.now) (g.W.Write.contents c.put.new.out)
     (record_line c.args.number xs))
-    (sym bytes) (not-err c.write_line.result wrote c.write_line.ensures)
+    (sym bytes)
+    (in-room _ _ _ c.put_line-start.result _ _ c.put_line-start.array_long c.put_line-start.ensures.written end))
+    c.put.ensures.ok

@@ -1,9 +1,0 @@
--- A line of 254 bytes stands at its room's end.
-use Rattle.std.proofs.lemmas.Result.{on_ok_weaker}
-use Rattle.byte_text.proofs.Texts.{in-room}
-use Rattle.byte_text.proofs.line_writing.write_long.Goals as goal
-
-pub returns : goal.returns
-returns g c = on_ok_weaker c.write_all.result
-    (λ end. in-room _ _ _ c.put_line-start.result _ _ c.put_line-start.auto.room c.put_line-start.ensures.written end)
-    c.write_all.ensures.bytes
