@@ -1,6 +1,9 @@
 """A D64 image of 35 tracks, and what `map` and `picture` draw of it, by the rules of docs/DISK.md and
 crates/disk_pictures/README.md. For scripts that look at the built program from outside."""
 
+import re
+from html import escape
+
 SIZE = 174_848
 MAP = (18, 0)
 DIRECTORY = (18, 1)
@@ -24,12 +27,20 @@ def name_text(name):
     return "".join(chr(byte) if 32 <= byte <= 126 and byte not in b'"\\' else f"\\{byte:02x}" for byte in name)
 
 
+def html_name(name):
+    """Bytes as a page shows them: where their HTML would take more than 48 bytes, &, < and > are \\ and two digits too."""
+    if len(escape(name_text(name), quote=False)) <= 48:
+        return name_text(name)
+    return re.sub("[&<>]", lambda found: f"\\{ord(found[0]):02x}", name_text(name))
+
+
 class Entry:
     """A used entry of the directory, and the sectors that its links come to."""
 
     def __init__(self, raw):
         self.kind = raw[2]
         self.name = name_text(raw[5:21].rstrip(b"\xa0"))
+        self.shown = html_name(raw[5:21].rstrip(b"\xa0"))
         self.first, self.side, self.length = tuple(raw[3:5]), tuple(raw[21:23]), raw[23]
         self.blocks, self.sides = [], []
 
@@ -63,7 +74,7 @@ class Disk:
         return self.image[start(MAP) + 4 * track + 1 + sector // 8] >> sector % 8 & 1 == 1
 
     def disk_name(self):
-        return name_text(self.sector(MAP)[0x90:0xA0].rstrip(b"\xa0"))
+        return html_name(self.sector(MAP)[0x90:0xA0].rstrip(b"\xa0"))
 
     def _directory(self):
         places, place = [], DIRECTORY
@@ -118,4 +129,4 @@ class Disk:
         number, kind, index = owner
         entry = self.entries[number]
         told = f"block {index + 1} of {len(entry.blocks)}" if kind == "block" else f"side sector {index}"
-        return f"{begins}{entry.name}, {told}"
+        return f"{begins}{entry.shown}, {told}"

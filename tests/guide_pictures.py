@@ -55,7 +55,12 @@ class Page:
                 for group in self.drawing.find("g").findall("g")]
 
     def circle(self, group, attributes):
-        if "class" not in attributes and "stroke" not in attributes:
+        if "style" in attributes:
+            dashes = attributes["style"].removeprefix("stroke-dasharray:").strip()
+            return {"r": attributes["r"], "stroke-dasharray": dashes, "stroke-dashoffset": "0", "class": group.get("class")}
+        if attributes.get("class") == "s":
+            attributes = {name: value for name, value in attributes.items() if name != "class"} | {"stroke": group.get("color")}
+        elif "class" not in attributes:
             name = look_name(group)
             attributes = {**attributes, name: group.get(name)}
         return {"stroke-dasharray": self.dashes.get(attributes["r"]), **attributes}
@@ -77,7 +82,8 @@ def arcs_of(circle):
     dashes = [int(number) for number in circle["stroke-dasharray"].split()]
     at, arcs = -int(circle["stroke-dashoffset"]), []
     for dash, gap in zip(dashes[::2], dashes[1::2]):
-        arcs.append((int(circle["r"]), at, dash, look_of(circle)))
+        if dash:
+            arcs.append((int(circle["r"]), at, dash, look_of(circle)))
         at += dash + gap
     return arcs
 
@@ -177,7 +183,7 @@ def made_disks(program, folder):
     """The disks of the documents: the picture's name, the image, the verdict, and whether words stand beside it."""
     sound = disks.customers(folder, folder / "customers.d64")
     yield "customers", sound, "OK", True
-    for word in ("MAPWRONG", "COUNTWRONG", "BADSIDE", "BADLINK", "LOOP", "OWNEDTWICE", "UNCLOSED"):
+    for word in ("MAPWRONG", "COUNTWRONG", "BADSIDE", "BADLINK", "LOOP", "OWNEDTWICE", "UNCLOSED", "BADTYPE", "BADLENGTH"):
         yield word.lower(), disks.FAULTS[word](sound).save(folder / f"{word}.d64"), word, False
     yield "shop", disks.shop_after_a_day(program, folder / "shop.d64"), "OK", True
     fresh = disks.blank(program, folder / "fresh.d64", 2)

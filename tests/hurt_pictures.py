@@ -115,9 +115,14 @@ class Page:
             self._group.append((name, *attributes.items()))
         elif tag == "circle":
             radius, dash = attributes.pop("r"), attributes.pop("stroke-dasharray", None)
+            if "style" in attributes:
+                self.circles.append(["open", radius, attributes, None])
+                return
             place = radius, dash or DASH_OF.get(radius), attributes.pop("stroke-dashoffset")
             name, *looks = self._group[-1]
-            (look,) = attributes.items() or looks
+            if attributes == {"class": "s"}:
+                attributes = {"stroke": dict(looks)["color"]}
+            (look,) = attributes.items() or looks[-1:]
             self.circles.append([name, place, look, None])
 
     def _end(self, tag):
@@ -154,13 +159,26 @@ def wanted_circles(disk, verdict):
     others = [place for place in PLACES if place not in disk.owner]
     places = system + files + others
     want(len(places) == 683 and len(set(places)) == 683, "drawn.py hasn't each sector once")
-    lines = [[None, RINGS[place], ("class", "open"), None] for place in PLACES if place in disk.owner and disk.is_free(place)]
+    lines = [white_line(disk, track) for track in range(1, 36)
+             if any(is_open(disk, place) for place in PLACES if place[0] == track)]
     fault = []
     if verdict != "OK":
         place = fault_place(verdict)
         fault = [["f", RINGS[place], ("class", "edge"), verdict], ["f", RINGS[place], ("class", "fault"), verdict],
                  ["f", ring(place, 35700), ("class", "fault"), None]]
     return [wanted_circle(disk, place) for place in places] + lines + fault
+
+
+def is_open(disk, place):
+    """Whether a sector is in use and free in the map."""
+    return place in disk.owner and disk.is_free(place)
+
+
+def white_line(disk, track):
+    """A track's circle of white dashes: over each sector in use that the map calls free one as long as the sector's own."""
+    arc = 710 * (35400 - 800 * track) // (113 * sectors_on(track))
+    dashes = "".join(f"{arc - 200} 200 " if is_open(disk, place) else f"0 {arc} " for place in PLACES if place[0] == track)
+    return ["open", str(35400 - 800 * track), {"style": f"stroke-dasharray:{dashes}"}, None]
 
 
 def fault_place(verdict):
@@ -223,7 +241,7 @@ class Bench:
         want(len(page.circles) == len(wanted), f"{len(page.circles)} circles in place of {len(wanted)}")
         for circle, one in zip(page.circles, wanted):
             want(circle == one, f"{circle} in place of {one}")
-        want(page.names == [entry.name for entry in disk.entries], f"names {page.names}")
+        want(page.names == [entry.shown for entry in disk.entries], f"names {page.names}")
         name = disk.disk_name()
         want(page.heads == [name, name, verdict, name], f"heads {page.heads}")
         self.file.write_bytes(without_names(image, disk))

@@ -23,9 +23,6 @@ from drawn import MAP, PLACES, Disk, sectors_on
 from served import run, want
 
 LARGEST = 150_000
-# the page of a disk made to have the longest one
-LONGEST = "longest page"
-LONGEST_OF_ALL = 207_000
 SLOWEST = 1.0
 # dots of the screen for a pixel of the page: a ring is 27 dots wide then
 DOTS = 4
@@ -47,8 +44,8 @@ MARKUP = {
     "main": [], "div": [], "ul": [], "table": [], "tbody": [], "tr": [], "th": [], "td": [], "br": [], "text": ["y"],
     "span": ["class"], "li": ["class"], "a": ["href"], "svg": ["viewBox"]}
 RING_ATTRIBUTES = ["r", "stroke-dashoffset"]
-VARIED = {"g": [["transform"], ["id"], ["id", "stroke"], ["class"]], "i": [[], ["style"]],
-          "circle": [RING_ATTRIBUTES, ["class", *RING_ATTRIBUTES], ["r", "stroke", "stroke-dashoffset"],
+VARIED = {"g": [["transform"], ["id"], ["color", "id", "stroke"], ["class"]], "i": [[], ["style"]],
+          "circle": [RING_ATTRIBUTES, ["class", *RING_ATTRIBUTES], ["r", "style"],
                      ["class", "r", "stroke-dasharray", "stroke-dashoffset"]]}
 
 
@@ -175,7 +172,7 @@ def see_markup(name, browser, wanted):
     shown = browser.value("[document.querySelector('title').textContent, document.querySelector('h1').textContent, "
                           "document.querySelector('svg text').textContent, "
                           "...[...document.querySelectorAll('td a')].map(e => e.textContent)]")
-    want(shown == [wanted.disk.disk_name()] * 3 + [entry.name for entry in wanted.disk.entries], f"{name}: names {shown}")
+    want(shown == [wanted.disk.disk_name()] * 3 + [entry.shown for entry in wanted.disk.entries], f"{name}: names {shown}")
     return len(elements)
 
 
@@ -230,7 +227,7 @@ def see_page(program, browser, proxy, name, path, folder):
     done = subprocess.run([program, "picture", path], capture_output=True, timeout=60)
     page = done.stdout
     want(done.returncode == status and status == (0 if lines[-1] == "OK" else 1), f"{name}: statuses")
-    want(len(page) < (LONGEST_OF_ALL if name == LONGEST else LARGEST), f"{name}: {len(page)} bytes")
+    want(len(page) < LARGEST, f"{name}: {len(page)} bytes")
     references = re.findall(rb"(?:src|href|url|import|action|data)\s*[=(]\s*\"?([^\">]*)", page)
     want(all(re.fullmatch(rb"#f\d+", found) for found in references), f"{name}: leads out of the page: {references}")
     wanted = Wanted(name, path.read_bytes(), lines)
@@ -288,7 +285,7 @@ def made_disks(program, folder):
         yield word.lower(), hurt(sound).save(folder / f"{word.lower()}.d64")
     yield "crowded", disks.crowded(folder, folder / "crowded.d64", b"A PROGRAM OF '87")
     yield "crowded by &", disks.crowded(folder, folder / "crowded_by.d64", b"&" * 16)
-    yield LONGEST, disks.of_longest_page(full, folder / "longest.d64")
+    yield "longest page", disks.of_longest_page(full, folder / "longest.d64")
 
 
 def main(program, folder):

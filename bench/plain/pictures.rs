@@ -5,7 +5,7 @@ use std::fmt::{self, Display, Formatter};
 use std::io::{self, Write};
 
 const RIM: u32 = 35700;
-const STYLE: &str = "body{margin:24px;background:#fbfaf7;color:#222;font:14px/1.4 ui-monospace,Menlo,Consolas,\"DejaVu Sans Mono\",monospace}h1{font-size:20px;margin:0}p{margin:4px 0 16px}main{display:flex;flex-wrap:wrap;gap:32px;align-items:flex-start}svg{width:720px;max-width:100%;height:auto}main>div{max-width:440px}circle{fill:none;stroke-width:700}.free{stroke:#e2ded3}.lost{stroke:#9a9384}.map{stroke:#111}.dir{stroke:#5b5b5b}.edge{stroke:#fff;stroke-width:1500}.fault{stroke:#e00000;stroke-width:1100}.open circle{stroke:#fff;stroke-width:200;pointer-events:none}.bad{color:#d00;font-weight:bold}.good{color:#17692b;font-weight:bold}text{font:1100px ui-monospace,Menlo,Consolas,\"DejaVu Sans Mono\",monospace;fill:#444;text-anchor:middle}table{border-collapse:collapse}td,th{padding:1px 8px;text-align:right;white-space:pre}tr>:nth-child(3),tr>:nth-child(4){text-align:left}i{display:inline-block;width:12px;height:12px;margin:0 4px 0 0}ul{list-style:none;padding:0;margin:0 0 12px}li{margin:0 0 2px}.map i{background:#111}.dir i{background:#5b5b5b}.free i{background:#e2ded3}.lost i{background:#9a9384}tr a{color:inherit;text-decoration:none}tr a:hover{text-decoration:underline}g:target circle{stroke-width:800}svg:has(g:target) g g:not(:target):not(#f){opacity:.15}";
+const STYLE: &str = "body{margin:24px;background:#fbfaf7;color:#222;font:14px/1.4 ui-monospace,Menlo,Consolas,\"DejaVu Sans Mono\",monospace}h1{font-size:20px;margin:0}p{margin:4px 0 16px}main{display:flex;flex-wrap:wrap;gap:32px;align-items:flex-start}svg{width:720px;max-width:100%;height:auto}main>div{max-width:440px}circle{fill:none;stroke-width:700}.free{stroke:#e2ded3}.lost{stroke:#9a9384}.map{stroke:#111}.dir{stroke:#5b5b5b}.s{stroke:currentColor}.edge{stroke:#fff;stroke-width:1500}.fault{stroke:#e00000;stroke-width:1100}.open circle{stroke:#fff;stroke-width:200;pointer-events:none}.bad{color:#d00;font-weight:bold}.good{color:#17692b;font-weight:bold}text{font:1100px ui-monospace,Menlo,Consolas,\"DejaVu Sans Mono\",monospace;fill:#444;text-anchor:middle}table{border-collapse:collapse}td,th{padding:1px 8px;text-align:right;white-space:pre}tr>:nth-child(3),tr>:nth-child(4){text-align:left}i{display:inline-block;width:12px;height:12px;margin:0 4px 0 0}ul{list-style:none;padding:0;margin:0 0 12px}li{margin:0 0 2px}.map i{background:#111}.dir i{background:#5b5b5b}.free i{background:#e2ded3}.lost i{background:#9a9384}tr a{color:inherit;text-decoration:none}tr a:hover{text-decoration:underline}g:target circle{stroke-width:800}svg:has(g:target) g g:not(:target):not(#f){opacity:.15}";
 const LEGEND: &str = "</text>\n</svg>\n<div>\n<ul>\n<li class=\"map\"><i></i>map</li>\n<li class=\"dir\"><i></i>directory</li>\n<li class=\"free\"><i></i>free</li>\n<li class=\"lost\"><i></i>taken in the map, of no file</li>\n</ul>\n<table>\n<tr><th></th><th>blocks</th><th>name</th><th>type</th><th>length</th><th>records</th></tr>\n";
 const END: &str = "</table>\n<p>Track 1 is outside, 35 inside; sector 0 begins at the top, clockwise.<br>A darker piece is a side sector, a white line a sector in use that the map calls free.<br>Point at a sector for its place, file and block; click a name to see its file alone.</p>\n</div>\n</main>\n";
 
@@ -134,13 +134,25 @@ fn unpadded(bytes: &[u8]) -> &[u8] {
 /// Bytes of the disk as a page shows them.
 struct Html<'a>(&'a [u8]);
 
+/// How many bytes a byte takes there.
+fn html_length(byte: u8) -> usize {
+    match byte {
+        b'&' => 5,
+        b'<' | b'>' => 4,
+        b'"' | b'\\' => 3,
+        b' '..=b'~' => 1,
+        _ => 3,
+    }
+}
+
 impl Display for Html<'_> {
     fn fmt(&self, f: &mut Formatter) -> fmt::Result {
+        let is_long = self.0.iter().map(|&byte| html_length(byte)).sum::<usize>() > 48;
         self.0.iter().try_for_each(|&byte| match byte {
-            b'&' => f.write_str("&amp;"),
-            b'<' => f.write_str("&lt;"),
-            b'>' => f.write_str("&gt;"),
-            b' '..=b'~' if byte != b'"' && byte != b'\\' => write!(f, "{}", byte as char),
+            b'&' if !is_long => f.write_str("&amp;"),
+            b'<' if !is_long => f.write_str("&lt;"),
+            b'>' if !is_long => f.write_str("&gt;"),
+            b' '..=b'~' if !b"\"\\&<>".contains(&byte) => write!(f, "{}", byte as char),
             _ => write!(f, "\\{byte:02x}"),
         })
     }
@@ -198,7 +210,7 @@ fn put_system(out: &mut impl Write, drawing: &Drawing) -> io::Result<()> {
 
 fn put_entry(out: &mut impl Write, drawing: &Drawing, number: usize, entry: &Entry) -> io::Result<()> {
     let name = Html(unpadded(&entry.slot[5..21]));
-    writeln!(out, "<g id=\"f{number}\" stroke=\"{}\">", Colour(number, 0))?;
+    writeln!(out, "<g id=\"f{number}\" color=\"{}\" stroke=\"{}\">", Colour(number, 18), Colour(number, 0))?;
     let count = entry.blocks.len();
     for (index, &place) in entry.blocks.iter().enumerate() {
         if drawing.owners[place.index()] == Owner::Blocks(number) {
@@ -208,24 +220,36 @@ fn put_entry(out: &mut impl Write, drawing: &Drawing, number: usize, entry: &Ent
     }
     for (index, &place) in entry.sides.iter().enumerate() {
         if drawing.owners[place.index()] == Owner::Sides(number) {
-            let (ring, colour) = (Ring::of(place), Colour(number, 18));
-            writeln!(out, "{ring} stroke=\"{colour}\"><title>{place} {name}, side sector {index}</title></circle>")?;
+            writeln!(out, "{} class=\"s\"><title>{place} {name}, side sector {index}</title></circle>", Ring::of(place))?;
         }
     }
     writeln!(out, "</g>")
 }
 
+/// The sectors of a track.
+fn on_track(track: u8) -> impl Iterator<Item = Place> {
+    (0..sectors_of(track)).map(move |sector| Place { track, sector })
+}
+
 fn put_rest(out: &mut impl Write, drawing: &Drawing) -> io::Result<()> {
-    let places = || (1..=35).flat_map(|track| (0..sectors_of(track)).map(move |sector| Place { track, sector }));
     let is_nobodys = |place: &Place| drawing.owners[place.index()] == Owner::Nobody;
+    let is_open = |place: Place| !is_nobodys(&place) && drawing.is_free(place);
     writeln!(out, "<g id=\"r\">")?;
-    for place in places().filter(is_nobodys) {
+    for place in (1..=35).flat_map(on_track).filter(is_nobodys) {
         let (class, words) = if drawing.is_free(place) { ("free", "free") } else { ("lost", "taken, of no file") };
         writeln!(out, "{} class=\"{class}\"><title>{place} {words}</title></circle>", Ring::of(place))?;
     }
     writeln!(out, "</g>\n<g class=\"open\">")?;
-    for place in places().filter(|place| !is_nobodys(place) && drawing.is_free(*place)) {
-        writeln!(out, "{}/>", Ring::of(place))?;
+    for track in (1..=35).filter(|&track| on_track(track).any(is_open)) {
+        write!(out, "<circle r=\"{}\" style=\"stroke-dasharray:", Ring::of(Place { track, sector: 0 }).0)?;
+        for place in on_track(track) {
+            let ring = Ring::of(place);
+            match is_open(place) {
+                true => write!(out, "{} 200 ", ring.dash())?,
+                false => write!(out, "0 {} ", ring.arc())?,
+            }
+        }
+        writeln!(out, "\"/>")?;
     }
     writeln!(out, "</g>")
 }

@@ -2,10 +2,12 @@ pub mod Drawn
 pub mod DrawnOnce
 pub mod Marks
 pub mod Markups
+pub mod Opening
 pub mod Owned
 pub mod Owning
 pub mod Paddings
 pub mod PageMarkup
+pub mod PlainBytes
 pub mod Printing
 pub mod Rows
 pub mod Sides

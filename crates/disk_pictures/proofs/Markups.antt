@@ -5,7 +5,8 @@ use Rattle.std.specs.Prelude.{codes, flat_map, if◌then◌else◌, nat_eq, nat_
 use Rattle.std.proofs.lemmas.Bool.{false≢true}
 use Rattle.std.proofs.lemmas.List.Elements.{filter-append}
 use Rattle.byte_text.specs.Texts.{byte_text, digit, is_plain}
-use Rattle.disk_pictures.specs.Html.{escaped, html_byte, html_of}
+use Rattle.disk_pictures.proofs.PlainBytes.{plain-escaped, plain-none}
+use Rattle.disk_pictures.specs.Html.{escaped, html_byte, html_of, is_long, plain_byte}
 use Rattle.disk_pictures.specs.Markup.{BeginsEscape, IsEscaped, is_markup, markup_of}
 
 both-none : (xs ys : List ℕ) → markup_of xs ≡ [] → markup_of ys ≡ [] → markup_of (xs ++ ys) ≡ []
@@ -43,9 +44,23 @@ byte-none false b plain =
     (both-none (escaped (digit (b / 16))) (escaped (digit (b % 16)) ++ []) high
     (both-none (escaped (digit (b % 16))) [] low refl))
 
+escapes-none : (bytes : List ℕ) → markup_of (flat_map html_byte bytes) ≡ []
+escapes-none [] = refl
+escapes-none (b ∷ bs) =
+    both-none (html_byte b) (flat_map html_byte bs) (byte-none (is_plain b) b refl) (escapes-none bs)
+
+-- without escapes
+plains-none : (bytes : List ℕ) → markup_of (flat_map plain_byte bytes) ≡ []
+plains-none [] = refl
+plains-none (b ∷ bs) = both-none (plain_byte b) (flat_map plain_byte bs) (plain-none b) (plains-none bs)
+
 pub html-none : (bytes : List ℕ) → markup_of (html_of bytes) ≡ []
-html-none [] = refl
-html-none (b ∷ bs) = both-none (html_byte b) (html_of bs) (byte-none (is_plain b) b refl) (html-none bs)
+unfolding html_of
+html-none bytes = either (is_long bytes)
+  where
+    either : (t : Bool) → markup_of (if t then flat_map plain_byte bytes else flat_map html_byte bytes) ≡ []
+    either true = plains-none bytes
+    either false = escapes-none bytes
 
 begins-more : (xs ys : List ℕ) → BeginsEscape xs → BeginsEscape (xs ++ ys)
 begins-more xs ys (rest, e) = (
@@ -78,6 +93,19 @@ texts-escaped [] = tt
 texts-escaped (c ∷ cs) = both-escaped (escaped c) (flat_map escaped cs)
     (escape-escaped (nat_eq c 38) (nat_eq c 60) (nat_eq c 62) c refl) (texts-escaped cs)
 
+escapes-escaped : (bytes : List ℕ) → IsEscaped (flat_map html_byte bytes)
+escapes-escaped [] = tt
+escapes-escaped (b ∷ bs) =
+    both-escaped (html_byte b) (flat_map html_byte bs) (texts-escaped (byte_text b)) (escapes-escaped bs)
+
+plains-escaped : (bytes : List ℕ) → IsEscaped (flat_map plain_byte bytes)
+plains-escaped [] = tt
+plains-escaped (b ∷ bs) = both-escaped (plain_byte b) (flat_map plain_byte bs) (plain-escaped b) (plains-escaped bs)
+
 pub html-escaped : (bytes : List ℕ) → IsEscaped (html_of bytes)
-html-escaped [] = tt
-html-escaped (b ∷ bs) = both-escaped (html_byte b) (html_of bs) (texts-escaped (byte_text b)) (html-escaped bs)
+unfolding html_of
+html-escaped bytes = either (is_long bytes)
+  where
+    either : (t : Bool) → IsEscaped (if t then flat_map plain_byte bytes else flat_map html_byte bytes)
+    either true = plains-escaped bytes
+    either false = escapes-escaped bytes

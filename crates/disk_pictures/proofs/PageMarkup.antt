@@ -50,13 +50,11 @@ module _ (f g : Show) (same : (bytes : List ℕ) → IsSameMarkup (f bytes) (g b
       behind (ring_of p) _ _ (behind (codes "><title>") _ _ (behind (place_text p) _ _
       (behind (codes " ") _ _ (before (f name) (g name) _ (same name)))))
 
-  on-side : (k : ℕ) (name : List ℕ) (j : ℕ) (p : Place) → IsSameMarkup (side_arc f k name j p) (side_arc g k name j p)
+  on-side : (name : List ℕ) (j : ℕ) (p : Place) → IsSameMarkup (side_arc f name j p) (side_arc g name j p)
   unfolding side_arc
-  on-side k name j p =
-      behind (ring_of p) _ _
-      (behind (codes " stroke=\"") _ _
-      (behind (colour k 18) _ _ (behind (codes "\"><title>") _ _ (behind (place_text p) _ _
-      (behind (codes " ") _ _ (before (f name) (g name) _ (same name)))))))
+  on-side name j p =
+      behind (ring_of p) _ _ (behind (codes " class=\"s\"><title>") _ _ (behind (place_text p) _ _
+      (behind (codes " ") _ _ (before (f name) (g name) _ (same name)))))
 
   on-file : (l : Layout) (k : ℕ) (d : File) → IsSameMarkup (file_group f l k d) (file_group g l k d)
   unfolding file_group
@@ -65,7 +63,7 @@ module _ (f g : Show) (same : (bytes : List ℕ) → IsSameMarkup (f bytes) (g b
       (λ n p. where-so (is_blocks k (owner_of l p)) _ _ (on-block (name_of d.slot) (n + 1) (length d.blocks) p)) 0
       d.blocks in
       let sides = each (own_side f l k d) (own_side g l k d)
-      (λ n p. where-so (is_sides k (owner_of l p)) _ _ (on-side k (name_of d.slot) n p)) 0 d.sides in
+      (λ n p. where-so (is_sides k (owner_of l p)) _ _ (on-side (name_of d.slot) n p)) 0 d.sides in
       behind (group_head k) _ _ (both _ _ _ _ blocks (before _ _ (codes "</g>\n") sides))
 
   on-drawing : (v : Option Fault) (map : Sector) (l : Layout)

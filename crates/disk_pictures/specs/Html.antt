@@ -1,5 +1,5 @@
 -- Bytes of a disk in HTML, as the text of bytes with HTML's escapes (HTML Living Standard, character references).
-use Rattle.std.specs.Prelude.{ℕ, List, [], ◌∷◌, codes, flat_map, if◌then◌else◌, nat_eq}
+use Rattle.std.specs.Prelude.{ℕ, Bool, List, [], ◌∷◌, codes, flat_map, if◌then◌else◌, length, nat_eq, nat_lt}
 use Rattle.byte_text.specs.Texts.{byte_text}
 
 -- a byte of a text in HTML
@@ -13,6 +13,19 @@ escaped c =
 abbrev pub html_byte : ℕ → List ℕ
 html_byte b = flat_map escaped (byte_text b)
 
--- bytes of the disk in HTML. <SCRIPT>, FF is &lt;SCRIPT&gt;\ff
-abbrev pub html_of : List ℕ → List ℕ
-html_of bytes = flat_map html_byte bytes
+-- a byte of the disk without an escape: &, < and > too are a backslash and two digits
+abbrev pub plain_byte : ℕ → List ℕ
+plain_byte b =
+    if nat_eq b 38 then codes "\\26"
+    else (if nat_eq b 60 then codes "\\3c"
+    else (if nat_eq b 62 then codes "\\3e" else byte_text b))
+
+-- the text with escapes takes more than 48 bytes
+abbrev pub is_long : List ℕ → Bool
+is_long bytes = nat_lt 48 (length (flat_map html_byte bytes))
+
+-- bytes of the disk in HTML, where that takes more than 48 bytes without escapes: so a name of 16 takes at most 48.
+-- <SCRIPT>, FF is &lt;SCRIPT&gt;\ff
+unfoldable pub html_of : List ℕ → List ℕ
+html_of bytes =
+    if is_long bytes then flat_map plain_byte bytes else flat_map html_byte bytes

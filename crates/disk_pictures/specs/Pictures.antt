@@ -1,6 +1,6 @@
 -- The picture of a disk: an HTML page with an SVG drawing. All of it is our own. Bytes of the disk stand in it as
 -- `show` shows them, and in no other way; the page that is printed shows them by `html_of`.
-use Rattle.std.specs.Prelude.{ℕ, ◌+◌, ◌*◌, ◌-◌, ◌/◌, ◌%◌, Bool, true, false, List, [], ◌++◌, Option, Some, None}
+use Rattle.std.specs.Prelude.{ℕ, ◌+◌, ◌*◌, ◌-◌, ◌/◌, ◌%◌, ◌&&◌, Bool, true, false, not, List, [], ◌++◌, Option, Some, None}
 use Rattle.std.specs.Prelude.{if◌then◌else◌, codes, decimal, flat_map, length, nat_eq, slice_range}
 use Rattle.d64_image.specs.Geometry.{sectors_on}
 use Rattle.d64_image.specs.Images.{Sector}
@@ -14,12 +14,11 @@ use Rattle.disk_layout.specs.declared.faults.Fault.{Fault}
 use Rattle.disk_pictures.specs.Drawings.{owner_of}
 use Rattle.disk_pictures.specs.Html.{html_of}
 use Rattle.disk_pictures.specs.Names.{disk_name, name_of}
-use Rattle.disk_pictures.specs.Texts.{at_place, each_below, has_records, is_free, numbered, place_of, records_in}
+use Rattle.disk_pictures.specs.Texts.{any_below, at_place, each_below, has_records, is_at_place, is_free, numbered}
+use Rattle.disk_pictures.specs.Texts.{place_of, records_in}
 use Rattle.disk_pictures.specs.Texts.{type_text, verdict_text}
 use Rattle.disk_pictures.specs.declared.owners.Owner.{Owner}
 use Rattle.disk_pictures.specs.declared.owners.Owner.TheVariants as owner
-use Rattle.disk_pictures.specs.declared.arcs.Layer.{Layer}
-use Rattle.disk_pictures.specs.declared.arcs.Layer.TheVariants as layer
 
 -- how bytes of the disk are shown
 abbrev pub Show : Type 0
@@ -69,22 +68,19 @@ block_arc show name o n p =
     ring_of p ++ (codes "><title>" ++ (place_text p ++ (codes " " ++ (show name
     ++ (codes ", block " ++ (decimal o ++ (codes " of " ++ (decimal n ++ codes "</title></circle>\n"))))))))
 
--- side sector j of entry k
-unfoldable pub side_arc : Show → ℕ → List ℕ → ℕ → Place → List ℕ
-side_arc show k name j p =
-    ring_of p ++ (codes " stroke=\"" ++ (colour k 18 ++ (codes "\"><title>" ++ (place_text p ++ (codes " " ++ (show name
-    ++ (codes ", side sector " ++ (decimal j ++ codes "</title></circle>\n"))))))))
+-- side sector j of an entry of this name, in the darker colour of its group
+unfoldable pub side_arc : Show → List ℕ → ℕ → Place → List ℕ
+side_arc show name j p =
+    ring_of p ++ (codes " class=\"s\"><title>" ++ (place_text p ++ (codes " " ++ (show name
+    ++ (codes ", side sector " ++ (decimal j ++ codes "</title></circle>\n"))))))
 
--- a free sector, one that is taken in the map and of nobody, and a white line over one in use that the map calls free
+-- a free sector, and one that is taken in the map and of nobody
 unfoldable pub free_arc : Place → List ℕ
 free_arc p = ring_of p ++ (codes " class=\"free\"><title>" ++ (place_text p ++ codes " free</title></circle>\n"))
 
 unfoldable pub lost_arc : Place → List ℕ
 lost_arc p =
     ring_of p ++ (codes " class=\"lost\"><title>" ++ (place_text p ++ codes " taken, of no file</title></circle>\n"))
-
-unfoldable pub open_arc : Place → List ℕ
-open_arc p = ring_of p ++ codes "/>\n"
 
 -- whose it is
 abbrev pub is_blocks : ℕ → Owner → Bool
@@ -105,11 +101,13 @@ own_block show l k f n p = if is_blocks k (owner_of l p) then block_arc show (na
     p else []
 
 abbrev pub own_side : Show → Layout → ℕ → File → ℕ → Place → List ℕ
-own_side show l k f n p = if is_sides k (owner_of l p) then side_arc show k (name_of f.slot) n p else []
+own_side show l k f n p = if is_sides k (owner_of l p) then side_arc show (name_of f.slot) n p else []
 
--- the beginning of the group of entry k, in its colour
+-- the beginning of the group of entry k, in its colour, and with the darker one for side sectors
 unfoldable pub group_head : ℕ → List ℕ
-group_head k = codes "<g id=\"f" ++ (decimal k ++ (codes "\" stroke=\"" ++ (colour k 0 ++ codes "\">\n")))
+group_head k =
+    codes "<g id=\"f" ++ (decimal k ++ (codes "\" color=\"" ++ (colour k 18 ++ (codes "\" stroke=\"" ++ (colour k 0
+    ++ codes "\">\n")))))
 
 -- the group of entry k: its blocks in their order, then its side sectors
 unfoldable pub file_group : Show → Layout → ℕ → File → List ℕ
@@ -121,24 +119,51 @@ file_group show l k f =
 unfoldable pub system_group : Layout → List ℕ
 system_group l = codes "<g id=\"m\">\n" ++ (map_arc ++ (flat_map directory_arc l.directory ++ codes "</g>\n"))
 
--- what a layer has at a sector: all that is of nobody; or over what is of somebody, a line where the map calls it free
-abbrev pub layer_arc : Layer → Sector → Layout → Place → List ℕ
-layer_arc layer.Others map l p = if is_nobody (owner_of l p) then (if is_free map p then free_arc p else lost_arc p)
-    else []
-layer_arc layer.Open map l p = if is_nobody (owner_of l p) then [] else (if is_free map p then open_arc p else [])
+-- a sector of nobody
+abbrev pub other_arc : Sector → Layout → Place → List ℕ
+other_arc map l p = if is_nobody (owner_of l p) then (if is_free map p then free_arc p else lost_arc p) else []
 
 -- the text of each sector, track by track
 unfoldable pub each_place : (Place → List ℕ) → List ℕ
 each_place line = each_below 35 (λ b. each_below 21 (λ s. at_place line (place_at (b + 1) s)))
 
--- the beginning of a layer's group
-abbrev pub layer_head : Layer → List ℕ
-layer_head layer.Others = codes "<g id=\"r\">\n"
-layer_head layer.Open = codes "<g class=\"open\">\n"
+-- the group of all sectors of nobody
+unfoldable pub others_group : Sector → Layout → List ℕ
+others_group map l = codes "<g id=\"r\">\n" ++ (each_place (other_arc map l) ++ codes "</g>\n")
 
--- the group of a layer
-unfoldable pub layer_group : Layer → Sector → Layout → List ℕ
-layer_group y map l = layer_head y ++ (each_place (layer_arc y map l) ++ codes "</g>\n")
+-- a sector in use that the map calls free
+abbrev pub is_open : Sector → Layout → Place → Bool
+is_open map l p = not (is_nobody (owner_of l p)) && is_free map p
+
+-- on the ring of its track, from where the sector begins up to the next: a dash as long as the sector's own, or none
+unfoldable pub dash_text : Bool → Place → List ℕ
+dash_text white p =
+    if white then decimal (arc (radius p.track) (sectors_on p.track) - 200) ++ codes " 200 "
+    else codes "0 " ++ (decimal (arc (radius p.track) (sectors_on p.track)) ++ codes " ")
+
+-- the dashes of a track: over each sector in use that the map calls free
+unfoldable pub track_dashes : Sector → Layout → ℕ → List ℕ
+track_dashes map l t = each_below 21 (λ s. at_place (λ p. dash_text (is_open map l p) p) (place_at t s))
+
+-- the beginning of the circle of a track's white line
+unfoldable pub white_head : ℕ → List ℕ
+white_head t = codes "<circle r=\"" ++ (decimal (radius t) ++ codes "\" style=\"stroke-dasharray:")
+
+-- the white line of a track: a circle with these dashes
+unfoldable pub white_ring : Sector → Layout → ℕ → List ℕ
+white_ring map l t = white_head t ++ (track_dashes map l t ++ codes "\"/>\n")
+
+-- the track has a sector in use that the map calls free
+unfoldable pub is_track_open : Sector → Layout → ℕ → Bool
+is_track_open map l t = any_below 21 (λ s. is_at_place (is_open map l) (place_at t s))
+
+-- the white line of a track that has such a sector
+abbrev pub own_ring : Sector → Layout → ℕ → List ℕ
+own_ring map l t = if is_track_open map l t then white_ring map l t else []
+
+-- the group of the white lines, over all sectors in use that the map calls free
+unfoldable pub open_group : Sector → Layout → List ℕ
+open_group map l = codes "<g class=\"open\">\n" ++ (each_below 35 (λ b. own_ring map l (b + 1)) ++ codes "</g>\n")
 
 -- the mark of a fault at the rim, on a ring of its own
 unfoldable pub rim_mark : Place → List ℕ
@@ -161,7 +186,7 @@ fault_group (Some f) = fault_sector f
 -- the page's style
 unfoldable pub style : List ℕ
 style = codes
-    "body{margin:24px;background:#fbfaf7;color:#222;font:14px/1.4 ui-monospace,Menlo,Consolas,\"DejaVu Sans Mono\",monospace}h1{font-size:20px;margin:0}p{margin:4px 0 16px}main{display:flex;flex-wrap:wrap;gap:32px;align-items:flex-start}svg{width:720px;max-width:100%;height:auto}main>div{max-width:440px}circle{fill:none;stroke-width:700}.free{stroke:#e2ded3}.lost{stroke:#9a9384}.map{stroke:#111}.dir{stroke:#5b5b5b}.edge{stroke:#fff;stroke-width:1500}.fault{stroke:#e00000;stroke-width:1100}.open circle{stroke:#fff;stroke-width:200;pointer-events:none}.bad{color:#d00;font-weight:bold}.good{color:#17692b;font-weight:bold}text{font:1100px ui-monospace,Menlo,Consolas,\"DejaVu Sans Mono\",monospace;fill:#444;text-anchor:middle}table{border-collapse:collapse}td,th{padding:1px 8px;text-align:right;white-space:pre}tr>:nth-child(3),tr>:nth-child(4){text-align:left}i{display:inline-block;width:12px;height:12px;margin:0 4px 0 0}ul{list-style:none;padding:0;margin:0 0 12px}li{margin:0 0 2px}.map i{background:#111}.dir i{background:#5b5b5b}.free i{background:#e2ded3}.lost i{background:#9a9384}tr a{color:inherit;text-decoration:none}tr a:hover{text-decoration:underline}g:target circle{stroke-width:800}svg:has(g:target) g g:not(:target):not(#f){opacity:.15}"
+    "body{margin:24px;background:#fbfaf7;color:#222;font:14px/1.4 ui-monospace,Menlo,Consolas,\"DejaVu Sans Mono\",monospace}h1{font-size:20px;margin:0}p{margin:4px 0 16px}main{display:flex;flex-wrap:wrap;gap:32px;align-items:flex-start}svg{width:720px;max-width:100%;height:auto}main>div{max-width:440px}circle{fill:none;stroke-width:700}.free{stroke:#e2ded3}.lost{stroke:#9a9384}.map{stroke:#111}.dir{stroke:#5b5b5b}.s{stroke:currentColor}.edge{stroke:#fff;stroke-width:1500}.fault{stroke:#e00000;stroke-width:1100}.open circle{stroke:#fff;stroke-width:200;pointer-events:none}.bad{color:#d00;font-weight:bold}.good{color:#17692b;font-weight:bold}text{font:1100px ui-monospace,Menlo,Consolas,\"DejaVu Sans Mono\",monospace;fill:#444;text-anchor:middle}table{border-collapse:collapse}td,th{padding:1px 8px;text-align:right;white-space:pre}tr>:nth-child(3),tr>:nth-child(4){text-align:left}i{display:inline-block;width:12px;height:12px;margin:0 4px 0 0}ul{list-style:none;padding:0;margin:0 0 12px}li{margin:0 0 2px}.map i{background:#111}.dir i{background:#5b5b5b}.free i{background:#e2ded3}.lost i{background:#9a9384}tr a{color:inherit;text-decoration:none}tr a:hover{text-decoration:underline}g:target circle{stroke-width:800}svg:has(g:target) g g:not(:target):not(#f){opacity:.15}"
 
 -- the dash of each ring: the arc of a sector less 200, and then nothing
 unfoldable pub dashes : List ℕ
@@ -221,7 +246,7 @@ end_text = codes
 unfoldable pub drawing_text : Show → Option Fault → Sector → Layout → List ℕ
 drawing_text show v map l =
     system_group l ++ (numbered (file_group show l) 0 l.files
-    ++ (layer_group layer.Others map l ++ (layer_group layer.Open map l ++ fault_group v)))
+    ++ (others_group map l ++ (open_group map l ++ fault_group v)))
 
 -- the page
 unfoldable pub page_text : Show → Option Fault → Sector → Layout → List ℕ

@@ -1,6 +1,6 @@
 -- What is printed of a disk beside its sectors. All of it is our own but the types (1541 User's Guide, directory
 -- format).
-use Rattle.std.specs.Prelude.{ℕ, zero, suc, ◌+◌, ◌*◌, ◌-◌, ◌/◌, ◌%◌, ◌&&◌, Bool, false, not, List, [], ◌∷◌, ◌++◌}
+use Rattle.std.specs.Prelude.{ℕ, zero, suc, ◌+◌, ◌*◌, ◌-◌, ◌/◌, ◌%◌, ◌&&◌, ◌||◌, Bool, false, not, List, [], ◌∷◌, ◌++◌}
 use Rattle.std.specs.Prelude.{Option, Some, None, if◌then◌else◌, codes, length, max, nat_eq, nat_lt}
 use Rattle.std.specs.Int.{bit_at}
 use Rattle.d64_image.specs.Images.{Sector}
@@ -17,6 +17,11 @@ unfoldable pub each_below : ℕ → (ℕ → List ℕ) → List ℕ
 each_below zero line = []
 each_below (suc n) line = each_below n line ++ line n
 
+-- one of 0, 1 and so on below n is so
+unfoldable pub any_below : ℕ → (ℕ → Bool) → Bool
+any_below zero test = false
+any_below (suc n) test = any_below n test || test n
+
 -- the lines of these, the first of them with the number k
 unfoldable pub numbered : {X : Type 0} → (ℕ → X → List ℕ) → ℕ → List X → List ℕ
 numbered line k [] = []
@@ -26,6 +31,11 @@ numbered line k (x ∷ xs) = line k x ++ numbered line (k + 1) xs
 abbrev pub at_place : (Place → List ℕ) → Option Place → List ℕ
 at_place line None = []
 at_place line (Some p) = line p
+
+-- the place is so, where there is one
+abbrev pub is_at_place : (Place → Bool) → Option Place → Bool
+is_at_place test None = false
+is_at_place test (Some p) = test p
 
 -- the map calls the sector free
 abbrev pub is_free : Sector → Place → Bool

@@ -4,22 +4,13 @@ ghost use Rattle.d64_image.specs.Geometry.{sectors_on};
 ghost use Rattle.d64_image.specs.Places.{track_of};
 ghost use Rattle.disk_layout.specs.Texts.{place_text};
 ghost use Rattle.disk_pictures.specs.Html.{html_of};
-ghost use Rattle.disk_pictures.specs.Pictures.{arc, block_arc, brightness as brightness_of, colour, directory_arc, fault_sector, free_arc, hue as hue_of, lost_arc, map_arc, open_arc, radius as radius_of, rim_mark, ring_text, side_arc};
+ghost use Rattle.disk_pictures.specs.Pictures.{arc, block_arc, brightness as brightness_of, colour, directory_arc, fault_sector, free_arc, hue as hue_of, lost_arc, dash_text, map_arc, radius as radius_of, rim_mark, ring_text, side_arc};
 
 use crate::html::Html;
 use crate::texts::fault_place;
 use d64_image::Place;
 use disk_layout::{Fault, map_place};
 use std::fmt::{self, Display, Formatter};
-
-/// A layer of a picture over all sectors.
-#[derive(Clone, Copy, Debug, PartialEq, Eq)]
-pub(crate) enum Layer {
-    /// The sectors of nobody.
-    Others,
-    /// White lines over those of somebody that the map calls free.
-    Open,
-}
 
 /// The radius of the mark at the rim.
 const RIM: u16 = 35_700;
@@ -46,7 +37,7 @@ fn arc_length(radius: u16, place: Place) -> u32
 }
 
 /// The radius of a track's ring.
-fn radius(track: u8) -> u16
+pub(crate) fn radius(track: u8) -> u16
     ensures { result ≡ radius_of track }
 {
     35_400_u32.saturating_sub(800 * track as u32) as u16
@@ -200,11 +191,11 @@ impl Display for BlockArc<'_> {
     }
 }
 
-/// A side sector of an entry.
+/// A side sector of an entry, in the darker colour of the entry's group.
 #[derive(Clone, Copy)]
 pub(crate) struct SideArc<'a> {
-    /// The entry's number and its name.
-    pub entry: (usize, &'a [u8]),
+    /// The entry's name.
+    pub name: &'a [u8],
     /// The side sector's number, from 0.
     pub number: usize,
     /// Where it is.
@@ -212,17 +203,15 @@ pub(crate) struct SideArc<'a> {
 }
 
 impl Display for SideArc<'_> {
-    ghost output = { λ side. Some (side_arc html_of side.entry.0 side.entry.1.now side.number side.place) };
+    ghost output = { λ side. Some (side_arc html_of side.name.now side.number side.place) };
 
     fn fmt<W: fmt::Write>(&self, f: &mut Formatter<W>) -> fmt::Result {
-        let (number, name) = self.entry;
         writeln!(
             f,
-            "{} stroke=\"{}\"><title>{} {}, side sector {}</title></circle>",
+            "{} class=\"s\"><title>{} {}, side sector {}</title></circle>",
             Ring::of(self.place),
-            Colour { number, less: 18 },
             PlaceText(self.place),
-            Html(name),
+            Html(self.name),
             self.number
         )
     }
@@ -262,15 +251,25 @@ impl Display for LostArc {
     }
 }
 
-/// A line over a sector in use that the map calls free.
+/// What the white line of a track has at a sector: a dash as long as the sector's own, or none.
 #[derive(Clone, Copy)]
-pub(crate) struct OpenArc(pub Place);
+pub(crate) struct Dash {
+    /// Whether the sector is in use and free in the map.
+    pub white: bool,
+    /// The sector.
+    pub place: Place,
+}
 
-impl Display for OpenArc {
-    ghost output = { λ sector. Some (open_arc sector.0) };
+impl Display for Dash {
+    ghost output = { λ dash. Some (dash_text dash.white dash.place) };
 
     fn fmt<W: fmt::Write>(&self, f: &mut Formatter<W>) -> fmt::Result {
-        writeln!(f, "{}/>", Ring::of(self.0))
+        let length = arc_length(radius(self.place.track()), self.place);
+        if self.white {
+            write!(f, "{} 200 ", length.saturating_sub(200))
+        } else {
+            write!(f, "0 {length} ")
+        }
     }
 }
 

@@ -1,5 +1,5 @@
 //! Laws of maps and pages, each the contract of a function that does nothing.
-ghost use Rattle.std.specs.Prelude.{◌≡◌, ◌∷◌, [], ℕ, List, Option};
+ghost use Rattle.std.specs.Prelude.{◌≡◌, ◌≤◌, ◌∷◌, [], ℕ, List, Option, length};
 ghost use Rattle.d64_image.specs.Images.{Image, Sector};
 ghost use Rattle.d64_image.specs.declared.place.Place.{Place};
 ghost use Rattle.disk_layout.specs.Chain.{EachOnce};
@@ -13,11 +13,12 @@ ghost use Rattle.disk_pictures.specs.Pictures.{page_text, picture_page};
 ghost use Rattle.disk_pictures.specs.declared.owners.Owner.{Owner};
 
 /// Bytes of a disk have no quotation mark, no `<` and no `>` where they are shown in a page, and each `&` of theirs
-/// begins an escape. So the markup of the page of an image, whatever its bytes are, is that of the page in which none
+/// begins an escape; a name of at most 16 bytes takes at most 48. So the markup of the page of an image, whatever its bytes are, is that of the page in which none
 /// of them is shown: names, id and version of a disk bring in nothing but text.
 pub fn names_bring_no_markup()
     ensures none { (bytes : List ℕ) → markup_of (html_of bytes) ≡ [] }
     ensures escaped { (bytes : List ℕ) → IsEscaped (html_of bytes) }
+    ensures short { (bytes : List ℕ) → length bytes ≤ 16 → length (html_of bytes) ≤ 48 }
     ensures page { (v : Option Fault) (map : Sector) (l : Layout)
         → markup_of (picture_page v map l) ≡ markup_of (page_text (λ _. []) v map l) }
 {}

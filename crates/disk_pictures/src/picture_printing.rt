@@ -11,16 +11,17 @@ ghost use Rattle.disk_pictures.specs.Pictures.{directory_arc, drawing_text, faul
 ghost use Rattle.disk_pictures.specs.Texts.{numbered};
 ghost use Rattle.disk_pictures.specs.declared.faults.PictureFault.TheVariants as faults;
 
-use crate::arcs::{BlockArc, Colour, DirectoryArc, FaultGroup, Layer, MapArc, SideArc};
+use crate::arcs::{BlockArc, Colour, DirectoryArc, FaultGroup, MapArc, SideArc};
 use crate::drawing::Drawing;
 use crate::drawn_file::DrawnFile;
 use crate::faults::PictureFault;
-use crate::layers::{GROUP_END, put_layer_group};
 use crate::names::entry_name;
+use crate::others::{GROUP_END, put_others};
 use crate::output::{flush, put};
 use crate::owners::Owner;
 use crate::page::{END, Legend, Row, Title, Told};
 use crate::verdicts::judged;
+use crate::white_lines::put_open;
 use d64_image::Place;
 use disk_layout::Fault;
 use std::alloc::Global;
@@ -114,7 +115,7 @@ fn put_side<W: Write>(
         Owner::Sides(owner) if owner == number => put(
             out,
             SideArc {
-                entry: (number, entry_name(&file.slot)),
+                name: entry_name(&file.slot),
                 number: index,
                 place,
             },
@@ -141,7 +142,7 @@ fn put_sides<W: Write>(
     Ok(())
 }
 
-/// The beginning of an entry's group, in its colour.
+/// The beginning of an entry's group, in its colour, and with the darker one for side sectors.
 #[derive(Clone, Copy)]
 struct GroupHead(usize);
 
@@ -152,7 +153,8 @@ impl Display for GroupHead {
         let number = self.0;
         writeln!(
             f,
-            "<g id=\"f{number}\" stroke=\"{}\">",
+            "<g id=\"f{number}\" color=\"{}\" stroke=\"{}\">",
+            Colour { number, less: 18 },
             Colour { number, less: 0 }
         )
     }
@@ -223,8 +225,8 @@ fn put_drawing<W: Write>(
 {
     put_system(out, drawing)?;
     put_files(out, drawing)?;
-    put_layer_group(out, Layer::Others, drawing)?;
-    put_layer_group(out, Layer::Open, drawing)?;
+    put_others(out, drawing)?;
+    put_open(out, drawing)?;
     put_fault(out, found)
 }
 

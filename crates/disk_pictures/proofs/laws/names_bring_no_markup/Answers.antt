@@ -1,6 +1,7 @@
 use Rattle.std.proofs.Common.{[]}
 use Rattle.disk_pictures.proofs.Markups.{html-escaped, html-none}
 use Rattle.disk_pictures.proofs.PageMarkup.{on-page}
+use Rattle.disk_pictures.proofs.PlainBytes.{html-short}
 use Rattle.disk_pictures.specs.Html.{html_of}
 use Rattle.disk_pictures.proofs.laws.names_bring_no_markup.Goals as goal
 
@@ -8,5 +9,6 @@ pub returns : goal.returns
 returns c = record {
   none = html-none;
   escaped = html-escaped;
+  short = html-short;
   page = λ v map l. (on-page html_of (λ _. []) (λ bytes. record { same = html-none bytes }) v map l).same;
 }

@@ -9,4 +9,4 @@ pub returns-clause-ok : goal.returns-clause-ok
 unfolding drawing_text
 returns-clause-ok g c = on_ok_weaker c.put_fault.result
     (λ end. Appends-trans _ _ _ _ _ c.in_ok-put_system.ensures.ok (four _ _ _ _ _ _ _ _ _ c.in_ok-put_files.ensures.ok
-    c.in_ok-put_layer_group.ensures.ok c.in_ok-put_layer_group-2.ensures.ok end)) c.put_fault.ensures.ok
+    c.in_ok-put_others.ensures.ok c.in_ok-put_open.ensures.ok end)) c.put_fault.ensures.ok

@@ -3,11 +3,11 @@ use Rattle.std.proofs.Common.{◌+◌}
 use Rattle.disk_pictures.specs.Texts.{at_place, each_below}
 use Rattle.d64_image.specs.Places.{place_at}
 use Rattle.disk_pictures.specs.Held.{drawn_in}
-use Rattle.disk_pictures.specs.Pictures.{layer_arc}
+use Rattle.disk_pictures.specs.Pictures.{other_arc}
 use Rattle.std.specs.Io.KnownBytes.{Appends}
-use Rattle.disk_pictures.proofs.layers.put_layers.Given as goal
+use Rattle.disk_pictures.proofs.others.put_others_each.Given as goal
 
 abbrev pub invariant-loop-below : goal.invariant-loop-below
 invariant-loop-below g l = Appends (g.W.Write.contents l.fn.out) (g.W.Write.contents l.out)
-    (each_below l.below (λ b. each_below 21 (λ s. at_place (layer_arc l.layer l.drawing.map (drawn_in l.drawing))
+    (each_below l.below (λ b. each_below 21 (λ s. at_place (other_arc l.drawing.map (drawn_in l.drawing))
     (place_at (b + 1) s))))

@@ -1,0 +1,97 @@
+//! The sectors of nobody.
+ghost use Rattle.std.specs.Prelude.{◌≡◌, IfErr, OnOk};
+ghost use Rattle.std.specs.Io.KnownBytes.{Appends};
+ghost use Rattle.d64_image.specs.Places.{place_at};
+ghost use Rattle.disk_pictures.specs.Held.{drawn_in};
+ghost use Rattle.disk_pictures.specs.Pictures.{each_place, other_arc, others_group};
+ghost use Rattle.disk_pictures.specs.Texts.{at_place, each_below};
+ghost use Rattle.disk_pictures.specs.declared.faults.PictureFault.TheVariants as faults;
+
+use crate::arcs::{FreeArc, LostArc};
+use crate::drawing::Drawing;
+use crate::faults::PictureFault;
+use crate::output::put;
+use crate::owners::Owner;
+use d64_image::Place;
+use disk_layout::BamView;
+use std::io::Write;
+
+/// How many tracks a disk has.
+pub(crate) const TRACKS: u8 = 35;
+
+/// How many sectors a track has at most.
+pub(crate) const SECTORS: u8 = 21;
+
+/// The end of a group.
+pub(crate) const GROUP_END: &str = "</g>\n";
+
+/// Prints a sector, where it is of nobody.
+fn put_other<W: Write>(out: &mut W, drawing: &Drawing, place: Place) -> Result<(), PictureFault>
+    ensures ok { OnOk result (Appends (W.contents out.old) (W.contents out.new)
+        (other_arc drawing.now.map (drawn_in drawing.now) place)) }
+    ensures err { IfErr result (λ fault. fault ≡ faults.File) }
+{
+    let free = BamView::new(&drawing.map).is_free(place);
+    match drawing.owner(place) {
+        Owner::Nobody => {
+            if free {
+                put(out, FreeArc(place))
+            } else {
+                put(out, LostArc(place))
+            }
+        }
+        _ => Ok(()),
+    }
+}
+
+/// Prints a sector, where the track has it and it is of nobody.
+fn put_other_at<W: Write>(
+    out: &mut W,
+    drawing: &Drawing,
+    track: u8,
+    sector: u8,
+) -> Result<(), PictureFault>
+    ensures ok { OnOk result (Appends (W.contents out.old) (W.contents out.new)
+        (at_place (other_arc drawing.now.map (drawn_in drawing.now)) (place_at track sector))) }
+    ensures err { IfErr result (λ fault. fault ≡ faults.File) }
+{
+    match Place::new(track, sector) {
+        Some(place) => put_other(out, drawing, place),
+        None => Ok(()),
+    }
+}
+
+/// Prints the sectors of nobody on a track.
+fn put_others_on<W: Write>(out: &mut W, drawing: &Drawing, track: u8) -> Result<(), PictureFault>
+    ensures ok { OnOk result (Appends (W.contents out.old) (W.contents out.new)
+        (each_below 21 (λ sector. at_place (other_arc drawing.now.map (drawn_in drawing.now)) (place_at track sector)))) }
+    ensures err { IfErr result (λ fault. fault ≡ faults.File) }
+{
+    for sector in 0..SECTORS {
+        put_other_at(out, drawing, track, sector)?;
+    }
+    Ok(())
+}
+
+/// Prints the sectors of nobody, track by track.
+fn put_others_each<W: Write>(out: &mut W, drawing: &Drawing) -> Result<(), PictureFault>
+    ensures ok { OnOk result (Appends (W.contents out.old) (W.contents out.new)
+        (each_place (other_arc drawing.now.map (drawn_in drawing.now)))) }
+    ensures err { IfErr result (λ fault. fault ≡ faults.File) }
+{
+    for below in 0..TRACKS {
+        put_others_on(out, drawing, below + 1)?;
+    }
+    Ok(())
+}
+
+/// Prints the group of the sectors of nobody.
+pub(crate) fn put_others<W: Write>(out: &mut W, drawing: &Drawing) -> Result<(), PictureFault>
+    ensures ok { OnOk result (Appends (W.contents out.old) (W.contents out.new)
+        (others_group drawing.now.map (drawn_in drawing.now))) }
+    ensures err { IfErr result (λ fault. fault ≡ faults.File) }
+{
+    put(out, "<g id=\"r\">\n")?;
+    put_others_each(out, drawing)?;
+    put(out, GROUP_END)
+}

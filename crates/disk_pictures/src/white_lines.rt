@@ -1,0 +1,147 @@
+//! White lines over sectors in use that the map calls free: for each track that has such a sector a circle with a dash
+//! over each.
+ghost use Rattle.std.specs.Prelude.{◌≡◌, ◌+◌, IfErr, OnOk, Some};
+ghost use Rattle.std.specs.Io.KnownBytes.{Appends};
+ghost use Rattle.d64_image.specs.Places.{place_at};
+ghost use Rattle.disk_pictures.specs.Held.{drawn_in};
+ghost use Rattle.disk_pictures.specs.Pictures.{dash_text, is_open as open_at, is_track_open as track_open, open_group, own_ring, radius as radius_of, track_dashes, white_head, white_ring};
+ghost use Rattle.disk_pictures.specs.Texts.{at_place, each_below, is_at_place};
+ghost use Rattle.disk_pictures.specs.declared.faults.PictureFault.TheVariants as faults;
+
+use crate::arcs::{Dash, radius};
+use crate::drawing::Drawing;
+use crate::faults::PictureFault;
+use crate::others::{GROUP_END, SECTORS, TRACKS};
+use crate::output::put;
+use crate::owners::Owner;
+use d64_image::Place;
+use disk_layout::BamView;
+use std::fmt::{self, Display, Formatter};
+use std::io::Write;
+
+/// Whether the sector is in use, and free in the map.
+fn is_open(drawing: &Drawing, place: Place) -> bool
+    ensures { result ≡ open_at drawing.now.map (drawn_in drawing.now) place }
+{
+    match drawing.owner(place) {
+        Owner::Nobody => false,
+        _ => BamView::new(&drawing.map).is_free(place),
+    }
+}
+
+/// Whether the track has the sector, in use and free in the map.
+fn is_open_at(drawing: &Drawing, track: u8, sector: u8) -> bool
+    ensures { result ≡ is_at_place (open_at drawing.now.map (drawn_in drawing.now)) (place_at track sector) }
+{
+    match Place::new(track, sector) {
+        Some(place) => is_open(drawing, place),
+        None => false,
+    }
+}
+
+/// Whether the track has a sector in use that is free in the map.
+fn is_track_open(drawing: &Drawing, track: u8) -> bool
+    ensures { result ≡ track_open drawing.now.map (drawn_in drawing.now) track }
+{
+    let mut found = false;
+    for sector in 0..SECTORS {
+        let here = is_open_at(drawing, track, sector);
+        found = found || here;
+    }
+    found
+}
+
+/// Prints the dash of a sector, where the track has it.
+fn put_dash_at<W: Write>(
+    out: &mut W,
+    drawing: &Drawing,
+    track: u8,
+    sector: u8,
+) -> Result<(), PictureFault>
+    ensures ok { OnOk result (Appends (W.contents out.old) (W.contents out.new)
+        (at_place (λ p. dash_text (open_at drawing.now.map (drawn_in drawing.now) p) p) (place_at track sector))) }
+    ensures err { IfErr result (λ fault. fault ≡ faults.File) }
+{
+    match Place::new(track, sector) {
+        Some(place) => {
+            let white = is_open(drawing, place);
+            put(out, Dash { white, place })
+        }
+        None => Ok(()),
+    }
+}
+
+/// Prints the dashes of a track.
+fn put_dashes<W: Write>(out: &mut W, drawing: &Drawing, track: u8) -> Result<(), PictureFault>
+    ensures ok { OnOk result (Appends (W.contents out.old) (W.contents out.new)
+        (track_dashes drawing.now.map (drawn_in drawing.now) track)) }
+    ensures err { IfErr result (λ fault. fault ≡ faults.File) }
+{
+    for sector in 0..SECTORS {
+        put_dash_at(out, drawing, track, sector)?;
+    }
+    Ok(())
+}
+
+/// The beginning of the circle of a track's white line.
+#[derive(Clone, Copy)]
+struct WhiteHead(u8);
+
+impl Display for WhiteHead {
+    ghost output = { λ head. Some (white_head head.0) };
+
+    fn fmt<W: fmt::Write>(&self, f: &mut Formatter<W>) -> fmt::Result {
+        write!(
+            f,
+            "<circle r=\"{}\" style=\"stroke-dasharray:",
+            radius(self.0)
+        )
+    }
+}
+
+/// Prints the white line of a track.
+fn put_ring<W: Write>(out: &mut W, drawing: &Drawing, track: u8) -> Result<(), PictureFault>
+    ensures ok { OnOk result (Appends (W.contents out.old) (W.contents out.new)
+        (white_ring drawing.now.map (drawn_in drawing.now) track)) }
+    ensures err { IfErr result (λ fault. fault ≡ faults.File) }
+{
+    put(out, WhiteHead(track))?;
+    put_dashes(out, drawing, track)?;
+    put(out, "\"/>\n")
+}
+
+/// Prints the white line of a track, where it has a sector in use that is free in the map.
+fn put_own_ring<W: Write>(out: &mut W, drawing: &Drawing, track: u8) -> Result<(), PictureFault>
+    ensures ok { OnOk result (Appends (W.contents out.old) (W.contents out.new)
+        (own_ring drawing.now.map (drawn_in drawing.now) track)) }
+    ensures err { IfErr result (λ fault. fault ≡ faults.File) }
+{
+    if is_track_open(drawing, track) {
+        put_ring(out, drawing, track)
+    } else {
+        Ok(())
+    }
+}
+
+/// Prints the white lines of the tracks.
+fn put_rings<W: Write>(out: &mut W, drawing: &Drawing) -> Result<(), PictureFault>
+    ensures ok { OnOk result (Appends (W.contents out.old) (W.contents out.new)
+        (each_below 35 (λ below. own_ring drawing.now.map (drawn_in drawing.now) (below + 1)))) }
+    ensures err { IfErr result (λ fault. fault ≡ faults.File) }
+{
+    for below in 0..TRACKS {
+        put_own_ring(out, drawing, below + 1)?;
+    }
+    Ok(())
+}
+
+/// Prints the group of the white lines.
+pub(crate) fn put_open<W: Write>(out: &mut W, drawing: &Drawing) -> Result<(), PictureFault>
+    ensures ok { OnOk result (Appends (W.contents out.old) (W.contents out.new)
+        (open_group drawing.now.map (drawn_in drawing.now))) }
+    ensures err { IfErr result (λ fault. fault ≡ faults.File) }
+{
+    put(out, "<g class=\"open\">\n")?;
+    put_rings(out, drawing)?;
+    put(out, GROUP_END)
+}
