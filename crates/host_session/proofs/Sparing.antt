@@ -1,5 +1,6 @@
 -- How many sectors the messages of a chain write: one message more, and all of them.
-use Rattle.std.proofs.Common.{◌≡◌, ◌≤◌, ◌+◌, ◌∙◌, List, [], ◌∷◌, ◌++◌, None, ap, arith, length, length-append, subst, sym}
+use Rattle.std.proofs.Common.{◌≡◌, ◌≤◌, ◌+◌, ◌∙◌, List, [], ◌∷◌, ◌++◌, None}
+use Rattle.std.proofs.Common.{ap, arith, length, length-append, subst, sym}
 use Rattle.std.specs.Prelude.{◌*◌}
 use Rattle.d64_image.specs.History.{Changes, History}
 use Rattle.d64_image.specs.Images.{Image}

@@ -21,8 +21,8 @@ use Rattle.serving.proofs.Served.{all_uncut}
 use Rattle.serving.specs.AtOnce.{at_once}
 use Rattle.serving.specs.Inputs.{line_messages}
 use Rattle.serving.specs.Serves.{AreHandled, AreServed, AreServedToDevice, AreServedToOutput, IsServed, IsUnwritten}
-use Rattle.ledger_commands.proofs.FileChains.{bounded_of_file, changes_of_file, failing_of_file, over_files, over_files-more}
-use Rattle.ledger_commands.proofs.FileChains.{run_of_file, same_instants, within_failing, within_run}
+use Rattle.ledger_commands.proofs.FileChains.{bounded_of_file, changes_of_file, failing_of_file, over_files}
+use Rattle.ledger_commands.proofs.FileChains.{over_files-more, run_of_file, same_instants, within_failing, within_run}
 use Rattle.ledger_commands.proofs.FileScripts.{end_of_file, moments_of_file, refused_of_file}
 
 module _ {F T : Type 0} {G : Ghosts F} (o : Output T) (start : Mirror F G) (whole : is_broken start

@@ -49,8 +49,8 @@ pub record AreAnswered {D : Type 0} (h : History D) (s : Shop) (before : List As
   pub now : t ≡ with_state s (plain (start_of s) (before ++ requests_of ls))
 
 module _ {D : Type 0} (h : History D) where
-  pub chain_answered : (s : Shop) (state : State) (before : List Ask) (ls : List (List ℕ)) (xs : List (Reply × D)) (old : D)
-      (t : Shop) (new : D)
+  pub chain_answered : (s : Shop) (state : State) (before : List Ask) (ls : List (List ℕ)) (xs : List (Reply × D))
+      (old : D) (t : Shop) (new : D)
       → state ≡ plain (start_of s) before → IsChain h (with_state s state) (map uncut ls) xs old t new
       → AreAnswered h s before ls xs t
   chain_answered s state before [] [] old t new is c = record {

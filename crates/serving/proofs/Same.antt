@@ -1,6 +1,6 @@
 -- Messages that ask the same are run the same way.
-use Rattle.std.proofs.Common.{◌≡◌, ◌≢◌, ◌≤◌, ◌+◌, ◌⊎◌, ℕ, List, [], ◌∷◌, ◌++◌, Option, None, Some, false, map, refl, sym, subst}
-use Rattle.std.proofs.Common.{◌∙◌, ap}
+use Rattle.std.proofs.Common.{◌≡◌, ◌≢◌, ◌≤◌, ◌+◌, ◌⊎◌, ℕ, List, [], ◌∷◌, ◌++◌, Option, None, Some, false}
+use Rattle.std.proofs.Common.{◌∙◌, ap, map, refl, sym, subst}
 use Rattle.std.specs.Prelude.{IsSome, if◌then◌else◌, is_some}
 use Rattle.d64_image.specs.History.{HeldOnly, History}
 use Rattle.request_cards.specs.Ledgers.{after_message, reply_in}
@@ -145,8 +145,8 @@ module _ {D : Type 0} (h : History D) where
     chain = same_chain s ms ns xs r.first r.now new same r.chain;
   }
 
-  abbrev pub same_run_to_failure : (s : Shop) (ms ns : List Message) (xs : List (Reply × D)) (last : Reply) (old new : D)
-      → AskTheSame ms ns
+  abbrev pub same_run_to_failure : (s : Shop) (ms ns : List Message) (xs : List (Reply × D)) (last : Reply)
+      (old new : D) → AskTheSame ms ns
       → HasRunToFailure h s ms xs last old new → HasRunToFailure h s ns xs last old new
   same_run_to_failure s ms ns xs last old new same r =
       let p = same_parts r.before r.message ns (ap (map asked_in) r.parts ∙ same) in

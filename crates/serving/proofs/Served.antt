@@ -1,6 +1,6 @@
 -- What a run over the lines of an input comes to, where each reply is handed on by itself.
-use Rattle.std.proofs.Common.{◌≡◌, ◌<◌, ◌≤◌, ◌+◌, ⊎_elim, ◌∙◌, ℕ, List, [], ◌∷◌, ◌++◌, Option, Ok, Err, Result, map, refl, sym}
-use Rattle.std.proofs.Common.{subst, ap, inl, inr, append-nil, length}
+use Rattle.std.proofs.Common.{◌≡◌, ◌<◌, ◌≤◌, ◌+◌, ⊎_elim, ◌∙◌, ℕ, List, [], ◌∷◌, ◌++◌, Option, Ok, Err, Result}
+use Rattle.std.proofs.Common.{map, refl, sym, subst, ap, inl, inr, append-nil, length}
 use Rattle.std.proofs.lemmas.List.{length-map}
 use Rattle.d64_image.specs.History.{History}
 use Rattle.host_session.proofs.Chained.{at_device, whole}

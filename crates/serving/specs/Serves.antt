@@ -106,8 +106,8 @@ pub record IsServed {D R T : Type 0} (h : History D) (remaining : R → Option (
   -- however it ends.
   pub quiet : (s : Shop) → IsShop (h.image disk) s → AskNothing s (line_messages handled)
       → IsUnwritten h s disk (disk_of (λ d. d) result)
-  -- 952 sectors were written at most, and 3618 for each line, however it ends. They are few, since the count of a mirror,
-  -- and so of a file, is exact below 2^64 - 1 alone.
+  -- 952 sectors were written at most, and 3618 for each line, however it ends. They are few, since the count of a
+  -- mirror, and so of a file, is exact below 2^64 - 1 alone.
   pub writes : (s : Shop) → IsShop (h.image disk) s → AreFew (line_messages handled)
       → IsBounded h (line_messages handled) disk (disk_of (λ d. d) result)
   -- On a shop whose device doesn't fail it answers Ok, unless the input or the output fails.
