@@ -1,5 +1,9 @@
+pub mod Counted
+pub mod CountedDrawing
 pub mod Drawn
+pub mod DrawnNumbers
 pub mod DrawnOnce
+pub mod HowManyDrawn
 pub mod Marks
 pub mod Markups
 pub mod Opening

@@ -1,5 +1,5 @@
 -- In a layout each sector has one owner, and is drawn as that owner's.
-use Rattle.std.proofs.Common.{◌≡◌, ◌+◌, ℕ, zero, suc, Bool, true, false, List, [], ◌∷◌, refl, subst, sym, ap, ◌∙◌}
+use Rattle.std.proofs.Common.{◌≡◌, ◌≢◌, ◌+◌, ℕ, zero, suc, Bool, true, false, List, [], ◌∷◌, refl, subst, sym, ap, ◌∙◌}
 use Rattle.std.proofs.Common.{arith}
 use Rattle.std.specs.Prelude.{Contains, Some, flat_map, slice_get}
 use Rattle.std.proofs.lemmas.List.Elements.{Contains-append_left, Contains-append_right}
@@ -138,6 +138,13 @@ module _ (l : Layout) (p : Place) (once : EachOnce (map_place ∷ owners l)) whe
       (Contains-append_left l.directory (flat_map file_owns l.files) p d)))
       ∙ entry-none 0 l.files p (λ d. out (Contains-there p map_place (owners l)
       (Contains-append_right l.directory (flat_map file_owns l.files) p d)))
+
+pub as-map : (l : Layout) (p : Place) → p ≡ map_place → owner_of l p ≡ owner.Map
+unfolding owner_of
+as-map l p e = let found = there-has (map_place ∷ []) p (0, omega arith, sym e) in rw found refl
+
+pub as-directory : (l : Layout) (p : Place) → p ≢ map_place → Contains l.directory p → owner_of l p ≡ owner.Directory
+as-directory l p not_map c = in-directory l p (λ d. not_map (sym (is-map p d))) c
 
 -- so is what is drawn
 pub owner-own : (img : Image) (l d : Layout) → IsLayout img l → IsDrawn img d → (p : Place) (o : Owner)

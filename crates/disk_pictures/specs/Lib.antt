@@ -8,4 +8,5 @@ pub mod Names
 pub mod Outcomes
 pub mod Owners
 pub mod Pictures
+pub mod Sectors
 pub mod Texts

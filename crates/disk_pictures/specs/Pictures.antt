@@ -1,7 +1,7 @@
 -- The picture of a disk: an HTML page with an SVG drawing. All of it is our own. Bytes of the disk stand in it as
 -- `show` shows them, and in no other way; the page that is printed shows them by `html_of`.
-use Rattle.std.specs.Prelude.{ℕ, ◌+◌, ◌*◌, ◌-◌, ◌/◌, ◌%◌, ◌&&◌, Bool, true, false, not, List, [], ◌++◌, Option, Some, None}
-use Rattle.std.specs.Prelude.{if◌then◌else◌, codes, decimal, flat_map, length, nat_eq, slice_range}
+use Rattle.std.specs.Prelude.{ℕ, ◌+◌, ◌*◌, ◌-◌, ◌/◌, ◌%◌, ◌&&◌, Bool, true, false, not, List, [], ◌++◌}
+use Rattle.std.specs.Prelude.{Option, Some, None, if◌then◌else◌, codes, decimal, flat_map, length, nat_eq, slice_range}
 use Rattle.d64_image.specs.Geometry.{sectors_on}
 use Rattle.d64_image.specs.Images.{Sector}
 use Rattle.d64_image.specs.Places.{place_at}

@@ -1,6 +1,7 @@
 //! Laws of maps and pages, each the contract of a function that does nothing.
 ghost use Rattle.std.specs.Prelude.{◌≡◌, ◌≤◌, ◌∷◌, [], ℕ, List, Option, length};
 ghost use Rattle.d64_image.specs.Images.{Image, Sector};
+ghost use Rattle.d64_image.specs.Places.{index_of};
 ghost use Rattle.d64_image.specs.declared.place.Place.{Place};
 ghost use Rattle.disk_layout.specs.Chain.{EachOnce};
 ghost use Rattle.disk_layout.specs.Directory.{map_place};
@@ -9,7 +10,8 @@ ghost use Rattle.disk_layout.specs.declared.faults.Fault.{Fault};
 ghost use Rattle.disk_pictures.specs.Drawings.{IsDrawn, IsDrawnOnce, IsOwnedBy, owner_of};
 ghost use Rattle.disk_pictures.specs.Html.{html_of};
 ghost use Rattle.disk_pictures.specs.Markup.{IsEscaped, markup_of};
-ghost use Rattle.disk_pictures.specs.Pictures.{page_text, picture_page};
+ghost use Rattle.disk_pictures.specs.Pictures.{Show, drawing_text, page_text, picture_page};
+ghost use Rattle.disk_pictures.specs.Sectors.{as_printed, by_number, drawing_by, times};
 ghost use Rattle.disk_pictures.specs.declared.owners.Owner.{Owner};
 
 /// Bytes of a disk have no quotation mark, no `<` and no `>` where they are shown in a page, and each `&` of theirs
@@ -28,6 +30,18 @@ pub fn names_bring_no_markup()
 /// in none of these.
 pub fn sectors_are_drawn_once()
     ensures { (img : Image) (l : Layout) → IsDrawn img l → (p : Place) → IsDrawnOnce l p (owner_of l p) }
+{}
+
+/// The drawing of a page, of whatever image, has 683 sectors, each once: written with the number of its sector in place of
+/// each arc, and with nothing of all else, it has 683 numbers, and that of each sector once. With each arc and all else
+/// as they are it is the drawing that is printed.
+pub fn pages_have_683_sectors()
+    ensures printed { (show : Show) (v : Option Fault) (map : Sector) (l : Layout)
+        → drawing_by as_printed show v map l ≡ drawing_text show v map l }
+    ensures all { (img : Image) (l : Layout) → IsDrawn img l → (show : Show) (v : Option Fault) (map : Sector)
+        → length (drawing_by by_number show v map l) ≡ 683 }
+    ensures once { (img : Image) (l : Layout) → IsDrawn img l → (show : Show) (v : Option Fault) (map : Sector)
+        (p : Place) → times (index_of p) (drawing_by by_number show v map l) ≡ 1 }
 {}
 
 /// What is drawn of an image with a layout is that layout and nothing else: the directory's sectors, and of each entry

@@ -22,6 +22,9 @@ mod verdicts;
 mod white_lines;
 
 pub use faults::PictureFault;
-pub use laws::{names_bring_no_markup, sectors_are_drawn_once, sound_disks_are_drawn_as_laid_out};
+pub use laws::{
+    names_bring_no_markup, pages_have_683_sectors, sectors_are_drawn_once,
+    sound_disks_are_drawn_as_laid_out,
+};
 pub use map_printing::map_image;
 pub use picture_printing::picture_image;
