@@ -150,8 +150,8 @@ def side_table():
 def unknown_examples(side):
     """What is named as an example, and is no word of a proof or a test, and no name of a file or crate."""
     known = set(CRATES)
-    for file in TOP.glob("crates/*/*/*"):
-        if file.suffix in (".antt", ".rt") and file.parent.name in ("proofs", "src"):
+    for form in ("src/**/*.rt", "proofs/*.antt", "proofs/lemmas/**/*.antt"):
+        for file in TOP.glob(f"crates/*/{form}"):
             known |= {file.stem, f"proofs/{file.stem}"} | set(re.findall(WORD, file.read_text()))
     named = [(it, word) for it, text in side.items() if it[2] == ":" for word in re.findall(r"`([a-z][\w'/-]*)`", text)]
     return [f"no such example: {it[0]}/{it[1]}: {word}" for it, word in named if word not in known]
@@ -165,7 +165,7 @@ def rested_on():
     wanted = {}
     for crate in CRATES:
         names = public_names(crate)
-        for file in sorted((TOP / "crates" / crate / "src").glob("*.rt")):
+        for file in sorted((TOP / "crates" / crate / "src").rglob("*.rt")):
             if not file.stem.endswith("tests"):
                 text = without_comments(file.read_text(), "//")
                 for it in cited(contracts(text, names), imports(text, "ghost use")):
@@ -231,7 +231,7 @@ def page():
                     (rows if row[2] else names).append(row[1])
             source = heading_sources(heading).replace("1541 User's Guide", "the Guide").replace("the the", "the")
             beside = f": {', '.join(names)}" if names else ""
-            lines += [f"\n**`{module}`**{source.rstrip('.')}{beside}"] if names or rows else []
+            lines += [f"\n**`{module.replace('.', '/')}`**{source.rstrip('.')}{beside}"] if names or rows else []
             lines += ["", *[f"- {row}" for row in rows]] if rows else []
     faults += unknown_examples(side)
     faults += [f"no public contract rests on it: {crate}/{name}" for crate, name, mark in sorted(set(side) - used)]

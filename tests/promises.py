@@ -37,7 +37,7 @@ def record_fields():
 def contract_words(fields):
     """For each function and each type the words of its contracts, with the fields of the records that these cite."""
     found = {}
-    for file in TOP.glob("crates/*/src/*.rt"):
+    for file in TOP.glob("crates/*/src/**/*.rt"):
         owners, name = [], None
         for line in file.read_text().split("\n"):
             if re.match(r"\S", line):

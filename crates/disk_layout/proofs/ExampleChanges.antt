@@ -1,65 +1,19 @@
 -- What repair, creation, growth and a request leave, on a disk with one small relative file.
-use Rattle.std.proofs.Common.{
-  List,
-  [],
-  ap,
-  arith,
-  drop,
-  inl,
-  inr,
-  lit<,
-  lit≤,
-  refl,
-  replicate,
-  set,
-  sym,
-  take,
-  true,
-  ℕ,
-  zero,
-  suc,
-  ◌*◌,
-  ◌+◌,
-  ◌++◌,
-  ◌<◌,
-  ◌≤◌,
-  ◌∙◌,
-  ◌∷◌,
-  ◌≡◌,
-  ◌≢◌,
-  ◌⊎◌,
-  Bool,
-}
+use Rattle.std.proofs.Common.{List, [], ap, arith, drop, inl, inr, lit<, lit≤, refl, replicate, set, sym, take, true, ℕ}
+use Rattle.std.proofs.Common.{zero, suc, ◌*◌, ◌+◌, ◌++◌, ◌<◌, ◌≤◌, ◌∙◌, ◌∷◌, ◌≡◌, ◌≢◌, ◌⊎◌, Bool}
 use Rattle.std.proofs.lemmas.Bool.{agree_below, agree_below_at, cases_eq, eqb-true, lt-ltb}
 use Rattle.std.proofs.lemmas.List.{get_or-set_other}
 use Rattle.std.specs.Prelude.{nat_eq, nat_lt, slice_index}
 use Rattle.d64_image.proofs.Places.{same_or_other}
 use Rattle.d64_image.specs.Images.{Image, Sector, sector}
-use Rattle.disk_layout.proofs.ExampleDisk.{
-  IsStockSide,
-  at_block,
-  at_entry,
-  at_map,
-  at_other,
-  disk,
-  entry_bytes,
-  entry_slot,
-  exact_side,
-  lower_sector,
-  lower_track,
-  not-in,
-  stock-is_layout,
-  stock-records-1,
-  stock-records-2,
-  stock_disk,
-  stock_file,
-  stock_layout,
-  two_records,
-}
+use Rattle.disk_layout.proofs.ExampleDisk.{IsStockSide, at_block, at_entry, at_map, at_other, disk, entry_bytes}
+use Rattle.disk_layout.proofs.ExampleDisk.{entry_slot, exact_side, lower_sector, lower_track, not-in, stock-is_layout}
+use Rattle.disk_layout.proofs.ExampleDisk.{stock-records-1, stock-records-2, stock_disk, stock_file, stock_layout}
+use Rattle.disk_layout.proofs.ExampleDisk.{two_records}
 use Rattle.disk_layout.proofs.ExampleFaults.{changed_side}
 use Rattle.disk_layout.proofs.ExampleMap.{map_bytes}
 use Rattle.disk_layout.proofs.Examples.{block_0, block_1, top-alone, zero_sector}
-use Rattle.disk_layout.proofs.Once.{Contains-cases, Contains-here, Contains-nil}
+use Rattle.disk_layout.proofs.lemmas.lists.Once.{Contains-cases, Contains-here, Contains-nil}
 use Rattle.disk_layout.specs.Directory.{directory_start, map_place}
 use Rattle.disk_layout.specs.Entries.{IsRecounted, IsRecountedAll, SameEntries}
 use Rattle.disk_layout.specs.Growth.{HasGrown, IsGrowing}

@@ -1,39 +1,15 @@
 -- A disk with one small relative file, STOCK: its entry in 18/1, its block in 17/0, its side sector in 17/1, the map in
 -- 18/0.
 -- The four sectors are arguments, so that each example changes what it is about.
-use Rattle.std.proofs.Common.{
-  List,
-  [],
-  ap,
-  arith,
-  inl,
-  inr,
-  length,
-  lit<,
-  lit≤,
-  refl,
-  replicate,
-  subst,
-  sym,
-  ℕ,
-  zero,
-  suc,
-  ◌*◌,
-  ◌+◌,
-  ◌++◌,
-  ◌<◌,
-  ◌∙◌,
-  ◌∷◌,
-  ◌≡◌,
-  ◌≢◌,
-}
+use Rattle.std.proofs.Common.{List, [], ap, arith, inl, inr, length, lit<, lit≤, refl, replicate, subst, sym, ℕ, zero}
+use Rattle.std.proofs.Common.{suc, ◌*◌, ◌+◌, ◌++◌, ◌<◌, ◌∙◌, ◌∷◌, ◌≡◌, ◌≢◌}
 use Rattle.std.proofs.lemmas.Bool.{false≢true, true≢false}
 use Rattle.std.specs.Prelude.{Contains, Some, slice_get, slice_index}
 use Rattle.d64_image.proofs.Images.{length-put, sector-put_other, sector-put_same}
 use Rattle.d64_image.specs.Images.{Image, Sector, put, sector}
 use Rattle.d64_image.specs.declared.place.Place.{Place}
 use Rattle.disk_layout.proofs.Examples.{block_0, block_1, zero-long, zero_image}
-use Rattle.disk_layout.proofs.Once.{Contains-cases, Contains-nil}
+use Rattle.disk_layout.proofs.lemmas.lists.Once.{Contains-cases, Contains-nil}
 use Rattle.disk_layout.specs.Chain.{EachOnce, IsChain, Names}
 use Rattle.disk_layout.specs.Directory.{directory_start, map_place, slot_in, slots_in, used_slots}
 use Rattle.disk_layout.specs.Layout.{File, IsFile, IsLayout, IsPlainFile, IsRelFile, IsSide, IsSound, Layout, owners}

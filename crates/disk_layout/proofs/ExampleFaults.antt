@@ -5,30 +5,15 @@ use Rattle.d64_image.specs.History.{Failed, History}
 use Rattle.d64_image.proofs.Places.{place_at-none}
 use Rattle.d64_image.specs.Images.{Image, Sector}
 use Rattle.d64_image.specs.declared.place.Place.{Place}
-use Rattle.disk_layout.proofs.ExampleDisk.{
-  IsStockSide,
-  at_entry,
-  at_map,
-  at_side,
-  disk,
-  entry_bytes,
-  entry_slot,
-  exact-side_is,
-  exact_side,
-  lower_sector,
-  one-chain,
-  only,
-  stock-is_layout,
-  stock_disk,
-  stock_file,
-  stock_layout,
-}
+use Rattle.disk_layout.proofs.ExampleDisk.{IsStockSide, at_entry, at_map, at_side, disk, entry_bytes, entry_slot}
+use Rattle.disk_layout.proofs.ExampleDisk.{exact-side_is, exact_side, lower_sector, one-chain, only, stock-is_layout}
+use Rattle.disk_layout.proofs.ExampleDisk.{stock_disk, stock_file, stock_layout}
 use Rattle.disk_layout.proofs.ExampleMap.{block_0-free, count-18, map-is, map_bytes}
 use Rattle.disk_layout.proofs.Examples.{block_0, block_1, type_133}
-use Rattle.disk_layout.proofs.Names.{named-none}
-use Rattle.disk_layout.proofs.Once.{Contains-here, Contains-nil}
-use Rattle.disk_layout.proofs.Twice.{told-unsound}
-use Rattle.disk_layout.proofs.Unclean.{told-unclean}
+use Rattle.disk_layout.proofs.lemmas.chains.Names.{named-none}
+use Rattle.disk_layout.proofs.lemmas.layouts.Twice.{told-unsound}
+use Rattle.disk_layout.proofs.lemmas.layouts.Unclean.{told-unclean}
+use Rattle.disk_layout.proofs.lemmas.lists.Once.{Contains-here, Contains-nil}
 use Rattle.disk_layout.specs.Clean.{IsClean}
 use Rattle.disk_layout.specs.Directory.{directory_start, map_place, slot_in, slots_in}
 use Rattle.disk_layout.specs.Fault.{Holds, HoldsOfClean, IsClosed, IsSlot, TellsFault, length_byte, nowhere}
@@ -36,18 +21,8 @@ use Rattle.disk_layout.specs.Fault.Owner.{blocks_of, sides_of}
 use Rattle.disk_layout.specs.Layout.{IsSound, owners}
 use Rattle.disk_layout.specs.Number.{number_of}
 use Rattle.disk_layout.specs.Side.{padded, side_sector}
-use Rattle.disk_layout.specs.declared.faults.Fault.TheVariants.{
-  BadLength,
-  BadLink,
-  BadSide,
-  BadType,
-  CountWrong,
-  Device,
-  Loop,
-  MapWrong,
-  OwnedTwice,
-  Unclosed,
-}
+use Rattle.disk_layout.specs.declared.faults.Fault.TheVariants.{BadLength, BadLink, BadSide, BadType, CountWrong}
+use Rattle.disk_layout.specs.declared.faults.Fault.TheVariants.{Device, Loop, MapWrong, OwnedTwice, Unclosed}
 
 -- with exact side sector, count and map the disk is clean
 pub stock-is_clean : (rest : Sector) → IsClean (stock_disk 37 2 rest exact_side (map_bytes 19 252))

@@ -30,9 +30,9 @@ use Rattle.d64_image.proofs.Places.{same_place, track_fits}
 use Rattle.d64_image.specs.Geometry.{sectors_on}
 use Rattle.d64_image.specs.Images.{Sector}
 use Rattle.d64_image.specs.declared.place.Place.{Place}
-use Rattle.disk_layout.proofs.Bits.{turned-taken}
 use Rattle.disk_layout.proofs.Examples.{block_0, block_1}
-use Rattle.disk_layout.proofs.Once.{Contains-cases, Contains-nil}
+use Rattle.disk_layout.proofs.lemmas.lists.Once.{Contains-cases, Contains-nil}
+use Rattle.disk_layout.proofs.lemmas.map.Bits.{turned-taken}
 use Rattle.disk_layout.specs.Directory.{directory_start, map_place}
 use Rattle.disk_layout.specs.Map.{IsMapOf, IsTaken, map_bit, map_count, numbers_below}
 

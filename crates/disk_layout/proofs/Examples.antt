@@ -1,27 +1,6 @@
 -- The definitions at work on small values: what each says is computed here, or shown in a few lines.
-use Rattle.std.proofs.Common.{
-  List,
-  [],
-  ap,
-  arith,
-  drop,
-  false,
-  inl,
-  inr,
-  length,
-  lit<,
-  refl,
-  replicate,
-  sym,
-  take,
-  true,
-  ℕ,
-  ◌++◌,
-  ◌∙◌,
-  ◌∷◌,
-  ◌≡◌,
-  ◌≢◌,
-}
+use Rattle.std.proofs.Common.{List, [], ap, arith, drop, false, inl, inr, length, lit<, refl, replicate, sym, take}
+use Rattle.std.proofs.Common.{true, ℕ, ◌++◌, ◌∙◌, ◌∷◌, ◌≡◌, ◌≢◌}
 use Rattle.std.proofs.lemmas.List.{get_or-replicate, length-replicate}
 use Rattle.std.specs.Prelude.{Contains, Some, filter, slice_range}
 use Rattle.d64_image.proofs.Images.{length-put, sector-put_other, sector-put_same}
@@ -29,25 +8,16 @@ use Rattle.d64_image.proofs.Places.{index_below, place_at-none}
 use Rattle.d64_image.specs.Images.{Image, put, sector}
 use Rattle.d64_image.specs.Places.{index_of}
 use Rattle.d64_image.specs.declared.place.Place.{Place}
-use Rattle.disk_layout.proofs.Names.{named-is, named-none}
-use Rattle.disk_layout.proofs.Once.{Contains-cases, Contains-here, Contains-nil}
-use Rattle.disk_layout.proofs.Twice.{told-unsound}
+use Rattle.disk_layout.proofs.lemmas.chains.Names.{named-is, named-none}
+use Rattle.disk_layout.proofs.lemmas.layouts.Twice.{told-unsound}
+use Rattle.disk_layout.proofs.lemmas.lists.Once.{Contains-cases, Contains-here, Contains-nil}
 use Rattle.disk_layout.specs.BlankLayout.{blank_top}
 use Rattle.disk_layout.specs.Chain.{IsChain, Names, NamesNone, byte, named_at}
 use Rattle.disk_layout.specs.Directory.{directory_start, is_used, map_place, slot_in, slots_in, used_slots}
 use Rattle.disk_layout.specs.Entries.{uncounted}
 use Rattle.disk_layout.specs.Fault.{Holds, HoldsOfChain, nowhere}
-use Rattle.disk_layout.specs.Layout.{
-  File,
-  IsClosedType,
-  IsSound,
-  count_field,
-  is_rel,
-  is_rel_type,
-  owners,
-  record_length,
-  sides_for,
-}
+use Rattle.disk_layout.specs.Layout.{File, IsClosedType, IsSound, count_field, is_rel, is_rel_type, owners}
+use Rattle.disk_layout.specs.Layout.{record_length, sides_for}
 use Rattle.disk_layout.specs.Records.{empty_record, filler, pieces, record_count}
 use Rattle.disk_layout.specs.Rest.{IsTop, others, slot_name, taken_by_others}
 use Rattle.disk_layout.specs.Side.{padded, side_sector}

@@ -6,7 +6,7 @@ use Rattle.d64_image.proofs.Places.{other_index, place_at-self, place_at-some, s
 use Rattle.d64_image.proofs.Places.{sector_small, track_from_1, track_fits}
 use Rattle.d64_image.specs.Places.{index_of, place_at}
 use Rattle.d64_image.specs.declared.place.Place.{Place}
-use Rattle.disk_layout.proofs.Once.{Contains-cases, Contains-here, Contains-nil, Contains-there}
+use Rattle.disk_layout.proofs.lemmas.lists.Once.{Contains-cases, Contains-here, Contains-nil, Contains-there}
 use Rattle.disk_layout.specs.Chain.{EachOnce}
 use Rattle.disk_pictures.proofs.Counted.{below-none}
 use Rattle.disk_pictures.proofs.Counted.{below-one, hit-other, hit-same, times-append, times-cons, times-nil}

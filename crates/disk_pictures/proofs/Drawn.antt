@@ -5,11 +5,11 @@ use Rattle.std.specs.Prelude.{MatchOption}
 use Rattle.std.proofs.lemmas.List.{take_min}
 use Rattle.d64_image.specs.Images.{Image, Sector}
 use Rattle.d64_image.specs.declared.place.Place.{Place}
-use Rattle.disk_layout.proofs.Names.{named-names, named-none}
+use Rattle.disk_layout.proofs.lemmas.chains.Names.{named-names, named-none}
 use Rattle.disk_layout.specs.AsFar.{IsWalk}
 use Rattle.disk_layout.specs.Chain.{named_at}
 use Rattle.disk_layout.specs.Layout.{sides_for}
-use Rattle.disk_layout.proofs.AsFar.{walk-of_chain}
+use Rattle.disk_layout.proofs.lemmas.chains.AsFar.{walk-of_chain}
 use Rattle.disk_layout.specs.Directory.{IsDirectory, directory_start}
 use Rattle.disk_layout.specs.Layout.{File}
 use Rattle.disk_layout.specs.declared.slot.Slot.{Slot}

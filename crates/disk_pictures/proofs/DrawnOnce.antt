@@ -10,7 +10,7 @@ use Rattle.std.proofs.lemmas.Map.Views.{Contains-from_any}
 use Rattle.d64_image.proofs.Places.{same_place}
 use Rattle.d64_image.specs.Images.{Image}
 use Rattle.d64_image.specs.declared.place.Place.{Place}
-use Rattle.disk_layout.proofs.Once.{Contains-cases, Contains-nil, EachOnce-left}
+use Rattle.disk_layout.proofs.lemmas.lists.Once.{Contains-cases, Contains-nil, EachOnce-left}
 use Rattle.disk_layout.specs.Chain.{EachOnce}
 use Rattle.disk_layout.specs.Directory.{map_place, type_byte}
 use Rattle.disk_layout.specs.Layout.{File, Layout, is_rel}

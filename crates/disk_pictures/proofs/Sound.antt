@@ -7,10 +7,10 @@ use Rattle.std.proofs.lemmas.Bool.{cases_eq}
 use Rattle.d64_image.proofs.Places.{track_from_1}
 use Rattle.d64_image.specs.Images.{Image}
 use Rattle.d64_image.specs.declared.place.Place.{Place}
-use Rattle.disk_layout.proofs.AsFar.{walk-of_chain}
-use Rattle.disk_layout.proofs.Chains.{Names-one}
-use Rattle.disk_layout.proofs.Layouts.{IsDirectory-one}
-use Rattle.disk_layout.proofs.Once.{EachOnce-left, EachOnce-right}
+use Rattle.disk_layout.proofs.lemmas.chains.AsFar.{walk-of_chain}
+use Rattle.disk_layout.proofs.lemmas.chains.Chains.{Names-one}
+use Rattle.disk_layout.proofs.lemmas.layouts.Layouts.{IsDirectory-one}
+use Rattle.disk_layout.proofs.lemmas.lists.Once.{EachOnce-left, EachOnce-right}
 use Rattle.disk_layout.specs.AsFar.{IsWalk}
 use Rattle.disk_layout.specs.Chain.{EachOnce}
 use Rattle.disk_layout.specs.Directory.{map_place, type_byte}

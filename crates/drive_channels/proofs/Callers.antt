@@ -4,8 +4,8 @@ use Rattle.d64_image.specs.Images.{Image}
 use Rattle.disk_layout.specs.Layout.{File, Layout, record_length}
 use Rattle.drive_channels.specs.Moments.{IsOnTheWay, is_nil}
 use Rattle.drive_channels.specs.State.{Channel}
-use Rattle.rel_records.specs.Growth.{added, records_had}
 use Rattle.rel_records.specs.Written.{IsWriting}
+use Rattle.rel_records.specs.growth.Growth.{added, records_had}
 
 pub some-text : (text : List ℕ) → 1 ≤ length text → is_nil text ≡ false
 some-text [] some = absurd (omega (arith, some))

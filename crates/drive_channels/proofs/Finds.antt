@@ -34,7 +34,7 @@ use Rattle.std.proofs.Common.{
 use Rattle.std.proofs.lemmas.Option.{none-some, same_Some}
 use Rattle.std.specs.List.{AllByRecursion}
 use Rattle.d64_image.specs.Images.{Image}
-use Rattle.disk_layout.proofs.Layouts.{IsLayout-one}
+use Rattle.disk_layout.proofs.lemmas.layouts.Layouts.{IsLayout-one}
 use Rattle.disk_layout.specs.Layout.{File, Layout}
 use Rattle.disk_layout.specs.Rest.{IsFirst}
 use Rattle.rel_records.specs.File.{IsFileOf, entry_of}

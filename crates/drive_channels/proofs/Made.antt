@@ -25,13 +25,13 @@ use Rattle.std.proofs.Common.{
 }
 use Rattle.std.proofs.lemmas.Option.{slice_get-map}
 use Rattle.d64_image.specs.Images.{Image}
-use Rattle.disk_layout.proofs.Kept.{kept-of_stays}
-use Rattle.disk_layout.proofs.Layouts.{get-contains}
-use Rattle.disk_layout.proofs.Once.{map-in}
+use Rattle.disk_layout.proofs.lemmas.kept.Kept.{kept-of_stays}
+use Rattle.disk_layout.proofs.lemmas.layouts.Layouts.{get-contains}
+use Rattle.disk_layout.proofs.lemmas.lists.Once.{map-in}
 use Rattle.disk_layout.specs.Layout.{File, Layout}
 use Rattle.disk_layout.specs.Rest.{IsFirst, IsNamed, Kept, slot_name}
 use Rattle.disk_layout.specs.Same.{AddsFile, Stays, stays_of}
-use Rattle.rel_records.specs.Made.{IsTakenName}
+use Rattle.rel_records.specs.creation.Made.{IsTakenName}
 
 -- what isn't at this place of a list is in the list without it
 elsewhere : {X : Type 0} (before after : List X) (x : X) (k : ℕ) (y : X) → k ≢ length before

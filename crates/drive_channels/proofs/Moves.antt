@@ -28,7 +28,7 @@ use Rattle.std.specs.Option.{is_some}
 use Rattle.std.specs.Prelude.{MatchOption}
 use Rattle.d64_image.specs.Images.{Image}
 use Rattle.rel_records.specs.File.{entry_of, length_of, records_in}
-use Rattle.rel_records.specs.Growth.{blocks_for}
+use Rattle.rel_records.specs.growth.Growth.{blocks_for}
 use Rattle.drive_channels.proofs.Rows.{in-file}
 use Rattle.drive_channels.proofs.Writes.{had-is}
 use Rattle.drive_channels.specs.Inside.{IsFound, at_spot, channel_at, channel_of, shown}

@@ -9,7 +9,7 @@ use Rattle.d64_image.specs.History.{Changes, Failed, History, OnlyReads, TellsFa
 use Rattle.d64_image.specs.Images.{Image}
 use Rattle.disk_layout.specs.Clean.{IsClean}
 use Rattle.disk_layout.specs.Layout.{IsLayout, Layout}
-use Rattle.rel_records.specs.Made.{IsCreating, creation_writes}
+use Rattle.rel_records.specs.creation.Made.{IsCreating, creation_writes}
 use Rattle.drive_channels.specs.Files.{HasFile}
 use Rattle.drive_channels.proofs.Steady.{found-last}
 use Rattle.drive_channels.proofs.Wishes.{wish-one}

@@ -25,12 +25,12 @@ use Rattle.std.proofs.Common.{
 }
 use Rattle.std.proofs.lemmas.Option.{none-some, same_Some}
 use Rattle.d64_image.specs.Images.{Image}
-use Rattle.disk_layout.proofs.Layouts.{IsLayout-one}
-use Rattle.disk_layout.proofs.Uniques.{IsFirst-one}
+use Rattle.disk_layout.proofs.lemmas.layouts.Layouts.{IsLayout-one}
+use Rattle.disk_layout.proofs.lemmas.layouts.Uniques.{IsFirst-one}
 use Rattle.disk_layout.specs.Layout.{File, IsLayout, Layout, record_length}
 use Rattle.disk_layout.specs.Rest.{IsFirst}
 use Rattle.rel_records.specs.File.{entry_of, length_of}
-use Rattle.rel_records.specs.Made.{IsMade, IsTakenName}
+use Rattle.rel_records.specs.creation.Made.{IsMade, IsTakenName}
 use Rattle.rel_records.specs.declared.rel_file.RelFile.{RelFile}
 use Rattle.drive_channels.proofs.Finds.{found-file, found-named, found-new}
 use Rattle.drive_channels.proofs.Made.{first-made}

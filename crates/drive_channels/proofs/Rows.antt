@@ -23,14 +23,14 @@ use Rattle.std.proofs.Common.{
 }
 use Rattle.std.proofs.lemmas.Option.{same_Some, slice_get_within}
 use Rattle.d64_image.specs.Images.{Image}
-use Rattle.disk_layout.proofs.Layouts.{IsLayout-one}
+use Rattle.disk_layout.proofs.lemmas.layouts.Layouts.{IsLayout-one}
 use Rattle.disk_layout.specs.Layout.{File, Layout}
 use Rattle.disk_layout.specs.Records.{records}
 use Rattle.rel_records.specs.File.{IsFileOf, Shows, entry_of}
 use Rattle.rel_records.specs.Written.{IsAbsent, IsRecord}
 use Rattle.drive_channels.proofs.Lengths.{count-is}
 use Rattle.drive_channels.specs.Files.{IsRelAt}
-use Rattle.rel_records.specs.Growth.{records_had}
+use Rattle.rel_records.specs.growth.Growth.{records_had}
 use Rattle.drive_channels.specs.Given.{IsGiven}
 use Rattle.drive_channels.specs.Inside.{IsFound, at_spot, channel_of, next_spot, shown}
 use Rattle.drive_channels.specs.State.{Channel, View}

@@ -5,14 +5,14 @@ use Rattle.std.proofs.lemmas.Grind.{common_steps}
 use Rattle.d64_image.proofs.Moments.{changes_weaker}
 use Rattle.d64_image.specs.History.{Changes, History}
 use Rattle.d64_image.specs.Images.{Image}
-use Rattle.disk_layout.proofs.Layouts.{IsLayout-one}
+use Rattle.disk_layout.proofs.lemmas.layouts.Layouts.{IsLayout-one}
 use Rattle.disk_layout.specs.Clean.{IsClean}
 use Rattle.disk_layout.specs.Layout.{File, Layout, record_length}
 use Rattle.rel_records.specs.File.{IsFileOf, Shows, entry_of, length_of, records_in}
-use Rattle.rel_records.specs.Growth.{IsFull, IsTooLarge, added, growth_writes, records_had}
 use Rattle.rel_records.specs.Others.{HasRecords, LeavesRecords}
 use Rattle.rel_records.specs.Written.{IsGrowingTo, IsInOneBlock, IsWriting, grown_to, touched, with_written}
 use Rattle.rel_records.specs.declared.rel_file.RelFile.{RelFile}
+use Rattle.rel_records.specs.growth.Growth.{IsFull, IsTooLarge, added, growth_writes, records_had}
 use Rattle.drive_channels.proofs.Kept.{other-found, own-found}
 use Rattle.drive_channels.proofs.Rows.{in-file}
 use Rattle.drive_channels.specs.Inside.{IsFound, IsSpot, KeepsFound, at_spot, channel_in, next_spot}

@@ -17,7 +17,7 @@ use Rattle.drive_channels.specs.declared.status.Status.{Status}
 use Rattle.drive_channels.specs.declared.status.Status.TheVariants as statuses
 use Rattle.layout_check.specs.Repaired.{MendsFrom}
 use Rattle.rel_records.specs.File.{entry_of}
-use Rattle.rel_records.specs.Made.{IsCreating, creation_writes}
+use Rattle.rel_records.specs.creation.Made.{IsCreating, creation_writes}
 
 -- A number that the channel of a file can have.
 pub record IsChannelNumber (channel : ℕ) : Type 0 where

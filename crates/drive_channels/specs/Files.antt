@@ -3,7 +3,7 @@ use Rattle.std.specs.Prelude.{ℕ, ◌≡◌, ◌≢◌, IsTrue, List, None, Opt
 use Rattle.d64_image.specs.Images.{Image}
 use Rattle.disk_layout.specs.Layout.{File, IsLayout, Layout, is_rel, record_length}
 use Rattle.disk_layout.specs.Rest.{IsFirst}
-use Rattle.rel_records.specs.Made.{HasFileMore, HasNoRoom, IsTakenName}
+use Rattle.rel_records.specs.creation.Made.{HasFileMore, HasNoRoom, IsTakenName}
 
 -- l is the image's layout, and f its relative file with this entry
 pub record IsRelAt (img : Image) (l : Layout) (entry : ℕ) (f : File) : Type 0 where

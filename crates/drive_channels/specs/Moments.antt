@@ -23,9 +23,9 @@ use Rattle.d64_image.specs.History.{Changes, History, OnlyReads}
 use Rattle.d64_image.specs.Images.{Image}
 use Rattle.disk_layout.specs.Clean.{IsClean}
 use Rattle.disk_layout.specs.Layout.{File, IsLayout, Layout, record_length}
-use Rattle.rel_records.specs.Growth.{added, growth_writes, records_had}
-use Rattle.rel_records.specs.Made.{IsCreating, creation_writes}
 use Rattle.rel_records.specs.Written.{IsGrowingTo, IsInOneBlock, IsWriting, touched}
+use Rattle.rel_records.specs.creation.Made.{IsCreating, creation_writes}
+use Rattle.rel_records.specs.growth.Growth.{added, growth_writes, records_had}
 use Rattle.drive_channels.specs.Files.{HasFile, IsRelAt}
 use Rattle.drive_channels.specs.Spelling.{IsWish, Wish}
 use Rattle.drive_channels.specs.State.{Channel}

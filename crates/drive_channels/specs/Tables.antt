@@ -28,9 +28,9 @@ use Rattle.disk_layout.specs.Layout.{File, IsSound, Layout, record_length}
 use Rattle.disk_layout.specs.Records.{records}
 use Rattle.layout_check.specs.Repaired.{IsRepaired}
 use Rattle.layout_check.specs.declared.outcome.Survey.{Survey}
-use Rattle.rel_records.specs.Growth.{IsFull, IsTooLarge, blocks_for, records_had}
 use Rattle.rel_records.specs.Others.{HasRecords}
 use Rattle.rel_records.specs.Written.{IsRecord, grown_to, with_written}
+use Rattle.rel_records.specs.growth.Growth.{IsFull, IsTooLarge, blocks_for, records_had}
 use Rattle.drive_channels.specs.Files.{HasEntry, HasFile, HasOther, IsNamedFile, IsNoRoom, IsRelAt, Makes}
 use Rattle.drive_channels.specs.Given.{IsGiven}
 use Rattle.drive_channels.specs.Spelling.{

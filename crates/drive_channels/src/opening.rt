@@ -13,7 +13,7 @@ ghost use Rattle.drive_channels.specs.Spelling.{IsName, IsWish, Wish};
 ghost use Rattle.drive_channels.specs.State.{view_of};
 ghost use Rattle.drive_channels.specs.Tables.{Opens, OpensFile};
 ghost use Rattle.drive_channels.specs.Wishes.{wish_of};
-ghost use Rattle.rel_records.specs.Made.{creation_writes};
+ghost use Rattle.rel_records.specs.creation.Made.{creation_writes};
 ghost use Rattle.drive_channels.specs.Inside.{HasLooked, IsFound, IsKnown, channel_of, found_in, shown};
 ghost use Rattle.drive_channels.specs.declared.status.Status as statuses;
 

@@ -10,8 +10,8 @@ ghost use Rattle.drive_channels.specs.Serving.{Serves};
 ghost use Rattle.drive_channels.specs.State.{Channel, view_of};
 ghost use Rattle.drive_channels.specs.Tables.{HasOn, IsOn, Writes};
 ghost use Rattle.drive_channels.specs.declared.status.Status.TheVariants.{FileTooLarge};
-ghost use Rattle.rel_records.specs.Growth.{records_had};
 ghost use Rattle.rel_records.specs.Written.{IsInOneBlock};
+ghost use Rattle.rel_records.specs.growth.Growth.{records_had};
 
 use crate::drive::Drive;
 use crate::faults::Dead;

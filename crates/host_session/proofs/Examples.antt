@@ -10,9 +10,9 @@ use Rattle.request_cards.specs.CardReading.{request_card_of, stock_card_of}
 use Rattle.request_cards.specs.CardTexts.{fixed}
 use Rattle.request_cards.specs.Ledgers.{Entry}
 use Rattle.request_cards.specs.Reading.{kind_of}
-use Rattle.host_session.specs.Blank.{blank_shop}
-use Rattle.host_session.specs.Opening.{LacksRecord}
-use Rattle.host_session.specs.Shop.{IsStockRecord, any_old, cards_in, intents, quantities, results, state_of}
+use Rattle.host_session.specs.session.Opening.{LacksRecord}
+use Rattle.host_session.specs.shop.Blank.{blank_shop}
+use Rattle.host_session.specs.shop.Shop.{IsStockRecord, any_old, cards_in, intents, quantities, results, state_of}
 
 -- 18 bytes that are no card: a card of which only a part was written
 abbrev pub torn : List ℕ

@@ -6,8 +6,8 @@ use Rattle.request_cards.specs.declared.kind.Kind.TheVariants.{Receive, Issue, S
 use Rattle.request_cards.specs.Requests.{Ask}
 use Rattle.request_cards.specs.Reading.{number_in, number_before, kind_of, kind_before, amounts, request_of}
 use Rattle.request_cards.specs.Ledgers.{Start, nothing, plain, report}
-use Rattle.host_session.specs.Counted.{IsCounted, answers}
-use Rattle.host_session.specs.Events.{messages_of}
+use Rattle.host_session.specs.events.Counted.{IsCounted, answers}
+use Rattle.host_session.specs.events.Events.{messages_of}
 use Rattle.script_lines.specs.Lines.{lines}
 use Rattle.script_lines.specs.Resets.{reset_of}
 

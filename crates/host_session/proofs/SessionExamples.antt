@@ -20,12 +20,12 @@ use Rattle.request_cards.specs.CardTexts.{Card}
 use Rattle.request_cards.specs.Ledgers.{Entry, State, nothing, reply_in}
 use Rattle.request_cards.specs.Reading.{amounts, kind_before, kind_of, number_before, number_in, request_of}
 use Rattle.request_cards.specs.Requests.{Ask, Body}
-use Rattle.host_session.specs.Answering.{after_ask}
-use Rattle.host_session.specs.Handling.{IsMedia, MayGrow, after_of, card_writes, is_first_set, is_next_request}
-use Rattle.host_session.specs.Handling.{kept_writes, media, most_writes, told_of}
-use Rattle.host_session.specs.Selecting.{IsReady}
-use Rattle.host_session.specs.Shop.{IsShop, Shop, start_of}
-use Rattle.host_session.specs.Standing.{IsStanding, nth, padded_to, state_in}
+use Rattle.host_session.specs.session.Answering.{after_ask}
+use Rattle.host_session.specs.session.Handling.{IsMedia, MayGrow, after_of, card_writes, is_first_set, is_next_request}
+use Rattle.host_session.specs.session.Handling.{kept_writes, media, most_writes, told_of}
+use Rattle.host_session.specs.session.Standing.{IsStanding, nth, padded_to, state_in}
+use Rattle.host_session.specs.shop.Selecting.{IsReady}
+use Rattle.host_session.specs.shop.Shop.{IsShop, Shop, start_of}
 
 -- a shop of two tills in this state, with room up to item 9256
 abbrev pub two_tills : Rest → State → Shop

@@ -34,7 +34,7 @@ pub enum OpenFault {
 }
 
 impl OpenFault {
-    ghost use Rattle.host_session.specs.Opening.{number_of};
+    ghost use Rattle.host_session.specs.session.Opening.{number_of};
 
     /// The fault's number: 1 Layout, 2 NoStock, 3 NoRequests, 4 BadCard, 5 BadRequestCard, 6 TwoIntents, 7 Device.
     pub fn number(self) -> u8

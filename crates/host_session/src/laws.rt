@@ -2,12 +2,12 @@
 
 ghost use Rattle.std.specs.Prelude.{◌≡◌, ◌++◌, ℕ, List, length};
 ghost use Rattle.d64_image.specs.Images.{Image};
-ghost use Rattle.host_session.specs.Blank.{BlankIsAShop};
-ghost use Rattle.host_session.specs.Chains.{GrowsFrom, HasRun};
-ghost use Rattle.host_session.specs.Events.{Message};
-ghost use Rattle.host_session.specs.Opening.{Refuses};
-ghost use Rattle.host_session.specs.Shop.{IsShop, Shop, start_of};
 ghost use Rattle.host_session.specs.declared.faults.OpenFault.{OpenFault};
+ghost use Rattle.host_session.specs.events.Events.{Message};
+ghost use Rattle.host_session.specs.runs.Chains.{GrowsFrom, HasRun};
+ghost use Rattle.host_session.specs.session.Opening.{Refuses};
+ghost use Rattle.host_session.specs.shop.Blank.{BlankIsAShop};
+ghost use Rattle.host_session.specs.shop.Shop.{IsShop, Shop, start_of};
 ghost use Rattle.request_cards.specs.Lines.{KeepsLastTwo};
 ghost use Rattle.request_cards.specs.Requests.{Ask};
 ghost use Rattle.request_cards.specs.Steps.{HoldsAtBothEnds, Step, after_steps};

@@ -1,13 +1,22 @@
 //! An open session: the drive over a shop's disk, and what was read of it.
 ghost use Rattle.std.specs.Prelude.{◌≡◌, ◌≤◌, ◌↔◌, IfOk, IfSome, IsErr, Some, false, option_map, true};
 ghost use Rattle.d64_image.specs.Fuses.{fuse, fuse_disk, fuse_left, fuse_limit};
-ghost use Rattle.host_session.specs.Deciding.{IsInTable};
-ghost use Rattle.host_session.specs.Handling.{told_of};
-ghost use Rattle.host_session.specs.Selecting.{IsReady};
-ghost use Rattle.host_session.specs.Shop.{IsSettled, IsShop, Shop};
-ghost use Rattle.host_session.specs.Standing.{IsStanding, View, nth, state_in, view_code};
+ghost use Rattle.host_session.specs.session.Deciding.{IsInTable};
+ghost use Rattle.host_session.specs.session.Handling.{told_of};
+ghost use Rattle.host_session.specs.session.Standing.{IsStanding, View, nth, state_in, view_code};
+ghost use Rattle.host_session.specs.shop.Selecting.{IsReady};
+ghost use Rattle.host_session.specs.shop.Shop.{IsSettled, IsShop, Shop};
 
-use crate::shop_drive::ShopDrive;
+mod deciding;
+mod doing;
+mod handling;
+mod migrating;
+mod opening;
+mod recovery;
+mod settling;
+mod starting;
+
+use crate::shop::shop_drive::ShopDrive;
 use d64_image::{Fuse, Sectors};
 use drive_channels::Dead;
 use request_cards::{Answer, Request, RequestCard};

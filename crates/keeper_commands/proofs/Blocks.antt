@@ -7,8 +7,8 @@ use Rattle.std.proofs.Math.Seq.{take-append-add, take-nil}
 use Rattle.std.proofs.lemmas.List.{append-nil, take_all, take_more}
 use Rattle.d64_image.specs.Images.{Image, IsImage, sector}
 use Rattle.d64_image.specs.declared.place.Place.{Place}
-use Rattle.disk_layout.proofs.GrowthRecords.{joined-append}
-use Rattle.disk_layout.proofs.Joined.{joined-cons, joined-nil, length-joined, sector-long}
+use Rattle.disk_layout.proofs.lemmas.growth.GrowthRecords.{joined-append}
+use Rattle.disk_layout.proofs.lemmas.records.Joined.{joined-cons, joined-nil, length-joined, sector-long}
 use Rattle.disk_layout.specs.Records.{joined}
 use Rattle.keeper_commands.specs.Bytes.{file_bytes}
 

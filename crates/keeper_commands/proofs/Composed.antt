@@ -8,17 +8,17 @@ use Rattle.std.proofs.lemmas.List.{length-append}
 use Rattle.d64_image.proofs.Moments.{changes_then, changes_weaker, no_change, no_write, no_write_then}
 use Rattle.d64_image.specs.History.{History}
 use Rattle.d64_image.specs.Images.{Image}
-use Rattle.disk_layout.proofs.Layouts.{IsLayout-one}
-use Rattle.disk_layout.proofs.Pieces.{length-pieces}
+use Rattle.disk_layout.proofs.lemmas.layouts.Layouts.{IsLayout-one}
+use Rattle.disk_layout.proofs.lemmas.records.Pieces.{length-pieces}
 use Rattle.disk_layout.specs.Clean.{IsClean, IsCleanLayout}
 use Rattle.disk_layout.specs.Layout.{File, IsLayout, Layout, record_length}
 use Rattle.disk_layout.specs.Records.{record_count, records}
-use Rattle.rel_records.proofs.Grown.{size-kept}
-use Rattle.rel_records.proofs.Kept.{has_same, keeps_same, leaves_leaves, leaves_then, places-stay}
+use Rattle.rel_records.proofs.lemmas.Kept.{has_same, keeps_same, leaves_leaves, leaves_then, places-stay}
+use Rattle.rel_records.proofs.lemmas.writing.Grown.{size-kept}
 use Rattle.rel_records.specs.File.{IsFileOf, length_of, records_in}
-use Rattle.rel_records.specs.Growth.{records_had}
 use Rattle.rel_records.specs.Others.{LeavesRecords}
 use Rattle.rel_records.specs.declared.rel_file.RelFile.{RelFile}
+use Rattle.rel_records.specs.growth.Growth.{records_had}
 use Rattle.keeper_commands.proofs.Folds.{changed-append, long-stored, part-behind, part-front, so-behind, so-front}
 use Rattle.keeper_commands.proofs.Folds.{so-stored, stored-append}
 use Rattle.keeper_commands.proofs.Mendings.{tells-after}

@@ -12,12 +12,12 @@ use Rattle.d64_image.proofs.Images.{is_sector}
 use Rattle.d64_image.specs.Images.{Image, IsImage, sector}
 use Rattle.d64_image.specs.Memory.{sectors_in}
 use Rattle.d64_image.specs.declared.place.Place.{Place}
-use Rattle.disk_layout.proofs.Count.{places-few}
-use Rattle.disk_layout.proofs.Joined.{joined-cons, joined-nil, length-joined, record_count-fit}
+use Rattle.disk_layout.proofs.lemmas.lists.Count.{places-few}
+use Rattle.disk_layout.proofs.lemmas.records.Joined.{joined-cons, joined-nil, length-joined, record_count-fit}
 use Rattle.disk_layout.specs.Layout.{File, IsLayout, IsRelFile, Layout, record_length}
 use Rattle.disk_layout.specs.Records.{joined, pieces, record_count, records}
 use Rattle.disk_layout.specs.Rest.{IsFirst}
-use Rattle.rel_records.proofs.Opened.{rel-of}
+use Rattle.rel_records.proofs.lemmas.reading.Opened.{rel-of}
 use Rattle.keeper_commands.proofs.Composed.{count-is}
 use Rattle.keeper_commands.specs.Stores.{AreRecords}
 

@@ -11,17 +11,17 @@ use Rattle.d64_image.specs.Images.{Image}
 use Rattle.disk_layout.specs.Clean.{IsClean}
 use Rattle.disk_layout.specs.Layout.{File, Layout, record_length}
 use Rattle.disk_layout.specs.Records.{records}
-use Rattle.rel_records.proofs.Composed.{reads_first}
-use Rattle.rel_records.proofs.Kept.{has_same}
+use Rattle.rel_records.proofs.lemmas.Kept.{has_same}
+use Rattle.rel_records.proofs.lemmas.writing.Composed.{reads_first}
 use Rattle.rel_records.specs.Calls.{ReadsRecord, WritesRecord}
 use Rattle.rel_records.specs.Faults.{TellsRelFault}
 use Rattle.rel_records.specs.File.{IsFileOf, length_of, records_in}
-use Rattle.rel_records.specs.Growth.{added, growth_writes, records_had}
 use Rattle.rel_records.specs.Others.{HasRecords, LeavesRecords}
 use Rattle.rel_records.specs.Written.{IsDone, IsRecord, IsWriting, grown_by, grown_to, touched, with_half, with_written}
 use Rattle.rel_records.specs.declared.faults.RelFault.{RelFault}
 use Rattle.rel_records.specs.declared.faults.RelFault.TheVariants as rel
 use Rattle.rel_records.specs.declared.rel_file.RelFile.{RelFile}
+use Rattle.rel_records.specs.growth.Growth.{added, growth_writes, records_had}
 use Rattle.byte_text.specs.Texts.{trimmed}
 use Rattle.keeper_commands.proofs.Composed.{count-is, had-is, leaves-same}
 use Rattle.keeper_commands.proofs.Padded.{other-changed, other-not_so, so-stored_one, so-there, so-unchanged}

@@ -11,12 +11,12 @@ use Rattle.d64_image.specs.Memory.{memory}
 use Rattle.d64_image.specs.declared.mem_disk.MemDisk.{MemDisk}
 use Rattle.byte_text.specs.Texts.{record_line}
 use Rattle.rel_records.specs.Faults.{TellsRelFault}
-use Rattle.rel_records.specs.Kept.{IsKept, number_kept}
 use Rattle.rel_records.specs.Written.{IsAbsent}
 use Rattle.rel_records.specs.declared.faults.RelFault.{RelFault}
 use Rattle.rel_records.specs.declared.faults.RelFault.TheVariants as rel
-use Rattle.rel_records.specs.declared.in_order.LastBlock.{LastBlock}
+use Rattle.rel_records.specs.declared.reading.in_order.LastBlock.{LastBlock}
 use Rattle.rel_records.specs.declared.rel_file.RelFile.{RelFile}
+use Rattle.rel_records.specs.reading.Kept.{IsKept, number_kept}
 use Rattle.keeper_commands.specs.Records.{lines_to, records_text}
 
 pub memory-never : (a b : MemDisk) → Failed memory a b → ⊥

@@ -5,7 +5,7 @@ use Rattle.std.proofs.lemmas.Bool.{cases_lt}
 use Rattle.std.proofs.lemmas.Option.{slice_get_within}
 use Rattle.d64_image.specs.History.{History}
 use Rattle.disk_layout.specs.Layout.{File, record_length}
-use Rattle.rel_records.specs.Growth.{IsTooLarge, blocks_for, records_had}
+use Rattle.rel_records.specs.growth.Growth.{IsTooLarge, blocks_for, records_had}
 use Rattle.keeper_commands.specs.Faults.{IsCleanFault}
 use Rattle.keeper_commands.specs.Stores.{AreLinesOf, AreSo, CanHave, NewRecord, greatest}
 use Rattle.keeper_commands.specs.Storing.{IsStoreFault}

@@ -5,7 +5,7 @@ use Rattle.d64_image.proofs.Moments.{at_end, failed_later, reads_no_write, then,
 use Rattle.d64_image.specs.History.{Changes, HeldOnly, History, OnlyReads, WritesNothing}
 use Rattle.d64_image.specs.Images.{Image, Sector, sector}
 use Rattle.d64_image.specs.declared.place.Place.{Place}
-use Rattle.disk_layout.proofs.Twice.{told-sound}
+use Rattle.disk_layout.proofs.lemmas.layouts.Twice.{told-sound}
 use Rattle.disk_layout.specs.Fault.{Holds, TellsFault, nowhere}
 use Rattle.disk_layout.specs.InOrder.{GoesOver, IsUnderWay}
 use Rattle.disk_layout.specs.Layout.{IsLayout, IsSound, Layout}

@@ -6,16 +6,16 @@ use Rattle.std.proofs.lemmas.List.{append-nil, drop_all, length-replicate}
 use Rattle.std.proofs.lemmas.Nat.{le-div}
 use Rattle.d64_image.specs.History.{History, WritesNothing}
 use Rattle.d64_image.specs.Images.{Image}
-use Rattle.disk_layout.proofs.Counts.{uncounted-face}
-use Rattle.disk_layout.proofs.Kept.{entry-alike, first-kept}
-use Rattle.disk_layout.proofs.Layouts.{IsLayout-one}
-use Rattle.disk_layout.proofs.Uniques.{IsFirst-one}
+use Rattle.disk_layout.proofs.lemmas.counts.Counts.{uncounted-face}
+use Rattle.disk_layout.proofs.lemmas.kept.Kept.{entry-alike, first-kept}
+use Rattle.disk_layout.proofs.lemmas.layouts.Layouts.{IsLayout-one}
+use Rattle.disk_layout.proofs.lemmas.layouts.Uniques.{IsFirst-one}
 use Rattle.disk_layout.specs.Layout.{File, IsLayout, Layout, record_length}
 use Rattle.disk_layout.specs.Records.{empty_record, records}
 use Rattle.disk_layout.specs.Rest.{IsFirst}
-use Rattle.rel_records.specs.Growth.{added, blocks_for, full, records_had}
 use Rattle.rel_records.specs.Others.{HasRecords}
 use Rattle.rel_records.specs.Written.{grown_to}
+use Rattle.rel_records.specs.growth.Growth.{added, blocks_for, full, records_had}
 use Rattle.script_lines.specs.Lines.{lines}
 use Rattle.keeper_commands.proofs.Again.{so-again, so-unprinted}
 use Rattle.keeper_commands.proofs.Composed.{count-is}

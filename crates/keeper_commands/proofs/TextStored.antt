@@ -10,17 +10,17 @@ use Rattle.disk_layout.specs.Clean.{IsClean}
 use Rattle.disk_layout.specs.Layout.{File, Layout, record_length}
 use Rattle.disk_layout.specs.Records.{records}
 use Rattle.disk_layout.specs.Rest.{IsFirst}
-use Rattle.rel_records.proofs.Composed.{reads_first}
-use Rattle.rel_records.proofs.Grown.{size-kept}
-use Rattle.rel_records.proofs.Kept.{growing_same, leaves_has, leaves_then}
+use Rattle.rel_records.proofs.lemmas.Kept.{growing_same, leaves_has, leaves_then}
+use Rattle.rel_records.proofs.lemmas.writing.Composed.{reads_first}
+use Rattle.rel_records.proofs.lemmas.writing.Grown.{size-kept}
 use Rattle.rel_records.specs.Calls.{FindsFile, Grows}
 use Rattle.rel_records.specs.File.{IsFileOf, entry_of, length_of, records_in}
-use Rattle.rel_records.specs.Growth.{IsFull, growth_writes, records_had}
 use Rattle.rel_records.specs.Others.{HasRecords, LeavesRecords}
 use Rattle.rel_records.specs.Written.{grown_to}
 use Rattle.rel_records.specs.declared.faults.RelFault.{RelFault}
 use Rattle.rel_records.specs.declared.faults.RelFault.TheVariants as rel
 use Rattle.rel_records.specs.declared.rel_file.RelFile.{RelFile}
+use Rattle.rel_records.specs.growth.Growth.{IsFull, growth_writes, records_had}
 use Rattle.script_lines.specs.Lines.{lines}
 use Rattle.keeper_commands.proofs.Composed.{count-is, had-is}
 use Rattle.keeper_commands.proofs.LastOnes.{lines-numbers, ones-greatest, stored-ones}

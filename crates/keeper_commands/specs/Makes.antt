@@ -6,7 +6,7 @@ use Rattle.d64_image.specs.Memory.{sectors_in}
 use Rattle.disk_layout.specs.Clean.{IsCleanLayout}
 use Rattle.disk_layout.specs.Fault.{HoldsOfClean, nowhere}
 use Rattle.disk_layout.specs.Layout.{Layout}
-use Rattle.rel_records.specs.Made.{HasFileMore, HasNoRoom, IsCreating, IsTakenName, creation_writes}
+use Rattle.rel_records.specs.creation.Made.{HasFileMore, HasNoRoom, IsCreating, IsTakenName, creation_writes}
 use Rattle.keeper_commands.specs.Refusals.{IsLeft}
 use Rattle.keeper_commands.specs.declared.faults.KeepFault.{KeepFault}
 use Rattle.keeper_commands.specs.declared.faults.KeepFault.TheVariants as keep

@@ -4,8 +4,8 @@ use Rattle.std.specs.Prelude.{bytes_eq, get_or, if◌then◌else◌, length, max
 use Rattle.std.specs.List.{AllByRecursion}
 use Rattle.byte_text.specs.Lines.{IsLineOf, padded}
 use Rattle.byte_text.specs.Texts.{AreBytes, record_line, trimmed}
-use Rattle.rel_records.specs.Growth.{blocks_for}
 use Rattle.rel_records.specs.Written.{with_half, with_written}
+use Rattle.rel_records.specs.growth.Growth.{blocks_for}
 
 -- a record as a line gives it
 pub record NewRecord : Type 0 where

@@ -21,8 +21,8 @@ ghost use Rattle.keeper_commands.specs.Stores.{
   stored,
 };
 ghost use Rattle.keeper_commands.specs.Storing.{IsStoreDone, IsStoredDisk, put_over};
-ghost use Rattle.rel_records.specs.Growth.{blocks_for, full, records_had};
 ghost use Rattle.rel_records.specs.Others.{HasRecords};
+ghost use Rattle.rel_records.specs.growth.Growth.{blocks_for, full, records_had};
 ghost use Rattle.script_lines.specs.Lines.{lines};
 
 use d64_image::Sectors;

@@ -6,7 +6,7 @@ ghost use Rattle.disk_layout.specs.Records as records_of;
 ghost use Rattle.keeper_commands.specs.Records.{AreRecordsPrinted, IsRecordsFault, records_text};
 ghost use Rattle.keeper_commands.specs.declared.faults.KeepFault.TheVariants as faults;
 ghost use Rattle.rel_records.specs.File.{IsOf, OfItsFile};
-ghost use Rattle.rel_records.specs.Kept.{IsKept};
+ghost use Rattle.rel_records.specs.reading.Kept.{IsKept};
 ghost use Rattle.byte_text.specs.Texts.{record_line};
 
 use crate::faults::KeepFault;

@@ -26,9 +26,9 @@ use Rattle.std.specs.Prelude.{Contains, IsFalse, Some, slice_get}
 use Rattle.std.proofs.lemmas.Bool.{false≢true}
 use Rattle.d64_image.specs.Images.{Image}
 use Rattle.d64_image.specs.declared.place.Place.{Place}
-use Rattle.disk_layout.proofs.Chains.{cons_both}
-use Rattle.disk_layout.proofs.Lists.{contains-get, numbered-once}
-use Rattle.disk_layout.proofs.Once.{Contains-cases, Contains-nil, EachOnce-left}
+use Rattle.disk_layout.proofs.lemmas.chains.Chains.{cons_both}
+use Rattle.disk_layout.proofs.lemmas.lists.Lists.{contains-get, numbered-once}
+use Rattle.disk_layout.proofs.lemmas.lists.Once.{Contains-cases, Contains-nil, EachOnce-left}
 use Rattle.disk_layout.specs.Chain.{EachOnce, IsChain, Leads, LinksTo, Names, Visits, byte}
 use Rattle.disk_layout.specs.Fault.{IsClosed, Owns, blocks_of, sides_of}
 use Rattle.disk_layout.specs.Layout.{IsFile, is_rel}

@@ -21,8 +21,8 @@ use Rattle.std.proofs.Common.{
 use Rattle.std.specs.Prelude.{Contains}
 use Rattle.d64_image.specs.History.{History}
 use Rattle.d64_image.specs.declared.place.Place.{Place}
-use Rattle.disk_layout.proofs.Count.{places-few}
-use Rattle.disk_layout.proofs.Once.{EachOnce-push}
+use Rattle.disk_layout.proofs.lemmas.lists.Count.{places-few}
+use Rattle.disk_layout.proofs.lemmas.lists.Once.{EachOnce-push}
 use Rattle.disk_layout.specs.Chain.{EachOnce, Leads, LinksNowhere, Names}
 use Rattle.disk_layout.specs.Fault.{IsClosed}
 use Rattle.disk_layout.specs.declared.faults.Fault.{Fault}

@@ -34,11 +34,11 @@ use Rattle.std.proofs.lemmas.List.Elements.{Contains-append_cases}
 use Rattle.std.proofs.lemmas.Option.{slice_get_within}
 use Rattle.d64_image.specs.Images.{Image}
 use Rattle.d64_image.specs.declared.place.Place.{Place}
-use Rattle.disk_layout.proofs.Chains.{Leads-push}
-use Rattle.disk_layout.proofs.Lists.{contains-get}
-use Rattle.disk_layout.proofs.Once.{Contains-cases, Contains-nil, all-in}
-use Rattle.disk_layout.proofs.Recount.{flat_map-out}
-use Rattle.disk_layout.proofs.Twice.{get-below}
+use Rattle.disk_layout.proofs.lemmas.chains.Chains.{Leads-push}
+use Rattle.disk_layout.proofs.lemmas.counts.Recount.{flat_map-out}
+use Rattle.disk_layout.proofs.lemmas.layouts.Twice.{get-below}
+use Rattle.disk_layout.proofs.lemmas.lists.Lists.{contains-get}
+use Rattle.disk_layout.proofs.lemmas.lists.Once.{Contains-cases, Contains-nil, all-in}
 use Rattle.disk_layout.specs.Chain.{Leads}
 use Rattle.disk_layout.specs.Directory.{IsDirectory, map_place, type_byte}
 use Rattle.disk_layout.specs.Fault.{

@@ -38,9 +38,10 @@ use Rattle.d64_image.proofs.Places.{at_low, below_grows, index_below, place_of, 
 use Rattle.d64_image.specs.Geometry.{sectors_below, sectors_on}
 use Rattle.d64_image.specs.Places.{index_of}
 use Rattle.d64_image.specs.declared.place.Place.{Place}
-use Rattle.disk_layout.proofs.Layouts.{get-contains}
-use Rattle.disk_layout.proofs.Lists.{contains-get, filter-once}
-use Rattle.disk_layout.proofs.Once.{
+use Rattle.disk_layout.proofs.lemmas.counts.Recount.{filter-out, flat_map-out}
+use Rattle.disk_layout.proofs.lemmas.layouts.Layouts.{get-contains}
+use Rattle.disk_layout.proofs.lemmas.lists.Lists.{contains-get, filter-once}
+use Rattle.disk_layout.proofs.lemmas.lists.Once.{
   Contains-cases,
   Contains-here,
   Contains-nil,
@@ -53,7 +54,6 @@ use Rattle.disk_layout.proofs.Once.{
   filter-in,
   flat_map-in,
 }
-use Rattle.disk_layout.proofs.Recount.{filter-out, flat_map-out}
 use Rattle.disk_layout.specs.Chain.{EachOnce}
 use Rattle.disk_layout.specs.Directory.{map_place}
 use Rattle.disk_layout.specs.Layout.{File, Layout, file_owns, owners}

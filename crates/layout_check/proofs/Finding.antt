@@ -33,7 +33,7 @@ use Rattle.d64_image.proofs.Places.{same_or_other}
 use Rattle.d64_image.specs.History.{History}
 use Rattle.d64_image.specs.Images.{Image}
 use Rattle.d64_image.specs.declared.place.Place.{Place}
-use Rattle.disk_layout.proofs.Once.{Contains-cases, Contains-here, Contains-nil, Contains-there}
+use Rattle.disk_layout.proofs.lemmas.lists.Once.{Contains-cases, Contains-here, Contains-nil, Contains-there}
 use Rattle.disk_layout.specs.Fault.{IsClosed, blocks_of, sides_of}
 use Rattle.disk_layout.specs.Layout.{is_rel}
 use Rattle.disk_layout.specs.declared.faults.Fault.{Fault}

@@ -27,8 +27,8 @@ use Rattle.d64_image.proofs.Moments.{never_failed, reads_then}
 use Rattle.d64_image.specs.History.{History, NeverFailed}
 use Rattle.d64_image.specs.Images.{Image}
 use Rattle.d64_image.specs.declared.place.Place.{Place}
-use Rattle.disk_layout.proofs.Layouts.{IsFile-one}
-use Rattle.disk_layout.proofs.Once.{all-in}
+use Rattle.disk_layout.proofs.lemmas.layouts.Layouts.{IsFile-one}
+use Rattle.disk_layout.proofs.lemmas.lists.Once.{all-in}
 use Rattle.disk_layout.specs.Fault.{Holds, HoldsOfClean, TellsFault, nowhere}
 use Rattle.disk_layout.specs.Layout.{File, IsFile, IsLayout, Layout, is_rel}
 use Rattle.disk_layout.specs.declared.faults.Fault.{Fault}

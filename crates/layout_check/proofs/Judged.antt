@@ -29,10 +29,10 @@ use Rattle.std.proofs.lemmas.List.Elements.{Contains-append_right}
 use Rattle.d64_image.specs.History.{History}
 use Rattle.d64_image.specs.Images.{Image, sector}
 use Rattle.d64_image.specs.declared.place.Place.{Place}
-use Rattle.disk_layout.proofs.Count.{places-few}
-use Rattle.disk_layout.proofs.Exact.{exact-side}
-use Rattle.disk_layout.proofs.Lists.{all-push}
-use Rattle.disk_layout.proofs.Once.{Contains-here}
+use Rattle.disk_layout.proofs.lemmas.layouts.Exact.{exact-side}
+use Rattle.disk_layout.proofs.lemmas.lists.Count.{places-few}
+use Rattle.disk_layout.proofs.lemmas.lists.Lists.{all-push}
+use Rattle.disk_layout.proofs.lemmas.lists.Once.{Contains-here}
 use Rattle.disk_layout.specs.Directory.{map_place}
 use Rattle.disk_layout.specs.Fault.{HoldsOfClean, TellsFault}
 use Rattle.disk_layout.specs.Layout.{File, IsLayout, Layout, is_rel, owners}

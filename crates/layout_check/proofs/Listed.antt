@@ -25,11 +25,11 @@ use Rattle.std.proofs.lemmas.Bool.Decides.{nat_tests}
 use Rattle.std.proofs.lemmas.Option.{slice_get_within}
 use Rattle.d64_image.specs.Images.{Image, sector}
 use Rattle.d64_image.specs.declared.place.Place.{Place}
-use Rattle.disk_layout.proofs.Commit.{all-left}
-use Rattle.disk_layout.proofs.Layouts.{get-contains}
-use Rattle.disk_layout.proofs.Lists.{contains-get, filter-once, numbered-once}
-use Rattle.disk_layout.proofs.Once.{Contains-here, Contains-there, EachOnce-join}
-use Rattle.disk_layout.proofs.Recount.{flat_map-out, slot-get, slot-there}
+use Rattle.disk_layout.proofs.lemmas.counts.Recount.{flat_map-out, slot-get, slot-there}
+use Rattle.disk_layout.proofs.lemmas.growth.Commit.{all-left}
+use Rattle.disk_layout.proofs.lemmas.layouts.Layouts.{get-contains}
+use Rattle.disk_layout.proofs.lemmas.lists.Lists.{contains-get, filter-once, numbered-once}
+use Rattle.disk_layout.proofs.lemmas.lists.Once.{Contains-here, Contains-there, EachOnce-join}
 use Rattle.disk_layout.specs.Chain.{EachOnce}
 use Rattle.disk_layout.specs.Directory.{
   IsDirectory,

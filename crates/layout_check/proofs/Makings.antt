@@ -40,8 +40,8 @@ use Rattle.d64_image.proofs.Places.{place_at-some}
 use Rattle.d64_image.specs.Geometry.{sectors_on}
 use Rattle.d64_image.specs.Places.{place_at}
 use Rattle.d64_image.specs.declared.place.Place.{Place}
-use Rattle.disk_layout.proofs.Bits.{few_sectors}
-use Rattle.disk_layout.proofs.Sums.{sum-same}
+use Rattle.disk_layout.proofs.lemmas.lists.Sums.{sum-same}
+use Rattle.disk_layout.proofs.lemmas.map.Bits.{few_sectors}
 use Rattle.disk_layout.specs.Free.{IsWithoutFree}
 use Rattle.disk_layout.specs.Map.{IsFree, IsGiven, map_bit, map_count}
 use Rattle.layout_check.proofs.Ones.{

@@ -28,7 +28,7 @@ use Rattle.d64_image.specs.History.{Changes, Failed, History, OldOr, OnlyReads, 
 use Rattle.d64_image.specs.Images.{Image, Sector, put, sector}
 use Rattle.d64_image.specs.declared.place.Place.{Place}
 use Rattle.d64_image.specs.Calls.{WritesSector}
-use Rattle.disk_layout.proofs.Agree.{IsLayout-put_map}
+use Rattle.disk_layout.proofs.lemmas.layouts.Agree.{IsLayout-put_map}
 use Rattle.disk_layout.specs.Directory.{map_place}
 use Rattle.disk_layout.specs.Layout.{IsLayout, Layout}
 use Rattle.disk_layout.specs.declared.faults.Fault.{Fault}

@@ -32,13 +32,14 @@ use Rattle.d64_image.proofs.Images.{sector-put_other, sector-put_same}
 use Rattle.d64_image.proofs.Places.{same_or_other}
 use Rattle.d64_image.specs.Images.{Image, put, sector}
 use Rattle.d64_image.specs.declared.place.Place.{Place}
-use Rattle.disk_layout.proofs.Agree.{IsLayout-put_map, map-unowned, owned-block, owned-directory, stays-agree}
-use Rattle.disk_layout.proofs.Exact.{exact-side}
-use Rattle.disk_layout.proofs.Layouts.{block-no_side, get-contains}
-use Rattle.disk_layout.proofs.Once.{EachOnce-apart, EachOnce-right, flat_map-in}
-use Rattle.disk_layout.proofs.Recount.{split-at}
-use Rattle.disk_layout.proofs.Recounts.{IsLayout-put_counts, map-same_on, reread_layout, stays-put_counts}
-use Rattle.disk_layout.proofs.SideWrites.{IsLayout-put_side}
+use Rattle.disk_layout.proofs.lemmas.layouts.Agree.{IsLayout-put_map, map-unowned, owned-block, owned-directory}
+use Rattle.disk_layout.proofs.lemmas.layouts.Agree.{stays-agree}
+use Rattle.disk_layout.proofs.lemmas.layouts.Exact.{exact-side}
+use Rattle.disk_layout.proofs.lemmas.layouts.Layouts.{block-no_side, get-contains}
+use Rattle.disk_layout.proofs.lemmas.lists.Once.{EachOnce-apart, EachOnce-right, flat_map-in}
+use Rattle.disk_layout.proofs.lemmas.counts.Recount.{split-at}
+use Rattle.disk_layout.proofs.lemmas.counts.Recounts.{IsLayout-put_counts, map-same_on, reread_layout, stays-put_counts}
+use Rattle.disk_layout.proofs.lemmas.growth.SideWrites.{IsLayout-put_side}
 use Rattle.disk_layout.specs.Directory.{map_place}
 use Rattle.disk_layout.specs.Layout.{File, IsLayout, Layout, file_owns, is_rel, owners, record_length}
 use Rattle.disk_layout.specs.Chain.{byte}

@@ -6,7 +6,7 @@ use Rattle.d64_image.specs.Images.{Image, Sector, sector}
 use Rattle.d64_image.specs.declared.place.Place.{Place}
 use Rattle.disk_layout.proofs.ExampleDisk.{entry_bytes, exact_side, stock_file, stock_layout}
 use Rattle.disk_layout.proofs.Examples.{block_1}
-use Rattle.disk_layout.proofs.Once.{Contains-here, Contains-nil}
+use Rattle.disk_layout.proofs.lemmas.lists.Once.{Contains-here, Contains-nil}
 use Rattle.disk_layout.specs.Directory.{directory_start, map_place, slot_in}
 use Rattle.disk_layout.specs.InOrder.{IsUnderWay, WritesOnce}
 use Rattle.disk_layout.specs.Layout.{count_field}

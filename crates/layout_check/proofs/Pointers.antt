@@ -35,7 +35,7 @@ use Rattle.std.proofs.lemmas.Bool.Decides.{Decides-eqb}
 use Rattle.std.proofs.lemmas.Option.{slice_get_read, slice_get_within}
 use Rattle.std.proofs.Math.Decide.{dec_lt}
 use Rattle.d64_image.specs.declared.place.Place.{Place}
-use Rattle.disk_layout.proofs.Lists.{get-drop, get-take}
+use Rattle.disk_layout.proofs.lemmas.lists.Lists.{get-drop, get-take}
 use Rattle.disk_layout.specs.Chain.{Names}
 use Rattle.layout_check.specs.Sides.{IsMisnamed, IsMispointed, NamesEach}
 

@@ -42,11 +42,11 @@ use Rattle.std.proofs.lemmas.List.Elements.{Contains-append_cases, Contains-appe
 use Rattle.d64_image.specs.History.{History, NeverFailed}
 use Rattle.d64_image.specs.Images.{Image}
 use Rattle.d64_image.specs.declared.place.Place.{Place}
-use Rattle.disk_layout.proofs.Count.{places-few}
-use Rattle.disk_layout.proofs.Layouts.{get-contains}
-use Rattle.disk_layout.proofs.Lists.{all-push}
-use Rattle.disk_layout.proofs.Once.{Contains-cases, Contains-nil, EachOnce-join, flat_map-in}
-use Rattle.disk_layout.proofs.Twice.{told-unsound}
+use Rattle.disk_layout.proofs.lemmas.layouts.Layouts.{get-contains}
+use Rattle.disk_layout.proofs.lemmas.layouts.Twice.{told-unsound}
+use Rattle.disk_layout.proofs.lemmas.lists.Count.{places-few}
+use Rattle.disk_layout.proofs.lemmas.lists.Lists.{all-push}
+use Rattle.disk_layout.proofs.lemmas.lists.Once.{Contains-cases, Contains-nil, EachOnce-join, flat_map-in}
 use Rattle.disk_layout.specs.Chain.{EachOnce}
 use Rattle.disk_layout.specs.Directory.{IsDirectory, map_place}
 use Rattle.disk_layout.specs.Fault.{Owns, blocks_of, sides_of}

@@ -6,7 +6,7 @@ use Rattle.d64_image.proofs.Moments.{at_end}
 use Rattle.d64_image.specs.History.{History, OnlyReads}
 use Rattle.d64_image.specs.Images.{Image, Sector, sector}
 use Rattle.d64_image.specs.declared.place.Place.{Place}
-use Rattle.disk_layout.proofs.Orders.{over_more, over_read, over_then}
+use Rattle.disk_layout.proofs.lemmas.kept.Orders.{over_more, over_read, over_then}
 use Rattle.disk_layout.specs.Directory.{map_place}
 use Rattle.disk_layout.specs.InOrder.{AreMade, GoesOver, IsUnderWay}
 use Rattle.disk_layout.specs.Layout.{IsLayout, Layout}

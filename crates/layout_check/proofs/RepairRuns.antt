@@ -3,7 +3,7 @@ use Rattle.std.proofs.Common.{ℕ, ◌≡◌, ◌≤◌, Result, Ok, Err, OnOk, 
 use Rattle.d64_image.proofs.Moments.{changes_then, changes_weaker, failed_later, never_failed, reads_change}
 use Rattle.d64_image.specs.History.{Changes, History, NeverFailed, OnlyReads}
 use Rattle.d64_image.specs.Images.{Image}
-use Rattle.disk_layout.proofs.Layouts.{IsLayout-one}
+use Rattle.disk_layout.proofs.lemmas.layouts.Layouts.{IsLayout-one}
 use Rattle.disk_layout.specs.Clean.{IsClean}
 use Rattle.disk_layout.specs.Fault.{Holds, TellsFault}
 use Rattle.disk_layout.specs.Layout.{IsLayout, Layout}

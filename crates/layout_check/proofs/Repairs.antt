@@ -33,9 +33,9 @@ use Rattle.std.proofs.lemmas.List.{get_or-drop, get_or-take, length-map}
 use Rattle.std.proofs.lemmas.List.Elements.{Contains-append_right}
 use Rattle.d64_image.specs.Images.{Image, sector}
 use Rattle.d64_image.specs.declared.place.Place.{Place}
-use Rattle.disk_layout.proofs.Layouts.{IsLayout-one, get-contains}
-use Rattle.disk_layout.proofs.Lists.{alike, contains-get}
-use Rattle.disk_layout.proofs.Once.{EachOnce-apart, all-in, flat_map-in}
+use Rattle.disk_layout.proofs.lemmas.layouts.Layouts.{IsLayout-one, get-contains}
+use Rattle.disk_layout.proofs.lemmas.lists.Lists.{alike, contains-get}
+use Rattle.disk_layout.proofs.lemmas.lists.Once.{EachOnce-apart, all-in, flat_map-in}
 use Rattle.disk_layout.specs.Chain.{EachOnce}
 use Rattle.disk_layout.specs.Clean.{IsClean, IsCleanLayout, IsExactFile}
 use Rattle.disk_layout.specs.Directory.{map_place}

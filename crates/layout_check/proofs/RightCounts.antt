@@ -28,13 +28,10 @@ use Rattle.d64_image.proofs.Images.{is_sector, sector-put_other, sector-put_same
 use Rattle.d64_image.proofs.Places.{same_or_other}
 use Rattle.d64_image.specs.Images.{Image, IsImage, Sector, put, sector}
 use Rattle.d64_image.specs.declared.place.Place.{Place}
-use Rattle.disk_layout.proofs.Chains.{SameLinks}
-use Rattle.disk_layout.proofs.Counts.{uncounted-face}
-use Rattle.disk_layout.proofs.Layouts.{IsLayout-one, KeepsFiles, block-owned, side-owned}
-use Rattle.disk_layout.proofs.Lists.{in-map}
-use Rattle.disk_layout.proofs.Once.{Contains-cases, Contains-here, Contains-nil, EachOnce-apart, map-in}
-use Rattle.disk_layout.proofs.Recount.{slot-there}
-use Rattle.disk_layout.proofs.Recounts.{
+use Rattle.disk_layout.proofs.lemmas.chains.Chains.{SameLinks}
+use Rattle.disk_layout.proofs.lemmas.counts.Counts.{uncounted-face}
+use Rattle.disk_layout.proofs.lemmas.counts.Recount.{slot-there}
+use Rattle.disk_layout.proofs.lemmas.counts.Recounts.{
   IsLayout-reread,
   KeepsEntries,
   keeps-put_counts,
@@ -45,6 +42,9 @@ use Rattle.disk_layout.proofs.Recounts.{
   slot-same,
   stays-reread,
 }
+use Rattle.disk_layout.proofs.lemmas.layouts.Layouts.{IsLayout-one, KeepsFiles, block-owned, side-owned}
+use Rattle.disk_layout.proofs.lemmas.lists.Lists.{in-map}
+use Rattle.disk_layout.proofs.lemmas.lists.Once.{Contains-cases, Contains-here, Contains-nil, EachOnce-apart, map-in}
 use Rattle.disk_layout.specs.Directory.{map_place, slot_in}
 use Rattle.disk_layout.specs.Entries.{IsRecountedAll, uncounted}
 use Rattle.disk_layout.specs.Layout.{File, IsLayout, Layout, count_field, file_owns, is_rel, owners}

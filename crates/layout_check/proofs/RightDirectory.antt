@@ -3,11 +3,11 @@ use Rattle.std.proofs.Common.{ℕ, ◌≡◌, [], ◌∷◌, length, ap, refl, s
 use Rattle.std.specs.Prelude.{Contains}
 use Rattle.d64_image.specs.Images.{Image, Sector, sector}
 use Rattle.d64_image.specs.declared.place.Place.{Place}
-use Rattle.disk_layout.proofs.Layouts.{IsLayout-one, get-contains}
-use Rattle.disk_layout.proofs.Once.{Contains-cases, Contains-nil, flat_map-in}
-use Rattle.disk_layout.proofs.Orders.{made_one}
-use Rattle.disk_layout.proofs.Recount.{slot-there}
-use Rattle.disk_layout.proofs.Recounts.{slot-of}
+use Rattle.disk_layout.proofs.lemmas.counts.Recount.{slot-there}
+use Rattle.disk_layout.proofs.lemmas.counts.Recounts.{slot-of}
+use Rattle.disk_layout.proofs.lemmas.kept.Orders.{made_one}
+use Rattle.disk_layout.proofs.lemmas.layouts.Layouts.{IsLayout-one, get-contains}
+use Rattle.disk_layout.proofs.lemmas.lists.Once.{Contains-cases, Contains-nil, flat_map-in}
 use Rattle.disk_layout.specs.Directory.{slot_in}
 use Rattle.disk_layout.specs.InOrder.{AreMade}
 use Rattle.disk_layout.specs.Layout.{IsLayout, Layout, count_field}

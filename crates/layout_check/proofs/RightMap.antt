@@ -6,12 +6,12 @@ use Rattle.d64_image.proofs.Moments.{at_end, weaker}
 use Rattle.d64_image.specs.History.{HeldOnly, History, OldOr, OnlyReads}
 use Rattle.d64_image.specs.Images.{Image, Sector, put, sector}
 use Rattle.d64_image.specs.declared.place.Place.{Place}
-use Rattle.disk_layout.proofs.Agree.{IsLayout-put_map}
-use Rattle.disk_layout.proofs.Layouts.{IsLayout-one, get-contains}
-use Rattle.disk_layout.proofs.Once.{Contains-nil, flat_map-in}
-use Rattle.disk_layout.proofs.Orders.{made_one, made_put, over_one, over_read}
-use Rattle.disk_layout.proofs.Recount.{slot-there}
-use Rattle.disk_layout.proofs.Recounts.{slot-of}
+use Rattle.disk_layout.proofs.lemmas.counts.Recount.{slot-there}
+use Rattle.disk_layout.proofs.lemmas.counts.Recounts.{slot-of}
+use Rattle.disk_layout.proofs.lemmas.kept.Orders.{made_one, made_put, over_one, over_read}
+use Rattle.disk_layout.proofs.lemmas.layouts.Agree.{IsLayout-put_map}
+use Rattle.disk_layout.proofs.lemmas.layouts.Layouts.{IsLayout-one, get-contains}
+use Rattle.disk_layout.proofs.lemmas.lists.Once.{Contains-nil, flat_map-in}
 use Rattle.disk_layout.specs.Directory.{map_place}
 use Rattle.disk_layout.specs.InOrder.{AreMade, GoesOver, WritesOther}
 use Rattle.disk_layout.specs.Layout.{IsLayout, Layout, owners}

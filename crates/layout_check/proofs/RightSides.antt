@@ -36,13 +36,14 @@ use Rattle.std.proofs.lemmas.List.Elements.{Contains-append_right}
 use Rattle.d64_image.specs.History.{Changes, History, OldOr, OnlyReads}
 use Rattle.d64_image.specs.Images.{Image, Sector, put, sector}
 use Rattle.d64_image.specs.declared.place.Place.{Place}
-use Rattle.disk_layout.proofs.Layouts.{IsDirectory-one, get-contains}
-use Rattle.disk_layout.proofs.Lists.{contains-get, take-get}
-use Rattle.disk_layout.proofs.Once.{Contains-nil, EachOnce-left, EachOnce-right, all-in, flat_map-in}
-use Rattle.disk_layout.proofs.Orders.{made_put, made_then, once-next, over_more, over_read, over_then, over_write}
-use Rattle.disk_layout.proofs.Recount.{slot-there}
-use Rattle.disk_layout.proofs.Recounts.{slot-of}
-use Rattle.disk_layout.proofs.Twice.{get-one}
+use Rattle.disk_layout.proofs.lemmas.counts.Recount.{slot-there}
+use Rattle.disk_layout.proofs.lemmas.counts.Recounts.{slot-of}
+use Rattle.disk_layout.proofs.lemmas.kept.Orders.{made_put, made_then, once-next, over_more, over_read, over_then}
+use Rattle.disk_layout.proofs.lemmas.kept.Orders.{over_write}
+use Rattle.disk_layout.proofs.lemmas.layouts.Layouts.{IsDirectory-one, get-contains}
+use Rattle.disk_layout.proofs.lemmas.layouts.Twice.{get-one}
+use Rattle.disk_layout.proofs.lemmas.lists.Lists.{contains-get, take-get}
+use Rattle.disk_layout.proofs.lemmas.lists.Once.{Contains-nil, EachOnce-left, EachOnce-right, all-in, flat_map-in}
 use Rattle.disk_layout.specs.Chain.{EachOnce}
 use Rattle.disk_layout.specs.Directory.{IsDirectory}
 use Rattle.disk_layout.specs.InOrder.{AreMade, GoesOver, WritesOther}

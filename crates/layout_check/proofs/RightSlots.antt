@@ -33,13 +33,13 @@ use Rattle.std.proofs.lemmas.Bool.{cases_lt}
 use Rattle.std.proofs.lemmas.Bool.Decides.{nat_tests}
 use Rattle.d64_image.specs.Images.{Image, Sector, sector}
 use Rattle.d64_image.specs.declared.place.Place.{Place}
-use Rattle.disk_layout.proofs.CountWrites.{slot-byte}
-use Rattle.disk_layout.proofs.Counts.{range-piece}
-use Rattle.disk_layout.proofs.Layouts.{get-contains}
-use Rattle.disk_layout.proofs.Pieces.{piece-same}
-use Rattle.disk_layout.proofs.Recount.{slot-get, slot-there}
-use Rattle.disk_layout.proofs.Recounts.{slot-of}
-use Rattle.disk_layout.proofs.Unsound.{slot-file}
+use Rattle.disk_layout.proofs.lemmas.counts.CountWrites.{slot-byte}
+use Rattle.disk_layout.proofs.lemmas.counts.Counts.{range-piece}
+use Rattle.disk_layout.proofs.lemmas.counts.Recount.{slot-get, slot-there}
+use Rattle.disk_layout.proofs.lemmas.counts.Recounts.{slot-of}
+use Rattle.disk_layout.proofs.lemmas.layouts.Layouts.{get-contains}
+use Rattle.disk_layout.proofs.lemmas.layouts.Unsound.{slot-file}
+use Rattle.disk_layout.proofs.lemmas.records.Pieces.{piece-same}
 use Rattle.disk_layout.specs.Directory.{slot_in, slots_in, type_byte}
 use Rattle.disk_layout.specs.Entries.{IsRecounted}
 use Rattle.disk_layout.specs.Layout.{File, IsLayout, IsSound, Layout, count_field, is_rel}

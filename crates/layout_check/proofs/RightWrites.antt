@@ -30,17 +30,18 @@ use Rattle.d64_image.proofs.Moments.{at_end, changes_then, changes_weaker, no_wr
 use Rattle.d64_image.specs.History.{Changes, History, OldOr, OnlyReads, WritesNothing}
 use Rattle.d64_image.specs.Images.{Image, IsImage, Sector, put, sector}
 use Rattle.d64_image.specs.declared.place.Place.{Place}
-use Rattle.disk_layout.proofs.Directories.{directory-few}
-use Rattle.disk_layout.proofs.Layouts.{IsLayout-one, get-contains}
-use Rattle.disk_layout.proofs.Lists.{take-get}
-use Rattle.disk_layout.proofs.Once.{Contains-here, Contains-there}
-use Rattle.disk_layout.proofs.Orders.{made_none, made_then, once-next, over_first, over_none, over_one, over_then}
+use Rattle.disk_layout.proofs.lemmas.chains.Directories.{directory-few}
+use Rattle.disk_layout.proofs.lemmas.layouts.Layouts.{IsLayout-one, get-contains}
+use Rattle.disk_layout.proofs.lemmas.lists.Lists.{take-get}
+use Rattle.disk_layout.proofs.lemmas.lists.Once.{Contains-here, Contains-there}
+use Rattle.disk_layout.proofs.lemmas.kept.Orders.{made_none, made_then, once-next, over_first, over_none, over_one}
+use Rattle.disk_layout.proofs.lemmas.kept.Orders.{over_then}
 use Rattle.disk_layout.specs.Chain.{EachOnce}
 use Rattle.disk_layout.specs.Directory.{IsDirectory, IsDirectoryPlace, map_place}
 use Rattle.disk_layout.specs.InOrder.{AreMade, GoesOver, WritesOther}
 use Rattle.disk_layout.specs.Layout.{IsLayout, IsSound, Layout}
 use Rattle.disk_layout.specs.declared.slot.Slot.{Slot}
-use Rattle.disk_layout.proofs.Recounts.{reread_layout}
+use Rattle.disk_layout.proofs.lemmas.counts.Recounts.{reread_layout}
 use Rattle.layout_check.proofs.Pointers.{read-there}
 use Rattle.layout_check.proofs.RightCounts.{
   all-counted,

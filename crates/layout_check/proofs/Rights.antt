@@ -4,7 +4,7 @@ use Rattle.std.specs.Prelude.{Contains, flat_map}
 use Rattle.std.proofs.lemmas.List.Elements.{Contains-append_cases, Contains-append_left, Contains-append_right}
 use Rattle.d64_image.specs.Images.{Image}
 use Rattle.d64_image.specs.declared.place.Place.{Place}
-use Rattle.disk_layout.proofs.Once.{EachOnce-apart, EachOnce-join, EachOnce-left, EachOnce-right}
+use Rattle.disk_layout.proofs.lemmas.lists.Once.{EachOnce-apart, EachOnce-join, EachOnce-left, EachOnce-right}
 use Rattle.disk_layout.specs.Chain.{EachOnce}
 use Rattle.disk_layout.specs.Directory.{map_place}
 use Rattle.disk_layout.specs.Layout.{File, IsLayout, Layout, file_owns, owners}

@@ -4,7 +4,7 @@ use Rattle.d64_image.specs.History.{History, OnlyReads}
 use Rattle.d64_image.specs.Images.{Image}
 use Rattle.d64_image.proofs.Moments.{reads_weaker}
 use Rattle.d64_image.specs.declared.place.Place.{Place}
-use Rattle.disk_layout.proofs.Chains.{IsChain-one, bad_link-no_chain, loop-no_chain}
+use Rattle.disk_layout.proofs.lemmas.chains.Chains.{IsChain-one, bad_link-no_chain, loop-no_chain}
 use Rattle.disk_layout.specs.Chain.{IsChain}
 use Rattle.disk_layout.specs.Directory.{IsDirectory, directory_start}
 use Rattle.disk_layout.specs.Fault.{Holds, HoldsOfChain, HoldsOfDirectory, TellsFault}

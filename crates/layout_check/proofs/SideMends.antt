@@ -28,9 +28,10 @@ use Rattle.d64_image.proofs.Places.{same_or_other}
 use Rattle.d64_image.specs.History.{Changes, History, OldOr, OnlyReads}
 use Rattle.d64_image.specs.Images.{Image, put, sector}
 use Rattle.d64_image.specs.declared.place.Place.{Place}
-use Rattle.disk_layout.proofs.Agree.{map-unowned, owned-side}
-use Rattle.disk_layout.proofs.Layouts.{IsFile-one, IsLayout-one, get-contains}
-use Rattle.disk_layout.proofs.Once.{
+use Rattle.disk_layout.proofs.lemmas.layouts.Agree.{map-unowned, owned-side}
+use Rattle.disk_layout.proofs.lemmas.layouts.Layouts.{IsFile-one, IsLayout-one, get-contains}
+use Rattle.disk_layout.proofs.lemmas.layouts.Twice.{get-one, told-sound}
+use Rattle.disk_layout.proofs.lemmas.lists.Once.{
   Contains-cases,
   Contains-nil,
   EachOnce-apart,
@@ -39,7 +40,6 @@ use Rattle.disk_layout.proofs.Once.{
   all-in,
   flat_map-in,
 }
-use Rattle.disk_layout.proofs.Twice.{get-one, told-sound}
 use Rattle.disk_layout.specs.Chain.{EachOnce}
 use Rattle.disk_layout.specs.Directory.{map_place}
 use Rattle.disk_layout.specs.Fault.{TellsFault}

@@ -29,9 +29,9 @@ use Rattle.d64_image.specs.History.{History, NeverFailed}
 use Rattle.d64_image.specs.Images.{Image, sector}
 use Rattle.d64_image.specs.declared.place.Place.{Place}
 use Rattle.d64_image.proofs.Places.{track_fits, track_from_1}
-use Rattle.disk_layout.proofs.Layouts.{IsDirectory-one, IsLayout-one}
-use Rattle.disk_layout.proofs.Once.{Contains-here, Contains-there, map-in}
-use Rattle.disk_layout.proofs.Unclean.{told-unclean}
+use Rattle.disk_layout.proofs.lemmas.layouts.Layouts.{IsDirectory-one, IsLayout-one}
+use Rattle.disk_layout.proofs.lemmas.layouts.Unclean.{told-unclean}
+use Rattle.disk_layout.proofs.lemmas.lists.Once.{Contains-here, Contains-there, map-in}
 use Rattle.disk_layout.specs.Clean.{IsClean, IsCleanLayout}
 use Rattle.disk_layout.specs.Directory.{IsDirectory, map_place}
 use Rattle.disk_layout.specs.Fault.{HoldsOfClean, TellsFault}

@@ -9,17 +9,17 @@ use Rattle.d64_image.specs.History.{Changes, History}
 use Rattle.d64_image.specs.Images.{Image}
 use Rattle.d64_image.specs.Mirrors.{IsMirrored, is_broken, mirror, mirrored_then, one_if}
 use Rattle.d64_image.proofs.FileRuns.{failed_by_file, file_disk, held_by_file, one_if-false, since_grows, since_whole}
-use Rattle.host_session.specs.Chains.{HasRun, HasRunToFailure, IsChain, over_instants, told_in}
-use Rattle.host_session.specs.Counted.{after_all}
-use Rattle.host_session.specs.Events.{Message}
-use Rattle.host_session.specs.Instants.{instant_of}
-use Rattle.host_session.specs.OneEvent.{EndsFailed, GoesOn, IsEvent}
-use Rattle.host_session.specs.Files.{Files, HasFiles}
-use Rattle.host_session.specs.Handling.{most_writes}
-use Rattle.host_session.specs.Quiet.{AreUncut, IsLeftAlone, IsQuiet}
-use Rattle.host_session.specs.Runs.{IsBlamed, blamed}
-use Rattle.host_session.specs.Shop.{Shop, shop_of, start_of, with_state}
-use Rattle.host_session.specs.Within.{AreFew, AreWithin, IsBounded, IsWithin, most_of_run}
+use Rattle.host_session.specs.runs.Chains.{HasRun, HasRunToFailure, IsChain, over_instants, told_in}
+use Rattle.host_session.specs.events.Counted.{after_all}
+use Rattle.host_session.specs.events.Events.{Message}
+use Rattle.host_session.specs.events.Instants.{instant_of}
+use Rattle.host_session.specs.events.OneEvent.{EndsFailed, GoesOn, IsEvent}
+use Rattle.host_session.specs.shop.Files.{Files, HasFiles}
+use Rattle.host_session.specs.session.Handling.{most_writes}
+use Rattle.host_session.specs.events.Quiet.{AreUncut, IsLeftAlone, IsQuiet}
+use Rattle.host_session.specs.runs.Runs.{IsBlamed, blamed}
+use Rattle.host_session.specs.shop.Shop.{Shop, shop_of, start_of, with_state}
+use Rattle.host_session.specs.events.Within.{AreFew, AreWithin, IsBounded, IsWithin, most_of_run}
 use Rattle.request_cards.specs.Ledgers.{State}
 use Rattle.request_cards.specs.Reading.{request_of}
 use Rattle.request_cards.specs.declared.reply.Reply.{Reply}

@@ -10,13 +10,13 @@ use Rattle.d64_image.specs.Keeps.{FileFailed, Keeps}
 use Rattle.d64_image.specs.Memory.{sectors_in}
 use Rattle.d64_image.specs.Mirrors.{IsMirrored, is_broken, mirror, mirror_image, one_if}
 use Rattle.d64_image.proofs.FileRuns.{file_disk, file_failed, one_if-false}
-use Rattle.host_session.specs.Opening.{Refuses, Untouched}
-use Rattle.host_session.specs.ScriptRuns.{IsScriptRun}
-use Rattle.host_session.specs.Telling.{Output}
 use Rattle.host_session.specs.declared.faults.OpenFault.{OpenFault}
 use Rattle.host_session.specs.declared.faults.OpenFault.TheVariants as opening
-use Rattle.host_session.specs.declared.running.ScriptFault.{ScriptFault}
-use Rattle.host_session.specs.declared.running.ScriptFault.TheVariants as script_faults
+use Rattle.host_session.specs.declared.runs.running.ScriptFault.{ScriptFault}
+use Rattle.host_session.specs.declared.runs.running.ScriptFault.TheVariants as script_faults
+use Rattle.host_session.specs.events.Telling.{Output}
+use Rattle.host_session.specs.runs.ScriptRuns.{IsScriptRun}
+use Rattle.host_session.specs.session.Opening.{Refuses, Untouched}
 use Rattle.script_lines.specs.Lines.{lines}
 use Rattle.script_lines.specs.Resets.{first_bad}
 use Rattle.ledger_commands.specs.Faults.{opening_fault, script_fault}

@@ -10,19 +10,19 @@ use Rattle.d64_image.specs.Images.{Image}
 use Rattle.d64_image.specs.Mirrors.{IsMirrored, is_broken, mirror}
 use Rattle.d64_image.proofs.FileRuns.{failed_by_file, file_disk, held_by_file, never_failed, since_grows}
 use Rattle.d64_image.proofs.Moments.{weaker}
-use Rattle.host_session.specs.Chains.{HasRun, told_in}
-use Rattle.host_session.specs.Events.{Message, messages_of}
-use Rattle.host_session.specs.Instants.{instant_of}
-use Rattle.host_session.specs.Loops.{IsToldWhole}
-use Rattle.host_session.specs.Opening.{IsAShop, Refuses}
-use Rattle.host_session.specs.Runs.{HeldBeginnings, IsBlamed, IsPlayed, IsRefused, IsSomeBeginning}
-use Rattle.host_session.specs.ScriptRuns.{IsPlayedOut, IsPlayedToDevice, IsPlayedToOutput, IsScriptRun}
-use Rattle.host_session.specs.Shop.{Shop}
-use Rattle.host_session.specs.Telling.{Output}
-use Rattle.host_session.specs.Within.{AreFewWithin}
 use Rattle.host_session.specs.declared.faults.OpenFault.{OpenFault}
 use Rattle.host_session.specs.declared.faults.OpenFault.TheVariants as opening
-use Rattle.host_session.specs.declared.running.ScriptFault.{ScriptFault}
+use Rattle.host_session.specs.declared.runs.running.ScriptFault.{ScriptFault}
+use Rattle.host_session.specs.events.Events.{Message, messages_of}
+use Rattle.host_session.specs.events.Instants.{instant_of}
+use Rattle.host_session.specs.events.Telling.{Output}
+use Rattle.host_session.specs.events.Within.{AreFewWithin}
+use Rattle.host_session.specs.runs.Chains.{HasRun, told_in}
+use Rattle.host_session.specs.runs.Loops.{IsToldWhole}
+use Rattle.host_session.specs.runs.Runs.{HeldBeginnings, IsBlamed, IsPlayed, IsRefused, IsSomeBeginning}
+use Rattle.host_session.specs.runs.ScriptRuns.{IsPlayedOut, IsPlayedToDevice, IsPlayedToOutput, IsScriptRun}
+use Rattle.host_session.specs.session.Opening.{IsAShop, Refuses}
+use Rattle.host_session.specs.shop.Shop.{Shop}
 use Rattle.request_cards.specs.Ledgers.{State}
 use Rattle.request_cards.specs.declared.reply.Reply.{Reply}
 use Rattle.script_lines.specs.Lines.{lines}

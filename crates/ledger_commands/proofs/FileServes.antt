@@ -8,14 +8,14 @@ use Rattle.d64_image.specs.History.{History}
 use Rattle.d64_image.specs.Mirrors.{is_broken, mirror}
 use Rattle.d64_image.proofs.FileRuns.{failed_by_file, file_disk, never_failed}
 use Rattle.request_cards.specs.declared.reply.Reply.{Reply}
-use Rattle.host_session.proofs.Chained.{at_device}
-use Rattle.host_session.specs.Events.{Message}
-use Rattle.host_session.specs.Instants.{Instant, instant_of}
-use Rattle.host_session.specs.Shop.{Shop}
-use Rattle.host_session.specs.Telling.{Output}
-use Rattle.host_session.specs.Within.{AreFew, AreWithin}
+use Rattle.host_session.proofs.lemmas.runs.Chained.{at_device}
+use Rattle.host_session.specs.events.Events.{Message}
+use Rattle.host_session.specs.events.Instants.{Instant, instant_of}
+use Rattle.host_session.specs.events.Telling.{Output}
+use Rattle.host_session.specs.events.Within.{AreFew, AreWithin}
+use Rattle.host_session.specs.shop.Shop.{Shop}
 use Rattle.script_lines.specs.Lines.{lines}
-use Rattle.host_session.specs.declared.looping.LoopFault.{LoopFault}
+use Rattle.host_session.specs.declared.runs.looping.LoopFault.{LoopFault}
 use Rattle.serving.proofs.Handled.{handled_run}
 use Rattle.serving.proofs.Served.{all_uncut}
 use Rattle.serving.specs.AtOnce.{at_once}

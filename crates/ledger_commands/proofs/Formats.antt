@@ -2,7 +2,7 @@
 use Rattle.std.proofs.Common.{◌≡◌, ℕ, List, Option, Result, Ok, Err, inl, inr, refl, subst, sym}
 use Rattle.std.specs.Prelude.{IfErr, OnOk, codes}
 use Rattle.std.specs.Io.KnownBytes.{Appends}
-use Rattle.host_session.specs.Outputs.{AppendsPart}
+use Rattle.host_session.specs.runs.Outputs.{AppendsPart}
 use Rattle.ledger_commands.specs.Images.{AreFreshBytes, IsFormatted, IsHandedOver, IsWritten}
 use Rattle.ledger_commands.specs.declared.faults.RunFault.{RunFault}
 use Rattle.ledger_commands.specs.declared.faults.RunFault.TheVariants as run

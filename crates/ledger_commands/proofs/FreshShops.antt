@@ -9,11 +9,11 @@ use Rattle.d64_image.specs.History.{History}
 use Rattle.d64_image.specs.Images.{Image}
 use Rattle.d64_image.specs.Memory.{sectors_in}
 use Rattle.disk_layout.specs.BlankLayout.{blank_top}
-use Rattle.host_session.proofs.BlankShops.{blank-shop}
-use Rattle.host_session.proofs.PlainRuns.{plain_played}
-use Rattle.host_session.proofs.Shops.{IsShop-one}
-use Rattle.host_session.specs.Events.{HasNoReset}
-use Rattle.host_session.specs.Shop.{Shop, start_of}
+use Rattle.host_session.proofs.lemmas.runs.PlainRuns.{plain_played}
+use Rattle.host_session.proofs.lemmas.shop.BlankShops.{blank-shop}
+use Rattle.host_session.proofs.lemmas.shop.Shops.{IsShop-one}
+use Rattle.host_session.specs.events.Events.{HasNoReset}
+use Rattle.host_session.specs.shop.Shop.{Shop, start_of}
 use Rattle.request_cards.specs.Ledgers.{nothing, replies, report}
 use Rattle.script_lines.specs.Lines.{first_reset, is_reset, lines}
 use Rattle.ledger_commands.specs.FreshShops.{DryBeginsFresh, DryTellsReplies, FreshBytesAreADisk, FreshIsAShop}

@@ -2,12 +2,12 @@
 use Rattle.std.proofs.Common.{◌≡◌, ◌≢◌, ◌∙◌, ℕ, List, Option, None, Some, Result, Ok, Err, inl, inr}
 use Rattle.std.proofs.Common.{refl, ap, ⊎_elim}
 use Rattle.d64_image.specs.History.{History}
-use Rattle.host_session.specs.Events.{Message, messages_of}
-use Rattle.host_session.specs.ScriptRuns.{AreToldSo, IsPlayedOut, IsPlayedToDevice, IsPlayedToOutput, IsScriptRun}
-use Rattle.host_session.specs.Shop.{Shop}
-use Rattle.host_session.specs.Telling.{Output, TellsNone}
-use Rattle.host_session.specs.declared.running.ScriptFault.{ScriptFault}
-use Rattle.host_session.specs.declared.running.ScriptFault.TheVariants as script_faults
+use Rattle.host_session.specs.declared.runs.running.ScriptFault.{ScriptFault}
+use Rattle.host_session.specs.declared.runs.running.ScriptFault.TheVariants as script_faults
+use Rattle.host_session.specs.events.Events.{Message, messages_of}
+use Rattle.host_session.specs.events.Telling.{Output, TellsNone}
+use Rattle.host_session.specs.runs.ScriptRuns.{AreToldSo, IsPlayedOut, IsPlayedToDevice, IsPlayedToOutput, IsScriptRun}
+use Rattle.host_session.specs.shop.Shop.{Shop}
 use Rattle.request_cards.specs.declared.reply.Reply.{Reply}
 use Rattle.script_lines.specs.Lines.{lines}
 

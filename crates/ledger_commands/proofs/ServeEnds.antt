@@ -10,12 +10,12 @@ use Rattle.d64_image.specs.Keeps.{FileFailed}
 use Rattle.d64_image.specs.Memory.{sectors_in}
 use Rattle.d64_image.specs.Mirrors.{IsMirrored, is_broken, mirror, mirror_image, one_if}
 use Rattle.d64_image.proofs.FileRuns.{file_disk, file_failed, one_if-false}
-use Rattle.host_session.specs.Opening.{Refuses, Untouched}
-use Rattle.host_session.specs.Telling.{Output}
 use Rattle.host_session.specs.declared.faults.OpenFault.{OpenFault}
 use Rattle.host_session.specs.declared.faults.OpenFault.TheVariants as opening
-use Rattle.host_session.specs.declared.looping.LoopFault.{LoopFault}
-use Rattle.host_session.specs.declared.looping.LoopFault.TheVariants as loop
+use Rattle.host_session.specs.declared.runs.looping.LoopFault.{LoopFault}
+use Rattle.host_session.specs.declared.runs.looping.LoopFault.TheVariants as loop
+use Rattle.host_session.specs.events.Telling.{Output}
+use Rattle.host_session.specs.session.Opening.{Refuses, Untouched}
 use Rattle.serving.specs.Serves.{IsServed}
 use Rattle.ledger_commands.specs.Faults.{opening_fault}
 use Rattle.ledger_commands.specs.Serves.{IsServeFault, IsServedFile, IsServedOver, IsServiceStopped, loop_fault}

@@ -5,9 +5,9 @@ use Rattle.std.proofs.KnownBytes.{Appends-kept, Appends-trans}
 use Rattle.d64_image.specs.History.{Failed}
 use Rattle.d64_image.specs.Memory.{memory, sectors_in}
 use Rattle.d64_image.specs.declared.mem_disk.MemDisk.{MemDisk}
-use Rattle.host_session.specs.Opening.{Refuses}
 use Rattle.host_session.specs.declared.faults.OpenFault.{OpenFault}
 use Rattle.host_session.specs.declared.faults.OpenFault.TheVariants as opening
+use Rattle.host_session.specs.session.Opening.{Refuses}
 use Rattle.request_cards.specs.Ledgers.{State}
 use Rattle.ledger_commands.specs.Faults.{opening_fault}
 use Rattle.ledger_commands.specs.Shops.{IsShowFault}

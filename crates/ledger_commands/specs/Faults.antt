@@ -4,8 +4,8 @@ use Rattle.std.specs.declared.io.ErrorKind.{ErrorKind}
 use Rattle.std.specs.declared.io.ErrorKind.TheVariants as kinds
 use Rattle.host_session.specs.declared.faults.OpenFault.{OpenFault}
 use Rattle.host_session.specs.declared.faults.OpenFault.TheVariants as opening
-use Rattle.host_session.specs.declared.running.ScriptFault.{ScriptFault}
-use Rattle.host_session.specs.declared.running.ScriptFault.TheVariants as script
+use Rattle.host_session.specs.declared.runs.running.ScriptFault.{ScriptFault}
+use Rattle.host_session.specs.declared.runs.running.ScriptFault.TheVariants as script
 use Rattle.ledger_commands.specs.declared.dry_run.DryFault.{DryFault}
 use Rattle.ledger_commands.specs.declared.dry_run.DryFault.TheVariants as dry
 use Rattle.ledger_commands.specs.declared.faults.RunFault.{RunFault}

@@ -4,10 +4,10 @@ use Rattle.d64_image.specs.History.{History}
 use Rattle.d64_image.specs.Images.{Image}
 use Rattle.d64_image.specs.Memory.{sectors_in}
 use Rattle.disk_layout.specs.BlankLayout.{blank_top}
-use Rattle.host_session.specs.Blank.{blank_shop}
-use Rattle.host_session.specs.Events.{HasNoReset, messages_of}
-use Rattle.host_session.specs.Runs.{IsPlayedWhole}
-use Rattle.host_session.specs.Shop.{IsSettled, IsShop, Shop, start_of}
+use Rattle.host_session.specs.events.Events.{HasNoReset, messages_of}
+use Rattle.host_session.specs.runs.Runs.{IsPlayedWhole}
+use Rattle.host_session.specs.shop.Blank.{blank_shop}
+use Rattle.host_session.specs.shop.Shop.{IsSettled, IsShop, Shop, start_of}
 use Rattle.request_cards.specs.Ledgers.{replies, report}
 use Rattle.request_cards.specs.declared.reply.Reply.{Reply}
 use Rattle.script_lines.specs.Lines.{first_reset, lines}

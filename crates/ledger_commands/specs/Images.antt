@@ -10,7 +10,7 @@ use Rattle.disk_layout.specs.Clean.{IsClean}
 use Rattle.disk_layout.specs.Fault.{HoldsOfClean, HoldsOfDirectory, nowhere}
 use Rattle.disk_layout.specs.declared.faults.Fault.{Fault}
 use Rattle.disk_layout.specs.declared.slot.Slot.{Slot}
-use Rattle.host_session.specs.Outputs.{AppendsPart}
+use Rattle.host_session.specs.runs.Outputs.{AppendsPart}
 use Rattle.ledger_commands.specs.Texts.{listing}
 use Rattle.ledger_commands.specs.declared.faults.RunFault.{RunFault}
 use Rattle.ledger_commands.specs.declared.faults.RunFault.TheVariants as run

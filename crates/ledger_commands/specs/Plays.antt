@@ -4,9 +4,9 @@ use Rattle.d64_image.specs.FileDisks.{FileDisk, in_run}
 use Rattle.d64_image.specs.History.{History}
 use Rattle.d64_image.specs.Keeps.{FileFailed, Keeps}
 use Rattle.d64_image.specs.Memory.{sectors_in}
-use Rattle.host_session.specs.ScriptRuns.{IsScriptRun}
-use Rattle.host_session.specs.Telling.{Output}
-use Rattle.host_session.specs.declared.running.ScriptFault.{ScriptFault}
+use Rattle.host_session.specs.declared.runs.running.ScriptFault.{ScriptFault}
+use Rattle.host_session.specs.events.Telling.{Output}
+use Rattle.host_session.specs.runs.ScriptRuns.{IsScriptRun}
 use Rattle.script_lines.specs.Lines.{lines}
 use Rattle.script_lines.specs.Resets.{first_bad}
 use Rattle.ledger_commands.specs.Faults.{script_fault}

@@ -2,9 +2,9 @@
 use Rattle.std.specs.Prelude.{◌≡◌, ◌≢◌, ◌⊎◌, List, ℕ, Option, Result, Ok, Err, length}
 use Rattle.d64_image.specs.FileDisks.{FileDisk, in_run}
 use Rattle.d64_image.specs.Keeps.{FileFailed, Keeps}
-use Rattle.host_session.specs.Telling.{Output}
-use Rattle.host_session.specs.declared.looping.LoopFault.{LoopFault}
-use Rattle.host_session.specs.declared.looping.LoopFault.TheVariants as loop
+use Rattle.host_session.specs.declared.runs.looping.LoopFault.{LoopFault}
+use Rattle.host_session.specs.declared.runs.looping.LoopFault.TheVariants as loop
+use Rattle.host_session.specs.events.Telling.{Output}
 use Rattle.serving.specs.Serves.{IsServed}
 use Rattle.ledger_commands.specs.Faults.{opening_fault}
 use Rattle.ledger_commands.specs.Plays.{IsTakenUp, IsUnfailed, IsUntouched}

@@ -2,9 +2,9 @@
 use Rattle.std.specs.Prelude.{◌≡◌, ◌≢◌, ℕ, List, Option, length}
 use Rattle.std.specs.Io.KnownBytes.{Appends}
 use Rattle.d64_image.specs.Memory.{sectors_in}
-use Rattle.host_session.specs.Opening.{IsAShop, Refuses}
-use Rattle.host_session.specs.Shop.{IsShop, Shop}
 use Rattle.host_session.specs.declared.faults.OpenFault.{OpenFault}
+use Rattle.host_session.specs.session.Opening.{IsAShop, Refuses}
+use Rattle.host_session.specs.shop.Shop.{IsShop, Shop}
 use Rattle.ledger_commands.specs.Faults.{opening_fault}
 use Rattle.ledger_commands.specs.Shows.{shown_shop}
 use Rattle.ledger_commands.specs.declared.faults.RunFault.{RunFault}

@@ -2,7 +2,7 @@
 ghost use Rattle.std.specs.Prelude.{◌≡◌, ◌++◌, IfErr, IfOk, IfSome, OnOk, codes, length};
 ghost use Rattle.std.specs.Io.KnownBytes.{Appends, Keeps};
 ghost use Rattle.d64_image.specs.Memory.{disk_image, sectors_in};
-ghost use Rattle.host_session.specs.Outputs.{AppendsPart};
+ghost use Rattle.host_session.specs.runs.Outputs.{AppendsPart};
 ghost use Rattle.ledger_commands.specs.Images.{IsLoadFault};
 ghost use Rattle.ledger_commands.specs.declared.faults.RunFault.TheVariants as faults;
 

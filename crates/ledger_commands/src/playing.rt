@@ -3,7 +3,7 @@ ghost use Rattle.std.specs.Prelude.{◌≡◌, ◌≢◌, ◌⊎◌, Err, IfErr,
 ghost use Rattle.d64_image.specs.Keeps.{Agrees};
 ghost use Rattle.d64_image.specs.Memory.{sectors_in};
 ghost use Rattle.d64_image.specs.Mirrors.{is_broken, mirror_file};
-ghost use Rattle.host_session.specs.Telling.{TellsNone};
+ghost use Rattle.host_session.specs.events.Telling.{TellsNone};
 ghost use Rattle.ledger_commands.specs.Faults.{script_fault};
 ghost use Rattle.ledger_commands.specs.Plays.{IsFileFault, IsPlayEnd, IsPlayedFile};
 ghost use Rattle.ledger_commands.specs.declared.faults.RunFault.TheVariants as faults;

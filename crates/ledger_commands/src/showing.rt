@@ -1,7 +1,7 @@
 //! What an image holds of a shop, as it is printed.
 ghost use Rattle.std.specs.Prelude.{◌≡◌, ◌≢◌, ◌+◌, ◌++◌, ◌≤◌, IfErr, IfOk, OnOk, drop, false, length};
 ghost use Rattle.std.specs.Io.KnownBytes.{Appends};
-ghost use Rattle.host_session.specs.Shop.{IsShop, Shop};
+ghost use Rattle.host_session.specs.shop.Shop.{IsShop, Shop};
 ghost use Rattle.ledger_commands.specs.Shops.{IsShowFault, IsShown};
 ghost use Rattle.ledger_commands.specs.Shows.{card_lines, cards_to, shown_shop, till_lines};
 ghost use Rattle.ledger_commands.specs.declared.faults.RunFault.TheVariants as faults;

@@ -3,7 +3,7 @@ use Rattle.std.proofs.Common.{◌≡◌, ◌≢◌, ℕ, List, Result, Ok, Err, 
 use Rattle.std.specs.Prelude.{IfErr, IfOk, IsOk, None, Option, Some, length}
 use Rattle.std.specs.Io.KnownBytes.{Appends}
 use Rattle.d64_image.specs.Memory.{sectors_in}
-use Rattle.disk_layout.proofs.Unclean.{told-unclean}
+use Rattle.disk_layout.proofs.lemmas.layouts.Unclean.{told-unclean}
 use Rattle.disk_layout.specs.declared.faults.Fault.{Fault}
 use Rattle.ledger_commands.specs.Images.{IsCheckFault, IsVerdict}
 use Rattle.ledger_commands.specs.Texts.{verdict_text}

@@ -20,7 +20,7 @@ use Rattle.ledger_program.proofs.KeptOver.{is-done, is-refused, is-stopped}
 use Rattle.ledger_program.proofs.OverFiles.{broken_file, changes_of_file, handed-back, not_broken, not_failed}
 use Rattle.ledger_program.proofs.OverFiles.{refused_of_file, same_failures, taken_up, whole_file}
 use Rattle.ledger_program.specs.Kept.{IsMadeFault, IsMadeFile, IsMakeOver}
-use Rattle.rel_records.specs.Made.{HasNoRoom, IsCreating, IsTakenName, creation_writes}
+use Rattle.rel_records.specs.creation.Made.{HasNoRoom, IsCreating, IsTakenName, creation_writes}
 
 -- a creation writes five sectors at most
 few_writes : (l : Layout) → creation_writes l < 1000

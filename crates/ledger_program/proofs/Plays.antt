@@ -4,8 +4,8 @@ use Rattle.std.proofs.lemmas.Bool.{false≢true}
 use Rattle.std.proofs.lemmas.Option.{none-some}
 use Rattle.std.specs.Prelude.{None, is_some, length}
 use Rattle.d64_image.specs.Keeps.{Keeps}
-use Rattle.host_session.proofs.Judging.{refused-no_shop}
-use Rattle.host_session.specs.Telling.{Output}
+use Rattle.host_session.proofs.lemmas.judging.Judging.{refused-no_shop}
+use Rattle.host_session.specs.events.Telling.{Output}
 use Rattle.ledger_commands.specs.Plays.{IsFileFault, IsPlayedFile, IsUntouched}
 use Rattle.ledger_commands.specs.Shops.{IsOpenRefusal}
 use Rattle.ledger_commands.specs.Faults.{run_status}

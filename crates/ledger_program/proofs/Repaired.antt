@@ -12,7 +12,7 @@ use Rattle.d64_image.specs.Mirrors.{IsMirrored, is_broken, mirror, mirror_image}
 use Rattle.d64_image.specs.declared.mirror.Mirror.{Mirror}
 use Rattle.d64_image.specs.declared.place.Place.{Place}
 use Rattle.d64_image.specs.declared.sector_file.SectorFile.{Ghosts}
-use Rattle.disk_layout.proofs.Twice.{told-unsound}
+use Rattle.disk_layout.proofs.lemmas.layouts.Twice.{told-unsound}
 use Rattle.disk_layout.specs.Fault.{Holds, nowhere}
 use Rattle.disk_layout.specs.InOrder.{GoesOver}
 use Rattle.disk_layout.specs.Layout.{IsSound}

@@ -2,8 +2,8 @@
 use Rattle.std.proofs.Common.{◌≡◌, ℕ, List, None, Ok, Err, Option, refl, arith, inl, inr, length, ⊎_elim}
 use Rattle.std.proofs.lemmas.Bool.{false≢true}
 use Rattle.d64_image.specs.Keeps.{Keeps}
-use Rattle.host_session.proofs.Judging.{refused-no_shop}
-use Rattle.host_session.specs.Telling.{Output}
+use Rattle.host_session.proofs.lemmas.judging.Judging.{refused-no_shop}
+use Rattle.host_session.specs.events.Telling.{Output}
 use Rattle.ledger_commands.specs.Faults.{run_status}
 use Rattle.ledger_commands.specs.Serves.{IsServeFault, IsServedFile, IsUnserved}
 use Rattle.ledger_commands.specs.Shops.{IsOpenRefusal}

@@ -1,7 +1,7 @@
 -- What an image holds, shown, from how the command ended.
 use Rattle.std.proofs.Common.{◌≡◌, ◌≢◌, ℕ, List, Result, Ok, Err, refl, arith, inl, inr}
 use Rattle.std.specs.Prelude.{IfErr, OnOk, Option}
-use Rattle.host_session.proofs.Judging.{refused-no_shop}
+use Rattle.host_session.proofs.lemmas.judging.Judging.{refused-no_shop}
 use Rattle.ledger_commands.specs.Shops.{IsOpenRefusal, IsShowFault, IsShown}
 use Rattle.ledger_commands.specs.Faults.{run_status}
 use Rattle.ledger_program.specs.Ends.{end_of, exit_status}

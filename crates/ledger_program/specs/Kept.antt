@@ -19,10 +19,10 @@ use Rattle.keeper_commands.specs.declared.faults.KeepFault.{KeepFault}
 use Rattle.keeper_commands.specs.declared.faults.KeepFault.TheVariants as keep
 use Rattle.ledger_commands.specs.Plays.{IsTakenUp, IsUnfailed, IsUntouched}
 use Rattle.ledger_program.specs.Keeping.{keep_end}
-use Rattle.rel_records.specs.Growth.{IsFull, records_had}
-use Rattle.rel_records.specs.Made.{HasNoRoom, IsTakenName}
 use Rattle.rel_records.specs.Others.{HasRecords}
 use Rattle.rel_records.specs.Written.{grown_to}
+use Rattle.rel_records.specs.creation.Made.{HasNoRoom, IsTakenName}
+use Rattle.rel_records.specs.growth.Growth.{IsFull, records_had}
 use Rattle.script_lines.specs.Lines.{lines}
 
 -- What changes the disk of an image, over the file that was handed in and is handed back, ended so.

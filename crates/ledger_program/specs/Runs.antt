@@ -6,9 +6,9 @@ use Rattle.d64_image.specs.Memory.{sectors_in}
 use Rattle.disk_layout.specs.Clean.{IsClean}
 use Rattle.disk_layout.specs.Fault.{HoldsOfClean, HoldsOfDirectory, nowhere}
 use Rattle.disk_layout.specs.declared.faults.Fault.{Fault}
-use Rattle.host_session.specs.Opening.{IsAShop, Refuses}
-use Rattle.host_session.specs.Telling.{Output}
 use Rattle.host_session.specs.declared.faults.OpenFault.{OpenFault}
+use Rattle.host_session.specs.events.Telling.{Output}
+use Rattle.host_session.specs.session.Opening.{IsAShop, Refuses}
 use Rattle.ledger_commands.specs.Images.{IsCheckFault, IsFormatFault, IsFormattedPart, IsHandedOver, IsListFault}
 use Rattle.ledger_commands.specs.Images.{IsListed}
 use Rattle.ledger_commands.specs.Plays.{IsFileFault, IsPlayedFile, IsUntouched}

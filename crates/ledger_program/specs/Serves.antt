@@ -2,8 +2,8 @@
 use Rattle.std.specs.Prelude.{◌≡◌, ◌≢◌, ◌⊎◌, ℕ, List, IfErr, IsOk, Option, length}
 use Rattle.d64_image.specs.Keeps.{Keeps}
 use Rattle.d64_image.specs.Memory.{sectors_in}
-use Rattle.host_session.specs.Opening.{IsAShop}
-use Rattle.host_session.specs.Telling.{Output}
+use Rattle.host_session.specs.events.Telling.{Output}
+use Rattle.host_session.specs.session.Opening.{IsAShop}
 use Rattle.ledger_commands.specs.Serves.{IsServeFault, IsServedFile, IsUnserved}
 use Rattle.ledger_program.specs.Ends.{Ended, exit_status}
 use Rattle.ledger_program.specs.Runs.{IsNoShop}

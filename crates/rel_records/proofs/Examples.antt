@@ -26,11 +26,11 @@ use Rattle.d64_image.specs.declared.place.Place.{Place}
 use Rattle.disk_layout.specs.Blank.{requests_block, requests_side, stock_block, stock_side}
 use Rattle.disk_layout.specs.Directory.{directory_start, is_used, map_place, slot_in}
 use Rattle.disk_layout.specs.Layout.{File, Layout}
-use Rattle.rel_records.specs.Growth.{added, blocks_for, full, needed, run_writes, side_writes}
-use Rattle.rel_records.specs.Made.{creation_writes}
 use Rattle.rel_records.specs.Others.{KeepsOthers}
-use Rattle.rel_records.specs.Room.{IsFirstSlot, IsFullSector}
 use Rattle.rel_records.specs.Written.{grown_by, patched, room_in_first, touched, with_written, written}
+use Rattle.rel_records.specs.creation.Made.{creation_writes}
+use Rattle.rel_records.specs.creation.Room.{IsFirstSlot, IsFullSector}
+use Rattle.rel_records.specs.growth.Growth.{added, blocks_for, full, needed, run_writes, side_writes}
 
 -- STOCK, of 18 bytes a record: record 9256 needs 656 data blocks, record 10160 is the last of 720, one block holds 14
 blocks : (blocks_for 18 9256 ≡ 656) × (blocks_for 18 10160 ≡ 720) × (blocks_for 18 10161 ≡ 721) × (full 18 1 ≡ 14)

@@ -11,17 +11,17 @@ use Rattle.disk_layout.specs.Records.{records}
 use Rattle.disk_layout.specs.Rest.{IsFirst, IsNamed}
 use Rattle.rel_records.specs.Faults.{TellsRelFault}
 use Rattle.rel_records.specs.File.{IsFileOf, IsOf, OfItsFile, entry_of, length_of, records_in}
-use Rattle.rel_records.specs.Growth.{IsFull, IsTooLarge, added, growth_writes, records_had}
-use Rattle.rel_records.specs.Made.{HasNoRoom, IsCreating, IsMade, IsTakenName, StaysOf, creation_writes}
 use Rattle.rel_records.specs.Others.{KeepsRelFiles, LeavesRecords}
-use Rattle.rel_records.specs.Site.{HasFileAt}
 use Rattle.rel_records.specs.Written.{IsAbsent, IsDone, IsGrowingBy, IsGrowingTo, IsInOneBlock, IsRecord, IsWriting}
 use Rattle.rel_records.specs.Written.{grown_to, touched, with_written}
+use Rattle.rel_records.specs.creation.Made.{HasNoRoom, IsCreating, IsMade, IsTakenName, StaysOf, creation_writes}
+use Rattle.rel_records.specs.creation.Site.{HasFileAt}
+use Rattle.rel_records.specs.declared.creation.site.Site.{Site}
 use Rattle.rel_records.specs.declared.faults.RelFault.{RelFault}
 use Rattle.rel_records.specs.declared.faults.RelFault.TheVariants.{Device, Exists, Full, NotFound, NotPresent, Overflow}
 use Rattle.rel_records.specs.declared.faults.RelFault.TheVariants.{TooLarge}
 use Rattle.rel_records.specs.declared.rel_file.RelFile.{RelFile}
-use Rattle.rel_records.specs.declared.site.Site.{Site}
+use Rattle.rel_records.specs.growth.Growth.{IsFull, IsTooLarge, added, growth_writes, records_had}
 
 -- At most so many sectors are read and none is written. At Ok this holds of the answer; the one fault is the device's.
 pub record ReadsAtMost {D T : Type 0} (S : History D) (old new : D) (most : ℕ) (result : Result T RelFault)

@@ -29,10 +29,10 @@ use Rattle.std.specs.Prelude.{
 use Rattle.d64_image.specs.Images.{Image, Sector}
 use Rattle.disk_layout.specs.Layout.{File, Layout, record_length}
 use Rattle.disk_layout.specs.Records.{empty_record, records}
-use Rattle.rel_records.specs.Growth.{added, records_had}
 use Rattle.rel_records.specs.Others.{HasRecords}
 use Rattle.rel_records.specs.declared.faults.RelFault.{RelFault}
 use Rattle.rel_records.specs.declared.faults.RelFault.TheVariants.{Overflow}
+use Rattle.rel_records.specs.growth.Growth.{added, records_had}
 
 -- the L bytes of a record into which a text is written from a position on, counted from 1: the old bytes before it, the
 -- text as far as it fits, then zeros

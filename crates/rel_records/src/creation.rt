@@ -8,17 +8,21 @@ ghost use Rattle.disk_layout.specs.Layout.{IsLayout, IsSound, Layout};
 ghost use Rattle.rel_records.specs.Calls.{Chooses, Creates};
 ghost use Rattle.rel_records.specs.Faults.{TellsRelFault};
 ghost use Rattle.rel_records.specs.File.{IsLength};
-ghost use Rattle.rel_records.specs.Made.{HasNoRoom};
-ghost use Rattle.rel_records.specs.Site.{IsFileAt, IsRoomOf, IsSite};
+ghost use Rattle.rel_records.specs.creation.Made.{HasNoRoom};
+ghost use Rattle.rel_records.specs.creation.Site.{IsFileAt, IsRoomOf, IsSite};
 ghost use Rattle.rel_records.specs.declared.faults.RelFault.TheVariants.{Device};
 
-use crate::directory_room::{Room, find_room, has_name};
+pub(crate) mod directory_room;
+mod new_file;
+mod site;
+
+use crate::creation::directory_room::{Room, find_room, has_name};
+use crate::creation::new_file::write_file;
+use crate::creation::site::Site;
 use crate::faults::RelFault;
-use crate::finding::list_slots;
-use crate::new_file::write_file;
-use crate::next_block::take_next;
+use crate::growth::next_block::take_next;
+use crate::reading::finding::list_slots;
 use crate::rel_file::RelFile;
-use crate::site::Site;
 use crate::sizes::last_index;
 use arrayvec::ArrayVec;
 use d64_image::{Place, Sectors};

@@ -8,17 +8,23 @@ ghost use Rattle.disk_layout.specs.Layout.{File, Layout, record_length, sides_fo
 ghost use Rattle.disk_layout.specs.View.{blocks_free};
 ghost use Rattle.rel_records.specs.Calls.{Grows, GrowsBy};
 ghost use Rattle.rel_records.specs.File.{IsOf, OfItsFile, blocks_of, entry_of};
-ghost use Rattle.rel_records.specs.Growth.{fill_writes, full, needed, records_had, run_writes};
-ghost use Rattle.rel_records.specs.Steps.{HasRun, IsAt, IsFilledUp, IsKeptOf, IsRunTo, StandsFilled};
+ghost use Rattle.rel_records.specs.growth.Growth.{fill_writes, full, needed, records_had, run_writes};
+ghost use Rattle.rel_records.specs.growth.Steps.{HasRun, IsAt, IsFilledUp, IsKeptOf, IsRunTo, StandsFilled};
 
-use crate::counting::{has_records, records};
+mod filling;
+mod gathering;
+pub(crate) mod next_block;
+mod step_parts;
+mod steps;
+
 use crate::faults::RelFault;
-use crate::filling::fill_up;
-use crate::gathering::read_parts;
+use crate::growth::filling::fill_up;
+use crate::growth::gathering::read_parts;
+use crate::growth::step_parts::Parts;
+use crate::growth::steps::add_block;
+use crate::reading::counting::{has_records, records};
 use crate::rel_file::RelFile;
 use crate::sizes::{blocks_for, side_count};
-use crate::step_parts::Parts;
-use crate::steps::add_block;
 use d64_image::{DeviceFault, Sectors};
 use disk_layout::Bam;
 

@@ -2,34 +2,24 @@
 #![tactic(auto)]
 
 mod access;
-mod counting;
-mod creation;
-mod directory_room;
 mod faults;
-mod filling;
-mod finding;
-mod gathering;
-mod growth;
-mod in_order;
-mod lookup;
-mod new_file;
-mod next_block;
-mod parts;
-mod reading;
 mod rel_file;
-mod site;
 mod sizes;
-mod step_parts;
-mod steps;
 mod writing;
+// A file is found and measured, and a record is read of it.
+mod reading;
+// A file gets longer: what is kept in memory of it, its last blocks filled, then block by block.
+mod growth;
+// A new file: its room in the directory, what it takes of the disk, its sectors.
+mod creation;
 
-pub use counting::{has_records, records};
 pub use creation::create;
 pub use faults::RelFault;
-pub use finding::find;
 pub use growth::grow_to;
-pub use in_order::{LastBlock, read_next};
-pub use parts::record_parts;
+pub use reading::counting::{has_records, records};
+pub use reading::finding::find;
+pub use reading::in_order::{LastBlock, read_next};
+pub use reading::parts::record_parts;
 pub use reading::read_record;
 pub use rel_file::RelFile;
 pub use sizes::blocks_for;

@@ -5,13 +5,19 @@ ghost use Rattle.d64_image.specs.declared.place.Place.{Place};
 ghost use Rattle.disk_layout.specs.Chain.{named_at};
 ghost use Rattle.rel_records.specs.Calls.{HasRead, ReadsAtMost, ReadsRecord};
 ghost use Rattle.rel_records.specs.File.{IsOf, OfItsFile, blocks_of, records_in};
-ghost use Rattle.rel_records.specs.Block.{IsBlock};
+ghost use Rattle.rel_records.specs.reading.Block.{IsBlock};
+
+pub(crate) mod counting;
+pub(crate) mod finding;
+pub(crate) mod in_order;
+pub(crate) mod lookup;
+pub(crate) mod parts;
 
 use crate::access::read;
-use crate::counting::has_records;
 use crate::faults::RelFault;
-use crate::lookup::block_at;
-use crate::parts::record_parts;
+use crate::reading::counting::has_records;
+use crate::reading::lookup::block_at;
+use crate::reading::parts::record_parts;
 use crate::rel_file::RelFile;
 use arrayvec::ArrayVec;
 use d64_image::{Place, Sectors};

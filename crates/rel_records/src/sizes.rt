@@ -2,7 +2,7 @@
 ghost use Rattle.std.specs.Prelude.{◌≡◌, ◌≤◌, ◌<◌, ◌+◌, ◌-◌, ◌*◌, ◌⊎◌, MatchOption};
 ghost use Rattle.disk_layout.specs.Layout.{sides_for};
 ghost use Rattle.rel_records.specs.File.{IsLength};
-ghost use Rattle.rel_records.specs.Growth as growth;
+ghost use Rattle.rel_records.specs.growth.Growth as growth;
 
 use disk_layout::{DATA, POINTERS};
 

@@ -11,8 +11,8 @@ ghost use Rattle.rel_records.specs.declared.faults.RelFault.TheVariants.{Overflo
 use crate::access::{read, write};
 use crate::faults::RelFault;
 use crate::growth::grow_to;
-use crate::lookup::block_at;
-use crate::parts::patch;
+use crate::reading::lookup::block_at;
+use crate::reading::parts::patch;
 use crate::rel_file::RelFile;
 use d64_image::{Place, Sectors};
 use disk_layout::DATA;

@@ -9,12 +9,12 @@ use Rattle.request_cards.specs.Reading.{request_of}
 use Rattle.request_cards.specs.Requests.{Ask}
 use Rattle.request_cards.specs.declared.reply.Reply.{Reply}
 use Rattle.script_lines.specs.Lines.{lines}
-use Rattle.host_session.proofs.Chained.{run_rests, whole}
-use Rattle.host_session.specs.Chains.{HasRun, IsChain, over_instants, told_in}
-use Rattle.host_session.specs.Counted.{MayCount, after_all}
-use Rattle.host_session.specs.Events.{requests_of, uncut}
-use Rattle.host_session.specs.Handling.{media}
-use Rattle.host_session.specs.Shop.{IsSettled, Shop, start_of, with_state}
+use Rattle.host_session.proofs.lemmas.runs.Chained.{run_rests, whole}
+use Rattle.host_session.specs.events.Counted.{MayCount, after_all}
+use Rattle.host_session.specs.events.Events.{requests_of, uncut}
+use Rattle.host_session.specs.runs.Chains.{HasRun, IsChain, over_instants, told_in}
+use Rattle.host_session.specs.session.Handling.{media}
+use Rattle.host_session.specs.shop.Shop.{IsSettled, Shop, start_of, with_state}
 use Rattle.serving.specs.Inputs.{line_messages}
 use Rattle.serving.specs.Serves.{AreHandled, SettledInTurn}
 

@@ -7,14 +7,14 @@ use Rattle.request_cards.specs.Ledgers.{after_message, reply_in}
 use Rattle.request_cards.specs.Requests.{Ask}
 use Rattle.request_cards.specs.declared.reply.Reply.{Reply}
 use Rattle.request_cards.specs.declared.reply.Reply.TheVariants.{Cut}
-use Rattle.host_session.specs.Chains.{HasRun, HasRunToFailure, IsChain}
-use Rattle.host_session.specs.Counted.{MayCount, after_all}
-use Rattle.host_session.specs.Events.{Message}
-use Rattle.host_session.specs.Handling.{is_next_request, media, most_writes}
-use Rattle.host_session.specs.OneEvent.{EndsFailed, GoesOn, IsEvent}
-use Rattle.host_session.specs.Quiet.{AreUncut, IsLeftAlone}
-use Rattle.host_session.specs.Shop.{IsShop, Shop, shop_of, start_of, with_state}
-use Rattle.host_session.specs.Within.{AreWithin, IsWithin}
+use Rattle.host_session.specs.events.Counted.{MayCount, after_all}
+use Rattle.host_session.specs.events.Events.{Message}
+use Rattle.host_session.specs.events.OneEvent.{EndsFailed, GoesOn, IsEvent}
+use Rattle.host_session.specs.events.Quiet.{AreUncut, IsLeftAlone}
+use Rattle.host_session.specs.events.Within.{AreWithin, IsWithin}
+use Rattle.host_session.specs.runs.Chains.{HasRun, HasRunToFailure, IsChain}
+use Rattle.host_session.specs.session.Handling.{is_next_request, media, most_writes}
+use Rattle.host_session.specs.shop.Shop.{IsShop, Shop, shop_of, start_of, with_state}
 use Rattle.serving.specs.Inputs.{AskTheSame, asked_in}
 
 -- what is asked, and where power goes

@@ -3,21 +3,21 @@ use Rattle.std.proofs.Common.{◌≡◌, ◌<◌, ◌≤◌, ◌+◌, ⊎_elim, 
 use Rattle.std.proofs.Common.{map, refl, sym, subst, ap, inl, inr, append-nil, length}
 use Rattle.std.proofs.lemmas.List.{length-map}
 use Rattle.d64_image.specs.History.{History}
-use Rattle.host_session.proofs.Chained.{at_device, whole}
-use Rattle.host_session.proofs.QuietRuns.{quiet_run, quiet_to_failure}
-use Rattle.host_session.specs.Asking.{messages_in}
-use Rattle.host_session.specs.Events.{Message, uncut}
-use Rattle.host_session.specs.Instants.{Instant}
-use Rattle.host_session.specs.Loops.{IsRun, IsRunToDevice, IsRunToOutput, IsRunWhole}
-use Rattle.host_session.specs.Quiet.{AreUncut, AskNothing, IsQuiet}
-use Rattle.host_session.specs.Opening.{disk_of}
-use Rattle.host_session.specs.Runs.{HeldBeginnings}
-use Rattle.host_session.specs.Shop.{IsShop, Shop}
-use Rattle.host_session.specs.Telling.{Output}
-use Rattle.host_session.specs.Within.{IsBounded, most_of_run}
-use Rattle.host_session.specs.declared.asking.Next.TheVariants as next
-use Rattle.host_session.specs.declared.looping.LoopFault.{LoopFault}
-use Rattle.host_session.specs.declared.looping.LoopFault.TheVariants as faults
+use Rattle.host_session.proofs.lemmas.runs.Chained.{at_device, whole}
+use Rattle.host_session.proofs.lemmas.runs.QuietRuns.{quiet_run, quiet_to_failure}
+use Rattle.host_session.specs.events.Asking.{messages_in}
+use Rattle.host_session.specs.events.Events.{Message, uncut}
+use Rattle.host_session.specs.events.Instants.{Instant}
+use Rattle.host_session.specs.runs.Loops.{IsRun, IsRunToDevice, IsRunToOutput, IsRunWhole}
+use Rattle.host_session.specs.events.Quiet.{AreUncut, AskNothing, IsQuiet}
+use Rattle.host_session.specs.session.Opening.{disk_of}
+use Rattle.host_session.specs.runs.Runs.{HeldBeginnings}
+use Rattle.host_session.specs.shop.Shop.{IsShop, Shop}
+use Rattle.host_session.specs.events.Telling.{Output}
+use Rattle.host_session.specs.events.Within.{IsBounded, most_of_run}
+use Rattle.host_session.specs.declared.events.asking.Next.TheVariants as next
+use Rattle.host_session.specs.declared.runs.looping.LoopFault.{LoopFault}
+use Rattle.host_session.specs.declared.runs.looping.LoopFault.TheVariants as faults
 use Rattle.script_lines.specs.Lines.{lines}
 use Rattle.serving.specs.AtOnce.{at_once, lent}
 use Rattle.serving.specs.Inputs.{HasTaken, asked_in, line_messages, of_input}

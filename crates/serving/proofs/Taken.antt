@@ -8,11 +8,11 @@ use Rattle.std.proofs.lemmas.List.{map-append}
 use Rattle.request_cards.specs.Reading.{request_of}
 use Rattle.request_cards.specs.Requests.{Ask}
 use Rattle.script_lines.specs.Lines.{lines, without_cr}
-use Rattle.host_session.specs.Asking.{IsNext, TakesNone, TakesOne, messages_in}
-use Rattle.host_session.specs.Events.{Message, uncut}
-use Rattle.host_session.specs.Instants.{Instant}
-use Rattle.host_session.specs.declared.asking.Next.{Next}
-use Rattle.host_session.specs.declared.asking.Next.TheVariants as next
+use Rattle.host_session.specs.declared.events.asking.Next.{Next}
+use Rattle.host_session.specs.declared.events.asking.Next.TheVariants as next
+use Rattle.host_session.specs.events.Asking.{IsNext, TakesNone, TakesOne, messages_in}
+use Rattle.host_session.specs.events.Events.{Message, uncut}
+use Rattle.host_session.specs.events.Instants.{Instant}
 use Rattle.serving.specs.Inputs.{AskTheSame, HasTaken, IsLineTaken, asked_in, line_messages, of_input}
 use Rattle.serving.specs.Read.{AreWhole, LacksLf}
 use Rattle.serving.specs.declared.inputs.OfInput.{OfInput}

@@ -2,8 +2,8 @@
 use Rattle.std.proofs.Common.{◌≡◌, ◌∙◌, ⊎_elim, List, [], ◌∷◌, ◌++◌, Err, Ok, Result, arith, inl, inr, refl}
 use Rattle.std.specs.Prelude.{OnOk}
 use Rattle.request_cards.specs.declared.reply.Reply.{Reply}
-use Rattle.host_session.specs.Instants.{Instant}
-use Rattle.host_session.specs.Telling.{BreaksOff, IsTold, Output, TellsNone, TellsOne}
+use Rattle.host_session.specs.events.Instants.{Instant}
+use Rattle.host_session.specs.events.Telling.{BreaksOff, IsTold, Output, TellsNone, TellsOne}
 use Rattle.serving.specs.AtOnce.{HandedOnInTurn, IsHeldBack, at_once, lent}
 use Rattle.serving.specs.declared.at_once.AtOnce.{AtOnce}
 

@@ -1,8 +1,8 @@
 -- Replies that are handed on one by one. All of it is our own.
 use Rattle.std.specs.Prelude.{◌≡◌, ◌⊎◌, List, [], ◌∷◌, ◌++◌, refl}
 use Rattle.request_cards.specs.declared.reply.Reply.{Reply}
-use Rattle.host_session.specs.Instants.{Instant}
-use Rattle.host_session.specs.Telling.{Output}
+use Rattle.host_session.specs.events.Instants.{Instant}
+use Rattle.host_session.specs.events.Telling.{Output}
 use Rattle.serving.specs.declared.at_once.AtOnce.{AtOnce}
 
 -- each of these replies was told by itself, and handed on before the next one was told

@@ -6,10 +6,10 @@ use Rattle.std.specs.Io.KnownBytes.{Consumes, IsAtEnd}
 use Rattle.request_cards.specs.Reading.{request_of}
 use Rattle.request_cards.specs.Requests.{Ask}
 use Rattle.script_lines.specs.Lines.{lines, without_cr}
-use Rattle.host_session.specs.Asking.{Source, messages_in}
-use Rattle.host_session.specs.Events.{Message, uncut}
-use Rattle.host_session.specs.declared.asking.Next.{Next}
-use Rattle.host_session.specs.declared.asking.Next.TheVariants as next
+use Rattle.host_session.specs.declared.events.asking.Next.{Next}
+use Rattle.host_session.specs.declared.events.asking.Next.TheVariants as next
+use Rattle.host_session.specs.events.Asking.{Source, messages_in}
+use Rattle.host_session.specs.events.Events.{Message, uncut}
 use Rattle.serving.specs.Read.{AreWhole, LacksLf}
 use Rattle.serving.specs.declared.inputs.OfInput.{OfInput}
 

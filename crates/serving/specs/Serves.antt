@@ -7,19 +7,19 @@ use Rattle.request_cards.specs.Reading.{request_of}
 use Rattle.request_cards.specs.Requests.{Ask}
 use Rattle.request_cards.specs.declared.reply.Reply.{Reply}
 use Rattle.script_lines.specs.Lines.{lines}
-use Rattle.host_session.specs.Chains.{HasRun, over_instants, told_in}
-use Rattle.host_session.specs.Events.{requests_of}
-use Rattle.host_session.specs.Instants.{Instant, instant_of}
-use Rattle.host_session.specs.Loops.{IsToldToDevice}
-use Rattle.host_session.specs.Opening.{IsAShop, Untouched, disk_of}
-use Rattle.host_session.specs.Quiet.{AskNothing}
-use Rattle.host_session.specs.Runs.{HeldBeginnings, IsPlayedWhole, IsRefused, StoppedByDevice}
-use Rattle.host_session.specs.Shop.{IsSettled, IsShop, Shop, start_of, with_state}
-use Rattle.host_session.specs.Telling.{Output}
-use Rattle.host_session.specs.Within.{AreFew, AreWithin, IsBounded}
 use Rattle.host_session.specs.declared.faults.OpenFault.{OpenFault}
-use Rattle.host_session.specs.declared.looping.LoopFault.{LoopFault}
-use Rattle.host_session.specs.declared.looping.LoopFault.TheVariants as faults
+use Rattle.host_session.specs.declared.runs.looping.LoopFault.{LoopFault}
+use Rattle.host_session.specs.declared.runs.looping.LoopFault.TheVariants as faults
+use Rattle.host_session.specs.events.Events.{requests_of}
+use Rattle.host_session.specs.events.Instants.{Instant, instant_of}
+use Rattle.host_session.specs.events.Quiet.{AskNothing}
+use Rattle.host_session.specs.events.Telling.{Output}
+use Rattle.host_session.specs.events.Within.{AreFew, AreWithin, IsBounded}
+use Rattle.host_session.specs.runs.Chains.{HasRun, over_instants, told_in}
+use Rattle.host_session.specs.runs.Loops.{IsToldToDevice}
+use Rattle.host_session.specs.runs.Runs.{HeldBeginnings, IsPlayedWhole, IsRefused, StoppedByDevice}
+use Rattle.host_session.specs.session.Opening.{IsAShop, Untouched, disk_of}
+use Rattle.host_session.specs.shop.Shop.{IsSettled, IsShop, Shop, start_of, with_state}
 use Rattle.serving.specs.AtOnce.{at_once}
 use Rattle.serving.specs.Inputs.{line_messages}
 use Rattle.serving.specs.Read.{AreWhole, LacksLf}

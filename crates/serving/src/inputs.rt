@@ -1,6 +1,6 @@
 //! An input as a source of messages, a line each.
 ghost use Rattle.std.specs.Prelude.{◌≡◌};
-ghost use Rattle.host_session.specs.declared.asking.Next.TheVariants as answers;
+ghost use Rattle.host_session.specs.declared.events.asking.Next.TheVariants as answers;
 ghost use Rattle.script_lines.specs.Lines.{without_cr};
 ghost use Rattle.serving.specs.Inputs.{IsLineTaken, of_input};
 

@@ -2,10 +2,10 @@
 use Rattle.std.proofs.Common.{ℕ, ◌≡◌, ◌≤◌, ◌⊎◌, List, true, false, inl, inr, arith}
 use Rattle.d64_image.proofs.Moments.{at_end, never_failed, never_failed_first, never_failed_rest}
 use Rattle.d64_image.specs.History.{Changes, Failed, History, NeverFailed}
-use Rattle.host_session.specs.Handling.{IsBeforeOrAfter, after_of}
-use Rattle.host_session.specs.Opening.{IsAShop}
-use Rattle.host_session.specs.Shop.{IsShop, Shop}
-use Rattle.host_session.specs.Standing.{View}
+use Rattle.host_session.specs.session.Handling.{IsBeforeOrAfter, after_of}
+use Rattle.host_session.specs.session.Opening.{IsAShop}
+use Rattle.host_session.specs.session.Standing.{View}
+use Rattle.host_session.specs.shop.Shop.{IsShop, Shop}
 use Rattle.tool_benchmarks.specs.Asked.{StaysOpen}
 
 module _ {D : Type 0} (S : History D) where

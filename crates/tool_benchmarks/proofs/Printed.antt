@@ -5,7 +5,7 @@ use Rattle.std.specs.Prelude.{flat_map, slice_get}
 use Rattle.std.specs.Io.KnownBytes.{Appends}
 use Rattle.std.proofs.KnownBytes.{Appends-trans}
 use Rattle.std.proofs.lemmas.List.{flat_map_more, take_all}
-use Rattle.disk_layout.proofs.Lists.{take-get}
+use Rattle.disk_layout.proofs.lemmas.lists.Lists.{take-get}
 use Rattle.rel_records.specs.Written.{IsRecord}
 use Rattle.tool_benchmarks.specs.Printed.{record_line}
 

@@ -1,8 +1,8 @@
 -- What messages leave of a session on a shop's disk. Our own.
 use Rattle.std.specs.Prelude.{◌≡◌, ◌≤◌, false}
 use Rattle.d64_image.specs.History.{History, NeverFailed}
-use Rattle.host_session.specs.Opening.{IsAShop}
-use Rattle.host_session.specs.Standing.{View}
+use Rattle.host_session.specs.session.Opening.{IsAShop}
+use Rattle.host_session.specs.session.Standing.{View}
 
 -- the disk is a shop's still, and the session dies only where the device failed
 pub record StaysOpen {D : Type 0} (S : History D) (old new : View D) : Type 0 where

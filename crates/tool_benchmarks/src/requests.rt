@@ -1,6 +1,6 @@
 //! Tills that ask a shop on a disk in turns, and lose the first reply to each request: so every second message is a repeat.
 ghost use Rattle.std.specs.Prelude.{◌≡◌, IfOk, length};
-ghost use Rattle.host_session.specs.Opening.{IsAShop};
+ghost use Rattle.host_session.specs.session.Opening.{IsAShop};
 ghost use Rattle.tool_benchmarks.specs.Asked.{StaysOpen};
 
 use d64_image::Sectors;

@@ -5,10 +5,10 @@ use Rattle.std.proofs.lemmas.Bool.{false≢true}
 use Rattle.std.specs.Prelude.{IsOk}
 use Rattle.d64_image.specs.Keeps.{KeptOnly, kept_or, none_kept}
 use Rattle.d64_image.specs.Memory.{sectors_in}
-use Rattle.host_session.specs.Events.{HasNoReset, messages_of, requests_of}
-use Rattle.host_session.specs.ScriptRuns.{AreToldSo}
-use Rattle.host_session.specs.Shop.{IsSettled, IsShop, Shop, start_of, with_state}
-use Rattle.host_session.specs.Telling.{Output}
+use Rattle.host_session.specs.events.Events.{HasNoReset, messages_of, requests_of}
+use Rattle.host_session.specs.events.Telling.{Output}
+use Rattle.host_session.specs.runs.ScriptRuns.{AreToldSo}
+use Rattle.host_session.specs.shop.Shop.{IsSettled, IsShop, Shop, start_of, with_state}
 use Rattle.request_cards.specs.Ledgers.{plain, replies}
 use Rattle.script_lines.specs.Lines.{lines}
 use Rattle.ledger_commands.specs.Plays.{IsPlayedFile}

@@ -6,10 +6,10 @@ use Rattle.d64_image.specs.History.{History}
 use Rattle.d64_image.specs.Images.{Image}
 use Rattle.d64_image.specs.Keeps.{Keeps, KeptOnly, kept_or}
 use Rattle.d64_image.specs.Memory.{sectors_in}
-use Rattle.host_session.specs.Events.{Message, messages_of}
-use Rattle.host_session.specs.Runs.{HeldBeginnings, IsBlamed, IsSomeBeginning}
-use Rattle.host_session.specs.Shop.{IsShop, Shop, start_of, with_state}
-use Rattle.host_session.specs.Telling.{Output}
+use Rattle.host_session.specs.events.Events.{Message, messages_of}
+use Rattle.host_session.specs.events.Telling.{Output}
+use Rattle.host_session.specs.runs.Runs.{HeldBeginnings, IsBlamed, IsSomeBeginning}
+use Rattle.host_session.specs.shop.Shop.{IsShop, Shop, start_of, with_state}
 use Rattle.request_cards.proofs.Plain.{plain_nil}
 use Rattle.script_lines.specs.Lines.{lines}
 use Rattle.ledger_commands.specs.Plays.{IsFileFault, IsPlayEnd, IsPlayedOver}

@@ -1,11 +1,11 @@
 -- What stays of a shop where power is lost at any moment of a run over a file in memory. Our own.
 use Rattle.std.specs.Prelude.{◌≡◌, ℕ, List, [], length}
 use Rattle.d64_image.specs.Memory.{sectors_in}
-use Rattle.host_session.specs.Events.{HasNoReset, Message, requests_of}
-use Rattle.host_session.specs.Runs.{IsSomeBeginning}
-use Rattle.host_session.specs.ScriptRuns.{AreToldSo}
-use Rattle.host_session.specs.Shop.{IsSettled, IsShop, Shop, start_of, with_state}
-use Rattle.host_session.specs.Telling.{Output}
+use Rattle.host_session.specs.events.Events.{HasNoReset, Message, requests_of}
+use Rattle.host_session.specs.events.Telling.{Output}
+use Rattle.host_session.specs.runs.Runs.{IsSomeBeginning}
+use Rattle.host_session.specs.runs.ScriptRuns.{AreToldSo}
+use Rattle.host_session.specs.shop.Shop.{IsSettled, IsShop, Shop, start_of, with_state}
 use Rattle.request_cards.specs.Ledgers.{plain, replies}
 use Rattle.script_lines.specs.Lines.{lines}
 use Rattle.tool_disk_file.specs.Disks.{disk_bytes}

@@ -1,6 +1,6 @@
 //! Scripts that are played on the shop of a file in memory, so that each sector is on its disk before anything else is done.
 ghost use Rattle.std.specs.Prelude.{◌≡◌, OnOk};
-ghost use Rattle.host_session.specs.Events.{messages_of};
+ghost use Rattle.host_session.specs.events.Events.{messages_of};
 ghost use Rattle.script_lines.specs.Lines.{lines};
 ghost use Rattle.tool_disk_file.specs.Files.{file_held};
 ghost use Rattle.tool_disk_file.specs.Shops.{IsPlayedToDisk, StaysAShop, bytes_there};

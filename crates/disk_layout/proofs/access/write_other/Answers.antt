@@ -1,7 +1,7 @@
 -- The sector is right already, or it is written.
 use Rattle.std.proofs.Common.{ap, not}
-use Rattle.disk_layout.proofs.OtherWrites.{equal-bytes, other-bytes, other_written, unwritten}
 use Rattle.disk_layout.proofs.access.write_other.Goals as goal
+use Rattle.disk_layout.proofs.lemmas.kept.OtherWrites.{equal-bytes, other-bytes, other_written, unwritten}
 
 pub returns-then-eq-clause-write : goal.returns-then-eq-clause-write
 returns-then-eq-clause-write g c = unwritten g.D.Sectors.history c.args.disk.now c.args.place c.args.had.now

@@ -3,10 +3,10 @@ use Rattle.std.proofs.Common.{sym, ◌∙◌, arith, inl, inr, length, refl}
 use Rattle.std.proofs.lemmas.Bool.{false≢true}
 use Rattle.d64_image.proofs.Places.{place_at-some}
 use Rattle.d64_image.proofs.Moments.{reads_then}
-use Rattle.disk_layout.proofs.Chains.{Leads-push}
-use Rattle.disk_layout.proofs.Once.{EachOnce-push}
-use Rattle.disk_layout.proofs.Walks.{not_in, IsSetOf-push, link-read, end-read, nowhere-read}
-use Rattle.disk_layout.proofs.AsFar.{walk-stops}
+use Rattle.disk_layout.proofs.lemmas.chains.Chains.{Leads-push}
+use Rattle.disk_layout.proofs.lemmas.lists.Once.{EachOnce-push}
+use Rattle.disk_layout.proofs.lemmas.chains.Walks.{not_in, IsSetOf-push, link-read, end-read, nowhere-read}
+use Rattle.disk_layout.proofs.lemmas.chains.AsFar.{walk-stops}
 use Rattle.disk_layout.proofs.as_far.walk_as_far.Goals as goal
 
 pub returns-then-sector-eq0-clause-walk : goal.returns-then-sector-eq0-clause-walk

@@ -3,9 +3,9 @@ use Rattle.std.proofs.Common.{List, arith, length, subst, ◌+◌, ◌∙◌, �
 use Rattle.std.specs.Prelude.{ℕ}
 use Rattle.d64_image.proofs.Moments.{at_end, changes_weaker}
 use Rattle.d64_image.specs.declared.place.Place.{Place}
-use Rattle.disk_layout.proofs.BlankClean.{blank-is_clean}
-use Rattle.disk_layout.proofs.Blanks.{AreWritten, blank-whole, moments-more, written-more, written-place}
 use Rattle.disk_layout.proofs.blank.blank_image.Goals as goal
+use Rattle.disk_layout.proofs.lemmas.blank.BlankClean.{blank-is_clean}
+use Rattle.disk_layout.proofs.lemmas.blank.Blanks.{AreWritten, blank-whole, moments-more, written-more, written-place}
 use Rattle.disk_layout.specs.Blank.{request_blocks}
 use Rattle.disk_layout.specs.Written.{IsWritten}
 

@@ -1,7 +1,7 @@
 -- The sectors below the loop's number are written, and no other than the blank image's.
 use Rattle.std.proofs.Common.{◌≡◌}
 use Rattle.d64_image.specs.History.{Changes}
-use Rattle.disk_layout.proofs.Blanks.{AreWritten}
+use Rattle.disk_layout.proofs.lemmas.blank.Blanks.{AreWritten}
 use Rattle.disk_layout.specs.Blank.{SameElsewhere, request_blocks}
 use Rattle.disk_layout.proofs.blank.blank_image.Given as goal
 

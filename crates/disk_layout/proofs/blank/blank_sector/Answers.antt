@@ -1,7 +1,7 @@
 -- The side sectors of the two files.
 use Rattle.std.proofs.Common.{subst, sym, ℕ}
-use Rattle.disk_layout.proofs.Blanks.{found-is, on-disk, requests-side-is, stock-side-is}
 use Rattle.disk_layout.proofs.blank.blank_sector.Goals as goal
+use Rattle.disk_layout.proofs.lemmas.blank.Blanks.{found-is, on-disk, requests-side-is, stock-side-is}
 use Rattle.disk_layout.specs.Blank.{requests_side, stock_block, stock_side}
 use Rattle.disk_layout.specs.Written.{IsWritten}
 

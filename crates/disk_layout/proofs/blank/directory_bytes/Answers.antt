@@ -1,6 +1,6 @@
 -- The two entries, one behind the other.
 use Rattle.std.proofs.Common.{◌∙◌}
-use Rattle.disk_layout.proofs.Blanks.{entry-is, found-is, on-disk}
+use Rattle.disk_layout.proofs.lemmas.blank.Blanks.{entry-is, found-is, on-disk}
 use Rattle.disk_layout.specs.Blank.{blank_directory, requests_block, requests_side, stock_block, stock_side}
 use Rattle.disk_layout.proofs.blank.directory_bytes.Goals as goal
 

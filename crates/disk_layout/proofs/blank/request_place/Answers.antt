@@ -1,8 +1,8 @@
 -- The disk has each of these sectors.
 use Rattle.std.proofs.Common.{arith, ◌+◌, ◌-◌}
 use Rattle.std.proofs.lemmas.Bool.Decides.{nat_tests}
-use Rattle.disk_layout.proofs.Blanks.{has-sector, request-at}
 use Rattle.disk_layout.proofs.blank.request_place.Goals as goal
+use Rattle.disk_layout.proofs.lemmas.blank.Blanks.{has-sector, request-at}
 
 pub known-requires : goal.known-requires
 known-requires c = has-sector 17 2 (omega arith)

@@ -1,7 +1,7 @@
 -- Before the first track, and track by track.
 use Rattle.std.proofs.Common.{arith, subst, sym, ◌+◌, ◌∙◌}
-use Rattle.disk_layout.proofs.Freeing.{IsMadeTo, made-none, made-track}
 use Rattle.disk_layout.proofs.blank_map.blank_map.Goals as goal
+use Rattle.disk_layout.proofs.lemmas.map.Freeing.{IsMadeTo, made-none, made-track}
 use Rattle.disk_layout.specs.Free.{IsFreeFrom}
 use Rattle.std.proofs.Common.{List, ℕ}
 

@@ -1,8 +1,8 @@
 -- The next sector is freed where the track has it.
 use Rattle.std.proofs.Common.{arith, subst, sym, ◌+◌, ◌≡◌}
-use Rattle.disk_layout.proofs.Freeing.{free-next, free-past, free-start, not-yet, past-track}
 use Rattle.disk_layout.proofs.blank_map.free_from.Goals as goal
 use Rattle.disk_layout.proofs.blank_map.free_from.Goals.{in-Some, in_default}
+use Rattle.disk_layout.proofs.lemmas.map.Freeing.{free-next, free-past, free-start, not-yet, past-track}
 use Rattle.disk_layout.specs.Free.{IsFreeFrom}
 use Rattle.disk_layout.specs.declared.bam.Bam.{Bam}
 

@@ -4,9 +4,9 @@ use Rattle.std.proofs.lemmas.Bool.{false≢true}
 use Rattle.std.proofs.lemmas.Result.{err_from_is_err_and}
 use Rattle.d64_image.proofs.Places.{place_at-some}
 use Rattle.d64_image.proofs.Moments.{failed_later, reads_then}
-use Rattle.disk_layout.proofs.Chains.{Leads-push}
-use Rattle.disk_layout.proofs.Once.{EachOnce-push}
-use Rattle.disk_layout.proofs.Walks.{not_in, IsSetOf-push, walk-end, link-read, end-read, nowhere-read}
+use Rattle.disk_layout.proofs.lemmas.chains.Chains.{Leads-push}
+use Rattle.disk_layout.proofs.lemmas.chains.Walks.{not_in, IsSetOf-push, walk-end, link-read, end-read, nowhere-read}
+use Rattle.disk_layout.proofs.lemmas.lists.Once.{EachOnce-push}
 use Rattle.disk_layout.specs.Fault.{HoldsOfChain, TellsFault}
 use Rattle.disk_layout.specs.declared.faults.Fault.{Fault}
 use Rattle.std.specs.Prelude.{ℕ, Err}

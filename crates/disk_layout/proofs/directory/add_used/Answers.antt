@@ -1,8 +1,8 @@
 -- A used slot is added, and a free one is not.
 use Rattle.arrayvec.specs.ArrayVec.{array_vec_len}
-use Rattle.disk_layout.proofs.Slots.{all-slots, push-used, skip-free}
 use Rattle.disk_layout.proofs.directory.add_used.Goals as goal
 use Rattle.disk_layout.proofs.directory.add_used.Goals.{else-slot-ne0, then-slot-ne0}
+use Rattle.disk_layout.proofs.lemmas.counts.Slots.{all-slots, push-used, skip-free}
 use Rattle.disk_layout.specs.Directory.{is_used, slot_in, slots_in}
 use Rattle.std.proofs.Common.{ap, arith, take, ◌++◌, ◌∙◌, ◌≡◌}
 use Rattle.std.specs.Prelude.{filter}

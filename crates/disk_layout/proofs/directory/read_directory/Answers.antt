@@ -4,7 +4,7 @@ use Rattle.std.specs.Prelude.{Err}
 use Rattle.std.proofs.lemmas.Bool.{false≢true}
 use Rattle.std.proofs.lemmas.Result.{err_from_is_err_and}
 use Rattle.d64_image.proofs.Moments.{failed_later, no_reads, reads_then, reads_weaker}
-use Rattle.disk_layout.proofs.Directories.{
+use Rattle.disk_layout.proofs.lemmas.chains.Directories.{
   bad-link,
   comes-back,
   directory-whole,

@@ -2,7 +2,7 @@
 use Rattle.std.proofs.Common.{◌*◌, ◌-◌, ◌<◌, ◌≡◌, ◌≤◌}
 use Rattle.arrayvec.specs.ArrayVec.{array_vec_len}
 use Rattle.d64_image.specs.History.{OnlyReads}
-use Rattle.disk_layout.proofs.Directories.{IsReached}
+use Rattle.disk_layout.proofs.lemmas.chains.Directories.{IsReached}
 use Rattle.disk_layout.specs.Directory.{used_slots}
 use Rattle.disk_layout.proofs.directory.read_directory.Given as goal
 

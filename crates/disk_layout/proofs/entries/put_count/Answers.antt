@@ -1,7 +1,7 @@
 -- The two bytes, low byte first.
 use Rattle.std.proofs.Common.{arith}
-use Rattle.disk_layout.proofs.CountWrites.{count-kept, count-written}
 use Rattle.disk_layout.proofs.entries.put_count.Goals as goal
+use Rattle.disk_layout.proofs.lemmas.counts.CountWrites.{count-kept, count-written}
 
 pub returns-clause-count : goal.returns-clause-count
 returns-clause-count c p = count-written c.args.bytes.now c.write_u16.new.buf _ p c.args.number _ c.args.count

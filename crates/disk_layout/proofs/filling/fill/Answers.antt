@@ -2,8 +2,9 @@
 use Rattle.std.proofs.Common.{arith, ap, ℕ, ◌∙◌, ◌+◌, ◌-◌}
 use Rattle.std.specs.Prelude.{min}
 use borrow.Rule.Slice.PartMut.{put_mid}
-use Rattle.disk_layout.proofs.EmptyRecords.{IsBegun, begun-filled, begun-kept, span, zeros-before, zeros-there}
 use Rattle.disk_layout.proofs.filling.fill.Goals as goal
+use Rattle.disk_layout.proofs.lemmas.records.EmptyRecords.{IsBegun, begun-filled, begun-kept, span, zeros-before}
+use Rattle.disk_layout.proofs.lemmas.records.EmptyRecords.{zeros-there}
 
 pub start_records-requires-clause-inside : goal.start_records-requires-clause-inside
 start_records-requires-clause-inside c r begin end =

@@ -1,6 +1,6 @@
 -- Each turn writes one place more.
 use Rattle.std.proofs.Common.{sym, arith}
-use Rattle.disk_layout.proofs.Listed.{written-step}
+use Rattle.disk_layout.proofs.lemmas.lists.Listed.{written-step}
 use Rattle.disk_layout.proofs.side.put_places.Goals as goal
 
 pub loop-i-preserved : goal.loop-i-preserved

@@ -1,5 +1,5 @@
 use Rattle.std.proofs.Common.{◌≡◌}
-use Rattle.disk_layout.proofs.Listed.{written}
+use Rattle.disk_layout.proofs.lemmas.lists.Listed.{written}
 use Rattle.disk_layout.proofs.side.put_places.Given as goal
 
 abbrev pub invariant-loop-i : goal.invariant-loop-i

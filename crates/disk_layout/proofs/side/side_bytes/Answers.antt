@@ -2,7 +2,7 @@
 use Rattle.std.proofs.Common.{List, ◌∷◌, [], take, flat_map, refl, sym, ◌∙◌, arith, length-take}
 use Rattle.d64_image.specs.declared.place.Place.{Place}
 use Rattle.disk_layout.specs.Side.{place_bytes}
-use Rattle.disk_layout.proofs.Listed.{put-both, length-place_bytes, take-min, side-parts}
+use Rattle.disk_layout.proofs.lemmas.lists.Listed.{put-both, length-place_bytes, take-min, side-parts}
 use Rattle.disk_layout.proofs.side.side_bytes.Goals as goal
 
 pub returns : goal.returns

@@ -3,7 +3,7 @@ use Rattle.drive_channels.proofs.Moves.{among, behind, large-row, not-many, past
 use Rattle.drive_channels.proofs.Orders.{no-truth}
 use Rattle.drive_channels.proofs.commands.go_to.Goals as goal
 use Rattle.rel_records.specs.File.{records_in}
-use Rattle.rel_records.specs.Growth.{blocks_for}
+use Rattle.rel_records.specs.growth.Growth.{blocks_for}
 
 pub returns-then-wanted-length-clause-row : goal.returns-then-wanted-length-clause-row
 returns-then-wanted-length-clause-row c = λ img s b found. past-row img c.args.found.now c.args.spot.now c.args.wanted s

@@ -1,6 +1,6 @@
 -- A law of requests, wherever they begin.
 use Rattle.request_cards.proofs.Ends.{ends_hold}
-use Rattle.host_session.specs.Shop.{start_of}
+use Rattle.host_session.specs.shop.Shop.{start_of}
 use Rattle.host_session.proofs.laws.both_ends.Goals as goal
 
 pub returns : goal.returns

@@ -3,7 +3,7 @@ use Rattle.std.proofs.Common.{◌∙◌, refl, subst, sym}
 use Rattle.std.proofs.KnownBytes.{Appends-nil}
 use Rattle.std.specs.Io.KnownBytes.{Appends}
 use Rattle.d64_image.specs.Memory.{disk_image}
-use Rattle.disk_layout.proofs.Joined.{joined-nil}
+use Rattle.disk_layout.proofs.lemmas.records.Joined.{joined-nil}
 use Rattle.keeper_commands.proofs.Blocks.{block-more}
 use Rattle.keeper_commands.proofs.chains.put_blocks.Goals as goal
 

@@ -2,7 +2,7 @@
 use Rattle.std.proofs.Common.{◌∙◌, inl, inr, refl, sym}
 use Rattle.std.proofs.lemmas.Bool.{false≢true}
 use Rattle.std.proofs.lemmas.Result.{IfErr-weaker, IfOk-weaker}
-use Rattle.disk_layout.proofs.Names.{named-match}
+use Rattle.disk_layout.proofs.lemmas.chains.Names.{named-match}
 use Rattle.keeper_commands.proofs.chains.walk_file.Goals as goal
 
 pub returns-in_default-clause-err : goal.returns-in_default-clause-err

@@ -7,7 +7,7 @@ use Rattle.byte_text.specs.Texts.{record_line}
 use Rattle.disk_layout.specs.Records as records_of
 use Rattle.keeper_commands.proofs.Printing.{all-lines, line-more}
 use Rattle.rel_records.specs.File.{IsFileOf, IsOf}
-use Rattle.rel_records.specs.Kept.{IsKept}
+use Rattle.rel_records.specs.reading.Kept.{IsKept}
 use Rattle.keeper_commands.proofs.record_printing.put_records.Goals as goal
 
 pub put_record-requires-clause-of : goal.put_record-requires-clause-of

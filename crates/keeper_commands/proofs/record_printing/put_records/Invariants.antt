@@ -5,7 +5,7 @@ use Rattle.d64_image.specs.Memory.{disk_image}
 use Rattle.disk_layout.specs.Records as records_of
 use Rattle.keeper_commands.specs.Records.{lines_to}
 use Rattle.rel_records.specs.File.{OfItsFile}
-use Rattle.rel_records.specs.Kept.{IsKept}
+use Rattle.rel_records.specs.reading.Kept.{IsKept}
 use Rattle.keeper_commands.proofs.record_printing.put_records.Given as goal
 
 abbrev pub invariant-loop-before : goal.invariant-loop-before

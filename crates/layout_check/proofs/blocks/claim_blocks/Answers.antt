@@ -3,10 +3,10 @@ use Rattle.std.proofs.Common.{arith, inl, length, lit<, refl, sym, ◌∙◌, �
 use Rattle.std.proofs.lemmas.Bool.{false≢true}
 use Rattle.std.proofs.lemmas.Result.{err_from_is_err_and}
 use Rattle.d64_image.proofs.Places.{place_at-some}
-use Rattle.disk_layout.proofs.Chains.{Leads-push}
-use Rattle.disk_layout.proofs.Names.{named-match}
-use Rattle.disk_layout.proofs.Once.{EachOnce-push}
-use Rattle.disk_layout.proofs.Walks.{end-read, link-read, nowhere-read, walk-end}
+use Rattle.disk_layout.proofs.lemmas.chains.Chains.{Leads-push}
+use Rattle.disk_layout.proofs.lemmas.chains.Names.{named-match}
+use Rattle.disk_layout.proofs.lemmas.chains.Walks.{end-read, link-read, nowhere-read, walk-end}
+use Rattle.disk_layout.proofs.lemmas.lists.Once.{EachOnce-push}
 use Rattle.layout_check.proofs.Calls.{passes_none, passes_read, passes_then, tells_read, tells_then, tells_weaker}
 use Rattle.layout_check.proofs.ClaimedBlocks.{owned-tells, room-left, unclaimed, unlinked-tells}
 use Rattle.layout_check.proofs.Claims.{claim-push}

@@ -4,8 +4,8 @@ use Rattle.std.proofs.lemmas.Result.{err_from_is_err_and}
 use Rattle.d64_image.proofs.Moments.{reads_no_write}
 use Rattle.d64_image.specs.Images.{Image, sector}
 use Rattle.d64_image.specs.declared.place.Place.{Place}
-use Rattle.disk_layout.proofs.Orders.{over_none}
-use Rattle.disk_layout.proofs.OtherWrites.{write_changes}
+use Rattle.disk_layout.proofs.lemmas.kept.Orders.{over_none}
+use Rattle.disk_layout.proofs.lemmas.kept.OtherWrites.{write_changes}
 use Rattle.disk_layout.specs.Directory.{map_place}
 use Rattle.disk_layout.specs.InOrder.{AreMade}
 use Rattle.disk_layout.specs.Layout.{IsLayout}

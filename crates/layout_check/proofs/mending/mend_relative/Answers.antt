@@ -5,7 +5,7 @@ use Rattle.std.proofs.lemmas.Result.{err_from_is_err_and}
 use Rattle.d64_image.proofs.Moments.{no_write_then, reads_no_write}
 use Rattle.d64_image.specs.Images.{Image, sector}
 use Rattle.d64_image.specs.declared.place.Place.{Place}
-use Rattle.disk_layout.proofs.Orders.{over_none, over_read}
+use Rattle.disk_layout.proofs.lemmas.kept.Orders.{over_none, over_read}
 use Rattle.disk_layout.specs.InOrder.{AreMade, GoesOver}
 use Rattle.disk_layout.specs.Layout.{IsLayout}
 use Rattle.layout_check.proofs.Entries.{rel-closed}

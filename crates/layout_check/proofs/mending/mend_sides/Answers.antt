@@ -6,8 +6,8 @@ use Rattle.std.proofs.lemmas.Result.{err_from_is_err_and}
 use Rattle.d64_image.proofs.Moments.{no_change, no_reads, no_write, no_write_then, reads_no_write}
 use Rattle.d64_image.specs.Images.{Image, put, sector}
 use Rattle.d64_image.specs.declared.place.Place.{Place}
-use Rattle.disk_layout.proofs.Orders.{made_none, over_first, over_left, over_none}
-use Rattle.disk_layout.proofs.OtherWrites.{write_changes}
+use Rattle.disk_layout.proofs.lemmas.kept.Orders.{made_none, over_first, over_left, over_none}
+use Rattle.disk_layout.proofs.lemmas.kept.OtherWrites.{write_changes}
 use Rattle.disk_layout.specs.InOrder.{AreMade}
 use Rattle.layout_check.proofs.MapMends.{device_later, device_told, mends_read, mends_then, mends_weaker}
 use Rattle.layout_check.proofs.Pointers.{read-there}

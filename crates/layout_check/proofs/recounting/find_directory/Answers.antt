@@ -2,7 +2,7 @@
 use Rattle.std.proofs.Common.{ℕ, arith, sym}
 use Rattle.std.proofs.lemmas.Result.{err_from_is_err_and}
 use Rattle.d64_image.proofs.Moments.{reads_weaker}
-use Rattle.disk_layout.proofs.Chains.{IsChain-one}
+use Rattle.disk_layout.proofs.lemmas.chains.Chains.{IsChain-one}
 use Rattle.disk_layout.specs.Directory.{directory_start}
 use Rattle.layout_check.proofs.Calls.{passes_none, passes_weaker}
 use Rattle.layout_check.proofs.Roots.{again-tells}

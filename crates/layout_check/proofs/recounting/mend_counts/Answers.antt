@@ -2,8 +2,8 @@
 use Rattle.std.proofs.Common.{Err, ap, arith, ◌∙◌, ◌+◌, ◌≡◌}
 use Rattle.std.proofs.lemmas.Result.{err_from_is_err_and}
 use Rattle.d64_image.proofs.Moments.{at_end, reads_no_write}
-use Rattle.disk_layout.proofs.Layouts.{IsLayout-one, get-contains}
-use Rattle.disk_layout.proofs.Orders.{over_none}
+use Rattle.disk_layout.proofs.lemmas.kept.Orders.{over_none}
+use Rattle.disk_layout.proofs.lemmas.layouts.Layouts.{IsLayout-one, get-contains}
 use Rattle.disk_layout.specs.Layout.{IsLayout, Layout}
 use Rattle.layout_check.proofs.MapMends.{device_later}
 use Rattle.layout_check.proofs.Pointers.{read-there}

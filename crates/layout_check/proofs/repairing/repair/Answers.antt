@@ -3,7 +3,7 @@ use Rattle.std.proofs.Common.{ap, refl, ◌∙◌}
 use Rattle.std.proofs.lemmas.Result.{err_from_is_err_and}
 use Rattle.d64_image.proofs.Moments.{no_write_then, reads_no_write}
 use Rattle.d64_image.specs.Images.{sector}
-use Rattle.disk_layout.proofs.Orders.{over_none}
+use Rattle.disk_layout.proofs.lemmas.kept.Orders.{over_none}
 use Rattle.disk_layout.specs.Directory.{map_place}
 use Rattle.layout_check.specs.RepairOrder.{IsRight, repair_order}
 use Rattle.layout_check.proofs.RepairOrder.{order_after, spare_after}

@@ -5,7 +5,7 @@ use Rattle.std.proofs.lemmas.Option.{slice_get_within}
 use Rattle.std.proofs.lemmas.Result.{err_from_is_err_and}
 use Rattle.d64_image.specs.Images.{Image, sector}
 use Rattle.d64_image.specs.declared.place.Place.{Place}
-use Rattle.disk_layout.proofs.OtherWrites.{other-bytes}
+use Rattle.disk_layout.proofs.lemmas.kept.OtherWrites.{other-bytes}
 use Rattle.layout_check.proofs.Calls.{
   passes_read,
   passes_then,

@@ -2,8 +2,8 @@
 use Rattle.std.proofs.Common.{ap, arith, lit<, ◌∙◌, ◌<◌, length, refl, ◌+◌}
 use Rattle.std.proofs.lemmas.Result.{err_from_is_err_and}
 use Rattle.d64_image.specs.Images.{Image, sector}
-use Rattle.disk_layout.proofs.Chains.{Leads-push}
-use Rattle.disk_layout.proofs.Names.{named-match}
+use Rattle.disk_layout.proofs.lemmas.chains.Chains.{Leads-push}
+use Rattle.disk_layout.proofs.lemmas.chains.Names.{named-match}
 use Rattle.disk_layout.specs.Layout.{sides_for}
 use Rattle.layout_check.proofs.Calls.{
   passes_none,

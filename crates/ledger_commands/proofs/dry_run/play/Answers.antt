@@ -5,7 +5,7 @@ use Rattle.std.proofs.KnownBytes.{Appends-trans}
 use Rattle.request_cards.specs.Texts.{reply_text}
 use Rattle.script_lines.specs.Lines.{lines}
 use Rattle.ledger_commands.specs.Tables.{dry_start, state_of}
-use Rattle.host_session.proofs.Reports.{wrote_line}
+use Rattle.host_session.proofs.lemmas.events.Reports.{wrote_line}
 use Rattle.ledger_commands.proofs.Replies.{report_more}
 use Rattle.ledger_commands.proofs.dry_run.play.Goals as goal
 

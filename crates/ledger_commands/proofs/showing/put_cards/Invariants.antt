@@ -1,7 +1,7 @@
 -- The cards of the items so far were printed.
 use Rattle.std.proofs.Common.{◌*◌}
 use Rattle.std.specs.Io.KnownBytes.{Appends}
-use Rattle.host_session.specs.Shop.{IsShop, Shop}
+use Rattle.host_session.specs.shop.Shop.{IsShop, Shop}
 use Rattle.ledger_commands.specs.Shows.{cards_to}
 use Rattle.ledger_commands.proofs.showing.put_cards.Given as goal
 

@@ -2,7 +2,7 @@
 use Rattle.std.proofs.Common.{◌≡◌, ℕ, subst, arith}
 use Rattle.std.specs.Prelude.{option_map}
 use Rattle.std.specs.Io.KnownBytes.{Appends}
-use Rattle.host_session.specs.Handling.{told_of}
+use Rattle.host_session.specs.session.Handling.{told_of}
 use Rattle.ledger_commands.proofs.Lines.{none-yet, one-more}
 use Rattle.ledger_commands.specs.Shows.{till_part, up_to}
 use Rattle.ledger_commands.proofs.showing.put_tills.Goals as goal

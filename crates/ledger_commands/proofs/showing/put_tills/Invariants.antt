@@ -1,8 +1,8 @@
 -- The requests of the tills so far were printed.
 use Rattle.std.specs.Prelude.{option_map}
 use Rattle.std.specs.Io.KnownBytes.{Appends}
-use Rattle.host_session.specs.Shop.{IsShop, Shop}
-use Rattle.host_session.specs.Handling.{told_of}
+use Rattle.host_session.specs.shop.Shop.{IsShop, Shop}
+use Rattle.host_session.specs.session.Handling.{told_of}
 use Rattle.ledger_commands.specs.Shows.{till_part, up_to}
 use Rattle.ledger_commands.proofs.showing.put_tills.Given as goal
 

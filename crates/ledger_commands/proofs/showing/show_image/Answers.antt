@@ -4,8 +4,8 @@ use Rattle.std.proofs.lemmas.Result.{IfErr-weaker, on_ok_weaker}
 use Rattle.d64_image.specs.Images.{Image}
 use Rattle.d64_image.specs.History.{Failed}
 use Rattle.d64_image.specs.Memory.{memory}
-use Rattle.host_session.specs.Opening.{Refuses}
-use Rattle.host_session.specs.Shop.{IsShop}
+use Rattle.host_session.specs.session.Opening.{Refuses}
+use Rattle.host_session.specs.shop.Shop.{IsShop}
 use Rattle.ledger_commands.proofs.Showings.{memory-never, show-refused}
 use Rattle.ledger_commands.specs.Shops.{IsShowFault}
 use Rattle.ledger_commands.proofs.showing.show_image.Goals as goal

@@ -1,6 +1,6 @@
 -- The lines of the last items so far stand at the room's end.
 use Rattle.std.proofs.Common.{◌≡◌, ◌≤◌, ◌+◌, ◌*◌, ◌-◌, ◌++◌, drop, length}
-use Rattle.host_session.specs.Shop.{IsShop, Shop}
+use Rattle.host_session.specs.shop.Shop.{IsShop, Shop}
 use Rattle.ledger_commands.specs.Shows.{cards_to}
 use Rattle.ledger_commands.proofs.showing.write_cards.Given as goal
 

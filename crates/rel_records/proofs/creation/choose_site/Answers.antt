@@ -3,14 +3,14 @@ use Rattle.std.proofs.Common.{arith, ap, subst, sym, ◌∙◌, inl, inr, refl}
 use Rattle.std.proofs.lemmas.Bool.{false≢true}
 use Rattle.d64_image.proofs.Moments.{no_write_then, reads_no_write, reads_then, reads_weaker, failed_later}
 use Rattle.d64_image.specs.Images.{Image, sector}
-use Rattle.disk_layout.proofs.Layouts.{IsLayout-one}
+use Rattle.disk_layout.proofs.lemmas.layouts.Layouts.{IsLayout-one}
 use Rattle.disk_layout.specs.Clean.{IsClean, IsCleanLayout}
 use Rattle.disk_layout.specs.Directory.{map_place}
 use Rattle.disk_layout.specs.Layout.{IsLayout, Layout}
-use Rattle.rel_records.proofs.Sites.{room-still, slot-taken, taken-slot}
-use Rattle.rel_records.proofs.Told.{device-not-exists, device-not-full, exists-not-full, fault-is, full-not-exists}
-use Rattle.rel_records.proofs.Told.{none-done, not-done, passed-on}
 use Rattle.rel_records.proofs.creation.choose_site.Goals as goal
+use Rattle.rel_records.proofs.lemmas.Told.{device-not-exists, device-not-full, exists-not-full, fault-is}
+use Rattle.rel_records.proofs.lemmas.Told.{full-not-exists, none-done, not-done, passed-on}
+use Rattle.rel_records.proofs.lemmas.creation.TakenNames.{room-still, slot-taken, taken-slot}
 
 clean-at : (img : Image) (l : Layout) → IsClean img → IsLayout img l → IsCleanLayout img l
 clean-at img l (k, clean) h = let P : Layout → Type 0 = IsCleanLayout img in

@@ -2,11 +2,11 @@
 use Rattle.std.proofs.Common.{subst, sym, inr, refl, ◌∙◌}
 use Rattle.std.proofs.lemmas.Result.{err_from_is_err_and}
 use Rattle.d64_image.specs.Images.{Image}
-use Rattle.rel_records.proofs.Made.{changed-others, made-file, quiet-moments, then-moments}
-use Rattle.rel_records.specs.Site.{HasFileAt, IsSite, sector_of}
+use Rattle.rel_records.proofs.lemmas.creation.Made.{changed-others, made-file, quiet-moments, then-moments}
+use Rattle.rel_records.specs.creation.Site.{HasFileAt, IsSite, sector_of}
 use Rattle.d64_image.proofs.Moments.{failed_later}
-use Rattle.rel_records.proofs.Told.{device-not-exists, device-not-full, none-done, not-done, passed-on}
 use Rattle.rel_records.proofs.creation.create.Goals as goal
+use Rattle.rel_records.proofs.lemmas.Told.{device-not-exists, device-not-full, none-done, not-done, passed-on}
 
 pub returns-in_err-site : goal.returns-in_err-site
 returns-in_err-site g c =

@@ -1,7 +1,7 @@
 -- Two sectors for the file, and the directory's room.
 use Rattle.std.proofs.Common.{arith, ap, ◌∷◌, inl, subst, sym}
 use Rattle.disk_layout.specs.View.{blocks_free}
-use Rattle.rel_records.proofs.Sites.{before-few, no-sector, room-slot, sector-site, slot-site}
+use Rattle.rel_records.proofs.lemmas.creation.Sites.{before-few, no-sector, room-slot, sector-site, slot-site}
 use Rattle.d64_image.specs.Images.{Sector}
 use Rattle.disk_layout.specs.Map.{IsMapOf}
 use Rattle.disk_layout.specs.Directory.{map_place}

@@ -2,13 +2,13 @@
 use Rattle.std.proofs.Common.{arith, refl, sym, ap, subst, ◌∙◌, ◌≡◌, ◌≤◌, ◌+◌, ℕ, length}
 use Rattle.d64_image.proofs.Moments.{changes_weaker, no_change}
 use Rattle.disk_layout.specs.View.{blocks_free}
-use Rattle.rel_records.proofs.Filled.{old-grows}
-use Rattle.rel_records.proofs.Running.{block-then, low-full, room-next, room-step, run-block, run-here, run-mono}
-use Rattle.rel_records.proofs.Running.{run-run}
-use Rattle.rel_records.proofs.Standing.{pos}
-use Rattle.rel_records.specs.Growth.{run_writes}
-use Rattle.rel_records.specs.Steps.{IsRunTo, taken_next}
-use Rattle.rel_records.proofs.Told.{not-done}
+use Rattle.rel_records.proofs.lemmas.filling.BeforeLast.{old-grows}
+use Rattle.rel_records.proofs.lemmas.growth.Running.{block-then, low-full, room-next, room-step, run-block, run-here}
+use Rattle.rel_records.proofs.lemmas.growth.Running.{run-mono, run-run}
+use Rattle.rel_records.proofs.lemmas.filling.Standing.{pos}
+use Rattle.rel_records.specs.growth.Growth.{run_writes}
+use Rattle.rel_records.specs.growth.Steps.{IsRunTo, taken_next}
+use Rattle.rel_records.proofs.lemmas.Told.{not-done}
 use Rattle.rel_records.proofs.growth.add_blocks.Goals as goal
 
 pub loop-count-init : goal.loop-count-init

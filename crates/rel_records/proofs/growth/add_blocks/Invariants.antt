@@ -2,8 +2,8 @@ use Rattle.std.proofs.Common.{ℕ, ◌≡◌, ◌≤◌, ◌-◌, length}
 use Rattle.d64_image.specs.History.{Changes}
 use Rattle.disk_layout.specs.Layout.{File, Layout, record_length}
 use Rattle.disk_layout.specs.View.{blocks_free}
-use Rattle.rel_records.specs.Growth.{full, needed, records_had, run_writes}
-use Rattle.rel_records.specs.Steps.{IsAt, IsFilledUp, IsRunTo}
+use Rattle.rel_records.specs.growth.Growth.{full, needed, records_had, run_writes}
+use Rattle.rel_records.specs.growth.Steps.{IsAt, IsFilledUp, IsRunTo}
 use Rattle.rel_records.specs.Written.{IsGrowingBy}
 use Rattle.rel_records.proofs.growth.add_blocks.Given as goal
 

@@ -2,12 +2,12 @@
 use Rattle.std.proofs.Common.{arith, sym, ap, ◌∙◌, ◌≤◌, length, refl}
 use Rattle.d64_image.proofs.Moments.{changes_weaker, reads_change}
 use Rattle.disk_layout.specs.View.{blocks_free}
-use Rattle.rel_records.proofs.Filled.{had-is}
-use Rattle.rel_records.proofs.Grows.{at-now, at-sides, at-some, fill-moments, had-of, has-run, long, room, run}
-use Rattle.rel_records.proofs.Grows.{run-moments, standing}
-use Rattle.rel_records.proofs.Kept.{growing_same}
-use Rattle.rel_records.specs.Growth.{needed}
-use Rattle.rel_records.proofs.Told.{not-done, tells-failed}
+use Rattle.rel_records.proofs.lemmas.filling.ReadyToEnd.{had-is}
+use Rattle.rel_records.proofs.lemmas.growth.Grows.{at-now, at-sides, at-some, fill-moments, had-of, has-run, long, room}
+use Rattle.rel_records.proofs.lemmas.growth.Grows.{run, run-moments, standing}
+use Rattle.rel_records.proofs.lemmas.Kept.{growing_same}
+use Rattle.rel_records.specs.growth.Growth.{needed}
+use Rattle.rel_records.proofs.lemmas.Told.{not-done, tells-failed}
 use Rattle.rel_records.proofs.growth.grow.Goals as goal
 
 pub returns-in_err-parts-clause-file : goal.returns-in_err-parts-clause-file

@@ -1,15 +1,15 @@
 -- What is refused, what is there, and growth.
 use Rattle.std.proofs.Common.{arith, refl, ap, ◌<◌, inl, inr, ◌∙◌, ◌⊎◌, subst, sym}
 use Rattle.d64_image.proofs.Moments.{changes_weaker, no_change, no_reads, failed_later, reads_weaker}
-use Rattle.rel_records.proofs.Counts.{fewer}
-use Rattle.rel_records.proofs.GrownTo.{blocks-more, grow-leaves, grow-moments, grow-others, leaves-here, of-now}
-use Rattle.rel_records.proofs.GrownTo.{read-moments, read-others, size-now, there-now, is-full, is-too-large, not-full}
-use Rattle.rel_records.proofs.GrownTo.{not-too-large, there-fits, there-small}
-use Rattle.rel_records.proofs.Kept.{growing_same, has-others, has_same}
+use Rattle.rel_records.proofs.lemmas.reading.Counts.{fewer}
+use Rattle.rel_records.proofs.lemmas.growth.GrownTo.{blocks-more, grow-leaves, grow-moments, grow-others, leaves-here}
+use Rattle.rel_records.proofs.lemmas.growth.GrownTo.{of-now, read-moments, read-others, size-now, there-now, is-full}
+use Rattle.rel_records.proofs.lemmas.growth.GrownTo.{is-too-large, not-full, not-too-large, there-fits, there-small}
+use Rattle.rel_records.proofs.lemmas.Kept.{growing_same, has-others, has_same}
 use Rattle.rel_records.specs.File.{records_in, blocks_of}
-use Rattle.rel_records.specs.Growth.{blocks_for, needed}
-use Rattle.rel_records.proofs.Told.{device-not-full, device-not-too-large, done-no-fault, full-not-too-large}
-use Rattle.rel_records.proofs.Told.{too-large-not-full}
+use Rattle.rel_records.specs.growth.Growth.{blocks_for, needed}
+use Rattle.rel_records.proofs.lemmas.Told.{device-not-full, device-not-too-large, done-no-fault, full-not-too-large}
+use Rattle.rel_records.proofs.lemmas.Told.{too-large-not-full}
 use Rattle.disk_layout.specs.View.{blocks_free}
 use Rattle.d64_image.specs.Images.{Image, sector}
 use Rattle.disk_layout.specs.Clean.{IsClean}

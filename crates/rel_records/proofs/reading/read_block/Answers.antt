@@ -2,7 +2,7 @@
 use Rattle.std.proofs.Common.{ap, ◌∙◌, refl, arith}
 use Rattle.d64_image.specs.Images.{Image, sector}
 use Rattle.d64_image.proofs.Moments.{reads_then, reads_weaker}
-use Rattle.rel_records.proofs.Told.{fault-is, if-so, none-done, passed-on, tells-rel-after}
+use Rattle.rel_records.proofs.lemmas.Told.{fault-is, if-so, none-done, passed-on, tells-rel-after}
 use Rattle.rel_records.proofs.reading.read_block.Goals as goal
 
 pub returns : goal.returns

@@ -1,5 +1,5 @@
 -- The index, for the last of the blocks.
-use Rattle.rel_records.proofs.Indexes.{index-is}
+use Rattle.rel_records.proofs.lemmas.filling.Indexes.{index-is}
 use Rattle.rel_records.proofs.sizes.last_index.Goals as goal
 
 pub returns : goal.returns

@@ -3,13 +3,13 @@ use Rattle.std.proofs.Common.{arith, length, refl, slice_index, subst, sym, ℕ,
 use Rattle.d64_image.specs.Images.{Image}
 use Rattle.disk_layout.specs.Layout.{record_length}
 use Rattle.disk_layout.specs.Records.{records}
-use Rattle.rel_records.proofs.Across.{both-moments, first-moments, leaves-both, leaves-half}
-use Rattle.rel_records.proofs.OneBlock.{clean-of, one-more}
-use Rattle.rel_records.proofs.Readings.{block-there, inside-of, next-is, next-some}
+use Rattle.rel_records.proofs.lemmas.writing.Across.{both-moments, first-moments, leaves-both, leaves-half}
+use Rattle.rel_records.proofs.lemmas.writing.OneBlock.{clean-of, one-more}
+use Rattle.rel_records.proofs.lemmas.reading.Readings.{block-there, inside-of, next-is, next-some}
 use Rattle.rel_records.specs.File.{length_of}
 use Rattle.rel_records.specs.Others.{LeavesRecords}
 use Rattle.rel_records.specs.Written.{with_written}
-use Rattle.rel_records.proofs.Told.{not-done, fault-is, passed-on}
+use Rattle.rel_records.proofs.lemmas.Told.{not-done, fault-is, passed-on}
 use Rattle.rel_records.proofs.writing.write_across.Goals as goal
 
 pub unwrap-requires : goal.unwrap-requires

@@ -1,10 +1,10 @@
 -- A block is read, patched and written: the image before, or that with the block as it is to be.
 use Rattle.std.proofs.Common.{inl, refl, arith, ap, ◌∙◌}
 use Rattle.d64_image.proofs.Moments.{weaker}
-use Rattle.rel_records.proofs.Told.{at-error, fault-is, none-done, not-done, passed-on}
+use Rattle.rel_records.proofs.lemmas.Told.{at-error, fault-is, none-done, not-done, passed-on}
 use Rattle.d64_image.specs.Images.{Image, Sector, put}
 use Rattle.rel_records.specs.Written.{patched}
-use Rattle.rel_records.proofs.OneBlock.{patched-held, patched-next}
+use Rattle.rel_records.proofs.lemmas.writing.OneBlock.{patched-held, patched-next}
 use Rattle.rel_records.proofs.writing.write_block.Goals as goal
 
 pub returns-in_err-read-clause-put : goal.returns-in_err-read-clause-put

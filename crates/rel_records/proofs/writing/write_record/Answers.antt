@@ -5,16 +5,18 @@ use Rattle.std.proofs.lemmas.Result.{err_from_is_err_and}
 use Rattle.d64_image.proofs.Moments.{at_end}
 use Rattle.d64_image.specs.History.{Changes}
 use Rattle.disk_layout.specs.Layout.{record_length}
-use Rattle.rel_records.proofs.Grown.{changes-growing, changes-grown, size-kept, written-then, writing-others}
-use Rattle.rel_records.proofs.Readings.{placed}
+use Rattle.rel_records.proofs.lemmas.writing.Grown.{changes-growing, changes-grown, size-kept, written-then}
+use Rattle.rel_records.proofs.lemmas.writing.Grown.{writing-others}
+use Rattle.rel_records.proofs.lemmas.reading.Readings.{placed}
 use Rattle.rel_records.specs.File.{length_of}
-use Rattle.rel_records.specs.Growth.{IsFull, IsTooLarge, added, growth_writes, records_had}
+use Rattle.rel_records.specs.growth.Growth.{IsFull, IsTooLarge, added, growth_writes, records_had}
 use Rattle.rel_records.specs.Written.{IsWriting, touched, IsInOneBlock}
 use Rattle.rel_records.specs.declared.faults.RelFault.{RelFault}
 use Rattle.rel_records.specs.declared.faults.RelFault.TheVariants.{Full, Overflow, TooLarge, Device}
-use Rattle.rel_records.proofs.Told.{cut-tells, device-not-full, device-not-overflow, fault-is, not-done}
-use Rattle.rel_records.proofs.Told.{overflow-not-full, passed-on, refusal-no-overflow, refused-undone, weaker-fault}
-use Rattle.rel_records.proofs.Sided.{ok-then}
+use Rattle.rel_records.proofs.lemmas.Told.{cut-tells, device-not-full, device-not-overflow, fault-is, not-done}
+use Rattle.rel_records.proofs.lemmas.Told.{overflow-not-full, passed-on, refusal-no-overflow, refused-undone}
+use Rattle.rel_records.proofs.lemmas.Told.{weaker-fault}
+use Rattle.rel_records.proofs.lemmas.steps.Sided.{ok-then}
 use Rattle.rel_records.proofs.writing.write_record.Goals as goal
 
 pub returns-in_err-grow_to : goal.returns-in_err-grow_to

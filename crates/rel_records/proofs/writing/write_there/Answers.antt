@@ -1,15 +1,15 @@
 -- The block is looked up, and then one is written, or two.
 use Rattle.std.proofs.Common.{arith, subst, sym, OnOk, ◌∙◌, refl}
 use Rattle.d64_image.specs.Images.{Image}
-use Rattle.rel_records.proofs.Composed.{reads_first, reads_only}
-use Rattle.rel_records.proofs.OneBlock.{old-moment, one-more}
-use Rattle.rel_records.proofs.Readings.{there-fits}
+use Rattle.rel_records.proofs.lemmas.reading.Readings.{there-fits}
+use Rattle.rel_records.proofs.lemmas.writing.Composed.{reads_first, reads_only}
+use Rattle.rel_records.proofs.lemmas.writing.OneBlock.{old-moment, one-more}
 use Rattle.rel_records.specs.File.{IsFileOf, IsOf, length_of}
 use Rattle.rel_records.specs.Written.{IsWriting, touched, with_written}
 use Rattle.disk_layout.specs.Layout.{record_length}
 use Rattle.disk_layout.specs.Records.{records}
 use Rattle.rel_records.specs.Others.{LeavesRecords}
-use Rattle.rel_records.proofs.Told.{error-then, at-error, tells-rel-after, not-done, fault-is, passed-on}
+use Rattle.rel_records.proofs.lemmas.Told.{error-then, at-error, tells-rel-after, not-done, fault-is, passed-on}
 use Rattle.disk_layout.specs.Clean.{IsClean}
 use Rattle.rel_records.proofs.writing.write_there.Goals as goal
 

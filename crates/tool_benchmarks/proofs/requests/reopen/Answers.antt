@@ -1,5 +1,5 @@
 use Rattle.std.proofs.Common.{subst, sym}
-use Rattle.host_session.specs.Opening.{IsAShop}
+use Rattle.host_session.specs.session.Opening.{IsAShop}
 use Rattle.tool_benchmarks.proofs.requests.reopen.Goals as goal
 
 -- a disk that is opened was a shop's, and is the same shop's

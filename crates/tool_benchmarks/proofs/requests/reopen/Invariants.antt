@@ -1,4 +1,4 @@
-use Rattle.host_session.specs.Opening.{IsAShop}
+use Rattle.host_session.specs.session.Opening.{IsAShop}
 use Rattle.tool_benchmarks.proofs.requests.reopen.Given as goal
 
 abbrev pub invariant-loop-round : goal.invariant-loop-round

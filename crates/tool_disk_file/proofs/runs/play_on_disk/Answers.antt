@@ -2,8 +2,8 @@
 use Rattle.std.proofs.Common.{◌≡◌, ◌∙◌, List, Some, ap, arith, inl, length, refl, subst, sym, ℕ}
 use Rattle.std.proofs.Math.Seq.{take_all}
 use Rattle.d64_image.specs.Memory.{sectors_in}
-use Rattle.host_session.specs.Events.{messages_of}
-use Rattle.host_session.specs.Shop.{IsShop, Shop}
+use Rattle.host_session.specs.events.Events.{messages_of}
+use Rattle.host_session.specs.shop.Shop.{IsShop, Shop}
 use Rattle.script_lines.specs.Lines.{lines}
 use Rattle.tool_disk_file.specs.Files.{file_held}
 use Rattle.tool_disk_file.specs.Shops.{IsAfterSome, WereThere, bytes_there}

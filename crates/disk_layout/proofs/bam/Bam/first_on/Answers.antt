@@ -1,7 +1,7 @@
 -- The lowest 1 of the first byte that isn't 0.
 use Rattle.std.proofs.Common.{rules, ◌+◌, ◌*◌, ◌<◌, slice_index}
-use Rattle.disk_layout.proofs.Picking.{first_in}
 use Rattle.disk_layout.proofs.bam.Bam.first_on.Goals as goal
+use Rattle.disk_layout.proofs.lemmas.map.Picking.{first_in}
 
 pub returns-then-bits-ne0 : goal.returns-then-bits-ne0
 returns-then-bits-ne0 c =

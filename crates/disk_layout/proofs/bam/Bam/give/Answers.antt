@@ -1,7 +1,7 @@
 -- The two stores give the sector back.
 use Rattle.std.proofs.Common.{ap, min, ◌+◌, ◌∙◌}
 use Rattle.disk_layout.specs.Map.{map_count}
-use Rattle.disk_layout.proofs.Bits.{turned-given}
+use Rattle.disk_layout.proofs.lemmas.map.Bits.{turned-given}
 use Rattle.disk_layout.proofs.bam.Bam.give.Goals as goal
 
 pub returns-then-not-is_free-clause-given : goal.returns-then-not-is_free-clause-given

@@ -1,7 +1,7 @@
 -- The two stores take the sector.
 use Rattle.std.proofs.Common.{ap, ◌-◌, ◌∙◌}
 use Rattle.disk_layout.specs.Map.{map_count}
-use Rattle.disk_layout.proofs.Bits.{turned-taken}
+use Rattle.disk_layout.proofs.lemmas.map.Bits.{turned-taken}
 use Rattle.disk_layout.proofs.bam.Bam.take.Goals as goal
 
 pub returns-then-is_free-clause-taken : goal.returns-then-is_free-clause-taken

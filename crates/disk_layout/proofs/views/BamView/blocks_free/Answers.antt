@@ -3,7 +3,7 @@ use Rattle.std.proofs.Common.{ap, arith, ◌+◌, ◌∙◌, ◌≡◌}
 use Rattle.std.specs.Prelude.{sum_by}
 use Rattle.disk_layout.specs.Map.{numbers_below}
 use Rattle.disk_layout.specs.View.{blocks_free, data_count}
-use Rattle.disk_layout.proofs.Sums.{sum_more}
+use Rattle.disk_layout.proofs.lemmas.lists.Sums.{sum_more}
 use Rattle.disk_layout.proofs.views.BamView.blocks_free.Goals as goal
 
 pub loop-below-preserved : goal.loop-below-preserved

@@ -2,7 +2,7 @@
 use Rattle.std.proofs.Common.{arith}
 use Rattle.d64_image.specs.Places.{index_of}
 use Rattle.d64_image.proofs.Places.{index_below}
-use Rattle.disk_layout.proofs.Marks.{marked, unmarked_less}
+use Rattle.disk_layout.proofs.lemmas.lists.Marks.{marked, unmarked_less}
 use Rattle.disk_layout.specs.Visited.{room}
 use Rattle.disk_layout.proofs.visited.Visited.insert.Goals as goal
 

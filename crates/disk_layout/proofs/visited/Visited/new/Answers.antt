@@ -1,5 +1,5 @@
 -- A table of 683 marks, none of which is set.
-use Rattle.disk_layout.proofs.Marks.{none_marked, none_counted}
+use Rattle.disk_layout.proofs.lemmas.lists.Marks.{none_marked, none_counted}
 use Rattle.d64_image.specs.Places.{index_of}
 use Rattle.disk_layout.specs.Visited.{room}
 use Rattle.disk_layout.proofs.visited.Visited.new.Goals as goal

@@ -1,5 +1,5 @@
 use Rattle.std.proofs.Common.{◌≡◌, true, false, refl, arith, None, subst, sym, Option}
-use Rattle.disk_layout.proofs.Unclean.{told-unclean}
+use Rattle.disk_layout.proofs.lemmas.layouts.Unclean.{told-unclean}
 use Rattle.drive_channels.proofs.Refusals.{clean-fact, quiet}
 use Rattle.d64_image.proofs.Moments.{no_reads, reads_weaker}
 use Rattle.d64_image.specs.Images.{Image}

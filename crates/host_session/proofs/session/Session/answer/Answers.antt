@@ -2,9 +2,10 @@
 -- it.
 use Rattle.std.proofs.Common.{ap, sym, ◌∙◌}
 use Rattle.std.proofs.lemmas.Bool.{false≢true}
-use Rattle.host_session.specs.Standing.{nth}
-use Rattle.host_session.proofs.Answered.{answers-after, answers-dead, asked-none, known-entry, known-keeping}
-use Rattle.host_session.proofs.Answered.{known-number, ready-after, stands-after, stands-dead}
+use Rattle.host_session.specs.session.Standing.{nth}
+use Rattle.host_session.proofs.lemmas.session.Answered.{answers-after, answers-dead, asked-none, known-entry}
+use Rattle.host_session.proofs.lemmas.session.Answered.{known-keeping, known-number, ready-after, stands-after}
+use Rattle.host_session.proofs.lemmas.session.Answered.{stands-dead}
 use Rattle.host_session.proofs.session.Session.answer.Goals as goal
 
 pub next_card-card-requires-clause-entry : goal.next_card-card-requires-clause-entry

@@ -1,7 +1,7 @@
 use Rattle.std.proofs.Common.{ap, sym, ◌∙◌}
 use Rattle.request_cards.specs.Ledgers.{State}
-use Rattle.host_session.specs.Standing.{View}
-use Rattle.host_session.proofs.Shops.{standing-state}
+use Rattle.host_session.specs.session.Standing.{View}
+use Rattle.host_session.proofs.lemmas.shop.Shops.{standing-state}
 use Rattle.host_session.proofs.session.Session.card.Goals as goal
 
 pub returns-clause-ok : goal.returns-clause-ok

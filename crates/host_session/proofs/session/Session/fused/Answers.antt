@@ -2,7 +2,7 @@
 use Rattle.std.proofs.Common.{◌≡◌, ◌∙◌, ap, subst, sym}
 use Rattle.d64_image.specs.Fuses.{fuse_disk}
 use Rattle.disk_layout.specs.Clean.{IsClean}
-use Rattle.host_session.specs.Standing.{IsStanding, state_in}
+use Rattle.host_session.specs.session.Standing.{IsStanding, state_in}
 use Rattle.host_session.proofs.session.Session.fused.Goals as goal
 
 pub invariant_of-result : goal.invariant_of-result

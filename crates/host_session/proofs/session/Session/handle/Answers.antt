@@ -1,14 +1,14 @@
 -- A message that is a request is answered as that; another one leaves all as it is.
 use Rattle.std.proofs.Common.{ap, arith, inl, inr, refl, sym, ◌∙◌, ◌≡◌, true}
 use Rattle.request_cards.specs.Ledgers.{reply_in}
-use Rattle.host_session.specs.Handling.{media}
-use Rattle.host_session.specs.Shop.{start_of}
-use Rattle.host_session.specs.Standing.{View}
-use Rattle.host_session.proofs.Handled.{media-word, no-moments, no-request, one-bool, one-option, syntax-other}
-use Rattle.host_session.proofs.Handled.{told-counted, told-failures, told-media, told-moments, told-quiet, told-reply}
-use Rattle.host_session.proofs.Handled.{told-writes}
-use Rattle.host_session.proofs.NextCards.{message-sums}
-use Rattle.host_session.proofs.Shops.{standing-settled}
+use Rattle.host_session.specs.session.Handling.{media}
+use Rattle.host_session.specs.shop.Shop.{start_of}
+use Rattle.host_session.specs.session.Standing.{View}
+use Rattle.host_session.proofs.lemmas.session.Handled.{media-word, no-moments, no-request, one-bool, one-option}
+use Rattle.host_session.proofs.lemmas.session.Handled.{syntax-other, told-counted, told-failures, told-media}
+use Rattle.host_session.proofs.lemmas.session.Handled.{told-moments, told-quiet, told-reply, told-writes}
+use Rattle.host_session.proofs.lemmas.session.NextCards.{message-sums}
+use Rattle.host_session.proofs.lemmas.shop.Shops.{standing-settled}
 use Rattle.host_session.proofs.session.Session.handle.Given.{Over}
 use Rattle.host_session.proofs.session.Session.handle.Goals as goal
 

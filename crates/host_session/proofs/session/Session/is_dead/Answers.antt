@@ -1,6 +1,6 @@
 use Rattle.std.proofs.Common.{ap, sym}
-use Rattle.host_session.specs.Standing.{View}
-use Rattle.host_session.proofs.Shops.{standing-settled}
+use Rattle.host_session.specs.session.Standing.{View}
+use Rattle.host_session.proofs.lemmas.shop.Shops.{standing-settled}
 use Rattle.host_session.proofs.session.Session.is_dead.Goals as goal
 
 pub returns-clause-settled : goal.returns-clause-settled

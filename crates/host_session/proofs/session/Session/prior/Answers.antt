@@ -1,8 +1,8 @@
 -- The tables hold the state of the session's shop.
 use Rattle.std.proofs.Common.{ap, sym, ◌∙◌}
-use Rattle.host_session.specs.Standing.{View}
-use Rattle.host_session.proofs.Shops.{standing-state}
-use Rattle.host_session.proofs.Tables.{none-prior, prior-told, some-prior}
+use Rattle.host_session.specs.session.Standing.{View}
+use Rattle.host_session.proofs.lemmas.shop.Shops.{standing-state}
+use Rattle.host_session.proofs.lemmas.session.Tables.{none-prior, prior-told, some-prior}
 use Rattle.host_session.proofs.session.Session.prior.Goals as goal
 
 pub returns-in_default-clause-ok : goal.returns-in_default-clause-ok

@@ -1,6 +1,6 @@
 use Rattle.std.proofs.Common.{ap, sym}
-use Rattle.host_session.specs.Standing.{View}
-use Rattle.host_session.proofs.Shops.{standing-tills}
+use Rattle.host_session.specs.session.Standing.{View}
+use Rattle.host_session.proofs.lemmas.shop.Shops.{standing-tills}
 use Rattle.host_session.proofs.session.Session.tills.Goals as goal
 
 pub returns : goal.returns

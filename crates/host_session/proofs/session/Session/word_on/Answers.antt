@@ -1,8 +1,8 @@
 -- The tables tell how a request stands in the shop; what isn't its till's next one changes nothing.
 use Rattle.std.proofs.Common.{ap, sym, ◌∙◌, refl}
 use Rattle.std.proofs.lemmas.Bool.{false≢true}
-use Rattle.host_session.specs.Standing.{View}
-use Rattle.host_session.proofs.Settled.{told-next, told-settled, told-word}
+use Rattle.host_session.specs.session.Standing.{View}
+use Rattle.host_session.proofs.lemmas.session.Settled.{told-next, told-settled, told-word}
 use Rattle.host_session.proofs.session.Session.word_on.Goals as goal
 
 pub answer-requires-clause-next : goal.answer-requires-clause-next

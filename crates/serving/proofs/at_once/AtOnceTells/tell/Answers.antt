@@ -1,6 +1,6 @@
 -- Told, and then handed on.
 use Rattle.std.proofs.Common.{refl}
-use Rattle.host_session.specs.Instants.{instant_of}
+use Rattle.host_session.specs.events.Instants.{instant_of}
 use Rattle.serving.specs.AtOnce.{at_once}
 use Rattle.serving.specs.declared.at_once.AtOnce.{AtOnce}
 use Rattle.serving.proofs.Turns.{lent_told, told_on}

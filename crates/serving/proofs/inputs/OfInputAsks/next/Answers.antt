@@ -1,6 +1,6 @@
 -- What taking a line came to.
 use Rattle.std.proofs.Common.{refl, arith}
-use Rattle.host_session.specs.Instants.{instant_of}
+use Rattle.host_session.specs.events.Instants.{instant_of}
 use Rattle.serving.proofs.Taken.{next_taken}
 use Rattle.serving.proofs.inputs.OfInputAsks.next.Goals as goal
 

@@ -1,0 +1,5 @@
+-- The blank image.
+pub mod BlankClean
+pub mod BlankPlaces
+pub mod Blanks
+pub mod BlankTop

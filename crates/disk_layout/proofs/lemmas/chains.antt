@@ -1,0 +1,6 @@
+-- Chains of sectors, and the directory's.
+pub mod AsFar
+pub mod Chains
+pub mod Directories
+pub mod Names
+pub mod Walks

@@ -1,0 +1,8 @@
+-- A file, or the directory, gets longer.
+pub mod Commit
+pub mod GrowthRecords
+pub mod LongerDirectory
+pub mod NewSide
+pub mod Refills
+pub mod Runs
+pub mod SideWrites

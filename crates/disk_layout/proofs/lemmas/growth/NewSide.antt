@@ -1,0 +1,110 @@
+-- A file takes a block and a new side sector.
+use Rattle.std.proofs.Common.{
+  List,
+  [],
+  ap,
+  append_assoc,
+  arith,
+  inl,
+  inr,
+  length,
+  length-append,
+  refl,
+  subst,
+  sym,
+  ℕ,
+  ◌++◌,
+  ◌+◌,
+  ◌<◌,
+  ◌∙◌,
+  ◌∷◌,
+  ◌≡◌,
+  ◌≢◌,
+  ◌≤◌,
+}
+use Rattle.std.proofs.lemmas.Grind.{flat_map-append}
+use Rattle.std.specs.Prelude.{Contains, Some, flat_map, slice_get}
+use Rattle.d64_image.specs.Images.{Image, sector}
+use Rattle.d64_image.specs.declared.place.Place.{Place}
+use Rattle.disk_layout.proofs.lemmas.growth.Commit.{IsReady, grown, once-grown, owners-grown}
+use Rattle.disk_layout.proofs.lemmas.growth.SideWrites.{IsLonger, get-append}
+use Rattle.disk_layout.proofs.lemmas.layouts.Exact.{exact-side}
+use Rattle.disk_layout.proofs.lemmas.lists.Once.{EachOnce-insert, insert-out}
+use Rattle.disk_layout.specs.Chain.{EachOnce, EndsAt, Names}
+use Rattle.disk_layout.specs.Directory.{map_place}
+use Rattle.disk_layout.specs.Layout.{File, IsRelFile, Layout, exchanged, file_owns, owners, record_length, sides_for}
+use Rattle.disk_layout.specs.Side.{side_sector}
+
+apart-shape : (dir B blocks sides A : List Place) (x : Place) → dir ++ (B ++ (((blocks ++ x ∷ []) ++ sides) ++ A))
+    ≡ ((dir ++ (B ++ blocks)) ++ (x ∷ sides)) ++ A
+apart-shape dir B blocks sides A x = simp append_assoc
+
+side-shape : (dir B blocks sides A : List Place) (x y : Place)
+    → dir ++ (B ++ (((blocks ++ x ∷ []) ++ (sides ++ y ∷ [])) ++ A)) ≡ ((dir ++ (B ++ blocks)) ++ (x ∷ sides))
+    ++ (y ∷ A)
+side-shape dir B blocks sides A x y = simp append_assoc
+
+-- both places were free and differ: each place still has one owner
+pub once-grown_side : (l : Layout) (before after : List File) (f : File) (fresh side : Place) (u : ℕ)
+    → EachOnce (map_place ∷ owners l) → l.files ≡ before ++ f ∷ after → ¬ (Contains (map_place ∷ owners l) fresh)
+    → ¬ (Contains (map_place ∷ owners l) side) → fresh ≢ side
+    → EachOnce (map_place ∷ owners (exchanged l before (grown f fresh u (f.sides ++ side ∷ [])) after))
+unfolding owners
+once-grown_side l before after f fresh side u once split free none ne =
+    let B = flat_map file_owns before in
+    let A = flat_map file_owns after in
+    let front : List Place = (l.directory ++ (B ++ f.blocks)) ++ (fresh ∷ f.sides) in
+    let one : l.directory ++ flat_map file_owns (before ++ grown f fresh u f.sides ∷ after) ≡ front ++ A =
+    ap (λ t. l.directory ++ t) (flat_map-append file_owns before (grown f fresh u f.sides ∷ after))
+    ∙ apart-shape l.directory B f.blocks f.sides A fresh in
+    let two : l.directory ++ flat_map file_owns (before ++ grown f fresh u (f.sides ++ side ∷ []) ∷ after) ≡ front
+    ++ (side ∷ A) =
+    ap (λ t. l.directory ++ t) (flat_map-append file_owns before (grown f fresh u (f.sides ++ side ∷ []) ∷ after))
+    ∙ side-shape l.directory B f.blocks f.sides A fresh side in
+    let P : List Place → Type 0 = λ ps. EachOnce (map_place ∷ ps) in
+    let Q : List Place → Type 0 = λ ps. ¬ (Contains (map_place ∷ ps) side) in
+    subst P (sym two) (EachOnce-insert (map_place ∷ front) A side
+    (subst P one (once-grown l before after f fresh u once split free)) (subst Q one new))
+  where
+    new : ¬ (Contains (map_place ∷ (l.directory ++ flat_map file_owns (before ++ grown f fresh u f.sides ∷ after)))
+        side)
+    new c =
+        let (xs, ys, old, now) = owners-grown l before after f fresh u split in
+        let P : List Place → Type 0 = λ ps. Contains (map_place ∷ ps) side in
+        elim (insert-out (map_place ∷ xs) ys fresh side (subst P now c)) [
+          | inl e ↦ ne e
+          | inr d ↦ none (subst P (sym old) d)
+        ]
+
+-- the longer file asks more of a side sector than the old one
+pub longer_side : (f : File) (fresh side : Place) (u : ℕ) → IsLonger f (grown f fresh u (f.sides ++ side ∷ []))
+longer_side f fresh side u = record {
+  slot = refl;
+  blocks = λ k q e. get-append f.blocks (fresh ∷ []) k q e;
+  sides = λ k q e. get-append f.sides (side ∷ []) k q e;
+}
+
+-- ready for the commit: the fresh block ends, and every side sector, the new one with them, has the bytes of the longer
+-- file
+pub ready_side : (a : Image) (f : File) (fresh side : Place) (u : ℕ) → IsRelFile a f → EndsAt a fresh u
+    → length f.sides + 1 ≡ sides_for (length f.blocks + 1) → 0 < length f.sides → length f.sides + 1 ≤ 6
+    → ((j : ℕ) (q : Place) → slice_get (f.sides ++ side ∷ []) j ≡ Some q
+    → sector a q ≡ side_sector j (f.blocks ++ fresh ∷ []) (f.sides ++ side ∷ []) (record_length f.slot))
+    → IsReady a f fresh u (f.sides ++ side ∷ [])
+ready_side a f fresh side u r ends count some few exact = record {
+  ends = ends;
+  count = length-append f.sides (side ∷ []) ∙ count;
+  first_side = λ q e. first f.sides refl q e;
+  sides = λ j q e. exact-side a (grown f fresh u (f.sides ++ side ∷ [])) j q
+      (omega (arith, length-append f.sides (side ∷ []), few)) (exact j q e);
+}
+  where
+    first : (ss : List Place) → f.sides ≡ ss → (q : Place) → slice_get (f.sides ++ side ∷ []) 0 ≡ Some q
+        → Names f.slot.bytes 21 q
+    first [] e q at = absurd (omega (arith, some, ap length e))
+    first (x ∷ ss) e q at =
+        let here : slice_get f.sides 0 ≡ Some x = ap (λ zs. slice_get zs 0) e in
+        let there : slice_get (f.sides ++ side ∷ []) 0 ≡ Some x = get-append f.sides (side ∷ []) 0 x here in
+        let both : Some x ≡ Some q = sym there ∙ at in
+        let same : x ≡ q = cc in
+        r.first_side q (here ∙ ap Some same)

@@ -1,0 +1,7 @@
+-- What writes leave alone.
+pub mod Kept
+pub mod Orders
+pub mod Others
+pub mod OtherWrites
+pub mod RestKept
+pub mod Writes

@@ -1,0 +1,8 @@
+-- What an image determines, and what no sound one has.
+pub mod Agree
+pub mod Exact
+pub mod Layouts
+pub mod Twice
+pub mod Unclean
+pub mod Uniques
+pub mod Unsound

@@ -1,0 +1,8 @@
+-- The map of free sectors.
+pub mod Bits
+pub mod FreeAndOwned
+pub mod FreeBlocks
+pub mod Freeing
+pub mod Maps
+pub mod Picking
+pub mod Tops

@@ -1,0 +1,34 @@
+-- So many bytes more were written.
+use Rattle.std.proofs.Common.{◌≡◌, ◌-◌, ℕ, List, ap, arith, drop, length, length-drop, subst, sym, take}
+use Rattle.std.proofs.lemmas.List.{take_all}
+use Rattle.std.specs.Io.KnownBytes.{Appends}
+use Rattle.std.proofs.KnownBytes.{Appends-kept, Appends-trans}
+use Rattle.host_session.proofs.events.printing.write_whole.Goals.{in-Ok, in-Err+else-ne}
+use Rattle.host_session.proofs.events.printing.write_whole.Goals as goal
+use Rattle.host_session.proofs.lemmas.events.Printed.{take_more}
+
+pub loop-preserved : goal.loop-preserved
+loop-preserved g c =
+    let k = c.loop.invariant in
+    let a = g.W.Write.contents c.args.out.now in
+    let b = g.W.Write.contents c.loop.out in
+    let d = g.W.Write.contents c.write.new.self in
+    let bytes : List ℕ = c.args.bytes.now in
+    let rest : List ℕ = drop c.loop.written bytes in
+    let long = length-drop c.loop.written bytes in
+    let all : take (length bytes - c.loop.written) rest ≡ rest = take_all (length bytes - c.loop.written) rest
+    (omega (arith, long, k.within)) in
+    elim c.match-write.branch [
+      | in-Ok w ↦ record {
+        within = omega (arith, k.within, w.in-Ok.ensures.bound, ap length all, long, w.written-is);
+        wrote = subst (λ n. Appends a d (take n bytes)) (sym w.written-is)
+            (subst (Appends a d) (sym (take_more c.loop.written w.in-Ok.more bytes))
+            (Appends-trans a b d (take c.loop.written bytes) (take w.in-Ok.more rest) k.wrote
+            (subst (λ xs. Appends b d (take w.in-Ok.more xs)) all w.in-Ok.ensures.bytes)));
+      }
+      | in-Err+else-ne w ↦ record {
+        within = omega (arith, k.within, w.written-is);
+        wrote = subst (λ n. Appends a d (take n bytes)) (sym w.written-is)
+            (Appends-kept a b d (take c.loop.written bytes) k.wrote w.in-Err.ensures.bytes);
+      }
+    ]

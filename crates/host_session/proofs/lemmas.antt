@@ -1,0 +1,9 @@
+-- The lemmas, by what they are about.
+pub mod shop
+pub mod judging
+pub mod writing
+pub mod growing
+pub mod opening
+pub mod session
+pub mod events
+pub mod runs

@@ -1,0 +1,50 @@
+-- Replies that are printed.
+use Rattle.std.proofs.Common.{◌≡◌, ◌+◌, ◌++◌, ℕ, zero, suc, List, [], ◌∷◌, Ok, Err, Option, refl, sym, subst, ◌∙◌, ap}
+use Rattle.std.proofs.Common.{arith, take, drop}
+use Rattle.std.specs.Prelude.{OnErr, OnOk, Result}
+use Rattle.std.proofs.lemmas.List.{take_all}
+use Rattle.std.specs.Io.KnownBytes.{Appends}
+use Rattle.std.proofs.KnownBytes.{Appends-trans}
+use Rattle.request_cards.specs.Ledgers.{report}
+use Rattle.request_cards.specs.declared.reply.Reply.{Reply}
+use Rattle.host_session.proofs.lemmas.events.Reports.{written_more}
+use Rattle.host_session.specs.declared.events.printing.Printer.{Printer}
+use Rattle.host_session.specs.events.Instants.{Instant}
+use Rattle.host_session.specs.events.Telling.{IsTold}
+use Rattle.host_session.specs.runs.Chains.{told_in}
+use Rattle.host_session.specs.runs.Outputs.{line_of, printed, printer_out}
+
+-- so many bytes, and so many more of the rest
+pub take_more : (n m : ℕ) (xs : List ℕ) → take (n + m) xs ≡ take n xs ++ take m (drop n xs)
+take_more zero m xs = let same : 0 + m ≡ m = omega arith in ap (λ k. take k xs) same
+take_more (suc n) m [] =
+    let on : suc n + m ≡ suc (n + m) = omega arith in ap (λ k. take k []) on ∙ sym (take_all m [] (omega arith))
+take_more (suc n) m (x ∷ xs) =
+    let on : suc n + m ≡ suc (n + m) = omega arith in ap (λ k. take k (x ∷ xs)) on
+    ∙ ap (λ ys. x ∷ ys) (take_more n m xs)
+
+pub told_more : {X : Type 0} (xs : List (Reply × X)) (x : Reply × X) → told_in (xs ++ x ∷ []) ≡ told_in xs ++ x.0 ∷ []
+told_more [] x = refl
+told_more (y ∷ xs) x = ap (λ rs. y.0 ∷ rs) (told_more xs x)
+
+-- what a printer was told, by what its writer took
+pub is_printed : {W E : Type 0} (contents : W → Option (List ℕ)) (old new : Printer W) (reply : Reply) (i : Instant)
+    (r : Result Unit E)
+    → OnOk r (Appends (contents (printer_out old)) (contents (printer_out new)) (line_of reply))
+    → OnErr r ((n : ℕ) × Appends (contents (printer_out old)) (contents (printer_out new)) (take n (line_of reply)))
+    → IsTold (printed contents) old new reply i r
+is_printed contents old new reply i (Ok x) wrote failed = (
+  λ first xs before. subst (λ rs. Appends (contents (printer_out first)) (contents (printer_out new)) (report rs))
+      (sym (told_more xs (reply, i)))
+      (written_more (contents (printer_out first)) (contents (printer_out old)) (contents (printer_out new))
+      (told_in xs) reply before wrote),
+  omega arith,
+)
+is_printed contents old new reply i (Err x) wrote failed = (
+  λ first xs before. (
+    failed.0,
+    Appends-trans (contents (printer_out first)) (contents (printer_out old)) (contents (printer_out new))
+        (report (told_in xs)) (take failed.0 (line_of reply)) before failed.1,
+  ),
+  refl,
+)

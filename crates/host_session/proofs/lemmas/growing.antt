@@ -1,0 +1,4 @@
+-- STOCK gets longer.
+pub mod StockRoom
+pub mod GrownStock
+pub mod GrowthCounts

@@ -1,0 +1,121 @@
+-- One entry of a table, and the open intents of records up to one more.
+use Rattle.std.proofs.Common.{ℕ, zero, suc, ◌≡◌, ◌≢◌, ◌<◌, ◌≤◌, ◌+◌, ◌-◌, List, [], ◌∷◌, ◌++◌, None, Option, Some, true}
+use Rattle.std.proofs.Common.{add-one, ap, arith, append_assoc, length, length-append, refl, replicate, set, subst, sym}
+use Rattle.std.proofs.Common.{take, drop, ◌∙◌, get_or}
+use Rattle.std.specs.Prelude.{is_some, slice_get}
+use Rattle.std.proofs.lemmas.Bool.{false≢true, ne_eqb}
+use Rattle.std.proofs.lemmas.List.{append-nil, get_or-set_same, get_or-set_other, take-append-drop}
+use Rattle.std.proofs.lemmas.List.Concat.{flat_map-append}
+use Rattle.std.proofs.lemmas.Option.{get_or_from_slice_get, none-some, same_Some}
+use Rattle.disk_layout.specs.Records.{empty_record}
+use Rattle.request_cards.specs.CardReading.{request_card_of}
+use Rattle.request_cards.specs.CardTexts.{Card}
+use Rattle.host_session.specs.shop.Files.{record_at}
+use Rattle.host_session.specs.shop.Judged.{IsIntentAmong, IsOnlyIntent}
+use Rattle.host_session.specs.shop.Shop.{intents, open_in}
+use Rattle.host_session.specs.session.Standing.{nth}
+use Rattle.host_session.specs.declared.shop.intents.Intent.{Intent}
+use Rattle.host_session.proofs.lemmas.shop.Overlays.{open_in-pending}
+
+-- one entry of a table changed
+pub nth-at : {X : Type 0} (xs : List (Option X)) (k : ℕ) → nth xs (k + 1) ≡ get_or xs k None
+nth-at xs k =
+    let zero_not : (k + 1 ≡ 0 → ⊥) = λ e. omega (arith, e) in
+    let down : (k + 1) - 1 ≡ k = omega arith in
+    rw (ne_eqb (k + 1) 0 zero_not) (ap (λ n. get_or xs n None) down)
+
+pub nth-set_same : {X : Type 0} (xs : List (Option X)) (k : ℕ) (x : Option X) → k < length xs
+    → nth (set xs k x) (k + 1) ≡ x
+nth-set_same xs k x lt = nth-at (set xs k x) k ∙ get_or-set_same xs k x None lt
+
+pub nth-set_other : {X : Type 0} (xs : List (Option X)) (k n : ℕ) (x : Option X) → n ≢ k + 1
+    → nth (set xs k x) n ≡ nth xs n
+nth-set_other xs k zero x ne = refl
+nth-set_other xs k (suc n) x ne =
+    let up : n + 1 ≡ suc n = add-one n in
+    ap (nth (set xs k x)) (sym up) ∙ nth-at (set xs k x) n
+    ∙ get_or-set_other xs k n x None (λ e. ne (sym up ∙ ap (λ j. j + 1) e)) ∙ sym (nth-at xs n) ∙ ap (nth xs) up
+
+-- a table in which nothing stands
+pub nth-none : (X : Type 0) (n t : ℕ) → nth {X = X} (replicate n None) t ≡ None
+nth-none X n zero = refl
+nth-none X n (suc t) = ap (nth {X = X} (replicate n None)) (sym (add-one t)) ∙ nth-at {X = X} (replicate n None) t
+    ∙ blank X n t
+  where
+    blank : (X : Type 0) (n t : ℕ) → get_or {A = Option X} (replicate n None) t None ≡ None
+    blank X zero t = refl
+    blank X (suc n) zero = refl
+    blank X (suc n) (suc t) = blank X n t
+
+-- a record past the last one
+pub record_at-past : {X : Type 0} (xs : List X) (r : ℕ) → length xs < r → record_at xs r ≡ None
+record_at-past xs zero lt = absurd (omega (arith, lt))
+record_at-past xs (suc n) lt = past xs n (omega (arith, lt))
+  where
+    past : {X : Type 0} (xs : List X) (n : ℕ) → length xs ≤ n → slice_get xs n ≡ None
+    past [] n le = refl
+    past (x ∷ xs) zero le = absurd (omega (arith, le))
+    past (x ∷ xs) (suc n) le = past xs n (omega (arith, le))
+
+-- an empty record is no card
+pub blank-request : request_card_of (empty_record 127) ≡ None
+unfolding request_card_of
+blank-request = refl
+
+-- the open intents up to one card more
+pub intents-next : (xs : List (Option Card)) (k : ℕ) (o : Option Card) → slice_get xs k ≡ Some o
+    → intents (take (suc k) xs) ≡ intents (take k xs) ++ open_in o
+intents-next [] k o e = absurd (none-some o e)
+intents-next (x ∷ xs) zero o e = append-nil (open_in x) ∙ ap open_in (same_Some x o e)
+intents-next (x ∷ xs) (suc k) o e = ap (λ cs. open_in x ++ cs) (intents-next xs k o e)
+    ∙ sym (append_assoc (open_in x) (intents (take k xs)) (open_in o))
+
+-- what was read at a place of a list stands there
+pub got : {X : Type 0} (xs : List X) (k : ℕ) (d x : X) → k < length xs → get_or xs k d ≡ x → slice_get xs k ≡ Some x
+got [] k d x lt e = absurd (omega (arith, lt))
+got (y ∷ xs) zero d x lt e = ap Some e
+got (y ∷ xs) (suc k) d x lt e = got xs k d x (omega (arith, lt)) e
+
+module _ (table : List (Option Card)) (k : ℕ) (d : Option Card) (lt : k < 64) (long : length table ≡ 64) where
+  at-place : (o : Option Card) → get_or table k d ≡ o → slice_get table k ≡ Some o
+  at-place o e = got table k d o (omega (arith, lt, long)) e
+
+  pub in-place : (o : Option Card) → get_or table k d ≡ o → nth table (k + 1) ≡ o
+  in-place o e = nth-at table k ∙ get_or_from_slice_get table k o None (at-place o e)
+
+  -- a card that isn't an open intent
+  pub among-closed : (o : Option Intent) (c : Option Card) → get_or table k d ≡ c → open_in c ≡ []
+      → IsIntentAmong table (intents (take k table)) o → IsIntentAmong table (intents (take (k + 1) table)) o
+  among-closed o c e closed h =
+      let same : intents (take (k + 1) table) ≡ intents (take k table) = ap (λ n. intents (take n table)) (add-one k)
+      ∙ intents-next table k c (at-place c e) ∙ ap (λ cs. intents (take k table) ++ cs) closed
+      ∙ append-nil (intents (take k table)) in
+      subst (λ cs. IsIntentAmong table cs o) (sym same) h
+
+  -- the first open intent
+  pub among-open : (c : Card) → get_or table k d ≡ Some c → c.pending ≡ true → intents (take k table) ≡ []
+      → (x : Intent) → x.till ≡ k + 1 → x.card ≡ c → IsOnlyIntent table (intents (take (k + 1) table)) x
+  among-open c e pending none x till card = record {
+    low = omega (arith, till);
+    high = omega (arith, till, lt);
+    at = ap (nth table) till ∙ in-place (Some c) e ∙ ap Some (sym card);
+    pending = ap (λ (d : Card). d.pending) card ∙ pending;
+    only = ap (λ n. intents (take n table)) (add-one k) ∙ intents-next table k (Some c) (at-place (Some c) e)
+        ∙ (λ i. none i ++ open_in-pending c pending i) ∙ ap (λ (d : Card). d ∷ []) (sym card);
+  }
+
+  -- a second one
+  pub among-two : (c : Card) → get_or table k d ≡ Some c → c.pending ≡ true → (o : Option Intent) → is_some o ≡ true
+      → IsIntentAmong table (intents (take k table)) o → 2 ≤ length (intents table)
+  among-two c e pending None some h = absurd (false≢true some)
+  among-two c e pending (Some x) some h =
+      let one : length (intents (take k table)) ≡ 1 = ap length h.only in
+      let next : length (intents (take (suc k) table)) ≡ length (intents (take k table)) + 1
+      = ap length (intents-next table k (Some c) (at-place (Some c) e))
+      ∙ length-append (intents (take k table)) (open_in (Some c))
+      ∙ ap (λ cs. length (intents (take k table)) + length cs) (open_in-pending c pending) in
+      let split : length (intents table) ≡ length (intents (take (suc k) table)) + length (intents (drop (suc k) table))
+      = ap (λ cs. length (intents cs)) (sym (take-append-drop (suc k) table))
+      ∙ ap length (flat_map-append open_in (take (suc k) table) (drop (suc k) table))
+      ∙ length-append (intents (take (suc k) table)) (intents (drop (suc k) table)) in
+      omega (arith, one, next, split)

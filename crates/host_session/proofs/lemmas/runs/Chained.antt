@@ -1,0 +1,240 @@
+-- What a chain of events says of its run.
+use Rattle.std.proofs.Common.{◌≡◌, ◌≢◌, ◌≤◌, List, [], ◌∷◌, ◌++◌, refl, sym, subst, ◌∙◌, ap, arith, append_assoc}
+use Rattle.std.proofs.Common.{append-nil, le_refl, le_trans, length}
+use Rattle.d64_image.specs.History.{Changes, Failed, History}
+use Rattle.d64_image.proofs.Moments.{start}
+use Rattle.request_cards.specs.declared.reply.Reply.{Reply}
+use Rattle.host_session.proofs.lemmas.runs.Runs.{HasPlayed, and_no_more, none_played, now_more, now_none, now_of}
+use Rattle.host_session.proofs.lemmas.runs.Runs.{one_played, stopped}
+use Rattle.host_session.specs.events.Counted.{after_all}
+use Rattle.host_session.specs.events.Events.{Message}
+use Rattle.host_session.specs.events.Instants.{instant_of}
+use Rattle.host_session.specs.events.OneEvent.{EndsFailed, GoesOn, IsEvent}
+use Rattle.host_session.specs.session.Opening.{Untouched}
+use Rattle.host_session.specs.runs.Runs.{HeldBeginnings, IsPlayedWhole, StoppedByDevice, StoppedByOutput}
+use Rattle.host_session.specs.shop.Shop.{IsSettled, IsShop, Shop, start_of, with_state}
+use Rattle.host_session.specs.runs.Chains.{GrowsFrom, HasRun, HasRunToFailure, IsChain, asked_over, over_instants}
+use Rattle.host_session.specs.runs.Chains.{told_in}
+
+-- the replies, told over the disks beside them
+pub told_over : {D : Type 0} (h : History D) (turns : List (Reply × D))
+    → told_in (over_instants h turns) ≡ told_in turns
+told_over h [] = refl
+told_over h (x ∷ xs) = ap (λ rs. x.0 ∷ rs) (told_over h xs)
+
+module _ {D : Type 0} (h : History D) where
+  -- one event more at the end
+  pub chain_more : (s : Shop) (ms : List Message) (xs : List (Reply × D)) (old mid new : D) (t : Shop) (m : Message)
+      (reply : Reply)
+      → IsChain h s ms xs old t mid → (e : IsEvent h t m mid new (GoesOn h t m reply new))
+      → IsChain h s (ms ++ m ∷ []) (xs ++ (reply, new) ∷ []) old
+      (with_state t (after_all (start_of t) t.state e.counted)) new
+  chain_more s [] [] old mid new t m reply c e =
+      let P : Shop → D → Type 0 = λ u d. (x : IsEvent h u m d new (GoesOn h u m reply new))
+      → IsChain h s (m ∷ []) ((reply, new) ∷ []) old (with_state u (after_all (start_of u) u.state x.counted)) new in
+      subst (λ u. P u mid) (sym c.0) (subst (λ d. P s d) (sym c.1) (λ x. (x, (refl, refl)))) e
+  chain_more s (n ∷ ms) (x ∷ xs) old mid new t m reply c e =
+      (c.0, chain_more (with_state s (after_all (start_of s) s.state c.0.counted)) ms xs x.1 mid new t m reply c.1 e)
+  chain_more s [] (x ∷ xs) old mid new t m reply c e = absurd c
+  chain_more s (n ∷ ms) [] old mid new t m reply c e = absurd c
+
+  -- the end of a chain is at rest
+  pub chain_rests : (s : Shop) (ms : List Message) (xs : List (Reply × D)) (old new : D) (t : Shop)
+      → IsSettled (h.image old) s → IsChain h s ms xs old t new → IsSettled (h.image new) t
+  chain_rests s [] [] old new t rests c =
+      subst (λ u. IsSettled (h.image new) u) (sym c.0) (subst (λ d. IsSettled (h.image d) s) (sym c.1) rests)
+  chain_rests s (m ∷ ms) (x ∷ xs) old new t rests c =
+      chain_rests (with_state s (after_all (start_of s) s.state c.0.counted)) ms xs x.1 new t c.0.ends.settled c.1
+  chain_rests s [] (x ∷ xs) old new t rests c = absurd c
+  chain_rests s (m ∷ ms) [] old new t rests c = absurd c
+
+  -- the next message is asked for over the disk on which a chain ended, whatever turns come after
+  pub asked_more : (s : Shop) (ms : List Message) (xs ys : List (Reply × D)) (old mid : D) (t : Shop) (m : Message)
+      → IsChain h s ms xs old t mid
+      → asked_over h old (xs ++ ys) (ms ++ m ∷ []) ≡ asked_over h old xs ms ++ (m, instant_of h mid) ∷ []
+  asked_more s [] [] ys old mid t m c = ap (λ d. (m, instant_of h d) ∷ []) (sym c.1)
+  asked_more s (n ∷ ms) (x ∷ xs) ys old mid t m c =
+      let rest = asked_more (with_state s (after_all (start_of s) s.state c.0.counted)) ms xs ys x.1 mid t m c.1 in
+      ap (λ asked. (n, instant_of h old) ∷ asked) rest
+  asked_more s [] (x ∷ xs) ys old mid t m c = absurd c
+  asked_more s (n ∷ ms) [] ys old mid t m c = absurd c
+
+  -- what was played, with the shop on which the next message finds itself
+  abbrev PlayedTo : Shop → List Message → D → D → List Reply → Shop → Type 0
+  PlayedTo s ms old new told t = (p : HasPlayed h s ms old new told) × (t ≡ now_of h s ms old new told p)
+
+  -- a chain behind what was played is played
+  pub chain_played : (s : Shop) (before : List Message) (old at : D) (told : List Reply)
+      (p : HasPlayed h s before old at told)
+      → (ms : List Message) (xs : List (Reply × D)) (new : D) (t : Shop)
+      → IsChain h (now_of h s before old at told p) ms xs at t new
+      → PlayedTo s (before ++ ms) old new (told ++ told_in xs) t
+  chain_played s before old at told p [] [] new t c =
+      subst (λ b. PlayedTo s b old new (told ++ []) t) (sym (append-nil before))
+      (subst (λ r. PlayedTo s before old new r t) (sym (append-nil told))
+      (subst (λ d. PlayedTo s before old d told t) (sym c.1) (p, c.0)))
+  chain_played s before old at told p (m ∷ ms) (x ∷ xs) new t c =
+      let q : HasPlayed h s (before ++ m ∷ []) old x.1 (told ++ x.0 ∷ []) =
+      one_played h s before m old at x.1 told x.0 p c.0 in
+      let rest : IsChain h (now_of h s (before ++ m ∷ []) old x.1 (told ++ x.0 ∷ []) q) ms xs x.1 t new =
+      subst (λ u. IsChain h u ms xs x.1 t new) (sym (now_more h s before m old at x.1 told x.0 p c.0)) c.1 in
+      let r = chain_played s (before ++ m ∷ []) old x.1 (told ++ x.0 ∷ []) q ms xs new t rest in
+      subst (λ b. PlayedTo s b old new (told ++ (x.0 ∷ told_in xs)) t) (append_assoc before (m ∷ []) ms)
+      (subst (λ b. PlayedTo s ((before ++ m ∷ []) ++ ms) old new b t) (append_assoc told (x.0 ∷ []) (told_in xs)) r)
+  chain_played s before old at told p [] (x ∷ xs) new t c = absurd c
+  chain_played s before old at told p (m ∷ ms) [] new t c = absurd c
+
+  -- a run up to here, with all that today's clauses say of it
+  pub run_played : (s : Shop) (ms : List Message) (xs : List (Reply × D)) (old new : D) → (r : HasRun h s ms xs old new)
+      → PlayedTo s ms old new (told_in xs) r.now
+  run_played s ms xs old new r =
+      let p : HasPlayed h s [] old r.first [] = none_played h s old r.first r.opening.held r.later r.rests in
+      chain_played s [] old r.first [] p ms xs new r.now
+      (subst (λ u. IsChain h u ms xs r.first r.now new) (sym (now_none h s old r.first r.opening.held r.later r.rests))
+      r.chain)
+
+  -- nothing of today's is lost: a whole run
+  pub whole : (s : Shop) (ms : List Message) (xs : List (Reply × D)) (old new : D) → HasRun h s ms xs old new
+      → IsPlayedWhole h s ms old new (told_in xs) × HeldBeginnings h s ms old new
+  whole s ms xs old new r = (run_played s ms xs old new r).0
+
+  -- one that the output ended
+  pub at_output : (s : Shop) (ms rest all : List Message) (xs : List (Reply × D)) (old new : D) → ms ++ rest ≡ all
+      → ms ≢ []
+      → HasRun h s ms xs old new → StoppedByOutput h s all old new (told_in xs) × HeldBeginnings h s all old new
+  at_output s ms rest all xs old new parts some r = and_no_more h s ms rest all old new (told_in xs) parts some
+      (run_played s ms xs old new r).0
+
+  -- one that the device ended
+  pub at_device : (s : Shop) (ms rest all : List Message) (xs : List (Reply × D)) (last : Reply) (old new : D)
+      → ms ++ rest ≡ all
+      → HasRunToFailure h s ms xs last old new
+      → StoppedByDevice h s all old new (told_in xs ++ last ∷ []) × HeldBeginnings h s all old new
+  at_device s ms rest all xs last old new parts f =
+      let p = run_played s f.before xs old f.at f.run in
+      stopped h s f.before rest all f.message old f.at new (told_in xs) last p.0 (ap (λ b. b ++ rest) f.parts ∙ parts)
+      (subst (λ u. IsEvent h u f.message f.at new (EndsFailed h u f.message last new)) p.1 f.failed)
+
+  -- Beginnings only grow: the chain is cut behind any of its events, and from that moment on no image is of a beginning
+  -- before it.
+  pub record IsCutBehind (s : Shop) (ms ns : List Message) (xs ys : List (Reply × D)) (old : D) (t : Shop)
+      (new : D) : Type 0 where
+    pub mid : D
+    pub now : Shop
+    pub before : IsChain h s ms xs old now mid
+    pub behind : IsChain h now ns ys mid t new
+
+  pub cut_chain : (s : Shop) (ms ns : List Message) (xs ys : List (Reply × D)) (old : D) (t : Shop) (new : D)
+      → length ms ≡ length xs
+      → IsChain h s (ms ++ ns) (xs ++ ys) old t new → IsCutBehind s ms ns xs ys old t new
+  cut_chain s [] ns [] ys old t new same c = record { mid = old; now = s; before = (refl, refl); behind = c }
+  cut_chain s (m ∷ ms) ns (x ∷ xs) ys old t new same c =
+      let q = cut_chain (with_state s (after_all (start_of s) s.state c.0.counted)) ms ns xs ys x.1 t new
+      (omega (arith, same)) c.1 in
+      record { mid = q.mid; now = q.now; before = (c.0, q.before); behind = q.behind }
+  cut_chain s [] ns (x ∷ xs) ys old t new same c = cc
+  cut_chain s (m ∷ ms) ns [] ys old t new same c = cc
+
+  pub only_grows : (s : Shop) (ms ns : List Message) (xs ys : List (Reply × D)) (old : D) (t : Shop) (new : D)
+      → length ms ≡ length xs
+      → IsSettled (h.image old) s → IsChain h s (ms ++ ns) (xs ++ ys) old t new
+      → (q : IsCutBehind s ms ns xs ys old t new) × IsSettled (h.image q.mid) q.now
+      × HeldBeginnings h q.now ns q.mid new
+  only_grows s ms ns xs ys old t new same rests c =
+      let q = cut_chain s ms ns xs ys old t new same c in
+      let settled = chain_rests s ms xs old q.mid q.now rests q.before in (
+        q,
+        settled,
+        (whole q.now ns ys q.mid new (record {
+          first = q.mid;
+          opening = record { held = start h q.mid (λ i. IsShop i q.now) settled.shop; writes = omega arith };
+          quiet = λ _. record { held = start h q.mid (λ i. i ≡ h.image q.mid) refl; writes = omega arith };
+          later = le_refl (h.failures q.mid);
+          rests = settled;
+          now = t;
+          chain = q.behind;
+        })).1,
+      )
+
+  pub run_grows : (s : Shop) (ms ns : List Message) (xs ys : List (Reply × D)) (old new : D) → length ms ≡ length xs
+      → HasRun h s (ms ++ ns) (xs ++ ys) old new → GrowsFrom h s ms ns xs old new
+  run_grows s ms ns xs ys old new same r =
+      let q = only_grows s ms ns xs ys r.first r.now new same r.rests r.chain in
+      record {
+        at = q.0.mid;
+        run = record {
+          first = r.first;
+          opening = r.opening;
+          quiet = r.quiet;
+          later = r.later;
+          rests = r.rests;
+          now = q.0.now;
+          chain = q.0.before;
+        };
+        rests = q.1;
+        behind = q.2;
+      }
+
+  -- the loop's turn: one event more
+  pub run_more : (s : Shop) (ms : List Message) (xs : List (Reply × D)) (old mid new : D) (m : Message) (reply : Reply)
+      → (r : HasRun h s ms xs old mid) → IsEvent h r.now m mid new (GoesOn h r.now m reply new)
+      → HasRun h s (ms ++ m ∷ []) (xs ++ (reply, new) ∷ []) old new
+  run_more s ms xs old mid new m reply r e = record {
+    first = r.first;
+    opening = r.opening;
+    quiet = r.quiet;
+    later = r.later;
+    rests = r.rests;
+    now = with_state r.now (after_all (start_of r.now) r.now.state e.counted);
+    chain = chain_more s ms xs r.first mid new r.now m reply r.chain e;
+  }
+
+  -- it began on the same disk
+  pub run_more-first : (s : Shop) (ms : List Message) (xs : List (Reply × D)) (old mid new : D) (m : Message)
+      (reply : Reply) → (r : HasRun h s ms xs old mid) (e : IsEvent h r.now m mid new (GoesOn h r.now m reply new))
+      → (run_more s ms xs old mid new m reply r e).first ≡ r.first
+  unfolding run_more
+  run_more-first s ms xs old mid new m reply r e = refl
+
+  -- before the first one
+  pub run_none : (s : Shop) (old first : D) → Changes h old first 952 (λ i. IsShop i s)
+      → (IsSettled (h.image old) s → Untouched h old first) → h.failures old ≤ h.failures first
+      → IsSettled (h.image first) s → HasRun h s [] [] old first
+  run_none s old first opening quiet later settled = record {
+    first = first;
+    opening = opening;
+    quiet = quiet;
+    later = later;
+    rests = settled;
+    now = s;
+    chain = (refl, refl);
+  }
+
+  -- the shop of a run is at rest at its end: so it was when the last reply was told
+  pub run_rests : (s : Shop) (ms : List Message) (xs : List (Reply × D)) (old new : D) → (r : HasRun h s ms xs old new)
+      → IsSettled (h.image new) r.now
+  run_rests s ms xs old new r = chain_rests s ms xs r.first new r.now r.rests r.chain
+
+  -- failures are counted on
+  chain_later : (s : Shop) (ms : List Message) (xs : List (Reply × D)) (old new : D) (t : Shop)
+      → IsChain h s ms xs old t new
+      → h.failures old ≤ h.failures new
+  chain_later s [] [] old new t c = subst (λ d. h.failures old ≤ h.failures d) (sym c.1) (le_refl (h.failures old))
+  chain_later s (m ∷ ms) (x ∷ xs) old new t c =
+      let rest = chain_later (with_state s (after_all (start_of s) s.state c.0.counted)) ms xs x.1 new t c.1 in
+      le_trans c.0.later rest
+  chain_later s [] (x ∷ xs) old new t c = absurd c
+  chain_later s (m ∷ ms) [] old new t c = absurd c
+
+  pub run_later : (s : Shop) (ms : List Message) (xs : List (Reply × D)) (old new : D) → HasRun h s ms xs old new
+      → h.failures old ≤ h.failures new
+  run_later s ms xs old new r = le_trans r.later (chain_later s ms xs r.first new r.now r.chain)
+
+  -- where the last message met the failure, it came in the run
+  pub run_failed : (s : Shop) (ms : List Message) (xs : List (Reply × D)) (last : Reply) (old new : D)
+      → HasRunToFailure h s ms xs last old new
+      → Failed h old new
+  run_failed s ms xs last old new f =
+      let before = run_later s f.before xs old f.at f.run in
+      let x : Failed h f.at new = f.failed.blame f.failed.ends.is_failed in
+      record { later = omega (arith, before, x.later); rose = λ lt. omega (arith, before, x.rose lt) }

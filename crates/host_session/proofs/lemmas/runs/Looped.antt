@@ -1,0 +1,245 @@
+-- A run in a loop: one event more, or the last one.
+use Rattle.std.proofs.Common.{◌≡◌, ◌≤◌, ◌<◌, ◌+◌, ◌++◌, ◌⊎◌, ℕ, true, false, List, [], ◌∷◌, Option, None, Some, Ok, Err}
+use Rattle.std.proofs.Common.{refl, sym, subst, ap, ◌∙◌, arith, inl, inr, length, length-append, append-nil}
+use Rattle.std.proofs.lemmas.List.{map-append}
+use Rattle.std.specs.Prelude.{IsSome, Result, is_err, is_ok, is_some, option_map}
+use Rattle.d64_image.specs.History.{Changes, History}
+use Rattle.request_cards.specs.declared.reply.Reply.{Reply}
+use Rattle.host_session.proofs.lemmas.runs.Chained.{asked_more, run_more, run_more-first}
+use Rattle.host_session.proofs.lemmas.runs.Chained.{run_none, run_rests}
+use Rattle.host_session.proofs.lemmas.runs.Sparing.{within_more}
+use Rattle.host_session.specs.declared.events.asking.Next.{Next}
+use Rattle.host_session.specs.declared.runs.looping.LoopFault.TheVariants as faults
+use Rattle.host_session.specs.events.Asking.{IsNext, Source, TakesNone, TakesOne, messages_in}
+use Rattle.host_session.specs.events.Events.{Message, cut_at, uncut}
+use Rattle.host_session.specs.events.Instants.{Instant, instant_of}
+use Rattle.host_session.specs.events.OneEvent.{EndsFailed, GoesOn, IsEvent}
+use Rattle.host_session.specs.events.Telling.{BreaksOff, IsTold, Output, TellsOne}
+use Rattle.host_session.specs.events.Within.{AreWithin, IsWithin}
+use Rattle.host_session.specs.runs.Chains.{asked_over, over_instants}
+use Rattle.host_session.specs.runs.Loops.{Ends, EndsBy, HasCome, HasComeBut, Origin}
+use Rattle.host_session.specs.runs.Loops.{IsToldToDevice, IsToldToOutput, IsToldWhole}
+use Rattle.host_session.specs.session.Opening.{Untouched}
+use Rattle.host_session.specs.shop.Shop.{IsSettled, IsShop, Shop}
+
+-- the message that is here has no reset
+pub is_whole : (m : Message) (bytes : List ℕ) → bytes ≡ m.bytes → None ≡ m.cut_after → uncut bytes ≡ m
+is_whole m bytes same none = λ i. record { bytes = same i; cut_after = none i }
+
+-- or one
+pub is_reset : (m : Message) (bytes : List ℕ) (after : ℕ) → bytes ≡ m.bytes → Some after ≡ m.cut_after
+    → cut_at bytes after ≡ m
+is_reset m bytes after same cut = λ i. record { bytes = same i; cut_after = cut i }
+
+-- power goes in it
+pub no_none : (after : ℕ) (o : Option ℕ) → Some after ≡ o → o ≡ None → ⊥
+no_none after o some none = let e = some ∙ none in cc
+
+-- whether the event that was taken has a reset
+pub no_cut : {X : Type 0} (f : X → ℕ) (r : Option X) (o : Option ℕ) → option_map f r ≡ o → is_some r ≡ false → None ≡ o
+no_cut f None o same none = same
+no_cut f (Some x) o same none = cc
+
+pub some_cut : {X : Type 0} (f : X → ℕ) (r : Option X) (o : Option ℕ) → option_map f r ≡ o → is_some r ≡ true → IsSome o
+some_cut f None o same some = cc
+some_cut f (Some x) o same some = subst IsSome same refl
+
+pub cut_is : {X : Type 0} (f : X → ℕ) (r : Option X) (x : X) (o : Option ℕ) → r ≡ Some x → option_map f r ≡ o
+    → Some (f x) ≡ o
+cut_is f r x o is same = sym (ap (option_map f) is) ∙ same
+
+-- what asking came to, by what was answered and the disk that was lent
+pub was_asked : {D A : Type 0} (h : History D) (a : Source A) (old new : A) (lent disk : D) (r answered : Next)
+    → lent ≡ disk → r ≡ answered → IsNext a old new (instant_of h lent) r
+    → IsNext a old new (instant_of h disk) answered
+was_asked h a old new lent disk r answered is told asked =
+    subst (λ n. IsNext a old new (instant_of h disk) n) told (subst (λ d. IsNext a old new (instant_of h d) r) is asked)
+
+-- what telling came to, by what was answered
+pub was_told : {T E : Type 0} (o : Output T) (old new : T) (reply : Reply) (i : Instant) (r : Result Unit E)
+    → is_ok r ≡ true
+    → IsTold o old new reply i r → TellsOne o old new reply i × (o.room old ≤ o.room new + 1)
+was_told o old new reply i (Ok x) is told = told
+was_told o old new reply i (Err x) is told = cc
+
+pub was_broken : {T E : Type 0} (o : Output T) (old new : T) (reply : Reply) (i : Instant) (r : Result Unit E)
+    → is_err r ≡ true
+    → IsTold o old new reply i r → BreaksOff o old new reply i × (o.room old ≡ 0)
+was_broken o old new reply i (Ok x) is told = cc
+was_broken o old new reply i (Err x) is told = told
+
+over_more : {D : Type 0} (h : History D) (xs : List (Reply × D)) (reply : Reply) (disk : D)
+    → over_instants h (xs ++ (reply, disk) ∷ []) ≡ over_instants h xs ++ (reply, instant_of h disk) ∷ []
+over_more h [] reply disk = refl
+over_more h (x ∷ xs) reply disk = ap (λ ys. (x.0, instant_of h x.1) ∷ ys) (over_more h xs reply disk)
+
+module _ {D A T : Type 0} (h : History D) (a : Source A) (o : Output T) (from : Origin D A T) where
+  -- before the first event
+  pub has_none : (first : D) → Changes h from.disk first 952 (λ i. IsShop i from.shop)
+      → (IsSettled (h.image from.disk) from.shop → Untouched h from.disk first)
+      → h.failures from.disk ≤ h.failures first
+      → IsSettled (h.image first) from.shop → HasCome h a o from first from.asks from.out
+  has_none first opening quiet later rests = record {
+    taken = [];
+    is = a.none from.asks;
+    whole = (
+      record {
+        turns = [];
+        run = run_none h from.shop from.disk first opening quiet later rests;
+        told = o.none from.out;
+      },
+      refl,
+      tt,
+    );
+    room = omega arith;
+  }
+
+  -- the next event was taken, or there was none
+  module _ (disk : D) (asks now : A) (out : T) (w : HasCome h a o from disk asks out) where
+    pub takes_one : TakesOne a asks now (instant_of h disk) → HasComeBut h a o from disk now out
+    takes_one takes = record { taken = w.taken; is = takes from.asks w.taken w.is; whole = w.whole; room = w.room }
+
+    pub at_end : TakesNone a asks now × a.is_over now → Ends h a o from now out (Ok disk)
+    at_end x = (w.taken, x.0 from.asks w.taken w.is, x.1, w.whole)
+
+    pub at_fault : TakesNone a asks now × a.has_failed now → EndsBy h a o from now out disk faults.Input
+    at_fault x = (w.taken, x.0 from.asks w.taken w.is, x.1, w.whole)
+
+  module _ (mid new : D) (asks : A) (reply : Reply) (out told : T) where
+    -- with the event that is here
+    abbrev TakenNow : HasComeBut h a o from mid asks out → List (Message × Instant)
+    TakenNow w = w.taken ++ (a.here asks, instant_of h mid) ∷ []
+
+    messages_now : (w : HasComeBut h a o from mid asks out)
+        → messages_in (TakenNow w) ≡ messages_in w.taken ++ a.here asks ∷ []
+    messages_now w = map-append (λ x. x.0) w.taken ((a.here asks, instant_of h mid) ∷ [])
+
+    -- it was asked for over the disk that the ones before it left
+    over_now : (w : HasComeBut h a o from mid asks out) (ys : List (Reply × D)) (first : D)
+        → first ≡ w.whole.0.run.first
+        → TakenNow w ≡ asked_over h first (w.whole.0.turns ++ ys) (messages_in w.taken ++ a.here asks ∷ [])
+    over_now w ys first same =
+        let r = w.whole.0.run in
+        ap (λ asked. asked ++ (a.here asks, instant_of h mid) ∷ []) w.whole.1
+        ∙ sym (asked_more h from.shop (messages_in w.taken) w.whole.0.turns ys r.first mid r.now (a.here asks) r.chain)
+        ∙ ap (λ d. asked_over h d (w.whole.0.turns ++ ys) (messages_in w.taken ++ a.here asks ∷ [])) (sym same)
+
+    -- and so many sectors were written, where power doesn't go in it
+    abbrev Within : Type 0
+    Within = (a.here asks).cut_after ≡ None → (t : Shop) → IsSettled (h.image mid) t → IsWithin h (a.here asks) mid new
+
+    within_now : (w : HasComeBut h a o from mid asks out) (first : D) → first ≡ w.whole.0.run.first → Within
+        → AreWithin h (messages_in w.taken ++ a.here asks ∷ []) (w.whole.0.turns ++ (reply, new) ∷ []) first
+    within_now w first same one =
+        let r = w.whole.0.run in
+        subst (λ d. AreWithin h (messages_in w.taken ++ a.here asks ∷ []) (w.whole.0.turns ++ (reply, new) ∷ []) d)
+        (sym same)
+        (within_more h from.shop (messages_in w.taken) w.whole.0.turns r.first mid new r.now (a.here asks) reply r.chain
+        w.whole.2 (λ none. one none r.now
+        (run_rests h from.shop (messages_in w.taken) w.whole.0.turns from.disk mid w.whole.0.run)))
+
+    -- the event that is here was run, and its reply told
+    pub goes_on : (Alive : Type 0) → TellsOne o out told reply (instant_of h new) × (o.room out ≤ o.room told + 1)
+        → ((t : Shop) → IsSettled (h.image mid) t
+        → Alive × IsEvent h t (a.here asks) mid new (GoesOn h t (a.here asks) reply new))
+        → Within
+        → HasComeBut h a o from mid asks out → Alive × HasCome h a o from new asks told
+    goes_on Alive tells event within w =
+        let x = w.whole.0 in
+        let e = event x.run.now (run_rests h from.shop (messages_in w.taken) x.turns from.disk mid x.run) in
+        let last : List (Reply × D) = (reply, new) ∷ [] in
+        let Told : List Message → Type 0 = λ ms. (y : IsToldWhole h o from.shop ms from.disk new from.out told)
+        × (TakenNow w ≡ asked_over h y.run.first y.turns ms) × AreWithin h ms y.turns y.run.first
+        × (o.room from.out ≤ o.room told + length ms) in
+        let y = subst Told (sym (messages_now w)) (
+          record {
+            turns = x.turns ++ last;
+            run = run_more h from.shop (messages_in w.taken) x.turns from.disk mid new (a.here asks) reply x.run e.1;
+            told = subst (λ xs. o.told from.out told xs) (sym (over_more h x.turns reply new))
+                (tells.0 from.out (over_instants h x.turns) x.told);
+          },
+          over_now w last _
+              (run_more-first h from.shop (messages_in w.taken) x.turns from.disk mid new (a.here asks) reply x.run
+              e.1),
+          within_now w _
+              (run_more-first h from.shop (messages_in w.taken) x.turns from.disk mid new (a.here asks) reply x.run e.1)
+              within,
+          omega (arith, w.room, tells.1, length-append (messages_in w.taken) (a.here asks ∷ [])),
+        ) in
+        (e.0, record { taken = TakenNow w; is = w.is; whole = (y.0, y.1, y.2); room = y.3 })
+
+    -- it was run, and the output didn't take its reply
+    pub breaks_off : (Alive : Type 0) → BreaksOff o out told reply (instant_of h new) × (o.room out ≡ 0)
+        → ((t : Shop) → IsSettled (h.image mid) t
+        → Alive × IsEvent h t (a.here asks) mid new (GoesOn h t (a.here asks) reply new))
+        → Within
+        → HasComeBut h a o from mid asks out → EndsBy h a o from asks told new faults.Output
+    breaks_off Alive breaks event within w =
+        let x = w.whole.0 in
+        let e = event x.run.now (run_rests h from.shop (messages_in w.taken) x.turns from.disk mid x.run) in
+        let run = run_more h from.shop (messages_in w.taken) x.turns from.disk mid new (a.here asks) reply x.run e.1 in
+        let same =
+        run_more-first h from.shop (messages_in w.taken) x.turns from.disk mid new (a.here asks) reply x.run e.1 in
+        let Told : List Message → Type 0 = λ ms. (y : IsToldToOutput h o from.shop ms from.disk new from.out told)
+        × (TakenNow w ≡ asked_over h y.run.first y.turns ms)
+        × AreWithin h ms (y.turns ++ y.last ∷ []) y.run.first in (
+          TakenNow w,
+          w.is,
+          subst Told (sym (messages_now w)) (
+            record {
+              full = omega (arith, w.room, breaks.1, length-append (messages_in w.taken) (a.here asks ∷ []));
+              turns = x.turns;
+              last = (reply, new);
+              run = run;
+              told = breaks.0 from.out (over_instants h x.turns) x.told;
+            },
+            over_now w [] _ same
+                ∙ ap (λ turns. asked_over h run.first turns (messages_in w.taken ++ a.here asks ∷ []))
+                (append-nil x.turns),
+            within_now w _ same within,
+          ),
+        )
+
+    -- the device failed in it
+    pub fails : {E : Type 0} (result : Result Unit E) → IsTold o out told reply (instant_of h new) result
+        → ((t : Shop) → IsSettled (h.image mid) t
+        → IsEvent h t (a.here asks) mid new (EndsFailed h t (a.here asks) reply new))
+        → Within
+        → HasComeBut h a o from mid asks out → EndsBy h a o from asks told new faults.Device
+    fails result tells event within w =
+        let x = w.whole.0 in
+        let Told : List Message → Type 0 = λ ms. (y : IsToldToDevice h o from.shop ms from.disk new from.out told)
+        × (TakenNow w ≡ asked_over h y.run.run.first y.turns ms)
+        × AreWithin h ms (y.turns ++ (y.last, new) ∷ []) y.run.run.first in (
+          TakenNow w,
+          w.is,
+          subst Told (sym (messages_now w)) (
+            record {
+              turns = x.turns;
+              last = reply;
+              run = record {
+                before = messages_in w.taken;
+                message = a.here asks;
+                parts = refl;
+                at = mid;
+                run = x.run;
+                failed = event x.run.now (run_rests h from.shop (messages_in w.taken) x.turns from.disk mid x.run);
+              };
+              told = pick result tells;
+            },
+            over_now w [] x.run.first refl
+                ∙ ap (λ turns. asked_over h x.run.first turns (messages_in w.taken ++ a.here asks ∷ []))
+                (append-nil x.turns),
+            within_now w x.run.first refl within,
+          ),
+        )
+      where
+        pick : {E : Type 0} (result : Result Unit E) → IsTold o out told reply (instant_of h new) result
+            → o.told from.out told (over_instants h w.whole.0.turns ++ (reply, instant_of h new) ∷ [])
+            ⊎ (o.broken_off from.out told (over_instants h w.whole.0.turns) (reply, instant_of h new)
+            × (o.room from.out < length (messages_in w.taken ++ a.here asks ∷ [])))
+        pick (Ok x) tells = inl (tells.0 from.out (over_instants h w.whole.0.turns) w.whole.0.told)
+        pick (Err x) tells = inr (
+          tells.0 from.out (over_instants h w.whole.0.turns) w.whole.0.told,
+          omega (arith, w.room, tells.1, length-append (messages_in w.taken) (a.here asks ∷ [])),
+        )

@@ -1,0 +1,144 @@
+-- One whole message more.
+use Rattle.std.proofs.Common.{◌≡◌, ◌∙◌, false, arith, le_refl, not, ap, subst, sym}
+use Rattle.std.proofs.lemmas.Bool.{false≢true}
+use Rattle.host_session.proofs.lemmas.runs.Looped.{at_end, at_fault, breaks_off, fails, goes_on, is_whole, no_cut}
+use Rattle.host_session.proofs.lemmas.runs.Looped.{some_cut, takes_one, was_asked, was_broken, was_told}
+use Rattle.host_session.specs.events.Instants.{instant_of}
+use Rattle.host_session.specs.events.OneEvent.{EndsFailed, GoesOn, IsEvent}
+use Rattle.host_session.specs.events.Telling.{IsTold}
+use Rattle.host_session.specs.events.Within.{IsWithin}
+use Rattle.host_session.proofs.runs.looping.whole_messages.Goals as goal
+
+pub loop-asks-init : goal.loop-asks-init
+loop-asks-init g c = record { fuel = le_refl _; way = λ from w alive. (alive, w) }
+
+pub returns-in-End-clause-way : goal.returns-in-End-clause-way
+returns-in-End-clause-way g c = λ from w alive.
+    at_end g.D.Sectors.history g.A.Asks.source g.T.Tells.output from c.loop-asks.session.disk c.loop-asks.asks
+    c.next.new.self c.loop-asks.out
+    (c.loop-asks.invariant.way from w alive).1
+    (was_asked g.D.Sectors.history g.A.Asks.source c.loop-asks.asks c.next.new.self c.disk.result.now
+    c.loop-asks.session.disk _ _ c.disk.ensures c.in-End.is c.next.ensures)
+
+pub returns-in-Failed-clause-way : goal.returns-in-Failed-clause-way
+returns-in-Failed-clause-way g c = λ from w alive.
+    at_fault g.D.Sectors.history g.A.Asks.source g.T.Tells.output from c.loop-asks.session.disk c.loop-asks.asks
+    c.next.new.self c.loop-asks.out
+    (c.loop-asks.invariant.way from w alive).1
+    (was_asked g.D.Sectors.history g.A.Asks.source c.loop-asks.asks c.next.new.self c.disk.result.now
+    c.loop-asks.session.disk _ _ c.disk.ensures c.in-Failed.is c.next.ensures)
+
+pub returns-then-is_some-clause-way : goal.returns-then-is_some-clause-way
+returns-then-is_some-clause-way g c = λ from w alive.
+    let before = c.loop-asks.invariant.way from w alive in
+    let took = was_asked g.D.Sectors.history g.A.Asks.source c.loop-asks.asks c.next.new.self c.disk.result.now
+    c.loop-asks.session.disk _ _ c.disk.ensures c.in-Event.is c.next.ensures in (
+      before.0,
+      takes_one g.D.Sectors.history g.A.Asks.source g.T.Tells.output from c.loop-asks.session.disk c.loop-asks.asks
+          c.next.new.self c.loop-asks.out
+          before.1 took.0,
+    )
+
+pub returns-then-is_some-clause-cut : goal.returns-then-is_some-clause-cut
+returns-then-is_some-clause-cut g c = λ _.
+    let took = was_asked g.D.Sectors.history g.A.Asks.source c.loop-asks.asks c.next.new.self c.disk.result.now
+    c.loop-asks.session.disk _ _ c.disk.ensures c.in-Event.is c.next.ensures in
+    let fuel = took.1 in (
+      some_cut _ c.cut.result _ c.cut.ensures (sym c.is_some.ensures ∙ c.if-is_some.true),
+      omega
+          (arith, c.loop-asks.invariant.fuel, fuel),
+    )
+
+pub returns-then-is_media-clause-way : goal.returns-then-is_media-clause-way
+returns-then-is_media-clause-way g c = λ from w alive.
+    let h = g.D.Sectors.history in
+    let a = g.A.Asks.source in
+    let o = g.T.Tells.output in
+    let before = c.loop-asks.invariant.way from w alive in
+    let took = was_asked g.D.Sectors.history g.A.Asks.source c.loop-asks.asks c.next.new.self c.disk.result.now
+    c.loop-asks.session.disk _ _ c.disk.ensures c.in-Event.is c.next.ensures in
+    let x = c.loop-asks.session.disk in
+    let y = c.whole_message-reply.new.session.disk in
+    let reply = c.whole_message-reply.result in
+    let m = a.here c.next.new.self in
+    fails h a o from x y c.next.new.self reply c.loop-asks.out c.tell-taken.new.self c.tell-taken.result
+    (subst (λ d. IsTold o c.loop-asks.out c.tell-taken.new.self reply (instant_of h d) c.tell-taken.result)
+    c.disk-in-loop-asks.ensures c.tell-taken.ensures)
+    (λ t settled. subst (λ n. IsEvent h t n x y (EndsFailed h t n reply y))
+    (is_whole m c.message.result.now c.message.ensures (no_cut _ c.cut.result _ c.cut.ensures (sym c.is_some.ensures
+    ∙ c.if-is_some.false)))
+    (c.whole_message-reply.ensures.stopped t settled before.0 (c.is_media.ensures.0 c.if-is_media.true)))
+    (λ _ t settled. subst (λ n. IsWithin h n x y)
+    (is_whole m c.message.result.now c.message.ensures
+    (no_cut _ c.cut.result _ c.cut.ensures (sym c.is_some.ensures ∙ c.if-is_some.false)))
+    (c.whole_message-reply.ensures.within t settled))
+    (takes_one h a o from x c.loop-asks.asks c.next.new.self c.loop-asks.out before.1 took.0)
+
+pub returns-then-is_err-clause-way : goal.returns-then-is_err-clause-way
+returns-then-is_err-clause-way g c = λ from w alive.
+    let h = g.D.Sectors.history in
+    let a = g.A.Asks.source in
+    let o = g.T.Tells.output in
+    let before = c.loop-asks.invariant.way from w alive in
+    let took = was_asked g.D.Sectors.history g.A.Asks.source c.loop-asks.asks c.next.new.self c.disk.result.now
+    c.loop-asks.session.disk _ _ c.disk.ensures c.in-Event.is c.next.ensures in
+    let x = c.loop-asks.session.disk in
+    let y = c.whole_message-reply.new.session.disk in
+    let reply = c.whole_message-reply.result in
+    let m = a.here c.next.new.self in
+    breaks_off h a o from x y c.next.new.self reply c.loop-asks.out c.tell-taken.new.self
+    (c.whole_message-reply.new.session.dead ≡ false)
+    (was_broken o c.loop-asks.out c.tell-taken.new.self reply (instant_of h y) c.tell-taken.result
+    (sym c.is_err.ensures.value ∙ c.if-is_err.true)
+    (subst (λ d. IsTold o c.loop-asks.out c.tell-taken.new.self reply (instant_of h d) c.tell-taken.result)
+    c.disk-in-loop-asks.ensures c.tell-taken.ensures))
+    (λ t settled.
+    let e = c.whole_message-reply.ensures.done t settled before.0 (λ is. false≢true (sym c.if-is_media.false
+    ∙ c.is_media.ensures.1 is)) in (
+      e.0,
+      subst (λ n. IsEvent h t n x y (GoesOn h t n reply y))
+          (is_whole m c.message.result.now c.message.ensures
+          (no_cut _ c.cut.result _ c.cut.ensures (sym c.is_some.ensures ∙ c.if-is_some.false))) e.1,
+    ))
+    (λ _ t settled. subst (λ n. IsWithin h n x y)
+    (is_whole m c.message.result.now c.message.ensures
+    (no_cut _ c.cut.result _ c.cut.ensures (sym c.is_some.ensures ∙ c.if-is_some.false)))
+    (c.whole_message-reply.ensures.within t settled))
+    (takes_one h a o from x c.loop-asks.asks c.next.new.self c.loop-asks.out before.1 took.0)
+
+pub loop-asks-preserved : goal.loop-asks-preserved
+loop-asks-preserved g c =
+    let h = g.D.Sectors.history in
+    let a = g.A.Asks.source in
+    let o = g.T.Tells.output in
+    let took = was_asked g.D.Sectors.history g.A.Asks.source c.loop-asks.asks c.next.new.self c.disk.result.now
+    c.loop-asks.session.disk _ _ c.disk.ensures c.in-Event.is c.next.ensures in
+    let fuel = took.1 in
+    let x = c.loop-asks.session.disk in
+    let y = c.whole_message-reply.new.session.disk in
+    let reply = c.whole_message-reply.result in
+    let m = a.here c.next.new.self in
+    record {
+      fuel = omega (arith, c.loop-asks.invariant.fuel, fuel);
+      way = λ from w alive.
+          let before = c.loop-asks.invariant.way from w alive in
+          goes_on h a o from x y c.next.new.self reply c.loop-asks.out c.tell-taken.new.self
+          (c.whole_message-reply.new.session.dead ≡ false)
+          (was_told o c.loop-asks.out c.tell-taken.new.self reply (instant_of h y) c.tell-taken.result
+          (c.is_err.ensures.negation ∙ ap not c.if-is_err.false)
+          (subst (λ d. IsTold o c.loop-asks.out c.tell-taken.new.self reply (instant_of h d) c.tell-taken.result)
+          c.disk-in-loop-asks.ensures c.tell-taken.ensures))
+          (λ t settled.
+          let e = c.whole_message-reply.ensures.done t settled before.0 (λ is. false≢true (sym c.if-is_media.false
+          ∙ c.is_media.ensures.1 is)) in (
+            e.0,
+            subst (λ n. IsEvent h t n x y (GoesOn h t n reply y))
+                (is_whole m c.message.result.now c.message.ensures
+                (no_cut _ c.cut.result _ c.cut.ensures (sym c.is_some.ensures ∙ c.if-is_some.false))) e.1,
+          ))
+          (λ _ t settled. subst (λ n. IsWithin h n x y)
+          (is_whole m c.message.result.now c.message.ensures
+          (no_cut _ c.cut.result _ c.cut.ensures (sym c.is_some.ensures ∙ c.if-is_some.false)))
+          (c.whole_message-reply.ensures.within t settled))
+          (takes_one h a o from x c.loop-asks.asks c.next.new.self c.loop-asks.out before.1 took.0);
+    }

@@ -1,0 +1,82 @@
+-- The writes of each case are within those of the answer.
+use Rattle.std.proofs.Common.{arith, sym, ◌∙◌}
+use Rattle.std.proofs.lemmas.Bool.{false≢true}
+use Rattle.d64_image.proofs.Moments.{changes_weaker}
+use Rattle.host_session.proofs.lemmas.session.Keepings.{intent-writes, known-items, refused-writes}
+use Rattle.host_session.proofs.lemmas.session.KeptItems.{none-or}
+use Rattle.host_session.proofs.session.doing.keep.Goals as goal
+
+pub put_refusal-requires : goal.put_refusal-requires
+put_refusal-requires g c =
+    let (f, h, k, e) = c.requires.keeping in
+    record { ready = c.requires.ready; keeping = (f, h, k); refused = sym c.pending.ensures ∙ c.if-not-pending.true }
+
+pub returns-then-not-pending : goal.returns-then-not-pending
+returns-then-not-pending g c = record {
+  ready = c.put_refusal.ensures.ready;
+  ok = c.put_refusal.ensures.ok;
+  moments = λ f h k.
+      changes_weaker g.D.Sectors.history c.args.drive.now.disk c.put_refusal.new.drive.disk 1 _ _ _
+      (refused-writes f c.args.request.now c.args.card.now k (sym c.pending.ensures ∙ c.if-not-pending.true)
+      h.stock_file) (λ i x. x) (c.put_refusal.ensures.moments f h k);
+  counted = λ _. c.put_refusal.ensures.counted;
+  refused = λ _. c.put_refusal.ensures.counted;
+  failures = c.put_refusal.ensures.failures;
+  dies = c.put_refusal.ensures.dies;
+}
+
+pub put_first_set-requires : goal.put_first_set-requires
+put_first_set-requires g c =
+    let (f, h, k, e) = c.requires.keeping in
+    record {
+      ready = c.requires.ready;
+      keeping = (f, h, k, sym e ∙ c.if-has_no_card.true);
+      intent =
+          sym c.pending.ensures ∙ c.if-not-pending.false;
+    }
+
+pub returns-then-has_no_card : goal.returns-then-has_no_card
+returns-then-has_no_card g c = record {
+  ready = c.put_first_set.ensures.ready;
+  ok = c.put_first_set.ensures.ok;
+  moments = λ f h k.
+      changes_weaker g.D.Sectors.history c.args.drive.now.disk c.put_first_set.new.drive.disk _ _ _ _
+      (intent-writes f c.args.request.now c.args.card.now k (sym c.pending.ensures ∙ c.if-not-pending.false)
+      h.stock_file) (λ i x. x) (c.put_first_set.ensures.moments f h k);
+  counted = λ old. absurd (false≢true (sym old ∙ c.if-has_no_card.true));
+  refused = λ no. absurd (false≢true (sym no ∙ sym c.pending.ensures ∙ c.if-not-pending.false));
+  failures = c.put_first_set.ensures.failures;
+  dies = c.put_first_set.ensures.dies;
+}
+
+pub put_intent-requires : goal.put_intent-requires
+put_intent-requires g c =
+    let (f, h, k, e) = c.requires.keeping in
+    record {
+      ready = c.requires.ready;
+      keeping = (
+        f,
+        h,
+        k,
+        known-items f c.args.request.now c.args.card.now k
+            (none-or _ (sym e ∙ c.if-has_no_card.false)),
+      );
+      intent = sym c.pending.ensures ∙ c.if-not-pending.false;
+    }
+
+pub returns : goal.returns
+returns g c = record {
+  ready = c.put_intent.ensures.ready;
+  ok = c.put_intent.ensures.ok;
+  moments = λ f h k.
+      changes_weaker g.D.Sectors.history c.args.drive.now.disk c.put_intent.new.drive.disk _ _ _ _
+      (omega (
+        arith,
+        intent-writes f c.args.request.now c.args.card.now k (sym c.pending.ensures
+            ∙ c.if-not-pending.false) h.stock_file,
+      )) (λ i x. x) (c.put_intent.ensures.moments f h k);
+  counted = λ _. c.put_intent.ensures.counted;
+  refused = λ no. absurd (false≢true (sym no ∙ sym c.pending.ensures ∙ c.if-not-pending.false));
+  failures = c.put_intent.ensures.failures;
+  dies = c.put_intent.ensures.dies;
+}

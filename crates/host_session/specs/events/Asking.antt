@@ -1,0 +1,100 @@
+-- Where the events of a run come from. All of it is our own.
+use Rattle.std.specs.Prelude.{◌≡◌, ◌⊎◌, ℕ, true, Vec, ◌<◌, ◌≤◌, ◌-◌, ◌==◌, if◌then◌else◌, drop, slice_get, List, []}
+use Rattle.std.specs.Prelude.{◌∷◌, ◌++◌, None, Some, Option, length, map, option_map, refl}
+use Rattle.std.proofs.Common.{append-nil, sym}
+use Rattle.std.specs.declared.alloc.Global.{Global}
+use Rattle.d64_image.specs.Images.{Image}
+use Rattle.d64_image.specs.Memory.{sectors_in}
+use Rattle.script_lines.specs.Lines.{lines}
+use Rattle.script_lines.specs.Resets.{first_bad}
+use Rattle.script_lines.specs.declared.events.Event.{Event}
+use Rattle.host_session.specs.declared.events.asking.Next.{Next}
+use Rattle.host_session.specs.declared.events.asking.Next.TheVariants as next
+use Rattle.host_session.specs.declared.events.asking.OfEvents.{OfEvents}
+use Rattle.host_session.specs.declared.events.asking.OfScript.{OfScript}
+use Rattle.host_session.specs.declared.events.noting.Noted.{Noted}
+use Rattle.host_session.specs.events.Events.{Message, message_of, messages_of, uncut}
+use Rattle.host_session.specs.events.Instants.{Instant}
+
+-- the messages alone
+abbrev pub messages_in : {X : Type 0} → List (Message × X) → List Message
+messages_in taken = map (λ x. x.0) taken
+
+-- What a source says of the messages that it gives.
+pub record Source (A : Type 0) : Type 1 where
+  -- from the first to the second these messages were taken, each over a disk at this instant, in this order, and
+  -- nothing else
+  pub gives : A → A → List (Message × Instant) → Type 0
+  -- the message that was taken last
+  pub here : A → Message
+  -- no message is left
+  pub is_over : A → Type 0
+  -- the input failed
+  pub has_failed : A → Type 0
+  -- how many more there can be
+  pub fuel : A → ℕ
+  pub none : (x : A) → gives x x []
+
+-- nothing was taken
+abbrev pub TakesNone : {A : Type 0} → Source A → A → A → Type 0
+TakesNone {A} a old new = (first : A) (xs : List (Message × Instant)) → a.gives first old xs → a.gives first new xs
+
+-- the message that is here now was taken, over a disk at this instant
+abbrev pub TakesOne : {A : Type 0} → Source A → A → A → Instant → Type 0
+TakesOne {A} a old new at = (first : A) (xs : List (Message × Instant)) → a.gives first old xs
+    → a.gives first new (xs ++ (a.here new, at) ∷ [])
+
+-- what asking for the next event came to, over a disk at this instant
+abbrev pub IsNext : {A : Type 0} → Source A → A → A → Instant → Next → Type 0
+IsNext a old new at next.Event = TakesOne a old new at × (a.fuel new < a.fuel old)
+IsNext a old new at next.End = TakesNone a old new × a.is_over new
+IsNext a old new at next.Failed = TakesNone a old new × a.has_failed new
+
+-- the lines that were taken of a script without a bad line
+abbrev pub of_script : Source OfScript
+of_script = record {
+  gives = λ first now xs. first_bad (lines first.left.now) ≡ None
+      → (first_bad (lines now.left.now) ≡ None)
+      × (messages_of (lines first.left.now) ≡ messages_in xs ++ messages_of (lines now.left.now));
+  here = λ now. record { bytes = now.message.now; cut_after = option_map (λ c. c.after) now.cut };
+  is_over = λ now. lines now.left.now ≡ [];
+  has_failed = λ _. ⊥;
+  fuel = λ now. length now.left.now;
+  none = λ _ good. (good, refl);
+}
+
+-- the event that was taken last, where so many were
+abbrev pub last_taken : ℕ → List Event → Option Event
+last_taken n events = if n == 0 then None else slice_get events (n - 1)
+
+abbrev pub message_here : Option Event → Message
+message_here None = uncut []
+message_here (Some e) = message_of e
+
+-- the events that were taken of a list
+abbrev pub of_events : Source OfEvents
+of_events = record {
+  gives = λ first now xs. (now.events.now ≡ first.events.now)
+      × (map message_of (drop first.taken first.events.now)
+      ≡ messages_in xs ++ map message_of (drop now.taken first.events.now));
+  here = λ now. message_here (last_taken now.taken now.events.now);
+  is_over = λ now. length now.events.now ≤ now.taken;
+  has_failed = λ _. ⊥;
+  fuel = λ now. length now.events.now - now.taken;
+  none = λ _. (refl, refl);
+}
+
+-- what the disk held when each event was asked for
+abbrev pub noted_in : {A : Type 0} → Noted A → List Image
+noted_in now = map (λ (v : Vec ℕ Global). sectors_in v.items) now.disks.items
+
+-- the events that were taken of a source, each noted with what the disk held
+abbrev pub noted : {A : Type 0} → Source A → Source (Noted A)
+noted a = record {
+  gives = λ first now xs. a.gives first.asks now.asks xs × (noted_in now ≡ noted_in first ++ map (λ x. x.1.image) xs);
+  here = λ now. a.here now.asks;
+  is_over = λ now. a.is_over now.asks;
+  has_failed = λ now. (now.full ≡ true) ⊎ a.has_failed now.asks;
+  fuel = λ now. a.fuel now.asks;
+  none = λ now. (a.none now.asks, sym (append-nil (noted_in now)));
+}

@@ -1,0 +1,38 @@
+-- How many sectors the messages of a run write at most. All of it is our own.
+use Rattle.std.specs.Prelude.{◌≡◌, ◌<◌, ◌≤◌, ◌+◌, ◌*◌, ℕ, List, ◌∷◌, None, length}
+use Rattle.d64_image.specs.History.{History}
+use Rattle.request_cards.specs.Reading.{request_of}
+use Rattle.request_cards.specs.declared.reply.Reply.{Reply}
+use Rattle.host_session.specs.events.Events.{Message}
+use Rattle.host_session.specs.events.Quiet.{AreUncut}
+use Rattle.host_session.specs.session.Handling.{most_writes}
+use Rattle.host_session.specs.shop.Files.{Files, HasFiles}
+use Rattle.host_session.specs.shop.Shop.{shop_of}
+
+-- Whatever the message, 3618 sectors were written at most, and no more than its request can need on that disk.
+pub record IsWithin {D : Type 0} (h : History D) (m : Message) (old new : D) : Type 0 where
+  pub most : h.writes new ≤ h.writes old + 3618
+  pub needed : (f : Files) → (x : HasFiles (h.image old) f)
+      → h.writes new ≤ h.writes old + most_writes (shop_of f) x.stock_file (request_of m.bytes)
+
+-- Each of these messages in which power doesn't go wrote so many, one after another from this disk on. Beside each
+-- reply stands the disk that its message left.
+abbrev pub AreWithin : {D : Type 0} → History D → List Message → List (Reply × D) → D → Type 0
+AreWithin h (m ∷ ms) (x ∷ xs) old = (m.cut_after ≡ None → IsWithin h m old x.1) × AreWithin h ms xs x.1
+AreWithin h _ _ old = Unit {0}
+
+-- the most sectors that a run of so many messages writes: 952 as its disk is opened, and 3618 in each of them
+abbrev pub most_of_run : ℕ → ℕ
+most_of_run n = 952 + 3618 * n
+
+-- a run of these messages wrote no more than that
+abbrev pub IsBounded : {D : Type 0} → History D → List Message → D → D → Type 0
+IsBounded h ms old new = h.writes new ≤ h.writes old + most_of_run (length ms)
+
+-- so few messages that a count that is exact below 2^64 - 1 has room for all that a run of them writes
+abbrev pub AreFew : List Message → Type 0
+AreFew ms = most_of_run (length ms) < 18446744073709551615
+
+-- where power goes in none of few messages, each wrote no more than it can need
+abbrev pub AreFewWithin : {D : Type 0} → History D → List Message → List (Reply × D) → D → Type 0
+AreFewWithin h ms xs old = AreFew ms → AreUncut ms → AreWithin h ms xs old

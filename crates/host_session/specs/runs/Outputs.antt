@@ -1,0 +1,74 @@
+-- What the outputs of this crate say of what they were told. All of it is our own.
+use Rattle.std.specs.Prelude.{◌≡◌, ⊤, ℕ, ◌-◌, List, ◌++◌, Option, Vec, codes, take, vec_capacity, vec_len, map}
+use Rattle.std.proofs.KnownBytes.{Appends-nil}
+use Rattle.std.proofs.Common.{append-nil, sym}
+use Rattle.std.specs.Io.KnownBytes.{Appends}
+use Rattle.std.specs.declared.alloc.Global.{Global}
+use Rattle.d64_image.specs.Images.{Image}
+use Rattle.d64_image.specs.Memory.{sectors_in}
+use Rattle.request_cards.specs.Ledgers.{report}
+use Rattle.request_cards.specs.Texts.{reply_text}
+use Rattle.request_cards.specs.declared.reply.Reply.{Reply}
+use Rattle.host_session.specs.declared.events.hearing.Heard.{Heard}
+use Rattle.host_session.specs.declared.events.hearing.Turn.{Turn}
+use Rattle.host_session.specs.declared.events.printing.Printer.{Printer}
+use Rattle.host_session.specs.events.Instants.{Instant}
+use Rattle.host_session.specs.events.Telling.{Output}
+use Rattle.host_session.specs.runs.Chains.{told_in}
+
+-- the writer of a printer
+abbrev pub printer_out : {W : Type 0} → Printer W → W
+printer_out p = p.out
+
+-- the line of a reply
+abbrev pub line_of : Reply → List ℕ
+line_of reply = reply_text reply ++ codes "\n"
+
+-- a beginning of these bytes was written behind what is known, or all of them
+abbrev pub AppendsPart : Option (List ℕ) → Option (List ℕ) → List ℕ → Type 0
+AppendsPart old new bytes = (n : ℕ) × Appends old new (take n bytes)
+
+-- Replies were printed, each on a line of its own. A last one that was broken off is there up to some byte. What a
+-- writer holds back no contract of it says.
+abbrev pub printed : {W : Type 0} → (W → Option (List ℕ)) → Output (Printer W)
+printed contents = record {
+  told = λ old new turns. Appends (contents (printer_out old)) (contents (printer_out new)) (report (told_in turns));
+  broken_off = λ old new turns last. (n : ℕ)
+      × Appends (contents (printer_out old)) (contents (printer_out new))
+      (report (told_in turns) ++ take n (line_of last.0));
+  is_handed_on = λ _. ⊤;
+  room = λ _. 0;
+  none = λ p. Appends-nil (contents (printer_out p));
+}
+
+-- Replies were put in a list, behind those that it had, and nowhere else.
+abbrev pub listed : Output (Vec Reply Global)
+listed = record {
+  told = λ old new turns. new.items ≡ old.items ++ told_in turns;
+  broken_off = λ old new turns last. new.items ≡ old.items ++ told_in turns;
+  is_handed_on = λ _. ⊤;
+  room = λ v. vec_capacity v - vec_len v;
+  none = λ v. sym (append-nil v.items);
+}
+
+-- a reply that was heard, with what the disk held then
+abbrev pub turn_of : Turn → Reply × Image
+turn_of t = (t.reply, sectors_in t.bytes.items)
+
+-- each reply with what the disk held
+abbrev pub held_in : List (Reply × Instant) → List (Reply × Image)
+held_in turns = map (λ x. (x.0, x.1.image)) turns
+
+-- what was heard up to now
+abbrev pub turns_of : Heard → List (Reply × Image)
+turns_of h = map turn_of h.turns.items
+
+-- Replies were kept, each with a copy of the disk, and so many of them handed on. One that isn't taken isn't kept.
+abbrev pub heard : Output Heard
+heard = record {
+  told = λ old new turns. turns_of new ≡ turns_of old ++ held_in turns;
+  broken_off = λ old new turns last. turns_of new ≡ turns_of old ++ held_in turns;
+  is_handed_on = λ h. h.handed ≡ vec_len h.turns;
+  room = λ _. 0;
+  none = λ h. sym (append-nil (turns_of h));
+}

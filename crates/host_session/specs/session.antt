@@ -1,0 +1,9 @@
+-- What opening refuses, what a session holds, and what a message does.
+pub mod Opening
+pub mod Handling
+pub mod Standing
+pub mod Deciding
+pub mod Keeping
+pub mod Answering
+pub mod Handled
+pub mod Settling

@@ -1,0 +1,42 @@
+-- A till's next request, as it is kept on the disk. All of it is our own.
+use Rattle.std.specs.Prelude.{◌≡◌, ◌≤◌, ◌⊎◌, ℕ, false, [], Contains, IsSome, length}
+use Rattle.d64_image.specs.Images.{Image}
+use Rattle.request_cards.specs.declared.answer.Answer.{Answer}
+use Rattle.request_cards.specs.CardTexts.{Card, IsCard, is_done}
+use Rattle.request_cards.specs.Ledgers.{applied}
+use Rattle.request_cards.specs.Requests.{Ask}
+use Rattle.request_cards.specs.Trade.{outcome}
+use Rattle.host_session.specs.shop.Files.{Files, record_at}
+use Rattle.host_session.specs.shop.Shop.{AreLedgerRecords, IsShop, Shop, any_old, cards_in, intents, items, results_of}
+use Rattle.host_session.specs.shop.Shop.{shop_of, with_state}
+
+-- what the trade rule answers to a request in this shop
+abbrev pub answer_of : Shop → Ask → Answer
+answer_of s a = (outcome s.state.ledger.cards s.top a.body).0
+
+-- the shop after the next request of a till
+abbrev pub shop_after : Shop → Ask → Shop
+shop_after s a = with_state s (applied s.top s.state a)
+
+-- the image is the shop's before the request or after it
+abbrev pub IsEither : Shop → Ask → Image → Type 0
+IsEither s a img = IsShop img s ⊎ IsShop img (shop_after s a)
+
+-- f holds a shop at rest, whose tills the request's is one of, and c is the card that the till is to have: the request
+-- with its answer, an open intent where it is done, and behind it the till's last request
+pub record IsKeeping (f : Files) (a : Ask) (c : Card) : Type 0 where
+  pub records : AreLedgerRecords f.stock f.requests
+  pub no_intent : intents (cards_in f.requests) ≡ []
+  pub no_old_card : any_old (cards_in f.requests) ≡ false
+  pub till_low : 1 ≤ a.till
+  pub till_high : a.till ≤ 64
+  pub till_there : a.till ≤ length f.requests
+  pub is_card : IsCard c
+  pub version : c.version ≡ 2
+  pub newest : c.newest ≡ record { number = a.number; body = a.body; answer = answer_of (shop_of f) a }
+  pub second : c.second ≡ (shop_of f).state.ledger.kept a.till
+  pub pending : c.pending ≡ is_done (answer_of (shop_of f) a)
+
+-- STOCK has the record of each item to which the card's answer gives a new quantity
+abbrev pub HasItems : Files → Card → Type 0
+HasItems f c = (item : ℕ) → Contains (items (results_of c.newest)) item → IsSome (record_at f.stock item)

@@ -1,0 +1,11 @@
+-- Which shop an image is, and what writes make of it.
+pub mod Files
+pub mod Shop
+pub mod Blank
+pub mod Putting
+pub mod Growing
+pub mod Found
+pub mod Selecting
+pub mod Completing
+pub mod Judged
+pub mod Channels

@@ -1,0 +1,104 @@
+//! One event of a run: a message, or one in which power goes and the openings after it.
+ghost use Rattle.std.specs.Prelude.{◌≡◌, ◌≤◌, ◌+◌, ◌↔◌, IfErr, IfOk, IsTrue, false};
+ghost use Rattle.d64_image.specs.History.{HeldOnly};
+ghost use Rattle.host_session.specs.events.Events.{cut_at, uncut};
+ghost use Rattle.host_session.specs.events.OneEvent.{EndsFailed, GoesOn, IsEvent, Leaves};
+ghost use Rattle.host_session.specs.events.Within.{IsWithin};
+ghost use Rattle.host_session.specs.session.Handling.{IsMedia};
+ghost use Rattle.host_session.specs.shop.Shop.{IsSettled, IsShop, Shop};
+
+use crate::session::Session;
+use d64_image::{Fuse, Sectors};
+use request_cards::{Reply, Word};
+use script_lines::Cut;
+
+/// Hands a message to a session whose power goes after so many writes, and takes the disk back.
+fn cut_message<D: Sectors>(session: Session<D>, message: &[u8], after: u32) -> D
+    ensures writes { (s : Shop) → IsSettled (D.history.image session.disk) s
+        → D.history.writes result ≤ D.history.writes session.disk + after }
+    ensures event { (s : Shop) → IsSettled (D.history.image session.disk) s → session.dead ≡ false
+        → IsEvent D.history s (cut_at message.now after) session.disk result (Leaves D.history s result) }
+{
+    let mut cut = session.fused(after);
+    let _ = cut.handle(message);
+    cut.close().into_inner()
+}
+
+/// Begins an opening whose power goes after so many writes, and takes the disk back.
+fn cut_opening<D: Sectors>(disk: D, writes: u32) -> D
+    ensures moments { (s : Shop) → IsShop (D.history.image disk) s → HeldOnly D.history disk result (λ c. IsShop c s) }
+    ensures writes { (s : Shop) → IsShop (D.history.image disk) s → D.history.writes result ≤ D.history.writes disk + writes }
+    ensures later { (s : Shop) → IsShop (D.history.image disk) s → D.history.failures disk ≤ D.history.failures result }
+    ensures quiet { (s : Shop) → IsSettled (D.history.image disk) s
+        → HeldOnly D.history disk result (λ c. c ≡ D.history.image disk) }
+{
+    match Session::open(Fuse::new(disk, writes)) {
+        Ok(session) => session.close().into_inner(),
+        Err((_, fuse)) => fuse.into_inner(),
+    }
+}
+
+/// Cuts each of these openings.
+fn cut_openings<D: Sectors>(disk: D, recoveries: &[u32]) -> D
+    ensures moments { (s : Shop) → IsShop (D.history.image disk) s → HeldOnly D.history disk result (λ c. IsShop c s) }
+    ensures later { (s : Shop) → IsShop (D.history.image disk) s → D.history.failures disk ≤ D.history.failures result }
+    ensures quiet { (s : Shop) → IsSettled (D.history.image disk) s
+        → HeldOnly D.history disk result (λ c. c ≡ D.history.image disk) }
+{
+    let mut disk = disk;
+    for &writes in recoveries {
+        disk = cut_opening(disk, writes);
+    }
+    disk
+}
+
+/// A message in which power goes, the listed recoveries, and a whole one. Err has the disk where the whole one failed.
+// Out of line, since a call pays for all locals at its start, and a run without a reset has no use for these sessions.
+#[inline(never)]
+pub(crate) fn cut_event<D: Sectors>(
+    session: Session<D>,
+    message: &[u8],
+    cut: &Cut,
+) -> Result<Session<D>, D>
+    ensures done { (s : Shop) → IsSettled (D.history.image session.disk) s → session.dead ≡ false
+        → IfOk result (λ x. (x.dead ≡ false)
+        × IsEvent D.history s (cut_at message.now cut.now.after) session.disk x.disk
+        (GoesOn D.history s (cut_at message.now cut.now.after) Reply.Cut x.disk)) }
+    ensures stopped { (s : Shop) → IsSettled (D.history.image session.disk) s → session.dead ≡ false
+        → IfErr result (λ d. IsEvent D.history s (cut_at message.now cut.now.after) session.disk d
+        (EndsFailed D.history s (cut_at message.now cut.now.after) Reply.Cut d)) }
+{
+    let cut_disk = cut_message(session, message, cut.after);
+    let disk = cut_openings(cut_disk, cut.recoveries.as_slice());
+    match Session::open(disk) {
+        Ok(session) => Ok(session),
+        Err((_, disk)) => Err(disk),
+    }
+}
+
+/// Whether the device failed.
+pub(crate) fn is_media(reply: Reply) -> bool
+    ensures { IsTrue result ↔ IsMedia reply }
+{
+    matches!(
+        reply,
+        Reply::Told {
+            word: Word::Media,
+            ..
+        }
+    )
+}
+
+/// A message without a reset, handled in place: MEDIA where the device failed.
+pub(crate) fn whole_message<D: Sectors>(session: &mut Session<D>, message: &[u8]) -> Reply
+    ensures done { (s : Shop) → IsSettled (D.history.image session.old.disk) s → session.old.dead ≡ false
+        → ¬ (IsMedia result) → (session.new.dead ≡ false) × IsEvent D.history s (uncut message.now) session.old.disk session.new.disk
+        (GoesOn D.history s (uncut message.now) result session.new.disk) }
+    ensures stopped { (s : Shop) → IsSettled (D.history.image session.old.disk) s → session.old.dead ≡ false
+        → IsMedia result → IsEvent D.history s (uncut message.now) session.old.disk session.new.disk
+        (EndsFailed D.history s (uncut message.now) result session.new.disk) }
+    ensures within { (s : Shop) → IsSettled (D.history.image session.old.disk) s
+        → IsWithin D.history (uncut message.now) session.old.disk session.new.disk }
+{
+    session.handle(message)
+}

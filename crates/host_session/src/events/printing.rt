@@ -1,0 +1,74 @@
+//! Replies that are printed.
+ghost use Rattle.std.specs.Prelude.{◌≡◌, OnErr, OnOk};
+ghost use Rattle.std.specs.Io.KnownBytes.{Appends};
+ghost use Rattle.host_session.specs.runs.Outputs.{AppendsPart, printed, printer_out};
+
+use crate::events::telling::{NotTaken, Tells};
+use d64_image::Sectors;
+use request_cards::Reply;
+use std::io::{self, Write};
+
+/// A writer of replies: each on a line of its own, with its LF, in one write.
+#[derive(Drop)]
+pub struct Printer<W> {
+    out: W,
+}
+
+impl<W> Printer<W> {
+    /// Replies go to this writer.
+    pub fn new(out: W) -> Printer<W>
+        ensures { printer_out result ≡ out }
+    {
+        Printer { out }
+    }
+
+    /// The writer.
+    pub fn into_inner(self) -> W
+        ensures { result ≡ printer_out self }
+    {
+        self.out
+    }
+}
+
+/// Writes all of these bytes: at once, as a writer takes them, and the rest of them where it took a part. At an error,
+/// which comes where the writer failed or took none, a beginning of them was written.
+#[inline(always)]
+pub fn write_whole<W: Write>(out: &mut W, bytes: &[u8]) -> Result<(), NotTaken>
+    ensures ok { OnOk result (Appends (W.contents out.old) (W.contents out.new) bytes.now) }
+    ensures err { OnErr result (AppendsPart (W.contents out.old) (W.contents out.new) bytes.now) }
+{
+    let mut written = 0;
+    for _ in 0..u64::MAX {
+        if written == bytes.len() {
+            return Ok(());
+        }
+        match out.write(&bytes[written..]) {
+            Ok(0) => return Err(NotTaken),
+            Ok(more) => written += more,
+            Err(error) => {
+                if error.kind() != io::ErrorKind::Interrupted {
+                    return Err(NotTaken);
+                }
+            }
+        }
+    }
+    Err(NotTaken)
+}
+
+impl<D: Sectors, W: Write> Tells<D> for Printer<W> {
+    ghost output = { printed W.contents };
+
+    fn tell(&mut self, reply: &Reply, _disk: &D) -> Result<(), NotTaken> {
+        let mut room = [b'\n'; 44];
+        let start = reply.write(&mut room, 43);
+        write_whole(&mut self.out, &room[start..])
+    }
+
+    // What a flush does with what the writer holds back no contract says.
+    fn hand_on(&mut self) -> Result<(), NotTaken> {
+        match self.out.flush() {
+            Ok(()) => Ok(()),
+            Err(_) => Err(NotTaken),
+        }
+    }
+}

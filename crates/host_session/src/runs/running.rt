@@ -1,0 +1,77 @@
+//! Runs of scripts.
+ghost use Rattle.std.specs.Prelude.{◌≡◌};
+ghost use Rattle.host_session.specs.runs.Faults.{script_fault_of, script_number};
+ghost use Rattle.host_session.specs.runs.ScriptRuns.{IsScriptRun};
+
+use crate::events::asking::OfScript;
+use crate::events::telling::Tells;
+use crate::faults::OpenFault;
+use crate::runs::looping::{LoopFault, run};
+use d64_image::Sectors;
+use script_lines::first_bad_line;
+use thiserror::Error;
+
+/// Why a script wasn't played to its end.
+#[derive(Clone, Copy, Debug, PartialEq, Eq, Error)]
+pub enum ScriptFault {
+    /// The disk wasn't opened, and no line was played.
+    #[error("{0}")]
+    Open(OpenFault),
+    /// A line is bad: the first such line, counted from 1. Nothing was done.
+    #[error("SCRIPT LINE {0}")]
+    BadLine(usize),
+    /// The output failed to take a reply. The lines up to that one were played.
+    #[error("FILE")]
+    Output,
+    /// The device failed in a message, which was told MEDIA, or in the whole recovery after a cut one.
+    #[error("DEVICE")]
+    Device,
+}
+
+impl ScriptFault {
+    /// The fault's number: 1 Open, 2 BadLine, 3 Output, 4 Device.
+    pub fn number(self) -> u8
+        ensures { result ≡ script_number self }
+    {
+        match self {
+            ScriptFault::Open(_) => 1,
+            ScriptFault::BadLine(_) => 2,
+            ScriptFault::Output => 3,
+            ScriptFault::Device => 4,
+        }
+    }
+}
+
+/// What is told of a script whose run this fault ended. Its input is here, and doesn't fail.
+fn fault_of(fault: LoopFault) -> ScriptFault
+    ensures { result ≡ script_fault_of fault }
+{
+    match fault {
+        LoopFault::Open(fault) => ScriptFault::Open(fault),
+        LoopFault::Output => ScriptFault::Output,
+        LoopFault::Device | LoopFault::Input => ScriptFault::Device,
+    }
+}
+
+/// Plays the lines of a script one after another, as `play` plays events, and tells each reply before the next line is
+/// played. What comes of it are the clauses of `IsScriptRun`.
+///
+/// All lines are judged before anything else is done. It takes no memory. After `Output` the lines played stand, the one
+/// whose reply wasn't taken whole among them. Where the device failed, the last reply is told before `Device` is, and whether
+/// the output took it isn't.
+pub fn run_script<D: Sectors, T: Tells<D>>(
+    disk: D,
+    script: &[u8],
+    out: &mut T,
+) -> Result<D, (ScriptFault, D)>
+    ensures { IsScriptRun D.history T.output disk script.now out.old out.new result }
+{
+    if let Some(line) = first_bad_line(script) {
+        return Err((ScriptFault::BadLine(line), disk));
+    }
+    let mut asks = OfScript::new(script);
+    match run(disk, &mut asks, out) {
+        Ok(disk) => Ok(disk),
+        Err((fault, disk)) => Err((fault_of(fault), disk)),
+    }
+}

@@ -1,0 +1,40 @@
+//! The open intent that a power cut left, completed.
+ghost use Rattle.std.specs.Prelude.{◌≡◌, IfNone, IsErr, OnOk, true};
+ghost use Rattle.d64_image.specs.History.{Changes, TellsFailure};
+ghost use Rattle.host_session.specs.session.Settling.{HasClosedTable, HasTable};
+ghost use Rattle.host_session.specs.shop.Judged.{IsIntentOf};
+ghost use Rattle.host_session.specs.shop.Selecting.{IsReady};
+ghost use Rattle.host_session.specs.shop.Shop.{IsShop, Shop};
+
+use crate::shop::completing::{answered, complete};
+use crate::shop::intents::Intent;
+use crate::shop::shop_drive::ShopDrive;
+use d64_image::Sectors;
+use drive_channels::Dead;
+use request_cards::RequestCard;
+
+/// Completes the open intent, if there is one, and answers it in the table of the tills' cards.
+pub(crate) fn recover<D: Sectors>(
+    drive: &mut ShopDrive<D>,
+    intent: &Option<Intent>,
+    requests: &mut [Option<RequestCard>; 64],
+) -> Result<(), Dead>
+    requires ready { IsReady D.history drive.old }
+    requires table { (s : Shop) × HasTable (D.history.image drive.old.disk) s requests.old × IsIntentOf requests.old intent.now }
+    ensures ready { OnOk result (IsReady D.history drive.new) }
+    ensures ok { (s : Shop) → HasTable (D.history.image drive.old.disk) s requests.old → IsIntentOf requests.old intent.now
+        → OnOk result (HasClosedTable (D.history.image drive.new.disk) s requests.new) }
+    // two cards in two parts each at most, and the answer
+    ensures moments { (s : Shop) → HasTable (D.history.image drive.old.disk) s requests.old → IsIntentOf requests.old intent.now
+        → Changes D.history drive.old.disk drive.new.disk 5 (λ c. IsShop c s) }
+    ensures quiet { IfNone intent.now ((drive.new ≡ drive.old) × (requests.new ≡ requests.old)) }
+    ensures failures { TellsFailure D.history drive.old.disk drive.new.disk result }
+    ensures dies { IsErr result → drive.new.dead ≡ true }
+{
+    let Some(open) = intent else {
+        return Ok(());
+    };
+    complete(drive, open.till, &open.card)?;
+    requests[usize::from(open.till) - 1] = Some(answered(&open.card));
+    Ok(())
+}

@@ -1,0 +1,69 @@
+//! A shop's disk brought to rest: mended, without an open intent and without a card of version 1.
+ghost use Rattle.std.specs.Prelude.{◌≡◌, IfErr, IfNone, IfOk, IsErr, OnOk, false, true};
+ghost use Rattle.d64_image.specs.History.{Changes, TellsFailure};
+ghost use Rattle.host_session.specs.declared.faults.OpenFault.TheVariants.{Device};
+ghost use Rattle.host_session.specs.session.Opening.{TellsOpening, Untouched, disk_of};
+ghost use Rattle.host_session.specs.session.Settling.{HasNewTable, HasTable};
+ghost use Rattle.host_session.specs.session.Standing.{IsStanding, state_in};
+ghost use Rattle.host_session.specs.shop.Files.{Files, HasFiles};
+ghost use Rattle.host_session.specs.shop.Judged.{IsIntentOf, IsJudged};
+ghost use Rattle.host_session.specs.shop.Selecting.{IsReady};
+ghost use Rattle.host_session.specs.shop.Shop.{IsSettled, IsShop, Shop, any_old};
+
+use crate::faults::OpenFault;
+use crate::session::migrating::migrate;
+use crate::session::recovery::recover;
+use crate::session::starting::start;
+use crate::shop::intents::Intent;
+use crate::shop::judgment::Judged;
+use crate::shop::shop_drive::ShopDrive;
+use d64_image::Sectors;
+use drive_channels::Dead;
+use request_cards::RequestCard;
+
+/// Completes the open intent, and then writes each card of version 1 again.
+fn bring_to_rest<D: Sectors>(
+    drive: &mut ShopDrive<D>,
+    intent: &Option<Intent>,
+    requests: &mut [Option<RequestCard>; 64],
+) -> Result<(), Dead>
+    requires ready { IsReady D.history drive.old }
+    requires table { (s : Shop) × HasTable (D.history.image drive.old.disk) s requests.old × IsIntentOf requests.old intent.now }
+    ensures ready { OnOk result (IsReady D.history drive.new) }
+    ensures ok { (s : Shop) → HasTable (D.history.image drive.old.disk) s requests.old → IsIntentOf requests.old intent.now
+        → OnOk result (HasNewTable (D.history.image drive.new.disk) s requests.new 64) }
+    ensures moments { (s : Shop) → HasTable (D.history.image drive.old.disk) s requests.old → IsIntentOf requests.old intent.now
+        → Changes D.history drive.old.disk drive.new.disk 69 (λ c. IsShop c s) }
+    ensures quiet { IfNone intent.now (any_old requests.old ≡ false → drive.new ≡ drive.old) }
+    ensures failures { TellsFailure D.history drive.old.disk drive.new.disk result }
+    ensures dies { IsErr result → drive.new.dead ≡ true }
+{
+    recover(drive, intent, requests)?;
+    migrate(drive, requests)
+}
+
+/// Mends a shop's disk that was judged, and brings it to rest. What was found is then as the disk has it at rest.
+// Out of line, as `judge` is.
+#[inline(never)]
+pub(crate) fn settle<D: Sectors>(
+    disk: D,
+    found: &mut Judged,
+) -> Result<ShopDrive<D>, (OpenFault, D)>
+    requires judged { (f : Files) × HasFiles (D.history.image disk) f × IsJudged f found.old }
+    ensures ready { IfOk result (λ x. IsReady D.history x) }
+    ensures standing { IfOk result (λ x. IsStanding (D.history.image x.disk) false found.new.top found.new.tills
+        (state_in found.new.cards found.new.requests)) }
+    ensures ok { (s : Shop) → IsShop (D.history.image disk) s
+        → IfOk result (λ x. IsSettled (D.history.image x.disk) s) }
+    ensures err { IfErr result (λ e. e.0 ≡ Device) }
+    ensures moments { (s : Shop) → IsShop (D.history.image disk) s
+        → Changes D.history disk (disk_of (λ x. x.disk) result) 952 (λ c. IsShop c s) }
+    ensures quiet { (s : Shop) → IsSettled (D.history.image disk) s → Untouched D.history disk (disk_of (λ x. x.disk) result) }
+    ensures failures { TellsOpening (λ x. x.disk) D.history disk result }
+{
+    let mut drive = start(disk)?;
+    match bring_to_rest(&mut drive, &found.intent, &mut found.requests) {
+        Ok(()) => Ok(drive),
+        Err(Dead) => Err((OpenFault::Device, drive.into_disk())),
+    }
+}

@@ -1,0 +1,213 @@
+//! A disk read and judged before anything is written to it.
+ghost use Rattle.std.specs.Prelude.{◌≡◌, ◌≤◌, ◌⊎◌, IfErr, IfOk, None, OnOk, replicate};
+ghost use Rattle.d64_image.specs.History.{Failed, OnlyReads};
+ghost use Rattle.host_session.specs.declared.faults.OpenFault.TheVariants.{BadCard, BadRequestCard, Device};
+ghost use Rattle.host_session.specs.session.Opening.{IsBadCard, IsBadTill, Refuses, TellsJudging};
+ghost use Rattle.host_session.specs.shop.Files.{Files, HasFiles};
+ghost use Rattle.host_session.specs.shop.Found.{AreFilesOf};
+ghost use Rattle.host_session.specs.shop.Judged.{AreCards, AreTills, HasJudgedTills, IsIntentOf, IsJudged, IsJudgedItem, IsJudgedTill, IsNothing};
+ghost use Rattle.rel_records.specs.reading.Kept.{IsKept};
+
+use crate::faults::OpenFault;
+use crate::shop::finding::{LedgerFiles, find_files};
+use crate::shop::intents::{
+    Intent, NewQuantities, given_by, new_quantities, new_quantity, open_intent, passes,
+};
+use crate::shop::reading::{Held, read_item, read_till};
+use arrayvec::ArrayVec;
+use d64_image::Sectors;
+use rel_records::{LastBlock, records};
+use request_cards::RequestCard;
+
+/// What opening reads before it writes. It is large, so that each step fills it where it stands.
+#[derive(Drop)]
+pub struct Judged {
+    /// The last item that a new card may have.
+    pub(crate) top: u16,
+    /// How many tills there are.
+    pub(crate) tills: u8,
+    /// The quantity on hand of each item, from item 1 on, as it is once the open intent is completed.
+    pub(crate) cards: [Option<u32>; 10160],
+    /// The card of each till, from till 1 on.
+    pub(crate) requests: [Option<RequestCard>; 64],
+    /// The open intent, which is one of these cards.
+    pub(crate) intent: Option<Intent>,
+}
+
+impl Judged {
+    /// Nothing was read yet.
+    pub(crate) fn nothing() -> Judged
+        ensures { IsNothing result }
+    {
+        Judged {
+            top: 0,
+            tills: 0,
+            cards: [None; 10160],
+            requests: [None; 64],
+            intent: None,
+        }
+    }
+}
+
+/// The card of a till whose record may stand; None past the last record.
+fn judge_till<D: Sectors>(
+    disk: &mut D,
+    files: &LedgerFiles,
+    last: &mut LastBlock,
+    text: &mut ArrayVec<u8, 254>,
+    till: u8,
+) -> Result<Option<Option<RequestCard>>, OpenFault>
+    requires of { (f : Files) × AreFilesOf (D.history.image disk.old) f files.now }
+    requires kept { IsKept (D.history.image disk.old) files.now.requests last.old }
+    requires low { 1 ≤ till }
+    requires high { till ≤ 64 }
+    ensures ok { (f : Files) → AreFilesOf (D.history.image disk.old) f files.now → IfOk result (IsJudgedTill f till) }
+    ensures err { (f : Files) → AreFilesOf (D.history.image disk.old) f files.now
+        → IfErr result (λ fault. (fault ≡ Device) ⊎ ((fault ≡ BadRequestCard till) × IsBadTill f till)) }
+    ensures kept { IsKept (D.history.image disk.old) files.now.requests last.new }
+    ensures reads { OnlyReads D.history disk.old disk.new 3 }
+    ensures failures { TellsJudging D.history disk.old disk.new result }
+{
+    let Some(held) = read_till(disk, files, last, text, till)? else {
+        return Ok(None);
+    };
+    match held {
+        Held::Empty => Ok(Some(None)),
+        Held::Card(card) => {
+            if card.pending() && passes(&new_quantities(till, &card), records(&files.stock)) {
+                return Err(OpenFault::BadRequestCard(till));
+            }
+            Ok(Some(Some(card)))
+        }
+        Held::Other => Err(OpenFault::BadRequestCard(till)),
+    }
+}
+
+/// Reads the cards of all tills up to 64 into a table, and tells how many there are, or the lowest bad one.
+fn read_tills<D: Sectors>(
+    disk: &mut D,
+    files: &LedgerFiles,
+    requests: &mut [Option<RequestCard>; 64],
+) -> Result<u8, OpenFault>
+    requires of { (f : Files) × AreFilesOf (D.history.image disk.old) f files.now }
+    requires none { requests.old ≡ replicate 64 None }
+    ensures ok { (f : Files) → AreFilesOf (D.history.image disk.old) f files.now
+        → IfOk result (λ count. AreTills f count requests.new) }
+    ensures err { IfErr result (Refuses (Failed D.history disk.old disk.new) (D.history.image disk.old)) }
+    ensures reads { OnlyReads D.history disk.old disk.new 192 }
+    ensures failures { TellsJudging D.history disk.old disk.new result }
+{
+    let mut last = LastBlock::none();
+    let mut text = ArrayVec::new();
+    for place in 0..64u8 {
+        match judge_till(disk, files, &mut last, &mut text, place + 1)? {
+            Some(card) => requests[usize::from(place)] = card,
+            None => return Ok(place),
+        }
+    }
+    Ok(64)
+}
+
+/// The quantity on hand of an item whose record may stand, or is to have this new quantity; None past the last record.
+fn judge_item<D: Sectors>(
+    disk: &mut D,
+    files: &LedgerFiles,
+    last: &mut LastBlock,
+    text: &mut ArrayVec<u8, 254>,
+    new: &NewQuantities,
+    item: u16,
+) -> Result<Option<Option<u32>>, OpenFault>
+    requires of { (f : Files) × AreFilesOf (D.history.image disk.old) f files.now }
+    requires kept { IsKept (D.history.image disk.old) files.now.stock last.old }
+    requires low { 1 ≤ item }
+    ensures ok { (f : Files) → AreFilesOf (D.history.image disk.old) f files.now → HasJudgedTills f new.now
+        → IfOk result (IsJudgedItem f item) }
+    ensures err { (f : Files) → AreFilesOf (D.history.image disk.old) f files.now → HasJudgedTills f new.now
+        → IfErr result (λ fault. (fault ≡ Device) ⊎ ((fault ≡ BadCard item) × IsBadCard f item)) }
+    ensures kept { IsKept (D.history.image disk.old) files.now.stock last.new }
+    ensures reads { OnlyReads D.history disk.old disk.new 3 }
+    ensures failures { TellsJudging D.history disk.old disk.new result }
+{
+    let Some(held) = read_item(disk, files, last, text, item)? else {
+        return Ok(None);
+    };
+    let intended = new_quantity(new, item);
+    if intended.is_some() {
+        return Ok(Some(intended));
+    }
+    match held {
+        Held::Empty => Ok(Some(None)),
+        Held::Card(card) => {
+            if card.item() != item {
+                return Err(OpenFault::BadCard(item));
+            }
+            Ok(Some(Some(card.quantity())))
+        }
+        Held::Other => Err(OpenFault::BadCard(item)),
+    }
+}
+
+/// Reads the quantities on hand of all items into a table. The lowest bad card is told.
+fn read_stock<D: Sectors>(
+    disk: &mut D,
+    files: &LedgerFiles,
+    new: &NewQuantities,
+    cards: &mut [Option<u32>; 10160],
+) -> Result<(), OpenFault>
+    requires of { (f : Files) × AreFilesOf (D.history.image disk.old) f files.now × HasJudgedTills f new.now }
+    requires none { cards.old ≡ replicate 10160 None }
+    ensures ok { (f : Files) → AreFilesOf (D.history.image disk.old) f files.now → HasJudgedTills f new.now
+        → OnOk result (AreCards f cards.new) }
+    ensures err { IfErr result (Refuses (Failed D.history disk.old disk.new) (D.history.image disk.old)) }
+    ensures reads { OnlyReads D.history disk.old disk.new 30480 }
+    ensures failures { TellsJudging D.history disk.old disk.new result }
+{
+    let mut last = LastBlock::none();
+    let mut text = ArrayVec::new();
+    for place in 0..10160u16 {
+        match judge_item(disk, files, &mut last, &mut text, new, place + 1)? {
+            Some(quantity) => cards[usize::from(place)] = quantity,
+            None => return Ok(()),
+        }
+    }
+    Ok(())
+}
+
+/// Reads the tills' cards into a table, and tells how many there are, and the open intent among them, if there is one.
+fn judge_tills<D: Sectors>(
+    disk: &mut D,
+    files: &LedgerFiles,
+    requests: &mut [Option<RequestCard>; 64],
+) -> Result<(u8, Option<Intent>), OpenFault>
+    requires of { (f : Files) × AreFilesOf (D.history.image disk.old) f files.now }
+    requires none { requests.old ≡ replicate 64 None }
+    ensures ok { (f : Files) → AreFilesOf (D.history.image disk.old) f files.now
+        → IfOk result (λ p. AreTills f p.0 requests.new × IsIntentOf requests.new p.1) }
+    ensures err { IfErr result (Refuses (Failed D.history disk.old disk.new) (D.history.image disk.old)) }
+    ensures reads { OnlyReads D.history disk.old disk.new 192 }
+    ensures failures { TellsJudging D.history disk.old disk.new result }
+{
+    let count = read_tills(disk, files, requests)?;
+    let intent = open_intent(requests)?;
+    Ok((count, intent))
+}
+
+/// Reads a disk and judges it, in the order of `OpenFault`. Nothing is written.
+// Out of line, as `settle` is: an opening is then so short that the compiler makes the tables once, where the session is
+// kept, and not a second time for a fault.
+#[inline(never)]
+pub(crate) fn judge<D: Sectors>(disk: &mut D, found: &mut Judged) -> Result<(), OpenFault>
+    requires nothing { IsNothing found.old }
+    ensures ok { OnOk result ((f : Files) × HasFiles (D.history.image disk.old) f × IsJudged f found.new) }
+    ensures err { IfErr result (Refuses (Failed D.history disk.old disk.new) (D.history.image disk.old)) }
+    ensures reads { OnlyReads D.history disk.old disk.new 34190 }
+    ensures failures { TellsJudging D.history disk.old disk.new result }
+{
+    let files = find_files(disk)?;
+    let (tills, intent) = judge_tills(disk, &files, &mut found.requests)?;
+    read_stock(disk, &files, &given_by(&intent), &mut found.cards)?;
+    found.top = files.top;
+    found.tills = tills;
+    found.intent = intent;
+    Ok(())
+}

@@ -1,0 +1,95 @@
+//! Records that are there, written through the drive.
+ghost use Rattle.std.specs.Prelude.{ℕ, ◌≡◌, ◌≤◌, IsErr, OnErr, OnOk, true, length};
+ghost use Rattle.d64_image.specs.History.{Changes, TellsFailure};
+ghost use Rattle.disk_layout.specs.Clean.{IsClean};
+ghost use Rattle.disk_layout.specs.Layout.{File, Layout, record_length};
+ghost use Rattle.disk_layout.specs.Records as records_of;
+ghost use Rattle.host_session.specs.shop.Putting.{IsPlaced};
+ghost use Rattle.host_session.specs.shop.Selecting.{IsReady};
+ghost use Rattle.host_session.specs.shop.Channels.{name_of};
+ghost use Rattle.rel_records.specs.Others.{HasRecords};
+ghost use Rattle.rel_records.specs.Written.{IsInOneBlock, IsWriting, touched, with_written};
+ghost use Rattle.host_session.specs.shop.Putting.{HasAnswer, HasCard, IsPuttingAnswer, IsPuttingCard};
+ghost use Rattle.host_session.specs.shop.Files.{Files, HasFiles};
+
+use crate::shop::shop_drive::{ShopDrive, ShopFile};
+use d64_image::Sectors;
+use drive_channels::Dead;
+
+/// Writes a record that is there, whole.
+// In line: where the file and the length of the text are known, most of a `P` is worked out by the compiler.
+#[inline(always)]
+fn put_record<D: Sectors>(
+    drive: &mut ShopDrive<D>,
+    file: ShopFile,
+    number: u16,
+    text: &[u8],
+) -> Result<(), Dead>
+    requires ready { IsReady D.history drive.old }
+    requires placed { (l : Layout) × (n : ℕ) × (f : File) × IsPlaced (D.history.image drive.old.disk) (name_of file) number l n f }
+    requires some { 1 ≤ length text.now }
+    ensures ready { OnOk result (IsReady D.history drive.new) }
+    ensures clean { OnOk result (IsClean (D.history.image drive.new.disk)) }
+    ensures ok { (l : Layout) (n : ℕ) (f : File) → IsPlaced (D.history.image drive.old.disk) (name_of file) number l n f
+        → OnOk result
+        (HasRecords (D.history.image drive.old.disk) (D.history.image drive.new.disk) l n
+        (with_written (record_length f.slot) number 1 text.now
+        (records_of.records (D.history.image drive.old.disk) f))) }
+    ensures moments { (l : Layout) (n : ℕ) (f : File) → IsPlaced (D.history.image drive.old.disk) (name_of file) number l n f
+        → Changes D.history drive.old.disk drive.new.disk (touched (record_length f.slot) number 1)
+        (IsWriting (D.history.image drive.old.disk) l n f 0 number 1 text.now) }
+    // a record that lies in one block: at an error no write was counted
+    ensures uncounted { (l : Layout) (n : ℕ) (f : File) → IsPlaced (D.history.image drive.old.disk) (name_of file) number l n f
+        → IsInOneBlock (record_length f.slot) number
+        → OnErr result (D.history.writes drive.new.disk ≡ D.history.writes drive.old.disk) }
+    ensures failures { TellsFailure D.history drive.old.disk drive.new.disk result }
+    ensures dies { IsErr result → drive.new.dead ≡ true }
+{
+    drive.select(file, number)?;
+    drive.write(text)
+}
+
+/// Writes a stock card whose record is there.
+pub(crate) fn put_card<D: Sectors>(
+    drive: &mut ShopDrive<D>,
+    item: u16,
+    text: &[u8],
+) -> Result<(), Dead>
+    requires ready { IsReady D.history drive.old }
+    requires there { (f : Files) × HasFiles (D.history.image drive.old.disk) f × (1 ≤ item) × (item ≤ length f.stock) }
+    requires long { length text.now ≡ 18 }
+    ensures ready { OnOk result (IsReady D.history drive.new) }
+    ensures clean { OnOk result (IsClean (D.history.image drive.new.disk)) }
+    ensures ok { (f : Files) → HasFiles (D.history.image drive.old.disk) f
+        → OnOk result (HasCard f item text.now (D.history.image drive.new.disk)) }
+    ensures moments { (f : Files) → HasFiles (D.history.image drive.old.disk) f
+        → Changes D.history drive.old.disk drive.new.disk (touched 18 item 1) (IsPuttingCard f item text.now) }
+    ensures failures { TellsFailure D.history drive.old.disk drive.new.disk result }
+    ensures dies { IsErr result → drive.new.dead ≡ true }
+{
+    put_record(drive, ShopFile::Stock, item, text)
+}
+
+/// Writes a till's card whose record is there.
+pub(crate) fn put_answer<D: Sectors>(
+    drive: &mut ShopDrive<D>,
+    till: u8,
+    text: &[u8],
+) -> Result<(), Dead>
+    requires ready { IsReady D.history drive.old }
+    requires there { (f : Files) × HasFiles (D.history.image drive.old.disk) f × (1 ≤ till) × (till ≤ 64)
+        × (till ≤ length f.requests) }
+    requires long { length text.now ≡ 127 }
+    ensures ready { OnOk result (IsReady D.history drive.new) }
+    ensures clean { OnOk result (IsClean (D.history.image drive.new.disk)) }
+    ensures ok { (f : Files) → HasFiles (D.history.image drive.old.disk) f
+        → OnOk result (HasAnswer f till text.now (D.history.image drive.new.disk)) }
+    ensures moments { (f : Files) → HasFiles (D.history.image drive.old.disk) f
+        → Changes D.history drive.old.disk drive.new.disk 1 (IsPuttingAnswer f till text.now) }
+    // at an error no write was counted
+    ensures uncounted { OnErr result (D.history.writes drive.new.disk ≡ D.history.writes drive.old.disk) }
+    ensures failures { TellsFailure D.history drive.old.disk drive.new.disk result }
+    ensures dies { IsErr result → drive.new.dead ≡ true }
+{
+    put_record(drive, ShopFile::Requests, u16::from(till), text)
+}

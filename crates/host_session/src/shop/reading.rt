@@ -1,0 +1,107 @@
+//! The records of the two files, read and judged one by one.
+ghost use Rattle.std.specs.Prelude.{◌≡◌, ◌≤◌, ◌⊎◌, ◌↔◌, ℕ, IfErr, IfOk, IsTrue, List, Option, length};
+ghost use Rattle.d64_image.specs.History.{OnlyReads, TellsFailure};
+ghost use Rattle.disk_layout.specs.Records.{empty_record};
+ghost use Rattle.host_session.specs.declared.faults.OpenFault.TheVariants.{Device};
+ghost use Rattle.host_session.specs.shop.Files.{Files};
+ghost use Rattle.host_session.specs.shop.Found.{AreFilesOf, Tells, TellsRecord};
+ghost use Rattle.rel_records.specs.reading.Kept.{IsKept};
+ghost use Rattle.request_cards.specs.CardReading.{request_card_of, stock_card_of};
+
+use crate::faults::OpenFault;
+use crate::shop::finding::LedgerFiles;
+use arrayvec::ArrayVec;
+use d64_image::Sectors;
+use rel_records::{LastBlock, RelFault, read_next};
+use request_cards::{RequestCard, StockCard};
+
+/// What a record holds.
+#[derive(Clone, Copy)]
+pub enum Held<C> {
+    /// Nothing yet: it is an empty record.
+    Empty,
+    /// A card.
+    Card(C),
+    /// Other bytes.
+    Other,
+}
+
+/// Whether the bytes are an empty record: FF, then zeros.
+fn is_empty(bytes: &[u8]) -> bool
+    ensures { IsTrue result ↔ ((1 ≤ length bytes.now) × (bytes.now ≡ empty_record (length bytes.now))) }
+{
+    match bytes.split_first() {
+        Some((&first, rest)) => first == 0xFF && rest.iter().all(|&byte| byte == 0),
+        None => false,
+    }
+}
+
+/// What bytes hold that were read as this card, or as none.
+fn what_is_held<C>(card: Option<C>, bytes: &[u8]) -> Held<C>
+    requires some { 1 ≤ length bytes.now }
+    ensures { (card_of : List ℕ → Option C) → card_of bytes.now ≡ card → Tells card_of (length bytes.now) bytes.now result }
+{
+    match card {
+        Some(card) => Held::Card(card),
+        None if is_empty(bytes) => Held::Empty,
+        None => Held::Other,
+    }
+}
+
+/// What a till's record holds; None past the last record. Nothing is written. `last` is the block of REQUESTS that was read
+/// last, `text` is room for the record.
+pub(crate) fn read_till<D: Sectors>(
+    disk: &mut D,
+    files: &LedgerFiles,
+    last: &mut LastBlock,
+    text: &mut ArrayVec<u8, 254>,
+    till: u8,
+) -> Result<Option<Held<RequestCard>>, OpenFault>
+    requires of { (f : Files) × AreFilesOf (D.history.image disk.old) f files.now }
+    requires kept { IsKept (D.history.image disk.old) files.now.requests last.old }
+    requires low { 1 ≤ till }
+    ensures ok { (f : Files) → AreFilesOf (D.history.image disk.old) f files.now
+        → IfOk result (TellsRecord request_card_of 127 f.requests till) }
+    ensures kept { IsKept (D.history.image disk.old) files.now.requests last.new }
+    ensures err { IfErr result (λ fault. fault ≡ Device) }
+    ensures reads { OnlyReads D.history disk.old disk.new 3 }
+    ensures failures { TellsFailure D.history disk.old disk.new result }
+{
+    match read_next(disk, &files.requests, last, u32::from(till), text) {
+        Ok(()) => {
+            let bytes = text.as_slice().first_chunk::<127>().unwrap();
+            Ok(Some(what_is_held(RequestCard::parse(bytes), bytes)))
+        }
+        Err(RelFault::NotPresent) => Ok(None),
+        Err(_) => Err(OpenFault::Device),
+    }
+}
+
+/// What an item's record holds; None past the last record. Nothing is written. `last` is the block of STOCK that was read
+/// last, `text` is room for the record.
+pub(crate) fn read_item<D: Sectors>(
+    disk: &mut D,
+    files: &LedgerFiles,
+    last: &mut LastBlock,
+    text: &mut ArrayVec<u8, 254>,
+    item: u16,
+) -> Result<Option<Held<StockCard>>, OpenFault>
+    requires of { (f : Files) × AreFilesOf (D.history.image disk.old) f files.now }
+    requires kept { IsKept (D.history.image disk.old) files.now.stock last.old }
+    requires low { 1 ≤ item }
+    ensures ok { (f : Files) → AreFilesOf (D.history.image disk.old) f files.now
+        → IfOk result (TellsRecord stock_card_of 18 f.stock item) }
+    ensures kept { IsKept (D.history.image disk.old) files.now.stock last.new }
+    ensures err { IfErr result (λ fault. fault ≡ Device) }
+    ensures reads { OnlyReads D.history disk.old disk.new 3 }
+    ensures failures { TellsFailure D.history disk.old disk.new result }
+{
+    match read_next(disk, &files.stock, last, u32::from(item), text) {
+        Ok(()) => {
+            let bytes = text.as_slice().first_chunk::<18>().unwrap();
+            Ok(Some(what_is_held(StockCard::parse(bytes), bytes)))
+        }
+        Err(RelFault::NotPresent) => Ok(None),
+        Err(_) => Err(OpenFault::Device),
+    }
+}

@@ -1,0 +1,12 @@
+-- Nothing but the entry.
+use Rattle.std.proofs.Common.{arith}
+use Rattle.rel_records.proofs.creation.new_file.directory_with.Goals as goal
+use Rattle.rel_records.proofs.lemmas.directory.Entered.{new-zeros}
+
+pub returns : goal.returns
+returns c = record {
+  ends = c.put_entry.ensures.link 0 (omega arith);
+  last = c.put_entry.ensures.link 1 (omega arith);
+  entered = (_, c.put_entry.ensures);
+  free = new-zeros _ c.args.entry.now c.put_entry.ensures;
+}

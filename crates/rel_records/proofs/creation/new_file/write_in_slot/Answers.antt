@@ -1,0 +1,55 @@
+-- The sectors, then the entry.
+use Rattle.std.proofs.Common.{sym, subst, ◌∷◌}
+use Rattle.std.specs.Prelude.{Contains}
+use Rattle.d64_image.specs.Images.{Image}
+use Rattle.d64_image.specs.declared.place.Place.{Place}
+use Rattle.disk_layout.proofs.lemmas.lists.Once.{Contains-here}
+use Rattle.disk_layout.specs.Layout.{owners}
+use Rattle.rel_records.proofs.lemmas.creation.InFreeSlot.{entry-moments, entry-more, sectors-moments}
+use Rattle.rel_records.proofs.lemmas.steps.Sided.{counted_once, ok-then}
+use Rattle.rel_records.specs.creation.Site.{HasFileAt}
+use Rattle.rel_records.proofs.lemmas.Told.{not-done}
+use Rattle.rel_records.proofs.creation.new_file.write_in_slot.Goals as goal
+
+pub write_sectors-requires-clause-apart : goal.write_sectors-requires-clause-apart
+write_sectors-requires-clause-apart g c =
+    record {
+      block = λ e.
+          let (l, site) = c.requires.site in
+          site.taken.no_block (let P : Place → Type 0 = λ x. Contains (x ∷ owners l) c.args.site.now.block in
+          subst P e (Contains-here c.args.site.now.block (owners l)));
+      side = λ e.
+          let (l, site) = c.requires.site in
+          site.taken.no_side (let P : Place → Type 0 = λ x. Contains (x ∷ owners l) c.args.site.now.side in
+          subst P e (Contains-here c.args.site.now.side (owners l)));
+      apart = λ e. let (l, site) = c.requires.site in site.taken.apart (sym e);
+    }
+
+pub returns-in_err-write_sectors-clause-file : goal.returns-in_err-write_sectors-clause-file
+returns-in_err-write_sectors-clause-file g c l name site is_for =
+    record {
+      ok = not-done c.from_residual.result _ c.from_residual.ensures.1 _;
+      moments = sectors-moments g.D.Sectors.history c.args.disk.now c.write_sectors.new.disk l c.args.site.now
+          c.args.bytes.now name c.args.size site is_for c.requires.size.low c.requires.size.high
+          c.in_err-write_sectors.ensures.moments;
+    }
+
+pub returns-clause-file : goal.returns-clause-file
+returns-clause-file g c l name site is_for =
+    let S = g.D.Sectors.history in
+    let st = c.args.site.now in
+    let P : Image → Type 0 = HasFileAt (S.image c.args.disk.now) l name c.args.size st st.place in
+    record {
+      ok =
+          ok-then c.write.result _ _ (λ done. subst P (sym done)
+          (entry-more S c.args.disk.now c.write_sectors.new.disk l st c.args.bytes.now name c.args.size site is_for
+          c.requires.size.low c.requires.size.high c.in_ok-write_sectors.ensures.moments
+          c.in_ok-write_sectors.ensures.ok (record { size = c.told-bytes; small = c.fits-bytes })))
+          c.write.ensures.ok;
+      moments =
+          entry-moments S c.args.disk.now c.write_sectors.new.disk l c.args.site.now c.args.bytes.now name c.args.size
+          site is_for c.requires.size.low c.requires.size.high c.in_ok-write_sectors.ensures.moments
+          c.in_ok-write_sectors.ensures.ok (record { size = c.told-bytes; small = c.fits-bytes })
+          c.write.new.self c.write.ensures.held
+          (counted_once S _ _ c.write.result c.write.ensures.counted c.write.ensures.uncounted);
+    }

@@ -1,0 +1,45 @@
+-- The file's sectors, then the directory's.
+use Rattle.std.proofs.Common.{arith, ◌∷◌, [], List, refl}
+use Rattle.d64_image.proofs.Moments.{changes_weaker}
+use Rattle.d64_image.specs.declared.place.Place.{Place}
+use Rattle.disk_layout.proofs.lemmas.lists.Once.{Contains-here}
+use Rattle.rel_records.proofs.creation.new_file.write_with_directory.Goals as goal
+use Rattle.rel_records.proofs.lemmas.Told.{not-done, tells-after, tells-failed}
+use Rattle.rel_records.proofs.lemmas.creation.NewWrites.{changes-more, one-more, sectors-still}
+use Rattle.rel_records.proofs.lemmas.steps.Sided.{counted_once, ok-then}
+
+pub returns-in_err-write_sectors : goal.returns-in_err-write_sectors
+returns-in_err-write_sectors g c =
+    let S = g.D.Sectors.history in
+    record {
+      ok = not-done c.from_residual.result _ c.from_residual.ensures.1 _;
+      moments = changes_weaker S _ _ 3 4 _ _ (omega arith)
+          (changes-more (S.image c.args.disk.now) c.args.map.now.bytes (c.args.block ∷ c.args.side ∷ []) c.args.fresh)
+          c.in_err-write_sectors.ensures.moments;
+      failures = tells-failed g.D.Sectors.history _ _ _ refl c.from_residual.result _ c.from_residual.ensures.1
+          c.in_err-write_sectors.ensures.failures;
+    }
+
+pub returns : goal.returns
+returns g c =
+    let S = g.D.Sectors.history in
+    let ps : List Place = c.args.fresh ∷ c.args.block ∷ c.args.side ∷ [] in
+    let first = changes_weaker S _ _ 3 3 _ _ (omega arith)
+    (changes-more (S.image c.args.disk.now) c.args.map.now.bytes (c.args.block ∷ c.args.side ∷ []) c.args.fresh)
+    c.in_ok-write_sectors.ensures.moments in
+    record {
+      ok =
+          ok-then c.write.result _ _
+          (λ done. sectors-still (S.image c.write_sectors.new.disk) (S.image c.write.new.self) c.args.map.now.bytes
+          c.args.bytes.now c.args.block c.args.side c.args.fresh c.args.size
+          (S.whole c.write_sectors.new.disk).size c.requires.fresh.fresh c.requires.fresh.fresh_block
+          c.requires.fresh.fresh_side done c.in_ok-write_sectors.ensures.ok)
+          c.write.ensures.ok;
+      moments =
+          one-more S c.args.disk.now c.args.map.now.bytes ps c.write_sectors.new.disk c.write.new.self 3 c.args.fresh
+          c.args.bytes.now (Contains-here c.args.fresh (c.args.block ∷ c.args.side ∷ [])) c.requires.fresh.fresh
+          first c.write.ensures.held
+          (counted_once S _ _ c.write.result c.write.ensures.counted c.write.ensures.uncounted);
+      failures = tells-after g.D.Sectors.history _ _ _ c.in_ok-write_sectors.ensures.failures c.write.result
+          c.write.ensures.failures;
+    }

@@ -1,0 +1,226 @@
+-- A new file whose entry goes into a new directory sector: its sectors and that one are written, then the link to it.
+use Rattle.std.proofs.Common.{◌≡◌, ◌≢◌, ℕ, ◌+◌, ◌<◌, ◌≤◌, inl, inr, true, false, List, [], ◌∷◌, ◌++◌, ap, append_assoc}
+use Rattle.std.proofs.Common.{append-nil, arith, length, map, refl, slice_index, subst, sym, ◌∙◌, ◌*◌}
+use Rattle.std.specs.Prelude.{Contains, Some, flat_map, nat_eq, not, slice_get, ◌↔◌}
+use Rattle.std.proofs.lemmas.List.{length-map}
+use Rattle.std.proofs.lemmas.List.Elements.{Contains-append_left, Contains-append_right}
+use Rattle.d64_image.proofs.Images.{put_is_image, sector-put_other}
+use Rattle.d64_image.proofs.Moments.{at_end, changes_weaker, one_write_more}
+use Rattle.d64_image.specs.History.{Changes, HeldOnly, History, OldOr}
+use Rattle.d64_image.specs.Images.{Image, IsImage, IsSector, Sector, put, sector}
+use Rattle.d64_image.specs.declared.place.Place.{Place}
+use Rattle.disk_layout.proofs.lemmas.chains.Chains.{AgreeAt}
+use Rattle.disk_layout.proofs.lemmas.counts.CountWrites.{slot-byte}
+use Rattle.disk_layout.proofs.lemmas.counts.Recounts.{reread}
+use Rattle.disk_layout.proofs.lemmas.growth.GrowthRecords.{get-seam}
+use Rattle.disk_layout.proofs.lemmas.growth.LongerDirectory.{IsRelinked}
+use Rattle.disk_layout.proofs.lemmas.lists.Once.{Contains-cases, Contains-here, Contains-nil, Contains-there, insert-in}
+use Rattle.disk_layout.proofs.lemmas.lists.Once.{insert-out}
+use Rattle.disk_layout.specs.Blank.{rel_entry}
+use Rattle.disk_layout.specs.Chain.{EachOnce}
+use Rattle.disk_layout.specs.Directory.{is_used, map_place, slot_in}
+use Rattle.disk_layout.specs.Layout.{File, Layout, file_owns, owners}
+use Rattle.disk_layout.specs.Map.{IsMapOf}
+use Rattle.disk_layout.specs.Side.{side_sector}
+use Rattle.rel_records.proofs.lemmas.steps.Committing.{snoc-last}
+use Rattle.rel_records.proofs.lemmas.directory.Entered.{IsEntry, entry-used, is-entry}
+use Rattle.rel_records.proofs.lemmas.creation.Creating.{with_new}
+use Rattle.rel_records.proofs.lemmas.directory.FullSlots.{files-full}
+use Rattle.rel_records.proofs.lemmas.creation.InSector.{linked-adds, linked-clean, once-linked}
+use Rattle.rel_records.proofs.lemmas.creation.NewClean.{file-more, is-new, map-same, two-among}
+use Rattle.rel_records.proofs.lemmas.creation.NewFiles.{IsNewFile, new_file, owners-new}
+use Rattle.rel_records.proofs.lemmas.creation.NewWrites.{files-before}
+use Rattle.rel_records.specs.creation.Made.{HasFilesOf, IsCreating}
+use Rattle.rel_records.specs.creation.NewFile.{ChangesOnly, HasNewSectors, IsLinkedTo, IsNewDirectory}
+use Rattle.rel_records.specs.creation.NewFile.{IsTakenForDirectory}
+use Rattle.rel_records.specs.growth.Next.{IsFresh}
+use Rattle.rel_records.specs.creation.Site.{HasFileAt, IsSectorEntry, IsSectorSite}
+use Rattle.rel_records.specs.declared.creation.site.Site.{Site}
+
+-- none of the three was owned
+unowned-three : (a : Image) (l : Layout) (new_map : Sector) (block side fresh : Place)
+    → IsTakenForDirectory a l new_map block side fresh → (q : Place) → Contains (fresh ∷ block ∷ side ∷ []) q
+    → ¬ (Contains (owners l) q)
+unowned-three a l new_map block side fresh taken q c own = elim (Contains-cases q fresh (block ∷ side ∷ []) c) [
+  | inl e ↦ taken.no_fresh (let P : Place → Type 0 = λ x. Contains (map_place ∷ owners l) x in
+      subst P (sym e) (Contains-there q map_place (owners l) own))
+  | inr d ↦ elim (Contains-cases q block (side ∷ []) d) [
+    | inl e ↦ taken.no_block (let P : Place → Type 0 = λ x. Contains (map_place ∷ owners l) x in
+        subst P (sym e) (Contains-there q map_place (owners l) own))
+    | inr f ↦ elim (Contains-cases q side [] f) [
+      | inl e ↦ taken.no_side (let P : Place → Type 0 = λ x. Contains (map_place ∷ owners l) x in
+          subst P (sym e) (Contains-there q map_place (owners l) own))
+      | inr none ↦ Contains-nil q none
+    ]
+  ]
+]
+
+-- three places among the others, or before them
+three-among : (dir ys : List Place) (block side fresh q : Place)
+    → Contains (fresh ∷ side ∷ block ∷ map_place ∷ (dir ++ ys)) q ↔ Contains
+    (map_place ∷ (((dir ++ fresh ∷ []) ++ ys) ++ block ∷ (side ∷ []))) q
+three-among dir ys block side fresh q =
+    let two = two-among ((dir ++ fresh ∷ []) ++ ys) [] block side q in
+    let flat : ((dir ++ fresh ∷ []) ++ ys) ++ [] ≡ dir ++ fresh ∷ ys = simp (append_assoc, append-nil) in (
+      λ c. two.0 (let P : List Place → Type 0 = λ ps. Contains (side ∷ block ∷ map_place ∷ ps) q in subst P (sym flat)
+          (elim (Contains-cases q fresh (side ∷ block ∷ map_place ∷ (dir ++ ys)) c) [
+            | inl e ↦ let R : Place → Type 0 = Contains (side ∷ block ∷ map_place ∷ (dir ++ fresh ∷ ys)) in
+                subst R e
+                (Contains-append_right (side ∷ block ∷ map_place ∷ dir) (fresh ∷ ys) fresh (Contains-here fresh ys))
+            | inr d ↦ insert-in (side ∷ block ∷ map_place ∷ dir) ys fresh q d
+          ])),
+      λ c. (let P : List Place → Type 0 = λ ps. Contains (side ∷ block ∷ map_place ∷ ps) q in
+          elim (insert-out (side ∷ block ∷ map_place ∷ dir) ys fresh q (subst P flat (two.1 c))) [
+            | inl e ↦ let R : Place → Type 0 = Contains (fresh ∷ side ∷ block ∷ map_place ∷ (dir ++ ys)) in
+                subst R e (Contains-here fresh (side ∷ block ∷ map_place ∷ (dir ++ ys)))
+            | inr d ↦ Contains-there q fresh (side ∷ block ∷ map_place ∷ (dir ++ ys)) d
+          ]),
+    )
+
+module _ (a c : Image) (l : Layout) (st : Site) (fresh : Place) (first_bytes bytes : Sector) (name : List ℕ) (L : ℕ)
+    (h : IsSectorSite a l st fresh)
+    (changes : ChangesOnly a st.map.bytes (fresh ∷ st.block ∷ st.side ∷ []) c)
+    (has : HasNewSectors st.map.bytes st.block st.side L c)
+    (there : sector c fresh ≡ first_bytes) (wc : IsImage c) (wb : IsImage (put c st.place bytes))
+    (linked : IsLinkedTo (sector a st.place) bytes fresh)
+    (made : IsNewDirectory first_bytes (rel_entry name st.block st.side L 2))
+    (few : length name ≤ 16) (low : 1 ≤ L) (high : L ≤ 254) where
+  was : HasFilesOf a l c
+  was = files-before a c st.map.bytes (fresh ∷ st.block ∷ st.side ∷ []) l h.taken.clean.layout
+      (unowned-three a l st.map.bytes st.block st.side fresh h.taken) h.taken.header changes
+
+  same : AgreeAt a c (owners l)
+  same q own = sym
+      (changes.rest q (λ e. h.taken.clean.layout.once.0 (let P : Place → Type 0 = Contains (owners l) in subst P e own))
+      (λ d. unowned-three a l st.map.bytes st.block st.side fresh h.taken q d own))
+
+  owned : Contains (owners l) st.place
+  unfolding owners
+  owned = Contains-append_left l.directory (flat_map file_owns l.files) st.place
+      (let P : List Place → Type 0 = λ ps. Contains ps st.place in
+      subst P (sym h.full.split)
+      (Contains-append_right h.full.front (st.place ∷ []) st.place (Contains-here st.place [])))
+
+  here : sector c st.place ≡ sector a st.place
+  here = sym (same st.place owned)
+
+  relinked : IsRelinked (sector c st.place) bytes
+  relinked = record {
+    old_long = ap length here ∙ linked.old_long;
+    long = linked.long;
+    same = λ i le. linked.rest i le ∙ ap (λ x. slice_index x i) (sym here);
+  }
+
+  is_last : was.layout.directory.chain.last ≡ st.place
+  is_last = snoc-last was.layout.directory.chain.front h.full.front was.layout.directory.chain.last st.place
+      (sym was.layout.directory.chain.places ∙ h.full.split)
+
+  off : (q : Place) → ¬ (Contains (map_place ∷ owners l) q) → st.place ≢ q
+  off q none e = none (let P : Place → Type 0 = λ x. Contains (map_place ∷ owners l) x in
+      subst P e (Contains-there st.place map_place (owners l) owned))
+
+  entry : IsEntry (slot_in fresh (sector c fresh) 0) name st.block st.side L
+  entry =
+      let (old, entered) = made.entered in
+      let P : Sector → Type 0 = λ x. IsEntry (slot_in fresh x 0) name st.block st.side L in
+      subst P (sym there) (is-entry old first_bytes 0 name st.block st.side L (omega arith) few entered fresh)
+
+  used : is_used (slot_in fresh (sector c fresh) 0) ≡ true
+  used =
+      let (old, entered) = made.entered in
+      ap (λ x. is_used (slot_in fresh x 0)) there ∙ entry-used old first_bytes 0 name st.block st.side L (omega arith)
+      few entered fresh
+
+  free : (n : ℕ) → 0 < n → n < 8 → is_used (slot_in fresh (sector c fresh) n) ≡ false
+  free n pos lt = ap (λ x. is_used (slot_in fresh x n)) there
+      ∙ ap (λ t. not (nat_eq t 0))
+      (slot-byte first_bytes n 2 (omega arith) ∙ made.free (32 * n + 2) (omega (arith, pos)) (omega (arith, lt)))
+
+  blocks : IsFresh 0 L (sector (put c st.place bytes) st.block)
+  blocks = let P : Sector → Type 0 = IsFresh 0 L in
+      subst P (sym (sector-put_other c st.place st.block bytes (off st.block h.taken.no_block))) has.fresh
+
+  links : sector (put c st.place bytes) st.side ≡ side_sector 0 (st.block ∷ []) (st.side ∷ []) L
+  links = sector-put_other c st.place st.side bytes (off st.side h.taken.no_side) ∙ has.links
+
+  abbrev u : ℕ
+  u = slice_index (sector (put c st.place bytes) st.block) 1
+
+  new : IsNewFile (put c st.place bytes) (slot_in fresh (sector c fresh) 0) st.block st.side u
+  new = is-new (put c st.place bytes) (slot_in fresh (sector c fresh) 0) name st.block st.side L entry blocks links low
+      high
+
+  abbrev k : File
+  k = new_file (slot_in fresh (sector c fresh) 0) st.block st.side u
+
+  once : EachOnce
+      (map_place ∷ owners
+      (record { directory = l.directory ++ fresh ∷ []; files = with_new (put c st.place bytes) l.files [] k }))
+  once = once-linked (put c st.place bytes) l fresh st.block st.side (slot_in fresh (sector c fresh) 0) u
+      was.layout.once h.taken.no_fresh h.taken.no_block h.taken.no_side h.taken.apart_block h.taken.apart_side
+      h.taken.apart
+
+  right : IsMapOf (sector c map_place)
+      (map_place ∷ owners
+      (record { directory = l.directory ++ fresh ∷ []; files = with_new (put c st.place bytes) l.files [] k }))
+  unfolding owners
+  right =
+      let F : List Place = flat_map file_owns l.files in
+      let P : Sector
+      → Type 0 = λ x. IsMapOf x (map_place ∷ (((l.directory ++ fresh ∷ []) ++ F) ++ st.block ∷ (st.side ∷ []))) in
+      let Q : List Place → Type 0 = λ ps. IsMapOf (sector c map_place) (map_place ∷ ps) in
+      subst Q (sym
+      (owners-new (put c st.place bytes) (l.directory ++ fresh ∷ []) l.files [] (slot_in fresh (sector c fresh) 0)
+      st.block st.side u ((l.directory ++ fresh ∷ []) ++ F) [] refl refl))
+      (subst P (sym has.map) (map-same st.map.bytes _ _ (three-among l.directory F st.block st.side fresh) h.taken.map))
+
+  -- all entries stand before it
+  at-entry : slice_get (with_new (put c st.place bytes) l.files [] k) st.entry ≡ Some k
+  at-entry =
+      let long = length-map l.files (reread (put c st.place bytes)) ∙ files-full a l h.taken.clean.layout h.full.full
+      ∙ sym h.entry in
+      ap (slice_get (with_new (put c st.place bytes) l.files [] k)) (sym long)
+      ∙ get-seam (map (reread (put c st.place bytes)) l.files) [] k
+
+  -- the image has the files of before and the new one, and is clean
+  pub sector-more : HasFileAt a l name L st fresh (put c st.place bytes)
+  sector-more = file-more (put c st.place bytes) (slot_in fresh (sector c fresh) 0) name st.block st.side L entry blocks
+      links low high a l _ st fresh wb
+      (linked-clean c l st.place bytes wc.size relinked a was.layout was is_last fresh st.block st.side u linked.link
+      (ap (λ x. slice_index x 0) there ∙ made.ends) h.taken.on_18 h.taken.no_fresh used free new once h.taken.clean
+      same entry.count right)
+      (linked-adds c l st.place bytes wc.size relinked a was.layout was is_last fresh st.block st.side u linked.link
+      (ap (λ x. slice_index x 0) there ∙ made.ends) h.taken.on_18 h.taken.no_fresh used free new once)
+      (inr (h.full.full, (h.lowest, (refl, refl)))) at-entry refl (sym h.number) refl
+
+module _ {D : Type 0} (S : History D) (d e : D) (l : Layout) (st : Site) (fresh : Place) (first_bytes bytes : Sector)
+    (name : List ℕ) (L : ℕ)
+    (h : IsSectorSite (S.image d) l st fresh) (is_for : IsSectorEntry name L st fresh first_bytes bytes) (low : 1 ≤ L)
+    (high : L ≤ 254)
+    (prepared : Changes S d e 4 (ChangesOnly (S.image d) st.map.bytes (fresh ∷ st.block ∷ st.side ∷ []))) where
+  -- while its sectors are written the files are there as before
+  still : (c : Image) → ChangesOnly (S.image d) st.map.bytes (fresh ∷ st.block ∷ st.side ∷ []) c
+      → IsCreating (S.image d) l name L c
+  still c x = inl
+      (files-before (S.image d) c st.map.bytes (fresh ∷ st.block ∷ st.side ∷ []) l h.taken.clean.layout
+      (unowned-three (S.image d) l st.map.bytes st.block st.side fresh h.taken) h.taken.header x)
+
+  pub directory-moments : Changes S d e 5 (IsCreating (S.image d) l name L)
+  directory-moments = changes_weaker S d e 4 5 _ _ (omega arith) still prepared
+
+  module _ (has : HasNewSectors st.map.bytes st.block st.side L (S.image e))
+      (there : sector (S.image e) fresh ≡ first_bytes) (sized : IsSector bytes) where
+    pub link-more : HasFileAt (S.image d) l name L st fresh (put (S.image e) st.place bytes)
+    link-more =
+        let P : Sector → Type 0 = λ x. IsLinkedTo x bytes fresh in
+        sector-more (S.image d) (S.image e) l st fresh first_bytes bytes name L h (at_end S d e _ prepared.held) has
+        there
+        (S.whole e) (put_is_image (S.image e) st.place bytes (S.whole e) sized) (subst P h.bytes is_for.linked)
+        is_for.made is_for.few low high
+
+    pub link-moments : (f : D) → HeldOnly S e f (OldOr (S.image e) (put (S.image e) st.place bytes))
+        → S.writes f ≤ S.writes e + 1 → Changes S d f 5 (IsCreating (S.image d) l name L)
+    link-moments f held counted =
+        let before = changes_weaker S d e 4 4 _ (IsCreating (S.image d) l name L) (omega arith) still prepared in
+        one_write_more S d e f 4 (S.image e) (put (S.image e) st.place bytes) _ before held counted
+        (at_end S d e _ before.held) (inr link-more.more)

@@ -1,0 +1,275 @@
+-- The entry stands in a new directory sector: the write that links it makes the file.
+use Rattle.std.proofs.Common.{◌≡◌, ◌≢◌, ℕ, ◌+◌, ◌<◌, inl, inr, IsTrue, true, false, List, [], ◌∷◌, ◌++◌, map, length}
+use Rattle.std.proofs.Common.{refl, sym, ◌∙◌, ap, subst, slice_index, append_assoc, append-nil, take, drop, get_or}
+use Rattle.std.specs.Prelude.{Contains, flat_map}
+use Rattle.std.specs.List.{AllByRecursion}
+use Rattle.std.proofs.lemmas.List.{drop-drop, get_or-drop}
+use Rattle.std.proofs.lemmas.List.Elements.{Contains-append_left, Contains-append_right, Contains-append_cases}
+use Rattle.d64_image.proofs.Images.{sector-put_other, sector-put_same}
+use Rattle.d64_image.specs.Images.{Image, Sector, put, sector}
+use Rattle.d64_image.specs.declared.place.Place.{Place}
+use Rattle.disk_layout.proofs.lemmas.chains.Chains.{AgreeAt, IsChain-grow, chain-front, chain-last, links-agree}
+use Rattle.disk_layout.proofs.lemmas.growth.Commit.{all-join, keeps-other}
+use Rattle.disk_layout.proofs.lemmas.layouts.Layouts.{KeepsFiles, get-contains, unless-same}
+use Rattle.disk_layout.proofs.lemmas.lists.Once.{Contains-cases, Contains-here, Contains-there, Contains-nil}
+use Rattle.disk_layout.proofs.lemmas.lists.Once.{EachOnce-apart, EachOnce-insert, flat_map-in, insert-out}
+use Rattle.disk_layout.proofs.lemmas.growth.LongerDirectory.{IsRelinked, slot-relinked, used_slots-relinked}
+use Rattle.disk_layout.proofs.lemmas.counts.Recount.{filter-out}
+use Rattle.disk_layout.proofs.lemmas.layouts.Agree.{owned-side}
+use Rattle.disk_layout.specs.Clean.{IsCleanLayout, IsExactFile}
+use Rattle.disk_layout.specs.Map.{IsMapOf}
+use Rattle.disk_layout.specs.Side.{side_sector}
+use Rattle.byteorder.specs.Endian.{little_number}
+use Rattle.disk_layout.proofs.lemmas.counts.Recounts.{map-map, reread, reslot, slot-of}
+use Rattle.disk_layout.specs.Chain.{EachOnce, IsChain, Names}
+use Rattle.disk_layout.specs.Directory.{IsDirectory, directory_start, is_used, map_place, slot_in, slots_in, used_slots}
+use Rattle.disk_layout.specs.Layout.{File, IsLayout, Layout, count_field, file_owns, is_rel, is_rel_type, owners}
+use Rattle.disk_layout.specs.Layout.{record_length}
+use Rattle.disk_layout.specs.Same.{AddsFile}
+use Rattle.disk_layout.specs.declared.slot.Slot.{Slot}
+use Rattle.rel_records.proofs.lemmas.creation.Creating.{SameEntry, created-adds, created-layout, with_new}
+use Rattle.rel_records.proofs.lemmas.creation.NewFiles.{IsNewFile, new-exact, new-is_file, new_file, once-new}
+use Rattle.rel_records.proofs.lemmas.creation.NewFiles.{owners-new}
+use Rattle.rel_records.proofs.lemmas.directory.NewSlots.{used_slots-sector}
+use Rattle.rel_records.specs.creation.Made.{HasFilesOf}
+
+map-join : {X Y : Type 0} (f : X → Y) (xs ys : List X) → map f (xs ++ ys) ≡ map f xs ++ map f ys
+map-join f [] ys = refl
+map-join f (x ∷ xs) ys = ap (λ zs. f x ∷ zs) (map-join f xs ys)
+
+tail-entry : (s t : Slot) → t.sector ≡ s.sector → t.number ≡ s.number → drop 2 t.bytes ≡ drop 2 s.bytes → SameEntry s t
+tail-entry s t one two e = record {
+  face = record {
+    kind = byte 0;
+    first_track = byte 1;
+    first_sector = byte 2;
+    side_track = byte 19;
+    side_sector = byte 20;
+    length = byte 21;
+  };
+  sector_same = one;
+  number_same = two;
+  entry = ap (take 28) e;
+}
+  where
+    byte : (k : ℕ) → slice_index s.bytes (2 + k) ≡ slice_index t.bytes (2 + k)
+    byte k = sym (get_or-drop 2 s.bytes k 0) ∙ ap (λ xs. get_or xs k 0) (sym e) ∙ get_or-drop 2 t.bytes k 0
+
+module _ (c : Image) (l : Layout) (p : Place) (bytes : Sector) (full : length c ≡ 683)
+    (relinked : IsRelinked (sector c p) bytes) where
+  there : sector (put c p bytes) p ≡ bytes
+  there = sector-put_same c p bytes full
+
+  entry-any : (ps : List Place) (s : Slot) → Contains (flat_map (λ q. slots_in q (sector c q)) ps) s
+      → SameEntry s (reslot (put c p bytes) s)
+  entry-any ps s d = tail-entry s (reslot (put c p bytes) s) refl refl (slot-relinked c p bytes full relinked ps s d)
+
+  count-any : (ps : List Place) (s : Slot) → Contains (flat_map (λ q. slots_in q (sector c q)) ps) s
+      → count_field (reslot (put c p bytes) s) ≡ count_field s
+  count-any ps s d =
+      let e = slot-relinked c p bytes full relinked ps s d in
+      let t : List ℕ = (reslot (put c p bytes) s).bytes in
+      ap (λ (xs : List ℕ). little_number 2 (take 2 xs)) (sym (drop-drop 28 2 t) ∙ ap (drop 28) e
+      ∙ drop-drop 28 2 s.bytes)
+
+  -- the new sector stands behind the old last one, and holds the entry in its first slot
+  module _ (a : Image) (h : IsLayout c l) (was : HasFilesOf a l c) (is_last : h.directory.chain.last ≡ p)
+      (fresh block side : Place) (u : ℕ)
+      (link : Names bytes 0 fresh) (ends : slice_index (sector c fresh) 0 ≡ 0) (on_18 : fresh.track ≡ 18)
+      (no_fresh : ¬ (Contains (map_place ∷ owners l) fresh))
+      (used : is_used (slot_in fresh (sector c fresh) 0) ≡ true) (free : (n : ℕ) → 0 < n → n < 8
+      → is_used (slot_in fresh (sector c fresh) n) ≡ false)
+      (new : IsNewFile (put c p bytes) (slot_in fresh (sector c fresh) 0) block side u)
+      (once : EachOnce (map_place ∷ owners (record {
+        directory = l.directory ++ fresh ∷ [];
+        files = with_new (put c p bytes) l.files [] (new_file (slot_in fresh (sector c fresh) 0) block side u);
+      })))
+    where
+      abbrev k : File
+      k = new_file (slot_in fresh (sector c fresh) 0) block side u
+
+      on : Contains l.directory p
+      on = let P : Place → Type 0 = Contains l.directory in
+          subst P is_last (chain-last c directory_start l.directory h.directory.last h.directory.chain)
+
+      out-dir : ¬ (Contains l.directory fresh)
+      unfolding owners
+      out-dir d = no_fresh (Contains-append_right (map_place ∷ []) (l.directory ++ flat_map file_owns l.files) fresh
+          (Contains-append_left l.directory (flat_map file_owns l.files) fresh d))
+
+      not_file : ¬ (Contains (flat_map file_owns l.files) p)
+      unfolding owners
+      not_file d = EachOnce-apart l.directory (flat_map file_owns l.files) h.once.1 p on d
+
+      other : p ≢ fresh
+      other e = out-dir (let P : Place → Type 0 = Contains l.directory in subst P e on)
+
+      fresh-stays : sector (put c p bytes) fresh ≡ sector c fresh
+      fresh-stays = sector-put_other c p fresh bytes other
+
+      chain : IsChain (put c p bytes) directory_start (l.directory ++ fresh ∷ []) (slice_index (sector c fresh) 1)
+      chain = IsChain-grow c (put c p bytes) directory_start fresh l.directory h.directory.last
+          (slice_index (sector c fresh) 1) h.directory.chain
+          (links-agree c (put c p bytes) h.directory.chain.front
+          (λ q d. unless-same c p q bytes
+          (λ e. (chain-front c directory_start l.directory h.directory.last h.directory.chain q d).1 (sym e
+          ∙ sym is_last))))
+          (let P : Place → Type 0 = λ x. Names (sector (put c p bytes) x) 0 fresh in
+          subst P (sym is_last) (rw there link))
+          (ap (λ s. slice_index s 0) fresh-stays ∙ ends, ap (λ s. slice_index s 1) fresh-stays)
+          out-dir
+
+      raw : (s : Slot) → Contains (used_slots c l.directory) s
+          → Contains (flat_map (λ q. slots_in q (sector c q)) l.directory) s
+      unfolding used_slots
+      raw s e = (filter-out is_used (flat_map (λ q. slots_in q (sector c q)) l.directory) s e).0
+
+      entries : (f : File) → Contains l.files f → SameEntry f.slot (reslot (put c p bytes) f.slot)
+      entries f d = entry-any l.directory f.slot (raw f.slot (slot-of c l f h d))
+
+      all-slots : (xs : List File) → map (λ f. f.slot) (xs ++ k ∷ []) ≡ map (λ f. f.slot) xs ++ slot_in fresh
+          (sector c fresh) 0 ∷ []
+      all-slots [] = refl
+      all-slots (x ∷ xs) = ap (λ s. x.slot ∷ s) (all-slots xs)
+
+      slots : map (λ f. f.slot) (with_new (put c p bytes) l.files [] k) ≡ used_slots (put c p bytes)
+          (l.directory ++ fresh ∷ [])
+      slots =
+          all-slots (map (reread (put c p bytes)) l.files)
+          ∙ ap (λ xs. xs ++ slot_in fresh (sector c fresh) 0 ∷ [])
+          (map-map (λ f. f.slot) (reread (put c p bytes)) l.files
+          ∙ sym (map-map (reslot (put c p bytes)) (λ f. f.slot) l.files)
+          ∙ ap (map (reslot (put c p bytes))) h.directory.slots
+          ∙ sym (used_slots-relinked c p bytes full relinked l.directory))
+          ∙ ap (λ x. used_slots (put c p bytes) l.directory ++ slot_in fresh x 0 ∷ []) (sym fresh-stays)
+          ∙ sym (used_slots-sector (put c p bytes) l.directory fresh (ap (λ x. is_used (slot_in fresh x 0)) fresh-stays
+          ∙ used) (λ n pos low. ap (λ x. is_used (slot_in fresh x n)) fresh-stays ∙ free n pos low))
+
+      directory : IsDirectory (put c p bytes) (l.directory ++ fresh ∷ [])
+          (map (λ f. f.slot) (with_new (put c p bytes) l.files [] k))
+      directory = record {
+        last = slice_index (sector c fresh) 1;
+        chain = chain;
+        on_track = all-join (λ q. q.track ≡ 18) l.directory (fresh ∷ []) h.directory.on_track (on_18, tt);
+        not_map = λ d. elim (Contains-append_cases l.directory (fresh ∷ []) map_place d) [
+          | inl e ↦ h.directory.not_map e
+          | inr e ↦ elim (Contains-cases map_place fresh [] e) [
+            | inl same ↦ no_fresh (let P : Place → Type 0 = Contains (map_place ∷ owners l) in
+                subst P (sym same) (Contains-here map_place (owners l)))
+            | inr none ↦ Contains-nil map_place none
+          ]
+        ];
+        slots = slots;
+      }
+
+      keeps : KeepsFiles c (put c p bytes) l.files
+      keeps = keeps-other c p bytes l.files not_file
+
+      pub linked-layout : IsLayout (put c p bytes) (record {
+        directory = l.directory ++ fresh ∷ [];
+        files = with_new (put c p bytes) l.files [] (new_file (slot_in fresh (sector c fresh) 0) block side u);
+      })
+      linked-layout = created-layout c (put c p bytes) l l.files [] k (l.directory ++ fresh ∷ []) h
+          (sym (append-nil l.files)) keeps entries directory
+          (new-is_file (put c p bytes) (slot_in fresh (sector c fresh) 0) block side u new) once
+
+      pub linked-adds : AddsFile a (put c p bytes) l (record {
+        directory = l.directory ++ fresh ∷ [];
+        files = with_new (put c p bytes) l.files [] (new_file (slot_in fresh (sector c fresh) 0) block side u);
+      })
+          (new_file (slot_in fresh (sector c fresh) 0) block side u)
+      linked-adds = created-adds c (put c p bytes) l l.files [] k (l.directory ++ fresh ∷ []) h
+          (sym (append-nil l.files))
+          keeps entries directory (new-is_file (put c p bytes) (slot_in fresh (sector c fresh) 0) block side u new) a
+          was
+          (λ f d q e. unless-same c p q bytes (λ one. not_file (let P : Place
+          → Type 0 = Contains (flat_map file_owns l.files) in
+          subst P (sym one) (flat_map-in file_owns l.files f q d (Contains-append_left f.blocks f.sides q e)))))
+          (ap (λ s. take 4 s ++ drop 144 s)
+          (sector-put_other c p map_place bytes (λ e. h.directory.not_map (let P : Place
+          → Type 0 = Contains l.directory in subst P e on))))
+
+      -- and where the image at the start was clean, and the map is that of the new owners, it is clean
+      module _ (clean : IsCleanLayout a l) (same : AgreeAt a c (owners l))
+          (two : count_field (slot_in fresh (sector c fresh) 0) ≡ 2)
+          (right : IsMapOf (sector c map_place) (map_place ∷ owners (record {
+            directory = l.directory ++ fresh ∷ [];
+            files = with_new (put c p bytes) l.files [] (new_file (slot_in fresh (sector c fresh) 0) block side u);
+          })))
+        where
+          exact-still : (f : File) → Contains l.files f → (IsTrue (is_rel f.slot) → IsExactFile a f)
+              → IsTrue (is_rel (reslot (put c p bytes) f.slot)) → IsExactFile (put c p bytes) (reread (put c p bytes) f)
+          exact-still f d exact t =
+              let kind = (entries f d).face.kind in
+              let was_rel : IsTrue (is_rel f.slot) = ap is_rel_type kind ∙ t in
+              let old = exact was_rel in
+              let size : record_length (reslot (put c p bytes) f.slot) ≡ record_length f.slot =
+              sym (entries f d).face.length in
+              record {
+                sides = λ j q at.
+                    let own = get-contains f.sides j q at in
+                    let apart-p : p ≢ q = λ one. not_file (let Q : Place
+                    → Type 0 = Contains (flat_map file_owns l.files) in
+                    subst Q (sym one)
+                    (flat_map-in file_owns l.files f q d (Contains-append_right f.blocks f.sides q own))) in
+                    sector-put_other c p q bytes apart-p ∙ sym (same q (owned-side l f q d own)) ∙ old.sides j q at
+                    ∙ ap (side_sector j f.blocks f.sides) (sym size);
+                count = count-any l.directory f.slot (raw f.slot (slot-of c l f h d)) ∙ old.count;
+              }
+
+          exact-all : (fs : List File) → ((f : File) → Contains fs f → Contains l.files f)
+              → AllByRecursion (λ f. IsTrue (is_rel f.slot) → IsExactFile a f) fs
+              → AllByRecursion (λ f. IsTrue (is_rel f.slot) → IsExactFile (put c p bytes) f)
+              (map (reread (put c p bytes)) fs)
+          exact-all [] sub all = tt
+          exact-all (f ∷ fs) sub all = (
+            exact-still f (sub f (Contains-here f fs)) all.0,
+            exact-all fs (λ g e. sub g (Contains-there g f fs e)) all.1,
+          )
+
+          pub linked-clean : IsCleanLayout (put c p bytes) (record {
+            directory = l.directory ++ fresh ∷ [];
+            files = with_new (put c p bytes) l.files [] (new_file (slot_in fresh (sector c fresh) 0) block side u);
+          })
+          linked-clean = record {
+            layout = linked-layout;
+            files = all-join (λ f. IsTrue (is_rel f.slot) → IsExactFile (put c p bytes) f)
+                (map (reread (put c p bytes)) l.files) (k ∷ [])
+                (exact-all l.files (λ f d. d) clean.files)
+                (λ t. new-exact (put c p bytes) (slot_in fresh (sector c fresh) 0) block side u new two, tt);
+            map =
+                let P : Sector → Type 0 =
+                λ x. IsMapOf x (map_place ∷ owners (record {
+                  directory = l.directory ++ fresh ∷ [];
+                  files = with_new (put c p bytes) l.files [] k;
+                })) in
+                subst P (sym (sector-put_other c p map_place bytes (λ e. h.directory.not_map (let Q : Place
+                → Type 0 = Contains l.directory in subst Q e on)))) right;
+          }
+
+-- a new directory sector, a data block and a side sector that nobody owned: each place still has one owner
+pub once-linked : (b : Image) (l : Layout) (fresh block side : Place) (s : Slot) (u : ℕ)
+    → EachOnce (map_place ∷ owners l) → ¬ (Contains (map_place ∷ owners l) fresh)
+    → ¬ (Contains (map_place ∷ owners l) block) → ¬ (Contains (map_place ∷ owners l) side) → fresh ≢ block
+    → fresh ≢ side → side ≢ block
+    → EachOnce (map_place ∷ owners (record {
+      directory = l.directory ++ fresh ∷ [];
+      files = with_new b l.files [] (new_file s block side u);
+    }))
+unfolding owners
+once-linked b l fresh block side s u once no_fresh no_block no_side a c d =
+    let F = flat_map file_owns l.files in
+    let shape : l.directory ++ fresh ∷ F ≡ ((l.directory ++ fresh ∷ []) ++ F) ++ [] = simp (append_assoc, append-nil) in
+    let one = EachOnce-insert (map_place ∷ l.directory) F fresh once no_fresh in
+    let P : List Place → Type 0 = λ ps. EachOnce (map_place ∷ ps) in
+    let out : (x : Place) → ¬ (Contains (map_place ∷ (l.directory ++ F)) x) → fresh ≢ x
+    → ¬ (Contains (map_place ∷ (((l.directory ++ fresh ∷ []) ++ F) ++ [])) x) = λ x none ne own.
+    (let Q : List Place → Type 0 = λ ps. Contains (map_place ∷ ps) x in
+    elim (insert-out (map_place ∷ l.directory) F fresh x (subst Q (sym shape) own)) [
+      | inl e ↦ ne e
+      | inr e ↦ none e
+    ]) in
+    subst P (sym (owners-new b (l.directory ++ fresh ∷ []) l.files [] s block side u ((l.directory ++ fresh ∷ []) ++ F)
+    [] refl refl))
+    (once-new ((l.directory ++ fresh ∷ []) ++ F) [] block side (subst P shape one) (out block no_block a)
+    (out side no_side c) d)

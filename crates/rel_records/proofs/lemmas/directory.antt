@@ -1,0 +1,5 @@
+-- Slots of the directory, free and used.
+pub mod Entered
+pub mod FullSlots
+pub mod NewSlots
+pub mod Rooms

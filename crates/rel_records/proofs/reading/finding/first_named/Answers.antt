@@ -1,0 +1,32 @@
+-- Slot by slot: none is so named yet, or this one is the first.
+use Rattle.std.proofs.Common.{arith, length, refl}
+use borrow.Author.Count.{below_more}
+use Rattle.std.proofs.lemmas.Option.{slice_get_read, slice_get_within}
+use Rattle.rel_records.proofs.lemmas.reading.Found.{not-named, same-slot}
+use Rattle.rel_records.proofs.reading.finding.first_named.Goals as goal
+
+pub loop-number-preserved : goal.loop-number-preserved
+loop-number-preserved c =
+    let there = slice_get_read c.args.slots.now (length c.args.slots.now) c.loop-number.number
+    c.index-slots-number.result refl c.loop-number-test.true c.index-slots-number.is in
+    record {
+      none = below_more _ _ c.loop-number.invariant.none (λ s at. not-named c.args.name.now c.index-slots-number.result
+          s c.is_named.result c.if-is_named.false c.is_named.ensures.1 (same-slot c.args.slots.now c.loop-number.number
+          c.index-slots-number.result s there at));
+    }
+
+pub returns-then-is_named : goal.returns-then-is_named
+returns-then-is_named c = record {
+  slot = c.index-slots-number.result;
+  there = slice_get_read c.args.slots.now (length c.args.slots.now) c.loop-number.number c.index-slots-number.result
+      refl c.loop-number-test.true c.index-slots-number.is;
+  named = c.is_named.ensures.0 c.if-is_named.true;
+  first = λ k s lt at. c.loop-number.invariant.none k lt s at;
+}
+
+pub returns : goal.returns
+returns c = λ k s at. c.loop-number.invariant.none k (omega (
+  arith,
+  c.loop-number-test.false,
+  slice_get_within c.args.slots.now k s at,
+)) s at

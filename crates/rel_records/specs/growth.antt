@@ -1,0 +1,5 @@
+-- A file gets longer.
+pub mod Growth
+pub mod Next
+pub mod Preparing
+pub mod Steps
