@@ -6,7 +6,7 @@ use std::io::{self, Write};
 
 const RIM: u32 = 35700;
 const STYLE: &str = "body{margin:24px;background:#fbfaf7;color:#222;font:14px/1.4 ui-monospace,Menlo,Consolas,\"DejaVu Sans Mono\",monospace}h1{font-size:20px;margin:0}p{margin:4px 0 16px}main{display:flex;flex-wrap:wrap;gap:32px;align-items:flex-start}svg{width:720px;max-width:100%;height:auto}main>div{max-width:440px}circle{fill:none;stroke-width:700}.free{stroke:#e2ded3}.lost{stroke:#9a9384}.map{stroke:#111}.dir{stroke:#5b5b5b}.s{stroke:currentColor}.edge{stroke:#fff;stroke-width:1500}.fault{stroke:#e00000;stroke-width:1100}.open circle{stroke:#fff;stroke-width:200;pointer-events:none}.bad{color:#d00;font-weight:bold}.good{color:#17692b;font-weight:bold}text{font:1100px ui-monospace,Menlo,Consolas,\"DejaVu Sans Mono\",monospace;fill:#444;text-anchor:middle}table{border-collapse:collapse}td,th{padding:1px 8px;text-align:right;white-space:pre}tr>:nth-child(3),tr>:nth-child(4){text-align:left}i{display:inline-block;width:12px;height:12px;margin:0 4px 0 0}ul{list-style:none;padding:0;margin:0 0 12px}li{margin:0 0 2px}.map i{background:#111}.dir i{background:#5b5b5b}.free i{background:#e2ded3}.lost i{background:#9a9384}tr a{color:inherit;text-decoration:none}tr a:hover{text-decoration:underline}g:target circle{stroke-width:800}svg:has(g:target) g g:not(:target):not(#f){opacity:.15}";
-const LEGEND: &str = "</text>\n</svg>\n<div>\n<ul>\n<li class=\"map\"><i></i>map</li>\n<li class=\"dir\"><i></i>directory</li>\n<li class=\"free\"><i></i>free</li>\n<li class=\"lost\"><i></i>taken in the map, of no file</li>\n</ul>\n<table>\n<tr><th></th><th>blocks</th><th>name</th><th>type</th><th>length</th><th>records</th></tr>\n";
+const LEGEND: &str = "</g>\n</svg>\n<div>\n<ul>\n<li class=\"map\"><i></i>map</li>\n<li class=\"dir\"><i></i>directory</li>\n<li class=\"free\"><i></i>free</li>\n<li class=\"lost\"><i></i>taken in the map, of no file</li>\n</ul>\n<table>\n<tr><th></th><th>blocks</th><th>name</th><th>type</th><th>length</th><th>records</th></tr>\n";
 const END: &str = "</table>\n<p>Track 1 is outside, 35 inside; sector 0 begins at the top, clockwise.<br>A darker piece is a side sector, a white line a sector in use that the map calls free.<br>Point at a sector for its place, file and block; click a name to see its file alone.</p>\n</div>\n</main>\n";
 
 /// Whose a sector is: the map's, the directory's, an entry's by its number, as a block or a side sector, or nobody's.
@@ -292,7 +292,7 @@ fn put_page(out: &mut impl Write, drawing: &Drawing, found: &Result<(), Fault>) 
     }
     write!(out, "</style>\n<h1>{name}</h1>\n<p>{} {}, ", Html(&map[0xA2..0xA4]), Html(&map[0xA5..0xA7]))?;
     write!(out, "{} blocks free, <span class=\"{class}\">{told}</span></p>\n<main>\n", drawing.blocks_free())?;
-    write!(out, "<svg viewBox=\"-36600 -36600 73200 73200\">\n<g transform=\"rotate(-90)\">\n")?;
+    write!(out, "<svg viewBox=\"-36600 -36600 73200 73200\">\n<text y=\"400\">{name}</text>\n<g transform=\"rotate(-90)\">\n")?;
     put_system(out, drawing)?;
     for (number, entry) in drawing.entries.iter().enumerate() {
         put_entry(out, drawing, number, entry)?;
@@ -301,7 +301,7 @@ fn put_page(out: &mut impl Write, drawing: &Drawing, found: &Result<(), Fault>) 
     if let Err(fault) = found {
         put_fault(out, fault)?;
     }
-    write!(out, "</g>\n<text y=\"400\">{name}{LEGEND}")?;
+    out.write_all(LEGEND.as_bytes())?;
     for (number, entry) in drawing.entries.iter().enumerate() {
         put_row(out, number, entry)?;
     }

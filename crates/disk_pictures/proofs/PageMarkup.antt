@@ -12,8 +12,9 @@ use Rattle.disk_pictures.specs.Markup.{is_markup, markup_of}
 use Rattle.disk_pictures.specs.Names.{disk_name, name_of}
 use Rattle.disk_pictures.specs.Pictures.{Show, block_arc, colour, dashes, drawing_text, file_group, group_head}
 use Rattle.disk_pictures.specs.Pictures.{is_blocks, is_sides, legend_text, link_text, own_block, own_side, page_text}
-use Rattle.disk_pictures.specs.Pictures.{ring_of, row_text, side_arc, style, title_text, told_text}
-use Rattle.disk_pictures.specs.Texts.{numbered}
+use Rattle.disk_pictures.specs.Pictures.{ring_of, row_text, side_arc, style, title_text, told_text, verdict_class}
+use Rattle.disk_layout.specs.View.{blocks_free}
+use Rattle.disk_pictures.specs.Texts.{numbered, verdict_text}
 
 -- the two have the same markup
 pub record IsSameMarkup (a b : List ℕ) : Type 0 where
@@ -85,12 +86,13 @@ module _ (f g : Show) (same : (bytes : List ℕ) → IsSameMarkup (f bytes) (g b
   on-told v map =
       let id = slice_range map 162 164 in
       let version = slice_range map 165 167 in
-      both (f id) (g id) _ _ (same id) (behind (codes " ") _ _ (before (f version) (g version) _ (same version)))
-
-  on-legend : (map : Sector) → IsSameMarkup (legend_text f map) (legend_text g map)
-  unfolding legend_text
-  on-legend map = behind (codes "</g>\n<text y=\"400\">") _ _ (before (f (disk_name map)) (g (disk_name map)) _
-      (same (disk_name map)))
+      let name = disk_name map in
+      both (f id) (g id) _ _ (same id) (behind (codes " ") _ _ (both (f version) (g version) _ _ (same version)
+      (behind (codes ", ") _ _ (behind (decimal (blocks_free map)) _ _
+      (behind (codes " blocks free, <span class=\"") _ _ (behind (verdict_class v) _ _
+      (behind (codes "\">") _ _ (behind (verdict_text v) _ _
+      (behind (codes "</span></p>\n<main>\n<svg viewBox=\"-36600 -36600 73200 73200\">\n<text y=\"400\">") _ _
+      (before (f name) (g name) (codes "</text>\n<g transform=\"rotate(-90)\">\n") (same name)))))))))))
 
   on-link : (k : ℕ) (name : List ℕ) → IsSameMarkup (link_text f k name) (link_text g k name)
   unfolding link_text
@@ -110,4 +112,4 @@ module _ (f g : Show) (same : (bytes : List ℕ) → IsSameMarkup (f bytes) (g b
       → IsSameMarkup (page_text f v map l) (page_text g v map l)
   unfolding page_text
   on-page v map l = both _ _ _ _ (on-title map) (both _ _ _ _ (on-told v map) (both _ _ _ _ (on-drawing v map l)
-      (both _ _ _ _ (on-legend map) (before _ _ _ (each (row_text f) (row_text g) on-row 0 l.files)))))
+      (behind legend_text _ _ (before _ _ _ (each (row_text f) (row_text g) on-row 0 l.files)))))

@@ -205,19 +205,20 @@ title_text show map =
     ++ (codes "</title>\n<style>"
     ++ (style ++ (dashes ++ (codes "</style>\n<h1>" ++ (show (disk_name map) ++ codes "</h1>\n<p>"))))))
 
--- what follows: id, version, free blocks as the map counts them, what a check told, and the beginning of the drawing
+-- what follows: id, version, free blocks as the map counts them, what a check told, and the beginning of the drawing,
+-- with the disk's name beneath the sectors
 unfoldable pub told_text : Show → Option Fault → Sector → List ℕ
 told_text show v map =
     show (slice_range map 162 164)
     ++ (codes " " ++ (show (slice_range map 165 167) ++ (codes ", " ++ (decimal (blocks_free map)
     ++ (codes " blocks free, <span class=\"" ++ (verdict_class v ++ (codes "\">" ++ (verdict_text v
-    ++ codes "</span></p>\n<main>\n<svg viewBox=\"-36600 -36600 73200 73200\">\n<g transform=\"rotate(-90)\">\n"))))))))
+    ++ (codes "</span></p>\n<main>\n<svg viewBox=\"-36600 -36600 73200 73200\">\n<text y=\"400\">"
+    ++ (show (disk_name map) ++ codes "</text>\n<g transform=\"rotate(-90)\">\n"))))))))))
 
 -- the end of the drawing, the meaning of the colours, and the head of the table
-unfoldable pub legend_text : Show → Sector → List ℕ
-legend_text show map =
-    codes "</g>\n<text y=\"400\">" ++ (show (disk_name map)
-    ++ codes "</text>\n</svg>\n<div>\n<ul>\n<li class=\"map\"><i></i>map</li>\n<li class=\"dir\"><i></i>directory</li>\n<li class=\"free\"><i></i>free</li>\n<li class=\"lost\"><i></i>taken in the map, of no file</li>\n</ul>\n<table>\n<tr><th></th><th>blocks</th><th>name</th><th>type</th><th>length</th><th>records</th></tr>\n")
+unfoldable pub legend_text : List ℕ
+legend_text = codes
+    "</g>\n</svg>\n<div>\n<ul>\n<li class=\"map\"><i></i>map</li>\n<li class=\"dir\"><i></i>directory</li>\n<li class=\"free\"><i></i>free</li>\n<li class=\"lost\"><i></i>taken in the map, of no file</li>\n</ul>\n<table>\n<tr><th></th><th>blocks</th><th>name</th><th>type</th><th>length</th><th>records</th></tr>\n"
 
 -- record length and number of records in two cells, where they are told
 abbrev pub cells_text : File → List ℕ
@@ -251,7 +252,7 @@ drawing_text show v map l =
 -- the page
 unfoldable pub page_text : Show → Option Fault → Sector → Layout → List ℕ
 page_text show v map l =
-    title_text show map ++ (told_text show v map ++ (drawing_text show v map l ++ (legend_text show map
+    title_text show map ++ (told_text show v map ++ (drawing_text show v map l ++ (legend_text
     ++ (numbered (row_text show) 0 l.files ++ end_text))))
 
 -- the picture of a disk

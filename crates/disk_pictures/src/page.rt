@@ -2,7 +2,7 @@
 ghost use Rattle.std.specs.Prelude.{◌≡◌, Some};
 ghost use Rattle.disk_pictures.specs.Drawings.{file_in};
 ghost use Rattle.disk_pictures.specs.Html.{html_of};
-ghost use Rattle.disk_pictures.specs.Pictures.{cells_text, legend_text, link_text, row_text, title_text, told_text, verdict_class};
+ghost use Rattle.disk_pictures.specs.Pictures.{cells_text, link_text, row_text, title_text, told_text, verdict_class};
 
 use crate::arcs::Colour;
 use crate::drawn_file::DrawnFile;
@@ -20,9 +20,9 @@ const STYLE: &str =
 const DASHES: &str =
     "[r=\"34600\"]{stroke-dasharray:10152 300000}[r=\"33800\"]{stroke-dasharray:9912 300000}[r=\"33000\"]{stroke-dasharray:9673 300000}[r=\"32200\"]{stroke-dasharray:9434 300000}[r=\"31400\"]{stroke-dasharray:9194 300000}[r=\"30600\"]{stroke-dasharray:8955 300000}[r=\"29800\"]{stroke-dasharray:8716 300000}[r=\"29000\"]{stroke-dasharray:8476 300000}[r=\"28200\"]{stroke-dasharray:8237 300000}[r=\"27400\"]{stroke-dasharray:7998 300000}[r=\"26600\"]{stroke-dasharray:7758 300000}[r=\"25800\"]{stroke-dasharray:7519 300000}[r=\"25000\"]{stroke-dasharray:7279 300000}[r=\"24200\"]{stroke-dasharray:7040 300000}[r=\"23400\"]{stroke-dasharray:6801 300000}[r=\"22600\"]{stroke-dasharray:6561 300000}[r=\"21800\"]{stroke-dasharray:6322 300000}[r=\"21000\"]{stroke-dasharray:6744 300000}[r=\"20200\"]{stroke-dasharray:6480 300000}[r=\"19400\"]{stroke-dasharray:6215 300000}[r=\"18600\"]{stroke-dasharray:5950 300000}[r=\"17800\"]{stroke-dasharray:5686 300000}[r=\"17000\"]{stroke-dasharray:5421 300000}[r=\"16200\"]{stroke-dasharray:5157 300000}[r=\"15400\"]{stroke-dasharray:5175 300000}[r=\"14600\"]{stroke-dasharray:4896 300000}[r=\"13800\"]{stroke-dasharray:4617 300000}[r=\"13000\"]{stroke-dasharray:4337 300000}[r=\"12200\"]{stroke-dasharray:4058 300000}[r=\"11400\"]{stroke-dasharray:3779 300000}[r=\"10600\"]{stroke-dasharray:3717 300000}[r=\"9800\"]{stroke-dasharray:3422 300000}[r=\"9000\"]{stroke-dasharray:3126 300000}[r=\"8200\"]{stroke-dasharray:2830 300000}[r=\"7400\"]{stroke-dasharray:2535 300000}";
 
-/// The meaning of the colours, and the head of the table.
-const LEGEND: &str =
-    "</text>\n</svg>\n<div>\n<ul>\n<li class=\"map\"><i></i>map</li>\n<li class=\"dir\"><i></i>directory</li>\n<li class=\"free\"><i></i>free</li>\n<li class=\"lost\"><i></i>taken in the map, of no file</li>\n</ul>\n<table>\n<tr><th></th><th>blocks</th><th>name</th><th>type</th><th>length</th><th>records</th></tr>\n";
+/// The end of the drawing, the meaning of the colours, and the head of the table.
+pub(crate) const LEGEND: &str =
+    "</g>\n</svg>\n<div>\n<ul>\n<li class=\"map\"><i></i>map</li>\n<li class=\"dir\"><i></i>directory</li>\n<li class=\"free\"><i></i>free</li>\n<li class=\"lost\"><i></i>taken in the map, of no file</li>\n</ul>\n<table>\n<tr><th></th><th>blocks</th><th>name</th><th>type</th><th>length</th><th>records</th></tr>\n";
 
 /// The end of the page.
 pub(crate) const END: &str =
@@ -70,28 +70,13 @@ impl Display for Told<'_> {
         let view = BamView::new(self.map);
         write!(
             f,
-            "{} {}, {} blocks free, <span class=\"{}\">{}</span></p>\n<main>\n<svg viewBox=\"-36600 -36600 73200 73200\">\n<g transform=\"rotate(-90)\">\n",
+            "{} {}, {} blocks free, <span class=\"{}\">{}</span></p>\n<main>\n<svg viewBox=\"-36600 -36600 73200 73200\">\n<text y=\"400\">{}</text>\n<g transform=\"rotate(-90)\">\n",
             Html(view.id()),
             Html(view.version()),
             view.blocks_free(),
             class_of(self.found),
-            VerdictText(self.found)
-        )
-    }
-}
-
-/// The end of the drawing, the meaning of the colours, and the head of the table.
-#[derive(Clone, Copy)]
-pub(crate) struct Legend<'a>(pub &'a [u8; 256]);
-
-impl Display for Legend<'_> {
-    ghost output = { λ legend. Some (legend_text html_of legend.0.now) };
-
-    fn fmt<W: fmt::Write>(&self, f: &mut Formatter<W>) -> fmt::Result {
-        write!(
-            f,
-            "</g>\n<text y=\"400\">{}{LEGEND}",
-            Html(header_name(self.0))
+            VerdictText(self.found),
+            Html(header_name(self.map))
         )
     }
 }

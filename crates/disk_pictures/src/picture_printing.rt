@@ -19,7 +19,7 @@ use crate::names::entry_name;
 use crate::others::{GROUP_END, put_others};
 use crate::output::{flush, put};
 use crate::owners::Owner;
-use crate::page::{END, Legend, Row, Title, Told};
+use crate::page::{END, LEGEND, Row, Title, Told};
 use crate::verdicts::judged;
 use crate::white_lines::put_open;
 use d64_image::Place;
@@ -244,7 +244,7 @@ fn put_page<W: Write>(
     put(out, Title(map))?;
     put(out, Told { map, found })?;
     put_drawing(out, found, drawing)?;
-    put(out, Legend(map))?;
+    put(out, LEGEND)?;
     put_rows(out, drawing.files.as_slice())?;
     put(out, END)?;
     flush(out)

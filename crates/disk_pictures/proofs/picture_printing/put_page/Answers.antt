@@ -18,7 +18,7 @@ use Rattle.disk_pictures.proofs.picture_printing.put_page.Goals as goal
 all-printed : (a b c d e f h i : Option (List ℕ)) (v : Option Fault) (bytes : Sector) (l : Layout)
     → Appends a b (title_text html_of bytes)
     → Appends b c (told_text html_of v bytes) → Appends c d (drawing_text html_of v bytes l)
-    → Appends d e (legend_text html_of bytes)
+    → Appends d e legend_text
     → Appends e f (numbered (row_text html_of) 0 l.files) → Appends f h end_text → Keeps h i
     → Appends a i (picture_page v bytes l)
 unfolding page_text
@@ -28,7 +28,7 @@ all-printed a b c d e f h i v bytes l title told drawing legend rows end kept =
     kept
 
 pub returns-clause-ok : goal.returns-clause-ok
-unfolding end_text
+unfolding end_text legend_text
 returns-clause-ok g c =
     let d = c.args.drawing.now in
     let rows = subst (λ fs. Appends (g.W.Write.contents c.put-3.new.out) (g.W.Write.contents c.put_rows.new.out)
