@@ -17,7 +17,7 @@ pub(crate) fn put_before(text: &[u8], room: &mut [u8], end: usize) -> usize
 }
 
 /// Puts a byte as text, three bytes at most, so that it ends at `end`, and returns where it starts.
-// Without a branch, which the processor would have to guess: the byte is put behind its three bytes or before them.
+// Without a branch, which the processor would have to guess: the byte is put over the last of its three, or before them.
 #[inline(always)]
 fn put_byte(byte: u8, room: &mut [u8], end: usize) -> usize
     requires { (4 ≤ end) × (end ≤ length room.old) }
