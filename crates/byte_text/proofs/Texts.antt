@@ -1,14 +1,15 @@
 -- Bytes and their texts: one text for each list of bytes.
-use Rattle.std.proofs.Common.{◌≡◌, ◌≢◌, ◌<◌, ◌≤◌, ◌+◌, ◌-◌, ◌/◌, ◌%◌, ℕ, suc, List, [], ◌∷◌, ◌++◌, Option, length, take}
-use Rattle.std.proofs.Common.{drop, get_or, Bool, true, false, length-append, refl, subst, sym, ap, ap₂, ◌∙◌, arith}
+use Rattle.std.proofs.Common.{◌≡◌, ◌≢◌, ◌<◌, ◌≤◌, ◌+◌, ◌-◌, ◌*◌, ◌/◌, ◌%◌, ℕ, suc, List, [], ◌∷◌, ◌++◌, Option}
+use Rattle.std.proofs.Common.{length, take, drop, set, get_or, Bool, true, false, length-append, refl, subst, sym, ap}
+use Rattle.std.proofs.Common.{ap₂, ◌∙◌, arith}
 use Rattle.std.specs.Prelude.{codes, decimal, if◌then◌else◌, slice_index, slice_range}
 use Rattle.std.specs.Io.KnownBytes.{Appends}
 use Rattle.std.proofs.Math.Seq.{get_or-append_seam}
 use Rattle.std.proofs.KnownBytes.{Appends-trans}
 use Rattle.std.proofs.Math.Seq.{take-append-add}
-use Rattle.std.proofs.lemmas.Grind.{flat_map-append}
-use Rattle.std.proofs.lemmas.List.{append_assoc, append-nil, drop-drop, get_or-drop, get_or-take, length-drop}
-use Rattle.std.proofs.lemmas.List.{length-take, length-take-le, take-append-drop, take_all}
+use Rattle.std.proofs.lemmas.Grind.{drop-set_at, flat_map-append}
+use Rattle.std.proofs.lemmas.List.{append_assoc, append-nil, drop-drop, drop-set-lt, get_or-drop, get_or-take}
+use Rattle.std.proofs.lemmas.List.{length-drop, length-take, length-take-le, take-append-drop, take_all}
 use Rattle.byte_text.specs.Texts.{AreBytes, byte_text, digit, is_plain, record_line, text_of, trimmed}
 
 -- a digit is of one number
@@ -21,17 +22,27 @@ chosen plain b = if plain then b ∷ [] else 92 ∷ digit (b / 16) ∷ digit (b 
 plain-byte : (b : ℕ) → is_plain b ≡ true → byte_text b ≡ b ∷ []
 plain-byte b plain = ap (λ (p : Bool). chosen p b) plain
 
--- a byte behind two others stands for itself, or all three are its text
-pub put-plain : (b d start : ℕ) (room rest : List ℕ) → is_plain b ≡ true → drop start room ≡ 92 ∷ d ∷ b ∷ rest
-    → drop (start + 2) room ≡ byte_text b ++ rest
-put-plain b d start room rest plain put = sym (drop-drop 2 start room) ∙ ap (λ (xs : List ℕ). drop 2 xs) put
+-- a byte that stands for itself, put over the last of three bytes
+pub put-plain : (b h l start end : ℕ) (room rest : List ℕ) → is_plain b ≡ true → start + 3 ≡ end → 4 ≤ end
+    → end ≤ length room → drop start room ≡ 92 ∷ h ∷ l ∷ rest
+    → drop (start + 2 * 1) (set room (end - 4 + 3 * 1) b) ≡ byte_text b ++ rest
+put-plain b h l start end room rest plain last low high put =
+    let here : start + 2 * 1 ≡ end - 4 + 3 * 1 = omega (arith, last, low) in
+    let behind : end - 4 + 3 * 1 + 1 ≡ start + 3 = omega (arith, last, low) in
+    drop-set_at room (end - 4 + 3 * 1) (start + 2 * 1) b here (omega (arith, low, high))
+    ∙ ap (λ (n : ℕ). b ∷ drop n room) behind
+    ∙ ap (λ (xs : List ℕ). b ∷ xs) (sym (drop-drop 3 start room) ∙ ap (λ (xs : List ℕ). drop 3 xs) put)
     ∙ sym (ap (λ (xs : List ℕ). xs ++ rest) (plain-byte b plain))
 
-pub put-digits : (b start : ℕ) (room rest : List ℕ) → is_plain b ≡ false
-    → drop start room ≡ 92 ∷ digit (b / 16) ∷ digit (b % 16) ∷ rest → drop (start + 0) room ≡ byte_text b ++ rest
-put-digits b start room rest other put =
-    let here : start + 0 ≡ start = omega arith in
-    ap (λ (n : ℕ). drop n room) here ∙ put ∙ sym (ap (λ (p : Bool). chosen p b ++ rest) other)
+-- another, put before its three
+pub put-digits : (b start end : ℕ) (room rest : List ℕ) → is_plain b ≡ false → start + 3 ≡ end → 4 ≤ end
+    → drop start room ≡ 92 ∷ digit (b / 16) ∷ digit (b % 16) ∷ rest
+    → drop (start + 2 * 0) (set room (end - 4 + 3 * 0) b) ≡ byte_text b ++ rest
+put-digits b start end room rest other last low put =
+    let here : start + 2 * 0 ≡ start = omega arith in
+    let before : end - 4 + 3 * 0 < start = omega (arith, last, low) in
+    ap (λ (n : ℕ). drop n (set room (end - 4 + 3 * 0) b)) here ∙ drop-set-lt start room (end - 4 + 3 * 0) b before
+    ∙ put ∙ sym (ap (λ (p : Bool). chosen p b ++ rest) other)
 
 -- bytes that stand for themselves are their own text
 text-plain : (xs : List ℕ) → ((i : ℕ) → i < length xs → is_plain (get_or xs i 0) ≡ true) → text_of xs ≡ xs

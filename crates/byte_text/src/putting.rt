@@ -17,22 +17,22 @@ pub(crate) fn put_before(text: &[u8], room: &mut [u8], end: usize) -> usize
 }
 
 /// Puts a byte as text, three bytes at most, so that it ends at `end`, and returns where it starts.
-// Without a branch, which the processor would have to guess: three bytes are put, and two of them left out.
+// Without a branch, which the processor would have to guess: the byte is put over the last of its three, or before them.
 #[inline(always)]
 fn put_byte(byte: u8, room: &mut [u8], end: usize) -> usize
-    requires { (3 ≤ end) × (end ≤ length room.old) }
+    requires { (4 ≤ end) × (end ≤ length room.old) }
     ensures start { (result ≤ end) × (end ≤ result + 3) }
     ensures written { drop result room.new ≡ byte_text byte ++ drop end room.old }
 {
-    let plain = is_plain(byte);
-    let last = if plain { byte } else { digit(byte % 16) };
-    let start = put_before(&[b'\\', digit(byte / 16), last], room, end);
-    start + 2 * usize::from(plain)
+    let plain = usize::from(is_plain(byte));
+    let start = put_before(&[b'\\', digit(byte / 16), digit(byte % 16)], room, end);
+    room[end - 4 + 3 * plain] = byte;
+    start + 2 * plain
 }
 
 /// Puts bytes as text so that it ends at `end`, and returns where it starts.
 pub(crate) fn put_text(bytes: &[u8], room: &mut [u8], end: usize) -> usize
-    requires { (3 * length bytes.now ≤ end) × (end ≤ length room.old) }
+    requires { (3 * length bytes.now + 1 ≤ end) × (end ≤ length room.old) }
     ensures start { (result ≤ end) × (end ≤ result + 3 * length bytes.now) }
     ensures written { drop result room.new ≡ text_of bytes.now ++ drop end room.old }
 {
