@@ -4,5 +4,5 @@ pub mod Faults
 pub mod ScriptRuns
 pub mod Chains
 pub mod Loops
-pub mod Played
+pub mod EventPlays
 pub mod Outputs

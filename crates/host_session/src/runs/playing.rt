@@ -2,7 +2,7 @@
 ghost use Rattle.std.specs.Prelude.{◌≡◌, map, vec_capacity};
 ghost use Rattle.host_session.specs.events.Events.{message_of};
 ghost use Rattle.host_session.specs.runs.Faults.{play_fault_of, play_number};
-ghost use Rattle.host_session.specs.runs.Played.{IsPlayed};
+ghost use Rattle.host_session.specs.runs.EventPlays.{PlaysEvents};
 
 use crate::events::asking::OfEvents;
 use crate::faults::OpenFault;
@@ -60,7 +60,7 @@ pub fn play<D: Sectors>(
     events: &[Event<'_>],
     replies: &mut Vec<Reply>,
 ) -> Result<D, (PlayFault, D)>
-    ensures { IsPlayed D.history (map message_of events.now) disk (vec_capacity replies.old) replies.old.items replies.new.items result }
+    ensures { PlaysEvents D.history (map message_of events.now) disk (vec_capacity replies.old) replies.old.items replies.new.items result }
 {
     match replies.try_reserve(events.len()) {
         Ok(()) => {}

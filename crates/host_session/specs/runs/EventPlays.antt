@@ -13,7 +13,7 @@ use Rattle.host_session.specs.session.Opening.{IsAShop, disk_of}
 use Rattle.host_session.specs.shop.Shop.{IsShop, Shop}
 
 -- The messages were played on a disk, and their replies put behind the old ones, in a list with room for so many.
-pub record IsPlayed {D : Type 0} (h : History D) (ms : List Message) (disk : D) (room : ℕ) (old new : List Reply)
+pub record PlaysEvents {D : Type 0} (h : History D) (ms : List Message) (disk : D) (room : ℕ) (old new : List Reply)
     (result : Result D (PlayFault × D)) : Type 0 where
   -- A shop alone is played.
   pub shop : IfOk result (λ _. IsAShop (h.image disk))
