@@ -141,40 +141,36 @@ fn people_are_told_of_shops(rt: HostRuntime) {
     wrote(&rt, &memory.err, b"", "nothing is told");
 }
 
+/// Sees that this is told of a file that is made anew, over one that has these bytes where it is there.
+fn replaces(rt: &(impl AllocGlobal + Abort), told: Told, kind: Kind, bytes: &[u8], wanted: &[u8]) {
+    let memory = Memory::new(rt.alloc(), FORMAT, b"");
+    put(rt, &memory.image, kind, bytes);
+    same_at(rt, status_told(&memory, told), 0, "it is made");
+    wrote(rt, &memory.err, wanted, "what is replaced");
+}
+
 #[test]
 fn people_are_told_what_is_replaced(rt: HostRuntime) {
-    let memory = Memory::new(rt.alloc(), FORMAT, b"");
-    same_at(&rt, status_told(&memory, Told::Person), 0, "it is made");
-    wrote(&rt, &memory.err, b"", "nothing was there");
-    let memory = Memory::new(rt.alloc(), FORMAT, b"");
-    put(&rt, &memory.image, Kind::Plain, b"old");
-    same_at(
-        &rt,
-        status_told(&memory, Told::Person),
-        0,
-        "it is made anew",
-    );
     let replacing = b"ledger: replacing a.d64, which has 3 bytes\n";
-    wrote(&rt, &memory.err, replacing, "what is replaced");
-    let memory = Memory::new(rt.alloc(), FORMAT, b"");
-    put(&rt, &memory.image, Kind::Plain, b"old");
-    same_at(
-        &rt,
-        status_told(&memory, Told::Program),
-        0,
-        "it is made anew",
-    );
-    wrote(&rt, &memory.err, b"", "a program is told nothing");
+    replaces(&rt, Told::Person, Kind::Missing, b"", b"");
+    replaces(&rt, Told::Person, Kind::Plain, b"old", replacing);
+    replaces(&rt, Told::Program, Kind::Plain, b"old", b"");
+}
+
+/// A script of so many lines of a till's, as far as there is memory.
+fn lines_of(rt: &impl AllocGlobal, count: usize) -> Vec<u8> {
+    let mut script = Vec::new(rt.alloc());
+    for _ in 0..count {
+        let _ = script.extend_from_slice(b"1,1,S,1,5\n");
+    }
+    script
 }
 
 /// Plays so many lines of a till's with the words, and sees what is told.
 fn tells_of_lines(rt: &(impl AllocGlobal + Abort), told: Told, lines: usize, wanted: &[u8]) {
+    let (shop, script) = (empty_shop(rt), lines_of(rt, lines));
     let memory = Memory::new(rt.alloc(), PLAY, b"");
-    put(rt, &memory.image, Kind::Plain, empty_shop(rt).as_slice());
-    let mut script = Vec::new(rt.alloc());
-    for _ in 0..lines {
-        let _ = script.extend_from_slice(b"1,1,S,1,5\n");
-    }
+    put(rt, &memory.image, Kind::Plain, shop.as_slice());
     put(rt, &memory.script, Kind::Plain, script.as_slice());
     same_at(rt, status_told(&memory, told), 0, "it is played");
     wrote(rt, &memory.err, wanted, "what is told of lines");
