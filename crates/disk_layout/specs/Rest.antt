@@ -93,24 +93,6 @@ rest_of img l a b requests = record {
   past = drop 64 (records img requests);
 }
 
--- the two images have the same rest
-pub record KeepsRest (old new : Image) (stock requests : List ℕ) : Type 0 where
-  pub before : Layout
-  pub is_before : IsLayout old before
-  pub after : Layout
-  pub is_after : IsLayout new after
-  pub a : ℕ
-  pub b : ℕ
-  pub card_file : File
-  pub request_file : File
-  pub card_file' : File
-  pub request_file' : File
-  pub cards : IsFirst before stock a card_file
-  pub answers : IsFirst before requests b request_file
-  pub cards' : IsFirst after stock a card_file'
-  pub answers' : IsFirst after requests b request_file'
-  pub same : rest_of old before a b request_file ≡ rest_of new after a b request_file'
-
 -- the sectors outside track 18 that are owned by files other than the one at place n of the list
 unfoldable pub taken_by_others : Layout → ℕ → ℕ
 taken_by_others l n = length (filter (λ p. not (nat_eq p.track 18)) (flat_map file_owns (others n n 0 l.files)))

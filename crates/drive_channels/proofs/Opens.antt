@@ -135,32 +135,6 @@ module _ (img : Image) (k : Known) (o : Opened) (name : List ℕ) (known : IsKno
         (λ same. other (found.of.shows.size ∙ same)),
       )
 
-  -- what is known once it is open
-  pub known-opened : (number : ℕ) → 2 ≤ number → number ≤ 14
-      → IsKnown img (record {
-        last = Some (record { found = o.found; spot = Some (first_spot number) });
-        before = k.before;
-        checked = k.checked;
-      })
-  known-opened number low high = record {
-    fresh = λ off. absurd (none-some o (sym (known.fresh off).0 ∙ last));
-    remembered = λ checked. let m = known.remembered checked in record {
-      clean = m.clean;
-      last_found = found;
-      spot = record {
-        low = low;
-        high = high;
-        record_from = omega arith;
-        up_to = omega arith;
-        from = omega arith;
-        within = o.found.file.size_low;
-      };
-      before_found = m.before_found;
-      apart = subst (λ (last : Option Opened). IfSome last
-          (λ o. IfSome k.before (λ e. entry_of e.file ≢ entry_of o.found.file))) last m.apart;
-    };
-  }
-
 -- the file isn't there
 module _ (img : Image) (k : Known) (name : List ℕ) (missing : ¬ (HasFile img name)) (number : ℕ) (s : Status) where
   none-other : (length : Option ℕ) → ¬ (HasOther img name length)

@@ -23,10 +23,6 @@ pub ok-then : {T E : Type 0} (r : Result T E) (P Q : Type 0) → (P → Q) → O
 ok-then (Ok x) P Q f p = f p
 ok-then (Err e) P Q f p = tt
 
-pub err-then : {T E : Type 0} (r : Result T E) (P Q : E → Type 0) → ((e : E) → P e → Q e) → IfErr r P → IfErr r Q
-err-then (Ok x) P Q f p = tt
-err-then (Err e) P Q f p = f e p
-
 -- map, side sectors and counts in turn: the last image is the repaired one
 pub repaired : (a b c d : Image) (s : Survey) → IsToldBy a s → HasMap b → KeepsLayouts a b → KeepsLayouts b c
     → SameMap b c → AreExactFor b c

@@ -267,12 +267,6 @@ parts-at img now s bs ss cs ts same eb es h =
     let R : List Place → Type 0 = λ xs. IsPartsOf img s bs xs in
     subst P (sym same) (subst Q (sym eb) (subst R (sym es) h))
 
-pub exact-from : (img now new : Image) (s : Slot) (bs ss : List Place) → now ≡ img → IsPartsOf img s bs ss
-    → KeepsExact now new → AreExactSides img s bs ss → AreExactSides new s bs ss
-exact-from img now new s bs ss same h keeps exact =
-    keeps s bs ss (let P : Image → Type 0 = λ i. IsPartsOf i s bs ss in subst P (sym same) h) (let P : Image
-    → Type 0 = λ i. AreExactSides i s bs ss in subst P (sym same) exact)
-
 pub right-there : (img now : Image) (s : Slot) (bs ss cs ts : List Place) → now ≡ img → cs ≡ bs → ts ≡ ss
     → AreExactSides img s bs ss → AreExactSides now s cs ts
 right-there img now s bs ss cs ts same eb es h =

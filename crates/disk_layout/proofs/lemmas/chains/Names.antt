@@ -19,13 +19,6 @@ named-names bytes i p e = let h = place_at-some (slice_index bytes i) (slice_ind
 pub named-none : (bytes : Sector) (i : ℕ) → named_at bytes i ≡ None → NamesNone bytes i
 named-none bytes i e q h = let both : Some q ≡ None = sym (named-is bytes i q h) ∙ e in cc
 
-pub none-named : (bytes : Sector) (i : ℕ) → NamesNone bytes i → named_at bytes i ≡ None
-none-named bytes i h = by (named_at bytes i) refl
-  where
-    by : (o : Option Place) → named_at bytes i ≡ o → named_at bytes i ≡ None
-    by None e = e
-    by (Some q) e = absurd (h q (named-names bytes i q e))
-
 -- what a view of these bytes gives
 pub named-match : (bytes viewed : Sector) (i : ℕ) (o : Option Place) → viewed ≡ bytes → o ≡ named_at viewed i
     → MatchOption o (NamesNone bytes i) (λ p. Names bytes i p)

@@ -168,12 +168,3 @@ files-kept img p b (f ∷ fs) free =
     (Contains-append_left f.blocks f.sides p c))) in
     let rest = files-kept img p b fs (λ c. free (Contains-append_right (file_owns f) (flat_map file_owns fs) p c)) in
     cc
-
--- a write to a sector of one file keeps what is asked to stay of all others
-pub around-kept : (img : Image) (l : Layout) (before after : List File) (f : File) (p : Place) (b : Sector)
-    → EachOnce (map_place ∷ owners (exchanged l before f after)) → Contains (file_owns f) p
-    → (map (kept_of (put img p b)) before ≡ map (kept_of img) before)
-    × (map (kept_of (put img p b)) after ≡ map (kept_of img) after)
-around-kept img l before after f p b once own =
-    let only = alone l before after f once p own in
-    (files-kept img p b before only.before, files-kept img p b after only.after)

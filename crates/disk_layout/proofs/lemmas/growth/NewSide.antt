@@ -83,28 +83,3 @@ longer_side f fresh side u = record {
   blocks = λ k q e. get-append f.blocks (fresh ∷ []) k q e;
   sides = λ k q e. get-append f.sides (side ∷ []) k q e;
 }
-
--- ready for the commit: the fresh block ends, and every side sector, the new one with them, has the bytes of the longer
--- file
-pub ready_side : (a : Image) (f : File) (fresh side : Place) (u : ℕ) → IsRelFile a f → EndsAt a fresh u
-    → length f.sides + 1 ≡ sides_for (length f.blocks + 1) → 0 < length f.sides → length f.sides + 1 ≤ 6
-    → ((j : ℕ) (q : Place) → slice_get (f.sides ++ side ∷ []) j ≡ Some q
-    → sector a q ≡ side_sector j (f.blocks ++ fresh ∷ []) (f.sides ++ side ∷ []) (record_length f.slot))
-    → IsReady a f fresh u (f.sides ++ side ∷ [])
-ready_side a f fresh side u r ends count some few exact = record {
-  ends = ends;
-  count = length-append f.sides (side ∷ []) ∙ count;
-  first_side = λ q e. first f.sides refl q e;
-  sides = λ j q e. exact-side a (grown f fresh u (f.sides ++ side ∷ [])) j q
-      (omega (arith, length-append f.sides (side ∷ []), few)) (exact j q e);
-}
-  where
-    first : (ss : List Place) → f.sides ≡ ss → (q : Place) → slice_get (f.sides ++ side ∷ []) 0 ≡ Some q
-        → Names f.slot.bytes 21 q
-    first [] e q at = absurd (omega (arith, some, ap length e))
-    first (x ∷ ss) e q at =
-        let here : slice_get f.sides 0 ≡ Some x = ap (λ zs. slice_get zs 0) e in
-        let there : slice_get (f.sides ++ side ∷ []) 0 ≡ Some x = get-append f.sides (side ∷ []) 0 x here in
-        let both : Some x ≡ Some q = sym there ∙ at in
-        let same : x ≡ q = cc in
-        r.first_side q (here ∙ ap Some same)

@@ -92,9 +92,6 @@ link-at : (o : Option Place) (u : ℕ) (q : Place) → o ≡ Some q → Names (l
 link-at (Some r) u q e = let s : r ≡ q = cc in (ap (λ x. x.track) s, ap (λ x. x.sector) s)
 link-at None u q e = cc
 
-few-pointers : (j : ℕ) (blocks : List Place) → length (pointers_of j blocks) ≤ 120
-few-pointers j blocks = simp length-take (omega arith)
-
 -- a side sector of four parts
 module _ (A B C D : List ℕ) (la : length A ≡ 2) (lb : length B ≡ 2) (lc : length C ≡ 12) where
   two : length (A ++ B) ≡ 4

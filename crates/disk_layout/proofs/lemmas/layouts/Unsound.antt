@@ -167,17 +167,3 @@ no_bad_length img p (s, closed, rel, out) (l, h) =
     let low : 1 ≤ record_length s = rw (← e) r.length_low in
     let high : record_length s ≤ 254 = rw (← e) r.length_high in
     elim out [ inl z ↦ omega arith | inr z ↦ omega arith ]
-
--- where a fault of a chain holds, there is no chain; a failed device tells nothing
-pub told-no_chain : (img : Image) (first : Place) (f : Fault) → HoldsOfChain nowhere img first f
-    → (ps : List Place) (u : ℕ) → ¬ (IsChain img first ps u)
-told-no_chain img first (BadLink p) (vs, visits, nowhere) ps u = bad_link-no_chain img first p vs ps u visits.0 nowhere
-told-no_chain img first (Loop p) (vs, back) ps u = loop-no_chain img first p vs ps u back.0 back.2
-told-no_chain img first (Device p) h ps u = absurd h
-told-no_chain img first (OwnedTwice p) h ps u = absurd h
-told-no_chain img first (BadType p) h ps u = absurd h
-told-no_chain img first (Unclosed p) h ps u = absurd h
-told-no_chain img first (BadSide p) h ps u = absurd h
-told-no_chain img first (BadLength p) h ps u = absurd h
-told-no_chain img first (CountWrong p) h ps u = absurd h
-told-no_chain img first (MapWrong p) h ps u = absurd h

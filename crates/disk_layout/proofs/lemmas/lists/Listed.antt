@@ -115,11 +115,6 @@ written-step bytes now at ps i p room lt is e =
     ∙ ap (λ t. take at bytes ++ (t ++ drop (at + 2 * i + 2) bytes)) (sym more)
     ∙ ap (λ n. take at bytes ++ (flat_map place_bytes (take (i + 1) ps) ++ drop n bytes)) behind
 
--- no place yet, and all of them
-pub written-none : (bytes : List ℕ) (at : ℕ) (ps : List Place) → written bytes at ps 0 ≡ bytes
-written-none bytes at ps = let z : at + 2 * 0 ≡ at = omega arith in ap (λ n. take at bytes ++ drop n bytes) z
-    ∙ take-append-drop at bytes
-
 pub written-all : (bytes : List ℕ) (at i : ℕ) (ps : List Place) → length ps ≤ i → i ≤ length ps
     → written bytes at ps i ≡ take at bytes ++ (flat_map place_bytes ps ++ drop (at + 2 * length ps) bytes)
 written-all bytes at i ps lo hi =

@@ -173,14 +173,6 @@ records-write img f r k p b w v once at below fit same =
       ]
     ]
 
--- a write outside the file's blocks keeps its records
-pub records-kept : (img : Image) (f : File) (p : Place) (b : List ℕ) → ¬ (Contains f.blocks p)
-    → records (put img p b) f ≡ records img f
-unfolding records
-records-kept img f p b free =
-    ap (pieces (record_length f.slot) (record_count (length f.blocks) f.last (record_length f.slot)))
-    (joined-other img f.blocks p b free)
-
 sectors-kept : (img : Image) (ps : List Place) (p : Place) (b : List ℕ) → ¬ (Contains ps p)
     → map (sector (put img p b)) ps ≡ map (sector img) ps
 sectors-kept img [] p b free = refl
