@@ -8,15 +8,15 @@ use Rattle.d64_image.proofs.Places.{same_or_other}
 use Rattle.d64_image.specs.Images.{Image, Sector, sector}
 use Rattle.disk_layout.proofs.ExampleDisk.{IsStockSide, at_block, at_entry, at_map, at_other, disk, entry_bytes}
 use Rattle.disk_layout.proofs.ExampleDisk.{entry_slot, exact_side, lower_sector, lower_track, not-in, stock-is_layout}
-use Rattle.disk_layout.proofs.ExampleDisk.{stock-records-1, stock-records-2, stock_disk, stock_file, stock_layout}
+use Rattle.disk_layout.proofs.ExampleDisk.{stock_disk, stock_file, stock_layout}
 use Rattle.disk_layout.proofs.ExampleDisk.{two_records}
 use Rattle.disk_layout.proofs.ExampleFaults.{changed_side}
 use Rattle.disk_layout.proofs.ExampleMap.{map_bytes}
-use Rattle.disk_layout.proofs.Examples.{block_0, block_1, top-alone, zero_sector}
+use Rattle.disk_layout.proofs.Examples.{block_0, block_1, zero_sector}
+use Rattle.disk_layout.proofs.ExampleSlots.{top-alone}
 use Rattle.disk_layout.proofs.lemmas.lists.Once.{Contains-cases, Contains-here, Contains-nil}
 use Rattle.disk_layout.specs.Directory.{directory_start, map_place}
 use Rattle.disk_layout.specs.Entries.{IsRecounted, IsRecountedAll, SameEntries}
-use Rattle.disk_layout.specs.Growth.{HasGrown, IsGrowing}
 use Rattle.disk_layout.specs.Records.{IsFilled, empty_record, filler, joined, record_count, records}
 use Rattle.disk_layout.specs.Rest.{IsFirst, header_of, rest_of}
 use Rattle.disk_layout.specs.Room.{IsTopOf}
@@ -132,43 +132,6 @@ created s m = record {
     at_map (entry_bytes 132 1 18 2) (0 ∷ 37 ∷ two_records) s m,
     at_map zero_sector (0 ∷ 37 ∷ two_records) s
         m,
-  ) refl;
-}
-
--- a growth: from one record to two, the second empty
-pub growing : (s m : Sector) → IsStockSide s
-    → IsGrowing (stock_disk 19 2 two_records s m) (stock_disk 37 2 two_records s m) (stock_layout 19 2) [] []
-    (stock_file 19 2) 1
-unfolding entry_bytes
-growing s m side = record {
-  file = stock_file 37 2;
-  entry = refl;
-  layout = stock-is_layout 37 2 two_records s m side;
-  grows = inr (rw (stock-records-1 2 s m, stock-records-2 2 s m) refl);
-  before_kept = refl;
-  after_kept = refl;
-  header = rw (
-    at_map (entry_bytes 132 1 18 2) (0 ∷ 37 ∷ two_records) s m,
-    at_map (entry_bytes 132 1 18 2) (0 ∷ 19 ∷ two_records) s m,
-  ) refl;
-}
-
-pub grown : (s m : Sector) → IsStockSide s
-    → HasGrown (stock_disk 19 2 two_records s m) (stock_disk 37 2 two_records s m) (stock_layout 19 2) [] []
-    (stock_file 19 2) 3
-unfolding entry_bytes
-grown s m side = record {
-  file = stock_file 37 2;
-  entry = refl;
-  layout = stock-is_layout 37 2 two_records s m side;
-  more = 1;
-  few = lit≤ tt;
-  grows = rw (stock-records-1 2 s m, stock-records-2 2 s m) refl;
-  before_kept = refl;
-  after_kept = refl;
-  header = rw (
-    at_map (entry_bytes 132 1 18 2) (0 ∷ 37 ∷ two_records) s m,
-    at_map (entry_bytes 132 1 18 2) (0 ∷ 19 ∷ two_records) s m,
   ) refl;
 }
 

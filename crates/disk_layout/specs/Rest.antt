@@ -31,7 +31,7 @@ use Rattle.std.specs.Prelude.{
 use Rattle.d64_image.specs.Images.{Image, Sector, sector}
 use Rattle.d64_image.specs.declared.place.Place.{Place}
 use Rattle.disk_layout.specs.Directory.{map_place, type_byte}
-use Rattle.disk_layout.specs.Layout.{File, IsLayout, Layout, file_owns, is_rel, record_length}
+use Rattle.disk_layout.specs.Layout.{File, Layout, file_owns, is_rel, record_length}
 use Rattle.disk_layout.specs.Records.{records}
 
 -- what is asked to stay of a file: its slot's type, name and length, its blocks with their bytes, its side places

@@ -35,7 +35,8 @@ use Rattle.d64_image.specs.declared.place.Place.{Place}
 use Rattle.disk_layout.proofs.lemmas.layouts.Agree.{IsLayout-put_map, map-unowned, owned-block, owned-directory}
 use Rattle.disk_layout.proofs.lemmas.layouts.Agree.{stays-agree}
 use Rattle.disk_layout.proofs.lemmas.layouts.Exact.{exact-side}
-use Rattle.disk_layout.proofs.lemmas.layouts.Layouts.{block-no_side, get-contains}
+use Rattle.disk_layout.proofs.lemmas.layouts.Layouts.{get-contains}
+use Rattle.disk_layout.proofs.lemmas.layouts.Frames.{block-no_side}
 use Rattle.disk_layout.proofs.lemmas.lists.Once.{EachOnce-apart, EachOnce-right, flat_map-in}
 use Rattle.disk_layout.proofs.lemmas.counts.Recount.{split-at}
 use Rattle.disk_layout.proofs.lemmas.counts.Recounts.{IsLayout-put_counts, map-same_on, reread_layout, stays-put_counts}

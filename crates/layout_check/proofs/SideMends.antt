@@ -1,25 +1,6 @@
 -- Side sectors rewritten one by one.
-use Rattle.std.proofs.Common.{
-  Err,
-  ℕ,
-  ◌≡◌,
-  ◌≢◌,
-  ◌<◌,
-  ◌≤◌,
-  ◌+◌,
-  List,
-  [],
-  ◌∷◌,
-  length,
-  sym,
-  ◌∙◌,
-  ap,
-  arith,
-  subst,
-  inl,
-  inr,
-  IsTrue,
-}
+use Rattle.std.proofs.Common.{Err, ℕ, ◌≡◌, ◌≢◌, ◌<◌, ◌≤◌, ◌+◌, List, [], ◌∷◌, length, sym, ◌∙◌, ap, arith, subst, inl}
+use Rattle.std.proofs.Common.{inr, IsTrue}
 use Rattle.std.specs.Prelude.{Contains, Some, flat_map, slice_get}
 use Rattle.std.proofs.lemmas.Bool.{cases_eq}
 use Rattle.std.proofs.lemmas.List.Elements.{Contains-append_right}
@@ -30,16 +11,10 @@ use Rattle.d64_image.specs.Images.{Image, put, sector}
 use Rattle.d64_image.specs.declared.place.Place.{Place}
 use Rattle.disk_layout.proofs.lemmas.layouts.Agree.{map-unowned, owned-side}
 use Rattle.disk_layout.proofs.lemmas.layouts.Layouts.{IsFile-one, IsLayout-one, get-contains}
-use Rattle.disk_layout.proofs.lemmas.layouts.Twice.{get-one, told-sound}
-use Rattle.disk_layout.proofs.lemmas.lists.Once.{
-  Contains-cases,
-  Contains-nil,
-  EachOnce-apart,
-  EachOnce-left,
-  EachOnce-right,
-  all-in,
-  flat_map-in,
-}
+use Rattle.disk_layout.proofs.lemmas.layouts.Twice.{told-sound}
+use Rattle.disk_layout.proofs.lemmas.layouts.SidesAt.{get-one}
+use Rattle.disk_layout.proofs.lemmas.lists.Once.{Contains-cases, Contains-nil, EachOnce-apart, EachOnce-left}
+use Rattle.disk_layout.proofs.lemmas.lists.Once.{EachOnce-right, all-in, flat_map-in}
 use Rattle.disk_layout.specs.Chain.{EachOnce}
 use Rattle.disk_layout.specs.Directory.{map_place}
 use Rattle.disk_layout.specs.Fault.{TellsFault}

@@ -1,5 +1,5 @@
 -- Two bytes that name a place, as a fact and as a value.
-use Rattle.std.proofs.Common.{◌≡◌, ℕ, ◌+◌, ap, ap₂, refl, sym, slice_index, ◌∙◌}
+use Rattle.std.proofs.Common.{◌≡◌, ℕ, ◌+◌, ap, ap₂, sym, slice_index, ◌∙◌}
 use Rattle.std.specs.Prelude.{MatchOption, Option, Some, None}
 use Rattle.d64_image.proofs.Places.{place_at-self, place_at-some}
 use Rattle.d64_image.specs.Images.{Sector}

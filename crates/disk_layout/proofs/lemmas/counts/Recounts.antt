@@ -11,19 +11,19 @@ use Rattle.d64_image.proofs.Places.{same_or_other}
 use Rattle.d64_image.specs.Images.{Image, Sector, put, sector}
 use Rattle.d64_image.specs.declared.place.Place.{Place}
 use Rattle.disk_layout.proofs.lemmas.chains.Chains.{AgreeAt, SameLink, SameLinks}
-use Rattle.disk_layout.proofs.lemmas.counts.Counts.{kept-slot, range-piece, uncounted-face}
+use Rattle.disk_layout.proofs.lemmas.counts.Counts.{range-piece, uncounted-face}
 use Rattle.disk_layout.proofs.lemmas.counts.Faces.{IsFile-slot, IsLayout-directory, with_slot}
 use Rattle.disk_layout.proofs.lemmas.counts.Recount.{flat_map-out, slot-number, slot-there}
 use Rattle.disk_layout.proofs.lemmas.growth.Commit.{keeps-other}
-use Rattle.disk_layout.proofs.lemmas.layouts.Agree.{kept-agree, stays-agree}
-use Rattle.disk_layout.proofs.lemmas.layouts.Layouts.{KeepsFiles, all_blocks, block-owned, files-frame, unless-same}
+use Rattle.disk_layout.proofs.lemmas.layouts.Agree.{stays-agree}
+use Rattle.disk_layout.proofs.lemmas.layouts.Frames.{KeepsFiles, all_blocks, block-owned, files-frame}
+use Rattle.disk_layout.proofs.lemmas.layouts.Frames.{unless-same}
 use Rattle.disk_layout.proofs.lemmas.lists.Lists.{in-map}
 use Rattle.disk_layout.proofs.lemmas.lists.Once.{Contains-here, Contains-there, EachOnce-apart, flat_map-in}
 use Rattle.disk_layout.proofs.lemmas.records.Pieces.{length-piece, piece, piece-byte}
 use Rattle.disk_layout.specs.Directory.{is_used, slot_in, slots_in, used_slots}
 use Rattle.disk_layout.specs.Entries.{IsRecountedAll, uncounted}
 use Rattle.disk_layout.specs.Layout.{File, IsFile, IsLayout, Layout, file_owns, owners}
-use Rattle.disk_layout.specs.Rest.{kept_of}
 use Rattle.disk_layout.specs.Same.{stays_of}
 use Rattle.disk_layout.specs.declared.slot.Slot.{Slot}
 

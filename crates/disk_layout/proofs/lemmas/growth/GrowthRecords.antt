@@ -37,15 +37,14 @@ use Rattle.std.specs.Prelude.{Contains, Some, flat_map, replicate, slice_get, â—
 use Rattle.d64_image.proofs.Images.{sector-put_other, sector-put_same}
 use Rattle.d64_image.specs.Images.{Image, IsImage, Sector, put, sector}
 use Rattle.d64_image.specs.declared.place.Place.{Place}
-use Rattle.disk_layout.proofs.lemmas.growth.Commit.{alone, grown}
+use Rattle.disk_layout.proofs.lemmas.growth.Commit.{grown}
 use Rattle.disk_layout.proofs.lemmas.growth.SideWrites.{get-append}
 use Rattle.disk_layout.proofs.lemmas.layouts.Layouts.{get-contains}
 use Rattle.disk_layout.proofs.lemmas.lists.Once.{Contains-here, EachOnce-apart}
 use Rattle.disk_layout.proofs.lemmas.records.Fillers.{pieces-fill}
 use Rattle.disk_layout.proofs.lemmas.records.Joined.{file-kept, joined-at, joined-block, length-joined}
 use Rattle.disk_layout.specs.Chain.{EachOnce}
-use Rattle.disk_layout.specs.Directory.{map_place}
-use Rattle.disk_layout.specs.Layout.{File, Layout, exchanged, file_owns, owners, record_length}
+use Rattle.disk_layout.specs.Layout.{File, file_owns, record_length}
 use Rattle.disk_layout.specs.Records.{IsFilled, empty_record, filler, joined, record_count, records}
 use Rattle.disk_layout.specs.Rest.{kept_of}
 

@@ -1,39 +1,14 @@
 -- A file takes a block and a new side sector.
-use Rattle.std.proofs.Common.{
-  List,
-  [],
-  ap,
-  append_assoc,
-  arith,
-  inl,
-  inr,
-  length,
-  length-append,
-  refl,
-  subst,
-  sym,
-  ℕ,
-  ◌++◌,
-  ◌+◌,
-  ◌<◌,
-  ◌∙◌,
-  ◌∷◌,
-  ◌≡◌,
-  ◌≢◌,
-  ◌≤◌,
-}
+use Rattle.std.proofs.Common.{List, [], ap, append_assoc, inl, inr, refl, subst, sym, ℕ, ◌++◌, ◌∙◌, ◌∷◌, ◌≡◌, ◌≢◌}
 use Rattle.std.proofs.lemmas.Grind.{flat_map-append}
-use Rattle.std.specs.Prelude.{Contains, Some, flat_map, slice_get}
-use Rattle.d64_image.specs.Images.{Image, sector}
+use Rattle.std.specs.Prelude.{Contains, flat_map}
 use Rattle.d64_image.specs.declared.place.Place.{Place}
-use Rattle.disk_layout.proofs.lemmas.growth.Commit.{IsReady, grown, once-grown, owners-grown}
+use Rattle.disk_layout.proofs.lemmas.growth.Commit.{grown, once-grown, owners-grown}
 use Rattle.disk_layout.proofs.lemmas.growth.SideWrites.{IsLonger, get-append}
-use Rattle.disk_layout.proofs.lemmas.layouts.Exact.{exact-side}
 use Rattle.disk_layout.proofs.lemmas.lists.Once.{EachOnce-insert, insert-out}
-use Rattle.disk_layout.specs.Chain.{EachOnce, EndsAt, Names}
+use Rattle.disk_layout.specs.Chain.{EachOnce}
 use Rattle.disk_layout.specs.Directory.{map_place}
-use Rattle.disk_layout.specs.Layout.{File, IsRelFile, Layout, exchanged, file_owns, owners, record_length, sides_for}
-use Rattle.disk_layout.specs.Side.{side_sector}
+use Rattle.disk_layout.specs.Layout.{File, Layout, exchanged, file_owns, owners}
 
 apart-shape : (dir B blocks sides A : List Place) (x : Place) → dir ++ (B ++ (((blocks ++ x ∷ []) ++ sides) ++ A))
     ≡ ((dir ++ (B ++ blocks)) ++ (x ∷ sides)) ++ A

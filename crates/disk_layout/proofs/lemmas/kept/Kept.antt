@@ -1,46 +1,18 @@
 -- What is asked to stay of files decides their names and their records, the first of a name, and how far it can grow.
-use Rattle.std.proofs.Common.{
-  ℕ,
-  ◌≡◌,
-  ◌<◌,
-  ◌≤◌,
-  ◌+◌,
-  ◌*◌,
-  ◌/◌,
-  List,
-  [],
-  ◌∷◌,
-  ◌++◌,
-  length,
-  drop,
-  map,
-  refl,
-  sym,
-  ◌∙◌,
-  ap,
-  ap₂,
-  subst,
-  IsTrue,
-  ◌||◌,
-  take,
-  slice_index,
-  slice_range,
-  arith,
-}
-use Rattle.std.specs.Prelude.{Some, filter, flat_map, nat_eq, not, slice_get}
+use Rattle.std.proofs.Common.{ℕ, ◌≡◌, ◌<◌, ◌+◌, List, [], ◌∷◌, ◌++◌, length, drop, map, refl, sym, ◌∙◌, ap, subst, IsTrue, ◌||◌, take, slice_index, slice_range, arith}
+use Rattle.std.specs.Prelude.{Some, flat_map, nat_eq, slice_get}
 use Rattle.std.proofs.lemmas.List.{drop-drop, drop-take, get_or-drop, get_or-take}
 use Rattle.d64_image.specs.Images.{Image, sector}
 use Rattle.d64_image.specs.declared.place.Place.{Place}
 use Rattle.disk_layout.proofs.lemmas.counts.Counts.{uncounted-face, uncounted-name}
 use Rattle.disk_layout.proofs.lemmas.counts.Recounts.{map-map}
-use Rattle.disk_layout.proofs.lemmas.kept.Others.{kept_owns, map-others, others_kept}
 use Rattle.disk_layout.proofs.lemmas.lists.Lists.{alike, take-take}
 use Rattle.disk_layout.proofs.lemmas.records.Joined.{joined-cons, joined-nil}
 use Rattle.disk_layout.specs.Entries.{SameEntries, uncounted}
-use Rattle.disk_layout.specs.Layout.{File, Layout, record_length}
-use Rattle.disk_layout.specs.Records.{joined, pieces, record_count, records}
-use Rattle.disk_layout.specs.Rest.{Fits, IsFirst, IsNamed, IsTop, Kept, kept_of, slot_name, taken_by_others}
-use Rattle.disk_layout.specs.Same.{SameFiles, Stays, stays_of}
+use Rattle.disk_layout.specs.Layout.{File, Layout}
+use Rattle.disk_layout.specs.Records.{joined, pieces, record_count}
+use Rattle.disk_layout.specs.Rest.{IsFirst, IsNamed, Kept, kept_of}
+use Rattle.disk_layout.specs.Same.{Stays, stays_of}
 
 -- the joined bytes of a chain, from its sectors
 joined-sectors : (img : Image) (ps : List Place) → joined img ps ≡ flat_map (drop 2) (map (sector img) ps)

@@ -21,25 +21,16 @@ use Rattle.std.proofs.lemmas.List.Elements.{Contains-append_left, Contains-appen
 use Rattle.d64_image.specs.Images.{Image, Sector, put, sector}
 use Rattle.d64_image.specs.declared.place.Place.{Place}
 use Rattle.disk_layout.proofs.lemmas.chains.Chains.{AgreeAt, links-agree}
-use Rattle.disk_layout.proofs.lemmas.layouts.Layouts.{
-  IsLayout-frame,
-  IsLayout-one,
-  IsLayout-put_block,
-  IsLayout-put_free,
-  all_blocks,
-  all_sides,
-  block-no_side,
-  block-owned,
-  get-contains,
-  side-owned,
-  unless-same,
-}
+use Rattle.disk_layout.proofs.lemmas.layouts.Layouts.{get-contains}
+use Rattle.disk_layout.proofs.lemmas.layouts.Frames.{IsLayout-frame, IsLayout-put_block, IsLayout-put_free}
+use Rattle.disk_layout.proofs.lemmas.layouts.Frames.{all_blocks, all_sides, block-no_side, block-owned}
+use Rattle.disk_layout.proofs.lemmas.layouts.Frames.{side-owned, unless-same}
 use Rattle.disk_layout.proofs.lemmas.lists.Once.{Contains-here, Contains-there, EachOnce-right, flat_map-in}
 use Rattle.disk_layout.proofs.lemmas.records.Joined.{joined-cons, joined-nil}
 use Rattle.disk_layout.specs.Chain.{byte}
 use Rattle.disk_layout.specs.Clean.{IsCleanLayout, IsExactFile}
 use Rattle.disk_layout.specs.Directory.{map_place, type_byte}
-use Rattle.disk_layout.specs.Layout.{File, IsLayout, IsSound, Layout, file_owns, is_rel, owners, record_length}
+use Rattle.disk_layout.specs.Layout.{File, IsLayout, Layout, file_owns, is_rel, owners, record_length}
 use Rattle.disk_layout.specs.Map.{IsMapOf}
 use Rattle.disk_layout.specs.Records.{joined, pieces, record_count, records}
 use Rattle.disk_layout.specs.Rest.{kept_of}

@@ -24,7 +24,7 @@ use Rattle.std.proofs.Common.{
   length-append,
 }
 use Rattle.std.specs.Prelude.{flat_map, slice_get, Some, None, Option, slice_range, replicate}
-use Rattle.std.proofs.lemmas.List.{get_or-append_right, length-replicate, length-take, take_all}
+use Rattle.std.proofs.lemmas.List.{get_or-append_right, length-replicate, take_all}
 use Rattle.std.proofs.Math.ListN.{get_or-append}
 use Rattle.d64_image.specs.Images.{Image, sector}
 use Rattle.d64_image.specs.declared.place.Place.{Place}

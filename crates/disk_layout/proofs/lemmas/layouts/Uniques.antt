@@ -1,9 +1,7 @@
 -- What a layout determines: its first file of a name, and how far that can grow.
-use Rattle.std.proofs.Common.{◌≡◌, ℕ, ◌<◌, List, refl, sym, ◌∙◌, ap, subst, arith}
+use Rattle.std.proofs.Common.{◌≡◌, ℕ, ◌<◌, List, sym, ◌∙◌, ap, arith}
 use Rattle.std.specs.Prelude.{slice_get, Some}
-use Rattle.d64_image.specs.Images.{Image}
-use Rattle.disk_layout.proofs.lemmas.layouts.Layouts.{IsLayout-one}
-use Rattle.disk_layout.specs.Layout.{File, IsLayout, Layout}
+use Rattle.disk_layout.specs.Layout.{File, Layout}
 use Rattle.disk_layout.specs.Rest.{IsFirst, IsTop}
 
 -- the first file of a name is one file, at one place of the list

@@ -38,7 +38,7 @@ use Rattle.disk_layout.proofs.lemmas.chains.Chains.{
 use Rattle.disk_layout.proofs.lemmas.lists.Once.{Contains-here, all-in, filter-in, flat_map-in, map-in}
 use Rattle.disk_layout.specs.Chain.{IsChain, Leads, LinksTo, Names, NamesNone}
 use Rattle.disk_layout.specs.Directory.{directory_start, is_used, slots_in, type_byte, used_slots}
-use Rattle.disk_layout.specs.Fault.{Holds, HoldsOfChain, IsClosed, IsDirectorySector, IsSlot, nowhere}
+use Rattle.disk_layout.specs.Fault.{Holds, IsClosed, IsDirectorySector, IsSlot, nowhere}
 use Rattle.disk_layout.specs.Layout.{
   File,
   HasChain,
@@ -50,19 +50,7 @@ use Rattle.disk_layout.specs.Layout.{
   is_rel,
   record_length,
 }
-use Rattle.disk_layout.specs.declared.faults.Fault.{Fault}
-use Rattle.disk_layout.specs.declared.faults.Fault.TheVariants.{
-  BadLength,
-  BadLink,
-  BadSide,
-  BadType,
-  CountWrong,
-  Device,
-  Loop,
-  MapWrong,
-  OwnedTwice,
-  Unclosed,
-}
+use Rattle.disk_layout.specs.declared.faults.Fault.TheVariants.{BadLength, BadLink, BadType, Loop, Unclosed}
 use Rattle.disk_layout.specs.declared.slot.Slot.{Slot}
 
 -- what a chain's links lead to is in the chain

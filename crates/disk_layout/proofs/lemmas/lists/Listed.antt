@@ -32,15 +32,7 @@ use Rattle.std.proofs.Common.{
 use Rattle.std.specs.Prelude.{flat_map, replicate, slice_get}
 use Rattle.std.proofs.lemmas.Bool.{cases_lt}
 use Rattle.std.proofs.Math.Seq.{take-append_seam, drop-append_seam, set-append_seam}
-use Rattle.std.proofs.lemmas.List.{
-  drop-replicate,
-  length-replicate,
-  take_more,
-  take_all,
-  take-append-drop,
-  drop-drop,
-  length-take,
-}
+use Rattle.std.proofs.lemmas.List.{drop-replicate, length-replicate, take_more, take_all, drop-drop, length-take}
 use Rattle.std.proofs.lemmas.Grind.{flat_map-append}
 use Rattle.d64_image.specs.declared.place.Place.{Place}
 use Rattle.disk_layout.specs.Side.{link_bytes, padded, place_bytes, pointers_of, side_sector}

@@ -29,11 +29,11 @@ use Rattle.std.specs.Prelude.{MatchOption}
 use Rattle.std.proofs.lemmas.Nat.{div-mul-add, mod-mul-add}
 use Rattle.std.proofs.lemmas.Nat.Bits.{bit_at-trailing_zeros}
 use Rattle.std.proofs.lemmas.Bool.{cases_lt}
-use Rattle.d64_image.proofs.Places.{place_at-found, place_at-none, place_at-some, track_fits, track_from_1}
+use Rattle.d64_image.proofs.Places.{place_at-found, place_at-none, place_at-some}
 use Rattle.d64_image.specs.Geometry.{sectors_on}
 use Rattle.d64_image.specs.Places.{place_at}
 use Rattle.d64_image.specs.declared.place.Place.{Place}
-use Rattle.disk_layout.specs.Map.{IsBefore, IsFirstFree, IsFirstOn, IsFree, IsFullDisk, IsFullTrack, distance, map_bit}
+use Rattle.disk_layout.specs.Map.{IsFirstOn, IsFree, IsFullTrack, distance, map_bit}
 
 -- no sector of the track below this one is free
 abbrev pub NoneBelow : List ℕ → ℕ → ℕ → Type 0

@@ -1,37 +1,8 @@
 -- How many sectors outside track 18 files can own, and which record numbers fit.
-use Rattle.std.proofs.Common.{
-  ◌≡◌,
-  ◌≢◌,
-  ℕ,
-  zero,
-  suc,
-  ◌<◌,
-  ◌≤◌,
-  inl,
-  inr,
-  Bool,
-  true,
-  false,
-  List,
-  [],
-  ◌∷◌,
-  ◌++◌,
-  length,
-  refl,
-  sym,
-  ap,
-  arith,
-  length-append,
-}
-use Rattle.std.specs.Prelude.{Contains, filter, flat_map, nat_eq, not, cond, ◌&&◌}
-use Rattle.std.proofs.lemmas.Bool.{false≢true}
-use Rattle.std.proofs.lemmas.Bool.Decides.{nat_tests}
+use Rattle.std.proofs.Common.{◌≡◌, ℕ, zero, suc, ◌<◌, ◌≤◌, inl, inr, Bool, true, false, List, [], ◌∷◌, ◌++◌, length, refl, sym, ap, arith}
+use Rattle.std.specs.Prelude.{Contains, flat_map, nat_eq, not, cond, ◌&&◌}
 use Rattle.std.proofs.lemmas.List.Elements.{Contains-append_cases, Contains-append_left, Contains-append_right}
-use Rattle.d64_image.specs.Images.{Image}
 use Rattle.d64_image.specs.declared.place.Place.{Place}
-use Rattle.disk_layout.proofs.lemmas.counts.Recount.{filter-out}
-use Rattle.disk_layout.proofs.lemmas.lists.Count.{places-few}
-use Rattle.disk_layout.proofs.lemmas.lists.Lists.{filter-once}
 use Rattle.disk_layout.proofs.lemmas.lists.Once.{
   Contains-cases,
   Contains-nil,
@@ -41,8 +12,8 @@ use Rattle.disk_layout.proofs.lemmas.lists.Once.{
   EachOnce-right,
 }
 use Rattle.disk_layout.specs.Chain.{EachOnce}
-use Rattle.disk_layout.specs.Layout.{File, IsLayout, Layout, file_owns, owners}
-use Rattle.disk_layout.specs.Rest.{Fits, IsTop, others, taken_by_others}
+use Rattle.disk_layout.specs.Layout.{File, Layout, file_owns}
+use Rattle.disk_layout.specs.Rest.{Fits, IsTop, others}
 
 -- the first n sectors of track 18, the last of them first
 on_18 : (n : ℕ) → n ≤ 19 → List Place

@@ -46,7 +46,7 @@ use Rattle.disk_layout.proofs.lemmas.records.Pieces.{piece, pieces-write}
 use Rattle.disk_layout.specs.Chain.{EachOnce, byte}
 use Rattle.disk_layout.specs.Directory.{type_byte}
 use Rattle.disk_layout.specs.Layout.{File, record_length}
-use Rattle.disk_layout.specs.Records.{joined, pieces, record_count, records}
+use Rattle.disk_layout.specs.Records.{joined, record_count, records}
 use Rattle.disk_layout.specs.Rest.{kept_of}
 
 pub sector-long : (img : Image) (p : Place) → IsImage img → length (sector img p) ≡ 256

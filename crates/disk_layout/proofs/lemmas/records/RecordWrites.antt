@@ -1,30 +1,7 @@
 -- One record written, in one block or across two.
-use Rattle.std.proofs.Common.{
-  ◌≡◌,
-  ◌≢◌,
-  ℕ,
-  ◌+◌,
-  ◌*◌,
-  ◌<◌,
-  ◌≤◌,
-  ◌⊎◌,
-  List,
-  length,
-  get_or,
-  slice_index,
-  set,
-  sym,
-  ◌∙◌,
-  ap,
-}
-use Rattle.std.specs.Prelude.{slice_get, Some}
-use Rattle.std.proofs.lemmas.List.{set-set}
-use Rattle.d64_image.proofs.Images.{sector-put_other}
-use Rattle.d64_image.specs.Images.{Image, IsImage, Sector, put, sector}
-use Rattle.d64_image.specs.declared.place.Place.{Place}
-use Rattle.disk_layout.proofs.lemmas.records.Joined.{joined-at, records-write}
-use Rattle.disk_layout.proofs.lemmas.records.Pieces.{piece, piece-byte, pieces-at}
-use Rattle.disk_layout.specs.Chain.{EachOnce, byte}
+use Rattle.std.proofs.Common.{◌≡◌, ℕ, ◌+◌, ◌*◌, ◌<◌, ◌≤◌, ◌⊎◌, List, length, get_or, slice_index}
+use Rattle.d64_image.specs.Images.{Image, Sector}
+use Rattle.disk_layout.proofs.lemmas.records.Pieces.{piece, pieces-at}
 use Rattle.disk_layout.specs.Layout.{File, record_length}
 use Rattle.disk_layout.specs.Records.{joined, record_count, records}
 

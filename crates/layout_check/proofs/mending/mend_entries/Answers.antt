@@ -14,15 +14,8 @@ use Rattle.disk_layout.specs.Layout.{IsLayout, Layout, is_rel, is_rel_type}
 use Rattle.layout_check.proofs.EntryMends.{exact-entries, exact-kept, exact-made, exact-read, exact-same, filed-kept}
 use Rattle.layout_check.proofs.MapMends.{device_later, mends_read, mends_then, mends_weaker}
 use Rattle.layout_check.proofs.Progress.{listed-as}
-use Rattle.layout_check.proofs.RightSides.{
-  file-at,
-  file_made,
-  file_over,
-  over_files,
-  plain-sides,
-  sides-all,
-  sides-past,
-}
+use Rattle.layout_check.proofs.RightSides.{file-at, file_made, file_over, over_files, plain-sides, sides-all}
+use Rattle.layout_check.proofs.RightSides.{sides-past}
 use Rattle.layout_check.proofs.Roots.{directory-tells}
 use Rattle.layout_check.proofs.SideMends.{sound-device}
 use Rattle.layout_check.proofs.Verdict.{filed-at}

@@ -10,19 +10,8 @@ use Rattle.disk_layout.specs.Directory.{map_place}
 use Rattle.disk_layout.specs.InOrder.{AreMade}
 use Rattle.disk_layout.specs.Layout.{IsLayout}
 use Rattle.layout_check.proofs.Finding.{on_ok}
-use Rattle.layout_check.proofs.MapMends.{
-  device_later,
-  device_told,
-  err-holds,
-  layouts-put,
-  map-put,
-  mends_read,
-  mends_write,
-  ok-holds,
-  right-map,
-  write_device,
-  written,
-}
+use Rattle.layout_check.proofs.MapMends.{device_later, device_told, err-holds, layouts-put, map-put, mends_read}
+use Rattle.layout_check.proofs.MapMends.{mends_write, ok-holds, right-map, write_device, written}
 use Rattle.layout_check.proofs.Mendings.{mended-map}
 use Rattle.layout_check.proofs.RightMap.{changed_written, made-passed, made-written, over_read_write}
 use Rattle.layout_check.proofs.Verdict.{map-right, told-at}

@@ -12,15 +12,8 @@ use Rattle.disk_layout.specs.InOrder.{AreMade}
 use Rattle.layout_check.proofs.MapMends.{device_later, device_told, mends_read, mends_then, mends_weaker}
 use Rattle.layout_check.proofs.Pointers.{read-there}
 use Rattle.layout_check.proofs.RightSides.{parts-once, side_made, side_over}
-use Rattle.layout_check.proofs.SideMends.{
-  after-side,
-  exact-more,
-  exact-others,
-  side-layouts,
-  side-map,
-  side_mends,
-  side_right,
-}
+use Rattle.layout_check.proofs.SideMends.{after-side, exact-more, exact-others, side-layouts, side-map, side_mends}
+use Rattle.layout_check.proofs.SideMends.{side_right}
 use Rattle.layout_check.specs.Exact.{IsExactSide}
 use Rattle.layout_check.specs.RepairOrder.{IsRight}
 use Rattle.layout_check.specs.Mended.{KeepsExact, KeepsLayouts, SameMap}

@@ -7,22 +7,9 @@ use Rattle.disk_layout.proofs.lemmas.layouts.Layouts.{IsLayout-one, get-contains
 use Rattle.disk_layout.specs.Layout.{IsLayout, Layout}
 use Rattle.layout_check.proofs.MapMends.{device_later}
 use Rattle.layout_check.proofs.Pointers.{read-there}
-use Rattle.layout_check.proofs.RightWrites.{
-  all_moments,
-  counted-of,
-  few-of,
-  first_moments,
-  in-of,
-  made_directory,
-  made_start,
-  made_step,
-  over_directory,
-  over_start,
-  over_step,
-  sound-of,
-  step_moments,
-  step_quiet,
-}
+use Rattle.layout_check.proofs.RightWrites.{all_moments, counted-of, few-of, first_moments, in-of, made_directory}
+use Rattle.layout_check.proofs.RightWrites.{made_start, made_step, over_directory, over_start, over_step, sound-of}
+use Rattle.layout_check.proofs.RightWrites.{step_moments, step_quiet}
 use Rattle.layout_check.proofs.SideMends.{sound-device}
 use Rattle.layout_check.specs.RepairOrder.{IsRight}
 use Rattle.layout_check.specs.Recounted.{IsRecountOf}

@@ -6,15 +6,8 @@ use Rattle.std.proofs.lemmas.Result.{err_from_is_err_and}
 use Rattle.d64_image.specs.Images.{Image, sector}
 use Rattle.d64_image.specs.declared.place.Place.{Place}
 use Rattle.disk_layout.proofs.lemmas.kept.OtherWrites.{other-bytes}
-use Rattle.layout_check.proofs.Calls.{
-  passes_read,
-  passes_then,
-  passes_weaker,
-  side_tells,
-  tells_read,
-  tells_then,
-  tells_weaker,
-}
+use Rattle.layout_check.proofs.Calls.{passes_read, passes_then, passes_weaker, side_tells, tells_read, tells_then}
+use Rattle.layout_check.proofs.Calls.{tells_weaker}
 use Rattle.layout_check.proofs.Inexact.{exact-here, same-bytes}
 use Rattle.layout_check.proofs.Judged.{exact-sound, judged-all, judged-exact, judged-none, judged-other}
 use Rattle.layout_check.proofs.Pointers.{read-there}

@@ -5,26 +5,10 @@ use Rattle.d64_image.specs.Images.{Image, sector}
 use Rattle.disk_layout.proofs.lemmas.chains.Chains.{Leads-push}
 use Rattle.disk_layout.proofs.lemmas.chains.Names.{named-match}
 use Rattle.disk_layout.specs.Layout.{sides_for}
-use Rattle.layout_check.proofs.Calls.{
-  passes_none,
-  passes_read,
-  passes_then,
-  passes_weaker,
-  side_tells,
-  tells_read,
-  tells_then,
-}
-use Rattle.layout_check.proofs.SideWalks.{
-  bad-holds,
-  linked-at,
-  misjudged-bad,
-  misnumbered,
-  no_first_side,
-  side-reached,
-  some-blocks,
-  unlinked-bad,
-  walk-done,
-}
+use Rattle.layout_check.proofs.Calls.{passes_none, passes_read, passes_then, passes_weaker, side_tells, tells_read}
+use Rattle.layout_check.proofs.Calls.{tells_then}
+use Rattle.layout_check.proofs.SideWalks.{bad-holds, linked-at, misjudged-bad, misnumbered, no_first_side}
+use Rattle.layout_check.proofs.SideWalks.{side-reached, some-blocks, unlinked-bad, walk-done}
 use Rattle.disk_layout.specs.Fault.{nowhere}
 use Rattle.layout_check.proofs.sides.walk_sides.Goals as goal
 

@@ -37,19 +37,12 @@ use Rattle.disk_layout.proofs.lemmas.layouts.Agree.{
   records-agree,
 }
 use Rattle.disk_layout.proofs.lemmas.layouts.Exact.{exact-side}
-use Rattle.disk_layout.proofs.lemmas.layouts.Layouts.{
-  HasChain-frame,
-  IsSide-frame,
-  KeepsFiles,
-  all_blocks,
-  block-owned,
-  get-contains,
-  side-owned,
-}
+use Rattle.disk_layout.proofs.lemmas.layouts.Layouts.{get-contains}
+use Rattle.disk_layout.proofs.lemmas.layouts.Frames.{HasChain-frame, IsSide-frame, KeepsFiles, all_blocks}
+use Rattle.disk_layout.proofs.lemmas.layouts.Frames.{block-owned, side-owned}
 use Rattle.disk_layout.proofs.lemmas.lists.Once.{Contains-here, Contains-there, EachOnce-apart, flat_map-in}
 use Rattle.disk_layout.specs.Chain.{EachOnce}
 use Rattle.disk_layout.specs.Directory.{map_place}
-use Rattle.disk_layout.specs.Growth.{IsGrowing}
 use Rattle.disk_layout.specs.Layout.{
   File,
   IsFile,

@@ -1,23 +1,6 @@
 -- Side sector by side sector.
-use Rattle.std.proofs.Common.{
-  arith,
-  ap,
-  ◌∙◌,
-  refl,
-  sym,
-  ◌≡◌,
-  ◌+◌,
-  ◌*◌,
-  ◌<◌,
-  ◌≤◌,
-  ◌∷◌,
-  [],
-  ◌++◌,
-  Some,
-  length,
-  take,
-  drop,
-}
+use Rattle.std.proofs.Common.{arith, ap, ◌∙◌, refl, sym, ◌≡◌, ◌+◌, ◌*◌, ◌<◌, ◌≤◌, ◌∷◌, [], ◌++◌, Some, length, take}
+use Rattle.std.proofs.Common.{drop}
 use Rattle.std.specs.Prelude.{slice_get}
 use Rattle.std.proofs.lemmas.List.{length-take, take_all}
 use Rattle.d64_image.proofs.Moments.{no_reads, reads_then, reads_weaker}
