@@ -17,7 +17,7 @@ mark p n = cond (nat_lt (index_of p) n) 1 0
 -- how many of the places stand below n in an image
 abbrev pub rank : List Place → ℕ → ℕ
 rank [] n = 0
-pub rank (p ∷ ps) n = mark p n + rank ps n
+rank (p ∷ ps) n = mark p n + rank ps n
 
 one-below : (p : Place) (n : ℕ) → index_of p < n → mark p n ≡ 1
 one-below p n h = grind (arith, nat_tests)
@@ -33,15 +33,15 @@ same-below p n ne = elim (dec_lt (index_of p) n) [
 
 pub rank-none : (ps : List Place) → rank ps 0 ≡ 0
 rank-none [] = refl
-pub rank-none (p ∷ ps) = omega (arith, none-below p 0 (omega arith), rank-none ps)
+rank-none (p ∷ ps) = omega (arith, none-below p 0 (omega arith), rank-none ps)
 
 pub rank-all : (ps : List Place) → rank ps 683 ≡ length ps
 rank-all [] = refl
-pub rank-all (p ∷ ps) = omega (arith, one-below p 683 (index_below p), rank-all ps)
+rank-all (p ∷ ps) = omega (arith, one-below p 683 (index_below p), rank-all ps)
 
 pub rank-out : (ps : List Place) (q : Place) → ¬ (Contains ps q) → rank ps (index_of q + 1) ≡ rank ps (index_of q)
 rank-out [] q n = refl
-pub rank-out (p ∷ ps) q n = omega (
+rank-out (p ∷ ps) q n = omega (
   arith,
   same-below p (index_of q) (λ e. n (rw (same_index p q e) (Contains-here q ps))),
   rank-out ps q (λ c. n (Contains-there q p ps c)),
@@ -50,7 +50,7 @@ pub rank-out (p ∷ ps) q n = omega (
 pub rank-in : (ps : List Place) (q : Place) → EachOnce ps → Contains ps q → rank ps (index_of q + 1) ≡ rank ps (index_of q)
     + 1
 rank-in [] q once c = absurd (Contains-nil q c)
-pub rank-in (p ∷ ps) q once c = elim (Contains-cases q p ps c) [
+rank-in (p ∷ ps) q once c = elim (Contains-cases q p ps c) [
   | inl e ↦ omega (
     arith,
     one-below p (index_of q + 1) (omega (arith, ap index_of e)),

@@ -16,7 +16,7 @@ use Rattle.layout_check.specs.Recounted.{IsRecountOf}
 use Rattle.layout_check.proofs.recounting.mend_counts.Goals as goal
 
 pub find_directory-requires : goal.find_directory-requires
-find_directory-requires g c = let (l, h) = c.requires.sound in (l.directory, _, h.directory)
+find_directory-requires g c = let (l, h) = c.requires in (l.directory, _, h.directory)
 
 pub loop-place-init : goal.loop-place-init
 loop-place-init g c =
@@ -49,11 +49,9 @@ mend_sector-requires g c =
     c.loop-place.invariant.moments.held in
     let there = read-there items k c.place-item.result c.loop-place-test.true c.place-item.is in
     record {
-      here = record {
-        sound = sound-of old now items size c.requires.sound same held;
-        own = in-of old now items c.place-item.result size c.requires.sound same held
-            (get-contains items k c.place-item.result there);
-      };
+      sound = sound-of old now items size c.requires same held;
+      own = in-of old now items c.place-item.result size c.requires same held
+          (get-contains items k c.place-item.result there);
     }
 
 pub loop-place-preserved : goal.loop-place-preserved
@@ -85,7 +83,7 @@ returns-in_err-find_directory g c =
     let p = err_from_is_err_and c.from_residual.result c.from_residual.ensures.1 in
     record {
       counted = rw p.1 tt;
-      moments = let (l, h) = c.requires.sound in
+      moments = let (l, h) = c.requires in
           all_moments S c.args.disk.now c.find_directory.new.disk l.directory 0 (omega arith)
           (λ m is. ap (λ (x : Layout). x.directory) (IsLayout-one (S.image c.args.disk.now) l m h is))
           (first_moments S c.args.disk.now c.find_directory.new.disk l.directory 683
@@ -98,7 +96,7 @@ returns-in_err-find_directory g c =
       quiet = λ all. reads_no_write S c.args.disk.now c.find_directory.new.disk 683
           c.in_err-find_directory.ensures.err.reads;
       failures = rw (p.1, p.2) (sound-device S (Unit {0}) c.args.disk.now c.find_directory.new.disk 683 _
-          c.requires.sound c.in_err-find_directory.ensures.err);
+          c.requires c.in_err-find_directory.ensures.err);
     }
 
 pub returns-in_err-mend_sector : goal.returns-in_err-mend_sector
@@ -114,7 +112,7 @@ returns-in_err-mend_sector g c =
           λ l h. c.as_slice-place-items.ensures.value
           ∙ c.in_ok-find_directory.ensures.directory l.directory _ h.directory in
           all_moments S c.args.disk.now c.mend_sector.new.disk items (k + 1)
-          (omega (arith, c.loop-place-test.true, few-of (S.image c.args.disk.now) items c.requires.sound same)) same
+          (omega (arith, c.loop-place-test.true, few-of (S.image c.args.disk.now) items c.requires same)) same
           (step_moments S c.args.disk.now c.loop-place.disk c.mend_sector.new.disk items k c.place-item.result
           (get-contains items k c.place-item.result (read-there items k c.place-item.result c.loop-place-test.true
           c.place-item.is)) c.loop-place.invariant.moments c.in_err-mend_sector.ensures.moments);
@@ -145,7 +143,7 @@ returns g c =
           λ l h. c.as_slice-place-items.ensures.value
           ∙ c.in_ok-find_directory.ensures.directory l.directory _ h.directory in
           counted-of (S.image c.args.disk.now) (S.image c.loop-place.disk) items (S.whole c.args.disk.now).size
-          c.requires.sound same
+          c.requires same
           (at_end S c.args.disk.now c.loop-place.disk (λ i. IsRecountOf (S.image c.args.disk.now) i items)
           c.loop-place.invariant.moments.held)
           (λ l h. made_directory S c.args.disk.now l h items (same l h) c.loop-place.disk c.loop-place.place-index
@@ -155,7 +153,7 @@ returns g c =
           λ l h. c.as_slice-place-items.ensures.value
           ∙ c.in_ok-find_directory.ensures.directory l.directory _ h.directory in
           all_moments S c.args.disk.now c.loop-place.disk items c.loop-place.place-index
-          (omega (arith, c.loop-place.auto, few-of (S.image c.args.disk.now) items c.requires.sound same)) same
+          (omega (arith, c.loop-place.auto, few-of (S.image c.args.disk.now) items c.requires same)) same
           c.loop-place.invariant.moments;
       right = λ l h. record {
         over = over_directory S c.args.disk.now l h c.as_slice-place-items.result.now
