@@ -162,30 +162,6 @@ returns-then-blocks_free-sectors_needed g c =
       failures = c.in-Ok.ensures.failures;
     }
 
-pub grow-requires-clause-of : goal.grow-requires-clause-of
-grow-requires-clause-of g c =
-    let (l, n, f, of) = c.requires.of in (
-      l,
-      n,
-      f,
-      of-now g.D.Sectors.history c.args.disk.now c.read.new.disk l n f c.args.file.now of c.args.number
-          c.in-Ok.ensures.reads,
-    )
-
-pub grow-requires-clause-more : goal.grow-requires-clause-more
-grow-requires-clause-more g c =
-    let (l, n, f, of) = c.requires.of in
-    let lt : records_in c.args.file.now < c.args.number = fewer c.has_records.result _ _ c.has_records.ensures
-    c.if-has_records.false in
-    omega (
-      arith,
-      c.in-Some.ensures.0,
-      of.shows.blocks,
-      blocks-more _ l n f c.args.file.now of c.args.number lt,
-      ap
-          (λ s. blocks_for s c.args.number) of.shows.size,
-    )
-
 pub returns-in_default-grow : goal.returns-in_default-grow
 returns-in_default-grow g c =
     let S = g.D.Sectors.history in
@@ -278,23 +254,37 @@ returns g c =
       failures = c.in-Ok-grow.ensures.failures ∙ c.in-Ok.ensures.failures;
     }
 
-pub grow-requires-clause-few : goal.grow-requires-clause-few
-grow-requires-clause-few g c = c.in-Some.ensures.1
-
-pub grow-requires-clause-room : goal.grow-requires-clause-room
-grow-requires-clause-room g c = omega (
-  arith,
-  c.if-blocks_free-sectors_needed.false,
-  c.blocks_free.ensures,
-  ap blocks_free c.view.ensures,
-  c.sectors_needed.ensures,
-  ap (λ k. needed (blocks_of c.args.file.now) k) c.in-Some.ensures.0,
-)
-
-pub grow-requires-clause-clean : goal.grow-requires-clause-clean
-grow-requires-clause-clean g c = let P : Image → Type 0 = IsClean in
-    subst P (sym c.in-Ok.ensures.reads.image) c.requires.clean
-
-pub grow-requires-clause-map : goal.grow-requires-clause-map
-grow-requires-clause-map g c = c.in-Ok.ensures.ok
-    ∙ ap (λ (i : Image). sector i map_place) (sym c.in-Ok.ensures.reads.image)
+pub grow-requires : goal.grow-requires
+grow-requires g c =
+    let S = g.D.Sectors.history in
+    let v = c.args.file.now in
+    let (l, n, f, of) = c.requires.of in
+    let lt : records_in v < c.args.number = fewer c.has_records.result _ _ c.has_records.ensures
+    c.if-has_records.false in
+    let same = c.in-Ok.ensures.reads.image in
+    record {
+      clean = subst IsClean (sym same) c.requires.clean;
+      of = (
+        l,
+        n,
+        f,
+        of-now S c.args.disk.now c.read.new.disk l n f v of c.args.number c.in-Ok.ensures.reads,
+      );
+      map = c.in-Ok.ensures.ok ∙ ap (λ (i : Image). sector i map_place) (sym same);
+      more = omega (
+        arith,
+        c.in-Some.ensures.0,
+        of.shows.blocks,
+        blocks-more _ l n f v of c.args.number lt,
+        ap (λ s. blocks_for s c.args.number) of.shows.size,
+      );
+      few = c.in-Some.ensures.1;
+      room = omega (
+        arith,
+        c.if-blocks_free-sectors_needed.false,
+        c.blocks_free.ensures,
+        ap blocks_free c.view.ensures,
+        c.sectors_needed.ensures,
+        ap (λ k. needed (blocks_of v) k) c.in-Some.ensures.0,
+      );
+    }
