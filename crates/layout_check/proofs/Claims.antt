@@ -32,7 +32,7 @@ use Rattle.d64_image.specs.declared.place.Place.{Place}
 use Rattle.layout_check.specs.declared.owners.Owners.{Owners}
 use Rattle.disk_layout.specs.Chain.{EachOnce}
 use Rattle.layout_check.specs.Owners.{IsClaimed, IsSystem, owner_of}
-use Rattle.disk_layout.proofs.lemmas.lists.Once.{Contains-cases, Contains-here, Contains-nil, EachOnce-apart}
+use Rattle.disk_layout.proofs.lemmas.lists.Once.{Contains-here, EachOnce-apart}
 use Rattle.disk_layout.specs.Directory.{map_place}
 use Rattle.d64_image.proofs.Places.{same_or_other}
 

@@ -29,7 +29,6 @@ use Rattle.std.proofs.Common.{
 use Rattle.std.specs.Prelude.{Contains, Some, drop, flat_map, slice_get, take}
 use Rattle.std.proofs.lemmas.List.Elements.{Contains-append_right}
 use Rattle.d64_image.proofs.Images.{sector-put_other, sector-put_same}
-use Rattle.d64_image.proofs.Places.{same_or_other}
 use Rattle.d64_image.specs.Images.{Image, put, sector}
 use Rattle.d64_image.specs.declared.place.Place.{Place}
 use Rattle.disk_layout.proofs.lemmas.layouts.Agree.{IsLayout-put_map, map-unowned, owned-block, owned-directory}
@@ -39,11 +38,10 @@ use Rattle.disk_layout.proofs.lemmas.layouts.Layouts.{get-contains}
 use Rattle.disk_layout.proofs.lemmas.layouts.Frames.{block-no_side}
 use Rattle.disk_layout.proofs.lemmas.lists.Once.{EachOnce-apart, EachOnce-right, flat_map-in}
 use Rattle.disk_layout.proofs.lemmas.counts.Recount.{split-at}
-use Rattle.disk_layout.proofs.lemmas.counts.Recounts.{IsLayout-put_counts, map-same_on, reread_layout, stays-put_counts}
+use Rattle.disk_layout.proofs.lemmas.counts.Recounts.{map-same_on}
 use Rattle.disk_layout.proofs.lemmas.growth.SideWrites.{IsLayout-put_side}
 use Rattle.disk_layout.specs.Directory.{map_place}
 use Rattle.disk_layout.specs.Layout.{File, IsLayout, Layout, file_owns, is_rel, owners, record_length}
-use Rattle.disk_layout.specs.Chain.{byte}
 use Rattle.disk_layout.specs.Entries.{IsRecountedAll}
 use Rattle.disk_layout.specs.Same.{IsCountByte, SameButCounts, SameFiles, Stays, stays_of}
 use Rattle.disk_layout.specs.Side.{side_sector}

@@ -1,5 +1,5 @@
 -- How many places of a list stand below one.
-use Rattle.std.proofs.Common.{ℕ, ◌≡◌, ◌≢◌, ◌<◌, ◌≤◌, ◌+◌, ◌-◌, cond, List, [], ◌∷◌}
+use Rattle.std.proofs.Common.{ℕ, ◌≡◌, ◌≢◌, ◌<◌, ◌≤◌, ◌+◌, cond, List, [], ◌∷◌}
 use Rattle.std.proofs.Common.{length, sym, ◌∙◌, ap, refl, arith, inl, inr}
 use Rattle.std.specs.Prelude.{Contains, nat_lt}
 use Rattle.std.proofs.lemmas.Bool.Decides.{nat_tests}

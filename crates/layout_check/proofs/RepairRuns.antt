@@ -1,5 +1,5 @@
 -- A repair's run: the images held, the fault told, what is left at the end, and that a clean disk is not written.
-use Rattle.std.proofs.Common.{ℕ, ◌≡◌, ◌≤◌, Result, Ok, Err, OnOk, IfErr, sym, subst, arith}
+use Rattle.std.proofs.Common.{ℕ, ◌≡◌, ◌≤◌, Result, Ok, Err, OnOk, sym, subst, arith}
 use Rattle.d64_image.proofs.Moments.{changes_then, changes_weaker, failed_later, never_failed, reads_change}
 use Rattle.d64_image.specs.History.{Changes, History, NeverFailed, OnlyReads}
 use Rattle.d64_image.specs.Images.{Image}

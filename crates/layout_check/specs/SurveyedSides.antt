@@ -1,5 +1,5 @@
 -- The side sectors of an entry that were surveyed. Our own.
-use Rattle.std.specs.Prelude.{ℕ, ◌≤◌, ◌+◌, ◌*◌, IfErr, IfOk, List, OnOk, Option, Result, length}
+use Rattle.std.specs.Prelude.{◌≤◌, ◌+◌, ◌*◌, IfErr, IfOk, List, OnOk, Option, Result, length}
 use Rattle.d64_image.specs.History.{History}
 use Rattle.d64_image.specs.declared.place.Place.{Place}
 use Rattle.disk_layout.specs.declared.faults.Fault.{Fault}

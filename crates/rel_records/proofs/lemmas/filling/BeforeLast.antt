@@ -12,7 +12,7 @@ use Rattle.rel_records.specs.Written.{IsGrowingBy, grown_by}
 use Rattle.rel_records.specs.declared.growth.step_parts.Parts.{Parts}
 use Rattle.rel_records.specs.growth.Growth.{full, records_had}
 use Rattle.rel_records.specs.growth.Steps.{FillsBefore, HasFilled, IsAt, IsTailOf}
-use Rattle.rel_records.proofs.lemmas.filling.ReadyToEnd.{IsReadyToEnd, L, from, ready-at-once, ready-has}
+use Rattle.rel_records.proofs.lemmas.filling.ReadyToEnd.{IsReadyToEnd, from, ready-at-once, ready-has}
 use Rattle.rel_records.proofs.lemmas.filling.ReadyToEnd.{ready-with-tail, total}
 
 -- the image before the last block is written is ready for that
