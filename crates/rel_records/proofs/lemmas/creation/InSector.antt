@@ -10,7 +10,8 @@ use Rattle.d64_image.specs.Images.{Image, Sector, put, sector}
 use Rattle.d64_image.specs.declared.place.Place.{Place}
 use Rattle.disk_layout.proofs.lemmas.chains.Chains.{AgreeAt, IsChain-grow, chain-front, chain-last, links-agree}
 use Rattle.disk_layout.proofs.lemmas.growth.Commit.{all-join, keeps-other}
-use Rattle.disk_layout.proofs.lemmas.layouts.Layouts.{KeepsFiles, get-contains, unless-same}
+use Rattle.disk_layout.proofs.lemmas.layouts.Layouts.{get-contains}
+use Rattle.disk_layout.proofs.lemmas.layouts.Frames.{KeepsFiles, unless-same}
 use Rattle.disk_layout.proofs.lemmas.lists.Once.{Contains-cases, Contains-here, Contains-there, Contains-nil}
 use Rattle.disk_layout.proofs.lemmas.lists.Once.{EachOnce-apart, EachOnce-insert, flat_map-in, insert-out}
 use Rattle.disk_layout.proofs.lemmas.growth.LongerDirectory.{IsRelinked, slot-relinked, used_slots-relinked}
