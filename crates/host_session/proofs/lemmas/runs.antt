@@ -5,6 +5,7 @@ pub mod Runs
 pub mod Chained
 pub mod QuietRuns
 pub mod Sparing
+pub mod QuietWrites
 pub mod Looped
 pub mod RunEnds
 pub mod ScriptEnds

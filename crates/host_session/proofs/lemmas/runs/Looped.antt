@@ -7,7 +7,7 @@ use Rattle.d64_image.specs.History.{Changes, History}
 use Rattle.request_cards.specs.declared.reply.Reply.{Reply}
 use Rattle.host_session.proofs.lemmas.runs.Chained.{asked_more, run_more, run_more-first}
 use Rattle.host_session.proofs.lemmas.runs.Chained.{run_none, run_rests}
-use Rattle.host_session.proofs.lemmas.runs.Sparing.{within_more}
+use Rattle.host_session.proofs.lemmas.runs.Sparing.{sparing_more, within_more}
 use Rattle.host_session.specs.declared.events.asking.Next.{Next}
 use Rattle.host_session.specs.declared.runs.looping.LoopFault.TheVariants as faults
 use Rattle.host_session.specs.events.Asking.{IsNext, Source, TakesNone, TakesOne, messages_in}
@@ -15,7 +15,7 @@ use Rattle.host_session.specs.events.Events.{Message, cut_at, uncut}
 use Rattle.host_session.specs.events.Instants.{Instant, instant_of}
 use Rattle.host_session.specs.events.OneEvent.{EndsFailed, GoesOn, IsEvent}
 use Rattle.host_session.specs.events.Telling.{BreaksOff, IsTold, Output, TellsOne}
-use Rattle.host_session.specs.events.Within.{AreWithin, IsWithin}
+use Rattle.host_session.specs.events.Within.{AreSparing, AreWithin, IsWithin, SparesTheDisk}
 use Rattle.host_session.specs.runs.Chains.{asked_over, over_instants}
 use Rattle.host_session.specs.runs.Loops.{Ends, EndsBy, HasCome, HasComeBut, Origin}
 use Rattle.host_session.specs.runs.Loops.{IsToldToDevice, IsToldToOutput, IsToldWhole}
@@ -90,6 +90,7 @@ module _ {D A T : Type 0} (h : History D) (a : Source A) (o : Output T) (from : 
       },
       refl,
       tt,
+      tt,
     );
     room = omega arith;
   }
@@ -138,18 +139,33 @@ module _ {D A T : Type 0} (h : History D) (a : Source A) (o : Output T) (from : 
         w.whole.2 (λ none. one none r.now
         (run_rests h from.shop (messages_in w.taken) w.whole.0.turns from.disk mid w.whole.0.run)))
 
+    -- and where it asks nothing new
+    abbrev Spares : Type 0
+    Spares = SparesTheDisk h (a.here asks) mid new
+
+    sparing_now : (w : HasComeBut h a o from mid asks out) (first : D) → first ≡ w.whole.0.run.first → Spares
+        → AreSparing h (messages_in w.taken ++ a.here asks ∷ []) (w.whole.0.turns ++ (reply, new) ∷ []) first
+    sparing_now w first same one =
+        let r = w.whole.0.run in
+        subst (λ d. AreSparing h (messages_in w.taken ++ a.here asks ∷ []) (w.whole.0.turns ++ (reply, new) ∷ []) d)
+        (sym same)
+        (sparing_more h from.shop (messages_in w.taken) w.whole.0.turns r.first mid new r.now (a.here asks) reply
+        r.chain w.whole.3 one)
+
     -- the event that is here was run, and its reply told
     pub goes_on : (Alive : Type 0) → TellsOne o out told reply (instant_of h new) × (o.room out ≤ o.room told + 1)
         → ((t : Shop) → IsSettled (h.image mid) t
         → Alive × IsEvent h t (a.here asks) mid new (GoesOn h t (a.here asks) reply new))
         → Within
+        → Spares
         → HasComeBut h a o from mid asks out → Alive × HasCome h a o from new asks told
-    goes_on Alive tells event within w =
+    goes_on Alive tells event within spares w =
         let x = w.whole.0 in
         let e = event x.run.now (run_rests h from.shop (messages_in w.taken) x.turns from.disk mid x.run) in
         let last : List (Reply × D) = (reply, new) ∷ [] in
         let Told : List Message → Type 0 = λ ms. (y : IsToldWhole h o from.shop ms from.disk new from.out told)
         × (TakenNow w ≡ asked_over h y.run.first y.turns ms) × AreWithin h ms y.turns y.run.first
+        × AreSparing h ms y.turns y.run.first
         × (o.room from.out ≤ o.room told + length ms) in
         let y = subst Told (sym (messages_now w)) (
           record {
@@ -164,17 +180,21 @@ module _ {D A T : Type 0} (h : History D) (a : Source A) (o : Output T) (from : 
           within_now w _
               (run_more-first h from.shop (messages_in w.taken) x.turns from.disk mid new (a.here asks) reply x.run e.1)
               within,
+          sparing_now w _
+              (run_more-first h from.shop (messages_in w.taken) x.turns from.disk mid new (a.here asks) reply x.run e.1)
+              spares,
           omega (arith, w.room, tells.1, length-append (messages_in w.taken) (a.here asks ∷ [])),
         ) in
-        (e.0, record { taken = TakenNow w; is = w.is; whole = (y.0, y.1, y.2); room = y.3 })
+        (e.0, record { taken = TakenNow w; is = w.is; whole = (y.0, y.1, y.2, y.3); room = y.4 })
 
     -- it was run, and the output didn't take its reply
     pub breaks_off : (Alive : Type 0) → BreaksOff o out told reply (instant_of h new) × (o.room out ≡ 0)
         → ((t : Shop) → IsSettled (h.image mid) t
         → Alive × IsEvent h t (a.here asks) mid new (GoesOn h t (a.here asks) reply new))
         → Within
+        → Spares
         → HasComeBut h a o from mid asks out → EndsBy h a o from asks told new faults.Output
-    breaks_off Alive breaks event within w =
+    breaks_off Alive breaks event within spares w =
         let x = w.whole.0 in
         let e = event x.run.now (run_rests h from.shop (messages_in w.taken) x.turns from.disk mid x.run) in
         let run = run_more h from.shop (messages_in w.taken) x.turns from.disk mid new (a.here asks) reply x.run e.1 in
@@ -182,7 +202,8 @@ module _ {D A T : Type 0} (h : History D) (a : Source A) (o : Output T) (from : 
         run_more-first h from.shop (messages_in w.taken) x.turns from.disk mid new (a.here asks) reply x.run e.1 in
         let Told : List Message → Type 0 = λ ms. (y : IsToldToOutput h o from.shop ms from.disk new from.out told)
         × (TakenNow w ≡ asked_over h y.run.first y.turns ms)
-        × AreWithin h ms (y.turns ++ y.last ∷ []) y.run.first in (
+        × AreWithin h ms (y.turns ++ y.last ∷ []) y.run.first
+        × AreSparing h ms (y.turns ++ y.last ∷ []) y.run.first in (
           TakenNow w,
           w.is,
           subst Told (sym (messages_now w)) (
@@ -197,6 +218,7 @@ module _ {D A T : Type 0} (h : History D) (a : Source A) (o : Output T) (from : 
                 ∙ ap (λ turns. asked_over h run.first turns (messages_in w.taken ++ a.here asks ∷ []))
                 (append-nil x.turns),
             within_now w _ same within,
+            sparing_now w _ same spares,
           ),
         )
 
@@ -205,12 +227,14 @@ module _ {D A T : Type 0} (h : History D) (a : Source A) (o : Output T) (from : 
         → ((t : Shop) → IsSettled (h.image mid) t
         → IsEvent h t (a.here asks) mid new (EndsFailed h t (a.here asks) reply new))
         → Within
+        → Spares
         → HasComeBut h a o from mid asks out → EndsBy h a o from asks told new faults.Device
-    fails result tells event within w =
+    fails result tells event within spares w =
         let x = w.whole.0 in
         let Told : List Message → Type 0 = λ ms. (y : IsToldToDevice h o from.shop ms from.disk new from.out told)
         × (TakenNow w ≡ asked_over h y.run.run.first y.turns ms)
-        × AreWithin h ms (y.turns ++ (y.last, new) ∷ []) y.run.run.first in (
+        × AreWithin h ms (y.turns ++ (y.last, new) ∷ []) y.run.run.first
+        × AreSparing h ms (y.turns ++ (y.last, new) ∷ []) y.run.run.first in (
           TakenNow w,
           w.is,
           subst Told (sym (messages_now w)) (
@@ -231,6 +255,7 @@ module _ {D A T : Type 0} (h : History D) (a : Source A) (o : Output T) (from : 
                 ∙ ap (λ turns. asked_over h x.run.first turns (messages_in w.taken ++ a.here asks ∷ []))
                 (append-nil x.turns),
             within_now w x.run.first refl within,
+            sparing_now w x.run.first refl spares,
           ),
         )
       where
