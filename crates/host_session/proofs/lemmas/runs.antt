@@ -6,6 +6,7 @@ pub mod Chained
 pub mod QuietRuns
 pub mod Sparing
 pub mod QuietWrites
+pub mod AskedTold
 pub mod Looped
 pub mod RunEnds
 pub mod ScriptEnds

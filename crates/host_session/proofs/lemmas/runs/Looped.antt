@@ -1,17 +1,16 @@
 -- A run in a loop: one event more, or the last one.
-use Rattle.std.proofs.Common.{◌≡◌, ◌≤◌, ◌<◌, ◌+◌, ◌++◌, ◌⊎◌, ℕ, true, false, List, [], ◌∷◌, Option, None, Some, Ok, Err}
+use Rattle.std.proofs.Common.{◌≡◌, ◌≤◌, ◌<◌, ◌+◌, ◌++◌, ◌⊎◌, List, [], ◌∷◌, None, Ok, Err}
 use Rattle.std.proofs.Common.{refl, sym, subst, ap, ◌∙◌, arith, inl, inr, length, length-append, append-nil}
 use Rattle.std.proofs.lemmas.List.{map-append}
-use Rattle.std.specs.Prelude.{IsSome, Result, is_err, is_ok, is_some, option_map}
+use Rattle.std.specs.Prelude.{Result}
 use Rattle.d64_image.specs.History.{Changes, History}
 use Rattle.request_cards.specs.declared.reply.Reply.{Reply}
 use Rattle.host_session.proofs.lemmas.runs.Chained.{asked_more, run_more, run_more-first}
 use Rattle.host_session.proofs.lemmas.runs.Chained.{run_none, run_rests}
 use Rattle.host_session.proofs.lemmas.runs.Sparing.{sparing_more, within_more}
-use Rattle.host_session.specs.declared.events.asking.Next.{Next}
 use Rattle.host_session.specs.declared.runs.looping.LoopFault.TheVariants as faults
-use Rattle.host_session.specs.events.Asking.{IsNext, Source, TakesNone, TakesOne, messages_in}
-use Rattle.host_session.specs.events.Events.{Message, cut_at, uncut}
+use Rattle.host_session.specs.events.Asking.{Source, TakesNone, TakesOne, messages_in}
+use Rattle.host_session.specs.events.Events.{Message}
 use Rattle.host_session.specs.events.Instants.{Instant, instant_of}
 use Rattle.host_session.specs.events.OneEvent.{EndsFailed, GoesOn, IsEvent}
 use Rattle.host_session.specs.events.Telling.{BreaksOff, IsTold, Output, TellsOne}
@@ -21,52 +20,6 @@ use Rattle.host_session.specs.runs.Loops.{Ends, EndsBy, HasCome, HasComeBut, Ori
 use Rattle.host_session.specs.runs.Loops.{IsToldToDevice, IsToldToOutput, IsToldWhole}
 use Rattle.host_session.specs.session.Opening.{Untouched}
 use Rattle.host_session.specs.shop.Shop.{IsSettled, IsShop, Shop}
-
--- the message that is here has no reset
-pub is_whole : (m : Message) (bytes : List ℕ) → bytes ≡ m.bytes → None ≡ m.cut_after → uncut bytes ≡ m
-is_whole m bytes same none = λ i. record { bytes = same i; cut_after = none i }
-
--- or one
-pub is_reset : (m : Message) (bytes : List ℕ) (after : ℕ) → bytes ≡ m.bytes → Some after ≡ m.cut_after
-    → cut_at bytes after ≡ m
-is_reset m bytes after same cut = λ i. record { bytes = same i; cut_after = cut i }
-
--- power goes in it
-pub no_none : (after : ℕ) (o : Option ℕ) → Some after ≡ o → o ≡ None → ⊥
-no_none after o some none = let e = some ∙ none in cc
-
--- whether the event that was taken has a reset
-pub no_cut : {X : Type 0} (f : X → ℕ) (r : Option X) (o : Option ℕ) → option_map f r ≡ o → is_some r ≡ false → None ≡ o
-no_cut f None o same none = same
-no_cut f (Some x) o same none = cc
-
-pub some_cut : {X : Type 0} (f : X → ℕ) (r : Option X) (o : Option ℕ) → option_map f r ≡ o → is_some r ≡ true → IsSome o
-some_cut f None o same some = cc
-some_cut f (Some x) o same some = subst IsSome same refl
-
-pub cut_is : {X : Type 0} (f : X → ℕ) (r : Option X) (x : X) (o : Option ℕ) → r ≡ Some x → option_map f r ≡ o
-    → Some (f x) ≡ o
-cut_is f r x o is same = sym (ap (option_map f) is) ∙ same
-
--- what asking came to, by what was answered and the disk that was lent
-pub was_asked : {D A : Type 0} (h : History D) (a : Source A) (old new : A) (lent disk : D) (r answered : Next)
-    → lent ≡ disk → r ≡ answered → IsNext a old new (instant_of h lent) r
-    → IsNext a old new (instant_of h disk) answered
-was_asked h a old new lent disk r answered is told asked =
-    subst (λ n. IsNext a old new (instant_of h disk) n) told (subst (λ d. IsNext a old new (instant_of h d) r) is asked)
-
--- what telling came to, by what was answered
-pub was_told : {T E : Type 0} (o : Output T) (old new : T) (reply : Reply) (i : Instant) (r : Result Unit E)
-    → is_ok r ≡ true
-    → IsTold o old new reply i r → TellsOne o old new reply i × (o.room old ≤ o.room new + 1)
-was_told o old new reply i (Ok x) is told = told
-was_told o old new reply i (Err x) is told = cc
-
-pub was_broken : {T E : Type 0} (o : Output T) (old new : T) (reply : Reply) (i : Instant) (r : Result Unit E)
-    → is_err r ≡ true
-    → IsTold o old new reply i r → BreaksOff o old new reply i × (o.room old ≡ 0)
-was_broken o old new reply i (Ok x) is told = cc
-was_broken o old new reply i (Err x) is told = told
 
 over_more : {D : Type 0} (h : History D) (xs : List (Reply × D)) (reply : Reply) (disk : D)
     → over_instants h (xs ++ (reply, disk) ∷ []) ≡ over_instants h xs ++ (reply, instant_of h disk) ∷ []

@@ -1,8 +1,8 @@
 -- A message with a reset, and the whole ones behind it.
 use Rattle.std.proofs.Common.{◌≡◌, ◌∙◌, false, not, ap, subst, sym}
 use Rattle.request_cards.specs.declared.reply.Reply.TheVariants.{Cut}
-use Rattle.host_session.proofs.lemmas.runs.Looped.{breaks_off, cut_is, fails, goes_on, is_reset, no_none, was_broken}
-use Rattle.host_session.proofs.lemmas.runs.Looped.{was_told}
+use Rattle.host_session.proofs.lemmas.runs.AskedTold.{cut_is, is_reset, no_none, was_broken, was_told}
+use Rattle.host_session.proofs.lemmas.runs.Looped.{breaks_off, fails, goes_on}
 use Rattle.host_session.specs.events.Instants.{instant_of}
 use Rattle.host_session.specs.runs.Loops.{Ends, EndsBy, IsStretch, with_disk}
 use Rattle.host_session.specs.events.OneEvent.{EndsFailed, GoesOn, IsEvent}
