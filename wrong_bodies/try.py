@@ -60,29 +60,31 @@ def checked(crate, texts):
     return ran.stdout.split("\n"), ran.returncode
 
 
-def set_aside(crate, texts, told):
-    """The texts without the answers that don't fit; None where there is none."""
-    left = dict(texts)
-    for file in {file for it in told for file, _, _ in it.answers}:
-        names = {name for it in told for at, name, _ in it.answers if at == file}
-        text = left.get(file) or (crate / file).read_text(encoding="utf-8")
-        left[file] = without(text, names)
-    return left if left != texts else None
+def set_aside(crate, edits, removed):
+    """The texts of these edits, and of the proof files without the answers that were set aside for them."""
+    texts = edited(crate, edits)
+    for file in {file for edit in edits for file, _ in removed[edit.name]}:
+        names = {name for edit in edits for at, name in removed[edit.name] if at == file}
+        texts[file] = without(texts.get(file) or (crate / file).read_text(encoding="utf-8"), names)
+    return texts
 
 
 def tried(crate, edits, places):
     """What is told of each of these edits: with the answers as they are, with those set aside that don't fit; what the first check
-    said, and the last status."""
-    texts = edited(crate, edits)
-    said, status = checked(crate, texts)
-    kept = aside = [Told(said, place) for place in places]
-    first = said
+    said, and the last status. An edit of which values were found isn't checked again."""
+    first, status = checked(crate, edited(crate, edits))
+    kept = [Told(first, place) for place in places]
+    aside = list(kept)
+    removed = {edit.name: set() for edit in edits}
     for _ in range(TIMES):
-        texts = set_aside(crate, texts, aside)
-        if texts is None:
+        left = [n for n in range(len(edits)) if not kept[n].false_goal() and not aside[n].false_goal() and aside[n].answers]
+        if not left:
             break
-        said, status = checked(crate, texts)
-        aside = [Told(said, place) for place in places]
+        for n in left:
+            removed[edits[n].name] |= {(file, name) for file, name, _ in aside[n].answers}
+        said, status = checked(crate, set_aside(crate, [edits[n] for n in left], removed))
+        for n in left:
+            aside[n] = Told(said, places[n])
     return kept, aside, first, status
 
 
