@@ -112,6 +112,18 @@ pub(crate) fn ran(
 /// Bytes, and where in an image they stand.
 pub(crate) type Bytes = (usize, &'static [u8]);
 
+/// 17/0 links to itself.
+pub(crate) const LOOP: Bytes = (86016, b"\x11\x00");
+
+/// Track 1 has a free sector too few in the map at 18/0.
+pub(crate) const WRONG_MAP: Bytes = (91396, b"\x14");
+
+/// The entry of STOCK in 18/1 has a block too many.
+pub(crate) const COUNT: Bytes = (91678, b"\x03");
+
+/// 18/1 links to a sector outside track 18, so that the directory's sectors are no chain on it.
+pub(crate) const NO_DIRECTORY: Bytes = (91648, b"\x13\x00");
+
 /// The image with these bytes over its own.
 pub(crate) fn changed(rt: &(impl AllocGlobal + Abort), shop: &[u8], changes: &[Bytes]) -> Vec<u8> {
     let mut image = Vec::new(rt.alloc());
