@@ -170,6 +170,18 @@ def cut_growth(path, target):
     return image.put(MAP, 4 * 17, [0x10, 0xE0, 0xFF, 0x1F]).save(target)
 
 
+def cut_creation(path, target):
+    """The same behind the first write of a new file's creation: track 17 is two blocks less."""
+    return disks.Image(path).put(MAP, 4 * 17, [0x0F, 0xC0, 0xFF, 0x1F]).save(target)
+
+
+def created(program, path, target):
+    """The disk with the new file."""
+    target.write_bytes(path.read_bytes())
+    disks.call(program, "make", target, "NEW", "--length", "80")
+    return target
+
+
 def cut_before_count(path, target):
     """The same behind the fourth write: the new block, the side sector that names it, and the old last block with its link."""
     image = disks.Image(cut_growth(path, target))
@@ -199,6 +211,8 @@ def made_disks(program, folder):
     yield "growth_cut", cut_growth(fresh, folder / "cut.d64"), "MAPWRONG", False
     yield "count_behind", cut_before_count(fresh, folder / "behind.d64"), "COUNTWRONG", False
     yield "grown", played(program, fresh, folder / "grown.d64", "1,1,S,15,7"), "OK", False
+    yield "creation_cut", cut_creation(fresh, folder / "creation_cut.d64"), "MAPWRONG", False
+    yield "created", created(program, fresh, folder / "created.d64"), "OK", False
 
 
 def steps():

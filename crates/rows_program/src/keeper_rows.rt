@@ -62,16 +62,8 @@ const TAKEN: [(Words, &[Bytes], End<'static>); 9] = [
     (RECORDS, &[LOOP], (1, b"", b"LAYOUT LOOP 17/0\n")),
     // A sound disk needn't be clean.
     (RECORDS, &[WRONG_MAP, COUNT], (0, TWO, b"")),
-    (
-        RECORDS,
-        &[NO_DIRECTORY],
-        (1, b"", b"LAYOUT BADLINK 18/1\n"),
-    ),
-    (
-        BYTES,
-        &[NO_DIRECTORY],
-        (1, b"", b"LAYOUT BADLINK 18/1\n"),
-    ),
+    (RECORDS, &[NO_DIRECTORY], (1, b"", b"LAYOUT BADLINK 18/1\n")),
+    (BYTES, &[NO_DIRECTORY], (1, b"", b"LAYOUT BADLINK 18/1\n")),
     // The layout is judged before the name.
     (
         &[b"ledger_cli", b"records", b"a.d64", b"REQUEST"],

@@ -4,8 +4,8 @@ ghost use Rattle.ledger_program.specs.Jobs.{IsFit};
 use crate::comparing::{holds, same, same_at};
 use crate::memory::{Memory, Runtime};
 use crate::scenes::{
-    BYTES, CHECK, DRY, FILE, FORMAT, LIST, MAKE, MAP, PICTURE, PLAY, RECORDS, REPAIR, SERVE, SHOW,
-    Words, empty_shop, ends, put,
+    BYTES, CHECK, DRY, FILE, FORMAT, INTO_REQUESTS, LIST, MAKE, MAP, PICTURE, PLAY, RECORDS,
+    REPAIR, SERVE, SHOW, Words, empty_shop, ends, put,
 };
 use crate::stored::Kind;
 use ledger_commands::Durability;
@@ -13,10 +13,8 @@ use ledger_program::{Drawing, Job, Reading, do_job, end};
 use std::io::{self, Write};
 use std::process::Abort;
 
-/// The messages are records' lines too: of two of record 1 the last counts.
-const INTO_REQUESTS: Words = &[b"ledger_cli", b"store", b"a.d64", b"REQUESTS", b"s.txt"];
-
-/// Words, how many bytes the output takes, and what it has then.
+/// Words, how many bytes the output takes, and what it has then. The messages are records' lines too: of two of record 1 the last
+/// counts.
 const FULL: [(Words, usize, &[u8]); 16] = [
     (SERVE, 12, b"1,1,DONE,5\n1"),
     (REPAIR, 2, b"OK"),

@@ -1,9 +1,7 @@
 //! Which refusal is told where several would be right.
 use crate::comparing::{holds, same_at};
 use crate::memory::Memory;
-use crate::scenes::{
-    MAP, PICTURE, RECORDS, REPAIR, STORE, Words, ends, put,
-};
+use crate::scenes::{MAP, PICTURE, RECORDS, REPAIR, STORE, Words, ends, put};
 use crate::stored::{Kind, Others};
 use std::process::Abort;
 

@@ -40,6 +40,8 @@ pub(crate) const MAKE: Words = &[
 
 pub(crate) const STORE: Words = &[b"ledger_cli", b"store", b"a.d64", b"CARDS", b"s.txt"];
 
+pub(crate) const INTO_REQUESTS: Words = &[b"ledger_cli", b"store", b"a.d64", b"REQUESTS", b"s.txt"];
+
 pub(crate) const MAP: Words = &[b"ledger_cli", b"map", b"a.d64"];
 
 pub(crate) const PICTURE: Words = &[b"ledger_cli", b"picture", b"a.d64"];

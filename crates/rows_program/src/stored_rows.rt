@@ -43,12 +43,7 @@ const MADE: [(Words, &[Bytes], usize, End<'static>); 8] = [
     (MAKE, &[COUNT], 0, (1, b"", b"LAYOUT COUNTWRONG 18/1\n")),
     (MAKE, &[WRONG_MAP], 0, (1, b"", b"LAYOUT MAPWRONG 18/0\n")),
     // The layout is judged before the name.
-    (
-        TAKEN,
-        &[WRONG_MAP],
-        0,
-        (1, b"", b"LAYOUT MAPWRONG 18/0\n"),
-    ),
+    (TAKEN, &[WRONG_MAP], 0, (1, b"", b"LAYOUT MAPWRONG 18/0\n")),
     (TAKEN, &[], 0, (1, b"", b"FILE EXISTS\n")),
     (MAKE, &[], 1, (3, b"", b"DEVICE\n")),
     (MAKE, &[], 3, (3, b"", b"DEVICE\n")),
@@ -192,7 +187,13 @@ fn stores_that_fail_are_told(rt: HostRuntime) {
 /// The image of an empty shop whose file CARDS has all blocks that were free: 654, and six side sectors.
 fn full_disk(rt: &(impl AllocGlobal + Abort)) -> Vec<u8> {
     let made = with_cards(rt);
-    let memory = ran(rt, STORE, made.as_slice(), b"5537,A\n", (0, b"5537,\"A\"\n", b""));
+    let memory = ran(
+        rt,
+        STORE,
+        made.as_slice(),
+        b"5537,A\n",
+        (0, b"5537,\"A\"\n", b""),
+    );
     bytes_at(rt, &memory.image)
 }
 
