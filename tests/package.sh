@@ -3,8 +3,9 @@
 #   tests/package.sh [DEBIAN]
 # The package is installed, and somebody who isn't root has the first minute of the README: a shop is made, a day with power
 # cuts is played, shown and judged, and what is printed is what the README says. The man page is shown by `man`, the
-# completions are read by bash, the documents' links lead to files. Then it is removed, and no file of it is left. The tarball is unpacked and run. DEBIAN is such a
-# folder of an earlier run, which spares the download. Wants root, Debian's packages debootstrap and those that ./package wants.
+# completions are read by bash, the documents' links lead to files. Then it is removed, and no file of it is left. The tarball
+# is unpacked and run. DEBIAN is such a folder of an earlier run, which spares the download. Wants root, Debian's packages
+# debootstrap and those that ./package wants.
 set -eu
 top=$(CDPATH= cd -- "$(dirname -- "$0")/.." && pwd)
 work=$(mktemp -d)
