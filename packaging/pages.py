@@ -64,7 +64,12 @@ def words_of(program):
         text = helped(program, row[0])
         usage = re.search(r"^Usage: \S+ (.*)$", text, re.M)[1]
         more = re.search(r"^Options:\n(?:  .*\n)+\n(.*)\Z", text, re.M | re.S)[1].splitlines()
-        found.append(Word(row[0], row[1], usage, rows(text, "Arguments"), rows(text, "Options"), more))
+        word = Word(row[0], row[1], usage, rows(text, "Arguments"), rows(text, "Options"), more)
+        told = " ".join(it[0] for it in word.values + word.options)
+        missing = [value for value in re.findall(r"<\w+>", usage) if value not in told]
+        if missing or not more:
+            sys.exit(f"pages: the help of {row[0]} isn't read whole: {missing}")
+        found.append(word)
     return found
 
 
@@ -93,7 +98,7 @@ def man_page(words, version):
     lines.append(".SH EXAMPLES")
     for line, does in EXAMPLES:
         lines += [".TP", f".B {escaped(line)}", escaped(does)]
-    lines += [".SH SEE ALSO", "/usr/share/doc/ledger/KEEPERS.md, /usr/share/doc/ledger/MESSAGES.md"]
+    lines += [".SH SEE ALSO", "The folder share/doc/ledger\\-1541: README.md, docs/KEEPERS.md, docs/MESSAGES.md, docs/TRUST.md"]
     return "\n".join(lines) + "\n"
 
 

@@ -25,10 +25,10 @@ SOURCES = r"Guide|D64|Standard"
 HEAD = """# Definitions
 
 The definitions that contracts of public calls and types cite, under crate and file (`crates/CRATE/specs/NAME.antt` has the
-sentence over each), in brackets the example that decides it: a theorem of the crate's files of examples in `proofs/`, or a row of
-a test. A line of its own has each fact that contracts of another crate cite, and what has no sentence there. Left out are what
-these rest on, values without an example that one file alone cites, and the tools' own. "The Guide" is the 1541 User's Guide; what
-names no source is our own. *The disk with STOCK* has one relative file of one block. `tests/definitions.py` makes this page."""
+sentence over each), in brackets the example that decides it: a theorem of `proofs/`, or a row. A line of its own has each fact that
+contracts of another crate cite, and what has no sentence there. Left out are what these rest on, values without an example that one
+file alone cites, and the tools' own. "The Guide" is the 1541 User's Guide; what names no source is our own. *The disk with STOCK*
+has one relative file of one block. `tests/definitions.py` makes this page."""
 
 
 def without_comments(text, mark):

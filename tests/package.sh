@@ -3,8 +3,9 @@
 #   tests/package.sh [DEBIAN]
 # The package is installed, and somebody who isn't root has the first minute of the README: a shop is made, a day with power
 # cuts is played, shown and judged, and what is printed is what the README says. The man page is shown by `man`, the
-# completions are read by bash. Then it is removed, and no file of it is left. The tarball is unpacked and run. DEBIAN is such a
-# folder of an earlier run, which spares the download. Wants root, Debian's packages debootstrap and those that ./package wants.
+# completions are read by bash, the documents' links lead to files. Then it is removed, and no file of it is left. The tarball
+# is unpacked and run. DEBIAN is such a folder of an earlier run, which spares the download. Wants root, Debian's packages
+# debootstrap and those that ./package wants.
 set -eu
 top=$(CDPATH= cd -- "$(dirname -- "$0")/.." && pwd)
 work=$(mktemp -d)
@@ -46,6 +47,13 @@ first_minute ledger
 inside "man --warnings ledger" >"$work/page" 2>"$work/warned"
 grep -q '^NAME' "$work/page" && [ ! -s "$work/warned" ] || { cat "$work/warned"; exit 1; }
 chroot "$debian" bash -c '. /usr/share/bash-completion/completions/ledger && complete -p ledger' >"$work/completed"
+# each link of the documents leads to a file that came with them
+(cd "$debian/usr/share/doc/ledger-1541" && find . -name '*.md' | while read -r page; do
+    grep -oE '\]\([^)#:]+' "$page" | cut -c 3- | while read -r link; do
+        [ -e "$(dirname "$page")/$link" ] || echo "$page: $link isn't there"
+    done
+done) >"$work/dead"
+[ ! -s "$work/dead" ] || { cat "$work/dead"; exit 1; }
 chroot "$debian" dpkg --purge ledger-1541 >"$work/log"
 files >"$work/after"
 diff "$work/before" "$work/after"

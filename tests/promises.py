@@ -1,8 +1,8 @@
 #!/usr/bin/env python3
 """Sees that docs/PROMISES.md names no clause that isn't there, and prints a line for each that isn't.
 
-In the last column of a table stand calls in backticks, and in brackets behind them their clauses. A call is a function, a
-type, whose methods it stands for, or a folder or file of tests. A clause is a label of a contract of one of these calls, a
+Below each promise stand calls in backticks, and in brackets behind them their clauses. A call is a function, a type, whose methods
+it stands for, or a folder or file of tests. A clause is a label of a contract of one of these calls, a
 field of a record that the contract cites, a word of the contract itself, or a record of specs/ on which it rests. The status
 is 1 where something isn't found."""
 
@@ -53,10 +53,10 @@ def contract_words(fields):
 
 
 def rows():
-    """The last cells of the tables of docs/PROMISES.md, by line."""
+    """The lines of docs/PROMISES.md that say what carries a promise: those below one, and list items of one line."""
     for number, line in enumerate((TOP / "docs" / "PROMISES.md").read_text().split("\n"), 1):
-        if line.startswith("| ") and not line.startswith("|---"):
-            yield number, re.split(r" \| ", line.strip("| "))[-1]
+        if line.startswith("  ") or line.startswith("- ") and not line.endswith("\\"):
+            yield number, line.strip("- ")
 
 
 def main():

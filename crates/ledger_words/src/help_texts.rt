@@ -9,8 +9,8 @@ README.md says what each subcommand does, and what is proved of it; ledger COMMA
 
 /// What `format` prints, its statuses, and an example.
 pub(crate) const FORMAT: &str = "Prints FORMATTED once the image is on the disk.\n\
-Status 0: made. 2: TILLS, where T isn't 1 to 64. 3: the file, its folder or the output failed (FILE), or another\n\
-program has the image (IN USE).\n\
+Status 0: made. 2: TILLS, where T isn't 1 to 64. 3: the file, its folder or the output failed (FILE), or memory, or\n\
+another program has the image (IN USE).\n\
 Example: ledger format shop.d64 --tills 4";
 
 /// What `list` prints, its statuses, and an example.
@@ -49,8 +49,8 @@ Example: ledger serve shop.d64 < messages.txt";
 /// What `repair` prints, its statuses, and an example.
 pub(crate) const REPAIR: &str =
     "Prints MENDED and the place of each sector that it wrote, then OK. All files stay as they are.\n\
-Status 0: clean. 1: the disk isn't sound (LAYOUT), and wasn't touched. 3: a file, the output or memory failed, or\n\
-IN USE.\n\
+Status 0: clean. 1: the disk isn't sound (LAYOUT, IMAGE SIZE), and wasn't touched. 3: a file, the output or memory\n\
+failed, or IN USE.\n\
 Example: ledger repair old.d64";
 
 /// What `records` prints, its statuses, and an example.
@@ -68,15 +68,15 @@ Example: ledger bytes old.d64 'ADD\\c1' > add.prg";
 
 /// What `make` prints, its statuses, and an example.
 pub(crate) const MAKE: &str = "Prints MADE.\n\
-Status 0: made. 1: LAYOUT where the disk isn't clean (repair it first), FILE EXISTS, DISK FULL: nothing was done.\n\
-2: NAME, LENGTH. 3: a file, the output or memory failed, or IN USE.\n\
+Status 0: made. 1: LAYOUT where the disk isn't clean (repair it first), IMAGE SIZE, FILE EXISTS, DISK FULL: nothing\n\
+was done. 2: NAME, LENGTH. 3: a file, the output or memory failed, or IN USE.\n\
 Example: ledger make new.d64 ADDRESS --length 40";
 
 /// What `store` prints, its statuses, and an example.
 pub(crate) const STORE: &str =
     "Prints the line of each record that was otherwise. The file grows to the greatest record.\n\
-Status 0: stored. 1: LAYOUT where the disk isn't clean (repair it first), NO FILE, RECORDS LINE n, DISK FULL: nothing\n\
-was done. 2: NAME. 3: a file, the output or memory failed, or IN USE.\n\
+Status 0: stored. 1: LAYOUT where the disk isn't clean (repair it first), IMAGE SIZE, NO FILE, RECORDS LINE n,\n\
+DISK FULL: nothing was done. 2: NAME. 3: a file, the output or memory failed, or IN USE.\n\
 Example: ledger store new.d64 ADDRESS address.csv";
 
 /// What `map` prints, its statuses, and an example.

@@ -133,10 +133,11 @@ where
     status
 }
 
-/// The words as texts, all at one lifetime.
+/// The words as texts, all at one lifetime. The first is the name by which people call the program, whatever its file is called.
 fn texts_of<'a>(alloc: Global, words: &'a [String]) -> Result<Vec<&'a str>, AllocError> {
     let mut texts = Vec::new(alloc);
-    for word in words {
+    texts.push("ledger")?;
+    for word in words.iter().skip(1) {
         texts.push(word.as_str())?;
     }
     Ok(texts)

@@ -31,3 +31,5 @@ mod stored_rows;
 mod told_rows;
 #[cfg(test)]
 mod word_rows;
+#[cfg(test)]
+mod wrong_rows;
