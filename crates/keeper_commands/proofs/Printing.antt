@@ -93,9 +93,9 @@ hands-more : (a b c : Option (List ℕ)) (all held kept line : List ℕ) → Han
     → HandsOn a c (all ++ line) (kept ++ line)
 hands-more a b c all held kept line first next = (
   first.0 ++ next.0,
-  Appends-trans a b c first.0 next.0 first.1.0 next.1.0,
+  Appends-trans a b c first.0 next.0 first.1 next.1,
   ap (λ (xs : List ℕ). xs ++ line)
-      (first.1.1 ∙ ap (λ (xs : List ℕ). first.0 ++ xs) next.1.1 ∙ sym (append_assoc first.0 next.0 kept))
+      (first.2 ∙ ap (λ (xs : List ℕ). first.0 ++ xs) next.2 ∙ sym (append_assoc first.0 next.0 kept))
       ∙ append_assoc (first.0 ++ next.0) kept line,
 )
 
@@ -116,4 +116,4 @@ pub all-lines : (a b c : Option (List ℕ)) (rs : List (List ℕ)) (n : ℕ) (he
 unfolding records_text
 all-lines a b c rs n held all before last =
     subst (λ (xs : List ℕ). Appends a c xs)
-    (sym before.1.1 ∙ ap (lines_to rs) all) (Appends-trans a b c before.0 held before.1.0 last)
+    (sym before.2 ∙ ap (lines_to rs) all) (Appends-trans a b c before.0 held before.1 last)

@@ -8,7 +8,7 @@ use Rattle.keeper_commands.proofs.Printing.{got, not-err, read-done}
 use Rattle.keeper_commands.proofs.record_printing.gather_line.Goals as goal
 
 pub returns-then-is_err-clause-err : goal.returns-then-is_err-clause-err
-returns-then-is_err-clause-err g c =
+returns-then-is_err-clause-err c =
     let of = c.requires.of in
     let l = of.0 in
     let n = of.1 in
@@ -21,7 +21,7 @@ returns-then-is_err-clause-err g c =
     there.0 there.1 err)
 
 pub returns-clause-ok : goal.returns-clause-ok
-returns-clause-ok g c = λ l n f of.
+returns-clause-ok c = λ l n f of.
     let ok : is_err c.read_next.result ≡ false = sym c.is_err.ensures.value ∙ c.if-is_err.false in
     let read = not-err c.read_next.result ok (c.read_next.ensures.text.ok l n f of) in
     let bytes = got (records_of.records (disk_image c.args.disk.now) f) _ _ read.there in

@@ -31,19 +31,19 @@ gather_line-requires-clause-there g c = λ l n f of.
 pub loop-before-preserved : goal.loop-before-preserved
 loop-before-preserved g c =
     let same = c.loop-before.invariant.0 in (
-      c.in_ok-gather_line.ensures.same ∙ same,
-      subst (λ (img : Image). IsKept img c.args.file.now c.gather_line.new.last) same c.in_ok-gather_line.ensures.kept,
+      c.in_ok-end.ensures.same ∙ same,
+      subst (λ (img : Image). IsKept img c.args.file.now c.gather_line.new.last) same c.in_ok-end.ensures.kept,
       λ l n f of.
           let there = subst (λ (img : Image). IsFileOf img l n f c.args.file.now) (sym same) of in
           line-gathered _ _ _ (records_of.records (disk_image c.args.disk.now) f) c.loop-before.before _ _ _
-          (c.loop-before.invariant.2.0 l n f of)
-          c.in_ok-hand_on.ensures.ok
-          (subst (λ (img : Image). take c.in_ok-gather_line.value c.gather_line.new.room
-          ≡ take c.in_ok-hand_on.value c.loop-before.room
+          (c.loop-before.invariant.2 l n f of)
+          c.in_ok-start.ensures.ok
+          (subst (λ (img : Image). take c.in_ok-end.end c.gather_line.new.room
+          ≡ take c.in_ok-start.start c.loop-before.room
           ++ record_line (c.loop-before.before + 1) (get_or (records_of.records img f) (c.loop-before.before + 1 - 1) []))
           same
-          (c.in_ok-gather_line.ensures.ok l n f there)),
-      omega (arith, c.in_ok-gather_line.ensures.end, c.in_ok-hand_on.ensures.room),
+          (c.in_ok-end.ensures.ok l n f there)),
+      omega (arith, c.in_ok-end.ensures.end, c.in_ok-start.ensures.room),
     )
 
 pub returns-clause-ok : goal.returns-clause-ok
@@ -52,5 +52,5 @@ returns-clause-ok g c = λ l n f of.
     on_ok_weaker c.put.result
     (λ put. all-lines _ _ _ (records_of.records (disk_image c.args.disk.now) f) c.loop-before.before _
     (omega (arith, all, c.loop-before-test.false, c.loop-before.auto.before-end))
-    (c.loop-before.invariant.2.0 l n f of) put)
+    (c.loop-before.invariant.2 l n f of) put)
     c.put.ensures.ok
