@@ -1,17 +1,14 @@
--- The record is there, and its line was printed.
-use Rattle.std.proofs.Common.{◌≡◌, List, ℕ, subst, sym, ◌∙◌, true, false}
+-- The record is there, and its line was put behind the others.
+use Rattle.std.proofs.Common.{◌≡◌, ◌++◌, List, ℕ, subst, sym, take, ◌∙◌, true, false}
 use Rattle.std.specs.Prelude.{is_err}
-use Rattle.std.specs.Io.KnownBytes.{Appends}
-use Rattle.std.proofs.lemmas.Result.{on_ok_weaker}
-use Rattle.byte_text.proofs.Texts.{in-room}
 use Rattle.byte_text.specs.Texts.{record_line}
 use Rattle.disk_layout.specs.Records as records_of
 use Rattle.d64_image.specs.Memory.{disk_image}
 use Rattle.keeper_commands.proofs.Printing.{got, not-err, read-done}
-use Rattle.keeper_commands.proofs.record_printing.put_record.Goals as goal
+use Rattle.keeper_commands.proofs.record_printing.gather_line.Goals as goal
 
 pub returns-then-is_err-clause-err : goal.returns-then-is_err-clause-err
-returns-then-is_err-clause-err g c =
+returns-then-is_err-clause-err c =
     let of = c.requires.of in
     let l = of.0 in
     let n = of.1 in
@@ -24,13 +21,10 @@ returns-then-is_err-clause-err g c =
     there.0 there.1 err)
 
 pub returns-clause-ok : goal.returns-clause-ok
-returns-clause-ok g c = λ l n f of.
+returns-clause-ok c = λ l n f of.
     let ok : is_err c.read_next.result ≡ false = sym c.is_err.ensures.value ∙ c.if-is_err.false in
     let read = not-err c.read_next.result ok (c.read_next.ensures.text.ok l n f of) in
     let bytes = got (records_of.records (disk_image c.args.disk.now) f) _ _ read.there in
-    on_ok_weaker c.put.result
-    (λ end. subst (λ (xs : List ℕ). Appends (g.W.Write.contents c.args.out.now) (g.W.Write.contents c.put.new.out)
-    (record_line c.args.number xs))
-    (sym bytes)
-    (in-room _ _ _ c.put_line-start.result _ _ c.put_line-start.array_long c.put_line-start.ensures.written end))
-    c.put.ensures.ok
+    subst (λ (xs : List ℕ). take c.put_line.result c.put_line.new.room
+    ≡ take c.args.start c.args.room.now ++ record_line c.args.number xs)
+    (sym bytes) c.put_line.ensures.written
