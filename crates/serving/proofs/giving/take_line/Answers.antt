@@ -4,7 +4,7 @@ use Rattle.std.specs.Io.KnownBytes.{Consumes}
 use Rattle.request_cards.specs.Reading.{request_of}
 use Rattle.serving.specs.Read.{lf_after}
 use Rattle.serving.proofs.Long.{same_message}
-use Rattle.serving.proofs.inputs.take_line.Goals as goal
+use Rattle.serving.proofs.giving.take_line.Goals as goal
 
 pub returns-in-Ok-true : goal.returns-in-Ok-true
 returns-in-Ok-true g c =
