@@ -1,7 +1,6 @@
 -- Side sectors rewritten one by one.
-use Rattle.std.proofs.Common.{Err, ℕ, ◌≡◌, ◌≢◌, ◌<◌, ◌≤◌, ◌+◌, List, [], ◌∷◌, length, sym, ◌∙◌, ap, arith, subst, inl}
-use Rattle.std.proofs.Common.{inr, IsTrue}
-use Rattle.std.specs.Prelude.{Contains, Some, flat_map, slice_get}
+use Rattle.std.proofs.Common.{ℕ, ◌≡◌, ◌≢◌, ◌<◌, ◌≤◌, ◌+◌, List, [], ◌∷◌, length, sym, ◌∙◌, ap, arith, subst, inl, inr}
+use Rattle.std.specs.Prelude.{Contains, Err, IsTrue, Some, flat_map, slice_get}
 use Rattle.std.proofs.lemmas.Bool.{cases_eq}
 use Rattle.std.proofs.lemmas.List.Elements.{Contains-append_right}
 use Rattle.d64_image.proofs.Images.{sector-put_other, sector-put_same}

@@ -1,10 +1,8 @@
 -- The blank image is clean.
-use Rattle.std.proofs.Common.{List, [], add-one, ap, append-nil, arith, inl, inr, length, lit<, lit≤, refl}
-use Rattle.std.proofs.Common.{subst}
+use Rattle.std.proofs.Common.{List, [], add-one, ap, append-nil, arith, inl, inr, length, lit<, lit≤, refl, subst}
 use Rattle.std.proofs.Common.{sym, take, zero, suc, ℕ, ◌*◌, ◌+◌, ◌<◌, ◌∙◌, ◌∷◌, ◌++◌, ◌≡◌, ◌≤◌}
 use Rattle.std.proofs.lemmas.Bool.{true≢false}
-use Rattle.std.specs.Prelude.{None, Some, codes, replicate, slice_get}
-use Rattle.std.specs.Prelude.{slice_index}
+use Rattle.std.specs.Prelude.{None, Some, codes, replicate, slice_get, slice_index}
 use Rattle.d64_image.specs.Images.{Image, IsImage, sector}
 use Rattle.d64_image.specs.declared.place.Place.{Place}
 use Rattle.disk_layout.proofs.ExampleDisk.{only}
