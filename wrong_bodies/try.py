@@ -23,8 +23,8 @@ The status is 1 where one isn't refused. Crates are taken as they were built (ou
 RT_JOBS processors, one where that isn't set.
 
 A function is proved by the contracts of those that it calls, not by their bodies. So one check judges many wrong bodies, one in
-each function; what can't be told apart so (an edit of more than one function, of a definition, or whose function shows no open
-goal) is checked by itself."""
+each function; what can't be told apart so (an edit of more than one function, of a definition, whose function shows no open goal,
+or waits for another's) is checked by itself."""
 
 import os
 import shutil
@@ -117,7 +117,7 @@ def try_crate(crate, edits):
     for together in rounds:
         kept, aside, _, _ = tried(crate, [edit for edit, _ in together], [place for _, place in together])
         for (edit, _), before, after in zip(together, kept, aside):
-            if after.goals or before.goals:
+            if (after.goals or before.goals) and not after.waits:
                 tell(*verdict(edit, before, after), edit)
             else:
                 by_themselves.append(edit)
