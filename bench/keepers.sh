@@ -117,8 +117,8 @@ part_pictures() {
     run_proved() { for _ in $(seq "$times"); do "$proved" picture "$work/full.d64"; done; }
     # a sector's index: 17/0 has 336, 18/0 357
     damaged loop 336 1 000 && damaged count 358 30 001 && damaged map 357 5 001
-    for name in blank day full; do same_of "$name" 0; done
     for name in loop count map; do same_of "$name" 1; done
+    for name in blank day full; do same_of "$name" 0; done
     echo -n "pictures, a page of $(wc -c <"$work/proved.html") bytes: "
     print_ratio "$times" 1000 "ms a page"
     started=$(date +%s%N)

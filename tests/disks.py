@@ -174,19 +174,22 @@ def with_all_free(path):
 
 
 def of_longest_page(path, target):
-    """A disk made to have the longest page: eighteen sectors of directory, 144 entries named by sixteen `&` with the same
-    241 blocks and each with three side sectors, so that each sector is of some entry; and the map calls each free."""
+    """A disk made to have the longest page: eighteen sectors of directory, 144 entries named by sixteen `&`, and a map that
+    calls each sector free. All other sectors are one chain. The first 163 are the first entry's blocks; each entry has as
+    many side sectors next to the blocks that it begins with as these need, and the next entry begins with the last of them."""
     image = with_all_free(path)
     image.put(MAP, 0x90, b"&" * 16).put(MAP, 0xA2, b"&&").put(MAP, 0xA5, b"&&")
     directory = [(18, sector) for sector in range(1, 19)]
     others = [place for place in PLACES if place[0] != 18]
-    for chain in (directory, others[:241], others[241:]):
+    for chain in (directory, others[::-1]):
         for place, link in zip(chain, [*chain[1:], (0, 255)]):
             image.put(place, 0, link)
+    blocks = 163
     for number in range(144):
-        side = others[min(241 + 3 * number, len(others) - 1)]
-        slot = bytes([0xC4, *others[0]]) + b"&" * 16 + bytes([*side, 1])
+        more = min(blocks + (blocks + 119) // 120, len(others))
+        slot = bytes([0xC4, *others[blocks - 1]]) + b"&" * 16 + bytes([*others[more - 1], 1])
         image.put(directory[number // 8], 32 * (number % 8) + 2, slot.ljust(28, b"\0") + b"\xff\xff")
+        blocks = more
     return image.save(target)
 
 

@@ -170,6 +170,26 @@ def cut_growth(path, target):
     return image.put(MAP, 4 * 17, [0x10, 0xE0, 0xFF, 0x1F]).save(target)
 
 
+def cut_creation(path, target):
+    """The same behind the first write of a new file's creation: track 17 is two blocks less."""
+    return disks.Image(path).put(MAP, 4 * 17, [0x0F, 0xC0, 0xFF, 0x1F]).save(target)
+
+
+def created(program, path, target):
+    """The disk with the new file."""
+    target.write_bytes(path.read_bytes())
+    disks.call(program, "make", target, "NEW", "--length", "80")
+    return target
+
+
+def cut_before_count(path, target):
+    """The same behind the fourth write: the new block, the side sector that names it, and the old last block with its link."""
+    image = disks.Image(cut_growth(path, target))
+    image.put((17, 4), 0, [0, 0xFB, *bytes(16), *(13 * [0xFF, *bytes(17)])])
+    image.put((17, 1), 0, [0, 0x13]).put((17, 1), 18, [17, 4])
+    return image.put((17, 0), 0, [17, 4]).put((17, 0), 254, [0xFF, 0]).save(target)
+
+
 def played(program, path, target, line):
     """The disk after one message."""
     target.write_bytes(path.read_bytes())
@@ -189,7 +209,10 @@ def made_disks(program, folder):
     fresh = disks.blank(program, folder / "fresh.d64", 2)
     yield "fresh", fresh, "OK", False
     yield "growth_cut", cut_growth(fresh, folder / "cut.d64"), "MAPWRONG", False
+    yield "count_behind", cut_before_count(fresh, folder / "behind.d64"), "COUNTWRONG", False
     yield "grown", played(program, fresh, folder / "grown.d64", "1,1,S,15,7"), "OK", False
+    yield "creation_cut", cut_creation(fresh, folder / "creation_cut.d64"), "MAPWRONG", False
+    yield "created", created(program, fresh, folder / "created.d64"), "OK", False
 
 
 def steps():

@@ -45,6 +45,10 @@ void *realloc(void *old, size_t size) { return refused() ? NULL : __libc_realloc
 """
 
 SCRIPT = b"1,1,S,15,7\n1,1,S,15,7\n@3 1,2,S,30,4\n1,2,S,30,4\n2,1,M,15,3,30\n2,2,I,15,9\nhello\n"
+LINES = SCRIPT.replace(b"@3 ", b"")
+# records of a file CARDS: one that is there, one behind three blocks of growth, and one as a spreadsheet writes it
+RECORDS = b"1,\"MILK\\0d\"\n30,\"\\ffx\"\n2,EGGS\r\n"
+IMAGE = "shop.d64"
 MOST = 5000
 
 
@@ -58,28 +62,31 @@ class Trial:
         source.write_text(LIBRARY)
         subprocess.run(["cc", "-O2", "-shared", "-fPIC", "-o", self.library, source], check=True)
 
-    def run(self, words, number=None):
-        """The status and both outputs; and whether the request with this number was refused."""
+    def run(self, words, number=None, given=b""):
+        """The status and both outputs, with this on standard input; and whether the request with this number was refused."""
         self.mark.unlink(missing_ok=True)
         environment = dict(os.environ)
         if number is not None:
             environment |= {"LD_PRELOAD": str(self.library), "REFUSED": str(number), "REFUSED_MARK": str(self.mark)}
-        done = subprocess.run(words, cwd=self.folder, env=environment, capture_output=True, timeout=120)
+        done = subprocess.run(words, cwd=self.folder, env=environment, input=given, capture_output=True, timeout=120)
         return (done.returncode, done.stdout, done.stderr), self.mark.exists()
 
     def files(self):
         return {path.name: path.read_bytes() for path in self.folder.glob("*.d64")}
 
-    def each(self, words, begin, wanted):
-        """Runs the words with each request refused in turn, each time on the files that `begin` makes. `wanted` judges what
-        the run said and left, beside what it says and leaves with all its memory."""
+    def each(self, words, begin, wanted, status=0, given=b""):
+        """Runs the words with each request refused in turn, each time on the files that `begin` makes; with all memory they
+        end with the status. `wanted` judges what the run said and left, beside what it says and leaves with all its memory."""
         begin()
         before = self.files()
-        whole, _ = self.run(words)
+        whole, _ = self.run(words, given=given)
+        if whole[0] != status:
+            print(f"{words}: {whole} in place of status {status}")
+            sys.exit(1)
         after = self.files()
         for number in range(MOST):
             begin()
-            said, hit = self.run(words, number)
+            said, hit = self.run(words, number, given)
             if not hit:
                 return number
             self.tried += 1
@@ -99,6 +106,76 @@ def no_memory_for_a_day(said, same):
     return said[0] == 1 and b"memory" in said[1].splitlines()[-1] and same
 
 
+class Disks:
+    """The images on which the words are run; each is made once."""
+
+    def __init__(self, trial, program):
+        self.trial, self.program, self.made = trial, program, {}
+
+    def run(self, *words):
+        said, _ = self.trial.run([self.program, *words])
+        if said[0] != 0:
+            print(f"{words}: {said}")
+            sys.exit(1)
+
+    def put(self, name, make):
+        """The image of this name, made by these words where it wasn't yet."""
+        image = self.trial.folder / IMAGE
+        if name not in self.made:
+            image.unlink(missing_ok=True)
+            make()
+            self.made[name] = image.read_bytes()
+        image.write_bytes(self.made[name])
+
+    def blank(self):
+        """A shop for two tills."""
+        self.put("blank", lambda: self.run("format", IMAGE, "--tills", "2"))
+
+    def played(self):
+        """The shop after a short day."""
+        self.put("played", lambda: (self.blank(), self.run("play", IMAGE, "script")))
+
+    def carded(self):
+        """A shop with an empty file CARDS."""
+        self.put("carded", lambda: (self.blank(), self.run("make", IMAGE, "CARDS", "--length", "30")))
+
+    def wrong(self):
+        """The shop after the day, with wrong counts of free sectors and of a file's blocks."""
+        self.played()
+        image = self.trial.folder / IMAGE
+        held = bytearray(image.read_bytes())
+        for at in (MAP + 4, DIRECTORY + 30):
+            held[at] ^= 1
+        image.write_bytes(held)
+
+
+# where 18/0 and 18/1 begin
+MAP, DIRECTORY = 357 * 256, 358 * 256
+
+
+def lines_of(disks):
+    """Each word with its arguments, its image, what it reads, and its status."""
+    return [
+        (["check", IMAGE], disks.played, b"", 0),
+        (["list", IMAGE], disks.played, b"", 0),
+        (["dry", "lines"], disks.played, b"", 0),
+        (["format", IMAGE, "--tills", "3"], disks.played, b"", 0),
+        (["show", IMAGE], disks.played, b"", 0),
+        (["play", IMAGE, "script"], disks.blank, b"", 0),
+        (["play", IMAGE, "script", "--sync"], disks.blank, b"", 0),
+        (["serve", IMAGE], disks.blank, LINES, 0),
+        (["repair", IMAGE], disks.wrong, b"", 0),
+        (["records", IMAGE, "STOCK"], disks.played, b"", 0),
+        (["bytes", IMAGE, "STOCK"], disks.played, b"", 0),
+        (["make", IMAGE, "CARDS", "--length", "30"], disks.blank, b"", 0),
+        (["store", IMAGE, "CARDS", "records"], disks.carded, b"", 0),
+        (["map", IMAGE], disks.played, b"", 0),
+        (["picture", IMAGE], disks.played, b"", 0),
+        (["map", IMAGE], disks.wrong, b"", 1),
+        (["picture", IMAGE], disks.wrong, b"", 1),
+    ]
+
+
 def main():
     if len(sys.argv) < 2:
         sys.exit(__doc__)
@@ -108,30 +185,11 @@ def main():
         return
     with tempfile.TemporaryDirectory() as name:
         trial = Trial(Path(name))
-        image = trial.folder / "shop.d64"
-        (trial.folder / "script").write_bytes(SCRIPT)
-        (trial.folder / "lines").write_bytes(SCRIPT.replace(b"@3 ", b""))
-
-        def blank():
-            image.unlink(missing_ok=True)
-            trial.run([program, "format", "shop.d64", "--tills", "2"])
-
-        def played():
-            blank()
-            trial.run([program, "play", "shop.d64", "script"])
-
-        played()
-        words = ["check", "list", "dry", "format"]
-        if trial.run([program, "show", "shop.d64"])[0][0] == 0:
-            words += ["show", "play"]
-        for word in words:
-            line = {
-                "dry": ["dry", "lines"],
-                "format": ["format", "shop.d64", "--tills", "3"],
-                "play": ["play", "shop.d64", "script"],
-            }.get(word, [word, "shop.d64"])
-            count = trial.each([program, *line], blank if word == "play" else played, no_memory)
-            print(f"{word}: {count} requests for memory refused in turn")
+        for file, text in (("script", SCRIPT), ("lines", LINES), ("records", RECORDS)):
+            (trial.folder / file).write_bytes(text)
+        for words, begin, given, status in lines_of(Disks(trial, program)):
+            count = trial.each([program, *words], begin, no_memory, status, given)
+            print(f"{' '.join(words)}{' of a wrong map' if status else ''}: {count} requests for memory refused in turn", flush=True)
         if len(sys.argv) > 2:
             count = trial.each([Path(sys.argv[2]).resolve(), "6", "1", "20"], lambda: None, no_memory_for_a_day)
             print(f"tool_every_cut: {count} requests for memory refused in turn")

@@ -26,7 +26,7 @@ SYNTAX = "30,SYNTAX ERROR,00,00"
 # a request that grows STOCK, changes a card in two sectors, and is kept: nine writes
 GROWS = "1,1,S,15,7"
 # the words that only read an image, and what stands behind it
-READING = [["show"], ["check"], ["list"], ["records", "STOCK"], ["bytes", "STOCK"]]
+READING = [["show"], ["check"], ["list"], ["records", "STOCK"], ["bytes", "STOCK"], ["map"], ["picture"]]
 
 
 class Ends:
@@ -46,7 +46,8 @@ class Ends:
     def writing(self):
         """The words that write an image, and what stands behind it; `format` last, which changes it."""
         empty = script(self.folder, [])
-        return [["serve"], ["play", empty], ["play", empty, "--sync"], ["repair"], ["format", "--tills", 8]]
+        return [["serve"], ["play", empty], ["play", empty, "--sync"], ["repair"], ["make", "CARDS", "--length", 30],
+                ["store", "STOCK", empty], ["format", "--tills", 8]]
 
     def show(self):
         return sure(self.program, "show", self.image)

@@ -7,6 +7,9 @@ FALSE = "allow values at which this goal is false"
 GOAL = re.compile(r"(?:note: |error: )?(?:\./)?(src/\S+?):(\d+):\d+: (?:it is not proved that (.*?)|`search` found no proof)"
                   r" \(`([^`]+)`\)(.*)")
 ANSWER = re.compile(r"(?:so far: )?(?:error: )?(?:\./)?(proofs/\S+\.antt):\d+:\d+: error: (?:`([^`]+)`: )?(.*)")
+# what says that a function waits for one that it calls
+UNREAD = re.compile(r"(?:note: )?(?:\./)?(proofs/\S+\.antt) is not checked until what its function calls")
+UNTRIED = re.compile(r"note: `search` has not tried the goals of `([^`]+)`, which wait for a callee's proof")
 # what says that a proof names something that is no longer there
 LOST_NAME = re.compile(r"has no field|is not in scope|has no `|was not admitted")
 # what says that the checker has no proof rules for the form of a body, whatever it means
@@ -31,11 +34,13 @@ class Goal:
 
 
 class Told:
-    """What is told of one function: its open goals, and the answers that don't fit as (file, name, why)."""
+    """What is told of one function: its open goals, the answers that don't fit as (file, name, why), and whether it waits for
+    another to be proved, so that nothing is told."""
 
     def __init__(self, said, place):
         self.goals = []
         self.answers = []
+        self.waits = any(waits(place, line) for line in said)
         for number, line in enumerate(said):
             goal, answer = GOAL.match(line), ANSWER.match(line)
             if goal and is_in(place, goal[1], int(goal[2])):
@@ -63,6 +68,17 @@ def is_of(place, file):
         return True
     module = re.sub(r"^src/|\.rt$", "", place[0])
     return bool(re.fullmatch(rf"proofs/{module}/(?:.*/)?{place[1]}/\w+\.antt", file))
+
+
+def waits(place, line):
+    """Whether the line says that the function waits for one that it calls."""
+    unread, untried = UNREAD.match(line), UNTRIED.match(line)
+    if unread:
+        return is_of(place, unread[1])
+    if not untried or place is None:
+        return bool(untried)
+    module = re.sub(r"^src/|\.rt$", "", place[0]).replace("/", "::")
+    return f"::{module}::" in untried[1] and untried[1].endswith(f"::{place[1]}")
 
 
 def without(text, names):

@@ -23,8 +23,8 @@ The status is 1 where one isn't refused. Crates are taken as they were built (ou
 RT_JOBS processors, one where that isn't set.
 
 A function is proved by the contracts of those that it calls, not by their bodies. So one check judges many wrong bodies, one in
-each function; what can't be told apart so (an edit of more than one function, of a definition, or whose function shows no open
-goal) is checked by itself."""
+each function; what can't be told apart so (an edit of more than one function, of a definition, whose function shows no open goal,
+or waits for another's) is checked by itself."""
 
 import os
 import shutil
@@ -60,29 +60,31 @@ def checked(crate, texts):
     return ran.stdout.split("\n"), ran.returncode
 
 
-def set_aside(crate, texts, told):
-    """The texts without the answers that don't fit; None where there is none."""
-    left = dict(texts)
-    for file in {file for it in told for file, _, _ in it.answers}:
-        names = {name for it in told for at, name, _ in it.answers if at == file}
-        text = left.get(file) or (crate / file).read_text(encoding="utf-8")
-        left[file] = without(text, names)
-    return left if left != texts else None
+def set_aside(crate, edits, removed):
+    """The texts of these edits, and of the proof files without the answers that were set aside for them."""
+    texts = edited(crate, edits)
+    for file in {file for edit in edits for file, _ in removed[edit.name]}:
+        names = {name for edit in edits for at, name in removed[edit.name] if at == file}
+        texts[file] = without(texts.get(file) or (crate / file).read_text(encoding="utf-8"), names)
+    return texts
 
 
 def tried(crate, edits, places):
     """What is told of each of these edits: with the answers as they are, with those set aside that don't fit; what the first check
-    said, and the last status."""
-    texts = edited(crate, edits)
-    said, status = checked(crate, texts)
-    kept = aside = [Told(said, place) for place in places]
-    first = said
+    said, and the last status. An edit of which values were found isn't checked again."""
+    first, status = checked(crate, edited(crate, edits))
+    kept = [Told(first, place) for place in places]
+    aside = list(kept)
+    removed = {edit.name: set() for edit in edits}
     for _ in range(TIMES):
-        texts = set_aside(crate, texts, aside)
-        if texts is None:
+        left = [n for n in range(len(edits)) if not kept[n].false_goal() and not aside[n].false_goal() and aside[n].answers]
+        if not left:
             break
-        said, status = checked(crate, texts)
-        aside = [Told(said, place) for place in places]
+        for n in left:
+            removed[edits[n].name] |= {(file, name) for file, name, _ in aside[n].answers}
+        said, status = checked(crate, set_aside(crate, [edits[n] for n in left], removed))
+        for n in left:
+            aside[n] = Told(said, places[n])
     return kept, aside, first, status
 
 
@@ -115,7 +117,7 @@ def try_crate(crate, edits):
     for together in rounds:
         kept, aside, _, _ = tried(crate, [edit for edit, _ in together], [place for _, place in together])
         for (edit, _), before, after in zip(together, kept, aside):
-            if after.goals or before.goals:
+            if (after.goals or before.goals) and not after.waits:
                 tell(*verdict(edit, before, after), edit)
             else:
                 by_themselves.append(edit)

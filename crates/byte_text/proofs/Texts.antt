@@ -1,16 +1,16 @@
 -- Bytes and their texts: one text for each list of bytes.
-use Rattle.std.proofs.Common.{◌≡◌, ◌≢◌, ◌<◌, ◌≤◌, ◌+◌, ◌-◌, ◌*◌, ◌/◌, ◌%◌, ℕ, suc, List, [], ◌∷◌, ◌++◌, Option}
-use Rattle.std.proofs.Common.{length, take, drop, set, get_or, Bool, true, false, length-append, refl, subst, sym, ap}
+use Rattle.std.proofs.Common.{◌≡◌, ◌≢◌, ◌<◌, ◌≤◌, ◌+◌, ◌-◌, ◌/◌, ◌%◌, ℕ, suc, List, [], ◌∷◌, ◌++◌, Option}
+use Rattle.std.proofs.Common.{length, take, drop, get_or, Bool, true, false, length-append, refl, subst, sym, ap}
 use Rattle.std.proofs.Common.{ap₂, ◌∙◌, arith}
-use Rattle.std.specs.Prelude.{codes, decimal, if◌then◌else◌, slice_index, slice_range}
+use Rattle.std.specs.Prelude.{if◌then◌else◌, slice_index, slice_range}
 use Rattle.std.specs.Io.KnownBytes.{Appends}
 use Rattle.std.proofs.Math.Seq.{get_or-append_seam}
 use Rattle.std.proofs.KnownBytes.{Appends-trans}
 use Rattle.std.proofs.Math.Seq.{take-append-add}
-use Rattle.std.proofs.lemmas.Grind.{drop-set_at, flat_map-append}
-use Rattle.std.proofs.lemmas.List.{append_assoc, append-nil, drop-drop, drop-set-lt, get_or-drop, get_or-take}
-use Rattle.std.proofs.lemmas.List.{length-drop, length-take, length-take-le, take-append-drop, take_all}
-use Rattle.byte_text.specs.Texts.{AreBytes, byte_text, digit, is_plain, record_line, text_of, trimmed}
+use Rattle.std.proofs.lemmas.Grind.{flat_map-append}
+use Rattle.std.proofs.lemmas.List.{append_assoc, append-nil, get_or-drop, get_or-take}
+use Rattle.std.proofs.lemmas.List.{length-take, length-take-le, take-append-drop}
+use Rattle.byte_text.specs.Texts.{AreBytes, byte_text, digit, is_plain, text_of}
 
 -- a digit is of one number
 digit-one : (m n : ℕ) → digit m ≡ digit n → m ≡ n
@@ -21,28 +21,6 @@ chosen plain b = if plain then b ∷ [] else 92 ∷ digit (b / 16) ∷ digit (b 
 
 plain-byte : (b : ℕ) → is_plain b ≡ true → byte_text b ≡ b ∷ []
 plain-byte b plain = ap (λ (p : Bool). chosen p b) plain
-
--- a byte that stands for itself, put over the last of three bytes
-pub put-plain : (b h l start end : ℕ) (room rest : List ℕ) → is_plain b ≡ true → start + 3 ≡ end → 4 ≤ end
-    → end ≤ length room → drop start room ≡ 92 ∷ h ∷ l ∷ rest
-    → drop (start + 2 * 1) (set room (end - 4 + 3 * 1) b) ≡ byte_text b ++ rest
-put-plain b h l start end room rest plain last low high put =
-    let here : start + 2 * 1 ≡ end - 4 + 3 * 1 = omega (arith, last, low) in
-    let behind : end - 4 + 3 * 1 + 1 ≡ start + 3 = omega (arith, last, low) in
-    drop-set_at room (end - 4 + 3 * 1) (start + 2 * 1) b here (omega (arith, low, high))
-    ∙ ap (λ (n : ℕ). b ∷ drop n room) behind
-    ∙ ap (λ (xs : List ℕ). b ∷ xs) (sym (drop-drop 3 start room) ∙ ap (λ (xs : List ℕ). drop 3 xs) put)
-    ∙ sym (ap (λ (xs : List ℕ). xs ++ rest) (plain-byte b plain))
-
--- another, put before its three
-pub put-digits : (b start end : ℕ) (room rest : List ℕ) → is_plain b ≡ false → start + 3 ≡ end → 4 ≤ end
-    → drop start room ≡ 92 ∷ digit (b / 16) ∷ digit (b % 16) ∷ rest
-    → drop (start + 2 * 0) (set room (end - 4 + 3 * 0) b) ≡ byte_text b ++ rest
-put-digits b start end room rest other last low put =
-    let here : start + 2 * 0 ≡ start = omega arith in
-    let before : end - 4 + 3 * 0 < start = omega (arith, last, low) in
-    ap (λ (n : ℕ). drop n (set room (end - 4 + 3 * 0) b)) here ∙ drop-set-lt start room (end - 4 + 3 * 0) b before
-    ∙ put ∙ sym (ap (λ (p : Bool). chosen p b ++ rest) other)
 
 -- bytes that stand for themselves are their own text
 text-plain : (xs : List ℕ) → ((i : ℕ) → i < length xs → is_plain (get_or xs i 0) ≡ true) → text_of xs ≡ xs
@@ -179,19 +157,3 @@ pub none-more : (text rest pre : List ℕ) → text ≡ text_of pre ++ rest → 
 none-more text rest pre is some full bytes few same =
     let x = behind-of pre bytes rest (sym is ∙ same) in
     no-room rest pre bytes x.behind some full few x.split x.text
-
--- the text of a line whose bytes were trimmed
-pub line-put : (line : List ℕ) (n : ℕ) (bytes kept : List ℕ) → kept ≡ trimmed bytes
-    → line ≡ decimal n ++ (codes ",\"" ++ (text_of kept ++ codes "\"\n")) → line ≡ record_line n bytes
-unfolding record_line
-line-put line n bytes kept is put =
-    put ∙ ap (λ (xs : List ℕ). decimal n ++ (codes ",\"" ++ (text_of xs ++ codes "\"\n"))) is
-
--- what stands at a room's end
-pub in-room : (a b : Option (List ℕ)) (size start : ℕ) (text room : List ℕ) → length room ≡ size
-    → drop start room ≡ text
-    → Appends a b (take (size - start) (drop start room)) → Appends a b text
-in-room a b size start text room long put written =
-    let whole : take (size - start) (drop start room) ≡ drop start room =
-    take_all (size - start) (drop start room) (omega (arith, long, length-drop start room)) in
-    subst (Appends a b) (whole ∙ put) written

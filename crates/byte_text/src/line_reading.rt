@@ -7,7 +7,8 @@ use crate::reading::fill_from;
 use arrayvec::ArrayVec;
 use request_cards::number_before_comma;
 
-/// The greatest number that a record of a disk can have: a file of 720 blocks has 182,880 records of one byte.
+/// The greatest number that a line can have: the 720 blocks that a file's side sectors can name would have 182,880 records of
+/// one byte. A disk of 35 tracks has room for 167,132.
 const LAST_RECORD: u32 = 182_880;
 
 /// What stands between quotation marks, where there are two at the ends; else the same.

@@ -8,17 +8,17 @@ use Rattle.d64_image.proofs.Places.{same_or_other}
 use Rattle.d64_image.specs.Images.{Image, Sector, sector}
 use Rattle.disk_layout.proofs.ExampleDisk.{IsStockSide, at_block, at_entry, at_map, at_other, disk, entry_bytes}
 use Rattle.disk_layout.proofs.ExampleDisk.{entry_slot, exact_side, lower_sector, lower_track, not-in, stock-is_layout}
-use Rattle.disk_layout.proofs.ExampleDisk.{stock-records-1, stock-records-2, stock_disk, stock_file, stock_layout}
+use Rattle.disk_layout.proofs.ExampleDisk.{stock_disk, stock_file, stock_layout}
 use Rattle.disk_layout.proofs.ExampleDisk.{two_records}
 use Rattle.disk_layout.proofs.ExampleFaults.{changed_side}
 use Rattle.disk_layout.proofs.ExampleMap.{map_bytes}
-use Rattle.disk_layout.proofs.Examples.{block_0, block_1, top-alone, zero_sector}
+use Rattle.disk_layout.proofs.Examples.{block_0, block_1, zero_sector}
+use Rattle.disk_layout.proofs.ExampleSlots.{top-alone}
 use Rattle.disk_layout.proofs.lemmas.lists.Once.{Contains-cases, Contains-here, Contains-nil}
 use Rattle.disk_layout.specs.Directory.{directory_start, map_place}
 use Rattle.disk_layout.specs.Entries.{IsRecounted, IsRecountedAll, SameEntries}
-use Rattle.disk_layout.specs.Growth.{HasGrown, IsGrowing}
 use Rattle.disk_layout.specs.Records.{IsFilled, empty_record, filler, joined, record_count, records}
-use Rattle.disk_layout.specs.Rest.{IsFirst, KeepsRest, Rest, header_of, rest_of}
+use Rattle.disk_layout.specs.Rest.{IsFirst, header_of, rest_of}
 use Rattle.disk_layout.specs.Room.{IsTopOf}
 use Rattle.disk_layout.specs.Same.{AddsFile, IsCountByte, SameButCounts, SameFiles}
 
@@ -135,43 +135,6 @@ created s m = record {
   ) refl;
 }
 
--- a growth: from one record to two, the second empty
-pub growing : (s m : Sector) → IsStockSide s
-    → IsGrowing (stock_disk 19 2 two_records s m) (stock_disk 37 2 two_records s m) (stock_layout 19 2) [] []
-    (stock_file 19 2) 1
-unfolding entry_bytes
-growing s m side = record {
-  file = stock_file 37 2;
-  entry = refl;
-  layout = stock-is_layout 37 2 two_records s m side;
-  grows = inr (rw (stock-records-1 2 s m, stock-records-2 2 s m) refl);
-  before_kept = refl;
-  after_kept = refl;
-  header = rw (
-    at_map (entry_bytes 132 1 18 2) (0 ∷ 37 ∷ two_records) s m,
-    at_map (entry_bytes 132 1 18 2) (0 ∷ 19 ∷ two_records) s m,
-  ) refl;
-}
-
-pub grown : (s m : Sector) → IsStockSide s
-    → HasGrown (stock_disk 19 2 two_records s m) (stock_disk 37 2 two_records s m) (stock_layout 19 2) [] []
-    (stock_file 19 2) 3
-unfolding entry_bytes
-grown s m side = record {
-  file = stock_file 37 2;
-  entry = refl;
-  layout = stock-is_layout 37 2 two_records s m side;
-  more = 1;
-  few = lit≤ tt;
-  grows = rw (stock-records-1 2 s m, stock-records-2 2 s m) refl;
-  before_kept = refl;
-  after_kept = refl;
-  header = rw (
-    at_map (entry_bytes 132 1 18 2) (0 ∷ 37 ∷ two_records) s m,
-    at_map (entry_bytes 132 1 18 2) (0 ∷ 19 ∷ two_records) s m,
-  ) refl;
-}
-
 -- a request that names STOCK: a record with another letter, in the same block, is not of the rest
 abbrev stock_name : List ℕ
 stock_name = 83 ∷ 84 ∷ 79 ∷ 67 ∷ 75 ∷ []
@@ -180,33 +143,13 @@ first-stock : (n : ℕ) → IsFirst (stock_layout 37 n) stock_name 0 (stock_file
 unfolding entry_bytes
 first-stock n = record { file = refl; named = (refl, refl); first = λ k g h. absurd (omega (arith, h)) }
 
-rest-same : (n : ℕ) (s m : Sector) → rest_of (stock_disk 37 n two_records s m) (stock_layout 37 n) 0 0 (stock_file 37 n)
+pub rest-same : (n : ℕ) (s m : Sector) → rest_of (stock_disk 37 n two_records s m) (stock_layout 37 n) 0 0 (stock_file 37 n)
     ≡ rest_of (stock_disk 37 n two_letters s m) (stock_layout 37 n) 0 0 (stock_file 37 n)
 unfolding entry_bytes rest_of records joined record_count two_records two_letters
 rest-same n s m = rw (
   at_map (entry_bytes 132 1 18 n) (0 ∷ 37 ∷ two_records) s m,
   at_map (entry_bytes 132 1 18 n) (0 ∷ 37 ∷ two_letters) s m,
 ) refl
-
-pub rest-kept : (n : ℕ) (s m : Sector) → IsStockSide s
-    → KeepsRest (stock_disk 37 n two_records s m) (stock_disk 37 n two_letters s m) stock_name stock_name
-rest-kept n s m side = record {
-  before = stock_layout 37 n;
-  is_before = stock-is_layout 37 n two_records s m side;
-  after = stock_layout 37 n;
-  is_after = stock-is_layout 37 n two_letters s m side;
-  a = 0;
-  b = 0;
-  card_file = stock_file 37 n;
-  request_file = stock_file 37 n;
-  card_file' = stock_file 37 n;
-  request_file' = stock_file 37 n;
-  cards = first-stock n;
-  answers = first-stock n;
-  cards' = first-stock n;
-  answers' = first-stock n;
-  same = rest-same n s m;
-}
 
 -- alone on its disk STOCK can grow to 9285 records
 pub stock-top : (n : ℕ) (s m : Sector) → IsStockSide s → IsTopOf (stock_disk 37 n two_records s m) stock_name 9285
@@ -220,11 +163,7 @@ stock-top n s m side = record {
 }
 
 -- but the disk's name, byte 144 of 18/0 and on, is of the rest
-rest-header : (old new : Image) (x y : List ℕ) → KeepsRest old new x y → header_of old ≡ header_of new
-unfolding rest_of
-rest-header old new x y h = ap (λ (r : Rest). r.header) h.same
-
-other-name : header_of (disk zero_sector [] [] (map_bytes 19 252)) ≢ header_of
+pub other-name : header_of (disk zero_sector [] [] (map_bytes 19 252)) ≢ header_of
     (disk zero_sector [] [] (set (map_bytes 19 252) 144 65))
 unfolding map_bytes
 other-name e =
@@ -233,11 +172,6 @@ other-name e =
     = rw (at_map zero_sector [] [] (map_bytes 19 252), at_map zero_sector [] [] (set (map_bytes 19 252) 144 65)) at e in
     let b : ◌≡◌ {A = ℕ} 0 65 = ap (λ (x : List ℕ). slice_index x 4) h in
     omega (arith, b)
-
-pub rest-renamed : (x y : List ℕ)
-    → ¬ (KeepsRest (disk zero_sector [] [] (map_bytes 19 252)) (disk zero_sector [] [] (set (map_bytes 19 252) 144 65))
-    x y)
-rest-renamed x y h = other-name (rest-header _ _ x y h)
 
 -- 14 records of 18 bytes in one block become 28 in two: record 15 begins with the old block's last two bytes
 abbrev repeated : ℕ → List ℕ → List ℕ

@@ -1,9 +1,10 @@
 -- A disk with one small relative file, STOCK: its entry in 18/1, its block in 17/0, its side sector in 17/1, the map in
 -- 18/0.
 -- The four sectors are arguments, so that each example changes what it is about.
-use Rattle.std.proofs.Common.{List, [], ap, arith, inl, inr, length, lit<, lit≤, refl, replicate, subst, sym, ℕ, zero}
+use Rattle.std.proofs.Common.{List, [], ap, arith, inl, inr, length, lit<, lit≤, refl, replicate, subst, sym}
+use Rattle.std.proofs.Common.{ℕ, zero}
 use Rattle.std.proofs.Common.{suc, ◌*◌, ◌+◌, ◌++◌, ◌<◌, ◌∙◌, ◌∷◌, ◌≡◌, ◌≢◌}
-use Rattle.std.proofs.lemmas.Bool.{false≢true, true≢false}
+use Rattle.std.proofs.lemmas.Bool.{true≢false}
 use Rattle.std.specs.Prelude.{Contains, Some, slice_get, slice_index}
 use Rattle.d64_image.proofs.Images.{length-put, sector-put_other, sector-put_same}
 use Rattle.d64_image.specs.Images.{Image, Sector, put, sector}
@@ -12,7 +13,7 @@ use Rattle.disk_layout.proofs.Examples.{block_0, block_1, zero-long, zero_image}
 use Rattle.disk_layout.proofs.lemmas.lists.Once.{Contains-cases, Contains-nil}
 use Rattle.disk_layout.specs.Chain.{EachOnce, IsChain, Names}
 use Rattle.disk_layout.specs.Directory.{directory_start, map_place, slot_in, slots_in, used_slots}
-use Rattle.disk_layout.specs.Layout.{File, IsFile, IsLayout, IsPlainFile, IsRelFile, IsSide, IsSound, Layout, owners}
+use Rattle.disk_layout.specs.Layout.{File, IsLayout, IsRelFile, IsSide, IsSound, Layout, owners}
 use Rattle.disk_layout.specs.Records.{empty_record, joined, record_count, records}
 use Rattle.disk_layout.specs.Side.{padded, side_sector}
 use Rattle.disk_layout.specs.declared.slot.Slot.{Slot}
@@ -236,22 +237,3 @@ pub stock-records-1 : (n : ℕ) (s m : Sector) → records (stock_disk 19 n two_
     ≡ (65 ∷ replicate 17 0) ∷ []
 unfolding entry_bytes records joined record_count two_records
 stock-records-1 n s m = rw (at_block (entry_bytes 132 1 18 n) (0 ∷ 19 ∷ two_records) s m) refl
-
--- the same entry as a program has a chain and no side sectors, and a deleted entry that names no block owns nothing
-pub program : (len n : ℕ) (rest s m : Sector) → IsPlainFile (disk (entry_bytes 130 0 len n) (0 ∷ 37 ∷ rest) s m)
-    (record { slot = entry_slot 130 0 len n; blocks = block_0 ∷ []; last = 37; sides = [] })
-unfolding entry_bytes
-program len n rest s m = ((block_0, (refl, refl), one-chain (entry_bytes 130 0 len n) 37 rest s m), refl)
-
-pub deleted : (img : Image) → IsFile img (record {
-  slot = slot_in directory_start (0 ∷ 0 ∷ 128 ∷ 0 ∷ []) 0;
-  blocks = [];
-  last = 0;
-  sides = [];
-})
-deleted img = record {
-  closed = inl (lit≤ tt, lit≤ tt);
-  rel = λ rel. absurd (false≢true rel);
-  empty = λ _ _. (refl, refl, refl);
-  plain = λ _ some. absurd (some refl);
-}

@@ -1,28 +1,31 @@
 -- One disk is clean; with one byte changed it has each fault of entries, owners, side sectors, counts and map.
 use Rattle.std.proofs.Common.{[], ap, arith, inl, inr, lit<, lit≤, refl, take, ℕ, ◌++◌, ◌≤◌, ◌∷◌, ◌≡◌, ◌≢◌}
-use Rattle.std.specs.Prelude.{Contains, Err, Ok, slice_index}
-use Rattle.d64_image.specs.History.{Failed, History}
+use Rattle.std.specs.Prelude.{Contains, slice_index}
 use Rattle.d64_image.proofs.Places.{place_at-none}
-use Rattle.d64_image.specs.Images.{Image, Sector}
+use Rattle.d64_image.specs.Images.{Sector}
 use Rattle.d64_image.specs.declared.place.Place.{Place}
-use Rattle.disk_layout.proofs.ExampleDisk.{IsStockSide, at_entry, at_map, at_side, disk, entry_bytes, entry_slot}
-use Rattle.disk_layout.proofs.ExampleDisk.{exact-side_is, exact_side, lower_sector, one-chain, only, stock-is_layout}
+use Rattle.disk_layout.proofs.ExampleDisk.{IsStockSide, at_entry, at_map, at_side, disk, entry_bytes}
+use Rattle.disk_layout.proofs.ExampleDisk.{entry_slot}
+use Rattle.disk_layout.proofs.ExampleDisk.{exact-side_is, exact_side, lower_sector, one-chain, only}
+use Rattle.disk_layout.proofs.ExampleDisk.{stock-is_layout}
 use Rattle.disk_layout.proofs.ExampleDisk.{stock_disk, stock_file, stock_layout}
 use Rattle.disk_layout.proofs.ExampleMap.{block_0-free, count-18, map-is, map_bytes}
-use Rattle.disk_layout.proofs.Examples.{block_0, block_1, type_133}
+use Rattle.disk_layout.proofs.Examples.{block_0, block_1}
+use Rattle.disk_layout.proofs.ExampleSlots.{type_133}
 use Rattle.disk_layout.proofs.lemmas.chains.Names.{named-none}
 use Rattle.disk_layout.proofs.lemmas.layouts.Twice.{told-unsound}
 use Rattle.disk_layout.proofs.lemmas.layouts.Unclean.{told-unclean}
 use Rattle.disk_layout.proofs.lemmas.lists.Once.{Contains-here, Contains-nil}
 use Rattle.disk_layout.specs.Clean.{IsClean}
 use Rattle.disk_layout.specs.Directory.{directory_start, map_place, slot_in, slots_in}
-use Rattle.disk_layout.specs.Fault.{Holds, HoldsOfClean, IsClosed, IsSlot, TellsFault, length_byte, nowhere}
+use Rattle.disk_layout.specs.Fault.{Holds, HoldsOfClean, IsClosed, IsSlot, length_byte, nowhere}
 use Rattle.disk_layout.specs.Fault.Owner.{blocks_of, sides_of}
 use Rattle.disk_layout.specs.Layout.{IsSound, owners}
 use Rattle.disk_layout.specs.Number.{number_of}
 use Rattle.disk_layout.specs.Side.{padded, side_sector}
-use Rattle.disk_layout.specs.declared.faults.Fault.TheVariants.{BadLength, BadLink, BadSide, BadType, CountWrong}
-use Rattle.disk_layout.specs.declared.faults.Fault.TheVariants.{Device, Loop, MapWrong, OwnedTwice, Unclosed}
+use Rattle.disk_layout.specs.declared.faults.Fault.TheVariants.{BadLength, BadLink, BadSide, BadType}
+use Rattle.disk_layout.specs.declared.faults.Fault.TheVariants.{CountWrong}
+use Rattle.disk_layout.specs.declared.faults.Fault.TheVariants.{Device, MapWrong, OwnedTwice, Unclosed}
 
 -- with exact side sector, count and map the disk is clean
 pub stock-is_clean : (rest : Sector) → IsClean (stock_disk 37 2 rest exact_side (map_bytes 19 252))
@@ -233,24 +236,6 @@ bad_type-unsound b s m = told-unsound (disk (entry_bytes 133 1 18 2) b s m) (Bad
 pub count_wrong-unclean : (rest m : Sector) → ¬ (IsClean (stock_disk 37 3 rest exact_side m))
 count_wrong-unclean rest m = told-unclean (stock_disk 37 3 rest exact_side m) (CountWrong directory_start)
     (count_wrong rest m)
-
--- where the device counts no failure an answer is anything but Device
-pub tells-chain : {D T : Type 0} (S : History D) (d : D) (answer : T) → TellsFault S d d (Ok answer)
-tells-chain S d answer = refl
-
-pub tells-loop : {D : Type 0} (S : History D) (d : D) → TellsFault {T = ℕ} S d d (Err (Loop block_0))
-tells-loop S d = refl
-
-pub tells-device : {D : Type 0} (S : History D) (d : D) → ¬ (Failed S d d)
-    → ¬ (TellsFault {T = ℕ} S d d (Err (Device block_0)))
-tells-device S d none h = none h
-
--- where the device failed at one sector alone, Device holds there, and nowhere else
-pub device_there : (img : Image) (p : Place) → Holds (λ x. x ≡ p) img (Device p)
-device_there img p = refl
-
-pub device_elsewhere : (img : Image) (p q : Place) → q ≢ p → ¬ (Holds (λ x. x ≡ p) img (Device q))
-device_elsewhere img p q other = other
 
 pub numbers : (p : Place) → (number_of (BadLink p) ≡ 1) × (number_of (MapWrong p) ≡ 9) × (number_of (Device p) ≡ 10)
 numbers p = (refl, refl, refl)

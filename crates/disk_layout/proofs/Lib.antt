@@ -1,7 +1,10 @@
 pub mod lemmas
 pub mod ExampleChanges
 pub mod ExampleDisk
+pub mod ExampleDeleted
+pub mod ExampleDevices
 pub mod ExampleFaults
 pub mod ExampleMap
 pub mod Examples
+pub mod ExampleSlots
 pub mod MapExamples

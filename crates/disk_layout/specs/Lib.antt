@@ -7,7 +7,6 @@ pub mod Directory
 pub mod Entries
 pub mod Fault
 pub mod Free
-pub mod Growth
 pub mod InOrder
 pub mod Layout
 pub mod Listing

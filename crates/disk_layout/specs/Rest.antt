@@ -31,7 +31,7 @@ use Rattle.std.specs.Prelude.{
 use Rattle.d64_image.specs.Images.{Image, Sector, sector}
 use Rattle.d64_image.specs.declared.place.Place.{Place}
 use Rattle.disk_layout.specs.Directory.{map_place, type_byte}
-use Rattle.disk_layout.specs.Layout.{File, IsLayout, Layout, file_owns, is_rel, record_length}
+use Rattle.disk_layout.specs.Layout.{File, Layout, file_owns, is_rel, record_length}
 use Rattle.disk_layout.specs.Records.{records}
 
 -- what is asked to stay of a file: its slot's type, name and length, its blocks with their bytes, its side places
@@ -92,24 +92,6 @@ rest_of img l a b requests = record {
   count = length (records img requests);
   past = drop 64 (records img requests);
 }
-
--- the two images have the same rest
-pub record KeepsRest (old new : Image) (stock requests : List ℕ) : Type 0 where
-  pub before : Layout
-  pub is_before : IsLayout old before
-  pub after : Layout
-  pub is_after : IsLayout new after
-  pub a : ℕ
-  pub b : ℕ
-  pub card_file : File
-  pub request_file : File
-  pub card_file' : File
-  pub request_file' : File
-  pub cards : IsFirst before stock a card_file
-  pub answers : IsFirst before requests b request_file
-  pub cards' : IsFirst after stock a card_file'
-  pub answers' : IsFirst after requests b request_file'
-  pub same : rest_of old before a b request_file ≡ rest_of new after a b request_file'
 
 -- the sectors outside track 18 that are owned by files other than the one at place n of the list
 unfoldable pub taken_by_others : Layout → ℕ → ℕ

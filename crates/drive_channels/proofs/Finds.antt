@@ -223,22 +223,6 @@ looked-before img k new o e x y name known is before closed other named here the
     shut entry None h = refl
     shut entry (Some s) h = absurd (none-some _ (sym h))
 
--- there is none, and what is remembered is as it was
-pub looked-none : (img : Image) (k new : Known) (name : List ℕ) → IsKnown img k → k.checked ≡ true
-    → channel_of k.last ≡ None → new ≡ k → ¬ (HasFile img name) → HasLooked img name new false
-looked-none img k new name known checked closed same missing = subst (λ (k : Known). HasLooked img name k false)
-    (sym same)
-    (record {
-      known = known;
-      checked = checked;
-      closed = closed;
-      found = λ is. absurd (differ is);
-      missing = λ _. missing;
-    })
-  where
-    differ : false ≡ true → ⊥
-    differ h = cc
-
 -- what is told of a found file
 pub of-some : {A : Type 0} (N : Type 0) (P : A → Type 0) (o : Option A) (x : A) → o ≡ Some x → MatchOption o N P → P x
 of-some {A} N P o x is h = subst (λ (o : Option A). MatchOption o N P) is h

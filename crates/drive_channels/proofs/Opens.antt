@@ -1,29 +1,6 @@
 -- The rows of an opening, once the disk is seen to be clean.
-use Rattle.std.proofs.Common.{
-  ℕ,
-  ◌≡◌,
-  ◌≢◌,
-  ◌≤◌,
-  inl,
-  inr,
-  Bool,
-  true,
-  false,
-  List,
-  Option,
-  None,
-  Some,
-  IfSome,
-  IsNone,
-  sym,
-  ◌∙◌,
-  ap,
-  ap₂,
-  subst,
-  refl,
-  arith,
-}
-use Rattle.std.proofs.lemmas.Option.{none-some, same_Some}
+use Rattle.std.proofs.Common.{ℕ, ◌≡◌, ◌≤◌, inl, inr, Bool, true, false, List, Option, None, Some, IfSome, IsNone, sym, ◌∙◌, ap, ap₂, subst, refl, arith}
+use Rattle.std.proofs.lemmas.Option.{same_Some}
 use Rattle.d64_image.specs.Images.{Image}
 use Rattle.disk_layout.proofs.lemmas.layouts.Layouts.{IsLayout-one}
 use Rattle.disk_layout.proofs.lemmas.layouts.Uniques.{IsFirst-one}
@@ -134,32 +111,6 @@ module _ (img : Image) (k : Known) (o : Opened) (name : List ℕ) (known : IsKno
         found-named img o.found name found is,
         (λ same. other (found.of.shows.size ∙ same)),
       )
-
-  -- what is known once it is open
-  pub known-opened : (number : ℕ) → 2 ≤ number → number ≤ 14
-      → IsKnown img (record {
-        last = Some (record { found = o.found; spot = Some (first_spot number) });
-        before = k.before;
-        checked = k.checked;
-      })
-  known-opened number low high = record {
-    fresh = λ off. absurd (none-some o (sym (known.fresh off).0 ∙ last));
-    remembered = λ checked. let m = known.remembered checked in record {
-      clean = m.clean;
-      last_found = found;
-      spot = record {
-        low = low;
-        high = high;
-        record_from = omega arith;
-        up_to = omega arith;
-        from = omega arith;
-        within = o.found.file.size_low;
-      };
-      before_found = m.before_found;
-      apart = subst (λ (last : Option Opened). IfSome last
-          (λ o. IfSome k.before (λ e. entry_of e.file ≢ entry_of o.found.file))) last m.apart;
-    };
-  }
 
 -- the file isn't there
 module _ (img : Image) (k : Known) (name : List ℕ) (missing : ¬ (HasFile img name)) (number : ℕ) (s : Status) where

@@ -1,5 +1,5 @@
 -- What the faults of the calls below say.
-use Rattle.std.proofs.Common.{◌≡◌, false, true, Result, Err, Ok, refl, subst}
+use Rattle.std.proofs.Common.{◌≡◌, false, true, Result, Err, Ok, refl, subst, sym}
 use Rattle.d64_image.specs.History.{Failed, History}
 use Rattle.d64_image.specs.Images.{Image}
 use Rattle.d64_image.specs.declared.place.Place.{Place}
@@ -7,6 +7,7 @@ use Rattle.disk_layout.specs.Fault.{Holds, HoldsOfClean, TellsFault, nowhere}
 use Rattle.disk_layout.specs.declared.faults.Fault.{Fault}
 use Rattle.disk_layout.specs.declared.faults.Fault.TheVariants as faults
 use Rattle.rel_records.specs.Faults.{TellsRelFault}
+use Rattle.rel_records.specs.Written.{IsDone}
 use Rattle.rel_records.specs.declared.faults.RelFault.{RelFault}
 use Rattle.rel_records.specs.declared.faults.RelFault.TheVariants.{Device, Exists, Full, NotFound, NotPresent, Overflow}
 use Rattle.rel_records.specs.declared.faults.RelFault.TheVariants.{TooLarge}
@@ -76,3 +77,17 @@ quiet T S old new (faults.Device p) other t = absurd (other p refl)
 pub device-failed : {D : Type 0} (T : Type 0) (S : History D) (old new : D) (e : RelFault) → e ≡ Device
     → TellsRelFault {T = T} S old new (Err e) → Failed S old new
 device-failed T S old new e is tells = subst (λ (x : RelFault). TellsRelFault {T = T} S old new (Err x)) is tells
+
+-- what a fault that is Overflow says
+pub over : (e : RelFault) → e ≡ Overflow → IsDone {T = Unit {0}} (Err e)
+over e is = subst (λ (x : RelFault). IsDone {T = Unit {0}} (Err x)) (sym is) tt
+
+pub over-fits : (e : RelFault) → e ≡ Overflow → ◌≡◌ {A = Result (Unit {0}) RelFault} (Err e) (Err TooLarge)
+    → ⊥
+over-fits e is h = cc
+
+pub over-device : (e : RelFault) → e ≡ Overflow → e ≡ Device → ⊥
+over-device e is h = cc
+
+pub device-other : (e : RelFault) → e ≡ Device → e ≡ Overflow → ⊥
+device-other e a b = cc

@@ -1,5 +1,5 @@
 -- What the calls inside a drive promise, at Ok and at an error. All of it is our own.
-use Rattle.std.specs.Prelude.{ℕ, ◌≡◌, ◌≢◌, ◌≤◌, Bool, false, true, IfOk, IsSome, List, OnOk, Result, Some}
+use Rattle.std.specs.Prelude.{ℕ, ◌≡◌, ◌≢◌, ◌≤◌, Bool, false, true, IfOk, IsSome, List, None, OnOk, Result, Some}
 use Rattle.d64_image.specs.History.{Changes, History, OnlyReads, TellsFailure, WritesNothing}
 use Rattle.d64_image.specs.Images.{Image}
 use Rattle.disk_layout.specs.Clean.{IsClean}
@@ -23,6 +23,12 @@ use Rattle.rel_records.specs.creation.Made.{IsCreating, creation_writes}
 pub record IsChannelNumber (channel : ℕ) : Type 0 where
   pub low : 2 ≤ channel
   pub high : channel ≤ 14
+
+-- What is known is of the disk, a check has passed, and no channel is open.
+pub record IsShut (img : Image) (k : Known) : Type 0 where
+  pub known : IsKnown img k
+  pub checked : k.checked ≡ true
+  pub closed : channel_of k.last ≡ None
 
 -- This is a place in a remembered file of a clean disk.
 pub record IsPlace (img : Image) (e : Found) (s : Spot) : Type 0 where

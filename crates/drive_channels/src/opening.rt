@@ -5,7 +5,7 @@ ghost use Rattle.d64_image.specs.History.{Changes, OnlyReads};
 ghost use Rattle.d64_image.specs.Images.{Image};
 ghost use Rattle.disk_layout.specs.Clean.{IsClean};
 ghost use Rattle.disk_layout.specs.Layout.{IsLayout, Layout};
-ghost use Rattle.drive_channels.specs.Calls.{Checks, IsChannelNumber, LooksFor, MakesFile, OpensText, OpensWish};
+ghost use Rattle.drive_channels.specs.Calls.{Checks, IsChannelNumber, IsShut, LooksFor, MakesFile, OpensText, OpensWish};
 ghost use Rattle.drive_channels.specs.Files.{HasFile};
 ghost use Rattle.drive_channels.specs.Moments.{IsCreatingFrom};
 ghost use Rattle.drive_channels.specs.Serving.{Serves};
@@ -113,9 +113,7 @@ impl Known {
 
     /// Makes the file of this name the one opened last, with no channel, where there is one. Whether there is.
     fn look_up<D: Sectors>(&mut self, disk: &mut D, name: &[u8]) -> Result<bool, Dead>
-        requires known { IsKnown (D.history.image disk.old) self.old }
-        requires checked { self.old.checked ≡ true }
-        requires closed { channel_of self.old.last ≡ None }
+        requires shut { IsShut (D.history.image disk.old) self.old }
         requires name { IsName name.now }
         ensures { LooksFor D.history disk.old disk.new result (HasLooked (D.history.image disk.old) name.now self.new) }
     {
@@ -210,9 +208,7 @@ impl Known {
         channel: u8,
         wish: FileWish<'_>,
     ) -> Result<Status, Dead>
-        requires known { IsKnown (D.history.image disk.old) self.old }
-        requires checked { self.old.checked ≡ true }
-        requires closed { channel_of self.old.last ≡ None }
+        requires shut { IsShut (D.history.image disk.old) self.old }
         requires channel { IsChannelNumber channel }
         requires wish { (text : List ℕ) × IsWish text (wish_of wish) }
         ensures { OpensWish D.history disk.old disk.new self.old self.new channel (wish_of wish.entry) result }

@@ -1,9 +1,10 @@
 -- A record that is there is read from a disk in memory, and its line is printed behind the others.
-use Rattle.std.proofs.Common.{◌≡◌, ◌≤◌, ◌+◌, ◌-◌, ◌⊎◌, inl, inr, ℕ, suc, List, [], Option, Some, None, Result, Ok, Err}
-use Rattle.std.proofs.Common.{true, false, length, get_or, refl, subst, sym, arith}
+use Rattle.std.proofs.Common.{◌≡◌, ◌≤◌, ◌+◌, ◌-◌, ◌++◌, ◌⊎◌, inl, inr, ℕ, suc, List, [], Option, Some, None, Result, Ok}
+use Rattle.std.proofs.Common.{Err, true, false, length, get_or, refl, subst, sym, ap, ◌∙◌, arith}
 use Rattle.std.specs.Prelude.{IfErr, OnOk, is_err, slice_get}
 use Rattle.std.specs.Io.KnownBytes.{Appends}
-use Rattle.std.proofs.KnownBytes.{Appends-trans}
+use Rattle.std.proofs.KnownBytes.{Appends-nil, Appends-trans}
+use Rattle.std.proofs.lemmas.List.{append-nil, append_assoc}
 use Rattle.std.proofs.lemmas.Option.{get_or_from_slice_get}
 use Rattle.d64_image.specs.History.{Failed, History}
 use Rattle.d64_image.specs.Images.{Image}
@@ -17,7 +18,7 @@ use Rattle.rel_records.specs.declared.faults.RelFault.TheVariants as rel
 use Rattle.rel_records.specs.declared.reading.in_order.LastBlock.{LastBlock}
 use Rattle.rel_records.specs.declared.rel_file.RelFile.{RelFile}
 use Rattle.rel_records.specs.reading.Kept.{IsKept, number_kept}
-use Rattle.keeper_commands.specs.Records.{lines_to, records_text}
+use Rattle.keeper_commands.specs.Records.{HandsOn, lines_to, records_text}
 
 pub memory-never : (a b : MemDisk) → Failed memory a b → ⊥
 memory-never a b failed = omega (arith, failed.rose (omega arith))
@@ -80,16 +81,39 @@ got rs i x e = get_or_from_slice_get rs i x [] e
 pub kept-none : (img : Image) (v : RelFile) (x : LastBlock) → number_kept x ≡ None → IsKept img v x
 kept-none img v x none = λ l n f is. rw none tt
 
-pub line-more : (a b c : Option (List ℕ)) (rs : List (List ℕ)) (n : ℕ) → Appends a b (lines_to rs n)
-    → Appends b c (record_line (n + 1) (get_or rs (n + 1 - 1) [])) → Appends a c (lines_to rs (n + 1))
-line-more a b c rs n before more =
+-- nothing was handed on, or all of it
+pub hands-none : (a : Option (List ℕ)) (xs : List ℕ) → HandsOn a a xs xs
+hands-none a xs = ([], Appends-nil a, refl)
+
+pub hands-all : (a b : Option (List ℕ)) (xs : List ℕ) → Appends a b xs → HandsOn a b xs []
+hands-all a b xs put = (xs, put, sym (append-nil xs))
+
+-- what is kept of that which was kept, with something behind it
+hands-more : (a b c : Option (List ℕ)) (all held kept line : List ℕ) → HandsOn a b all held → HandsOn b c held kept
+    → HandsOn a c (all ++ line) (kept ++ line)
+hands-more a b c all held kept line first next = (
+  first.0 ++ next.0,
+  Appends-trans a b c first.0 next.0 first.1 next.1,
+  ap (λ (xs : List ℕ). xs ++ line)
+      (first.2 ∙ ap (λ (xs : List ℕ). first.0 ++ xs) next.2 ∙ sym (append_assoc first.0 next.0 kept))
+      ∙ append_assoc (first.0 ++ next.0) kept line,
+)
+
+pub line-gathered : (a b c : Option (List ℕ)) (rs : List (List ℕ)) (n : ℕ) (held kept room : List ℕ)
+    → HandsOn a b (lines_to rs n) held → HandsOn b c held kept
+    → room ≡ kept ++ record_line (n + 1) (get_or rs (n + 1 - 1) []) → HandsOn a c (lines_to rs (n + 1)) room
+line-gathered a b c rs n held kept room before more put =
     let next : n + 1 ≡ suc n = omega arith in
     let here : n + 1 - 1 ≡ n = omega arith in
-    subst (λ (m : ℕ). Appends a c (lines_to rs m)) (sym next)
-    (Appends-trans a b c (lines_to rs n) (record_line (n + 1) (get_or rs n [])) before
-    (subst (λ (m : ℕ). Appends b c (record_line (n + 1) (get_or rs m []))) here more))
+    let line : List ℕ = record_line (n + 1) (get_or rs n []) in
+    subst (λ (m : ℕ). HandsOn a c (lines_to rs m) room) (sym next)
+    (subst (λ (xs : List ℕ). HandsOn a c (lines_to rs n ++ line) xs)
+    (sym (put ∙ ap (λ (m : ℕ). kept ++ record_line (n + 1) (get_or rs m [])) here))
+    (hands-more a b c (lines_to rs n) held kept line before more))
 
-pub all-lines : (a b : Option (List ℕ)) (rs : List (List ℕ)) (n : ℕ) → n ≡ length rs → Appends a b (lines_to rs n)
-    → Appends a b (records_text rs)
+pub all-lines : (a b c : Option (List ℕ)) (rs : List (List ℕ)) (n : ℕ) (held : List ℕ) → n ≡ length rs
+    → HandsOn a b (lines_to rs n) held → Appends b c held → Appends a c (records_text rs)
 unfolding records_text
-all-lines a b rs n all lines = subst (λ (m : ℕ). Appends a b (lines_to rs m)) all lines
+all-lines a b c rs n held all before last =
+    subst (λ (xs : List ℕ). Appends a c xs)
+    (sym before.2 ∙ ap (lines_to rs) all) (Appends-trans a b c before.0 held before.1 last)

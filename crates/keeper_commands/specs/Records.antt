@@ -15,6 +15,10 @@ abbrev pub lines_to : List (List ℕ) → ℕ → List ℕ
 lines_to rs zero = []
 lines_to rs (suc n) = lines_to rs n ++ record_line (n + 1) (get_or rs n [])
 
+-- of these bytes, `held`, a beginning was handed to an output, and the others, `kept`, weren't yet
+abbrev pub HandsOn : Option (List ℕ) → Option (List ℕ) → List ℕ → List ℕ → Type 0
+HandsOn old new held kept = (front : List ℕ) × Appends old new front × (held ≡ front ++ kept)
+
 -- the lines of all of them
 unfoldable pub records_text : List (List ℕ) → List ℕ
 records_text rs = lines_to rs (length rs)

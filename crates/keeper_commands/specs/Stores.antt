@@ -66,7 +66,7 @@ last_place n [] = 0
 last_place n (x ∷ xs) =
     if is_among n xs then suc (last_place n xs) else if nat_eq x.number n then 1 else 0
 
--- the table tells of each record that a disk can have which of these is its last one
+-- the table tells of each record that a line can be of which of these is its last one
 abbrev pub TellsLast : List ℕ → List NewRecord → Type 0
 TellsLast table xs = (n : ℕ) → n ≤ 182880 → slice_index table n ≡ last_place n xs
 

@@ -6,10 +6,10 @@ ghost use Rattle.keeper_commands.specs.declared.faults.KeepFault.TheVariants as 
 use crate::faults::KeepFault;
 use std::alloc::Global;
 
-/// One more than the greatest number of a record that a disk can have.
+/// One more than the greatest number that a line can have.
 const NUMBERS: usize = 182_881;
 
-/// The last line of each record that a disk can have, among those that were counted, from 1 on; 0 where none is of it.
+/// The last line of each record that a line can be of, among those that were counted, from 1 on; 0 where none is of it.
 #[derive(Drop)]
 pub(crate) struct LastLines {
     /// By the record's number, up to the greatest that was counted: memory that isn't touched costs no time.

@@ -1,9 +1,9 @@
 //! The records of a relative file, as they are printed.
-ghost use Rattle.std.specs.Prelude.{◌≡◌, ◌≢◌, ◌≤◌, ◌-◌, ℕ, List, [], IfErr, IfOk, OnOk, get_or, length};
+ghost use Rattle.std.specs.Prelude.{◌≡◌, ◌≢◌, ◌≤◌, ◌+◌, ◌-◌, ◌++◌, ℕ, List, [], IfErr, IfOk, OnOk, get_or, length, take};
 ghost use Rattle.std.specs.Io.KnownBytes.{Appends};
 ghost use Rattle.d64_image.specs.Memory.{disk_image};
 ghost use Rattle.disk_layout.specs.Records as records_of;
-ghost use Rattle.keeper_commands.specs.Records.{AreRecordsPrinted, IsRecordsFault, records_text};
+ghost use Rattle.keeper_commands.specs.Records.{AreRecordsPrinted, HandsOn, IsRecordsFault, records_text};
 ghost use Rattle.keeper_commands.specs.declared.faults.KeepFault.TheVariants as faults;
 ghost use Rattle.rel_records.specs.File.{IsOf, OfItsFile};
 ghost use Rattle.rel_records.specs.reading.Kept.{IsKept};
@@ -19,24 +19,28 @@ use rel_records::{LastBlock, RelFault, RelFile, find, read_next, records};
 use std::alloc::Global;
 use std::io::Write;
 
-/// Prints the line of a record that is there. `last` is the block that was read last, `bytes` is room for the record, and
-/// `room` for its line.
-fn put_record<W: Write>(
-    out: &mut W,
+/// The room where lines are gathered, so that many are handed on at once.
+const ROOM: usize = 4096;
+
+/// Puts the line of a record that is there behind the first `start` bytes of the room, and tells where it ends. `last` is
+/// the block that was read last, and `bytes` is room for the record.
+fn gather_line(
     disk: &mut MemDisk,
     file: &RelFile,
     last: &mut LastBlock,
     bytes: &mut ArrayVec<u8, 254>,
-    room: &mut [u8; LINE_ROOM],
     number: u32,
-) -> Result<(), KeepFault>
+    room: &mut [u8; ROOM],
+    start: usize,
+) -> Result<usize, KeepFault>
     requires of { IsOf (disk_image disk.old) file.now }
     requires kept { IsKept (disk_image disk.old) file.now last.old }
     requires there { OfItsFile (disk_image disk.old) file.now (λ l n f.
         (1 ≤ number) × (number ≤ length (records_of.records (disk_image disk.old) f))) }
-    ensures ok { OfItsFile (disk_image disk.old) file.now (λ l n f.
-        OnOk result (Appends (W.contents out.old) (W.contents out.new)
-        (record_line number (get_or (records_of.records (disk_image disk.old) f) (number - 1) [])))) }
+    requires room { start + 776 ≤ 4096 }
+    ensures ok { OfItsFile (disk_image disk.old) file.now (λ l n f. IfOk result (λ end. take end room.new
+        ≡ take start room.old ++ record_line number (get_or (records_of.records (disk_image disk.old) f) (number - 1) []))) }
+    ensures end { IfOk result (λ end. end ≤ start + 776) }
     ensures same { disk_image disk.new ≡ disk_image disk.old }
     ensures kept { IsKept (disk_image disk.old) file.now last.new }
     ensures err { IfErr result (λ fault. fault ≡ faults.File) }
@@ -44,8 +48,23 @@ fn put_record<W: Write>(
     if read_next(disk, file, last, number, bytes).is_err() {
         return Err(KeepFault::Device);
     }
-    let start = put_line(number, bytes, room);
-    put(out, &room[start..])
+    Ok(put_line(number, bytes, room, start))
+}
+
+/// Hands the first `used` bytes of the room on, where the longest line may find no room behind them. Tells how many of
+/// its bytes still count.
+fn hand_on<W: Write>(out: &mut W, room: &[u8; ROOM], used: usize) -> Result<usize, KeepFault>
+    requires { used ≤ 4096 }
+    ensures room { IfOk result (λ start. start + 776 ≤ 4096) }
+    ensures ok { IfOk result (λ start. HandsOn (W.contents out.old) (W.contents out.new) (take used room.now)
+        (take start room.now)) }
+    ensures err { IfErr result (λ fault. fault ≡ faults.File) }
+{
+    if used <= ROOM - LINE_ROOM {
+        return Ok(used);
+    }
+    put(out, &room[..used])?;
+    Ok(0)
 }
 
 /// Prints the lines of the records of a file, record 1 first.
@@ -58,19 +77,21 @@ fn put_records<W: Write>(out: &mut W, disk: &mut MemDisk, file: &RelFile) -> Res
 {
     let mut last = LastBlock::none();
     let mut bytes = ArrayVec::new();
-    let mut room = [0; LINE_ROOM];
+    let mut room = [0; ROOM];
+    let mut end = 0;
     for before in 0..records(file) {
-        put_record(
-            out,
+        let start = hand_on(out, &room, end)?;
+        end = gather_line(
             disk,
             file,
             &mut last,
             &mut bytes,
-            &mut room,
             before + 1,
+            &mut room,
+            start,
         )?;
     }
-    Ok(())
+    put(out, &room[..end])
 }
 
 /// Prints the records of the first closed relative file of this name, one a line, record 1 first: its number, a

@@ -28,7 +28,7 @@ use std::io::Write;
 /// that it hasn't, or that would need more than 720 blocks; `DiskFull` where the free sectors don't suffice for the
 /// greatest record: nothing was written or printed then. `Device` where the device failed, and `File` where the output
 /// did: what was stored until then stays. Memory is taken for a copy of the image, and then for a number of each record
-/// that a disk can have.
+/// that a line can be of.
 pub fn store_image<D: Sectors, W: Write>(
     alloc: Global,
     image: &[u8],

@@ -32,7 +32,7 @@ use Rattle.d64_image.specs.declared.place.Place.{Place}
 use Rattle.layout_check.specs.declared.owners.Owners.{Owners}
 use Rattle.disk_layout.specs.Chain.{EachOnce}
 use Rattle.layout_check.specs.Owners.{IsClaimed, IsSystem, owner_of}
-use Rattle.disk_layout.proofs.lemmas.lists.Once.{Contains-cases, Contains-here, Contains-nil, EachOnce-apart}
+use Rattle.disk_layout.proofs.lemmas.lists.Once.{Contains-here, EachOnce-apart}
 use Rattle.disk_layout.specs.Directory.{map_place}
 use Rattle.d64_image.proofs.Places.{same_or_other}
 
@@ -104,17 +104,6 @@ system-all t i xs h so_far =
     let all : take i xs ≡ xs = take_all i xs h in
     let P : List Place → Type 0 = IsSystem t in
     subst P all so_far
-
--- the map alone
-pub system-map : (now new : Owners) → ((p : Place) → owner_of now p ≡ 255) → owner_of new map_place ≡ 254
-    → ((q : Place) → map_place ≢ q → owner_of new q ≡ owner_of now q) → IsSystem new []
-system-map now new none here there p = elim (same_or_other map_place p) [
-  | inl e ↦ (λ c. ap (owner_of new) (sym e) ∙ here, λ n. absurd (n (rw (← e) (Contains-here map_place []))))
-  | inr n ↦ (
-    λ c. elim (Contains-cases p map_place [] c) [ inl e ↦ absurd (n e) | inr d ↦ absurd (Contains-nil p d) ],
-    λ c. there p n ∙ none p,
-  )
-]
 
 pub other-number : (n m : ℕ) → IsTrue (not (nat_eq n m)) → n ≢ m
 other-number n m t = grind (arith, nat_tests)

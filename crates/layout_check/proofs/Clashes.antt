@@ -36,7 +36,7 @@ use Rattle.d64_image.specs.Images.{Image}
 use Rattle.d64_image.specs.declared.place.Place.{Place}
 use Rattle.disk_layout.proofs.lemmas.chains.Chains.{Leads-push}
 use Rattle.disk_layout.proofs.lemmas.counts.Recount.{flat_map-out}
-use Rattle.disk_layout.proofs.lemmas.layouts.Twice.{get-below}
+use Rattle.disk_layout.proofs.lemmas.layouts.SidesAt.{get-below}
 use Rattle.disk_layout.proofs.lemmas.lists.Lists.{contains-get}
 use Rattle.disk_layout.proofs.lemmas.lists.Once.{Contains-cases, Contains-nil, all-in}
 use Rattle.disk_layout.specs.Chain.{Leads}

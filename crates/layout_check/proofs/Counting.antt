@@ -1,59 +1,25 @@
 -- How many sectors other entries own, counted over the table of owners.
-use Rattle.std.proofs.Common.{
-  ℕ,
-  zero,
-  suc,
-  ◌≡◌,
-  ◌≢◌,
-  ◌<◌,
-  ◌≤◌,
-  ◌+◌,
-  ◌-◌,
-  ◌⊎◌,
-  Bool,
-  true,
-  false,
-  cond,
-  List,
-  [],
-  ◌∷◌,
-  ◌++◌,
-  length,
-  slice_index,
-  sym,
-  ◌∙◌,
-  ap,
-  refl,
-  arith,
-  inl,
-  inr,
-}
-use Rattle.std.specs.Prelude.{Contains, Some, filter, flat_map, nat_eq, nat_lt, not, slice_get, ◌&&◌}
+use Rattle.std.proofs.Common.{ℕ, zero, suc, ◌≡◌, ◌≢◌, ◌<◌, ◌≤◌, ◌+◌, ◌-◌, ◌⊎◌, Bool, true, false, cond, List}
+use Rattle.std.proofs.Common.{[], ◌∷◌}
+use Rattle.std.proofs.Common.{◌++◌, length, slice_index, sym, ◌∙◌, ap, refl, arith, inl, inr}
+use Rattle.std.specs.Prelude.{Contains, Some, filter, flat_map, nat_eq, not, slice_get, ◌&&◌}
 use Rattle.std.proofs.lemmas.Bool.{false≢true}
 use Rattle.std.proofs.lemmas.Bool.Decides.{nat_tests}
-use Rattle.std.proofs.lemmas.List.Elements.{Contains-append_cases, Contains-append_left, Contains-append_right}
+use Rattle.std.proofs.lemmas.List.Elements.{Contains-append_cases, Contains-append_left}
+use Rattle.std.proofs.lemmas.List.Elements.{Contains-append_right}
 use Rattle.std.proofs.lemmas.Option.{slice_get_within}
 use Rattle.std.proofs.Math.Decide.{dec_lt}
-use Rattle.d64_image.proofs.Places.{at_low, below_grows, index_below, place_of, same_index}
+use Rattle.d64_image.proofs.Places.{at_low, below_grows, place_of}
 use Rattle.d64_image.specs.Geometry.{sectors_below, sectors_on}
 use Rattle.d64_image.specs.Places.{index_of}
 use Rattle.d64_image.specs.declared.place.Place.{Place}
 use Rattle.disk_layout.proofs.lemmas.counts.Recount.{filter-out, flat_map-out}
 use Rattle.disk_layout.proofs.lemmas.layouts.Layouts.{get-contains}
 use Rattle.disk_layout.proofs.lemmas.lists.Lists.{contains-get, filter-once}
-use Rattle.disk_layout.proofs.lemmas.lists.Once.{
-  Contains-cases,
-  Contains-here,
-  Contains-nil,
-  Contains-there,
-  EachOnce-apart,
-  EachOnce-join,
-  EachOnce-left,
-  EachOnce-right,
-  all-in,
-  filter-in,
-  flat_map-in,
-}
+use Rattle.disk_layout.proofs.lemmas.lists.Once.{Contains-cases, Contains-nil}
+use Rattle.disk_layout.proofs.lemmas.lists.Once.{EachOnce-apart, EachOnce-join, EachOnce-left, EachOnce-right}
+use Rattle.disk_layout.proofs.lemmas.lists.Once.{all-in}
+use Rattle.disk_layout.proofs.lemmas.lists.Once.{filter-in, flat_map-in}
 use Rattle.disk_layout.specs.Chain.{EachOnce}
 use Rattle.disk_layout.specs.Directory.{map_place}
 use Rattle.disk_layout.specs.Layout.{File, Layout, file_owns, owners}
@@ -62,56 +28,7 @@ use Rattle.layout_check.specs.Open.{IsShut}
 use Rattle.layout_check.specs.Owners.{owner_of}
 use Rattle.layout_check.specs.Survey.{IsSurveyOf}
 use Rattle.layout_check.specs.declared.outcome.Survey.{Survey}
-
--- 1 for a place that stands below n in an image
-abbrev pub mark : Place → ℕ → ℕ
-mark p n = cond (nat_lt (index_of p) n) 1 0
-
--- how many of the places stand below n in an image
-abbrev pub rank : List Place → ℕ → ℕ
-rank [] n = 0
-rank (p ∷ ps) n = mark p n + rank ps n
-
-one-below : (p : Place) (n : ℕ) → index_of p < n → mark p n ≡ 1
-one-below p n h = grind (arith, nat_tests)
-
-none-below : (p : Place) (n : ℕ) → n ≤ index_of p → mark p n ≡ 0
-none-below p n h = grind (arith, nat_tests)
-
-same-below : (p : Place) (n : ℕ) → index_of p ≢ n → mark p (n + 1) ≡ mark p n
-same-below p n ne = elim (dec_lt (index_of p) n) [
-  | yes lt ↦ one-below p (n + 1) (omega arith) ∙ sym (one-below p n lt)
-  | no le ↦ none-below p (n + 1) (omega (arith, le, ne)) ∙ sym (none-below p n (omega (arith, le)))
-]
-
-rank-none : (ps : List Place) → rank ps 0 ≡ 0
-rank-none [] = refl
-rank-none (p ∷ ps) = omega (arith, none-below p 0 (omega arith), rank-none ps)
-
-pub rank-all : (ps : List Place) → rank ps 683 ≡ length ps
-rank-all [] = refl
-rank-all (p ∷ ps) = omega (arith, one-below p 683 (index_below p), rank-all ps)
-
-rank-out : (ps : List Place) (q : Place) → ¬ (Contains ps q) → rank ps (index_of q + 1) ≡ rank ps (index_of q)
-rank-out [] q n = refl
-rank-out (p ∷ ps) q n = omega (
-  arith,
-  same-below p (index_of q) (λ e. n (rw (same_index p q e) (Contains-here q ps))),
-  rank-out ps q (λ c. n (Contains-there q p ps c)),
-)
-
-rank-in : (ps : List Place) (q : Place) → EachOnce ps → Contains ps q → rank ps (index_of q + 1) ≡ rank ps (index_of q)
-    + 1
-rank-in [] q once c = absurd (Contains-nil q c)
-rank-in (p ∷ ps) q once c = elim (Contains-cases q p ps c) [
-  | inl e ↦ omega (
-    arith,
-    one-below p (index_of q + 1) (omega (arith, ap index_of e)),
-    none-below p (index_of q) (omega (arith, ap index_of e)),
-    rank-out ps q (λ d. once.0 (rw e d)),
-  )
-  | inr d ↦ omega (arith, same-below p (index_of q) (λ e. once.0 (rw (same_index p q e) d)), rank-in ps q once.1 d)
-]
+use Rattle.layout_check.proofs.Ranks.{rank, rank-all, rank-in, rank-none, rank-out}
 
 -- a sector of track 18 stands at 357 to 375 in an image, and no other does
 on_18 : (p : Place) → p.track ≡ 18 → (357 ≤ index_of p) × (index_of p < 376)

@@ -3,6 +3,7 @@ pub mod Calls
 pub mod ClaimedBlocks
 pub mod Claims
 pub mod Clashes
+pub mod Ranks
 pub mod Counting
 pub mod Entries
 pub mod EntryMends
@@ -16,6 +17,7 @@ pub mod Mendings
 pub mod Ones
 pub mod OrderExamples
 pub mod Pointers
+pub mod SurveySteps
 pub mod Progress
 pub mod RepairOrder
 pub mod RepairRuns

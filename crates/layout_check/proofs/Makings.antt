@@ -1,33 +1,6 @@
 -- A map made from the owners, sector by sector.
-use Rattle.std.proofs.Common.{
-  ℕ,
-  ◌≡◌,
-  ◌≢◌,
-  ◌<◌,
-  ◌≤◌,
-  ◌+◌,
-  min,
-  Some,
-  None,
-  List,
-  sym,
-  ◌∙◌,
-  ap,
-  refl,
-  arith,
-  subst,
-  inl,
-  inr,
-  ◌++◌,
-  ◌*◌,
-  ◌/◌,
-  ◌%◌,
-  ◌-◌,
-  length,
-  length-append,
-  append_assoc,
-  slice_index,
-}
+use Rattle.std.proofs.Common.{ℕ, ◌≡◌, ◌≢◌, ◌<◌, ◌≤◌, ◌+◌, min, Some, None, List, sym, ◌∙◌, ap, refl, arith, subst}
+use Rattle.std.proofs.Common.{inl, inr, ◌++◌, ◌*◌, ◌/◌, ◌%◌, ◌-◌, length, length-append, append_assoc, slice_index}
 use Rattle.std.specs.Prelude.{drop, replicate, take}
 use Rattle.std.proofs.Math.ListN.{get_or-append}
 use Rattle.std.proofs.Math.Seq.{drop-append_seam, take-append_seam}
@@ -44,18 +17,8 @@ use Rattle.disk_layout.proofs.lemmas.lists.Sums.{sum-same}
 use Rattle.disk_layout.proofs.lemmas.map.Bits.{few_sectors}
 use Rattle.disk_layout.specs.Free.{IsWithoutFree}
 use Rattle.disk_layout.specs.Map.{IsFree, IsGiven, map_bit, map_count}
-use Rattle.layout_check.proofs.Ones.{
-  marked-all,
-  marked-next,
-  marked-past,
-  ones-all,
-  ones-free,
-  ones-none,
-  ones-past,
-  ones-same,
-  ones-taken,
-  ones_to,
-}
+use Rattle.layout_check.proofs.Ones.{marked-all, marked-next, marked-past, ones-all, ones-free, ones-none, ones-past}
+use Rattle.layout_check.proofs.Ones.{ones-same, ones-taken, ones_to}
 use Rattle.layout_check.specs.Made.{HasNoSpare, IsMadeMap, IsMadeTrack, KeepsTracks, SameHeader}
 use Rattle.layout_check.specs.Marked.{IsMarked, IsRightTrack}
 use Rattle.layout_check.specs.Owners.{owner_of}

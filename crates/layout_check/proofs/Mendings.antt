@@ -29,20 +29,19 @@ use Rattle.std.proofs.Common.{
 use Rattle.std.specs.Prelude.{Contains, Some, drop, flat_map, slice_get, take}
 use Rattle.std.proofs.lemmas.List.Elements.{Contains-append_right}
 use Rattle.d64_image.proofs.Images.{sector-put_other, sector-put_same}
-use Rattle.d64_image.proofs.Places.{same_or_other}
 use Rattle.d64_image.specs.Images.{Image, put, sector}
 use Rattle.d64_image.specs.declared.place.Place.{Place}
 use Rattle.disk_layout.proofs.lemmas.layouts.Agree.{IsLayout-put_map, map-unowned, owned-block, owned-directory}
 use Rattle.disk_layout.proofs.lemmas.layouts.Agree.{stays-agree}
 use Rattle.disk_layout.proofs.lemmas.layouts.Exact.{exact-side}
-use Rattle.disk_layout.proofs.lemmas.layouts.Layouts.{block-no_side, get-contains}
+use Rattle.disk_layout.proofs.lemmas.layouts.Layouts.{get-contains}
+use Rattle.disk_layout.proofs.lemmas.layouts.Frames.{block-no_side}
 use Rattle.disk_layout.proofs.lemmas.lists.Once.{EachOnce-apart, EachOnce-right, flat_map-in}
 use Rattle.disk_layout.proofs.lemmas.counts.Recount.{split-at}
-use Rattle.disk_layout.proofs.lemmas.counts.Recounts.{IsLayout-put_counts, map-same_on, reread_layout, stays-put_counts}
+use Rattle.disk_layout.proofs.lemmas.counts.Recounts.{map-same_on}
 use Rattle.disk_layout.proofs.lemmas.growth.SideWrites.{IsLayout-put_side}
 use Rattle.disk_layout.specs.Directory.{map_place}
 use Rattle.disk_layout.specs.Layout.{File, IsLayout, Layout, file_owns, is_rel, owners, record_length}
-use Rattle.disk_layout.specs.Chain.{byte}
 use Rattle.disk_layout.specs.Entries.{IsRecountedAll}
 use Rattle.disk_layout.specs.Same.{IsCountByte, SameButCounts, SameFiles, Stays, stays_of}
 use Rattle.disk_layout.specs.Side.{side_sector}
@@ -203,50 +202,6 @@ count-byte a c i low same (high, kind) = (high, of_kind (same (32 * (i / 32) + 2
     of_kind (inl x) k = absurd (omega (arith, x.0))
     of_kind (inr e) (inl k) = inl (sym e ∙ k)
     of_kind (inr e) (inr k) = inr (sym e ∙ k)
-
--- a write of a directory sector that changes block counts alone
-pub mended-count : (a : Image) (l : Layout) (c : Image) (p : Place) (b : List ℕ) → length c ≡ 683 → (h : IsMended a l c)
-    → Contains h.layout.directory p → IsCounted (sector c p) b → IsMended a l (put c p b)
-mended-count a l c p b size h on counted = record {
-  layout = reread_layout d m;
-  sound = IsLayout-put_counts c m p b size h.sound on all;
-  same = record {
-    directory = h.same.directory;
-    files = stays-put_counts c m p b size h.sound on all ∙ h.same.files;
-    entries = λ q there i low. elim (same_or_other p q) [
-      | inl e ↦ let P : Place → Type 0 = λ x. IsCountByte (sector a x) i ⊎ (byte d x i ≡ byte a x i) in
-          subst P e (mine (rw e there) i low)
-      | inr ne ↦ entries-kept a c d q (sector-put_other c p q b ne) (h.same.entries q there) i low
-    ];
-    header = ap (λ (x : List ℕ). take 4 x ++ drop 144 x) (sector-put_other c p map_place b no_map) ∙ h.same.header;
-    elsewhere = λ q ne off out. sector-put_other c p q b (λ e. off (rw (← h.same.directory, ← e) on))
-        ∙ h.same.elsewhere q ne off out;
-  };
-}
-  where
-    m : Layout
-    m = h.layout
-
-    d : Image
-    d = put c p b
-
-    all : IsRecountedAll (sector c p) b
-    all = counted-all (sector c p) b counted
-
-    here : sector d p ≡ b
-    here = sector-put_same c p b size
-
-    no_map : p ≢ map_place
-    no_map e = map-unowned c m h.sound (rw (← e) (owned-directory m p on))
-
-    mine : Contains l.directory p → (i : ℕ) → i < 256 → IsCountByte (sector a p) i ⊎ (byte d p i ≡ byte a p i)
-    mine there i low = elim (counted.bytes i low) [
-      | inl x ↦ inl (count-byte (sector a p) (sector c p) i low (h.same.entries p there) x)
-      | inr e ↦ elim (h.same.entries p there i low) [
-        | inl x ↦ inl x
-        | inr f ↦ inr (ap (λ (x : List ℕ). slice_index x i) here ∙ e ∙ f)
-      ]
-    ]
 
 -- files that stay, and stay once more
 pub mended-then : (a : Image) (l : Layout) (c d : Image) (n : Layout) → (h : IsMended a l c) → IsLayout d n

@@ -1,5 +1,5 @@
 -- A repair's run: the images held, the fault told, what is left at the end, and that a clean disk is not written.
-use Rattle.std.proofs.Common.{ℕ, ◌≡◌, ◌≤◌, Result, Ok, Err, OnOk, IfErr, sym, subst, arith}
+use Rattle.std.proofs.Common.{ℕ, ◌≡◌, ◌≤◌, Result, Ok, Err, OnOk, sym, subst, arith}
 use Rattle.d64_image.proofs.Moments.{changes_then, changes_weaker, failed_later, never_failed, reads_change}
 use Rattle.d64_image.specs.History.{Changes, History, NeverFailed, OnlyReads}
 use Rattle.d64_image.specs.Images.{Image}
@@ -22,10 +22,6 @@ use Rattle.layout_check.specs.declared.outcome.Survey.{Survey}
 pub ok-then : {T E : Type 0} (r : Result T E) (P Q : Type 0) → (P → Q) → OnOk r P → OnOk r Q
 ok-then (Ok x) P Q f p = f p
 ok-then (Err e) P Q f p = tt
-
-pub err-then : {T E : Type 0} (r : Result T E) (P Q : E → Type 0) → ((e : E) → P e → Q e) → IfErr r P → IfErr r Q
-err-then (Ok x) P Q f p = tt
-err-then (Err e) P Q f p = f e p
 
 -- map, side sectors and counts in turn: the last image is the repaired one
 pub repaired : (a b c d : Image) (s : Survey) → IsToldBy a s → HasMap b → KeepsLayouts a b → KeepsLayouts b c

@@ -42,7 +42,8 @@ use Rattle.disk_layout.proofs.lemmas.counts.Recounts.{
   slot-same,
   stays-reread,
 }
-use Rattle.disk_layout.proofs.lemmas.layouts.Layouts.{IsLayout-one, KeepsFiles, block-owned, side-owned}
+use Rattle.disk_layout.proofs.lemmas.layouts.Layouts.{IsLayout-one}
+use Rattle.disk_layout.proofs.lemmas.layouts.Frames.{KeepsFiles, block-owned, side-owned}
 use Rattle.disk_layout.proofs.lemmas.lists.Lists.{in-map}
 use Rattle.disk_layout.proofs.lemmas.lists.Once.{Contains-cases, Contains-here, Contains-nil, EachOnce-apart, map-in}
 use Rattle.disk_layout.specs.Directory.{map_place, slot_in}

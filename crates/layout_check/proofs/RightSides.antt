@@ -41,7 +41,7 @@ use Rattle.disk_layout.proofs.lemmas.counts.Recounts.{slot-of}
 use Rattle.disk_layout.proofs.lemmas.kept.Orders.{made_put, made_then, once-next, over_more, over_read, over_then}
 use Rattle.disk_layout.proofs.lemmas.kept.Orders.{over_write}
 use Rattle.disk_layout.proofs.lemmas.layouts.Layouts.{IsDirectory-one, get-contains}
-use Rattle.disk_layout.proofs.lemmas.layouts.Twice.{get-one}
+use Rattle.disk_layout.proofs.lemmas.layouts.SidesAt.{get-one}
 use Rattle.disk_layout.proofs.lemmas.lists.Lists.{contains-get, take-get}
 use Rattle.disk_layout.proofs.lemmas.lists.Once.{Contains-nil, EachOnce-left, EachOnce-right, all-in, flat_map-in}
 use Rattle.disk_layout.specs.Chain.{EachOnce}

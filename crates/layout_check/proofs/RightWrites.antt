@@ -1,27 +1,6 @@
 -- Directory sectors written one after another: what the device held meanwhile, and what is right then.
-use Rattle.std.proofs.Common.{
-  ℕ,
-  ◌≡◌,
-  ◌<◌,
-  ◌≤◌,
-  ◌+◌,
-  List,
-  [],
-  ◌∷◌,
-  ◌++◌,
-  length,
-  take,
-  get_or,
-  ⊎_elim,
-  sym,
-  ◌∙◌,
-  ap,
-  refl,
-  arith,
-  subst,
-  inl,
-  inr,
-}
+use Rattle.std.proofs.Common.{ℕ, ◌≡◌, ◌<◌, ◌≤◌, ◌+◌, List, [], ◌∷◌, ◌++◌, length, take, get_or, ⊎_elim, sym, ◌∙◌, ap}
+use Rattle.std.proofs.Common.{refl, arith, subst, inl, inr}
 use Rattle.std.specs.Prelude.{Contains, Some, slice_get}
 use Rattle.std.specs.List.{AllByRecursion}
 use Rattle.std.proofs.lemmas.List.{take_all}
@@ -43,28 +22,14 @@ use Rattle.disk_layout.specs.Layout.{IsLayout, IsSound, Layout}
 use Rattle.disk_layout.specs.declared.slot.Slot.{Slot}
 use Rattle.disk_layout.proofs.lemmas.counts.Recounts.{reread_layout}
 use Rattle.layout_check.proofs.Pointers.{read-there}
-use Rattle.layout_check.proofs.RightCounts.{
-  all-counted,
-  reread-layout,
-  recount-mended,
-  recount-none,
-  recount-put,
-  recount-then,
-}
+use Rattle.layout_check.proofs.RightCounts.{all-counted, reread-layout, recount-mended, recount-none, recount-put}
+use Rattle.layout_check.proofs.RightCounts.{recount-then}
 use Rattle.layout_check.proofs.RightDirectory.{mended-made, right-counts, sector-made}
 use Rattle.layout_check.proofs.RightSlots.{counted-right}
 use Rattle.layout_check.proofs.Rights.{directory-once}
 use Rattle.layout_check.specs.RepairOrder.{IsRight}
-use Rattle.layout_check.specs.Recounted.{
-  AreCounted,
-  AreRightIn,
-  IsCountedAs,
-  IsInDirectory,
-  IsMendedAt,
-  IsRecountOf,
-  KeepsButCounts,
-  OldOrMended,
-}
+use Rattle.layout_check.specs.Recounted.{AreCounted, AreRightIn, IsCountedAs, IsInDirectory, IsMendedAt, IsRecountOf}
+use Rattle.layout_check.specs.Recounted.{KeepsButCounts, OldOrMended}
 
 -- a directory has eighteen sectors at most
 places-on : (ps : List Place) → AllByRecursion (λ p. p.track ≡ 18) ps → ¬ (Contains ps map_place)

@@ -1,26 +1,6 @@
 -- Side sectors rewritten one by one.
-use Rattle.std.proofs.Common.{
-  Err,
-  ℕ,
-  ◌≡◌,
-  ◌≢◌,
-  ◌<◌,
-  ◌≤◌,
-  ◌+◌,
-  List,
-  [],
-  ◌∷◌,
-  length,
-  sym,
-  ◌∙◌,
-  ap,
-  arith,
-  subst,
-  inl,
-  inr,
-  IsTrue,
-}
-use Rattle.std.specs.Prelude.{Contains, Some, flat_map, slice_get}
+use Rattle.std.proofs.Common.{ℕ, ◌≡◌, ◌≢◌, ◌<◌, ◌≤◌, ◌+◌, List, [], ◌∷◌, length, sym, ◌∙◌, ap, arith, subst, inl, inr}
+use Rattle.std.specs.Prelude.{Contains, Err, IsTrue, Some, flat_map, slice_get}
 use Rattle.std.proofs.lemmas.Bool.{cases_eq}
 use Rattle.std.proofs.lemmas.List.Elements.{Contains-append_right}
 use Rattle.d64_image.proofs.Images.{sector-put_other, sector-put_same}
@@ -30,16 +10,10 @@ use Rattle.d64_image.specs.Images.{Image, put, sector}
 use Rattle.d64_image.specs.declared.place.Place.{Place}
 use Rattle.disk_layout.proofs.lemmas.layouts.Agree.{map-unowned, owned-side}
 use Rattle.disk_layout.proofs.lemmas.layouts.Layouts.{IsFile-one, IsLayout-one, get-contains}
-use Rattle.disk_layout.proofs.lemmas.layouts.Twice.{get-one, told-sound}
-use Rattle.disk_layout.proofs.lemmas.lists.Once.{
-  Contains-cases,
-  Contains-nil,
-  EachOnce-apart,
-  EachOnce-left,
-  EachOnce-right,
-  all-in,
-  flat_map-in,
-}
+use Rattle.disk_layout.proofs.lemmas.layouts.Twice.{told-sound}
+use Rattle.disk_layout.proofs.lemmas.layouts.SidesAt.{get-one}
+use Rattle.disk_layout.proofs.lemmas.lists.Once.{Contains-cases, Contains-nil, EachOnce-apart, EachOnce-left}
+use Rattle.disk_layout.proofs.lemmas.lists.Once.{EachOnce-right, all-in, flat_map-in}
 use Rattle.disk_layout.specs.Chain.{EachOnce}
 use Rattle.disk_layout.specs.Directory.{map_place}
 use Rattle.disk_layout.specs.Fault.{TellsFault}
@@ -266,12 +240,6 @@ parts-at img now s bs ss cs ts same eb es h =
     let Q : List Place → Type 0 = λ xs. IsPartsOf img s xs ts in
     let R : List Place → Type 0 = λ xs. IsPartsOf img s bs xs in
     subst P (sym same) (subst Q (sym eb) (subst R (sym es) h))
-
-pub exact-from : (img now new : Image) (s : Slot) (bs ss : List Place) → now ≡ img → IsPartsOf img s bs ss
-    → KeepsExact now new → AreExactSides img s bs ss → AreExactSides new s bs ss
-exact-from img now new s bs ss same h keeps exact =
-    keeps s bs ss (let P : Image → Type 0 = λ i. IsPartsOf i s bs ss in subst P (sym same) h) (let P : Image
-    → Type 0 = λ i. AreExactSides i s bs ss in subst P (sym same) exact)
 
 pub right-there : (img now : Image) (s : Slot) (bs ss cs ts : List Place) → now ≡ img → cs ≡ bs → ts ≡ ss
     → AreExactSides img s bs ss → AreExactSides now s cs ts

@@ -13,3 +13,4 @@ pub mod Repaired
 pub mod Sides
 pub mod Survey
 pub mod SurveyedEntry
+pub mod SurveyedSides

@@ -1,12 +1,17 @@
--- What a call promises that mends a sound disk. Our own.
-use Rattle.std.specs.Prelude.{ℕ, List, OnOk, Result}
-use Rattle.d64_image.specs.History.{History}
+-- What each call promises that mends a sound disk. Our own.
+use Rattle.std.specs.Prelude.{ℕ, ◌≡◌, [], ◌∷◌, Contains, List, OnOk, Result}
+use Rattle.d64_image.specs.History.{Changes, History, WritesNothing}
+use Rattle.d64_image.specs.Images.{sector}
 use Rattle.d64_image.specs.declared.place.Place.{Place}
-use Rattle.disk_layout.specs.InOrder.{AreMade, GoesOver}
-use Rattle.disk_layout.specs.Layout.{Layout}
+use Rattle.disk_layout.specs.Directory.{map_place}
+use Rattle.disk_layout.specs.InOrder.{AreMade, GoesOver, WritesOther}
+use Rattle.disk_layout.specs.Layout.{File, IsLayout, Layout}
 use Rattle.disk_layout.specs.declared.faults.Fault.{Fault}
-use Rattle.layout_check.specs.Mended.{KeepsLayouts, Mends, TellsDevice}
-use Rattle.layout_check.specs.RepairOrder.{IsRight}
+use Rattle.disk_layout.specs.declared.slot.Slot.{Slot}
+use Rattle.layout_check.specs.Exact.{AreExactSides, HasMap}
+use Rattle.layout_check.specs.Mended.{AreExactFor, IsExactFor, KeepsBeside, KeepsLayouts, Mends, SameMap, TellsDevice}
+use Rattle.layout_check.specs.Recounted.{AreCounted, AreRightIn, KeepsButCounts, OldOrMended}
+use Rattle.layout_check.specs.RepairOrder.{ClearsSpare, IsRight, sides_of}
 
 -- at most n sectors are written, and each image held is mended from the old one; at Ok the layout is the same
 pub record MendsDisk {D T : Type 0} (S : History D) (old new : D) (n : ℕ)
@@ -22,3 +27,64 @@ pub record PutsRight {D T : Type 0} (S : History D) (old new : D) (l : Layout) (
     (result : Result T Fault) : Type 0 where
   pub over : GoesOver S old new (IsRight l) ps
   pub made : OnOk result (AreMade (IsRight l) ps (S.image old) (S.image new))
+
+-- the map was made right
+pub record MendsMap {D T : Type 0} (S : History D) (old new : D) (result : Result T Fault) : Type 0 where
+  pub map : OnOk result (HasMap (S.image new))
+  pub mending : MendsDisk S old new 1 result
+  pub right : (l : Layout) → IsLayout (S.image old) l → PutsRight S old new l (map_place ∷ []) result
+  -- in a map that is written, the bits past the tracks' last sectors are 0
+  pub spare : ClearsSpare (S.image old) (S.image new)
+  -- a map that is right is not written
+  pub quiet : HasMap (S.image old) → WritesNothing S old new
+
+-- the side sectors of a relative entry with these parts were made exact
+pub record MendsSides {D T : Type 0} (S : History D) (old new : D) (s : Slot) (blocks sides : List Place)
+    (result : Result T Fault) : Type 0 where
+  pub exact : OnOk result (AreExactSides (S.image new) s blocks sides)
+  pub beside : OnOk result (KeepsBeside (S.image old) (S.image new))
+  pub mending : MendsDisk S old new 6 result
+  -- side sector by side sector
+  pub right : (l : Layout) → IsLayout (S.image old) l → PutsRight S old new l sides result
+  -- side sectors that are right are not written
+  pub quiet : AreExactSides (S.image old) s blocks sides → WritesNothing S old new
+
+-- those of a relative entry, whatever its parts are
+pub record MendsEntry {D T : Type 0} (S : History D) (old new : D) (s : Slot) (result : Result T Fault) : Type 0 where
+  pub exact : OnOk result (IsExactFor (S.image old) (S.image new) s)
+  pub beside : OnOk result (KeepsBeside (S.image old) (S.image new))
+  pub mending : MendsDisk S old new 6 result
+  -- side sector by side sector of the entry's file
+  pub right : (l : Layout) (f : File) → IsLayout (S.image old) l → Contains l.files f → f.slot ≡ s
+      → PutsRight S old new l f.sides result
+  pub quiet : IsExactFor (S.image old) (S.image old) s → WritesNothing S old new
+
+-- those of all relative entries
+pub record MendsEntries {D T : Type 0} (S : History D) (old new : D) (result : Result T Fault) : Type 0 where
+  pub exact : OnOk result (AreExactFor (S.image old) (S.image new))
+  pub map : OnOk result (SameMap (S.image old) (S.image new))
+  pub mending : MendsDisk S old new 864 result
+  -- side sector by side sector in the order of the directory
+  pub right : (l : Layout) → IsLayout (S.image old) l → PutsRight S old new l (sides_of l.files) result
+  pub quiet : AreExactFor (S.image old) (S.image old) → WritesNothing S old new
+
+-- the block counts in the directory sector at p were made right
+pub record MendsSector {D T : Type 0} (S : History D) (old new : D) (p : Place) (result : Result T Fault) : Type 0
+  where
+    pub right : OnOk result (AreRightIn (S.image old) p (sector (S.image new) p))
+    -- each image held is the old one, or has right counts in this sector
+    pub moments : Changes S old new 1 (OldOrMended (S.image old) p)
+    pub once : WritesOther S old new p
+    -- a sector whose counts are right is not written
+    pub quiet : AreRightIn (S.image old) p (sector (S.image old) p) → WritesNothing S old new
+    pub failures : TellsDevice S old new result
+
+-- all block counts were made right
+pub record MendsCounts {D T : Type 0} (S : History D) (old new : D) (result : Result T Fault) : Type 0 where
+  pub counted : OnOk result (AreCounted (S.image new))
+  -- every image held, the last one too, has the same files
+  pub moments : Changes S old new 18 (KeepsButCounts (S.image old))
+  -- a sector is written where a count in it is wrong, in the order of the directory
+  pub right : (l : Layout) → IsLayout (S.image old) l → PutsRight S old new l l.directory result
+  pub quiet : AreCounted (S.image old) → WritesNothing S old new
+  pub failures : TellsDevice S old new result

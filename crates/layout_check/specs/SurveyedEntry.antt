@@ -1,5 +1,5 @@
 -- An entry that was surveyed. Our own.
-use Rattle.std.specs.Prelude.{ℕ, ◌≡◌, ◌≢◌, ◌⊎◌, ◌*◌, Option, length}
+use Rattle.std.specs.Prelude.{ℕ, ◌≡◌, ◌≢◌, ◌⊎◌, ◌*◌, IfErr, IfOk, List, OnOk, Option, Result, length}
 use Rattle.d64_image.specs.History.{History}
 use Rattle.d64_image.specs.Images.{Image}
 use Rattle.d64_image.specs.declared.place.Place.{Place}
@@ -10,6 +10,7 @@ use Rattle.disk_layout.specs.declared.faults.Fault.{Fault}
 use Rattle.disk_layout.specs.declared.faults.Fault.TheVariants.{OwnedTwice}
 use Rattle.disk_layout.specs.declared.slot.Slot.{Slot}
 use Rattle.layout_check.specs.Calls.{Passes, TellsUnsound}
+use Rattle.layout_check.specs.Entry.{HasBlocks}
 use Rattle.layout_check.specs.Exact.{ToldOfFile}
 use Rattle.layout_check.specs.Owners.{IsClaimed, owner_of}
 use Rattle.layout_check.specs.declared.owners.Owners.{Owners}
@@ -36,6 +37,14 @@ pub record IsClash {D : Type 0} (S : History D) (old new : D) (s : Slot) (t : Ow
 -- the fault holds by what the entry is, or there is a clash with what the table has
 abbrev pub TellsOrClashes : {D : Type 0} → History D → D → D → Slot → Owners → Fault → Type 0
 TellsOrClashes S old new s t fault = TellsUnsound S old new 732 fault ⊎ IsClash S old new s t fault
+
+-- the data blocks of the entry were found, and each got the number n when the walk came to it
+pub record ClaimsBlocks {D : Type 0} (S : History D) (old new : D) (s : Slot) (n : ℕ) (t u : Owners) (ps : List Place)
+    (result : Result ℕ Fault) : Type 0 where
+  pub blocks : IfOk result (HasBlocks (S.image old) s ps)
+  pub claimed : OnOk result (IsClaimed t u n ps)
+  pub ok : OnOk result (Passes S old new (length ps))
+  pub err : IfErr result (TellsOrClashes S old new s t)
 
 -- the file of the entry was found, each of its sectors read at most twice, and judged whether it is exact
 abbrev pub SurveysEntry : {D : Type 0} → History D → D → D → Slot → ℕ → Owners → Owners → Option Fault → Type 0

@@ -4,8 +4,7 @@ ghost use Rattle.disk_layout.specs.Fault.{IsClosed};
 ghost use Rattle.disk_layout.specs.Layout.{is_rel};
 ghost use Rattle.layout_check.specs.Calls.{Passes, TellsUnsound};
 ghost use Rattle.layout_check.specs.Entry.{HasBlocks};
-ghost use Rattle.layout_check.specs.Owners.{IsClaimed};
-ghost use Rattle.layout_check.specs.SurveyedEntry.{TellsOrClashes};
+ghost use Rattle.layout_check.specs.SurveyedEntry.{ClaimsBlocks};
 
 use crate::owners::{NOBODY, Owners};
 use arrayvec::ArrayVec;
@@ -66,10 +65,7 @@ pub(crate) fn claim_blocks<D: Sectors>(
     requires closed { IsClosed (D.history.image disk.old) slot.now.sector slot.now }
     requires names { IsTrue (is_rel slot.now) ⊎ (slice_index slot.now.bytes 3 ≢ 0) }
     requires some { number < 255 }
-    ensures blocks { IfOk result (HasBlocks (D.history.image disk.old) slot.now places.new.items) }
-    ensures claimed { OnOk result (IsClaimed owners.old owners.new number places.new.items) }
-    ensures ok { OnOk result (Passes D.history disk.old disk.new (length places.new.items)) }
-    ensures err { IfErr result (TellsOrClashes D.history disk.old disk.new slot.now owners.old) }
+    ensures { ClaimsBlocks D.history disk.old disk.new slot.now number owners.old owners.new places.new.items result }
 {
     let Some(first) = EntryView::new(&slot.bytes).first_block() else {
         return Err(Fault::BadLink(slot.sector));

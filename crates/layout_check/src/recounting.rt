@@ -1,18 +1,15 @@
 //! The block counts of the relative entries, made right.
 ghost use Rattle.std.specs.Prelude.{◌≡◌, ◌<◌, IfErr, IfOk, IsTrue, List, OnOk, length};
-ghost use Rattle.d64_image.specs.History.{Changes, WritesNothing};
 ghost use Rattle.d64_image.specs.Images.{sector};
+ghost use Rattle.d64_image.specs.declared.place.Place.{Place};
 ghost use Rattle.disk_layout.specs.Directory.{IsDirectory, slot_in};
 ghost use Rattle.disk_layout.specs.Entries.{IsRecounted};
-ghost use Rattle.disk_layout.specs.InOrder.{WritesOther};
-ghost use Rattle.disk_layout.specs.Layout.{IsLayout, IsSound, Layout, is_rel};
+ghost use Rattle.disk_layout.specs.Layout.{IsSound, is_rel};
 ghost use Rattle.disk_layout.specs.declared.slot.Slot.{Slot};
-ghost use Rattle.d64_image.specs.declared.place.Place.{Place};
 ghost use Rattle.layout_check.specs.Calls.{Judges, Passes, TellsUnsound};
 ghost use Rattle.layout_check.specs.Entry.{IsEntry};
-ghost use Rattle.layout_check.specs.Mended.{TellsDevice};
-ghost use Rattle.layout_check.specs.Mending.{PutsRight};
-ghost use Rattle.layout_check.specs.Recounted.{AreCounted, AreRightIn, GetsCounts, IsCountOf, IsDirectorySector, IsRightAt, KeepsButCounts, OldOrMended};
+ghost use Rattle.layout_check.specs.Mending.{MendsCounts, MendsSector};
+ghost use Rattle.layout_check.specs.Recounted.{AreRightIn, GetsCounts, IsCountOf, IsDirectorySector, IsRightAt};
 
 use crate::parts::Parts;
 use crate::sides::find_parts;
@@ -82,15 +79,8 @@ fn recount_sector<D: Sectors>(
 /// Makes the block counts right in a directory sector of a sound disk, which is written where one of them is wrong.
 /// `parts` is room for what an entry owns.
 fn mend_sector<D: Sectors>(disk: &mut D, place: Place, parts: &mut Parts) -> Result<(), Fault>
-    requires here { IsDirectorySector (D.history.image disk.old) place }
-    ensures right { OnOk result (AreRightIn (D.history.image disk.old) place (sector (D.history.image disk.new) place)) }
-    // each image held is the old one, or has right counts in this sector
-    ensures moments { Changes D.history disk.old disk.new 1 (OldOrMended (D.history.image disk.old) place) }
-    ensures once { WritesOther D.history disk.old disk.new place }
-    // a sector whose counts are right is not written
-    ensures quiet { AreRightIn (D.history.image disk.old) place (sector (D.history.image disk.old) place)
-        → WritesNothing D.history disk.old disk.new }
-    ensures failures { TellsDevice D.history disk.old disk.new result }
+    requires { IsDirectorySector (D.history.image disk.old) place }
+    ensures { MendsSector D.history disk.old disk.new place result }
 {
     let mut had = [0u8; 256];
     read_sector(disk, place, &mut had)?;
@@ -118,15 +108,8 @@ fn find_directory<D: Sectors>(disk: &mut D, places: &mut ArrayVec<Place, 720>) -
 ///
 /// `Device` is told where the device failed, and no other fault; the sectors before that one are then mended.
 pub(crate) fn mend_counts<D: Sectors>(disk: &mut D) -> Result<(), Fault>
-    requires sound { IsSound (D.history.image disk.old) }
-    ensures counted { OnOk result (AreCounted (D.history.image disk.new)) }
-    // every image held, the last one too, has the same files
-    ensures moments { Changes D.history disk.old disk.new 18 (KeepsButCounts (D.history.image disk.old)) }
-    // a sector is written where a count in it is wrong, once, in the order of the directory
-    ensures right { (l : Layout) → IsLayout (D.history.image disk.old) l
-        → PutsRight D.history disk.old disk.new l l.directory result }
-    ensures quiet { AreCounted (D.history.image disk.old) → WritesNothing D.history disk.old disk.new }
-    ensures failures { TellsDevice D.history disk.old disk.new result }
+    requires { IsSound (D.history.image disk.old) }
+    ensures { MendsCounts D.history disk.old disk.new result }
 {
     let mut places = ArrayVec::new();
     let mut parts = Parts::new();

@@ -1,12 +1,5 @@
 //! The repair of a disk: where it is sound, it is made clean.
-ghost use Rattle.std.specs.Prelude.{OnOk};
-ghost use Rattle.d64_image.specs.History.{WritesNothing};
-ghost use Rattle.disk_layout.specs.Clean.{IsClean};
-ghost use Rattle.disk_layout.specs.InOrder.{GoesOver};
-ghost use Rattle.disk_layout.specs.Layout.{IsLayout, Layout};
-ghost use Rattle.layout_check.specs.RepairOrder.{ClearsSpare, IsRight, repair_order};
-ghost use Rattle.layout_check.specs.Mended.{TellsDevice};
-ghost use Rattle.layout_check.specs.Repaired.{IsRepaired, MendsFrom, Repairs};
+ghost use Rattle.layout_check.specs.Repaired.{MakesClean, Repairs};
 ghost use Rattle.layout_check.specs.Survey.{IsToldBy};
 
 use crate::mending::{mend_entries, mend_map};
@@ -19,14 +12,7 @@ use disk_layout::Fault;
 /// Gives a sound disk that was surveyed the map, the side sectors and the block counts that it is to have, in this order.
 fn mend<D: Sectors>(disk: &mut D, found: &Survey) -> Result<(), Fault>
     requires { IsToldBy (D.history.image disk.old) found.now }
-    ensures clean { OnOk result (IsRepaired (D.history.image disk.old) (D.history.image disk.new) found.now) }
-    ensures moments { MendsFrom D.history disk.old disk.new 883 }
-    ensures order { (l : Layout) → IsLayout (D.history.image disk.old) l
-        → GoesOver D.history disk.old disk.new (IsRight l) (repair_order l) }
-    ensures spare { ClearsSpare (D.history.image disk.old) (D.history.image disk.new) }
-    ensures failures { TellsDevice D.history disk.old disk.new result }
-    // a disk that is clean is not written
-    ensures quiet { IsClean (D.history.image disk.old) → WritesNothing D.history disk.old disk.new }
+    ensures { MakesClean D.history disk.old disk.new found.now result }
 {
     mend_map(disk, found)?;
     mend_entries(disk)?;

@@ -1,10 +1,10 @@
 //! The side sectors of a relative entry, judged as far as a sound disk asks.
-ghost use Rattle.std.specs.Prelude.{◌+◌, ◌*◌, ◌<◌, ◌≤◌, IfErr, IfOk, IsFalse, IsTrue, OnOk, length};
+ghost use Rattle.std.specs.Prelude.{◌+◌, ◌*◌, ◌<◌, ◌≤◌, IfErr, IsFalse, IsTrue, OnOk, length};
 ghost use Rattle.disk_layout.specs.Fault.{IsClosed};
 ghost use Rattle.disk_layout.specs.Layout.{is_rel, sides_for};
 ghost use Rattle.layout_check.specs.Calls.{Passes, TellsUnsound};
-ghost use Rattle.layout_check.specs.Exact.{ToldOfSides};
-ghost use Rattle.layout_check.specs.Sides.{AreLinkedSides, HasNumber, HasOtherFields, HasOtherNumber, HasParts, HasSideFields, IsMisnamed, IsRelEntry, IsSoundSide, IsUnsoundSide, IsWalkOfSides, ListsEach, NamesEach};
+ghost use Rattle.layout_check.specs.Sides.{AreLinkedSides, HasNumber, HasOtherFields, HasOtherNumber, HasSideFields, IsMisnamed, IsRelEntry, IsSoundSide, IsUnsoundSide, NamesEach};
+ghost use Rattle.layout_check.specs.SurveyedSides.{FindsParts, SurveysSides};
 
 use crate::blocks::survey_blocks;
 use crate::parts::Parts;
@@ -130,11 +130,7 @@ pub(crate) fn survey_sides<D: Sectors>(
 ) -> Result<Option<Place>, Fault>
     requires entry { IsRelEntry (D.history.image disk.old) slot.now blocks.now }
     requires few { length blocks.now ≤ 720 }
-    ensures sides { OnOk result (IsWalkOfSides (D.history.image disk.old) slot.now blocks.now sides.new.items) }
-    ensures lists { OnOk result (ListsEach (D.history.image disk.old) sides.new.items) }
-    ensures exact { IfOk result (ToldOfSides (D.history.image disk.old) slot.now blocks.now sides.new.items) }
-    ensures ok { OnOk result (Passes D.history disk.old disk.new (2 * length sides.new.items)) }
-    ensures err { IfErr result (TellsUnsound D.history disk.old disk.new 12) }
+    ensures { SurveysSides D.history disk.old disk.new slot.now blocks.now sides.new.items result }
 {
     walk_sides(disk, slot, blocks, sides)?;
     let sides = sides.as_slice();
@@ -163,12 +159,7 @@ pub(crate) fn find_parts<D: Sectors>(
 ) -> Result<Option<Place>, Fault>
     requires closed { IsClosed (D.history.image disk.old) slot.now.sector slot.now }
     requires rel { IsTrue (is_rel slot.now) }
-    ensures parts { OnOk result (HasParts (D.history.image disk.old) slot.now parts.new.blocks.items parts.new.sides.items) }
-    ensures exact { IfOk result (ToldOfSides (D.history.image disk.old) slot.now parts.new.blocks.items parts.new.sides.items) }
-    ensures ok { OnOk result
-        (Passes D.history disk.old disk.new (length parts.new.blocks.items + 2 * length parts.new.sides.items)) }
-    ensures few { OnOk result (length parts.new.blocks.items + 2 * length parts.new.sides.items ≤ 732) }
-    ensures err { IfErr result (TellsUnsound D.history disk.old disk.new 732) }
+    ensures { FindsParts D.history disk.old disk.new slot.now parts.new.blocks.items parts.new.sides.items result }
 {
     survey_blocks(disk, slot, &mut parts.blocks)?;
     survey_sides(disk, slot, parts.blocks.as_slice(), &mut parts.sides)

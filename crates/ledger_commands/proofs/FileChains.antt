@@ -19,7 +19,7 @@ use Rattle.host_session.specs.session.Handling.{most_writes}
 use Rattle.host_session.specs.events.Quiet.{AreUncut, IsLeftAlone, IsQuiet}
 use Rattle.host_session.specs.runs.Runs.{IsBlamed, blamed}
 use Rattle.host_session.specs.shop.Shop.{Shop, shop_of, start_of, with_state}
-use Rattle.host_session.specs.events.Within.{AreFew, AreWithin, IsBounded, IsWithin, most_of_run}
+use Rattle.host_session.specs.events.Within.{AreFew, AreWithin, IsBounded, IsSpared, IsWithin, most_of_run}
 use Rattle.request_cards.specs.Ledgers.{State}
 use Rattle.request_cards.specs.Reading.{request_of}
 use Rattle.request_cards.specs.declared.reply.Reply.{Reply}
@@ -184,6 +184,17 @@ module _ {F : Type 0} {G : Ghosts F} where
         rests = λ rests. held_by_file start.file start b _ (q.rests rests);
         opening = λ uncut. changes_of_file b 952 _ (omega arith) (q.opening uncut);
         unwritten = λ uncut rests. changes_of_file b 0 _ (omega arith) (q.unwritten uncut rests);
+      }
+
+      pub spared_of_file : (s : Shop) (b : Mirror F G) → IsMirrored start b → IsSpared mirror s start b
+          → IsSpared of_file s (file_disk start) (file_disk b)
+      spared_of_file s b x q = record {
+        opening =
+            let taken : b.taken.n ≤ start.taken.n + 952 = q.opening in
+            omega (arith, taken, untaken, x.counted (omega (arith, taken, untaken)));
+        rests = λ rests.
+            let taken : b.taken.n ≤ start.taken.n = q.rests rests in
+            omega (arith, taken, untaken, x.counted (omega (arith, taken, untaken)));
       }
 
       abbrev pub run_of_file : (s : Shop) (ms : List Message) (xs : List (Reply × Mirror F G)) (b : Mirror F G)

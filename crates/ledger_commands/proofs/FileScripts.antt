@@ -28,6 +28,7 @@ use Rattle.request_cards.specs.declared.reply.Reply.{Reply}
 use Rattle.script_lines.specs.Lines.{lines}
 use Rattle.ledger_commands.proofs.FileChains.{blamed_file, bounded_of_file, changes_of_file, failing_of_file}
 use Rattle.ledger_commands.proofs.FileChains.{over_files-more, quiet_of_file, run_of_file, same_instants, same_told}
+use Rattle.ledger_commands.proofs.FileChains.{spared_of_file}
 use Rattle.ledger_commands.proofs.FileChains.{over_files, within_failing, within_run}
 
 -- how a run over a mirror ended, as one over its file
@@ -212,6 +213,7 @@ module _ {F T : Type 0} {G : Ghosts F} (o : Output T) (start : Mirror F G) (whol
     device = λ _ _. tt;
     moments = λ s is. moments_of_file s (messages_of (lines script)) b (x.moments s is);
     quiet = λ s is asks. quiet_of_file start whole untaken s (messages_of (lines script)) b (x.quiet s is asks);
+    spared = λ s is asks. spared_of_file start whole untaken s b (x.moments s is).reached (x.spared s is asks);
     writes = λ s is few uncut. bounded_of_file start whole untaken (messages_of (lines script)) b
         (x.moments s is).reached few (x.writes s is few uncut);
     plays = λ _ _. tt;
@@ -231,6 +233,7 @@ module _ {F T : Type 0} {G : Ghosts F} (o : Output T) (start : Mirror F G) (whol
         (x.device s is told);
     moments = λ s is. moments_of_file s (messages_of (lines script)) e.1 (x.moments s is);
     quiet = λ s is asks. quiet_of_file start whole untaken s (messages_of (lines script)) e.1 (x.quiet s is asks);
+    spared = λ s is asks. spared_of_file start whole untaken s e.1 (x.moments s is).reached (x.spared s is asks);
     writes = λ s is few uncut. bounded_of_file start whole untaken (messages_of (lines script)) e.1
         (x.moments s is).reached few (x.writes s is few uncut);
     plays = λ shop never. x.plays shop (never_failed start whole e.1 (x.moments shop.0 shop.1).reached never);

@@ -1,6 +1,7 @@
 -- A shop that was served over a mirror, as one over its file.
-use Rattle.std.proofs.Common.{◌≡◌, ⊎_elim, arith, ℕ, List, [], ◌∷◌, ◌++◌, Option, Ok, Err, Result, inl, inr, subst}
-use Rattle.std.proofs.Common.{sym, append-nil}
+use Rattle.std.proofs.Common.{◌≡◌, ⊎_elim, arith, ℕ, List, [], ◌∷◌, ◌++◌, Ok, Err, Result, inl, inr, subst}
+use Rattle.std.proofs.Common.{ap, append-nil, map, refl, sym}
+use Rattle.std.specs.Prelude.{zip}
 use Rattle.d64_image.specs.declared.mirror.Mirror.{Mirror}
 use Rattle.d64_image.specs.declared.sector_file.SectorFile.{Ghosts}
 use Rattle.d64_image.specs.FileDisks.{FileDisk, in_run}
@@ -11,24 +12,38 @@ use Rattle.request_cards.specs.declared.reply.Reply.{Reply}
 use Rattle.host_session.proofs.lemmas.runs.Chained.{at_device}
 use Rattle.host_session.specs.events.Events.{Message}
 use Rattle.host_session.specs.events.Instants.{Instant, instant_of}
-use Rattle.host_session.specs.events.Telling.{Output}
 use Rattle.host_session.specs.events.Within.{AreFew, AreWithin}
 use Rattle.host_session.specs.shop.Shop.{Shop}
 use Rattle.script_lines.specs.Lines.{lines}
 use Rattle.host_session.specs.declared.runs.looping.LoopFault.{LoopFault}
 use Rattle.serving.proofs.Handled.{handled_run}
 use Rattle.serving.proofs.Served.{all_uncut}
-use Rattle.serving.specs.AtOnce.{at_once}
-use Rattle.serving.specs.Inputs.{line_messages}
-use Rattle.serving.specs.Serves.{AreHandled, AreServed, AreServedToDevice, AreServedToOutput, IsServed, IsUnwritten}
+use Rattle.serving.specs.Answering.{Answering, answered}
+use Rattle.serving.specs.Giving.{Input}
+use Rattle.serving.specs.Inputs.{instants_in, line_messages}
+use Rattle.serving.specs.Serves.{AreAskedFor, AreHandled, AreServed, AreServedToDevice, AreServedToOutput, IsServed}
+use Rattle.serving.specs.Serves.{IsUnwritten}
 use Rattle.ledger_commands.proofs.FileChains.{bounded_of_file, changes_of_file, failing_of_file, over_files}
 use Rattle.ledger_commands.proofs.FileChains.{over_files-more, run_of_file, same_instants, within_failing, within_run}
 use Rattle.ledger_commands.proofs.FileScripts.{end_of_file, moments_of_file, refused_of_file}
 
-module _ {F T : Type 0} {G : Ghosts F} (o : Output T) (start : Mirror F G) (whole : is_broken start
-    → ⊥) (untaken : start.taken.n ≡ 0) (old new : T) where
+module _ {F R T : Type 0} {G : Ghosts F} (i : Input R) (a : Answering T) (start : Mirror F G)
+    (whole : is_broken start → ⊥) (untaken : start.taken.n ≡ 0) (old_in new_in : R) (old new : T) where
   abbrev file_run : History (FileDisk G.keeps)
   file_run = in_run G.keeps start.file
+
+  -- and each of its lines was asked for at the same instant
+  turn_instants : (turns : List (Reply × Mirror F G))
+      → map (λ t. instant_of mirror t.1) turns ≡ map (λ t. instant_of file_run t.1) (over_files turns)
+  turn_instants [] = refl
+  turn_instants (t ∷ ts) = ap (λ rest. instant_of mirror t.1 ∷ rest) (turn_instants ts)
+
+  asked_of_file : (bytes : List ℕ) (first : Mirror F G) (turns : List (Reply × Mirror F G))
+      → AreAskedFor mirror i bytes first turns old_in new_in
+      → AreAskedFor file_run i bytes (file_disk first) (over_files turns) old_in new_in
+  asked_of_file bytes first turns x = subst
+      (λ later. i.asked old_in new_in (instants_in (zip (line_messages bytes) (instant_of mirror first ∷ later))))
+      (turn_instants turns) x
 
   handled_of_file : (s : Shop) (bytes : List ℕ) (turns : List (Reply × Mirror F G)) (b : Mirror F G)
       → AreHandled mirror s bytes turns start b
@@ -37,40 +52,44 @@ module _ {F T : Type 0} {G : Ghosts F} (o : Output T) (start : Mirror F G) (whol
       handled_run file_run s bytes (over_files turns) (file_disk start) (file_disk b)
       (run_of_file start whole untaken s (line_messages bytes) turns b x.run)
 
-  served_of_file : (s : Shop) (bytes : List ℕ) (b : Mirror F G) → AreServed mirror o s bytes start b old new
-      → AreServed file_run o s bytes (file_disk start) (file_disk b) old new
+  served_of_file : (s : Shop) (bytes : List ℕ) (b : Mirror F G) → AreServed mirror i a s bytes start b old_in new_in old new
+      → AreServed file_run i a s bytes (file_disk start) (file_disk b) old_in new_in old new
   unfolding handled_of_file
   served_of_file s bytes b x = record {
     turns = over_files x.turns;
     handled = handled_of_file s bytes x.turns b x.handled;
     within = λ few. within_run start whole untaken s (line_messages bytes) x.turns b x.handled.run few
         (all_uncut (lines bytes)) (x.within few);
-    told = subst ((at_once o).told old new) (same_instants start whole x.turns) x.told;
+    asked = asked_of_file bytes x.handled.run.first x.turns x.asked;
+    told = subst ((answered a).told old new) (same_instants start whole x.turns) x.told;
   }
 
-  output_of_file : (s : Shop) (bytes : List ℕ) (b : Mirror F G) → AreServedToOutput mirror o s bytes start b old new
-      → AreServedToOutput file_run o s bytes (file_disk start) (file_disk b) old new
+  output_of_file : (s : Shop) (bytes : List ℕ) (b : Mirror F G) → AreServedToOutput mirror i a s bytes start b old_in new_in old new
+      → AreServedToOutput file_run i a s bytes (file_disk start) (file_disk b) old_in new_in old new
   unfolding handled_of_file
   output_of_file s bytes b x =
       let all : List (Reply × Mirror F G) = x.turns ++ x.last ∷ [] in
       let so = subst (λ turns. (y : AreHandled file_run s bytes turns (file_disk start) (file_disk b))
-      × (AreFew (line_messages bytes) → AreWithin file_run (line_messages bytes) turns y.run.first))
+      × (AreFew (line_messages bytes) → AreWithin file_run (line_messages bytes) turns y.run.first)
+      × AreAskedFor file_run i bytes y.run.first (over_files x.turns) old_in new_in)
       (sym (over_files-more x.turns (x.last ∷ []))) (
         handled_of_file s bytes all b x.handled,
         λ few. within_run start whole untaken s (line_messages bytes) all b x.handled.run few (all_uncut (lines bytes))
             (x.within few),
+        asked_of_file bytes x.handled.run.first x.turns x.asked,
       ) in
       record {
         turns = over_files x.turns;
         last = (x.last.0, file_disk x.last.1);
         handled = so.0;
         within = so.1;
-        told = subst (λ turns. (at_once o).broken_off old new turns (x.last.0, instant_of mirror x.last.1))
+        asked = so.2;
+        told = subst (λ turns. (answered a).broken_off old new turns (x.last.0, instant_of mirror x.last.1))
             (same_instants start whole x.turns) x.told;
       }
 
-  device_of_file : (s : Shop) (bytes : List ℕ) (b : Mirror F G) → AreServedToDevice mirror o s bytes start b old new
-      → AreServedToDevice file_run o s bytes (file_disk start) (file_disk b) old new
+  device_of_file : (s : Shop) (bytes : List ℕ) (b : Mirror F G) → AreServedToDevice mirror i a s bytes start b old_in new_in old new
+      → AreServedToDevice file_run i a s bytes (file_disk start) (file_disk b) old_in new_in old new
   device_of_file s bytes b x =
       let ms : List Message = line_messages bytes in
       let last : Reply × Instant = (x.run.last, instant_of mirror b) in
@@ -81,10 +100,10 @@ module _ {F T : Type 0} {G : Ghosts F} (o : Output T) (start : Mirror F G) (whol
           last = x.run.last;
           run = run;
           told = ⊎_elim
-              (λ t. inl (subst (λ turns. (at_once o).told old new (turns ++ last ∷ []))
+              (λ t. inl (subst (λ turns. (answered a).told old new (turns ++ last ∷ []))
               (same_instants start whole x.run.turns) t))
               (λ t. inr (
-                subst (λ turns. (at_once o).broken_off old new turns last)
+                subst (λ turns. (answered a).broken_off old new turns last)
                     (same_instants start whole x.run.turns) t.0,
                 t.1,
               ))
@@ -92,6 +111,7 @@ module _ {F T : Type 0} {G : Ghosts F} (o : Output T) (start : Mirror F G) (whol
         };
         within = λ few. within_failing start whole untaken s ms x.run.turns x.run.last b x.run.run few
             (all_uncut (lines bytes)) (x.within few);
+        asked = asked_of_file bytes x.run.run.run.first x.run.turns x.asked;
         stopped = (at_device file_run s ms [] ms (over_files x.run.turns) x.run.last (file_disk start) (file_disk b)
             (append-nil ms) run).0;
       }
@@ -104,11 +124,10 @@ module _ {F T : Type 0} {G : Ghosts F} (o : Output T) (start : Mirror F G) (whol
   )
 
   -- a service over a mirror is one over its file
-  pub service_of_file : {R : Type 0} (remaining : R → Option (List ℕ)) (old_in new_in : R)
-      (r : Result (Mirror F G) (LoopFault × Mirror F G))
-      → IsServed mirror remaining o start old_in new_in old new r
-      → IsServed file_run remaining o (file_disk start) old_in new_in old new (end_of_file r)
-  service_of_file remaining old_in new_in (Ok b) x = record {
+  pub service_of_file : (r : Result (Mirror F G) (LoopFault × Mirror F G))
+      → IsServed mirror i a start old_in new_in old new r
+      → IsServed file_run i a (file_disk start) old_in new_in old new (end_of_file r)
+  service_of_file (Ok b) x = record {
     handled = x.handled;
     rest = x.rest;
     whole = x.whole;
@@ -120,7 +139,7 @@ module _ {F T : Type 0} {G : Ghosts F} (o : Output T) (start : Mirror F G) (whol
     input = λ _ _. tt;
     output = λ _ _. tt;
     device = λ _ _. tt;
-    moments = λ s is. moments_of_file o start whole untaken old new s (line_messages x.handled) b (x.moments s is);
+    moments = λ s is. moments_of_file a.output start whole untaken old new s (line_messages x.handled) b (x.moments s is);
     quiet = λ s is asks. unwritten_of_file s b (x.quiet s is asks);
     writes = λ s is few. bounded_of_file start whole untaken (line_messages x.handled) b
         (x.moments s is).reached few (x.writes s is few);
@@ -128,8 +147,11 @@ module _ {F T : Type 0} {G : Ghosts F} (o : Output T) (start : Mirror F G) (whol
     «open» = tt;
     cause = tt;
     after = tt;
+    failed = tt;
+    passed = x.passed;
+    well = λ _ _ _ _ _. refl;
   }
-  service_of_file remaining old_in new_in (Err e) x = record {
+  service_of_file (Err e) x = record {
     handled = x.handled;
     rest = x.rest;
     whole = x.whole;
@@ -141,15 +163,19 @@ module _ {F T : Type 0} {G : Ghosts F} (o : Output T) (start : Mirror F G) (whol
     input = λ s is told. served_of_file s x.handled e.1 (x.input s is told);
     output = λ s is told. output_of_file s x.handled e.1 (x.output s is told);
     device = λ s is told. device_of_file s x.handled e.1 (x.device s is told);
-    moments = λ s is. moments_of_file o start whole untaken old new s (line_messages x.handled) e.1 (x.moments s is);
+    moments = λ s is. moments_of_file a.output start whole untaken old new s (line_messages x.handled) e.1 (x.moments s is);
     quiet = λ s is asks. unwritten_of_file s e.1 (x.quiet s is asks);
     writes = λ s is few. bounded_of_file start whole untaken (line_messages x.handled) e.1
         (x.moments s is).reached few (x.writes s is few);
     plays = λ shop never. x.plays shop (never_failed start whole e.1 (x.moments shop.0 shop.1).reached never);
-    «open» = λ f is. let y = x.«open» f is in (refused_of_file o start whole untaken old new e.1 f y.0, y.1, y.2);
+    «open» = λ f is. let y = x.«open» f is in (refused_of_file a.output start whole untaken old new e.1 f y.0, y.1, y.2);
     cause = λ is.
         let c = x.cause is in
         let y = (x.moments c.0.0 c.0.1).reached in
         (c.0, failed_by_file start whole start e.1 y y c.1);
     after = x.after;
+    failed = x.failed;
+    passed = tt;
+    well = λ shop never sound right few.
+        x.well shop (never_failed start whole e.1 (x.moments shop.0 shop.1).reached never) sound right few;
   }

@@ -85,6 +85,7 @@ module _ {D T : Type 0} (h : History D) (o : Output T) (disk : D) (script : List
     device = λ _ _. tt;
     moments = x.moments;
     quiet = x.quiet;
+    spared = x.spared;
     writes = x.writes;
     plays = λ _ _. tt;
     «open» = tt;
@@ -108,6 +109,7 @@ module _ {D T : Type 0} (h : History D) (o : Output T) (disk : D) (script : List
     device = λ s is told. device_on s (messages_of (lines script)) e.1 (x.device s is told);
     moments = x.moments;
     quiet = x.quiet;
+    spared = x.spared;
     writes = x.writes;
     plays = x.plays;
     «open» = λ f is. ((x.«open» f is).0, silent (λ g. cc) (λ g. cc) ∙ (x.«open» f is).1);

@@ -1,6 +1,6 @@
 -- What comes of a shop that is served over the file of a mirror, from what came of it over the mirror and whether that
 -- is broken.
-use Rattle.std.proofs.Common.{◌≡◌, ◌≢◌, ◌<◌, ◌≤◌, ◌+◌, ℕ, List, Option, Result, Ok, Err, arith, inl, inr, length, refl}
+use Rattle.std.proofs.Common.{◌≡◌, ◌≢◌, ◌<◌, ◌≤◌, ◌+◌, ℕ, List, Result, Ok, Err, arith, inl, inr, length, refl}
 use Rattle.std.proofs.Common.{subst, ⊎_elim}
 use Rattle.d64_image.specs.declared.mirror.Mirror.{Mirror}
 use Rattle.d64_image.specs.declared.sector_file.SectorFile.{Ghosts}
@@ -14,8 +14,9 @@ use Rattle.host_session.specs.declared.faults.OpenFault.{OpenFault}
 use Rattle.host_session.specs.declared.faults.OpenFault.TheVariants as opening
 use Rattle.host_session.specs.declared.runs.looping.LoopFault.{LoopFault}
 use Rattle.host_session.specs.declared.runs.looping.LoopFault.TheVariants as loop
-use Rattle.host_session.specs.events.Telling.{Output}
 use Rattle.host_session.specs.session.Opening.{Refuses, Untouched}
+use Rattle.serving.specs.Answering.{Answering}
+use Rattle.serving.specs.Giving.{Input}
 use Rattle.serving.specs.Serves.{IsServed}
 use Rattle.ledger_commands.specs.Faults.{opening_fault}
 use Rattle.ledger_commands.specs.Serves.{IsServeFault, IsServedFile, IsServedOver, IsServiceStopped, loop_fault}
@@ -23,18 +24,17 @@ use Rattle.ledger_commands.proofs.FileEnds.{failed_stably}
 use Rattle.ledger_commands.proofs.FileScripts.{refused_reached, refuses_so}
 use Rattle.ledger_commands.proofs.FileServes.{service_of_file}
 
-module _ {F R T : Type 0} {G : Ghosts F} (remaining : R → Option (List ℕ)) (o : Output T) (image : List ℕ)
-    (start : Mirror F G)
+module _ {F R T : Type 0} {G : Ghosts F} (i : Input R) (a : Answering T) (image : List ℕ) (start : Mirror F G)
     (sound : is_broken start → ⊥) (untaken : start.taken.n ≡ 0) (size : length image ≡ 174848)
     (holds : mirror_image start ≡ sectors_in image)
     (old_in new_in : R) (old new : T) (m : Mirror F G) where
   abbrev Served : Result (Mirror F G) (LoopFault × Mirror F G) → Type 0
-  Served r = IsServed mirror remaining o start old_in new_in old new r
+  Served r = IsServed mirror i a start old_in new_in old new r
 
   -- the file was taken up, and served so
   over_file : (end : FileDisk G.keeps → Result (FileDisk G.keeps) (LoopFault × FileDisk G.keeps))
-      → IsServed (in_run G.keeps start.file) remaining o (file_disk start) old_in new_in old new (end (file_disk m))
-      → IsServedOver G.keeps remaining o image start.file m.file old_in new_in old new end
+      → IsServed (in_run G.keeps start.file) i a (file_disk start) old_in new_in old new (end (file_disk m))
+      → IsServedOver G.keeps i a image start.file m.file old_in new_in old new end
   over_file end x = record {
     size = size;
     disk = file_disk start;
@@ -45,13 +45,13 @@ module _ {F R T : Type 0} {G : Ghosts F} (remaining : R → Option (List ℕ)) (
     ends = x;
   }
 
-  at_ok : Served (Ok m) → IsServedOver G.keeps remaining o image start.file m.file old_in new_in old new
+  at_ok : Served (Ok m) → IsServedOver G.keeps i a image start.file m.file old_in new_in old new
       (λ left. Ok left)
-  at_ok x = over_file (λ left. Ok left) (service_of_file o start sound untaken old new remaining old_in new_in (Ok m) x)
+  at_ok x = over_file (λ left. Ok left) (service_of_file i a start sound untaken old_in new_in old new (Ok m) x)
 
   at_err : (f : LoopFault) → Served (Err (f, m))
-      → IsServedOver G.keeps remaining o image start.file m.file old_in new_in old new (λ left. Err (f, left))
-  at_err f x = over_file (λ left. Err (f, left)) (service_of_file o start sound untaken old new remaining old_in new_in
+      → IsServedOver G.keeps i a image start.file m.file old_in new_in old new (λ left. Err (f, left))
+  at_err f x = over_file (λ left. Err (f, left)) (service_of_file i a start sound untaken old_in new_in old new
       (Err (f, m)) x)
 
   reached_at_ok : Served (Ok m) → IsMirrored start m
@@ -73,12 +73,12 @@ module _ {F R T : Type 0} {G : Ghosts F} (remaining : R → Option (List ℕ)) (
 
   -- each line was served, and the file is whole
   pub served_at_ok : (is_broken m → ⊥) → Served (Ok m)
-      → IsServedFile G.keeps remaining o image start.file m.file old_in new_in old new
+      → IsServedFile G.keeps i a image start.file m.file old_in new_in old new
   served_at_ok whole x = ((reached_at_ok x).unfailed whole, at_ok x)
 
   refused_at : (f : OpenFault) → f ≢ opening.Device → m.file ≡ start.file → new_in ≡ old_in → new ≡ old
       → Refuses ⊥ (sectors_in image) f
-      → IsServeFault G.keeps remaining o image start.file m.file old_in new_in old new (opening_fault f)
+      → IsServeFault G.keeps i a image start.file m.file old_in new_in old new (opening_fault f)
   refused_at (opening.Layout x) other same unread still is =
       (record { size = size; opening = opening.Layout x; is = refl; refuses = is }, ((same, still), unread))
   refused_at opening.NoStock other same unread still is =
@@ -95,7 +95,7 @@ module _ {F R T : Type 0} {G : Ghosts F} (remaining : R → Option (List ℕ)) (
 
   -- a fault ended it, and the file is whole
   pub served_at_err : (is_broken m → ⊥) → (f : LoopFault) → Served (Err (f, m))
-      → IsServeFault G.keeps remaining o image start.file m.file old_in new_in old new (loop_fault f)
+      → IsServeFault G.keeps i a image start.file m.file old_in new_in old new (loop_fault f)
   served_at_err whole (loop.Open f) x =
       let y = x.«open» f refl in
       let other : f ≢ opening.Device =
@@ -111,7 +111,7 @@ module _ {F R T : Type 0} {G : Ghosts F} (remaining : R → Option (List ℕ)) (
   -- the file failed
   failed_at_err : is_broken m → (f : LoopFault) → Served (Err (f, m)) → FileFailed G.keeps start.file m.file
   failed_at_err broken (loop.Open f) x = failed_stably G.keeps start.file m.file
-      (λ never. refused_reached o start sound untaken old new m f (x.«open» f refl).0
+      (λ never. refused_reached a.output start sound untaken old new m f (x.«open» f refl).0
       (λ y. never (file_failed start sound m y broken)))
   failed_at_err broken loop.Input x = let s = x.after (inl refl) in
       file_failed start sound m (x.moments s.0 s.1).reached broken
@@ -121,9 +121,9 @@ module _ {F R T : Type 0} {G : Ghosts F} (remaining : R → Option (List ℕ)) (
       broken
 
   pub stopped_at_ok : is_broken m → Served (Ok m)
-      → IsServiceStopped G.keeps remaining o image start.file m.file old_in new_in old new
+      → IsServiceStopped G.keeps i a image start.file m.file old_in new_in old new
   stopped_at_ok broken x = (file_failed start sound m (reached_at_ok x) broken, inl (at_ok x))
 
   pub stopped_at_err : is_broken m → (f : LoopFault) → Served (Err (f, m))
-      → IsServiceStopped G.keeps remaining o image start.file m.file old_in new_in old new
+      → IsServiceStopped G.keeps i a image start.file m.file old_in new_in old new
   stopped_at_err broken f x = (failed_at_err broken f x, inr (f, at_err f x))

@@ -1,5 +1,5 @@
 //! Files that are written at places, and brought to the disk.
-ghost use Rattle.std.specs.Prelude.{List, None, OnOk, Option, ℕ, ⊤};
+ghost use Rattle.std.specs.Prelude.{◌≡◌, Bool, List, None, OnErr, OnOk, Option, ℕ, true, ⊤};
 ghost use Rattle.ledger_commands.specs.Durable.{IsSynced, LastsSo, WritesOver};
 ghost use Rattle.ledger_commands.specs.Lasting.{Lasting, unknown_lasting};
 
@@ -9,7 +9,7 @@ use std::os::unix::fs::FileExt;
 
 /// A file that is written at places.
 pub trait WritesAt {
-    ghost use Rattle.std.specs.Prelude.{◌≡◌, OnOk};
+    ghost use Rattle.std.specs.Prelude.{◌≡◌, OnErr, OnOk};
     ghost use Rattle.ledger_commands.specs.Durable.{AllStays, WritesOver};
     ghost use Rattle.ledger_commands.specs.Lasting.{IsSectorIn, LacksASector, StaysOr, overwritten_in};
 
@@ -24,18 +24,25 @@ pub trait WritesAt {
 
     ghost IsOwned: { Self → Type 0 } = { λ _. ⊤ };
 
+    // whether one of its calls may have failed
+    ghost has_failed: { Self → Bool } = { λ _. true };
+
     /// Writes all these bytes over those from that place on, in bytes from the file's start. At an error a beginning of them
     /// was written. Of a sector all comes to the disk or nothing, where all else is there already.
     fn write_all_at(&mut self, bytes: &[u8], at: u64) -> io::Result<()>
         ensures written { WritesOver (held self.old) (held self.new) at bytes.now result }
         ensures stays { AllStays held lasting self.old → IsSectorIn (lasting.bytes self.old) at bytes.now
-            → StaysOr lasting self.old self.new (overwritten_in (lasting.bytes self.old) at bytes.now) };
+            → StaysOr lasting self.old self.new (overwritten_in (lasting.bytes self.old) at bytes.now) }
+        ensures failed { OnErr result (has_failed self.new ≡ true) }
+        ensures passed { OnOk result (has_failed self.new ≡ has_failed self.old) };
 
     /// Brings what it holds to the disk, whoever wrote it. At an error any of what wasn't there may be, or not, and asking
     /// again tells nothing: who asks doesn't go on.
     fn sync(&mut self) -> io::Result<()>
         ensures same { held self.new ≡ held self.old }
         ensures lasting { OnOk result (AllStays held lasting self.new) }
+        ensures failed { OnErr result (has_failed self.new ≡ true) }
+        ensures passed { OnOk result (has_failed self.new ≡ has_failed self.old) }
         ensures stays { LacksASector (lasting.bytes self.old) (held self.old) → StaysOr lasting self.old self.new (held self.old) }
         ensures owned { IsOwned self.old → IsOwned self.new }
         ensures shared { IsShared self.old → IsShared self.new };
@@ -73,6 +80,8 @@ pub(crate) fn write_sector<F: WritesAt>(
     ensures written { WritesOver (F.held file.old) (F.held file.new) at bytes.now result }
     ensures lasting { OnOk result (IsSynced F.held F.lasting durability file.new) }
     ensures stays { LastsSo F.held F.lasting file.old file.new durability at bytes.now result }
+    ensures failed { OnErr result (F.has_failed file.new ≡ true) }
+    ensures passed { OnOk result (F.has_failed file.new ≡ F.has_failed file.old) }
 {
     file.write_all_at(bytes, at)?;
     match durability {

@@ -20,6 +20,7 @@ pub struct Placed<F: WritesAt> {
     ghost fits: { failed ≤ 18446744073709551615 },
     ghost each: { synced ≡ true → durability ≡ durabilities.EachSector },
     ghost whole: { synced ≡ true → (all : List ℕ) → F.lasting.bytes file ≡ Some all → length all ≡ 174848 },
+    ghost blamed: { 1 ≤ failed → F.has_failed file ≡ true },
     ghost there: { synced ≡ true → failed ≡ 0 → F.lasting.bytes file ≡ F.held file } by { Prim.hlevel props },
 }
 
@@ -34,7 +35,7 @@ fn is_brought(durability: Durability, image: &[u8]) -> bool
 }
 
 impl<F: WritesAt> Placed<F> {
-    ghost use Rattle.std.specs.Prelude.{IfSome, IsOk, OnOk, take};
+    ghost use Rattle.std.specs.Prelude.{IfSome, IsOk, OnErr, OnOk, take};
     ghost use Rattle.d64_image.specs.Keeps.{Agrees};
     ghost use Rattle.d64_image.specs.Memory.{sectors_in};
     ghost use Rattle.ledger_commands.specs.Durable.{AllStays, IsSynced};
@@ -104,6 +105,9 @@ impl<F: WritesAt> Placed<F> {
     pub fn finish(&mut self) -> io::Result<()>
         ensures lasting { OnOk result (AllStays F.held F.lasting (placed_file self.new)) }
         ensures whole { is_synced self.old → placed.failures self.old ≡ 0 → IsOk result }
+        // an error is told where the file failed alone, now or before
+        ensures failed { OnErr result (F.has_failed (placed_file self.new) ≡ true) }
+        ensures passed { OnOk result (F.has_failed (placed_file self.new) ≡ F.has_failed (placed_file self.old)) }
         ensures same { F.held (placed_file self.new) ≡ F.held (placed_file self.old) }
         ensures reached { placed.reached self.old self.new }
         ensures untouched { is_synced self.old → self.new ≡ self.old }
@@ -119,7 +123,7 @@ impl<F: WritesAt> Placed<F> {
 }
 
 impl<F: WritesAt> SectorFile for Placed<F> {
-    ghost use Rattle.std.specs.Prelude.{OnOk};
+    ghost use Rattle.std.specs.Prelude.{OnErr, OnOk};
     ghost use Rattle.d64_image.specs.Keeps.{KeepsSector};
     ghost use Rattle.d64_image.specs.Offsets.{offset_of};
     ghost use Rattle.ledger_commands.specs.Durable.{IsSynced, WritesOver};
@@ -135,6 +139,9 @@ impl<F: WritesAt> SectorFile for Placed<F> {
             from.now result }
         // where each sector is brought to the disk, so is this one
         ensures lasting { OnOk result (IsSynced F.held F.lasting (placed_durability self.old) (placed_file self.new)) }
+        // an error is told where the file failed alone, now or before
+        ensures failed { OnErr result (F.has_failed (placed_file self.new) ≡ true) }
+        ensures passed { OnOk result (F.has_failed (placed_file self.new) ≡ F.has_failed (placed_file self.old)) }
     {
         if self.is_stopped() {
             self.failed = self.failed.saturating_add(1);

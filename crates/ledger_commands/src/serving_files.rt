@@ -8,10 +8,9 @@ use crate::bytes::load;
 use crate::faults::RunFault;
 use crate::playing::file_of;
 use d64_image::{Mirror, SectorFile};
-use host_session::{LoopFault, Tells};
-use serving::serve;
+use host_session::LoopFault;
+use serving::{Answers, GivesLines, serve};
 use std::alloc::Global;
-use std::io::BufRead;
 
 /// What is told of a shop whose service this fault ended: `File` of its input and of its output.
 fn told(fault: LoopFault) -> RunFault
@@ -32,7 +31,7 @@ fn told(fault: LoopFault) -> RunFault
 /// failed; the message of the last line counts or it doesn't.
 // Out of line: a session is large, and a frame that has its room touches each page of it.
 #[inline(never)]
-pub fn serve_file<F: SectorFile, R: BufRead, T: Tells<Mirror<F>>>(
+pub fn serve_file<F: SectorFile, R: GivesLines<Mirror<F>>, T: Answers<Mirror<F>>>(
     alloc: Global,
     image: &[u8],
     file: F,
@@ -42,9 +41,9 @@ pub fn serve_file<F: SectorFile, R: BufRead, T: Tells<Mirror<F>>>(
     // where it is known what the file keeps, it is this image
     requires agrees { Agrees (F.keeps.kept file) (sectors_in image.now) }
     ensures ok { IfOk result (λ after.
-        IsServedFile F.keeps R.remaining T.output image.now file after input.old input.new out.old out.new) }
+        IsServedFile F.keeps R.input T.answering image.now file after input.old input.new out.old out.new) }
     ensures err { IfErr result (λ e.
-        IsServeFault F.keeps R.remaining T.output image.now file e.1 input.old input.new out.old out.new e.0) }
+        IsServeFault F.keeps R.input T.answering image.now file e.1 input.old input.new out.old out.new e.0) }
 {
     let disk = match load(alloc, image) {
         Ok(disk) => disk,

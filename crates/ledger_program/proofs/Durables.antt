@@ -1,5 +1,5 @@
 -- Runs over a file that is brought to the disk, once its sectors stand at their places.
-use Rattle.std.proofs.Common.{◌≡◌, ◌≢◌, ◌∙◌, ◌⊎◌, ℕ, Err, List, ap, length, subst, sym}
+use Rattle.std.proofs.Common.{◌≡◌, ◌≢◌, ◌∙◌, ◌⊎◌, ℕ, Err, List, ap, length, subst, sym, true}
 use Rattle.std.specs.Prelude.{IfErr, OnOk}
 use Rattle.ledger_commands.specs.Durable.{AllStays}
 use Rattle.ledger_commands.specs.LastingImages.{image_if, image_of}
@@ -18,13 +18,16 @@ module _ {F : Type 0} {G : Ghosts F} (durability : Durability) (image : List ℕ
   pub durable_run : placed_file first ≡ file → placed.failures first ≡ 0 → after ≡ placed_file last
       → IsRun first left end → (ended ≡ end) ⊎ (ended ≡ Err faults.Device)
       → IfErr end (λ fault. fault ≢ faults.File → ended ≡ end)
-      → (is_synced left → placed.failures left ≡ 0 → ended ≡ end) → G.held (placed_file last) ≡ G.held (placed_file left)
+      → (is_synced left → placed.failures left ≡ 0 → ended ≡ end)
+      → (ended ≡ end) ⊎ (G.has_failed (placed_file last) ≡ true)
+      → (G.has_failed (placed_file left) ≡ true → G.has_failed (placed_file last) ≡ true)
+      → G.held (placed_file last) ≡ G.held (placed_file left)
       → placed.reached left last → (is_synced left → last ≡ left)
       → (durability ≡ durabilities.EachSector → length image ≡ 174848 → is_synced first)
       → OnOk ended (AllStays G.held G.lasting (placed_file last))
       → IfErr ended (λ fault. fault ≡ faults.File → AllStays G.held G.lasting (placed_file last))
       → IsDurableRun durability image file after ended IsRun
-  durable_run is_file unfailed is_last run told refused unblamed same reached untouched synced there stands = record {
+  durable_run is_file unfailed is_last run told refused unblamed blamed failed same reached untouched synced there stands = record {
     first = first;
     left = left;
     last = last;
@@ -37,6 +40,8 @@ module _ {F : Type 0} {G : Ghosts F} (durability : Durability) (image : List ℕ
     told = told;
     refused = refused;
     unblamed = unblamed;
+    blamed = subst (λ f. (ended ≡ end) ⊎ (G.has_failed f ≡ true)) (sym is_last) blamed;
+    counted = λ some. subst (λ f. G.has_failed f ≡ true) (sym is_last) (failed (left.blamed some));
     same = ap G.held is_last ∙ same;
     reached = reached;
     untouched = untouched;

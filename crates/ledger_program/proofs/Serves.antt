@@ -1,9 +1,10 @@
 -- The run of a service, from how the command ended.
-use Rattle.std.proofs.Common.{◌≡◌, ℕ, List, None, Ok, Err, Option, refl, arith, inl, inr, length, ⊎_elim}
+use Rattle.std.proofs.Common.{◌≡◌, ℕ, List, None, Ok, Err, refl, arith, inl, inr, length, ⊎_elim}
 use Rattle.std.proofs.lemmas.Bool.{false≢true}
 use Rattle.d64_image.specs.Keeps.{Keeps}
 use Rattle.host_session.proofs.lemmas.judging.Judging.{refused-no_shop}
-use Rattle.host_session.specs.events.Telling.{Output}
+use Rattle.serving.specs.Answering.{Answering}
+use Rattle.serving.specs.Giving.{Input}
 use Rattle.ledger_commands.specs.Faults.{run_status}
 use Rattle.ledger_commands.specs.Serves.{IsServeFault, IsServedFile, IsUnserved}
 use Rattle.ledger_commands.specs.Shops.{IsOpenRefusal}
@@ -11,14 +12,14 @@ use Rattle.ledger_commands.specs.declared.faults.RunFault.{RunFault}
 use Rattle.ledger_commands.specs.declared.faults.RunFault.TheVariants as run
 use Rattle.ledger_program.specs.Serves.{IsServeRun}
 
-module _ {F R T : Type 0} (K : Keeps F) (remaining : R → Option (List ℕ)) (o : Output T) (image : List ℕ)
+module _ {F R T : Type 0} (K : Keeps F) (i : Input R) (a : Answering T) (image : List ℕ)
     (file new_file : F)
     (old_in new_in : R) (old new : T) where
   abbrev Failed : RunFault → Type 0
-  Failed fault = IsServeFault K remaining o image file new_file old_in new_in old new fault
+  Failed fault = IsServeFault K i a image file new_file old_in new_in old new fault
 
   abbrev Ran : RunFault → Type 0
-  Ran fault = IsServeRun K remaining o image file new_file old_in new_in old new (Err fault)
+  Ran fault = IsServeRun K i a image file new_file old_in new_in old new (Err fault)
 
   -- an image that no opening takes, and of whose input nothing was read
   refused : (fault : RunFault) → run_status fault ≡ 1 → IsOpenRefusal image fault
@@ -72,8 +73,8 @@ module _ {F R T : Type 0} (K : Keeps F) (remaining : R → Option (List ℕ)) (o
   serve-failed run.TwoIntents end = refused run.TwoIntents refl end.0 end.1 end
 
   -- a service to the end of its input
-  pub serve-done : IsServedFile K remaining o image file new_file old_in new_in old new
-      → IsServeRun K remaining o image file new_file old_in new_in old new (Ok None)
+  pub serve-done : IsServedFile K i a image file new_file old_in new_in old new
+      → IsServeRun K i a image file new_file old_in new_in old new (Ok None)
   serve-done end = record {
     done = λ _. end;
     fault = tt;

@@ -1,5 +1,5 @@
 -- A run over a file of which it is known what stays where the machine loses power. All of it is our own.
-use Rattle.std.specs.Prelude.{◌≡◌, ◌≢◌, ◌⊎◌, List, ℕ, Err, IfErr, OnOk, length}
+use Rattle.std.specs.Prelude.{◌≡◌, ◌≢◌, ◌⊎◌, ◌≤◌, List, ℕ, Err, IfErr, OnOk, length, true}
 use Rattle.ledger_commands.specs.Durable.{AllStays}
 use Rattle.ledger_commands.specs.LastingImages.{image_of}
 use Rattle.ledger_commands.specs.Placed.{is_synced, placed, placed_file}
@@ -28,6 +28,9 @@ pub record IsDurableRun {F : Type 0} {G : Ghosts F} (durability : Durability) (i
   -- A run that was refused is told as it ended, and so is one over a file whose sectors are all on the disk.
   pub refused : IfErr end (λ fault. fault ≢ faults.File → ended ≡ end)
   pub unblamed : is_synced left → placed.failures left ≡ 0 → ended ≡ end
+  -- Of a file that says that none of its calls failed it is told so too, and none of them is counted as failed.
+  pub blamed : (ended ≡ end) ⊎ (G.has_failed after ≡ true)
+  pub counted : 1 ≤ placed.failures left → G.has_failed after ≡ true
   -- what the file holds at the end is what the run left
   pub same : G.held after ≡ G.held (placed_file left)
   pub reached : placed.reached left last

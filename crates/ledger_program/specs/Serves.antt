@@ -1,20 +1,21 @@
 -- What comes of a run that serves a shop. All of it is our own.
-use Rattle.std.specs.Prelude.{◌≡◌, ◌≢◌, ◌⊎◌, ℕ, List, IfErr, IsOk, Option, length}
+use Rattle.std.specs.Prelude.{◌≡◌, ◌≢◌, ◌⊎◌, ℕ, List, IfErr, IsOk, length}
 use Rattle.d64_image.specs.Keeps.{Keeps}
 use Rattle.d64_image.specs.Memory.{sectors_in}
-use Rattle.host_session.specs.events.Telling.{Output}
 use Rattle.host_session.specs.session.Opening.{IsAShop}
+use Rattle.serving.specs.Answering.{Answering}
+use Rattle.serving.specs.Giving.{Input}
 use Rattle.ledger_commands.specs.Serves.{IsServeFault, IsServedFile, IsUnserved}
 use Rattle.ledger_program.specs.Ends.{Ended, exit_status}
 use Rattle.ledger_program.specs.Runs.{IsNoShop}
 
 -- a run that serves the shop of an image, over the file, the input and the output that were handed in
-pub record IsServeRun {F R T : Type 0} (K : Keeps F) (remaining : R → Option (List ℕ)) (o : Output T) (image : List ℕ)
+pub record IsServeRun {F R T : Type 0} (K : Keeps F) (i : Input R) (a : Answering T) (image : List ℕ)
     (file new_file : F) (old_in new_in : R) (old new : T) (ended : Ended) : Type 0 where
   -- 0: each line of the input was served on the disk of the file, up to the input's end
-  pub done : exit_status ended ≡ 0 → IsServedFile K remaining o image file new_file old_in new_in old new
+  pub done : exit_status ended ≡ 0 → IsServedFile K i a image file new_file old_in new_in old new
   -- else what is told is so
-  pub fault : IfErr ended (IsServeFault K remaining o image file new_file old_in new_in old new)
+  pub fault : IfErr ended (IsServeFault K i a image file new_file old_in new_in old new)
   -- 1: the image has another size, or a fault of opening holds; nothing was touched or read
   pub size : length image ≢ 174848 → exit_status ended ≡ 1
   pub refused : exit_status ended ≡ 1 → (length image ≢ 174848) ⊎ IsNoShop image

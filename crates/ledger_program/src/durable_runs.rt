@@ -13,8 +13,8 @@ use d64_image::Mirror;
 use disk_layout::Fault;
 use host_session::Tells;
 use ledger_commands::{Durability, Placed, RunFault, WritesAt};
+use serving::{Answers, GivesLines};
 use std::alloc::Global;
-use std::io::BufRead;
 
 /// Plays the script on the shop of the image that the file has, as `play_run` does, and hands the file back. Its sectors are
 /// brought to the disk so: each before its reply is told, or all at the end. `Device` also where that failed.
@@ -40,7 +40,7 @@ pub fn play_durably<F: WritesAt, T: Tells<Mirror<Placed<F>>>>(
 
 /// Serves the shop of the image that the file has, as `serve_run` does, and hands the file back. Its sectors are brought to
 /// the disk so: each before its reply is told, or all at the end. `Device` also where that failed.
-pub fn serve_durably<F: WritesAt, R: BufRead, T: Tells<Mirror<Placed<F>>>>(
+pub fn serve_durably<F, R, T>(
     alloc: Global,
     image: &[u8],
     file: F,
@@ -48,11 +48,15 @@ pub fn serve_durably<F: WritesAt, R: BufRead, T: Tells<Mirror<Placed<F>>>>(
     input: &mut R,
     out: &mut T,
 ) -> (F, Result<Option<Fault>, RunFault>)
+where
+    F: WritesAt,
+    R: GivesLines<Mirror<Placed<F>>>,
+    T: Answers<Mirror<Placed<F>>>,
     // where each sector is brought to the disk, so is what the file holds, and these bytes were read of that
     requires synced { IsSynced F.held F.lasting durability file }
     requires image { IfSome (F.held file) (λ all. image.now ≡ take 174849 all) }
     ensures run { IsDurableRun {G = F.WritesAt.own} durability image.now file result.0 result.1
-        (λ first left end. IsServeRun placed R.remaining T.output image.now first left
+        (λ first left end. IsServeRun placed R.input T.answering image.now first left
         input.old input.new out.old out.new end) }
 {
     let placed = Placed::of_image(file, durability, image);

@@ -1,5 +1,5 @@
 //! Image files that a job locks, reads, writes and brings to the disk.
-ghost use Rattle.std.specs.Prelude.{◌≡◌, ◌≢◌, ◌⊎◌, Err, IfErr, IfOk, IfSome, IsOk, OnOk, take, vec_items};
+ghost use Rattle.std.specs.Prelude.{◌≡◌, ◌≢◌, ◌⊎◌, Err, IfErr, IfOk, IfSome, IsOk, OnOk, take, true, vec_items};
 ghost use Rattle.ledger_commands.specs.Durable.{AllStays, IsSynced};
 ghost use Rattle.ledger_commands.specs.Placed.{is_synced, placed, placed_file};
 ghost use Rattle.ledger_commands.specs.declared.faults.RunFault.TheVariants as faults;
@@ -85,6 +85,9 @@ pub(crate) fn finished<F: WritesAt>(
     ensures stands { IfErr result (λ fault. fault ≡ faults.File → AllStays F.held F.lasting (placed_file file.new)) }
     ensures told { (result ≡ ended) ⊎ (result ≡ Err faults.Device) }
     ensures unblamed { is_synced file.old → placed.failures file.old ≡ 0 → result ≡ ended }
+    // where the file is blamed in place of how the run ended, it failed
+    ensures blamed { (result ≡ ended) ⊎ (F.has_failed (placed_file file.new) ≡ true) }
+    ensures failed { F.has_failed (placed_file file.old) ≡ true → F.has_failed (placed_file file.new) ≡ true }
     ensures refused { IfErr ended (λ fault. fault ≢ faults.File → result ≡ ended) }
     ensures fault { IfErr ended (λ fault. (fault ≡ faults.File → IsOk result → ⊥)) }
     ensures same { F.held (placed_file file.new) ≡ F.held (placed_file file.old) }

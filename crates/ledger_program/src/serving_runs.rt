@@ -5,16 +5,15 @@ ghost use Rattle.ledger_program.specs.Serves.{IsServeRun};
 
 use d64_image::{Mirror, SectorFile};
 use disk_layout::Fault;
-use host_session::Tells;
 use ledger_commands::{RunFault, serve_file};
+use serving::{Answers, GivesLines};
 use std::alloc::Global;
-use std::io::BufRead;
 
 /// Serves the shop of the image that the file keeps, line by line up to the end of the input, and hands the file back.
 /// `Device` where the file failed, `File` where the input or the output did.
 // Out of line: a session is large, and a frame that has its room touches each page of it.
 #[inline(never)]
-pub fn serve_run<F: SectorFile, R: BufRead, T: Tells<Mirror<F>>>(
+pub fn serve_run<F: SectorFile, R: GivesLines<Mirror<F>>, T: Answers<Mirror<F>>>(
     alloc: Global,
     image: &[u8],
     file: F,
@@ -23,7 +22,7 @@ pub fn serve_run<F: SectorFile, R: BufRead, T: Tells<Mirror<F>>>(
 ) -> (F, Result<Option<Fault>, RunFault>)
     // where it is known what the file keeps, it is this image
     requires agrees { Agrees (F.keeps.kept file) (sectors_in image.now) }
-    ensures run { IsServeRun F.keeps R.remaining T.output image.now file result.0
+    ensures run { IsServeRun F.keeps R.input T.answering image.now file result.0
         input.old input.new out.old out.new result.1 }
 {
     match serve_file(alloc, image, file, input, out) {

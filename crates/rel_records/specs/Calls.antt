@@ -2,15 +2,17 @@
 use Rattle.std.specs.Prelude.{ℕ, ◌≡◌, ◌≢◌, ◌⊎◌, ◌↔◌, ◌≤◌, ◌<◌, ◌+◌, ◌*◌, ◌-◌, Err, IfErr, IfOk, IsOk, List, OnErr, OnOk}
 use Rattle.std.specs.Prelude.{Result, Some, length, slice_get}
 use Rattle.d64_image.specs.History.{Changes, HeldOnly, History, OldOr, OnlyReads, TellsFailure, WritesNothing}
-use Rattle.d64_image.specs.Images.{Image, Sector, put}
+use Rattle.d64_image.specs.Images.{Image, Sector, put, sector}
 use Rattle.d64_image.specs.declared.faults.DeviceFault.{DeviceFault}
 use Rattle.d64_image.specs.declared.place.Place.{Place}
 use Rattle.disk_layout.specs.Clean.{IsClean}
+use Rattle.disk_layout.specs.Directory.{map_place}
 use Rattle.disk_layout.specs.Layout.{File, IsLayout, Layout, record_length}
 use Rattle.disk_layout.specs.Records.{records}
 use Rattle.disk_layout.specs.Rest.{IsFirst, IsNamed}
+use Rattle.disk_layout.specs.View.{blocks_free}
 use Rattle.rel_records.specs.Faults.{TellsRelFault}
-use Rattle.rel_records.specs.File.{IsFileOf, IsOf, OfItsFile, entry_of, length_of, records_in}
+use Rattle.rel_records.specs.File.{IsFileOf, IsOf, OfItsFile, blocks_of, entry_of, length_of, records_in}
 use Rattle.rel_records.specs.Others.{KeepsRelFiles, LeavesRecords}
 use Rattle.rel_records.specs.Written.{IsAbsent, IsDone, IsGrowingBy, IsGrowingTo, IsInOneBlock, IsRecord, IsWriting}
 use Rattle.rel_records.specs.Written.{grown_to, touched, with_written}
@@ -21,7 +23,7 @@ use Rattle.rel_records.specs.declared.faults.RelFault.{RelFault}
 use Rattle.rel_records.specs.declared.faults.RelFault.TheVariants.{Device, Exists, Full, NotFound, NotPresent, Overflow}
 use Rattle.rel_records.specs.declared.faults.RelFault.TheVariants.{TooLarge}
 use Rattle.rel_records.specs.declared.rel_file.RelFile.{RelFile}
-use Rattle.rel_records.specs.growth.Growth.{IsFull, IsTooLarge, added, growth_writes, records_had}
+use Rattle.rel_records.specs.growth.Growth.{IsFull, IsTooLarge, added, growth_writes, needed, records_had}
 
 -- At most so many sectors are read and none is written. At Ok this holds of the answer; the one fault is the device's.
 pub record ReadsAtMost {D T : Type 0} (S : History D) (old new : D) (most : ℕ) (result : Result T RelFault)
@@ -172,6 +174,15 @@ pub record Grows {D : Type 0} (S : History D) (old new : D) (v w : RelFile) (num
   pub refused : IfErr result (λ e. e ≢ Device → (w ≡ v) × OnlyReads S old new 1)
   pub entry : entry_of w ≡ entry_of v
   pub failures : TellsRelFault S old new result
+
+-- What growth to so many data blocks asks: these bytes are the map, and the free sectors suffice.
+pub record MayGrow (img : Image) (v : RelFile) (bytes : Sector) (wanted : ℕ) : Type 0 where
+  pub clean : IsClean img
+  pub of : IsOf img v
+  pub map : bytes ≡ sector img map_place
+  pub more : blocks_of v ≤ wanted
+  pub few : wanted ≤ 720
+  pub room : needed (blocks_of v) wanted ≤ blocks_free bytes
 
 -- f, the file at place n of the layout l, got up to so many empty records behind its own; at Ok this is done of it.
 pub record GrowsBy {D : Type 0} (S : History D) (old new : D) (l : Layout) (n : ℕ) (f : File) (most more : ℕ)

@@ -1,13 +1,11 @@
 //! Growth of a relative file to a record.
 ghost use Rattle.std.specs.Prelude.{◌≡◌, ◌≤◌, ◌+◌, ◌-◌, ℕ, length};
 ghost use Rattle.d64_image.specs.History.{TellsFailure};
-ghost use Rattle.d64_image.specs.Images.{sector};
 ghost use Rattle.disk_layout.specs.Clean.{IsClean};
-ghost use Rattle.disk_layout.specs.Directory.{map_place};
 ghost use Rattle.disk_layout.specs.Layout.{File, Layout, record_length, sides_for};
 ghost use Rattle.disk_layout.specs.View.{blocks_free};
-ghost use Rattle.rel_records.specs.Calls.{Grows, GrowsBy};
-ghost use Rattle.rel_records.specs.File.{IsOf, OfItsFile, blocks_of, entry_of};
+ghost use Rattle.rel_records.specs.Calls.{Grows, GrowsBy, MayGrow};
+ghost use Rattle.rel_records.specs.File.{IsOf, OfItsFile, entry_of};
 ghost use Rattle.rel_records.specs.growth.Growth.{fill_writes, full, needed, records_had, run_writes};
 ghost use Rattle.rel_records.specs.growth.Steps.{HasRun, IsAt, IsFilledUp, IsKeptOf, IsRunTo, StandsFilled};
 
@@ -75,12 +73,7 @@ fn grow<D: Sectors>(
     map: Bam,
     wanted: u16,
 ) -> Result<(), DeviceFault>
-    requires clean { IsClean (D.history.image disk.old) }
-    requires of { IsOf (D.history.image disk.old) file.old }
-    requires map { map.bytes ≡ sector (D.history.image disk.old) map_place }
-    requires more { blocks_of file.old ≤ wanted }
-    requires few { wanted ≤ 720 }
-    requires room { needed (blocks_of file.old) wanted ≤ blocks_free map.bytes }
+    requires { MayGrow (D.history.image disk.old) file.old map.bytes wanted }
     ensures file { OfItsFile (D.history.image disk.old) file.old (λ l n f.
         GrowsBy D.history disk.old disk.new l n f (fill_writes f + run_writes (length f.blocks) wanted)
         (full (record_length f.slot) wanted - records_had f)

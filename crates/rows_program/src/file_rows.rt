@@ -2,15 +2,16 @@
 use crate::comparing::{holds, same_at};
 use crate::memory::Memory;
 use crate::scenes::{
-    BYTES, CHECK, DRY, End, FILE, FORMAT, LIST, MAKE, PLAY, RECORDS, REPAIR, SERVE, SHOW, STORE,
-    Words, bytes_at, empty_shop, ends, put, ran, repeated,
+    BYTES, CHECK, DRY, End, FILE, FORMAT, LIST, MAKE, MAP, PICTURE, PLAY, RECORDS, REPAIR, SERVE,
+    SHOW, STORE, Words, bytes_at, empty_shop, ends, put, ran, repeated,
 };
 use crate::stored::Kind;
 use std::process::Abort;
 
 /// Words, and what stands at the image's path and at the script's, so that a file can't be opened, read or written.
-const CLOSED: [(Words, Kind, Kind, &str); 25] = [
+const CLOSED: [(Words, Kind, Kind, &str); 36] = [
     (SERVE, Kind::Missing, Kind::Plain, "serve of no image"),
+    (SERVE, Kind::Folder, Kind::Plain, "serve of a folder"),
     (REPAIR, Kind::Missing, Kind::Plain, "repair of no image"),
     (
         REPAIR,
@@ -18,6 +19,7 @@ const CLOSED: [(Words, Kind, Kind, &str); 25] = [
         Kind::Plain,
         "repair of an image that may not be written",
     ),
+    (REPAIR, Kind::Folder, Kind::Plain, "repair of a folder"),
     (MAKE, Kind::Missing, Kind::Plain, "make on no image"),
     (
         MAKE,
@@ -25,11 +27,25 @@ const CLOSED: [(Words, Kind, Kind, &str); 25] = [
         Kind::Plain,
         "make on an image that may not be written",
     ),
+    (MAKE, Kind::Folder, Kind::Plain, "make on a folder"),
     (STORE, Kind::Missing, Kind::Plain, "store on no image"),
+    (
+        STORE,
+        Kind::ReadOnly,
+        Kind::Plain,
+        "store on an image that may not be written",
+    ),
+    (STORE, Kind::Folder, Kind::Plain, "store on a folder"),
     (STORE, Kind::Plain, Kind::Missing, "store of no records"),
     (STORE, Kind::Plain, Kind::Folder, "store of a folder"),
     (RECORDS, Kind::Missing, Kind::Plain, "records of no image"),
+    (RECORDS, Kind::Folder, Kind::Plain, "records of a folder"),
+    (BYTES, Kind::Missing, Kind::Plain, "bytes of no image"),
     (BYTES, Kind::Folder, Kind::Plain, "bytes of a folder"),
+    (MAP, Kind::Missing, Kind::Plain, "map of no image"),
+    (MAP, Kind::Folder, Kind::Plain, "map of a folder"),
+    (PICTURE, Kind::Missing, Kind::Plain, "picture of no image"),
+    (PICTURE, Kind::Folder, Kind::Plain, "picture of a folder"),
     (LIST, Kind::Missing, Kind::Plain, "list of no image"),
     (CHECK, Kind::Missing, Kind::Plain, "check of no image"),
     (SHOW, Kind::Missing, Kind::Plain, "show of no image"),
@@ -110,7 +126,7 @@ fn an_image_replaces_a_file(rt: HostRuntime) {
 /// Sees that an image of another size is refused by each job, and left as it is.
 fn is_no_image(rt: &(impl AllocGlobal + Abort), image: &[u8]) {
     for words in [
-        LIST, CHECK, SHOW, PLAY, SERVE, REPAIR, MAKE, STORE, RECORDS, BYTES,
+        LIST, CHECK, SHOW, PLAY, SERVE, REPAIR, MAKE, STORE, RECORDS, BYTES, MAP, PICTURE,
     ] {
         let memory = Memory::new(rt.alloc(), words, b"");
         put(rt, &memory.image, Kind::Plain, image);

@@ -2,19 +2,11 @@
 use crate::comparing::{holds, same_at};
 use crate::memory::Memory;
 use crate::scenes::{
-    BYTES, Bytes, End, MAP, PICTURE, RECORDS, REPAIR, Words, bytes_at, changed, empty_shop, ends,
-    put, ran, status_of,
+    BYTES, Bytes, COUNT, End, LOOP, MAP, NO_DIRECTORY, PICTURE, RECORDS, REPAIR, WRONG_MAP, Words,
+    bytes_at, changed, empty_shop, ends, put, ran, status_of,
 };
 use crate::stored::Kind;
 use std::process::Abort;
-
-/// 17/0 links to itself.
-const LOOP: &[Bytes] = &[(86016, b"\x11\x00")];
-
-/// Track 1 has a free sector too few in the map at 18/0, and the entry of STOCK in 18/1 a block too many.
-const WRONG_MAP: Bytes = (91396, b"\x14");
-
-const COUNT: Bytes = (91678, b"\x03");
 
 /// Changes of the image of an empty shop, the number of the sync that fails (0: none), how a repair ends, how many syncs there
 /// were, and whether the image is as it was before the changes.
@@ -28,7 +20,7 @@ const REPAIRED: [(&[Bytes], usize, End<'static>, usize, bool); 6] = [
         3,
         true,
     ),
-    (LOOP, 0, (1, b"", b"LAYOUT LOOP 17/0\n"), 1, false),
+    (&[LOOP], 0, (1, b"", b"LAYOUT LOOP 17/0\n"), 1, false),
     (&[WRONG_MAP], 1, (3, b"", b"DEVICE\n"), 1, false),
     (&[COUNT, WRONG_MAP], 2, (3, b"", b"DEVICE\n"), 2, false),
 ];
@@ -65,9 +57,19 @@ fn images_are_repaired(rt: HostRuntime) {
 const TWO: &[u8] = b"1,\"\\ff\"\n2,\"\\ff\"\n";
 
 /// Words, changes of the image of an empty shop, and how the program ends.
-const TAKEN: [(Words, &[Bytes], End<'static>); 5] = [
+const TAKEN: [(Words, &[Bytes], End<'static>); 9] = [
     (RECORDS, &[], (0, TWO, b"")),
-    (RECORDS, LOOP, (1, b"", b"LAYOUT LOOP 17/0\n")),
+    (RECORDS, &[LOOP], (1, b"", b"LAYOUT LOOP 17/0\n")),
+    // A sound disk needn't be clean.
+    (RECORDS, &[WRONG_MAP, COUNT], (0, TWO, b"")),
+    (RECORDS, &[NO_DIRECTORY], (1, b"", b"LAYOUT BADLINK 18/1\n")),
+    (BYTES, &[NO_DIRECTORY], (1, b"", b"LAYOUT BADLINK 18/1\n")),
+    // The layout is judged before the name.
+    (
+        &[b"ledger_cli", b"records", b"a.d64", b"REQUEST"],
+        &[LOOP],
+        (1, b"", b"LAYOUT LOOP 17/0\n"),
+    ),
     (
         &[b"ledger_cli", b"records", b"a.d64", b"REQUEST"],
         &[],
@@ -75,12 +77,12 @@ const TAKEN: [(Words, &[Bytes], End<'static>); 5] = [
     ),
     (
         &[b"ledger_cli", b"bytes", b"a.d64", b"\\ff"],
-        LOOP,
+        &[LOOP],
         (1, b"", b"NO FILE\n"),
     ),
     (
         &[b"ledger_cli", b"bytes", b"a.d64", b"STOCK"],
-        LOOP,
+        &[LOOP],
         (1, b"", b"LAYOUT LOOP 17/0\n"),
     ),
 ];
@@ -111,7 +113,7 @@ fn files_are_taken_out(rt: HostRuntime) {
     let shop = empty_shop(&rt);
     each_is_taken(&rt, shop.as_slice(), &TAKEN);
     // A whole file comes from a disk that is hurt elsewhere, also from standard input.
-    let hurt = changed(&rt, shop.as_slice(), LOOP);
+    let hurt = changed(&rt, shop.as_slice(), &[LOOP]);
     let requests = empty_records(&rt);
     let whole = (0, requests.as_slice(), b"".as_slice());
     ran(&rt, BYTES, hurt.as_slice(), b"", whole);
@@ -141,9 +143,14 @@ fn is_drawn(rt: &(impl AllocGlobal + Abort), words: Words, image: &[u8], status:
 #[test]
 fn images_are_drawn(rt: HostRuntime) {
     let shop = empty_shop(&rt);
-    let hurt = changed(&rt, shop.as_slice(), LOOP);
+    let hurt = changed(&rt, shop.as_slice(), &[LOOP]);
     is_drawn(&rt, MAP, shop.as_slice(), 0, FIRST_LINES);
     is_drawn(&rt, MAP, hurt.as_slice(), 1, FIRST_LINES);
     is_drawn(&rt, PICTURE, shop.as_slice(), 0, b"<!DOCTYPE html>");
-    ran(&rt, MAP, b"", b"", (1, b"", b"IMAGE SIZE\n"));
+    is_drawn(&rt, PICTURE, hurt.as_slice(), 1, b"<!DOCTYPE html>");
+    // Without a directory nothing is drawn.
+    let none = changed(&rt, shop.as_slice(), &[NO_DIRECTORY]);
+    let refused = (1, b"".as_slice(), b"LAYOUT BADLINK 18/1\n".as_slice());
+    ran(&rt, MAP, none.as_slice(), b"", refused);
+    ran(&rt, PICTURE, none.as_slice(), b"", refused);
 }

@@ -20,6 +20,8 @@ mod opened;
 #[cfg(test)]
 mod output_rows;
 #[cfg(test)]
+mod refusal_rows;
+#[cfg(test)]
 mod scenes;
 #[cfg(test)]
 mod stored;

@@ -2,8 +2,8 @@
 use crate::comparing::{holds, same_at};
 use crate::memory::Memory;
 use crate::scenes::{
-    BYTES, CHECK, End, FILE, FORMAT, LIST, MAKE, PLAY, PLAY_SYNC, RECORDS, REPAIR, SERVE, SHOW,
-    STORE, Words, bytes_at, empty_shop, ends, put, ran,
+    BYTES, CHECK, End, FILE, FORMAT, LIST, MAKE, MAP, PICTURE, PLAY, PLAY_SYNC, RECORDS, REPAIR,
+    SERVE, SHOW, STORE, Words, bytes_at, empty_shop, ends, put, ran,
 };
 use crate::stored::{Kind, Others};
 use std::process::Abort;
@@ -12,7 +12,7 @@ use std::process::Abort;
 const IN_USE: End<'static> = (3, b"", b"IN USE\n");
 
 /// Words, what others do with the image, and how the program ends.
-const LOCKED: [(Words, Others, End<'static>, &str); 20] = [
+const LOCKED: [(Words, Others, End<'static>, &str); 22] = [
     (SERVE, Others::Alone, IN_USE, "serve of an image in use"),
     (SERVE, Others::Reading, IN_USE, "serve of one that is read"),
     (REPAIR, Others::Alone, IN_USE, "repair of an image in use"),
@@ -28,6 +28,8 @@ const LOCKED: [(Words, Others, End<'static>, &str); 20] = [
     (STORE, Others::Reading, IN_USE, "store on one that is read"),
     (RECORDS, Others::Alone, IN_USE, "records of an image in use"),
     (BYTES, Others::Alone, IN_USE, "bytes of an image in use"),
+    (MAP, Others::Alone, IN_USE, "map of an image in use"),
+    (PICTURE, Others::Alone, IN_USE, "picture of an image in use"),
     (
         RECORDS,
         Others::Reading,

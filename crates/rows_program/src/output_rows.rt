@@ -4,20 +4,24 @@ ghost use Rattle.ledger_program.specs.Jobs.{IsFit};
 use crate::comparing::{holds, same, same_at};
 use crate::memory::{Memory, Runtime};
 use crate::scenes::{
-    BYTES, CHECK, DRY, FILE, FORMAT, LIST, MAKE, PLAY, RECORDS, REPAIR, SERVE, SHOW, Words,
-    empty_shop, ends, put,
+    BYTES, CHECK, DRY, FILE, FORMAT, INTO_REQUESTS, LIST, MAKE, MAP, PICTURE, PLAY, RECORDS,
+    REPAIR, SERVE, SHOW, Words, empty_shop, ends, put,
 };
 use crate::stored::Kind;
 use ledger_commands::Durability;
-use ledger_program::{Job, Reading, do_job, end};
+use ledger_program::{Drawing, Job, Reading, do_job, end};
 use std::io::{self, Write};
 use std::process::Abort;
 
-/// Words, how many bytes the output takes, and what it has then.
-const FULL: [(Words, usize, &[u8]); 13] = [
+/// Words, how many bytes the output takes, and what it has then. The messages are records' lines too: of two of record 1 the last
+/// counts.
+const FULL: [(Words, usize, &[u8]); 16] = [
     (SERVE, 12, b"1,1,DONE,5\n1"),
     (REPAIR, 2, b"OK"),
     (MAKE, 3, b"MAD"),
+    (INTO_REQUESTS, 8, b"1,\"2,S,1"),
+    (MAP, 4, b"   0"),
+    (PICTURE, 5, b"<!DOC"),
     (RECORDS, 5, b"1,\"\\f"),
     (BYTES, 1, b"\xff"),
     (LIST, 10, b"0 \"STOCK L"),
@@ -96,6 +100,18 @@ const DRY_JOB: Job<'static> = Job::Read {
     path: "s.txt",
 };
 
+const REPAIR_JOB: Job<'static> = Job::Repair { image: "a.d64" };
+
+const MAP_JOB: Job<'static> = Job::Draw {
+    what: Drawing::Map,
+    image: "a.d64",
+};
+
+const PICTURE_JOB: Job<'static> = Job::Draw {
+    what: Drawing::Picture,
+    image: "a.d64",
+};
+
 const PLAY_JOB: Job<'static> = Job::Play {
     image: "a.d64",
     script: "s.txt",
@@ -109,6 +125,9 @@ fn outputs_that_hand_nothing_on_are_told(rt: HostRuntime) {
     hands_on(&rt, &CHECK_JOB, 3, shop.as_slice());
     hands_on(&rt, &DRY_JOB, 11, shop.as_slice());
     hands_on(&rt, &PLAY_JOB, 11, shop.as_slice());
+    hands_on(&rt, &REPAIR_JOB, 3, shop.as_slice());
+    hands_on(&rt, &MAP_JOB, 953, shop.as_slice());
+    hands_on(&rt, &PICTURE_JOB, 66960, shop.as_slice());
 }
 
 /// A script, how many bytes the image's file takes before it fails, and the status, what is printed and what is told then.

@@ -40,6 +40,8 @@ pub(crate) const MAKE: Words = &[
 
 pub(crate) const STORE: Words = &[b"ledger_cli", b"store", b"a.d64", b"CARDS", b"s.txt"];
 
+pub(crate) const INTO_REQUESTS: Words = &[b"ledger_cli", b"store", b"a.d64", b"REQUESTS", b"s.txt"];
+
 pub(crate) const MAP: Words = &[b"ledger_cli", b"map", b"a.d64"];
 
 pub(crate) const PICTURE: Words = &[b"ledger_cli", b"picture", b"a.d64"];
@@ -111,6 +113,18 @@ pub(crate) fn ran(
 
 /// Bytes, and where in an image they stand.
 pub(crate) type Bytes = (usize, &'static [u8]);
+
+/// 17/0 links to itself.
+pub(crate) const LOOP: Bytes = (86016, b"\x11\x00");
+
+/// Track 1 has a free sector too few in the map at 18/0.
+pub(crate) const WRONG_MAP: Bytes = (91396, b"\x14");
+
+/// The entry of STOCK in 18/1 has a block too many.
+pub(crate) const COUNT: Bytes = (91678, b"\x03");
+
+/// 18/1 links to a sector outside track 18, so that the directory's sectors are no chain on it.
+pub(crate) const NO_DIRECTORY: Bytes = (91648, b"\x13\x00");
 
 /// The image with these bytes over its own.
 pub(crate) fn changed(rt: &(impl AllocGlobal + Abort), shop: &[u8], changes: &[Bytes]) -> Vec<u8> {

@@ -2,16 +2,11 @@
 use crate::comparing::{holds, same_at};
 use crate::memory::Memory;
 use crate::scenes::{
-    Bytes, CHECK, End, MAKE, STORE, Words, bytes_at, changed, empty_shop, ends, put, ran,
+    Bytes, CHECK, COUNT, End, LOOP, MAKE, REPAIR, STORE, WRONG_MAP, Words, bytes_at, changed,
+    empty_shop, ends, put, ran,
 };
 use crate::stored::Kind;
 use std::process::Abort;
-
-/// 17/0 links to itself.
-const LOOP: &[Bytes] = &[(86016, b"\x11\x00")];
-
-/// The entry of STOCK in 18/1 has a block too many.
-const COUNT: &[Bytes] = &[(91678, b"\x03")];
 
 /// Sees that each sector was brought to the disk before the next was written, and all before the first byte was read.
 fn is_synced(rt: &impl Abort, memory: &Memory<'_>, bad: usize) {
@@ -21,24 +16,35 @@ fn is_synced(rt: &impl Abort, memory: &Memory<'_>, bad: usize) {
     holds(rt, memory.image.most_waiting.get() <= 1, bad);
 }
 
+/// A file that the shop has.
+const TAKEN: Words = &[
+    b"ledger_cli",
+    b"make",
+    b"a.d64",
+    b"STOCK",
+    b"--length",
+    b"1",
+];
+
+/// And one that it hasn't.
+const OTHER: Words = &[
+    b"ledger_cli",
+    b"make",
+    b"a.d64",
+    b"OTHER",
+    b"--length",
+    b"30",
+];
+
 /// Words, changes of the image of an empty shop, the number of the sync that fails (0: none), and how the program ends.
-const MADE: [(Words, &[Bytes], usize, End<'static>); 6] = [
+const MADE: [(Words, &[Bytes], usize, End<'static>); 8] = [
     (MAKE, &[], 0, (0, b"MADE\n", b"")),
-    (MAKE, LOOP, 0, (1, b"", b"LAYOUT LOOP 17/0\n")),
-    (MAKE, COUNT, 0, (1, b"", b"LAYOUT COUNTWRONG 18/1\n")),
-    (
-        &[
-            b"ledger_cli",
-            b"make",
-            b"a.d64",
-            b"STOCK",
-            b"--length",
-            b"1",
-        ],
-        &[],
-        0,
-        (1, b"", b"FILE EXISTS\n"),
-    ),
+    (MAKE, &[LOOP], 0, (1, b"", b"LAYOUT LOOP 17/0\n")),
+    (MAKE, &[COUNT], 0, (1, b"", b"LAYOUT COUNTWRONG 18/1\n")),
+    (MAKE, &[WRONG_MAP], 0, (1, b"", b"LAYOUT MAPWRONG 18/0\n")),
+    // The layout is judged before the name.
+    (TAKEN, &[WRONG_MAP], 0, (1, b"", b"LAYOUT MAPWRONG 18/0\n")),
+    (TAKEN, &[], 0, (1, b"", b"FILE EXISTS\n")),
     (MAKE, &[], 1, (3, b"", b"DEVICE\n")),
     (MAKE, &[], 3, (3, b"", b"DEVICE\n")),
 ];
@@ -116,7 +122,7 @@ fn records_are_stored(rt: HostRuntime) {
 }
 
 /// A text, changes of the image, and how a store of it is refused.
-const REFUSED: [(&[u8], &[Bytes], End<'static>); 8] = [
+const REFUSED: [(&[u8], &[Bytes], End<'static>); 10] = [
     (b"1,A\nx\n", &[], (1, b"", b"RECORDS LINE 2\n")),
     (b"0,A\n", &[], (1, b"", b"RECORDS LINE 1\n")),
     // 31 bytes
@@ -129,10 +135,13 @@ const REFUSED: [(&[u8], &[Bytes], End<'static>); 8] = [
     (b"65535,A\n", &[], (1, b"", b"RECORDS LINE 1\n")),
     // 5600 want 662 and six side sectors; fewer than 664 are free.
     (b"5600,A\n", &[], (1, b"", b"DISK FULL\n")),
+    // All lines are judged before room is.
+    (b"5600,A\nx\n", &[], (1, b"", b"RECORDS LINE 2\n")),
     // Excel's mark of the byte order
     (b"\xef\xbb\xbf1,A\n", &[], (1, b"", b"RECORDS LINE 1\n")),
-    (b"x\n", LOOP, (1, b"", b"LAYOUT LOOP 17/0\n")),
-    (b"x\n", COUNT, (1, b"", b"LAYOUT COUNTWRONG 18/1\n")),
+    (b"x\n", &[LOOP], (1, b"", b"LAYOUT LOOP 17/0\n")),
+    (b"x\n", &[COUNT], (1, b"", b"LAYOUT COUNTWRONG 18/1\n")),
+    (b"x\n", &[WRONG_MAP], (1, b"", b"LAYOUT MAPWRONG 18/0\n")),
 ];
 
 /// Sees that each of these is refused so, and nothing was written.
@@ -172,5 +181,82 @@ fn stores_that_fail_are_told(rt: HostRuntime) {
         memory.image.bad_sync.set(bad);
         ends(&rt, &memory, wanted, "a sync that fails");
         same_at(&rt, memory.image.syncs.get(), bad, bad);
+    }
+}
+
+/// The image of an empty shop whose file CARDS has all blocks that were free: 654, and six side sectors.
+fn full_disk(rt: &(impl AllocGlobal + Abort)) -> Vec<u8> {
+    let made = with_cards(rt);
+    let memory = ran(
+        rt,
+        STORE,
+        made.as_slice(),
+        b"5537,A\n",
+        (0, b"5537,\"A\"\n", b""),
+    );
+    bytes_at(rt, &memory.image)
+}
+
+/// Words and records that a full disk is asked for, and how that is refused: a new file, one that is there, a block more.
+const CROWDED: [(Words, &[u8], End<'static>); 3] = [
+    (OTHER, b"", (1, b"", b"DISK FULL\n")),
+    (MAKE, b"", (1, b"", b"FILE EXISTS\n")),
+    (STORE, b"5538,A\n", (1, b"", b"DISK FULL\n")),
+];
+
+#[test]
+fn full_disks_are_told(rt: HostRuntime) {
+    let full = full_disk(&rt);
+    ran(&rt, CHECK, full.as_slice(), b"", (0, b"OK\n", b""));
+    for (words, text, wanted) in CROWDED {
+        let memory = ran(&rt, words, full.as_slice(), text, wanted);
+        holds(&rt, memory.image.holds(full.as_slice()), "it stays");
+        same_at(&rt, memory.image.writes.get(), 0, "nothing is written");
+    }
+}
+
+/// Words, changes of an image with CARDS, and how many bytes its file takes until it fails.
+const BROKEN: [(Words, &[Bytes], usize); 4] = [
+    (REPAIR, &[WRONG_MAP], 0),
+    (REPAIR, &[COUNT, WRONG_MAP], 300),
+    (OTHER, &[], 100),
+    (STORE, &[], 0),
+];
+
+#[test]
+fn files_that_fail_are_told(rt: HostRuntime) {
+    let made = with_cards(&rt);
+    for (words, changes, room) in BROKEN {
+        let image = changed(&rt, made.as_slice(), changes);
+        let memory = Memory::new(rt.alloc(), words, b"");
+        put(&rt, &memory.image, Kind::Plain, image.as_slice());
+        put(&rt, &memory.script, Kind::Plain, TWO);
+        memory.image.room.set(room);
+        ends(&rt, &memory, (3, b"", b"DEVICE\n"), "a file that fails");
+        same_at(&rt, memory.image.size(), 174848, room);
+    }
+}
+
+/// Words, changes of an image with CARDS, and what is printed.
+const UNTOLD: [(Words, &[Bytes], &[u8]); 3] = [
+    (REPAIR, &[WRONG_MAP], b"MENDED 18/0\nOK\n"),
+    (OTHER, &[], b"MADE\n"),
+    (STORE, &[], PRINTED),
+];
+
+/// Sees that an image is left the same where the output takes nothing.
+#[test]
+fn what_was_written_stays(rt: HostRuntime) {
+    let made = with_cards(&rt);
+    for (words, changes, printed) in UNTOLD {
+        let image = changed(&rt, made.as_slice(), changes);
+        let memory = ran(&rt, words, image.as_slice(), TWO, (0, printed, b""));
+        let left = bytes_at(&rt, &memory.image);
+        let memory = Memory::new(rt.alloc(), words, b"");
+        put(&rt, &memory.image, Kind::Plain, image.as_slice());
+        put(&rt, &memory.script, Kind::Plain, TWO);
+        memory.room.set(0);
+        ends(&rt, &memory, (3, b"", b"FILE\n"), "a full output");
+        holds(&rt, memory.image.holds(left.as_slice()), printed);
     }
 }

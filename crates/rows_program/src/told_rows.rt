@@ -2,8 +2,8 @@
 use crate::comparing::same_at;
 use crate::memory::Memory;
 use crate::scenes::{
-    CHECK, FORMAT, LIST, MAKE, PLAY, REPAIR, SHOW, STORE, Words, empty_shop, put, status_told,
-    wrote,
+    CHECK, FORMAT, INTO_REQUESTS, LIST, MAKE, PLAY, REPAIR, SHOW, STORE, Words, empty_shop, put,
+    status_told, wrote,
 };
 use crate::stored::{Kind, Others};
 use ledger_words::Told;
@@ -86,7 +86,7 @@ fn people_are_told_more(rt: HostRuntime) {
 }
 
 /// Words, the bytes of the script or of the records, what others do with the image, and what is told of an empty shop then.
-const OF_A_SHOP: [(Words, &[u8], Others, &[u8]); 4] = [
+const OF_A_SHOP: [(Words, &[u8], Others, &[u8]); 5] = [
     (
         PLAY,
         b"1,1,S,1,5\n@x\n",
@@ -104,6 +104,12 @@ const OF_A_SHOP: [(Words, &[u8], Others, &[u8]); 4] = [
         b"",
         Others::Away,
         b"NO FILE\nledger: a.d64: it has no such file; `ledger list` shows what it has\n",
+    ),
+    (
+        INTO_REQUESTS,
+        b"1,A\nx\n",
+        Others::Away,
+        b"RECORDS LINE 2\nledger: s.txt: nothing was done; mend the line, and run it again\n",
     ),
     (
         &[

@@ -247,7 +247,7 @@ fn records_have_one_to_254_bytes(rt: HostRuntime) {
 }
 
 /// Words, the status that the program ends with, what it prints and what it tells, where that is ours to say.
-const TOLD: [(Words, (u8, &[u8], &[u8]), &str); 7] = [
+const TOLD: [(Words, (u8, &[u8], &[u8]), &str); 11] = [
     (
         &[b"ledger_cli", b"make", b"a.d64", b"A", b"--length", b"255"],
         (2, b"", b"LENGTH\n"),
@@ -257,6 +257,26 @@ const TOLD: [(Words, (u8, &[u8], &[u8]), &str); 7] = [
         &[b"ledger_cli", b"records", b"a.d64", b"\\C1"],
         (2, b"", b"NAME\n"),
         "no name",
+    ),
+    (
+        &[b"ledger_cli", b"bytes", b"a.d64", b"\\C1"],
+        (2, b"", b"NAME\n"),
+        "no name of bytes",
+    ),
+    (
+        &[b"ledger_cli", b"store", b"a.d64", b"\\C1", b"s.txt"],
+        (2, b"", b"NAME\n"),
+        "no name to store in",
+    ),
+    (
+        &[b"ledger_cli", b"make", b"a.d64", b"", b"--length", b"30"],
+        (2, b"", b"NAME\n"),
+        "no name to make",
+    ),
+    (
+        &[b"ledger_cli", b"make", b"a.d64", b"\\C1", b"--length", b"0"],
+        (2, b"", b"NAME\n"),
+        "the name before the length",
     ),
     (
         &[b"ledger_cli", b"--version"],

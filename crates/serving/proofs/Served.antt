@@ -1,27 +1,31 @@
 -- What a run over the lines of an input comes to, where each reply is handed on by itself.
-use Rattle.std.proofs.Common.{◌≡◌, ◌<◌, ◌≤◌, ◌+◌, ⊎_elim, ◌∙◌, ℕ, List, [], ◌∷◌, ◌++◌, Option, Ok, Err, Result}
-use Rattle.std.proofs.Common.{map, refl, sym, subst, ap, inl, inr, append-nil, length}
+use Rattle.std.proofs.Common.{◌≡◌, ◌⊎◌, ◌<◌, ◌≤◌, ◌+◌, ⊎_elim, ◌∙◌, ℕ, List, [], ◌∷◌, ◌++◌, Ok, Err, Result, arith}
+use Rattle.std.proofs.Common.{map, refl, sym, subst, ap, inl, inr, append-nil, length, true}
+use Rattle.std.specs.Prelude.{zip}
+use Rattle.request_cards.specs.declared.reply.Reply.{Reply}
 use Rattle.std.proofs.lemmas.List.{length-map}
 use Rattle.d64_image.specs.History.{History}
 use Rattle.host_session.proofs.lemmas.runs.Chained.{at_device, whole}
 use Rattle.host_session.proofs.lemmas.runs.QuietRuns.{quiet_run, quiet_to_failure}
 use Rattle.host_session.specs.events.Asking.{messages_in}
 use Rattle.host_session.specs.events.Events.{Message, uncut}
-use Rattle.host_session.specs.events.Instants.{Instant}
+use Rattle.host_session.specs.events.Instants.{Instant, instant_of}
+use Rattle.host_session.specs.runs.Chains.{asked_over}
 use Rattle.host_session.specs.runs.Loops.{IsRun, IsRunToDevice, IsRunToOutput, IsRunWhole}
 use Rattle.host_session.specs.events.Quiet.{AreUncut, AskNothing, IsQuiet}
 use Rattle.host_session.specs.session.Opening.{disk_of}
 use Rattle.host_session.specs.runs.Runs.{HeldBeginnings}
 use Rattle.host_session.specs.shop.Shop.{IsShop, Shop}
-use Rattle.host_session.specs.events.Telling.{Output}
 use Rattle.host_session.specs.events.Within.{IsBounded, most_of_run}
 use Rattle.host_session.specs.declared.events.asking.Next.TheVariants as next
 use Rattle.host_session.specs.declared.runs.looping.LoopFault.{LoopFault}
 use Rattle.host_session.specs.declared.runs.looping.LoopFault.TheVariants as faults
 use Rattle.script_lines.specs.Lines.{lines}
-use Rattle.serving.specs.AtOnce.{at_once, lent}
-use Rattle.serving.specs.Inputs.{HasTaken, asked_in, line_messages, of_input}
-use Rattle.serving.specs.Serves.{AreServed, AreServedToDevice, AreServedToOutput, IsServed, IsUnwritten}
+use Rattle.serving.specs.Answering.{Answering, answered}
+use Rattle.serving.specs.AtOnce.{lent}
+use Rattle.serving.specs.Giving.{Input}
+use Rattle.serving.specs.Inputs.{HasTaken, asked_in, instants_in, line_messages, of_input}
+use Rattle.serving.specs.Serves.{AreAskedFor, AreServed, AreServedToDevice, AreServedToOutput, IsServed, IsUnwritten}
 use Rattle.serving.specs.declared.at_once.AtOnce.{AtOnce}
 use Rattle.serving.specs.declared.inputs.OfInput.{OfInput}
 use Rattle.serving.proofs.Handled.{handled_run}
@@ -32,10 +36,19 @@ pub all_uncut : (ls : List (List ℕ)) → AreUncut (map uncut ls)
 all_uncut [] = tt
 all_uncut (l ∷ ls) = (refl, all_uncut ls)
 
-module _ {D R T : Type 0} (h : History D) (remaining : R → Option (List ℕ)) (o : Output T) (disk : D)
+-- the instants beside messages are those beside as many others
+same_instants : (ms ns : List Message) (xs : List Instant) → length ms ≡ length ns
+    → instants_in (zip ms xs) ≡ instants_in (zip ns xs)
+same_instants [] [] xs e = refl
+same_instants [] (n ∷ ns) xs e = cc
+same_instants (m ∷ ms) [] xs e = cc
+same_instants (m ∷ ms) (n ∷ ns) [] e = refl
+same_instants (m ∷ ms) (n ∷ ns) (x ∷ xs) e = ap (λ ys. x ∷ ys) (same_instants ms ns xs (omega (arith, e)))
+
+module _ {D R T : Type 0} (h : History D) (i : Input R) (a : Answering T) (disk : D)
     (asked asks : OfInput R) (old new : AtOnce T) where
   abbrev Ran : Result D (LoopFault × D) → Type 0
-  Ran r = IsRun h (of_input remaining) (lent (at_once o)) disk asked asks old new r
+  Ran r = IsRun h (of_input i) (lent (answered a)) disk asked asks old new r
 
   -- the output is still the one that was lent
   still_lent : (r : Result D (LoopFault × D)) → Ran r → new.out.ghost_name ≡ old.out.ghost_name
@@ -46,10 +59,23 @@ module _ {D R T : Type 0} (h : History D) (remaining : R → Option (List ℕ)) 
   still_lent (Err (faults.Device, left)) k =
       let s = (k.cause refl).0 in ⊎_elim (λ t. t.0) (λ t. t.0.0) (k.device s.0 s.1 refl).0.told
 
-  module _ (taken : List (Message × Instant)) (x : HasTaken remaining asked asks (messages_in taken)) (s : Shop)
+  as_many : (taken : List (Message × Instant)) (x : HasTaken i asked asks taken)
+      → length (messages_in taken) ≡ length (line_messages x.handled)
+  as_many taken x =
+      sym (length-map (messages_in taken) asked_in) ∙ ap length x.asks ∙ length-map (line_messages x.handled) asked_in
+
+  module _ (taken : List (Message × Instant)) (x : HasTaken i asked asks taken) (s : Shop)
       (left : D) where
     abbrev Lines : List Message
     Lines = line_messages x.handled
+
+    -- each line was asked for so
+    asked_for : (first : D) (turns : List (Reply × D)) → taken ≡ asked_over h first turns (messages_in taken)
+        → AreAskedFor h i x.handled first turns asked.input.now asks.input.now
+    asked_for first turns e = subst (i.asked asked.input.now asks.input.now)
+        (ap instants_in e
+        ∙ same_instants (messages_in taken) Lines (instant_of h first ∷ map (λ t. instant_of h t.1) turns) (as_many taken x))
+        x.asked
 
     -- every moment of the lines, and what they wrote where they ask nothing new
     abbrev Held : Type 0
@@ -58,14 +84,15 @@ module _ {D R T : Type 0} (h : History D) (remaining : R → Option (List ℕ)) 
     unwritten : IsQuiet h s Lines disk left → IsUnwritten h s disk left
     unwritten q = (q.opening (all_uncut (lines x.handled)), q.unwritten (all_uncut (lines x.handled)))
 
-    served : IsRunWhole h (lent (at_once o)) s taken disk left old new
-        → AreServed h o s x.handled disk left old.out.now new.out.now × Held
+    served : IsRunWhole h (lent (answered a)) s taken disk left old new
+        → AreServed h i a s x.handled disk left asked.input.now asks.input.now old.out.now new.out.now × Held
     served k =
         let run = same_run h s (messages_in taken) Lines k.0.turns disk left x.asks k.0.run in (
           record {
             turns = k.0.turns;
             handled = handled_run h s x.handled k.0.turns disk left run;
             within = λ _. same_within h (messages_in taken) Lines k.0.turns k.0.run.first x.asks k.2;
+            asked = asked_for k.0.run.first k.0.turns k.1;
             told = k.0.told.1;
           },
           (
@@ -75,8 +102,8 @@ module _ {D R T : Type 0} (h : History D) (remaining : R → Option (List ℕ)) 
           ),
         )
 
-    served_to_output : IsRunToOutput h (lent (at_once o)) s taken disk left old new
-        → AreServedToOutput h o s x.handled disk left old.out.now new.out.now × Held
+    served_to_output : IsRunToOutput h (lent (answered a)) s taken disk left old new
+        → AreServedToOutput h i a s x.handled disk left asked.input.now asks.input.now old.out.now new.out.now × Held
     served_to_output k =
         let turns = k.0.turns ++ k.0.last ∷ [] in
         let run = same_run h s (messages_in taken) Lines turns disk left x.asks k.0.run in (
@@ -85,27 +112,27 @@ module _ {D R T : Type 0} (h : History D) (remaining : R → Option (List ℕ)) 
             last = k.0.last;
             handled = handled_run h s x.handled turns disk left run;
             within = λ _. same_within h (messages_in taken) Lines turns k.0.run.first x.asks k.2;
+            asked = asked_for k.0.run.first k.0.turns k.1;
             told = k.0.told.1;
           },
           ((whole h s Lines turns disk left run).1, λ asks. unwritten (quiet_run h s Lines turns disk left asks run)),
         )
 
-    served_to_device : IsRunToDevice h (lent (at_once o)) s taken disk left old new
-        → AreServedToDevice h o s x.handled disk left old.out.now new.out.now × Held
+    served_to_device : IsRunToDevice h (lent (answered a)) s taken disk left old new
+        → AreServedToDevice h i a s x.handled disk left asked.input.now asks.input.now old.out.now new.out.now × Held
     served_to_device k =
         let run = same_run_to_failure h s (messages_in taken) Lines k.0.turns k.0.last disk left x.asks k.0.run in
-        let q = at_device h s Lines [] Lines k.0.turns k.0.last disk left (append-nil Lines) run in
-        let same : length (messages_in taken) ≡ length Lines =
-        sym (length-map (messages_in taken) asked_in) ∙ ap length x.asks ∙ length-map Lines asked_in in (
+        let q = at_device h s Lines [] Lines k.0.turns k.0.last disk left (append-nil Lines) run in (
           record {
             run = record {
               turns = k.0.turns;
               last = k.0.last;
               run = run;
-              told = ⊎_elim (λ t. inl t.1) (λ t. inr (t.0.1, subst (λ n. 0 < n) same t.1)) k.0.told;
+              told = ⊎_elim (λ t. inl t.1) (λ t. inr (t.0.1, subst (λ n. 0 < n) (as_many taken x) t.1)) k.0.told;
             };
             within = λ _. same_within h (messages_in taken) Lines (k.0.turns ++ (k.0.last, left) ∷ []) k.0.run.run.first
                 x.asks k.2;
+            asked = asked_for k.0.run.run.first k.0.turns k.1;
             stopped = q.0;
           },
           (q.1, λ asks. unwritten (quiet_to_failure h s Lines k.0.turns k.0.last disk left asks run)),
@@ -143,9 +170,20 @@ module _ {D R T : Type 0} (h : History D) (remaining : R → Option (List ℕ)) 
   held_at e k faults.Output is s shop = (served_to_output k.taken k.takes s e.1 (k.output s shop is)).1
   held_at e k faults.Device is s shop = (served_to_device k.taken k.takes s e.1 (k.device s shop is)).1
 
-  pub is_served : (r : Result D (LoopFault × D)) → asked.said ≡ next.Event → Ran r
-      → IsServed h remaining o disk asked.input.now asks.input.now old.out.now new.out.now r
-  is_served (Ok left) fresh k = record {
+  module _ (fresh : asked.said ≡ next.Event) (all : asked.left ≡ 18446744073709551615) where
+    -- the input failed, or no line more is taken of it
+    blamed : (taken : List (Message × Instant)) (x : HasTaken i asked asks taken) → asks.said ≡ next.Failed
+        → (i.has_failed asks.input.now ≡ true) ⊎ (18446744073709551615 ≤ length (lines x.handled))
+    blamed taken x said =
+        let same : length taken ≡ length (lines x.handled) =
+        sym (length-map taken (λ y. y.0)) ∙ as_many taken x ∙ length-map (lines x.handled) uncut in
+        ⊎_elim (λ never. absurd (let e = sym fresh ∙ never in cc))
+        (λ why. ⊎_elim (λ f. inl f) (λ spent. inr (omega (arith, spent, all, same))) why)
+        (x.failed said)
+
+  pub is_served : (r : Result D (LoopFault × D)) → asked.said ≡ next.Event → asked.left ≡ 18446744073709551615 → Ran r
+      → IsServed h i a disk asked.input.now asks.input.now old.out.now new.out.now r
+  is_served (Ok left) fresh all k = record {
     handled = k.takes.handled;
     rest = k.takes.rest;
     whole = k.takes.whole;
@@ -164,8 +202,11 @@ module _ {D R T : Type 0} (h : History D) (remaining : R → Option (List ℕ)) 
     «open» = tt;
     cause = tt;
     after = tt;
+    failed = tt;
+    passed = ⊎_elim (λ failed. absurd (let e = sym k.shop.1 ∙ failed in cc)) (λ e. e) k.takes.passed;
+    well = λ _ _ _ _ _. refl;
   }
-  is_served (Err e) fresh k = record {
+  is_served (Err e) fresh all k = record {
     handled = k.takes.handled;
     rest = k.takes.rest;
     whole = k.takes.whole;
@@ -188,18 +229,27 @@ module _ {D R T : Type 0} (h : History D) (remaining : R → Option (List ℕ)) 
     );
     cause = k.cause;
     after = k.after;
+    failed = λ is. let s = k.after (inl is) in blamed fresh all k.taken k.takes (k.input s.0 s.1 is).0;
+    passed = tt;
+    well = λ shop never sound whole few. ⊎_elim
+        (λ is. ⊎_elim (λ failed. absurd (let x = sym sound ∙ failed in cc)) (λ spent. absurd (omega (arith, spent, few)))
+        (blamed fresh all k.taken k.takes (k.input shop.0 shop.1 is).0))
+        (λ is. absurd (let x = sym whole ∙ (served_to_output k.taken k.takes shop.0 e.1 (k.output shop.0 shop.1 is)).0.told.1
+        in cc))
+        (k.plays shop never);
   }
 
   -- and so for what the input and the output end as
-  pub served_over : (r : Result D (LoopFault × D)) → asked.said ≡ next.Event → Ran r
+  pub served_over : (r : Result D (LoopFault × D)) → asked.said ≡ next.Event
+      → asked.left ≡ 18446744073709551615 → Ran r
       → (first_in last_in : R) (first last : T)
       → asked.input.now ≡ first_in → (asked.input.ghost_name ≡ asks.input.ghost_name → last_in ≡ asks.input.now)
       → old.out.now ≡ first → (old.out.ghost_name ≡ new.out.ghost_name → last ≡ new.out.now)
-      → IsServed h remaining o disk first_in last_in first last r
-  served_over r fresh k first_in last_in first last was_in is_in was is =
-      subst (λ a. IsServed h remaining o disk a last_in first last r) was_in
-      (subst (λ a. IsServed h remaining o disk asked.input.now a first last r) (sym (is_in (sym k.takes.same)))
-      (subst (λ a. IsServed h remaining o disk asked.input.now asks.input.now a last r) was
-      (subst (λ a. IsServed h remaining o disk asked.input.now asks.input.now old.out.now a r)
+      → IsServed h i a disk first_in last_in first last r
+  served_over r fresh all k first_in last_in first last was_in is_in was is =
+      subst (λ x. IsServed h i a disk x last_in first last r) was_in
+      (subst (λ x. IsServed h i a disk asked.input.now x first last r) (sym (is_in (sym k.takes.same)))
+      (subst (λ x. IsServed h i a disk asked.input.now asks.input.now x last r) was
+      (subst (λ x. IsServed h i a disk asked.input.now asks.input.now old.out.now x r)
       (sym (is (sym (still_lent r k))))
-      (is_served r fresh k))))
+      (is_served r fresh all k))))

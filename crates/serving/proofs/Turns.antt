@@ -4,7 +4,8 @@ use Rattle.std.specs.Prelude.{OnOk}
 use Rattle.request_cards.specs.declared.reply.Reply.{Reply}
 use Rattle.host_session.specs.events.Instants.{Instant}
 use Rattle.host_session.specs.events.Telling.{BreaksOff, IsTold, Output, TellsNone, TellsOne}
-use Rattle.serving.specs.AtOnce.{HandedOnInTurn, IsHeldBack, at_once, lent}
+use Rattle.serving.specs.Answering.{HandedOnInTurn, IsHeldBack, answered, at_once, of_output}
+use Rattle.serving.specs.AtOnce.{lent}
 use Rattle.serving.specs.declared.at_once.AtOnce.{AtOnce}
 
 module _ {T : Type 0} (o : Output T) where
@@ -16,17 +17,6 @@ module _ {T : Type 0} (o : Output T) where
       (d, kept.0 first ((reply, at) ∷ []) (tells first [] k), handed, o.none d)
   in_turn_more first a b d (x ∷ xs) reply at k tells kept handed =
       (k.0, k.1, k.2, in_turn_more k.0 a b d xs reply at k.3 tells kept handed)
-
-  -- handing on once more changes nothing of it
-  in_turn_kept : (first b d : T) (xs : List (Reply × Instant)) → TellsNone o b d → HandedOnInTurn o first b xs
-      → HandedOnInTurn o first d xs
-  in_turn_kept first b d [] kept k = kept.0 first [] k
-  in_turn_kept first b d (x ∷ xs) kept k = (k.0, k.1, k.2, in_turn_kept k.0 b d xs kept k.3)
-
-  held_back_kept : (first b d : T) (xs : List (Reply × Instant)) (last : Reply × Instant) → TellsNone o b d
-      → IsHeldBack o first b xs last → IsHeldBack o first d xs last
-  held_back_kept first b d xs last kept k =
-      ⊎_elim (λ x. inl (kept.1 first xs last x)) (λ x. inr (kept.0 first (xs ++ last ∷ []) x)) k
 
   pub told_once : (a b d : T) (reply : Reply) (at : Instant) → TellsOne o a b reply at → TellsNone o b d
       → o.is_handed_on d
@@ -56,23 +46,18 @@ module _ {T : Type 0} (o : Output T) where
     alone = inr (kept.0 a ((reply, at) ∷ []) (tells a [] (o.none a)));
   }
 
-  pub kept_once : (b d : T) → TellsNone o b d → TellsNone (at_once o) b d
-  kept_once b d kept = (
-    λ first xs k. (kept.0 first xs k.0, in_turn_kept first b d xs kept k.1),
-    λ first xs last k. record {
-      all = held_back_kept first b d xs last kept k.all;
-      before = k.before;
-      in_turn = k.in_turn;
-      alone = held_back_kept k.before b d [] last kept k.alone;
-    },
-  )
-
   -- what came of handing it on, once it was told
   pub told_on : {E : Type 0} (a b d : T) (reply : Reply) (at : Instant) (result : Result Unit E)
       → TellsOne o a b reply at → TellsNone o b d
       → OnOk result (o.is_handed_on d) → IsTold (at_once o) a d reply at result
   told_on a b d reply at (Ok _) tells kept handed = (told_once a b d reply at tells kept handed, omega arith)
   told_on a b d reply at (Err _) tells kept handed = (not_handed_on a b d reply at tells kept, refl)
+
+  -- the same of an output that says no more
+  pub told_so : {E : Type 0} (a d : T) (reply : Reply) (at : Instant) (result : Result Unit E)
+      → IsTold (at_once o) a d reply at result → IsTold (answered (of_output o)) a d reply at result
+  told_so a d reply at (Ok _) x = (λ first xs k. (x.0 first xs k.0, refl), x.1)
+  told_so a d reply at (Err _) x = (λ first xs k. (x.0 first xs k.0, refl), x.1)
 
   -- the same of the output that was lent
   pub lent_told : {E : Type 0} (old new : AtOnce T) (reply : Reply) (at : Instant) (result : Result Unit E)

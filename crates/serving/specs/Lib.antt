@@ -1,4 +1,6 @@
 pub mod Read
+pub mod Giving
+pub mod Answering
 pub mod Inputs
 pub mod AtOnce
 pub mod Serves

@@ -1,7 +1,9 @@
 //! An output to which each reply is handed on by itself.
 ghost use Rattle.std.specs.Prelude.{◌≡◌};
-ghost use Rattle.serving.specs.AtOnce.{at_once, lent};
+ghost use Rattle.serving.specs.Answering.{answered};
+ghost use Rattle.serving.specs.AtOnce.{lent};
 
+use crate::answering::Answers;
 use d64_image::Sectors;
 use host_session::{NotTaken, Tells};
 use request_cards::Reply;
@@ -22,15 +24,15 @@ impl<'a, T> AtOnce<'a, T> {
     }
 }
 
-impl<'a, D: Sectors, T: Tells<D>> Tells<D> for AtOnce<'a, T> {
-    ghost output = { lent (at_once T.output) };
+impl<'a, D: Sectors, T: Answers<D>> Tells<D> for AtOnce<'a, T> {
+    ghost output = { lent (answered T.answering) };
 
     fn tell(&mut self, reply: &Reply, disk: &D) -> Result<(), NotTaken> {
-        self.out.tell(reply, disk)?;
-        self.out.hand_on()
+        self.out.answer(reply, disk)
     }
 
+    // Each reply was handed on behind it.
     fn hand_on(&mut self) -> Result<(), NotTaken> {
-        self.out.hand_on()
+        Ok(())
     }
 }

@@ -1,14 +1,12 @@
 //! An input as a source of messages, a line each.
 ghost use Rattle.std.specs.Prelude.{◌≡◌};
 ghost use Rattle.host_session.specs.declared.events.asking.Next.TheVariants as answers;
-ghost use Rattle.script_lines.specs.Lines.{without_cr};
-ghost use Rattle.serving.specs.Inputs.{IsLineTaken, of_input};
+ghost use Rattle.serving.specs.Inputs.{of_input};
 
-use crate::reading::read_line;
+use crate::giving::GivesLines;
 use arrayvec::ArrayVec;
 use d64_image::Sectors;
 use host_session::{Asks, Cut, Next};
-use std::io::BufRead;
 
 /// The lines of an input, as a source of messages. A line counts only with its LF, and one CR before that is dropped;
 /// what stands behind the last LF is no line. No line is a reset. 40 bytes of a line are kept, more than a request can
@@ -31,6 +29,7 @@ impl<'a, R> OfInput<'a, R> {
         ensures same { result.input.ghost_name ≡ input.entry.ghost_name }
         ensures input { result.input.now ≡ input.old }
         ensures fresh { result.said ≡ answers.Event }
+        ensures all { result.left ≡ 18446744073709551615 }
     {
         OfInput {
             input,
@@ -41,33 +40,10 @@ impl<'a, R> OfInput<'a, R> {
     }
 }
 
-/// Drops one CR at the end of a line.
-fn drop_cr(line: &mut ArrayVec<u8, 40>)
-    ensures { line.new.items ≡ without_cr line.old.items }
-{
-    if let Some(&b'\r') = line.as_slice().last() {
-        let _ = line.pop();
-    }
-}
+impl<'a, D: Sectors, R: GivesLines<D>> Asks<D> for OfInput<'a, R> {
+    ghost source = { of_input R.input };
 
-/// Takes the next line of an input, without its LF and one CR before that.
-fn take_line<R: BufRead>(input: &mut R, line: &mut ArrayVec<u8, 40>) -> Next
-    ensures { IsLineTaken (R.remaining input.old) (R.remaining input.new) line.new.items result }
-{
-    match read_line(input, line) {
-        Ok(true) => {
-            drop_cr(line);
-            Next::Event
-        }
-        Ok(false) => Next::End,
-        Err(_) => Next::Failed,
-    }
-}
-
-impl<'a, D: Sectors, R: BufRead> Asks<D> for OfInput<'a, R> {
-    ghost source = { of_input R.remaining };
-
-    fn next(&mut self, _disk: &D) -> Next {
+    fn next(&mut self, disk: &D) -> Next {
         let Next::Event = self.said else {
             return self.said;
         };
@@ -76,7 +52,7 @@ impl<'a, D: Sectors, R: BufRead> Asks<D> for OfInput<'a, R> {
             return Next::Failed;
         };
         self.left = left;
-        self.said = take_line(self.input, &mut self.line);
+        self.said = self.input.give(&mut self.line, disk);
         self.said
     }
 

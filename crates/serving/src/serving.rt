@@ -1,11 +1,12 @@
 //! A shop served over an input and an output.
 ghost use Rattle.serving.specs.Serves.{IsServed};
 
+use crate::answering::Answers;
 use crate::at_once::AtOnce;
+use crate::giving::GivesLines;
 use crate::inputs::OfInput;
 use d64_image::Sectors;
-use host_session::{LoopFault, Tells, run};
-use std::io::BufRead;
+use host_session::{LoopFault, run};
 
 /// Serves the shop of a disk: opens it, and takes line after line of an input until that ends. Each line is handled,
 /// and its reply told and handed on, before the next line is asked for. What comes of it are the clauses of
@@ -14,12 +15,12 @@ use std::io::BufRead;
 /// `Open`: nothing was read or told. `Input`: the input couldn't be read; the lines before stand, and were told.
 /// `Output`: the output failed; the lines up to that one stand. `Device`: the device failed in the last line, which
 /// was told MEDIA where the output took it; its message counts or it doesn't. It takes no memory.
-pub fn serve<D: Sectors, R: BufRead, T: Tells<D>>(
+pub fn serve<D: Sectors, R: GivesLines<D>, T: Answers<D>>(
     disk: D,
     input: &mut R,
     out: &mut T,
 ) -> Result<D, (LoopFault, D)>
-    ensures { IsServed D.history R.remaining T.output disk input.old input.new out.old out.new result }
+    ensures { IsServed D.history R.input T.answering disk input.old input.new out.old out.new result }
 {
     let mut asks = OfInput::new(input);
     let mut told = AtOnce::new(out);

@@ -1,5 +1,11 @@
 pub mod Brought
 pub mod Written
+pub mod Begun
+pub mod Durably
 pub mod Played
 pub mod Lasts
 pub mod Ends
+pub mod Services
+pub mod Served
+pub mod OnDisk
+pub mod Noted

@@ -1,5 +1,5 @@
 -- What a file in memory holds, and what of that is on its disk. Our own.
-use Rattle.std.specs.Prelude.{◌≡◌, ◌≢◌, List, ℕ}
+use Rattle.std.specs.Prelude.{◌≡◌, ◌≢◌, Bool, List, ℕ}
 use Rattle.ledger_commands.specs.Lasting.{Lasting}
 use Rattle.tool_disk_file.specs.Disks.{disk_lasting}
 use Rattle.tool_disk_file.specs.declared.disk.Disk.{Disk}
@@ -12,6 +12,10 @@ file_held f = f.held.items
 
 abbrev pub file_disk : DiskFile → Disk
 file_disk f = f.disk
+
+-- one of its calls failed
+abbrev pub has_failed : DiskFile → Bool
+has_failed f = f.failed
 
 -- it is locked for its program alone
 abbrev pub is_alone : DiskFile → Type 0

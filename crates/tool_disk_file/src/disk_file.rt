@@ -42,6 +42,8 @@ pub struct DiskFile {
     part: usize,
     /// Whether a failing call that brings it to the disk does so.
     done: bool,
+    /// Whether one of its calls failed.
+    failed: bool,
     ghost size: { length held.items ≡ 174848 },
 }
 
@@ -88,9 +90,10 @@ fn write(held: &mut Vec<u8>, at: u64, bytes: &[u8], most: Option<usize>) -> io::
 }
 
 impl DiskFile {
-    ghost use Rattle.std.specs.Prelude.{IfOk};
+    ghost use Rattle.std.specs.Prelude.{IfOk, OnOk};
+    ghost use Rattle.ledger_commands.specs.Lasting.{IsSectorIn, StaysOr, overwritten_in};
     ghost use Rattle.tool_disk_file.specs.Disks.{disk_bytes};
-    ghost use Rattle.tool_disk_file.specs.Files.{file_disk, file_held};
+    ghost use Rattle.tool_disk_file.specs.Files.{file_disk, file_held, file_lasting, has_failed};
 
     /// A file of this image, all of which is on its disk. No call of it fails before the last that can be counted. An error
     /// where memory for it was refused.
@@ -98,6 +101,7 @@ impl DiskFile {
         requires size { length image.now ≡ 174848 }
         ensures held { IfOk result (λ file. file_held file ≡ image.now) }
         ensures disk { IfOk result (λ file. disk_bytes (file_disk file) ≡ image.now) }
+        ensures sound { IfOk result (λ file. has_failed file ≡ false) }
     {
         Ok(DiskFile {
             held: image.to_vec(alloc)?,
@@ -107,6 +111,7 @@ impl DiskFile {
             calls: u64::MAX,
             part: 0,
             done: false,
+            failed: false,
         })
     }
 
@@ -115,12 +120,14 @@ impl DiskFile {
     pub fn failing(self, calls: u64, part: usize, done: bool) -> DiskFile
         ensures held { file_held result ≡ file_held self }
         ensures disk { file_disk result ≡ file_disk self }
+        ensures same { has_failed result ≡ has_failed self }
     {
         let DiskFile {
             held,
             disk,
             bringing,
             lock,
+            failed,
             ..
         } = self;
         DiskFile {
@@ -131,6 +138,7 @@ impl DiskFile {
             calls,
             part,
             done,
+            failed,
         }
     }
 
@@ -141,27 +149,14 @@ impl DiskFile {
         self.held.as_slice()
     }
 
-    /// Its disk.
-    pub fn disk(&self) -> &Disk
-        ensures { result.now ≡ file_disk self.now }
+    /// Writes all these bytes from there on, and brings them to the disk where each write comes there.
+    fn write_through(&mut self, bytes: &[u8], at: u64) -> io::Result<()>
+        ensures written { WritesOver (Some (file_held self.old)) (Some (file_held self.new)) at bytes.now result }
+        ensures stays { file_lasting.bytes self.old ≡ Some (file_held self.old)
+            → IsSectorIn (file_lasting.bytes self.old) at bytes.now
+            → StaysOr file_lasting self.old self.new (overwritten_in (file_lasting.bytes self.old) at bytes.now) }
+        ensures same { has_failed self.new ≡ has_failed self.old }
     {
-        &self.disk
-    }
-}
-
-impl WritesAt for DiskFile {
-    ghost use Rattle.std.specs.Prelude.{◌≡◌, ◌≢◌, Some};
-    ghost use Rattle.tool_disk_file.specs.Files.{file_held, file_lasting, is_alone, is_locked};
-
-    ghost held = { λ f. Some (file_held f) };
-
-    ghost lasting = { file_lasting };
-
-    ghost IsShared = { is_locked };
-
-    ghost IsOwned = { is_alone };
-
-    fn write_all_at(&mut self, bytes: &[u8], at: u64) -> io::Result<()> {
         let most = if passes(&mut self.calls) {
             None
         } else {
@@ -174,12 +169,53 @@ impl WritesAt for DiskFile {
         Ok(())
     }
 
-    fn sync(&mut self) -> io::Result<()> {
+    /// Brings all that it holds to the disk. A call that fails does so or not.
+    fn bring_all(&mut self) -> io::Result<()>
+        ensures held { file_held self.new ≡ file_held self.old }
+        ensures lasting { OnOk result (file_lasting.bytes self.new ≡ Some (file_held self.new)) }
+        ensures stays { StaysOr file_lasting self.old self.new (Some (file_held self.old)) }
+        ensures lock { self.new.lock ≡ self.old.lock }
+        ensures same { has_failed self.new ≡ has_failed self.old }
+    {
         let passes = passes(&mut self.calls);
         if passes || self.done {
             self.disk.bring(self.held.as_slice())?;
         }
         if passes { Ok(()) } else { Err(failed()) }
+    }
+
+    /// Its disk.
+    pub fn disk(&self) -> &Disk
+        ensures { result.now ≡ file_disk self.now }
+    {
+        &self.disk
+    }
+}
+
+impl WritesAt for DiskFile {
+    ghost use Rattle.std.specs.Prelude.{◌≡◌, ◌≢◌, Some};
+    ghost use Rattle.tool_disk_file.specs.Files.{file_held, file_lasting, has_failed, is_alone, is_locked};
+
+    ghost held = { λ f. Some (file_held f) };
+
+    ghost lasting = { file_lasting };
+
+    ghost IsShared = { is_locked };
+
+    ghost IsOwned = { is_alone };
+
+    ghost has_failed = { has_failed };
+
+    fn write_all_at(&mut self, bytes: &[u8], at: u64) -> io::Result<()> {
+        let written = self.write_through(bytes, at);
+        self.failed = self.failed || written.is_err();
+        written
+    }
+
+    fn sync(&mut self) -> io::Result<()> {
+        let brought = self.bring_all();
+        self.failed = self.failed || brought.is_err();
+        brought
     }
 }
 

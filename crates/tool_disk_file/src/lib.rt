@@ -4,11 +4,15 @@
 
 mod disk;
 mod disk_file;
+mod noting;
 mod runs;
 
 pub use disk::{Disk, IMAGE_BYTES};
 pub use disk_file::{Bringing, DiskFile, Lock};
-pub use runs::play_on_disk;
+pub use noting::{NotedLines, NotedReplies};
+pub use runs::{play_on_disk, serve_on_disk};
 
+#[cfg(test)]
+mod noting_rows;
 #[cfg(test)]
 mod rows;

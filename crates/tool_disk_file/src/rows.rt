@@ -10,14 +10,14 @@ use std::process::Abort;
 const SCRIPT: &[u8] = b"1,1,S,42,120\n1,2,I,42,20\n";
 
 /// What is shown of the shop before the lines and after each.
-const SHOPS: [&[u8]; 3] = [
+pub(crate) const SHOPS: [&[u8]; 3] = [
     b"TOP 9256\n",
     b"TOP 9256\nCARD 42,120\nTILL 1,1,S,42,120,DONE,120\n",
     b"TOP 9256\nCARD 42,100\nTILL 1,2,I,42,20,DONE,100\nPRIOR 1,1,S,42,120,DONE,120\n",
 ];
 
 /// The image of a fresh shop.
-fn fresh(rt: &(impl AllocGlobal + Abort)) -> Vec<u8> {
+pub(crate) fn fresh(rt: &(impl AllocGlobal + Abort)) -> Vec<u8> {
     let mut image = Vec::new(rt.alloc());
     let mut out = Vec::new(rt.alloc());
     let _ = format_image(rt.alloc(), 2, &mut image, &mut out);

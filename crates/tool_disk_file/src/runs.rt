@@ -1,8 +1,11 @@
-//! Scripts that are played on the shop of a file in memory, so that each sector is on its disk before anything else is done.
-ghost use Rattle.std.specs.Prelude.{◌≡◌, OnOk};
+//! Scripts that are played on the shop of a file in memory, and shops that are served over one, so that each sector is on its
+//! disk before anything else is done.
+ghost use Rattle.std.specs.Prelude.{◌≡◌, Err, OnOk, true};
 ghost use Rattle.host_session.specs.events.Events.{messages_of};
 ghost use Rattle.script_lines.specs.Lines.{lines};
-ghost use Rattle.tool_disk_file.specs.Files.{file_held};
+ghost use Rattle.ledger_commands.specs.declared.faults.RunFault.TheVariants as faults;
+ghost use Rattle.tool_disk_file.specs.Files.{file_held, has_failed};
+ghost use Rattle.tool_disk_file.specs.Services.{IsServedToDisk};
 ghost use Rattle.tool_disk_file.specs.Shops.{IsPlayedToDisk, StaysAShop, bytes_there};
 
 use crate::disk_file::DiskFile;
@@ -10,7 +13,8 @@ use d64_image::Mirror;
 use disk_layout::Fault;
 use host_session::Tells;
 use ledger_commands::{Durability, Placed, RunFault};
-use ledger_program::play_durably;
+use ledger_program::{play_durably, serve_durably};
+use serving::{Answers, GivesLines};
 use std::alloc::Global;
 
 /// Plays a script on the shop of the image that the file holds: the file then, and how that ended. Wherever power is lost in it,
@@ -29,6 +33,27 @@ pub fn play_on_disk<T: Tells<Mirror<Placed<DiskFile>>>>(
     ensures held { OnOk result.1 (bytes_there result.0 ≡ file_held result.0) }
     // however it ended
     ensures stays { StaysAShop (messages_of (lines script.now)) file result.0 }
+    // the device is told of where a call of the file failed
+    ensures device { result.1 ≡ Err faults.Device → has_failed result.0 ≡ true }
 {
     play_durably(alloc, image, script, file, Durability::EachSector, out)
+}
+
+/// Serves the shop of the image that the file holds, line by line: the file then, and how that ended. Wherever power is lost in
+/// it, the disk has the shop after a beginning of the lines; and while a reply is told, the one after its line.
+pub fn serve_on_disk<R, T>(
+    alloc: Global,
+    image: &[u8],
+    file: DiskFile,
+    input: &mut R,
+    out: &mut T,
+) -> (DiskFile, Result<Option<Fault>, RunFault>)
+where
+    R: GivesLines<Mirror<Placed<DiskFile>>>,
+    T: Answers<Mirror<Placed<DiskFile>>>,
+    requires there { bytes_there file ≡ file_held file }
+    requires image { image.now ≡ file_held file }
+    ensures { IsServedToDisk R.input T.answering file result.0 input.old input.new out.old out.new result.1 }
+{
+    serve_durably(alloc, image, file, Durability::EachSector, input, out)
 }

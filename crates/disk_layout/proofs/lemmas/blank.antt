@@ -1,4 +1,5 @@
 -- The blank image.
+pub mod BlankParts
 pub mod BlankClean
 pub mod BlankPlaces
 pub mod Blanks

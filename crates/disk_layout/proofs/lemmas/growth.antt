@@ -4,5 +4,4 @@ pub mod GrowthRecords
 pub mod LongerDirectory
 pub mod NewSide
 pub mod Refills
-pub mod Runs
 pub mod SideWrites

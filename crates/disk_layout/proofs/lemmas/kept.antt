@@ -3,5 +3,3 @@ pub mod Kept
 pub mod Orders
 pub mod Others
 pub mod OtherWrites
-pub mod RestKept
-pub mod Writes

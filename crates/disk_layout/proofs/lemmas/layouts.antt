@@ -2,6 +2,8 @@
 pub mod Agree
 pub mod Exact
 pub mod Layouts
+pub mod Frames
+pub mod SidesAt
 pub mod Twice
 pub mod Unclean
 pub mod Uniques

@@ -5,6 +5,8 @@ pub mod Runs
 pub mod Chained
 pub mod QuietRuns
 pub mod Sparing
+pub mod QuietWrites
+pub mod AskedTold
 pub mod Looped
 pub mod RunEnds
 pub mod ScriptEnds

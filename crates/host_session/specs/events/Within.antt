@@ -4,10 +4,10 @@ use Rattle.d64_image.specs.History.{History}
 use Rattle.request_cards.specs.Reading.{request_of}
 use Rattle.request_cards.specs.declared.reply.Reply.{Reply}
 use Rattle.host_session.specs.events.Events.{Message}
-use Rattle.host_session.specs.events.Quiet.{AreUncut}
+use Rattle.host_session.specs.events.Quiet.{AreUncut, AsksNothing}
 use Rattle.host_session.specs.session.Handling.{most_writes}
 use Rattle.host_session.specs.shop.Files.{Files, HasFiles}
-use Rattle.host_session.specs.shop.Shop.{shop_of}
+use Rattle.host_session.specs.shop.Shop.{IsSettled, Shop, shop_of}
 
 -- Whatever the message, 3618 sectors were written at most, and no more than its request can need on that disk.
 pub record IsWithin {D : Type 0} (h : History D) (m : Message) (old new : D) : Type 0 where
@@ -36,3 +36,19 @@ AreFew ms = most_of_run (length ms) < 18446744073709551615
 -- where power goes in none of few messages, each wrote no more than it can need
 abbrev pub AreFewWithin : {D : Type 0} → History D → List Message → List (Reply × D) → D → Type 0
 AreFewWithin h ms xs old = AreFew ms → AreUncut ms → AreWithin h ms xs old
+
+-- where a message asks nothing new of the shop at rest on the disk, nothing was written, wherever power goes in it
+abbrev pub SparesTheDisk : {D : Type 0} → History D → Message → D → D → Type 0
+SparesTheDisk h m old new =
+    (s : Shop) → IsSettled (h.image old) s → AsksNothing s m → h.writes new ≤ h.writes old
+
+-- The same of each of these messages, one after another from this disk on. Beside each reply stands the disk that its
+-- message left.
+abbrev pub AreSparing : {D : Type 0} → History D → List Message → List (Reply × D) → D → Type 0
+AreSparing h (m ∷ ms) (x ∷ xs) old = SparesTheDisk h m old x.1 × AreSparing h ms xs x.1
+AreSparing h _ _ old = Unit {0}
+
+-- From old to new no more sectors were written than an opening writes at most, and of a disk at rest none.
+pub record IsSpared {D : Type 0} (h : History D) (s : Shop) (old new : D) : Type 0 where
+  pub opening : h.writes new ≤ h.writes old + 952
+  pub rests : IsSettled (h.image old) s → h.writes new ≤ h.writes old

@@ -7,7 +7,7 @@ use Rattle.host_session.specs.declared.runs.playing.PlayFault.{PlayFault}
 use Rattle.host_session.specs.declared.runs.playing.PlayFault.TheVariants as faults
 use Rattle.host_session.specs.events.Events.{Message}
 use Rattle.host_session.specs.events.Quiet.{AreUncut, AskNothing, IsQuiet}
-use Rattle.host_session.specs.events.Within.{IsBounded}
+use Rattle.host_session.specs.events.Within.{IsBounded, IsSpared}
 use Rattle.host_session.specs.runs.Runs.{HeldBeginnings, IsPlayedWhole, IsRefused, StoppedByDevice}
 use Rattle.host_session.specs.session.Opening.{IsAShop, disk_of}
 use Rattle.host_session.specs.shop.Shop.{IsShop, Shop}
@@ -28,6 +28,8 @@ pub record PlaysEvents {D : Type 0} (h : History D) (ms : List Message) (disk : 
   -- Messages that ask nothing new leave the disk alone, however it ends.
   pub quiet : (s : Shop) → IsShop (h.image disk) s → AskNothing s ms
       → IsQuiet h s ms disk (disk_of (λ d. d) result)
+  -- And no more is written than an opening writes at most, of a disk at rest nothing, wherever power goes.
+  pub spared : (s : Shop) → IsShop (h.image disk) s → AskNothing s ms → IsSpared h s disk (disk_of (λ d. d) result)
   -- Where power goes in none of them, 952 sectors were written at most, and 3618 for each, however it ends.
   pub writes : (s : Shop) → IsShop (h.image disk) s → AreUncut ms → IsBounded h ms disk (disk_of (λ d. d) result)
   -- On a shop whose device doesn't fail it answers Ok, unless memory ran out.

@@ -12,7 +12,7 @@ use Rattle.host_session.specs.events.Events.{Message}
 use Rattle.host_session.specs.events.Instants.{Instant, instant_of}
 use Rattle.host_session.specs.events.Quiet.{AreUncut, AskNothing, IsQuiet}
 use Rattle.host_session.specs.events.Telling.{Output}
-use Rattle.host_session.specs.events.Within.{AreWithin, IsBounded}
+use Rattle.host_session.specs.events.Within.{AreSparing, AreWithin, IsBounded, IsSpared}
 use Rattle.host_session.specs.runs.Chains.{HasRun, HasRunToFailure, asked_over, over_instants}
 use Rattle.host_session.specs.runs.Runs.{HeldBeginnings, IsRefused}
 use Rattle.host_session.specs.session.Opening.{IsAShop, disk_of}
@@ -55,18 +55,21 @@ abbrev pub IsRunWhole : {D T : Type 0} → History D → Output T → Shop → L
 IsRunWhole h o s taken disk left old new = (x : IsToldWhole h o s (messages_in taken) disk left old new)
     × (taken ≡ asked_over h x.run.first x.turns (messages_in taken))
     × AreWithin h (messages_in taken) x.turns x.run.first
+    × AreSparing h (messages_in taken) x.turns x.run.first
 
 abbrev pub IsRunToOutput : {D T : Type 0} → History D → Output T → Shop → List (Message × Instant) → D → D → T → T
     → Type 0
 IsRunToOutput h o s taken disk left old new = (x : IsToldToOutput h o s (messages_in taken) disk left old new)
     × (taken ≡ asked_over h x.run.first x.turns (messages_in taken))
     × AreWithin h (messages_in taken) (x.turns ++ x.last ∷ []) x.run.first
+    × AreSparing h (messages_in taken) (x.turns ++ x.last ∷ []) x.run.first
 
 abbrev pub IsRunToDevice : {D T : Type 0} → History D → Output T → Shop → List (Message × Instant) → D → D → T → T
     → Type 0
 IsRunToDevice h o s taken disk left old new = (x : IsToldToDevice h o s (messages_in taken) disk left old new)
     × (taken ≡ asked_over h x.run.run.first x.turns (messages_in taken))
     × AreWithin h (messages_in taken) (x.turns ++ (x.last, left) ∷ []) x.run.run.first
+    × AreSparing h (messages_in taken) (x.turns ++ (x.last, left) ∷ []) x.run.run.first
 
 -- What a run began with: the shop on its disk, the source and the output.
 pub record Origin (D A T : Type 0) : Type 0 where
@@ -148,6 +151,9 @@ pub record IsRun {D A T : Type 0} (h : History D) (a : Source A) (o : Output T) 
   -- Messages that ask nothing new leave the disk alone, however it ends.
   pub quiet : (s : Shop) → IsShop (h.image disk) s → AskNothing s (messages_in taken)
       → IsQuiet h s (messages_in taken) disk (disk_of (λ d. d) result)
+  -- And no more is written than an opening writes at most, of a disk at rest nothing, wherever power goes.
+  pub spared : (s : Shop) → IsShop (h.image disk) s → AskNothing s (messages_in taken)
+      → IsSpared h s disk (disk_of (λ d. d) result)
   -- Where power goes in none of the events, 952 sectors were written at most, and 3618 for each, however it ends.
   pub writes : (s : Shop) → IsShop (h.image disk) s → AreUncut (messages_in taken)
       → IsBounded h (messages_in taken) disk (disk_of (λ d. d) result)

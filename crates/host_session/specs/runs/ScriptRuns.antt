@@ -12,7 +12,7 @@ use Rattle.host_session.specs.events.Events.{HasNoReset, Message, messages_of, r
 use Rattle.host_session.specs.events.Instants.{Instant}
 use Rattle.host_session.specs.events.Quiet.{AreUncut, AskNothing, IsQuiet}
 use Rattle.host_session.specs.events.Telling.{Output}
-use Rattle.host_session.specs.events.Within.{AreFew, AreFewWithin, IsBounded}
+use Rattle.host_session.specs.events.Within.{AreFew, AreFewWithin, IsBounded, IsSpared}
 use Rattle.host_session.specs.runs.Chains.{told_in}
 use Rattle.host_session.specs.runs.Loops.{IsToldToDevice, IsToldToOutput, IsToldWhole}
 use Rattle.host_session.specs.runs.Runs.{HeldBeginnings, IsPlayedWhole, IsRefused, StoppedByDevice, StoppedByOutput}
@@ -82,6 +82,9 @@ pub record IsScriptRun {D T : Type 0} (h : History D) (o : Output T) (disk : D) 
   -- Lines that ask nothing new leave the disk alone, however it ends.
   pub quiet : (s : Shop) → IsShop (h.image disk) s → AskNothing s (messages_of (lines script))
       → IsQuiet h s (messages_of (lines script)) disk (disk_of (λ d. d) result)
+  -- And no more is written than an opening writes at most, of a disk at rest nothing, wherever power goes.
+  pub spared : (s : Shop) → IsShop (h.image disk) s → AskNothing s (messages_of (lines script))
+      → IsSpared h s disk (disk_of (λ d. d) result)
   -- Where power goes in none of the lines, 952 sectors were written at most, and 3618 for each line, however it ends.
   -- They are few, since the count of a mirror, and so of a file, is exact below 2^64 - 1 alone.
   pub writes : (s : Shop) → IsShop (h.image disk) s → AreFew (messages_of (lines script))

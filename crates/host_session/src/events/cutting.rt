@@ -3,8 +3,9 @@ ghost use Rattle.std.specs.Prelude.{◌≡◌, ◌≤◌, ◌+◌, ◌↔◌, If
 ghost use Rattle.d64_image.specs.History.{HeldOnly};
 ghost use Rattle.host_session.specs.events.Events.{cut_at, uncut};
 ghost use Rattle.host_session.specs.events.OneEvent.{EndsFailed, GoesOn, IsEvent, Leaves};
-ghost use Rattle.host_session.specs.events.Within.{IsWithin};
+ghost use Rattle.host_session.specs.events.Within.{IsWithin, SparesTheDisk};
 ghost use Rattle.host_session.specs.session.Handling.{IsMedia};
+ghost use Rattle.host_session.specs.session.Opening.{Untouched};
 ghost use Rattle.host_session.specs.shop.Shop.{IsSettled, IsShop, Shop};
 
 use crate::session::Session;
@@ -18,6 +19,7 @@ fn cut_message<D: Sectors>(session: Session<D>, message: &[u8], after: u32) -> D
         → D.history.writes result ≤ D.history.writes session.disk + after }
     ensures event { (s : Shop) → IsSettled (D.history.image session.disk) s → session.dead ≡ false
         → IsEvent D.history s (cut_at message.now after) session.disk result (Leaves D.history s result) }
+    ensures spared { session.dead ≡ false → SparesTheDisk D.history (cut_at message.now after) session.disk result }
 {
     let mut cut = session.fused(after);
     let _ = cut.handle(message);
@@ -29,8 +31,7 @@ fn cut_opening<D: Sectors>(disk: D, writes: u32) -> D
     ensures moments { (s : Shop) → IsShop (D.history.image disk) s → HeldOnly D.history disk result (λ c. IsShop c s) }
     ensures writes { (s : Shop) → IsShop (D.history.image disk) s → D.history.writes result ≤ D.history.writes disk + writes }
     ensures later { (s : Shop) → IsShop (D.history.image disk) s → D.history.failures disk ≤ D.history.failures result }
-    ensures quiet { (s : Shop) → IsSettled (D.history.image disk) s
-        → HeldOnly D.history disk result (λ c. c ≡ D.history.image disk) }
+    ensures quiet { (s : Shop) → IsSettled (D.history.image disk) s → Untouched D.history disk result }
 {
     match Session::open(Fuse::new(disk, writes)) {
         Ok(session) => session.close().into_inner(),
@@ -42,8 +43,7 @@ fn cut_opening<D: Sectors>(disk: D, writes: u32) -> D
 fn cut_openings<D: Sectors>(disk: D, recoveries: &[u32]) -> D
     ensures moments { (s : Shop) → IsShop (D.history.image disk) s → HeldOnly D.history disk result (λ c. IsShop c s) }
     ensures later { (s : Shop) → IsShop (D.history.image disk) s → D.history.failures disk ≤ D.history.failures result }
-    ensures quiet { (s : Shop) → IsSettled (D.history.image disk) s
-        → HeldOnly D.history disk result (λ c. c ≡ D.history.image disk) }
+    ensures quiet { (s : Shop) → IsSettled (D.history.image disk) s → Untouched D.history disk result }
 {
     let mut disk = disk;
     for &writes in recoveries {
@@ -63,10 +63,12 @@ pub(crate) fn cut_event<D: Sectors>(
     ensures done { (s : Shop) → IsSettled (D.history.image session.disk) s → session.dead ≡ false
         → IfOk result (λ x. (x.dead ≡ false)
         × IsEvent D.history s (cut_at message.now cut.now.after) session.disk x.disk
-        (GoesOn D.history s (cut_at message.now cut.now.after) Reply.Cut x.disk)) }
+        (GoesOn D.history s (cut_at message.now cut.now.after) Reply.Cut x.disk)
+        × SparesTheDisk D.history (cut_at message.now cut.now.after) session.disk x.disk) }
     ensures stopped { (s : Shop) → IsSettled (D.history.image session.disk) s → session.dead ≡ false
         → IfErr result (λ d. IsEvent D.history s (cut_at message.now cut.now.after) session.disk d
-        (EndsFailed D.history s (cut_at message.now cut.now.after) Reply.Cut d)) }
+        (EndsFailed D.history s (cut_at message.now cut.now.after) Reply.Cut d)
+        × SparesTheDisk D.history (cut_at message.now cut.now.after) session.disk d) }
 {
     let cut_disk = cut_message(session, message, cut.after);
     let disk = cut_openings(cut_disk, cut.recoveries.as_slice());
@@ -99,6 +101,8 @@ pub(crate) fn whole_message<D: Sectors>(session: &mut Session<D>, message: &[u8]
         (EndsFailed D.history s (uncut message.now) result session.new.disk) }
     ensures within { (s : Shop) → IsSettled (D.history.image session.old.disk) s
         → IsWithin D.history (uncut message.now) session.old.disk session.new.disk }
+    ensures spared { session.old.dead ≡ false
+        → SparesTheDisk D.history (uncut message.now) session.old.disk session.new.disk }
 {
     session.handle(message)
 }

@@ -3,6 +3,7 @@ pub mod Creating
 pub mod InFreeSlot
 pub mod InNewSector
 pub mod InSector
+pub mod OnceLinked
 pub mod InSlot
 pub mod Made
 pub mod NewClean

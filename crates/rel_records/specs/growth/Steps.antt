@@ -77,21 +77,29 @@ taken_next n = if nat_eq (n % 120) 0 then 2 else 1
 abbrev pub step_writes : ℕ → ℕ
 step_writes n = if nat_eq (n % 120) 0 then (5 + sides_for n) else 5
 
--- the file has a block more, and all whole records that fit
-pub record HasBlockMore (old new : Image) (l : Layout) (n : ℕ) (f : File) (p q : Parts) : Type 0 where
+-- the file has k blocks, all whole records that fit, and what is kept in memory is of the image
+pub record IsRunTo (old now : Image) (l : Layout) (n : ℕ) (f : File) (k : ℕ) (p : Parts) : Type 0 where
   pub layout : Layout
   pub file : File
-  pub at : IsAt new layout n file q
-  pub others : KeepsOthers old new l layout n
-  pub same_size : record_length file.slot ≡ record_length f.slot
-  pub records_are : records new file ≡ grown_by (record_length f.slot)
-      (full (record_length f.slot) (length f.blocks + 1) - full (record_length f.slot) (length f.blocks))
-      (records old f)
-  pub places : KeepsPlaces old f file
-      (grown_by (record_length f.slot) (full (record_length f.slot) (length f.blocks + 1) - full (record_length f.slot)
-      (length f.blocks)) (records old f))
-  pub count : length file.blocks ≡ length f.blocks + 1
+  pub at : IsAt now layout n file p
+  pub others : KeepsOthers old now l layout n
+  pub count : length file.blocks ≡ k
   pub filled : IsFilledUp file
+  pub same_size : record_length file.slot ≡ record_length f.slot
+  pub records_are : records now file ≡ grown_by (record_length f.slot) (full (record_length f.slot) k - records_had f)
+      (records old f)
+  pub places : KeepsPlaces old f file (grown_by (record_length f.slot) (full (record_length f.slot) k - records_had f)
+      (records old f))
+
+-- the last blocks are filled: the file has the blocks that it had, and the map is as it was
+pub record HasFilled (old new : Image) (l : Layout) (n : ℕ) (f : File) (p q : Parts) : Type 0 where
+  pub run : IsRunTo old new l n f (length f.blocks) q
+  pub blocks : run.file.blocks ≡ f.blocks
+  pub map : q.map.bytes ≡ p.map.bytes
+
+-- the file has a block more, for which the map has what it takes
+pub record HasBlockMore (old new : Image) (l : Layout) (n : ℕ) (f : File) (p q : Parts) : Type 0 where
+  pub run : IsRunTo old new l n f (length f.blocks + 1) q
   pub free : blocks_free q.map.bytes + taken_next (length f.blocks) ≡ blocks_free p.map.bytes
 
 -- the sector at q is as it was, or a side sector of this list with its exact bytes
@@ -122,35 +130,6 @@ pub record TakesNext (old new : Sector) (p : Place) : Type 0 where
   pub free : blocks_free new + 1 ≡ blocks_free old
   pub unowned : (owned : List Place) → IsMapOf old owned → ¬ (Contains owned p)
   pub owned : (owned : List Place) → IsMapOf old owned → IsMapOf new (p ∷ owned)
-
--- the file has the blocks that it had, and all whole records that fit
-pub record HasFilled (old new : Image) (l : Layout) (n : ℕ) (f : File) (p q : Parts) : Type 0 where
-  pub layout : Layout
-  pub file : File
-  pub at : IsAt new layout n file q
-  pub others : KeepsOthers old new l layout n
-  pub same_size : record_length file.slot ≡ record_length f.slot
-  pub records_are : records new file ≡ grown_by (record_length f.slot) (full (record_length f.slot) (length f.blocks)
-      - records_had f) (records old f)
-  pub places : KeepsPlaces old f file (grown_by (record_length f.slot) (full (record_length f.slot) (length f.blocks)
-      - records_had f) (records old f))
-  pub blocks : file.blocks ≡ f.blocks
-  pub filled : IsFilledUp file
-  pub map : q.map.bytes ≡ p.map.bytes
-
--- the file has k blocks, all whole records that fit, and what is kept in memory is of the image
-pub record IsRunTo (old now : Image) (l : Layout) (n : ℕ) (f : File) (k : ℕ) (p : Parts) : Type 0 where
-  pub layout : Layout
-  pub file : File
-  pub at : IsAt now layout n file p
-  pub others : KeepsOthers old now l layout n
-  pub count : length file.blocks ≡ k
-  pub filled : IsFilledUp file
-  pub same_size : record_length file.slot ≡ record_length f.slot
-  pub records_are : records now file ≡ grown_by (record_length f.slot) (full (record_length f.slot) k - records_had f)
-      (records old f)
-  pub places : KeepsPlaces old f file (grown_by (record_length f.slot) (full (record_length f.slot) k - records_had f)
-      (records old f))
 
 -- what is kept of a file after growth is what growth kept in memory
 pub record IsKeptOf (v : RelFile) (p : Parts) : Type 0 where

@@ -1,5 +1,5 @@
 -- Two bytes that name a place, as a fact and as a value.
-use Rattle.std.proofs.Common.{◌≡◌, ℕ, ◌+◌, ap, ap₂, refl, sym, slice_index, ◌∙◌}
+use Rattle.std.proofs.Common.{◌≡◌, ℕ, ◌+◌, ap, ap₂, sym, slice_index, ◌∙◌}
 use Rattle.std.specs.Prelude.{MatchOption, Option, Some, None}
 use Rattle.d64_image.proofs.Places.{place_at-self, place_at-some}
 use Rattle.d64_image.specs.Images.{Sector}
@@ -18,13 +18,6 @@ named-names bytes i p e = let h = place_at-some (slice_index bytes i) (slice_ind
 -- no value, no place
 pub named-none : (bytes : Sector) (i : ℕ) → named_at bytes i ≡ None → NamesNone bytes i
 named-none bytes i e q h = let both : Some q ≡ None = sym (named-is bytes i q h) ∙ e in cc
-
-pub none-named : (bytes : Sector) (i : ℕ) → NamesNone bytes i → named_at bytes i ≡ None
-none-named bytes i h = by (named_at bytes i) refl
-  where
-    by : (o : Option Place) → named_at bytes i ≡ o → named_at bytes i ≡ None
-    by None e = e
-    by (Some q) e = absurd (h q (named-names bytes i q e))
 
 -- what a view of these bytes gives
 pub named-match : (bytes viewed : Sector) (i : ℕ) (o : Option Place) → viewed ≡ bytes → o ≡ named_at viewed i

@@ -45,7 +45,8 @@ use Rattle.disk_layout.proofs.lemmas.counts.Faces.{IsFile-slot, IsLayout-directo
 use Rattle.disk_layout.proofs.lemmas.counts.Recount.{slot-there, split-one, used_slots-one}
 use Rattle.disk_layout.proofs.lemmas.growth.Commit.{IsAlone, all-join, all-left, all-right, alone, keeps-other}
 use Rattle.disk_layout.proofs.lemmas.growth.SideWrites.{file-there, same-layout}
-use Rattle.disk_layout.proofs.lemmas.layouts.Layouts.{IsFile-one, files-frame, unless-same}
+use Rattle.disk_layout.proofs.lemmas.layouts.Layouts.{IsFile-one}
+use Rattle.disk_layout.proofs.lemmas.layouts.Frames.{files-frame, unless-same}
 use Rattle.disk_layout.proofs.lemmas.lists.Lists.{take-take}
 use Rattle.disk_layout.proofs.lemmas.lists.Once.{Contains-here, EachOnce-apart, all-in, flat_map-in, map-in}
 use Rattle.disk_layout.proofs.lemmas.records.Pieces.{length-piece, piece, piece-byte, piece-same}

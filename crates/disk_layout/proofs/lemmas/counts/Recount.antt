@@ -36,7 +36,7 @@ use Rattle.d64_image.specs.Images.{Image, put, sector}
 use Rattle.d64_image.specs.declared.place.Place.{Place}
 use Rattle.disk_layout.proofs.lemmas.chains.Chains.{cons_both}
 use Rattle.disk_layout.proofs.lemmas.counts.Slots.{slots_at}
-use Rattle.disk_layout.proofs.lemmas.layouts.Layouts.{unless-same, used_slots-frame}
+use Rattle.disk_layout.proofs.lemmas.layouts.Frames.{unless-same, used_slots-frame}
 use Rattle.disk_layout.proofs.lemmas.lists.Once.{
   Contains-cases,
   Contains-here,

@@ -11,19 +11,19 @@ use Rattle.d64_image.proofs.Places.{same_or_other}
 use Rattle.d64_image.specs.Images.{Image, Sector, put, sector}
 use Rattle.d64_image.specs.declared.place.Place.{Place}
 use Rattle.disk_layout.proofs.lemmas.chains.Chains.{AgreeAt, SameLink, SameLinks}
-use Rattle.disk_layout.proofs.lemmas.counts.Counts.{kept-slot, range-piece, uncounted-face}
+use Rattle.disk_layout.proofs.lemmas.counts.Counts.{range-piece, uncounted-face}
 use Rattle.disk_layout.proofs.lemmas.counts.Faces.{IsFile-slot, IsLayout-directory, with_slot}
 use Rattle.disk_layout.proofs.lemmas.counts.Recount.{flat_map-out, slot-number, slot-there}
 use Rattle.disk_layout.proofs.lemmas.growth.Commit.{keeps-other}
-use Rattle.disk_layout.proofs.lemmas.layouts.Agree.{kept-agree, stays-agree}
-use Rattle.disk_layout.proofs.lemmas.layouts.Layouts.{KeepsFiles, all_blocks, block-owned, files-frame, unless-same}
+use Rattle.disk_layout.proofs.lemmas.layouts.Agree.{stays-agree}
+use Rattle.disk_layout.proofs.lemmas.layouts.Frames.{KeepsFiles, all_blocks, block-owned, files-frame}
+use Rattle.disk_layout.proofs.lemmas.layouts.Frames.{unless-same}
 use Rattle.disk_layout.proofs.lemmas.lists.Lists.{in-map}
 use Rattle.disk_layout.proofs.lemmas.lists.Once.{Contains-here, Contains-there, EachOnce-apart, flat_map-in}
 use Rattle.disk_layout.proofs.lemmas.records.Pieces.{length-piece, piece, piece-byte}
 use Rattle.disk_layout.specs.Directory.{is_used, slot_in, slots_in, used_slots}
 use Rattle.disk_layout.specs.Entries.{IsRecountedAll, uncounted}
 use Rattle.disk_layout.specs.Layout.{File, IsFile, IsLayout, Layout, file_owns, owners}
-use Rattle.disk_layout.specs.Rest.{kept_of}
 use Rattle.disk_layout.specs.Same.{stays_of}
 use Rattle.disk_layout.specs.declared.slot.Slot.{Slot}
 
@@ -144,15 +144,6 @@ IsLayout-reread a b l h links keeps files =
     (reread-files b l.files (λ f c. slot-same a b l f h keeps c) (files-frame a b l.files files h.files))
     (reread-owns b l.files)
 
--- all that is asked to stay of the files stays
-pub kept-reread : (a b : Image) (l : Layout) → IsLayout a l
-    → ((p : Place) → Contains l.directory p → KeepsEntries a b p) → AgreeAt a b (all_blocks l.files)
-    → map (kept_of b) (map (reread b) l.files) ≡ map (kept_of a) l.files
-kept-reread a b l h keeps same = map-map (kept_of b) (reread b) l.files
-    ∙ map-same_on (λ f. kept_of b (reread b f)) (kept_of a) l.files (λ f c.
-    kept-slot b f (reslot b f.slot) (slot-same a b l f h keeps c)
-    ∙ sym (kept-agree a b f (λ q d. same q (flat_map-in (λ g. g.blocks) l.files f q c d))))
-
 -- and all that repair leaves of them
 stays-slot : (img : Image) (f : File) (s : Slot) → uncounted f.slot ≡ uncounted s
     → stays_of img (with_slot f s) ≡ stays_of img f
@@ -231,10 +222,6 @@ module _ (a : Image) (l : Layout) (p : Place) (bytes : Sector) (full : length a 
   pub IsLayout-put_counts : IsLayout (put a p bytes) (reread_layout (put a p bytes) l)
   IsLayout-put_counts = IsLayout-reread a (put a p bytes) l h links (λ q c. keeps-put_counts q)
       (keeps-other a p bytes l.files not_file)
-
-  pub kept-put_counts : map (kept_of (put a p bytes)) (map (reread (put a p bytes)) l.files) ≡ map (kept_of a) l.files
-  kept-put_counts = kept-reread a (put a p bytes) l h (λ q c. keeps-put_counts q)
-      (λ q c. unless-same a p q bytes (λ e. not_file (rw e (block-owned l.files q c))))
 
   pub stays-put_counts : map (stays_of (put a p bytes)) (map (reread (put a p bytes)) l.files) ≡ map (stays_of a)
       l.files

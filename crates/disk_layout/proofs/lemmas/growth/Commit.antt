@@ -9,8 +9,9 @@ use Rattle.d64_image.proofs.Images.{sector-put_same}
 use Rattle.d64_image.specs.Images.{Image, put, sector}
 use Rattle.d64_image.specs.declared.place.Place.{Place}
 use Rattle.disk_layout.proofs.lemmas.chains.Chains.{AgreeAt, IsChain-grow, chain-front, chain-last, links-agree}
-use Rattle.disk_layout.proofs.lemmas.layouts.Layouts.{IsDirectory-frame, IsSide-frame, KeepsFiles, all_blocks}
-use Rattle.disk_layout.proofs.lemmas.layouts.Layouts.{block-owned, files-frame, get-contains, side-owned, unless-same}
+use Rattle.disk_layout.proofs.lemmas.layouts.Frames.{IsDirectory-frame, IsSide-frame, KeepsFiles, all_blocks}
+use Rattle.disk_layout.proofs.lemmas.layouts.Layouts.{get-contains}
+use Rattle.disk_layout.proofs.lemmas.layouts.Frames.{block-owned, files-frame, side-owned, unless-same}
 use Rattle.disk_layout.proofs.lemmas.lists.Once.{Contains-here, EachOnce-apart, EachOnce-insert, EachOnce-left}
 use Rattle.disk_layout.proofs.lemmas.lists.Once.{EachOnce-right}
 use Rattle.disk_layout.specs.Chain.{EachOnce, EndsAt, Names}

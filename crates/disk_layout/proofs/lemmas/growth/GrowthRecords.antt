@@ -37,15 +37,14 @@ use Rattle.std.specs.Prelude.{Contains, Some, flat_map, replicate, slice_get, �
 use Rattle.d64_image.proofs.Images.{sector-put_other, sector-put_same}
 use Rattle.d64_image.specs.Images.{Image, IsImage, Sector, put, sector}
 use Rattle.d64_image.specs.declared.place.Place.{Place}
-use Rattle.disk_layout.proofs.lemmas.growth.Commit.{alone, grown}
+use Rattle.disk_layout.proofs.lemmas.growth.Commit.{grown}
 use Rattle.disk_layout.proofs.lemmas.growth.SideWrites.{get-append}
 use Rattle.disk_layout.proofs.lemmas.layouts.Layouts.{get-contains}
 use Rattle.disk_layout.proofs.lemmas.lists.Once.{Contains-here, EachOnce-apart}
 use Rattle.disk_layout.proofs.lemmas.records.Fillers.{pieces-fill}
 use Rattle.disk_layout.proofs.lemmas.records.Joined.{file-kept, joined-at, joined-block, length-joined}
 use Rattle.disk_layout.specs.Chain.{EachOnce}
-use Rattle.disk_layout.specs.Directory.{map_place}
-use Rattle.disk_layout.specs.Layout.{File, Layout, exchanged, file_owns, owners, record_length}
+use Rattle.disk_layout.specs.Layout.{File, file_owns, record_length}
 use Rattle.disk_layout.specs.Records.{IsFilled, empty_record, filler, joined, record_count, records}
 use Rattle.disk_layout.specs.Rest.{kept_of}
 
@@ -168,12 +167,3 @@ files-kept img p b (f ∷ fs) free =
     (Contains-append_left f.blocks f.sides p c))) in
     let rest = files-kept img p b fs (λ c. free (Contains-append_right (file_owns f) (flat_map file_owns fs) p c)) in
     cc
-
--- a write to a sector of one file keeps what is asked to stay of all others
-pub around-kept : (img : Image) (l : Layout) (before after : List File) (f : File) (p : Place) (b : Sector)
-    → EachOnce (map_place ∷ owners (exchanged l before f after)) → Contains (file_owns f) p
-    → (map (kept_of (put img p b)) before ≡ map (kept_of img) before)
-    × (map (kept_of (put img p b)) after ≡ map (kept_of img) after)
-around-kept img l before after f p b once own =
-    let only = alone l before after f once p own in
-    (files-kept img p b before only.before, files-kept img p b after only.after)

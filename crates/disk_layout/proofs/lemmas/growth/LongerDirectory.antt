@@ -38,7 +38,7 @@ use Rattle.disk_layout.proofs.lemmas.counts.Counts.{range-piece}
 use Rattle.disk_layout.proofs.lemmas.counts.Recount.{used-append}
 use Rattle.disk_layout.proofs.lemmas.counts.Recounts.{all_slots-reslot, filter-map, reslot, slot-any}
 use Rattle.disk_layout.proofs.lemmas.growth.Commit.{all-join}
-use Rattle.disk_layout.proofs.lemmas.layouts.Layouts.{unless-same}
+use Rattle.disk_layout.proofs.lemmas.layouts.Frames.{unless-same}
 use Rattle.disk_layout.proofs.lemmas.lists.Once.{Contains-cases, Contains-nil}
 use Rattle.disk_layout.proofs.lemmas.records.Pieces.{length-piece, piece, piece-byte}
 use Rattle.disk_layout.specs.Chain.{IsChain, Names}

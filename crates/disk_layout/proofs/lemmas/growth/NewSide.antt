@@ -1,39 +1,14 @@
 -- A file takes a block and a new side sector.
-use Rattle.std.proofs.Common.{
-  List,
-  [],
-  ap,
-  append_assoc,
-  arith,
-  inl,
-  inr,
-  length,
-  length-append,
-  refl,
-  subst,
-  sym,
-  ℕ,
-  ◌++◌,
-  ◌+◌,
-  ◌<◌,
-  ◌∙◌,
-  ◌∷◌,
-  ◌≡◌,
-  ◌≢◌,
-  ◌≤◌,
-}
+use Rattle.std.proofs.Common.{List, [], ap, append_assoc, inl, inr, refl, subst, sym, ℕ, ◌++◌, ◌∙◌, ◌∷◌, ◌≡◌, ◌≢◌}
 use Rattle.std.proofs.lemmas.Grind.{flat_map-append}
-use Rattle.std.specs.Prelude.{Contains, Some, flat_map, slice_get}
-use Rattle.d64_image.specs.Images.{Image, sector}
+use Rattle.std.specs.Prelude.{Contains, flat_map}
 use Rattle.d64_image.specs.declared.place.Place.{Place}
-use Rattle.disk_layout.proofs.lemmas.growth.Commit.{IsReady, grown, once-grown, owners-grown}
+use Rattle.disk_layout.proofs.lemmas.growth.Commit.{grown, once-grown, owners-grown}
 use Rattle.disk_layout.proofs.lemmas.growth.SideWrites.{IsLonger, get-append}
-use Rattle.disk_layout.proofs.lemmas.layouts.Exact.{exact-side}
 use Rattle.disk_layout.proofs.lemmas.lists.Once.{EachOnce-insert, insert-out}
-use Rattle.disk_layout.specs.Chain.{EachOnce, EndsAt, Names}
+use Rattle.disk_layout.specs.Chain.{EachOnce}
 use Rattle.disk_layout.specs.Directory.{map_place}
-use Rattle.disk_layout.specs.Layout.{File, IsRelFile, Layout, exchanged, file_owns, owners, record_length, sides_for}
-use Rattle.disk_layout.specs.Side.{side_sector}
+use Rattle.disk_layout.specs.Layout.{File, Layout, exchanged, file_owns, owners}
 
 apart-shape : (dir B blocks sides A : List Place) (x : Place) → dir ++ (B ++ (((blocks ++ x ∷ []) ++ sides) ++ A))
     ≡ ((dir ++ (B ++ blocks)) ++ (x ∷ sides)) ++ A
@@ -83,28 +58,3 @@ longer_side f fresh side u = record {
   blocks = λ k q e. get-append f.blocks (fresh ∷ []) k q e;
   sides = λ k q e. get-append f.sides (side ∷ []) k q e;
 }
-
--- ready for the commit: the fresh block ends, and every side sector, the new one with them, has the bytes of the longer
--- file
-pub ready_side : (a : Image) (f : File) (fresh side : Place) (u : ℕ) → IsRelFile a f → EndsAt a fresh u
-    → length f.sides + 1 ≡ sides_for (length f.blocks + 1) → 0 < length f.sides → length f.sides + 1 ≤ 6
-    → ((j : ℕ) (q : Place) → slice_get (f.sides ++ side ∷ []) j ≡ Some q
-    → sector a q ≡ side_sector j (f.blocks ++ fresh ∷ []) (f.sides ++ side ∷ []) (record_length f.slot))
-    → IsReady a f fresh u (f.sides ++ side ∷ [])
-ready_side a f fresh side u r ends count some few exact = record {
-  ends = ends;
-  count = length-append f.sides (side ∷ []) ∙ count;
-  first_side = λ q e. first f.sides refl q e;
-  sides = λ j q e. exact-side a (grown f fresh u (f.sides ++ side ∷ [])) j q
-      (omega (arith, length-append f.sides (side ∷ []), few)) (exact j q e);
-}
-  where
-    first : (ss : List Place) → f.sides ≡ ss → (q : Place) → slice_get (f.sides ++ side ∷ []) 0 ≡ Some q
-        → Names f.slot.bytes 21 q
-    first [] e q at = absurd (omega (arith, some, ap length e))
-    first (x ∷ ss) e q at =
-        let here : slice_get f.sides 0 ≡ Some x = ap (λ zs. slice_get zs 0) e in
-        let there : slice_get (f.sides ++ side ∷ []) 0 ≡ Some x = get-append f.sides (side ∷ []) 0 x here in
-        let both : Some x ≡ Some q = sym there ∙ at in
-        let same : x ≡ q = cc in
-        r.first_side q (here ∙ ap Some same)

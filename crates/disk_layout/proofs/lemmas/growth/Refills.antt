@@ -37,7 +37,8 @@ use Rattle.d64_image.specs.declared.place.Place.{Place}
 use Rattle.disk_layout.proofs.lemmas.chains.Chains.{Leads-frame, SameLinks, chain-front, chain-last, links-agree}
 use Rattle.disk_layout.proofs.lemmas.growth.Commit.{IsLayout-replace, all-right, alone, keeps-other, own-once}
 use Rattle.disk_layout.proofs.lemmas.growth.SideWrites.{same-layout}
-use Rattle.disk_layout.proofs.lemmas.layouts.Layouts.{IsSide-frame, get-contains, unless-same}
+use Rattle.disk_layout.proofs.lemmas.layouts.Layouts.{get-contains}
+use Rattle.disk_layout.proofs.lemmas.layouts.Frames.{IsSide-frame, unless-same}
 use Rattle.disk_layout.proofs.lemmas.lists.Once.{EachOnce-apart}
 use Rattle.disk_layout.proofs.lemmas.records.Fillers.{pieces-fill}
 use Rattle.disk_layout.proofs.lemmas.records.Joined.{joined-at, joined-block, length-joined}

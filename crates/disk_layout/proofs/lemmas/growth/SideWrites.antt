@@ -32,7 +32,8 @@ use Rattle.d64_image.specs.Places.{index_of}
 use Rattle.d64_image.specs.declared.place.Place.{Place}
 use Rattle.disk_layout.proofs.lemmas.chains.Chains.{links-agree}
 use Rattle.disk_layout.proofs.lemmas.growth.Commit.{IsLayout-replace, all-right, alone, keeps-other, own-once}
-use Rattle.disk_layout.proofs.lemmas.layouts.Layouts.{HasChain-frame, IsSide-frame, get-contains, unless-same}
+use Rattle.disk_layout.proofs.lemmas.layouts.Layouts.{get-contains}
+use Rattle.disk_layout.proofs.lemmas.layouts.Frames.{HasChain-frame, IsSide-frame, unless-same}
 use Rattle.disk_layout.proofs.lemmas.lists.Once.{EachOnce-apart}
 use Rattle.disk_layout.specs.Chain.{EachOnce}
 use Rattle.disk_layout.specs.Directory.{map_place}

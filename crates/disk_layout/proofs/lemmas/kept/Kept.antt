@@ -1,46 +1,18 @@
 -- What is asked to stay of files decides their names and their records, the first of a name, and how far it can grow.
-use Rattle.std.proofs.Common.{
-  ℕ,
-  ◌≡◌,
-  ◌<◌,
-  ◌≤◌,
-  ◌+◌,
-  ◌*◌,
-  ◌/◌,
-  List,
-  [],
-  ◌∷◌,
-  ◌++◌,
-  length,
-  drop,
-  map,
-  refl,
-  sym,
-  ◌∙◌,
-  ap,
-  ap₂,
-  subst,
-  IsTrue,
-  ◌||◌,
-  take,
-  slice_index,
-  slice_range,
-  arith,
-}
-use Rattle.std.specs.Prelude.{Some, filter, flat_map, nat_eq, not, slice_get}
+use Rattle.std.proofs.Common.{ℕ, ◌≡◌, ◌<◌, ◌+◌, List, [], ◌∷◌, ◌++◌, length, drop, map, refl, sym, ◌∙◌, ap, subst, IsTrue, ◌||◌, take, slice_index, slice_range, arith}
+use Rattle.std.specs.Prelude.{Some, flat_map, nat_eq, slice_get}
 use Rattle.std.proofs.lemmas.List.{drop-drop, drop-take, get_or-drop, get_or-take}
 use Rattle.d64_image.specs.Images.{Image, sector}
 use Rattle.d64_image.specs.declared.place.Place.{Place}
 use Rattle.disk_layout.proofs.lemmas.counts.Counts.{uncounted-face, uncounted-name}
 use Rattle.disk_layout.proofs.lemmas.counts.Recounts.{map-map}
-use Rattle.disk_layout.proofs.lemmas.kept.Others.{kept_owns, map-others, others_kept}
 use Rattle.disk_layout.proofs.lemmas.lists.Lists.{alike, take-take}
 use Rattle.disk_layout.proofs.lemmas.records.Joined.{joined-cons, joined-nil}
 use Rattle.disk_layout.specs.Entries.{SameEntries, uncounted}
-use Rattle.disk_layout.specs.Layout.{File, Layout, record_length}
-use Rattle.disk_layout.specs.Records.{joined, pieces, record_count, records}
-use Rattle.disk_layout.specs.Rest.{Fits, IsFirst, IsNamed, IsTop, Kept, kept_of, slot_name, taken_by_others}
-use Rattle.disk_layout.specs.Same.{SameFiles, Stays, stays_of}
+use Rattle.disk_layout.specs.Layout.{File, Layout}
+use Rattle.disk_layout.specs.Records.{joined, pieces, record_count}
+use Rattle.disk_layout.specs.Rest.{IsFirst, IsNamed, Kept, kept_of}
+use Rattle.disk_layout.specs.Same.{Stays, stays_of}
 
 -- the joined bytes of a chain, from its sectors
 joined-sectors : (img : Image) (ps : List Place) → joined img ps ≡ flat_map (drop 2) (map (sector img) ps)
@@ -51,40 +23,6 @@ joined-sectors img (p ∷ ps) = joined-cons img p ps
 -- the records of what is kept, for a last index
 abbrev kept_records : Kept → ℕ → List (List ℕ)
 kept_records k u = pieces k.length (record_count (length k.blocks) u k.length) (flat_map (drop 2) k.bytes)
-
-records-of : (a : Image) (f : File) → records a f ≡ kept_records (kept_of a f) f.last
-unfolding records
-records-of a f = ap (pieces (record_length f.slot) (record_count (length f.blocks) f.last (record_length f.slot)))
-    (joined-sectors a f.blocks)
-
--- files of which the same is kept have the same records, if they end with one index
-pub records-kept_of : (a b : Image) (f g : File) → kept_of a f ≡ kept_of b g → f.last ≡ g.last
-    → records a f ≡ records b g
-records-kept_of a b f g e last = records-of a f ∙ ap₂ kept_records e last ∙ sym (records-of b g)
-
--- and the same name
-pub IsNamed-kept : (a b : Image) (name : List ℕ) (f g : File) → kept_of a f ≡ kept_of b g → IsNamed name f
-    → IsNamed name g
-IsNamed-kept a b name f g e h =
-    let P : Kept → Type 0 = λ k. IsTrue (nat_eq k.kind 132 || nat_eq k.kind 196) × (k.name ≡ slot_name name) in
-    subst P e h
-
--- where the same is kept of all files, the first of a name is at the same place
-pub IsFirst-kept : (a b : Image) (l m : Layout) (name : List ℕ) (n : ℕ) (f : File)
-    → map (kept_of a) l.files ≡ map (kept_of b) m.files → IsFirst l name n f → (g : File) × IsFirst m name n g
-    × (kept_of b g ≡ kept_of a f)
-IsFirst-kept a b l m name n f e h =
-    let (g, there, same) = alike (kept_of a) (kept_of b) l.files m.files n f e h.file in (
-      g,
-      record {
-        file = there;
-        named = IsNamed-kept a b name f g (sym same) h.named;
-        first = λ k q lt at named.
-            let (r, before, like) = alike (kept_of b) (kept_of a) m.files l.files k q (sym e) at in
-            h.first k r lt before (IsNamed-kept b a name q r (sym like) named);
-      },
-      same,
-    )
 
 -- where entries are the same, block counts aside, names are, and the first of a name is at the same place
 pub IsNamed-uncounted : (name : List ℕ) (f g : File) → uncounted f.slot ≡ uncounted g.slot → IsNamed name f
@@ -112,30 +50,6 @@ first-kept l m name n f g same there h =
       named = IsNamed-uncounted name f g (ap (λ (x : File). uncounted x.slot) one ∙ e) h.named;
       first = λ k x lt before named. let (y, was, eq) = entry-alike l.files m.files k x same before in
           h.first k y lt was (IsNamed-uncounted name x y (sym eq) named);
-    }
-
--- where the same is kept of all files, the others own as many sectors
-pub taken-kept : (a b : Image) (l m : Layout) (n : ℕ) → map (kept_of a) l.files ≡ map (kept_of b) m.files
-    → taken_by_others l n ≡ taken_by_others m n
-unfolding taken_by_others
-taken-kept a b l m n e =
-    let T : List Place → ℕ = λ ps. length (filter (λ (p : Place). not (nat_eq p.track 18)) ps) in
-    ap T (map-others a n n 0 l.files) ∙ ap (λ (ks : List Kept). T (flat_map kept_owns (others_kept n n 0 ks))) e
-    ∙ sym (ap T (map-others b n n 0 m.files))
-
--- and the top is the same
-pub Fits-kept : (l m : Layout) (n r : ℕ) → taken_by_others l n ≡ taken_by_others m n → Fits l n r → Fits m n r
-Fits-kept l m n r e h =
-    let P : ℕ → Type 0 = λ t. (18 * r + 253) / 254 + ((18 * r + 253) / 254 + 119) / 120 + t ≤ 664 in
-    record { number = h.number; blocks = h.blocks; room = subst P e h.room }
-
-pub IsTop-kept : (a b : Image) (l m : Layout) (n r : ℕ) → map (kept_of a) l.files ≡ map (kept_of b) m.files
-    → IsTop l n r → IsTop m n r
-IsTop-kept a b l m n r e h =
-    let same = taken-kept a b l m n e in
-    record {
-      fits = Fits-kept l m n r same h.fits;
-      greatest = λ s fits. h.greatest s (Fits-kept m l n s (sym same) fits);
     }
 
 -- a byte of an entry that stays
@@ -171,15 +85,6 @@ kept-stayed a f = λ i. record {
 pub kept-of_stays : (a b : Image) (f g : File) → stays_of a f ≡ stays_of b g → kept_of a f ≡ kept_of b g
 kept-of_stays a b f g e = kept-stayed a f ∙ ap stayed e ∙ sym (kept-stayed b g)
 
--- and so the same records
-pub records-of_stays : (a b : Image) (f g : File) → stays_of a f ≡ stays_of b g → records a f ≡ records b g
-records-of_stays a b f g e = records-kept_of a b f g (kept-of_stays a b f g e) (ap (λ (s : Stays). s.last) e)
-
 kept-map : (a : Image) (fs : List File) → map (kept_of a) fs ≡ map stayed (map (stays_of a) fs)
 kept-map a [] = refl
 kept-map a (f ∷ fs) = let here = kept-stayed a f in let rest = kept-map a fs in cc
-
--- what a repair leaves: the same is kept of all files
-pub kept-of_same : (a b : Image) (l m : Layout) → SameFiles a b l m → map (kept_of a) l.files ≡ map (kept_of b) m.files
-kept-of_same a b l m h = kept-map a l.files ∙ ap (λ (ss : List Stays). map stayed ss) (sym h.files)
-    ∙ sym (kept-map b m.files)

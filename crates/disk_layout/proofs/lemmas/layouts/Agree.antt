@@ -21,25 +21,16 @@ use Rattle.std.proofs.lemmas.List.Elements.{Contains-append_left, Contains-appen
 use Rattle.d64_image.specs.Images.{Image, Sector, put, sector}
 use Rattle.d64_image.specs.declared.place.Place.{Place}
 use Rattle.disk_layout.proofs.lemmas.chains.Chains.{AgreeAt, links-agree}
-use Rattle.disk_layout.proofs.lemmas.layouts.Layouts.{
-  IsLayout-frame,
-  IsLayout-one,
-  IsLayout-put_block,
-  IsLayout-put_free,
-  all_blocks,
-  all_sides,
-  block-no_side,
-  block-owned,
-  get-contains,
-  side-owned,
-  unless-same,
-}
+use Rattle.disk_layout.proofs.lemmas.layouts.Layouts.{get-contains}
+use Rattle.disk_layout.proofs.lemmas.layouts.Frames.{IsLayout-frame, IsLayout-put_block, IsLayout-put_free}
+use Rattle.disk_layout.proofs.lemmas.layouts.Frames.{all_blocks, all_sides, block-no_side, block-owned}
+use Rattle.disk_layout.proofs.lemmas.layouts.Frames.{side-owned, unless-same}
 use Rattle.disk_layout.proofs.lemmas.lists.Once.{Contains-here, Contains-there, EachOnce-right, flat_map-in}
 use Rattle.disk_layout.proofs.lemmas.records.Joined.{joined-cons, joined-nil}
 use Rattle.disk_layout.specs.Chain.{byte}
 use Rattle.disk_layout.specs.Clean.{IsCleanLayout, IsExactFile}
 use Rattle.disk_layout.specs.Directory.{map_place, type_byte}
-use Rattle.disk_layout.specs.Layout.{File, IsLayout, IsSound, Layout, file_owns, is_rel, owners, record_length}
+use Rattle.disk_layout.specs.Layout.{File, IsLayout, Layout, file_owns, is_rel, owners, record_length}
 use Rattle.disk_layout.specs.Map.{IsMapOf}
 use Rattle.disk_layout.specs.Records.{joined, pieces, record_count, records}
 use Rattle.disk_layout.specs.Rest.{kept_of}
@@ -71,10 +62,6 @@ IsLayout-agree a b l same h = IsLayout-frame a b l
       sides = λ p c. same p (Contains-append_right l.directory (flat_map file_owns l.files) p (side-owned l.files p c));
     })
     h
-
--- and no other
-pub layouts-agree : (a b : Image) (l m : Layout) → AgreeAt a b (owners l) → IsLayout a l → IsLayout b m → l ≡ m
-layouts-agree a b l m same h k = IsLayout-one b l m (IsLayout-agree a b l same h) k
 
 -- files whose blocks agree have the same bytes, and so the same records
 pub joined-agree : (a b : Image) (ps : List Place) → AgreeAt a b ps → joined a ps ≡ joined b ps
@@ -120,17 +107,6 @@ stays-agree a b f same = ap (λ (bs : List Sector). record {
 })
     (sectors-agree a b f.blocks same)
 
--- what nobody owns, no file owns
-pub free-agrees : (img : Image) (l : Layout) (p : Place) (b : Sector) → ¬ (Contains (owners l) p)
-    → AgreeAt img (put img p b) (owners l)
-free-agrees img l p b free q c = unless-same img p q b (λ e. free (rw e c))
-
--- a write to a sector that nobody owns keeps the records of each file
-pub records-put_free : (img : Image) (l : Layout) (p : Place) (b : Sector) (f : File) → ¬ (Contains (owners l) p)
-    → Contains l.files f → records img f ≡ records (put img p b) f
-records-put_free img l p b f free c =
-    records-agree img (put img p b) f (λ q d. free-agrees img l p b free q (owned-block l f q c d))
-
 -- 18/0 has no other owner
 pub map-unowned : (img : Image) (l : Layout) → IsLayout img l → ¬ (Contains (owners l) map_place)
 map-unowned img l h = h.once.0
@@ -138,13 +114,6 @@ map-unowned img l h = h.once.0
 -- a write of the map keeps the layout
 pub IsLayout-put_map : (img : Image) (l : Layout) (b : Sector) → IsLayout img l → IsLayout (put img map_place b) l
 IsLayout-put_map img l b h = IsLayout-put_free img l map_place b (map-unowned img l h) h
-
-pub IsSound-put_map : (img : Image) (b : Sector) → IsSound img → IsSound (put img map_place b)
-IsSound-put_map img b (l, h) = (l, IsLayout-put_map img l b h)
-
-pub IsSound-put_free : (img : Image) (p : Place) (b : Sector)
-    → ((l : Layout) → IsLayout img l → ¬ (Contains (owners l) p)) → IsSound img → IsSound (put img p b)
-IsSound-put_free img p b free (l, h) = (l, IsLayout-put_free img l p b (free l h) h)
 
 -- what the files own
 pub owned-by_files : (l : Layout) (p : Place) → Contains (flat_map file_owns l.files) p → Contains (owners l) p
@@ -175,17 +144,6 @@ IsCleanLayout-agree a b l same map h k = record {
   files = exact_files-agree a b l.files (λ f c p d. same p (flat_map-in (λ g. g.sides) l.files f p c d)) k.files;
   map = let P : Sector → Type 0 = λ s. IsMapOf s (map_place ∷ owners l) in subst P map k.map;
 }
-
--- a write to a sector that nobody owns, but 18/0, keeps an image clean
-pub IsCleanLayout-put_free : (img : Image) (l : Layout) (p : Place) (b : Sector) → ¬ (Contains (map_place ∷ owners l) p)
-    → IsCleanLayout img l → IsCleanLayout (put img p b) l
-IsCleanLayout-put_free img l p b free k =
-    let none : ¬ (Contains (owners l) p) = λ c. free (Contains-there p map_place (owners l) c) in
-    IsCleanLayout-agree img (put img p b) l
-    (λ q c. unless-same img p q b
-    (λ e. free (rw e (Contains-there q map_place (owners l) (owned-by_files l q (side-owned l.files q c))))))
-    (unless-same img p map_place b (λ e. free (rw e (Contains-here map_place (owners l)))))
-    (IsLayout-put_free img l p b none k.layout) k
 
 -- a write to a data block that keeps its link keeps an image clean
 pub IsCleanLayout-put_block : (img : Image) (l : Layout) (p : Place) (b : Sector) → length img ≡ 683

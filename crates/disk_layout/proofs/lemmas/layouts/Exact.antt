@@ -24,7 +24,7 @@ use Rattle.std.proofs.Common.{
   length-append,
 }
 use Rattle.std.specs.Prelude.{flat_map, slice_get, Some, None, Option, slice_range, replicate}
-use Rattle.std.proofs.lemmas.List.{get_or-append_right, length-replicate, length-take, take_all}
+use Rattle.std.proofs.lemmas.List.{get_or-append_right, length-replicate, take_all}
 use Rattle.std.proofs.Math.ListN.{get_or-append}
 use Rattle.d64_image.specs.Images.{Image, sector}
 use Rattle.d64_image.specs.declared.place.Place.{Place}
@@ -91,9 +91,6 @@ get-range ps a k n q h e =
 link-at : (o : Option Place) (u : ℕ) (q : Place) → o ≡ Some q → Names (link_bytes o u) 0 q
 link-at (Some r) u q e = let s : r ≡ q = cc in (ap (λ x. x.track) s, ap (λ x. x.sector) s)
 link-at None u q e = cc
-
-few-pointers : (j : ℕ) (blocks : List Place) → length (pointers_of j blocks) ≤ 120
-few-pointers j blocks = simp length-take (omega arith)
 
 -- a side sector of four parts
 module _ (A B C D : List ℕ) (la : length A ≡ 2) (lb : length B ≡ 2) (lc : length C ≡ 12) where

@@ -22,8 +22,8 @@ use Rattle.disk_layout.specs.declared.faults.Fault.TheVariants.{
   Unclosed,
 }
 
--- the layout that a fault speaks of is the clean one
-clean-of : (img : Image) (l : Layout) → IsLayout img l → IsClean img → IsCleanLayout img l
+-- the layout of a clean image is its clean one
+pub clean-of : (img : Image) (l : Layout) → IsLayout img l → IsClean img → IsCleanLayout img l
 clean-of img l h (m, k) = let P : Layout → Type 0 = IsCleanLayout img in subst P (IsLayout-one img m l k.layout h) k
 
 -- a relative file of a clean layout is exact

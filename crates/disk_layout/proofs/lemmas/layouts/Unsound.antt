@@ -38,7 +38,7 @@ use Rattle.disk_layout.proofs.lemmas.chains.Chains.{
 use Rattle.disk_layout.proofs.lemmas.lists.Once.{Contains-here, all-in, filter-in, flat_map-in, map-in}
 use Rattle.disk_layout.specs.Chain.{IsChain, Leads, LinksTo, Names, NamesNone}
 use Rattle.disk_layout.specs.Directory.{directory_start, is_used, slots_in, type_byte, used_slots}
-use Rattle.disk_layout.specs.Fault.{Holds, HoldsOfChain, IsClosed, IsDirectorySector, IsSlot, nowhere}
+use Rattle.disk_layout.specs.Fault.{Holds, IsClosed, IsDirectorySector, IsSlot, nowhere}
 use Rattle.disk_layout.specs.Layout.{
   File,
   HasChain,
@@ -50,19 +50,7 @@ use Rattle.disk_layout.specs.Layout.{
   is_rel,
   record_length,
 }
-use Rattle.disk_layout.specs.declared.faults.Fault.{Fault}
-use Rattle.disk_layout.specs.declared.faults.Fault.TheVariants.{
-  BadLength,
-  BadLink,
-  BadSide,
-  BadType,
-  CountWrong,
-  Device,
-  Loop,
-  MapWrong,
-  OwnedTwice,
-  Unclosed,
-}
+use Rattle.disk_layout.specs.declared.faults.Fault.TheVariants.{BadLength, BadLink, BadType, Loop, Unclosed}
 use Rattle.disk_layout.specs.declared.slot.Slot.{Slot}
 
 -- what a chain's links lead to is in the chain
@@ -167,17 +155,3 @@ no_bad_length img p (s, closed, rel, out) (l, h) =
     let low : 1 ≤ record_length s = rw (← e) r.length_low in
     let high : record_length s ≤ 254 = rw (← e) r.length_high in
     elim out [ inl z ↦ omega arith | inr z ↦ omega arith ]
-
--- where a fault of a chain holds, there is no chain; a failed device tells nothing
-pub told-no_chain : (img : Image) (first : Place) (f : Fault) → HoldsOfChain nowhere img first f
-    → (ps : List Place) (u : ℕ) → ¬ (IsChain img first ps u)
-told-no_chain img first (BadLink p) (vs, visits, nowhere) ps u = bad_link-no_chain img first p vs ps u visits.0 nowhere
-told-no_chain img first (Loop p) (vs, back) ps u = loop-no_chain img first p vs ps u back.0 back.2
-told-no_chain img first (Device p) h ps u = absurd h
-told-no_chain img first (OwnedTwice p) h ps u = absurd h
-told-no_chain img first (BadType p) h ps u = absurd h
-told-no_chain img first (Unclosed p) h ps u = absurd h
-told-no_chain img first (BadSide p) h ps u = absurd h
-told-no_chain img first (BadLength p) h ps u = absurd h
-told-no_chain img first (CountWrong p) h ps u = absurd h
-told-no_chain img first (MapWrong p) h ps u = absurd h

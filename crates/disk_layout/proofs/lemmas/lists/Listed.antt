@@ -32,15 +32,7 @@ use Rattle.std.proofs.Common.{
 use Rattle.std.specs.Prelude.{flat_map, replicate, slice_get}
 use Rattle.std.proofs.lemmas.Bool.{cases_lt}
 use Rattle.std.proofs.Math.Seq.{take-append_seam, drop-append_seam, set-append_seam}
-use Rattle.std.proofs.lemmas.List.{
-  drop-replicate,
-  length-replicate,
-  take_more,
-  take_all,
-  take-append-drop,
-  drop-drop,
-  length-take,
-}
+use Rattle.std.proofs.lemmas.List.{drop-replicate, length-replicate, take_more, take_all, drop-drop, length-take}
 use Rattle.std.proofs.lemmas.Grind.{flat_map-append}
 use Rattle.d64_image.specs.declared.place.Place.{Place}
 use Rattle.disk_layout.specs.Side.{link_bytes, padded, place_bytes, pointers_of, side_sector}
@@ -114,11 +106,6 @@ written-step bytes now at ps i p room lt is e =
     (sym (append_assoc (flat_map place_bytes (take i ps)) (place_bytes p) (drop (at + 2 * i + 2) bytes)))
     ∙ ap (λ t. take at bytes ++ (t ++ drop (at + 2 * i + 2) bytes)) (sym more)
     ∙ ap (λ n. take at bytes ++ (flat_map place_bytes (take (i + 1) ps) ++ drop n bytes)) behind
-
--- no place yet, and all of them
-pub written-none : (bytes : List ℕ) (at : ℕ) (ps : List Place) → written bytes at ps 0 ≡ bytes
-written-none bytes at ps = let z : at + 2 * 0 ≡ at = omega arith in ap (λ n. take at bytes ++ drop n bytes) z
-    ∙ take-append-drop at bytes
 
 pub written-all : (bytes : List ℕ) (at i : ℕ) (ps : List Place) → length ps ≤ i → i ≤ length ps
     → written bytes at ps i ≡ take at bytes ++ (flat_map place_bytes ps ++ drop (at + 2 * length ps) bytes)

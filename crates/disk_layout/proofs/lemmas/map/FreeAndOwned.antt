@@ -1,6 +1,7 @@
 -- On a clean image the free sectors outside track 18 and those that files own there are 664 together.
-use Rattle.std.proofs.Common.{Bool, List, [], append-nil, ap, length-append, arith, cond, false, inl, inr, length, refl}
-use Rattle.std.proofs.Common.{subst, sym, true, ℕ, ◌++◌, ◌+◌, ◌-◌, ◌<◌, ◌∙◌, ◌∷◌, ◌≡◌, ◌≢◌, ◌≤◌, ◌⊎◌}
+use Rattle.std.proofs.Common.{Bool, List, [], append-nil, ap, length-append, arith, cond, false, inl, inr}
+use Rattle.std.proofs.Common.{length, refl}
+use Rattle.std.proofs.Common.{sym, true, ℕ, ◌++◌, ◌+◌, ◌∙◌, ◌∷◌, ◌≡◌, ◌≢◌, ◌≤◌, ◌⊎◌}
 use Rattle.std.proofs.lemmas.Bool.{cases_eq}
 use Rattle.std.proofs.lemmas.Bool.Decides.{nat_tests}
 use Rattle.std.proofs.lemmas.Grind.{flat_map-append}
@@ -8,116 +9,24 @@ use Rattle.std.proofs.lemmas.List.Elements.{filter-append}
 use Rattle.std.proofs.lemmas.List.Filters.{length-filter_both}
 use Rattle.std.proofs.lemmas.Nat.Bits.{bit_at-lt}
 use Rattle.std.specs.List.{AllByRecursion}
-use Rattle.std.specs.Prelude.{Contains, Some, filter, flat_map, nat_eq, not, slice_get, slice_index, sum_by, ◌%◌, ◌&&◌}
+use Rattle.std.specs.Prelude.{Contains, Some, filter, flat_map, nat_eq, not, slice_get, slice_index, ◌%◌}
 use Rattle.std.specs.Prelude.{◌*◌, ◌/◌}
-use Rattle.d64_image.proofs.Places.{same_or_other, same_place, track_fits, track_from_1}
-use Rattle.d64_image.specs.Geometry.{sectors_on}
+use Rattle.d64_image.proofs.Places.{same_or_other}
 use Rattle.d64_image.specs.Images.{Image, Sector, sector}
 use Rattle.d64_image.specs.declared.place.Place.{Place}
 use Rattle.disk_layout.proofs.lemmas.kept.Others.{others-around}
 use Rattle.disk_layout.proofs.lemmas.lists.Lists.{split-get}
 use Rattle.disk_layout.proofs.lemmas.lists.Once.{Contains-cases, Contains-here, Contains-nil, Contains-there}
-use Rattle.disk_layout.proofs.lemmas.lists.Sums.{sum-less, sum-plus, sum-same, sum-zero}
+use Rattle.disk_layout.proofs.lemmas.lists.Sums.{sum-same}
 use Rattle.disk_layout.specs.Chain.{EachOnce}
 use Rattle.disk_layout.specs.Clean.{IsCleanLayout}
 use Rattle.disk_layout.specs.Directory.{map_place}
 use Rattle.disk_layout.specs.Layout.{File, Layout, file_owns, owners, sides_for}
-use Rattle.disk_layout.specs.Map.{IsMapOf, map_bit, numbers_below}
+use Rattle.disk_layout.specs.Map.{IsMapOf, map_bit}
 use Rattle.disk_layout.specs.Rest.{Fits, others, taken_by_others}
 use Rattle.disk_layout.specs.View.{blocks_free}
-
--- a sum over the sectors of the first n tracks, track 18 left out
-unfoldable over : ℕ → (ℕ → ℕ → ℕ) → ℕ
-over n f = sum_by (λ k. cond (nat_eq (k + 1) 18) 0 (sum_by (f (k + 1)) (numbers_below (sectors_on (k + 1)))))
-    (numbers_below n)
-
-off-18 : (t x y : ℕ) → (t ≢ 18 → x ≡ y) → cond (nat_eq t 18) 0 x ≡ cond (nat_eq t 18) 0 y
-off-18 t x y h = elim (cases_eq t 18) [ inl e ↦ rw e refl | inr ne ↦ ap (cond (nat_eq t 18) 0) (h ne) ]
-
-none-18 : (t x : ℕ) → (t ≢ 18 → x ≡ 0) → cond (nat_eq t 18) 0 x ≡ 0
-none-18 t x h = elim (cases_eq t 18) [ inl e ↦ rw e refl | inr ne ↦ let z = h ne in grind (arith, nat_tests) ]
-
-over-same : (n : ℕ) (f g : ℕ → ℕ → ℕ) → ((t s : ℕ) → t ≤ n → t ≢ 18 → s < sectors_on t → f t s ≡ g t s)
-    → over n f ≡ over n g
-unfolding over
-over-same n f g e =
-    sum-same _ _ n (λ k lt. off-18 (k + 1) _ _ (λ ne. sum-same (f (k + 1)) (g (k + 1)) (sectors_on (k + 1))
-    (λ s on. e (k + 1) s (omega (arith, lt)) ne on)))
-
-over-plus : (n : ℕ) (f g : ℕ → ℕ → ℕ) → over n (λ t s. f t s + g t s) ≡ over n f + over n g
-unfolding over
-over-plus n f g =
-    sum-same _ _ n (λ k lt. off-18 (k + 1) _ _ (λ ne. sum-plus (f (k + 1)) (g (k + 1)) (sectors_on (k + 1)))
-    ∙ both (nat_eq (k + 1) 18) _ _)
-    ∙ sum-plus (λ k. cond (nat_eq (k + 1) 18) 0 (sum_by (f (k + 1)) (numbers_below (sectors_on (k + 1)))))
-    (λ k. cond (nat_eq (k + 1) 18) 0 (sum_by (g (k + 1)) (numbers_below (sectors_on (k + 1))))) n
-  where
-    both : (b : Bool) (x y : ℕ) → cond b 0 (x + y) ≡ cond b 0 x + cond b 0 y
-    both true x y = omega arith
-    both false x y = refl
-
--- 1 at a place, else 0
-unfoldable at : Place → ℕ → ℕ → ℕ
-at p t s = cond (nat_eq p.track t && nat_eq p.sector s) 1 0
-
-at-here : (p : Place) → at p p.track p.sector ≡ 1
-unfolding at
-at-here p = grind (arith, nat_tests)
-
-at-track : (p : Place) (t s : ℕ) → t ≢ p.track → at p t s ≡ 0
-unfolding at
-at-track p t s ne = grind (arith, nat_tests)
-
-at-sector : (p : Place) (t s : ℕ) → s ≢ p.sector → at p t s ≡ 0
-unfolding at
-at-sector p t s ne = grind (arith, nat_tests)
-
-at-other : (p q : Place) → p ≢ q → at p q.track q.sector ≡ 0
-at-other p q ne = elim (cases_eq q.track p.track) [
-  | inr off ↦ at-track p q.track q.sector off
-  | inl t ↦ elim (cases_eq q.sector p.sector) [
-    | inr off ↦ at-sector p q.track q.sector off
-    | inl s ↦ absurd (ne (same_place p q (sym t) (sym s)))
-  ]
-]
-
-over-none : (n : ℕ) (f : ℕ → ℕ → ℕ) → ((t s : ℕ) → t ≢ 18 → f t s ≡ 0) → over n f ≡ 0
-unfolding over
-over-none n f none =
-    sum-zero _ n (λ k lt. none-18 (k + 1) _ (λ ne. sum-zero (f (k + 1)) (sectors_on (k + 1))
-    (λ s on. none (k + 1) s ne)))
-
-over-at : (p : Place) → p.track ≢ 18 → over 35 (at p) ≡ 1
-unfolding over
-over-at p off =
-    sum-less _ (λ k. 0) 35 (p.track - 1) (omega (arith, track_fits p, track_from_1 p)) here there
-    ∙ ap (λ n. n + 1) (sum-zero (λ k. 0) 35 (λ k lt. refl))
-  where
-    on : p.track - 1 + 1 ≡ p.track
-    on = omega (arith, track_from_1 p)
-
-    outside : (t x : ℕ) → t ≢ 18 → cond (nat_eq t 18) 0 x ≡ x
-    outside t x ne = grind (arith, nat_tests)
-
-    here : cond (nat_eq (p.track - 1 + 1) 18) 0
-        (sum_by (at p (p.track - 1 + 1)) (numbers_below (sectors_on (p.track - 1 + 1)))) ≡ 0 + 1
-    here =
-        let P : ℕ → Type 0 = λ t. cond (nat_eq t 18) 0 (sum_by (at p t) (numbers_below (sectors_on t))) ≡ 0 + 1 in
-        subst P (sym on) (outside p.track _ off
-        ∙ sum-less (at p p.track) (λ s. 0) (sectors_on p.track) p.sector p.on_disk (at-here p)
-        (λ s lt ne. at-sector p p.track s ne)
-        ∙ ap (λ n. n + 1) (sum-zero (λ s. 0) (sectors_on p.track) (λ s lt. refl)))
-
-    there : (k : ℕ) → k < 35 → k ≢ p.track - 1
-        → cond (nat_eq (k + 1) 18) 0 (sum_by (at p (k + 1)) (numbers_below (sectors_on (k + 1)))) ≡ 0
-    there k lt ne =
-        none-18 (k + 1) _ (λ off. sum-zero (at p (k + 1)) (sectors_on (k + 1))
-        (λ s on. at-track p (k + 1) s (omega (arith, ne, track_from_1 p))))
-
--- 664 sectors are outside track 18
-over-all : over 35 (λ t s. 1) ≡ 664
-unfolding over
-over-all = refl
+use Rattle.disk_layout.proofs.lemmas.map.OverTracks.{at, at-here, at-other, at-track, off-18}
+use Rattle.disk_layout.proofs.lemmas.map.OverTracks.{over, over-all, over-at, over-none, over-plus, over-same}
 
 -- how often a sector is among these
 unfoldable hits : List Place → ℕ → ℕ → ℕ

@@ -29,11 +29,11 @@ use Rattle.std.specs.Prelude.{MatchOption}
 use Rattle.std.proofs.lemmas.Nat.{div-mul-add, mod-mul-add}
 use Rattle.std.proofs.lemmas.Nat.Bits.{bit_at-trailing_zeros}
 use Rattle.std.proofs.lemmas.Bool.{cases_lt}
-use Rattle.d64_image.proofs.Places.{place_at-found, place_at-none, place_at-some, track_fits, track_from_1}
+use Rattle.d64_image.proofs.Places.{place_at-found, place_at-none, place_at-some}
 use Rattle.d64_image.specs.Geometry.{sectors_on}
 use Rattle.d64_image.specs.Places.{place_at}
 use Rattle.d64_image.specs.declared.place.Place.{Place}
-use Rattle.disk_layout.specs.Map.{IsBefore, IsFirstFree, IsFirstOn, IsFree, IsFullDisk, IsFullTrack, distance, map_bit}
+use Rattle.disk_layout.specs.Map.{IsFirstOn, IsFree, IsFullTrack, distance, map_bit}
 
 -- no sector of the track below this one is free
 abbrev pub NoneBelow : List ℕ → ℕ → ℕ → Type 0
@@ -101,42 +101,3 @@ first_in bytes t k r some fits is below =
 -- no sector nearer to track 18 than this is free, track 18 left out
 abbrev pub NoneNearer : List ℕ → ℕ → Type 0
 NoneNearer bytes d = (q : Place) → q.track ≢ 18 → distance q.track < d → ¬ (IsFree bytes q)
-
-pub found_lower : (bytes : List ℕ) (d : ℕ) (p : Place) → 1 ≤ d → d < 18 → NoneNearer bytes d
-    → IsFirstOn bytes (18 - d) p → IsFirstFree bytes p
-found_lower bytes d p low high nearer here = record {
-  track = λ e. omega (arith, e, here.track);
-  free = here.free;
-  first = before;
-}
-  where
-    before : (q : Place) → q.track ≢ 18 → IsBefore q p → ¬ (IsFree bytes q)
-    before q out (inl less) = nearer q out (omega (arith, less, here.track))
-    before q out (inr (same, inl lower)) = absurd (omega (arith, same, lower, here.track))
-    before q out (inr (same, inr (track, less))) = here.first q (track ∙ here.track) less
-
-pub found_upper : (bytes : List ℕ) (d : ℕ) (p : Place) → 1 ≤ d → d < 18 → NoneNearer bytes d
-    → IsFullTrack bytes (18 - d) → IsFirstOn bytes (18 + d) p → IsFirstFree bytes p
-found_upper bytes d p low high nearer full here = record {
-  track = λ e. omega (arith, e, here.track);
-  free = here.free;
-  first = before;
-}
-  where
-    before : (q : Place) → q.track ≢ 18 → IsBefore q p → ¬ (IsFree bytes q)
-    before q out (inl less) = nearer q out (omega (arith, less, here.track))
-    before q out (inr (same, inl lower)) = full q (omega (arith, same, lower, here.track))
-    before q out (inr (same, inr (track, less))) = here.first q (track ∙ here.track) less
-
-pub both_full : (bytes : List ℕ) (d : ℕ) → NoneNearer bytes d → IsFullTrack bytes (18 - d) → IsFullTrack bytes (18 + d)
-    → NoneNearer bytes (d + 1)
-both_full bytes d nearer lower upper q out less = elim (cases_lt (distance q.track) d) [
-  | inl near ↦ nearer q out near
-  | inr far ↦ elim (cases_lt q.track 18) [
-    | inl below ↦ lower q (omega (arith, less, far, below))
-    | inr above ↦ upper q (omega (arith, less, far, above))
-  ]
-]
-
-pub all_full : (bytes : List ℕ) → NoneNearer bytes 18 → IsFullDisk bytes
-all_full bytes nearer q out = nearer q out (omega (arith, track_fits q, track_from_1 q))

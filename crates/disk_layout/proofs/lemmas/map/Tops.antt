@@ -1,37 +1,8 @@
 -- How many sectors outside track 18 files can own, and which record numbers fit.
-use Rattle.std.proofs.Common.{
-  ◌≡◌,
-  ◌≢◌,
-  ℕ,
-  zero,
-  suc,
-  ◌<◌,
-  ◌≤◌,
-  inl,
-  inr,
-  Bool,
-  true,
-  false,
-  List,
-  [],
-  ◌∷◌,
-  ◌++◌,
-  length,
-  refl,
-  sym,
-  ap,
-  arith,
-  length-append,
-}
-use Rattle.std.specs.Prelude.{Contains, filter, flat_map, nat_eq, not, cond, ◌&&◌}
-use Rattle.std.proofs.lemmas.Bool.{false≢true}
-use Rattle.std.proofs.lemmas.Bool.Decides.{nat_tests}
+use Rattle.std.proofs.Common.{◌≡◌, ℕ, zero, suc, ◌<◌, ◌≤◌, inl, inr, Bool, true, false, List, [], ◌∷◌, ◌++◌, length, refl, sym, ap, arith}
+use Rattle.std.specs.Prelude.{Contains, flat_map, nat_eq, not, cond, ◌&&◌}
 use Rattle.std.proofs.lemmas.List.Elements.{Contains-append_cases, Contains-append_left, Contains-append_right}
-use Rattle.d64_image.specs.Images.{Image}
 use Rattle.d64_image.specs.declared.place.Place.{Place}
-use Rattle.disk_layout.proofs.lemmas.counts.Recount.{filter-out}
-use Rattle.disk_layout.proofs.lemmas.lists.Count.{places-few}
-use Rattle.disk_layout.proofs.lemmas.lists.Lists.{filter-once}
 use Rattle.disk_layout.proofs.lemmas.lists.Once.{
   Contains-cases,
   Contains-nil,
@@ -41,8 +12,8 @@ use Rattle.disk_layout.proofs.lemmas.lists.Once.{
   EachOnce-right,
 }
 use Rattle.disk_layout.specs.Chain.{EachOnce}
-use Rattle.disk_layout.specs.Layout.{File, IsLayout, Layout, file_owns, owners}
-use Rattle.disk_layout.specs.Rest.{Fits, IsTop, others, taken_by_others}
+use Rattle.disk_layout.specs.Layout.{File, Layout, file_owns}
+use Rattle.disk_layout.specs.Rest.{Fits, IsTop, others}
 
 -- the first n sectors of track 18, the last of them first
 on_18 : (n : ℕ) → n ≤ 19 → List Place
@@ -66,16 +37,6 @@ on_18-long : (n : ℕ) (h : n ≤ 19) → length (on_18 n h) ≡ n
 unfolding on_18
 on_18-long zero h = refl
 on_18-long (suc n) h = ap suc (on_18-long n _)
-
--- distinct places outside track 18 are at most 664
-pub outside-few : (ps : List Place) → EachOnce ps → ((p : Place) → Contains ps p → p.track ≢ 18) → length ps ≤ 664
-outside-few ps once off = with_all (omega arith)
-  where
-    with_all : 19 ≤ 19 → length ps ≤ 664
-    with_all h =
-        let few = places-few (ps ++ on_18 19 h) (EachOnce-join ps (on_18 19 h) once (on_18-once 19 h)
-        (λ p c d. off p c (on_18-track 19 h p d).0)) in
-        omega (arith, few, length-append ps (on_18 19 h), on_18-long 19 h)
 
 -- the other files own what they own among all
 others-in : (a b n : ℕ) (fs : List File) (p : Place) → Contains (flat_map file_owns (others a b n fs)) p
@@ -104,21 +65,6 @@ others-once a b n (f ∷ fs) once = step (not (nat_eq n a) && not (nat_eq n b))
         (EachOnce-left (file_owns f) (flat_map file_owns fs) once) rest
         (λ p c d. EachOnce-apart (file_owns f) (flat_map file_owns fs) once p c (others-in a b (suc n) fs p d))
     step false rest = rest
-
--- other files own at most the 664 sectors outside track 18
-pub taken-few : (img : Image) (l : Layout) (n : ℕ) → IsLayout img l → taken_by_others l n ≤ 664
-unfolding taken_by_others owners
-taken-few img l n h =
-    let owned : List Place = flat_map file_owns (others n n 0 l.files) in
-    outside-few (filter (λ p. not (nat_eq p.track 18)) owned)
-    (filter-once (λ p. not (nat_eq p.track 18)) owned
-    (others-once n n 0 l.files (EachOnce-right l.directory (flat_map file_owns l.files) h.once.1)))
-    (λ p c e. let (d, off) = filter-out (λ (q : Place). not (nat_eq q.track 18)) owned p c in
-    false≢true (grind (arith, nat_tests)))
-
--- no record at all fits always, and what is below a fitting number fits
-pub Fits-none : (img : Image) (l : Layout) (n : ℕ) → IsLayout img l → Fits l n 0
-Fits-none img l n h = record { number = omega arith; blocks = omega arith; room = omega (arith, taken-few img l n h) }
 
 pub Fits-below : (l : Layout) (n r s : ℕ) → s ≤ r → Fits l n r → Fits l n s
 Fits-below l n r s le h = record {

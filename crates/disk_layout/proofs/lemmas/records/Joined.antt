@@ -46,7 +46,7 @@ use Rattle.disk_layout.proofs.lemmas.records.Pieces.{piece, pieces-write}
 use Rattle.disk_layout.specs.Chain.{EachOnce, byte}
 use Rattle.disk_layout.specs.Directory.{type_byte}
 use Rattle.disk_layout.specs.Layout.{File, record_length}
-use Rattle.disk_layout.specs.Records.{joined, pieces, record_count, records}
+use Rattle.disk_layout.specs.Records.{joined, record_count, records}
 use Rattle.disk_layout.specs.Rest.{kept_of}
 
 pub sector-long : (img : Image) (p : Place) → IsImage img → length (sector img p) ≡ 256
@@ -172,14 +172,6 @@ records-write img f r k p b w v once at below fit same =
         | inr c ↦ sym (joined-block img f.blocks r p b w v once at i (inr c))
       ]
     ]
-
--- a write outside the file's blocks keeps its records
-pub records-kept : (img : Image) (f : File) (p : Place) (b : List ℕ) → ¬ (Contains f.blocks p)
-    → records (put img p b) f ≡ records img f
-unfolding records
-records-kept img f p b free =
-    ap (pieces (record_length f.slot) (record_count (length f.blocks) f.last (record_length f.slot)))
-    (joined-other img f.blocks p b free)
 
 sectors-kept : (img : Image) (ps : List Place) (p : Place) (b : List ℕ) → ¬ (Contains ps p)
     → map (sector (put img p b)) ps ≡ map (sector img) ps

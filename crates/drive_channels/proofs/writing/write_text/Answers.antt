@@ -1,5 +1,5 @@
-use Rattle.std.proofs.Common.{ℕ, ◌≡◌, ◌≤◌, inl, inr, Err, Result, ap, refl, sym, subst}
-use Rattle.drive_channels.proofs.Refusals.{calm, device-failed, not-err}
+use Rattle.std.proofs.Common.{ℕ, ◌≡◌, ◌≤◌, inl, inr, Err, ap, refl, sym, subst}
+use Rattle.drive_channels.proofs.Refusals.{calm, device-failed, device-other, not-err, over, over-device, over-fits}
 use Rattle.drive_channels.proofs.Rows.{at-file}
 use Rattle.drive_channels.proofs.Writes.{cut, had-is, keeps-left, keeps-same, leaves-has, next-spot, not-cut, ok-done}
 use Rattle.drive_channels.proofs.Writes.{overflow-done, refused-row, written-at, written-row}
@@ -7,9 +7,7 @@ use Rattle.drive_channels.proofs.writing.write_text.Goals as goal
 use Rattle.drive_channels.specs.Inside.{IsSpot}
 use Rattle.drive_channels.specs.declared.found.Found.{Found}
 use Rattle.rel_records.specs.File.{entry_of}
-use Rattle.rel_records.specs.Written.{IsDone, IsInOneBlock}
-use Rattle.rel_records.specs.declared.faults.RelFault.{RelFault}
-use Rattle.rel_records.specs.declared.faults.RelFault.TheVariants as faults
+use Rattle.rel_records.specs.Written.{IsInOneBlock}
 
 pub returns-in-Ok : goal.returns-in-Ok
 returns-in-Ok g c =
@@ -36,17 +34,6 @@ returns-in-Ok g c =
       refused = λ is. absurd (ok-done is);
       failures = c.in-Ok.ensures.failures;
     }
-
--- what a fault that is Overflow says
-over : (e : RelFault) → e ≡ faults.Overflow → IsDone {T = Unit {0}} (Err e)
-over e is = subst (λ (x : RelFault). IsDone {T = Unit {0}} (Err x)) (sym is) tt
-
-over-fits : (e : RelFault) → e ≡ faults.Overflow → ◌≡◌ {A = Result (Unit {0}) RelFault} (Err e) (Err faults.TooLarge)
-    → ⊥
-over-fits e is h = cc
-
-over-device : (e : RelFault) → e ≡ faults.Overflow → e ≡ faults.Device → ⊥
-over-device e is h = cc
 
 pub returns-in-Overflow : goal.returns-in-Overflow
 returns-in-Overflow g c =
@@ -75,9 +62,6 @@ returns-in-Overflow g c =
       refused = λ is. absurd (overflow-done is);
       failures = calm (Unit {0}) S _ _ _ (over-device _ c.in-Overflow.is) c.in-Err.ensures.failures;
     }
-
-device-other : (e : RelFault) → e ≡ faults.Device → e ≡ faults.Overflow → ⊥
-device-other e a b = cc
 
 pub returns-in-Device : goal.returns-in-Device
 returns-in-Device g c =

@@ -11,6 +11,7 @@ use Rattle.script_lines.specs.declared.events.Event.{Event}
 use Rattle.host_session.proofs.lemmas.events.Printed.{told_more}
 use Rattle.host_session.proofs.lemmas.runs.Chained.{at_device, told_over, whole}
 use Rattle.host_session.proofs.lemmas.runs.QuietRuns.{quiet_of_more}
+use Rattle.host_session.proofs.lemmas.runs.QuietWrites.{spared_of_more}
 use Rattle.host_session.proofs.lemmas.runs.Runs.{held_of_more}
 use Rattle.host_session.proofs.lemmas.runs.Sparing.{bound_of_more}
 use Rattle.host_session.specs.declared.events.asking.OfEvents.{OfEvents}
@@ -24,7 +25,7 @@ use Rattle.host_session.specs.events.Asking.{last_taken, message_here, messages_
 use Rattle.host_session.specs.events.Events.{Message, message_of}
 use Rattle.host_session.specs.events.Instants.{Instant, instant_of}
 use Rattle.host_session.specs.events.Quiet.{AreUncut, AskNothing, IsQuiet}
-use Rattle.host_session.specs.events.Within.{IsBounded}
+use Rattle.host_session.specs.events.Within.{IsBounded, IsSpared}
 use Rattle.host_session.specs.runs.Chains.{over_instants, told_in}
 use Rattle.host_session.specs.runs.Faults.{play_fault_of}
 use Rattle.host_session.specs.runs.Loops.{IsRun, IsToldWhole}
@@ -65,6 +66,7 @@ pub record IsEventsEnd {D : Type 0} (h : History D) (disk left : D) (ms : List M
       → (told : List Reply) × (new ≡ old ++ told) × StoppedByDevice h s ms disk left told
   pub moments : (s : Shop) → IsShop (h.image disk) s → HeldBeginnings h s ms disk left
   pub quiet : (s : Shop) → IsShop (h.image disk) s → AskNothing s ms → IsQuiet h s ms disk left
+  pub spared : (s : Shop) → IsShop (h.image disk) s → AskNothing s ms → IsSpared h s disk left
   pub writes : (s : Shop) → IsShop (h.image disk) s → AreUncut ms → IsBounded h ms disk left
   pub plays : IsAShop (h.image disk) → NeverFailed h disk left → e ≡ ends.NoMemory
   pub «open» : (f : OpenFault) → e ≡ ends.Open f → IsRefused h disk f left
@@ -94,6 +96,13 @@ module _ {D : Type 0} (h : History D) (disk : D) (events : List Event) (asked as
       → IsBounded h (map message_of events) disk (disk_of (λ d. d) r)
   sparing r k s is = bound_of_more h (messages_in k.taken) (map message_of (drop asks.taken asked.events.now))
       (map message_of events) disk (disk_of (λ d. d) r) (parts k.taken k.takes) (k.writes s is)
+
+  -- and where they ask nothing new
+  pub spared : (r : Result D (LoopFault × D)) → IsRun h of_events listed disk asked asks old new r
+      → (s : Shop) → IsShop (h.image disk) s → AskNothing s (map message_of events)
+      → IsSpared h s disk (disk_of (λ d. d) r)
+  spared r k s is = spared_of_more h s (messages_in k.taken) (map message_of (drop asks.taken asked.events.now))
+      (map message_of events) disk (disk_of (λ d. d) r) (parts k.taken k.takes) (k.spared s is)
 
   -- all were taken
   pub whole_run : (left : D) → IsRun h of_events listed disk asked asks old new (Ok left)
@@ -136,6 +145,7 @@ module _ {D : Type 0} (h : History D) (disk : D) (events : List Event) (asked as
     moments = λ s is. held_of_more h s (messages_in k.taken) (map message_of (drop asks.taken asked.events.now))
         (map message_of events) disk left (parts k.taken k.takes) (k.moments s is);
     quiet = still left (runs.Open f) k;
+    spared = spared (Err (runs.Open f, left)) k;
     writes = λ s is. sparing (Err (runs.Open f, left)) k s is;
     plays = λ shop never. ⊎_elim (λ (e : runs.Open f ≡ runs.Input). cc) (λ (e : runs.Open f ≡ runs.Output). cc)
         (k.plays shop never);
@@ -162,6 +172,7 @@ module _ {D : Type 0} (h : History D) (disk : D) (events : List Event) (asked as
     moments = λ s is. held_of_more h s (messages_in k.taken) (map message_of (drop asks.taken asked.events.now))
         (map message_of events) disk left (parts k.taken k.takes) (k.moments s is);
     quiet = still left runs.Device k;
+    spared = spared (Err (runs.Device, left)) k;
     writes = λ s is. sparing (Err (runs.Device, left)) k s is;
     plays = λ shop never. ⊎_elim (λ (e : runs.Device ≡ runs.Input). cc) (λ (e : runs.Device ≡ runs.Output). cc)
         (k.plays shop never);

@@ -1,72 +1,25 @@
 -- A run in a loop: one event more, or the last one.
-use Rattle.std.proofs.Common.{◌≡◌, ◌≤◌, ◌<◌, ◌+◌, ◌++◌, ◌⊎◌, ℕ, true, false, List, [], ◌∷◌, Option, None, Some, Ok, Err}
+use Rattle.std.proofs.Common.{◌≡◌, ◌≤◌, ◌<◌, ◌+◌, ◌++◌, ◌⊎◌, List, [], ◌∷◌, None, Ok, Err}
 use Rattle.std.proofs.Common.{refl, sym, subst, ap, ◌∙◌, arith, inl, inr, length, length-append, append-nil}
 use Rattle.std.proofs.lemmas.List.{map-append}
-use Rattle.std.specs.Prelude.{IsSome, Result, is_err, is_ok, is_some, option_map}
+use Rattle.std.specs.Prelude.{Result}
 use Rattle.d64_image.specs.History.{Changes, History}
 use Rattle.request_cards.specs.declared.reply.Reply.{Reply}
 use Rattle.host_session.proofs.lemmas.runs.Chained.{asked_more, run_more, run_more-first}
 use Rattle.host_session.proofs.lemmas.runs.Chained.{run_none, run_rests}
-use Rattle.host_session.proofs.lemmas.runs.Sparing.{within_more}
-use Rattle.host_session.specs.declared.events.asking.Next.{Next}
+use Rattle.host_session.proofs.lemmas.runs.Sparing.{sparing_more, within_more}
 use Rattle.host_session.specs.declared.runs.looping.LoopFault.TheVariants as faults
-use Rattle.host_session.specs.events.Asking.{IsNext, Source, TakesNone, TakesOne, messages_in}
-use Rattle.host_session.specs.events.Events.{Message, cut_at, uncut}
+use Rattle.host_session.specs.events.Asking.{Source, TakesNone, TakesOne, messages_in}
+use Rattle.host_session.specs.events.Events.{Message}
 use Rattle.host_session.specs.events.Instants.{Instant, instant_of}
 use Rattle.host_session.specs.events.OneEvent.{EndsFailed, GoesOn, IsEvent}
 use Rattle.host_session.specs.events.Telling.{BreaksOff, IsTold, Output, TellsOne}
-use Rattle.host_session.specs.events.Within.{AreWithin, IsWithin}
+use Rattle.host_session.specs.events.Within.{AreSparing, AreWithin, IsWithin, SparesTheDisk}
 use Rattle.host_session.specs.runs.Chains.{asked_over, over_instants}
 use Rattle.host_session.specs.runs.Loops.{Ends, EndsBy, HasCome, HasComeBut, Origin}
 use Rattle.host_session.specs.runs.Loops.{IsToldToDevice, IsToldToOutput, IsToldWhole}
 use Rattle.host_session.specs.session.Opening.{Untouched}
 use Rattle.host_session.specs.shop.Shop.{IsSettled, IsShop, Shop}
-
--- the message that is here has no reset
-pub is_whole : (m : Message) (bytes : List ℕ) → bytes ≡ m.bytes → None ≡ m.cut_after → uncut bytes ≡ m
-is_whole m bytes same none = λ i. record { bytes = same i; cut_after = none i }
-
--- or one
-pub is_reset : (m : Message) (bytes : List ℕ) (after : ℕ) → bytes ≡ m.bytes → Some after ≡ m.cut_after
-    → cut_at bytes after ≡ m
-is_reset m bytes after same cut = λ i. record { bytes = same i; cut_after = cut i }
-
--- power goes in it
-pub no_none : (after : ℕ) (o : Option ℕ) → Some after ≡ o → o ≡ None → ⊥
-no_none after o some none = let e = some ∙ none in cc
-
--- whether the event that was taken has a reset
-pub no_cut : {X : Type 0} (f : X → ℕ) (r : Option X) (o : Option ℕ) → option_map f r ≡ o → is_some r ≡ false → None ≡ o
-no_cut f None o same none = same
-no_cut f (Some x) o same none = cc
-
-pub some_cut : {X : Type 0} (f : X → ℕ) (r : Option X) (o : Option ℕ) → option_map f r ≡ o → is_some r ≡ true → IsSome o
-some_cut f None o same some = cc
-some_cut f (Some x) o same some = subst IsSome same refl
-
-pub cut_is : {X : Type 0} (f : X → ℕ) (r : Option X) (x : X) (o : Option ℕ) → r ≡ Some x → option_map f r ≡ o
-    → Some (f x) ≡ o
-cut_is f r x o is same = sym (ap (option_map f) is) ∙ same
-
--- what asking came to, by what was answered and the disk that was lent
-pub was_asked : {D A : Type 0} (h : History D) (a : Source A) (old new : A) (lent disk : D) (r answered : Next)
-    → lent ≡ disk → r ≡ answered → IsNext a old new (instant_of h lent) r
-    → IsNext a old new (instant_of h disk) answered
-was_asked h a old new lent disk r answered is told asked =
-    subst (λ n. IsNext a old new (instant_of h disk) n) told (subst (λ d. IsNext a old new (instant_of h d) r) is asked)
-
--- what telling came to, by what was answered
-pub was_told : {T E : Type 0} (o : Output T) (old new : T) (reply : Reply) (i : Instant) (r : Result Unit E)
-    → is_ok r ≡ true
-    → IsTold o old new reply i r → TellsOne o old new reply i × (o.room old ≤ o.room new + 1)
-was_told o old new reply i (Ok x) is told = told
-was_told o old new reply i (Err x) is told = cc
-
-pub was_broken : {T E : Type 0} (o : Output T) (old new : T) (reply : Reply) (i : Instant) (r : Result Unit E)
-    → is_err r ≡ true
-    → IsTold o old new reply i r → BreaksOff o old new reply i × (o.room old ≡ 0)
-was_broken o old new reply i (Ok x) is told = cc
-was_broken o old new reply i (Err x) is told = told
 
 over_more : {D : Type 0} (h : History D) (xs : List (Reply × D)) (reply : Reply) (disk : D)
     → over_instants h (xs ++ (reply, disk) ∷ []) ≡ over_instants h xs ++ (reply, instant_of h disk) ∷ []
@@ -89,6 +42,7 @@ module _ {D A T : Type 0} (h : History D) (a : Source A) (o : Output T) (from : 
         told = o.none from.out;
       },
       refl,
+      tt,
       tt,
     );
     room = omega arith;
@@ -138,18 +92,33 @@ module _ {D A T : Type 0} (h : History D) (a : Source A) (o : Output T) (from : 
         w.whole.2 (λ none. one none r.now
         (run_rests h from.shop (messages_in w.taken) w.whole.0.turns from.disk mid w.whole.0.run)))
 
+    -- and where it asks nothing new
+    abbrev Spares : Type 0
+    Spares = SparesTheDisk h (a.here asks) mid new
+
+    sparing_now : (w : HasComeBut h a o from mid asks out) (first : D) → first ≡ w.whole.0.run.first → Spares
+        → AreSparing h (messages_in w.taken ++ a.here asks ∷ []) (w.whole.0.turns ++ (reply, new) ∷ []) first
+    sparing_now w first same one =
+        let r = w.whole.0.run in
+        subst (λ d. AreSparing h (messages_in w.taken ++ a.here asks ∷ []) (w.whole.0.turns ++ (reply, new) ∷ []) d)
+        (sym same)
+        (sparing_more h from.shop (messages_in w.taken) w.whole.0.turns r.first mid new r.now (a.here asks) reply
+        r.chain w.whole.3 one)
+
     -- the event that is here was run, and its reply told
     pub goes_on : (Alive : Type 0) → TellsOne o out told reply (instant_of h new) × (o.room out ≤ o.room told + 1)
         → ((t : Shop) → IsSettled (h.image mid) t
         → Alive × IsEvent h t (a.here asks) mid new (GoesOn h t (a.here asks) reply new))
         → Within
+        → Spares
         → HasComeBut h a o from mid asks out → Alive × HasCome h a o from new asks told
-    goes_on Alive tells event within w =
+    goes_on Alive tells event within spares w =
         let x = w.whole.0 in
         let e = event x.run.now (run_rests h from.shop (messages_in w.taken) x.turns from.disk mid x.run) in
         let last : List (Reply × D) = (reply, new) ∷ [] in
         let Told : List Message → Type 0 = λ ms. (y : IsToldWhole h o from.shop ms from.disk new from.out told)
         × (TakenNow w ≡ asked_over h y.run.first y.turns ms) × AreWithin h ms y.turns y.run.first
+        × AreSparing h ms y.turns y.run.first
         × (o.room from.out ≤ o.room told + length ms) in
         let y = subst Told (sym (messages_now w)) (
           record {
@@ -164,17 +133,21 @@ module _ {D A T : Type 0} (h : History D) (a : Source A) (o : Output T) (from : 
           within_now w _
               (run_more-first h from.shop (messages_in w.taken) x.turns from.disk mid new (a.here asks) reply x.run e.1)
               within,
+          sparing_now w _
+              (run_more-first h from.shop (messages_in w.taken) x.turns from.disk mid new (a.here asks) reply x.run e.1)
+              spares,
           omega (arith, w.room, tells.1, length-append (messages_in w.taken) (a.here asks ∷ [])),
         ) in
-        (e.0, record { taken = TakenNow w; is = w.is; whole = (y.0, y.1, y.2); room = y.3 })
+        (e.0, record { taken = TakenNow w; is = w.is; whole = (y.0, y.1, y.2, y.3); room = y.4 })
 
     -- it was run, and the output didn't take its reply
     pub breaks_off : (Alive : Type 0) → BreaksOff o out told reply (instant_of h new) × (o.room out ≡ 0)
         → ((t : Shop) → IsSettled (h.image mid) t
         → Alive × IsEvent h t (a.here asks) mid new (GoesOn h t (a.here asks) reply new))
         → Within
+        → Spares
         → HasComeBut h a o from mid asks out → EndsBy h a o from asks told new faults.Output
-    breaks_off Alive breaks event within w =
+    breaks_off Alive breaks event within spares w =
         let x = w.whole.0 in
         let e = event x.run.now (run_rests h from.shop (messages_in w.taken) x.turns from.disk mid x.run) in
         let run = run_more h from.shop (messages_in w.taken) x.turns from.disk mid new (a.here asks) reply x.run e.1 in
@@ -182,7 +155,8 @@ module _ {D A T : Type 0} (h : History D) (a : Source A) (o : Output T) (from : 
         run_more-first h from.shop (messages_in w.taken) x.turns from.disk mid new (a.here asks) reply x.run e.1 in
         let Told : List Message → Type 0 = λ ms. (y : IsToldToOutput h o from.shop ms from.disk new from.out told)
         × (TakenNow w ≡ asked_over h y.run.first y.turns ms)
-        × AreWithin h ms (y.turns ++ y.last ∷ []) y.run.first in (
+        × AreWithin h ms (y.turns ++ y.last ∷ []) y.run.first
+        × AreSparing h ms (y.turns ++ y.last ∷ []) y.run.first in (
           TakenNow w,
           w.is,
           subst Told (sym (messages_now w)) (
@@ -197,6 +171,7 @@ module _ {D A T : Type 0} (h : History D) (a : Source A) (o : Output T) (from : 
                 ∙ ap (λ turns. asked_over h run.first turns (messages_in w.taken ++ a.here asks ∷ []))
                 (append-nil x.turns),
             within_now w _ same within,
+            sparing_now w _ same spares,
           ),
         )
 
@@ -205,12 +180,14 @@ module _ {D A T : Type 0} (h : History D) (a : Source A) (o : Output T) (from : 
         → ((t : Shop) → IsSettled (h.image mid) t
         → IsEvent h t (a.here asks) mid new (EndsFailed h t (a.here asks) reply new))
         → Within
+        → Spares
         → HasComeBut h a o from mid asks out → EndsBy h a o from asks told new faults.Device
-    fails result tells event within w =
+    fails result tells event within spares w =
         let x = w.whole.0 in
         let Told : List Message → Type 0 = λ ms. (y : IsToldToDevice h o from.shop ms from.disk new from.out told)
         × (TakenNow w ≡ asked_over h y.run.run.first y.turns ms)
-        × AreWithin h ms (y.turns ++ (y.last, new) ∷ []) y.run.run.first in (
+        × AreWithin h ms (y.turns ++ (y.last, new) ∷ []) y.run.run.first
+        × AreSparing h ms (y.turns ++ (y.last, new) ∷ []) y.run.run.first in (
           TakenNow w,
           w.is,
           subst Told (sym (messages_now w)) (
@@ -231,6 +208,7 @@ module _ {D A T : Type 0} (h : History D) (a : Source A) (o : Output T) (from : 
                 ∙ ap (λ turns. asked_over h x.run.first turns (messages_in w.taken ++ a.here asks ∷ []))
                 (append-nil x.turns),
             within_now w x.run.first refl within,
+            sparing_now w x.run.first refl spares,
           ),
         )
       where

@@ -30,7 +30,7 @@ state_stays : (s : Shop) (o : Option Ask) → is_next_request s o ≡ false → 
 state_stays s None asks = refl
 state_stays s (Some a) asks = ap (λ (b : Bool). if b then applied s.top s.state a else s.state) asks
 
-shop_stays : (s : Shop) (m : Message) (failed : Bool) (counted : List Ask) → AsksNothing s m
+pub shop_stays : (s : Shop) (m : Message) (failed : Bool) (counted : List Ask) → AsksNothing s m
     → MayCount s.top s.state (request_of m.bytes) m.cut_after failed counted
     → with_state s (after_all (start_of s) s.state counted) ≡ s
 shop_stays s m failed counted asks may = ap (λ state. with_state s state) (⊎_elim

@@ -7,6 +7,7 @@ use Rattle.d64_image.specs.History.{History, NeverFailed}
 use Rattle.host_session.proofs.lemmas.runs.Chained.{at_device, run_failed}
 use Rattle.host_session.proofs.lemmas.runs.Chained.{whole}
 use Rattle.host_session.proofs.lemmas.runs.QuietRuns.{quiet_refused, quiet_run, quiet_to_failure}
+use Rattle.host_session.proofs.lemmas.runs.QuietWrites.{spared_refused, spared_run, spared_to_failure}
 use Rattle.host_session.proofs.lemmas.runs.Sparing.{failure_bound, refused_bound, run_bound}
 use Rattle.host_session.proofs.lemmas.shop.Shops.{IsShop-one}
 use Rattle.host_session.specs.declared.faults.OpenFault.{OpenFault}
@@ -17,6 +18,7 @@ use Rattle.host_session.specs.events.Asking.{Source, messages_in}
 use Rattle.host_session.specs.events.Events.{Message}
 use Rattle.host_session.specs.events.Quiet.{AskNothing, IsQuiet}
 use Rattle.host_session.specs.events.Telling.{Output}
+use Rattle.host_session.specs.events.Within.{IsSpared}
 use Rattle.host_session.specs.runs.Loops.{Ends, EndsBy, IsRun, Origin}
 use Rattle.host_session.specs.runs.Loops.{IsRunToDevice, IsRunToOutput, IsRunWhole}
 use Rattle.host_session.specs.runs.Runs.{HeldBeginnings, IsRefused}
@@ -32,6 +34,10 @@ module _ {D A T : Type 0} (h : History D) (a : Source A) (o : Output T) (from : 
     abbrev IsQuietTo : List Message → D → Shop → Type 0
     IsQuietTo ms left t = AskNothing t ms → IsQuiet h t ms from.disk left
 
+    -- and what it wrote then
+    abbrev IsSparedTo : List Message → D → Shop → Type 0
+    IsSparedTo ms left t = AskNothing t ms → IsSpared h t from.disk left
+
     by_input : (left : D) → EndsBy h a o from asks out left faults.Input
         → IsRun h a o from.disk from.asks asks from.out out (Err (faults.Input, left))
     by_input left e = record {
@@ -46,6 +52,8 @@ module _ {D A T : Type 0} (h : History D) (a : Source A) (o : Output T) (from : 
           (whole h from.shop (messages_in e.0) e.3.0.turns from.disk left e.3.0.run).1;
       quiet = λ s is. subst (IsQuietTo (messages_in e.0) left) (same s is)
           (λ asks. quiet_run h from.shop (messages_in e.0) e.3.0.turns from.disk left asks e.3.0.run);
+      spared = λ s is. subst (IsSparedTo (messages_in e.0) left) (same s is)
+          (λ asks. spared_run h from.shop (messages_in e.0) e.3.0.turns from.disk left asks e.3.0.run e.3.3);
       writes = λ s is. run_bound h from.shop (messages_in e.0) e.3.0.turns from.disk left e.3.0.run e.3.2;
       plays = λ shop never. inl refl;
       «open» = λ f (is_input : faults.Input ≡ faults.Open f). cc;
@@ -68,6 +76,9 @@ module _ {D A T : Type 0} (h : History D) (a : Source A) (o : Output T) (from : 
       quiet = λ s is. subst (IsQuietTo (messages_in e.0) left) (same s is)
           (λ asks. quiet_run h from.shop (messages_in e.0) (e.2.0.turns ++ e.2.0.last ∷ []) from.disk left asks
           e.2.0.run);
+      spared = λ s is. subst (IsSparedTo (messages_in e.0) left) (same s is)
+          (λ asks. spared_run h from.shop (messages_in e.0) (e.2.0.turns ++ e.2.0.last ∷ []) from.disk left asks
+          e.2.0.run e.2.3);
       writes = λ s is. run_bound h from.shop (messages_in e.0) (e.2.0.turns ++ e.2.0.last ∷ []) from.disk left e.2.0.run
           e.2.2;
       plays = λ shop never. inr refl;
@@ -94,6 +105,9 @@ module _ {D A T : Type 0} (h : History D) (a : Source A) (o : Output T) (from : 
           quiet = λ s is. subst (IsQuietTo (messages_in e.0) left) (same s is)
               (λ asks. quiet_to_failure h from.shop (messages_in e.0) e.2.0.turns e.2.0.last from.disk left asks
               e.2.0.run);
+          spared = λ s is. subst (IsSparedTo (messages_in e.0) left) (same s is)
+              (λ asks. spared_to_failure h from.shop (messages_in e.0) e.2.0.turns e.2.0.last from.disk left asks
+              e.2.0.run e.2.3);
           writes = λ s is. failure_bound h from.shop (messages_in e.0) e.2.0.turns e.2.0.last from.disk left e.2.0.run
               e.2.2;
           plays = λ shop never. absurd (never_failed h _ _ never failed);
@@ -125,6 +139,8 @@ module _ {D A T : Type 0} (h : History D) (a : Source A) (o : Output T) (from : 
           (whole h from.shop (messages_in e.0) e.3.0.turns from.disk left e.3.0.run).1;
       quiet = λ s is. subst (IsQuietTo (messages_in e.0) left) (same s is)
           (λ asks. quiet_run h from.shop (messages_in e.0) e.3.0.turns from.disk left asks e.3.0.run);
+      spared = λ s is. subst (IsSparedTo (messages_in e.0) left) (same s is)
+          (λ asks. spared_run h from.shop (messages_in e.0) e.3.0.turns from.disk left asks e.3.0.run e.3.3);
       writes = λ s is. run_bound h from.shop (messages_in e.0) e.3.0.turns from.disk left e.3.0.run e.3.2;
       plays = λ shop never. tt;
       «open» = tt;
@@ -155,6 +171,7 @@ run_refused h a o disk left asks out f refused held quiet fails = record {
   device = λ s is (e : faults.Open f ≡ faults.Device). cc;
   moments = held;
   quiet = λ s is _. quiet_refused h s disk left (refused.same s is) (quiet s);
+  spared = λ s is _. spared_refused h s disk left (refused.same s is) (quiet s);
   writes = λ s is _. refused_bound h (λ i. IsShop i s) disk left (refused.same s is);
   plays = λ shop never. absurd (fails shop never);
   «open» = λ x e. (subst (λ y. IsRefused h disk y left) (ap opened_with e) refused, refl, refl, refl);

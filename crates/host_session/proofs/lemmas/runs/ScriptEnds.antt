@@ -8,6 +8,7 @@ use Rattle.script_lines.specs.Resets.{first_bad}
 use Rattle.host_session.proofs.lemmas.runs.Chained.{at_device, at_output, told_over, whole}
 use Rattle.host_session.proofs.lemmas.runs.PlainRuns.{plain_played}
 use Rattle.host_session.proofs.lemmas.runs.QuietRuns.{quiet_of_more}
+use Rattle.host_session.proofs.lemmas.runs.QuietWrites.{spared_of_more}
 use Rattle.host_session.proofs.lemmas.runs.Runs.{held_of_more}
 use Rattle.host_session.proofs.lemmas.runs.Sparing.{bound_of_more}
 use Rattle.host_session.specs.events.Asking.{messages_in, of_script}
@@ -21,7 +22,7 @@ use Rattle.host_session.specs.runs.Runs.{HeldBeginnings}
 use Rattle.host_session.specs.runs.ScriptRuns.{IsScriptRun}
 use Rattle.host_session.specs.shop.Shop.{IsShop, Shop}
 use Rattle.host_session.specs.events.Telling.{Output}
-use Rattle.host_session.specs.events.Within.{AreWithin, IsBounded}
+use Rattle.host_session.specs.events.Within.{AreWithin, IsBounded, IsSpared}
 use Rattle.host_session.specs.declared.events.asking.OfScript.{OfScript}
 use Rattle.host_session.specs.declared.faults.OpenFault.{OpenFault}
 use Rattle.host_session.specs.declared.faults.OpenFault.TheVariants as openings
@@ -55,6 +56,13 @@ module _ {D T : Type 0} (h : History D) (o : Output T) (disk : D) (script : List
   sparing r k s is = bound_of_more h (messages_in k.taken) (messages_of (lines asks.left.now))
       (messages_of (lines script)) disk (disk_of (λ d. d) r) (parts k.taken k.takes) (k.writes s is)
 
+  -- and where they ask nothing new
+  spared : (r : Result D (LoopFault × D)) → IsRun h of_script o disk asked asks old new r
+      → (s : Shop) → IsShop (h.image disk) s → AskNothing s (messages_of (lines script))
+      → IsSpared h s disk (disk_of (λ d. d) r)
+  spared r k s is = spared_of_more h s (messages_in k.taken) (messages_of (lines asks.left.now))
+      (messages_of (lines script)) disk (disk_of (λ d. d) r) (parts k.taken k.takes) (k.spared s is)
+
   pub played_out : (left : D) → IsRun h of_script o disk asked asks old new (Ok left)
       → IsScriptRun h o disk script old new (Ok left)
   played_out left k =
@@ -84,6 +92,7 @@ module _ {D T : Type 0} (h : History D) (o : Output T) (disk : D) (script : List
         device = λ s is. tt;
         moments = λ s is. subst (λ ms. HeldBeginnings h s ms disk left) all (k.moments s is);
         quiet = λ s is. subst (λ ms. AskNothing s ms → IsQuiet h s ms disk left) all (k.quiet s is);
+        spared = spared (Ok left) k;
         writes = λ s is _. sparing (Ok left) k s is;
         plays = λ shop never. tt;
         «open» = tt;
@@ -111,6 +120,7 @@ module _ {D T : Type 0} (h : History D) (o : Output T) (disk : D) (script : List
     moments = λ s is. held_of_more h s (messages_in k.taken) (messages_of (lines asks.left.now))
         (messages_of (lines script)) disk left (parts k.taken k.takes) (k.moments s is);
     quiet = still left (runs.Open f) k;
+    spared = spared (Err (runs.Open f, left)) k;
     writes = λ s is _. sparing (Err (runs.Open f, left)) k s is;
     plays = λ shop never. ⊎_elim (λ (e : runs.Open f ≡ runs.Input). cc) (λ (e : runs.Open f ≡ runs.Output). cc)
         (k.plays shop never);
@@ -144,6 +154,7 @@ module _ {D T : Type 0} (h : History D) (o : Output T) (disk : D) (script : List
     moments = λ s is. held_of_more h s (messages_in k.taken) (messages_of (lines asks.left.now))
         (messages_of (lines script)) disk left (parts k.taken k.takes) (k.moments s is);
     quiet = still left runs.Output k;
+    spared = spared (Err (runs.Output, left)) k;
     writes = λ s is _. sparing (Err (runs.Output, left)) k s is;
     plays = λ shop never. inr refl;
     «open» = λ f (e : ends.Output ≡ ends.Open f). cc;
@@ -175,6 +186,7 @@ module _ {D T : Type 0} (h : History D) (o : Output T) (disk : D) (script : List
     moments = λ s is. held_of_more h s (messages_in k.taken) (messages_of (lines asks.left.now))
         (messages_of (lines script)) disk left (parts k.taken k.takes) (k.moments s is);
     quiet = still left runs.Device k;
+    spared = spared (Err (runs.Device, left)) k;
     writes = λ s is _. sparing (Err (runs.Device, left)) k s is;
     plays = λ shop never. ⊎_elim (λ (e : runs.Device ≡ runs.Input). cc) (λ (e : runs.Device ≡ runs.Output). cc)
         (k.plays shop never);

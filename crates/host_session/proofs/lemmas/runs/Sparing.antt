@@ -9,7 +9,7 @@ use Rattle.host_session.proofs.lemmas.runs.QuietRuns.{both_parts}
 use Rattle.host_session.specs.events.Counted.{after_all}
 use Rattle.host_session.specs.events.Events.{Message}
 use Rattle.host_session.specs.events.Quiet.{AreUncut}
-use Rattle.host_session.specs.events.Within.{AreWithin, IsBounded, IsWithin}
+use Rattle.host_session.specs.events.Within.{AreSparing, AreWithin, IsBounded, IsWithin, SparesTheDisk}
 use Rattle.host_session.specs.runs.Chains.{HasRun, HasRunToFailure, IsChain}
 use Rattle.host_session.specs.shop.Shop.{Shop, start_of, with_state}
 
@@ -24,6 +24,18 @@ within_more h s (n ∷ ms) (x ∷ xs) old mid new t m reply c each one = (
 )
 within_more h s [] (x ∷ xs) old mid new t m reply c each one = absurd c
 within_more h s (n ∷ ms) [] old mid new t m reply c each one = absurd c
+
+-- and where they ask nothing new
+pub sparing_more : {D : Type 0} (h : History D) (s : Shop) (ms : List Message) (xs : List (Reply × D)) (old mid new : D)
+    (t : Shop) (m : Message) (reply : Reply) → IsChain h s ms xs old t mid → AreSparing h ms xs old
+    → SparesTheDisk h m mid new → AreSparing h (ms ++ m ∷ []) (xs ++ (reply, new) ∷ []) old
+sparing_more h s [] [] old mid new t m reply c each one = (subst (λ d. SparesTheDisk h m d new) c.1 one, tt)
+sparing_more h s (n ∷ ms) (x ∷ xs) old mid new t m reply c each one = (
+  each.0,
+  sparing_more h (with_state s (after_all (start_of s) s.state c.0.counted)) ms xs x.1 mid new t m reply c.1 each.1 one,
+)
+sparing_more h s [] (x ∷ xs) old mid new t m reply c each one = absurd c
+sparing_more h s (n ∷ ms) [] old mid new t m reply c each one = absurd c
 
 module _ {D : Type 0} (h : History D) where
   -- the messages of a chain, in none of which power goes

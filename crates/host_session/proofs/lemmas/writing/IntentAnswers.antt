@@ -21,7 +21,6 @@ use Rattle.host_session.specs.shop.Shop.{IsShop, results_in, shop_of}
 use Rattle.host_session.proofs.lemmas.shop.Lists.{record-within}
 use Rattle.host_session.proofs.lemmas.shop.Moments.{answered-cards, answered-intents, answered-state}
 use Rattle.host_session.proofs.lemmas.shop.Steps.{tills-same}
-use Rattle.host_session.proofs.lemmas.writing.IntentCards.{text}
 
 -- the card of an intent once it is answered is a card, and its text is read as that
 answered-fits : (c : Card) → IsCard c → IsCard (answered_card c)

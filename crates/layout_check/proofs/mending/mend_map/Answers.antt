@@ -1,54 +1,23 @@
 -- The map is right already, or it is written.
-use Rattle.std.proofs.Common.{[], ap, subst, sym, ◌∙◌, ◌∷◌}
-use Rattle.std.proofs.lemmas.Result.{err_from_is_err_and}
-use Rattle.d64_image.proofs.Moments.{reads_no_write}
+mod Unwritten
+use Rattle.std.proofs.Common.{[], ap, sym, ◌∙◌, ◌∷◌}
 use Rattle.d64_image.specs.Images.{Image, sector}
 use Rattle.d64_image.specs.declared.place.Place.{Place}
-use Rattle.disk_layout.proofs.lemmas.kept.Orders.{over_none}
 use Rattle.disk_layout.proofs.lemmas.kept.OtherWrites.{write_changes}
 use Rattle.disk_layout.specs.Directory.{map_place}
 use Rattle.disk_layout.specs.InOrder.{AreMade}
-use Rattle.disk_layout.specs.Layout.{IsLayout}
 use Rattle.layout_check.proofs.Finding.{on_ok}
-use Rattle.layout_check.proofs.MapMends.{
-  device_later,
-  device_told,
-  err-holds,
-  layouts-put,
-  map-put,
-  mends_read,
-  mends_write,
-  ok-holds,
-  right-map,
-  write_device,
-  written,
-}
+use Rattle.layout_check.proofs.MapMends.{device_later, err-holds, layouts-put, map-put}
+use Rattle.layout_check.proofs.MapMends.{mends_write, right-map, write_device, written}
 use Rattle.layout_check.proofs.Mendings.{mended-map}
-use Rattle.layout_check.proofs.RightMap.{changed_written, made-passed, made-written, over_read_write}
-use Rattle.layout_check.proofs.Verdict.{map-right, told-at}
+use Rattle.layout_check.proofs.RightMap.{changed_written, made-written, over_read_write}
+use Rattle.layout_check.proofs.Verdict.{told-at}
 use Rattle.layout_check.specs.Exact.{HasMap}
 use Rattle.layout_check.specs.RepairOrder.{IsRight}
 use Rattle.layout_check.specs.Made.{HasNoSpare}
 use Rattle.layout_check.specs.Mended.{KeepsLayouts}
 use Rattle.layout_check.proofs.mending.mend_map.Goals as goal
-
-pub returns-in_err-read_sector-clause-quiet : goal.returns-in_err-read_sector-clause-quiet
-returns-in_err-read_sector-clause-quiet g c has = reads_no_write g.D.Sectors.history c.args.disk.now
-    c.read_sector.new.disk 1 c.in_err-read_sector.ensures.reads
-
-pub returns-then-is_ok-clause-map : goal.returns-then-is_ok-clause-map
-returns-then-is_ok-clause-map g c =
-    let same = c.in_ok-read_sector.ensures.reads.image in
-    let e = c.in_ok-read_sector.ensures.sector
-    ∙ ap (λ (p : Place). sector (g.D.Sectors.history.image c.args.disk.now) p) c.map_place.ensures
-    ∙ ap (λ (i : Image). sector i map_place) (sym same) in
-    map-right _ c.args.found.now c.read_sector.new.to (told-at _ _ c.args.found.now same c.requires) e
-    (rw (← c.owners.ensures) (ok-holds c.check_bits.result _ (sym c.is_ok.ensures.value ∙ c.if-is_ok.true)
-    c.check_bits.ensures.ok))
-
-pub returns-then-is_ok-clause-quiet : goal.returns-then-is_ok-clause-quiet
-returns-then-is_ok-clause-quiet g c has = reads_no_write g.D.Sectors.history c.args.disk.now c.read_sector.new.disk 1
-    c.in_ok-read_sector.ensures.reads
+use Rattle.layout_check.proofs.mending.mend_map.Answers.Unwritten as unwritten
 
 pub write_other-requires : goal.write_other-requires
 write_other-requires g c =
@@ -56,44 +25,6 @@ write_other-requires g c =
     ∙ ap (λ (i : Image). sector i c.map_place.result) (sym c.in_ok-read_sector.ensures.reads.image)
     ∙ ap (λ (p : Place). sector (g.D.Sectors.history.image c.read_sector.new.disk) p) (c.map_place.ensures
     ∙ sym c.map_place-2.ensures)
-
-pub returns-in_err-read_sector-clause-mending : goal.returns-in_err-read_sector-clause-mending
-returns-in_err-read_sector-clause-mending g c =
-    let S = g.D.Sectors.history in
-    let p = err_from_is_err_and c.from_residual.result c.from_residual.ensures.1 in
-    let read = c.in_err-read_sector.ensures in
-    record {
-      layouts = rw p.1 tt;
-      mends = mends_read S c.args.disk.now c.read_sector.new.disk 1 1 read.reads;
-      failures = rw (p.1, p.2)
-          (device_told S (Unit {0}) c.args.disk.now c.read_sector.new.disk c.map_place.result _ read.told read.failures
-          read.failed);
-    }
-
-pub returns-in_err-read_sector-clause-right : goal.returns-in_err-read_sector-clause-right
-returns-in_err-read_sector-clause-right g c l is =
-    let p = err_from_is_err_and c.from_residual.result c.from_residual.ensures.1 in
-    record {
-      over = over_none g.D.Sectors.history (IsRight l) (map_place ∷ []) c.args.disk.now c.read_sector.new.disk 1
-          c.in_err-read_sector.ensures.reads;
-      made = rw p.1 tt;
-    }
-
-pub returns-then-is_ok-clause-mending : goal.returns-then-is_ok-clause-mending
-returns-then-is_ok-clause-mending g c =
-    let read = c.in_ok-read_sector.ensures in
-    record {
-      layouts = λ l h. let P : Image → Type 0 = λ i. IsLayout i l in subst P (sym read.reads.image) h;
-      mends = mends_read g.D.Sectors.history c.args.disk.now c.read_sector.new.disk 1 1 read.reads;
-      failures = read.failures;
-    }
-
-pub returns-then-is_ok-clause-right : goal.returns-then-is_ok-clause-right
-returns-then-is_ok-clause-right g c l is = record {
-  over = over_none g.D.Sectors.history (IsRight l) (map_place ∷ []) c.args.disk.now c.read_sector.new.disk 1
-      c.in_ok-read_sector.ensures.reads;
-  made = made-passed _ _ l c.in_ok-read_sector.ensures.reads.image (returns-then-is_ok-clause-map g c) is;
-}
 
 pub returns : goal.returns
 returns g c =
@@ -162,3 +93,9 @@ returns g c =
           absurd (right-map _ c.args.found.now c.read_sector.new.to wrong.0 c.requires has e
           (rw (← c.owners.ensures) wrong.1));
     }
+
+pub returns-in_err-read_sector : goal.returns-in_err-read_sector
+returns-in_err-read_sector = unwritten.returns-in_err-read_sector
+
+pub returns-then-is_ok : goal.returns-then-is_ok
+returns-then-is_ok = unwritten.returns-then-is_ok

@@ -22,7 +22,7 @@ use Rattle.layout_check.proofs.recounting.mend_sector.Goals as goal
 pub recount_sector-requires-clause-here : goal.recount_sector-requires-clause-here
 recount_sector-requires-clause-here g c =
     let P : Image → Type 0 = λ i. IsDirectorySector i c.args.place in
-    subst P (sym c.read_sector.ensures.reads.image) c.requires.here
+    subst P (sym c.read_sector.ensures.reads.image) c.requires
 
 pub recount_sector-requires-clause-there : goal.recount_sector-requires-clause-there
 recount_sector-requires-clause-there g c = c.in_ok-read_sector.ensures.sector
@@ -107,6 +107,6 @@ returns-in_err-recount_sector g c =
           rw (p.1, p.2) (device_later S (Unit {0}) c.args.disk.now c.read_sector.new.disk c.recount_sector.new.disk
           (Err _) c.in_ok-read_sector.ensures.failures
           (sound-device S (Unit {0}) c.read_sector.new.disk c.recount_sector.new.disk 5856 _
-          (subst P (sym c.read_sector.ensures.reads.image) c.requires.here.sound)
+          (subst P (sym c.read_sector.ensures.reads.image) c.requires.sound)
           c.in_err-recount_sector.ensures.judged.err));
     }

@@ -14,13 +14,7 @@ mend_entries-requires g c = let h = c.requires in (h.0, c.in_ok-mend_map.ensures
 
 pub mend_counts-requires : goal.mend_counts-requires
 mend_counts-requires g c = let h = c.requires in
-    record {
-      sound = (
-        h.0,
-        c.in_ok-mend_entries.ensures.mending.layouts h.0 (c.in_ok-mend_map.ensures.mending.layouts
-            h.0 h.1),
-      );
-    }
+    (h.0, c.in_ok-mend_entries.ensures.mending.layouts h.0 (c.in_ok-mend_map.ensures.mending.layouts h.0 h.1))
 
 pub returns-in_err-mend_map : goal.returns-in_err-mend_map
 returns-in_err-mend_map g c =

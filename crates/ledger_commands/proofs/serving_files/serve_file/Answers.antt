@@ -20,8 +20,8 @@ err_is same = cc
 pub returns-in-Ok-serve-clause-ok : goal.returns-in-Ok-serve-clause-ok
 returns-in-Ok-serve-clause-ok g c =
     let K = g.F.SectorFile.keeps in
-    let o = g.T.Tells.output in
-    let left = g.R.Read.remaining in
+    let o = g.T.Answers.answering in
+    let left = g.R.GivesLines.input in
     let image = c.args.image.now in
     let start = c.new.result in
     let old_in = c.args.input.now in
@@ -42,8 +42,8 @@ returns-in-Ok-serve-clause-ok g c =
 pub returns-in-Ok-serve-clause-err : goal.returns-in-Ok-serve-clause-err
 returns-in-Ok-serve-clause-err g c =
     let K = g.F.SectorFile.keeps in
-    let o = g.T.Tells.output in
-    let left = g.R.Read.remaining in
+    let o = g.T.Answers.answering in
+    let left = g.R.GivesLines.input in
     let image = c.args.image.now in
     let start = c.new.result in
     let old_in = c.args.input.now in
@@ -68,8 +68,8 @@ returns-in-Ok-serve-clause-err g c =
 pub returns-in-Err-serve-clause-err : goal.returns-in-Err-serve-clause-err
 returns-in-Err-serve-clause-err g c =
     let K = g.F.SectorFile.keeps in
-    let o = g.T.Tells.output in
-    let left = g.R.Read.remaining in
+    let o = g.T.Answers.answering in
+    let left = g.R.GivesLines.input in
     let image = c.args.image.now in
     let start = c.new.result in
     let old_in = c.args.input.now in

@@ -3,7 +3,7 @@ use Rattle.std.proofs.Common.{arith, refl, sym, ap, subst, ◌∙◌, ◌≡◌,
 use Rattle.d64_image.proofs.Moments.{changes_weaker, no_change}
 use Rattle.disk_layout.specs.View.{blocks_free}
 use Rattle.rel_records.proofs.lemmas.filling.BeforeLast.{old-grows}
-use Rattle.rel_records.proofs.lemmas.growth.Running.{block-then, low-full, room-next, room-step, run-block, run-here}
+use Rattle.rel_records.proofs.lemmas.growth.Running.{block-then, low-full, room-next, room-step, run-here}
 use Rattle.rel_records.proofs.lemmas.growth.Running.{run-mono, run-run}
 use Rattle.rel_records.proofs.lemmas.filling.Standing.{pos}
 use Rattle.rel_records.specs.growth.Growth.{run_writes}
@@ -73,9 +73,7 @@ loop-count-preserved g c =
           let first : length f.blocks ≤ k = omega
           (arith, ap length at.blocks, c.len-count.ensures.value, c.loop-count.auto._count) in
           let p = pos a l n f c.args.parts.now at in
-          let block = run-block (S.image c.loop-count.disk) (S.image c.add_block.new.disk) run.layout n run.file
-          c.loop-count.parts c.add_block.new.parts run.filled
-          ((c.in_ok-add_block.ensures.file run.layout n run.file run.at run.filled).ok) in
+          let block = (c.in_ok-add_block.ensures.file run.layout n run.file run.at run.filled).ok.run in
           let P : ℕ
           → Type 0 = λ j. IsRunTo (S.image c.loop-count.disk) (S.image c.add_block.new.disk) run.layout n run.file
           (j + 1) c.add_block.new.parts in
@@ -92,7 +90,7 @@ loop-count-preserved g c =
           ((c.in_ok-add_block.ensures.file run.layout n run.file run.at run.filled).moments);
       room = room-step k c.args.wanted _ _ (omega (arith, lt)) c.loop-count.invariant.room
           (ap (λ j. blocks_free c.add_block.new.parts.map.bytes + taken_next j) (sym run0.count) ∙ more0.free);
-      long = ap length more0.at.blocks ∙ more0.count ∙ ap (λ j. j + 1) run0.count;
+      long = ap length more0.run.at.blocks ∙ more0.run.count ∙ ap (λ j. j + 1) run0.count;
       failures = c.in_ok-add_block.ensures.failures ∙ c.loop-count.invariant.failures;
     }
 

@@ -10,7 +10,7 @@ use Rattle.disk_layout.proofs.lemmas.counts.Faces.{IsFile-slot, SameFace, with_s
 use Rattle.disk_layout.proofs.lemmas.counts.Recounts.{map-map, map-same_on, reread, reslot}
 use Rattle.disk_layout.proofs.lemmas.growth.Commit.{all-join, all-left, all-right}
 use Rattle.disk_layout.proofs.lemmas.layouts.Agree.{IsLayout-agree, owned-block, stays-agree}
-use Rattle.disk_layout.proofs.lemmas.layouts.Layouts.{KeepsFiles, files-frame}
+use Rattle.disk_layout.proofs.lemmas.layouts.Frames.{KeepsFiles, files-frame}
 use Rattle.disk_layout.proofs.lemmas.lists.Once.{Contains-here, Contains-there}
 use Rattle.disk_layout.specs.Chain.{EachOnce}
 use Rattle.disk_layout.specs.Directory.{IsDirectory, map_place}

@@ -26,7 +26,8 @@ use Rattle.rel_records.proofs.lemmas.steps.Committing.{snoc-last}
 use Rattle.rel_records.proofs.lemmas.directory.Entered.{IsEntry, entry-used, is-entry}
 use Rattle.rel_records.proofs.lemmas.creation.Creating.{with_new}
 use Rattle.rel_records.proofs.lemmas.directory.FullSlots.{files-full}
-use Rattle.rel_records.proofs.lemmas.creation.InSector.{linked-adds, linked-clean, once-linked}
+use Rattle.rel_records.proofs.lemmas.creation.InSector.{linked-adds, linked-clean}
+use Rattle.rel_records.proofs.lemmas.creation.OnceLinked.{once-linked}
 use Rattle.rel_records.proofs.lemmas.creation.NewClean.{file-more, is-new, map-same, two-among}
 use Rattle.rel_records.proofs.lemmas.creation.NewFiles.{IsNewFile, new_file, owners-new}
 use Rattle.rel_records.proofs.lemmas.creation.NewWrites.{files-before}

@@ -1,18 +1,22 @@
 -- The entry stands in a new directory sector: the write that links it makes the file.
-use Rattle.std.proofs.Common.{◌≡◌, ◌≢◌, ℕ, ◌+◌, ◌<◌, inl, inr, IsTrue, true, false, List, [], ◌∷◌, ◌++◌, map, length}
-use Rattle.std.proofs.Common.{refl, sym, ◌∙◌, ap, subst, slice_index, append_assoc, append-nil, take, drop, get_or}
+use Rattle.std.proofs.Common.{◌≡◌, ◌≢◌, ℕ, ◌+◌, ◌<◌, inl, inr, IsTrue, true, false, List, [], ◌∷◌, ◌++◌, map}
+use Rattle.std.proofs.Common.{length}
+use Rattle.std.proofs.Common.{refl, sym, ◌∙◌, ap, subst, slice_index, append-nil, take, drop, get_or}
 use Rattle.std.specs.Prelude.{Contains, flat_map}
 use Rattle.std.specs.List.{AllByRecursion}
 use Rattle.std.proofs.lemmas.List.{drop-drop, get_or-drop}
-use Rattle.std.proofs.lemmas.List.Elements.{Contains-append_left, Contains-append_right, Contains-append_cases}
+use Rattle.std.proofs.lemmas.List.Elements.{Contains-append_left, Contains-append_right}
+use Rattle.std.proofs.lemmas.List.Elements.{Contains-append_cases}
 use Rattle.d64_image.proofs.Images.{sector-put_other, sector-put_same}
 use Rattle.d64_image.specs.Images.{Image, Sector, put, sector}
 use Rattle.d64_image.specs.declared.place.Place.{Place}
-use Rattle.disk_layout.proofs.lemmas.chains.Chains.{AgreeAt, IsChain-grow, chain-front, chain-last, links-agree}
+use Rattle.disk_layout.proofs.lemmas.chains.Chains.{AgreeAt, IsChain-grow, chain-front, chain-last}
+use Rattle.disk_layout.proofs.lemmas.chains.Chains.{links-agree}
 use Rattle.disk_layout.proofs.lemmas.growth.Commit.{all-join, keeps-other}
-use Rattle.disk_layout.proofs.lemmas.layouts.Layouts.{KeepsFiles, get-contains, unless-same}
+use Rattle.disk_layout.proofs.lemmas.layouts.Layouts.{get-contains}
+use Rattle.disk_layout.proofs.lemmas.layouts.Frames.{KeepsFiles, unless-same}
 use Rattle.disk_layout.proofs.lemmas.lists.Once.{Contains-cases, Contains-here, Contains-there, Contains-nil}
-use Rattle.disk_layout.proofs.lemmas.lists.Once.{EachOnce-apart, EachOnce-insert, flat_map-in, insert-out}
+use Rattle.disk_layout.proofs.lemmas.lists.Once.{EachOnce-apart, flat_map-in}
 use Rattle.disk_layout.proofs.lemmas.growth.LongerDirectory.{IsRelinked, slot-relinked, used_slots-relinked}
 use Rattle.disk_layout.proofs.lemmas.counts.Recount.{filter-out}
 use Rattle.disk_layout.proofs.lemmas.layouts.Agree.{owned-side}
@@ -22,20 +26,17 @@ use Rattle.disk_layout.specs.Side.{side_sector}
 use Rattle.byteorder.specs.Endian.{little_number}
 use Rattle.disk_layout.proofs.lemmas.counts.Recounts.{map-map, reread, reslot, slot-of}
 use Rattle.disk_layout.specs.Chain.{EachOnce, IsChain, Names}
-use Rattle.disk_layout.specs.Directory.{IsDirectory, directory_start, is_used, map_place, slot_in, slots_in, used_slots}
-use Rattle.disk_layout.specs.Layout.{File, IsLayout, Layout, count_field, file_owns, is_rel, is_rel_type, owners}
+use Rattle.disk_layout.specs.Directory.{IsDirectory, directory_start, is_used, map_place, slot_in, slots_in}
+use Rattle.disk_layout.specs.Directory.{used_slots}
+use Rattle.disk_layout.specs.Layout.{File, IsLayout, Layout, count_field, file_owns, is_rel, is_rel_type}
+use Rattle.disk_layout.specs.Layout.{owners}
 use Rattle.disk_layout.specs.Layout.{record_length}
 use Rattle.disk_layout.specs.Same.{AddsFile}
 use Rattle.disk_layout.specs.declared.slot.Slot.{Slot}
 use Rattle.rel_records.proofs.lemmas.creation.Creating.{SameEntry, created-adds, created-layout, with_new}
-use Rattle.rel_records.proofs.lemmas.creation.NewFiles.{IsNewFile, new-exact, new-is_file, new_file, once-new}
-use Rattle.rel_records.proofs.lemmas.creation.NewFiles.{owners-new}
+use Rattle.rel_records.proofs.lemmas.creation.NewFiles.{IsNewFile, new-exact, new-is_file, new_file}
 use Rattle.rel_records.proofs.lemmas.directory.NewSlots.{used_slots-sector}
 use Rattle.rel_records.specs.creation.Made.{HasFilesOf}
-
-map-join : {X Y : Type 0} (f : X → Y) (xs ys : List X) → map f (xs ++ ys) ≡ map f xs ++ map f ys
-map-join f [] ys = refl
-map-join f (x ∷ xs) ys = ap (λ zs. f x ∷ zs) (map-join f xs ys)
 
 tail-entry : (s t : Slot) → t.sector ≡ s.sector → t.number ≡ s.number → drop 2 t.bytes ≡ drop 2 s.bytes → SameEntry s t
 tail-entry s t one two e = record {
@@ -145,7 +146,7 @@ module _ (c : Image) (l : Layout) (p : Place) (bytes : Sector) (full : length c 
           ∙ sym (used_slots-sector (put c p bytes) l.directory fresh (ap (λ x. is_used (slot_in fresh x 0)) fresh-stays
           ∙ used) (λ n pos low. ap (λ x. is_used (slot_in fresh x n)) fresh-stays ∙ free n pos low))
 
-      directory : IsDirectory (put c p bytes) (l.directory ++ fresh ∷ [])
+      pub directory : IsDirectory (put c p bytes) (l.directory ++ fresh ∷ [])
           (map (λ f. f.slot) (with_new (put c p bytes) l.files [] k))
       directory = record {
         last = slice_index (sector c fresh) 1;
@@ -246,30 +247,3 @@ module _ (c : Image) (l : Layout) (p : Place) (bytes : Sector) (full : length c 
                 subst P (sym (sector-put_other c p map_place bytes (λ e. h.directory.not_map (let Q : Place
                 → Type 0 = Contains l.directory in subst Q e on)))) right;
           }
-
--- a new directory sector, a data block and a side sector that nobody owned: each place still has one owner
-pub once-linked : (b : Image) (l : Layout) (fresh block side : Place) (s : Slot) (u : ℕ)
-    → EachOnce (map_place ∷ owners l) → ¬ (Contains (map_place ∷ owners l) fresh)
-    → ¬ (Contains (map_place ∷ owners l) block) → ¬ (Contains (map_place ∷ owners l) side) → fresh ≢ block
-    → fresh ≢ side → side ≢ block
-    → EachOnce (map_place ∷ owners (record {
-      directory = l.directory ++ fresh ∷ [];
-      files = with_new b l.files [] (new_file s block side u);
-    }))
-unfolding owners
-once-linked b l fresh block side s u once no_fresh no_block no_side a c d =
-    let F = flat_map file_owns l.files in
-    let shape : l.directory ++ fresh ∷ F ≡ ((l.directory ++ fresh ∷ []) ++ F) ++ [] = simp (append_assoc, append-nil) in
-    let one = EachOnce-insert (map_place ∷ l.directory) F fresh once no_fresh in
-    let P : List Place → Type 0 = λ ps. EachOnce (map_place ∷ ps) in
-    let out : (x : Place) → ¬ (Contains (map_place ∷ (l.directory ++ F)) x) → fresh ≢ x
-    → ¬ (Contains (map_place ∷ (((l.directory ++ fresh ∷ []) ++ F) ++ [])) x) = λ x none ne own.
-    (let Q : List Place → Type 0 = λ ps. Contains (map_place ∷ ps) x in
-    elim (insert-out (map_place ∷ l.directory) F fresh x (subst Q (sym shape) own)) [
-      | inl e ↦ ne e
-      | inr e ↦ none e
-    ]) in
-    subst P (sym (owners-new b (l.directory ++ fresh ∷ []) l.files [] s block side u ((l.directory ++ fresh ∷ []) ++ F)
-    [] refl refl))
-    (once-new ((l.directory ++ fresh ∷ []) ++ F) [] block side (subst P shape one) (out block no_block a)
-    (out side no_side c) d)

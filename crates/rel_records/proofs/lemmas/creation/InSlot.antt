@@ -14,7 +14,8 @@ use Rattle.disk_layout.proofs.lemmas.layouts.Agree.{owned-side}
 use Rattle.disk_layout.proofs.lemmas.chains.Chains.{AgreeAt, IsChain-frame, SameLink, SameLinks}
 use Rattle.disk_layout.proofs.lemmas.growth.Commit.{all-join, all-left, all-right, keeps-other}
 use Rattle.disk_layout.proofs.lemmas.counts.Faces.{with_slot}
-use Rattle.disk_layout.proofs.lemmas.layouts.Layouts.{KeepsFiles, get-contains, unless-same}
+use Rattle.disk_layout.proofs.lemmas.layouts.Layouts.{get-contains}
+use Rattle.disk_layout.proofs.lemmas.layouts.Frames.{KeepsFiles, unless-same}
 use Rattle.disk_layout.proofs.lemmas.lists.Once.{Contains-here, Contains-there, EachOnce-apart, flat_map-in}
 use Rattle.disk_layout.specs.Rest.{header_of}
 use Rattle.disk_layout.proofs.lemmas.counts.Recount.{slot-there}

@@ -1,6 +1,6 @@
 -- What a new file takes of a clean disk: room in the directory, and sectors that nobody owns.
 use Rattle.std.proofs.Common.{◌≡◌, ◌≢◌, ℕ, ◌+◌, ◌*◌, ◌<◌, ◌≤◌, ◌⊎◌, inl, inr, List, [], ◌∷◌, ◌++◌, Option, Some, None}
-use Rattle.std.proofs.Common.{ap, arith, drop, length, length-append, map, refl, subst, sym, take, ◌∙◌}
+use Rattle.std.proofs.Common.{ap, arith, drop, length, length-append, refl, subst, sym, take, ◌∙◌}
 use Rattle.std.specs.Prelude.{Contains, MatchOption, slice_get}
 use Rattle.std.specs.List.{AllByRecursion}
 use Rattle.std.proofs.lemmas.Bool.{false≢true}

@@ -32,7 +32,7 @@ use Rattle.d64_image.specs.Images.{Image, put, sector}
 use Rattle.d64_image.specs.declared.place.Place.{Place}
 use Rattle.disk_layout.proofs.lemmas.counts.Recount.{around, slot-get}
 use Rattle.disk_layout.proofs.lemmas.counts.Slots.{slots_at}
-use Rattle.disk_layout.proofs.lemmas.layouts.Layouts.{unless-same, used_slots-frame}
+use Rattle.disk_layout.proofs.lemmas.layouts.Frames.{unless-same, used_slots-frame}
 use Rattle.disk_layout.proofs.lemmas.lists.Once.{Contains-here, EachOnce-apart, EachOnce-right}
 use Rattle.disk_layout.specs.Chain.{EachOnce}
 use Rattle.disk_layout.specs.Directory.{is_used, slot_in, slots_in, used_slots}

@@ -12,7 +12,7 @@ use Rattle.rel_records.specs.Written.{IsGrowingBy, grown_by}
 use Rattle.rel_records.specs.declared.growth.step_parts.Parts.{Parts}
 use Rattle.rel_records.specs.growth.Growth.{full, records_had}
 use Rattle.rel_records.specs.growth.Steps.{FillsBefore, HasFilled, IsAt, IsTailOf}
-use Rattle.rel_records.proofs.lemmas.filling.ReadyToEnd.{IsReadyToEnd, L, from, ready-at-once, ready-has}
+use Rattle.rel_records.proofs.lemmas.filling.ReadyToEnd.{IsReadyToEnd, from, ready-at-once, ready-has}
 use Rattle.rel_records.proofs.lemmas.filling.ReadyToEnd.{ready-with-tail, total}
 
 -- the image before the last block is written is ready for that
@@ -78,26 +78,29 @@ module _ (a : Image) (l : Layout) (n : ℕ) (f : File) (p : Parts) (w : IsImage 
   -- nothing was to be filled
   pub filled-already : records_had f ≡ full (record_length f.slot) (length f.blocks) → HasFilled a a l n f p p
   filled-already e = record {
-    layout = l;
-    file = f;
-    at = at;
-    others = record {
-      directory = refl;
-      entries = refl;
-      files = λ k g ne h. h;
-      bytes = λ k g ne h. refl;
-      header = refl;
+    run = record {
+      layout = l;
+      file = f;
+      at = at;
+      others = record {
+        directory = refl;
+        entries = refl;
+        files = λ k g ne h. h;
+        bytes = λ k g ne h. refl;
+        header = refl;
+      };
+      records_are =
+          let z : full (record_length f.slot) (length f.blocks) - records_had f ≡ 0 = omega (arith, e) in
+          sym (ap (λ k. grown_by (record_length f.slot) k (records a f)) z ∙ append-nil (records a f));
+      same_size = refl;
+      places =
+          let z : full (record_length f.slot) (length f.blocks) - records_had f ≡ 0 = omega (arith, e) in
+          let P : List (List ℕ) → Type 0 = KeepsPlaces a f f in
+          subst P (sym (ap (λ k. grown_by (record_length f.slot) k (records a f)) z ∙ append-nil (records a f)))
+          (omega arith, inl refl);
+      count = refl;
+      filled = e;
     };
-    records_are =
-        let z : full (record_length f.slot) (length f.blocks) - records_had f ≡ 0 = omega (arith, e) in
-        sym (ap (λ k. grown_by (record_length f.slot) k (records a f)) z ∙ append-nil (records a f));
-    same_size = refl;
-    places =
-        let z : full (record_length f.slot) (length f.blocks) - records_had f ≡ 0 = omega (arith, e) in
-        let P : List (List ℕ) → Type 0 = KeepsPlaces a f f in
-        subst P (sym (ap (λ k. grown_by (record_length f.slot) k (records a f)) z ∙ append-nil (records a f)))
-        (omega arith, inl refl);
     blocks = refl;
-    filled = e;
     map = refl;
   }

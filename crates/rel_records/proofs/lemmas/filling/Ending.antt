@@ -32,7 +32,8 @@ use Rattle.disk_layout.proofs.lemmas.growth.Commit.{all-join, all-left, all-righ
 use Rattle.disk_layout.proofs.lemmas.growth.Refills.{IsLayout-ended, ended, owners-same, records-past}
 use Rattle.disk_layout.proofs.lemmas.growth.SideWrites.{same-layout}
 use Rattle.disk_layout.proofs.lemmas.layouts.Agree.{owned-block}
-use Rattle.disk_layout.proofs.lemmas.layouts.Layouts.{IsLayout-put_block, get-contains, unless-same}
+use Rattle.disk_layout.proofs.lemmas.layouts.Layouts.{get-contains}
+use Rattle.disk_layout.proofs.lemmas.layouts.Frames.{IsLayout-put_block, unless-same}
 use Rattle.disk_layout.proofs.lemmas.lists.Once.{EachOnce-apart, EachOnce-left, flat_map-in}
 use Rattle.disk_layout.specs.Chain.{EachOnce, byte}
 use Rattle.disk_layout.specs.Clean.{IsCleanLayout, IsExactFile}

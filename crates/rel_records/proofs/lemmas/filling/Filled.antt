@@ -169,40 +169,43 @@ module _ (a x : Image) (l : Layout) (n : ℕ) (f : File) (p : Parts) (w : IsImag
       → z.sides.items ≡ p.sides.items → z.blocks.items ≡ p.blocks.items → z.last ≡ bytes → z.directory ≡ p.directory
       → HasFilled a b l n f p z
   filled-up z map sector' number size sides blocks last directory = record {
-    layout = m;
-    file = h;
-    at = record {
-      clean = ended-clean x l (take n l.files) (drop (suc n) l.files) f at.clean.layout before' at.rel at.last_place
-          bytes (last-in x l n f p at) wx at.clean (file-rel x l n f p at) (same-last x l n f p at) u ends refl;
-      there = (let P : ℕ → Type 0 = λ k. slice_get (take n l.files ++ h ∷ drop (suc n) l.files) k ≡ Some h in
-          subst P (place x l n f p at) (get-seam (take n l.files) (drop (suc n) l.files) h));
-      rel = at.rel;
-      place = sector' ∙ at.place;
-      number = number ∙ at.number;
-      size = size ∙ at.size;
-      sides = sides ∙ at.sides;
-      blocks = blocks ∙ at.blocks;
-      map = map ∙ at.map
-          ∙ sym (map-stays x l (take n l.files) (drop (suc n) l.files) f at.clean.layout before' at.rel at.last_place
-          bytes (last-in x l n f p at) wx);
-      front = at.front;
-      last_place = at.last_place;
-      last_is = at.last_is;
-      last = last ∙ sym (sector-put_same x at.last_place bytes wx.size);
-      directory = directory ∙ at.directory ∙ sym (sector-put_other x at.last_place f.slot.sector bytes last-not-entry);
+    run = record {
+      layout = m;
+      file = h;
+      at = record {
+        clean = ended-clean x l (take n l.files) (drop (suc n) l.files) f at.clean.layout before' at.rel at.last_place
+            bytes (last-in x l n f p at) wx at.clean (file-rel x l n f p at) (same-last x l n f p at) u ends refl;
+        there = (let P : ℕ → Type 0 = λ k. slice_get (take n l.files ++ h ∷ drop (suc n) l.files) k ≡ Some h in
+            subst P (place x l n f p at) (get-seam (take n l.files) (drop (suc n) l.files) h));
+        rel = at.rel;
+        place = sector' ∙ at.place;
+        number = number ∙ at.number;
+        size = size ∙ at.size;
+        sides = sides ∙ at.sides;
+        blocks = blocks ∙ at.blocks;
+        map = map ∙ at.map
+            ∙ sym (map-stays x l (take n l.files) (drop (suc n) l.files) f at.clean.layout before' at.rel at.last_place
+            bytes (last-in x l n f p at) wx);
+        front = at.front;
+        last_place = at.last_place;
+        last_is = at.last_is;
+        last = last ∙ sym (sector-put_same x at.last_place bytes wx.size);
+        directory = directory ∙ at.directory ∙ sym (sector-put_other x at.last_place f.slot.sector bytes last-not-entry);
+      };
+      others =
+          let P : ℕ → Type 0 = λ k. KeepsOthers x b l m k in
+          keeps_then a x b l l m n ready.others
+          (subst P (place x l n f p at) (ended-others x l (take n l.files) (drop (suc n) l.files) f at.clean.layout
+          before' at.rel at.last_place bytes (last-in x l n f p at) wx u));
+      records_are = records-filled ∙ ap (grown_by (record_length f.slot) more) ready.same;
+      same_size = refl;
+      places = (
+        omega (arith, length-append (records a f) (replicate more (empty_record (record_length f.slot)))),
+        inl refl,
+      );
+      count = refl;
+      filled = counts;
     };
-    others =
-        let P : ℕ → Type 0 = λ k. KeepsOthers x b l m k in
-        keeps_then a x b l l m n ready.others
-        (subst P (place x l n f p at) (ended-others x l (take n l.files) (drop (suc n) l.files) f at.clean.layout
-        before' at.rel at.last_place bytes (last-in x l n f p at) wx u));
-    records_are = records-filled ∙ ap (grown_by (record_length f.slot) more) ready.same;
-    same_size = refl;
-    places = (
-      omega (arith, length-append (records a f) (replicate more (empty_record (record_length f.slot)))),
-      inl refl,
-    );
     blocks = refl;
-    filled = counts;
     map = map;
   }

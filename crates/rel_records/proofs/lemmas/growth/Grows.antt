@@ -7,7 +7,7 @@ use Rattle.disk_layout.specs.Layout.{File, Layout, record_length, sides_for}
 use Rattle.disk_layout.specs.Records.{record_count}
 use Rattle.disk_layout.specs.View.{blocks_free}
 use Rattle.rel_records.proofs.lemmas.filling.BeforeLast.{old-grows}
-use Rattle.rel_records.proofs.lemmas.growth.Running.{growing-more, run-filled, run-held, run-run}
+use Rattle.rel_records.proofs.lemmas.growth.Running.{growing-more, run-held, run-run}
 use Rattle.rel_records.proofs.lemmas.growth.RunCosts.{full-mono}
 use Rattle.rel_records.proofs.lemmas.reading.Opened.{rel-of}
 use Rattle.rel_records.proofs.lemmas.filling.Standing.{blocks-some, had-full, pos}
@@ -69,7 +69,7 @@ module _ {D : Type 0} (S : History D) (d b : D) (l : Layout) (n : ℕ) (f : File
     module _ (q : Parts) (filled : HasFilled (S.image b) (S.image x) l n f p q) where
       pub run : IsRunTo (S.image d) (S.image x) l n f (length f.blocks) q
       run = let P : Image → Type 0 = λ i. IsRunTo i (S.image x) l n f (length f.blocks) q in
-          subst P reads.image (run-filled (S.image b) (S.image x) l n f p q filled)
+          subst P reads.image filled.run
 
       pub standing : StandsFilled (S.image x) q
       standing = (run.layout, n, run.file, run.at, run.filled)

@@ -3,9 +3,9 @@ use Rattle.std.proofs.Common.{◌≡◌, ◌≢◌, ℕ, zero, suc, ◌+◌, ◌
 use Rattle.std.proofs.Common.{refl, sym, ◌∙◌, ap, arith, append_assoc, ap₂}
 use Rattle.std.specs.Prelude.{if◌then◌else◌, nat_eq, replicate}
 use Rattle.std.proofs.lemmas.Bool.{eqb-false, eqb-true}
+use Rattle.std.proofs.lemmas.List.{replicate-append-replicate}
 use Rattle.std.proofs.lemmas.Nat.{le-div}
 use Rattle.std.proofs.Math.Nat.{add-mul-div_left}
-use Rattle.disk_layout.proofs.lemmas.growth.Runs.{replicate-add}
 use Rattle.disk_layout.specs.Layout.{sides_for}
 use Rattle.disk_layout.specs.Records.{empty_record}
 use Rattle.rel_records.proofs.lemmas.filling.Fulls.{full-inside}
@@ -23,7 +23,7 @@ regroup xs ys zs = simp append_assoc
 -- records added twice
 pub grown-grown : (L j k : ℕ) (rs : List (List ℕ)) → grown_by L k (grown_by L j rs) ≡ grown_by L (j + k) rs
 grown-grown L j k rs = regroup rs (replicate j (empty_record L)) (replicate k (empty_record L))
-    ∙ ap (λ xs. rs ++ xs) (replicate-add j k (empty_record L))
+    ∙ ap (λ xs. rs ++ xs) (replicate-append-replicate j k (empty_record L))
 
 -- 1 + 2 + .. + s
 triangle : (s : ℕ) → (s + 1) * (s + 1 - 1) / 2 ≡ s * (s - 1) / 2 + s

@@ -14,54 +14,19 @@ use Rattle.rel_records.specs.Others.{HasRecords, KeepsPlaces}
 use Rattle.rel_records.specs.Written.{IsGrowingBy, grown_by}
 use Rattle.rel_records.specs.declared.growth.step_parts.Parts.{Parts}
 use Rattle.rel_records.specs.growth.Growth.{full, needed, records_had, run_writes, side_writes}
-use Rattle.rel_records.specs.growth.Steps.{HasBlockMore, HasFilled, IsAt, IsFilledUp, IsRunTo, step_writes, taken_next}
+use Rattle.rel_records.specs.growth.Steps.{IsAt, IsFilledUp, IsRunTo, step_writes, taken_next}
 use Rattle.rel_records.proofs.lemmas.growth.RunCosts.{full-mono, grown-grown, run-step, side-mono}
-
--- at the start the last blocks are filled
-pub run-filled : (a x : Image) (l : Layout) (n : ℕ) (f : File) (p q : Parts) → HasFilled a x l n f p q
-    → IsRunTo a x l n f (length f.blocks) q
-run-filled a x l n f p q h = record {
-  layout = h.layout;
-  file = h.file;
-  at = h.at;
-  others = h.others;
-  count = ap length h.blocks;
-  filled = h.filled;
-  same_size = h.same_size;
-  records_are = h.records_are;
-  places = h.places;
-}
 
 -- nothing is done yet
 pub run-here : (a : Image) (l : Layout) (n : ℕ) (f : File) (p : Parts) (k : ℕ) → IsImage a → IsAt a l n f p
     → IsFilledUp f → length f.blocks ≡ k → IsRunTo a a l n f k p
 run-here a l n f p k w at up e = let P : ℕ → Type 0 = λ c. IsRunTo a a l n f c p in
-    subst P e (run-filled a a l n f p p (filled-already a l n f p w at up))
+    subst P e (filled-already a l n f p w at up).run
 
 -- so many records fit into the blocks that the file has
 pub low-full : (f : File) (k : ℕ) → 0 < record_length f.slot → IsFilledUp f → length f.blocks ≤ k
     → records_had f ≤ full (record_length f.slot) k
 low-full f k pos up le = omega (arith, up, full-mono (record_length f.slot) (length f.blocks) k pos le)
-
--- a block more is a run
-pub run-block : (a x : Image) (l : Layout) (n : ℕ) (f : File) (p q : Parts) → IsFilledUp f → HasBlockMore a x l n f p q
-    → IsRunTo a x l n f (length f.blocks + 1) q
-run-block a x l n f p q up h =
-    let e : full (record_length f.slot) (length f.blocks + 1) - full (record_length f.slot) (length f.blocks)
-    ≡ full (record_length f.slot) (length f.blocks + 1) - records_had f
-    = ap (λ c. full (record_length f.slot) (length f.blocks + 1) - c) (sym up) in
-    record {
-      layout = h.layout;
-      file = h.file;
-      at = h.at;
-      others = h.others;
-      count = h.count;
-      filled = h.filled;
-      same_size = h.same_size;
-      records_are = h.records_are ∙ ap (λ m. grown_by (record_length f.slot) m (records a f)) e;
-      places = (let P : ℕ → Type 0 = λ m. KeepsPlaces a f h.file (grown_by (record_length f.slot) m (records a f)) in
-          subst P e h.places);
-    }
 
 module _ (a x : Image) (l : Layout) (n : ℕ) (f : File) (k w : ℕ) (p : Parts)
     (low : records_had f ≤ full (record_length f.slot) k) (more : k ≤ w) (pos : 0 < record_length f.slot)

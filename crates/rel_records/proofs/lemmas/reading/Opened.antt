@@ -4,7 +4,8 @@ use Rattle.std.specs.Prelude.{Contains, slice_get}
 use Rattle.d64_image.proofs.Images.{is_sector}
 use Rattle.d64_image.specs.Images.{Image, IsImage}
 use Rattle.d64_image.specs.declared.place.Place.{Place}
-use Rattle.disk_layout.proofs.lemmas.layouts.Layouts.{all_blocks, get-contains}
+use Rattle.disk_layout.proofs.lemmas.layouts.Layouts.{get-contains}
+use Rattle.disk_layout.proofs.lemmas.layouts.Frames.{all_blocks}
 use Rattle.disk_layout.proofs.lemmas.lists.Once.{all-in, flat_map-in}
 use Rattle.disk_layout.proofs.lemmas.records.Joined.{record_count-fit}
 use Rattle.disk_layout.specs.Chain.{EachOnce}

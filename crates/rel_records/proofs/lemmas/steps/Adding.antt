@@ -38,9 +38,9 @@ use Rattle.rel_records.proofs.lemmas.steps.FullSides.{side_sector-full}
 use Rattle.rel_records.proofs.lemmas.filling.Fulls.{full-inside, full-last, full-more}
 use Rattle.rel_records.proofs.lemmas.steps.Owned.{IsNextOf, next-block, next-side}
 use Rattle.rel_records.proofs.lemmas.steps.Preparing.{file-in}
-use Rattle.rel_records.specs.growth.Growth.{full}
+use Rattle.rel_records.specs.growth.Growth.{full, records_had}
 use Rattle.rel_records.specs.growth.Next.{IsFresh, IsLaidOut, IsLinked}
-use Rattle.rel_records.specs.Others.{HasRecords, KeepsOthers}
+use Rattle.rel_records.specs.Others.{HasRecords, KeepsOthers, KeepsPlaces}
 use Rattle.rel_records.specs.growth.Preparing.{IsPrepared}
 use Rattle.rel_records.specs.growth.Steps.{AreSidedFrom, HasBlockMore, IsAt, IsBefore, IsFilledUp, IsSided, taken_next}
 use Rattle.rel_records.specs.Written.{IsGrowingBy, grown_by}
@@ -355,48 +355,55 @@ module _ (a : Image) (l : Layout) (n : ℕ) (f : File) (p q : Parts) (fresh : Pl
     pub block-more : (z : Parts) → z.map.bytes ≡ q.map.bytes → z.sector ≡ q.sector → z.number ≡ q.number
         → z.size ≡ q.size → z.sides.items ≡ ss → z.blocks.items ≡ q.blocks.items → z.last ≡ block
         → z.directory ≡ q.directory → HasBlockMore a e l n f p z
-    block-more z map sector' number size sides blocks last directory = record {
-      layout = m;
-      file = h;
-      at = record {
-        clean = clean-again a c l before after f fresh u ss q.map.bytes block q.last q.directory at.front at.last_place
-            x.size at.clean split at.rel next.once next.long next.count few-sides some ready made.ends refl at.last_is
-            linked.link recount counted next.map;
-        there = there;
-        rel = let P : Bool → Type 0 = IsTrue in subst P (is_rel-same f.slot t same) at.rel;
-        place = sector' ∙ lay.places.sector ∙ at.place;
-        number = number ∙ lay.places.number ∙ at.number;
-        size = size ∙ size-is ∙ (uncounted-face f.slot t same).length;
-        sides = sides;
-        blocks = blocks ∙ blocks-are;
-        map = map ∙ sym (map-now a c l before after f fresh u ss q.map.bytes block q.last q.directory at.front
-            at.last_place x.size at.clean split at.rel next.once next.long next.count few-sides some ready made.ends
-            refl at.last_is linked.link recount counted next.map);
-        front = f.blocks;
-        last_place = fresh;
-        last_is = refl;
-        last = last ∙ sym block-there;
-        directory = directory ∙ sym (sector-put_same b d q.directory full-b);
-      };
-      others = kept;
-      records_are =
-          slot-records a c l before after f fresh u ss q.map.bytes block q.last q.directory at.front at.last_place
-          x.size at.clean split at.rel next.once next.long next.count few-sides some ready made.ends refl at.last_is
-          linked.link recount counted next.map
-          ∙ records-longer a c l before after f fresh u ss q.map.bytes block q.last q.directory at.front at.last_place
-          x.size at.clean split at.rel next.once next.long next.count few-sides some ready made.ends refl at.last_is
-          linked.link
-          (full (record_length f.slot) (length f.blocks)) more x v some-more (filled up) (counts ∙ total-is);
-      same_size = sym (uncounted-face f.slot t same).length;
-      places = places-more a f h more (empty_record (record_length f.slot)) some-more;
-      count = length-append f.blocks (fresh ∷ []);
-      filled =
-          let L = record_length f.slot in
-          let N : length (f.blocks ++ fresh ∷ []) ≡ length f.blocks + 1 = length-append f.blocks (fresh ∷ []) in
-          let P : ℕ → Type 0 = λ k. record_count k u L ≡ full L k in
-          let Q : ℕ → Type 0 = λ s. record_count (length (f.blocks ++ fresh ∷ [])) u s
-          ≡ full s (length (f.blocks ++ fresh ∷ [])) in
-          subst Q (uncounted-face f.slot t same).length (subst P (sym N) counts);
-      free = ap (λ s. blocks_free s + taken_next (length f.blocks)) map
-          ∙ ap (λ k. blocks_free q.map.bytes + taken_next k) (sym many) ∙ lay.places.free;
-    }
+    block-more z map sector' number size sides blocks last directory =
+        let same-more : more ≡ full (record_length f.slot) (length f.blocks + 1) - records_had f
+        = ap (λ k. full (record_length f.slot) (length f.blocks + 1) - k) (sym up) in
+        record {
+          run = record {
+            layout = m;
+            file = h;
+            at = record {
+              clean = clean-again a c l before after f fresh u ss q.map.bytes block q.last q.directory at.front at.last_place
+                  x.size at.clean split at.rel next.once next.long next.count few-sides some ready made.ends refl at.last_is
+                  linked.link recount counted next.map;
+              there = there;
+              rel = let P : Bool → Type 0 = IsTrue in subst P (is_rel-same f.slot t same) at.rel;
+              place = sector' ∙ lay.places.sector ∙ at.place;
+              number = number ∙ lay.places.number ∙ at.number;
+              size = size ∙ size-is ∙ (uncounted-face f.slot t same).length;
+              sides = sides;
+              blocks = blocks ∙ blocks-are;
+              map = map ∙ sym (map-now a c l before after f fresh u ss q.map.bytes block q.last q.directory at.front
+                  at.last_place x.size at.clean split at.rel next.once next.long next.count few-sides some ready made.ends
+                  refl at.last_is linked.link recount counted next.map);
+              front = f.blocks;
+              last_place = fresh;
+              last_is = refl;
+              last = last ∙ sym block-there;
+              directory = directory ∙ sym (sector-put_same b d q.directory full-b);
+            };
+            others = kept;
+            records_are =
+                slot-records a c l before after f fresh u ss q.map.bytes block q.last q.directory at.front at.last_place
+                x.size at.clean split at.rel next.once next.long next.count few-sides some ready made.ends refl at.last_is
+                linked.link recount counted next.map
+                ∙ records-longer a c l before after f fresh u ss q.map.bytes block q.last q.directory at.front at.last_place
+                x.size at.clean split at.rel next.once next.long next.count few-sides some ready made.ends refl at.last_is
+                linked.link
+                (full (record_length f.slot) (length f.blocks)) more x v some-more (filled up) (counts ∙ total-is)
+                ∙ ap (λ j. grown_by (record_length f.slot) j (records a f)) same-more;
+            same_size = sym (uncounted-face f.slot t same).length;
+            places = let P : ℕ → Type 0 = λ j. KeepsPlaces a f h (grown_by (record_length f.slot) j (records a f)) in
+                subst P same-more (places-more a f h more (empty_record (record_length f.slot)) some-more);
+            count = length-append f.blocks (fresh ∷ []);
+            filled =
+                let L = record_length f.slot in
+                let N : length (f.blocks ++ fresh ∷ []) ≡ length f.blocks + 1 = length-append f.blocks (fresh ∷ []) in
+                let P : ℕ → Type 0 = λ k. record_count k u L ≡ full L k in
+                let Q : ℕ → Type 0 = λ s. record_count (length (f.blocks ++ fresh ∷ [])) u s
+                ≡ full s (length (f.blocks ++ fresh ∷ [])) in
+                subst Q (uncounted-face f.slot t same).length (subst P (sym N) counts);
+          };
+          free = ap (λ s. blocks_free s + taken_next (length f.blocks)) map
+              ∙ ap (λ k. blocks_free q.map.bytes + taken_next k) (sym many) ∙ lay.places.free;
+        }

@@ -37,19 +37,12 @@ use Rattle.disk_layout.proofs.lemmas.layouts.Agree.{
   records-agree,
 }
 use Rattle.disk_layout.proofs.lemmas.layouts.Exact.{exact-side}
-use Rattle.disk_layout.proofs.lemmas.layouts.Layouts.{
-  HasChain-frame,
-  IsSide-frame,
-  KeepsFiles,
-  all_blocks,
-  block-owned,
-  get-contains,
-  side-owned,
-}
-use Rattle.disk_layout.proofs.lemmas.lists.Once.{Contains-here, Contains-there, EachOnce-apart, flat_map-in}
+use Rattle.disk_layout.proofs.lemmas.layouts.Layouts.{get-contains}
+use Rattle.disk_layout.proofs.lemmas.layouts.Frames.{HasChain-frame, IsSide-frame, KeepsFiles, all_blocks}
+use Rattle.disk_layout.proofs.lemmas.layouts.Frames.{block-owned, side-owned}
+use Rattle.disk_layout.proofs.lemmas.lists.Once.{Contains-here, Contains-there, EachOnce-apart}
 use Rattle.disk_layout.specs.Chain.{EachOnce}
 use Rattle.disk_layout.specs.Directory.{map_place}
-use Rattle.disk_layout.specs.Growth.{IsGrowing}
 use Rattle.disk_layout.specs.Layout.{
   File,
   IsFile,
@@ -176,28 +169,6 @@ module _ (a c : Image) (l : Layout) (before after : List File) (f g : File) (h :
   -- and the records, and what is asked to stay of other files
   pub preparing-records : records c f ≡ records a f
   preparing-records = sym (records-agree a c f blocks-stay)
-
-  blocks-of : (fs : List File) → AgreeAt a c (flat_map file_owns fs) → (x : File) → Contains fs x → AgreeAt a c x.blocks
-  blocks-of fs same x d q e = same q (flat_map-in file_owns fs x q d (Contains-append_left x.blocks x.sides q e))
-
-  pub preparing-before : map (kept_of c) before ≡ map (kept_of a) before
-  preparing-before = kept-all a c before (blocks-of before before-stays)
-
-  pub preparing-after : map (kept_of c) after ≡ map (kept_of a) after
-  preparing-after = kept-all a c after (blocks-of after after-stays)
-
-  -- so it is one of the images that growth may leave
-  pub preparing-grows : (m : ℕ) → IsGrowing a c l before after f m
-  preparing-grows m = record {
-    file = f;
-    entry = refl;
-    layout = let P : Layout → Type 0 = λ k. IsLayout c k in subst P (sym (same-layout l before after f split))
-        preparing-layout;
-    grows = inl preparing-records;
-    before_kept = preparing-before;
-    after_kept = preparing-after;
-    header = p.header;
-  }
 
   pub preparing-has : HasRecords a c l (length before) (records a f)
   preparing-has = has-records a c l before after f f (records a f) split refl before-stays after-stays p.header

@@ -29,7 +29,8 @@ use Rattle.d64_image.proofs.Images.{sector-put_other}
 use Rattle.d64_image.specs.Images.{Image, IsImage, Sector, put, sector}
 use Rattle.d64_image.specs.declared.place.Place.{Place}
 use Rattle.disk_layout.proofs.lemmas.layouts.Agree.{IsCleanLayout-put_block, map-unowned, owned-block, sectors-agree}
-use Rattle.disk_layout.proofs.lemmas.layouts.Layouts.{get-contains, unless-same}
+use Rattle.disk_layout.proofs.lemmas.layouts.Layouts.{get-contains}
+use Rattle.disk_layout.proofs.lemmas.layouts.Frames.{unless-same}
 use Rattle.disk_layout.proofs.lemmas.records.Joined.{length-joined, records-write, sector-long}
 use Rattle.disk_layout.proofs.lemmas.records.Pieces.{length-piece, piece, piece-byte, row-le}
 use Rattle.disk_layout.proofs.lemmas.records.RecordWrites.{ChangesRecord, record-at}

@@ -1,16 +1,15 @@
 -- Two blocks are written: the image before, the record with its first part new, and the record as it is to be.
-use Rattle.std.proofs.Common.{arith, length, refl, slice_index, subst, sym, ℕ, ◌+◌, ◌<◌, ◌∙◌, ◌*◌, ◌≤◌}
-use Rattle.d64_image.specs.Images.{Image}
-use Rattle.disk_layout.specs.Layout.{record_length}
-use Rattle.disk_layout.specs.Records.{records}
-use Rattle.rel_records.proofs.lemmas.writing.Across.{both-moments, first-moments, leaves-both, leaves-half}
-use Rattle.rel_records.proofs.lemmas.writing.OneBlock.{clean-of, one-more}
-use Rattle.rel_records.proofs.lemmas.reading.Readings.{block-there, inside-of, next-is, next-some}
+mod Failed
+mod Sums
+mod Written
+use Rattle.std.proofs.Common.{arith, refl}
+use Rattle.rel_records.proofs.lemmas.writing.OneBlock.{one-more}
+use Rattle.rel_records.proofs.lemmas.reading.Readings.{inside-of, next-some}
 use Rattle.rel_records.specs.File.{length_of}
-use Rattle.rel_records.specs.Others.{LeavesRecords}
-use Rattle.rel_records.specs.Written.{with_written}
-use Rattle.rel_records.proofs.lemmas.Told.{not-done, fault-is, passed-on}
 use Rattle.rel_records.proofs.writing.write_across.Goals as goal
+use Rattle.rel_records.proofs.writing.write_across.Answers.Failed as failed
+use Rattle.rel_records.proofs.writing.write_across.Answers.Sums as sums
+use Rattle.rel_records.proofs.writing.write_across.Answers.Written as written
 
 pub unwrap-requires : goal.unwrap-requires
 unwrap-requires g c =
@@ -29,212 +28,58 @@ unwrap-requires g c =
     refl c.in_ok-next.ensures.next
 
 pub returns-in_err-next : goal.returns-in_err-next
-returns-in_err-next g c =
-    record {
-      file = λ l n f of.
-          let S = g.D.Sectors.history in
-          let a = S.image c.args.disk.now in
-          let v = c.args.file.now in
-          let r = c.requires in
-          let small : (i : ℕ) → slice_index c.args.text.now i < 256 = λ i. omega (arith, c.type_inv.text i) in
-          let more : c.args.block + 1 < length f.blocks = omega (
-            arith,
-            r.over,
-            of.shows.blocks,
-            one-more c.args.number (length_of v) r.begins.there.low,
-            inside-of a v
-                c.args.number r.begins.there.of (S.whole c.args.disk.now) r.begins.there.low r.begins.there.high,
-          ) in
-          let (q, to) = block-there a l n f v of (c.args.block + 1) c.args.place more in
-          record {
-            ok = not-done c.from_residual.result _ c.from_residual.ensures.1 _;
-            moments =
-                first-moments S c.args.disk.now c.write_block.new.disk l n f v c.args.number c.args.position
-                c.args.text.now _ of c.write_block.ensures.put.held c.write_block.ensures.put.writes
-                (leaves-half a l n f v (S.whole c.args.disk.now) of (clean-of a l n f v of r.begins.there.clean)
-                c.args.block c.args.number c.args.position c.args.place q c.args.text.now small
-                (r.begins.at l n f of) to r.begins.there.low r.begins.there.high r.begins.there.position_low
-                r.begins.there.position_high r.begins.from r.inside r.over);
-          };
-      err = fault-is c.from_residual.result _ c.from_residual.ensures.1 _ (λ e is. is ∙ c.in_err-next.ensures.put.err);
-      uncounted = λ one. absurd
-          (omega (
-            arith,
-            one,
-            c.requires.over,
-            c.requires.inside,
-            one-more c.args.number c.args.file.now.size
-                c.requires.begins.there.low,
-          ));
-      failures = passed-on g.D.Sectors.history _ _ _ refl c.from_residual.result _ c.from_residual.ensures.1
-          c.in_err-next.ensures.put.failures;
-    }
+returns-in_err-next = failed.returns-in_err-next
 
 pub returns-in_err-write_block : goal.returns-in_err-write_block
-returns-in_err-write_block g c =
-    record {
-      file = λ l n f of.
-          let S = g.D.Sectors.history in
-          let a = S.image c.args.disk.now in
-          let v = c.args.file.now in
-          let r = c.requires in
-          let small : (i : ℕ) → slice_index c.args.text.now i < 256 = λ i. omega (arith, c.type_inv.text i) in
-          let more : c.args.block + 1 < length f.blocks = omega (
-            arith,
-            r.over,
-            of.shows.blocks,
-            one-more c.args.number (length_of v) r.begins.there.low,
-            inside-of a v
-                c.args.number r.begins.there.of (S.whole c.args.disk.now) r.begins.there.low r.begins.there.high,
-          ) in
-          let to = next-is a l n f v of c.args.block c.args.place _ c.in_ok-next.next (r.begins.at l n f of) more refl
-          c.in_ok-next.ensures.next ∙ c.unwrap.ensures in
-          record {
-            ok = not-done c.from_residual-in_err-write_block.result _ c.from_residual-in_err-write_block.ensures.1 _;
-            moments =
-                both-moments S c.args.disk.now c.write_block.new.disk l n f v c.args.number c.args.position
-                c.args.text.now _ of c.in_ok-next.ensures.put.held c.in_ok-next.ensures.put.writes
-                (leaves-half a l n f v (S.whole c.args.disk.now) of (clean-of a l n f v of r.begins.there.clean)
-                c.args.block c.args.number c.args.position c.args.place c.unwrap.result c.args.text.now small
-                (r.begins.at l n f of) to r.begins.there.low r.begins.there.high r.begins.there.position_low
-                r.begins.there.position_high r.begins.from r.inside r.over)
-                c.write_block-2.new.disk _ c.in_ok-next.ensures.put.ok c.write_block-2.ensures.put.held
-                c.write_block-2.ensures.put.writes
-                (leaves-both a l n f v (S.whole c.args.disk.now) of (clean-of a l n f v of r.begins.there.clean)
-                c.args.block c.args.number c.args.position c.args.place c.unwrap.result c.args.text.now small
-                (r.begins.at l n f of) to r.begins.there.low r.begins.there.high r.begins.there.position_low
-                r.begins.there.position_high r.begins.from r.inside r.over
-                c.min.result (S.image c.write_block.new.disk) c.min.ensures c.in_ok-next.ensures.put.ok);
-          };
-      err = fault-is c.from_residual-in_err-write_block.result _ c.from_residual-in_err-write_block.ensures.1 _
-          (λ e is. is ∙ c.in_err-write_block.ensures.put.err);
-      uncounted = λ one. absurd
-          (omega (
-            arith,
-            one,
-            c.requires.over,
-            c.requires.inside,
-            one-more c.args.number c.args.file.now.size
-                c.requires.begins.there.low,
-          ));
-      failures = passed-on g.D.Sectors.history _ _ _ c.in_ok-next.ensures.put.failures
-          c.from_residual-in_err-write_block.result _ c.from_residual-in_err-write_block.ensures.1
-          c.in_err-write_block.ensures.put.failures;
-    }
-
-pub returns : goal.returns
-returns g c =
-    record {
-      file = λ l n f of.
-          let S = g.D.Sectors.history in
-          let a = S.image c.args.disk.now in
-          let v = c.args.file.now in
-          let r = c.requires in
-          let small : (i : ℕ) → slice_index c.args.text.now i < 256 = λ i. omega (arith, c.type_inv.text i) in
-          let more : c.args.block + 1 < length f.blocks = omega (
-            arith,
-            r.over,
-            of.shows.blocks,
-            one-more c.args.number (length_of v) r.begins.there.low,
-            inside-of a v
-                c.args.number r.begins.there.of (S.whole c.args.disk.now) r.begins.there.low r.begins.there.high,
-          ) in
-          let to = next-is a l n f v of c.args.block c.args.place _ c.in_ok-next.next (r.begins.at l n f of) more refl
-          c.in_ok-next.ensures.next ∙ c.unwrap.ensures in
-          let P : Image
-          → Type 0 = λ i. LeavesRecords a i l n
-          (with_written (record_length f.slot) c.args.number c.args.position c.args.text.now (records a f)) v in
-          record {
-            ok =
-                subst P (sym c.in_ok-write_block.ensures.put.ok)
-                (leaves-both a l n f v (S.whole c.args.disk.now) of (clean-of a l n f v of r.begins.there.clean)
-                c.args.block c.args.number c.args.position c.args.place c.unwrap.result c.args.text.now small
-                (r.begins.at l n f of) to r.begins.there.low r.begins.there.high r.begins.there.position_low
-                r.begins.there.position_high r.begins.from r.inside r.over
-                c.min.result (S.image c.write_block.new.disk) c.min.ensures c.in_ok-next.ensures.put.ok);
-            moments =
-                both-moments S c.args.disk.now c.write_block.new.disk l n f v c.args.number c.args.position
-                c.args.text.now _ of c.in_ok-next.ensures.put.held c.in_ok-next.ensures.put.writes
-                (leaves-half a l n f v (S.whole c.args.disk.now) of (clean-of a l n f v of r.begins.there.clean)
-                c.args.block c.args.number c.args.position c.args.place c.unwrap.result c.args.text.now small
-                (r.begins.at l n f of) to r.begins.there.low r.begins.there.high r.begins.there.position_low
-                r.begins.there.position_high r.begins.from r.inside r.over)
-                c.write_block-2.new.disk _ c.in_ok-next.ensures.put.ok c.write_block-2.ensures.put.held
-                c.write_block-2.ensures.put.writes
-                (leaves-both a l n f v (S.whole c.args.disk.now) of (clean-of a l n f v of r.begins.there.clean)
-                c.args.block c.args.number c.args.position c.args.place c.unwrap.result c.args.text.now small
-                (r.begins.at l n f of) to r.begins.there.low r.begins.there.high r.begins.there.position_low
-                r.begins.there.position_high r.begins.from r.inside r.over
-                c.min.result (S.image c.write_block.new.disk) c.min.ensures c.in_ok-next.ensures.put.ok);
-          };
-      err = tt;
-      uncounted = λ one. absurd
-          (omega (
-            arith,
-            one,
-            c.requires.over,
-            c.requires.inside,
-            one-more c.args.number c.args.file.now.size
-                c.requires.begins.there.low,
-          ));
-      failures = c.in_ok-write_block.ensures.put.failures ∙ c.in_ok-next.ensures.put.failures;
-    }
+returns-in_err-write_block = failed.returns-in_err-write_block
 
 pub overflow_sub-start : goal.overflow_sub-start
-overflow_sub-start g c = c.requires.begins.there.low
+overflow_sub-start = sums.overflow_sub-start
 
 pub overflow_mul-start : goal.overflow_mul-start
-overflow_mul-start g c =
-    let large : c.args.number * c.args.file.now.size ≤ 182880 = c.requires.begins.large in
-    let more = one-more c.args.number c.args.file.now.size c.requires.begins.there.low in
-    omega (arith, large, more)
+overflow_mul-start = sums.overflow_mul-start
 
 pub overflow_sub-start-2 : goal.overflow_sub-start-2
-overflow_sub-start-2 g c = c.requires.begins.there.position_low
+overflow_sub-start-2 = sums.overflow_sub-start-2
 
 pub overflow_add-start : goal.overflow_add-start
-overflow_add-start g c =
-    let large : c.args.number * c.args.file.now.size ≤ 182880 = c.requires.begins.large in
-    let more = one-more c.args.number c.args.file.now.size c.requires.begins.there.low in
-    omega (arith, large, more, c.requires.begins.there.position_high)
+overflow_add-start = sums.overflow_add-start
 
 pub overflow_mul-end : goal.overflow_mul-end
-overflow_mul-end g c = omega (arith, c.requires.begins.large)
+overflow_mul-end = sums.overflow_mul-end
 
 pub overflow_add-here : goal.overflow_add-here
-overflow_add-here g c = omega (arith, c.requires.begins.few)
+overflow_add-here = sums.overflow_add-here
 
 pub overflow_mul-here : goal.overflow_mul-here
-overflow_mul-here g c = omega (arith, c.requires.begins.few)
+overflow_mul-here = sums.overflow_mul-here
 
 pub overflow_mul-block : goal.overflow_mul-block
-overflow_mul-block g c = omega (arith, c.requires.begins.few)
+overflow_mul-block = sums.overflow_mul-block
 
 pub overflow_sub-start-3 : goal.overflow_sub-start-3
-overflow_sub-start-3 g c = c.requires.begins.from
+overflow_sub-start-3 = sums.overflow_sub-start-3
 
 pub write_block-requires-clause-order : goal.write_block-requires-clause-order
-write_block-requires-clause-order g c = omega (arith, c.requires.inside)
+write_block-requires-clause-order = sums.write_block-requires-clause-order
 
 pub write_block-requires-clause-inside : goal.write_block-requires-clause-inside
-write_block-requires-clause-inside g c = omega arith
+write_block-requires-clause-inside = sums.write_block-requires-clause-inside
 
 pub overflow_sub-here : goal.overflow_sub-here
-overflow_sub-here g c = omega (arith, c.requires.inside)
+overflow_sub-here = sums.overflow_sub-here
 
 pub slice_bounds-rest-count : goal.slice_bounds-rest-count
-slice_bounds-rest-count g c = omega (arith, c.min.ensures)
+slice_bounds-rest-count = sums.slice_bounds-rest-count
 
 pub overflow_sub-end : goal.overflow_sub-end
-overflow_sub-end g c = omega (arith, c.requires.over)
+overflow_sub-end = sums.overflow_sub-end
 
 pub write_block-requires-2-clause-order : goal.write_block-requires-2-clause-order
-write_block-requires-2-clause-order g c = omega arith
+write_block-requires-2-clause-order = sums.write_block-requires-2-clause-order
 
 pub write_block-requires-2-clause-inside : goal.write_block-requires-2-clause-inside
-write_block-requires-2-clause-inside g c = omega (
-  arith,
-  one-more c.args.number c.args.file.now.size c.requires.begins.there.low,
-  c.requires.inside,
-  c.args.file.now.size_high,
-)
+write_block-requires-2-clause-inside = sums.write_block-requires-2-clause-inside
+
+pub returns : goal.returns
+returns = written.returns

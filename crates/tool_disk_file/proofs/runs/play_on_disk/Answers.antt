@@ -8,7 +8,7 @@ use Rattle.script_lines.specs.Lines.{lines}
 use Rattle.tool_disk_file.specs.Files.{file_held}
 use Rattle.tool_disk_file.specs.Shops.{IsAfterSome, WereThere, bytes_there}
 use Rattle.tool_disk_file.proofs.Ends.{on_ok_by, stayed_sized}
-use Rattle.tool_disk_file.proofs.Lasts.{lasts_done, lasts_each}
+use Rattle.tool_disk_file.proofs.Lasts.{lasts_done, lasts_each, play_failed}
 use Rattle.tool_disk_file.proofs.runs.play_on_disk.Goals as goal
 
 pub play_durably-requires-clause-image : goal.play_durably-requires-clause-image
@@ -48,3 +48,11 @@ returns-clause-stays g c =
           (subst (λ (bytes : List ℕ). IsShop (sectors_in bytes) s) known is) all sized were,
     ) in
     record { each = each; now = λ s is. each s is (bytes_there after) (inl refl) }
+
+pub returns-clause-device : goal.returns-clause-device
+returns-clause-device g c =
+    let image = c.args.image.now in
+    let known : bytes_there c.args.file ≡ image = c.requires.there ∙ sym c.requires.image in
+    let size : length image ≡ 174848 = ap length c.requires.image ∙ c.args.file.size in
+    play_failed g.T.Tells.output image c.args.script.now c.args.file c.play_durably.result.0 c.play_durably.result.1
+    c.args.out.now c.play_durably.new.out size (ap Some known) c.play_durably.ensures.run

@@ -10,7 +10,7 @@ use Rattle.drive_channels.specs.declared.known.Known.{Known}
 pub returns-then-recall : goal.returns-then-recall
 returns-then-recall g c =
     record {
-      found = c.recall.ensures.found _ c.requires.known c.if-recall.true;
+      found = c.recall.ensures.found _ c.requires.shut.known c.if-recall.true;
       reads = reads_weaker g.D.Sectors.history _ _ 0 702 (omega arith) (no_reads g.D.Sectors.history _);
       failures = refl;
     }
@@ -23,8 +23,8 @@ returns-in-Some g c =
     c.in-Some.found c.in-Some.is c.in_ok-found.ensures.found in
     record {
       found =
-          looked-put _ c.args.self.now c.put_last.new.self c.in-Some.found c.args.name.now c.requires.known
-          c.requires.checked told.0 told.1
+          looked-put _ c.args.self.now c.put_last.new.self c.in-Some.found c.args.name.now c.requires.shut.known
+          c.requires.shut.checked told.0 told.1
           (subst (λ (xs : List ℕ). IfSome c.args.self.now.last (λ o. o.found.name.items ≢ xs)) (sym told.1) other.1)
           c.put_last.ensures.last (c.put_last.ensures.before ∙ ap (λ (k : Known). found_in k.last) other.0)
           (c.put_last.ensures.checked ∙ c.recall.ensures.checked);
@@ -33,10 +33,10 @@ returns-in-Some g c =
     }
 
 pub recall-requires : goal.recall-requires
-recall-requires g c = record { closed = c.requires.closed }
+recall-requires g c = record { closed = c.requires.shut.closed }
 
 pub find_file-requires-clause-clean : goal.find_file-requires-clause-clean
-find_file-requires-clause-clean g c = (c.requires.known.remembered c.requires.checked).clean
+find_file-requires-clause-clean g c = (c.requires.shut.known.remembered c.requires.shut.checked).clean
 
 pub find_file-requires-clause-name : goal.find_file-requires-clause-name
 find_file-requires-clause-name g c = c.requires.name

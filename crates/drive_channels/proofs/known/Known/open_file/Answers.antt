@@ -21,7 +21,7 @@ returns-then-branch g c =
           subst (λ (x : View). OpensFile x c.args.channel (wish_of c.args.wish)
           (shown (img c.look_up.new.disk) c.open_last.new.self c.open_last.result))
           (same-shown (img c.args.disk.now) (img c.args.disk.now) c.args.self.now c.look_up.new.self s
-          (λ i. img c.args.disk.now) c.requires.closed c.requires.checked looked.closed looked.checked)
+          (λ i. img c.args.disk.now) c.requires.shut.closed c.requires.shut.checked looked.closed looked.checked)
           (subst (λ (i : Image). OpensFile (shown (img c.args.disk.now) c.look_up.new.self s) c.args.channel
           (wish_of c.args.wish) (shown i c.open_last.new.self c.open_last.result))
           (sym c.look_up.ensures.reads.image)
@@ -46,7 +46,7 @@ returns-in-Some g c =
           subst (λ (x : View). OpensFile x c.args.channel (wish_of c.args.wish)
           (shown (img c.make.new.disk) c.make.new.self status))
           (same-shown (img c.args.disk.now) (img c.look_up.new.disk) c.args.self.now c.look_up.new.self s
-          c.look_up.ensures.reads.image c.requires.closed c.requires.checked looked.closed looked.checked)
+          c.look_up.ensures.reads.image c.requires.shut.closed c.requires.shut.checked looked.closed looked.checked)
           (subst (λ (n : Option ℕ). OpensFile (shown (img c.look_up.new.disk) c.look_up.new.self s) c.args.channel
           (record { name = c.args.wish.name.now; length = n }) (shown (img c.make.new.disk) c.make.new.self status))
           (sym c.in-Some.is) (row s)))
@@ -61,14 +61,8 @@ returns-in-Some g c =
           c.make.ensures.failures;
     }
 
-pub look_up-requires-clause-known : goal.look_up-requires-clause-known
-look_up-requires-clause-known g c = c.requires.known
-
-pub look_up-requires-clause-checked : goal.look_up-requires-clause-checked
-look_up-requires-clause-checked g c = c.requires.checked
-
-pub look_up-requires-clause-closed : goal.look_up-requires-clause-closed
-look_up-requires-clause-closed g c = c.requires.closed
+pub look_up-requires-clause-shut : goal.look_up-requires-clause-shut
+look_up-requires-clause-shut g c = c.requires.shut
 
 pub look_up-requires-clause-name : goal.look_up-requires-clause-name
 look_up-requires-clause-name g c = c.requires.wish.1.0
@@ -85,10 +79,7 @@ returns-in_err-look_up g c =
 
 pub open_last-requires : goal.open_last-requires
 open_last-requires g c =
-    record {
-      low = c.requires.channel.low;
-      high = c.requires.channel.high;
-    }
+    record { low = c.requires.channel.low; high = c.requires.channel.high }
 
 pub make-requires-clause-known : goal.make-requires-clause-known
 make-requires-clause-known g c = subst (λ (i : Image). IsKnown i c.look_up.new.self) (sym c.look_up.ensures.reads.image)
@@ -99,20 +90,15 @@ make-requires-clause-checked g c = c.in_ok-look_up.ensures.found.checked
 
 pub make-requires-clause-channel : goal.make-requires-clause-channel
 make-requires-clause-channel g c =
-    record {
-      low = c.requires.channel.low;
-      high = c.requires.channel.high;
-    }
+    record { low = c.requires.channel.low; high = c.requires.channel.high }
 
 pub make-requires-clause-name : goal.make-requires-clause-name
 make-requires-clause-name g c = c.requires.wish.1.0
 
 pub make-requires-clause-size : goal.make-requires-clause-size
 make-requires-clause-size g c =
-    record {
-      low = (subst (IsSpelled c.requires.wish.0 c.args.wish.name.now) c.in-Some.is c.requires.wish.1.1).2.low;
-      high = (subst (IsSpelled c.requires.wish.0 c.args.wish.name.now) c.in-Some.is c.requires.wish.1.1).2.high;
-    }
+    let tail = (subst (IsSpelled c.requires.wish.0 c.args.wish.name.now) c.in-Some.is c.requires.wish.1.1).2 in
+    record { low = tail.low; high = tail.high }
 
 pub returns-in-None : goal.returns-in-None
 returns-in-None g c =
@@ -123,7 +109,7 @@ returns-in-None g c =
           inl (
             (subst IsNone (sym c.in-None.is) refl, looked.missing c.if-branch.false),
             same-shown (img c.args.disk.now) (img c.look_up.new.disk) c.args.self.now c.look_up.new.self
-                statuses.FileNotFound c.look_up.ensures.reads.image c.requires.closed c.requires.checked looked.closed
+                statuses.FileNotFound c.look_up.ensures.reads.image c.requires.shut.closed c.requires.shut.checked looked.closed
                 looked.checked,
           );
       known = subst (λ (i : Image). IsKnown i c.look_up.new.self) (sym c.look_up.ensures.reads.image)

@@ -94,15 +94,14 @@ returns-in_err-passes_check g c =
           c.in_err-passes_check.ensures.failures;
     }
 
-pub open_file-requires-clause-known : goal.open_file-requires-clause-known
-open_file-requires-clause-known g c = subst (λ (i : Image). IsKnown i c.passes_check.new.self)
-    (sym c.passes_check.ensures.reads.image) (c.in_ok-passes_check.ensures.passed c.if-not-branch.false).1
-
-pub open_file-requires-clause-checked : goal.open_file-requires-clause-checked
-open_file-requires-clause-checked g c = (c.in_ok-passes_check.ensures.passed c.if-not-branch.false).0
-
-pub open_file-requires-clause-closed : goal.open_file-requires-clause-closed
-open_file-requires-clause-closed g c = ap channel_of c.in_ok-passes_check.ensures.last ∙ c.requires.closed
+pub open_file-requires-clause-shut : goal.open_file-requires-clause-shut
+open_file-requires-clause-shut g c =
+    let passed = c.in_ok-passes_check.ensures.passed c.if-not-branch.false in
+    record {
+      known = subst (λ (i : Image). IsKnown i c.passes_check.new.self) (sym c.passes_check.ensures.reads.image) passed.1;
+      checked = passed.0;
+      closed = ap channel_of c.in_ok-passes_check.ensures.last ∙ c.requires.closed;
+    }
 
 pub open_file-requires-clause-channel : goal.open_file-requires-clause-channel
 open_file-requires-clause-channel g c =

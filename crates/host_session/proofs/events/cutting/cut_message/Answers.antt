@@ -1,5 +1,6 @@
 -- A message whose power goes.
-use Rattle.std.proofs.Common.{◌∙◌, ap, inl, inr, ⊎_elim, subst, sym}
+use Rattle.std.proofs.Common.{◌≡◌, ◌∙◌, ap, arith, inl, inr, ⊎_elim, subst, sym}
+use Rattle.d64_image.specs.Fuses.{fuse_disk}
 use Rattle.host_session.specs.session.Handling.{IsBeforeOrAfter}
 use Rattle.host_session.specs.shop.Shop.{IsShop}
 use Rattle.host_session.proofs.lemmas.events.Cuts.{cut_writes, message_cut}
@@ -27,3 +28,14 @@ returns-clause-event g c = λ s settled alive.
     (λ m. ⊎_elim (λ dead. absurd (let e = sym dead ∙ lives in cc)) (λ failed. inl failed) m.2)
     (λ n. inr ((c.handle.ensures.reply s x lives n.0).1.shop))
     c.handle.ensures.failures)
+
+pub returns-clause-spared : goal.returns-clause-spared
+returns-clause-spared g c = λ alive s settled asks.
+    let h = g.D.Sectors.history in
+    let there = subst (λ d. IsShop (h.image d) s) (sym c.fused-cut.ensures.disk) settled.shop in
+    let stays = c.handle.ensures.quiet s there (c.fused-cut.ensures.dead ∙ alive) asks in
+    let same : c.into_inner.result ≡ c.args.session.disk =
+    c.into_inner.ensures ∙ ap (λ f. fuse_disk f) c.close.ensures ∙ ap (λ v. fuse_disk v.disk) stays.1
+    ∙ c.fused-cut.ensures.disk in
+    let writes : h.writes c.into_inner.result ≡ h.writes c.args.session.disk = ap h.writes same in
+    omega (arith, writes)

@@ -1,7 +1,7 @@
 -- One opening more.
 use Rattle.std.proofs.Common.{◌≡◌, arith, le_refl, refl, subst, sym}
-use Rattle.d64_image.proofs.Moments.{start, then, at_end}
-use Rattle.host_session.proofs.lemmas.events.Quiet.{held_on}
+use Rattle.d64_image.proofs.Moments.{at_end, no_change, start, then}
+use Rattle.host_session.proofs.lemmas.events.Quiet.{untouched_on}
 use Rattle.host_session.specs.shop.Shop.{IsSettled, IsShop}
 use Rattle.host_session.proofs.events.cutting.cut_openings.Goals as goal
 
@@ -10,7 +10,7 @@ loop-writes-init g c =
     let h = g.D.Sectors.history in
     record {
       shop = λ s shop. (start h c.args.disk (λ i. IsShop i s) shop, le_refl (h.failures c.args.disk));
-      quiet = λ s rests. start h c.args.disk (λ i. i ≡ h.image c.args.disk) refl;
+      quiet = λ s rests. no_change h c.args.disk (λ i. i ≡ h.image c.args.disk) refl;
     }
 
 pub loop-writes-preserved : goal.loop-writes-preserved
@@ -23,7 +23,7 @@ loop-writes-preserved g c =
             then h _ _ _ (λ i. IsShop i s) so_far.0 (c.cut_opening-disk.ensures.moments s there),
             omega (arith, so_far.1, c.cut_opening-disk.ensures.later s there),
           );
-      quiet = λ s rests. held_on h _ _ _ (c.loop-writes.invariant.quiet s rests)
+      quiet = λ s rests. untouched_on h _ _ _ (c.loop-writes.invariant.quiet s rests)
           (λ same. c.cut_opening-disk.ensures.quiet s (subst (λ i. IsSettled i s) (sym same) rests));
     }
 

@@ -1,6 +1,7 @@
 -- The shop stays through the openings so far, and so does an image at rest.
-use Rattle.std.proofs.Common.{◌≡◌, ◌≤◌}
+use Rattle.std.proofs.Common.{◌≤◌}
 use Rattle.d64_image.specs.History.{HeldOnly}
+use Rattle.host_session.specs.session.Opening.{Untouched}
 use Rattle.host_session.specs.shop.Shop.{IsSettled, IsShop, Shop}
 use Rattle.host_session.proofs.events.cutting.cut_openings.Given as goal
 
@@ -10,5 +11,5 @@ invariant-loop-writes g l =
     record {
       shop : (s : Shop) → IsShop (h.image l.fn.disk) s
           → HeldOnly h l.fn.disk l.disk (λ c. IsShop c s) × (h.failures l.fn.disk ≤ h.failures l.disk);
-      quiet : (s : Shop) → IsSettled (h.image l.fn.disk) s → HeldOnly h l.fn.disk l.disk (λ c. c ≡ h.image l.fn.disk);
+      quiet : (s : Shop) → IsSettled (h.image l.fn.disk) s → Untouched h l.fn.disk l.disk;
     }

@@ -1,5 +1,5 @@
 -- A message without a reset.
-use Rattle.std.proofs.Common.{⊎_elim, ap, sym, ◌∙◌, refl}
+use Rattle.std.proofs.Common.{◌≡◌, ⊎_elim, ap, arith, sym, ◌∙◌, refl}
 use Rattle.host_session.proofs.lemmas.events.WholeMessages.{answered, told_media}
 use Rattle.host_session.specs.events.Events.{uncut}
 use Rattle.host_session.proofs.events.cutting.whole_message.Goals as goal
@@ -33,3 +33,10 @@ returns-clause-within g c = λ s settled. record {
   most = (c.handle.ensures.moments s settled.shop).writes;
   needed = λ f has. c.handle.ensures.writes f has;
 }
+
+pub returns-clause-spared : goal.returns-clause-spared
+returns-clause-spared g c = λ alive s settled asks.
+    let h = g.D.Sectors.history in
+    let stays = c.handle.ensures.quiet s settled.shop alive asks in
+    let same : h.writes c.handle.new.self.disk ≡ h.writes c.args.session.now.disk = ap (λ v. h.writes v.disk) stays.1 in
+    omega (arith, same)

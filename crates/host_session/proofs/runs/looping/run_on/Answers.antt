@@ -1,13 +1,14 @@
 -- A message with a reset, and the whole ones behind it.
 use Rattle.std.proofs.Common.{◌≡◌, ◌∙◌, false, not, ap, subst, sym}
 use Rattle.request_cards.specs.declared.reply.Reply.TheVariants.{Cut}
-use Rattle.host_session.proofs.lemmas.runs.Looped.{breaks_off, cut_is, fails, goes_on, is_reset, no_none, was_broken}
-use Rattle.host_session.proofs.lemmas.runs.Looped.{was_told}
+use Rattle.host_session.proofs.lemmas.runs.AskedTold.{cut_is, is_reset, no_none, was_broken, was_told}
+use Rattle.host_session.proofs.lemmas.runs.Looped.{breaks_off, fails, goes_on}
 use Rattle.host_session.specs.events.Instants.{instant_of}
 use Rattle.host_session.specs.runs.Loops.{Ends, EndsBy, IsStretch, with_disk}
 use Rattle.host_session.specs.events.OneEvent.{EndsFailed, GoesOn, IsEvent}
 use Rattle.host_session.specs.declared.runs.looping.LoopFault.TheVariants as faults
 use Rattle.host_session.specs.events.Telling.{IsTold}
+use Rattle.host_session.specs.events.Within.{SparesTheDisk}
 use Rattle.host_session.proofs.runs.looping.run_on.Goals as goal
 
 pub returns-in-Err : goal.returns-in-Err
@@ -23,8 +24,12 @@ returns-in-Err g c = λ from w alive.
     (λ t settled. subst (λ n. IsEvent h t n x y (EndsFailed h t n Cut y))
     (is_reset m c.message.result.now _ c.message.ensures
     (cut_is _ c.cut.result c.unwrap-cut.result _ c.unwrap-cut.ensures c.cut.ensures))
-    (c.in-Err.ensures.stopped t settled before.0))
+    (c.in-Err.ensures.stopped t settled before.0).0)
     (λ none. absurd (no_none _ _ (cut_is _ c.cut.result c.unwrap-cut.result _ c.unwrap-cut.ensures c.cut.ensures) none))
+    (subst (λ n. SparesTheDisk h n x y)
+    (is_reset m c.message.result.now _ c.message.ensures
+    (cut_is _ c.cut.result c.unwrap-cut.result _ c.unwrap-cut.ensures c.cut.ensures))
+    (λ t settled. (c.in-Err.ensures.stopped t settled before.0).1 t settled))
     before.1
 
 pub returns-then-is_err : goal.returns-then-is_err
@@ -50,6 +55,10 @@ returns-then-is_err g c = λ from w alive.
           (cut_is _ c.cut.result c.unwrap-cut.result _ c.unwrap-cut.ensures c.cut.ensures)) e.1,
     ))
     (λ none. absurd (no_none _ _ (cut_is _ c.cut.result c.unwrap-cut.result _ c.unwrap-cut.ensures c.cut.ensures) none))
+    (subst (λ n. SparesTheDisk h n x y)
+    (is_reset m c.message.result.now _ c.message.ensures
+    (cut_is _ c.cut.result c.unwrap-cut.result _ c.unwrap-cut.ensures c.cut.ensures))
+    (λ t settled. (c.in-Ok.ensures.done t settled before.0).2 t settled))
     before.1)
 
 pub loop-next-preserved : goal.loop-next-preserved
@@ -80,6 +89,10 @@ loop-next-preserved g c =
           ))
           (λ none. absurd (no_none _ _
           (cut_is _ c.cut.result c.unwrap-cut.result _ c.unwrap-cut.ensures c.cut.ensures) none))
+          (subst (λ n. SparesTheDisk h n x y)
+          (is_reset m c.message.result.now _ c.message.ensures
+          (cut_is _ c.cut.result c.unwrap-cut.result _ c.unwrap-cut.ensures c.cut.ensures))
+          (λ t settled. (c.in-Ok.ensures.done t settled before.0).2 t settled))
           before.1 in
           subst (IsStretch h a o from c.whole_messages.new.session c.whole_messages.new.asks c.whole_messages.new.out)
           c.in-Cut.is
@@ -108,6 +121,10 @@ returns-in-Ended g c = λ from w alive.
           (cut_is _ c.cut.result c.unwrap-cut.result _ c.unwrap-cut.ensures c.cut.ensures)) e.1,
     ))
     (λ none. absurd (no_none _ _ (cut_is _ c.cut.result c.unwrap-cut.result _ c.unwrap-cut.ensures c.cut.ensures) none))
+    (subst (λ n. SparesTheDisk h n x y)
+    (is_reset m c.message.result.now _ c.message.ensures
+    (cut_is _ c.cut.result c.unwrap-cut.result _ c.unwrap-cut.ensures c.cut.ensures))
+    (λ t settled. (c.in-Ok.ensures.done t settled before.0).2 t settled))
     before.1 in
     let stretch =
     subst (IsStretch h a o from c.whole_messages.new.session c.whole_messages.new.asks c.whole_messages.new.out)

@@ -1,12 +1,12 @@
 -- One whole message more.
 use Rattle.std.proofs.Common.{◌≡◌, ◌∙◌, false, arith, le_refl, not, ap, subst, sym}
 use Rattle.std.proofs.lemmas.Bool.{false≢true}
-use Rattle.host_session.proofs.lemmas.runs.Looped.{at_end, at_fault, breaks_off, fails, goes_on, is_whole, no_cut}
-use Rattle.host_session.proofs.lemmas.runs.Looped.{some_cut, takes_one, was_asked, was_broken, was_told}
+use Rattle.host_session.proofs.lemmas.runs.AskedTold.{is_whole, no_cut, some_cut, was_asked, was_broken, was_told}
+use Rattle.host_session.proofs.lemmas.runs.Looped.{at_end, at_fault, breaks_off, fails, goes_on, takes_one}
 use Rattle.host_session.specs.events.Instants.{instant_of}
 use Rattle.host_session.specs.events.OneEvent.{EndsFailed, GoesOn, IsEvent}
 use Rattle.host_session.specs.events.Telling.{IsTold}
-use Rattle.host_session.specs.events.Within.{IsWithin}
+use Rattle.host_session.specs.events.Within.{IsWithin, SparesTheDisk}
 use Rattle.host_session.proofs.runs.looping.whole_messages.Goals as goal
 
 pub loop-asks-init : goal.loop-asks-init
@@ -72,6 +72,10 @@ returns-then-is_media-clause-way g c = λ from w alive.
     (is_whole m c.message.result.now c.message.ensures
     (no_cut _ c.cut.result _ c.cut.ensures (sym c.is_some.ensures ∙ c.if-is_some.false)))
     (c.whole_message-reply.ensures.within t settled))
+    (subst (λ n. SparesTheDisk h n x y)
+    (is_whole m c.message.result.now c.message.ensures
+    (no_cut _ c.cut.result _ c.cut.ensures (sym c.is_some.ensures ∙ c.if-is_some.false)))
+    (c.whole_message-reply.ensures.spared before.0))
     (takes_one h a o from x c.loop-asks.asks c.next.new.self c.loop-asks.out before.1 took.0)
 
 pub returns-then-is_err-clause-way : goal.returns-then-is_err-clause-way
@@ -104,6 +108,10 @@ returns-then-is_err-clause-way g c = λ from w alive.
     (is_whole m c.message.result.now c.message.ensures
     (no_cut _ c.cut.result _ c.cut.ensures (sym c.is_some.ensures ∙ c.if-is_some.false)))
     (c.whole_message-reply.ensures.within t settled))
+    (subst (λ n. SparesTheDisk h n x y)
+    (is_whole m c.message.result.now c.message.ensures
+    (no_cut _ c.cut.result _ c.cut.ensures (sym c.is_some.ensures ∙ c.if-is_some.false)))
+    (c.whole_message-reply.ensures.spared before.0))
     (takes_one h a o from x c.loop-asks.asks c.next.new.self c.loop-asks.out before.1 took.0)
 
 pub loop-asks-preserved : goal.loop-asks-preserved
@@ -140,5 +148,9 @@ loop-asks-preserved g c =
           (is_whole m c.message.result.now c.message.ensures
           (no_cut _ c.cut.result _ c.cut.ensures (sym c.is_some.ensures ∙ c.if-is_some.false)))
           (c.whole_message-reply.ensures.within t settled))
+          (subst (λ n. SparesTheDisk h n x y)
+          (is_whole m c.message.result.now c.message.ensures
+          (no_cut _ c.cut.result _ c.cut.ensures (sym c.is_some.ensures ∙ c.if-is_some.false)))
+          (c.whole_message-reply.ensures.spared before.0))
           (takes_one h a o from x c.loop-asks.asks c.next.new.self c.loop-asks.out before.1 took.0);
     }

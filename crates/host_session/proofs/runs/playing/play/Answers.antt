@@ -1,10 +1,11 @@
 -- The ends of a run of events.
-use Rattle.std.proofs.Common.{◌≡◌, ◌++◌, ◌∙◌, List, arith, le_refl, map, refl, subst, sym}
+use Rattle.std.proofs.Common.{◌≡◌, ◌++◌, ◌∙◌, List, Ok, arith, le_refl, map, refl, subst, sym}
 use Rattle.std.proofs.lemmas.List.{length-map}
 use Rattle.d64_image.proofs.Moments.{start}
 use Rattle.request_cards.specs.declared.reply.Reply.{Reply}
-use Rattle.host_session.proofs.lemmas.runs.EventEnds.{IsEventsEnd, faulted, whole_run}
+use Rattle.host_session.proofs.lemmas.runs.EventEnds.{IsEventsEnd, faulted, spared, whole_run}
 use Rattle.host_session.proofs.lemmas.runs.QuietRuns.{quiet_same}
+use Rattle.host_session.proofs.lemmas.runs.QuietWrites.{spared_same}
 use Rattle.host_session.proofs.lemmas.runs.Runs.{held_none}
 use Rattle.host_session.proofs.lemmas.runs.Sparing.{same_bound}
 use Rattle.host_session.specs.events.Asking.{of_events}
@@ -26,6 +27,7 @@ returns-in-Err g c =
       device = λ s shop is. absurd (let e = is in cc);
       moments = λ s shop. held_none h s ms disk disk (start h disk (λ i. IsShop i s) shop) (le_refl (h.failures disk));
       quiet = λ s shop _. quiet_same h s ms disk shop;
+      spared = λ s shop _. spared_same h s disk;
       writes = λ s shop _. same_bound h ms disk;
       plays = λ shop never. refl;
       «open» = λ f is. absurd (let e = is in cc);
@@ -52,6 +54,8 @@ returns-in-Ok-run g c =
       device = λ s shop. tt;
       moments = w.1;
       quiet = w.2;
+      spared = spared h c.args.disk c.args.events.now c.new-asks.result c.run.new.asks old new c.new-asks.ensures.events
+          c.new-asks.ensures.none (omega (arith, c.in-Ok.ensures.ok)) (Ok c.in-Ok-run.disk) k;
       writes = w.3;
       plays = λ shop never. tt;
       «open» = tt;
@@ -80,6 +84,7 @@ returns-in-Err-run g c =
           (x.0, subst (λ (xs : List Reply). new.items ≡ xs ++ x.0) c.in-Ok.ensures.items x.1, x.2);
       moments = e.moments;
       quiet = e.quiet;
+      spared = e.spared;
       writes = e.writes;
       plays = e.plays;
       «open» = e.«open»;

@@ -4,6 +4,7 @@ use Rattle.std.proofs.lemmas.Option.{same_Some}
 use Rattle.d64_image.proofs.Moments.{start}
 use Rattle.script_lines.specs.Lines.{lines}
 use Rattle.host_session.proofs.lemmas.runs.QuietRuns.{quiet_same}
+use Rattle.host_session.proofs.lemmas.runs.QuietWrites.{spared_same}
 use Rattle.host_session.proofs.lemmas.runs.Runs.{held_none}
 use Rattle.host_session.proofs.lemmas.runs.ScriptFaults.{line-device, line-open, line-output, line_of}
 use Rattle.host_session.proofs.lemmas.runs.ScriptEnds.{faulted, played_out}
@@ -31,6 +32,7 @@ returns-in-Some g c = record {
       held_none h s (messages_of (lines c.args.script.now)) c.args.disk c.args.disk
       (start h c.args.disk (λ i. IsShop i s) shop) (le_refl (h.failures c.args.disk));
   quiet = λ s shop _. quiet_same g.D.Sectors.history s (messages_of (lines c.args.script.now)) c.args.disk shop;
+  spared = λ s shop _. spared_same g.D.Sectors.history s c.args.disk;
   writes = λ s shop _ _. same_bound g.D.Sectors.history (messages_of (lines c.args.script.now)) c.args.disk;
   plays = λ shop never. inl (c.in-Some.line, refl);
   «open» = λ f e. absurd (line-open c.in-Some.line f e);

@@ -9,6 +9,7 @@ invariant_of-result g c = record {
   each = λ b. (c.is_brought.ensures.0 b).0;
   whole = λ b. sized (g.F.WritesAt.held c.args.file) (g.F.WritesAt.lasting.bytes c.args.file) c.args.image.now
       c.requires.image (c.is_brought.ensures.0 b).1 (c.requires.there (c.is_brought.ensures.0 b).0);
+  blamed = λ some. absurd (omega (arith, some));
   there = λ b none. c.requires.there (c.is_brought.ensures.0 b).0;
 }
 

@@ -1,37 +1,8 @@
 -- The entry over its slot, and zeros before it in each slot but the first.
-use Rattle.std.proofs.Common.{
-  ap,
-  arith,
-  drop,
-  get_or,
-  inl,
-  inr,
-  set,
-  length,
-  length-append,
-  length-drop,
-  slice_index,
-  take,
-  ℕ,
-  ◌++◌,
-  ◌+◌,
-  ◌-◌,
-  ◌*◌,
-  ◌<◌,
-  ◌≡◌,
-  ◌≢◌,
-  ◌≤◌,
-  ◌⊎◌,
-  ◌∙◌,
-}
-use Rattle.std.proofs.lemmas.List.{
-  get_or-append_right,
-  get_or-drop,
-  get_or-set_other,
-  get_or-set_same,
-  length-set,
-  length-take-le,
-}
+use Rattle.std.proofs.Common.{ap, arith, drop, get_or, inl, inr, set, length, length-append, length-drop, slice_index}
+use Rattle.std.proofs.Common.{take, ℕ, ◌++◌, ◌+◌, ◌-◌, ◌*◌, ◌<◌, ◌≡◌, ◌≢◌, ◌≤◌, ◌⊎◌, ◌∙◌}
+use Rattle.std.proofs.lemmas.List.{get_or-append_right, get_or-drop, get_or-set_other, get_or-set_same, length-set}
+use Rattle.std.proofs.lemmas.List.{length-take-le}
 use Rattle.std.proofs.lemmas.Slice.{between-put_mid}
 use borrow.Rule.Slice.PartMut.{put_mid}
 use Rattle.d64_image.specs.Images.{Sector}

@@ -6,6 +6,7 @@ use Rattle.serving.proofs.inputs.OfInputAsks.next.Goals as goal
 
 pub returns : goal.returns
 returns g c =
-    next_taken g.R.Read.remaining c.args.self.now _ c.in-Event.is refl (instant_of g.D.Sectors.history c.args._disk.now)
-    c.take_line-self.result refl
-    (omega (arith, c.in-Some.ensures)) c.take_line-self.ensures
+    next_taken g.R.GivesLines.input c.args.self.now _ c.in-Event.is refl
+    (instant_of g.D.Sectors.history c.args.disk.now)
+    c.give-self.result refl
+    (omega (arith, c.in-Some.ensures)) c.give-self.ensures

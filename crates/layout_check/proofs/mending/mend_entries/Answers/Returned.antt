@@ -1,0 +1,105 @@
+-- What all side sectors that were gone over leave, or those until the device failed.
+use Rattle.std.proofs.Common.{Err, List, arith, subst, ◌+◌}
+use Rattle.std.proofs.lemmas.Result.{err_from_is_err_and}
+use Rattle.d64_image.proofs.Moments.{no_write_then, reads_no_write}
+use Rattle.d64_image.specs.declared.place.Place.{Place}
+use Rattle.disk_layout.proofs.lemmas.kept.Orders.{over_none}
+use Rattle.disk_layout.proofs.lemmas.layouts.Layouts.{get-contains}
+use Rattle.disk_layout.specs.InOrder.{AreMade}
+use Rattle.layout_check.proofs.EntryMends.{exact-entries, exact-same}
+use Rattle.layout_check.proofs.MapMends.{device_later, mends_read, mends_then, mends_weaker}
+use Rattle.layout_check.proofs.Progress.{listed-as}
+use Rattle.layout_check.proofs.RightSides.{file-at, file_over, over_files, sides-all}
+use Rattle.layout_check.proofs.Roots.{directory-tells}
+use Rattle.layout_check.proofs.SideMends.{sound-device}
+use Rattle.layout_check.specs.RepairOrder.{IsRight, sides_of}
+use Rattle.layout_check.proofs.mending.mend_entries.Goals as goal
+
+pub returns-in_err-read_directory : goal.returns-in_err-read_directory
+returns-in_err-read_directory g c =
+    let S = g.D.Sectors.history in
+    let p = err_from_is_err_and c.from_residual.result c.from_residual.ensures.1 in
+    record {
+      exact = rw p.1 tt;
+      mending = record {
+        layouts = rw p.1 tt;
+        mends = mends_read S c.args.disk.now c.read_directory.new.disk 18 864 c.in_err-read_directory.ensures.reads;
+        failures = rw (p.1, p.2) (sound-device S (Unit {0}) c.args.disk.now c.read_directory.new.disk 738 _ c.requires
+            (directory-tells S (Unit {0}) c.args.disk.now c.read_directory.new.disk _
+            c.in_err-read_directory.ensures.reads c.in_err-read_directory.ensures.failures
+            c.in_err-read_directory.ensures.err));
+      };
+      map = rw p.1 tt;
+      right = λ l h. record {
+        over = over_none S (IsRight l) (sides_of l.files) c.args.disk.now c.read_directory.new.disk 18
+            c.in_err-read_directory.ensures.reads;
+        made = rw p.1 tt;
+      };
+      quiet = λ exact. reads_no_write S c.args.disk.now c.read_directory.new.disk 18
+          c.in_err-read_directory.ensures.reads;
+    }
+
+pub returns-in_err-mend_relative : goal.returns-in_err-mend_relative
+returns-in_err-mend_relative g c =
+    let S = g.D.Sectors.history in
+    let p = err_from_is_err_and c.from_residual-in_err-mend_relative.result
+    c.from_residual-in_err-mend_relative.ensures.1 in
+    record {
+      exact = rw p.1 tt;
+      mending = record {
+        layouts = rw p.1 tt;
+        mends = mends_then S c.args.disk.now c.loop-slot.disk c.mend_relative.new.disk _ 6 864
+            (omega (arith, c.loop-slot-test.true, c.as_slice-slot-items.ensures.fits)) c.loop-slot.invariant.mends
+            c.in_err-mend_relative.ensures.mending.mends;
+        failures = rw (p.1, p.2) (device_later S (Unit {0}) c.args.disk.now c.loop-slot.disk c.mend_relative.new.disk
+            (Err _) c.loop-slot.invariant.failures c.in_err-mend_relative.ensures.mending.failures);
+      };
+      map = rw p.1 tt;
+      right = λ l h. record {
+        over = let n = c.loop-slot.slot-index in
+            let d = c.in_ok-read_directory.ensures.ok in
+            let items = c.as_slice-slot-items.result.now in
+            let old = c.loop-slot.invariant in
+            let (f, there, slot) = file-at _ l d.0 items n c.slot-item.result h
+            (listed-as _ d.0 c.read_directory.new.slots.items items c.as_slice-slot-items.ensures.value d.1)
+            c.loop-slot-test.true c.slot-item.is in
+            let here = (c.in_err-mend_relative.ensures.right l f (old.layouts l h) (get-contains l.files n f there)
+            slot).over in
+            over_files S c.args.disk.now c.mend_relative.new.disk (n + 1) (IsRight l) l.files
+            (file_over S c.args.disk.now l h n f there c.loop-slot.disk c.mend_relative.new.disk (old.made l h)
+            (old.over l h) here);
+        made = rw p.1 tt;
+      };
+      quiet = λ exact.
+          let so_far = c.loop-slot.invariant.quiet exact in
+          no_write_then S c.args.disk.now c.loop-slot.disk c.mend_relative.new.disk so_far
+          (c.in_err-mend_relative.ensures.quiet (exact-same _ _ c.slot-item.result so_far.image exact));
+    }
+
+pub returns : goal.returns
+returns g c =
+    let S = g.D.Sectors.history in
+    record {
+      exact = let d = c.in_ok-read_directory.ensures.ok in
+          exact-entries _ _ d.0 c.as_slice-slot-items.result.now c.loop-slot.slot-index
+          (listed-as _ d.0 c.read_directory.new.slots.items c.as_slice-slot-items.result.now
+          c.as_slice-slot-items.ensures.value d.1) c.loop-slot-test.false c.loop-slot.invariant.exact;
+      mending = record {
+        layouts = c.loop-slot.invariant.layouts;
+        mends = mends_weaker S c.args.disk.now c.loop-slot.disk _ 864
+            (omega (arith, c.loop-slot.auto, c.as_slice-slot-items.ensures.fits)) c.loop-slot.invariant.mends;
+        failures = c.loop-slot.invariant.failures;
+      };
+      map = c.loop-slot.invariant.map;
+      right = λ l h. record {
+        over = over_files S c.args.disk.now c.loop-slot.disk c.loop-slot.slot-index (IsRight l) l.files
+            (c.loop-slot.invariant.over l h);
+        made = let d = c.in_ok-read_directory.ensures.ok in
+            let items = c.as_slice-slot-items.result.now in
+            let P : List Place → Type 0 = λ xs. AreMade (IsRight l) xs (S.image c.args.disk.now)
+            (S.image c.loop-slot.disk) in
+            subst P (sides-all _ l d.0 items c.loop-slot.slot-index h (listed-as _ d.0 c.read_directory.new.slots.items
+            items c.as_slice-slot-items.ensures.value d.1) c.loop-slot-test.false) (c.loop-slot.invariant.made l h);
+      };
+      quiet = c.loop-slot.invariant.quiet;
+    }
