@@ -1,6 +1,6 @@
 -- What was put into a room, each piece behind what it had, and how long a number is.
-use Rattle.std.proofs.Common.{◌≡◌, ◌≤◌, ◌<◌, ◌+◌, ◌*◌, ◌/◌, ◌%◌, ◌^◌, ℕ, List, [], ◌∷◌, ◌++◌, length, take, drop, sym, ap}
-use Rattle.std.proofs.Common.{ap₂, ◌∙◌, arith}
+use Rattle.std.proofs.Common.{◌≡◌, ◌≤◌, ◌<◌, ◌+◌, ◌*◌, ◌/◌, ◌%◌, ◌^◌, ℕ, List, [], ◌∷◌, ◌++◌, length, take, drop, sym}
+use Rattle.std.proofs.Common.{ap, ap₂, ◌∙◌, arith}
 use Rattle.std.specs.Prelude.{codes, decimal}
 use Rattle.std.proofs.Math.Seq.{take-append-add, take-append_seam}
 use Rattle.std.proofs.lemmas.Fmt.{decimal_digit, decimal_step}
@@ -48,7 +48,8 @@ digit-more k low shorter n some above below short =
 
 pub two-digits : (n : ℕ) → 10 ≤ n → n < 100 → 2 ≡ length (decimal n)
 two-digits n above below =
-    digit-more 1 1 (λ m above below. one-digit m (omega (arith, below))) n (omega arith) (omega (arith, above)) (omega (arith, below))
+    digit-more 1 1 (λ m above below. one-digit m (omega (arith, below))) n (omega arith) (omega (arith, above))
+    (omega (arith, below))
     (omega (arith, below))
 
 pub three-digits : (n : ℕ) → 100 ≤ n → n < 1000 → 3 ≡ length (decimal n)

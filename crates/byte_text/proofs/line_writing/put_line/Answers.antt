@@ -38,7 +38,13 @@ pub returns-clause-end : goal.returns-clause-end
 returns-clause-end c =
     let kept = ap length c.trim.ensures in
     let few = trimmed-short c.as_slice.result.now in (
-      omega (arith, c.put_number-end.ensures.end, c.put_behind-end.ensures.end, c.put_text-end.ensures.end, c.put_behind.ensures.end),
+      omega (
+        arith,
+        c.put_number-end.ensures.end,
+        c.put_behind-end.ensures.end,
+        c.put_text-end.ensures.end,
+        c.put_behind.ensures.end,
+      ),
       omega (
         arith,
         kept,

@@ -40,7 +40,8 @@ loop-before-preserved g c =
           c.in_ok-start.ensures.ok
           (subst (λ (img : Image). take c.in_ok-end.end c.gather_line.new.room
           ≡ take c.in_ok-start.start c.loop-before.room
-          ++ record_line (c.loop-before.before + 1) (get_or (records_of.records img f) (c.loop-before.before + 1 - 1) []))
+          ++ record_line (c.loop-before.before + 1)
+          (get_or (records_of.records img f) (c.loop-before.before + 1 - 1) []))
           same
           (c.in_ok-end.ensures.ok l n f there)),
       omega (arith, c.in_ok-end.ensures.end, c.in_ok-start.ensures.room),

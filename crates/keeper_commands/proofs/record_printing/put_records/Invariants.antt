@@ -1,5 +1,5 @@
--- Of the lines of the records so far a beginning was printed, and the room has the others; the disk stays, and the block that was
--- read last is one of the file's.
+-- Of the lines of the records so far a beginning was printed, and the room has the others; the disk stays, and the
+-- block that was read last is one of the file's.
 use Rattle.std.proofs.Common.{◌≡◌, ◌≤◌, take}
 use Rattle.d64_image.specs.Memory.{disk_image}
 use Rattle.disk_layout.specs.Records as records_of
