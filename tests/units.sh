@@ -17,7 +17,7 @@ done
 /usr/bin/python3 -c "import pika, paho.mqtt.client" 2>/dev/null ||
     { echo "units: Debian's python3-pika and python3-paho-mqtt aren't there" >&2; exit 1; }
 
-work=$(mktemp -d /var/tmp/units.XXXXXX)
+work=$(mktemp -d -t units.XXXXXX)
 trap 'rm -rf "$work"' EXIT
 trap 'exit 1' INT TERM
 root="$work/root"
