@@ -50,6 +50,13 @@ impl<F: SectorFile> Mirror<F> {
         self.broken
     }
 
+    /// The disk in memory.
+    pub fn disk(&self) -> &MemDisk
+        ensures { result.now ≡ mirror_disk self.now }
+    {
+        &self.disk
+    }
+
     /// The file, and the disk in memory.
     pub fn into_inner(self) -> (F, MemDisk)
         ensures file { result.0 ≡ mirror_file self }
