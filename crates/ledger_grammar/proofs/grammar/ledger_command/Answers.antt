@@ -1,8 +1,8 @@
 -- The subcommands are added one by one, each to what the ones before made.
 use Rattle.std.specs.Prelude.{Ok}
-use Rattle.ledger_words.specs.Grammar as grammar
-use Rattle.ledger_words.proofs.Grammars.{adds-known}
-use Rattle.ledger_words.proofs.grammar.ledger_command.Goals as goal
+use Rattle.ledger_grammar.specs.Grammar as grammar
+use Rattle.ledger_grammar.proofs.Grammars.{adds-known}
+use Rattle.ledger_grammar.proofs.grammar.ledger_command.Goals as goal
 
 pub returns : goal.returns
 returns c =

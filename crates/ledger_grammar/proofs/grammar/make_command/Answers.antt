@@ -1,9 +1,9 @@
 -- A subcommand over an image has two values more.
 use Rattle.std.specs.Prelude.{codes}
 use Rattle.clap.specs.Words.{with_rule}
-use Rattle.ledger_words.specs.Grammar as grammar
-use Rattle.ledger_words.proofs.Grammars.{of-rule}
-use Rattle.ledger_words.proofs.grammar.make_command.Goals as goal
+use Rattle.ledger_grammar.specs.Grammar as grammar
+use Rattle.ledger_grammar.proofs.Grammars.{of-rule}
+use Rattle.ledger_grammar.proofs.grammar.make_command.Goals as goal
 
 pub returns : goal.returns
 returns c =

@@ -6,7 +6,7 @@ use Rattle.clap.specs.Words.{AddsArg, AddsSubcommand, App, Rule, app_of, rule_of
 use Rattle.clap.specs.declared.builder.arg.Arg.{Arg}
 use Rattle.clap.specs.declared.builder.command.Command.{Command}
 use Rattle.clap.specs.declared.builder.command.Command.TheViews.{out-Command}
-use Rattle.ledger_words.specs.Grammar.{AddsTo, IsSubcommand}
+use Rattle.ledger_grammar.specs.Grammar.{AddsTo, IsSubcommand}
 
 -- both could be made
 pub adds-made : {E : Type 0} (p s r : Result Command E) (a b : Command) → p ≡ Ok a → s ≡ Ok b

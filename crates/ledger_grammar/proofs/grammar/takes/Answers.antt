@@ -1,7 +1,7 @@
 -- The subcommand has a value more, where it could be made.
 use Rattle.std.proofs.lemmas.Result.{err_from_is_err_and}
-use Rattle.ledger_words.proofs.Grammars.{takes-known}
-use Rattle.ledger_words.proofs.grammar.takes.Goals as goal
+use Rattle.ledger_grammar.proofs.Grammars.{takes-known}
+use Rattle.ledger_grammar.proofs.grammar.takes.Goals as goal
 
 pub returns-in_err-subcommand : goal.returns-in_err-subcommand
 returns-in_err-subcommand c =

@@ -2,7 +2,7 @@
 ghost use Rattle.std.specs.Prelude.{◌≡◌, IfOk, codes, false};
 ghost use Rattle.clap.specs.Words.{App, app_of, new_app, rule_of, with_rule};
 ghost use Rattle.clap.specs.declared.builder.command.Command.TheViews.{out-Command};
-ghost use Rattle.ledger_words.specs.Grammar as grammar;
+ghost use Rattle.ledger_grammar.specs.Grammar as grammar;
 
 use crate::help_texts::{
     BYTES, CHECK, DRY, FORMAT, LIST, MAKE, MAP, MORE, PICTURE, PLAY, RECORDS, REPAIR, SERVE, SHOW,

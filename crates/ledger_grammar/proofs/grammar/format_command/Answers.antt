@@ -1,8 +1,8 @@
 -- A subcommand over an image has one value more.
 use Rattle.std.specs.Prelude.{codes}
-use Rattle.ledger_words.specs.Grammar as grammar
-use Rattle.ledger_words.proofs.Grammars.{of-rule}
-use Rattle.ledger_words.proofs.grammar.format_command.Goals as goal
+use Rattle.ledger_grammar.specs.Grammar as grammar
+use Rattle.ledger_grammar.proofs.Grammars.{of-rule}
+use Rattle.ledger_grammar.proofs.grammar.format_command.Goals as goal
 
 pub returns : goal.returns
 returns c = of-rule (grammar.over_image (codes "format")) _ (grammar.required_behind (codes "tills") (codes "T"))
