@@ -33,7 +33,7 @@ use Rattle.disk_layout.specs.Chain.{EachOnce, IsChain, Leads, LinksTo, Names, Vi
 use Rattle.disk_layout.specs.Fault.{IsClosed, Owns, blocks_of, sides_of}
 use Rattle.disk_layout.specs.Layout.{IsFile, is_rel}
 use Rattle.disk_layout.specs.declared.slot.Slot.{Slot}
-use Rattle.layout_check.proofs.SideWalks.{walk-side}
+use Rattle.layout_check.proofs.lemmas.finding.SideWalks.{walk-side}
 use Rattle.layout_check.specs.Entry.{HasBlocks, IsProper}
 use Rattle.layout_check.specs.Sides.{AreLinkedSides, IsRelEntry, IsWalkOfSides, ListsEach}
 

@@ -21,12 +21,13 @@ use Rattle.disk_layout.specs.InOrder.{AreMade, GoesOver, WritesOther}
 use Rattle.disk_layout.specs.Layout.{IsLayout, IsSound, Layout}
 use Rattle.disk_layout.specs.declared.slot.Slot.{Slot}
 use Rattle.disk_layout.proofs.lemmas.counts.Recounts.{reread_layout}
-use Rattle.layout_check.proofs.Pointers.{read-there}
-use Rattle.layout_check.proofs.RightCounts.{all-counted, reread-layout, recount-mended, recount-none, recount-put}
-use Rattle.layout_check.proofs.RightCounts.{recount-then}
-use Rattle.layout_check.proofs.RightDirectory.{mended-made, right-counts, sector-made}
-use Rattle.layout_check.proofs.RightSlots.{counted-right}
-use Rattle.layout_check.proofs.Rights.{directory-once}
+use Rattle.layout_check.proofs.lemmas.finding.Pointers.{read-there}
+use Rattle.layout_check.proofs.lemmas.repairing.RightCounts.{all-counted, reread-layout, recount-mended, recount-none}
+use Rattle.layout_check.proofs.lemmas.repairing.RightCounts.{recount-put}
+use Rattle.layout_check.proofs.lemmas.repairing.RightCounts.{recount-then}
+use Rattle.layout_check.proofs.lemmas.repairing.RightDirectory.{mended-made, right-counts, sector-made}
+use Rattle.layout_check.proofs.lemmas.repairing.RightSlots.{counted-right}
+use Rattle.layout_check.proofs.lemmas.repairing.Rights.{directory-once}
 use Rattle.layout_check.specs.RepairOrder.{IsRight}
 use Rattle.layout_check.specs.Recounted.{AreCounted, AreRightIn, IsCountedAs, IsInDirectory, IsMendedAt, IsRecountOf}
 use Rattle.layout_check.specs.Recounted.{KeepsButCounts, OldOrMended}

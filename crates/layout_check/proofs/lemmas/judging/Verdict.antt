@@ -40,8 +40,8 @@ use Rattle.disk_layout.specs.Map.{IsFree, IsMapOf, map_count}
 use Rattle.disk_layout.specs.declared.faults.Fault.{Fault}
 use Rattle.disk_layout.specs.declared.faults.Fault.TheVariants.{MapWrong}
 use Rattle.disk_layout.specs.declared.slot.Slot.{Slot}
-use Rattle.layout_check.proofs.Inexact.{clean_alone}
-use Rattle.layout_check.proofs.Progress.{told}
+use Rattle.layout_check.proofs.lemmas.judging.Inexact.{clean_alone}
+use Rattle.layout_check.proofs.lemmas.finding.Progress.{told}
 use Rattle.layout_check.specs.Calls.{Passes}
 use Rattle.layout_check.specs.Exact.{HasMap, IsFiled, TellsUnclean, ToldOfFiles}
 use Rattle.layout_check.specs.Marked.{IsMarked, IsRightMap, IsWrongMap, ones_on}

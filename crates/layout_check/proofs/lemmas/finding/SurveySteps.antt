@@ -14,8 +14,8 @@ use Rattle.disk_layout.specs.Chain.{EachOnce}
 use Rattle.disk_layout.specs.Directory.{IsDirectory, map_place}
 use Rattle.disk_layout.specs.Layout.{File, IsFile, file_owns}
 use Rattle.disk_layout.specs.declared.slot.Slot.{Slot}
-use Rattle.layout_check.proofs.Finding.{contains_or_not}
-use Rattle.layout_check.proofs.SideWalks.{get-push}
+use Rattle.layout_check.proofs.lemmas.finding.Finding.{contains_or_not}
+use Rattle.layout_check.proofs.lemmas.finding.SideWalks.{get-push}
 use Rattle.layout_check.specs.Owners.{IsClaimed, IsSystem, owner_of}
 use Rattle.layout_check.specs.Survey.{IsSurveyed, taken}
 use Rattle.layout_check.specs.declared.owners.Owners.{Owners}

@@ -20,11 +20,11 @@ use Rattle.disk_layout.specs.Fault.{Owns, blocks_of, sides_of}
 use Rattle.disk_layout.specs.Layout.{File, IsFile, IsSound, file_owns, owners}
 use Rattle.disk_layout.specs.declared.faults.Fault.{Fault}
 use Rattle.disk_layout.specs.declared.slot.Slot.{Slot}
-use Rattle.layout_check.proofs.Calls.{holds_alone, passes_then, passes_weaker, tells_then, twice_tells}
-use Rattle.layout_check.proofs.Claims.{not_before}
-use Rattle.layout_check.proofs.Clashes.{clash-holds}
-use Rattle.layout_check.proofs.Judged.{judged-at, judged-more}
-use Rattle.layout_check.proofs.Listed.{entries-once, entry-listed}
+use Rattle.layout_check.proofs.lemmas.judging.Calls.{holds_alone, passes_then, passes_weaker, tells_then, twice_tells}
+use Rattle.layout_check.proofs.lemmas.owners.Claims.{not_before}
+use Rattle.layout_check.proofs.lemmas.owners.Clashes.{clash-holds}
+use Rattle.layout_check.proofs.lemmas.judging.Judged.{judged-at, judged-more}
+use Rattle.layout_check.proofs.lemmas.finding.Listed.{entries-once, entry-listed}
 use Rattle.layout_check.specs.Calls.{Passes, TellsUnsound}
 use Rattle.layout_check.specs.Entry.{IsEntry}
 use Rattle.layout_check.specs.Exact.{ToldOfFiles}
@@ -33,7 +33,7 @@ use Rattle.layout_check.specs.Owners.{IsSystem}
 use Rattle.layout_check.specs.Survey.{IsSurveyed, IsTable, Surveys, taken}
 use Rattle.layout_check.specs.declared.outcome.Survey.{Survey}
 use Rattle.layout_check.specs.declared.owners.Owners.{Owners}
-use Rattle.layout_check.proofs.SurveySteps.{survey-start, survey-step}
+use Rattle.layout_check.proofs.lemmas.finding.SurveySteps.{survey-start, survey-step}
 
 -- how many sectors these files have
 abbrev pub own_of : List File → ℕ

@@ -39,8 +39,9 @@ use Rattle.disk_layout.specs.Layout.{is_rel}
 use Rattle.disk_layout.specs.declared.faults.Fault.{Fault}
 use Rattle.disk_layout.specs.declared.faults.Fault.TheVariants.{OwnedTwice}
 use Rattle.disk_layout.specs.declared.slot.Slot.{Slot}
-use Rattle.layout_check.proofs.Assembly.{empty-file, owns-block, owns-side, plain-file, rel-file, sides-once}
-use Rattle.layout_check.proofs.Calls.{passes_weaker, twice_tells}
+use Rattle.layout_check.proofs.lemmas.finding.Assembly.{empty-file, owns-block, owns-side, plain-file, rel-file}
+use Rattle.layout_check.proofs.lemmas.finding.Assembly.{sides-once}
+use Rattle.layout_check.proofs.lemmas.judging.Calls.{passes_weaker, twice_tells}
 use Rattle.layout_check.specs.Calls.{Passes, TellsUnsound}
 use Rattle.layout_check.specs.Entry.{HasBlocks, IsProper}
 use Rattle.layout_check.specs.Exact.{ToldOfFile}

@@ -45,9 +45,9 @@ use Rattle.disk_layout.specs.declared.faults.Fault.TheVariants.{
   Unclosed,
 }
 use Rattle.disk_layout.specs.declared.slot.Slot.{Slot}
-use Rattle.layout_check.proofs.Assembly.{rel-file}
-use Rattle.layout_check.proofs.Calls.{tells_later}
-use Rattle.layout_check.proofs.Pointers.{read-there}
+use Rattle.layout_check.proofs.lemmas.finding.Assembly.{rel-file}
+use Rattle.layout_check.proofs.lemmas.judging.Calls.{tells_later}
+use Rattle.layout_check.proofs.lemmas.finding.Pointers.{read-there}
 use Rattle.layout_check.specs.Calls.{Passes, TellsUnsound}
 use Rattle.layout_check.specs.Entry.{IsProper}
 use Rattle.layout_check.specs.Exact.{IsExactSide, TellsUnclean}

@@ -17,8 +17,8 @@ use Rattle.disk_layout.specs.InOrder.{AreMade, GoesOver, WritesOther}
 use Rattle.disk_layout.specs.Layout.{IsLayout, Layout, owners}
 use Rattle.disk_layout.specs.Map.{IsMapOf}
 use Rattle.disk_layout.specs.declared.faults.Fault.{Fault}
-use Rattle.layout_check.proofs.MapMends.{map-put, right-map}
-use Rattle.layout_check.proofs.Rights.{directory-not_map, side-not_map}
+use Rattle.layout_check.proofs.lemmas.mending.MapMends.{map-put, right-map}
+use Rattle.layout_check.proofs.lemmas.repairing.Rights.{directory-not_map, side-not_map}
 use Rattle.layout_check.specs.Exact.{HasMap}
 use Rattle.layout_check.specs.RepairOrder.{IsRight}
 use Rattle.layout_check.specs.Marked.{IsRightMap, IsWrongMap}

@@ -44,7 +44,7 @@ use Rattle.disk_layout.specs.Map.{IsMapOf}
 use Rattle.disk_layout.specs.Same.{SameFiles, Stays, stays_of}
 use Rattle.disk_layout.specs.Side.{side_sector}
 use Rattle.disk_layout.specs.declared.slot.Slot.{Slot}
-use Rattle.layout_check.proofs.Verdict.{all-of}
+use Rattle.layout_check.proofs.lemmas.judging.Verdict.{all-of}
 use Rattle.layout_check.specs.Exact.{HasMap}
 use Rattle.layout_check.specs.Owners.{owner_of}
 use Rattle.layout_check.specs.Mended.{AreExactFor, KeepsLayouts, SameMap}

@@ -17,8 +17,9 @@ use Rattle.disk_layout.proofs.lemmas.lists.Sums.{sum-same}
 use Rattle.disk_layout.proofs.lemmas.map.Bits.{few_sectors}
 use Rattle.disk_layout.specs.Free.{IsWithoutFree}
 use Rattle.disk_layout.specs.Map.{IsFree, IsGiven, map_bit, map_count}
-use Rattle.layout_check.proofs.Ones.{marked-all, marked-next, marked-past, ones-all, ones-free, ones-none, ones-past}
-use Rattle.layout_check.proofs.Ones.{ones-same, ones-taken, ones_to}
+use Rattle.layout_check.proofs.lemmas.mending.Ones.{marked-all, marked-next, marked-past, ones-all, ones-free}
+use Rattle.layout_check.proofs.lemmas.mending.Ones.{ones-none, ones-past}
+use Rattle.layout_check.proofs.lemmas.mending.Ones.{ones-same, ones-taken, ones_to}
 use Rattle.layout_check.specs.Made.{HasNoSpare, IsMadeMap, IsMadeTrack, KeepsTracks, SameHeader}
 use Rattle.layout_check.specs.Marked.{IsMarked, IsRightTrack}
 use Rattle.layout_check.specs.Owners.{owner_of}

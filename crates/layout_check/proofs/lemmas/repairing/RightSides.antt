@@ -50,10 +50,10 @@ use Rattle.disk_layout.specs.InOrder.{AreMade, GoesOver, WritesOther}
 use Rattle.disk_layout.specs.Layout.{File, IsFile, IsLayout, Layout, is_rel, record_length}
 use Rattle.disk_layout.specs.Side.{side_sector}
 use Rattle.disk_layout.specs.declared.slot.Slot.{Slot}
-use Rattle.layout_check.proofs.Inexact.{parts-of}
-use Rattle.layout_check.proofs.Pointers.{read-there}
-use Rattle.layout_check.proofs.Rights.{files-once, side-not_directory, side-not_map, sides-once}
-use Rattle.layout_check.proofs.SideMends.{file-once, file-sector, files-apart, parts-in}
+use Rattle.layout_check.proofs.lemmas.judging.Inexact.{parts-of}
+use Rattle.layout_check.proofs.lemmas.finding.Pointers.{read-there}
+use Rattle.layout_check.proofs.lemmas.repairing.Rights.{files-once, side-not_directory, side-not_map, sides-once}
+use Rattle.layout_check.proofs.lemmas.mending.SideMends.{file-once, file-sector, files-apart, parts-in}
 use Rattle.layout_check.specs.Exact.{AreExactSides}
 use Rattle.layout_check.specs.RepairOrder.{IsRight, sides_of}
 use Rattle.layout_check.specs.Mended.{IsPartsOf}

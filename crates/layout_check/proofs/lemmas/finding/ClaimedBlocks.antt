@@ -28,8 +28,8 @@ use Rattle.disk_layout.specs.Fault.{IsClosed}
 use Rattle.disk_layout.specs.declared.faults.Fault.{Fault}
 use Rattle.disk_layout.specs.declared.faults.Fault.TheVariants.{BadLink, Loop, OwnedTwice}
 use Rattle.disk_layout.specs.declared.slot.Slot.{Slot}
-use Rattle.layout_check.proofs.Calls.{passes_weaker}
-use Rattle.layout_check.proofs.Finding.{contains_or_not}
+use Rattle.layout_check.proofs.lemmas.judging.Calls.{passes_weaker}
+use Rattle.layout_check.proofs.lemmas.finding.Finding.{contains_or_not}
 use Rattle.layout_check.specs.Calls.{Passes, TellsUnsound}
 use Rattle.layout_check.specs.Owners.{IsClaimed, owner_of}
 use Rattle.layout_check.specs.SurveyedEntry.{TellsOrClashes}

@@ -10,7 +10,7 @@ use Rattle.disk_layout.proofs.lemmas.kept.Orders.{over_more, over_read, over_the
 use Rattle.disk_layout.specs.Directory.{map_place}
 use Rattle.disk_layout.specs.InOrder.{AreMade, GoesOver, IsUnderWay}
 use Rattle.disk_layout.specs.Layout.{IsLayout, Layout}
-use Rattle.layout_check.proofs.Rights.{directory-not_map, order-once, side-not_map}
+use Rattle.layout_check.proofs.lemmas.repairing.Rights.{directory-not_map, order-once, side-not_map}
 use Rattle.layout_check.specs.RepairOrder.{ClearsSpare, IsRight, repair_order, sides_of}
 use Rattle.layout_check.specs.Made.{HasNoSpare}
 

@@ -11,8 +11,8 @@ use Rattle.disk_layout.proofs.lemmas.lists.Once.{Contains-cases, Contains-nil, f
 use Rattle.disk_layout.specs.Directory.{slot_in}
 use Rattle.disk_layout.specs.InOrder.{AreMade}
 use Rattle.disk_layout.specs.Layout.{IsLayout, Layout, count_field}
-use Rattle.layout_check.proofs.RightCounts.{right-after, right-before}
-use Rattle.layout_check.proofs.Rights.{directory-not_map, side-not_directory}
+use Rattle.layout_check.proofs.lemmas.repairing.RightCounts.{right-after, right-before}
+use Rattle.layout_check.proofs.lemmas.repairing.Rights.{directory-not_map, side-not_directory}
 use Rattle.layout_check.specs.RepairOrder.{IsRight}
 use Rattle.layout_check.specs.Recounted.{AreRightIn, IsMendedAt, IsRecountOf, OldOrMended, owned_count}
 

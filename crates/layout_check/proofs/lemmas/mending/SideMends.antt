@@ -21,9 +21,9 @@ use Rattle.disk_layout.specs.Layout.{File, IsFile, IsLayout, IsSound, Layout, fi
 use Rattle.disk_layout.specs.Side.{side_sector}
 use Rattle.disk_layout.specs.declared.faults.Fault.{Fault}
 use Rattle.disk_layout.specs.declared.slot.Slot.{Slot}
-use Rattle.layout_check.proofs.Inexact.{parts-of}
-use Rattle.layout_check.proofs.MapMends.{mends_then, mends_write}
-use Rattle.layout_check.proofs.Mendings.{layout-side, mended-side}
+use Rattle.layout_check.proofs.lemmas.judging.Inexact.{parts-of}
+use Rattle.layout_check.proofs.lemmas.mending.MapMends.{mends_then, mends_write}
+use Rattle.layout_check.proofs.lemmas.mending.Mendings.{layout-side, mended-side}
 use Rattle.layout_check.specs.Exact.{AreExactSides, IsExactSide, IsFiled}
 use Rattle.layout_check.specs.Mended.{IsMended, IsPartsOf, KeepsExact, KeepsLayouts, Mends, SameMap, TellsDevice}
 use Rattle.layout_check.specs.Calls.{TellsUnsound}

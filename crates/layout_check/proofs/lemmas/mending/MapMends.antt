@@ -33,7 +33,7 @@ use Rattle.disk_layout.specs.Directory.{map_place}
 use Rattle.disk_layout.specs.Layout.{IsLayout, Layout}
 use Rattle.disk_layout.specs.declared.faults.Fault.{Fault}
 use Rattle.disk_layout.specs.declared.faults.Fault.TheVariants.{Device}
-use Rattle.layout_check.proofs.Verdict.{map-right, unmarked-of}
+use Rattle.layout_check.proofs.lemmas.judging.Verdict.{map-right, unmarked-of}
 use Rattle.layout_check.specs.Exact.{HasMap}
 use Rattle.layout_check.specs.Marked.{IsRightMap, IsWrongMap}
 use Rattle.layout_check.specs.Mended.{IsMended, KeepsLayouts, Mends, TellsDevice}

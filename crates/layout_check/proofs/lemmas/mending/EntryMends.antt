@@ -9,9 +9,9 @@ use Rattle.disk_layout.proofs.lemmas.lists.Lists.{contains-get}
 use Rattle.disk_layout.specs.Directory.{IsDirectory}
 use Rattle.disk_layout.specs.Layout.{is_rel}
 use Rattle.disk_layout.specs.declared.slot.Slot.{Slot}
-use Rattle.layout_check.proofs.Listed.{entry-listed}
-use Rattle.layout_check.proofs.Pointers.{read-there}
-use Rattle.layout_check.proofs.Progress.{slot-in}
+use Rattle.layout_check.proofs.lemmas.finding.Listed.{entry-listed}
+use Rattle.layout_check.proofs.lemmas.finding.Pointers.{read-there}
+use Rattle.layout_check.proofs.lemmas.finding.Progress.{slot-in}
 use Rattle.layout_check.specs.Entry.{IsEntry}
 use Rattle.layout_check.specs.Exact.{IsFiled}
 use Rattle.layout_check.specs.Mended.{AreExactFor, IsExactFor, IsPartsOf, KeepsExact, KeepsLayouts}

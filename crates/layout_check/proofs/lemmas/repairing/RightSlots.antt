@@ -45,8 +45,8 @@ use Rattle.disk_layout.specs.Entries.{IsRecounted}
 use Rattle.disk_layout.specs.Layout.{File, IsLayout, IsSound, Layout, count_field, is_rel}
 use Rattle.disk_layout.specs.Same.{IsCountByte}
 use Rattle.disk_layout.specs.declared.slot.Slot.{Slot}
-use Rattle.layout_check.proofs.Inexact.{parts-of}
-use Rattle.layout_check.proofs.Listed.{directory-sector}
+use Rattle.layout_check.proofs.lemmas.judging.Inexact.{parts-of}
+use Rattle.layout_check.proofs.lemmas.finding.Listed.{directory-sector}
 use Rattle.layout_check.specs.Entry.{IsEntry}
 use Rattle.layout_check.specs.Recounted.{
   AreCounted,

@@ -44,7 +44,7 @@ use Rattle.disk_layout.specs.Directory.{
 }
 use Rattle.disk_layout.specs.Fault.{IsDirectorySector}
 use Rattle.disk_layout.specs.declared.slot.Slot.{Slot}
-use Rattle.layout_check.proofs.Assembly.{chain-visits}
+use Rattle.layout_check.proofs.lemmas.finding.Assembly.{chain-visits}
 use Rattle.layout_check.specs.Entry.{IsEntry}
 
 -- lists side by side, each element of which tells of which it is

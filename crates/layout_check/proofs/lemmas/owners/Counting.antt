@@ -28,7 +28,7 @@ use Rattle.layout_check.specs.Open.{IsShut}
 use Rattle.layout_check.specs.Owners.{owner_of}
 use Rattle.layout_check.specs.Survey.{IsSurveyOf}
 use Rattle.layout_check.specs.declared.outcome.Survey.{Survey}
-use Rattle.layout_check.proofs.Ranks.{rank, rank-all, rank-in, rank-none, rank-out}
+use Rattle.layout_check.proofs.lemmas.owners.Ranks.{rank, rank-all, rank-in, rank-none, rank-out}
 
 -- a sector of track 18 stands at 357 to 375 in an image, and no other does
 on_18 : (p : Place) → p.track ≡ 18 → (357 ≤ index_of p) × (index_of p < 376)

@@ -50,7 +50,7 @@ use Rattle.disk_layout.specs.declared.faults.Fault.TheVariants.{
   Unclosed,
 }
 use Rattle.disk_layout.specs.declared.slot.Slot.{Slot}
-use Rattle.layout_check.proofs.Calls.{passes_weaker}
+use Rattle.layout_check.proofs.lemmas.judging.Calls.{passes_weaker}
 use Rattle.layout_check.specs.Calls.{Passes}
 use Rattle.layout_check.specs.Exact.{
   IsCleanFile,

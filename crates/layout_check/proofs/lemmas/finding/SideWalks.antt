@@ -34,7 +34,7 @@ use Rattle.disk_layout.specs.Fault.{Holds, IsBadSide, IsSideSector, length_byte,
 use Rattle.disk_layout.specs.Layout.{sides_for}
 use Rattle.disk_layout.specs.declared.faults.Fault.TheVariants.{BadSide}
 use Rattle.disk_layout.specs.declared.slot.Slot.{Slot}
-use Rattle.layout_check.proofs.Pointers.{read-there}
+use Rattle.layout_check.proofs.lemmas.finding.Pointers.{read-there}
 use Rattle.layout_check.specs.Sides.{
   AreLinkedSides,
   HasOtherFields,

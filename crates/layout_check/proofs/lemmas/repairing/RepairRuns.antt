@@ -9,9 +9,9 @@ use Rattle.disk_layout.specs.Fault.{Holds, TellsFault}
 use Rattle.disk_layout.specs.Layout.{IsLayout, Layout}
 use Rattle.disk_layout.specs.Same.{SameFiles}
 use Rattle.disk_layout.specs.declared.faults.Fault.{Fault}
-use Rattle.layout_check.proofs.MapMends.{mends_weaker}
-use Rattle.layout_check.proofs.Mendings.{mended-start, mended-then}
-use Rattle.layout_check.proofs.Repairs.{clean-after, clean-counts, clean-sides, survey-same}
+use Rattle.layout_check.proofs.lemmas.mending.MapMends.{mends_weaker}
+use Rattle.layout_check.proofs.lemmas.mending.Mendings.{mended-start, mended-then}
+use Rattle.layout_check.proofs.lemmas.repairing.Repairs.{clean-after, clean-counts, clean-sides, survey-same}
 use Rattle.layout_check.specs.Exact.{HasMap}
 use Rattle.layout_check.specs.Mended.{AreExactFor, IsMended, KeepsLayouts, Mends, SameMap, TellsDevice}
 use Rattle.layout_check.specs.Recounted.{AreCounted, KeepsButCounts}

@@ -55,8 +55,8 @@ use Rattle.disk_layout.specs.Fault.{
 use Rattle.disk_layout.specs.Layout.{File, HasChain, IsClosedType, IsFile, IsRelFile, file_owns, is_rel}
 use Rattle.disk_layout.specs.declared.faults.Fault.TheVariants.{OwnedTwice}
 use Rattle.disk_layout.specs.declared.slot.Slot.{Slot}
-use Rattle.layout_check.proofs.Assembly.{owns-block}
-use Rattle.layout_check.proofs.Listed.{directory-sector, entry-listed}
+use Rattle.layout_check.proofs.lemmas.finding.Assembly.{owns-block}
+use Rattle.layout_check.proofs.lemmas.finding.Listed.{directory-sector, entry-listed}
 use Rattle.layout_check.specs.Survey.{taken}
 
 closed-high : (t : ℕ) → IsClosedType t → 128 ≤ t

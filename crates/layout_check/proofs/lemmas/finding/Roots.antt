@@ -22,7 +22,7 @@ use Rattle.disk_layout.specs.declared.faults.Fault.TheVariants.{
   Unclosed,
 }
 use Rattle.disk_layout.specs.declared.slot.Slot.{Slot}
-use Rattle.layout_check.proofs.Calls.{any_answer, passes_then, tells_then}
+use Rattle.layout_check.proofs.lemmas.judging.Calls.{any_answer, passes_then, tells_then}
 use Rattle.layout_check.specs.Calls.{Passes, TellsUnsound}
 
 directory-holds : (failed : Place → Type 0) (img : Image) (f : Fault) → HoldsOfDirectory failed img f
