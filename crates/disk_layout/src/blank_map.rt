@@ -7,19 +7,6 @@ use crate::bam::Bam;
 use crate::entries::padded_name;
 use d64_image::Place;
 
-/// 18/0 of the blank image in which the second file has so many data blocks.
-pub(crate) fn blank_map(name: &[u8], id: [u8; 2], blocks: u8) -> [u8; 256]
-    requires name { length name.now ≤ 16 }
-    requires blocks { blocks ≤ 32 }
-    ensures { IsBlankMap result name.now id blocks }
-{
-    let mut map = Bam::new(blank_header(name, id));
-    for below in 0..35u8 {
-        free_from(&mut map, below + 1, taken_on(below + 1, blocks));
-    }
-    map.bytes
-}
-
 /// 18/0 with no sector free: what stands before the map, 140 bytes 0, the name and the id.
 fn blank_header(name: &[u8], id: [u8; 2]) -> [u8; 256]
     requires { length name.now ≤ 16 }
@@ -61,4 +48,17 @@ fn free_from(map: &mut Bam, track: u8, taken: u8)
             map.give(place);
         }
     }
+}
+
+/// 18/0 of the blank image in which the second file has so many data blocks.
+pub(crate) fn blank_map(name: &[u8], id: [u8; 2], blocks: u8) -> [u8; 256]
+    requires name { length name.now ≤ 16 }
+    requires blocks { blocks ≤ 32 }
+    ensures { IsBlankMap result name.now id blocks }
+{
+    let mut map = Bam::new(blank_header(name, id));
+    for below in 0..35u8 {
+        free_from(&mut map, below + 1, taken_on(below + 1, blocks));
+    }
+    map.bytes
 }

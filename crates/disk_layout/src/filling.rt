@@ -5,6 +5,20 @@ ghost use Rattle.disk_layout.specs.Records.{filler};
 /// How many bytes of data a block has, behind the two of its link.
 pub const DATA: usize = 254;
 
+/// Begins the records from `begin` to below `end`, counted from 0, of `size` bytes each: FF at the first byte of each.
+fn start_records(bytes: &mut [u8; 256], at: u32, size: u32, begin: u32, end: u32)
+    requires size { size ≤ 255 }
+    requires end { end ≤ 1000000 }
+    requires inside { (r : ℕ) → begin ≤ r → r < end → (at ≤ r * size) × (r * size < at + 254) }
+    ensures begun { (r : ℕ) → begin ≤ r → r < end → slice_index bytes.new (2 + (r * size - at)) ≡ 255 }
+    ensures rest { (k : ℕ) → ((r : ℕ) → begin ≤ r → r < end → k ≢ 2 + (r * size - at))
+        → slice_index bytes.new k ≡ slice_index bytes.old k }
+{
+    for record in begin..end {
+        bytes[2 + (record * size - at) as usize] = 0xFF;
+    }
+}
+
 /// Writes empty records into a data block, from byte `from` of a file's joined data on, of which this block holds those
 /// from `at` on, 254 of them in bytes 2 to 255: FF where one of the first `total` records of `length` bytes begins, 00
 /// elsewhere. The bytes before, and the link in bytes 0-1, stay.
@@ -22,18 +36,4 @@ pub fn fill(bytes: &mut [u8; 256], at: u32, from: u32, length: u8, total: u32)
     let begin = first.div_ceil(size);
     let end = (at + DATA as u32).div_ceil(size).min(total);
     start_records(bytes, at, size, begin, end);
-}
-
-/// Begins the records from `begin` to below `end`, counted from 0, of `size` bytes each: FF at the first byte of each.
-fn start_records(bytes: &mut [u8; 256], at: u32, size: u32, begin: u32, end: u32)
-    requires size { size ≤ 255 }
-    requires end { end ≤ 1000000 }
-    requires inside { (r : ℕ) → begin ≤ r → r < end → (at ≤ r * size) × (r * size < at + 254) }
-    ensures begun { (r : ℕ) → begin ≤ r → r < end → slice_index bytes.new (2 + (r * size - at)) ≡ 255 }
-    ensures rest { (k : ℕ) → ((r : ℕ) → begin ≤ r → r < end → k ≢ 2 + (r * size - at))
-        → slice_index bytes.new k ≡ slice_index bytes.old k }
-{
-    for record in begin..end {
-        bytes[2 + (record * size - at) as usize] = 0xFF;
-    }
 }

@@ -14,27 +14,6 @@ pub const POINTERS_AT: usize = 16;
 /// How many side sectors a side sector lists at most: a file has six or fewer.
 const LISTED: usize = 6;
 
-/// The exact bytes of side sector `number`, counted from 0, of a relative file with these data blocks, these side
-/// sectors and this record length.
-///
-/// Bytes 0-1 name the next side sector; in the last they are 0 and the index of the last used byte. Byte 2 is the
-/// number and byte 3 the record length. From byte 4 on stand the places of all side sectors, in every side sector
-/// alike, and from byte 16 on those of data blocks 120 * number and on; what is left over of both lists is 0.
-pub fn side_bytes(number: u8, blocks: &[Place], sides: &[Place], length: u8) -> [u8; 256]
-    ensures { result ≡ side_sector number blocks.now sides.now length }
-{
-    let pointers = pointers(number, blocks);
-    let (track, sector) = link(number, sides, pointers.len());
-    let mut bytes = [0; 256];
-    bytes[0] = track;
-    bytes[1] = sector;
-    bytes[2] = number;
-    bytes[3] = length;
-    put_places(&mut bytes, 4, &sides[..sides.len().min(LISTED)]);
-    put_places(&mut bytes, POINTERS_AT, pointers);
-    bytes
-}
-
 /// The data blocks that side sector `number` points to: 120 from block 120 * number on, as far as there are so many.
 fn pointers(number: u8, blocks: &[Place]) -> &[Place]
     ensures places { result.now ≡ pointers_of number blocks.now }
@@ -66,6 +45,27 @@ fn put_places(bytes: &mut [u8; 256], at: usize, places: &[Place])
         bytes[at + 2 * i] = place.track();
         bytes[at + 2 * i + 1] = place.sector();
     }
+}
+
+/// The exact bytes of side sector `number`, counted from 0, of a relative file with these data blocks, these side
+/// sectors and this record length.
+///
+/// Bytes 0-1 name the next side sector; in the last they are 0 and the index of the last used byte. Byte 2 is the
+/// number and byte 3 the record length. From byte 4 on stand the places of all side sectors, in every side sector
+/// alike, and from byte 16 on those of data blocks 120 * number and on; what is left over of both lists is 0.
+pub fn side_bytes(number: u8, blocks: &[Place], sides: &[Place], length: u8) -> [u8; 256]
+    ensures { result ≡ side_sector number blocks.now sides.now length }
+{
+    let pointers = pointers(number, blocks);
+    let (track, sector) = link(number, sides, pointers.len());
+    let mut bytes = [0; 256];
+    bytes[0] = track;
+    bytes[1] = sector;
+    bytes[2] = number;
+    bytes[3] = length;
+    put_places(&mut bytes, 4, &sides[..sides.len().min(LISTED)]);
+    put_places(&mut bytes, POINTERS_AT, pointers);
+    bytes
 }
 
 /// A side sector as it is read: its fields, and the places that it names, taken from its bytes where they lie.

@@ -38,6 +38,17 @@ pub fn put<W: Write>(out: &mut W, bytes: &[u8]) -> Result<(), RunFault>
     Ok(())
 }
 
+/// Hands on what the writer still holds back. `File` where it failed.
+pub fn flush<W: Write>(out: &mut W) -> Result<(), RunFault>
+    ensures kept { Keeps (W.contents out.old) (W.contents out.new) }
+    ensures err { IfErr result (λ fault. fault ≡ faults.File) }
+{
+    if out.flush().is_err() {
+        return Err(RunFault::File);
+    }
+    Ok(())
+}
+
 /// Hands all of these bytes to the writer, and those that it still holds back to where it keeps
 /// them. `File` where it failed, which then has a beginning of them, or all.
 pub fn put_whole<W: Write>(out: &mut W, bytes: &[u8]) -> Result<(), RunFault>
@@ -58,17 +69,6 @@ pub fn put_line<W: Write, T: Display + Drop>(out: &mut W, text: T) -> Result<(),
     ensures err { IfErr result (λ fault. fault ≡ faults.File) }
 {
     if writeln!(out, "{text}").is_err() {
-        return Err(RunFault::File);
-    }
-    Ok(())
-}
-
-/// Hands on what the writer still holds back. `File` where it failed.
-pub fn flush<W: Write>(out: &mut W) -> Result<(), RunFault>
-    ensures kept { Keeps (W.contents out.old) (W.contents out.new) }
-    ensures err { IfErr result (λ fault. fault ≡ faults.File) }
-{
-    if out.flush().is_err() {
         return Err(RunFault::File);
     }
     Ok(())

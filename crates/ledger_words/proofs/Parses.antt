@@ -5,7 +5,7 @@ use Rattle.clap.specs.Words.{App, FailsBy, HasKind, HasMatchesOf, Kinds, Row, Te
 use Rattle.clap.specs.Words.{is_simple_and_free, rows_of, subcommand_of}
 use Rattle.clap.specs.declared.error.Error.{Error}
 use Rattle.clap.specs.declared.parser.matches.ArgMatches.{ArgMatches}
-use Rattle.ledger_words.specs.Grammar.{ledger, value}
+use Rattle.ledger_grammar.specs.Grammar.{ledger, value}
 use Rattle.ledger_words.specs.Jobs.{Has, HasNoName, HasNoNewName, IsJob, IsMakingJob, IsNoJob, IsParse, IsStoringJob}
 use Rattle.ledger_words.specs.Jobs.{IsTakingJob, word_of_taking}
 use Rattle.ledger_program.specs.Jobs.{IsFit}

@@ -9,7 +9,7 @@ use Rattle.ledger_commands.specs.declared.durable.Durability.{Durability}
 use Rattle.ledger_commands.specs.declared.durable.Durability.TheVariants as durabilities
 use Rattle.keeper_commands.specs.Makes.{IsNewName}
 use Rattle.rel_records.specs.File.{IsLength}
-use Rattle.ledger_words.specs.Grammar.{value}
+use Rattle.ledger_grammar.specs.Grammar.{value}
 use Rattle.ledger_program.specs.declared.jobs.Drawing.{Drawing}
 use Rattle.ledger_program.specs.declared.jobs.Drawing.TheVariants as drawings
 use Rattle.ledger_program.specs.declared.jobs.Job.{Job}

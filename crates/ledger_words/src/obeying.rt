@@ -47,6 +47,19 @@ fn refuse<E: Write>(err: &mut E, error: &io::Error) -> u8 {
     end(Err(Refusal::Run(RunFault::of_io(error))), err).status
 }
 
+/// Tells a person what the words may be. What `clap` refuses it explains itself.
+fn explain_words<E: Write>(fault: &JobFault, err: &mut E) {
+    let _ = match fault {
+        JobFault::Words(_) => Ok(()),
+        JobFault::Tills => writeln!(err, "ledger: T is 1 to 64"),
+        JobFault::Length => writeln!(err, "ledger: L is 1 to 254"),
+        JobFault::Name => writeln!(
+            err,
+            "ledger: NAME has 1 to 16 bytes; one that isn't plain text is a backslash and two digits, as \\c1"
+        ),
+    };
+}
+
 /// Tells why the words ask for nothing, or gives the help that they ask for, and answers the exit status.
 fn refuse_words<R: Print + Eprint, E: Write>(
     rt: &R,
@@ -71,19 +84,6 @@ fn refuse_words<R: Print + Eprint, E: Write>(
         Err(error) if status == 0 => refuse(err, &error),
         _ => status,
     }
-}
-
-/// Tells a person what the words may be. What `clap` refuses it explains itself.
-fn explain_words<E: Write>(fault: &JobFault, err: &mut E) {
-    let _ = match fault {
-        JobFault::Words(_) => Ok(()),
-        JobFault::Tills => writeln!(err, "ledger: T is 1 to 64"),
-        JobFault::Length => writeln!(err, "ledger: L is 1 to 254"),
-        JobFault::Name => writeln!(
-            err,
-            "ledger: NAME has 1 to 16 bytes; one that isn't plain text is a backslash and two digits, as \\c1"
-        ),
-    };
 }
 
 /// Does a job over an output. A person who waits for long work is told how far it is.

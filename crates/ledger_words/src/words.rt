@@ -1,7 +1,7 @@
 //! Reading the words of the command line.
 ghost use Rattle.std.specs.Prelude.{◌≡◌, ◌≤◌, ℕ, IfErr, IfOk, IfSome, IsNone, List, MatchResult, [], map, option_map};
 ghost use Rattle.clap.specs.Words.{HasKind, fault_of, found_of, rows_of, subcommand_of, subcommand_rows_of};
-ghost use Rattle.ledger_words.specs.Grammar.{ledger, value};
+ghost use Rattle.ledger_grammar.specs.Grammar.{ledger, value};
 ghost use Rattle.request_cards.specs.Reading.{number_in};
 ghost use Rattle.byte_text.specs.Texts.{AreBytes};
 ghost use Rattle.keeper_commands.specs.Makes.{IsNewName};
@@ -12,9 +12,9 @@ ghost use Rattle.rel_records.specs.File.{IsLength};
 ghost use Rattle.ledger_words.specs.Jobs.{is_given as given, play_durability as of_play, serve_durability as of_serve};
 
 use crate::faults::JobFault;
-use crate::grammar::ledger_command;
 use clap::{ArgMatches, Error};
 use ledger_commands::Durability;
+use ledger_grammar::ledger_command;
 use ledger_program::{Drawing, Job, Name, Reading, Taking};
 use request_cards::number;
 use std::alloc::{AllocError, Global};

@@ -28,50 +28,6 @@ use arrayvec::ArrayVec;
 use d64_image::{Place, Sectors};
 use disk_layout::{Bam, directory_start, padded_name, walk_chain};
 
-/// Creates a relative file of this name and record length, in bytes, with one data block of empty records. Its entry
-/// goes into the first free slot of the directory, or where all slots are used into a new directory sector, the lowest
-/// free one of track 18.
-///
-/// `Exists` where an entry has the name, of whatever type. Else `Full` where fewer than two blocks are free, or the
-/// directory has neither a free slot nor a free sector. Both write nothing. The name isn't judged: whoever asks sees to
-/// it that it has no shifted space, and that the first closed relative file of it, if any, has another record length.
-///
-/// All reads come before the first write; the last write makes the file.
-pub fn create<D: Sectors>(disk: &mut D, name: &[u8], size: u8) -> Result<RelFile, RelFault>
-    requires clean { IsClean (D.history.image disk.old) }
-    requires name { length name.now ≤ 16 }
-    requires low { 1 ≤ size }
-    requires high { size ≤ 254 }
-    ensures { Creates D.history disk.old disk.new name.now size result }
-{
-    let site = choose_site(disk, name)?;
-    let Ok(()) = write_file(disk, &site, name, size) else {
-        return Err(RelFault::Device);
-    };
-    Ok(file_at(&site, size))
-}
-
-/// Chooses what a new file of this name takes, or refuses it; nothing is written.
-fn choose_site<D: Sectors>(disk: &mut D, name: &[u8]) -> Result<Site, RelFault>
-    requires clean { IsClean (D.history.image disk.old) }
-    requires name { length name.now ≤ 16 }
-    ensures { Chooses D.history disk.old disk.new name.now result (IsSite (D.history.image disk.old)) }
-{
-    let mut used = ArrayVec::new();
-    list_slots(disk, &mut used)?;
-    if has_name(used.as_slice(), &padded_name(name)) {
-        return Err(RelFault::Exists);
-    }
-    let room = read_room(disk)?;
-    let Ok(map) = Bam::read(disk) else {
-        return Err(RelFault::Device);
-    };
-    let Some(site) = take_site(map, room) else {
-        return Err(RelFault::Full);
-    };
-    Ok(site)
-}
-
 /// Where the directory of a sound disk has room for an entry.
 fn read_room<D: Sectors>(disk: &mut D) -> Result<Room, RelFault>
     requires sound { IsSound (D.history.image disk.old) }
@@ -140,6 +96,27 @@ fn take_site(mut map: Bam, room: Room) -> Option<Site>
     }
 }
 
+/// Chooses what a new file of this name takes, or refuses it; nothing is written.
+fn choose_site<D: Sectors>(disk: &mut D, name: &[u8]) -> Result<Site, RelFault>
+    requires clean { IsClean (D.history.image disk.old) }
+    requires name { length name.now ≤ 16 }
+    ensures { Chooses D.history disk.old disk.new name.now result (IsSite (D.history.image disk.old)) }
+{
+    let mut used = ArrayVec::new();
+    list_slots(disk, &mut used)?;
+    if has_name(used.as_slice(), &padded_name(name)) {
+        return Err(RelFault::Exists);
+    }
+    let room = read_room(disk)?;
+    let Ok(map) = Bam::read(disk) else {
+        return Err(RelFault::Device);
+    };
+    let Some(site) = take_site(map, room) else {
+        return Err(RelFault::Full);
+    };
+    Ok(site)
+}
+
 /// The new file, as it stands at its site.
 fn file_at(site: &Site, size: u8) -> RelFile
     requires { IsLength size }
@@ -156,4 +133,27 @@ fn file_at(site: &Site, size: u8) -> RelFile
         blocks: 1,
         last: last_index(1, size),
     }
+}
+
+/// Creates a relative file of this name and record length, in bytes, with one data block of empty records. Its entry
+/// goes into the first free slot of the directory, or where all slots are used into a new directory sector, the lowest
+/// free one of track 18.
+///
+/// `Exists` where an entry has the name, of whatever type. Else `Full` where fewer than two blocks are free, or the
+/// directory has neither a free slot nor a free sector. Both write nothing. The name isn't judged: whoever asks sees to
+/// it that it has no shifted space, and that the first closed relative file of it, if any, has another record length.
+///
+/// All reads come before the first write; the last write makes the file.
+pub fn create<D: Sectors>(disk: &mut D, name: &[u8], size: u8) -> Result<RelFile, RelFault>
+    requires clean { IsClean (D.history.image disk.old) }
+    requires name { length name.now ≤ 16 }
+    requires low { 1 ≤ size }
+    requires high { size ≤ 254 }
+    ensures { Creates D.history disk.old disk.new name.now size result }
+{
+    let site = choose_site(disk, name)?;
+    let Ok(()) = write_file(disk, &site, name, size) else {
+        return Err(RelFault::Device);
+    };
+    Ok(file_at(&site, size))
 }

@@ -26,34 +26,6 @@ use crate::sizes::{blocks_for, side_count};
 use d64_image::{DeviceFault, Sectors};
 use disk_layout::Bam;
 
-/// Grows the file so that record `number` is there, by empty records; where it is there, or for 0, nothing is read or written.
-///
-/// All whole records that fit into the file's blocks are made then. `TooLarge` where the record isn't there and would need
-/// more than 720 data blocks, or its number is past 65535; `Full` where the free blocks don't suffice. Both write nothing.
-/// All reads come before the first write.
-pub fn grow_to<D: Sectors>(disk: &mut D, file: &mut RelFile, number: u32) -> Result<(), RelFault>
-    requires clean { IsClean (D.history.image disk.old) }
-    requires of { IsOf (D.history.image disk.old) file.old }
-    ensures { Grows D.history disk.old disk.new file.old file.new number result }
-{
-    if has_records(file, number) {
-        return Ok(());
-    }
-    let Some(wanted) = blocks_for(number, file.size) else {
-        return Err(RelFault::TooLarge);
-    };
-    let Ok(map) = Bam::read(disk) else {
-        return Err(RelFault::Device);
-    };
-    if map.view().blocks_free() < sectors_needed(file.blocks, wanted) {
-        return Err(RelFault::Full);
-    }
-    let Ok(()) = grow(disk, file, map, wanted) else {
-        return Err(RelFault::Device);
-    };
-    Ok(())
-}
-
 /// How many sectors a file of `blocks` blocks needs to have `wanted` of them, beyond those that it has.
 fn sectors_needed(blocks: u16, wanted: u16) -> u16
     requires blocks { blocks ≤ 720 }
@@ -61,31 +33,6 @@ fn sectors_needed(blocks: u16, wanted: u16) -> u16
     ensures { result ≡ needed blocks wanted }
 {
     (wanted + side_count(wanted)).saturating_sub(blocks + side_count(blocks))
-}
-
-/// Fills the room in a file's last blocks, and gives it blocks until it has `wanted`. All reads come before the first
-/// write.
-// Out of line, since a call pays for all locals at its start, and `grow_to` mostly finds the record there.
-#[inline(never)]
-fn grow<D: Sectors>(
-    disk: &mut D,
-    file: &mut RelFile,
-    map: Bam,
-    wanted: u16,
-) -> Result<(), DeviceFault>
-    requires { MayGrow (D.history.image disk.old) file.old map.bytes wanted }
-    ensures file { OfItsFile (D.history.image disk.old) file.old (λ l n f.
-        GrowsBy D.history disk.old disk.new l n f (fill_writes f + run_writes (length f.blocks) wanted)
-        (full (record_length f.slot) wanted - records_had f)
-        (HasRun (D.history.image disk.old) (D.history.image disk.new) l n f wanted file.new) result) }
-    ensures entry { entry_of file.new ≡ entry_of file.old }
-    ensures failures { TellsFailure D.history disk.old disk.new result }
-{
-    let mut parts = read_parts(disk, file, map)?;
-    fill_up(disk, &mut parts, records(file))?;
-    add_blocks(disk, &mut parts, wanted)?;
-    renew(file, parts);
-    Ok(())
 }
 
 /// Gives a file that is filled up blocks, one after another, until it has `wanted`.
@@ -132,4 +79,57 @@ fn renew(file: &mut RelFile, parts: Parts)
         blocks: blocks.len() as u16,
         last: last[1],
     };
+}
+
+/// Fills the room in a file's last blocks, and gives it blocks until it has `wanted`. All reads come before the first
+/// write.
+// Out of line, since a call pays for all locals at its start, and `grow_to` mostly finds the record there.
+#[inline(never)]
+fn grow<D: Sectors>(
+    disk: &mut D,
+    file: &mut RelFile,
+    map: Bam,
+    wanted: u16,
+) -> Result<(), DeviceFault>
+    requires { MayGrow (D.history.image disk.old) file.old map.bytes wanted }
+    ensures file { OfItsFile (D.history.image disk.old) file.old (λ l n f.
+        GrowsBy D.history disk.old disk.new l n f (fill_writes f + run_writes (length f.blocks) wanted)
+        (full (record_length f.slot) wanted - records_had f)
+        (HasRun (D.history.image disk.old) (D.history.image disk.new) l n f wanted file.new) result) }
+    ensures entry { entry_of file.new ≡ entry_of file.old }
+    ensures failures { TellsFailure D.history disk.old disk.new result }
+{
+    let mut parts = read_parts(disk, file, map)?;
+    fill_up(disk, &mut parts, records(file))?;
+    add_blocks(disk, &mut parts, wanted)?;
+    renew(file, parts);
+    Ok(())
+}
+
+/// Grows the file so that record `number` is there, by empty records; where it is there, or for 0, nothing is read or written.
+///
+/// All whole records that fit into the file's blocks are made then. `TooLarge` where the record isn't there and would need
+/// more than 720 data blocks, or its number is past 65535; `Full` where the free blocks don't suffice. Both write nothing.
+/// All reads come before the first write.
+pub fn grow_to<D: Sectors>(disk: &mut D, file: &mut RelFile, number: u32) -> Result<(), RelFault>
+    requires clean { IsClean (D.history.image disk.old) }
+    requires of { IsOf (D.history.image disk.old) file.old }
+    ensures { Grows D.history disk.old disk.new file.old file.new number result }
+{
+    if has_records(file, number) {
+        return Ok(());
+    }
+    let Some(wanted) = blocks_for(number, file.size) else {
+        return Err(RelFault::TooLarge);
+    };
+    let Ok(map) = Bam::read(disk) else {
+        return Err(RelFault::Device);
+    };
+    if map.view().blocks_free() < sectors_needed(file.blocks, wanted) {
+        return Err(RelFault::Full);
+    }
+    let Ok(()) = grow(disk, file, map, wanted) else {
+        return Err(RelFault::Device);
+    };
+    Ok(())
 }

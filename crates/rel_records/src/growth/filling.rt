@@ -14,31 +14,17 @@ use crate::sizes::{BLOCK, full_records, last_index};
 use d64_image::{DeviceFault, Sectors};
 use disk_layout::fill;
 
-/// Fills the room that a file's last blocks have left with empty records, where a whole one fits: the block before the
-/// last first, where the first new record begins there. The file has `had` records.
-pub(crate) fn fill_up<D: Sectors>(
-    disk: &mut D,
-    parts: &mut Parts,
-    had: u32,
-) -> Result<(), DeviceFault>
-    requires at { StandsAt (D.history.image disk.old) parts.old }
-    requires few { length parts.old.blocks.items ≤ 720 }
-    requires had { had ≡ record_count (length parts.old.blocks.items) (slice_index parts.old.last 1) parts.old.size }
-    ensures file { (l : Layout) → (n : ℕ) → (f : File) → IsAt (D.history.image disk.old) l n f parts.old
-        → GrowsBy D.history disk.old disk.new l n f (fill_writes f)
-        (full (record_length f.slot) (length f.blocks) - records_had f)
-        (HasFilled (D.history.image disk.old) (D.history.image disk.new) l n f parts.old parts.new) result }
-    ensures failures { TellsFailure D.history disk.old disk.new result }
+/// Fills a block's tail in memory: from data byte `from` of the file on, where the block begins at data byte `at`.
+fn fill_tail(bytes: &mut [u8; 256], at: u32, from: u32, length: u8, total: u32)
+    requires at { at ≤ 1000000 }
+    requires total { total ≤ 1000000 }
+    requires length { 0 < length }
+    ensures filled { (j : ℕ) → j < 254 → from ≤ at + j → slice_index bytes.new (2 + j) ≡ filler length total (at + j) }
+    ensures kept { (j : ℕ) → j < 254 → at + j < from → slice_index bytes.new (2 + j) ≡ slice_index bytes.old (2 + j) }
+    ensures link { (j : ℕ) → j < 2 → slice_index bytes.new j ≡ slice_index bytes.old j }
+    ensures sector { IsSector bytes.new }
 {
-    let count = parts.blocks.len() as u16;
-    let total = full_records(count, parts.size);
-    if had == total {
-        return Ok(());
-    }
-    let from = had * parts.size as u32;
-    fill_before(disk, parts, from, total)?;
-    fill_last(&mut parts.last, from, count, parts.size);
-    disk.write(parts.last_place(), &parts.last)
+    fill(bytes, at, from, length, total);
 }
 
 /// Fills the tail of the block before the last, where `from` lies there.
@@ -73,19 +59,6 @@ fn fill_before<D: Sectors>(
     disk.write(place, &bytes)
 }
 
-/// Fills a block's tail in memory: from data byte `from` of the file on, where the block begins at data byte `at`.
-fn fill_tail(bytes: &mut [u8; 256], at: u32, from: u32, length: u8, total: u32)
-    requires at { at ≤ 1000000 }
-    requires total { total ≤ 1000000 }
-    requires length { 0 < length }
-    ensures filled { (j : ℕ) → j < 254 → from ≤ at + j → slice_index bytes.new (2 + j) ≡ filler length total (at + j) }
-    ensures kept { (j : ℕ) → j < 254 → at + j < from → slice_index bytes.new (2 + j) ≡ slice_index bytes.old (2 + j) }
-    ensures link { (j : ℕ) → j < 2 → slice_index bytes.new j ≡ slice_index bytes.old j }
-    ensures sector { IsSector bytes.new }
-{
-    fill(bytes, at, from, length, total);
-}
-
 /// Fills the last of `count` blocks up in memory, and ends it where the last whole record that fits ends.
 fn fill_last(bytes: &mut [u8; 256], from: u32, count: u16, length: u8)
     requires some { 1 ≤ count }
@@ -97,4 +70,31 @@ fn fill_last(bytes: &mut [u8; 256], from: u32, count: u16, length: u8)
     let total = full_records(count, length);
     fill(bytes, BLOCK * (count as u32 - 1), from, length, total);
     bytes[1] = last_index(count, length);
+}
+
+/// Fills the room that a file's last blocks have left with empty records, where a whole one fits: the block before the
+/// last first, where the first new record begins there. The file has `had` records.
+pub(crate) fn fill_up<D: Sectors>(
+    disk: &mut D,
+    parts: &mut Parts,
+    had: u32,
+) -> Result<(), DeviceFault>
+    requires at { StandsAt (D.history.image disk.old) parts.old }
+    requires few { length parts.old.blocks.items ≤ 720 }
+    requires had { had ≡ record_count (length parts.old.blocks.items) (slice_index parts.old.last 1) parts.old.size }
+    ensures file { (l : Layout) → (n : ℕ) → (f : File) → IsAt (D.history.image disk.old) l n f parts.old
+        → GrowsBy D.history disk.old disk.new l n f (fill_writes f)
+        (full (record_length f.slot) (length f.blocks) - records_had f)
+        (HasFilled (D.history.image disk.old) (D.history.image disk.new) l n f parts.old parts.new) result }
+    ensures failures { TellsFailure D.history disk.old disk.new result }
+{
+    let count = parts.blocks.len() as u16;
+    let total = full_records(count, parts.size);
+    if had == total {
+        return Ok(());
+    }
+    let from = had * parts.size as u32;
+    fill_before(disk, parts, from, total)?;
+    fill_last(&mut parts.last, from, count, parts.size);
+    disk.write(parts.last_place(), &parts.last)
 }

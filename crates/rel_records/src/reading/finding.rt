@@ -71,6 +71,18 @@ fn measure<D: Sectors>(disk: &mut D, slot: &Slot) -> Result<(u16, u8), RelFault>
     }
 }
 
+/// Lists the first `count` side sectors that the bytes of a side sector name.
+fn list_sides(bytes: &[u8; 256], count: usize, sides: &mut ArrayVec<Place, 6>)
+    requires of { (qs : List Place) × (length qs ≡ count) × (count ≤ 6) × NamesEach bytes.now 4 qs }
+    ensures { (qs : List Place) → length qs ≡ count → NamesEach bytes.now 4 qs → sides.new.items ≡ qs }
+{
+    let view = SideView::new(bytes);
+    sides.clear();
+    for number in 0..count {
+        sides.push(view.side(number).unwrap());
+    }
+}
+
 /// Reads the side sector at `place` and lists the first `count` side sectors that it names.
 fn read_sides<D: Sectors>(
     disk: &mut D,
@@ -88,18 +100,6 @@ fn read_sides<D: Sectors>(
     read(disk, place, &mut bytes)?;
     list_sides(&bytes, count, sides);
     Ok(())
-}
-
-/// Lists the first `count` side sectors that the bytes of a side sector name.
-fn list_sides(bytes: &[u8; 256], count: usize, sides: &mut ArrayVec<Place, 6>)
-    requires of { (qs : List Place) × (length qs ≡ count) × (count ≤ 6) × NamesEach bytes.now 4 qs }
-    ensures { (qs : List Place) → length qs ≡ count → NamesEach bytes.now 4 qs → sides.new.items ≡ qs }
-{
-    let view = SideView::new(bytes);
-    sides.clear();
-    for number in 0..count {
-        sides.push(view.side(number).unwrap());
-    }
 }
 
 /// The relative file of this slot, which has the number `entry` among the used slots.

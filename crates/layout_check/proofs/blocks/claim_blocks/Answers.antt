@@ -6,10 +6,10 @@ use Rattle.disk_layout.proofs.lemmas.chains.Chains.{Leads-push}
 use Rattle.disk_layout.proofs.lemmas.chains.Names.{named-match}
 use Rattle.disk_layout.proofs.lemmas.chains.Walks.{end-read, link-read, walk-end}
 use Rattle.disk_layout.proofs.lemmas.lists.Once.{EachOnce-push}
-use Rattle.layout_check.proofs.Calls.{passes_none, passes_read, passes_then}
-use Rattle.layout_check.proofs.ClaimedBlocks.{room-left, unclaimed}
-use Rattle.layout_check.proofs.Claims.{claim-push}
-use Rattle.layout_check.proofs.Finding.{claims-none}
+use Rattle.layout_check.proofs.lemmas.judging.Calls.{passes_none, passes_read, passes_then}
+use Rattle.layout_check.proofs.lemmas.finding.ClaimedBlocks.{room-left, unclaimed}
+use Rattle.layout_check.proofs.lemmas.owners.Claims.{claim-push}
+use Rattle.layout_check.proofs.lemmas.finding.Finding.{claims-none}
 use Rattle.layout_check.specs.Owners.{owner_of}
 use Rattle.layout_check.proofs.blocks.claim_blocks.Goals as goal
 use Rattle.layout_check.proofs.blocks.claim_blocks.Answers.Told as told

@@ -1,7 +1,7 @@
 -- The walk along the chain that the slot names, or a slot that names no place.
 use Rattle.std.proofs.Common.{arith}
 use Rattle.disk_layout.proofs.lemmas.chains.Names.{named-match}
-use Rattle.layout_check.proofs.Walked.{blocks-found, chain-tells, no_first}
+use Rattle.layout_check.proofs.lemmas.finding.Walked.{blocks-found, chain-tells, no_first}
 use Rattle.layout_check.proofs.blocks.survey_blocks.Goals as goal
 
 pub returns-in_default-clause-err : goal.returns-in_default-clause-err

@@ -2,10 +2,10 @@
 use Rattle.std.proofs.Common.{ℕ, arith, refl, ◌∙◌}
 use Rattle.std.proofs.lemmas.Result.{err_from_is_err_and}
 use Rattle.d64_image.proofs.Moments.{reads_weaker}
-use Rattle.layout_check.proofs.Calls.{any_answer, passes_then}
-use Rattle.layout_check.proofs.Inexact.{clean_tells, clean_then}
-use Rattle.layout_check.proofs.Judged.{kept-tells, survey-passes}
-use Rattle.layout_check.proofs.Verdict.{clean-layout, map-at, survey-told, told-clean}
+use Rattle.layout_check.proofs.lemmas.judging.Calls.{any_answer, passes_then}
+use Rattle.layout_check.proofs.lemmas.judging.Inexact.{clean_tells, clean_then}
+use Rattle.layout_check.proofs.lemmas.judging.Judged.{kept-tells, survey-passes}
+use Rattle.layout_check.proofs.lemmas.judging.Verdict.{clean-layout, map-at, survey-told, told-clean}
 use Rattle.layout_check.specs.declared.outcome.Survey.{Survey}
 use Rattle.layout_check.proofs.checking.check.Goals as goal
 

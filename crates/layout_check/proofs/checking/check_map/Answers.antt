@@ -3,10 +3,10 @@ use Rattle.std.proofs.Common.{ap, ◌∙◌}
 use Rattle.std.proofs.lemmas.Result.{err_from_is_err_and}
 use Rattle.d64_image.specs.Images.{sector}
 use Rattle.d64_image.specs.declared.place.Place.{Place}
-use Rattle.layout_check.proofs.Calls.{passes_read, tells_read}
-use Rattle.layout_check.proofs.Finding.{if_err, on_ok, on_any}
-use Rattle.layout_check.proofs.Inexact.{clean_tells}
-use Rattle.layout_check.proofs.Verdict.{map-right, map_tells}
+use Rattle.layout_check.proofs.lemmas.judging.Calls.{passes_read, tells_read}
+use Rattle.layout_check.proofs.lemmas.finding.Finding.{if_err, on_ok, on_any}
+use Rattle.layout_check.proofs.lemmas.judging.Inexact.{clean_tells}
+use Rattle.layout_check.proofs.lemmas.judging.Verdict.{map-right, map_tells}
 use Rattle.layout_check.proofs.checking.check_map.Goals as goal
 
 pub returns-in_err-read_sector : goal.returns-in_err-read_sector

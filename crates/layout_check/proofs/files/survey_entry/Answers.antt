@@ -2,9 +2,9 @@
 use Rattle.std.proofs.Common.{inl, inr, rules, slice_index, sym, ◌∙◌, ◌≡◌}
 use Rattle.std.proofs.lemmas.Bool.{cases_eq, false≢true}
 use Rattle.std.proofs.lemmas.Result.{err_from_is_err_and}
-use Rattle.layout_check.proofs.Calls.{passes_none}
-use Rattle.layout_check.proofs.Entries.{shown-tells}
-use Rattle.layout_check.proofs.Finding.{empty-finds}
+use Rattle.layout_check.proofs.lemmas.judging.Calls.{passes_none}
+use Rattle.layout_check.proofs.lemmas.finding.Entries.{shown-tells}
+use Rattle.layout_check.proofs.lemmas.finding.Finding.{empty-finds}
 use Rattle.layout_check.proofs.files.survey_entry.Goals as goal
 
 pub returns-in_err-judge_entry : goal.returns-in_err-judge_entry

@@ -1,6 +1,6 @@
 -- The chain, whose blocks are claimed.
 use Rattle.std.proofs.lemmas.Result.{err_from_is_err_and}
-use Rattle.layout_check.proofs.Finding.{plain-finds}
+use Rattle.layout_check.proofs.lemmas.finding.Finding.{plain-finds}
 use Rattle.layout_check.proofs.files.survey_plain.Goals as goal
 
 pub returns-in_err-claim_blocks-clause-err : goal.returns-in_err-claim_blocks-clause-err

@@ -1,10 +1,10 @@
 -- The blocks, which are claimed on the way, the side sectors, and their claim.
 use Rattle.std.proofs.Common.{◌+◌, ◌*◌, ap, arith, inl, length}
 use Rattle.std.proofs.lemmas.Result.{err_from_is_err_and}
-use Rattle.layout_check.proofs.Assembly.{sides-once}
-use Rattle.layout_check.proofs.Calls.{passes_then, tells_then}
-use Rattle.layout_check.proofs.Finding.{parts-found, rel-entry, rel-few, rel-finds, side-clash}
-use Rattle.layout_check.proofs.Judged.{judged-file, judged-same}
+use Rattle.layout_check.proofs.lemmas.finding.Assembly.{sides-once}
+use Rattle.layout_check.proofs.lemmas.judging.Calls.{passes_then, tells_then}
+use Rattle.layout_check.proofs.lemmas.finding.Finding.{parts-found, rel-entry, rel-few, rel-finds, side-clash}
+use Rattle.layout_check.proofs.lemmas.judging.Judged.{judged-file, judged-same}
 use Rattle.layout_check.proofs.files.survey_relative.Goals as goal
 
 pub survey_sides-requires : goal.survey_sides-requires

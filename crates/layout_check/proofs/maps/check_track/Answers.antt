@@ -1,7 +1,7 @@
 -- Sector by sector of the track, judged and counted, and then its count.
 use Rattle.std.proofs.Common.{ap, arith, inl, inr, refl, sym, ◌∙◌, ℕ, List}
 use Rattle.disk_layout.specs.Map.{map_count}
-use Rattle.layout_check.proofs.Ones.{
+use Rattle.layout_check.proofs.lemmas.mending.Ones.{
   bit-small,
   marked-all,
   marked-next,

@@ -1,6 +1,6 @@
 use Rattle.std.proofs.Common.{IsTrue, ◌-◌, ◌≡◌, ◌<◌, ◌≤◌}
 use Rattle.d64_image.specs.declared.place.Place.{Place}
-use Rattle.layout_check.proofs.Ones.{ones_to}
+use Rattle.layout_check.proofs.lemmas.mending.Ones.{ones_to}
 use Rattle.layout_check.specs.Marked.{IsMarked}
 use Rattle.layout_check.proofs.maps.is_right_track.Given as goal
 

@@ -2,8 +2,9 @@
 use Rattle.std.proofs.Common.{subst, sym, ◌+◌, ◌∙◌}
 use Rattle.std.proofs.lemmas.Bool.{false≢true}
 use Rattle.disk_layout.specs.declared.bam.Bam.{Bam}
-use Rattle.layout_check.proofs.Makings.{IsMadeTo, made-end, made-free, made-owned, made-past, made-start, not-taken}
-use Rattle.layout_check.proofs.Ones.{free-owner}
+use Rattle.layout_check.proofs.lemmas.mending.Makings.{IsMadeTo, made-end, made-free, made-owned, made-past, made-start}
+use Rattle.layout_check.proofs.lemmas.mending.Makings.{not-taken}
+use Rattle.layout_check.proofs.lemmas.mending.Ones.{free-owner}
 use Rattle.layout_check.proofs.mending.free_track.Goals as goal
 use Rattle.layout_check.proofs.mending.free_track.Goals.{
   in-Some+then-not-is_owned,

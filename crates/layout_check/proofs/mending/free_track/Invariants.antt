@@ -1,4 +1,4 @@
-use Rattle.layout_check.proofs.Makings.{IsMadeTo}
+use Rattle.layout_check.proofs.lemmas.mending.Makings.{IsMadeTo}
 use Rattle.layout_check.proofs.mending.free_track.Given as goal
 
 abbrev pub invariant-loop-sector : goal.invariant-loop-sector

@@ -1,6 +1,6 @@
 -- The map cleared, and then track by track.
 use Rattle.std.proofs.Common.{arith, ◌∙◌}
-use Rattle.layout_check.proofs.Makings.{below-all, below-next, below-start, filled}
+use Rattle.layout_check.proofs.lemmas.mending.Makings.{below-all, below-next, below-start, filled}
 use Rattle.layout_check.proofs.mending.map_of.Goals as goal
 
 pub loop-track-init : goal.loop-track-init

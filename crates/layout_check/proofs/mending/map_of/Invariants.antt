@@ -1,4 +1,4 @@
-use Rattle.layout_check.proofs.Makings.{IsMadeBelow}
+use Rattle.layout_check.proofs.lemmas.mending.Makings.{IsMadeBelow}
 use Rattle.layout_check.proofs.mending.map_of.Given as goal
 
 abbrev pub invariant-loop-track : goal.invariant-loop-track

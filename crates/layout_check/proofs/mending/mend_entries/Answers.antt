@@ -11,12 +11,12 @@ use Rattle.disk_layout.proofs.lemmas.layouts.Layouts.{get-contains}
 use Rattle.disk_layout.specs.Directory.{map_place}
 use Rattle.disk_layout.specs.InOrder.{AreMade, GoesOver}
 use Rattle.disk_layout.specs.Layout.{IsLayout, Layout, is_rel, is_rel_type}
-use Rattle.layout_check.proofs.EntryMends.{exact-kept, exact-made, exact-read, exact-same, filed-kept}
-use Rattle.layout_check.proofs.MapMends.{mends_read, mends_then, mends_weaker}
-use Rattle.layout_check.proofs.Progress.{listed-as}
-use Rattle.layout_check.proofs.RightSides.{file-at, file_made, file_over, plain-sides}
-use Rattle.layout_check.proofs.RightSides.{sides-past}
-use Rattle.layout_check.proofs.Verdict.{filed-at}
+use Rattle.layout_check.proofs.lemmas.mending.EntryMends.{exact-kept, exact-made, exact-read, exact-same, filed-kept}
+use Rattle.layout_check.proofs.lemmas.mending.MapMends.{mends_read, mends_then, mends_weaker}
+use Rattle.layout_check.proofs.lemmas.finding.Progress.{listed-as}
+use Rattle.layout_check.proofs.lemmas.repairing.RightSides.{file-at, file_made, file_over, plain-sides}
+use Rattle.layout_check.proofs.lemmas.repairing.RightSides.{sides-past}
+use Rattle.layout_check.proofs.lemmas.judging.Verdict.{filed-at}
 use Rattle.layout_check.specs.RepairOrder.{IsRight}
 use Rattle.layout_check.proofs.mending.mend_entries.Goals as goal
 use Rattle.layout_check.proofs.mending.mend_entries.Goals.{then-is_relative+in_ok-mend_relative, else-is_relative}

@@ -6,12 +6,12 @@ use Rattle.d64_image.specs.declared.place.Place.{Place}
 use Rattle.disk_layout.proofs.lemmas.kept.OtherWrites.{write_changes}
 use Rattle.disk_layout.specs.Directory.{map_place}
 use Rattle.disk_layout.specs.InOrder.{AreMade}
-use Rattle.layout_check.proofs.Finding.{on_ok}
-use Rattle.layout_check.proofs.MapMends.{device_later, err-holds, layouts-put, map-put}
-use Rattle.layout_check.proofs.MapMends.{mends_write, right-map, write_device, written}
-use Rattle.layout_check.proofs.Mendings.{mended-map}
-use Rattle.layout_check.proofs.RightMap.{changed_written, made-written, over_read_write}
-use Rattle.layout_check.proofs.Verdict.{told-at}
+use Rattle.layout_check.proofs.lemmas.finding.Finding.{on_ok}
+use Rattle.layout_check.proofs.lemmas.mending.MapMends.{device_later, err-holds, layouts-put, map-put}
+use Rattle.layout_check.proofs.lemmas.mending.MapMends.{mends_write, right-map, write_device, written}
+use Rattle.layout_check.proofs.lemmas.mending.Mendings.{mended-map}
+use Rattle.layout_check.proofs.lemmas.repairing.RightMap.{changed_written, made-written, over_read_write}
+use Rattle.layout_check.proofs.lemmas.judging.Verdict.{told-at}
 use Rattle.layout_check.specs.Exact.{HasMap}
 use Rattle.layout_check.specs.RepairOrder.{IsRight}
 use Rattle.layout_check.specs.Made.{HasNoSpare}

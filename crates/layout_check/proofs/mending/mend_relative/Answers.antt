@@ -9,11 +9,11 @@ use Rattle.d64_image.specs.declared.place.Place.{Place}
 use Rattle.disk_layout.proofs.lemmas.kept.Orders.{over_none}
 use Rattle.disk_layout.specs.InOrder.{AreMade}
 use Rattle.disk_layout.specs.Layout.{IsLayout}
-use Rattle.layout_check.proofs.Entries.{rel-closed}
-use Rattle.layout_check.proofs.EntryMends.{entry-filed}
-use Rattle.layout_check.proofs.MapMends.{mends_read}
-use Rattle.layout_check.proofs.RightSides.{made_exact, sides-found}
-use Rattle.layout_check.proofs.SideMends.{parts-at, parts-exact, parts-here, sound-device}
+use Rattle.layout_check.proofs.lemmas.finding.Entries.{rel-closed}
+use Rattle.layout_check.proofs.lemmas.mending.EntryMends.{entry-filed}
+use Rattle.layout_check.proofs.lemmas.mending.MapMends.{mends_read}
+use Rattle.layout_check.proofs.lemmas.repairing.RightSides.{made_exact, sides-found}
+use Rattle.layout_check.proofs.lemmas.mending.SideMends.{parts-at, parts-exact, parts-here, sound-device}
 use Rattle.layout_check.specs.Exact.{AreExactSides, ToldOfSides}
 use Rattle.layout_check.specs.RepairOrder.{IsRight}
 use Rattle.layout_check.specs.Mended.{KeepsExact}

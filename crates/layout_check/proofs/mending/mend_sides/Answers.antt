@@ -6,10 +6,11 @@ use Rattle.d64_image.proofs.Moments.{no_change, no_reads, no_write, no_write_the
 use Rattle.d64_image.specs.Images.{Image, put, sector}
 use Rattle.disk_layout.proofs.lemmas.kept.Orders.{made_none, over_none}
 use Rattle.disk_layout.proofs.lemmas.kept.OtherWrites.{write_changes}
-use Rattle.layout_check.proofs.Pointers.{read-there}
-use Rattle.layout_check.proofs.RightSides.{side_made, side_over}
-use Rattle.layout_check.proofs.SideMends.{after-side, exact-more, exact-others, side-layouts, side-map, side_mends}
-use Rattle.layout_check.proofs.SideMends.{side_right}
+use Rattle.layout_check.proofs.lemmas.finding.Pointers.{read-there}
+use Rattle.layout_check.proofs.lemmas.repairing.RightSides.{side_made, side_over}
+use Rattle.layout_check.proofs.lemmas.mending.SideMends.{after-side, exact-more, exact-others, side-layouts, side-map}
+use Rattle.layout_check.proofs.lemmas.mending.SideMends.{side_mends}
+use Rattle.layout_check.proofs.lemmas.mending.SideMends.{side_right}
 use Rattle.layout_check.specs.Exact.{IsExactSide}
 use Rattle.layout_check.specs.RepairOrder.{IsRight}
 use Rattle.layout_check.specs.Mended.{KeepsExact, KeepsLayouts, SameMap}

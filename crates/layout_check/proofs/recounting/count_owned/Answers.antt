@@ -1,8 +1,8 @@
 -- The blocks and the side sectors that were found are the file's.
 use Rattle.std.proofs.Common.{arith}
 use Rattle.std.proofs.lemmas.Result.{err_from_is_err_and}
-use Rattle.layout_check.proofs.Calls.{passes_weaker}
-use Rattle.layout_check.proofs.RightSlots.{count-of_parts}
+use Rattle.layout_check.proofs.lemmas.judging.Calls.{passes_weaker}
+use Rattle.layout_check.proofs.lemmas.repairing.RightSlots.{count-of_parts}
 use Rattle.layout_check.proofs.recounting.count_owned.Goals as goal
 
 pub returns-in_err-find_parts : goal.returns-in_err-find_parts

@@ -4,8 +4,8 @@ use Rattle.std.proofs.lemmas.Result.{err_from_is_err_and}
 use Rattle.d64_image.proofs.Moments.{reads_weaker}
 use Rattle.disk_layout.proofs.lemmas.chains.Chains.{IsChain-one}
 use Rattle.disk_layout.specs.Directory.{directory_start}
-use Rattle.layout_check.proofs.Calls.{passes_none, passes_weaker}
-use Rattle.layout_check.proofs.Roots.{again-tells}
+use Rattle.layout_check.proofs.lemmas.judging.Calls.{passes_none, passes_weaker}
+use Rattle.layout_check.proofs.lemmas.finding.Roots.{again-tells}
 use Rattle.layout_check.proofs.recounting.find_directory.Goals as goal
 
 pub returns-in_err-walk_chain-clause-err : goal.returns-in_err-walk_chain-clause-err

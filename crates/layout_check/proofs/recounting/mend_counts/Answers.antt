@@ -4,10 +4,10 @@ use Rattle.std.proofs.Common.{◌∙◌}
 use Rattle.d64_image.proofs.Moments.{at_end, reads_no_write}
 use Rattle.disk_layout.proofs.lemmas.layouts.Layouts.{get-contains}
 use Rattle.disk_layout.specs.Layout.{IsLayout, Layout}
-use Rattle.layout_check.proofs.Pointers.{read-there}
-use Rattle.layout_check.proofs.RightWrites.{first_moments, in-of}
-use Rattle.layout_check.proofs.RightWrites.{made_start, made_step, over_start, over_step, sound-of}
-use Rattle.layout_check.proofs.RightWrites.{step_moments, step_quiet}
+use Rattle.layout_check.proofs.lemmas.finding.Pointers.{read-there}
+use Rattle.layout_check.proofs.lemmas.repairing.RightWrites.{first_moments, in-of}
+use Rattle.layout_check.proofs.lemmas.repairing.RightWrites.{made_start, made_step, over_start, over_step, sound-of}
+use Rattle.layout_check.proofs.lemmas.repairing.RightWrites.{step_moments, step_quiet}
 use Rattle.layout_check.specs.Recounted.{IsRecountOf}
 use Rattle.layout_check.proofs.recounting.mend_counts.Goals as goal
 use Rattle.layout_check.proofs.recounting.mend_counts.Answers.Returned as returned

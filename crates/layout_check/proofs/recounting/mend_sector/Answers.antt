@@ -5,9 +5,9 @@ use Rattle.d64_image.proofs.Moments.{no_write_then, reads_no_write, reads_then}
 use Rattle.d64_image.specs.Images.{Image, sector}
 use Rattle.disk_layout.proofs.lemmas.kept.OtherWrites.{write_changes}
 use Rattle.disk_layout.specs.Layout.{IsSound}
-use Rattle.layout_check.proofs.Finding.{on_ok}
-use Rattle.layout_check.proofs.MapMends.{device_later, device_told, write_device}
-use Rattle.layout_check.proofs.RightWrites.{
+use Rattle.layout_check.proofs.lemmas.finding.Finding.{on_ok}
+use Rattle.layout_check.proofs.lemmas.mending.MapMends.{device_later, device_told, write_device}
+use Rattle.layout_check.proofs.lemmas.repairing.RightWrites.{
   mended-read,
   other_later,
   reads_moment,
@@ -15,7 +15,7 @@ use Rattle.layout_check.proofs.RightWrites.{
   right_written,
   write_moment,
 }
-use Rattle.layout_check.proofs.SideMends.{sound-device}
+use Rattle.layout_check.proofs.lemmas.mending.SideMends.{sound-device}
 use Rattle.layout_check.specs.Recounted.{AreRightIn, IsDirectorySector}
 use Rattle.layout_check.proofs.recounting.mend_sector.Goals as goal
 

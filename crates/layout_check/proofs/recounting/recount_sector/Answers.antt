@@ -3,9 +3,9 @@ use Rattle.std.proofs.Common.{ap, arith, subst, sym, ◌∙◌, ◌*◌, ◌+◌
 use Rattle.std.proofs.lemmas.Result.{err_from_is_err_and}
 use Rattle.d64_image.specs.Images.{Image, Sector, sector}
 use Rattle.disk_layout.specs.Directory.{slot_in}
-use Rattle.layout_check.proofs.Calls.{passes_then, passes_weaker, tells_then, passes_none}
-use Rattle.layout_check.proofs.RightCounts.{counted-then, counted-none}
-use Rattle.layout_check.proofs.RightSlots.{other-slot, right-next, right-there}
+use Rattle.layout_check.proofs.lemmas.judging.Calls.{passes_then, passes_weaker, tells_then, passes_none}
+use Rattle.layout_check.proofs.lemmas.repairing.RightCounts.{counted-then, counted-none}
+use Rattle.layout_check.proofs.lemmas.repairing.RightSlots.{other-slot, right-next, right-there}
 use Rattle.layout_check.specs.Recounted.{IsDirectorySector}
 use Rattle.layout_check.proofs.recounting.recount_sector.Goals as goal
 

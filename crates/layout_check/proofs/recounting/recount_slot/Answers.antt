@@ -3,9 +3,10 @@ use Rattle.std.proofs.Common.{List, ap, slice_index, sym, ℕ, ◌∙◌, refl, 
 use Rattle.std.proofs.lemmas.Bool.{false≢true}
 use Rattle.std.proofs.lemmas.Result.{err_from_is_err_and}
 use Rattle.disk_layout.specs.Layout.{is_rel, is_rel_type}
-use Rattle.layout_check.proofs.RightSlots.{counted-one, counted-right_at, rel-entry-at, right-counted, right-plain}
-use Rattle.layout_check.proofs.Calls.{passes_none, passes_weaker}
-use Rattle.layout_check.proofs.RightCounts.{counted-none}
+use Rattle.layout_check.proofs.lemmas.repairing.RightSlots.{counted-one, counted-right_at, rel-entry-at, right-counted}
+use Rattle.layout_check.proofs.lemmas.repairing.RightSlots.{right-plain}
+use Rattle.layout_check.proofs.lemmas.judging.Calls.{passes_none, passes_weaker}
+use Rattle.layout_check.proofs.lemmas.repairing.RightCounts.{counted-none}
 use Rattle.layout_check.proofs.recounting.recount_slot.Goals as goal
 
 pub count_owned-requires-clause-entry : goal.count_owned-requires-clause-entry

@@ -2,10 +2,12 @@
 use Rattle.std.proofs.Common.{Err, ◌∙◌, arith}
 use Rattle.std.proofs.lemmas.Result.{err_from_is_err_and}
 use Rattle.d64_image.proofs.Moments.{at_end, no_write_then}
-use Rattle.layout_check.proofs.MapMends.{device_later, mends_then}
-use Rattle.layout_check.proofs.RepairOrder.{order_all, order_map, order_sides, spare_counts, spare_sides}
-use Rattle.layout_check.proofs.RepairRuns.{counts-at, counts_mend, mends_from, ok-then, repaired, sides-at}
-use Rattle.layout_check.proofs.Repairs.{clean-map}
+use Rattle.layout_check.proofs.lemmas.mending.MapMends.{device_later, mends_then}
+use Rattle.layout_check.proofs.lemmas.repairing.RepairOrder.{order_all, order_map, order_sides, spare_counts}
+use Rattle.layout_check.proofs.lemmas.repairing.RepairOrder.{spare_sides}
+use Rattle.layout_check.proofs.lemmas.repairing.RepairRuns.{counts-at, counts_mend, mends_from, ok-then, repaired}
+use Rattle.layout_check.proofs.lemmas.repairing.RepairRuns.{sides-at}
+use Rattle.layout_check.proofs.lemmas.repairing.Repairs.{clean-map}
 use Rattle.layout_check.proofs.repairing.mend.Goals as goal
 
 -- the disk stays sound

@@ -6,8 +6,8 @@ use Rattle.d64_image.specs.Images.{sector}
 use Rattle.disk_layout.proofs.lemmas.kept.Orders.{over_none}
 use Rattle.disk_layout.specs.Directory.{map_place}
 use Rattle.layout_check.specs.RepairOrder.{IsRight, repair_order}
-use Rattle.layout_check.proofs.RepairOrder.{order_after, spare_after}
-use Rattle.layout_check.proofs.RepairRuns.{
+use Rattle.layout_check.proofs.lemmas.repairing.RepairOrder.{order_after, spare_after}
+use Rattle.layout_check.proofs.lemmas.repairing.RepairRuns.{
   clean_after,
   device_holds,
   device_sound,

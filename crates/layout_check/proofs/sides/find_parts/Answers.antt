@@ -1,9 +1,10 @@
 -- The chain, and then the side sectors.
 use Rattle.std.proofs.Common.{ap, arith, length}
 use Rattle.std.proofs.lemmas.Result.{err_from_is_err_and}
-use Rattle.layout_check.proofs.Calls.{passes_then, tells_then, tells_weaker}
-use Rattle.layout_check.proofs.Finding.{if_err, if_ok, on_ok, on_ok_both, parts-found, rel-entry, rel-few}
-use Rattle.layout_check.proofs.Judged.{judged-same}
+use Rattle.layout_check.proofs.lemmas.judging.Calls.{passes_then, tells_then, tells_weaker}
+use Rattle.layout_check.proofs.lemmas.finding.Finding.{if_err, if_ok, on_ok, on_ok_both, parts-found, rel-entry}
+use Rattle.layout_check.proofs.lemmas.finding.Finding.{rel-few}
+use Rattle.layout_check.proofs.lemmas.judging.Judged.{judged-same}
 use Rattle.layout_check.proofs.sides.find_parts.Goals as goal
 
 pub survey_sides-requires : goal.survey_sides-requires

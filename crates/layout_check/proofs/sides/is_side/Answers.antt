@@ -1,7 +1,7 @@
 -- The pointers are a part of the blocks.
 use Rattle.std.proofs.Common.{arith, inr}
-use Rattle.layout_check.proofs.Pointers.{end-far, pointers-right, pointers-wrong}
-use Rattle.layout_check.proofs.SideWalks.{misnumbered}
+use Rattle.layout_check.proofs.lemmas.finding.Pointers.{end-far, pointers-right, pointers-wrong}
+use Rattle.layout_check.proofs.lemmas.finding.SideWalks.{misnumbered}
 use Rattle.layout_check.proofs.sides.is_side.Goals as goal
 
 pub returns-then-not-is_numbered-clause-wrong : goal.returns-then-not-is_numbered-clause-wrong

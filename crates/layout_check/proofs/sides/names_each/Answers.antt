@@ -2,7 +2,7 @@
 use Rattle.std.proofs.Common.{arith, inl, inr, sym, ◌∙◌}
 use borrow.Author.Count.{below_more}
 use Rattle.std.proofs.lemmas.Option.{slice_get_within}
-use Rattle.layout_check.proofs.Pointers.{misnamed-here, named-here, same-failed, same-passed}
+use Rattle.layout_check.proofs.lemmas.finding.Pointers.{misnamed-here, named-here, same-failed, same-passed}
 use Rattle.layout_check.proofs.sides.names_each.Goals as goal
 
 pub loop-number-preserved : goal.loop-number-preserved

@@ -6,11 +6,11 @@ use Rattle.std.proofs.lemmas.Option.{slice_get_within}
 use Rattle.d64_image.specs.Images.{Image, sector}
 use Rattle.d64_image.specs.declared.place.Place.{Place}
 use Rattle.disk_layout.proofs.lemmas.kept.OtherWrites.{other-bytes}
-use Rattle.layout_check.proofs.Calls.{passes_read, passes_then, passes_weaker}
-use Rattle.layout_check.proofs.Inexact.{exact-here, same-bytes}
-use Rattle.layout_check.proofs.Judged.{exact-sound, judged-all, judged-exact, judged-none, judged-other}
-use Rattle.layout_check.proofs.Pointers.{read-there}
-use Rattle.layout_check.proofs.SideWalks.{all-sound, sound-here}
+use Rattle.layout_check.proofs.lemmas.judging.Calls.{passes_read, passes_then, passes_weaker}
+use Rattle.layout_check.proofs.lemmas.judging.Inexact.{exact-here, same-bytes}
+use Rattle.layout_check.proofs.lemmas.judging.Judged.{exact-sound, judged-all, judged-exact, judged-none, judged-other}
+use Rattle.layout_check.proofs.lemmas.finding.Pointers.{read-there}
+use Rattle.layout_check.proofs.lemmas.finding.SideWalks.{all-sound, sound-here}
 use Rattle.disk_layout.specs.Layout.{record_length}
 use Rattle.disk_layout.specs.Side.{side_sector}
 use Rattle.layout_check.specs.Exact.{ToldOfSides}

@@ -4,7 +4,7 @@ use Rattle.d64_image.specs.Images.{sector}
 use Rattle.d64_image.specs.declared.place.Place.{Place}
 use Rattle.layout_check.specs.Calls.{Passes}
 use Rattle.layout_check.specs.Sides.{IsSoundSide}
-use Rattle.layout_check.proofs.Judged.{ToldBelow}
+use Rattle.layout_check.proofs.lemmas.judging.Judged.{ToldBelow}
 use Rattle.layout_check.proofs.sides.survey_sides.Given as goal
 
 abbrev pub invariant-loop-number : goal.invariant-loop-number

@@ -4,9 +4,9 @@ use Rattle.std.proofs.Common.{ap, arith, lit<, ◌∙◌, ◌<◌, length, refl,
 use Rattle.d64_image.specs.Images.{Image, sector}
 use Rattle.disk_layout.proofs.lemmas.chains.Chains.{Leads-push}
 use Rattle.disk_layout.proofs.lemmas.chains.Names.{named-match}
-use Rattle.layout_check.proofs.Calls.{passes_none, passes_read, passes_then}
-use Rattle.layout_check.proofs.SideWalks.{linked-at}
-use Rattle.layout_check.proofs.SideWalks.{some-blocks, walk-done}
+use Rattle.layout_check.proofs.lemmas.judging.Calls.{passes_none, passes_read, passes_then}
+use Rattle.layout_check.proofs.lemmas.finding.SideWalks.{linked-at}
+use Rattle.layout_check.proofs.lemmas.finding.SideWalks.{some-blocks, walk-done}
 use Rattle.layout_check.proofs.sides.walk_sides.Goals as goal
 use Rattle.layout_check.proofs.sides.walk_sides.Answers.Told as told
 

@@ -1,9 +1,9 @@
 -- What was found, without what was kept back.
 use Rattle.std.proofs.Common.{ℕ, refl}
 use Rattle.std.proofs.lemmas.Result.{err_from_is_err_and}
-use Rattle.layout_check.proofs.Calls.{any_answer}
-use Rattle.layout_check.proofs.Judged.{survey-passes}
-use Rattle.layout_check.proofs.Progress.{told-sound}
+use Rattle.layout_check.proofs.lemmas.judging.Calls.{any_answer}
+use Rattle.layout_check.proofs.lemmas.judging.Judged.{survey-passes}
+use Rattle.layout_check.proofs.lemmas.finding.Progress.{told-sound}
 use Rattle.layout_check.specs.declared.outcome.Survey.{Survey}
 use Rattle.layout_check.proofs.surveying.survey.Goals as goal
 

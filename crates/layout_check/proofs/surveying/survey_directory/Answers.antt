@@ -1,7 +1,7 @@
 -- The entries, and then the sectors along the same chain.
 use Rattle.std.proofs.Common.{ℕ, arith}
 use Rattle.std.proofs.lemmas.Result.{err_from_is_err_and}
-use Rattle.layout_check.proofs.Roots.{again-tells, directory-passes, directory-tells, directory-walked}
+use Rattle.layout_check.proofs.lemmas.finding.Roots.{again-tells, directory-passes, directory-tells, directory-walked}
 use Rattle.layout_check.proofs.surveying.survey_directory.Goals as goal
 
 pub returns-in_err-read_directory : goal.returns-in_err-read_directory

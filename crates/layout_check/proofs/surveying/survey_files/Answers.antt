@@ -2,8 +2,9 @@
 use Rattle.std.proofs.Common.{arith, ap, sym, length, ◌∙◌, List}
 use Rattle.std.proofs.lemmas.Result.{err_from_is_err_and}
 use Rattle.disk_layout.specs.declared.slot.Slot.{Slot}
-use Rattle.layout_check.proofs.Calls.{tells_weaker}
-use Rattle.layout_check.proofs.Progress.{far-end, far-entry, far-start, far-step, far-tells, listed-as, same-system}
+use Rattle.layout_check.proofs.lemmas.judging.Calls.{tells_weaker}
+use Rattle.layout_check.proofs.lemmas.finding.Progress.{far-end, far-entry, far-start, far-step, far-tells, listed-as}
+use Rattle.layout_check.proofs.lemmas.finding.Progress.{same-system}
 use Rattle.layout_check.proofs.surveying.survey_files.Goals as goal
 
 pub loop-number-init : goal.loop-number-init

@@ -1,4 +1,4 @@
-use Rattle.layout_check.proofs.Progress.{IsFar}
+use Rattle.layout_check.proofs.lemmas.finding.Progress.{IsFar}
 use Rattle.layout_check.proofs.surveying.survey_files.Given as goal
 
 abbrev pub invariant-loop-number : goal.invariant-loop-number

@@ -4,9 +4,9 @@ use Rattle.std.proofs.lemmas.Bool.{false≢true}
 use Rattle.std.proofs.lemmas.Result.{err_from_is_err_and}
 use Rattle.disk_layout.proofs.lemmas.chains.Names.{named-match}
 use Rattle.disk_layout.proofs.lemmas.chains.Walks.{nowhere-read}
-use Rattle.layout_check.proofs.Calls.{passes_read, passes_then, tells_read, tells_then, tells_weaker}
-use Rattle.layout_check.proofs.ClaimedBlocks.{owned-tells, room-left, unclaimed, unlinked-tells}
-use Rattle.layout_check.proofs.Walked.{no_first}
+use Rattle.layout_check.proofs.lemmas.judging.Calls.{passes_read, passes_then, tells_read, tells_then, tells_weaker}
+use Rattle.layout_check.proofs.lemmas.finding.ClaimedBlocks.{owned-tells, room-left, unclaimed, unlinked-tells}
+use Rattle.layout_check.proofs.lemmas.finding.Walked.{no_first}
 use Rattle.layout_check.specs.Owners.{owner_of}
 use Rattle.layout_check.proofs.blocks.claim_blocks.Goals as goal
 

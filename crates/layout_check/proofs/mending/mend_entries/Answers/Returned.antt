@@ -6,12 +6,12 @@ use Rattle.d64_image.specs.declared.place.Place.{Place}
 use Rattle.disk_layout.proofs.lemmas.kept.Orders.{over_none}
 use Rattle.disk_layout.proofs.lemmas.layouts.Layouts.{get-contains}
 use Rattle.disk_layout.specs.InOrder.{AreMade}
-use Rattle.layout_check.proofs.EntryMends.{exact-entries, exact-same}
-use Rattle.layout_check.proofs.MapMends.{device_later, mends_read, mends_then, mends_weaker}
-use Rattle.layout_check.proofs.Progress.{listed-as}
-use Rattle.layout_check.proofs.RightSides.{file-at, file_over, over_files, sides-all}
-use Rattle.layout_check.proofs.Roots.{directory-tells}
-use Rattle.layout_check.proofs.SideMends.{sound-device}
+use Rattle.layout_check.proofs.lemmas.mending.EntryMends.{exact-entries, exact-same}
+use Rattle.layout_check.proofs.lemmas.mending.MapMends.{device_later, mends_read, mends_then, mends_weaker}
+use Rattle.layout_check.proofs.lemmas.finding.Progress.{listed-as}
+use Rattle.layout_check.proofs.lemmas.repairing.RightSides.{file-at, file_over, over_files, sides-all}
+use Rattle.layout_check.proofs.lemmas.finding.Roots.{directory-tells}
+use Rattle.layout_check.proofs.lemmas.mending.SideMends.{sound-device}
 use Rattle.layout_check.specs.RepairOrder.{IsRight, sides_of}
 use Rattle.layout_check.proofs.mending.mend_entries.Goals as goal
 

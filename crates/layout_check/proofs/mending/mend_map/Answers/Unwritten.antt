@@ -7,10 +7,10 @@ use Rattle.d64_image.specs.declared.place.Place.{Place}
 use Rattle.disk_layout.proofs.lemmas.kept.Orders.{over_none}
 use Rattle.disk_layout.specs.Directory.{map_place}
 use Rattle.disk_layout.specs.Layout.{IsLayout}
-use Rattle.layout_check.proofs.MapMends.{device_told, mends_read}
-use Rattle.layout_check.proofs.MapMends.{ok-holds}
-use Rattle.layout_check.proofs.RightMap.{made-passed}
-use Rattle.layout_check.proofs.Verdict.{map-right, told-at}
+use Rattle.layout_check.proofs.lemmas.mending.MapMends.{device_told, mends_read}
+use Rattle.layout_check.proofs.lemmas.mending.MapMends.{ok-holds}
+use Rattle.layout_check.proofs.lemmas.repairing.RightMap.{made-passed}
+use Rattle.layout_check.proofs.lemmas.judging.Verdict.{map-right, told-at}
 use Rattle.layout_check.specs.RepairOrder.{IsRight}
 use Rattle.layout_check.proofs.mending.mend_map.Goals as goal
 

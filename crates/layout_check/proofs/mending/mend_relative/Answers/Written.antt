@@ -6,10 +6,10 @@ use Rattle.d64_image.specs.declared.place.Place.{Place}
 use Rattle.disk_layout.proofs.lemmas.kept.Orders.{over_read}
 use Rattle.disk_layout.specs.InOrder.{AreMade, GoesOver}
 use Rattle.disk_layout.specs.Layout.{IsLayout}
-use Rattle.layout_check.proofs.Finding.{on_ok}
-use Rattle.layout_check.proofs.MapMends.{device_later, mends_read, mends_then}
-use Rattle.layout_check.proofs.RightSides.{file-sides_once, sides-found}
-use Rattle.layout_check.proofs.SideMends.{parts-exact, parts-here, right-there}
+use Rattle.layout_check.proofs.lemmas.finding.Finding.{on_ok}
+use Rattle.layout_check.proofs.lemmas.mending.MapMends.{device_later, mends_read, mends_then}
+use Rattle.layout_check.proofs.lemmas.repairing.RightSides.{file-sides_once, sides-found}
+use Rattle.layout_check.proofs.lemmas.mending.SideMends.{parts-exact, parts-here, right-there}
 use Rattle.layout_check.specs.RepairOrder.{IsRight}
 use Rattle.layout_check.specs.Mended.{KeepsBeside, KeepsLayouts}
 use Rattle.layout_check.proofs.mending.mend_relative.Goals as goal

@@ -5,7 +5,7 @@ use Rattle.std.proofs.lemmas.Option.{slice_get_within}
 use Rattle.d64_image.specs.declared.place.Place.{Place}
 use Rattle.disk_layout.proofs.lemmas.kept.Orders.{over_first}
 use Rattle.disk_layout.specs.InOrder.{AreMade}
-use Rattle.layout_check.proofs.MapMends.{mends_weaker}
+use Rattle.layout_check.proofs.lemmas.mending.MapMends.{mends_weaker}
 use Rattle.layout_check.specs.RepairOrder.{IsRight}
 use Rattle.layout_check.proofs.mending.mend_sides.Goals as goal
 

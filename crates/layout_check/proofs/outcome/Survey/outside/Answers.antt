@@ -1,6 +1,6 @@
 -- Sector by sector: counted, or another entry's, or on track 18.
 use Rattle.std.proofs.Common.{arith, refl}
-use Rattle.layout_check.proofs.Counting.{counted-all, counted-free, counted-none, counted-shut}
+use Rattle.layout_check.proofs.lemmas.owners.Counting.{counted-all, counted-free, counted-none, counted-shut}
 use Rattle.layout_check.proofs.outcome.Survey.outside.Goals as goal
 use Rattle.layout_check.proofs.outcome.Survey.outside.Goals.{then-is_open, else-is_open}
 

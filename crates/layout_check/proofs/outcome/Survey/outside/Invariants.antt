@@ -1,5 +1,5 @@
 use Rattle.std.proofs.Common.{◌≤◌}
-use Rattle.layout_check.proofs.Counting.{IsCounted}
+use Rattle.layout_check.proofs.lemmas.owners.Counting.{IsCounted}
 use Rattle.layout_check.proofs.outcome.Survey.outside.Given as goal
 
 abbrev pub invariant-loop-index : goal.invariant-loop-index

@@ -1,6 +1,6 @@
 -- Place by place: what was claimed so far, or a place that had an owner before.
 use Rattle.std.proofs.Common.{sym, ◌∙◌, refl}
-use Rattle.layout_check.proofs.Claims.{claim-step, clash-step, claim-all}
+use Rattle.layout_check.proofs.lemmas.owners.Claims.{claim-step, clash-step, claim-all}
 use Rattle.layout_check.proofs.owners.Owners.claim.Goals as goal
 
 pub returns-then-owner-clause-err : goal.returns-then-owner-clause-err

@@ -1,6 +1,6 @@
 -- A sector has an owner where its number isn't 255.
 use Rattle.std.proofs.Common.{sym, ◌∙◌}
-use Rattle.layout_check.proofs.Claims.{other-number, other-test}
+use Rattle.layout_check.proofs.lemmas.owners.Claims.{other-number, other-test}
 use Rattle.layout_check.proofs.owners.Owners.is_owned.Goals as goal
 
 pub returns : goal.returns

@@ -1,5 +1,5 @@
 -- The map's sector, and then the directory's one by one.
-use Rattle.layout_check.proofs.Claims.{system-all, system-step}
+use Rattle.layout_check.proofs.lemmas.owners.Claims.{system-all, system-step}
 use Rattle.layout_check.proofs.owners.Owners.of_directory.Goals as goal
 
 pub loop-place-preserved : goal.loop-place-preserved

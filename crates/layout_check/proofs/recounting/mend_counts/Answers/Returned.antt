@@ -5,12 +5,13 @@ use Rattle.d64_image.proofs.Moments.{at_end, reads_no_write}
 use Rattle.disk_layout.proofs.lemmas.kept.Orders.{over_none}
 use Rattle.disk_layout.proofs.lemmas.layouts.Layouts.{IsLayout-one, get-contains}
 use Rattle.disk_layout.specs.Layout.{IsLayout, Layout}
-use Rattle.layout_check.proofs.MapMends.{device_later}
-use Rattle.layout_check.proofs.Pointers.{read-there}
-use Rattle.layout_check.proofs.RightWrites.{all_moments, counted-of, few-of, first_moments, made_directory}
-use Rattle.layout_check.proofs.RightWrites.{over_directory, over_step}
-use Rattle.layout_check.proofs.RightWrites.{step_moments, step_quiet}
-use Rattle.layout_check.proofs.SideMends.{sound-device}
+use Rattle.layout_check.proofs.lemmas.mending.MapMends.{device_later}
+use Rattle.layout_check.proofs.lemmas.finding.Pointers.{read-there}
+use Rattle.layout_check.proofs.lemmas.repairing.RightWrites.{all_moments, counted-of, few-of, first_moments}
+use Rattle.layout_check.proofs.lemmas.repairing.RightWrites.{made_directory}
+use Rattle.layout_check.proofs.lemmas.repairing.RightWrites.{over_directory, over_step}
+use Rattle.layout_check.proofs.lemmas.repairing.RightWrites.{step_moments, step_quiet}
+use Rattle.layout_check.proofs.lemmas.mending.SideMends.{sound-device}
 use Rattle.layout_check.specs.RepairOrder.{IsRight}
 use Rattle.layout_check.specs.Recounted.{IsRecountOf}
 use Rattle.layout_check.proofs.recounting.mend_counts.Goals as goal

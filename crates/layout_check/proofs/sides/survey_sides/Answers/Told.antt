@@ -2,9 +2,9 @@
 use Rattle.std.proofs.Common.{ap, arith, ◌∙◌}
 use Rattle.std.proofs.lemmas.Result.{err_from_is_err_and}
 use Rattle.d64_image.specs.Images.{Image, sector}
-use Rattle.layout_check.proofs.Calls.{passes_read, passes_then, side_tells, tells_read, tells_then}
-use Rattle.layout_check.proofs.Calls.{tells_weaker}
-use Rattle.layout_check.proofs.SideWalks.{few-sides, side-there, unsound-holds}
+use Rattle.layout_check.proofs.lemmas.judging.Calls.{passes_read, passes_then, side_tells, tells_read, tells_then}
+use Rattle.layout_check.proofs.lemmas.judging.Calls.{tells_weaker}
+use Rattle.layout_check.proofs.lemmas.finding.SideWalks.{few-sides, side-there, unsound-holds}
 use Rattle.disk_layout.specs.Fault.{nowhere}
 use Rattle.layout_check.proofs.sides.survey_sides.Goals as goal
 

@@ -4,10 +4,11 @@ use Rattle.std.proofs.lemmas.Result.{err_from_is_err_and}
 use Rattle.d64_image.specs.Images.{Image, sector}
 use Rattle.disk_layout.proofs.lemmas.chains.Names.{named-match}
 use Rattle.disk_layout.specs.Layout.{sides_for}
-use Rattle.layout_check.proofs.Calls.{passes_none, passes_read, passes_then, passes_weaker, side_tells, tells_read}
-use Rattle.layout_check.proofs.Calls.{tells_then}
-use Rattle.layout_check.proofs.SideWalks.{bad-holds, misjudged-bad, misnumbered, no_first_side}
-use Rattle.layout_check.proofs.SideWalks.{side-reached, unlinked-bad}
+use Rattle.layout_check.proofs.lemmas.judging.Calls.{passes_none, passes_read, passes_then, passes_weaker, side_tells}
+use Rattle.layout_check.proofs.lemmas.judging.Calls.{tells_read}
+use Rattle.layout_check.proofs.lemmas.judging.Calls.{tells_then}
+use Rattle.layout_check.proofs.lemmas.finding.SideWalks.{bad-holds, misjudged-bad, misnumbered, no_first_side}
+use Rattle.layout_check.proofs.lemmas.finding.SideWalks.{side-reached, unlinked-bad}
 use Rattle.disk_layout.specs.Fault.{nowhere}
 use Rattle.layout_check.proofs.sides.walk_sides.Goals as goal
 

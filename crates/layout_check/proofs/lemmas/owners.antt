@@ -1,0 +1,5 @@
+-- Sectors and their owners.
+pub mod Claims
+pub mod Clashes
+pub mod Counting
+pub mod Ranks

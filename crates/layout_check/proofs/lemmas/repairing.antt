@@ -1,0 +1,11 @@
+-- A repair, and what is right after it.
+pub mod RepairOrder
+pub mod RepairRuns
+pub mod Repairs
+pub mod RightCounts
+pub mod RightDirectory
+pub mod RightMap
+pub mod RightSides
+pub mod RightSlots
+pub mod RightWrites
+pub mod Rights
