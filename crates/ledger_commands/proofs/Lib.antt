@@ -5,14 +5,12 @@ pub mod Lines
 pub mod FileChains
 pub mod FileEnds
 pub mod FileScripts
-pub mod FileServes
 pub mod Formats
 mod Kept
 mod KeptSectors
 pub mod Listings
 mod PlayEnds
 pub mod Replies
-pub mod ServeEnds
 mod Showings
 mod Synced
 pub mod Tables

@@ -6,7 +6,6 @@ pub mod Lasting
 pub mod LastingImages
 pub mod Placed
 pub mod Plays
-pub mod Serves
 pub mod Shops
 pub mod Shows
 pub mod Tables

@@ -53,7 +53,7 @@ pub fn play_image<D: Sectors, T: Tells<D>>(
 }
 
 /// The file of a mirror whose run ended so: `Device` where the file failed.
-pub(crate) fn file_of<F: SectorFile>(
+pub fn file_of<F: SectorFile>(
     mirror: Mirror<F>,
     end: Result<(), RunFault>,
 ) -> Result<F, (RunFault, F)>

@@ -6,7 +6,7 @@ use Rattle.host_session.proofs.lemmas.judging.Judging.{refused-no_shop}
 use Rattle.serving.specs.Answering.{Answering}
 use Rattle.serving.specs.Giving.{Input}
 use Rattle.ledger_commands.specs.Faults.{run_status}
-use Rattle.ledger_commands.specs.Serves.{IsServeFault, IsServedFile, IsUnserved}
+use Rattle.ledger_program.specs.FileServes.{IsServeFault, IsServedFile, IsUnserved}
 use Rattle.ledger_commands.specs.Shops.{IsOpenRefusal}
 use Rattle.ledger_commands.specs.declared.faults.RunFault.{RunFault}
 use Rattle.ledger_commands.specs.declared.faults.RunFault.TheVariants as run

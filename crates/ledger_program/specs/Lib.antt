@@ -1,6 +1,7 @@
 pub mod Drawings
 pub mod DurableRuns
 pub mod Ends
+pub mod FileServes
 pub mod Jobs
 pub mod Keeping
 pub mod Kept

@@ -5,7 +5,7 @@ use Rattle.d64_image.specs.Memory.{sectors_in}
 use Rattle.host_session.specs.session.Opening.{IsAShop}
 use Rattle.serving.specs.Answering.{Answering}
 use Rattle.serving.specs.Giving.{Input}
-use Rattle.ledger_commands.specs.Serves.{IsServeFault, IsServedFile, IsUnserved}
+use Rattle.ledger_program.specs.FileServes.{IsServeFault, IsServedFile, IsUnserved}
 use Rattle.ledger_program.specs.Ends.{Ended, exit_status}
 use Rattle.ledger_program.specs.Runs.{IsNoShop}
 

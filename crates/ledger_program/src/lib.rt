@@ -13,6 +13,7 @@ mod names;
 mod owning;
 mod refusals;
 mod running;
+mod serving_files;
 mod serving_runs;
 mod telling;
 
@@ -25,5 +26,6 @@ pub use keeping::{make_run, repair_run, store_run, taking_run};
 pub use names::Name;
 pub use refusals::Refusal;
 pub use running::{format_run, play_run, reading_run};
+pub use serving_files::serve_file;
 pub use serving_runs::serve_run;
 pub use telling::{Ending, end, tell};

@@ -3,9 +3,10 @@ ghost use Rattle.d64_image.specs.Keeps.{Agrees};
 ghost use Rattle.d64_image.specs.Memory.{sectors_in};
 ghost use Rattle.ledger_program.specs.Serves.{IsServeRun};
 
+use crate::serving_files::serve_file;
 use d64_image::{Mirror, SectorFile};
 use disk_layout::Fault;
-use ledger_commands::{RunFault, serve_file};
+use ledger_commands::RunFault;
 use serving::{Answers, GivesLines};
 use std::alloc::Global;
 

@@ -4,7 +4,8 @@ use crate::images::formatted;
 use crate::machine::{Lines, Machine, OnMachine, Replies, Seen};
 use crate::runs::is_shown;
 use host_session::Printer;
-use ledger_commands::{Durability, Placed, RunFault, serve_file};
+use ledger_commands::{Durability, Placed, RunFault};
+use ledger_program::serve_file;
 use std::process::Abort;
 
 /// Lines: a set, its repeat, an issue, what is no request, a move, and the issue of more than there is.

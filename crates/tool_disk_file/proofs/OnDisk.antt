@@ -18,7 +18,7 @@ use Rattle.serving.specs.Answering.{Answering, answered}
 use Rattle.serving.specs.Giving.{Input}
 use Rattle.serving.specs.Inputs.{line_messages}
 use Rattle.serving.specs.Serves.{AreServed, SettledInTurn}
-use Rattle.ledger_commands.specs.Serves.{IsServeFault}
+use Rattle.ledger_program.specs.FileServes.{IsServeFault}
 use Rattle.ledger_commands.specs.Placed.{is_synced, placed, placed_file}
 use Rattle.ledger_commands.specs.declared.durable.Durability.TheVariants as durabilities
 use Rattle.ledger_commands.specs.declared.durable.WritesAt.{Ghosts}

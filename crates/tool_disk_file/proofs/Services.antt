@@ -24,7 +24,7 @@ use Rattle.serving.specs.Inputs.{line_messages}
 use Rattle.serving.specs.Read.{AreWhole, LacksLf}
 use Rattle.serving.specs.Serves.{AreServed, IsServed}
 use Rattle.ledger_commands.specs.Faults.{run_status}
-use Rattle.ledger_commands.specs.Serves.{IsServeFault, IsServedOver, IsUnserved}
+use Rattle.ledger_program.specs.FileServes.{IsServeFault, IsServedOver, IsUnserved}
 use Rattle.ledger_commands.specs.Shops.{IsOpenRefusal}
 use Rattle.ledger_commands.specs.declared.faults.RunFault.{RunFault}
 use Rattle.ledger_commands.specs.declared.faults.RunFault.TheVariants as run

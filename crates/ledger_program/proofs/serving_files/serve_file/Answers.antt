@@ -4,11 +4,11 @@ use Rattle.std.proofs.lemmas.Result.{IfErr-weaker, IfOk-weaker}
 use Rattle.d64_image.specs.Keeps.{kept_or}
 use Rattle.d64_image.specs.Memory.{disk_image, sectors_in}
 use Rattle.d64_image.specs.Mirrors.{mirror_image}
-use Rattle.ledger_commands.specs.Serves.{IsServeFault, IsServedFile, loop_fault}
+use Rattle.ledger_program.specs.FileServes.{IsServeFault, IsServedFile, loop_fault}
 use Rattle.ledger_commands.specs.declared.faults.RunFault.{RunFault}
 use Rattle.ledger_commands.specs.declared.faults.RunFault.TheVariants as run
-use Rattle.ledger_commands.proofs.ServeEnds.{served_at_err, served_at_ok, stopped_at_err, stopped_at_ok}
-use Rattle.ledger_commands.proofs.serving_files.serve_file.Goals as goal
+use Rattle.ledger_program.proofs.ServeEnds.{served_at_err, served_at_ok, stopped_at_err, stopped_at_ok}
+use Rattle.ledger_program.proofs.serving_files.serve_file.Goals as goal
 
 -- what holds of two files holds of those that they are
 of_files : {F : Type 0} (P : F → F → Type 0) {a b c d : F} → a ≡ b → d ≡ c → P a c → P b d

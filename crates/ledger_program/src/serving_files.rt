@@ -2,13 +2,11 @@
 ghost use Rattle.std.specs.Prelude.{◌≡◌, IfErr, IfOk};
 ghost use Rattle.d64_image.specs.Keeps.{Agrees};
 ghost use Rattle.d64_image.specs.Memory.{sectors_in};
-ghost use Rattle.ledger_commands.specs.Serves.{IsServeFault, IsServedFile, loop_fault};
+ghost use Rattle.ledger_program.specs.FileServes.{IsServeFault, IsServedFile, loop_fault};
 
-use crate::bytes::load;
-use crate::faults::RunFault;
-use crate::playing::file_of;
 use d64_image::{Mirror, SectorFile};
 use host_session::LoopFault;
+use ledger_commands::{RunFault, file_of, load};
 use serving::{Answers, GivesLines, serve};
 use std::alloc::Global;
 

@@ -19,10 +19,10 @@ use Rattle.serving.specs.Answering.{Answering}
 use Rattle.serving.specs.Giving.{Input}
 use Rattle.serving.specs.Serves.{IsServed}
 use Rattle.ledger_commands.specs.Faults.{opening_fault}
-use Rattle.ledger_commands.specs.Serves.{IsServeFault, IsServedFile, IsServedOver, IsServiceStopped, loop_fault}
+use Rattle.ledger_program.specs.FileServes.{IsServeFault, IsServedFile, IsServedOver, IsServiceStopped, loop_fault}
 use Rattle.ledger_commands.proofs.FileEnds.{failed_stably}
 use Rattle.ledger_commands.proofs.FileScripts.{refused_reached, refuses_so}
-use Rattle.ledger_commands.proofs.FileServes.{service_of_file}
+use Rattle.ledger_program.proofs.FileServes.{service_of_file}
 
 module _ {F R T : Type 0} {G : Ghosts F} (i : Input R) (a : Answering T) (image : List ℕ) (start : Mirror F G)
     (sound : is_broken start → ⊥) (untaken : start.taken.n ≡ 0) (size : length image ≡ 174848)
