@@ -8,6 +8,7 @@ pub mod FileScripts
 pub mod FileServes
 pub mod Formats
 mod Kept
+mod KeptOn
 mod KeptSectors
 pub mod Listings
 mod PlayEnds
