@@ -1,44 +1,23 @@
--- What a file keeps of a disk, where a sector of it was brought there.
-use Rattle.std.proofs.Common.{
-  ◌≡◌,
-  ◌≤◌,
-  ◌⊎◌,
-  ◌∙◌,
-  Bool,
-  true,
-  false,
-  ℕ,
-  List,
-  Option,
-  Some,
-  None,
-  ap,
-  arith,
-  inl,
-  inr,
-  length,
-  refl,
-  subst,
-  sym,
-  ⊎_elim,
-}
-use Rattle.std.specs.Prelude.{◌<◌, slice_index}
+-- What is kept of a disk in the bytes of a file, where a sector of it was written there.
+use Rattle.std.proofs.Common.{◌≡◌, ◌≤◌, ◌⊎◌, ◌∙◌, ℕ, List, Option, Some, None, ap, arith, inl, inr, length, refl, sym, ⊎_elim}
+use Rattle.std.specs.Prelude.{◌+◌, ◌<◌, ◌++◌, drop, slice_index, take}
+use Rattle.std.proofs.lemmas.List.{length-append, length-drop, length-take}
+use Rattle.std.proofs.lemmas.Option.{none-some}
 use Rattle.d64_image.specs.Images.{Image, IsImage, IsSector, put}
-use Rattle.d64_image.specs.Keeps.{none_kept, put_kept}
+use Rattle.d64_image.specs.Keeps.{put_kept}
 use Rattle.d64_image.specs.Memory.{bytes_of, sectors_in}
 use Rattle.d64_image.specs.Offsets.{offset_of, overwritten}
 use Rattle.d64_image.specs.declared.place.Place.{Place}
 use Rattle.d64_image.proofs.Chunks.{chunks_are_bytes, chunks_are_sectors, length-bytes_of, sectors_in-bytes_of}
 use Rattle.d64_image.proofs.Images.{put_is_image}
 use Rattle.d64_image.proofs.Offsets.{bytes_of-put}
+use Rattle.d64_image.proofs.Places.{index_below}
 use Rattle.ledger_commands.specs.Lasting.{Lasting, StaysOr, overwritten_in}
 use Rattle.ledger_commands.specs.LastingImages.{
-  image_if,
   image_of,
   image_of-size,
-  moment_if,
   sectors_are_image,
-  stayed_if,
+  stayed_image,
 }
 
 pub image_of-overwritten : (o : Option (List ℕ)) (p : Place) (bytes : List ℕ) → IsSector bytes
@@ -59,54 +38,62 @@ image_of-overwritten (Some all) p bytes new sized small =
     ∙ ap Some (ap sectors_in e ∙ sectors_in-bytes_of (put img p bytes) after)
     ∙ sym (ap (λ o. put_kept o p bytes) (image_of-size all size))
 
-module _ {F : Type 0} (L : Lasting F) (old new : F) (p : Place) (bytes : List ℕ) (is : IsSector bytes) where
+pub length-overwritten : (all : List ℕ) (n : ℕ) (bytes : List ℕ) → n + length bytes ≤ length all
+    → length (overwritten all n bytes) ≡ length all
+length-overwritten all n bytes le = omega (
+  arith,
+  le,
+  length-append (take n all ++ bytes) (drop (n + length bytes) all),
+  length-append (take n all) bytes,
+  length-take n all,
+  length-drop (n + length bytes) all,
+)
+
+-- a sector of a disk ends in its image
+pub in_image : (p : Place) (bytes : List ℕ) → IsSector bytes → offset_of p + length bytes ≤ 174848
+in_image p bytes is = omega (arith, is.size, index_below p)
+
+next_sized : (o : Option (List ℕ)) (n : ℕ) (bytes all : List ℕ)
+    → ((xs : List ℕ) → o ≡ Some xs → length xs ≡ 174848) → n + length bytes ≤ 174848
+    → overwritten_in o n bytes ≡ Some all → length all ≡ 174848
+next_sized None n bytes all sized le e = absurd (none-some all e)
+next_sized (Some xs) n bytes all sized le e =
+    let size : length xs ≡ 174848 = sized xs refl in
+    let same : overwritten xs n bytes ≡ all = cc in
+    sym (ap length same) ∙ length-overwritten xs n bytes (omega (arith, le, size)) ∙ size
+
+module _ {F : Type 0} (L : Lasting F) (old new : F) (p : Place) (bytes : List ℕ) (is : IsSector bytes)
+    (sized : (all : List ℕ) → L.bytes old ≡ Some all → length all ≡ 174848) where
   abbrev next : Option (List ℕ)
   next = overwritten_in (L.bytes old) (offset_of p) bytes
 
-  abbrev IsSized : Bool → Type 0
-  IsSized b = b ≡ true → (all : List ℕ) → L.bytes old ≡ Some all → length all ≡ 174848
+  next_image : image_of next ≡ put_kept (image_of (L.bytes old)) p bytes
+  next_image = image_of-overwritten (L.bytes old) p bytes is sized (L.small old)
 
-  next_image : (b : Bool) → IsSized b → image_if b next ≡ put_kept (image_if b (L.bytes old)) p bytes
-  next_image true sized = image_of-overwritten (L.bytes old) p bytes is (sized refl) (L.small old)
-  next_image false sized = refl
+  pub kept_ok : L.bytes new ≡ next → image_of (L.bytes new) ≡ put_kept (image_of (L.bytes old)) p bytes
+  kept_ok e = ap image_of e ∙ next_image
 
-  pub kept_ok : (b : Bool) → IsSized b → (b ≡ true → L.bytes new ≡ next)
-      → image_if b (L.bytes new) ≡ put_kept (image_if b (L.bytes old)) p bytes
-  kept_ok true sized e = ap image_of (e refl) ∙ next_image true sized
-  kept_ok false sized e = refl
+  pub kept_either : StaysOr L old new next → (image_of (L.bytes new) ≡ image_of (L.bytes old))
+      ⊎ (image_of (L.bytes new) ≡ put_kept (image_of (L.bytes old)) p bytes)
+  kept_either x = ⊎_elim (λ e. inl (ap image_of e)) (λ e. inr (ap image_of e ∙ next_image)) x.now
 
-  pub kept_either : (b : Bool) → IsSized b → (b ≡ true → StaysOr L old new next)
-      → (image_if b (L.bytes new) ≡ image_if b (L.bytes old))
-      ⊎ (image_if b (L.bytes new) ≡ put_kept (image_if b (L.bytes old)) p bytes)
-  kept_either true sized x =
-      ⊎_elim (λ e. inl (ap image_of e)) (λ e. inr (ap image_of e ∙ next_image true sized)) (x refl).now
-  kept_either false sized x = inl refl
+  among : (all : List ℕ) (c : Image) → image_of (Some all) ≡ Some c → (L.bytes old ≡ Some all) ⊎ (next ≡ Some all)
+      → (image_of (L.bytes old) ≡ Some c) ⊎ (put_kept (image_of (L.bytes old)) p bytes ≡ Some c)
+  among all c e h = ⊎_elim (λ s. inl (ap image_of s ∙ e)) (λ s. inr (sym next_image ∙ ap image_of s ∙ e)) h
 
-  pub later_if : (b : Bool) → (b ≡ true → StaysOr L old new next)
-      → moment_if b (L.moment old) ≤ moment_if b (L.moment new)
-  later_if true x = (x refl).later
-  later_if false x = omega arith
+  pub each_image : StaysOr L old new next → (c : Image) → stayed_image L new (L.moment old) c
+      → (image_of (L.bytes old) ≡ Some c) ⊎ (put_kept (image_of (L.bytes old)) p bytes ≡ Some c)
+  each_image x c h = among h.0 c h.2 (x.each h.0 h.1)
 
-  among : (b : Bool) (all : List ℕ) (c : Image) → IsSized b → image_if b (Some all) ≡ Some c
-      → (L.bytes old ≡ Some all) ⊎ (next ≡ Some all)
-      → (image_if b (L.bytes old) ≡ Some c) ⊎ (put_kept (image_if b (L.bytes old)) p bytes ≡ Some c)
-  among b all c sized e h = ⊎_elim
-      (λ s. inl (ap (image_if b) s ∙ e))
-      (λ s. inr (sym (next_image b sized) ∙ ap (image_if b) s ∙ e))
-      h
+  pub before_image : StaysOr L old new next → (t : ℕ) (c : Image) → t ≤ L.moment old → stayed_image L new t c
+      → stayed_image L old t c
+      ⊎ ((image_of (L.bytes old) ≡ Some c) ⊎ (put_kept (image_of (L.bytes old)) p bytes ≡ Some c))
+  before_image x t c le h =
+      ⊎_elim (λ s. inl (h.0, s, h.2)) (λ s. inr (among h.0 c h.2 s)) (x.before t h.0 le h.1)
 
-  pub each_if : (b : Bool) → IsSized b → (b ≡ true → StaysOr L old new next) → (c : Image)
-      → stayed_if L b new (moment_if b (L.moment old)) c
-      → (image_if b (L.bytes old) ≡ Some c) ⊎ (put_kept (image_if b (L.bytes old)) p bytes ≡ Some c)
-  each_if true sized x c h = among true h.0 c sized h.2 ((x refl).each h.0 h.1)
-  each_if false sized x c h = none_kept h.2
-
-  pub before_if : (b : Bool) → IsSized b → (b ≡ true → StaysOr L old new next) → (t : ℕ) (c : Image)
-      → t ≤ moment_if b (L.moment old) → stayed_if L b new t c
-      → stayed_if L b old t c
-      ⊎ ((image_if b (L.bytes old) ≡ Some c) ⊎ (put_kept (image_if b (L.bytes old)) p bytes ≡ Some c))
-  before_if true sized x t c le h = ⊎_elim
-      (λ s. inl (h.0, s, h.2))
-      (λ s. inr (among true h.0 c sized h.2 s))
-      ((x refl).before t h.0 le h.1)
-  before_if false sized x t c le h = none_kept h.2
+  -- it has the size of an image as before
+  pub sized_then : StaysOr L old new next → (all : List ℕ) → L.bytes new ≡ Some all → length all ≡ 174848
+  sized_then x all e = ⊎_elim
+      (λ s. sized all (sym s ∙ e))
+      (λ s. next_sized (L.bytes old) (offset_of p) bytes all sized (in_image p bytes is) (sym s ∙ e))
+      x.now

@@ -7,6 +7,7 @@ pub mod FileEnds
 pub mod FileScripts
 pub mod Formats
 mod Kept
+mod KeptOn
 mod KeptSectors
 pub mod Listings
 mod PlayEnds

@@ -1,32 +1,10 @@
 -- Sectors that are written and then brought to the disk.
-use Rattle.std.proofs.Common.{
-  ◌≡◌,
-  ◌≤◌,
-  ◌⊎◌,
-  ◌∙◌,
-  ℕ,
-  List,
-  Option,
-  Some,
-  Result,
-  Ok,
-  Err,
-  ap,
-  arith,
-  inl,
-  inr,
-  length,
-  subst,
-  sym,
-  ⊎_elim,
-  refl,
-}
+use Rattle.std.proofs.Common.{◌≡◌, ◌⊎◌, ◌∙◌, ℕ, List, Option, Some, Result, Ok, Err, ap, arith, inl, inr, length, subst, sym, ⊎_elim, refl}
 use Rattle.std.specs.Prelude.{None, OnOk}
 use Rattle.std.proofs.Math.Seq.{take-length}
 use Rattle.std.proofs.lemmas.Result.{on_ok_weaker}
-use Rattle.d64_image.specs.Offsets.{overwritten}
 use Rattle.ledger_commands.specs.Durable.{BringsSector, AllStays, IsOverwritten, WritesOver}
-use Rattle.ledger_commands.specs.Lasting.{IsSectorIn, LacksASector, Lasting, StaysOr, overwritten_in}
+use Rattle.ledger_commands.specs.Lasting.{IsSectorIn, LacksASector, Lasting, StaysOr, TakesSector, overwritten_in}
 
 -- bytes that were written whole stand there, whatever came of bringing them to the disk
 pub written-then : {E : Type 0} (old mid new : Option (List ℕ)) (n : ℕ) (bytes : List ℕ) (r : Result Unit E)
@@ -37,6 +15,10 @@ written-then old mid new n bytes (Err _) written same = (
   subst (λ xs. IsOverwritten old new n xs) (sym (take-length bytes))
       (subst (λ x. IsOverwritten old x n bytes) (sym same) written),
 )
+
+pub on_ok_of : {E : Type 0} (X : Type 0) (r : Result Unit E) → X → OnOk r X
+on_ok_of X (Ok u) x = x
+on_ok_of X (Err e) x = tt
 
 -- of a file that is known to be as long, or not known
 held_is : (o new : Option (List ℕ)) (n : ℕ) (bytes : List ℕ) → IsOverwritten o new n bytes → IsSectorIn o n bytes
@@ -84,3 +66,11 @@ module _ {F : Type 0} (held : F → Option (List ℕ)) (L : Lasting F) (a b c : 
       (subst (λ o. IsOverwritten o (held b) n bytes) (sym there) written) is in
       let y : StaysOr L b c next = subst (λ o. StaysOr L b c o) e (stays (lacks x is e)) in
       record { stays = stays_on x y; ok = on_ok_weaker r (λ l. l ∙ same ∙ e) lasting; all = lasting }
+
+  -- one that was written, and then brought there in whatever way
+  pub taken : {E : Type 0} (r : Result Unit E) → StaysOr L a b next → L.bytes b ≡ next → StaysOr L b c (L.bytes b)
+      → TakesSector L a c n bytes r
+  taken r x e y = record {
+    stays = stays_on x (subst (λ o. StaysOr L b c o) e y);
+    ok = on_ok_of _ r (⊎_elim (λ s. s ∙ e) (λ s. s ∙ e) y.now);
+  }

@@ -1,5 +1,24 @@
 -- What a file says of the bytes that stay where the machine loses power. Our own.
-use Rattle.std.specs.Prelude.{◌≡◌, ◌<◌, ◌≤◌, ◌+◌, ◌*◌, ◌⊎◌, ℕ, List, None, Option, Some, length, slice_index}
+use Rattle.std.specs.Prelude.{
+  ◌≡◌,
+  ◌<◌,
+  ◌≤◌,
+  ◌+◌,
+  ◌*◌,
+  ◌⊎◌,
+  Bool,
+  true,
+  false,
+  ℕ,
+  List,
+  None,
+  OnOk,
+  Option,
+  Result,
+  Some,
+  length,
+  slice_index,
+}
 use Rattle.std.proofs.lemmas.Option.{none-some}
 use Rattle.d64_image.specs.Offsets.{overwritten}
 
@@ -28,6 +47,22 @@ unknown_lasting = record {
   only_now = λ f all never. absurd never;
 }
 
+-- Bytes that a file holds, now and at the moments before, of one that says that no write leaves a part of itself.
+pub record Whole {F : Type 0} (held : F → Option (List ℕ)) : Type 1 where
+  pub lasting : Lasting F
+  pub is_held : (f : F) (all : List ℕ) → lasting.bytes f ≡ Some all → held f ≡ Some all
+
+-- of a file of which that isn't known
+abbrev pub unknown_whole : {F : Type 0} → {held : F → Option (List ℕ)} → Whole held
+unknown_whole = record { lasting = unknown_lasting; is_held = λ f all e. absurd (none-some all e) }
+
+-- The bytes of a file that are looked at: those that stay, where each sector is brought to the disk; else those that an
+-- image's file holds whole.
+abbrev pub seen : {F : Type 0} → (L W : Lasting F) → (synced sized : Bool) → Lasting F
+seen L W true sized = L
+seen L W false true = W
+seen L W false false = unknown_lasting
+
 -- From old to new those of old stayed or these, and at each moment nothing else.
 pub record StaysOr {F : Type 0} (L : Lasting F) (old new : F) (next : Option (List ℕ)) : Type 0 where
   pub now : (L.bytes new ≡ L.bytes old) ⊎ (L.bytes new ≡ next)
@@ -48,6 +83,12 @@ pub record IsSectorIn (all : Option (List ℕ)) (n : ℕ) (bytes : List ℕ) : T
   pub index : ℕ
   pub at : n ≡ 256 * index
   pub inside : (xs : List ℕ) → all ≡ Some xs → n + 256 ≤ length xs
+
+-- The sector stands in these bytes, and at an error it does or what was there before.
+pub record TakesSector {F E : Type 0} (L : Lasting F) (old new : F) (n : ℕ) (bytes : List ℕ) (result : Result Unit E)
+    : Type 0 where
+  pub stays : StaysOr L old new (overwritten_in (L.bytes old) n bytes)
+  pub ok : OnOk result (L.bytes new ≡ overwritten_in (L.bytes old) n bytes)
 
 -- what stays is what is held, or all of it but one sector
 abbrev pub LacksASector : (lasting held : Option (List ℕ)) → Type 0

@@ -1,4 +1,4 @@
--- The image of a disk that stays where the machine loses power, of a file that says which bytes do. Our own.
+-- The image that a file's bytes are, of one that says which stay or which it holds. Our own.
 use Rattle.std.specs.Prelude.{
   ◌≡◌,
   ◌<◌,
@@ -53,34 +53,21 @@ pub sectors_are_image : (all : List ℕ) → length all ≡ 174848 → ((i : ℕ
 sectors_are_image all size small =
     subst IsImage (chunks_are_sectors all 683 refl) (chunks_are_image all 683 refl size small)
 
--- what is known of the bytes of a disk that are brought there sector by sector, and nothing of another's
-abbrev pub image_if : Bool → Option (List ℕ) → Option Image
-image_if true bytes = image_of bytes
-image_if false bytes = None
-
-abbrev pub moment_if : Bool → ℕ → ℕ
-moment_if true t = t
-moment_if false t = 0
-
 -- this image was among those that stayed
-abbrev pub stayed_if : {F : Type 0} → Lasting F → Bool → F → ℕ → Image → Type 0
-stayed_if L synced file t c = (all : List ℕ) × L.stayed file t all × (image_if synced (Some all) ≡ Some c)
+abbrev pub stayed_image : {F : Type 0} → Lasting F → F → ℕ → Image → Type 0
+stayed_image L file t c = (all : List ℕ) × L.stayed file t all × (image_of (Some all) ≡ Some c)
 
 module _ {F : Type 0} (L : Lasting F) where
-  pub whole_if : (b : Bool) (f : F) (c : Image) → image_if b (L.bytes f) ≡ Some c → IsImage c
-  whole_if true f c e =
+  pub whole_image : (f : F) (c : Image) → image_of (L.bytes f) ≡ Some c → IsImage c
+  whole_image f c e =
       let x = are_image (L.bytes f) c e in
       subst IsImage x.image (sectors_are_image x.all x.size (L.small f x.all x.are))
-  whole_if false f c e = none_kept e
 
-  pub now_if : (b : Bool) (f : F) (t : ℕ) → t ≤ moment_if b (L.moment f) → (c : Image)
-      → image_if b (L.bytes f) ≡ Some c → stayed_if L b f t c
-  now_if true f t le c e =
+  pub now_image : (f : F) (t : ℕ) → t ≤ L.moment f → (c : Image) → image_of (L.bytes f) ≡ Some c
+      → stayed_image L f t c
+  now_image f t le c e =
       let x = are_image (L.bytes f) c e in
       (x.all, L.now f t le x.all x.are, ap image_of (sym x.are) ∙ e)
-  now_if false f t le c e = none_kept e
 
-  pub only_now_if : (b : Bool) (f : F) (c : Image) → stayed_if L b f (moment_if b (L.moment f)) c
-      → image_if b (L.bytes f) ≡ Some c
-  only_now_if true f c h = ap image_of (L.only_now f h.0 h.1) ∙ h.2
-  only_now_if false f c h = none_kept h.2
+  pub only_now_image : (f : F) (c : Image) → stayed_image L f (L.moment f) c → image_of (L.bytes f) ≡ Some c
+  only_now_image f c h = ap image_of (L.only_now f h.0 h.1) ∙ h.2

@@ -1,8 +1,9 @@
 -- A file that keeps the sectors of a disk at their places. Our own.
-use Rattle.std.specs.Prelude.{◌≡◌, ◌≤◌, Bool, true, false}
+use Rattle.std.specs.Prelude.{◌≡◌, ◌≤◌, Some, true, false}
 use Rattle.std.proofs.Common.{◌∙◌, arith, le_refl, refl}
-use Rattle.d64_image.specs.Keeps.{Keeps}
-use Rattle.ledger_commands.specs.LastingImages.{image_if, moment_if, now_if, only_now_if, stayed_if, whole_if}
+use Rattle.d64_image.specs.Keeps.{Keeps, KeptOnly}
+use Rattle.ledger_commands.specs.Lasting.{Lasting, seen}
+use Rattle.ledger_commands.specs.LastingImages.{image_of, now_image, only_now_image, stayed_image, whole_image}
 use Rattle.ledger_commands.specs.declared.durable.Durability.{Durability}
 use Rattle.ledger_commands.specs.declared.durable.WritesAt.{Ghosts}
 use Rattle.ledger_commands.specs.declared.placed.Placed.{Placed}
@@ -20,34 +21,49 @@ module _ {F : Type 0} {G : Ghosts F} where
   abbrev pub is_synced : Placed F G → Type 0
   is_synced p = p.synced ≡ true
 
+  -- they aren't, and the file is an image's
+  abbrev pub is_unsynced : Placed F G → Type 0
+  is_unsynced p = (p.synced ≡ false) × (p.sized ≡ true)
+
+  -- the bytes of its file that are looked at
+  abbrev pub seen_of : Placed F G → Lasting F
+  seen_of p = seen G.lasting G.whole.lasting p.synced p.sized
+
   -- The counts only grow, and the sectors are brought to the disk as before.
   pub record GrowsOn (old new : Placed F G) : Type 0 where
     pub taken : old.taken ≤ new.taken
     pub failed : old.failed ≤ new.failed
     pub durability : new.durability ≡ old.durability
     pub synced : new.synced ≡ old.synced
+    pub sized : new.sized ≡ old.sized
 
-  -- Where each sector is brought to the disk, and all else is there, such a file keeps what stays where the
-  -- machine loses power. Else what it keeps isn't known: a sector that it took in part would be neither the old one
-  -- nor the new.
+  -- Where each sector is brought to the disk, and all else is there, such a file keeps what stays where the machine
+  -- loses power; else what an image's file holds whole: a sector that it took in part would be neither the old one nor
+  -- the new.
   abbrev pub placed : Keeps (Placed F G)
   placed = record {
-    kept = λ p. image_if p.synced (G.lasting.bytes p.file);
-    moment = λ p. moment_if p.synced (G.lasting.moment p.file);
-    held = λ p t c. stayed_if G.lasting p.synced p.file t c;
+    kept = λ p. image_of ((seen_of p).bytes p.file);
+    moment = λ p. (seen_of p).moment p.file;
+    held = λ p t c. stayed_image (seen_of p) p.file t c;
     writes = λ p. p.taken;
     failures = λ p. p.failed;
     last = 18446744073709551615;
-    whole = λ p c e. whole_if G.lasting p.synced p.file c e;
-    now = λ p t le c e. now_if G.lasting p.synced p.file t le c e;
-    only_now = λ p c h. only_now_if G.lasting p.synced p.file c h;
+    whole = λ p c e. whole_image (seen_of p) p.file c e;
+    now = λ p t le c e. now_image (seen_of p) p.file t le c e;
+    only_now = λ p c h. only_now_image (seen_of p) p.file c h;
     up_to_last = λ p. p.fits;
     reached = GrowsOn;
-    reached_same = λ p. record { taken = le_refl p.taken; failed = le_refl p.failed; durability = refl; synced = refl };
+    reached_same = λ p. record { taken = le_refl p.taken; failed = le_refl p.failed; durability = refl; synced = refl; sized = refl };
     reached_then = λ a b c x y. record {
       taken = omega (arith, x.taken, y.taken);
       failed = omega (arith, x.failed, y.failed);
       durability = y.durability ∙ x.durability;
       synced = y.synced ∙ x.synced;
+      sized = y.sized ∙ x.sized;
     };
   }
+
+  -- It keeps what it kept, and kept nothing else on the way.
+  pub record KeepsOn (old new : Placed F G) : Type 0 where
+    pub kept : placed.kept new ≡ placed.kept old
+    pub only : KeptOnly placed old new (λ c. placed.kept old ≡ Some c)

@@ -1,7 +1,7 @@
 //! Files that are written at places, and brought to the disk.
 ghost use Rattle.std.specs.Prelude.{◌≡◌, Bool, List, None, OnErr, OnOk, Option, ℕ, true, ⊤};
 ghost use Rattle.ledger_commands.specs.Durable.{IsSynced, LastsSo, WritesOver};
-ghost use Rattle.ledger_commands.specs.Lasting.{Lasting, unknown_lasting};
+ghost use Rattle.ledger_commands.specs.Lasting.{IsSectorIn, Lasting, TakesSector, Whole, unknown_lasting};
 
 use std::fs::File;
 use std::io;
@@ -11,13 +11,16 @@ use std::os::unix::fs::FileExt;
 pub trait WritesAt {
     ghost use Rattle.std.specs.Prelude.{◌≡◌, OnErr, OnOk};
     ghost use Rattle.ledger_commands.specs.Durable.{AllStays, WritesOver};
-    ghost use Rattle.ledger_commands.specs.Lasting.{IsSectorIn, LacksASector, StaysOr, overwritten_in};
+    ghost use Rattle.ledger_commands.specs.Lasting.{IsSectorIn, LacksASector, StaysOr, TakesSector, overwritten_in};
 
     // the bytes that it holds, where they are known
     ghost held: { Self → Option (List ℕ) } = { λ _. None };
 
     // the bytes that stay where the machine loses power, where they are known
     ghost lasting: { Lasting Self } = { unknown_lasting };
+
+    // the bytes that it holds, where it is known that a write that fails stands there whole or not at all
+    ghost whole: { Whole held };
 
     // nobody else writes it; and nobody else reads it either
     ghost IsShared: { Self → Type 0 } = { λ _. ⊤ };
@@ -33,6 +36,8 @@ pub trait WritesAt {
         ensures written { WritesOver (held self.old) (held self.new) at bytes.now result }
         ensures stays { AllStays held lasting self.old → IsSectorIn (lasting.bytes self.old) at bytes.now
             → StaysOr lasting self.old self.new (overwritten_in (lasting.bytes self.old) at bytes.now) }
+        ensures whole { IsSectorIn (whole.lasting.bytes self.old) at bytes.now
+            → TakesSector whole.lasting self.old self.new at bytes.now result }
         ensures failed { OnErr result (has_failed self.new ≡ true) }
         ensures passed { OnOk result (has_failed self.new ≡ has_failed self.old) };
 
@@ -44,11 +49,16 @@ pub trait WritesAt {
         ensures failed { OnErr result (has_failed self.new ≡ true) }
         ensures passed { OnOk result (has_failed self.new ≡ has_failed self.old) }
         ensures stays { LacksASector (lasting.bytes self.old) (held self.old) → StaysOr lasting self.old self.new (held self.old) }
+        ensures whole { StaysOr whole.lasting self.old self.new (whole.lasting.bytes self.old) }
         ensures owned { IsOwned self.old → IsOwned self.new }
         ensures shared { IsShared self.old → IsShared self.new };
 }
 
 impl WritesAt for File {
+    ghost use Rattle.ledger_commands.specs.Lasting.{unknown_whole};
+
+    ghost whole = { unknown_whole };
+
     // In line, as all on the way to the file is: a return right behind a call of the system is dear.
     #[inline(always)]
     fn write_all_at(&mut self, bytes: &[u8], at: u64) -> io::Result<()> {
@@ -80,6 +90,8 @@ pub(crate) fn write_sector<F: WritesAt>(
     ensures written { WritesOver (F.held file.old) (F.held file.new) at bytes.now result }
     ensures lasting { OnOk result (IsSynced F.held F.lasting durability file.new) }
     ensures stays { LastsSo F.held F.lasting file.old file.new durability at bytes.now result }
+    ensures whole { IsSectorIn (F.whole.lasting.bytes file.old) at bytes.now
+        → TakesSector F.whole.lasting file.old file.new at bytes.now result }
     ensures failed { OnErr result (F.has_failed file.new ≡ true) }
     ensures passed { OnOk result (F.has_failed file.new ≡ F.has_failed file.old) }
 {

@@ -1,6 +1,7 @@
 //! A file that keeps the sectors of a disk at their places.
 ghost use Rattle.std.specs.Prelude.{◌≤◌, ◌≡◌, ◌↔◌, true, List, ℕ, Some, length};
 ghost use Rattle.std.proofs.Props.{props};
+ghost use Rattle.ledger_commands.specs.Lasting.{seen};
 ghost use Rattle.ledger_commands.specs.declared.durable.Durability.TheVariants as durabilities;
 
 use crate::durable::{Durability, WritesAt, write_sector};
@@ -15,11 +16,14 @@ pub struct Placed<F: WritesAt> {
     durability: Durability,
     /// Each sector is brought to the disk, and all else that the file holds is there, unless bringing one failed.
     synced: bool,
+    /// It is the file of an image.
+    sized: bool,
     taken: u64,
     failed: u64,
     ghost fits: { failed ≤ 18446744073709551615 },
     ghost each: { synced ≡ true → durability ≡ durabilities.EachSector },
-    ghost whole: { synced ≡ true → (all : List ℕ) → F.lasting.bytes file ≡ Some all → length all ≡ 174848 },
+    ghost whole: { (all : List ℕ) → (seen F.lasting F.whole.lasting synced sized).bytes file ≡ Some all
+        → length all ≡ 174848 },
     ghost blamed: { 1 ≤ failed → F.has_failed file ≡ true },
     ghost there: { synced ≡ true → failed ≡ 0 → F.lasting.bytes file ≡ F.held file } by { Prim.hlevel props },
 }
@@ -39,7 +43,14 @@ impl<F: WritesAt> Placed<F> {
     ghost use Rattle.d64_image.specs.Keeps.{Agrees};
     ghost use Rattle.d64_image.specs.Memory.{sectors_in};
     ghost use Rattle.ledger_commands.specs.Durable.{AllStays, IsSynced};
-    ghost use Rattle.ledger_commands.specs.Placed.{is_synced, placed, placed_durability, placed_file};
+    ghost use Rattle.ledger_commands.specs.Placed.{
+      KeepsOn,
+      is_synced,
+      is_unsynced,
+      placed,
+      placed_durability,
+      placed_file,
+    };
 
     /// The file, whose sectors aren't brought to the disk before the end. It took no sector, and hasn't failed.
     pub fn new(file: F) -> Placed<F>
@@ -52,13 +63,15 @@ impl<F: WritesAt> Placed<F> {
             file,
             durability: Durability::AtEnd,
             synced: false,
+            sized: false,
             taken: 0,
             failed: 0,
         }
     }
 
     /// The file of an image with these bytes, which were read of it, whose sectors are brought to the disk so. It took no
-    /// sector, and hasn't failed. Where each sector is, and what it holds is there, it keeps what stays there.
+    /// sector, and hasn't failed. Where each sector is, and what it holds is there, it keeps what stays there; else what it
+    /// holds, where that is known whole.
     pub fn of_image(file: F, durability: Durability, image: &[u8]) -> Placed<F>
         requires there { IsSynced F.held F.lasting durability file }
         requires image { IfSome (F.held file) (λ all. image.now ≡ take 174849 all) }
@@ -67,12 +80,14 @@ impl<F: WritesAt> Placed<F> {
         ensures untaken { placed.writes result ≡ 0 }
         ensures unfailed { placed.failures result ≡ 0 }
         ensures synced { durability ≡ Durability.EachSector → length image.now ≡ 174848 → is_synced result }
+        ensures unsynced { durability ≡ Durability.AtEnd → length image.now ≡ 174848 → is_unsynced result }
         ensures agrees { Agrees (placed.kept result) (sectors_in image.now) }
     {
         Placed {
             file,
             durability,
             synced: is_brought(durability, image),
+            sized: image.len() == IMAGE_BYTES,
             taken: 0,
             failed: 0,
         }
@@ -94,6 +109,7 @@ impl<F: WritesAt> Placed<F> {
             file,
             durability: _,
             synced: _,
+            sized: _,
             taken: _,
             failed: _,
         } = self;
@@ -110,6 +126,7 @@ impl<F: WritesAt> Placed<F> {
         ensures passed { OnOk result (F.has_failed (placed_file self.new) ≡ F.has_failed (placed_file self.old)) }
         ensures same { F.held (placed_file self.new) ≡ F.held (placed_file self.old) }
         ensures reached { placed.reached self.old self.new }
+        ensures kept { KeepsOn self.old self.new }
         ensures untouched { is_synced self.old → self.new ≡ self.old }
     {
         if self.is_stopped() {

@@ -1,9 +1,13 @@
 -- Runs over a file that is brought to the disk, once its sectors stand at their places.
-use Rattle.std.proofs.Common.{◌≡◌, ◌≢◌, ◌∙◌, ◌⊎◌, ℕ, Err, List, ap, length, subst, sym, true}
+use Rattle.std.proofs.Common.{◌≡◌, ◌≢◌, ◌∙◌, ◌⊎◌, ℕ, Bool, Err, List, Option, Some, ap}
+use Rattle.std.proofs.Common.{false, length, refl, subst, sym, true}
 use Rattle.std.specs.Prelude.{IfErr, OnOk}
+use Rattle.d64_image.specs.Images.{Image}
+use Rattle.d64_image.specs.Keeps.{none_kept}
 use Rattle.ledger_commands.specs.Durable.{AllStays}
-use Rattle.ledger_commands.specs.LastingImages.{image_if, image_of}
-use Rattle.ledger_commands.specs.Placed.{is_synced, placed, placed_file}
+use Rattle.ledger_commands.specs.Lasting.{Lasting, Whole, seen}
+use Rattle.ledger_commands.specs.LastingImages.{are_image, image_of}
+use Rattle.ledger_commands.specs.Placed.{KeepsOn, is_synced, is_unsynced, placed, placed_file}
 use Rattle.ledger_commands.specs.declared.durable.Durability.{Durability}
 use Rattle.ledger_commands.specs.declared.durable.Durability.TheVariants as durabilities
 use Rattle.ledger_commands.specs.declared.durable.WritesAt.{Ghosts}
@@ -11,6 +15,16 @@ use Rattle.ledger_commands.specs.declared.faults.RunFault.TheVariants as faults
 use Rattle.ledger_commands.specs.declared.placed.Placed.{Placed}
 use Rattle.ledger_program.specs.DurableRuns.{IsDurableRun}
 use Rattle.ledger_program.specs.Ends.{Ended}
+
+-- what stays at the end is what was looked at
+image_left : {F : Type 0} (held : F → Option (List ℕ)) (L : Lasting F) (W : Whole held) (synced sized : Bool) (f g : F)
+    → (synced ≡ true → g ≡ f) → held g ≡ held f → L.bytes g ≡ held g → (c : Image)
+    → image_of ((seen L W.lasting synced sized).bytes f) ≡ Some c → image_of (L.bytes g) ≡ Some c
+image_left held L W true sized f g untouched same stays c e = ap (λ x. image_of (L.bytes x)) (untouched refl) ∙ e
+image_left held L W false true f g untouched same stays c e =
+    let x = are_image (W.lasting.bytes f) c e in
+    ap image_of (stays ∙ same ∙ W.is_held f x.all x.are ∙ sym x.are) ∙ e
+image_left held L W false false f g untouched same stays c e = none_kept e
 
 module _ {F : Type 0} {G : Ghosts F} (durability : Durability) (image : List ℕ) (file after : F)
     (first left last : Placed F G) (end ended : Ended) (IsRun : Placed F G → Placed F G → Ended → Type 0) where
@@ -23,29 +37,44 @@ module _ {F : Type 0} {G : Ghosts F} (durability : Durability) (image : List ℕ
       → (G.has_failed (placed_file left) ≡ true → G.has_failed (placed_file last) ≡ true)
       → G.held (placed_file last) ≡ G.held (placed_file left)
       → placed.reached left last → (is_synced left → last ≡ left)
+      → KeepsOn left last
       → (durability ≡ durabilities.EachSector → length image ≡ 174848 → is_synced first)
+      → (durability ≡ durabilities.AtEnd → length image ≡ 174848 → is_unsynced first)
       → OnOk ended (AllStays G.held G.lasting (placed_file last))
       → IfErr ended (λ fault. fault ≡ faults.File → AllStays G.held G.lasting (placed_file last))
       → IsDurableRun durability image file after ended IsRun
-  durable_run is_file unfailed is_last run told refused unblamed blamed failed same reached untouched synced there stands = record {
-    first = first;
-    left = left;
-    last = last;
-    is_file = is_file;
-    unfailed = unfailed;
-    synced = synced;
-    is_after = sym is_last;
-    end = end;
-    run = run;
-    told = told;
-    refused = refused;
-    unblamed = unblamed;
-    blamed = subst (λ f. (ended ≡ end) ⊎ (G.has_failed f ≡ true)) (sym is_last) blamed;
-    counted = λ some. subst (λ f. G.has_failed f ≡ true) (sym is_last) (failed (left.blamed some));
-    same = ap G.held is_last ∙ same;
-    reached = reached;
-    untouched = untouched;
-    lasts = λ each size now r. ap (λ b. image_if b (G.lasting.bytes now.file)) (r.synced ∙ synced each size);
-    there = subst (λ f. OnOk ended (AllStays G.held G.lasting f)) (sym is_last) there;
-    stands = subst (λ f. IfErr ended (λ fault. fault ≡ faults.File → AllStays G.held G.lasting f)) (sym is_last) stands;
-  }
+  durable_run is_file unfailed is_last run told refused unblamed blamed failed same reached untouched brought synced
+      unsynced there stands = record {
+        first = first;
+        left = left;
+        last = last;
+        is_file = is_file;
+        unfailed = unfailed;
+        synced = synced;
+        unsynced = unsynced;
+        is_after = sym is_last;
+        end = end;
+        run = run;
+        told = told;
+        refused = refused;
+        unblamed = unblamed;
+        blamed = subst (λ f. (ended ≡ end) ⊎ (G.has_failed f ≡ true)) (sym is_last) blamed;
+        counted = λ some. subst (λ f. G.has_failed f ≡ true) (sym is_last) (failed (left.blamed some));
+        same = ap G.held is_last ∙ same;
+        reached = reached;
+        untouched = untouched;
+        lasts = λ each size now r. ap (λ b. image_of ((seen G.lasting G.whole.lasting b now.sized).bytes now.file))
+            (r.synced ∙ synced each size);
+        holds = λ end size now r.
+            let is = unsynced end size in
+            ap (λ b. image_of ((seen G.lasting G.whole.lasting b now.sized).bytes now.file)) (r.synced ∙ is.0)
+            ∙ ap (λ b. image_of ((seen G.lasting G.whole.lasting false b).bytes now.file)) (r.sized ∙ is.1);
+        brought = brought;
+        remains = subst
+            (λ f. AllStays G.held G.lasting f → (c : Image) → placed.kept left ≡ Some c → image_of (G.lasting.bytes f) ≡ Some c)
+            (sym is_last)
+            (image_left G.held G.lasting G.whole left.synced left.sized left.file last.file
+            (λ is. ap placed_file (untouched is)) same);
+        there = subst (λ f. OnOk ended (AllStays G.held G.lasting f)) (sym is_last) there;
+        stands = subst (λ f. IfErr ended (λ fault. fault ≡ faults.File → AllStays G.held G.lasting f)) (sym is_last) stands;
+      }

@@ -1,8 +1,9 @@
 -- A run over a file of which it is known what stays where the machine loses power. All of it is our own.
-use Rattle.std.specs.Prelude.{◌≡◌, ◌≢◌, ◌⊎◌, ◌≤◌, List, ℕ, Err, IfErr, OnOk, length, true}
+use Rattle.std.specs.Prelude.{◌≡◌, ◌≢◌, ◌⊎◌, ◌≤◌, List, ℕ, Err, IfErr, OnOk, Some, length, true}
+use Rattle.d64_image.specs.Images.{Image}
 use Rattle.ledger_commands.specs.Durable.{AllStays}
 use Rattle.ledger_commands.specs.LastingImages.{image_of}
-use Rattle.ledger_commands.specs.Placed.{is_synced, placed, placed_file}
+use Rattle.ledger_commands.specs.Placed.{KeepsOn, is_synced, is_unsynced, placed, placed_file}
 use Rattle.ledger_commands.specs.declared.durable.Durability.{Durability}
 use Rattle.ledger_commands.specs.declared.durable.Durability.TheVariants as durabilities
 use Rattle.ledger_commands.specs.declared.durable.WritesAt.{Ghosts}
@@ -20,6 +21,7 @@ pub record IsDurableRun {F : Type 0} {G : Ghosts F} (durability : Durability) (i
   pub is_file : placed_file first ≡ file
   pub unfailed : placed.failures first ≡ 0
   pub synced : durability ≡ durabilities.EachSector → length image ≡ 174848 → is_synced first
+  pub unsynced : durability ≡ durabilities.AtEnd → length image ≡ 174848 → is_unsynced first
   pub is_after : placed_file last ≡ after
   -- how the run alone ended; a file that then couldn't be brought to the disk is told of in its place
   pub end : Ended
@@ -39,6 +41,14 @@ pub record IsDurableRun {F : Type 0} {G : Ghosts F} (durability : Durability) (i
   -- there where the machine loses power.
   pub lasts : durability ≡ durabilities.EachSector → length image ≡ 174848 → (now : Placed F G)
       → placed.reached first now → placed.kept now ≡ image_of (G.lasting.bytes (placed_file now))
+  -- Where they are brought there at the end, it is the image of the bytes that the file holds, where that is known whole.
+  pub holds : durability ≡ durabilities.AtEnd → length image ≡ 174848 → (now : Placed F G)
+      → placed.reached first now → placed.kept now ≡ image_of (G.whole.lasting.bytes (placed_file now))
+  -- Bringing it to the disk changes nothing of what it keeps, at no moment; and what then stays is the image that the run
+  -- left, where that is known.
+  pub brought : KeepsOn left last
+  pub remains : AllStays G.held G.lasting after → (c : Image) → placed.kept left ≡ Some c
+      → image_of (G.lasting.bytes after) ≡ Some c
   -- Done, or where the output alone failed, all that the file holds stays.
   pub there : OnOk ended (AllStays G.held G.lasting after)
   pub stands : IfErr ended (λ fault. fault ≡ faults.File → AllStays G.held G.lasting after)

@@ -1,7 +1,7 @@
 //! Image files that a job locks, reads, writes and brings to the disk.
 ghost use Rattle.std.specs.Prelude.{◌≡◌, ◌≢◌, ◌⊎◌, Err, IfErr, IfOk, IfSome, IsOk, OnOk, take, true, vec_items};
 ghost use Rattle.ledger_commands.specs.Durable.{AllStays, IsSynced};
-ghost use Rattle.ledger_commands.specs.Placed.{is_synced, placed, placed_file};
+ghost use Rattle.ledger_commands.specs.Placed.{KeepsOn, is_synced, placed, placed_file};
 ghost use Rattle.ledger_commands.specs.declared.faults.RunFault.TheVariants as faults;
 
 use crate::refusals::Refusal;
@@ -92,6 +92,7 @@ pub(crate) fn finished<F: WritesAt>(
     ensures fault { IfErr ended (λ fault. (fault ≡ faults.File → IsOk result → ⊥)) }
     ensures same { F.held (placed_file file.new) ≡ F.held (placed_file file.old) }
     ensures reached { placed.reached file.old file.new }
+    ensures kept { KeepsOn file.old file.new }
     ensures untouched { is_synced file.old → file.new ≡ file.old }
 {
     match &ended {

@@ -79,6 +79,10 @@ impl Seek for Tape {
 }
 
 impl WritesAt for Tape {
+    ghost use Rattle.ledger_commands.specs.Lasting.{unknown_whole};
+
+    ghost whole = { unknown_whole };
+
     fn write_all_at(&mut self, bytes: &[u8], at: u64) -> io::Result<()> {
         self.bytes.seek(SeekFrom::Start(at))?;
         self.write_all(bytes)

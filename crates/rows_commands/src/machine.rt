@@ -103,6 +103,10 @@ fn told(power: bool) -> io::Result<()> {
 }
 
 impl WritesAt for OnMachine<'_> {
+    ghost use Rattle.ledger_commands.specs.Lasting.{unknown_whole};
+
+    ghost whole = { unknown_whole };
+
     fn write_all_at(&mut self, bytes: &[u8], at: u64) -> io::Result<()> {
         let (power, done) = self.machine.call();
         if done {

@@ -56,6 +56,10 @@ impl FileExt for Opened<'_> {
 }
 
 impl WritesAt for Opened<'_> {
+    ghost use Rattle.ledger_commands.specs.Lasting.{unknown_whole};
+
+    ghost whole = { unknown_whole };
+
     fn write_all_at(&mut self, bytes: &[u8], at: u64) -> io::Result<()> {
         FileExt::write_all_at(self, bytes, at)
     }

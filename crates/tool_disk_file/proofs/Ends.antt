@@ -1,11 +1,13 @@
 -- What stayed of a shop on the disk of a file in memory.
-use Rattle.std.proofs.Common.{◌≡◌, ◌∙◌, ◌∷◌, List, [], Ok, Err, Result, ap, drop, length, refl, suc, zero}
+use Rattle.std.proofs.Common.{◌≡◌, ◌∙◌, ◌∷◌, List, [], None, Ok, Option, Some, Err, Result, ap, drop, length, refl, suc, zero}
 use Rattle.std.proofs.Common.{⊎_elim, ℕ}
 use Rattle.std.specs.Prelude.{OnOk, Vec}
 use Rattle.std.specs.declared.alloc.Global.{Global}
 use Rattle.tool_disk_file.specs.Files.{file_lasting}
+use Rattle.tool_disk_file.specs.WholeFiles.{held_lasting}
 use Rattle.tool_disk_file.specs.Past.{AreImages, HadBeen}
 use Rattle.tool_disk_file.specs.declared.disk_file.DiskFile.{DiskFile}
+use Rattle.tool_disk_file.specs.declared.whole_file.WholeFile.{WholeFile}
 
 -- what holds of a result that is Ok
 pub on_ok_by : {T E : Type 0} (r : Result T E) (X : Type 0) → ((v : T) → r ≡ Ok v → X) → OnOk r X
@@ -29,3 +31,15 @@ stayed_sized f t all stayed = ⊎_elim
     (λ e. ap length e ∙ f.disk.size)
     (λ had. had_sized (drop t f.disk.past.items) all (images_left t f.disk.past.items f.disk.images) had)
     stayed
+
+-- and so has what a file held
+pub held_sized : (f : WholeFile) (t : ℕ) (all : List ℕ) → held_lasting.stayed f t all → length all ≡ 174848
+held_sized f t all stayed = ⊎_elim
+    (λ e. ap length e ∙ f.file.held.size)
+    (λ had. had_sized (drop t f.file.held.past.items) all (images_left t f.file.held.past.items f.file.held.images) had)
+    stayed
+
+-- the bytes that are known
+abbrev pub known_in : Option (List ℕ) → List ℕ
+known_in None = []
+known_in (Some bytes) = bytes

@@ -1,7 +1,6 @@
 -- A line more that was noted, and a reply.
-use Rattle.std.proofs.Common.{◌≡◌, ◌∙◌, ◌++◌, ◌∷◌, [], List, ap, append_assoc, map, refl, sym, true}
+use Rattle.std.proofs.Common.{◌≡◌, ◌∙◌, ◌++◌, ◌∷◌, [], ap, append_assoc, map, sym, true}
 use Rattle.std.proofs.lemmas.List.{map-append}
-use Rattle.d64_image.specs.Images.{Image}
 use Rattle.request_cards.specs.declared.reply.Reply.{Reply}
 use Rattle.host_session.specs.events.Instants.{Instant}
 use Rattle.host_session.specs.events.Telling.{BreaksOff, TellsOne}

@@ -1,9 +1,8 @@
 -- A service over a file in memory whose sectors are brought to its disk one by one.
-use Rattle.std.proofs.Common.{◌≡◌, ◌≢◌, ◌⊎◌, ◌∙◌, ◌<◌, ◌≤◌, ℕ, zero, suc, List, ◌∷◌, [], Err, Ok, Option, Some, ap, arith}
+use Rattle.std.proofs.Common.{◌≡◌, ◌⊎◌, ◌∙◌, ◌<◌, ◌≤◌, ℕ, zero, suc, List, ◌∷◌, [], Err, Ok, Option, Some, ap, arith}
 use Rattle.std.proofs.Common.{false, length, map, refl, subst, sym, true, ⊎_elim}
-use Rattle.std.proofs.lemmas.Bool.{false≢true}
 use Rattle.std.specs.Prelude.{IfErr, IsOk, OnOk, zip}
-use Rattle.d64_image.specs.FileDisks.{FileDisk, in_run}
+use Rattle.d64_image.specs.FileDisks.{in_run}
 use Rattle.d64_image.specs.Memory.{sectors_in}
 use Rattle.disk_layout.specs.declared.faults.Fault.{Fault}
 use Rattle.request_cards.specs.Ledgers.{plain, replies}
@@ -32,7 +31,7 @@ use Rattle.tool_disk_file.proofs.Durably.{at_ok, each_kept, first_kept, first_sy
 use Rattle.tool_disk_file.proofs.Durably.{told_failed}
 use Rattle.tool_disk_file.proofs.Served.{AreSynced, chain_synced, image_there, instant_there, now_at, same_instants, same_over}
 use Rattle.tool_disk_file.proofs.Served.{same_told, with_files}
-use Rattle.tool_disk_file.proofs.Services.{AreServedOver, IsSound, WereServed, were_served}
+use Rattle.tool_disk_file.proofs.Services.{AreServedOver, WereServed, were_served}
 
 none_of : (n : ℕ) → (1 ≤ n → ⊥) → n ≡ 0
 none_of zero never = refl
@@ -54,13 +53,13 @@ module _ {F R T : Type 0} {G : Ghosts F} (bytes : F → List ℕ) (knows : (f : 
   pub stayed_each : (s : Shop) → IsShop (sectors_in image) s → (all : List ℕ) → length all ≡ 174848
       → G.lasting.stayed after (G.lasting.moment file) all → IsSome s (line_messages served.handled) (sectors_in all)
   stayed_each s is all full stayed =
-      let kept = served.kept s is (first_kept image file after ended Ran size known run) in
-      each_kept image file after ended Ran size known run kept.reached kept all full stayed
+      let kept = served.kept s is (first_kept durabilities.EachSector image file after ended Ran size known run) in
+      each_kept durabilities.EachSector image file after ended Ran size known run kept.reached kept all full stayed
 
   pub over : (v : Option Fault) → ended ≡ Ok v
       → AreServedOver placed i a image run.first run.left old_in new_in old new served.handled
   over v e = subst (λ (end : Ended). OnOk end (AreServedOver placed i a image run.first run.left old_in new_in old new
-      served.handled)) (at_ok image file after ended Ran size known run v e) served.done
+      served.handled)) (at_ok durabilities.EachSector image file after ended Ran size known run v e) served.done
 
   -- of a shop it is done where nothing failed
   pub done_well : IsAShop (sectors_in image) → G.has_failed after ≡ false → i.has_failed new_in ≡ false
@@ -84,7 +83,7 @@ module _ {F R T : Type 0} {G : Ghosts F} (bytes : F → List ℕ) (knows : (f : 
 
   -- the device is told of where the file failed
   pub device_failed : ended ≡ Err faults.Device → G.has_failed after ≡ true
-  device_failed e = told_failed image file after ended Ran size known run (λ is. (subst (λ (end : Ended). IfErr end
+  device_failed e = told_failed durabilities.EachSector image file after ended Ran size known run (λ is. (subst (λ (end : Ended). IfErr end
       (IsServeFault placed i a image run.first run.left old_in new_in old new)) is run.run.fault).0) e
 
   module _ (s : Shop) (is : IsShop (sectors_in image) s) (v : Option Fault) (e : ended ≡ Ok v) where
@@ -95,11 +94,11 @@ module _ {F R T : Type 0} {G : Ghosts F} (bytes : F → List ℕ) (knows : (f : 
     y = x.served s is
 
     reached : placed.reached run.first run.left
-    reached = (served.kept s is (first_kept image file after ended Ran size known run)).reached
+    reached = (served.kept s is (first_kept durabilities.EachSector image file after ended Ran size known run)).reached
 
     opened : is_synced y.handled.run.first.file
     opened = y.handled.run.opening.held.reached.0.synced
-        ∙ ap (λ (p : Placed F G). p.synced) x.is_file ∙ first_synced image file after ended Ran size known run
+        ∙ ap (λ (p : Placed F G). p.synced) x.is_file ∙ first_synced image file after ended Ran size run
 
     all_synced : AreSynced bytes knows sized y.turns
     all_synced = chain_synced bytes knows sized run.first s (line_messages served.handled) y.turns y.handled.run.first
@@ -135,8 +134,8 @@ module _ {F R T : Type 0} {G : Ghosts F} (bytes : F → List ℕ) (knows : (f : 
         (requests_of (lines served.handled))))
     there =
         let last : is_synced x.left.file = ap (λ (p : Placed F G). p.synced) x.is_after
-        ∙ left_synced image file after ended Ran size known run reached in
+        ∙ left_synced image file after ended Ran size run reached in
         let at : placed_file x.left.file ≡ after =
-        ap placed_file x.is_after ∙ left_is image file after ended Ran size known run reached in
+        ap placed_file x.is_after ∙ left_is image file after ended Ran size run reached in
         subst (λ img. IsSettled img (with_state s (plain (start_of s) (requests_of (lines served.handled)))))
         (image_there bytes knows sized run.first x.left last ∙ ap (λ f. sectors_in (bytes f)) at) y.handled.rests

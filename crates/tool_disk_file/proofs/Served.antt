@@ -1,19 +1,18 @@
 -- What a service over a file in memory left on its disk, and over what each reply was told.
-use Rattle.std.proofs.Common.{◌≡◌, ◌⊎◌, ◌∙◌, ◌<◌, ℕ, List, [], ◌∷◌, Err, Ok, Option, Some, ap, ap₂, false, length, map, refl}
-use Rattle.std.proofs.Common.{subst, sym, true, ⊎_elim}
+use Rattle.std.proofs.Common.{◌≡◌, ◌∙◌, ℕ, List, [], ◌∷◌, Some, ap, ap₂, length, map, refl}
+use Rattle.std.proofs.Common.{sym}
 use Rattle.std.specs.List.{AllByRecursion}
-use Rattle.std.specs.Prelude.{IsOk, zip}
 use Rattle.d64_image.specs.FileDisks.{FileDisk, in_run}
 use Rattle.d64_image.specs.Keeps.{kept_or}
 use Rattle.d64_image.specs.Memory.{sectors_in}
 use Rattle.request_cards.specs.declared.reply.Reply.{Reply}
 use Rattle.host_session.specs.events.Events.{Message}
 use Rattle.host_session.specs.events.Instants.{Instant, instant_of}
-use Rattle.host_session.specs.runs.Chains.{HasRun, IsChain, over_instants, told_in}
+use Rattle.host_session.specs.runs.Chains.{IsChain, over_instants, told_in}
 use Rattle.host_session.specs.events.Counted.{after_all}
 use Rattle.host_session.specs.shop.Shop.{Shop, start_of, with_state}
-use Rattle.ledger_commands.specs.Lasting.{Lasting}
-use Rattle.ledger_commands.specs.LastingImages.{image_if, image_of, image_of-size, moment_if}
+use Rattle.ledger_commands.specs.Lasting.{Lasting, seen}
+use Rattle.ledger_commands.specs.LastingImages.{image_of, image_of-size}
 use Rattle.ledger_commands.specs.Placed.{is_synced, placed, placed_file}
 use Rattle.ledger_commands.specs.declared.durable.WritesAt.{Ghosts}
 use Rattle.ledger_commands.specs.declared.placed.Placed.{Placed}
@@ -35,7 +34,7 @@ module _ {F : Type 0} {G : Ghosts F} (bytes : F → List ℕ) (knows : (f : F) �
     pub image_there : (d : FileDisk (placed {G = G})) → is_synced d.file → d.image ≡ sectors_in (bytes (placed_file d.file))
     image_there d synced =
         let kept : placed.kept d.file ≡ Some (sectors_in (bytes (placed_file d.file))) =
-        ap (λ b. image_if b (G.lasting.bytes (placed_file d.file))) synced
+        ap (λ b. image_of ((seen G.lasting G.whole.lasting b d.file.sized).bytes (placed_file d.file))) synced
         ∙ ap image_of (knows (placed_file d.file))
         ∙ image_of-size (bytes (placed_file d.file)) (sized (placed_file d.file)) in
         sym d.agrees ∙ ap (λ k. kept_or k d.image) kept
@@ -43,7 +42,7 @@ module _ {F : Type 0} {G : Ghosts F} (bytes : F → List ℕ) (knows : (f : F) �
     pub instant_there : (d : FileDisk (placed {G = G})) → is_synced d.file
         → instant_of (in_run placed start) d ≡ now_at G.lasting bytes (placed_file d.file)
     instant_there d synced = ap₂ (λ m c. record { moment = m; image = c })
-        (ap (λ b. moment_if b (G.lasting.moment (placed_file d.file))) synced) (image_there d synced)
+        (ap (λ b. (seen G.lasting G.whole.lasting b d.file.sized).moment (placed_file d.file)) synced) (image_there d synced)
 
     pub chain_synced : (s : Shop) (ms : List Message) (xs : List (Reply × FileDisk (placed {G = G})))
         (old : FileDisk (placed {G = G})) (t : Shop) (new : FileDisk (placed {G = G}))

@@ -1,5 +1,5 @@
 -- A service over the file of an image, whichever way it ended.
-use Rattle.std.proofs.Common.{◌≡◌, ◌≢◌, ◌⊎◌, ◌<◌, ◌∙◌, ◌++◌, ℕ, List, [], Err, Ok, Option, Some, arith, ap, false, inl, inr}
+use Rattle.std.proofs.Common.{◌≡◌, ◌⊎◌, ◌<◌, ◌∙◌, ◌++◌, ℕ, List, [], Err, Ok, Option, Some, arith, ap, false, inl, inr}
 use Rattle.std.proofs.Common.{length, refl, subst, sym, ⊎_elim}
 use Rattle.std.proofs.KnownBytes.{Consumes-nil}
 use Rattle.std.proofs.lemmas.Bool.{false≢true}
@@ -22,8 +22,7 @@ use Rattle.serving.specs.Answering.{Answering}
 use Rattle.serving.specs.Giving.{Input}
 use Rattle.serving.specs.Inputs.{line_messages}
 use Rattle.serving.specs.Read.{AreWhole, LacksLf}
-use Rattle.serving.specs.Serves.{AreServed, IsServed}
-use Rattle.ledger_commands.specs.Faults.{run_status}
+use Rattle.serving.specs.Serves.{AreServed}
 use Rattle.ledger_program.specs.FileServes.{IsServeFault, IsServedOver, IsUnserved}
 use Rattle.ledger_commands.specs.Shops.{IsOpenRefusal}
 use Rattle.ledger_commands.specs.declared.faults.RunFault.{RunFault}

@@ -1,14 +1,14 @@
 -- What a file in memory holds, and what of that is on its disk. Our own.
 use Rattle.std.specs.Prelude.{◌≡◌, ◌≢◌, Bool, List, ℕ}
 use Rattle.ledger_commands.specs.Lasting.{Lasting}
-use Rattle.tool_disk_file.specs.Disks.{disk_lasting}
+use Rattle.tool_disk_file.specs.Disks.{disk_bytes, disk_lasting}
 use Rattle.tool_disk_file.specs.declared.disk.Disk.{Disk}
 use Rattle.tool_disk_file.specs.declared.disk_file.DiskFile.{DiskFile}
 use Rattle.tool_disk_file.specs.declared.disk_file.Lock.TheVariants as locks
 
 -- what it holds
 abbrev pub file_held : DiskFile → List ℕ
-file_held f = f.held.items
+file_held f = disk_bytes f.held
 
 abbrev pub file_disk : DiskFile → Disk
 file_disk f = f.disk
@@ -35,3 +35,7 @@ file_lasting = record {
   now = λ f. disk_lasting.now f.disk;
   only_now = λ f. disk_lasting.only_now f.disk;
 }
+
+-- a write that fails leaves no part of itself
+abbrev pub is_whole : DiskFile → Type 0
+is_whole f = f.part ≡ 0

@@ -1,6 +1,8 @@
 pub mod Past
 pub mod Disks
 pub mod Files
+pub mod WholeFiles
 pub mod Shops
+pub mod WholeShops
 pub mod Services
 pub mod Noted

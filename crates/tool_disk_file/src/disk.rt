@@ -1,5 +1,6 @@
 //! A disk with the bytes of an image, and with all that stood in their place before.
-ghost use Rattle.std.specs.Prelude.{◌≡◌, ◌<◌, ℕ, length, slice_index};
+ghost use Rattle.std.specs.Prelude.{◌≡◌, ◌<◌, ◌+◌, ℕ, false, length, slice_index, true};
+ghost use Rattle.d64_image.specs.Offsets.{overwritten};
 ghost use Rattle.std.proofs.Props.{props};
 ghost use Rattle.tool_disk_file.specs.Past.{AreImages};
 
@@ -17,6 +18,21 @@ pub struct Disk {
     ghost size: { length bytes.items ≡ 174848 },
     ghost small: { (i : ℕ) → slice_index bytes.items i < 256 } by { Prim.hlevel props },
     ghost images: { AreImages past.items } by { Prim.hlevel props },
+}
+
+/// Puts bytes in the place of those from there on. Whether there are so many: else nothing changes.
+fn put(held: &mut [u8], at: u64, bytes: &[u8]) -> bool
+    ensures size { length held.new ≡ length held.old }
+    ensures done { result ≡ true → held.new ≡ overwritten held.old at bytes.now }
+    ensures beyond { result ≡ false → length held.old < at + length bytes.now }
+{
+    let from = at as usize;
+    let size = bytes.len();
+    if held.len() < size || held.len() - size < from {
+        return false;
+    }
+    held[from..from + size].copy_from_slice(bytes);
+    true
 }
 
 impl Disk {
@@ -67,5 +83,23 @@ impl Disk {
         self.past.push(before)?;
         self.bytes = next;
         Ok(())
+    }
+
+    /// Puts these bytes in the place of those from there on. Whether there are so many: else it is as it was, as at an error,
+    /// where memory was refused.
+    pub(crate) fn put(&mut self, at: u64, bytes: &[u8]) -> Result<bool, AllocError>
+        ensures done { IfOk result (λ fits. fits ≡ true
+            → disk_bytes self.new ≡ overwritten (disk_bytes self.old) at bytes.now) }
+        ensures beyond { IfOk result (λ fits. fits ≡ false → 174848 < at + length bytes.now) }
+        ensures same { IfOk result (λ fits. fits ≡ false → self.new ≡ self.old) }
+        ensures refused { OnErr result (disk_bytes self.new ≡ disk_bytes self.old) }
+        ensures stays { StaysOr disk_lasting self.old self.new (Some (overwritten (disk_bytes self.old) at bytes.now)) }
+    {
+        let mut next = self.bytes.to_vec(self.alloc)?;
+        if !put(next.as_mut_slice(), at, bytes) {
+            return Ok(false);
+        }
+        self.bring(next.as_slice())?;
+        Ok(true)
     }
 }

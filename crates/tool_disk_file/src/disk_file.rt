@@ -1,9 +1,11 @@
 //! A file in memory, of which it is known what it holds and what of that is on its disk.
-ghost use Rattle.std.specs.Prelude.{◌≡◌, ◌<◌, ◌+◌, Some, false, length, true};
+ghost use Rattle.std.specs.Prelude.{◌≡◌, ◌≤◌, ◌⊎◌, ◌+◌, None, Some, false, length};
 ghost use Rattle.d64_image.specs.Offsets.{overwritten};
 ghost use Rattle.ledger_commands.specs.Durable.{WritesOver};
+ghost use Rattle.ledger_commands.specs.Lasting.{StaysOr};
+ghost use Rattle.tool_disk_file.specs.Disks.{disk_bytes, disk_lasting};
 
-use crate::disk::{Disk, IMAGE_BYTES};
+use crate::disk::Disk;
 use ledger_commands::{Locks, WritesAt};
 use std::alloc::{AllocError, Global};
 use std::fs::TryLockError;
@@ -32,7 +34,8 @@ pub enum Lock {
 /// A file of an image, in memory: what it holds, and its disk. One of its calls fails, and each one behind it.
 #[derive(Drop)]
 pub struct DiskFile {
-    held: Vec<u8>,
+    /// What it holds, with all that it held before.
+    held: Disk,
     disk: Disk,
     bringing: Bringing,
     lock: Lock,
@@ -44,7 +47,6 @@ pub struct DiskFile {
     done: bool,
     /// Whether one of its calls failed.
     failed: bool,
-    ghost size: { length held.items ≡ 174848 },
 }
 
 /// Counts a call. Whether it passes.
@@ -59,41 +61,29 @@ fn failed() -> io::Error {
     io::Error::from(ErrorKind::Other)
 }
 
-/// Puts bytes in the place of those from there on. Whether the file reaches so far: else nothing changes.
-fn put(held: &mut [u8], at: u64, bytes: &[u8]) -> bool
-    ensures size { length held.new ≡ length held.old }
-    ensures done { result ≡ true → held.new ≡ overwritten held.old at bytes.now }
-    ensures beyond { result ≡ false → length held.old < at + length bytes.now }
-{
-    let from = at as usize;
-    let size = bytes.len();
-    if held.len() < size || held.len() - size < from {
-        return false;
-    }
-    held[from..from + size].copy_from_slice(bytes);
-    true
-}
-
-/// Writes all these bytes from there on, or so many of them at most and fails.
-fn write(held: &mut Vec<u8>, at: u64, bytes: &[u8], most: Option<usize>) -> io::Result<()>
-    ensures size { length held.new.items ≡ length held.old.items }
-    ensures written { WritesOver (Some held.old.items) (Some held.new.items) at bytes.now result }
+/// Writes all these bytes from there on, or so many of them at most and fails; none where memory for them was refused.
+fn write(held: &mut Disk, at: u64, bytes: &[u8], most: Option<usize>) -> io::Result<()>
+    ensures written { WritesOver (Some (disk_bytes held.old)) (Some (disk_bytes held.new)) at bytes.now result }
+    // all of them or none
+    ensures whole { (most ≡ None) ⊎ (most ≡ Some 0) → at + length bytes.now ≤ 174848
+        → StaysOr disk_lasting held.old held.new (Some (overwritten (disk_bytes held.old) at bytes.now)) }
 {
     match most {
         Some(most) => {
-            let _ = put(held.as_mut_slice(), at, &bytes[..bytes.len().min(most)]);
+            let _ = held.put(at, &bytes[..bytes.len().min(most)]);
             Err(failed())
         }
-        None if put(held.as_mut_slice(), at, bytes) => Ok(()),
-        None => Err(failed()),
+        None => match held.put(at, bytes) {
+            Ok(true) => Ok(()),
+            Ok(false) | Err(_) => Err(failed()),
+        },
     }
 }
 
 impl DiskFile {
-    ghost use Rattle.std.specs.Prelude.{IfOk, OnOk};
-    ghost use Rattle.ledger_commands.specs.Lasting.{IsSectorIn, StaysOr, overwritten_in};
-    ghost use Rattle.tool_disk_file.specs.Disks.{disk_bytes};
-    ghost use Rattle.tool_disk_file.specs.Files.{file_disk, file_held, file_lasting, has_failed};
+    ghost use Rattle.std.specs.Prelude.{IfOk, OnErr, OnOk, true};
+    ghost use Rattle.ledger_commands.specs.Lasting.{IsSectorIn, overwritten_in};
+    ghost use Rattle.tool_disk_file.specs.Files.{file_disk, file_held, file_lasting, has_failed, is_whole};
 
     /// A file of this image, all of which is on its disk. No call of it fails before the last that can be counted. An error
     /// where memory for it was refused.
@@ -102,9 +92,10 @@ impl DiskFile {
         ensures held { IfOk result (λ file. file_held file ≡ image.now) }
         ensures disk { IfOk result (λ file. disk_bytes (file_disk file) ≡ image.now) }
         ensures sound { IfOk result (λ file. has_failed file ≡ false) }
+        ensures whole { IfOk result (λ file. is_whole file) }
     {
         Ok(DiskFile {
-            held: image.to_vec(alloc)?,
+            held: Disk::new(alloc, image)?,
             disk: Disk::new(alloc, image)?,
             bringing,
             lock: Lock::None,
@@ -121,6 +112,7 @@ impl DiskFile {
         ensures held { file_held result ≡ file_held self }
         ensures disk { file_disk result ≡ file_disk self }
         ensures same { has_failed result ≡ has_failed self }
+        ensures whole { part ≡ 0 → is_whole result }
     {
         let DiskFile {
             held,
@@ -146,7 +138,7 @@ impl DiskFile {
     pub fn held(&self) -> &[u8]
         ensures { result.now ≡ file_held self.now }
     {
-        self.held.as_slice()
+        self.held.bytes()
     }
 
     /// Writes all these bytes from there on, and brings them to the disk where each write comes there.
@@ -155,6 +147,9 @@ impl DiskFile {
         ensures stays { file_lasting.bytes self.old ≡ Some (file_held self.old)
             → IsSectorIn (file_lasting.bytes self.old) at bytes.now
             → StaysOr file_lasting self.old self.new (overwritten_in (file_lasting.bytes self.old) at bytes.now) }
+        ensures whole { is_whole self.old → at + length bytes.now ≤ 174848
+            → StaysOr disk_lasting self.old.held self.new.held (Some (overwritten (file_held self.old) at bytes.now)) }
+        ensures part { self.new.part ≡ self.old.part }
         ensures same { has_failed self.new ≡ has_failed self.old }
     {
         let most = if passes(&mut self.calls) {
@@ -164,14 +159,15 @@ impl DiskFile {
         };
         write(&mut self.held, at, bytes, most)?;
         if self.bringing == Bringing::AtOnce {
-            self.disk.bring(self.held.as_slice())?;
+            self.disk.bring(self.held.bytes())?;
         }
         Ok(())
     }
 
     /// Brings all that it holds to the disk. A call that fails does so or not.
     fn bring_all(&mut self) -> io::Result<()>
-        ensures held { file_held self.new ≡ file_held self.old }
+        ensures held { self.new.held ≡ self.old.held }
+        ensures part { self.new.part ≡ self.old.part }
         ensures lasting { OnOk result (file_lasting.bytes self.new ≡ Some (file_held self.new)) }
         ensures stays { StaysOr file_lasting self.old self.new (Some (file_held self.old)) }
         ensures lock { self.new.lock ≡ self.old.lock }
@@ -179,9 +175,41 @@ impl DiskFile {
     {
         let passes = passes(&mut self.calls);
         if passes || self.done {
-            self.disk.bring(self.held.as_slice())?;
+            self.disk.bring(self.held.bytes())?;
         }
         if passes { Ok(()) } else { Err(failed()) }
+    }
+
+    /// The same, and whether it failed is noted.
+    pub(crate) fn write_noted(&mut self, bytes: &[u8], at: u64) -> io::Result<()>
+        ensures written { WritesOver (Some (file_held self.old)) (Some (file_held self.new)) at bytes.now result }
+        ensures stays { file_lasting.bytes self.old ≡ Some (file_held self.old)
+            → IsSectorIn (file_lasting.bytes self.old) at bytes.now
+            → StaysOr file_lasting self.old self.new (overwritten_in (file_lasting.bytes self.old) at bytes.now) }
+        ensures whole { is_whole self.old → at + length bytes.now ≤ 174848
+            → StaysOr disk_lasting self.old.held self.new.held (Some (overwritten (file_held self.old) at bytes.now)) }
+        ensures part { self.new.part ≡ self.old.part }
+        ensures failed { OnErr result (has_failed self.new ≡ true) }
+        ensures passed { OnOk result (has_failed self.new ≡ has_failed self.old) }
+    {
+        let written = self.write_through(bytes, at);
+        self.failed = self.failed || written.is_err();
+        written
+    }
+
+    /// The same, and whether it failed is noted.
+    pub(crate) fn bring_noted(&mut self) -> io::Result<()>
+        ensures held { self.new.held ≡ self.old.held }
+        ensures part { self.new.part ≡ self.old.part }
+        ensures lasting { OnOk result (file_lasting.bytes self.new ≡ Some (file_held self.new)) }
+        ensures stays { StaysOr file_lasting self.old self.new (Some (file_held self.old)) }
+        ensures lock { self.new.lock ≡ self.old.lock }
+        ensures failed { OnErr result (has_failed self.new ≡ true) }
+        ensures passed { OnOk result (has_failed self.new ≡ has_failed self.old) }
+    {
+        let brought = self.bring_all();
+        self.failed = self.failed || brought.is_err();
+        brought
     }
 
     /// Its disk.
@@ -194,11 +222,14 @@ impl DiskFile {
 
 impl WritesAt for DiskFile {
     ghost use Rattle.std.specs.Prelude.{◌≡◌, ◌≢◌, Some};
+    ghost use Rattle.ledger_commands.specs.Lasting.{unknown_whole};
     ghost use Rattle.tool_disk_file.specs.Files.{file_held, file_lasting, has_failed, is_alone, is_locked};
 
     ghost held = { λ f. Some (file_held f) };
 
     ghost lasting = { file_lasting };
+
+    ghost whole = { unknown_whole };
 
     ghost IsShared = { is_locked };
 
@@ -207,15 +238,11 @@ impl WritesAt for DiskFile {
     ghost has_failed = { has_failed };
 
     fn write_all_at(&mut self, bytes: &[u8], at: u64) -> io::Result<()> {
-        let written = self.write_through(bytes, at);
-        self.failed = self.failed || written.is_err();
-        written
+        self.write_noted(bytes, at)
     }
 
     fn sync(&mut self) -> io::Result<()> {
-        let brought = self.bring_all();
-        self.failed = self.failed || brought.is_err();
-        brought
+        self.bring_noted()
     }
 }
 
@@ -231,6 +258,6 @@ impl Locks for DiskFile {
     }
 
     fn image(&mut self, alloc: Global) -> io::Result<Vec<u8>> {
-        Ok(self.held.as_slice().to_vec(alloc)?)
+        Ok(self.held.bytes().to_vec(alloc)?)
     }
 }

@@ -6,11 +6,13 @@ mod disk;
 mod disk_file;
 mod noting;
 mod runs;
+mod whole_file;
 
 pub use disk::{Disk, IMAGE_BYTES};
 pub use disk_file::{Bringing, DiskFile, Lock};
 pub use noting::{NotedLines, NotedReplies};
-pub use runs::{play_on_disk, serve_on_disk};
+pub use runs::{play_in_file, play_on_disk, serve_on_disk};
+pub use whole_file::WholeFile;
 
 #[cfg(test)]
 mod noting_rows;

@@ -1,5 +1,5 @@
 //! An input and an output in memory that note what the disk held, and say whether they failed.
-ghost use Rattle.std.specs.Prelude.{◌≡◌, [], false};
+ghost use Rattle.std.specs.Prelude.{◌≡◌, [], Some, false};
 ghost use Rattle.d64_image.specs.Memory.{sectors_in};
 ghost use Rattle.tool_disk_file.specs.Noted.{IsNoted, asked_for, noted_lines, noted_replies, replies_noted};
 
@@ -24,6 +24,7 @@ pub struct NotedLines<'a> {
 impl<'a> NotedLines<'a> {
     /// The lines of these bytes, of which so many are given.
     pub fn new(alloc: Global, bytes: &'a [u8], most: u64) -> NotedLines<'a>
+        ensures lines { noted_lines.remaining result ≡ Some bytes.now }
         ensures none { asked_for result ≡ [] }
         ensures sound { noted_lines.has_failed result ≡ false }
     {

@@ -1,7 +1,8 @@
 //! Days on files whose disks are known: played whole, and with a call that fails.
 use crate::disk::IMAGE_BYTES;
 use crate::disk_file::{Bringing, DiskFile};
-use crate::runs::play_on_disk;
+use crate::runs::{play_in_file, play_on_disk};
+use crate::whole_file::WholeFile;
 use disk_layout::Fault;
 use host_session::Printer;
 use ledger_commands::{RunFault, format_image, show_image};
@@ -48,10 +49,33 @@ fn shop_after(
 ) -> (Option<usize>, bool) {
     let image = fresh(rt);
     let (file, ended) = played(rt, image.as_slice(), bringing, calls);
+    (shop_of(rt, file.disk().bytes()), ended == Ok(None))
+}
+
+/// Which shop an image has.
+fn shop_of(rt: &(impl AllocGlobal + Abort), image: &[u8]) -> Option<usize> {
     let mut shown = Vec::new(rt.alloc());
-    let _ = show_image(rt.alloc(), file.disk().bytes(), &mut shown);
-    let shop = SHOPS.iter().position(|shop| *shop == shown.as_slice());
-    (shop, ended == Ok(None))
+    let _ = show_image(rt.alloc(), image, &mut shown);
+    SHOPS.iter().position(|shop| *shop == shown.as_slice())
+}
+
+/// Plays the script in a file that is synced at the end alone, of which so many calls pass: the shop that it holds then, the one
+/// on its disk, and whether that ended well.
+fn shops_in_file(
+    rt: &(impl AllocGlobal + Abort),
+    calls: u64,
+) -> (Option<usize>, Option<usize>, bool) {
+    let image = fresh(rt);
+    if image.len() != IMAGE_BYTES {
+        panic!(rt; "no image");
+    }
+    let file = DiskFile::new(rt.alloc(), image.as_slice(), Bringing::WhenSynced);
+    let file = WholeFile::new(file.expect(rt, "a file").failing(calls, 0, false));
+    let mut out = Printer::new(Vec::new(rt.alloc()));
+    let (file, ended) = play_in_file(rt.alloc(), image.as_slice(), SCRIPT, file, &mut out);
+    let file = file.into_inner();
+    let there = shop_of(rt, file.disk().bytes());
+    (shop_of(rt, file.held()), there, ended == Ok(None))
 }
 
 /// Sees that the disk has this shop, and that the day ended so.
@@ -78,6 +102,25 @@ fn a_failing_call_leaves_a_beginning(rt: HostRuntime) {
         let now = (shop.unwrap_or(0), done);
         assert!(&rt; now >= before && (now.0 == 2 || !done), "{calls}: {now:?}");
         before = now;
+        if done {
+            break;
+        }
     }
     assert!(&rt; before == (2, true), "{before:?}");
+}
+
+#[test]
+fn a_file_that_is_synced_at_the_end_holds_a_beginning(rt: HostRuntime) {
+    let mut before = (0, 0, false);
+    for calls in 0..60u64 {
+        let (held, there, done) = shops_in_file(&rt, calls);
+        let now = (held.unwrap_or(0), there.unwrap_or(0), done);
+        let is_brought = now.1 == if done { 2 } else { 0 };
+        assert!(&rt; now >= before && is_brought, "{calls}: {now:?}");
+        before = now;
+        if done {
+            break;
+        }
+    }
+    assert!(&rt; before == (2, 2, true), "{before:?}");
 }

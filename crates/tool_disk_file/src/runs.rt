@@ -1,5 +1,5 @@
-//! Scripts that are played on the shop of a file in memory, and shops that are served over one, so that each sector is on its
-//! disk before anything else is done.
+//! Scripts that are played on the shop of a file in memory, and shops that are served over one: so that each sector is on its
+//! disk before anything else is done, or all at the end.
 ghost use Rattle.std.specs.Prelude.{◌≡◌, Err, OnOk, true};
 ghost use Rattle.host_session.specs.events.Events.{messages_of};
 ghost use Rattle.script_lines.specs.Lines.{lines};
@@ -7,8 +7,11 @@ ghost use Rattle.ledger_commands.specs.declared.faults.RunFault.TheVariants as f
 ghost use Rattle.tool_disk_file.specs.Files.{file_held, has_failed};
 ghost use Rattle.tool_disk_file.specs.Services.{IsServedToDisk};
 ghost use Rattle.tool_disk_file.specs.Shops.{IsPlayedToDisk, StaysAShop, bytes_there};
+ghost use Rattle.tool_disk_file.specs.WholeFiles.{file_in, whole_held};
+ghost use Rattle.tool_disk_file.specs.WholeShops.{HoldsAShop, IsPlayedInFile};
 
 use crate::disk_file::DiskFile;
+use crate::whole_file::WholeFile;
 use d64_image::Mirror;
 use disk_layout::Fault;
 use host_session::Tells;
@@ -37,6 +40,27 @@ pub fn play_on_disk<T: Tells<Mirror<Placed<DiskFile>>>>(
     ensures device { result.1 ≡ Err faults.Device → has_failed result.0 ≡ true }
 {
     play_durably(alloc, image, script, file, Durability::EachSector, out)
+}
+
+/// Plays a script on the shop of the image that the file holds, and brings it to the disk at the end: the file then, and how
+/// that ended. Wherever the program dies in it, the file has the shop after a beginning of the lines.
+pub fn play_in_file<T: Tells<Mirror<Placed<WholeFile>>>>(
+    alloc: Global,
+    image: &[u8],
+    script: &[u8],
+    file: WholeFile,
+    out: &mut T,
+) -> (WholeFile, Result<Option<Fault>, RunFault>)
+    requires image { image.now ≡ whole_held file }
+    ensures done { OnOk result.1 (IsPlayedInFile T.output script.now file result.0 out.old out.new) }
+    // all that it holds then is there
+    ensures held { OnOk result.1 (bytes_there (file_in result.0) ≡ whole_held result.0) }
+    // however it ended
+    ensures stays { HoldsAShop (messages_of (lines script.now)) file result.0 }
+    // the device is told of where a call of the file failed
+    ensures device { result.1 ≡ Err faults.Device → has_failed (file_in result.0) ≡ true }
+{
+    play_durably(alloc, image, script, file, Durability::AtEnd, out)
 }
 
 /// Serves the shop of the image that the file holds, line by line: the file then, and how that ended. Wherever power is lost in

@@ -1,15 +1,16 @@
--- Nothing was written where the file doesn't reach so far.
-use Rattle.std.proofs.Common.{ap, arith, length, refl}
+-- Of bytes that weren't written whole a part was, or none.
+use Rattle.std.proofs.Common.{length, refl, sym}
 use Rattle.std.proofs.Math.Seq.{take-length}
+use Rattle.tool_disk_file.proofs.Written.{part_written}
+use Rattle.tool_disk_file.specs.Disks.{disk_bytes}
 use Rattle.tool_disk_file.proofs.disk_file.write.Goals as goal
 
-pub returns-in-None-2-clause-written : goal.returns-in-None-2-clause-written
-returns-in-None-2-clause-written c = (
-  length c.args.bytes.now,
-  λ le. absurd (omega (
-    arith,
-    le,
-    ap length (take-length c.args.bytes.now),
-    c.if-put.ensures.beyond refl,
-  )),
-)
+pub returns-in-Some-clause-written : goal.returns-in-Some-clause-written
+returns-in-Some-clause-written c =
+    part_written (disk_bytes c.args.held.now) (disk_bytes c.put.new.self) c.args.at c.args.bytes.now _ _ refl
+    c.put.ensures.stays.now
+
+pub returns-in-Ok-false-clause-written : goal.returns-in-Ok-false-clause-written
+returns-in-Ok-false-clause-written c =
+    part_written (disk_bytes c.args.held.now) (disk_bytes c.put-in-None.new.self) c.args.at c.args.bytes.now
+    c.args.bytes.now (length c.args.bytes.now) (sym (take-length c.args.bytes.now)) c.put-in-None.ensures.stays.now

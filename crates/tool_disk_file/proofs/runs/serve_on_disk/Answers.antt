@@ -27,7 +27,7 @@ use Rattle.tool_disk_file.proofs.runs.serve_on_disk.Goals as goal
 
 pub serve_durably-requires-clause-image : goal.serve_durably-requires-clause-image
 serve_durably-requires-clause-image g c =
-    c.requires.image ∙ sym (take_all 174849 (file_held c.args.file) (omega (arith, c.args.file.size)))
+    c.requires.image ∙ sym (take_all 174849 (file_held c.args.file) (omega (arith, c.args.file.held.size)))
 
 knows : (f : DiskFile) → Some (bytes_there f) ≡ Some (bytes_there f)
 knows f = refl
@@ -52,7 +52,7 @@ returns g c =
     let out = c.args.out.now in
     let new_out = c.serve_durably.new.out in
     let known : bytes_there file ≡ image = c.requires.there ∙ sym c.requires.image in
-    let size : length image ≡ 174848 = ap length c.requires.image ∙ file.size in
+    let size : length image ≡ 174848 = ap length c.requires.image ∙ file.held.size in
     let shop : (s : Shop) → IsShop (sectors_in (bytes_there file)) s → IsShop (sectors_in image) s =
     λ s is. subst (λ (bytes : List ℕ). IsShop (sectors_in bytes) s) known is in
     let run = c.serve_durably.ensures.run in

@@ -1,20 +1,23 @@
--- The bytes that stay are those of the image.
-use Rattle.std.proofs.Common.{arith}
-use Rattle.ledger_commands.proofs.Begun.{agrees_at, sized}
+-- What is looked at of the file is the image's bytes.
+use Rattle.std.proofs.Common.{◌≡◌, arith, length}
+use Rattle.std.proofs.lemmas.Bool.{eqb-true}
+use Rattle.ledger_commands.proofs.Begun.{agrees_at, seen_held, sized}
 use Rattle.ledger_commands.proofs.placed.Placed.of_image.Goals as goal
 
 pub invariant_of-result : goal.invariant_of-result
-invariant_of-result g c = record {
-  fits = omega arith;
-  each = λ b. (c.is_brought.ensures.0 b).0;
-  whole = λ b. sized (g.F.WritesAt.held c.args.file) (g.F.WritesAt.lasting.bytes c.args.file) c.args.image.now
-      c.requires.image (c.is_brought.ensures.0 b).1 (c.requires.there (c.is_brought.ensures.0 b).0);
-  blamed = λ some. absurd (omega (arith, some));
-  there = λ b none. c.requires.there (c.is_brought.ensures.0 b).0;
-}
+invariant_of-result g c =
+    record {
+      fits = omega arith;
+      each = λ b. (c.is_brought.ensures.0 b).0;
+      whole = sized _ (g.F.WritesAt.held c.args.file) c.args.image.now c.requires.image
+          (seen_held g.F.WritesAt.held g.F.WritesAt.lasting g.F.WritesAt.whole c.is_brought.result _ c.args.file (length c.args.image.now ≡ 174848)
+          (λ b. ((c.is_brought.ensures.0 b).1, c.requires.there (c.is_brought.ensures.0 b).0)) (eqb-true (length c.args.image.now) 174848));
+      blamed = λ some. absurd (omega (arith, some));
+      there = λ b none. c.requires.there (c.is_brought.ensures.0 b).0;
+    }
 
 pub returns-clause-agrees : goal.returns-clause-agrees
 returns-clause-agrees g c =
-    agrees_at c.is_brought.result (g.F.WritesAt.held c.args.file) (g.F.WritesAt.lasting.bytes c.args.file)
-    c.args.image.now c.requires.image (λ b. (c.is_brought.ensures.0 b).1)
-    (λ b. c.requires.there (c.is_brought.ensures.0 b).0)
+    agrees_at _ (g.F.WritesAt.held c.args.file) c.args.image.now c.requires.image
+    (seen_held g.F.WritesAt.held g.F.WritesAt.lasting g.F.WritesAt.whole c.is_brought.result _ c.args.file (length c.args.image.now ≡ 174848)
+    (λ b. ((c.is_brought.ensures.0 b).1, c.requires.there (c.is_brought.ensures.0 b).0)) (eqb-true (length c.args.image.now) 174848))

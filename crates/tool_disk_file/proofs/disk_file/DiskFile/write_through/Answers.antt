@@ -4,5 +4,5 @@ use Rattle.tool_disk_file.proofs.disk_file.DiskFile.write_through.Goals as goal
 
 pub returns-in_err-bring-clause-written : goal.returns-in_err-bring-clause-written
 returns-in_err-bring-clause-written c =
-    whole_written c.args.self.now.held.items c.write.new.held.items c.args.at c.args.bytes.now _
+    whole_written c.args.self.now.held.bytes.items c.write.new.held.bytes.items c.args.at c.args.bytes.now _
     c.in_ok-write.ensures.written

@@ -5,5 +5,5 @@ use Rattle.tool_disk_file.proofs.disk_file.DiskFileLocks.image.Goals as goal
 
 pub returns-clause-ok : goal.returns-clause-ok
 returns-clause-ok c =
-    let read : c.in_ok-to_vec.field-0.items ≡ c.args.self.now.held.items = search rules in
-    read ∙ sym (take_all 174849 c.args.self.now.held.items (omega (arith, c.args.self.now.size)))
+    let read : c.in_ok-to_vec.field-0.items ≡ c.args.self.now.held.bytes.items = search rules in
+    read ∙ sym (take_all 174849 c.args.self.now.held.bytes.items (omega (arith, c.args.self.now.held.size)))
