@@ -9,3 +9,4 @@ pub mod Once
 pub mod OneCalls
 pub mod Places
 pub mod Rows
+pub mod Told

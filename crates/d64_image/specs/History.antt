@@ -1,5 +1,5 @@
 -- What a device holds now, what it held at the moments before, how often it failed, and where. Our own.
-use Rattle.std.specs.Prelude.{ℕ, ◌≡◌, ◌<◌, ◌≤◌, ◌+◌, ◌⊎◌, Result, Ok, Err}
+use Rattle.std.specs.Prelude.{ℕ, ◌≡◌, ◌<◌, ◌≤◌, ◌+◌, ◌⊎◌, Bool, MatchBool, Result, Ok, Err, true}
 use Rattle.d64_image.specs.Images.{Image, IsImage}
 use Rattle.d64_image.specs.declared.place.Place.{Place}
 
@@ -70,10 +70,14 @@ pub record NeverFailed {D : Type 0} (S : History D) (old new : D) : Type 0 where
   pub same : S.failures new ≡ S.failures old
   pub not_spent : S.failures new < S.last
 
+-- An error of these is told only where the device failed, and any other answer only where no failure was counted.
+abbrev pub TellsOf : {D T E : Type 0} → (of_device : E → Bool) → History D → D → D → Result T E → Type 0
+TellsOf of_device S old new (Ok _) = S.failures new ≡ S.failures old
+TellsOf of_device S old new (Err e) = MatchBool (of_device e) (Failed S old new) (S.failures new ≡ S.failures old)
+
 -- An error is told only where the device failed, and Ok where no failure was counted.
 abbrev pub TellsFailure : {D T E : Type 0} → History D → D → D → Result T E → Type 0
-TellsFailure S old new (Ok _) = S.failures new ≡ S.failures old
-TellsFailure S old new (Err _) = Failed S old new
+TellsFailure S old new result = TellsOf (λ _. true) S old new result
 
 -- A call that only reads: the image stays, and at most n reads are counted.
 pub record OnlyReads {D : Type 0} (S : History D) (old new : D) (n : ℕ) : Type 0 where

@@ -21,10 +21,10 @@ use Rattle.std.specs.Prelude.{
   sum_by,
   ◌↔◌,
 }
-use Rattle.std.specs.Prelude.{Result, Ok, Err}
+use Rattle.std.specs.Prelude.{Bool, Result, false, true}
 use Rattle.std.specs.List.{AllByRecursion}
 use Rattle.d64_image.specs.Geometry.{sectors_on}
-use Rattle.d64_image.specs.History.{Failed, History}
+use Rattle.d64_image.specs.History.{History, TellsOf}
 use Rattle.d64_image.specs.Images.{Image, sector}
 use Rattle.d64_image.specs.declared.place.Place.{Place}
 use Rattle.disk_layout.specs.Chain.{ComesBack, IsChain, Leads, LinksNowhere, LinksTo, Names, NamesNone, Visits, byte}
@@ -186,8 +186,11 @@ HoldsOfDirectory failed_at img (Loop p) = (vs : List Place) × ComesBack img dir
 HoldsOfDirectory failed_at img (Device p) = failed_at p
 HoldsOfDirectory failed_at img _ = ⊥
 
+-- the device failed
+abbrev pub of_device : Fault → Bool
+of_device (Device _) = true
+of_device _ = false
+
 -- Device is told only where the device failed, and any other answer only where no failure was counted
 abbrev pub TellsFault : {D T : Type 0} → History D → D → D → Result T Fault → Type 0
-TellsFault S old new (Ok _) = S.failures new ≡ S.failures old
-TellsFault S old new (Err (Device _)) = Failed S old new
-TellsFault S old new (Err _) = S.failures new ≡ S.failures old
+TellsFault S old new result = TellsOf of_device S old new result

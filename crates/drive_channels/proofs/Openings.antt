@@ -4,7 +4,7 @@ use Rattle.std.proofs.Common.{Some, IfOk, IsSome, Result, Ok, Err, OnOk, sym, �
 use Rattle.std.proofs.lemmas.Option.{none-some}
 use Rattle.d64_image.proofs.Moments.{changes_then, changes_weaker, reads_change, reads_then, reads_weaker}
 use Rattle.std.specs.Result.{IsErrAnd}
-use Rattle.d64_image.proofs.Moments.{failed_later}
+use Rattle.d64_image.proofs.Told.{told_after}
 use Rattle.d64_image.specs.History.{Changes, Failed, History, OnlyReads, TellsFailure}
 use Rattle.d64_image.specs.Images.{Image}
 use Rattle.disk_layout.specs.Clean.{IsClean}
@@ -152,8 +152,7 @@ tells-failed S a b (Err e) Q h f = f
 
 pub tells-after : {D T E : Type 0} (S : History D) (a b c : D) → S.failures b ≡ S.failures a → (r : Result T E)
     → TellsFailure S b c r → TellsFailure S a c r
-tells-after S a b c same (Ok x) h = h ∙ same
-tells-after S a b c same (Err e) h = failed_later S a b c same h
+tells-after {E = E} S a b c same r h = told_after S (λ (_ : E). true) a b c r same h
 
 -- no channel is open
 pub closed-of : (o : Option Channel) (b : Bool) → MatchOption o (b ≡ false) (λ c. b ≡ true) → b ≡ false → o ≡ None

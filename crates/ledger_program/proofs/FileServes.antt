@@ -148,7 +148,7 @@ module _ {F R T : Type 0} {G : Ghosts F} (i : Input R) (a : Answering T) (start 
     cause = tt;
     after = tt;
     failed = tt;
-    passed = x.passed;
+    passed = λ other. x.passed (λ left is. other (file_disk left) (ap end_of_file is));
     well = λ _ _ _ _ _. refl;
   }
   service_of_file (Err e) x = record {
@@ -175,7 +175,7 @@ module _ {F R T : Type 0} {G : Ghosts F} (i : Input R) (a : Answering T) (start 
         (c.0, failed_by_file start whole start e.1 y y c.1);
     after = x.after;
     failed = x.failed;
-    passed = tt;
+    passed = λ other. x.passed (λ left is. other (file_disk left) (ap end_of_file is));
     well = λ shop never sound right few.
         x.well shop (never_failed start whole e.1 (x.moments shop.0 shop.1).reached never) sound right few;
   }

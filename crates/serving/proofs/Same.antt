@@ -1,7 +1,7 @@
 -- Messages that ask the same are run the same way.
 use Rattle.std.proofs.Common.{◌≡◌, ◌≢◌, ◌≤◌, ◌+◌, ◌⊎◌, ℕ, List, [], ◌∷◌, ◌++◌, Option, None, Some, false}
-use Rattle.std.proofs.Common.{◌∙◌, ap, map, refl, sym, subst}
-use Rattle.std.specs.Prelude.{IsSome, if◌then◌else◌, is_some}
+use Rattle.std.proofs.Common.{◌∙◌, ap, arith, length, map, refl, sym, subst}
+use Rattle.std.specs.Prelude.{IsSome, if◌then◌else◌, is_some, zip}
 use Rattle.d64_image.specs.History.{HeldOnly, History}
 use Rattle.request_cards.specs.Ledgers.{after_message, reply_in}
 use Rattle.request_cards.specs.Requests.{Ask}
@@ -9,13 +9,14 @@ use Rattle.request_cards.specs.declared.reply.Reply.{Reply}
 use Rattle.request_cards.specs.declared.reply.Reply.TheVariants.{Cut}
 use Rattle.host_session.specs.events.Counted.{MayCount, after_all}
 use Rattle.host_session.specs.events.Events.{Message}
+use Rattle.host_session.specs.events.Instants.{Instant}
 use Rattle.host_session.specs.events.OneEvent.{EndsFailed, GoesOn, IsEvent}
 use Rattle.host_session.specs.events.Quiet.{AreUncut, IsLeftAlone}
 use Rattle.host_session.specs.events.Within.{AreWithin, IsWithin}
 use Rattle.host_session.specs.runs.Chains.{HasRun, HasRunToFailure, IsChain}
 use Rattle.host_session.specs.session.Handling.{is_next_request, media, most_writes}
 use Rattle.host_session.specs.shop.Shop.{IsShop, Shop, shop_of, start_of, with_state}
-use Rattle.serving.specs.Inputs.{AskTheSame, asked_in}
+use Rattle.serving.specs.Inputs.{AskTheSame, asked_in, instants_in}
 
 -- what is asked, and where power goes
 abbrev Asked : Type 0
@@ -30,6 +31,15 @@ rest_same x y xs ys e = cc
 
 none_same : (x : Asked) (xs : List Asked) → [] ≡ x ∷ xs → ⊥
 none_same x xs e = cc
+
+-- the instants beside messages are those beside as many others
+pub same_instants : (ms ns : List Message) (xs : List Instant) → length ms ≡ length ns
+    → instants_in (zip ms xs) ≡ instants_in (zip ns xs)
+same_instants [] [] xs e = refl
+same_instants [] (n ∷ ns) xs e = cc
+same_instants (m ∷ ms) [] xs e = cc
+same_instants (m ∷ ms) (n ∷ ns) [] e = refl
+same_instants (m ∷ ms) (n ∷ ns) (x ∷ xs) e = ap (λ ys. x ∷ ys) (same_instants ms ns xs (omega (arith, e)))
 
 -- and so power goes in none
 pub uncut_same : (ms ns : List Message) → AskTheSame ms ns → AreUncut ns → AreUncut ms

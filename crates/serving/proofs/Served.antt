@@ -1,7 +1,6 @@
 -- What a run over the lines of an input comes to, where each reply is handed on by itself.
-use Rattle.std.proofs.Common.{◌≡◌, ◌⊎◌, ◌<◌, ◌≤◌, ◌+◌, ⊎_elim, ◌∙◌, ℕ, List, [], ◌∷◌, ◌++◌, Ok, Err, Result, arith}
+use Rattle.std.proofs.Common.{◌≡◌, ◌≢◌, ◌⊎◌, ◌<◌, ◌≤◌, ◌+◌, ⊎_elim, ◌∙◌, ℕ, List, [], ◌∷◌, ◌++◌, Ok, Err, Result, arith}
 use Rattle.std.proofs.Common.{map, refl, sym, subst, ap, inl, inr, append-nil, length, true}
-use Rattle.std.specs.Prelude.{zip}
 use Rattle.request_cards.specs.declared.reply.Reply.{Reply}
 use Rattle.std.proofs.lemmas.List.{length-map}
 use Rattle.d64_image.specs.History.{History}
@@ -29,21 +28,12 @@ use Rattle.serving.specs.Serves.{AreAskedFor, AreServed, AreServedToDevice, AreS
 use Rattle.serving.specs.declared.at_once.AtOnce.{AtOnce}
 use Rattle.serving.specs.declared.inputs.OfInput.{OfInput}
 use Rattle.serving.proofs.Handled.{handled_run}
-use Rattle.serving.proofs.Same.{same_run, same_run_to_failure, same_within, uncut_same}
+use Rattle.serving.proofs.Same.{same_instants, same_run, same_run_to_failure, same_within, uncut_same}
 
 -- power goes in no line
 pub all_uncut : (ls : List (List ℕ)) → AreUncut (map uncut ls)
 all_uncut [] = tt
 all_uncut (l ∷ ls) = (refl, all_uncut ls)
-
--- the instants beside messages are those beside as many others
-same_instants : (ms ns : List Message) (xs : List Instant) → length ms ≡ length ns
-    → instants_in (zip ms xs) ≡ instants_in (zip ns xs)
-same_instants [] [] xs e = refl
-same_instants [] (n ∷ ns) xs e = cc
-same_instants (m ∷ ms) [] xs e = cc
-same_instants (m ∷ ms) (n ∷ ns) [] e = refl
-same_instants (m ∷ ms) (n ∷ ns) (x ∷ xs) e = ap (λ ys. x ∷ ys) (same_instants ms ns xs (omega (arith, e)))
 
 module _ {D R T : Type 0} (h : History D) (i : Input R) (a : Answering T) (disk : D)
     (asked asks : OfInput R) (old new : AtOnce T) where
@@ -181,6 +171,12 @@ module _ {D R T : Type 0} (h : History D) (i : Input R) (a : Answering T) (disk 
         (λ why. ⊎_elim (λ f. inl f) (λ spent. inr (omega (arith, spent, all, same))) why)
         (x.failed said)
 
+  -- however else it ended, the input didn't fail
+  unblamed : asked.said ≡ next.Event → (r : Result D (LoopFault × D)) (k : Ran r)
+      → ((left : D) → r ≢ Err (faults.Input, left)) → i.has_failed asks.input.now ≡ i.has_failed asked.input.now
+  unblamed fresh r k other = ⊎_elim
+      (λ failed. absurd (let said = k.unfailed other failed in let e = sym fresh ∙ said in cc)) (λ e. e) k.takes.passed
+
   pub is_served : (r : Result D (LoopFault × D)) → asked.said ≡ next.Event → asked.left ≡ 18446744073709551615 → Ran r
       → IsServed h i a disk asked.input.now asks.input.now old.out.now new.out.now r
   is_served (Ok left) fresh all k = record {
@@ -203,7 +199,7 @@ module _ {D R T : Type 0} (h : History D) (i : Input R) (a : Answering T) (disk 
     cause = tt;
     after = tt;
     failed = tt;
-    passed = ⊎_elim (λ failed. absurd (let e = sym k.shop.1 ∙ failed in cc)) (λ e. e) k.takes.passed;
+    passed = λ other. unblamed fresh (Ok left) k other;
     well = λ _ _ _ _ _. refl;
   }
   is_served (Err e) fresh all k = record {
@@ -230,7 +226,7 @@ module _ {D R T : Type 0} (h : History D) (i : Input R) (a : Answering T) (disk 
     cause = k.cause;
     after = k.after;
     failed = λ is. let s = k.after (inl is) in blamed fresh all k.taken k.takes (k.input s.0 s.1 is).0;
-    passed = tt;
+    passed = λ other. unblamed fresh (Err e) k other;
     well = λ shop never sound whole few. ⊎_elim
         (λ is. ⊎_elim (λ failed. absurd (let x = sym sound ∙ failed in cc)) (λ spent. absurd (omega (arith, spent, few)))
         (blamed fresh all k.taken k.takes (k.input shop.0 shop.1 is).0))

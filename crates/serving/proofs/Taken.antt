@@ -115,11 +115,16 @@ module _ {R : Type 0} (i : Input R) (old new : OfInput R) where
     pub next_taken : (at : Instant) (said : Next) → new.said ≡ said → new.left + 1 ≡ old.left
         → IsGiven i old.input.now new.input.now new.line.items at said
         → IsNext (of_input i) old new at said
-    next_taken at next.Event is fewer x = (line_taken at is (omega (arith, fewer)) x.0 x.1, omega (arith, fewer))
+    next_taken at next.Event is fewer x = (
+      line_taken at is (omega (arith, fewer)) x.0 x.1,
+      omega (arith, fewer),
+      λ failed. absurd (let e = sym is ∙ failed in cc),
+    )
     next_taken at next.End is fewer x = (
       rest_taken (λ said. let e = sym is ∙ said in cc) x.0.0 x.0.1 x.0.2 (λ _. x.0.3) x.1.0
           (λ said. absurd (let e = sym is ∙ said in cc)) (inr x.1.1),
       is,
+      λ failed. absurd (let e = sym is ∙ failed in cc),
     )
     next_taken at next.Failed is fewer x = (
       rest_taken (λ said. let e = sym is ∙ said in cc) x.0.0 x.0.1 x.0.2 (λ said. absurd (let e = sym is ∙ said in cc))
@@ -144,5 +149,5 @@ pub said_again : {R : Type 0} (i : Input R) (x : OfInput R) (at : Instant) (said
     → x.said ≡ said → (said ≡ next.Event → ⊥)
     → IsNext (of_input i) x x at said
 said_again i x at next.Event is never = absurd (never refl)
-said_again i x at next.End is never = (λ first xs k. k, is)
+said_again i x at next.End is never = (λ first xs k. k, is, λ failed. failed)
 said_again i x at next.Failed is never = (λ first xs k. k, is)

@@ -1,6 +1,6 @@
 -- What comes of a shop that is served line by line. All of it is our own.
-use Rattle.std.specs.Prelude.{◌≡◌, ◌⊎◌, ◌<◌, ◌≤◌, ℕ, true, false, IfErr, IfOk, IsOk, List, [], ◌∷◌, ◌++◌, OnOk, OnSome}
-use Rattle.std.specs.Prelude.{Result, length, option_to_list}
+use Rattle.std.specs.Prelude.{◌≡◌, ◌≢◌, ◌⊎◌, ◌<◌, ◌≤◌, ℕ, true, false, Err, IfErr, IfOk, IsOk, List, []}
+use Rattle.std.specs.Prelude.{◌∷◌, ◌++◌, OnSome, Result, length, option_to_list}
 use Rattle.std.specs.Io.KnownBytes.{Consumes, IsAtEnd}
 use Rattle.d64_image.specs.History.{Changes, Failed, History, NeverFailed}
 use Rattle.request_cards.specs.Ledgers.{plain, replies}
@@ -131,10 +131,10 @@ pub record IsServed {D R T : Type 0} (h : History D) (i : Input R) (a : Answerin
   -- The device is told of on a shop, where it failed; the input and the output on a shop.
   pub cause : IfErr result (λ e. e.0 ≡ faults.Device → IsAShop (h.image disk) × Failed h disk e.1)
   pub after : IfErr result (λ e. (e.0 ≡ faults.Input) ⊎ (e.0 ≡ faults.Output) → IsAShop (h.image disk))
-  -- The input is told of where it failed, or gave 2^64 - 1 lines; and at Ok it didn't fail.
+  -- The input is told of where it failed, or gave 2^64 - 1 lines; and however else it ends, it didn't fail.
   pub failed : IfErr result (λ e. e.0 ≡ faults.Input
       → (i.has_failed new_in ≡ true) ⊎ (18446744073709551615 ≤ length (lines handled)))
-  pub passed : OnOk result (i.has_failed new_in ≡ i.has_failed old_in)
+  pub passed : ((left : D) → result ≢ Err (faults.Input, left)) → i.has_failed new_in ≡ i.has_failed old_in
   -- So it ends well on a shop of which device, input and output say that they didn't fail, where there are fewer lines.
   pub well : IsAShop (h.image disk) → NeverFailed h disk (disk_of (λ d. d) result) → i.has_failed new_in ≡ false
       → a.has_failed new ≡ false → length (lines handled) < 18446744073709551615 → IsOk result

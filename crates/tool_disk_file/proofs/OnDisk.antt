@@ -31,7 +31,8 @@ use Rattle.tool_disk_file.proofs.Durably.{at_ok, each_kept, first_kept, first_sy
 use Rattle.tool_disk_file.proofs.Durably.{told_failed}
 use Rattle.tool_disk_file.proofs.Served.{AreSynced, chain_synced, image_there, instant_there, now_at, same_instants, same_over}
 use Rattle.tool_disk_file.proofs.Served.{same_told, with_files}
-use Rattle.tool_disk_file.proofs.Services.{AreServedOver, WereServed, were_served}
+use Rattle.tool_disk_file.proofs.Services.{AreServedOver, WereServed, file_told, input_passed, were_served}
+use Rattle.tool_disk_file.specs.Services.{IsFileToldBy}
 
 none_of : (n : ℕ) → (1 ≤ n → ⊥) → n ≡ 0
 none_of zero never = refl
@@ -85,6 +86,20 @@ module _ {F R T : Type 0} {G : Ghosts F} (bytes : F → List ℕ) (knows : (f : 
   pub device_failed : ended ≡ Err faults.Device → G.has_failed after ≡ true
   device_failed e = told_failed durabilities.EachSector image file after ended Ran size known run (λ is. (subst (λ (end : Ended). IfErr end
       (IsServeFault placed i a image run.first run.left old_in new_in old new)) is run.run.fault).0) e
+
+  -- but for the device it is told as the run alone ended
+  is_end : ended ≢ Err faults.Device → ended ≡ run.end
+  is_end other = ⊎_elim (λ e. e) (λ device. absurd (other device)) run.told
+
+  -- and so are the input and the output
+  pub file_failed : ended ≡ Err faults.File → IsFileToldBy i a new_in new served.handled
+  file_failed e = file_told placed i a image run.first run.left old_in new_in old new run.end served
+      (sym (is_end (λ device. let x = sym e ∙ device in cc)) ∙ e)
+
+  pub input_unfailed : ended ≢ Err faults.File → ended ≢ Err faults.Device
+      → i.has_failed new_in ≡ i.has_failed old_in
+  input_unfailed file device = input_passed placed i a image run.first run.left old_in new_in old new run.end served
+      (λ e. file (is_end device ∙ e)) (λ e. device (is_end device ∙ e))
 
   module _ (s : Shop) (is : IsShop (sectors_in image) s) (v : Option Fault) (e : ended ≡ Ok v) where
     abbrev x : AreServedOver placed i a image run.first run.left old_in new_in old new served.handled

@@ -5,7 +5,7 @@ use Rattle.std.proofs.KnownBytes.{Consumes-nil}
 use Rattle.std.proofs.lemmas.Bool.{false≢true}
 use Rattle.std.proofs.lemmas.Bool.Decides.{nat_tests}
 use Rattle.std.specs.Io.KnownBytes.{Consumes, IsAtEnd}
-use Rattle.std.specs.Prelude.{IsOk, OnOk, OnSome, Result}
+use Rattle.std.specs.Prelude.{IfErr, IsOk, OnOk, OnSome, Result}
 use Rattle.d64_image.specs.FileDisks.{FileDisk, fails_since, in_run}
 use Rattle.d64_image.specs.History.{NeverFailed}
 use Rattle.d64_image.specs.Keeps.{FileFailed, Keeps, KeptOnly}
@@ -30,6 +30,7 @@ use Rattle.ledger_commands.specs.declared.faults.RunFault.TheVariants as run
 use Rattle.ledger_program.specs.Ends.{Ended}
 use Rattle.ledger_program.specs.Serves.{IsServeRun}
 use Rattle.tool_disk_file.proofs.Begun.{IsSome, of_none, of_run}
+use Rattle.tool_disk_file.specs.Services.{IsFileToldBy}
 
 -- no call failed since, of a file whose count isn't spent
 none_since : {F : Type 0} (K : Keeps F) (file now : F) → K.failures now ≡ K.failures file → K.failures file < K.last
@@ -68,11 +69,15 @@ module _ {F R T : Type 0} (K : Keeps F) (i : Input R) (a : Answering T) (image :
         → KeptOnly K file after (IsSome s (line_messages handled))
     pub done : OnOk end (AreServedOver handled)
     pub well : IsSound handled → IsOk end ⊎ (end ≡ Err run.NoMemory)
+    pub told : IfErr end (λ fault. fault ≡ run.File → IsFileToldBy i a new_in new handled)
+    pub passed : OnOk end (i.has_failed new_in ≡ i.has_failed old_in)
+    pub unfailed : IfErr end (λ fault. fault ≢ run.File → fault ≢ run.Device
+        → i.has_failed new_in ≡ i.has_failed old_in)
 
   -- nothing was done or read
   unserved : (fault : RunFault) → IsUnserved file after old_in new_in old new
-      → (IsSound [] → fault ≡ run.NoMemory) → WereServed (Err fault)
-  unserved fault x why = record {
+      → (IsSound [] → fault ≡ run.NoMemory) → (fault ≡ run.File → ⊥) → WereServed (Err fault)
+  unserved fault x why other = record {
     handled = [];
     rest = [];
     whole = inl refl;
@@ -81,6 +86,9 @@ module _ {F R T : Type 0} (K : Keeps F) (i : Input R) (a : Answering T) (image :
     kept = λ s is kept. of_none K (sectors_in image) file after s (line_messages []) is kept x.0.0;
     done = tt;
     well = λ sound. inr (ap (λ f. Err f) (why sound));
+    told = λ is. absurd (other is);
+    passed = tt;
+    unfailed = λ _ _. ap i.has_failed x.1;
   }
 
   never_failed : (handled : List ℕ) (disk left : FileDisk K) → disk.file ≡ file → left.file ≡ after → IsSound handled
@@ -96,8 +104,9 @@ module _ {F R T : Type 0} (K : Keeps F) (i : Input R) (a : Answering T) (image :
       (x : IsServedOver K i a image file after old_in new_in old new end)
       → ((s : Shop) → IsShop x.disk.image s
       → HeldBeginnings (in_run K file) s (line_messages x.ends.handled) x.disk x.left)
-      → (IsSound x.ends.handled → ⊥) → WereServed (Err fault)
-  stopped fault end x moments why = record {
+      → (IsSound x.ends.handled → ⊥) → (fault ≡ run.File → IsFileToldBy i a new_in new x.ends.handled)
+      → (fault ≢ run.File → fault ≢ run.Device → ⊥) → WereServed (Err fault)
+  stopped fault end x moments why told one = record {
     handled = x.ends.handled;
     rest = x.ends.rest;
     whole = x.ends.whole;
@@ -107,6 +116,9 @@ module _ {F R T : Type 0} (K : Keeps F) (i : Input R) (a : Answering T) (image :
         x.is_file x.is_after x.holds (moments s (subst (λ img. IsShop img s) (sym x.holds) is));
     done = tt;
     well = λ sound. absurd (why sound);
+    told = told;
+    passed = tt;
+    unfailed = λ file device. absurd (one file device);
   }
 
   -- no call of a sound file failed
@@ -118,14 +130,15 @@ module _ {F R T : Type 0} (K : Keeps F) (i : Input R) (a : Answering T) (image :
       omega (arith, same, rose)
 
   -- the input or the output ended it
-  ended_by : (why : LoopFault) → IsServedOver K i a image file after old_in new_in old new (λ left. Err (why, left))
-      → WereServed (Err run.File)
-  ended_by why x = stopped run.File (λ left. Err (why, left)) x (λ s is. x.ends.moments s is) (λ sound.
+  ended_by : (why : LoopFault)
+      → (x : IsServedOver K i a image file after old_in new_in old new (λ left. Err (why, left)))
+      → IsFileToldBy i a new_in new x.ends.handled → WereServed (Err run.File)
+  ended_by why x told = stopped run.File (λ left. Err (why, left)) x (λ s is. x.ends.moments s is) (λ sound.
       let shop : IsAShop x.disk.image =
       (sound.shop.0, subst (λ img. IsShop img sound.shop.0) (sym x.holds) sound.shop.1) in
       let ok = x.ends.well shop (never_failed x.ends.handled x.disk x.left x.is_file x.is_after sound) sound.input
       sound.output sound.lines_few in
-      false≢true ok)
+      false≢true ok) (λ _. told) (λ file _. file refl)
 
   served_whole : (v : Option Fault)
       → IsServedOver K i a image file after old_in new_in old new (λ left. Ok left) → WereServed (Ok v)
@@ -149,33 +162,57 @@ module _ {F R T : Type 0} (K : Keeps F) (i : Input R) (a : Answering T) (image :
           served = λ s is. x.ends.ok s (shop s is);
         };
         well = λ _. inl refl;
+        told = tt;
+        passed = x.ends.passed (λ left is. let e = is in cc);
+        unfailed = tt;
       }
 
   -- an image that no opening takes
   refused : (fault : RunFault) → IsOpenRefusal image fault → IsUnserved file after old_in new_in old new
-      → WereServed (Err fault)
-  refused fault refusal x = unserved fault x (λ sound. absurd (refused-no_shop (sectors_in image) refusal.opening
-      sound.shop.0 refusal.refuses sound.shop.1))
+      → (fault ≡ run.File → ⊥) → WereServed (Err fault)
+  refused fault refusal x other = unserved fault x (λ sound. absurd (refused-no_shop (sectors_in image) refusal.opening
+      sound.shop.0 refusal.refuses sound.shop.1)) other
 
   by_fault : (fault : RunFault) → IsServeFault K i a image file after old_in new_in old new fault
       → WereServed (Err fault)
   by_fault run.ImageSize e = unserved run.ImageSize e.1 (λ sound. absurd (e.0 sound.size))
-  by_fault run.NoMemory e = unserved run.NoMemory e.1 (λ _. refl)
+      (λ (is : run.ImageSize ≡ run.File). cc)
+  by_fault run.NoMemory e = unserved run.NoMemory e.1 (λ _. refl) (λ (is : run.NoMemory ≡ run.File). cc)
   by_fault (run.BadLine line) e = absurd e
-  by_fault run.File e = ⊎_elim (λ x. ended_by loop.Input x) (λ x. ended_by loop.Output x) e.1
+  by_fault run.File e = ⊎_elim
+      (λ x. ended_by loop.Input x (⊎_elim (λ failed. inl failed) (λ many. inr (inr many)) (x.ends.failed refl)))
+      (λ x. let s = x.ends.after (inr refl) in
+      ended_by loop.Output x (inr (inl (x.ends.output s.0 s.1 refl).told.1)))
+      e.1
   by_fault run.Device e = ⊎_elim
       (λ x. stopped run.Device (λ left. Ok left) x (λ s is. x.ends.moments s is)
-      (λ sound. no_failure x.ends.handled sound e.0))
+      (λ sound. no_failure x.ends.handled sound e.0) (λ (is : run.Device ≡ run.File). cc) (λ _ device. device refl))
       (λ y. stopped run.Device (λ left. Err (y.0, left)) y.1 (λ s is. y.1.ends.moments s is)
-      (λ sound. no_failure y.1.ends.handled sound e.0))
+      (λ sound. no_failure y.1.ends.handled sound e.0) (λ (is : run.Device ≡ run.File). cc) (λ _ device. device refl))
       e.1
-  by_fault (run.Layout fault) e = refused (run.Layout fault) e.0 e.1
-  by_fault run.NoStock e = refused run.NoStock e.0 e.1
-  by_fault run.NoRequests e = refused run.NoRequests e.0 e.1
-  by_fault (run.BadCard item) e = refused (run.BadCard item) e.0 e.1
+  by_fault (run.Layout fault) e = refused (run.Layout fault) e.0 e.1 (λ (is : run.Layout fault ≡ run.File). cc)
+  by_fault run.NoStock e = refused run.NoStock e.0 e.1 (λ (is : run.NoStock ≡ run.File). cc)
+  by_fault run.NoRequests e = refused run.NoRequests e.0 e.1 (λ (is : run.NoRequests ≡ run.File). cc)
+  by_fault (run.BadCard item) e = refused (run.BadCard item) e.0 e.1 (λ (is : run.BadCard item ≡ run.File). cc)
   by_fault (run.BadRequestCard till) e = refused (run.BadRequestCard till) e.0 e.1
-  by_fault run.TwoIntents e = refused run.TwoIntents e.0 e.1
+      (λ (is : run.BadRequestCard till ≡ run.File). cc)
+  by_fault run.TwoIntents e = refused run.TwoIntents e.0 e.1 (λ (is : run.TwoIntents ≡ run.File). cc)
 
   pub were_served : (end : Ended) → IsServeRun K i a image file after old_in new_in old new end → WereServed end
   were_served (Ok v) x = served_whole v (x.done (x.quiet refl)).1
   were_served (Err fault) x = by_fault fault x.fault
+
+  -- the fault that was told
+  abbrev told_in : Ended → RunFault
+  told_in (Ok _) = run.NoMemory
+  told_in (Err fault) = fault
+
+  pub file_told : (end : Ended) (x : WereServed end) → end ≡ Err run.File → IsFileToldBy i a new_in new x.handled
+  file_told (Ok v) x is = absurd (let e = is in cc)
+  file_told (Err fault) x is = x.told (ap told_in is)
+
+  pub input_passed : (end : Ended) (x : WereServed end) → end ≢ Err run.File → end ≢ Err run.Device
+      → i.has_failed new_in ≡ i.has_failed old_in
+  input_passed (Ok v) x file device = x.passed
+  input_passed (Err fault) x file device = x.unfailed (λ is. file (ap (λ (f : RunFault). Err f) is))
+      (λ is. device (ap (λ (f : RunFault). Err f) is))

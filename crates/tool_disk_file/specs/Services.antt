@@ -1,6 +1,6 @@
 -- What comes of a shop that is served over a file in memory, and what stays where power is lost at any moment. Our own.
-use Rattle.std.specs.Prelude.{◌≡◌, ◌⊎◌, ◌<◌, ℕ, Err, IsOk, List, [], ◌∷◌, ◌++◌, OnOk, OnSome, false, true, length}
-use Rattle.std.specs.Prelude.{map, zip}
+use Rattle.std.specs.Prelude.{◌≡◌, ◌≢◌, ◌⊎◌, ◌<◌, ◌≤◌, ℕ, Err, IsOk, List, [], ◌∷◌, ◌++◌, OnOk, OnSome}
+use Rattle.std.specs.Prelude.{false, true, length, map, zip}
 use Rattle.std.specs.Io.KnownBytes.{Consumes, IsAtEnd}
 use Rattle.d64_image.specs.Memory.{sectors_in}
 use Rattle.request_cards.specs.Ledgers.{plain, replies}
@@ -46,6 +46,11 @@ pub record AreServedThere {R T : Type 0} (i : Input R) (a : Answering T) (s : Sh
   -- and at the end the shop after all of them is there
   pub there : IsSettled (sectors_in (bytes_there new)) (with_state s (plain (start_of s) (requests_of (lines bytes))))
 
+-- the input failed, or the output, or as many lines came as are taken
+abbrev pub IsFileToldBy : {R T : Type 0} → Input R → Answering T → R → T → (handled : List ℕ) → Type 0
+IsFileToldBy i a input out handled = (i.has_failed input ≡ true)
+    ⊎ ((a.has_failed out ≡ true) ⊎ (18446744073709551615 ≤ length (lines handled)))
+
 -- A shop was served on the file's disk, and that ended so.
 pub record IsServedToDisk {R T : Type 0} (i : Input R) (a : Answering T) (old new : DiskFile) (old_in new_in : R)
     (out new_out : T) (ended : Ended) : Type 0 where
@@ -65,6 +70,10 @@ pub record IsServedToDisk {R T : Type 0} (i : Input R) (a : Answering T) (old ne
   pub held : OnOk ended (bytes_there new ≡ file_held new)
   -- the device is told of where a call of the file failed
   pub device : ended ≡ Err faults.Device → has_failed new ≡ true
+  -- `FILE` is told where the input or the output failed, or 2^64 - 1 lines came
+  pub file : ended ≡ Err faults.File → IsFileToldBy i a new_in new_out handled
+  -- and where neither that nor the device is told of, the input didn't fail
+  pub unfailed : ended ≢ Err faults.File → ended ≢ Err faults.Device → i.has_failed new_in ≡ i.has_failed old_in
   -- Of a shop it is done where file, input and output say that they didn't fail, but for want of memory.
   pub well : IsAShop (sectors_in (bytes_there old)) → has_failed new ≡ false → i.has_failed new_in ≡ false
       → a.has_failed new_out ≡ false → length (lines handled) < 18446744073709551615

@@ -44,10 +44,18 @@ abbrev pub TakesOne : {A : Type 0} → Source A → A → A → Instant → Type
 TakesOne {A} a old new at = (first : A) (xs : List (Message × Instant)) → a.gives first old xs
     → a.gives first new (xs ++ (a.here new, at) ∷ [])
 
--- what asking for the next event came to, over a disk at this instant
+-- it didn't fail between the two: where it has failed, it had before
+abbrev pub FailsNoMore : {A : Type 0} → Source A → A → A → Type 0
+FailsNoMore a old new = a.has_failed new → a.has_failed old
+
+-- these messages were taken of it, and it didn't fail
+abbrev pub GivesWell : {A : Type 0} → Source A → A → A → List (Message × Instant) → Type 0
+GivesWell a old new xs = a.gives old new xs × FailsNoMore a old new
+
+-- what asking for the next event came to, over a disk at this instant: it failed where that is told, and nowhere else
 abbrev pub IsNext : {A : Type 0} → Source A → A → A → Instant → Next → Type 0
-IsNext a old new at next.Event = TakesOne a old new at × (a.fuel new < a.fuel old)
-IsNext a old new at next.End = TakesNone a old new × a.is_over new
+IsNext a old new at next.Event = TakesOne a old new at × (a.fuel new < a.fuel old) × FailsNoMore a old new
+IsNext a old new at next.End = TakesNone a old new × a.is_over new × FailsNoMore a old new
 IsNext a old new at next.Failed = TakesNone a old new × a.has_failed new
 
 -- the lines that were taken of a script without a bad line

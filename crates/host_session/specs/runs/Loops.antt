@@ -1,5 +1,6 @@
 -- What comes of a run over a source of events and an output. All of it is our own.
-use Rattle.std.specs.Prelude.{◌≡◌, ◌<◌, ◌≤◌, ◌+◌, ◌⊎◌, List, [], ◌∷◌, ◌++◌, IfErr, IfOk, Ok, Err, Result, false, length}
+use Rattle.std.specs.Prelude.{◌≡◌, ◌≢◌, ◌<◌, ◌≤◌, ◌+◌, ◌⊎◌, List, [], ◌∷◌, ◌++◌, IfErr, IfOk, Ok, Err}
+use Rattle.std.specs.Prelude.{Result, false, length}
 use Rattle.d64_image.specs.History.{Failed, History, NeverFailed}
 use Rattle.request_cards.specs.declared.reply.Reply.{Reply}
 use Rattle.host_session.specs.declared.faults.OpenFault.{OpenFault}
@@ -7,7 +8,7 @@ use Rattle.host_session.specs.declared.runs.looping.LoopFault.{LoopFault}
 use Rattle.host_session.specs.declared.runs.looping.LoopFault.TheVariants as faults
 use Rattle.host_session.specs.declared.runs.looping.Stretch.{Stretch}
 use Rattle.host_session.specs.declared.runs.looping.Stretch.TheVariants as stretches
-use Rattle.host_session.specs.events.Asking.{Source, messages_in}
+use Rattle.host_session.specs.events.Asking.{FailsNoMore, GivesWell, Source, messages_in}
 use Rattle.host_session.specs.events.Events.{Message}
 use Rattle.host_session.specs.events.Instants.{Instant, instant_of}
 use Rattle.host_session.specs.events.Quiet.{AreUncut, AskNothing, IsQuiet}
@@ -86,30 +87,30 @@ pub record IsUnderWay {D A T : Type 0} (h : History D) (o : Output T) (from : Or
   pub whole : IsRunWhole h o from.shop taken from.disk disk from.out out
   pub room : o.room from.out ≤ o.room out + length (messages_in taken)
 
--- all that was taken of the source was run and told
+-- all that was taken of the source was run and told, and it didn't fail
 abbrev pub HasCome : {D A T : Type 0} → History D → Source A → Output T → Origin D A T → D → A → T → Type 0
-HasCome h a o from disk asks out = IsUnderWay h o from disk out (λ xs. a.gives from.asks asks xs)
+HasCome h a o from disk asks out = IsUnderWay h o from disk out (λ xs. GivesWell a from.asks asks xs)
 
 -- all but the message that was taken last, while the disk was as it is
 abbrev pub HasComeBut : {D A T : Type 0} → History D → Source A → Output T → Origin D A T → D → A → T → Type 0
 HasComeBut h a o from disk asks out =
-    IsUnderWay h o from disk out (λ xs. a.gives from.asks asks (xs ++ (a.here asks, instant_of h disk) ∷ []))
+    IsUnderWay h o from disk out (λ xs. GivesWell a from.asks asks (xs ++ (a.here asks, instant_of h disk) ∷ []))
 
--- how a run ends that this fault ended
+-- how a run ends that this fault ended: its source failed at that of the input alone
 abbrev pub EndsBy : {D A T : Type 0} → History D → Source A → Output T → Origin D A T → A → T → D → LoopFault → Type 0
 EndsBy h a o from asks out left (faults.Open f) = ⊥
 EndsBy h a o from asks out left faults.Input = (taken : List (Message × Instant)) × a.gives from.asks asks taken
     × a.has_failed asks × IsRunWhole h o from.shop taken from.disk left from.out out
-EndsBy h a o from asks out left faults.Output = (taken : List (Message × Instant)) × a.gives from.asks asks taken
+EndsBy h a o from asks out left faults.Output = (taken : List (Message × Instant)) × GivesWell a from.asks asks taken
     × IsRunToOutput h o from.shop taken from.disk left from.out out
-EndsBy h a o from asks out left faults.Device = (taken : List (Message × Instant)) × a.gives from.asks asks taken
+EndsBy h a o from asks out left faults.Device = (taken : List (Message × Instant)) × GivesWell a from.asks asks taken
     × IsRunToDevice h o from.shop taken from.disk left from.out out
 
 -- how a run ends that was opened
 abbrev pub Ends : {D A T : Type 0} → History D → Source A → Output T → Origin D A T → A → T → Result D (LoopFault × D)
     → Type 0
-Ends h a o from asks out (Ok left) = (taken : List (Message × Instant)) × a.gives from.asks asks taken × a.is_over asks
-    × IsRunWhole h o from.shop taken from.disk left from.out out
+Ends h a o from asks out (Ok left) = (taken : List (Message × Instant)) × GivesWell a from.asks asks taken
+    × a.is_over asks × IsRunWhole h o from.shop taken from.disk left from.out out
 Ends h a o from asks out (Err e) = EndsBy h a o from asks out e.1 e.0
 
 -- the end of a run, with its disk
@@ -139,6 +140,8 @@ pub record IsRun {D A T : Type 0} (h : History D) (a : Source A) (o : Output T) 
   -- The input failed: the same of the events that it gave.
   pub input : (s : Shop) → IsShop (h.image disk) s → IfErr result (λ e. e.0 ≡ faults.Input
       → a.has_failed asks × IsRunWhole h o s taken disk e.1 old new)
+  -- However else it ends, the source didn't fail.
+  pub unfailed : ((left : D) → result ≢ Err (faults.Input, left)) → FailsNoMore a asked asks
   -- The output failed: the last reply was broken off, those before it were told, and nothing else.
   pub output : (s : Shop) → IsShop (h.image disk) s → IfErr result (λ e. e.0 ≡ faults.Output
       → IsRunToOutput h o s taken disk e.1 old new)

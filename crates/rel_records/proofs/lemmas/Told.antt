@@ -1,10 +1,11 @@
 -- What a call tells that passes on another call's fault, and what it tells of the device after calls without a failure.
-use Rattle.std.proofs.Common.{◌≡◌, ◌⊎◌, ◌∙◌, Err, OnOk, Ok, Result, inl, inr, subst, sym}
+use Rattle.std.proofs.Common.{◌≡◌, ◌⊎◌, ◌∙◌, Err, OnOk, Ok, Result, inl, inr, subst, sym, true}
 use Rattle.std.specs.Prelude.{IfErr, IfOk, OnErr}
 use Rattle.std.specs.Result.{IsErrAnd}
 use Rattle.d64_image.proofs.Moments.{failed_later}
+use Rattle.d64_image.proofs.Told.{told_after}
 use Rattle.d64_image.specs.History.{Failed, History, TellsFailure}
-use Rattle.rel_records.specs.Faults.{TellsRelFault}
+use Rattle.rel_records.specs.Faults.{TellsRelFault, of_device}
 use Rattle.rel_records.specs.Written.{IsDone}
 use Rattle.rel_records.specs.declared.faults.RelFault.{RelFault}
 use Rattle.rel_records.specs.declared.faults.RelFault.TheVariants.{Device, Exists, Full, NotFound, NotPresent, Overflow}
@@ -37,8 +38,7 @@ fault-is (Err e) Q h P f = f e h
 module _ {D : Type 0} (S : History D) (a b c : D) (same : S.failures b ≡ S.failures a) where
   -- of the device
   pub tells-after : {T E : Type 0} (r : Result T E) → TellsFailure S b c r → TellsFailure S a c r
-  tells-after (Ok x) h = h ∙ same
-  tells-after (Err e) h = failed_later S a b c same h
+  tells-after {E = E} r h = told_after S (λ (_ : E). true) a b c r same h
 
   pub tells-failed : {T E : Type 0} (r : Result T E) (Q : E → Type 0) → IsErrAnd r Q → Failed S b c
       → TellsFailure S a c r
@@ -46,14 +46,7 @@ module _ {D : Type 0} (S : History D) (a b c : D) (same : S.failures b ≡ S.fai
   tells-failed (Err e) Q h f = failed_later S a b c same f
 
   pub tells-rel-after : {T : Type 0} (r : Result T RelFault) → TellsRelFault S b c r → TellsRelFault S a c r
-  tells-rel-after (Ok x) h = h ∙ same
-  tells-rel-after (Err NotFound) h = h ∙ same
-  tells-rel-after (Err NotPresent) h = h ∙ same
-  tells-rel-after (Err Overflow) h = h ∙ same
-  tells-rel-after (Err TooLarge) h = h ∙ same
-  tells-rel-after (Err Full) h = h ∙ same
-  tells-rel-after (Err Exists) h = h ∙ same
-  tells-rel-after (Err Device) h = failed_later S a b c same h
+  tells-rel-after r h = told_after S of_device a b c r same h
 
   pub passed-on : {T : Type 0} (r : Result T RelFault) (e : RelFault) → IsErrAnd r (λ y. y ≡ e)
       → TellsRelFault {T = T} S b c (Err e) → TellsRelFault S a c r

@@ -1,12 +1,13 @@
 -- What a call that judges tells of the disk, through calls that only read.
-use Rattle.std.proofs.Common.{ℕ, ◌≡◌, ◌⊎◌, ⊎_elim, ◌+◌, Err, Ok, Result, subst, sym, ◌∙◌}
+use Rattle.std.proofs.Common.{ℕ, ◌≡◌, ◌⊎◌, ⊎_elim, ◌+◌, Err, Result, subst, sym}
 use Rattle.d64_image.proofs.Moments.{failed_later}
+use Rattle.d64_image.proofs.Told.{told_after}
 use Rattle.d64_image.specs.History.{Failed, History}
 use Rattle.d64_image.specs.Images.{Image}
 use Rattle.host_session.specs.shop.Files.{Files, HasFiles}
 use Rattle.host_session.specs.shop.Found.{AreFilesOf}
 use Rattle.host_session.specs.shop.Judged.{HasJudgedTills, IsCountedTo, IsReadTo}
-use Rattle.host_session.specs.session.Opening.{IsBadCard, IsBadTill, Refuses, TellsJudging}
+use Rattle.host_session.specs.session.Opening.{IsBadCard, IsBadTill, Refuses, TellsJudging, of_device}
 use Rattle.host_session.specs.declared.faults.OpenFault.{OpenFault}
 use Rattle.host_session.specs.declared.faults.OpenFault.TheVariants as faults
 use Rattle.host_session.specs.declared.shop.finding.LedgerFiles.{LedgerFiles}
@@ -23,31 +24,14 @@ files-still a b f x same h = subst (λ (i : Image). AreFilesOf i f x) (sym same)
 -- calls that met no failure come before one that judges
 pub judged-later : {D T : Type 0} (S : History D) (a b c : D) (result : Result T OpenFault)
     → S.failures b ≡ S.failures a → TellsJudging S b c result → TellsJudging S a c result
-judged-later S a b c (Ok x) same told = told ∙ same
-judged-later S a b c (Err (faults.Layout f)) same told = told ∙ same
-judged-later S a b c (Err faults.NoStock) same told = told ∙ same
-judged-later S a b c (Err faults.NoRequests) same told = told ∙ same
-judged-later S a b c (Err (faults.BadCard r)) same told = told ∙ same
-judged-later S a b c (Err (faults.BadRequestCard t)) same told = told ∙ same
-judged-later S a b c (Err faults.TwoIntents) same told = told ∙ same
-judged-later S a b c (Err faults.Device) same told = failed_later S a b c same told
+judged-later S a b c result same told = told_after S of_device a b c result same told
 
 -- and an error is handed on
 pub judged-error : {D B : Type 0} (A : Type 0) (S : History D) (a b c : D) (fault : OpenFault)
     (result : Result B OpenFault) → result ≡ Err fault → S.failures b ≡ S.failures a
     → TellsJudging {T = A} S b c (Err fault) → TellsJudging S a c result
 judged-error {B = B} A S a b c fault result e same told =
-    subst (λ (r : Result B OpenFault). TellsJudging S a c r) (sym e) (judged-later {T = B} S a b c (Err fault) same
-    (other fault told))
-  where
-    other : (x : OpenFault) → TellsJudging {T = A} S b c (Err x) → TellsJudging {T = B} S b c (Err x)
-    other (faults.Layout f) told = told
-    other faults.NoStock told = told
-    other faults.NoRequests told = told
-    other (faults.BadCard r) told = told
-    other (faults.BadRequestCard t) told = told
-    other faults.TwoIntents told = told
-    other faults.Device told = told
+    subst (λ (r : Result B OpenFault). TellsJudging S a c r) (sym e) (judged-later {T = B} S a b c (Err fault) same told)
 
 -- what is refused after calls that only read is refused of the disk that they read
 pub refused-error : {D B : Type 0} (S : History D) (a b c : D) (fault : OpenFault) (result : Result B OpenFault)

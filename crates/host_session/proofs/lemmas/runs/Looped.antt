@@ -9,7 +9,7 @@ use Rattle.host_session.proofs.lemmas.runs.Chained.{asked_more, run_more, run_mo
 use Rattle.host_session.proofs.lemmas.runs.Chained.{run_none, run_rests}
 use Rattle.host_session.proofs.lemmas.runs.Sparing.{sparing_more, within_more}
 use Rattle.host_session.specs.declared.runs.looping.LoopFault.TheVariants as faults
-use Rattle.host_session.specs.events.Asking.{Source, TakesNone, TakesOne, messages_in}
+use Rattle.host_session.specs.events.Asking.{FailsNoMore, Source, TakesNone, TakesOne, messages_in}
 use Rattle.host_session.specs.events.Events.{Message}
 use Rattle.host_session.specs.events.Instants.{Instant, instant_of}
 use Rattle.host_session.specs.events.OneEvent.{EndsFailed, GoesOn, IsEvent}
@@ -34,7 +34,7 @@ module _ {D A T : Type 0} (h : History D) (a : Source A) (o : Output T) (from : 
       → IsSettled (h.image first) from.shop → HasCome h a o from first from.asks from.out
   has_none first opening quiet later rests = record {
     taken = [];
-    is = a.none from.asks;
+    is = (a.none from.asks, λ failed. failed);
     whole = (
       record {
         turns = [];
@@ -50,14 +50,19 @@ module _ {D A T : Type 0} (h : History D) (a : Source A) (o : Output T) (from : 
 
   -- the next event was taken, or there was none
   module _ (disk : D) (asks now : A) (out : T) (w : HasCome h a o from disk asks out) where
-    pub takes_one : TakesOne a asks now (instant_of h disk) → HasComeBut h a o from disk now out
-    takes_one takes = record { taken = w.taken; is = takes from.asks w.taken w.is; whole = w.whole; room = w.room }
+    pub takes_one : TakesOne a asks now (instant_of h disk) → FailsNoMore a asks now → HasComeBut h a o from disk now out
+    takes_one takes sound = record {
+      taken = w.taken;
+      is = (takes from.asks w.taken w.is.0, λ failed. w.is.1 (sound failed));
+      whole = w.whole;
+      room = w.room;
+    }
 
-    pub at_end : TakesNone a asks now × a.is_over now → Ends h a o from now out (Ok disk)
-    at_end x = (w.taken, x.0 from.asks w.taken w.is, x.1, w.whole)
+    pub at_end : TakesNone a asks now × a.is_over now × FailsNoMore a asks now → Ends h a o from now out (Ok disk)
+    at_end x = (w.taken, (x.0 from.asks w.taken w.is.0, λ failed. w.is.1 (x.2 failed)), x.1, w.whole)
 
     pub at_fault : TakesNone a asks now × a.has_failed now → EndsBy h a o from now out disk faults.Input
-    at_fault x = (w.taken, x.0 from.asks w.taken w.is, x.1, w.whole)
+    at_fault x = (w.taken, x.0 from.asks w.taken w.is.0, x.1, w.whole)
 
   module _ (mid new : D) (asks : A) (reply : Reply) (out told : T) where
     -- with the event that is here

@@ -46,6 +46,7 @@ module _ {D A T : Type 0} (h : History D) (a : Source A) (o : Output T) (from : 
       shop = tt;
       ok = λ s is. tt;
       input = λ s is _. (e.2, subst (λ t. IsRunWhole h o t e.0 from.disk left from.out out) (same s is) e.3);
+      unfailed = λ other. absurd (other left refl);
       output = λ s is (is_input : faults.Input ≡ faults.Output). cc;
       device = λ s is (is_input : faults.Input ≡ faults.Device). cc;
       moments = λ s is. subst (λ t. HeldBeginnings h t (messages_in e.0) from.disk left) (same s is)
@@ -65,10 +66,11 @@ module _ {D A T : Type 0} (h : History D) (a : Source A) (o : Output T) (from : 
         → IsRun h a o from.disk from.asks asks from.out out (Err (faults.Output, left))
     by_output left e = record {
       taken = e.0;
-      takes = e.1;
+      takes = e.1.0;
       shop = tt;
       ok = λ s is. tt;
       input = λ s is (is_output : faults.Output ≡ faults.Input). cc;
+      unfailed = λ _. e.1.1;
       output = λ s is _. subst (λ t. IsRunToOutput h o t e.0 from.disk left from.out out) (same s is) e.2;
       device = λ s is (is_output : faults.Output ≡ faults.Device). cc;
       moments = λ s is. subst (λ t. HeldBeginnings h t (messages_in e.0) from.disk left) (same s is)
@@ -93,10 +95,11 @@ module _ {D A T : Type 0} (h : History D) (a : Source A) (o : Output T) (from : 
         let failed = run_failed h from.shop (messages_in e.0) e.2.0.turns e.2.0.last from.disk left e.2.0.run in
         record {
           taken = e.0;
-          takes = e.1;
+          takes = e.1.0;
           shop = tt;
           ok = λ s is. tt;
           input = λ s is (is_device : faults.Device ≡ faults.Input). cc;
+          unfailed = λ _. e.1.1;
           output = λ s is (is_device : faults.Device ≡ faults.Output). cc;
           device = λ s is _. subst (λ t. IsRunToDevice h o t e.0 from.disk left from.out out) (same s is) e.2;
           moments = λ s is. subst (λ t. HeldBeginnings h t (messages_in e.0) from.disk left) (same s is)
@@ -129,10 +132,11 @@ module _ {D A T : Type 0} (h : History D) (a : Source A) (o : Output T) (from : 
         → IsRun h a o from.disk from.asks asks from.out out result
     run_ended (Ok left) e = record {
       taken = e.0;
-      takes = e.1;
+      takes = e.1.0;
       shop = ((from.shop, is_shop), e.2);
       ok = λ s is. subst (λ t. IsRunWhole h o t e.0 from.disk left from.out out) (same s is) e.3;
       input = λ s is. tt;
+      unfailed = λ _. e.1.1;
       output = λ s is. tt;
       device = λ s is. tt;
       moments = λ s is. subst (λ t. HeldBeginnings h t (messages_in e.0) from.disk left) (same s is)
@@ -167,6 +171,7 @@ run_refused h a o disk left asks out f refused held quiet fails = record {
   shop = tt;
   ok = λ s is. tt;
   input = λ s is (e : faults.Open f ≡ faults.Input). cc;
+  unfailed = λ _ failed. failed;
   output = λ s is (e : faults.Open f ≡ faults.Output). cc;
   device = λ s is (e : faults.Open f ≡ faults.Device). cc;
   moments = held;

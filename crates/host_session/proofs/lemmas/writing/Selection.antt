@@ -7,7 +7,8 @@ use Rattle.std.proofs.lemmas.List.{append-nil}
 use Rattle.std.proofs.lemmas.Option.{same_Some}
 use Rattle.d64_image.specs.History.{Changes, History, OnlyReads, TellsFailure}
 use Rattle.d64_image.specs.Images.{Image}
-use Rattle.d64_image.proofs.Moments.{changes_then, changes_weaker, failed_later, no_reads, reads_change, reads_weaker}
+use Rattle.d64_image.proofs.Moments.{changes_then, changes_weaker, no_reads, reads_change, reads_weaker}
+use Rattle.d64_image.proofs.Told.{told_after}
 use Rattle.disk_layout.specs.Clean.{IsClean}
 use Rattle.disk_layout.specs.Layout.{File, IsLayout, Layout, file_owns, record_length}
 use Rattle.disk_layout.specs.Records.{records}
@@ -69,8 +70,7 @@ reads-between {D} S a b c d k e h e' =
 
 pub told-after : {D T E : Type 0} (S : History D) (a b c : D) (r : Result T E) → S.failures b ≡ S.failures a
     → TellsFailure S b c r → TellsFailure S a c r
-told-after S a b c (Ok x) same t = t ∙ same
-told-after S a b c (Err e) same t = failed_later S a b c same t
+told-after {E = E} S a b c r same t = told_after S (λ (_ : E). true) a b c r same t
 
 -- a record that is there isn't grown for
 none-added : (L c r : ℕ) → r ≤ c → added L c r ≡ 0

@@ -1,10 +1,11 @@
 -- How calls that read and judge go on from one to the next.
 use Rattle.std.proofs.Common.{ℕ, ◌≡◌, ◌≤◌, ◌+◌, Err, ◌∙◌, subst, arith}
-use Rattle.d64_image.proofs.Moments.{reads_then, reads_weaker, no_reads, failed_later, never_failed}
+use Rattle.d64_image.proofs.Moments.{reads_then, reads_weaker, no_reads, never_failed}
 use Rattle.d64_image.specs.History.{Failed, History, NeverFailed, OnlyReads}
 use Rattle.d64_image.specs.Images.{Image}
 use Rattle.d64_image.specs.declared.place.Place.{Place}
-use Rattle.disk_layout.specs.Fault.{Holds, TellsFault, nowhere}
+use Rattle.d64_image.proofs.Told.{told_after}
+use Rattle.disk_layout.specs.Fault.{Holds, TellsFault, nowhere, of_device}
 use Rattle.disk_layout.specs.declared.faults.Fault.{Fault}
 use Rattle.disk_layout.specs.declared.faults.Fault.TheVariants.{
   BadLength,
@@ -24,29 +25,11 @@ module _ {D : Type 0} (S : History D) where
   -- the type of what would have been answered doesn't matter
   pub any_answer : (T U : Type 0) (a b : D) (f : Fault) → TellsFault {T = T} S a b (Err f)
       → TellsFault {T = U} S a b (Err f)
-  any_answer T U a b (BadLink p) h = h
-  any_answer T U a b (Loop p) h = h
-  any_answer T U a b (OwnedTwice p) h = h
-  any_answer T U a b (BadType p) h = h
-  any_answer T U a b (Unclosed p) h = h
-  any_answer T U a b (BadSide p) h = h
-  any_answer T U a b (BadLength p) h = h
-  any_answer T U a b (CountWrong p) h = h
-  any_answer T U a b (MapWrong p) h = h
-  any_answer T U a b (Device p) h = h
+  any_answer T U a b f h = h
 
   pub tells_later : (T : Type 0) (a b c : D) (f : Fault) → S.failures b ≡ S.failures a
       → TellsFault {T = T} S b c (Err f) → TellsFault {T = T} S a c (Err f)
-  tells_later T a b c (BadLink p) e h = h ∙ e
-  tells_later T a b c (Loop p) e h = h ∙ e
-  tells_later T a b c (OwnedTwice p) e h = h ∙ e
-  tells_later T a b c (BadType p) e h = h ∙ e
-  tells_later T a b c (Unclosed p) e h = h ∙ e
-  tells_later T a b c (BadSide p) e h = h ∙ e
-  tells_later T a b c (BadLength p) e h = h ∙ e
-  tells_later T a b c (CountWrong p) e h = h ∙ e
-  tells_later T a b c (MapWrong p) e h = h ∙ e
-  tells_later T a b c (Device p) e h = failed_later S a b c e h
+  tells_later T a b c f e h = told_after {T = T} S of_device a b c (Err f) e h
 
   pub passes_none : (d : D) → Passes S d d 0
   passes_none d = record { reads = no_reads S d; failures = omega arith }

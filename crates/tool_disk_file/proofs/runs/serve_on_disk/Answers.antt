@@ -13,8 +13,10 @@ use Rattle.tool_disk_file.proofs.OnDisk.{
   asked,
   device_failed,
   done_well,
+  file_failed,
   first,
   in_turn,
+  input_unfailed,
   over,
   replies_are,
   served,
@@ -93,6 +95,10 @@ returns g c =
       });
       held = on_ok_weaker ended (λ same. ap known_in same) run.there;
       device = device_failed bytes_there knows sized i a image file after ended old_in new_in out new_out size
+          (ap Some known) run;
+      file = file_failed bytes_there knows sized i a image file after ended old_in new_in out new_out size
+          (ap Some known) run;
+      unfailed = input_unfailed bytes_there knows sized i a image file after ended old_in new_in out new_out size
           (ap Some known) run;
       well = λ shop' sound input output few. done_well bytes_there knows sized i a image file after ended old_in new_in
           out new_out size (ap Some known) run (shop'.0, shop shop'.0 shop'.1) sound input output few;

@@ -36,7 +36,7 @@ returns-then-is_some-clause-way g c = λ from w alive.
       before.0,
       takes_one g.D.Sectors.history g.A.Asks.source g.T.Tells.output from c.loop-asks.session.disk c.loop-asks.asks
           c.next.new.self c.loop-asks.out
-          before.1 took.0,
+          before.1 took.0 took.2,
     )
 
 pub returns-then-is_some-clause-cut : goal.returns-then-is_some-clause-cut
@@ -76,7 +76,7 @@ returns-then-is_media-clause-way g c = λ from w alive.
     (is_whole m c.message.result.now c.message.ensures
     (no_cut _ c.cut.result _ c.cut.ensures (sym c.is_some.ensures ∙ c.if-is_some.false)))
     (c.whole_message-reply.ensures.spared before.0))
-    (takes_one h a o from x c.loop-asks.asks c.next.new.self c.loop-asks.out before.1 took.0)
+    (takes_one h a o from x c.loop-asks.asks c.next.new.self c.loop-asks.out before.1 took.0 took.2)
 
 pub returns-then-is_err-clause-way : goal.returns-then-is_err-clause-way
 returns-then-is_err-clause-way g c = λ from w alive.
@@ -112,7 +112,7 @@ returns-then-is_err-clause-way g c = λ from w alive.
     (is_whole m c.message.result.now c.message.ensures
     (no_cut _ c.cut.result _ c.cut.ensures (sym c.is_some.ensures ∙ c.if-is_some.false)))
     (c.whole_message-reply.ensures.spared before.0))
-    (takes_one h a o from x c.loop-asks.asks c.next.new.self c.loop-asks.out before.1 took.0)
+    (takes_one h a o from x c.loop-asks.asks c.next.new.self c.loop-asks.out before.1 took.0 took.2)
 
 pub loop-asks-preserved : goal.loop-asks-preserved
 loop-asks-preserved g c =
@@ -152,5 +152,5 @@ loop-asks-preserved g c =
           (is_whole m c.message.result.now c.message.ensures
           (no_cut _ c.cut.result _ c.cut.ensures (sym c.is_some.ensures ∙ c.if-is_some.false)))
           (c.whole_message-reply.ensures.spared before.0))
-          (takes_one h a o from x c.loop-asks.asks c.next.new.self c.loop-asks.out before.1 took.0);
+          (takes_one h a o from x c.loop-asks.asks c.next.new.self c.loop-asks.out before.1 took.0 took.2);
     }

@@ -21,4 +21,5 @@ returns g c =
                 (next_taken first.events.now n below ∙ ap (λ m. m ∷ left) (sym here)),
           ),
       omega arith,
+      λ failed. failed,
     )

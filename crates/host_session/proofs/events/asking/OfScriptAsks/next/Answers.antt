@@ -10,4 +10,5 @@ returns-in-Some-eq64 g c = (
       let x = line_taken _ _ c.in-Some.line.now _ c.in-Some.ensures.0 c.reset_of-cut.ensures now.0 in
       (x.0, taken_on xs _ _ _ _ (instant_of g.D.Sectors.history c.args._disk.now) now.1 x.1),
   c.in-Some.ensures.1,
+  λ failed. failed,
 )
