@@ -24,6 +24,7 @@ const ROOM: usize = 4096;
 
 /// Puts the line of a record that is there behind the first `start` bytes of the room, and tells where it ends. `last` is
 /// the block that was read last, and `bytes` is room for the record.
+#[inline(always)]
 fn gather_line(
     disk: &mut MemDisk,
     file: &RelFile,

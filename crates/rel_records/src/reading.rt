@@ -24,6 +24,7 @@ use d64_image::{Place, Sectors};
 use disk_layout::DATA;
 
 /// Puts two parts one behind the other in place of these bytes.
+#[inline(always)]
 fn overwrite(bytes: &mut [u8], here: &[u8], there: &[u8])
     requires { length bytes.old ≡ length here.now + length there.now }
     ensures { bytes.new ≡ here.now ++ there.now }
@@ -35,6 +36,7 @@ fn overwrite(bytes: &mut [u8], here: &[u8], there: &[u8])
 
 /// Fills `text` with the record of this length that begins at data byte `start` of the first block, and goes on in the
 /// second.
+#[inline(always)]
 pub(crate) fn fill_record(
     text: &mut ArrayVec<u8, 254>,
     first: &[u8; 256],

@@ -34,6 +34,7 @@ impl LastBlock {
 }
 
 /// Reads the block behind the one of this number, from 0, which is the one that is kept, and keeps that.
+#[inline(never)]
 fn go_on<D: Sectors>(
     disk: &mut D,
     file: &RelFile,
@@ -57,6 +58,7 @@ fn go_on<D: Sectors>(
 }
 
 /// Reads the data block of this number, from 0, and keeps it. Where it is kept already nothing is read.
+#[inline(always)]
 fn bring<D: Sectors>(
     disk: &mut D,
     file: &RelFile,
@@ -88,6 +90,7 @@ fn bring<D: Sectors>(
 }
 
 /// Reads a record that is there.
+#[inline(always)]
 fn next_there<D: Sectors>(
     disk: &mut D,
     file: &RelFile,
@@ -120,6 +123,7 @@ fn next_there<D: Sectors>(
 /// Reads a record as `read_record` does, for who reads one after another: where it lies in the block that was read last
 /// nothing is read, and where it goes on behind that one sector. `last` is of this file: it was `LastBlock::none`, or was
 /// given by this call, and nothing was written since.
+#[inline(always)]
 pub fn read_next<D: Sectors>(
     disk: &mut D,
     file: &RelFile,
