@@ -42,8 +42,8 @@ fn put_places(bytes: &mut [u8; 256], at: usize, places: &[Place])
         ≡ take at bytes.old ++ (flat_map place_bytes places.now ++ drop (at + 2 * length places.now) bytes.old) }
 {
     for (i, place) in places.iter().enumerate() {
-        bytes[at + 2 * i] = place.track();
-        bytes[at + 2 * i + 1] = place.sector();
+        let start = at + 2 * i;
+        bytes[start..start + 2].copy_from_slice(&[place.track(), place.sector()]);
     }
 }
 

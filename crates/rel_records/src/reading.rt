@@ -36,6 +36,7 @@ fn overwrite(bytes: &mut [u8], here: &[u8], there: &[u8])
 
 /// Fills `text` with the record of this length that begins at data byte `start` of the first block, and goes on in the
 /// second.
+// In line: where a record lies in one block, the compiler knows there that the second part is empty.
 #[inline(always)]
 pub(crate) fn fill_record(
     text: &mut ArrayVec<u8, 254>,

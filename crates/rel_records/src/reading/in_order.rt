@@ -34,6 +34,7 @@ impl LastBlock {
 }
 
 /// Reads the block behind the one of this number, from 0, which is the one that is kept, and keeps that.
+// Out of line: most records lie in the block that is kept.
 #[inline(never)]
 fn go_on<D: Sectors>(
     disk: &mut D,
@@ -123,6 +124,7 @@ fn next_there<D: Sectors>(
 /// Reads a record as `read_record` does, for who reads one after another: where it lies in the block that was read last
 /// nothing is read, and where it goes on behind that one sector. `last` is of this file: it was `LastBlock::none`, or was
 /// given by this call, and nothing was written since.
+// In line, with all on the way of a record in the block that is kept.
 #[inline(always)]
 pub fn read_next<D: Sectors>(
     disk: &mut D,

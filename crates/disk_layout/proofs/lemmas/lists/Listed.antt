@@ -20,7 +20,6 @@ use Rattle.std.proofs.Common.{
   get_or,
   take,
   drop,
-  set,
   refl,
   sym,
   ◌∙◌,
@@ -31,35 +30,12 @@ use Rattle.std.proofs.Common.{
 }
 use Rattle.std.specs.Prelude.{flat_map, replicate, slice_get}
 use Rattle.std.proofs.lemmas.Bool.{cases_lt}
-use Rattle.std.proofs.Math.Seq.{take-append_seam, drop-append_seam, set-append_seam}
+use Rattle.std.proofs.Math.Seq.{take-append_seam, drop-append_seam}
 use Rattle.std.proofs.lemmas.List.{drop-replicate, length-replicate, take_more, take_all, drop-drop, length-take}
 use Rattle.std.proofs.lemmas.Grind.{flat_map-append}
 use Rattle.d64_image.specs.declared.place.Place.{Place}
 use Rattle.disk_layout.specs.Side.{link_bytes, padded, place_bytes, pointers_of, side_sector}
 use Rattle.disk_layout.specs.Visited.{room}
-
--- two elements that stand at a place of a list
-pub drop-two : {X : Type 0} (n : ℕ) (xs : List X) → n + 2 ≤ length xs → (x : X) × (y : X)
-    × (drop n xs ≡ x ∷ y ∷ drop (n + 2) xs)
-drop-two zero [] h = absurd (omega arith)
-drop-two zero (x ∷ []) h = absurd (omega arith)
-drop-two zero (x ∷ y ∷ xs) h = (x, y, refl)
-drop-two (suc n) [] h = absurd (omega arith)
-drop-two (suc n) (x ∷ xs) h =
-    let (a, b, e) = drop-two n xs (omega arith) in
-    let s : suc n + 2 ≡ suc (n + 2) = omega arith in
-    (a, b, rw s e)
-
--- two writes behind a front
-pub set-two : {X : Type 0} (front rest : List X) (n : ℕ) (x y a b : X) → n ≡ length front
-    → set (set (front ++ x ∷ y ∷ rest) n a) (n + 1) b ≡ front ++ a ∷ b ∷ rest
-set-two front rest n x y a b e =
-    let more : n + 1 ≡ length (front ++ a ∷ []) = omega (arith, length-append front (a ∷ []), e) in
-    ap (λ xs. set xs (n + 1) b) (ap (λ k. set (front ++ x ∷ y ∷ rest) k a) e ∙ set-append_seam front x (y ∷ rest) a
-    ∙ sym (append_assoc front (a ∷ []) (y ∷ rest)))
-    ∙ ap (λ k. set ((front ++ a ∷ []) ++ y ∷ rest) k b) more
-    ∙ set-append_seam (front ++ a ∷ []) y rest b
-    ∙ append_assoc front (a ∷ []) (b ∷ rest)
 
 -- lists of places in bytes are twice as long
 pub length-place_bytes : (ps : List Place) → length (flat_map place_bytes ps) ≡ 2 * length ps
@@ -77,13 +53,14 @@ written bytes at ps i = take at bytes ++ (flat_map place_bytes (take i ps) ++ dr
 take-long : {X : Type 0} (n : ℕ) (xs : List X) → n ≤ length xs → length (take n xs) ≡ n
 take-long n xs h = omega (arith, length-take n xs)
 
--- one place more, by two writes
+-- one place more, its two bytes at once
 pub written-step : (bytes now : List ℕ) (at : ℕ) (ps : List Place) (i : ℕ) (p : Place)
     → at + 2 * length ps ≤ length bytes → i < length ps → get_or ps i p ≡ p → now ≡ written bytes at ps i
-    → set (set now (at + 2 * i) p.track) (at + 2 * i + 1) p.sector ≡ written bytes at ps (i + 1)
+    → take (at + 2 * i) now ++ (place_bytes p ++ drop 2 (drop (at + 2 * i) now)) ≡ written bytes at ps (i + 1)
 written-step bytes now at ps i p room lt is e =
+    let old : List ℕ = drop (at + 2 * i) bytes in
+    let new : List ℕ = drop (at + 2 * (i + 1)) bytes in
     let front : List ℕ = take at bytes ++ flat_map place_bytes (take i ps) in
-    let (x, y, two) = drop-two (at + 2 * i) bytes (omega (arith, room, lt)) in
     let long : at + 2 * i ≡ length front =
     omega (
       arith,
@@ -92,20 +69,22 @@ written-step bytes now at ps i p room lt is e =
       length-place_bytes (take i ps),
       take-long i ps (omega (arith, lt)),
     ) in
-    let here : now ≡ front ++ x ∷ y ∷ drop (at + 2 * i + 2) bytes = e
-    ∙ sym (append_assoc (take at bytes) (flat_map place_bytes (take i ps)) (drop (at + 2 * i) bytes))
-    ∙ ap (λ t. front ++ t) two in
+    let here : now ≡ front ++ old = e ∙ sym (append_assoc (take at bytes) (flat_map place_bytes (take i ps)) old) in
+    let before : take (at + 2 * i) now ≡ front = ap (take (at + 2 * i)) here ∙ ap (λ n. take n (front ++ old)) long
+    ∙ take-append_seam front old in
+    let from : drop (at + 2 * i) now ≡ old = ap (drop (at + 2 * i)) here ∙ ap (λ n. drop n (front ++ old)) long
+    ∙ drop-append_seam front old in
+    let next : at + 2 * i + 2 ≡ at + 2 * (i + 1) = omega arith in
+    let behind : drop 2 (drop (at + 2 * i) now) ≡ new = ap (drop 2) from ∙ drop-drop 2 (at + 2 * i) bytes
+    ∙ ap (λ n. drop n bytes) next in
     let more : flat_map place_bytes (take (i + 1) ps) ≡ flat_map place_bytes (take i ps) ++ place_bytes p =
     ap (flat_map place_bytes) (take_more ps i p lt ∙ ap (λ q. take i ps ++ q ∷ []) is)
     ∙ flat_map-append place_bytes (take i ps) (p ∷ []) in
-    let behind : at + 2 * i + 2 ≡ at + 2 * (i + 1) = omega arith in
-    ap (λ t. set (set t (at + 2 * i) p.track) (at + 2 * i + 1) p.sector) here
-    ∙ set-two front (drop (at + 2 * i + 2) bytes) (at + 2 * i) x y p.track p.sector long
-    ∙ append_assoc (take at bytes) (flat_map place_bytes (take i ps)) (place_bytes p ++ drop (at + 2 * i + 2) bytes)
-    ∙ ap (λ t. take at bytes ++ t)
-    (sym (append_assoc (flat_map place_bytes (take i ps)) (place_bytes p) (drop (at + 2 * i + 2) bytes)))
-    ∙ ap (λ t. take at bytes ++ (t ++ drop (at + 2 * i + 2) bytes)) (sym more)
-    ∙ ap (λ n. take at bytes ++ (flat_map place_bytes (take (i + 1) ps) ++ drop n bytes)) behind
+    ap (λ t. t ++ (place_bytes p ++ drop 2 (drop (at + 2 * i) now))) before
+    ∙ ap (λ t. front ++ (place_bytes p ++ t)) behind
+    ∙ append_assoc (take at bytes) (flat_map place_bytes (take i ps)) (place_bytes p ++ new)
+    ∙ ap (λ t. take at bytes ++ t) (sym (append_assoc (flat_map place_bytes (take i ps)) (place_bytes p) new))
+    ∙ ap (λ t. take at bytes ++ (t ++ new)) (sym more)
 
 pub written-all : (bytes : List ℕ) (at i : ℕ) (ps : List Place) → length ps ≤ i → i ≤ length ps
     → written bytes at ps i ≡ take at bytes ++ (flat_map place_bytes ps ++ drop (at + 2 * length ps) bytes)
