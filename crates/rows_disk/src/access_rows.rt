@@ -1,34 +1,48 @@
 //! Single sectors read and written, on a device that fails too, and a slot cut out of a sector.
 use crate::comparing::{same, same_at};
-use crate::disks::at;
-use d64_image::{Fuse, MemDisk};
+use crate::disks::{at, zeroed};
+use d64_image::{Fuse, MemDisk, Place, Sectors};
 use disk_layout::{Fault, Slot, read_sector, write_sector};
-use std::test::Fail;
+use std::process::Abort;
+
+/// Reads a sector: the answer, and the bytes, which were ones.
+fn read<D: Sectors>(disk: &mut D, place: Place) -> (Result<(), Fault>, [u8; 256]) {
+    let mut bytes = [1; 256];
+    let answer = read_sector(disk, place, &mut bytes);
+    (answer, bytes)
+}
+
+/// Reads and writes over a fuse that lets one write pass, and gives its disk.
+fn over_a_fuse(rt: &(impl Abort + AllocGlobal), first: Place, second: Place) -> MemDisk {
+    let mut disk = Fuse::new(zeroed(rt), 1);
+    let failed = Err(Fault::Device(second));
+    same(rt, read(&mut disk, first), (Ok(()), [0; 256]));
+    same(rt, write_sector(&mut disk, first, &[7; 256]), Ok(()));
+    same(rt, read(&mut disk, second).0, failed);
+    same(rt, write_sector(&mut disk, second, &[9; 256]), failed);
+    disk.into_inner()
+}
 
 // The fuse lets one write pass: the read before it passes too, and every call after it fails at its own place.
 #[test]
-fn a_device_that_fails(rt: HostRuntime) -> Result<(), Fail> {
+fn a_device_that_fails(rt: HostRuntime) {
     let (first, second) = (at(17, 0), at(35, 16));
-    let mut disk = Fuse::new(MemDisk::zeroed(rt.alloc())?, 1);
-    let mut one = [1; 256];
-    let mut other = [1; 256];
-    let answers = [
-        read_sector(&mut disk, first, &mut one),
-        write_sector(&mut disk, first, &[7; 256]),
-        read_sector(&mut disk, second, &mut other),
-        write_sector(&mut disk, second, &[9; 256]),
-    ];
-    let failed = Err(Fault::Device(second));
-    same(&rt, answers, [Ok(()), Ok(()), failed, failed]);
-    same(&rt, one, [0; 256]);
-    let mut whole = disk.into_inner();
-    let answers = [
-        read_sector(&mut whole, first, &mut one),
-        read_sector(&mut whole, second, &mut other),
-    ];
-    same(&rt, answers, [Ok(()); 2]);
-    same(&rt, (one, other), ([7; 256], [0; 256]));
-    Ok(())
+    let mut whole = over_a_fuse(&rt, first, second);
+    same(&rt, read(&mut whole, first), (Ok(()), [7; 256]));
+    same(&rt, read(&mut whole, second), (Ok(()), [0; 256]));
+}
+
+/// Slots, and their first and last bytes.
+const SLOTS: [(u8, u8, u8); 5] = [(0, 18, 0), (2, 0, 5), (3, 6, 7), (4, 8, 0), (7, 0, 9)];
+
+/// Sees that the slots of a sector are cut so.
+fn are_cut(rt: &impl Abort, bytes: &[u8; 256], rows: &[(u8, u8, u8)]) {
+    for &(number, first, last) in rows {
+        assert!(rt; number < 8, "a sector has eight slots");
+        let slot = Slot::in_sector(bytes, at(18, 4), number);
+        let told = (slot.sector, slot.number, slot.bytes[0], slot.bytes[31]);
+        same_at(rt, told, (at(18, 4), number, first, last), number);
+    }
 }
 
 #[test]
@@ -40,14 +54,5 @@ fn slots_of_a_sector(rt: HostRuntime) {
     bytes[127] = 7;
     bytes[128] = 8;
     bytes[255] = 9;
-    for (number, first, last) in [(0, 18, 0), (2, 0, 5), (3, 6, 7), (4, 8, 0), (7, 0, 9)] {
-        let slot = Slot::in_sector(&bytes, at(18, 4), number);
-        same(&rt, (slot.sector, slot.number), (at(18, 4), number));
-        same_at(
-            &rt,
-            (slot.bytes[0], slot.bytes[31]),
-            (first, last),
-            ("slot", number),
-        );
-    }
+    are_cut(&rt, &bytes, &SLOTS);
 }

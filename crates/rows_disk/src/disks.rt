@@ -2,8 +2,7 @@
 //! of a row would be proved with all that stands before it.
 use d64_image::{MemDisk, Place, Sectors};
 use disk_layout::blank_image;
-use std::alloc::Global;
-use std::test::Fail;
+use std::process::Abort;
 
 /// The place. One that the disk lacks is 1/0.
 pub(crate) fn at(track: u8, sector: u8) -> Place {
@@ -57,9 +56,14 @@ pub(crate) fn empty_map() -> [u8; 256] {
     map
 }
 
+/// A disk of zeros.
+pub(crate) fn zeroed(rt: &(impl Abort + AllocGlobal)) -> MemDisk {
+    MemDisk::zeroed(rt.alloc()).expect(rt, "a disk of zeros")
+}
+
 /// A fresh disk for two tills: STOCK has 17/0 and 17/1, REQUESTS has 17/2 and 17/3.
-pub(crate) fn fresh(alloc: Global) -> Result<MemDisk, Fail> {
-    let mut disk = MemDisk::zeroed(alloc)?;
-    blank_image(&mut disk, b"STOCK LEDGER", *b"01", 2)?;
-    Ok(disk)
+pub(crate) fn fresh(rt: &(impl Abort + AllocGlobal)) -> MemDisk {
+    let mut disk = zeroed(rt);
+    blank_image(&mut disk, b"STOCK LEDGER", *b"01", 2).expect(rt, "a blank disk");
+    disk
 }

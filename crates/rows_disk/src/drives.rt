@@ -5,9 +5,7 @@ use arrayvec::ArrayVec;
 use d64_image::{MemDisk, Meter, Sectors};
 use drive_channels::{Dead, Drive};
 use layout_check::repair;
-use std::alloc::Global;
 use std::process::Abort;
-use std::test::Fail;
 
 /// A call, with what it is handed; of a read, what it gives.
 #[derive(Clone, Copy)]
@@ -83,32 +81,32 @@ pub(crate) fn session(
 }
 
 /// A fresh disk, but the block count of STOCK is wrong.
-pub(crate) fn wrong_count(alloc: Global) -> Result<MemDisk, Fail> {
-    let mut disk = fresh(alloc)?;
+pub(crate) fn wrong_count(rt: &(impl Abort + AllocGlobal)) -> MemDisk {
+    let mut disk = fresh(rt);
     change(&mut disk, at(18, 1), (30, 3), (31, 0));
-    Ok(disk)
+    disk
 }
 
 /// A fresh disk, but the chain of STOCK leaves the disk.
-pub(crate) fn broken_chain(alloc: Global) -> Result<MemDisk, Fail> {
-    let mut disk = fresh(alloc)?;
+pub(crate) fn broken_chain(rt: &(impl Abort + AllocGlobal)) -> MemDisk {
+    let mut disk = fresh(rt);
     change(&mut disk, at(17, 0), (0, 0x24), (0, 0x24));
-    Ok(disk)
+    disk
 }
 
 /// A fresh disk, but STOCK is a program.
-pub(crate) fn program(alloc: Global) -> Result<MemDisk, Fail> {
-    let mut disk = fresh(alloc)?;
+pub(crate) fn program(rt: &(impl Abort + AllocGlobal)) -> MemDisk {
+    let mut disk = fresh(rt);
     change(&mut disk, at(18, 1), (2, 0x82), (2, 0x82));
     let _ = repair(&mut disk);
-    Ok(disk)
+    disk
 }
 
 /// A fresh disk, but no block is free: record 9256 of STOCK takes each.
-pub(crate) fn full(alloc: Global) -> Result<MemDisk, Fail> {
-    let mut drive = Drive::power_on(fresh(alloc)?);
+pub(crate) fn full(rt: &(impl Abort + AllocGlobal)) -> MemDisk {
+    let mut drive = Drive::power_on(fresh(rt));
     let _ = drive.open(2, b"STOCK");
     let _ = drive.command(b"P\x62\x28\x24");
     let _ = drive.write(2, b"");
-    Ok(drive.into_disk())
+    drive.into_disk()
 }

@@ -28,6 +28,8 @@ mod far_rows;
 #[cfg(test)]
 mod fault_rows;
 #[cfg(test)]
+mod long_rows;
+#[cfg(test)]
 mod map_rows;
 #[cfg(test)]
 mod recorder_rows;

@@ -1,8 +1,8 @@
 //! The images that a recorder kept, over memory and over a fuse.
 use crate::comparing::{same, same_at};
-use crate::disks::{at, sector};
-use d64_image::{DeviceFault, Fuse, MemDisk, Place, Sectors};
-use std::test::Fail;
+use crate::disks::{at, sector, zeroed};
+use d64_image::{DeviceFault, Fuse, Place, Sectors};
+use std::process::Abort;
 use tool_recorder::Recorder;
 
 /// Fills the first sector, then the last one, as any layer above writes them.
@@ -18,38 +18,43 @@ fn seen<D: Sectors>(disk: &mut Recorder<D>, moment: usize, place: Place) -> [u8;
     bytes
 }
 
-#[test]
-fn images_in_between(rt: HostRuntime) -> Result<(), Fail> {
-    let (a, b) = (at(1, 0), at(35, 16));
-    let mut disk = Recorder::new(rt.alloc(), MemDisk::zeroed(rt.alloc())?);
-    let answers = [fill_both(&mut disk, a, b, 1), fill_both(&mut disk, a, a, 9)];
-    same(&rt, (answers, disk.moments()), ([Ok(()); 2], 4));
-    // a later moment is now
-    let rows = [
-        (0, 0, 0),
-        (1, 1, 0),
-        (2, 1, 1),
-        (3, 9, 1),
-        (4, 9, 1),
-        (9, 9, 1),
-    ];
-    for (moment, first, last) in rows {
-        let held = (seen(&mut disk, moment, a), seen(&mut disk, moment, b));
-        same_at(&rt, held, ([first; 256], [last; 256]), ("moment", moment));
+/// A moment, and what fills the first sector and the last one then. A later moment is now.
+const MOMENTS: [(usize, u8, u8); 6] = [
+    (0, 0, 0),
+    (1, 1, 0),
+    (2, 1, 1),
+    (3, 9, 1),
+    (4, 9, 1),
+    (9, 9, 1),
+];
+
+/// Sees that both sectors were filled so at each moment.
+fn were_filled<D: Sectors>(rt: &impl Abort, disk: &mut Recorder<D>, rows: &[(usize, u8, u8)]) {
+    for &(moment, first, last) in rows {
+        same_at(rt, seen(disk, moment, at(1, 0)), [first; 256], moment);
+        same_at(rt, seen(disk, moment, at(35, 16)), [last; 256], moment);
     }
+}
+
+#[test]
+fn images_in_between(rt: HostRuntime) {
+    let (a, b) = (at(1, 0), at(35, 16));
+    let mut disk = Recorder::new(rt.alloc(), zeroed(&rt));
+    same(&rt, fill_both(&mut disk, a, b, 1), Ok(()));
+    same(&rt, fill_both(&mut disk, a, a, 9), Ok(()));
+    same(&rt, disk.moments(), 4);
+    were_filled(&rt, &mut disk, &MOMENTS);
     same(&rt, sector(&mut disk.into_inner(), a)[0], 9);
-    Ok(())
 }
 
 // A blown fuse refuses the recorder's own read before the second write, which isn't recorded then.
 #[test]
-fn a_recorder_over_a_fuse(rt: HostRuntime) -> Result<(), Fail> {
+fn a_recorder_over_a_fuse(rt: HostRuntime) {
     let (a, b) = (at(1, 0), at(35, 16));
-    let mut disk = Recorder::new(rt.alloc(), Fuse::new(MemDisk::zeroed(rt.alloc())?, 1));
+    let mut disk = Recorder::new(rt.alloc(), Fuse::new(zeroed(&rt), 1));
     same(&rt, fill_both(&mut disk, a, b, 1), Err(DeviceFault));
     same(&rt, disk.moments(), 1);
     let mut disk = disk.into_inner().into_inner();
-    let firsts = (sector(&mut disk, a)[0], sector(&mut disk, b)[0]);
-    same(&rt, firsts, (1, 0));
-    Ok(())
+    same(&rt, sector(&mut disk, a)[0], 1);
+    same(&rt, sector(&mut disk, b)[0], 0);
 }

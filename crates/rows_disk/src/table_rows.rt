@@ -3,9 +3,7 @@ use crate::disks::fresh;
 use crate::drives::{Call, broken_chain, counted, full, program, rows, session, wrong_count};
 use d64_image::{MemDisk, Meter};
 use drive_channels::Drive;
-use std::alloc::Global;
 use std::process::Abort;
-use std::test::Fail;
 
 /// What stands before a call.
 #[derive(Clone, Copy)]
@@ -29,13 +27,13 @@ enum State {
 }
 
 /// The disk of a state.
-fn disk_of(state: State, alloc: Global) -> Result<MemDisk, Fail> {
+fn disk_of(rt: &(impl Abort + AllocGlobal), state: State) -> MemDisk {
     match state {
-        State::WrongCount => wrong_count(alloc),
-        State::BrokenChain => broken_chain(alloc),
-        State::Program => program(alloc),
-        State::Full => full(alloc),
-        _ => fresh(alloc),
+        State::WrongCount => wrong_count(rt),
+        State::BrokenChain => broken_chain(rt),
+        State::Program => program(rt),
+        State::Full => full(rt),
+        _ => fresh(rt),
     }
 }
 
@@ -51,16 +49,12 @@ fn lead_to(rt: &impl Abort, drive: &mut Drive<Meter<MemDisk>>, state: State) {
 }
 
 /// Tries each row over a drive of its own.
-fn each_row(
-    rt: &(impl Abort + AllocGlobal),
-    table: &[(State, Call<'_>, u8, u64)],
-) -> Result<(), Fail> {
-    for (state, call, status, writes) in table {
-        let mut drive = counted(disk_of(*state, rt.alloc())?);
-        lead_to(rt, &mut drive, *state);
-        session(rt, drive, &[(*call, *status)], *writes);
+fn each_row(rt: &(impl Abort + AllocGlobal), table: &[(State, Call<'_>, u8, u64)]) {
+    for &(state, call, status, writes) in table {
+        let mut drive = counted(disk_of(rt, state));
+        lead_to(rt, &mut drive, state);
+        session(rt, drive, &[(call, status)], writes);
     }
-    Ok(())
 }
 
 /// The rows, in the order of `docs/DRIVE.md`: the state, the call, its status, and the sectors it writes.
@@ -102,6 +96,6 @@ const ROWS: [(State, Call<'static>, u8, u64); 34] = [
 ];
 
 #[test]
-fn each_row_of_the_table(rt: HostRuntime) -> Result<(), Fail> {
-    each_row(&rt, &ROWS)
+fn each_row_of_the_table(rt: HostRuntime) {
+    each_row(&rt, &ROWS);
 }
