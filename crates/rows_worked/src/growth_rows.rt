@@ -1,19 +1,21 @@
 //! Growth that is cut after each write, judged and mended; side sectors past 120 and 240 blocks.
 use crate::comparing::{same, same_at};
-use crate::disks::{clean, fresh, loaded, sector, sound_stock, stock};
+use crate::disks::{
+    Change, bytes_from, changed, clean, fresh, loaded, sector, sound_stock, stands, stock,
+};
 use d64_image::{Fuse, MemDisk, Meter, Place};
 use disk_layout::SideView;
 use layout_check::{check, repair};
 use rel_records::{RelFault, grow_to, records};
 use std::process::Abort;
 
-/// Lets STOCK of this image grow to record 1694, where power fails after so many writes. Tells whether it came to its end,
+/// Lets STOCK of this image grow to this record, where power fails after so many writes. Tells whether it came to its end,
 /// and what is on the disk then.
-fn cut(rt: &(impl Abort + AllocGlobal), image: &[u8], writes: u32) -> (bool, MemDisk) {
+fn cut(rt: &(impl Abort + AllocGlobal), image: &[u8], number: u32, writes: u32) -> (bool, MemDisk) {
     let mut disk = loaded(rt, image);
     let mut file = stock(rt, &mut disk);
     let mut fuse = Fuse::new(disk, writes);
-    let done = grow_to(&mut fuse, &mut file, 1694).is_ok();
+    let done = grow_to(&mut fuse, &mut file, number).is_ok();
     (done, fuse.into_inner())
 }
 
@@ -42,8 +44,11 @@ pub(crate) fn grown(rt: &(impl Abort + AllocGlobal), number: u32) -> MemDisk {
     disk
 }
 
-/// Where the growth is cut: after so many writes; the records then, and the writes of the repair.
-const CUTS: [(u32, u32, u32); 7] = [
+/// Where a growth is cut: after so many writes; the records then, and the writes of the repair.
+type Cut = (u32, u32, u32);
+
+/// STOCK with 120 blocks gets a block, 14/3, and a side sector, 14/4. After the fifth write the file is longer.
+const CUTS: [Cut; 7] = [
     (0, 1693, 0),
     (1, 1693, 1),
     (2, 1693, 1),
@@ -53,12 +58,21 @@ const CUTS: [(u32, u32, u32); 7] = [
     (6, 1707, 0),
 ];
 
+/// STOCK with 240 blocks gets 11/4 and 11/5: behind these the older side sectors are written, 17/1 and then 14/4, which a
+/// repair writes again. After the sixth write the file is longer.
+const CUTS_OF_TWO: [Cut; 8] = [
+    (0, 3386, 0),
+    (1, 3386, 1),
+    (2, 3386, 1),
+    (3, 3386, 1),
+    (4, 3386, 2),
+    (5, 3386, 3),
+    (6, 3400, 1),
+    (7, 3400, 0),
+];
+
 /// Repairs what a growth left that was cut after so many writes, and cuts the repair after each of its own.
-fn is_mended(
-    rt: &(impl Abort + AllocGlobal),
-    left: &MemDisk,
-    (writes, count, mends): (u32, u32, u32),
-) {
+fn is_mended(rt: &(impl Abort + AllocGlobal), left: &MemDisk, (writes, count, mends): Cut) {
     for passed in 0..=mends {
         let told = mended(rt, left.bytes(), passed);
         let row = ("writes of the growth and of the repair", writes, passed);
@@ -66,19 +80,84 @@ fn is_mended(
     }
 }
 
-/// Cuts the growth on a disk by each row.
-fn are_mended(rt: &(impl Abort + AllocGlobal), disk: &MemDisk, rows: &[(u32, u32, u32)]) {
+/// Cuts the growth of a disk's STOCK by a record more, which takes so many writes, by each row.
+fn are_mended(rt: &(impl Abort + AllocGlobal), before: u32, whole: u32, rows: &[Cut]) {
+    let disk = grown(rt, before);
     for &(writes, count, mends) in rows {
-        let (done, left) = cut(rt, disk.bytes(), writes);
-        same(rt, done, writes == 6);
+        let (done, left) = cut(rt, disk.bytes(), before.saturating_add(1), writes);
+        same(rt, done, writes == whole);
         is_mended(rt, &left, (writes, count, mends));
     }
 }
 
-// STOCK with 120 blocks gets a block, 14/3, and a side sector, 14/4. After the fifth write the file is longer.
 #[test]
 fn growth_is_cut_and_mended(rt: HostRuntime) {
-    are_mended(&rt, &grown(&rt, 1693), &CUTS);
+    are_mended(&rt, 1693, 6, &CUTS);
+}
+
+#[test]
+fn growth_with_two_older_side_sectors_is_cut_and_mended(rt: HostRuntime) {
+    are_mended(&rt, 3386, 7, &CUTS_OF_TWO);
+}
+
+/// How the older side sectors begin where that growth was cut after so many writes: the lower one, then the other.
+type Older = (u32, &'static [u8], &'static [u8]);
+
+const OLDER: [Older; 3] = [
+    (
+        3,
+        b"\x0E\x04\0\x12\x11\x01\x0E\x04\0\0",
+        b"\0\xFF\x01\x12\x11\x01\x0E\x04\0\0",
+    ),
+    (
+        4,
+        b"\x0E\x04\0\x12\x11\x01\x0E\x04\x0B\x05",
+        b"\0\xFF\x01\x12\x11\x01\x0E\x04\0\0",
+    ),
+    (
+        5,
+        b"\x0E\x04\0\x12\x11\x01\x0E\x04\x0B\x05",
+        b"\x0B\x05\x01\x12\x11\x01\x0E\x04\x0B\x05",
+    ),
+];
+
+/// Sees that they begin so.
+fn each_begins(rt: &(impl Abort + AllocGlobal), rows: &[Older]) {
+    let disk = grown(rt, 3386);
+    for (writes, lower, other) in rows {
+        let (_, left) = cut(rt, disk.bytes(), 3387, *writes);
+        stands(rt, &left, (17, 1, 0), lower);
+        stands(rt, &left, (14, 4, 0), other);
+    }
+}
+
+#[test]
+fn older_side_sectors_are_written_in_turn(rt: HostRuntime) {
+    each_begins(&rt, &OLDER);
+}
+
+/// A deleted entry behind that of STOCK and REQUESTS, and the bits of track 1 in the map behind its last sector.
+const UNJUDGED: [Change; 2] = [
+    (18, 1, 66, 30, b"\0\x13\x05OLD\xA0"),
+    (18, 0, 7, 1, b"\xFF"),
+];
+
+/// Sees that they stay where growth by a block is cut after so many writes, or isn't, and so do the bytes behind the entry.
+fn unjudged_stays(rt: &(impl Abort + AllocGlobal), disk: &MemDisk, writes: u32) {
+    let (done, left) = cut(rt, disk.bytes(), 15, writes);
+    same(rt, done, writes == 5);
+    stands(rt, &left, (18, 0, 7), b"\xFF");
+    let behind = bytes_from(disk, 18, 1, 64).get(..192);
+    same_at(rt, bytes_from(&left, 18, 1, 64).get(..192), behind, writes);
+}
+
+// The map and the sector of the entry are both written.
+#[test]
+fn what_no_growth_judges_stays(rt: HostRuntime) {
+    let disk = changed(fresh(&rt), &UNJUDGED);
+    for writes in 0..6u32 {
+        unjudged_stays(&rt, &disk, writes);
+    }
 }
 
 /// The record to which STOCK grows, a side sector, its first sixteen bytes, and its first and last pointers.
