@@ -4,17 +4,29 @@
 #![tactic(auto)]
 
 #[cfg(test)]
+mod advice_rows;
+#[cfg(test)]
 mod comparing;
 #[cfg(test)]
 mod day_rows;
 #[cfg(test)]
+mod failing_rows;
+#[cfg(test)]
 mod file_rows;
+#[cfg(test)]
+mod given;
+#[cfg(test)]
+mod input_rows;
+#[cfg(test)]
+mod job_rows;
 #[cfg(test)]
 mod keeper_rows;
 #[cfg(test)]
 mod lock_rows;
 #[cfg(test)]
 mod memory;
+#[cfg(test)]
+mod number_rows;
 #[cfg(test)]
 mod opened;
 #[cfg(test)]
@@ -30,6 +42,10 @@ mod stored_rows;
 #[cfg(test)]
 mod told_rows;
 #[cfg(test)]
+mod value_rows;
+#[cfg(test)]
 mod word_rows;
+#[cfg(test)]
+mod wrong_keeper_rows;
 #[cfg(test)]
 mod wrong_rows;

@@ -1,4 +1,5 @@
 //! A runtime in memory: the words of a command line, two files, standard input, an output and standard error.
+use crate::given::Given;
 use crate::opened::{Opened, open_stored};
 use crate::stored::{Kind, Stored, failed};
 use std::alloc::{Allocator, Global};
@@ -21,8 +22,9 @@ pub(crate) struct Memory<'a> {
     pub(crate) script: Stored,
     /// The folder of both.
     pub(crate) folder: Stored,
-    /// Standard input, and whether it was taken: it can be once.
+    /// Standard input, whether it fails behind these bytes, and whether it was taken: it can be once.
     pub(crate) input: &'a [u8],
+    pub(crate) fails: Cell<bool>,
     pub(crate) taken: Cell<bool>,
     pub(crate) out: RefCell<Vec<u8>>,
     /// How many bytes the output takes until it fails, and in how many writes it took some.
@@ -45,6 +47,7 @@ impl<'a> Memory<'a> {
             script: Stored::new(alloc),
             folder: Stored::folder(alloc),
             input,
+            fails: Cell::new(false),
             taken: Cell::new(false),
             out: RefCell::new(Vec::new(alloc)),
             room: Cell::new(usize::MAX),
@@ -165,21 +168,21 @@ impl<'a> Files for Runtime<'a> {
 }
 
 impl<'a> Input for Runtime<'a> {
-    type Reader = &'a [u8];
+    type Reader = Given<'a>;
 
     fn read_line<A: Allocator + Clone>(&self, _buf: &mut String<A>) -> io::Result<usize> {
         failed(ErrorKind::Unsupported)
     }
 
-    fn lines<A: Allocator>(&self, alloc: A) -> Lines<&'a [u8], A> {
+    fn lines<A: Allocator>(&self, alloc: A) -> Lines<Given<'a>, A> {
         self.reader().lines(alloc)
     }
 
-    fn reader(&self) -> &'a [u8] {
+    fn reader(&self) -> Given<'a> {
         if self.0.taken.replace(true) {
-            &[]
+            Given::new(&[], false)
         } else {
-            self.0.input
+            Given::new(self.0.input, self.0.fails.get())
         }
     }
 }

@@ -2,8 +2,8 @@
 use crate::comparing::{holds, same_at};
 use crate::memory::Memory;
 use crate::scenes::{
-    Bytes, CHECK, COUNT, End, LOOP, MAKE, REPAIR, STORE, WRONG_MAP, Words, bytes_at, changed,
-    empty_shop, ends, put, ran,
+    Bytes, CHECK, COUNT, End, LOOP, MAKE, STORE, WRONG_MAP, Words, bytes_at, changed, empty_shop,
+    ends, put, ran,
 };
 use crate::stored::Kind;
 use std::process::Abort;
@@ -27,7 +27,7 @@ const TAKEN: Words = &[
 ];
 
 /// And one that it hasn't.
-const OTHER: Words = &[
+pub(crate) const OTHER: Words = &[
     b"ledger_cli",
     b"make",
     b"a.d64",
@@ -75,7 +75,7 @@ fn files_are_made(rt: HostRuntime) {
 }
 
 /// The image of an empty shop with the file CARDS, of records of 30 bytes.
-fn with_cards(rt: &(impl AllocGlobal + Abort)) -> Vec<u8> {
+pub(crate) fn with_cards(rt: &(impl AllocGlobal + Abort)) -> Vec<u8> {
     let shop = empty_shop(rt);
     let memory = ran(rt, MAKE, shop.as_slice(), b"", (0, b"MADE\n", b""));
     bytes_at(rt, &memory.image)
@@ -93,10 +93,10 @@ const STORED: &[u8] = b"1,\"\\ff\"\n2,\"MILK\\0d\"\n3,\"\\ff\"\n4,\"\\ff\"\n\
 5,\"\\ff\"\n6,\"\\ff\"\n7,\"\\ff\"\n8,\"EGGS\"\n";
 
 /// Two lines of them: one as `records` prints it, and one as a spreadsheet writes it.
-const TWO: &[u8] = b"8,EGGS\r\n2,\"MILK\\0d\"\n";
+pub(crate) const TWO: &[u8] = b"8,EGGS\r\n2,\"MILK\\0d\"\n";
 
 /// And how they are printed.
-const PRINTED: &[u8] = b"8,\"EGGS\"\n2,\"MILK\\0d\"\n";
+pub(crate) const PRINTED: &[u8] = b"8,\"EGGS\"\n2,\"MILK\\0d\"\n";
 
 #[test]
 fn records_are_stored(rt: HostRuntime) {
@@ -168,22 +168,6 @@ fn bad_records_are_refused(rt: HostRuntime) {
     ran(&rt, STORE, made.as_slice(), b"", (0, b"", b""));
 }
 
-/// The number of the sync that fails, and how a store ends then.
-const FAILED: [(usize, End<'static>); 2] = [(1, (3, b"", b"DEVICE\n")), (2, (3, b"", b"DEVICE\n"))];
-
-#[test]
-fn stores_that_fail_are_told(rt: HostRuntime) {
-    let made = with_cards(&rt);
-    for (bad, wanted) in FAILED {
-        let memory = Memory::new(rt.alloc(), STORE, b"");
-        put(&rt, &memory.image, Kind::Plain, made.as_slice());
-        put(&rt, &memory.script, Kind::Plain, TWO);
-        memory.image.bad_sync.set(bad);
-        ends(&rt, &memory, wanted, "a sync that fails");
-        same_at(&rt, memory.image.syncs.get(), bad, bad);
-    }
-}
-
 /// The image of an empty shop whose file CARDS has all blocks that were free: 654, and six side sectors.
 fn full_disk(rt: &(impl AllocGlobal + Abort)) -> Vec<u8> {
     let made = with_cards(rt);
@@ -204,59 +188,22 @@ const CROWDED: [(Words, &[u8], End<'static>); 3] = [
     (STORE, b"5538,A\n", (1, b"", b"DISK FULL\n")),
 ];
 
+/// Sees that each of these is refused so on a full disk, which stays.
+fn each_finds_no_room(
+    rt: &(impl AllocGlobal + Abort),
+    full: &[u8],
+    rows: &[(Words, &[u8], End<'static>)],
+) {
+    for (words, text, wanted) in rows {
+        let memory = ran(rt, *words, full, text, *wanted);
+        holds(rt, memory.image.holds(full), "it stays");
+        same_at(rt, memory.image.writes.get(), 0, "nothing is written");
+    }
+}
+
 #[test]
 fn full_disks_are_told(rt: HostRuntime) {
     let full = full_disk(&rt);
     ran(&rt, CHECK, full.as_slice(), b"", (0, b"OK\n", b""));
-    for (words, text, wanted) in CROWDED {
-        let memory = ran(&rt, words, full.as_slice(), text, wanted);
-        holds(&rt, memory.image.holds(full.as_slice()), "it stays");
-        same_at(&rt, memory.image.writes.get(), 0, "nothing is written");
-    }
-}
-
-/// Words, changes of an image with CARDS, and how many bytes its file takes until it fails.
-const BROKEN: [(Words, &[Bytes], usize); 4] = [
-    (REPAIR, &[WRONG_MAP], 0),
-    (REPAIR, &[COUNT, WRONG_MAP], 300),
-    (OTHER, &[], 100),
-    (STORE, &[], 0),
-];
-
-#[test]
-fn files_that_fail_are_told(rt: HostRuntime) {
-    let made = with_cards(&rt);
-    for (words, changes, room) in BROKEN {
-        let image = changed(&rt, made.as_slice(), changes);
-        let memory = Memory::new(rt.alloc(), words, b"");
-        put(&rt, &memory.image, Kind::Plain, image.as_slice());
-        put(&rt, &memory.script, Kind::Plain, TWO);
-        memory.image.room.set(room);
-        ends(&rt, &memory, (3, b"", b"DEVICE\n"), "a file that fails");
-        same_at(&rt, memory.image.size(), 174848, room);
-    }
-}
-
-/// Words, changes of an image with CARDS, and what is printed.
-const UNTOLD: [(Words, &[Bytes], &[u8]); 3] = [
-    (REPAIR, &[WRONG_MAP], b"MENDED 18/0\nOK\n"),
-    (OTHER, &[], b"MADE\n"),
-    (STORE, &[], PRINTED),
-];
-
-/// Sees that an image is left the same where the output takes nothing.
-#[test]
-fn what_was_written_stays(rt: HostRuntime) {
-    let made = with_cards(&rt);
-    for (words, changes, printed) in UNTOLD {
-        let image = changed(&rt, made.as_slice(), changes);
-        let memory = ran(&rt, words, image.as_slice(), TWO, (0, printed, b""));
-        let left = bytes_at(&rt, &memory.image);
-        let memory = Memory::new(rt.alloc(), words, b"");
-        put(&rt, &memory.image, Kind::Plain, image.as_slice());
-        put(&rt, &memory.script, Kind::Plain, TWO);
-        memory.room.set(0);
-        ends(&rt, &memory, (3, b"", b"FILE\n"), "a full output");
-        holds(&rt, memory.image.holds(left.as_slice()), printed);
-    }
+    each_finds_no_room(&rt, full.as_slice(), &CROWDED);
 }

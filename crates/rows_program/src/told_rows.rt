@@ -70,19 +70,24 @@ const TOLD: [Row; 9] = [
 ];
 
 /// Sees that a person is told this there.
-fn tells(rt: &impl Abort, memory: &Memory<'_>, wanted: &[u8]) {
+pub(crate) fn tells(rt: &impl Abort, memory: &Memory<'_>, wanted: &[u8]) {
     let status = status_told(memory, Told::Person);
     same_at(rt, status > 0, true, "it isn't done");
     wrote(rt, &memory.err, wanted, "what is told");
 }
 
+/// Sees that a person is told this of each.
+fn each_is_told(rt: &(impl AllocGlobal + Abort), rows: &[Row]) {
+    for (words, kind, bytes, wanted) in rows {
+        let memory = Memory::new(rt.alloc(), *words, b"");
+        put(rt, &memory.image, *kind, bytes);
+        tells(rt, &memory, wanted);
+    }
+}
+
 #[test]
 fn people_are_told_more(rt: HostRuntime) {
-    for (words, kind, bytes, wanted) in TOLD {
-        let memory = Memory::new(rt.alloc(), words, b"");
-        put(&rt, &memory.image, kind, bytes);
-        tells(&rt, &memory, wanted);
-    }
+    each_is_told(&rt, &TOLD);
 }
 
 /// Words, the bytes of the script or of the records, what others do with the image, and what is told of an empty shop then.
@@ -126,23 +131,46 @@ const OF_A_SHOP: [(Words, &[u8], Others, &[u8]); 5] = [
     ),
 ];
 
+/// A runtime with these words, the image and a script or records.
+pub(crate) fn over(
+    rt: &(impl AllocGlobal + Abort),
+    words: Words,
+    shop: &[u8],
+    script: &[u8],
+) -> Memory<'static> {
+    let memory = Memory::new(rt.alloc(), words, b"");
+    put(rt, &memory.image, Kind::Plain, shop);
+    put(rt, &memory.script, Kind::Plain, script);
+    memory
+}
+
+/// Sees that a person is told this of the shop.
+fn each_is_told_of(
+    rt: &(impl AllocGlobal + Abort),
+    shop: &[u8],
+    rows: &[(Words, &[u8], Others, &[u8])],
+) {
+    for (words, script, others, wanted) in rows {
+        let memory = over(rt, *words, shop, script);
+        memory.image.others.set(*others);
+        tells(rt, &memory, wanted);
+    }
+}
+
+/// Sees what is told of a script that isn't there.
+fn no_script_is_told(rt: &(impl AllocGlobal + Abort), shop: &[u8]) {
+    let memory = Memory::new(rt.alloc(), PLAY, b"");
+    put(rt, &memory.image, Kind::Plain, shop);
+    tells(rt, &memory, b"FILE\nledger: s.txt: entity not found\n");
+}
+
+// What is done tells nobody anything.
 #[test]
 fn people_are_told_of_shops(rt: HostRuntime) {
     let shop = empty_shop(&rt);
-    for (words, script, others, wanted) in OF_A_SHOP {
-        let memory = Memory::new(rt.alloc(), words, b"");
-        put(&rt, &memory.image, Kind::Plain, shop.as_slice());
-        put(&rt, &memory.script, Kind::Plain, script);
-        memory.image.others.set(others);
-        tells(&rt, &memory, wanted);
-    }
-    // A script that isn't there.
-    let memory = Memory::new(rt.alloc(), PLAY, b"");
-    put(&rt, &memory.image, Kind::Plain, shop.as_slice());
-    tells(&rt, &memory, b"FILE\nledger: s.txt: entity not found\n");
-    // What is done tells nobody anything.
-    let memory = Memory::new(rt.alloc(), MAKE, b"");
-    put(&rt, &memory.image, Kind::Plain, shop.as_slice());
+    each_is_told_of(&rt, shop.as_slice(), &OF_A_SHOP);
+    no_script_is_told(&rt, shop.as_slice());
+    let memory = over(&rt, MAKE, shop.as_slice(), b"");
     same_at(&rt, status_told(&memory, Told::Person), 0, "it is made");
     wrote(&rt, &memory.err, b"", "nothing is told");
 }
