@@ -1,6 +1,6 @@
 -- A service over a file in memory whose sectors are brought to its disk one by one.
 use Rattle.std.proofs.Common.{◌≡◌, ◌⊎◌, ◌∙◌, ◌<◌, ◌≤◌, ℕ, zero, suc, List, ◌∷◌, [], Err, Ok, Option, Some, ap, arith}
-use Rattle.std.proofs.Common.{false, length, map, refl, subst, sym, true, ⊎_elim}
+use Rattle.std.proofs.Common.{false, length, map, refl, subst, sym, true, ◌≢◌, ⊎_elim}
 use Rattle.std.specs.Prelude.{IfErr, IsOk, OnOk, zip}
 use Rattle.d64_image.specs.FileDisks.{in_run}
 use Rattle.d64_image.specs.Memory.{sectors_in}

@@ -1,6 +1,6 @@
 -- A service over the file of an image, whichever way it ended.
 use Rattle.std.proofs.Common.{◌≡◌, ◌⊎◌, ◌<◌, ◌∙◌, ◌++◌, ℕ, List, [], Err, Ok, Option, Some, arith, ap, false, inl, inr}
-use Rattle.std.proofs.Common.{length, refl, subst, sym, ⊎_elim}
+use Rattle.std.proofs.Common.{length, refl, subst, sym, ◌≢◌, ⊎_elim}
 use Rattle.std.proofs.KnownBytes.{Consumes-nil}
 use Rattle.std.proofs.lemmas.Bool.{false≢true}
 use Rattle.std.proofs.lemmas.Bool.Decides.{nat_tests}
