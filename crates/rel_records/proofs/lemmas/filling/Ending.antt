@@ -52,7 +52,7 @@ use Rattle.disk_layout.specs.Layout.{
 use Rattle.disk_layout.specs.Map.{IsMapOf}
 use Rattle.disk_layout.specs.Records.{record_count, records}
 use Rattle.disk_layout.specs.Rest.{header_of}
-use Rattle.rel_records.proofs.lemmas.steps.Committing.{exact-stay}
+use Rattle.rel_records.proofs.lemmas.steps.Counting.{exact-stay}
 use Rattle.rel_records.proofs.lemmas.steps.Others.{has-records, others-kept, places-same}
 use Rattle.rel_records.proofs.lemmas.steps.Preparing.{file-in}
 use Rattle.rel_records.specs.Others.{HasRecords, KeepsOthers}

@@ -37,20 +37,12 @@ use Rattle.disk_layout.proofs.lemmas.growth.Commit.{grown}
 use Rattle.disk_layout.proofs.lemmas.growth.GrowthRecords.{get-seam}
 use Rattle.disk_layout.specs.Directory.{map_place}
 use Rattle.disk_layout.specs.Layout.{File, Layout, record_length, sides_for}
-use Rattle.rel_records.proofs.lemmas.steps.Adding.{
-  IsRewritten,
-  before-adds,
-  block-more,
-  counted-adds,
-  linked-adds,
-  next,
-  prepared,
-  some-sides,
-}
+use Rattle.rel_records.proofs.lemmas.steps.Adding.{block-more, counted-adds, linked-adds}
+use Rattle.rel_records.proofs.lemmas.steps.LaidOut.{IsRewritten, IsStep, before-adds, next, prepared, some-sides}
+use Rattle.rel_records.proofs.lemmas.steps.LastBlocks.{records_more}
 use Rattle.rel_records.proofs.lemmas.steps.Sided.{read-there}
 use Rattle.rel_records.specs.Written.{IsGrowingBy}
 use Rattle.rel_records.specs.declared.growth.step_parts.Parts.{Parts}
-use Rattle.rel_records.specs.growth.Growth.{full}
 use Rattle.rel_records.specs.growth.Next.{IsLaidOut}
 use Rattle.rel_records.specs.growth.Preparing.{IsPrepared}
 use Rattle.rel_records.specs.growth.Steps.{AreSidedFrom, HasBlockMore, IsAt, IsBefore, IsFilledUp, IsSided, step_writes}
@@ -77,9 +69,11 @@ module _ {D : Type 0} (S : History D) (d : D) (l : Layout) (n : ℕ) (f : File) 
   abbrev a : Image
   a = S.image d
 
+  abbrev step : IsStep a l n f p q fresh block
+  step = record { whole = S.whole d; at = at; few = few; laid = lay }
+
   abbrev Adds : Image → Type 0
-  Adds = IsGrowingBy a l n f (full (record_length f.slot) (length f.blocks + 1) - full (record_length f.slot)
-      (length f.blocks))
+  Adds = IsGrowingBy a l n f (records_more f)
 
   abbrev before_link : ℕ
   before_link = 2 + (if new then (length q.sides.items) else 1)
@@ -96,27 +90,24 @@ module _ {D : Type 0} (S : History D) (d : D) (l : Layout) (n : ℕ) (f : File) 
           let t : (if nat_eq (length f.blocks % 120) 0 then (5 + sides_for (length f.blocks)) else 5) ≡ 5 + sides_for
           (length f.blocks) = ap (λ x. if x then (5 + sides_for (length f.blocks)) else 5) (sym e) in
           let z : length f.blocks % 120 ≡ 0 = eqb-true (length f.blocks % 120) 0 (sym e) in
-          omega (arith, t, (next a l n f p q fresh block (S.whole d) at few lay).count, z)
+          omega (arith, t, (next step).count, z)
       by false e = sym (ap (λ x. if x then (5 + sides_for (length f.blocks)) else 5) (sym e))
 
-  rewritten : IsRewritten a l n f p q fresh block (S.whole d) at few lay (if new then 0 else (length q.sides.items - 1))
+  rewritten : IsRewritten f q (if new then 0 else (length q.sides.items - 1))
   rewritten = by new new-of-file
     where
       by : (b : Bool) → b ≡ nat_eq (length f.blocks % 120) 0
-          → IsRewritten a l n f p q fresh block (S.whole d) at few lay (if b then 0 else (length q.sides.items - 1))
+          → IsRewritten f q (if b then 0 else (length q.sides.items - 1))
       by true e = record { from = inl refl }
       by false e = record {
-        from = inr (
-          omega (arith, some-sides a l n f p q fresh block (S.whole d) at few lay),
-          not_zero (length f.blocks % 120) (sym e),
-        );
+        from = inr (omega (arith, some-sides step), not_zero (length f.blocks % 120) (sym e));
       }
 
   -- while it is prepared
   pub preparing-moments : (b : D) → Changes S d b before_link (IsBefore a q fresh block)
       → Changes S d b before_link Adds
   preparing-moments b first = changes_weaker S d b before_link before_link _ Adds (omega arith)
-      (λ c h. before-adds a l n f p q fresh block (S.whole d) at few lay _ c h) first
+      (λ c h. before-adds step _ c h) first
 
   pub prepared-moments : (b : D) → Changes S d b before_link (IsBefore a q fresh block)
       → Changes S d b (step_writes (length f.blocks)) Adds
@@ -131,15 +122,13 @@ module _ {D : Type 0} (S : History D) (d : D) (l : Layout) (n : ℕ) (f : File) 
       (held : HeldOnly S b c (OldOr (S.image b) (put (S.image b) old q.last))) (counted : S.writes c ≤ S.writes b + 1)
     where
       ready : IsPrepared a (S.image b) l f (grown f fresh (slice_index block 1) q.sides.items) fresh q.map.bytes block
-      ready = prepared a l n f p q fresh block (S.whole d) at few lay (S.image b)
-          (if new then 0 else (length q.sides.items - 1)) rewritten right.0 right.1
+      ready = prepared step (S.image b) (if new then 0 else (length q.sides.items - 1)) rewritten right.0 right.1
 
       -- the link
       linked : Adds (put (S.image b) old q.last)
       linked =
           let P : Place → Type 0 = λ x. Adds (put (S.image b) x q.last) in
-          subst P (sym last) (linked-adds a l n f p q fresh block (S.whole d) at few lay up (S.image b) (S.whole b) v
-          ready)
+          subst P (sym last) (linked-adds step up (S.image b) (S.whole b) v ready)
 
       so-far : Changes S d c (before_link + 1) Adds
       so-far =
@@ -160,9 +149,7 @@ module _ {D : Type 0} (S : History D) (d : D) (l : Layout) (n : ℕ) (f : File) 
               ∙ ap (λ x. put (put (S.image b) at.last_place q.last) x q.directory) entry
 
           counted-now : Adds (put (S.image c) place q.directory)
-          counted-now = subst Adds (sym end-is) (counted-adds a l n f p q fresh block (S.whole d) at few lay up
-              (S.image b)
-              (S.whole b) v ready)
+          counted-now = subst Adds (sym end-is) (counted-adds step up (S.image b) (S.whole b) v ready)
 
           pub counting-moments : HeldOnly S c e (OldOr (S.image c) (put (S.image c) place q.directory))
               → S.writes e ≤ S.writes c + 1 → Changes S d e (step_writes (length f.blocks)) Adds
@@ -179,5 +166,5 @@ module _ {D : Type 0} (S : History D) (d : D) (l : Layout) (n : ℕ) (f : File) 
               → HasBlockMore a (S.image e) l n f p z
           added z end map s number size sides blocks lastb directory =
               let P : Image → Type 0 = λ i. HasBlockMore a i l n f p z in
-              subst P (sym (end ∙ end-is)) (block-more a l n f p q fresh block (S.whole d) at few lay up (S.image b)
-              (S.whole b) v ready z map s number size sides blocks lastb directory)
+              subst P (sym (end ∙ end-is)) (block-more step up (S.image b) (S.whole b) v ready z map s number size sides
+              blocks lastb directory)
