@@ -44,10 +44,11 @@ use Rattle.disk_layout.specs.Side.{side_sector}
 use Rattle.rel_records.proofs.lemmas.directory.Entered.{IsEntry, entry-apart, entry-links, entry-used, is-entry}
 use Rattle.rel_records.proofs.lemmas.creation.Creating.{with_new}
 use Rattle.rel_records.proofs.lemmas.directory.FullSlots.{slots-before}
-use Rattle.rel_records.proofs.lemmas.creation.InSlot.{Made, made, made-clean}
+use Rattle.rel_records.proofs.lemmas.creation.InSlot.{Made, TakesSlot, made}
 use Rattle.rel_records.proofs.lemmas.creation.NewClean.{file-more, is-new, map-same, two-among}
 use Rattle.rel_records.proofs.lemmas.creation.NewFiles.{IsNewFile, new_file}
 use Rattle.rel_records.proofs.lemmas.creation.NewWrites.{files-before}
+use Rattle.rel_records.proofs.lemmas.creation.StillClean.{made-clean}
 use Rattle.rel_records.specs.creation.Made.{HasFilesOf, IsCreating}
 use Rattle.rel_records.specs.creation.NewFile.{ChangesOnly, HasNewSectors, IsEntered, IsTakenFor}
 use Rattle.rel_records.specs.growth.Next.{IsFresh}
@@ -157,13 +158,25 @@ module _ (a c : Image) (l : Layout) (st : Site) (bytes : Sector) (name : List �
   used : is_used (slot_in st.place bytes st.number) ≡ true
   used = entry-used (sector c st.place) bytes st.number name st.block st.side L low-slot few put-in st.place
 
-  abbrev It : Type 0
-  It = Made a c l h.room.front h.room.back p n bytes block side u wc.size was.layout was h.room.split low-slot apart
-      same-link free used h.taken.no_block h.taken.no_side h.taken.apart new
+  takes : TakesSlot a c l h.room.front h.room.back p n bytes block side u
+  takes = record {
+    full = wc.size;
+    layout = was.layout;
+    was = was;
+    sectors = h.room.split;
+    low = low-slot;
+    apart = apart;
+    links = same-link;
+    free = free;
+    used = used;
+    no_block = h.taken.no_block;
+    no_side = h.taken.no_side;
+    not_block = h.taken.apart;
+    new = new;
+  }
 
-  it : It
-  it = made a c l h.room.front h.room.back p n bytes block side u wc.size was.layout was h.room.split low-slot apart
-      same-link free used h.taken.no_block h.taken.no_side h.taken.apart new
+  it : Made a c l h.room.front p n bytes block side u
+  it = made takes
 
   right : (xs ys : List Place) → owners l ≡ xs ++ ys
       → IsMapOf (sector c map_place) (map_place ∷ (xs ++ st.block ∷ (st.side ∷ ys)))
@@ -195,11 +208,8 @@ module _ (a c : Image) (l : Layout) (st : Site) (bytes : Sector) (name : List �
   -- the image has the files of before and the new one, and is clean
   pub slot-more : HasFileAt a l name L st st.place (put c st.place bytes)
   slot-more = file-more (put c st.place bytes) (slot_in st.place bytes st.number) name st.block st.side L entry fresh
-      links low high a l _ st st.place wb
-      (made-clean a c l h.room.front h.room.back p n bytes block side u wc.size was.layout was h.room.split low-slot
-      apart same-link free used h.taken.no_block h.taken.no_side h.taken.apart new
-      h.taken.clean same entry.count right it)
-      it.adds (inl (h.room, refl)) at-entry refl refl refl
+      links low high a l _ st st.place wb (made-clean takes h.taken.clean same entry.count right it) it.adds
+      (inl (h.room, refl)) at-entry refl refl refl
 
 module _ {D : Type 0} (S : History D) (d e : D) (l : Layout) (st : Site) (bytes : Sector) (name : List ℕ) (L : ℕ)
     (h : IsSlotSite (S.image d) l st) (is_for : IsSlotEntry name L st bytes) (low : 1 ≤ L) (high : L ≤ 254)

@@ -1,8 +1,7 @@
 -- The entry is written into a free slot of the directory: one write makes the file.
 use Rattle.std.proofs.Common.{◌≡◌, ◌≢◌, ℕ, ◌<◌, inl, inr, true, false, List, [], ◌∷◌, ◌++◌, map, length, refl, sym, ◌∙◌}
-use Rattle.std.proofs.Common.{ap, subst, slice_index, IsTrue}
+use Rattle.std.proofs.Common.{ap, subst, slice_index, append_assoc}
 use Rattle.std.specs.Prelude.{Contains, drop, flat_map, slice_range, take}
-use Rattle.std.proofs.Common.{append_assoc}
 use Rattle.std.proofs.lemmas.Grind.{flat_map-append}
 use Rattle.std.proofs.lemmas.List.{length-map}
 use Rattle.std.proofs.lemmas.List.Elements.{Contains-append_left, Contains-append_right}
@@ -10,27 +9,20 @@ use Rattle.d64_image.proofs.Images.{sector-put_other, sector-put_same}
 use Rattle.d64_image.proofs.Places.{same_or_other}
 use Rattle.d64_image.specs.Images.{Image, Sector, put, sector}
 use Rattle.d64_image.specs.declared.place.Place.{Place}
-use Rattle.disk_layout.proofs.lemmas.layouts.Agree.{owned-side}
 use Rattle.disk_layout.proofs.lemmas.chains.Chains.{AgreeAt, IsChain-frame, SameLink, SameLinks}
-use Rattle.disk_layout.proofs.lemmas.growth.Commit.{all-join, all-left, all-right, keeps-other}
-use Rattle.disk_layout.proofs.lemmas.counts.Faces.{with_slot}
-use Rattle.disk_layout.proofs.lemmas.layouts.Layouts.{get-contains}
+use Rattle.disk_layout.proofs.lemmas.growth.Commit.{keeps-other}
 use Rattle.disk_layout.proofs.lemmas.layouts.Frames.{KeepsFiles, unless-same}
-use Rattle.disk_layout.proofs.lemmas.lists.Once.{Contains-here, Contains-there, EachOnce-apart, flat_map-in}
+use Rattle.disk_layout.proofs.lemmas.lists.Once.{Contains-here, EachOnce-apart, flat_map-in}
 use Rattle.disk_layout.specs.Rest.{header_of}
 use Rattle.disk_layout.proofs.lemmas.counts.Recount.{slot-there}
 use Rattle.disk_layout.proofs.lemmas.counts.Recounts.{map-map, map-same_on, reread, reslot, slot-of}
 use Rattle.disk_layout.specs.Chain.{EachOnce}
-use Rattle.disk_layout.specs.Clean.{IsCleanLayout, IsExactFile}
-use Rattle.disk_layout.specs.Map.{IsMapOf}
-use Rattle.std.specs.List.{AllByRecursion}
 use Rattle.disk_layout.specs.Directory.{IsDirectory, directory_start, is_used, map_place, slot_in, used_slots}
-use Rattle.disk_layout.specs.Layout.{File, IsLayout, Layout, count_field, file_owns, is_rel, owners}
+use Rattle.disk_layout.specs.Layout.{File, IsLayout, Layout, file_owns, owners}
 use Rattle.disk_layout.specs.Same.{AddsFile}
 use Rattle.disk_layout.specs.declared.slot.Slot.{Slot}
 use Rattle.rel_records.proofs.lemmas.creation.Creating.{SameEntry, created-adds, created-layout, map-split, with_new}
-use Rattle.rel_records.proofs.lemmas.creation.NewFiles.{IsNewFile, new-exact, new-is_file, new_file, once-new}
-use Rattle.rel_records.proofs.lemmas.creation.NewFiles.{owners-new}
+use Rattle.rel_records.proofs.lemmas.creation.NewFiles.{IsNewFile, new-is_file, new_file, once-new, owners-new}
 use Rattle.rel_records.proofs.lemmas.directory.NewSlots.{used_before, used_behind, used_slots-free, used_slots-new}
 use Rattle.rel_records.specs.creation.Made.{HasFilesOf}
 
@@ -49,21 +41,48 @@ same-entry s t e = record {
   entry = ap (λ x. slice_range x.bytes 2 30) e;
 }
 
--- c is the image before the write, a the one at the start
-module _ (a c : Image) (l : Layout) (front back : List Place) (p : Place) (n : ℕ) (bytes : Sector) (block side : Place)
-    (u : ℕ)
-    (full : length c ≡ 683) (h : IsLayout c l) (was : HasFilesOf a l c) (sectors : l.directory ≡ front ++ p ∷ back)
-    (low : n < 8)
-    (apart : (k : ℕ) → k < 8 → k ≢ n → slot_in p (sector c p) k ≡ slot_in p bytes k)
-    (links : (slice_index (sector c p) 0 ≡ slice_index bytes 0) × (slice_index (sector c p) 1 ≡ slice_index bytes 1))
-    (free : is_used (slot_in p (sector c p) n) ≡ false) (used : is_used (slot_in p bytes n) ≡ true)
-    (no_block : ¬ (Contains (map_place ∷ owners l) block)) (no_side : ¬ (Contains (map_place ∷ owners l) side))
-    (ne : side ≢ block)
-    (new : IsNewFile (put c p bytes) (slot_in p bytes n) block side u) where
-  abbrev b : Image
-  b = put c p bytes
+-- what stands when it comes: c is the image before it, a the one at the start, and slot n of the bytes has the entry
+pub record TakesSlot (a c : Image) (l : Layout) (front back : List Place) (p : Place) (n : ℕ) (bytes : Sector)
+    (block side : Place) (u : ℕ) : Type 0 where
+  pub full : length c ≡ 683
+  pub layout : IsLayout c l
+  pub was : HasFilesOf a l c
+  pub sectors : l.directory ≡ front ++ p ∷ back
+  pub low : n < 8
+  pub apart : (k : ℕ) → k < 8 → k ≢ n → slot_in p (sector c p) k ≡ slot_in p bytes k
+  pub links : (slice_index (sector c p) 0 ≡ slice_index bytes 0) × (slice_index (sector c p) 1 ≡ slice_index bytes 1)
+  pub free : is_used (slot_in p (sector c p) n) ≡ false
+  pub used : is_used (slot_in p bytes n) ≡ true
+  pub no_block : ¬ (Contains (map_place ∷ owners l) block)
+  pub no_side : ¬ (Contains (map_place ∷ owners l) side)
+  pub not_block : side ≢ block
+  pub new : IsNewFile (put c p bytes) (slot_in p bytes n) block side u
 
-  on : Contains l.directory p
+-- the layout with the new file between these others
+abbrev pub with_file : Image → Layout → List File → List File → File → Layout
+with_file b l before after k = record { directory = l.directory; files = with_new b before after k }
+
+-- what it makes: a layout with the new file, in which all others stay
+pub record Made (a c : Image) (l : Layout) (front : List Place) (p : Place) (n : ℕ) (bytes : Sector)
+    (block side : Place) (u : ℕ) : Type 0 where
+  pub before : List File
+  pub after : List File
+  pub split : l.files ≡ before ++ after
+  pub count : length before ≡ length (used_before c front p n)
+  pub layout : IsLayout (put c p bytes)
+      (with_file (put c p bytes) l before after (new_file (slot_in p bytes n) block side u))
+  pub adds : AddsFile a (put c p bytes) l
+      (with_file (put c p bytes) l before after (new_file (slot_in p bytes n) block side u))
+      (new_file (slot_in p bytes n) block side u)
+  pub had : owners l ≡ (l.directory ++ flat_map file_owns before) ++ flat_map file_owns after
+  pub has : owners (with_file (put c p bytes) l before after (new_file (slot_in p bytes n) block side u))
+      ≡ (l.directory ++ flat_map file_owns before) ++ block ∷ (side ∷ flat_map file_owns after)
+
+module _ {a c : Image} {l : Layout} {front back : List Place} {p : Place} {n : ℕ} {bytes : Sector}
+    {block side : Place} {u : ℕ} (takes : TakesSlot a c l front back p n bytes block side u) where
+  open takes use {full, layout, was, sectors, low, apart, links, free, used, no_block, no_side, not_block, new}
+
+  pub on : Contains l.directory p
   on = let P : List Place → Type 0 = λ ps. Contains ps p in
       subst P (sym sectors) (Contains-append_right front (p ∷ back) p (Contains-here p back))
 
@@ -71,7 +90,7 @@ module _ (a c : Image) (l : Layout) (front back : List Place) (p : Place) (n : �
   there = sector-put_same c p bytes full
 
   -- no used slot changes
-  slot-stays : (s : Slot) → Contains (used_slots c l.directory) s → reslot (put c p bytes) s ≡ s
+  pub slot-stays : (s : Slot) → Contains (used_slots c l.directory) s → reslot (put c p bytes) s ≡ s
   slot-stays s d =
       let (in_dir, few, e, is) = slot-there c l.directory s d in
       elim (same_or_other p s.sector) [
@@ -89,11 +108,11 @@ module _ (a c : Image) (l : Layout) (front back : List Place) (p : Place) (n : �
       differ t = let z : true ≡ false = sym t ∙ free in cc
 
   entry-stays : (f : File) → Contains l.files f → SameEntry f.slot (reslot (put c p bytes) f.slot)
-  entry-stays f d = same-entry f.slot (reslot (put c p bytes) f.slot) (slot-stays f.slot (slot-of c l f h d))
+  entry-stays f d = same-entry f.slot (reslot (put c p bytes) f.slot) (slot-stays f.slot (slot-of c l f layout d))
 
-  not_file : ¬ (Contains (flat_map file_owns l.files) p)
+  pub not_file : ¬ (Contains (flat_map file_owns l.files) p)
   unfolding owners
-  not_file d = EachOnce-apart l.directory (flat_map file_owns l.files) h.once.1 p on d
+  not_file d = EachOnce-apart l.directory (flat_map file_owns l.files) layout.once.1 p on d
 
   same-links : SameLinks c (put c p bytes) l.directory
   same-links q d = elim (same_or_other p q) [
@@ -109,41 +128,20 @@ module _ (a c : Image) (l : Layout) (front back : List Place) (p : Place) (n : �
       → map (λ f. f.slot) (map (reread (put c p bytes)) fs) ≡ map (λ f. f.slot) fs
   slots-reread fs sub = map-map (λ f. f.slot) (reread (put c p bytes)) fs
       ∙ map-same_on (λ f. reslot (put c p bytes) f.slot) (λ f. f.slot) fs
-      (λ f d. slot-stays f.slot (slot-of c l f h (sub f d)))
-
-  -- what the write makes: a layout with the new file, in which all others stay
-  pub record Made : Type 0 where
-    pub before : List File
-    pub after : List File
-    pub split : l.files ≡ before ++ after
-    pub count : length before ≡ length (used_before c front p n)
-    pub layout : IsLayout (put c p bytes) (record {
-      directory = l.directory;
-      files = with_new (put c p bytes) before after (new_file (slot_in p bytes n) block side u);
-    })
-    pub adds : AddsFile a (put c p bytes) l (record {
-      directory = l.directory;
-      files = with_new (put c p bytes) before after (new_file (slot_in p bytes n) block side u);
-    })
-        (new_file (slot_in p bytes n) block side u)
-    pub had : owners l ≡ (l.directory ++ flat_map file_owns before) ++ flat_map file_owns after
-    pub has : owners (record {
-      directory = l.directory;
-      files = with_new (put c p bytes) before after (new_file (slot_in p bytes n) block side u);
-    })
-        ≡ (l.directory ++ flat_map file_owns before) ++ block ∷ (side ∷ flat_map file_owns after)
+      (λ f d. slot-stays f.slot (slot-of c l f layout (sub f d)))
 
   made-of : (fs gs : List File) → l.files ≡ fs ++ gs → length fs ≡ length (used_before c front p n)
-      → map (λ f. f.slot) fs ++ slot_in p bytes n ∷ map (λ f. f.slot) gs ≡ used_slots (put c p bytes) l.directory → Made
+      → map (λ f. f.slot) fs ++ slot_in p bytes n ∷ map (λ f. f.slot) gs ≡ used_slots (put c p bytes) l.directory
+      → Made a c l front p n bytes block side u
   unfolding owners
   made-of fs gs split count slots = record {
     before = fs;
     after = gs;
     split = split;
     count = count;
-    layout = created-layout c (put c p bytes) l fs gs k l.directory h split keeps entry-stays directory
+    layout = created-layout c (put c p bytes) l fs gs k l.directory layout split keeps entry-stays directory
         (new-is_file (put c p bytes) (slot_in p bytes n) block side u new) once;
-    adds = created-adds c (put c p bytes) l fs gs k l.directory h split keeps entry-stays directory
+    adds = created-adds c (put c p bytes) l fs gs k l.directory layout split keeps entry-stays directory
         (new-is_file (put c p bytes) (slot_in p bytes n) block side u new) a was blocks-stay header;
     had = old-owners;
     has = owners-new (put c p bytes) l.directory fs gs (slot_in p bytes n) block side u
@@ -169,11 +167,11 @@ module _ (a c : Image) (l : Layout) (front back : List Place) (p : Place) (n : �
 
       directory : IsDirectory (put c p bytes) l.directory (map (λ f. f.slot) (with_new (put c p bytes) fs gs k))
       directory = record {
-        last = h.directory.last;
-        chain = IsChain-frame c (put c p bytes) directory_start l.directory h.directory.last same-links
-            h.directory.chain;
-        on_track = h.directory.on_track;
-        not_map = h.directory.not_map;
+        last = layout.directory.last;
+        chain = IsChain-frame c (put c p bytes) directory_start l.directory layout.directory.last same-links
+            layout.directory.chain;
+        on_track = layout.directory.on_track;
+        not_map = layout.directory.not_map;
         slots = all-slots (map (reread (put c p bytes)) fs) (map (reread (put c p bytes)) gs)
             ∙ cc (slots-reread fs left, slots-reread gs right) ∙ slots;
       }
@@ -189,10 +187,8 @@ module _ (a c : Image) (l : Layout) (front back : List Place) (p : Place) (n : �
           shape : (d f g : List Place) → d ++ (f ++ g) ≡ (d ++ f) ++ g
           shape d f g = simp append_assoc
 
-      once : EachOnce (map_place ∷ owners (record {
-        directory = l.directory;
-        files = with_new (put c p bytes) fs gs (new_file (slot_in p bytes n) block side u);
-      }))
+      once : EachOnce (map_place ∷ owners (with_file (put c p bytes) l fs gs
+          (new_file (slot_in p bytes n) block side u)))
       once =
           let P : List Place → Type 0 = λ ps. EachOnce (map_place ∷ ps) in
           let Q : List Place → Type 0 = λ ps. ¬ (Contains (map_place ∷ ps) block) in
@@ -200,7 +196,7 @@ module _ (a c : Image) (l : Layout) (front back : List Place) (p : Place) (n : �
           subst P (sym (owners-new (put c p bytes) l.directory fs gs (slot_in p bytes n) block side u
           (l.directory ++ flat_map file_owns fs) (flat_map file_owns gs) refl refl))
           (once-new (l.directory ++ flat_map file_owns fs) (flat_map file_owns gs) block side
-          (subst P old-owners h.once) (subst Q old-owners no_block) (subst R old-owners no_side) ne)
+          (subst P old-owners layout.once) (subst Q old-owners no_block) (subst R old-owners no_side) not_block)
 
       blocks-stay : (f : File) → Contains l.files f → AgreeAt c (put c p bytes) f.blocks
       blocks-stay f d q e =
@@ -210,69 +206,15 @@ module _ (a c : Image) (l : Layout) (front back : List Place) (p : Place) (n : �
 
       header : header_of (put c p bytes) ≡ header_of c
       header = ap (λ s. take 4 s ++ drop 144 s)
-          (sector-put_other c p map_place bytes (λ e. h.directory.not_map (let P : Place
+          (sector-put_other c p map_place bytes (λ e. layout.directory.not_map (let P : Place
           → Type 0 = Contains l.directory in subst P e on)))
 
-  pub made : Made
+  pub made : Made a c l front p n bytes block side u
   made =
       let P : List Place → Type 0 = EachOnce in
       let old = ap (used_slots c) sectors ∙ used_slots-free c front back p n low free in
       let now = ap (used_slots (put c p bytes)) sectors
-      ∙ used_slots-new c front back p n bytes full (subst P sectors h.directory.chain.once) low apart used in
+      ∙ used_slots-new c front back p n bytes full (subst P sectors layout.directory.chain.once) low apart used in
       let (fs, gs, split, one, two) = map-split (λ f. f.slot) l.files (used_before c front p n) (used_behind c p n back)
-      (h.directory.slots ∙ old) in
+      (layout.directory.slots ∙ old) in
       made-of fs gs split (sym (length-map fs (λ (f : File). f.slot)) ∙ ap length one) (cc (one, two, now))
-
-  -- and where the image at the start was clean, and the map is that of the new owners, it is clean
-  module _ (clean : IsCleanLayout a l) (same : AgreeAt a c (owners l)) (two : count_field (slot_in p bytes n) ≡ 2)
-      (right : (xs ys : List Place) → owners l ≡ xs ++ ys
-      → IsMapOf (sector c map_place) (map_place ∷ (xs ++ block ∷ (side ∷ ys)))) where
-    exact-still : (f : File) → Contains l.files f → (IsTrue (is_rel f.slot) → IsExactFile a f)
-        → IsTrue (is_rel (reslot (put c p bytes) f.slot)) → IsExactFile (put c p bytes) (reread (put c p bytes) f)
-    exact-still f d exact =
-        let P : Slot → Type 0 = λ s. IsTrue (is_rel s) → IsExactFile (put c p bytes) (with_slot f s) in
-        subst P (sym (slot-stays f.slot (slot-of c l f h d))) (λ t. record {
-          sides = λ j q at.
-              let own = get-contains f.sides j q at in
-              let apart-p : p ≢ q = λ one. not_file (let Q : Place → Type 0 = Contains (flat_map file_owns l.files) in
-              subst Q (sym one)
-              (flat_map-in file_owns l.files f q d (Contains-append_right f.blocks f.sides q own))) in
-              sector-put_other c p q bytes apart-p ∙ sym (same q (owned-side l f q d own)) ∙ (exact t).sides j q at;
-          count = (exact t).count;
-        })
-
-    exact-all : (fs : List File) → ((f : File) → Contains fs f → Contains l.files f)
-        → AllByRecursion (λ f. IsTrue (is_rel f.slot) → IsExactFile a f) fs
-        → AllByRecursion (λ f. IsTrue (is_rel f.slot) → IsExactFile (put c p bytes) f) (map (reread (put c p bytes)) fs)
-    exact-all [] sub all = tt
-    exact-all (f ∷ fs) sub all = (
-      exact-still f (sub f (Contains-here f fs)) all.0,
-      exact-all fs (λ g e. sub g (Contains-there g f fs e)) all.1,
-    )
-
-    pub made-clean : (m : Made)
-        → IsCleanLayout (put c p bytes) (record {
-          directory = l.directory;
-          files = with_new (put c p bytes) m.before m.after (new_file (slot_in p bytes n) block side u);
-        })
-    made-clean m =
-        let Q : File → Type 0 = λ f. IsTrue (is_rel f.slot) → IsExactFile a f in
-        let old : AllByRecursion Q (m.before ++ m.after) = let P : List File → Type 0 = AllByRecursion Q in
-        subst P m.split clean.files in
-        let map-same : sector (put c p bytes) map_place ≡ sector c map_place =
-        sector-put_other c p map_place bytes (λ e. h.directory.not_map (let P : Place
-        → Type 0 = Contains l.directory in subst P e on)) in
-        record {
-          layout = m.layout;
-          files = all-join (λ f. IsTrue (is_rel f.slot) → IsExactFile (put c p bytes) f)
-              (map (reread (put c p bytes)) m.before) (new_file (slot_in p bytes n) block side u ∷ map
-              (reread (put c p bytes)) m.after)
-              (exact-all m.before (λ f d. rw m.split (Contains-append_left m.before m.after f d))
-              (all-left Q m.before m.after old)) (
-                λ t. new-exact (put c p bytes) (slot_in p bytes n) block side u new two,
-                exact-all m.after (λ f d. rw m.split (Contains-append_right m.before m.after f d))
-                    (all-right Q m.before m.after old),
-              );
-          map = rw (map-same, m.has) (right (l.directory ++ flat_map file_owns m.before) (flat_map file_owns m.after)
-              m.had);
-        }

@@ -190,7 +190,8 @@ module _ (a x : Image) (l : Layout) (n : ℕ) (f : File) (p : Parts) (w : IsImag
         last_place = at.last_place;
         last_is = at.last_is;
         last = last ∙ sym (sector-put_same x at.last_place bytes wx.size);
-        directory = directory ∙ at.directory ∙ sym (sector-put_other x at.last_place f.slot.sector bytes last-not-entry);
+        directory = directory ∙ at.directory
+            ∙ sym (sector-put_other x at.last_place f.slot.sector bytes last-not-entry);
       };
       others =
           let P : ℕ → Type 0 = λ k. KeepsOthers x b l m k in
