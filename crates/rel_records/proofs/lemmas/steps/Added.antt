@@ -36,7 +36,7 @@ use Rattle.d64_image.specs.declared.place.Place.{Place}
 use Rattle.disk_layout.proofs.lemmas.growth.Commit.{grown}
 use Rattle.disk_layout.proofs.lemmas.growth.GrowthRecords.{get-seam}
 use Rattle.disk_layout.specs.Directory.{map_place}
-use Rattle.disk_layout.specs.Layout.{File, Layout, record_length, sides_for}
+use Rattle.disk_layout.specs.Layout.{File, Layout, sides_for}
 use Rattle.rel_records.proofs.lemmas.steps.Adding.{block-more, counted-adds, linked-adds}
 use Rattle.rel_records.proofs.lemmas.steps.LaidOut.{IsRewritten, IsStep, before-adds, next, prepared, some-sides}
 use Rattle.rel_records.proofs.lemmas.steps.LastBlocks.{records_more}

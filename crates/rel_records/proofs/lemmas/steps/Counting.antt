@@ -1,5 +1,5 @@
 -- The block count behind the write that makes a file longer: from there to a clean image.
-use Rattle.std.proofs.Common.{◌≡◌, ◌≢◌, ℕ, ◌+◌, ◌<◌, List, [], ◌∷◌, ◌++◌, map, length, refl, sym, ◌∙◌, ap, subst}
+use Rattle.std.proofs.Common.{◌≡◌, ◌≢◌, ℕ, ◌+◌, ◌<◌, List, [], ◌∷◌, ◌++◌, length, refl, sym, ◌∙◌, ap, subst}
 use Rattle.std.proofs.Common.{IsTrue, length-append}
 use Rattle.std.specs.Prelude.{Contains, flat_map, replicate, take, drop}
 use Rattle.std.specs.List.{AllByRecursion}

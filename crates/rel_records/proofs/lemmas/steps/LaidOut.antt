@@ -24,7 +24,6 @@ use Rattle.rel_records.proofs.lemmas.steps.Before.{before-grows, prepared-of}
 use Rattle.rel_records.proofs.lemmas.steps.FullSides.{side_sector-full}
 use Rattle.rel_records.proofs.lemmas.steps.Owned.{IsNextOf, next-block, next-side}
 use Rattle.rel_records.proofs.lemmas.steps.Preparing.{file-in}
-use Rattle.rel_records.specs.growth.Growth.{full}
 use Rattle.rel_records.specs.growth.Next.{IsLaidOut}
 use Rattle.rel_records.specs.growth.Preparing.{IsPrepared}
 use Rattle.rel_records.specs.growth.Steps.{AreSidedFrom, IsAt, IsBefore, IsSided}
@@ -162,8 +161,8 @@ module _ {a : Image} {l : Layout} {n : ℕ} {f : File} {p q : Parts} {fresh : Pl
       → IsSided (put (put a map_place q.map.bytes) fresh block) q.blocks.items ss q.size c
       → IsPrepared a c l f g fresh q.map.bytes block
   prepared c k r from is =
-      prepared-of a l f g q fresh block whole.size at.clean.layout header free blocks-are refl size-is next.sided apart c
-      k is from sides-once
+      prepared-of a l f g q fresh block whole.size at.clean.layout header free blocks-are refl size-is next.sided apart
+      c k is from sides-once
       (λ j e. EachOnce-apart g.blocks ss each fresh (Contains-append_right f.blocks (fresh ∷ []) fresh
       (Contains-here fresh [])) (get-contains ss j fresh e))
       (right k r)
