@@ -38,6 +38,15 @@ pub record IsStep (a : Image) (l : Layout) (n : ℕ) (f : File) (p q : Parts) (f
     pub few : length f.blocks < 720
     pub laid : IsLaidOut p q fresh block
 
+pub step-of : {a : Image} {l : Layout} {n : ℕ} {f : File} {p q : Parts} {fresh : Place} {block : Sector} → IsImage a
+    → IsAt a l n f p → length p.blocks.items < 720 → IsLaidOut p q fresh block → IsStep a l n f p q fresh block
+step-of whole at few laid = record {
+  whole = whole;
+  at = at;
+  few = omega (arith, few, ap length at.blocks);
+  laid = laid;
+}
+
 -- the side sectors below k need no other bytes
 pub record IsRewritten (f : File) (q : Parts) (k : ℕ) : Type 0 where
   pub from : (k ≡ 0) ⊎ ((k + 1 ≡ length q.sides.items) × (length f.blocks % 120 ≢ 0))

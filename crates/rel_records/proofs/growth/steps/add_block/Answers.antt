@@ -3,7 +3,7 @@ mod Failed
 use Rattle.std.proofs.Common.{arith, refl, ◌∙◌, ap, ◌<◌, ◌%◌, length, ◌∷◌, subst, sym}
 use Rattle.std.specs.Prelude.{nat_eq}
 use Rattle.rel_records.proofs.lemmas.steps.Added.{added, counting-moments}
-use Rattle.rel_records.proofs.lemmas.steps.LaidOut.{IsStep, few-sides, sides-once, some-sides}
+use Rattle.rel_records.proofs.lemmas.steps.LaidOut.{few-sides, sides-once, some-sides, step-of}
 use Rattle.rel_records.proofs.lemmas.growth.Grows.{at-some, at-sides}
 use Rattle.disk_layout.specs.Map.{IsMapOf}
 use Rattle.disk_layout.specs.Directory.{map_place}
@@ -16,40 +16,19 @@ pub prepare-requires-clause-some : goal.prepare-requires-clause-some
 prepare-requires-clause-some g c =
     let S = g.D.Sectors.history in
     let (l, n, f, at) = c.requires.at in
-    let few : length f.blocks < 720 = omega (arith, c.requires.few, ap length at.blocks) in
-    let step : IsStep (S.image c.args.disk.now) l n f c.args.parts.now c.lay_out-fresh.new.parts _ _ = record {
-      whole = S.whole c.args.disk.now;
-      at = at;
-      few = few;
-      laid = c.lay_out-fresh.ensures.laid_out;
-    } in
-    some-sides step
+    some-sides (step-of (S.whole c.args.disk.now) at c.requires.few c.lay_out-fresh.ensures.laid_out)
 
 pub prepare-requires-clause-few : goal.prepare-requires-clause-few
 prepare-requires-clause-few g c =
     let S = g.D.Sectors.history in
     let (l, n, f, at) = c.requires.at in
-    let few : length f.blocks < 720 = omega (arith, c.requires.few, ap length at.blocks) in
-    let step : IsStep (S.image c.args.disk.now) l n f c.args.parts.now c.lay_out-fresh.new.parts _ _ = record {
-      whole = S.whole c.args.disk.now;
-      at = at;
-      few = few;
-      laid = c.lay_out-fresh.ensures.laid_out;
-    } in
-    few-sides step
+    few-sides (step-of (S.whole c.args.disk.now) at c.requires.few c.lay_out-fresh.ensures.laid_out)
 
 pub prepare-requires-clause-once : goal.prepare-requires-clause-once
 prepare-requires-clause-once g c =
     let S = g.D.Sectors.history in
     let (l, n, f, at) = c.requires.at in
-    let few : length f.blocks < 720 = omega (arith, c.requires.few, ap length at.blocks) in
-    let step : IsStep (S.image c.args.disk.now) l n f c.args.parts.now c.lay_out-fresh.new.parts _ _ = record {
-      whole = S.whole c.args.disk.now;
-      at = at;
-      few = few;
-      laid = c.lay_out-fresh.ensures.laid_out;
-    } in
-    sides-once step
+    sides-once (step-of (S.whole c.args.disk.now) at c.requires.few c.lay_out-fresh.ensures.laid_out)
 
 pub returns-clause-file : goal.returns-clause-file
 returns-clause-file g c l n f at up =
