@@ -1,8 +1,8 @@
 -- A new directory sector, data block and side sector that nobody owned: each place still has one owner.
-use Rattle.std.proofs.Common.{◌≡◌, ◌≢◌, ℕ, ◌+◌, inl, inr, List, [], ◌∷◌, ◌++◌}
+use Rattle.std.proofs.Common.{◌≡◌, ◌≢◌, ℕ, inl, inr, List, [], ◌∷◌, ◌++◌}
 use Rattle.std.proofs.Common.{refl, sym, subst, append_assoc, append-nil}
 use Rattle.std.specs.Prelude.{Contains, flat_map}
-use Rattle.d64_image.specs.Images.{Image, sector}
+use Rattle.d64_image.specs.Images.{Image}
 use Rattle.d64_image.specs.declared.place.Place.{Place}
 use Rattle.disk_layout.proofs.lemmas.lists.Once.{EachOnce-insert, insert-out}
 use Rattle.disk_layout.specs.Chain.{EachOnce}
