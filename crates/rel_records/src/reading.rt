@@ -90,6 +90,30 @@ pub(crate) fn read_behind<D: Sectors>(
     read(disk, Place::known(bytes[0], bytes[1]), to)
 }
 
+/// Fills `text` with the record of this length that begins at data byte `start` of a data block, which has these bytes, and
+/// goes on in the block that they name.
+// Out of line: few records lie in two blocks, and a function clears the room of all that is in line in it.
+#[inline(never)]
+fn read_across<D: Sectors>(
+    disk: &mut D,
+    first: &[u8; 256],
+    start: usize,
+    size: usize,
+    text: &mut ArrayVec<u8, 254>,
+) -> Result<(), RelFault>
+    requires named { IsSome (named_at first.now 0) }
+    requires start { start < 254 }
+    requires size { size ≤ 254 }
+    ensures { ReadsAtMost D.history disk.old disk.new 1 result (λ done.
+        (p : Place) → named_at first.now 0 ≡ Some p
+        → text.new.items ≡ take size (drop start (drop 2 first.now ++ drop 2 (sector (D.history.image disk.old) p)))) }
+{
+    let mut second = [0; 256];
+    read_behind(disk, first, &mut second)?;
+    fill_record(text, first, &second, start, size);
+    Ok(())
+}
+
 /// Reads a record that is there.
 fn read_there<D: Sectors>(
     disk: &mut D,
@@ -111,10 +135,7 @@ fn read_there<D: Sectors>(
         fill_record(text, &first, &first, start % DATA, size);
         return Ok(());
     }
-    let mut second = [0; 256];
-    read_behind(disk, &first, &mut second)?;
-    fill_record(text, &first, &second, start % DATA, size);
-    Ok(())
+    read_across(disk, &first, start % DATA, size, text)
 }
 
 /// Reads a record into `text`, all of its bytes; `NotPresent` where the file has none of this number, counted from 1. What

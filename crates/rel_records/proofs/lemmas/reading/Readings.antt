@@ -185,6 +185,19 @@ module _ (img : Image) (l : Layout) (n : ℕ) (f : File) (v : RelFile) (of : IsF
           (record-at img f (r - 1) [] below' ∙ ap (λ (k : ℕ). piece k (r - 1) (joined img f.blocks)) (sym of.shows.size)
           ∙ sym same)
 
+  -- and where it goes on in the block that the first one names
+  pub across-read : (r : ℕ) (a : Sector) (text : List ℕ) → 1 ≤ r → r ≤ records_in v
+      → IsBlock img f.blocks ((r - 1) * length_of v / 254) a → (r - 1) * length_of v / 254 + 1 < blocks_of v
+      → ((p : Place) → named_at a 0 ≡ Some p → text
+      ≡ take (length_of v) (drop ((r - 1) * length_of v % 254) (drop 2 a ++ drop 2 (sector img p))))
+      → IsRecord (records img f) r text
+  across-read r a text low high here more is =
+      let k : ℕ = (r - 1) * length_of v / 254 in
+      let few : k + 1 < length f.blocks = omega (arith, more, of.shows.blocks) in
+      let (q, to) = block-there img l n f v of (k + 1) here.place few in
+      record-read r a (sector img q) text low high here (λ over. record { place = q; at = to; read = refl })
+      (sector-long img q w) (is q (link-named img l n f v of k here.place q a here.at to here.read))
+
   -- each record has the length of the file's records
   pub record-long : (r : ℕ) (bytes : List ℕ) → IsRecord (records img f) r bytes → length bytes ≡ length_of v
   record-long r bytes is =
