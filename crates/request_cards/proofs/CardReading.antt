@@ -1,109 +1,28 @@
 -- A card is read where the bytes are its text, and nowhere else.
-use Rattle.std.proofs.Common.{
-  ◌≡◌,
-  ℕ,
-  ◌+◌,
-  Bool,
-  true,
-  false,
-  List,
-  [],
-  ◌∷◌,
-  ◌++◌,
-  drop,
-  get_or,
-  refl,
-  ap,
-  sym,
-  subst,
-  ◌∙◌,
-  arith,
-  append_assoc,
-  Option,
-  Some,
-  None,
-  inl,
-  inr,
-  ◌⊎◌,
-}
-use Rattle.std.specs.Prelude.{
-  ◌==◌,
-  ◌&&◌,
-  replicate,
-  IfNone,
-  IfSome,
-  IsTrue,
-  not,
-  slice_index,
-  unwrap_or,
-  if◌then◌else◌,
-  bytes_eq,
-}
-use Rattle.std.specs.Bool.{Decides}
+use Rattle.std.proofs.Common.{◌≡◌, ℕ, ◌+◌, Bool, true, false, List, [], ◌∷◌, ◌++◌, drop, get_or, refl, ap, sym, subst}
+use Rattle.std.proofs.Common.{◌∙◌, arith, append_assoc, Option, Some, None, inl, inr, ◌⊎◌}
+use Rattle.std.specs.Prelude.{◌==◌, ◌&&◌, replicate, IfNone, IfSome, slice_index, unwrap_or, if◌then◌else◌, bytes_eq}
 use Rattle.std.proofs.lemmas.Bool.{and_parts, and_from, not-true}
-use Rattle.std.proofs.lemmas.Bool.Decides.{Decides-and, Decides-eqb}
 use Rattle.std.proofs.lemmas.Slice.Eq.{bytes_eq-Decides}
 use Rattle.request_cards.specs.declared.answer.Answer.{Answer}
 use Rattle.request_cards.specs.declared.answer.Answer.TheVariants as answers
 use Rattle.request_cards.specs.declared.kind.Kind.{Kind}
 use Rattle.request_cards.specs.declared.kind.Kind.TheVariants.{Receive, Move}
-use Rattle.request_cards.specs.Requests.{Body, IsBody, is_body, may_go_to, same_kind}
+use Rattle.request_cards.specs.Requests.{same_kind}
 use Rattle.request_cards.specs.Ledgers.{Entry}
 use Rattle.request_cards.specs.Texts.{commas}
-use Rattle.request_cards.specs.CardTexts.{
-  Card,
-  IsCard,
-  IsCardText,
-  IsEntry,
-  IsStock,
-  IsStockText,
-  Stock,
-  answer_code,
-  answer_quantity,
-  answer_to_quantity,
-  card_text,
-  entry_fields,
-  entry_text,
-  goes_with,
-  is_done,
-  old_entry_text,
-  second_text,
-  stock_text,
-}
-use Rattle.request_cards.specs.CardReading.{
-  number_at,
-  kind_at,
-  answer_with,
-  fields_at,
-  entry_at,
-  old_card_at,
-  new_card_at,
-  is_entry,
-  is_second,
-  is_intent,
-  is_new_card,
-  is_old_card,
-  read_as,
-  stock_at,
-  is_stock,
-  stock_card_of,
-  request_card_of,
-}
+use Rattle.request_cards.specs.CardTexts.{Card, IsCard, IsCardText, IsEntry, IsStockText, Stock, answer_code}
+use Rattle.request_cards.specs.CardTexts.{answer_quantity, answer_to_quantity, card_text, entry_fields, entry_text}
+use Rattle.request_cards.specs.CardTexts.{goes_with, old_entry_text, second_text, stock_text}
+use Rattle.request_cards.specs.CardReading.{number_at, kind_at, answer_with, fields_at, entry_at, old_card_at}
+use Rattle.request_cards.specs.CardReading.{new_card_at, is_new_card, is_old_card, read_as, stock_at, is_stock}
+use Rattle.request_cards.specs.CardReading.{stock_card_of, request_card_of}
 use Rattle.request_cards.proofs.Cards.{card_cut, card_same, second_is, second_mark, second_marked, state_of}
-use Rattle.request_cards.proofs.Entries.{
-  IsCut,
-  body_same,
-  code_low,
-  entry_same,
-  fields_cut,
-  goes_nowhere,
-  kind_stands,
-  one_quantity,
-  to_high,
-  whole_cut,
-}
-use Rattle.request_cards.proofs.Fields.{Decides-leb, if_some}
+use Rattle.request_cards.proofs.Fields.{if_some}
 use Rattle.request_cards.proofs.Widths.{front_digits, stock_cut}
+use Rattle.request_cards.proofs.EntryFields.{IsCut, body_same, code_low, entry_same, fields_cut, kind_stands}
+use Rattle.request_cards.proofs.Entries.{goes_nowhere, one_quantity, to_high, whole_cut}
+use Rattle.request_cards.proofs.CardRanges.{stock_decides, new_is, card_fits, old_is}
 
 -- what has its own text is read, and what is read has its text
 text_reads : {A : Type 0} (bytes : List ℕ) (x : A) (fits : Bool) (text : List ℕ) → fits ≡ true → bytes ≡ text
@@ -117,15 +36,7 @@ read_text bytes x y fits text e =
     let q = and_parts fits (bytes_eq bytes text) p.0 in
     (q.0, (bytes_eq-Decides bytes text).0 q.1, p.1)
 
--- the ranges of a stock card
-stock_decides : (s : Stock) → Decides (is_stock s) (IsStock s)
-stock_decides s =
-    let d = Decides-and _ _ (Decides-leb 1 s.item) (Decides-and _ _ (Decides-leb s.item 65535)
-    (Decides-leb s.quantity 999999999)) in (
-      (λ e. let p = d.0 e in record { item_low = p.0; item_high = p.1.0; quantity_high = p.1.1 }),
-      (λ i. d.1 (i.item_low, (i.item_high, i.quantity_high))),
-    )
-
+-- a stock card is read
 stock_reads : (bytes : List ℕ) (s : Stock) → IsStockText bytes s → stock_card_of bytes ≡ Some s
 unfolding stock_card_of
 stock_reads bytes s m =
@@ -147,79 +58,6 @@ stock_is bytes s = (
       subst (IsStockText bytes) p.2 ((stock_decides (stock_at bytes)).0 p.0, p.1)),
   stock_reads bytes s,
 )
-
--- the ranges of a body and of an entry
-self_decides : (b : Bool) → Decides b (IsTrue b)
-self_decides b = ((λ e. e), (λ e. e))
-
-body_decides : (b : Body) → Decides (is_body b) (IsBody b)
-body_decides b =
-    let d = Decides-and _ _ (Decides-leb 1 b.item) (Decides-and _ _ (Decides-leb b.item 65535)
-    (Decides-and _ _ (Decides-leb b.quantity 999999999) (self_decides (may_go_to b.kind b.item b.to)))) in (
-      (λ e. let p = d.0 e in record { item_low = p.0; item_high = p.1.0; quantity_high = p.1.1.0; to = p.1.1.1 }),
-      (λ i. d.1 (i.item_low, (i.item_high, (i.quantity_high, i.to)))),
-    )
-
-entry_decides : (e : Entry) → Decides (is_entry e) (IsEntry e)
-entry_decides e =
-    let d = Decides-and _ _ (Decides-leb 1 e.number) (Decides-and _ _ (Decides-leb e.number 999999999)
-    (Decides-and _ _ (body_decides e.body) (Decides-and _ _ (self_decides (goes_with e.body.kind e.answer))
-    (Decides-and _ _ (Decides-leb (answer_quantity e.answer) 999999999) (Decides-leb (answer_to_quantity e.answer)
-    999999999))))) in (
-      (λ t. let p = d.0 t in record {
-        number_low = p.0;
-        number_high = p.1.0;
-        body = p.1.1.0;
-        fits = p.1.1.1.0;
-        quantity_high = p.1.1.1.1.0;
-        to_quantity_high = p.1.1.1.1.1;
-      }),
-      (λ i. d.1 (i.number_low, (i.number_high, (i.body, (i.fits, (i.quantity_high, i.to_quantity_high)))))),
-    )
-
--- what is asked of an intent and of a second entry
-intent_decides : (p : Bool) (a : Answer) → Decides (is_intent p a) (IsTrue p → IsTrue (is_done a))
-intent_decides true a = ((λ e t. e), (λ f. f refl))
-intent_decides false a = ((λ e t. cc), (λ f. refl))
-
-second_decides : (n : ℕ) (s : Option Entry) → Decides (is_second n s) (IfSome s (λ e. IsEntry e × (e.number + 1 ≡ n)))
-second_decides n None = ((λ e. tt), (λ i. refl))
-second_decides n (Some e) = Decides-and _ _ (entry_decides e) (Decides-eqb (e.number + 1) n)
-
-new_decides : (c : Card) → Decides (is_new_card c)
-    (IsEntry c.newest × ((IsTrue c.pending → IsTrue (is_done c.newest.answer))
-    × IfSome c.second (λ e. IsEntry e × (e.number + 1 ≡ c.newest.number))))
-new_decides c =
-    Decides-and _ _ (entry_decides c.newest)
-    (Decides-and _ _ (intent_decides c.pending c.newest.answer) (second_decides c.newest.number c.second))
-
--- the ranges of a version 2 card
-new_is : (c : Card) → c.version ≡ 2 → is_new_card c ≡ true → IsCard c
-new_is c two e =
-    let p = (new_decides c).0 e in
-    record {
-      version = inr two;
-      old = λ one. absurd (omega (arith, two, one));
-      newest = p.0;
-      intent = p.1.0;
-      second = p.1.1;
-    }
-
-card_fits : (c : Card) → IsCard c → is_new_card c ≡ true
-card_fits c i = (new_decides c).1 (i.newest, (i.intent, i.second))
-
--- those of a version 1 card
-old_is : (c : Card) → c.version ≡ 1 → c.second ≡ None → is_old_card c ≡ true → IsCard c
-old_is c one alone e =
-    let q = and_parts (is_new_card c) (not (same_kind c.newest.body.kind Move)) e in
-    let p = (new_decides c).0 q.0 in
-    record {
-      version = inl one;
-      old = λ v. (alone, q.1);
-      newest = p.0;
-      intent = p.1.0;
-      second = p.1.1;
-    }
 
 -- an answer is told by its digit and its quantities
 answer_again : (k : Kind) (a : Answer) → goes_with k a ≡ true

@@ -1,39 +1,7 @@
 -- Numbers of a fixed width, two digits at a time.
-use Rattle.std.proofs.Common.{
-  ◌≡◌,
-  ℕ,
-  zero,
-  suc,
-  ◌+◌,
-  ◌*◌,
-  ◌-◌,
-  ◌/◌,
-  ◌%◌,
-  ◌<◌,
-  ◌≤◌,
-  Bool,
-  true,
-  ◌&&◌,
-  T,
-  eqb,
-  List,
-  ◌∷◌,
-  ◌++◌,
-  codes,
-  drop,
-  length,
-  get_or,
-  set,
-  ap,
-  ap₂,
-  sym,
-  ◌∙◌,
-  inl,
-  inr,
-  arith,
-  eq-zero-or-pos,
-  eqb→eq,
-}
+use Rattle.std.proofs.Common.{◌≡◌, ℕ, zero, suc, ◌+◌, ◌*◌, ◌-◌, ◌/◌, ◌%◌, ◌<◌, ◌≤◌, Bool, true, ◌&&◌, T, eqb, List, ◌∷◌}
+use Rattle.std.proofs.Common.{◌++◌, codes, drop, length, get_or, set, ap, ap₂, sym, ◌∙◌, inl, inr, arith}
+use Rattle.std.proofs.Common.{eq-zero-or-pos, eqb→eq}
 use lib.Ieee.Fits.{and_l, and_r}
 use Rattle.std.proofs.lemmas.List.{drop-set}
 use Rattle.request_cards.proofs.Widths.{fixed_more, fixed_none}

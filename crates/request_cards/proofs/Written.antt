@@ -1,24 +1,6 @@
 -- Texts that were written from their ends, field by field.
-use Rattle.std.proofs.Common.{
-  ◌≡◌,
-  ℕ,
-  Bool,
-  true,
-  false,
-  List,
-  [],
-  ◌∷◌,
-  ◌++◌,
-  ap,
-  sym,
-  ◌∙◌,
-  ◌≤◌,
-  ◌-◌,
-  length,
-  drop,
-  take,
-  arith,
-}
+use Rattle.std.proofs.Common.{◌≡◌, ℕ, Bool, true, false, List, [], ◌∷◌, ◌++◌, ap, sym, ◌∙◌, ◌≤◌, ◌-◌, length, drop}
+use Rattle.std.proofs.Common.{take, arith}
 use Rattle.std.specs.Prelude.{decimal}
 use Rattle.std.proofs.lemmas.List.{length-drop, take_all}
 use Rattle.request_cards.specs.CardTexts.{fixed, answer_code, answer_quantity, state_text, entry_fields}
