@@ -1,43 +1,12 @@
 -- How the words on moments, counts and failures go on from one call to the next.
-use Rattle.std.proofs.Common.{
-  ℕ,
-  ◌≡◌,
-  ◌≤◌,
-  ◌<◌,
-  ◌+◌,
-  ◌⊎◌,
-  ⊎_elim,
-  inl,
-  inr,
-  sym,
-  ◌∙◌,
-  subst,
-  refl,
-  le_refl,
-  Result,
-  Ok,
-  Err,
-  IsOk,
-  OnOk,
-  OnErr,
-  arith,
-}
+use Rattle.std.proofs.Common.{ℕ, ◌≡◌, ◌≤◌, ◌<◌, ◌+◌, ◌⊎◌, ⊎_elim, inl, inr, sym, ◌∙◌, subst, refl, le_refl, Result, Ok}
+use Rattle.std.proofs.Common.{Err, IsOk, OnOk, OnErr, arith}
 use Rattle.std.proofs.Math.Nat.{add-le-add, le_of_eq, le_trans, lt_of_le_of_lt, lt_of_lt_of_le}
 use Rattle.std.proofs.lemmas.Bool.{cases_lt}
 use Rattle.d64_image.specs.Calls.{WritesSector}
 use Rattle.d64_image.specs.Images.{Image, Sector, put}
-use Rattle.d64_image.specs.History.{
-  History,
-  HeldOnly,
-  Failed,
-  NeverFailed,
-  OnlyReads,
-  OldOr,
-  Changes,
-  TellsFailure,
-  WritesNothing,
-  IfCounted,
-}
+use Rattle.d64_image.specs.History.{History, HeldOnly, Failed, NeverFailed, OnlyReads, OldOr, Changes, TellsFailure}
+use Rattle.d64_image.specs.History.{WritesNothing, IfCounted}
 use Rattle.d64_image.specs.declared.place.Place.{Place}
 
 -- counts that rise by so much at most, one after another

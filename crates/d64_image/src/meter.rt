@@ -68,7 +68,8 @@ impl<D: Sectors> Sectors for Meter<D> {
     fn read(&mut self, place: Place, to: &mut [u8; 256]) -> Result<(), DeviceFault>
         ensures device { ReadsSector (meter D.history) self.old self.new place to.new device_fault result }
         // the disk beneath answers, and is read once
-        ensures beneath { ReadsSector D.history (meter_disk self.old) (meter_disk self.new) place to.new device_fault result }
+        ensures beneath { ReadsSector D.history (meter_disk self.old) (meter_disk self.new)
+            place to.new device_fault result }
         ensures exact { OnOk result (meter_reads self.new ≡ min (meter_reads self.old + 1) 18446744073709551615) }
         ensures kept { OnErr result (meter_reads self.new ≡ meter_reads self.old) }
     {
@@ -81,7 +82,8 @@ impl<D: Sectors> Sectors for Meter<D> {
     fn write(&mut self, place: Place, from: &[u8; 256]) -> Result<(), DeviceFault>
         ensures device { WritesSector (meter D.history) self.old self.new place from.now device_fault result }
         // the disk beneath answers, and is written once
-        ensures beneath { WritesSector D.history (meter_disk self.old) (meter_disk self.new) place from.now device_fault result }
+        ensures beneath { WritesSector D.history (meter_disk self.old) (meter_disk self.new)
+            place from.now device_fault result }
         ensures exact { OnOk result (meter_writes self.new ≡ min (meter_writes self.old + 1) 18446744073709551615) }
     {
         self.disk.write(place, from)?;

@@ -11,9 +11,9 @@ use crate::place::Place;
 use crate::sector_file::SectorFile;
 use crate::sectors::Sectors;
 
-/// A disk in memory, and a file that keeps the same image. Each sector is handed to the file before memory takes it. Where
-/// the file fails, memory stays, and each call fails from then on: whether the file keeps that sector isn't known, and what
-/// came after it would part the two for good.
+/// A disk in memory, and a file that keeps the same image. Each sector is handed to the file before memory takes it.
+/// Where the file fails, memory stays, and each call fails from then on: whether the file keeps that sector isn't
+/// known, and what came after it would part the two for good.
 #[derive(Drop)]
 pub struct Mirror<F: SectorFile> {
     file: F,

@@ -143,7 +143,8 @@ first-stock : (n : ℕ) → IsFirst (stock_layout 37 n) stock_name 0 (stock_file
 unfolding entry_bytes
 first-stock n = record { file = refl; named = (refl, refl); first = λ k g h. absurd (omega (arith, h)) }
 
-pub rest-same : (n : ℕ) (s m : Sector) → rest_of (stock_disk 37 n two_records s m) (stock_layout 37 n) 0 0 (stock_file 37 n)
+pub rest-same : (n : ℕ) (s m : Sector)
+    → rest_of (stock_disk 37 n two_records s m) (stock_layout 37 n) 0 0 (stock_file 37 n)
     ≡ rest_of (stock_disk 37 n two_letters s m) (stock_layout 37 n) 0 0 (stock_file 37 n)
 unfolding entry_bytes rest_of records joined record_count two_records two_letters
 rest-same n s m = rw (

@@ -11,8 +11,8 @@ use d64_image::{Place, Sectors};
 
 /// Reads a sector as it was last written, of 256 bytes.
 ///
-/// `Device` at this place is told where the device failed there, and no other fault; the bytes that were read are then any
-/// bytes. The disk is the same at each answer.
+/// `Device` at this place is told where the device failed there, and no other fault; the bytes that were read are then
+/// any bytes. The disk is the same at each answer.
 pub fn read_sector<D: Sectors>(disk: &mut D, place: Place, to: &mut [u8; 256]) -> Result<(), Fault>
     ensures { ReadsSector D.history disk.old disk.new place to.new (Device place) result }
 {
@@ -21,8 +21,8 @@ pub fn read_sector<D: Sectors>(disk: &mut D, place: Place, to: &mut [u8; 256]) -
 
 /// Writes a sector of 256 bytes.
 ///
-/// `Device` at this place is told where the device failed there, and no other fault; the sector is then written or as before.
-/// Nothing else changes, and nothing else was ever held.
+/// `Device` at this place is told where the device failed there, and no other fault; the sector is then written or as
+/// before. Nothing else changes, and nothing else was ever held.
 // In line, as all on the way to a device's write is: a return right behind a call of the system is dear.
 #[inline(always)]
 pub fn write_sector<D: Sectors>(disk: &mut D, place: Place, from: &[u8; 256]) -> Result<(), Fault>

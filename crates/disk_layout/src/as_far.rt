@@ -11,9 +11,9 @@ use arrayvec::ArrayVec;
 use d64_image::{Place, Sectors};
 
 /// Follows the links from `first` on as far as they go, and fills `places` with the sectors that they come to, in order
-/// and each once: up to one that ends the chain (byte 0 is 0), one whose link is no place of the disk, or one that links
-/// to a sector visited before. The answer is byte 1 of the sector that ends the chain, which is the index of its last
-/// used byte, and 0 where none ends it.
+/// and each once: up to one that ends the chain (byte 0 is 0), one whose link is no place of the disk, or one that
+/// links to a sector visited before. The answer is byte 1 of the sector that ends the chain, which is the index of its
+/// last used byte, and 0 where none ends it.
 ///
 /// Nothing of the disk is a fault here. `Device` is told at a sector that the device failed to read; `places` then has
 /// the sectors visited, that one among them. Each sector is read once at most, so 720 places suffice.

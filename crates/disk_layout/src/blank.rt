@@ -1,7 +1,8 @@
 //! The blank image: an empty disk with the two relative files of a ledger.
 ghost use Rattle.std.specs.Prelude.{◌≡◌, ◌+◌, ◌<◌, ◌≤◌, IsTrue, length, OnOk, slice_get, Some};
 ghost use Rattle.d64_image.specs.History.{Changes, TellsFailure};
-ghost use Rattle.disk_layout.specs.Blank.{AreRequestPlaces, IsBlank, IsEmptyBlock, IsRequestPlace, SameElsewhere, blank_directory, request_blocks};
+ghost use Rattle.disk_layout.specs.Blank.{AreRequestPlaces, IsBlank, IsEmptyBlock, IsRequestPlace, SameElsewhere};
+ghost use Rattle.disk_layout.specs.Blank.{blank_directory, request_blocks};
 ghost use Rattle.disk_layout.specs.Clean.{IsClean};
 ghost use Rattle.disk_layout.specs.Written.{IsWritten};
 

@@ -76,14 +76,15 @@ fn add_used(bytes: &[u8; 256], place: Place, slots: &mut ArrayVec<Slot, 144>)
     }
 }
 
-/// Lists the entries of the directory: the slots whose type byte isn't 0, in the order of the directory's sectors, which
-/// are linked from 18/1 on, and by number in each. The list handed in is emptied first; after a fault what it holds is
-/// open. An entry is listed whatever its type byte is, closed or not.
+/// Lists the entries of the directory: the slots whose type byte isn't 0, in the order of the directory's sectors,
+/// which are linked from 18/1 on, and by number in each. The list handed in is emptied first; after a fault what it
+/// holds is open. An entry is listed whatever its type byte is, closed or not.
 ///
 /// Told are `BadLink` at a sector whose link is no place of the disk, leaves track 18 or names 18/0, `Loop` at a sector
 /// that the links come to a second time, and `Device` at a sector that the device failed to read.
 ///
-/// Track 18 has eighteen sectors for the directory, each is read once at most, and each has eight slots: so 144 suffice.
+/// Track 18 has eighteen sectors for the directory, each is read once at most, and each has eight slots: so 144
+/// suffice.
 pub fn read_directory<D: Sectors>(
     disk: &mut D,
     slots: &mut ArrayVec<Slot, 144>,

@@ -2,8 +2,8 @@
 ghost use Rattle.std.specs.Prelude.{◌≡◌};
 ghost use Rattle.disk_layout.specs.BlankLayout.{BlankHasTop, BlankIsClean, blank_top};
 
-/// The blank image is clean, whatever the disk held before: its directory, its two files and its map agree, each file is
-/// found by its name, and all its records are empty.
+/// The blank image is clean, whatever the disk held before: its directory, its two files and its map agree, each file
+/// is found by its name, and all its records are empty.
 pub fn blank_is_clean()
     ensures { BlankIsClean }
 {}

@@ -1,5 +1,6 @@
 //! Side sectors of relative files: where a file's data blocks lie, 120 to a side sector.
-ghost use Rattle.std.specs.Prelude.{◌≡◌, ◌+◌, ◌*◌, ◌++◌, ◌<◌, ◌≤◌, ◌∷◌, [], length, slice_get, slice_index, take, drop, flat_map};
+ghost use Rattle.std.specs.Prelude.{◌≡◌, ◌+◌, ◌*◌, ◌++◌, ◌<◌, ◌≤◌, ◌∷◌, [], length, slice_get, slice_index, take, drop};
+ghost use Rattle.std.specs.Prelude.{flat_map};
 ghost use Rattle.disk_layout.specs.Chain.{named_at};
 ghost use Rattle.disk_layout.specs.Side.{link_bytes, place_bytes, pointers_of, side_sector};
 

@@ -11,8 +11,8 @@ use arrayvec::ArrayVec;
 use d64_image::{Place, Sectors};
 use disk_layout::{EntryView, Fault, Slot, read_sector, walk_chain};
 
-/// Follows the chain of a closed entry that names a first block, and fills `blocks` with its sectors in order. The answer
-/// is the index of the last used byte in the last one.
+/// Follows the chain of a closed entry that names a first block, and fills `blocks` with its sectors in order. The
+/// answer is the index of the last used byte in the last one.
 pub(crate) fn survey_blocks<D: Sectors>(
     disk: &mut D,
     slot: &Slot,
@@ -51,8 +51,9 @@ fn owned_block(place: Place, blocks: &[Place]) -> Fault
     }
 }
 
-/// Fills `places` with the blocks as `survey_blocks` does, and gives each to the owner with this number when the walk comes
-/// to it: so the table of owners is also that of the sectors visited, and costs no time while a link is waited for.
+/// Fills `places` with the blocks as `survey_blocks` does, and gives each to the owner with this number when the walk
+/// comes to it: so the table of owners is also that of the sectors visited, and costs no time while a link is waited
+/// for.
 ///
 /// `OwnedTwice` is told at a sector that another owned. What the table has after a fault is open.
 pub(crate) fn claim_blocks<D: Sectors>(

@@ -6,8 +6,8 @@ use crate::owners::Owners;
 use d64_image::Place;
 use disk_layout::{BamView, Fault, map_place};
 
-/// Whether the map has the right bit for each sector of a track, and the right count of them. No branch hangs on a bit, so
-/// that this takes a third of the time of `check_track`, which tells what is wrong.
+/// Whether the map has the right bit for each sector of a track, and the right count of them. No branch hangs on a bit,
+/// so that this takes a third of the time of `check_track`, which tells what is wrong.
 fn is_right_track(map: &[u8; 256], owners: &Owners, track: u8) -> bool
     requires first { 1 ≤ track }
     requires last { track ≤ 35 }

@@ -19,16 +19,16 @@ pub struct Survey {
 pub(crate) struct Findings {
     /// The owners and the entries.
     pub(crate) survey: Survey,
-    /// A side sector whose bytes aren't exact, or a wrong block count: the first in the order of the directory. It holds
-    /// where the whole disk was seen to be sound. None where all are right.
+    /// A side sector whose bytes aren't exact, or a wrong block count: the first in the order of the directory. It
+    /// holds where the whole disk was seen to be sound. None where all are right.
     pub(crate) unclean: Option<Fault>,
 }
 
 /// The indices of the sectors of track 18.
 const TRACK_18: Range<usize> = 357..376;
 
-/// Whether the sector with this index and this owner's number is outside track 18, and no other entry than this one owns
-/// it.
+/// Whether the sector with this index and this owner's number is outside track 18, and no other entry than this one
+/// owns it.
 fn is_open(entry: usize, index: usize, number: u8) -> bool
     ensures open { IsTrue result → IsOpen entry index number }
     ensures shut { IsFalse result → IsShut entry index number }
@@ -73,8 +73,8 @@ impl Survey {
         self.entries
     }
 
-    /// How many of the 664 sectors outside track 18 no other entry owns: those that are free, and those of the entry with
-    /// this number, which is its place among the used entries, from 0.
+    /// How many of the 664 sectors outside track 18 no other entry owns: those that are free, and those of the entry
+    /// with this number, which is its place among the used entries, from 0.
     pub fn outside(&self, entry: usize) -> u16
         requires { entry < entries_of self.now }
         ensures { (l : Layout) → IsSurveyOf l self.now → result + taken_by_others l entry ≡ 664 }

@@ -74,8 +74,8 @@ impl Owners {
         self.numbers[place.index()] = number;
     }
 
-    /// Gives all these sectors, which differ from each other, to one owner; or tells `OwnedTwice` at one of them that is
-    /// owned already. What the table has then is open.
+    /// Gives all these sectors, which differ from each other, to one owner; or tells `OwnedTwice` at one of them that
+    /// is owned already. What the table has then is open.
     pub(crate) fn claim(&mut self, number: u8, places: &[Place]) -> Result<(), Fault>
         requires some { number < 255 }
         requires once { EachOnce places.now }

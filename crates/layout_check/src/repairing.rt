@@ -9,7 +9,8 @@ use crate::surveying::survey;
 use d64_image::Sectors;
 use disk_layout::Fault;
 
-/// Gives a sound disk that was surveyed the map, the side sectors and the block counts that it is to have, in this order.
+/// Gives a sound disk that was surveyed the map, the side sectors and the block counts that it is to have, in this
+/// order.
 fn mend<D: Sectors>(disk: &mut D, found: &Survey) -> Result<(), Fault>
     requires { IsToldBy (D.history.image disk.old) found.now }
     ensures { MakesClean D.history disk.old disk.new found.now result }
@@ -19,13 +20,13 @@ fn mend<D: Sectors>(disk: &mut D, found: &Survey) -> Result<(), Fault>
     mend_counts(disk)
 }
 
-/// Repairs a disk: a sound one is made clean, with the same files; any other is left as it is, and the survey's fault is
-/// told. The answer tells the owners and the entries.
+/// Repairs a disk: a sound one is made clean, with the same files; any other is left as it is, and the survey's fault
+/// is told. The answer tells the owners and the entries.
 ///
-/// Written are the map where a bit or a count in it is wrong (then the bits past the tracks' last sectors become 0), the
-/// side sectors that haven't exactly their bytes, in the order of the directory, and the directory sectors in which a
-/// block count is wrong, each once: so none of a clean disk. Every image that the disk holds on the way is sound and has
-/// the same files.
+/// Written are the map where a bit or a count in it is wrong (then the bits past the tracks' last sectors become 0),
+/// the side sectors that haven't exactly their bytes, in the order of the directory, and the directory sectors in which
+/// a block count is wrong, each once: so none of a clean disk. Every image that the disk holds on the way is sound and
+/// has the same files.
 ///
 /// `Device` is told where the device failed; what was mended until then stays mended.
 pub fn repair<D: Sectors>(disk: &mut D) -> Result<Survey, Fault>

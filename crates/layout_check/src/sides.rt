@@ -3,7 +3,8 @@ ghost use Rattle.std.specs.Prelude.{◌+◌, ◌*◌, ◌<◌, ◌≤◌, IfErr,
 ghost use Rattle.disk_layout.specs.Fault.{IsClosed};
 ghost use Rattle.disk_layout.specs.Layout.{is_rel, sides_for};
 ghost use Rattle.layout_check.specs.Calls.{Passes, TellsUnsound};
-ghost use Rattle.layout_check.specs.Sides.{AreLinkedSides, HasNumber, HasOtherFields, HasOtherNumber, HasSideFields, IsMisnamed, IsRelEntry, IsSoundSide, IsUnsoundSide, NamesEach};
+ghost use Rattle.layout_check.specs.Sides.{AreLinkedSides, HasNumber, HasOtherFields, HasOtherNumber, HasSideFields};
+ghost use Rattle.layout_check.specs.Sides.{IsMisnamed, IsRelEntry, IsSoundSide, IsUnsoundSide, NamesEach};
 ghost use Rattle.layout_check.specs.SurveyedSides.{FindsParts, SurveysSides};
 
 use crate::blocks::survey_blocks;
@@ -57,8 +58,8 @@ fn is_side(sector: &[u8; 256], number: usize, slot: &Slot, blocks: &[Place]) -> 
     names_each(sector, POINTERS_AT, &blocks[start..end])
 }
 
-/// Whether the bytes of a sector are those of side sector `number`, as `is_side` has it, and list all side sectors: what a
-/// sound disk asks of it beside its link.
+/// Whether the bytes of a sector are those of side sector `number`, as `is_side` has it, and list all side sectors:
+/// what a sound disk asks of it beside its link.
 // Out of line: asked only where the bytes aren't exact
 #[inline(never)]
 fn is_sound_side(
@@ -76,8 +77,8 @@ fn is_sound_side(
     is_side(sector, number, slot, blocks) && names_each(sector, LIST_AT, sides)
 }
 
-/// Follows the side sectors of a closed relative entry with these blocks from the first on by their links, as many as the
-/// blocks need, and fills `sides` with their places in order. Each one's number and record length are judged.
+/// Follows the side sectors of a closed relative entry with these blocks from the first on by their links, as many as
+/// the blocks need, and fills `sides` with their places in order. Each one's number and record length are judged.
 ///
 /// Told are `BadSide` at the entry's directory sector, where the entry names no first side sector, or at a side sector
 /// that has another number or record length or links to no place, and `Device`.
@@ -120,8 +121,8 @@ fn walk_sides<D: Sectors>(
 /// Finds the side sectors of a closed relative entry with these blocks, as `walk_sides` does, and judges each one's
 /// pointers and list of all side sectors. Each is read twice at most.
 ///
-/// The answer is the first of them whose bytes aren't exactly those that they are to be, which a sound disk may have and
-/// a clean one not; None where all are exact.
+/// The answer is the first of them whose bytes aren't exactly those that they are to be, which a sound disk may have
+/// and a clean one not; None where all are exact.
 pub(crate) fn survey_sides<D: Sectors>(
     disk: &mut D,
     slot: &Slot,
@@ -150,8 +151,8 @@ pub(crate) fn survey_sides<D: Sectors>(
     Ok(inexact)
 }
 
-/// Finds the data blocks and the side sectors of a closed relative entry, and fills `parts` with them in order. The answer
-/// is the first side sector whose bytes aren't exact; None where all are.
+/// Finds the data blocks and the side sectors of a closed relative entry, and fills `parts` with them in order. The
+/// answer is the first side sector whose bytes aren't exact; None where all are.
 pub(crate) fn find_parts<D: Sectors>(
     disk: &mut D,
     slot: &Slot,

@@ -53,8 +53,8 @@ pub(crate) fn survey_files<D: Sectors>(disk: &mut D) -> Result<Findings, Fault>
 
 /// Surveys the disk: where each link, each type, each record length and each side sector of the entries agrees and no
 /// sector has two owners, the answer tells the owners and the entries; else a fault that holds at its place, where of
-/// several it is open which. An image that has no such fault is sound. Counts of blocks, the map, and those bytes of side
-/// sectors that name nothing are not judged.
+/// several it is open which. An image that has no such fault is sound. Counts of blocks, the map, and those bytes of
+/// side sectors that name nothing are not judged.
 ///
 /// Nothing is written. Each owned sector is read twice at most, and no memory is taken.
 pub fn survey<D: Sectors>(disk: &mut D) -> Result<Survey, Fault>

@@ -1,34 +1,6 @@
 -- The write of a block count.
-use Rattle.std.proofs.Common.{
-  IsTrue,
-  List,
-  [],
-  ap,
-  arith,
-  drop,
-  get_or,
-  inl,
-  inr,
-  length,
-  map,
-  refl,
-  slice_index,
-  sym,
-  take,
-  true,
-  ℕ,
-  ◌*◌,
-  ◌++◌,
-  ◌+◌,
-  ◌-◌,
-  ◌<◌,
-  ◌∙◌,
-  ◌∷◌,
-  ◌≡◌,
-  ◌≢◌,
-  ◌≤◌,
-  ◌⊎◌,
-}
+use Rattle.std.proofs.Common.{IsTrue, List, [], ap, arith, drop, get_or, inl, inr, length, map, refl, slice_index, sym}
+use Rattle.std.proofs.Common.{take, true, ℕ, ◌*◌, ◌++◌, ◌+◌, ◌-◌, ◌<◌, ◌∙◌, ◌∷◌, ◌≡◌, ◌≢◌, ◌≤◌, ◌⊎◌}
 use Rattle.std.proofs.lemmas.Bool.{cases_eq, cases_lt}
 use Rattle.std.proofs.lemmas.Grind.{flat_map-append, same_number_lists}
 use Rattle.std.proofs.lemmas.List.{drop-take, get_or-take, length-take}
@@ -54,7 +26,6 @@ use Rattle.disk_layout.specs.Chain.{EachOnce}
 use Rattle.disk_layout.specs.Directory.{is_used, map_place, slot_in, used_slots}
 use Rattle.disk_layout.specs.Entries.{IsRecounted, uncounted}
 use Rattle.disk_layout.specs.Layout.{File, IsFile, IsLayout, Layout, exchanged, file_owns, is_rel, owners}
-use Rattle.disk_layout.specs.Rest.{kept_of}
 use Rattle.disk_layout.specs.declared.slot.Slot.{Slot}
 
 uncounted-byte : (s t : Slot) → uncounted s ≡ uncounted t → (i : ℕ) → i < 30
@@ -79,18 +50,6 @@ uncounted-name s t e = name s ∙ ap (λ x. slice_range x.bytes 5 21) e ∙ sym 
   where
     name : (s : Slot) → slice_range s.bytes 5 21 ≡ slice_range (take 30 s.bytes) 5 21
     name s = sym (ap (take 16) (drop-take 5 25 s.bytes) ∙ take-take 16 25 (drop 5 s.bytes) (omega arith))
-
--- so all that is asked to stay of a file stays under such a slot
-pub kept-slot : (img : Image) (f : File) (s : Slot) → uncounted f.slot ≡ uncounted s
-    → kept_of img (with_slot f s) ≡ kept_of img f
-kept-slot img f s e = λ i. record {
-  kind = sym (uncounted-face f.slot s e).kind i;
-  name = sym (uncounted-name f.slot s e) i;
-  length = sym (uncounted-face f.slot s e).length i;
-  blocks = f.blocks;
-  bytes = map (sector img) f.blocks;
-  sides = f.sides;
-}
 
 pub range-piece : (x : List ℕ) (k : ℕ) → slice_range x (32 * k) (32 * k + 32) ≡ piece 32 k x
 range-piece x k = let m : 32 * k + 32 - 32 * k ≡ 32 = omega arith in let c : 32 * k ≡ k * 32 = omega arith in

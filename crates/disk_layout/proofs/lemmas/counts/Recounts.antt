@@ -10,20 +10,19 @@ use Rattle.d64_image.proofs.Images.{sector-put_same}
 use Rattle.d64_image.proofs.Places.{same_or_other}
 use Rattle.d64_image.specs.Images.{Image, Sector, put, sector}
 use Rattle.d64_image.specs.declared.place.Place.{Place}
-use Rattle.disk_layout.proofs.lemmas.chains.Chains.{AgreeAt, SameLink, SameLinks}
+use Rattle.disk_layout.proofs.lemmas.chains.Chains.{AgreeAt, SameLinks}
 use Rattle.disk_layout.proofs.lemmas.counts.Counts.{range-piece, uncounted-face}
 use Rattle.disk_layout.proofs.lemmas.counts.Faces.{IsFile-slot, IsLayout-directory, with_slot}
 use Rattle.disk_layout.proofs.lemmas.counts.Recount.{flat_map-out, slot-number, slot-there}
-use Rattle.disk_layout.proofs.lemmas.growth.Commit.{keeps-other}
 use Rattle.disk_layout.proofs.lemmas.layouts.Agree.{stays-agree}
-use Rattle.disk_layout.proofs.lemmas.layouts.Frames.{KeepsFiles, all_blocks, block-owned, files-frame}
+use Rattle.disk_layout.proofs.lemmas.layouts.Frames.{KeepsFiles, all_blocks, files-frame}
 use Rattle.disk_layout.proofs.lemmas.layouts.Frames.{unless-same}
 use Rattle.disk_layout.proofs.lemmas.lists.Lists.{in-map}
-use Rattle.disk_layout.proofs.lemmas.lists.Once.{Contains-here, Contains-there, EachOnce-apart, flat_map-in}
+use Rattle.disk_layout.proofs.lemmas.lists.Once.{Contains-here, Contains-there, flat_map-in}
 use Rattle.disk_layout.proofs.lemmas.records.Pieces.{length-piece, piece, piece-byte}
 use Rattle.disk_layout.specs.Directory.{is_used, slot_in, slots_in, used_slots}
 use Rattle.disk_layout.specs.Entries.{IsRecountedAll, uncounted}
-use Rattle.disk_layout.specs.Layout.{File, IsFile, IsLayout, Layout, file_owns, owners}
+use Rattle.disk_layout.specs.Layout.{File, IsFile, IsLayout, Layout, file_owns}
 use Rattle.disk_layout.specs.Same.{stays_of}
 use Rattle.disk_layout.specs.declared.slot.Slot.{Slot}
 
@@ -201,29 +200,3 @@ module _ (a : Image) (l : Layout) (p : Place) (bytes : Sector) (full : length a 
         subst P e (entries-kept p (sector a p) bytes n r low ∙ ap (λ x. uncounted (slot_in p x n)) (sym there))
     | inr ne ↦ ap (λ x. uncounted (slot_in q x n)) (unless-same a p q bytes ne)
   ]
-
-  links : SameLinks a (put a p bytes) l.directory
-  links q c = elim (same_or_other p q) [
-    | inl e ↦ let P : Place → Type 0 = λ x. SameLink a (put a p bytes) x in
-        subst P e (
-          sym (r.same 0 0 (omega arith) (omega arith)) ∙ ap (λ x. slice_index x 0) (sym there),
-          sym (r.same 0 1 (omega arith) (omega arith)) ∙ ap (λ x. slice_index x 1) (sym there),
-        )
-    | inr ne ↦ (
-      ap (λ x. slice_index x 0) (unless-same a p q bytes ne),
-      ap (λ x. slice_index x 1) (unless-same a p q bytes ne),
-    )
-  ]
-
-  not_file : ¬ (Contains (flat_map file_owns l.files) p)
-  unfolding owners
-  not_file c = EachOnce-apart l.directory (flat_map file_owns l.files) h.once.1 p own c
-
-  pub IsLayout-put_counts : IsLayout (put a p bytes) (reread_layout (put a p bytes) l)
-  IsLayout-put_counts = IsLayout-reread a (put a p bytes) l h links (λ q c. keeps-put_counts q)
-      (keeps-other a p bytes l.files not_file)
-
-  pub stays-put_counts : map (stays_of (put a p bytes)) (map (reread (put a p bytes)) l.files) ≡ map (stays_of a)
-      l.files
-  stays-put_counts = stays-reread a (put a p bytes) l h (λ q c. keeps-put_counts q)
-      (λ q c. unless-same a p q bytes (λ e. not_file (rw e (block-owned l.files q c))))

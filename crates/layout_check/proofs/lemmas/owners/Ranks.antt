@@ -47,8 +47,8 @@ rank-out (p ∷ ps) q n = omega (
   rank-out ps q (λ c. n (Contains-there q p ps c)),
 )
 
-pub rank-in : (ps : List Place) (q : Place) → EachOnce ps → Contains ps q → rank ps (index_of q + 1) ≡ rank ps (index_of q)
-    + 1
+pub rank-in : (ps : List Place) (q : Place) → EachOnce ps → Contains ps q
+    → rank ps (index_of q + 1) ≡ rank ps (index_of q) + 1
 rank-in [] q once c = absurd (Contains-nil q c)
 rank-in (p ∷ ps) q once c = elim (Contains-cases q p ps c) [
   | inl e ↦ omega (

@@ -1,33 +1,6 @@
 -- Side sectors that are right, gone over in order.
-use Rattle.std.proofs.Common.{
-  ℕ,
-  ◌≡◌,
-  ◌<◌,
-  ◌≤◌,
-  ◌+◌,
-  List,
-  [],
-  ◌∷◌,
-  ◌++◌,
-  length,
-  map,
-  get_or,
-  take,
-  drop,
-  slice_index,
-  inl,
-  inr,
-  sym,
-  ◌∙◌,
-  ap,
-  refl,
-  arith,
-  subst,
-  suc,
-  zero,
-  IsFalse,
-  IsTrue,
-}
+use Rattle.std.proofs.Common.{ℕ, ◌≡◌, ◌<◌, ◌≤◌, ◌+◌, List, [], ◌∷◌, ◌++◌, length, map, get_or, take, drop, slice_index}
+use Rattle.std.proofs.Common.{inl, inr, sym, ◌∙◌, ap, refl, arith, subst, suc, zero, IsFalse, IsTrue}
 use Rattle.std.specs.Prelude.{Contains, Some, slice_get}
 use Rattle.std.proofs.lemmas.Bool.{cases_eq}
 use Rattle.std.proofs.lemmas.Grind.{flat_map-append}
