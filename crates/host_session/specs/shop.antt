@@ -6,6 +6,7 @@ pub mod Putting
 pub mod Growing
 pub mod Found
 pub mod Selecting
+pub mod Puts
 pub mod Completing
 pub mod Judged
 pub mod Channels

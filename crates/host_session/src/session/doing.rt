@@ -1,9 +1,10 @@
 //! A till's next request, kept on the disk.
-ghost use Rattle.std.specs.Prelude.{ℕ, ◌≡◌, ◌≤◌, ◌<◌, ◌+◌, IsErr, OnOk, false, is_none, true};
-ghost use Rattle.d64_image.specs.History.{Changes, IfCounted, TellsFailure};
+ghost use Rattle.std.specs.Prelude.{ℕ, ◌≡◌, ◌≤◌, ◌<◌, ◌+◌, false, is_none, true};
+ghost use Rattle.d64_image.specs.History.{IfCounted};
 ghost use Rattle.host_session.specs.session.Handling.{card_writes, kept_writes};
 ghost use Rattle.host_session.specs.session.Keeping.{HasItems, IsEither, IsKeeping, shop_after};
 ghost use Rattle.host_session.specs.shop.Files.{Files, HasFiles};
+ghost use Rattle.host_session.specs.shop.Puts.{Puts};
 ghost use Rattle.host_session.specs.shop.Selecting.{IsReady};
 ghost use Rattle.host_session.specs.shop.Shop.{IsSettled, IsShop, results_of, shop_of};
 ghost use Rattle.rel_records.specs.growth.Growth.{growth_writes};
@@ -25,15 +26,13 @@ fn put_refusal<D: Sectors>(
     requires ready { IsReady D.history drive.old }
     requires keeping { (f : Files) × HasFiles (D.history.image drive.old.disk) f × IsKeeping f request.now card.now }
     requires refused { card.now.pending ≡ false }
-    ensures ready { OnOk result (IsReady D.history drive.new) }
-    ensures ok { (f : Files) → HasFiles (D.history.image drive.old.disk) f → IsKeeping f request.now card.now
-        → OnOk result (IsSettled (D.history.image drive.new.disk) (shop_after (shop_of f) request.now)) }
-    ensures moments { (f : Files) → HasFiles (D.history.image drive.old.disk) f → IsKeeping f request.now card.now
-        → Changes D.history drive.old.disk drive.new.disk 1 (IsEither (shop_of f) request.now) }
+    ensures puts { Puts D.history drive.old drive.new result
+        (λ f. HasFiles (D.history.image drive.old.disk) f × IsKeeping f request.now card.now)
+        (λ f p. 1)
+        (λ f. IsEither (shop_of f) request.now)
+        (λ f i. IsSettled i (shop_after (shop_of f) request.now)) }
     ensures counted { (f : Files) → HasFiles (D.history.image drive.old.disk) f → IsKeeping f request.now card.now
         → IfCounted D.history drive.old.disk drive.new.disk (λ i. IsShop i (shop_after (shop_of f) request.now)) }
-    ensures failures { TellsFailure D.history drive.old.disk drive.new.disk result }
-    ensures dies { IsErr result → drive.new.dead ≡ true }
 {
     put_answer(drive, request.till(), &card.print())
 }
@@ -50,16 +49,13 @@ fn put_intent<D: Sectors>(
     requires keeping { (f : Files) × HasFiles (D.history.image drive.old.disk) f × IsKeeping f request.now card.now
         × HasItems f card.now }
     requires intent { card.now.pending ≡ true }
-    ensures ready { OnOk result (IsReady D.history drive.new) }
-    ensures ok { (f : Files) → HasFiles (D.history.image drive.old.disk) f → IsKeeping f request.now card.now
-        → OnOk result (IsSettled (D.history.image drive.new.disk) (shop_after (shop_of f) request.now)) }
-    ensures moments { (f : Files) → HasFiles (D.history.image drive.old.disk) f → IsKeeping f request.now card.now
-        → Changes D.history drive.old.disk drive.new.disk (2 + card_writes (results_of card.now.newest))
-        (IsEither (shop_of f) request.now) }
+    ensures puts { Puts D.history drive.old drive.new result
+        (λ f. HasFiles (D.history.image drive.old.disk) f × IsKeeping f request.now card.now)
+        (λ f p. 2 + card_writes (results_of card.now.newest))
+        (λ f. IsEither (shop_of f) request.now)
+        (λ f i. IsSettled i (shop_after (shop_of f) request.now)) }
     ensures counted { (f : Files) → HasFiles (D.history.image drive.old.disk) f → IsKeeping f request.now card.now
         → IfCounted D.history drive.old.disk drive.new.disk (λ i. IsShop i (shop_after (shop_of f) request.now)) }
-    ensures failures { TellsFailure D.history drive.old.disk drive.new.disk result }
-    ensures dies { IsErr result → drive.new.dead ≡ true }
 {
     let till = request.till();
     let mut text = card.print();
@@ -79,15 +75,11 @@ fn put_first_set<D: Sectors>(
     requires keeping { (f : Files) × HasFiles (D.history.image drive.old.disk) f × IsKeeping f request.now card.now
         × (is_none ((shop_of f).state.ledger.cards request.now.body.item) ≡ true) }
     requires intent { card.now.pending ≡ true }
-    ensures ready { OnOk result (IsReady D.history drive.new) }
-    ensures ok { (f : Files) → HasFiles (D.history.image drive.old.disk) f → IsKeeping f request.now card.now
-        → OnOk result (IsSettled (D.history.image drive.new.disk) (shop_after (shop_of f) request.now)) }
-    ensures moments { (f : Files) → (h : HasFiles (D.history.image drive.old.disk) f) → IsKeeping f request.now card.now
-        → Changes D.history drive.old.disk drive.new.disk
-        (growth_writes h.stock_file request.now.body.item + 2 + card_writes (results_of card.now.newest))
-        (IsEither (shop_of f) request.now) }
-    ensures failures { TellsFailure D.history drive.old.disk drive.new.disk result }
-    ensures dies { IsErr result → drive.new.dead ≡ true }
+    ensures { Puts D.history drive.old drive.new result
+        (λ f. HasFiles (D.history.image drive.old.disk) f × IsKeeping f request.now card.now)
+        (λ f p. growth_writes p.0.stock_file request.now.body.item + 2 + card_writes (results_of card.now.newest))
+        (λ f. IsEither (shop_of f) request.now)
+        (λ f i. IsSettled i (shop_after (shop_of f) request.now)) }
 {
     grow_stock(drive, request.item())?;
     put_intent(drive, request, card)
@@ -104,21 +96,17 @@ pub(crate) fn keep<D: Sectors>(
     requires ready { IsReady D.history drive.old }
     requires keeping { (f : Files) × HasFiles (D.history.image drive.old.disk) f × IsKeeping f request.now card.now
         × (has_no_card ≡ is_none ((shop_of f).state.ledger.cards request.now.body.item)) }
-    ensures ready { OnOk result (IsReady D.history drive.new) }
-    ensures ok { (f : Files) → HasFiles (D.history.image drive.old.disk) f → IsKeeping f request.now card.now
-        → OnOk result (IsSettled (D.history.image drive.new.disk) (shop_after (shop_of f) request.now)) }
-    ensures moments { (f : Files) → (h : HasFiles (D.history.image drive.old.disk) f) → IsKeeping f request.now card.now
-        → Changes D.history drive.old.disk drive.new.disk
-        (kept_writes h.stock_file request.now.body.item (results_of card.now.newest))
-        (IsEither (shop_of f) request.now) }
+    ensures puts { Puts D.history drive.old drive.new result
+        (λ f. HasFiles (D.history.image drive.old.disk) f × IsKeeping f request.now card.now)
+        (λ f p. kept_writes p.0.stock_file request.now.body.item (results_of card.now.newest))
+        (λ f. IsEither (shop_of f) request.now)
+        (λ f i. IsSettled i (shop_after (shop_of f) request.now)) }
     // but for a set of an item without a card, the shop is the one after once a write was counted
     ensures counted { has_no_card ≡ false → (f : Files) → HasFiles (D.history.image drive.old.disk) f → IsKeeping f request.now card.now
         → IfCounted D.history drive.old.disk drive.new.disk (λ i. IsShop i (shop_after (shop_of f) request.now)) }
     ensures refused { card.now.pending ≡ false → (f : Files) → HasFiles (D.history.image drive.old.disk) f
         → IsKeeping f request.now card.now
         → IfCounted D.history drive.old.disk drive.new.disk (λ i. IsShop i (shop_after (shop_of f) request.now)) }
-    ensures failures { TellsFailure D.history drive.old.disk drive.new.disk result }
-    ensures dies { IsErr result → drive.new.dead ≡ true }
 {
     if !card.pending() {
         return put_refusal(drive, request, card);

@@ -1,8 +1,8 @@
 //! Cards of version 1, written again as version 2.
-ghost use Rattle.std.specs.Prelude.{◌≡◌, ◌≤◌, ◌-◌, IsErr, OnOk, false, true};
-ghost use Rattle.d64_image.specs.History.{Changes, TellsFailure};
+ghost use Rattle.std.specs.Prelude.{◌≡◌, ◌≤◌, ◌-◌, false};
 ghost use Rattle.host_session.specs.session.Settling.{HasClosedTable, HasNewTable};
 ghost use Rattle.host_session.specs.session.Standing.{nth};
+ghost use Rattle.host_session.specs.shop.Puts.{Puts};
 ghost use Rattle.host_session.specs.shop.Selecting.{IsReady};
 ghost use Rattle.host_session.specs.shop.Shop.{IsShop, Shop, any_old, is_old};
 
@@ -22,14 +22,10 @@ fn migrate_till<D: Sectors>(
     requires low { 1 ≤ till }
     requires high { till ≤ 64 }
     requires table { (s : Shop) × HasNewTable (D.history.image drive.old.disk) s requests.old (till - 1) }
-    ensures ready { OnOk result (IsReady D.history drive.new) }
-    ensures ok { (s : Shop) → HasNewTable (D.history.image drive.old.disk) s requests.old (till - 1)
-        → OnOk result (HasNewTable (D.history.image drive.new.disk) s requests.new till) }
-    ensures moments { (s : Shop) → HasNewTable (D.history.image drive.old.disk) s requests.old (till - 1)
-        → Changes D.history drive.old.disk drive.new.disk 1 (λ c. IsShop c s) }
+    ensures puts { Puts D.history drive.old drive.new result
+        (λ s. HasNewTable (D.history.image drive.old.disk) s requests.old (till - 1))
+        (λ s h. 1) (λ s c. IsShop c s) (λ s i. HasNewTable i s requests.new till) }
     ensures quiet { is_old (nth requests.old till) ≡ false → (drive.new ≡ drive.old) × (requests.new ≡ requests.old) }
-    ensures failures { TellsFailure D.history drive.old.disk drive.new.disk result }
-    ensures dies { IsErr result → drive.new.dead ≡ true }
 {
     let place = usize::from(till) - 1;
     let Some(card) = requests[place] else {
@@ -51,14 +47,10 @@ pub(crate) fn migrate<D: Sectors>(
 ) -> Result<(), Dead>
     requires ready { IsReady D.history drive.old }
     requires table { (s : Shop) × HasClosedTable (D.history.image drive.old.disk) s requests.old }
-    ensures ready { OnOk result (IsReady D.history drive.new) }
-    ensures ok { (s : Shop) → HasClosedTable (D.history.image drive.old.disk) s requests.old
-        → OnOk result (HasNewTable (D.history.image drive.new.disk) s requests.new 64) }
-    ensures moments { (s : Shop) → HasClosedTable (D.history.image drive.old.disk) s requests.old
-        → Changes D.history drive.old.disk drive.new.disk 64 (λ c. IsShop c s) }
+    ensures puts { Puts D.history drive.old drive.new result
+        (λ s. HasClosedTable (D.history.image drive.old.disk) s requests.old)
+        (λ s h. 64) (λ s c. IsShop c s) (λ s i. HasNewTable i s requests.new 64) }
     ensures quiet { any_old requests.old ≡ false → (drive.new ≡ drive.old) × (requests.new ≡ requests.old) }
-    ensures failures { TellsFailure D.history drive.old.disk drive.new.disk result }
-    ensures dies { IsErr result → drive.new.dead ≡ true }
 {
     for place in 0..64u8 {
         migrate_till(drive, place + 1, requests)?;

@@ -1,8 +1,8 @@
 //! The open intent that a power cut left, completed.
-ghost use Rattle.std.specs.Prelude.{◌≡◌, IfNone, IsErr, OnOk, true};
-ghost use Rattle.d64_image.specs.History.{Changes, TellsFailure};
+ghost use Rattle.std.specs.Prelude.{◌≡◌, IfNone};
 ghost use Rattle.host_session.specs.session.Settling.{HasClosedTable, HasTable};
 ghost use Rattle.host_session.specs.shop.Judged.{IsIntentOf};
+ghost use Rattle.host_session.specs.shop.Puts.{Puts};
 ghost use Rattle.host_session.specs.shop.Selecting.{IsReady};
 ghost use Rattle.host_session.specs.shop.Shop.{IsShop, Shop};
 
@@ -21,15 +21,11 @@ pub(crate) fn recover<D: Sectors>(
 ) -> Result<(), Dead>
     requires ready { IsReady D.history drive.old }
     requires table { (s : Shop) × HasTable (D.history.image drive.old.disk) s requests.old × IsIntentOf requests.old intent.now }
-    ensures ready { OnOk result (IsReady D.history drive.new) }
-    ensures ok { (s : Shop) → HasTable (D.history.image drive.old.disk) s requests.old → IsIntentOf requests.old intent.now
-        → OnOk result (HasClosedTable (D.history.image drive.new.disk) s requests.new) }
     // two cards in two parts each at most, and the answer
-    ensures moments { (s : Shop) → HasTable (D.history.image drive.old.disk) s requests.old → IsIntentOf requests.old intent.now
-        → Changes D.history drive.old.disk drive.new.disk 5 (λ c. IsShop c s) }
+    ensures puts { Puts D.history drive.old drive.new result
+        (λ s. HasTable (D.history.image drive.old.disk) s requests.old × IsIntentOf requests.old intent.now)
+        (λ s p. 5) (λ s c. IsShop c s) (λ s i. HasClosedTable i s requests.new) }
     ensures quiet { IfNone intent.now ((drive.new ≡ drive.old) × (requests.new ≡ requests.old)) }
-    ensures failures { TellsFailure D.history drive.old.disk drive.new.disk result }
-    ensures dies { IsErr result → drive.new.dead ≡ true }
 {
     let Some(open) = intent else {
         return Ok(());

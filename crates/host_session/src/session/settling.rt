@@ -1,12 +1,13 @@
 //! A shop's disk brought to rest: mended, without an open intent and without a card of version 1.
-ghost use Rattle.std.specs.Prelude.{◌≡◌, IfErr, IfNone, IfOk, IsErr, OnOk, false, true};
-ghost use Rattle.d64_image.specs.History.{Changes, TellsFailure};
+ghost use Rattle.std.specs.Prelude.{◌≡◌, IfErr, IfNone, IfOk, false};
+ghost use Rattle.d64_image.specs.History.{Changes};
 ghost use Rattle.host_session.specs.declared.faults.OpenFault.TheVariants.{Device};
 ghost use Rattle.host_session.specs.session.Opening.{TellsOpening, Untouched, disk_of};
 ghost use Rattle.host_session.specs.session.Settling.{HasNewTable, HasTable};
 ghost use Rattle.host_session.specs.session.Standing.{IsStanding, state_in};
 ghost use Rattle.host_session.specs.shop.Files.{Files, HasFiles};
 ghost use Rattle.host_session.specs.shop.Judged.{IsIntentOf, IsJudged};
+ghost use Rattle.host_session.specs.shop.Puts.{Puts};
 ghost use Rattle.host_session.specs.shop.Selecting.{IsReady};
 ghost use Rattle.host_session.specs.shop.Shop.{IsSettled, IsShop, Shop, any_old};
 
@@ -29,14 +30,10 @@ fn bring_to_rest<D: Sectors>(
 ) -> Result<(), Dead>
     requires ready { IsReady D.history drive.old }
     requires table { (s : Shop) × HasTable (D.history.image drive.old.disk) s requests.old × IsIntentOf requests.old intent.now }
-    ensures ready { OnOk result (IsReady D.history drive.new) }
-    ensures ok { (s : Shop) → HasTable (D.history.image drive.old.disk) s requests.old → IsIntentOf requests.old intent.now
-        → OnOk result (HasNewTable (D.history.image drive.new.disk) s requests.new 64) }
-    ensures moments { (s : Shop) → HasTable (D.history.image drive.old.disk) s requests.old → IsIntentOf requests.old intent.now
-        → Changes D.history drive.old.disk drive.new.disk 69 (λ c. IsShop c s) }
+    ensures puts { Puts D.history drive.old drive.new result
+        (λ s. HasTable (D.history.image drive.old.disk) s requests.old × IsIntentOf requests.old intent.now)
+        (λ s p. 69) (λ s c. IsShop c s) (λ s i. HasNewTable i s requests.new 64) }
     ensures quiet { IfNone intent.now (any_old requests.old ≡ false → drive.new ≡ drive.old) }
-    ensures failures { TellsFailure D.history drive.old.disk drive.new.disk result }
-    ensures dies { IsErr result → drive.new.dead ≡ true }
 {
     recover(drive, intent, requests)?;
     migrate(drive, requests)

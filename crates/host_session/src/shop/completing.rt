@@ -1,10 +1,10 @@
 //! An open intent completed: its cards whole, and then its answer.
-ghost use Rattle.std.specs.Prelude.{ℕ, ◌≡◌, ◌≤◌, ◌+◌, IsErr, OnOk, length, true};
-ghost use Rattle.d64_image.specs.History.{Changes, TellsFailure};
+ghost use Rattle.std.specs.Prelude.{ℕ, ◌≡◌, ◌≤◌, ◌+◌, length};
 ghost use Rattle.host_session.specs.session.Handling.{card_writes};
 ghost use Rattle.host_session.specs.shop.Completing.{HasIntent, HasResults, IsCompleted, answered_card};
 ghost use Rattle.host_session.specs.shop.Files.{Files, HasFiles};
 ghost use Rattle.host_session.specs.shop.Putting.{HasCard, IsPuttingCard};
+ghost use Rattle.host_session.specs.shop.Puts.{Puts};
 ghost use Rattle.host_session.specs.shop.Selecting.{IsReady};
 ghost use Rattle.host_session.specs.shop.Shop.{IsShop, results_of, shop_of};
 ghost use Rattle.rel_records.specs.Written.{touched};
@@ -43,16 +43,10 @@ fn put_quantity<D: Sectors>(drive: &mut ShopDrive<D>, item: u16, quantity: u32) 
     requires ready { IsReady D.history drive.old }
     requires there { (f : Files) × HasFiles (D.history.image drive.old.disk) f × (item ≤ length f.stock) }
     requires fits { IsStock (record { item = item; quantity = quantity }) }
-    ensures ready { OnOk result (IsReady D.history drive.new) }
-    ensures ok { (f : Files) → HasFiles (D.history.image drive.old.disk) f
-        → OnOk result
-        (HasCard f item (stock_text (record { item = item; quantity = quantity }))
-        (D.history.image drive.new.disk)) }
-    ensures moments { (f : Files) → HasFiles (D.history.image drive.old.disk) f
-        → Changes D.history drive.old.disk drive.new.disk (touched 18 item 1)
-        (IsPuttingCard f item (stock_text (record { item = item; quantity = quantity }))) }
-    ensures failures { TellsFailure D.history drive.old.disk drive.new.disk result }
-    ensures dies { IsErr result → drive.new.dead ≡ true }
+    ensures { Puts D.history drive.old drive.new result (HasFiles (D.history.image drive.old.disk))
+        (λ f h. touched 18 item 1)
+        (λ f. IsPuttingCard f item (stock_text (record { item = item; quantity = quantity })))
+        (λ f. HasCard f item (stock_text (record { item = item; quantity = quantity }))) }
 {
     let card = StockCard::new(item, quantity).unwrap();
     put_card(drive, item, &card.print())
@@ -66,15 +60,10 @@ fn put_results<D: Sectors>(
 ) -> Result<(), Dead>
     requires ready { IsReady D.history drive.old }
     requires intent { (f : Files) × HasFiles (D.history.image drive.old.disk) f × HasIntent f till card.now }
-    ensures ready { OnOk result (IsReady D.history drive.new) }
-    ensures ok { (f : Files) → HasFiles (D.history.image drive.old.disk) f → HasIntent f till card.now
-        → OnOk result (HasResults f card.now (D.history.image drive.new.disk)) }
     // every image held is the same shop's
-    ensures moments { (f : Files) → HasFiles (D.history.image drive.old.disk) f → HasIntent f till card.now
-        → Changes D.history drive.old.disk drive.new.disk (card_writes (results_of card.now.newest))
-        (λ i. IsShop i (shop_of f)) }
-    ensures failures { TellsFailure D.history drive.old.disk drive.new.disk result }
-    ensures dies { IsErr result → drive.new.dead ≡ true }
+    ensures { Puts D.history drive.old drive.new result
+        (λ f. HasFiles (D.history.image drive.old.disk) f × HasIntent f till card.now)
+        (λ f p. card_writes (results_of card.now.newest)) (λ f i. IsShop i (shop_of f)) (λ f. HasResults f card.now) }
 {
     let new = new_quantities(till, card);
     let Some((item, quantity)) = new.first else {
@@ -100,15 +89,10 @@ pub(crate) fn complete_with<D: Sectors>(
     requires ready { IsReady D.history drive.old }
     requires intent { (f : Files) × HasFiles (D.history.image drive.old.disk) f × HasIntent f till card.now }
     requires text { text.now ≡ card_text (answered_card card.now) }
-    ensures ready { OnOk result (IsReady D.history drive.new) }
-    ensures ok { (f : Files) → HasFiles (D.history.image drive.old.disk) f → HasIntent f till card.now
-        → OnOk result (IsCompleted f till card.now (D.history.image drive.new.disk)) }
     // every image held is the same shop's
-    ensures moments { (f : Files) → HasFiles (D.history.image drive.old.disk) f → HasIntent f till card.now
-        → Changes D.history drive.old.disk drive.new.disk (card_writes (results_of card.now.newest) + 1)
-        (λ i. IsShop i (shop_of f)) }
-    ensures failures { TellsFailure D.history drive.old.disk drive.new.disk result }
-    ensures dies { IsErr result → drive.new.dead ≡ true }
+    ensures { Puts D.history drive.old drive.new result
+        (λ f. HasFiles (D.history.image drive.old.disk) f × HasIntent f till card.now)
+        (λ f p. card_writes (results_of card.now.newest) + 1) (λ f i. IsShop i (shop_of f)) (λ f. IsCompleted f till card.now) }
 {
     put_results(drive, till, card)?;
     put_answer(drive, till, text)
@@ -122,14 +106,10 @@ pub(crate) fn complete<D: Sectors>(
 ) -> Result<(), Dead>
     requires ready { IsReady D.history drive.old }
     requires intent { (f : Files) × HasFiles (D.history.image drive.old.disk) f × HasIntent f till card.now }
-    ensures ready { OnOk result (IsReady D.history drive.new) }
-    ensures ok { (f : Files) → HasFiles (D.history.image drive.old.disk) f → HasIntent f till card.now
-        → OnOk result (IsCompleted f till card.now (D.history.image drive.new.disk)) }
-    ensures moments { (f : Files) → HasFiles (D.history.image drive.old.disk) f → HasIntent f till card.now
-        → Changes D.history drive.old.disk drive.new.disk (card_writes (results_of card.now.newest) + 1)
-        (λ i. IsShop i (shop_of f)) }
-    ensures failures { TellsFailure D.history drive.old.disk drive.new.disk result }
-    ensures dies { IsErr result → drive.new.dead ≡ true }
+    // every image held is the same shop's
+    ensures { Puts D.history drive.old drive.new result
+        (λ f. HasFiles (D.history.image drive.old.disk) f × HasIntent f till card.now)
+        (λ f p. card_writes (results_of card.now.newest) + 1) (λ f i. IsShop i (shop_of f)) (λ f. IsCompleted f till card.now) }
 {
     complete_with(drive, till, card, &answered(card).print())
 }

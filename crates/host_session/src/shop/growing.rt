@@ -1,8 +1,8 @@
 //! STOCK made long enough for the record of a new card.
-ghost use Rattle.std.specs.Prelude.{◌≡◌, ◌≤◌, IsErr, OnOk, true};
-ghost use Rattle.d64_image.specs.History.{Changes, TellsFailure};
+ghost use Rattle.std.specs.Prelude.{◌≤◌};
 ghost use Rattle.host_session.specs.shop.Files.{Files, HasFiles};
 ghost use Rattle.host_session.specs.shop.Growing.{HasGrown, HasGrownTo};
+ghost use Rattle.host_session.specs.shop.Puts.{Puts};
 ghost use Rattle.host_session.specs.shop.Selecting.{IsReady};
 ghost use Rattle.rel_records.specs.growth.Growth.{growth_writes};
 
@@ -15,14 +15,9 @@ use drive_channels::Dead;
 pub(crate) fn grow_stock<D: Sectors>(drive: &mut ShopDrive<D>, item: u16) -> Result<(), Dead>
     requires ready { IsReady D.history drive.old }
     requires fits { (f : Files) × HasFiles (D.history.image drive.old.disk) f × (1 ≤ item) × (item ≤ f.top) }
-    ensures ready { OnOk result (IsReady D.history drive.new) }
-    ensures ok { (f : Files) → HasFiles (D.history.image drive.old.disk) f
-        → OnOk result (HasGrownTo f item (D.history.image drive.new.disk)) }
     // every image held, and the writes: none where the record is there
-    ensures moments { (f : Files) → (h : HasFiles (D.history.image drive.old.disk) f)
-        → Changes D.history drive.old.disk drive.new.disk (growth_writes h.stock_file item) (HasGrown f) }
-    ensures failures { TellsFailure D.history drive.old.disk drive.new.disk result }
-    ensures dies { IsErr result → drive.new.dead ≡ true }
+    ensures { Puts D.history drive.old drive.new result (HasFiles (D.history.image drive.old.disk))
+        (λ f h. growth_writes h.stock_file item) HasGrown (λ f. HasGrownTo f item) }
 {
     drive.select(ShopFile::Stock, item)?;
     drive.write(b"")

@@ -1,10 +1,9 @@
 //! Records that are there, written through the drive.
-ghost use Rattle.std.specs.Prelude.{ℕ, ◌≡◌, ◌≤◌, IsErr, OnErr, OnOk, true, length};
-ghost use Rattle.d64_image.specs.History.{Changes, TellsFailure};
-ghost use Rattle.disk_layout.specs.Clean.{IsClean};
+ghost use Rattle.std.specs.Prelude.{ℕ, ◌≡◌, ◌≤◌, OnErr, length};
 ghost use Rattle.disk_layout.specs.Layout.{File, Layout, record_length};
 ghost use Rattle.disk_layout.specs.Records as records_of;
 ghost use Rattle.host_session.specs.shop.Putting.{IsPlaced};
+ghost use Rattle.host_session.specs.shop.Puts.{Puts};
 ghost use Rattle.host_session.specs.shop.Selecting.{IsReady};
 ghost use Rattle.host_session.specs.shop.Channels.{name_of};
 ghost use Rattle.rel_records.specs.Others.{HasRecords};
@@ -28,22 +27,16 @@ fn put_record<D: Sectors>(
     requires ready { IsReady D.history drive.old }
     requires placed { (l : Layout) × (n : ℕ) × (f : File) × IsPlaced (D.history.image drive.old.disk) (name_of file) number l n f }
     requires some { 1 ≤ length text.now }
-    ensures ready { OnOk result (IsReady D.history drive.new) }
-    ensures clean { OnOk result (IsClean (D.history.image drive.new.disk)) }
-    ensures ok { (l : Layout) (n : ℕ) (f : File) → IsPlaced (D.history.image drive.old.disk) (name_of file) number l n f
-        → OnOk result
-        (HasRecords (D.history.image drive.old.disk) (D.history.image drive.new.disk) l n
-        (with_written (record_length f.slot) number 1 text.now
-        (records_of.records (D.history.image drive.old.disk) f))) }
-    ensures moments { (l : Layout) (n : ℕ) (f : File) → IsPlaced (D.history.image drive.old.disk) (name_of file) number l n f
-        → Changes D.history drive.old.disk drive.new.disk (touched (record_length f.slot) number 1)
-        (IsWriting (D.history.image drive.old.disk) l n f 0 number 1 text.now) }
+    ensures puts { Puts D.history drive.old drive.new result
+        (λ (p : Layout × ℕ × File). IsPlaced (D.history.image drive.old.disk) (name_of file) number p.0 p.1 p.2)
+        (λ p is. touched (record_length p.2.slot) number 1)
+        (λ p. IsWriting (D.history.image drive.old.disk) p.0 p.1 p.2 0 number 1 text.now)
+        (λ p i. HasRecords (D.history.image drive.old.disk) i p.0 p.1 (with_written (record_length p.2.slot) number 1 text.now
+        (records_of.records (D.history.image drive.old.disk) p.2))) }
     // a record that lies in one block: at an error no write was counted
     ensures uncounted { (l : Layout) (n : ℕ) (f : File) → IsPlaced (D.history.image drive.old.disk) (name_of file) number l n f
         → IsInOneBlock (record_length f.slot) number
         → OnErr result (D.history.writes drive.new.disk ≡ D.history.writes drive.old.disk) }
-    ensures failures { TellsFailure D.history drive.old.disk drive.new.disk result }
-    ensures dies { IsErr result → drive.new.dead ≡ true }
 {
     drive.select(file, number)?;
     drive.write(text)
@@ -58,14 +51,8 @@ pub(crate) fn put_card<D: Sectors>(
     requires ready { IsReady D.history drive.old }
     requires there { (f : Files) × HasFiles (D.history.image drive.old.disk) f × (1 ≤ item) × (item ≤ length f.stock) }
     requires long { length text.now ≡ 18 }
-    ensures ready { OnOk result (IsReady D.history drive.new) }
-    ensures clean { OnOk result (IsClean (D.history.image drive.new.disk)) }
-    ensures ok { (f : Files) → HasFiles (D.history.image drive.old.disk) f
-        → OnOk result (HasCard f item text.now (D.history.image drive.new.disk)) }
-    ensures moments { (f : Files) → HasFiles (D.history.image drive.old.disk) f
-        → Changes D.history drive.old.disk drive.new.disk (touched 18 item 1) (IsPuttingCard f item text.now) }
-    ensures failures { TellsFailure D.history drive.old.disk drive.new.disk result }
-    ensures dies { IsErr result → drive.new.dead ≡ true }
+    ensures { Puts D.history drive.old drive.new result (HasFiles (D.history.image drive.old.disk))
+        (λ f h. touched 18 item 1) (λ f. IsPuttingCard f item text.now) (λ f. HasCard f item text.now) }
 {
     put_record(drive, ShopFile::Stock, item, text)
 }
@@ -80,16 +67,10 @@ pub(crate) fn put_answer<D: Sectors>(
     requires there { (f : Files) × HasFiles (D.history.image drive.old.disk) f × (1 ≤ till) × (till ≤ 64)
         × (till ≤ length f.requests) }
     requires long { length text.now ≡ 127 }
-    ensures ready { OnOk result (IsReady D.history drive.new) }
-    ensures clean { OnOk result (IsClean (D.history.image drive.new.disk)) }
-    ensures ok { (f : Files) → HasFiles (D.history.image drive.old.disk) f
-        → OnOk result (HasAnswer f till text.now (D.history.image drive.new.disk)) }
-    ensures moments { (f : Files) → HasFiles (D.history.image drive.old.disk) f
-        → Changes D.history drive.old.disk drive.new.disk 1 (IsPuttingAnswer f till text.now) }
+    ensures puts { Puts D.history drive.old drive.new result (HasFiles (D.history.image drive.old.disk))
+        (λ f h. 1) (λ f. IsPuttingAnswer f till text.now) (λ f. HasAnswer f till text.now) }
     // at an error no write was counted
     ensures uncounted { OnErr result (D.history.writes drive.new.disk ≡ D.history.writes drive.old.disk) }
-    ensures failures { TellsFailure D.history drive.old.disk drive.new.disk result }
-    ensures dies { IsErr result → drive.new.dead ≡ true }
 {
     put_record(drive, ShopFile::Requests, u16::from(till), text)
 }

@@ -44,11 +44,11 @@ module _ (f : Files) (a : Ask) (c : Card) (t : ℕ) (text : List ℕ) (at : t �
     put-counted all x y (Ok _) h same = λ lt. kept-shop f a c k all (S.image y) (answer-named (S.image y) h)
     put-counted all x y (Err _) h same = none_counted S x y (λ i. IsShop i (shop_after (shop_of f) a)) same
 
-    pub put-settled : {T E : Type 0} → c.pending ≡ false → (y : D) (res : Result T E)
-        → OnOk res (HasAnswer f t text (S.image y)) → OnOk res (IsClean (S.image y))
-        → OnOk res (IsSettled (S.image y) (shop_after (shop_of f) a))
-    put-settled e y (Ok _) h clean = refused-settled f a c k e (S.image y) clean (answer-named (S.image y) h)
-    put-settled e y (Err _) h clean = tt
+    pub put-settled : {T E : Type 0} → c.pending ≡ false → (y : Seen D) (res : Result T E)
+        → OnOk res (HasAnswer f t text (S.image y.disk)) → OnOk res (IsReady S y)
+        → OnOk res (IsSettled (S.image y.disk) (shop_after (shop_of f) a))
+    put-settled e y (Ok _) h ready = refused-settled f a c k e (S.image y.disk) ready.clean (answer-named (S.image y.disk) h)
+    put-settled e y (Err _) h ready = tt
 
     -- the intent, and its completion
     pub named-intent : c.pending ≡ true → HasItems f c → HasIntent (with_it f a c k) t c

@@ -40,8 +40,9 @@ invariant_of-self g c = (
       c.next_card-card.result c.next_card-card.ensures c.is_none-has_no_card.result
       (asked-none c.on_hand.result _ c.is_none-has_no_card.result (c.on_hand.ensures.value
       ∙ ap (nth c.self.inside.cards) c.item.ensures.value) c.is_none-has_no_card.ensures)
-      c.keep.new.drive c.keep.result c.keep.ensures.ready c.keep.ensures.ok c.keep.ensures.moments
-      c.keep.ensures.counted c.keep.ensures.refused c.keep.ensures.failures _,
+      c.keep.new.drive c.keep.result c.keep.ensures.puts.ready (λ f h k. c.keep.ensures.puts.ok f (h, k))
+      (λ f h k. c.keep.ensures.puts.moments f (h, k))
+      c.keep.ensures.counted c.keep.ensures.refused c.keep.ensures.puts.failures _,
   λ e. absurd (false≢true (sym e)),
 )
 
@@ -54,8 +55,9 @@ returns-in_default g c =
     c.next_card-card.result c.next_card-card.ensures c.is_none-has_no_card.result
     (asked-none c.on_hand.result _ c.is_none-has_no_card.result (c.on_hand.ensures.value
     ∙ ap (nth c.self.inside.cards) c.item.ensures.value) c.is_none-has_no_card.ensures)
-    c.keep.new.drive c.keep.result c.keep.ensures.ready c.keep.ensures.ok c.keep.ensures.moments c.keep.ensures.counted
-    c.keep.ensures.refused c.keep.ensures.failures
+    c.keep.new.drive c.keep.result c.keep.ensures.puts.ready (λ f h k. c.keep.ensures.puts.ok f (h, k))
+    (λ f h k. c.keep.ensures.puts.moments f (h, k)) c.keep.ensures.counted
+    c.keep.ensures.refused c.keep.ensures.puts.failures
     c.in_default.field-0 c.in_default.is
 
 pub invariant_of-self-2 : goal.invariant_of-self-2
@@ -67,8 +69,9 @@ invariant_of-self-2 g c = (
       c.next_card-card.result c.next_card-card.ensures c.is_none-has_no_card.result
       (asked-none c.on_hand.result _ c.is_none-has_no_card.result (c.on_hand.ensures.value
       ∙ ap (nth c.self.inside.cards) c.item.ensures.value) c.is_none-has_no_card.ensures)
-      c.keep.new.drive c.keep.result c.keep.ensures.ready c.keep.ensures.ok c.keep.ensures.moments
-      c.keep.ensures.counted c.keep.ensures.refused c.keep.ensures.failures
+      c.keep.new.drive c.keep.result c.keep.ensures.puts.ready (λ f h k. c.keep.ensures.puts.ok f (h, k))
+      (λ f h k. c.keep.ensures.puts.moments f (h, k))
+      c.keep.ensures.counted c.keep.ensures.refused c.keep.ensures.puts.failures
       c.in-Ok.field-0 c.in-Ok.is c.answered.result c.answered.ensures _ _ c.renew.ensures,
   λ _. ready-after g.D.Sectors.history c.self.inside.drive.disk c.args.self.now c.self.inside.dead c.self.inside.top
       c.self.inside.tills c.self.inside.cards c.self.inside.requests
@@ -77,8 +80,9 @@ invariant_of-self-2 g c = (
       c.next_card-card.result c.next_card-card.ensures c.is_none-has_no_card.result
       (asked-none c.on_hand.result _ c.is_none-has_no_card.result (c.on_hand.ensures.value
       ∙ ap (nth c.self.inside.cards) c.item.ensures.value) c.is_none-has_no_card.ensures)
-      c.keep.new.drive c.keep.result c.keep.ensures.ready c.keep.ensures.ok c.keep.ensures.moments
-      c.keep.ensures.counted c.keep.ensures.refused c.keep.ensures.failures
+      c.keep.new.drive c.keep.result c.keep.ensures.puts.ready (λ f h k. c.keep.ensures.puts.ok f (h, k))
+      (λ f h k. c.keep.ensures.puts.moments f (h, k))
+      c.keep.ensures.counted c.keep.ensures.refused c.keep.ensures.puts.failures
       c.in-Ok.field-0 c.in-Ok.is,
 )
 
@@ -91,6 +95,7 @@ returns g c =
     c.next_card-card.result c.next_card-card.ensures c.is_none-has_no_card.result
     (asked-none c.on_hand.result _ c.is_none-has_no_card.result (c.on_hand.ensures.value
     ∙ ap (nth c.self.inside.cards) c.item.ensures.value) c.is_none-has_no_card.ensures)
-    c.keep.new.drive c.keep.result c.keep.ensures.ready c.keep.ensures.ok c.keep.ensures.moments c.keep.ensures.counted
-    c.keep.ensures.refused c.keep.ensures.failures
+    c.keep.new.drive c.keep.result c.keep.ensures.puts.ready (λ f h k. c.keep.ensures.puts.ok f (h, k))
+    (λ f h k. c.keep.ensures.puts.moments f (h, k)) c.keep.ensures.counted
+    c.keep.ensures.refused c.keep.ensures.puts.failures
     c.in-Ok.field-0 c.in-Ok.is

@@ -12,18 +12,22 @@ put_refusal-requires g c =
     record { ready = c.requires.ready; keeping = (f, h, k); refused = sym c.pending.ensures ∙ c.if-not-pending.true }
 
 pub returns-then-not-pending : goal.returns-then-not-pending
-returns-then-not-pending g c = record {
-  ready = c.put_refusal.ensures.ready;
-  ok = c.put_refusal.ensures.ok;
-  moments = λ f h k.
-      changes_weaker g.D.Sectors.history c.args.drive.now.disk c.put_refusal.new.drive.disk 1 _ _ _
-      (refused-writes f c.args.request.now c.args.card.now k (sym c.pending.ensures ∙ c.if-not-pending.true)
-      h.stock_file) (λ i x. x) (c.put_refusal.ensures.moments f h k);
-  counted = λ _. c.put_refusal.ensures.counted;
-  refused = λ _. c.put_refusal.ensures.counted;
-  failures = c.put_refusal.ensures.failures;
-  dies = c.put_refusal.ensures.dies;
-}
+returns-then-not-pending g c =
+    let put = c.put_refusal.ensures.puts in
+    record {
+      puts = record {
+        ready = put.ready;
+        ok = put.ok;
+        moments = λ f p.
+            changes_weaker g.D.Sectors.history c.args.drive.now.disk c.put_refusal.new.drive.disk 1 _ _ _
+            (refused-writes f c.args.request.now c.args.card.now p.1 (sym c.pending.ensures ∙ c.if-not-pending.true)
+            p.0.stock_file) (λ i x. x) (put.moments f p);
+        failures = put.failures;
+        dies = put.dies;
+      };
+      counted = λ _. c.put_refusal.ensures.counted;
+      refused = λ _. c.put_refusal.ensures.counted;
+    }
 
 pub put_first_set-requires : goal.put_first_set-requires
 put_first_set-requires g c =
@@ -36,18 +40,22 @@ put_first_set-requires g c =
     }
 
 pub returns-then-has_no_card : goal.returns-then-has_no_card
-returns-then-has_no_card g c = record {
-  ready = c.put_first_set.ensures.ready;
-  ok = c.put_first_set.ensures.ok;
-  moments = λ f h k.
-      changes_weaker g.D.Sectors.history c.args.drive.now.disk c.put_first_set.new.drive.disk _ _ _ _
-      (intent-writes f c.args.request.now c.args.card.now k (sym c.pending.ensures ∙ c.if-not-pending.false)
-      h.stock_file) (λ i x. x) (c.put_first_set.ensures.moments f h k);
-  counted = λ old. absurd (false≢true (sym old ∙ c.if-has_no_card.true));
-  refused = λ no. absurd (false≢true (sym no ∙ sym c.pending.ensures ∙ c.if-not-pending.false));
-  failures = c.put_first_set.ensures.failures;
-  dies = c.put_first_set.ensures.dies;
-}
+returns-then-has_no_card g c =
+    let set = c.put_first_set.ensures in
+    record {
+      puts = record {
+        ready = set.ready;
+        ok = set.ok;
+        moments = λ f p.
+            changes_weaker g.D.Sectors.history c.args.drive.now.disk c.put_first_set.new.drive.disk _ _ _ _
+            (intent-writes f c.args.request.now c.args.card.now p.1 (sym c.pending.ensures ∙ c.if-not-pending.false)
+            p.0.stock_file) (λ i x. x) (set.moments f p);
+        failures = set.failures;
+        dies = set.dies;
+      };
+      counted = λ old. absurd (false≢true (sym old ∙ c.if-has_no_card.true));
+      refused = λ no. absurd (false≢true (sym no ∙ sym c.pending.ensures ∙ c.if-not-pending.false));
+    }
 
 pub put_intent-requires : goal.put_intent-requires
 put_intent-requires g c =
@@ -65,18 +73,19 @@ put_intent-requires g c =
     }
 
 pub returns : goal.returns
-returns g c = record {
-  ready = c.put_intent.ensures.ready;
-  ok = c.put_intent.ensures.ok;
-  moments = λ f h k.
-      changes_weaker g.D.Sectors.history c.args.drive.now.disk c.put_intent.new.drive.disk _ _ _ _
-      (omega (
-        arith,
-        intent-writes f c.args.request.now c.args.card.now k (sym c.pending.ensures
-            ∙ c.if-not-pending.false) h.stock_file,
-      )) (λ i x. x) (c.put_intent.ensures.moments f h k);
-  counted = λ _. c.put_intent.ensures.counted;
-  refused = λ no. absurd (false≢true (sym no ∙ sym c.pending.ensures ∙ c.if-not-pending.false));
-  failures = c.put_intent.ensures.failures;
-  dies = c.put_intent.ensures.dies;
-}
+returns g c =
+    let put = c.put_intent.ensures.puts in
+    record {
+      puts = record {
+        ready = put.ready;
+        ok = put.ok;
+        moments = λ f p.
+            changes_weaker g.D.Sectors.history c.args.drive.now.disk c.put_intent.new.drive.disk _ _ _ _
+            (omega (arith, intent-writes f c.args.request.now c.args.card.now p.1 (sym c.pending.ensures
+            ∙ c.if-not-pending.false) p.0.stock_file)) (λ i x. x) (put.moments f p);
+        failures = put.failures;
+        dies = put.dies;
+      };
+      counted = λ _. c.put_intent.ensures.counted;
+      refused = λ no. absurd (false≢true (sym no ∙ sym c.pending.ensures ∙ c.if-not-pending.false));
+    }

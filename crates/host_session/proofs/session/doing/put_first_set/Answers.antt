@@ -27,34 +27,37 @@ put_intent-requires-clause-keeping g c =
 
 pub returns-in_err-grow_stock : goal.returns-in_err-grow_stock
 returns-in_err-grow_stock g c =
-    let p = err_from_is_err_and c.from_residual.result c.from_residual.ensures.1 in
+    let e = err_from_is_err_and c.from_residual.result c.from_residual.ensures.1 in
     record {
-      ready = rw p.1 tt;
-      ok = rw p.1 (λ f h k. tt);
-      moments = λ f h k.
-          growing-either f c.args.request.now c.args.card.now k g.D.Sectors.history c.args.drive.now.disk
+      ready = rw e.1 tt;
+      ok = rw e.1 (λ f p. tt);
+      moments = λ f p.
+          growing-either f c.args.request.now c.args.card.now p.1 g.D.Sectors.history c.args.drive.now.disk
           c.grow_stock.new.drive.disk _ _
-          (omega (arith, ap (growth_writes h.stock_file) c.item.ensures.value)) (c.grow_stock.ensures.moments f h);
-      failures = rw p.1 c.in_err-grow_stock.ensures.failures;
-      dies = rw p.1 (λ is. c.in_err-grow_stock.ensures.dies refl);
+          (omega (arith, ap (growth_writes p.0.stock_file) c.item.ensures.value)) (c.grow_stock.ensures.moments f p.0);
+      failures = rw e.1 c.in_err-grow_stock.ensures.failures;
+      dies = rw e.1 (λ is. c.in_err-grow_stock.ensures.dies refl);
     }
 
 pub returns : goal.returns
 returns g c = record {
-  ready = c.put_intent.ensures.ready;
-  ok = λ f h k.
+  ready = c.put_intent.ensures.puts.ready;
+  ok = λ f p.
+      let (h, k) = p in
       let (m, b, has, far) = c.in_ok-grow_stock.ensures.ok f h in
       first-settled f c.args.request.now c.args.card.now k g.D.Sectors.history m b c.put_intent.new.drive.disk
       c.put_intent.result
-      (c.put_intent.ensures.ok _ has (keeping-grown f c.args.request.now c.args.card.now k m b));
-  moments = λ f h k.
+      (c.put_intent.ensures.puts.ok _ (has, keeping-grown f c.args.request.now c.args.card.now k m b));
+  moments = λ f p.
+      let (h, k) = p in
       let (m, b, has, far) = c.in_ok-grow_stock.ensures.ok f h in
       let w = first-moments f c.args.request.now c.args.card.now k g.D.Sectors.history m b c.args.drive.now.disk
       c.grow_stock.new.drive.disk c.put_intent.new.drive.disk _ _
       (c.grow_stock.ensures.moments f h)
-      (c.put_intent.ensures.moments _ has (keeping-grown f c.args.request.now c.args.card.now k m b)) in
+      (c.put_intent.ensures.puts.moments _ (has, keeping-grown f c.args.request.now c.args.card.now k m b)) in
       record { held = w.held; writes = omega (arith, w.writes, ap (growth_writes h.stock_file) c.item.ensures.value) };
   failures = told-after g.D.Sectors.history c.args.drive.now.disk c.grow_stock.new.drive.disk
-      c.put_intent.new.drive.disk c.put_intent.result c.in_ok-grow_stock.ensures.failures c.put_intent.ensures.failures;
-  dies = c.put_intent.ensures.dies;
+      c.put_intent.new.drive.disk c.put_intent.result c.in_ok-grow_stock.ensures.failures
+      c.put_intent.ensures.puts.failures;
+  dies = c.put_intent.ensures.puts.dies;
 }

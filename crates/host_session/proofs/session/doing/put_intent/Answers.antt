@@ -13,7 +13,7 @@ complete_with-requires-clause-intent g c =
     let (f, h, k, all) = c.requires.keeping in (
       _,
       answer-named f c.args.request.now c.args.card.now c.till-till.result c.print-text.result c.till-till.ensures.value
-          c.print-text.ensures _ (c.in_ok-put_answer.ensures.ok f h),
+          c.print-text.ensures _ (c.in_ok-put_answer.ensures.puts.ok f h),
       named-intent f c.args.request.now c.args.card.now c.till-till.result c.print-text.result c.till-till.ensures.value
           c.print-text.ensures k g.D.Sectors.history c.requires.intent all,
     )
@@ -25,69 +25,69 @@ complete_with-requires-clause-text g c =
 
 pub returns-in_err-put_answer : goal.returns-in_err-put_answer
 returns-in_err-put_answer g c =
-    let p = err_from_is_err_and c.from_residual.result c.from_residual.ensures.1 in
+    let e = err_from_is_err_and c.from_residual.result c.from_residual.ensures.1 in
+    let S = g.D.Sectors.history in
+    let a = c.args.request.now in
+    let card = c.args.card.now in
+    let (f', h', k', all) = c.requires.keeping in
     record {
-      ready = rw p.1 tt;
-      ok = rw p.1 (λ f h k. tt);
-      moments = λ f h k.
-          let (f', h', k', all) = c.requires.keeping in
-          let items = items-for (g.D.Sectors.history.image c.args.drive.now.disk) f' f c.args.card.now h' h all in
-          put-moments f c.args.request.now c.args.card.now c.till-till.result c.print-text.result
-          c.till-till.ensures.value c.print-text.ensures k g.D.Sectors.history
-          (open-items f c.args.request.now c.args.card.now k c.requires.intent items) c.args.drive.now.disk
-          c.put_answer.new.drive.disk 1 _ (omega arith) (c.put_answer.ensures.moments f h);
+      puts = record {
+        ready = rw e.1 tt;
+        ok = rw e.1 (λ f p. tt);
+        moments = λ f p.
+            let items = items-for (S.image c.args.drive.now.disk) f' f card h' p.0 all in
+            put-moments f a card c.till-till.result c.print-text.result c.till-till.ensures.value c.print-text.ensures
+            p.1 S (open-items f a card p.1 c.requires.intent items) c.args.drive.now.disk c.put_answer.new.drive.disk
+            1 _ (omega arith) (c.put_answer.ensures.puts.moments f p.0);
+        failures = rw e.1 c.in_err-put_answer.ensures.puts.failures;
+        dies = rw e.1 (λ is. c.in_err-put_answer.ensures.puts.dies refl);
+      };
       counted = λ f h k.
-          let (f', h', k', all) = c.requires.keeping in
-          let items = items-for (g.D.Sectors.history.image c.args.drive.now.disk) f' f c.args.card.now h' h all in
-          put-counted f c.args.request.now c.args.card.now c.till-till.result c.print-text.result
-          c.till-till.ensures.value c.print-text.ensures k g.D.Sectors.history
-          (open-items f c.args.request.now c.args.card.now k c.requires.intent items) c.args.drive.now.disk
-          c.put_answer.new.drive.disk c.put_answer.result (c.put_answer.ensures.ok f h)
-          c.put_answer.ensures.uncounted;
-      failures = rw p.1 c.in_err-put_answer.ensures.failures;
-      dies = rw p.1 (λ is. c.in_err-put_answer.ensures.dies refl);
+          let items = items-for (S.image c.args.drive.now.disk) f' f card h' h all in
+          put-counted f a card c.till-till.result c.print-text.result c.till-till.ensures.value c.print-text.ensures k
+          S (open-items f a card k c.requires.intent items) c.args.drive.now.disk c.put_answer.new.drive.disk
+          c.put_answer.result (c.put_answer.ensures.puts.ok f h) c.put_answer.ensures.uncounted;
     }
 
 pub returns : goal.returns
-returns g c = record {
-  ready = c.complete_with.ensures.ready;
-  ok = λ f h k.
-      let (f', h', k', all) = c.requires.keeping in
-      let items = items-for (g.D.Sectors.history.image c.args.drive.now.disk) f' f c.args.card.now h' h all in
-      let has = answer-named f c.args.request.now c.args.card.now c.till-till.result c.print-text.result
-      c.till-till.ensures.value c.print-text.ensures _ (c.in_ok-put_answer.ensures.ok f h) in
-      intent-settled f c.args.request.now c.args.card.now c.till-till.result c.print-text.result
-      c.till-till.ensures.value c.print-text.ensures k g.D.Sectors.history c.complete_with.new.drive
-      c.complete_with.result
-      (c.complete_with.ensures.ok _ has (named-intent f c.args.request.now c.args.card.now c.till-till.result
-      c.print-text.result c.till-till.ensures.value c.print-text.ensures k g.D.Sectors.history c.requires.intent
-      items))
-      c.complete_with.ensures.ready;
-  moments = λ f h k.
-      let (f', h', k', all) = c.requires.keeping in
-      let items = items-for (g.D.Sectors.history.image c.args.drive.now.disk) f' f c.args.card.now h' h all in
-      let has = answer-named f c.args.request.now c.args.card.now c.till-till.result c.print-text.result
-      c.till-till.ensures.value c.print-text.ensures _ (c.in_ok-put_answer.ensures.ok f h) in
-      intent-moments f c.args.request.now c.args.card.now c.till-till.result c.print-text.result
-      c.till-till.ensures.value c.print-text.ensures k g.D.Sectors.history c.requires.intent items
-      c.args.drive.now.disk c.put_answer.new.drive.disk c.complete_with.new.drive.disk
-      (c.put_answer.ensures.moments f h)
-      (c.complete_with.ensures.moments _ has (named-intent f c.args.request.now c.args.card.now c.till-till.result
-      c.print-text.result c.till-till.ensures.value c.print-text.ensures k g.D.Sectors.history c.requires.intent
-      items));
-  counted = λ f h k.
-      let (f', h', k', all) = c.requires.keeping in
-      let items = items-for (g.D.Sectors.history.image c.args.drive.now.disk) f' f c.args.card.now h' h all in
-      let has = answer-named f c.args.request.now c.args.card.now c.till-till.result c.print-text.result
-      c.till-till.ensures.value c.print-text.ensures _ (c.in_ok-put_answer.ensures.ok f h) in
-      intent-counted f c.args.request.now c.args.card.now c.till-till.result c.print-text.result
-      c.till-till.ensures.value c.print-text.ensures k g.D.Sectors.history
-      c.args.drive.now.disk c.put_answer.new.drive.disk c.complete_with.new.drive.disk _
-      (c.complete_with.ensures.moments _ has (named-intent f c.args.request.now c.args.card.now c.till-till.result
-      c.print-text.result c.till-till.ensures.value c.print-text.ensures k g.D.Sectors.history c.requires.intent
-      items));
-  failures = told-after g.D.Sectors.history c.args.drive.now.disk c.put_answer.new.drive.disk
-      c.complete_with.new.drive.disk c.complete_with.result c.in_ok-put_answer.ensures.failures
-      c.complete_with.ensures.failures;
-  dies = c.complete_with.ensures.dies;
-}
+returns g c =
+    let S = g.D.Sectors.history in
+    let a = c.args.request.now in
+    let card = c.args.card.now in
+    let (f', h', k', all) = c.requires.keeping in
+    record {
+      puts = record {
+        ready = c.complete_with.ensures.ready;
+        ok = λ f p.
+            let items = items-for (S.image c.args.drive.now.disk) f' f card h' p.0 all in
+            let has = answer-named f a card c.till-till.result c.print-text.result c.till-till.ensures.value
+            c.print-text.ensures _ (c.in_ok-put_answer.ensures.puts.ok f p.0) in
+            let kept = named-intent f a card c.till-till.result c.print-text.result c.till-till.ensures.value
+            c.print-text.ensures p.1 S c.requires.intent items in
+            intent-settled f a card c.till-till.result c.print-text.result c.till-till.ensures.value
+            c.print-text.ensures p.1 S c.complete_with.new.drive c.complete_with.result
+            (c.complete_with.ensures.ok _ (has, kept)) c.complete_with.ensures.ready;
+        moments = λ f p.
+            let items = items-for (S.image c.args.drive.now.disk) f' f card h' p.0 all in
+            let has = answer-named f a card c.till-till.result c.print-text.result c.till-till.ensures.value
+            c.print-text.ensures _ (c.in_ok-put_answer.ensures.puts.ok f p.0) in
+            let kept = named-intent f a card c.till-till.result c.print-text.result c.till-till.ensures.value
+            c.print-text.ensures p.1 S c.requires.intent items in
+            intent-moments f a card c.till-till.result c.print-text.result c.till-till.ensures.value
+            c.print-text.ensures p.1 S c.requires.intent items c.args.drive.now.disk c.put_answer.new.drive.disk
+            c.complete_with.new.drive.disk (c.put_answer.ensures.puts.moments f p.0)
+            (c.complete_with.ensures.moments _ (has, kept));
+        failures = told-after S c.args.drive.now.disk c.put_answer.new.drive.disk c.complete_with.new.drive.disk
+            c.complete_with.result c.in_ok-put_answer.ensures.puts.failures c.complete_with.ensures.failures;
+        dies = c.complete_with.ensures.dies;
+      };
+      counted = λ f h k.
+          let items = items-for (S.image c.args.drive.now.disk) f' f card h' h all in
+          let has = answer-named f a card c.till-till.result c.print-text.result c.till-till.ensures.value
+          c.print-text.ensures _ (c.in_ok-put_answer.ensures.puts.ok f h) in
+          let kept = named-intent f a card c.till-till.result c.print-text.result c.till-till.ensures.value
+          c.print-text.ensures k S c.requires.intent items in
+          intent-counted f a card c.till-till.result c.print-text.result c.till-till.ensures.value
+          c.print-text.ensures k S c.args.drive.now.disk c.put_answer.new.drive.disk c.complete_with.new.drive.disk _
+          (c.complete_with.ensures.moments _ (has, kept));
+    }

@@ -40,16 +40,16 @@ loop-place-preserved g c =
     let S = g.D.Sectors.history in
     let inv = c.loop-place.invariant in
     let same : c.loop-place.place ≡ (c.loop-place.place + 1) - 1 = omega arith in record {
-      ready = c.in_ok-migrate_till.ensures.ready;
-      failures = c.in_ok-migrate_till.ensures.failures ∙ inv.failures;
+      ready = c.in_ok-migrate_till.ensures.puts.ready;
+      failures = c.in_ok-migrate_till.ensures.puts.failures ∙ inv.failures;
       few = omega (arith, c.loop-place-test.true);
       so_far = λ s h.
           let (table, changes) = inv.so_far s h in
           let now = subst (HasNewTable (S.image c.loop-place.drive.disk) s c.loop-place.requests) same table in (
-            c.in_ok-migrate_till.ensures.ok s now,
+            c.in_ok-migrate_till.ensures.puts.ok s now,
             changes_then S c.args.drive.now.disk c.loop-place.drive.disk c.migrate_till.new.drive.disk
                 c.loop-place.place 1 (c.loop-place.place + 1) (λ i. IsShop i s) (omega arith) changes
-                (c.migrate_till.ensures.moments s now),
+                (c.migrate_till.ensures.puts.moments s now),
           );
       quiet = λ young.
           let (drive, requests) = inv.quiet young in
@@ -62,42 +62,46 @@ pub returns-in_err-migrate_till : goal.returns-in_err-migrate_till
 returns-in_err-migrate_till g c =
     let p = err_from_is_err_and c.from_residual.result c.from_residual.ensures.1 in
     record {
-      ready = rw p.1 tt;
-      ok = rw p.1 (λ s h. tt);
-      moments = λ s h.
-          let S = g.D.Sectors.history in
-          let (table, changes) = c.loop-place.invariant.so_far s h in
-          let same : c.loop-place.place ≡ (c.loop-place.place + 1) - 1 = omega arith in
-          let now = subst (HasNewTable (S.image c.loop-place.drive.disk) s c.loop-place.requests) same table in
-          changes_then S c.args.drive.now.disk c.loop-place.drive.disk c.migrate_till.new.drive.disk c.loop-place.place
-          1 64 (λ i. IsShop i s) (omega (arith, c.loop-place-test.true)) changes
-          (c.migrate_till.ensures.moments s now);
+      puts = record {
+        ready = rw p.1 tt;
+        ok = rw p.1 (λ s h. tt);
+        moments = λ s h.
+            let S = g.D.Sectors.history in
+            let (table, changes) = c.loop-place.invariant.so_far s h in
+            let same : c.loop-place.place ≡ (c.loop-place.place + 1) - 1 = omega arith in
+            let now = subst (HasNewTable (S.image c.loop-place.drive.disk) s c.loop-place.requests) same table in
+            changes_then S c.args.drive.now.disk c.loop-place.drive.disk c.migrate_till.new.drive.disk c.loop-place.place
+            1 64 (λ i. IsShop i s) (omega (arith, c.loop-place-test.true)) changes
+            (c.migrate_till.ensures.puts.moments s now);
+        failures = let S = g.D.Sectors.history in
+            let p = err_from_is_err_and c.from_residual.result c.from_residual.ensures.1 in
+            subst (λ (r : Result (Unit {0}) Dead). TellsFailure S c.args.drive.now.disk c.migrate_till.new.drive.disk r)
+            (sym (p.1 ∙ ap Err p.2))
+            (failed_later S c.args.drive.now.disk c.loop-place.drive.disk c.migrate_till.new.drive.disk
+            c.loop-place.invariant.failures c.in_err-migrate_till.ensures.puts.failures);
+        dies = rw p.1 (λ is. c.in_err-migrate_till.ensures.puts.dies refl);
+      };
       quiet = λ young.
           let (drive, requests) = c.loop-place.invariant.quiet young in
           let (d, r) = c.migrate_till.ensures.quiet (ap (λ t. is_old (nth t (c.loop-place.place + 1))) requests
           ∙ table-none_old c.args.requests.now young c.loop-place.place) in
           (d ∙ drive, r ∙ requests);
-      failures = let S = g.D.Sectors.history in
-          let p = err_from_is_err_and c.from_residual.result c.from_residual.ensures.1 in
-          subst (λ (r : Result (Unit {0}) Dead). TellsFailure S c.args.drive.now.disk c.migrate_till.new.drive.disk r)
-          (sym (p.1 ∙ ap Err p.2))
-          (failed_later S c.args.drive.now.disk c.loop-place.drive.disk c.migrate_till.new.drive.disk
-          c.loop-place.invariant.failures c.in_err-migrate_till.ensures.failures);
-      dies = rw p.1 (λ is. c.in_err-migrate_till.ensures.dies refl);
     }
 
 pub returns : goal.returns
 returns g c = record {
-  ready = c.loop-place.invariant.ready;
-  ok = λ s h.
-      let n : c.loop-place.place ≡ 64 = omega (arith, c.loop-place.invariant.few, c.loop-place-test.false) in
-      subst (HasNewTable (g.D.Sectors.history.image c.loop-place.drive.disk) s c.loop-place.requests) n
-      (c.loop-place.invariant.so_far s h).0;
-  moments = λ s h.
-      changes_weaker g.D.Sectors.history c.args.drive.now.disk c.loop-place.drive.disk c.loop-place.place 64
-      (λ i. IsShop i s) (λ i. IsShop i s) c.loop-place.invariant.few (λ i x. x)
-      (c.loop-place.invariant.so_far s h).1;
+  puts = record {
+    ready = c.loop-place.invariant.ready;
+    ok = λ s h.
+        let n : c.loop-place.place ≡ 64 = omega (arith, c.loop-place.invariant.few, c.loop-place-test.false) in
+        subst (HasNewTable (g.D.Sectors.history.image c.loop-place.drive.disk) s c.loop-place.requests) n
+        (c.loop-place.invariant.so_far s h).0;
+    moments = λ s h.
+        changes_weaker g.D.Sectors.history c.args.drive.now.disk c.loop-place.drive.disk c.loop-place.place 64
+        (λ i. IsShop i s) (λ i. IsShop i s) c.loop-place.invariant.few (λ i x. x)
+        (c.loop-place.invariant.so_far s h).1;
+    failures = c.loop-place.invariant.failures;
+    dies = λ is. absurd cc;
+  };
   quiet = c.loop-place.invariant.quiet;
-  failures = c.loop-place.invariant.failures;
-  dies = λ is. absurd cc;
 }

@@ -8,34 +8,38 @@ use Rattle.std.proofs.lemmas.Result.{err_from_is_err_and}
 use Rattle.host_session.proofs.session.settling.bring_to_rest.Goals as goal
 
 pub migrate-requires-clause-table : goal.migrate-requires-clause-table
-migrate-requires-clause-table g c = let (s, h, is) = c.requires.table in (s, c.in_ok-recover.ensures.ok s h is)
+migrate-requires-clause-table g c = let (s, h, is) = c.requires.table in (s, c.in_ok-recover.ensures.puts.ok s (h, is))
 
 pub returns-in_err-recover : goal.returns-in_err-recover
 returns-in_err-recover g c =
-    let p = err_from_is_err_and c.from_residual.result c.from_residual.ensures.1 in
+    let e = err_from_is_err_and c.from_residual.result c.from_residual.ensures.1 in
     record {
-      ready = rw p.1 tt;
-      ok = rw p.1 (λ s h is. tt);
-      moments = λ s h is.
-          changes_weaker g.D.Sectors.history c.args.drive.now.disk c.recover.new.drive.disk 5 69 (λ i. IsShop i s)
-          (λ i. IsShop i s) (omega arith) (λ i x. x) (c.recover.ensures.moments s h is);
+      puts = record {
+        ready = rw e.1 tt;
+        ok = rw e.1 (λ s p. tt);
+        moments = λ s p.
+            changes_weaker g.D.Sectors.history c.args.drive.now.disk c.recover.new.drive.disk 5 69 (λ i. IsShop i s)
+            (λ i. IsShop i s) (omega arith) (λ i x. x) (c.recover.ensures.puts.moments s p);
+        failures = rw e.1 c.in_err-recover.ensures.puts.failures;
+        dies = rw e.1 (λ is. c.in_err-recover.ensures.puts.dies refl);
+      };
       quiet = none-weaker _ (any_old c.args.requests.now ≡ false → c.recover.new.drive ≡ c.args.drive.now)
           c.args.intent.now (λ p young. p.0) c.recover.ensures.quiet;
-      failures = rw p.1 c.in_err-recover.ensures.failures;
-      dies = rw p.1 (λ is. c.in_err-recover.ensures.dies refl);
     }
 
 pub returns : goal.returns
 returns g c = record {
-  ready = c.migrate.ensures.ready;
-  ok = λ s h is. c.migrate.ensures.ok s (c.in_ok-recover.ensures.ok s h is);
-  moments = λ s h is.
-      changes_then g.D.Sectors.history c.args.drive.now.disk c.recover.new.drive.disk c.migrate.new.drive.disk 5 64 69
-      (λ i. IsShop i s) (omega arith)
-      (c.recover.ensures.moments s h is) (c.migrate.ensures.moments s (c.in_ok-recover.ensures.ok s h is));
+  puts = record {
+    ready = c.migrate.ensures.puts.ready;
+    ok = λ s p. c.migrate.ensures.puts.ok s (c.in_ok-recover.ensures.puts.ok s p);
+    moments = λ s p.
+        changes_then g.D.Sectors.history c.args.drive.now.disk c.recover.new.drive.disk c.migrate.new.drive.disk 5 64 69
+        (λ i. IsShop i s) (omega arith)
+        (c.recover.ensures.puts.moments s p) (c.migrate.ensures.puts.moments s (c.in_ok-recover.ensures.puts.ok s p));
+    failures = told-after g.D.Sectors.history c.args.drive.now.disk c.recover.new.drive.disk c.migrate.new.drive.disk
+        c.migrate.result c.in_ok-recover.ensures.puts.failures c.migrate.ensures.puts.failures;
+    dies = c.migrate.ensures.puts.dies;
+  };
   quiet = none-weaker _ (any_old c.args.requests.now ≡ false → c.migrate.new.drive ≡ c.args.drive.now) c.args.intent.now
       (λ p young. (c.migrate.ensures.quiet (ap any_old p.1 ∙ young)).0 ∙ p.0) c.recover.ensures.quiet;
-  failures = told-after g.D.Sectors.history c.args.drive.now.disk c.recover.new.drive.disk c.migrate.new.drive.disk
-      c.migrate.result c.in_ok-recover.ensures.failures c.migrate.ensures.failures;
-  dies = c.migrate.ensures.dies;
 }

@@ -37,7 +37,7 @@ returns-in-Ok-clause-standing g c =
     let table = judged-table (S.image c.in_ok-drive.drive.disk) f c.args.found.now (c.in_ok-drive.ensures.files f has)
     j in
     standing (S.image c.bring_to_rest.new.drive.disk) f c.args.found.now j c.bring_to_rest.new.requests
-    (c.in-Ok.ensures.ok (shop_of f) table j.intent) c.in-Ok.ensures.ready.clean
+    (c.in-Ok.ensures.puts.ok (shop_of f) (table, j.intent)) c.in-Ok.ensures.puts.ready.clean
 
 pub returns-in-Ok-clause-ok : goal.returns-in-Ok-clause-ok
 returns-in-Ok-clause-ok g c = λ s h.
@@ -53,8 +53,8 @@ returns-in-Ok-clause-ok g c = λ s h.
           refl;
     }) h in
     subst (IsSettled (S.image c.bring_to_rest.new.drive.disk)) same (at-rest (S.image c.bring_to_rest.new.drive.disk)
-    (shop_of f) c.bring_to_rest.new.requests (c.in-Ok.ensures.ok (shop_of f) table j.intent)
-    c.in-Ok.ensures.ready.clean)
+    (shop_of f) c.bring_to_rest.new.requests (c.in-Ok.ensures.puts.ok (shop_of f) (table, j.intent))
+    c.in-Ok.ensures.puts.ready.clean)
 
 pub returns-in-Ok-clause-moments : goal.returns-in-Ok-clause-moments
 returns-in-Ok-clause-moments g c = λ s h.
@@ -72,7 +72,7 @@ returns-in-Ok-clause-moments g c = λ s h.
     changes_then S c.args.disk c.in_ok-drive.drive.disk c.bring_to_rest.new.drive.disk 883 69 952 (λ i. IsShop i s)
     (omega arith) (c.in_ok-drive.ensures.moments s h)
     (subst (λ t. Changes S c.in_ok-drive.drive.disk c.bring_to_rest.new.drive.disk 69 (λ i. IsShop i t)) same
-    (c.bring_to_rest.ensures.moments (shop_of f) table j.intent))
+    (c.bring_to_rest.ensures.puts.moments (shop_of f) (table, j.intent)))
 
 pub returns-in-Ok-clause-quiet : goal.returns-in-Ok-clause-quiet
 returns-in-Ok-clause-quiet g c = λ s r.
@@ -101,7 +101,7 @@ returns-in-Err-clause-moments g c = λ s h.
     (changes_then S c.args.disk c.in_ok-drive.drive.disk c.bring_to_rest.new.drive.disk 883 69 952 (λ i. IsShop i s)
     (omega arith) (c.in_ok-drive.ensures.moments s h)
     (subst (λ t. Changes S c.in_ok-drive.drive.disk c.bring_to_rest.new.drive.disk 69 (λ i. IsShop i t)) same
-    (c.bring_to_rest.ensures.moments (shop_of f) table j.intent)))
+    (c.bring_to_rest.ensures.puts.moments (shop_of f) (table, j.intent))))
 
 pub returns-in-Err-clause-quiet : goal.returns-in-Err-clause-quiet
 returns-in-Err-clause-quiet g c = λ s r.
@@ -146,13 +146,13 @@ pub bring_to_rest-requires-clause-ready : goal.bring_to_rest-requires-clause-rea
 bring_to_rest-requires-clause-ready g c = c.in_ok-drive.ensures.ready
 
 pub returns-in-Ok-clause-ready : goal.returns-in-Ok-clause-ready
-returns-in-Ok-clause-ready g c = c.in-Ok.ensures.ready
+returns-in-Ok-clause-ready g c = c.in-Ok.ensures.puts.ready
 
 pub returns-in-Ok-clause-err : goal.returns-in-Ok-clause-err
 returns-in-Ok-clause-err g c = tt
 
 pub returns-in-Ok-clause-failures : goal.returns-in-Ok-clause-failures
-returns-in-Ok-clause-failures g c = c.in-Ok.ensures.failures ∙ c.in_ok-drive.ensures.failures
+returns-in-Ok-clause-failures g c = c.in-Ok.ensures.puts.failures ∙ c.in_ok-drive.ensures.failures
 
 pub returns-in-Err-clause-ready : goal.returns-in-Err-clause-ready
 returns-in-Err-clause-ready g c = tt
@@ -173,5 +173,5 @@ returns-in-Err-clause-failures g c =
       refl,
       subst (λ d. Failed S c.args.disk d) (sym c.into_disk.ensures)
           (failed_later S c.args.disk c.in_ok-drive.drive.disk c.bring_to_rest.new.drive.disk
-          c.in_ok-drive.ensures.failures c.in-Err.ensures.failures),
+          c.in_ok-drive.ensures.failures c.in-Err.ensures.puts.failures),
     )

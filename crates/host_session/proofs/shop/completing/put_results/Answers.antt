@@ -39,10 +39,11 @@ returns-in_default-second g c =
     (one-in c.new_quantities-new.result _ c.new_quantities-new.ensures.value _ c.in-Some.is c.in_default-second.is) in
     record {
       ready = c.put_quantity.ensures.ready;
-      ok = λ f h x. done-ok f c.args.till c.args.card.now x c.in-Some.item c.in-Some.quantity at is _
-          c.put_quantity.result (c.put_quantity.ensures.ok f h);
-      moments = λ f h x. done-moments f c.args.till c.args.card.now x c.in-Some.item c.in-Some.quantity at is
-          g.D.Sectors.history c.args.drive.now.disk c.put_quantity.new.drive.disk (c.put_quantity.ensures.moments f h);
+      ok = λ f p. done-ok f c.args.till c.args.card.now p.1 c.in-Some.item c.in-Some.quantity at is _
+          c.put_quantity.result (c.put_quantity.ensures.ok f p.0);
+      moments = λ f p. done-moments f c.args.till c.args.card.now p.1 c.in-Some.item c.in-Some.quantity at is
+          g.D.Sectors.history c.args.drive.now.disk c.put_quantity.new.drive.disk
+          (c.put_quantity.ensures.moments f p.0);
       failures = c.put_quantity.ensures.failures;
       dies = c.put_quantity.ensures.dies;
     }
@@ -70,19 +71,19 @@ put_quantity-requires-2-clause-fits g c =
 
 pub returns-in_err-put_quantity : goal.returns-in_err-put_quantity
 returns-in_err-put_quantity g c =
-    let p = err_from_is_err_and c.from_residual.result c.from_residual.ensures.1 in
+    let e = err_from_is_err_and c.from_residual.result c.from_residual.ensures.1 in
     let (at, to, is) = moved-of c.args.card.now.newest.body c.in-Some.item c.in-Some.quantity c.in-Some-second.to
     c.in-Some-second.to_quantity c.args.card.now.newest.answer
     (two-in c.new_quantities-new.result _ c.new_quantities-new.ensures.value _ _ c.in-Some.is c.in-Some-second.is) in
     record {
-      ready = rw p.1 tt;
-      ok = rw p.1 (λ f h x. tt);
-      moments = λ f h x. moved-half f c.args.till c.args.card.now x c.in-Some.item c.in-Some.quantity
+      ready = rw e.1 tt;
+      ok = rw e.1 (λ f p. tt);
+      moments = λ f p. moved-half f c.args.till c.args.card.now p.1 c.in-Some.item c.in-Some.quantity
           c.in-Some-second.to c.in-Some-second.to_quantity at to is
           g.D.Sectors.history c.args.drive.now.disk c.put_quantity-2.new.drive.disk
-          (c.put_quantity-2.ensures.moments f h);
-      failures = rw p.1 c.in_err-put_quantity.ensures.failures;
-      dies = rw p.1 (λ is. c.in_err-put_quantity.ensures.dies refl);
+          (c.put_quantity-2.ensures.moments f p.0);
+      failures = rw e.1 c.in_err-put_quantity.ensures.failures;
+      dies = rw e.1 (λ is. c.in_err-put_quantity.ensures.dies refl);
     }
 
 pub put_quantity-requires-3-clause-there : goal.put_quantity-requires-3-clause-there
@@ -114,12 +115,14 @@ returns g c =
     (two-in c.new_quantities-new.result _ c.new_quantities-new.ensures.value _ _ c.in-Some.is c.in-Some-second.is) in
     record {
       ready = c.put_quantity-3.ensures.ready;
-      ok = λ f h x.
+      ok = λ f p.
+          let (h, x) = p in
           let (b, has) = c.in_ok-put_quantity.ensures.ok f h in
           moved-ok f c.args.till c.args.card.now x c.in-Some.item c.in-Some.quantity c.in-Some-second.to
           c.in-Some-second.to_quantity at to is
           b _ c.put_quantity-3.result (c.put_quantity-3.ensures.ok _ has);
-      moments = λ f h x.
+      moments = λ f p.
+          let (h, x) = p in
           let (b, has) = c.in_ok-put_quantity.ensures.ok f h in
           moved-moments f c.args.till c.args.card.now x c.in-Some.item c.in-Some.quantity c.in-Some-second.to
           c.in-Some-second.to_quantity at to is
