@@ -1,6 +1,7 @@
 -- A number has a digit more than its tenth.
 use Rattle.std.proofs.Common.{arith}
-use Rattle.byte_text.proofs.Rooms.{one-digit, two-digits, three-digits, four-digits, five-digits, six-digits, seven-digits}
+use Rattle.byte_text.proofs.Rooms.{one-digit, two-digits, three-digits, four-digits, five-digits, six-digits}
+use Rattle.byte_text.proofs.Rooms.{seven-digits}
 use Rattle.byte_text.proofs.Rooms.{eight-digits, nine-digits, ten-digits}
 use Rattle.byte_text.proofs.putting.count_digits.Goals as goal
 
