@@ -7,8 +7,8 @@ use crate::reading::fill_from;
 use arrayvec::ArrayVec;
 use request_cards::number_before_comma;
 
-/// The greatest number that a line can have: the 720 blocks that a file's side sectors can name would have 182,880 records of
-/// one byte. A disk of 35 tracks has room for 167,132.
+/// The greatest number that a line can have: the 720 blocks that a file's side sectors can name would have 182,880
+/// records of one byte. A disk of 35 tracks has room for 167,132.
 const LAST_RECORD: u32 = 182_880;
 
 /// What stands between quotation marks, where there are two at the ends; else the same.
@@ -22,10 +22,10 @@ fn unquoted(text: &[u8]) -> &[u8]
     }
 }
 
-/// The number of a record's line, which is handed in without its end, and in `bytes` its bytes. The two quotation marks may be
-/// left out, as spreadsheets leave them out, and the bytes may end in zeros. None where the line is of no record, and `bytes` may
-/// have anything then: where it doesn't begin with a number of 1 to 182,880, without leading zeros, and a comma, and where what is
-/// behind that is no text of bytes, or of more than 254.
+/// The number of a record's line, which is handed in without its end, and in `bytes` its bytes. The two quotation marks
+/// may be left out, as spreadsheets leave them out, and the bytes may end in zeros. None where the line is of no
+/// record, and `bytes` may have anything then: where it doesn't begin with a number of 1 to 182,880, without leading
+/// zeros, and a comma, and where what is behind that is no text of bytes, or of more than 254.
 pub fn read_line(line: &[u8], bytes: &mut ArrayVec<u8, 254>) -> Option<u32>
     ensures found { IfSome result (λ n. (1 ≤ n) × (n ≤ 182880) × IsLineOf line.now n bytes.new.items) }
     ensures none { IsNone result → (n : ℕ) → (bs : List ℕ) → 1 ≤ n → n ≤ 182880 → AreBytes bs → length bs ≤ 254

@@ -4,7 +4,9 @@ ghost use Rattle.d64_image.specs.Geometry.{sectors_on};
 ghost use Rattle.d64_image.specs.Places.{track_of};
 ghost use Rattle.disk_layout.specs.Texts.{place_text};
 ghost use Rattle.disk_pictures.specs.Html.{html_of};
-ghost use Rattle.disk_pictures.specs.Pictures.{arc, block_arc, brightness as brightness_of, colour, directory_arc, fault_sector, free_arc, hue as hue_of, lost_arc, dash_text, map_arc, radius as radius_of, rim_mark, ring_text, side_arc};
+ghost use Rattle.disk_pictures.specs.Pictures.{arc, block_arc, brightness as brightness_of, colour, directory_arc};
+ghost use Rattle.disk_pictures.specs.Pictures.{fault_sector, free_arc, hue as hue_of, lost_arc, dash_text, map_arc};
+ghost use Rattle.disk_pictures.specs.Pictures.{radius as radius_of, rim_mark, ring_text, side_arc};
 
 use crate::html::Html;
 use crate::texts::fault_place;
@@ -304,7 +306,8 @@ impl Display for FaultGroup {
         let ring = Ring::of(place);
         writeln!(
             f,
-            "<g id=\"f\">\n{ring} class=\"edge\"><title>{told}</title></circle>\n{ring} class=\"fault\"><title>{told}</title></circle>\n{}</g>",
+            "<g id=\"f\">\n{ring} class=\"edge\"><title>{told}</title></circle>\n\
+            {ring} class=\"fault\"><title>{told}</title></circle>\n{}</g>",
             Rim(place)
         )
     }

@@ -15,8 +15,9 @@ ghost use Rattle.disk_pictures.specs.Sectors.{as_printed, by_number, drawing_by,
 ghost use Rattle.disk_pictures.specs.declared.owners.Owner.{Owner};
 
 /// Bytes of a disk have no quotation mark, no `<` and no `>` where they are shown in a page, and each `&` of theirs
-/// begins an escape; a name of at most 16 bytes takes at most 48. So the markup of the page of an image, whatever its bytes are, is that of the page in which none
-/// of them is shown: names, id and version of a disk bring in nothing but text.
+/// begins an escape; a name of at most 16 bytes takes at most 48. So the markup of the page of an image, whatever its
+/// bytes are, is that of the page in which none of them is shown: names, id and version of a disk bring in nothing but
+/// text.
 pub fn names_bring_no_markup()
     ensures none { (bytes : List ℕ) → markup_of (html_of bytes) ≡ [] }
     ensures escaped { (bytes : List ℕ) → IsEscaped (html_of bytes) }
@@ -25,16 +26,16 @@ pub fn names_bring_no_markup()
         → markup_of (picture_page v map l) ≡ markup_of (page_text (λ _. []) v map l) }
 {}
 
-/// Of what is drawn of an image each sector of the disk has the one owner that it is drawn as, which has it; and neither
-/// the directory nor an entry's blocks nor its side sectors have a sector twice. A sector that is drawn as of nobody is
-/// in none of these.
+/// Of what is drawn of an image each sector of the disk has the one owner that it is drawn as, which has it; and
+/// neither the directory nor an entry's blocks nor its side sectors have a sector twice. A sector that is drawn as of
+/// nobody is in none of these.
 pub fn sectors_are_drawn_once()
     ensures { (img : Image) (l : Layout) → IsDrawn img l → (p : Place) → IsDrawnOnce l p (owner_of l p) }
 {}
 
-/// The drawing of a page, of whatever image, has 683 sectors, each once: written with the number of its sector in place of
-/// each arc, and with nothing of all else, it has 683 numbers, and that of each sector once. With each arc and all else
-/// as they are it is the drawing that is printed.
+/// The drawing of a page, of whatever image, has 683 sectors, each once: written with the number of its sector in place
+/// of each arc, and with nothing of all else, it has 683 numbers, and that of each sector once. With each arc and all
+/// else as they are it is the drawing that is printed.
 pub fn pages_have_683_sectors()
     ensures printed { (show : Show) (v : Option Fault) (map : Sector) (l : Layout)
         → drawing_by as_printed show v map l ≡ drawing_text show v map l }

@@ -6,7 +6,8 @@ ghost use Rattle.d64_image.specs.Places.{place_at};
 ghost use Rattle.disk_layout.specs.Layout.{IsLayout, Layout};
 ghost use Rattle.disk_pictures.specs.Drawings.{file_in};
 ghost use Rattle.disk_pictures.specs.Held.{drawn_in};
-ghost use Rattle.disk_pictures.specs.Maps.{entry_line, letter as letter_of, map_text, mark_of, owner_mark, records_text, track_line, track_text};
+ghost use Rattle.disk_pictures.specs.Maps.{entry_line, letter as letter_of, map_text, mark_of, owner_mark};
+ghost use Rattle.disk_pictures.specs.Maps.{records_text, track_line, track_text};
 ghost use Rattle.disk_pictures.specs.Outcomes.{IsMapPrinted, IsPictureFault, map_in};
 ghost use Rattle.disk_pictures.specs.Texts.{at_place, each_below, numbered};
 ghost use Rattle.disk_pictures.specs.declared.faults.PictureFault.TheVariants as faults;
@@ -234,8 +235,8 @@ fn put_map<W: Write>(
 /// `*` is the map, `=` the directory, a letter a block of the entry whose line begins with it, and the capital one of
 /// its side sectors; `.` is free, `?` taken in the map and of no entry, `!` where the fault is.
 ///
-/// `ImageSize`; `NoMemory`; `Layout` where the directory's sectors aren't a chain on track 18: nothing was printed then.
-/// `File` where the output failed, which may then have a part.
+/// `ImageSize`; `NoMemory`; `Layout` where the directory's sectors aren't a chain on track 18: nothing was printed
+/// then. `File` where the output failed, which may then have a part.
 pub fn map_image<W: Write>(
     alloc: Global,
     image: &[u8],

@@ -64,7 +64,8 @@ fn put_other_at<W: Write>(
 /// Prints the sectors of nobody on a track.
 fn put_others_on<W: Write>(out: &mut W, drawing: &Drawing, track: u8) -> Result<(), PictureFault>
     ensures ok { OnOk result (Appends (W.contents out.old) (W.contents out.new)
-        (each_below 21 (λ sector. at_place (other_arc drawing.now.map (drawn_in drawing.now)) (place_at track sector)))) }
+        (each_below 21 (λ sector.
+        at_place (other_arc drawing.now.map (drawn_in drawing.now)) (place_at track sector)))) }
     ensures err { IfErr result (λ fault. fault ≡ faults.File) }
 {
     for sector in 0..SECTORS {

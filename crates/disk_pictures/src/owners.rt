@@ -70,8 +70,8 @@ impl Owners {
         }
     }
 
-    /// Gives each entry its sectors, the last entry first, and of each the side sectors before the blocks: what is given
-    /// later stays.
+    /// Gives each entry its sectors, the last entry first, and of each the side sectors before the blocks: what is
+    /// given later stays.
     fn give_entries(&mut self, files: &[DrawnFile])
         requires { (p : Place) → owner_in self.old p ≡ owners.Nobody }
         ensures { (p : Place) → owner_in self.new p ≡ owner_among 0 (map file_in files.now) p }

@@ -7,7 +7,8 @@ ghost use Rattle.disk_pictures.specs.Drawings.{file_in};
 ghost use Rattle.disk_pictures.specs.Held.{drawn_in};
 ghost use Rattle.disk_pictures.specs.Html.{html_of};
 ghost use Rattle.disk_pictures.specs.Outcomes.{IsPictureFault, IsPicturePrinted, map_in};
-ghost use Rattle.disk_pictures.specs.Pictures.{directory_arc, drawing_text, fault_group, file_group, group_head, own_block, own_side, picture_page, row_text, system_group};
+ghost use Rattle.disk_pictures.specs.Pictures.{directory_arc, drawing_text, fault_group, file_group, group_head};
+ghost use Rattle.disk_pictures.specs.Pictures.{own_block, own_side, picture_page, row_text, system_group};
 ghost use Rattle.disk_pictures.specs.Texts.{numbered};
 ghost use Rattle.disk_pictures.specs.declared.faults.PictureFault.TheVariants as faults;
 
@@ -256,8 +257,8 @@ fn put_page<W: Write>(
 /// as text alone. What a check of the disk tells stands in it, and is answered too. A disk that is hurt is drawn as far
 /// as its links go; of a sound one it is the page of its layout.
 ///
-/// `ImageSize`; `NoMemory`; `Layout` where the directory's sectors aren't a chain on track 18: nothing was printed then.
-/// `File` where the output failed, which may then have a part.
+/// `ImageSize`; `NoMemory`; `Layout` where the directory's sectors aren't a chain on track 18: nothing was printed
+/// then. `File` where the output failed, which may then have a part.
 pub fn picture_image<W: Write>(
     alloc: Global,
     image: &[u8],

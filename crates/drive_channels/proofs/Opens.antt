@@ -1,5 +1,6 @@
 -- The rows of an opening, once the disk is seen to be clean.
-use Rattle.std.proofs.Common.{ℕ, ◌≡◌, ◌≤◌, inl, inr, Bool, true, false, List, Option, None, Some, IfSome, IsNone, sym, ◌∙◌, ap, ap₂, subst, refl, arith}
+use Rattle.std.proofs.Common.{ℕ, ◌≡◌, ◌≤◌, inl, inr, Bool, true, false, List, Option, None, Some, IfSome, IsNone, sym}
+use Rattle.std.proofs.Common.{◌∙◌, ap, ap₂, subst, refl, arith}
 use Rattle.std.proofs.lemmas.Option.{same_Some}
 use Rattle.d64_image.specs.Images.{Image}
 use Rattle.disk_layout.proofs.lemmas.layouts.Layouts.{IsLayout-one}

@@ -7,7 +7,8 @@ ghost use Rattle.disk_layout.specs.Layout.{IsSound};
 ghost use Rattle.drive_channels.specs.Calls.{Validates};
 ghost use Rattle.drive_channels.specs.Inside.{IsFound, IsKnown, IsSpot, at_spot, shown};
 ghost use Rattle.drive_channels.specs.Serving.{Serves};
-ghost use Rattle.drive_channels.specs.Spelling.{IsInitialize, IsValidate, wanted_channel, wanted_position, wanted_record};
+ghost use Rattle.drive_channels.specs.Spelling.{IsInitialize, IsValidate, wanted_channel, wanted_position};
+ghost use Rattle.drive_channels.specs.Spelling.{wanted_record};
 ghost use Rattle.drive_channels.specs.State.{view_of};
 ghost use Rattle.drive_channels.specs.Tables.{Commands, InFile, Moves, MovesTo};
 ghost use Rattle.drive_channels.specs.declared.status.Status as statuses;
@@ -138,12 +139,12 @@ fn validate<D: Sectors>(disk: &mut D) -> Result<Status, Dead>
 }
 
 impl<D: Sectors> Drive<D> {
-    /// Does a command. `V`, `V0`, `VALIDATE` and `VALIDATE0` mend the disk: 00, or 71 where it isn't sound; an open channel
-    /// keeps its place. `I`, `I0`, `INITIALIZE` and `INITIALIZE0` do nothing: 00. `P`, the channel (modulo 16), the record's
-    /// low and high byte and, if one is given, the position place the open channel: 00, or 50 where the file has no such
-    /// record yet, 51 where the position is past the record's end, 52 where the record would need more than 720 blocks, 70
-    /// where the channel isn't the open one; at 51, 52 and 70 the place stays. A command that is empty, or a `P` of another
-    /// length: 30. Any other: 31.
+    /// Does a command. `V`, `V0`, `VALIDATE` and `VALIDATE0` mend the disk: 00, or 71 where it isn't sound; an open
+    /// channel keeps its place. `I`, `I0`, `INITIALIZE` and `INITIALIZE0` do nothing: 00. `P`, the channel (modulo 16),
+    /// the record's low and high byte and, if one is given, the position place the open channel: 00, or 50 where the
+    /// file has no such record yet, 51 where the position is past the record's end, 52 where the record would need more
+    /// than 720 blocks, 70 where the channel isn't the open one; at 51, 52 and 70 the place stays. A command that is
+    /// empty, or a `P` of another length: 30. Any other: 31.
     ///
     /// At `Dead` the disk holds what it held at one of the moments of the repair.
     pub fn command(&mut self, text: &[u8]) -> Result<(), Dead>
@@ -153,7 +154,8 @@ impl<D: Sectors> Drive<D> {
         ensures silent { ¬ (IsValidate text.now) → self.new.disk ≡ self.old.disk }
         // and each image held is one of the repair
         ensures moments { MendsFrom D.history self.old.disk self.new.disk 883 }
-        ensures unsound { (IsSound (D.history.image self.old.disk) → ⊥) → OnlyReads D.history self.old.disk self.new.disk 2114 }
+        ensures unsound { (IsSound (D.history.image self.old.disk) → ⊥)
+            → OnlyReads D.history self.old.disk self.new.disk 2114 }
         ensures quiet { IsClean (D.history.image self.old.disk) → WritesNothing D.history self.old.disk self.new.disk }
     {
         if self.dead {

@@ -9,9 +9,9 @@ use std::marker::Model;
 
 /// A drive with one relative channel, over a disk.
 ///
-/// Each call does what the first case of its table that holds says (1541 User's Guide, relative files, command channel and
-/// error channel; `docs/DRIVE.md` has the table), and sets the status that `status` then tells. Once the device has failed,
-/// every call but `into_disk` answers `Dead` and changes nothing.
+/// Each call does what the first case of its table that holds says (1541 User's Guide, relative files, command channel
+/// and error channel; `docs/DRIVE.md` has the table), and sets the status that `status` then tells. Once the device has
+/// failed, every call but `into_disk` answers `Dead` and changes nothing.
 #[derive(Drop)]
 pub struct Drive<D: Sectors> {
     pub(crate) disk: D,

@@ -14,7 +14,8 @@ pub(crate) struct Found {
 /// A channel and its place: the record and the byte in it, both from 1.
 #[derive(Clone, Copy)]
 pub(crate) struct Spot {
-    // the two bytes lie side by side: one with a word to itself is read as a word, which waits for the byte just written
+    // the two bytes lie side by side: one with a word to itself is read as a word, which waits for the byte just
+    // written
     pub(crate) channel: u8,
     pub(crate) position: u8,
     pub(crate) record_number: u32,

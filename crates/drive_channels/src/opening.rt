@@ -1,11 +1,13 @@
 //! Opening a channel.
 ghost use Rattle.rel_records.specs.File.{IsLength, length_of};
-ghost use Rattle.std.specs.Prelude.{◌≡◌, ◌≢◌, ◌↔◌, true, false, IfSome, IsTrue, List, MatchOption, None, OnOk, Some, ℕ, length};
+ghost use Rattle.std.specs.Prelude.{◌≡◌, ◌≢◌, ◌↔◌, true, false, IfSome, IsTrue, List, MatchOption, None, OnOk, Some, ℕ};
+ghost use Rattle.std.specs.Prelude.{length};
 ghost use Rattle.d64_image.specs.History.{Changes, OnlyReads};
 ghost use Rattle.d64_image.specs.Images.{Image};
 ghost use Rattle.disk_layout.specs.Clean.{IsClean};
 ghost use Rattle.disk_layout.specs.Layout.{IsLayout, Layout};
-ghost use Rattle.drive_channels.specs.Calls.{Checks, IsChannelNumber, IsShut, LooksFor, MakesFile, OpensText, OpensWish};
+ghost use Rattle.drive_channels.specs.Calls.{Checks, IsChannelNumber, IsShut, LooksFor, MakesFile, OpensText};
+ghost use Rattle.drive_channels.specs.Calls.{OpensWish};
 ghost use Rattle.drive_channels.specs.Files.{HasFile};
 ghost use Rattle.drive_channels.specs.Moments.{IsCreatingFrom};
 ghost use Rattle.drive_channels.specs.Serving.{Serves};
@@ -81,7 +83,8 @@ impl Known {
     fn recall(&mut self, name: &[u8]) -> bool
         requires closed { channel_of self.old.last ≡ None }
         ensures found { (img : Image) → IsKnown img self.old → result ≡ true → HasLooked img name.now self.new true }
-        ensures other { result ≡ false → (self.new ≡ self.old) × IfSome self.old.last (λ o. o.found.name.items ≢ name.now) }
+        ensures other { result ≡ false
+            → (self.new ≡ self.old) × IfSome self.old.last (λ o. o.found.name.items ≢ name.now) }
         ensures checked { self.new.checked ≡ self.old.checked }
     {
         if self.is_last(name) {
@@ -149,8 +152,8 @@ impl Known {
         }
     }
 
-    /// Opens the file opened last at its first record, unless its records have another length than the one asked for: what
-    /// that comes to.
+    /// Opens the file opened last at its first record, unless its records have another length than the one asked for:
+    /// what that comes to.
     fn open_last(&mut self, channel: u8, length: Option<u8>) -> Status
         requires { IsChannelNumber channel }
         ensures row { (img : Image) → (name : List ℕ) → (s : statuses.Status) → HasLooked img name self.old true
@@ -261,14 +264,14 @@ impl Known {
 }
 
 impl<D: Sectors> Drive<D> {
-    /// Opens a channel, from 2 to 14, on the first closed relative file of a name, at its first record: 00. The text is the
-    /// name, or the name, `,L,` and one byte, the length of the file's records. With a length the file is made where it isn't
-    /// there.
+    /// Opens a channel, from 2 to 14, on the first closed relative file of a name, at its first record: 00. The text is
+    /// the name, or the name, `,L,` and one byte, the length of the file's records. With a length the file is made
+    /// where it isn't there.
     ///
-    /// A channel that is none of these, or while one is open: 70. A text that is neither: 30. A disk that no check has passed
-    /// since power-on, and that the check refuses now: 71. Without a length and without such a file: 62. With another length
-    /// than the file's: 50. With a length, where the name belongs to a file of another type alone: 64. Where there is no room
-    /// for the new file: 72. In all these cases nothing is opened and nothing is written.
+    /// A channel that is none of these, or while one is open: 70. A text that is neither: 30. A disk that no check has
+    /// passed since power-on, and that the check refuses now: 71. Without a length and without such a file: 62. With
+    /// another length than the file's: 50. With a length, where the name belongs to a file of another type alone: 64.
+    /// Where there is no room for the new file: 72. In all these cases nothing is opened and nothing is written.
     ///
     /// At `Dead` the disk holds what it held at one of the moments of the creation.
     pub fn open(&mut self, channel: u8, text: &[u8]) -> Result<(), Dead>
@@ -279,9 +282,11 @@ impl<D: Sectors> Drive<D> {
             → OnlyReads D.history self.old.disk self.new.disk 2817 }
         ensures there { (w : Wish) → IsWish text.now w → HasFile (D.history.image self.old.disk) w.name
             → OnlyReads D.history self.old.disk self.new.disk 2817 }
-        ensures refused { OnOk result (self.new.channel ≡ self.old.channel → OnlyReads D.history self.old.disk self.new.disk 2872) }
+        ensures refused { OnOk result (self.new.channel ≡ self.old.channel
+            → OnlyReads D.history self.old.disk self.new.disk 2872) }
         // nor on a disk that isn't clean; else every image held is one of the creation, and so is the count of writes
-        ensures unclean { ¬ (IsClean (D.history.image self.old.disk)) → OnlyReads D.history self.old.disk self.new.disk 2115 }
+        ensures unclean { ¬ (IsClean (D.history.image self.old.disk))
+            → OnlyReads D.history self.old.disk self.new.disk 2115 }
         ensures moments { (l : Layout) → IsLayout (D.history.image self.old.disk) l
             → Changes D.history self.old.disk self.new.disk (creation_writes l)
             (IsCreatingFrom (D.history.image self.old.disk) l text.now) }

@@ -53,7 +53,8 @@ fn rest_of(bytes: &[u8], from: usize) -> &[u8]
     &bytes[from..]
 }
 
-/// Gives the bytes from this position on, counted from 1, up to the last one that isn't 00, or one 00 where there is none.
+/// Gives the bytes from this position on, counted from 1, up to the last one that isn't 00, or one 00 where there is
+/// none.
 fn give(bytes: &[u8], position: u8, to: &mut ArrayVec<u8, 254>)
     requires low { 0 < position }
     requires within { position ≤ length bytes.now }
@@ -118,13 +119,14 @@ impl Known {
 
 impl<D: Sectors> Drive<D> {
     /// Reads the record at the channel's place, from the position on up to its last byte that isn't 00, or one 00 where
-    /// there is none, and goes on to the next record: 00. Where the record isn't there the place stays: 50. A channel that
-    /// isn't open: 61. Then nothing is given. At most three sectors are read.
+    /// there is none, and goes on to the next record: 00. Where the record isn't there the place stays: 50. A channel
+    /// that isn't open: 61. Then nothing is given. At most three sectors are read.
     ///
     /// A drive that is dead gives nothing; where the device fails in this call, what is given is any bytes.
     pub fn read(&mut self, channel: u8, to: &mut ArrayVec<u8, 254>) -> Result<(), Dead>
         ensures serves { Serves D.history self.old self.new result }
-        ensures row { OnOk result (Reads (view_of D.history self.old) channel to.new.items (view_of D.history self.new)) }
+        ensures row { OnOk result
+            (Reads (view_of D.history self.old) channel to.new.items (view_of D.history self.new)) }
         ensures reads { OnlyReads D.history self.old.disk self.new.disk 3 }
         ensures silent { self.old.dead ≡ true → to.new.items ≡ [] }
     {

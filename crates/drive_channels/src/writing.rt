@@ -102,10 +102,11 @@ impl Known {
 }
 
 impl<D: Sectors> Drive<D> {
-    /// Writes the record at the channel's place, from the position on, and goes on to the next record: 00, or 51 where the
-    /// text reached past the record's end and was cut. The rest of the record becomes 00; a record that isn't there is made
-    /// first, as are all before it. Where it can't be, or the disk is too full for it, nothing is written and the place
-    /// stays: 52. An empty text makes the record and writes nothing into it; the place stays. A channel that isn't open: 61.
+    /// Writes the record at the channel's place, from the position on, and goes on to the next record: 00, or 51 where
+    /// the text reached past the record's end and was cut. The rest of the record becomes 00; a record that isn't there
+    /// is made first, as are all before it. Where it can't be, or the disk is too full for it, nothing is written and
+    /// the place stays: 52. An empty text makes the record and writes nothing into it; the place stays. A channel that
+    /// isn't open: 61.
     ///
     /// At `Dead` the disk holds what it held at one of the moments of the growth or of the writing.
     pub fn write(&mut self, channel: u8, text: &[u8]) -> Result<(), Dead>
@@ -113,13 +114,15 @@ impl<D: Sectors> Drive<D> {
         ensures row { OnOk result (Writes (view_of D.history self.old) channel text.now (view_of D.history self.new)) }
         // where the channel isn't open nothing is done to the disk, and where 52 is told nothing is written
         ensures silent { ¬ (HasOn self.old.channel channel) → self.new.disk ≡ self.old.disk }
-        ensures refused { OnOk result (self.new.status ≡ FileTooLarge → OnlyReads D.history self.old.disk self.new.disk 1) }
+        ensures refused { OnOk result (self.new.status ≡ FileTooLarge
+            → OnlyReads D.history self.old.disk self.new.disk 1) }
         // else every image held is one of the record call, and so is the count of writes
         ensures moments { (c : Channel) (l : Layout) (f : File) → IsOn self.old.channel channel c
             → IsRelAt (D.history.image self.old.disk) l c.entry f
             → Changes D.history self.old.disk self.new.disk (writes_for f c text.now)
             (IsOnTheWay (D.history.image self.old.disk) text.now c l f) }
-        // a record that is there and lies in one block is written at once: an answer Dead after a counted write leaves it written
+        // a record that is there and lies in one block is written at once: an answer Dead after a counted write leaves
+        // it written
         ensures uncounted { (c : Channel) (l : Layout) (f : File) → IsOn self.old.channel channel c
             → IsRelAt (D.history.image self.old.disk) l c.entry f → c.record_number ≤ records_had f
             → IsInOneBlock (record_length f.slot) c.record_number

@@ -4,7 +4,9 @@ use Rattle.drive_channels.proofs.Openings.{closed-of, open-of, read-by, recalled
 use Rattle.drive_channels.proofs.known.Known.open.Goals as goal
 use Rattle.drive_channels.proofs.known.Known.open.Goals.{then-channel-lt2-via-then-channel-lt2}
 use Rattle.drive_channels.proofs.known.Known.open.Goals.{then-channel-lt2-via-else-channel-lt2+then-channel-gt14}
-use Rattle.drive_channels.proofs.known.Known.open.Goals.{then-channel-lt2-via-else-channel-lt2+else-channel-gt14+then-is_open}
+use Rattle.drive_channels.proofs.known.Known.open.Goals.{
+  then-channel-lt2-via-else-channel-lt2+else-channel-gt14+then-is_open,
+}
 use Rattle.drive_channels.specs.Inside.{IsKnown, channel_of, shown}
 use Rattle.drive_channels.specs.Moments.{IsOpenedBy}
 use Rattle.drive_channels.specs.Tables.{Opens}

@@ -105,11 +105,12 @@ returns-in-None g c =
     record {
       row = λ s.
           let img = g.D.Sectors.history.image in
+          let shut = c.requires.shut in
           let looked = c.in_ok-look_up.ensures.found in
           inl (
             (subst IsNone (sym c.in-None.is) refl, looked.missing c.if-branch.false),
             same-shown (img c.args.disk.now) (img c.look_up.new.disk) c.args.self.now c.look_up.new.self
-                statuses.FileNotFound c.look_up.ensures.reads.image c.requires.shut.closed c.requires.shut.checked looked.closed
+                statuses.FileNotFound c.look_up.ensures.reads.image shut.closed shut.checked looked.closed
                 looked.checked,
           );
       known = subst (λ (i : Image). IsKnown i c.look_up.new.self) (sym c.look_up.ensures.reads.image)

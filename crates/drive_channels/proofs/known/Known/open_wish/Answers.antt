@@ -98,7 +98,8 @@ pub open_file-requires-clause-shut : goal.open_file-requires-clause-shut
 open_file-requires-clause-shut g c =
     let passed = c.in_ok-passes_check.ensures.passed c.if-not-branch.false in
     record {
-      known = subst (λ (i : Image). IsKnown i c.passes_check.new.self) (sym c.passes_check.ensures.reads.image) passed.1;
+      known = subst (λ (i : Image). IsKnown i c.passes_check.new.self) (sym c.passes_check.ensures.reads.image)
+          passed.1;
       checked = passed.0;
       closed = ap channel_of c.in_ok-passes_check.ensures.last ∙ c.requires.closed;
     }
