@@ -81,8 +81,11 @@ returns g c =
         ok = put.ok;
         moments = λ f p.
             changes_weaker g.D.Sectors.history c.args.drive.now.disk c.put_intent.new.drive.disk _ _ _ _
-            (omega (arith, intent-writes f c.args.request.now c.args.card.now p.1 (sym c.pending.ensures
-            ∙ c.if-not-pending.false) p.0.stock_file)) (λ i x. x) (put.moments f p);
+            (omega (
+              arith,
+              intent-writes f c.args.request.now c.args.card.now p.1 (sym c.pending.ensures
+                  ∙ c.if-not-pending.false) p.0.stock_file,
+            )) (λ i x. x) (put.moments f p);
         failures = put.failures;
         dies = put.dies;
       };

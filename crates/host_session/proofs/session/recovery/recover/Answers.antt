@@ -56,8 +56,11 @@ returns-in_err-complete g c =
             let img = S.image c.args.drive.now.disk in
             let only = subst (IsIntentOf c.args.requests.now) c.in-Some.is p.1 in
             completed-changes S c.args.drive.now.disk c.complete.new.drive.disk img s p.0.shop c.in-Some.open.card
-            (c.complete.ensures.moments p.0.shop.files (p.0.shop.has, has-intent img s c.args.requests.now p.0
-            c.in-Some.open only));
+            (c.complete.ensures.moments p.0.shop.files (
+              p.0.shop.has,
+              has-intent img s c.args.requests.now p.0
+                  c.in-Some.open only,
+            ));
         failures = rw e.1 c.in_err-complete.ensures.failures;
         dies = rw e.1 (λ is. c.in_err-complete.ensures.dies refl);
       };
@@ -86,8 +89,11 @@ returns g c =
             let (h, is) = p in
             let only = subst (IsIntentOf table) c.in-Some.is is in
             let place : (c.from.result - 1) + 1 ≡ c.in-Some.open.till = omega (arith, c.from.ensures, only.low) in
-            let done = c.in_ok-complete.ensures.ok h.shop.files (h.shop.has, has-intent img s table h c.in-Some.open
-            only) in
+            let done = c.in_ok-complete.ensures.ok h.shop.files (
+              h.shop.has,
+              has-intent img s table h c.in-Some.open
+                  only,
+            ) in
             subst (λ o. HasClosedTable new s (set table (c.from.result - 1) (Some o))) (sym c.answered.ensures)
             (completed-table img s table h c.in-Some.open (c.from.result - 1) place c.told-requests only new done);
         moments = λ s p.
