@@ -20,12 +20,15 @@ pub(crate) fn recover<D: Sectors>(
     requests: &mut [Option<RequestCard>; 64],
 ) -> Result<(), Dead>
     requires ready { IsReady D.history drive.old }
-    requires table { (s : Shop) × HasTable (D.history.image drive.old.disk) s requests.old × IsIntentOf requests.old intent.now }
+    requires table { (s : Shop) × HasTable (D.history.image drive.old.disk) s requests.old
+        × IsIntentOf requests.old intent.now }
     ensures ready { OnOk result (IsReady D.history drive.new) }
-    ensures ok { (s : Shop) → HasTable (D.history.image drive.old.disk) s requests.old → IsIntentOf requests.old intent.now
+    ensures ok { (s : Shop) → HasTable (D.history.image drive.old.disk) s requests.old
+        → IsIntentOf requests.old intent.now
         → OnOk result (HasClosedTable (D.history.image drive.new.disk) s requests.new) }
     // two cards in two parts each at most, and the answer
-    ensures moments { (s : Shop) → HasTable (D.history.image drive.old.disk) s requests.old → IsIntentOf requests.old intent.now
+    ensures moments { (s : Shop) → HasTable (D.history.image drive.old.disk) s requests.old
+        → IsIntentOf requests.old intent.now
         → Changes D.history drive.old.disk drive.new.disk 5 (λ c. IsShop c s) }
     ensures quiet { IfNone intent.now ((drive.new ≡ drive.old) × (requests.new ≡ requests.old)) }
     ensures failures { TellsFailure D.history drive.old.disk drive.new.disk result }

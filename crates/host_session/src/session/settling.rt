@@ -28,11 +28,14 @@ fn bring_to_rest<D: Sectors>(
     requests: &mut [Option<RequestCard>; 64],
 ) -> Result<(), Dead>
     requires ready { IsReady D.history drive.old }
-    requires table { (s : Shop) × HasTable (D.history.image drive.old.disk) s requests.old × IsIntentOf requests.old intent.now }
+    requires table { (s : Shop) × HasTable (D.history.image drive.old.disk) s requests.old
+        × IsIntentOf requests.old intent.now }
     ensures ready { OnOk result (IsReady D.history drive.new) }
-    ensures ok { (s : Shop) → HasTable (D.history.image drive.old.disk) s requests.old → IsIntentOf requests.old intent.now
+    ensures ok { (s : Shop) → HasTable (D.history.image drive.old.disk) s requests.old
+        → IsIntentOf requests.old intent.now
         → OnOk result (HasNewTable (D.history.image drive.new.disk) s requests.new 64) }
-    ensures moments { (s : Shop) → HasTable (D.history.image drive.old.disk) s requests.old → IsIntentOf requests.old intent.now
+    ensures moments { (s : Shop) → HasTable (D.history.image drive.old.disk) s requests.old
+        → IsIntentOf requests.old intent.now
         → Changes D.history drive.old.disk drive.new.disk 69 (λ c. IsShop c s) }
     ensures quiet { IfNone intent.now (any_old requests.old ≡ false → drive.new ≡ drive.old) }
     ensures failures { TellsFailure D.history drive.old.disk drive.new.disk result }
@@ -58,7 +61,8 @@ pub(crate) fn settle<D: Sectors>(
     ensures err { IfErr result (λ e. e.0 ≡ Device) }
     ensures moments { (s : Shop) → IsShop (D.history.image disk) s
         → Changes D.history disk (disk_of (λ x. x.disk) result) 952 (λ c. IsShop c s) }
-    ensures quiet { (s : Shop) → IsSettled (D.history.image disk) s → Untouched D.history disk (disk_of (λ x. x.disk) result) }
+    ensures quiet { (s : Shop) → IsSettled (D.history.image disk) s
+        → Untouched D.history disk (disk_of (λ x. x.disk) result) }
     ensures failures { TellsOpening (λ x. x.disk) D.history disk result }
 {
     let mut drive = start(disk)?;

@@ -26,7 +26,8 @@ fn put_record<D: Sectors>(
     text: &[u8],
 ) -> Result<(), Dead>
     requires ready { IsReady D.history drive.old }
-    requires placed { (l : Layout) × (n : ℕ) × (f : File) × IsPlaced (D.history.image drive.old.disk) (name_of file) number l n f }
+    requires placed { (l : Layout) × (n : ℕ) × (f : File)
+        × IsPlaced (D.history.image drive.old.disk) (name_of file) number l n f }
     requires some { 1 ≤ length text.now }
     ensures ready { OnOk result (IsReady D.history drive.new) }
     ensures clean { OnOk result (IsClean (D.history.image drive.new.disk)) }
@@ -35,11 +36,13 @@ fn put_record<D: Sectors>(
         (HasRecords (D.history.image drive.old.disk) (D.history.image drive.new.disk) l n
         (with_written (record_length f.slot) number 1 text.now
         (records_of.records (D.history.image drive.old.disk) f))) }
-    ensures moments { (l : Layout) (n : ℕ) (f : File) → IsPlaced (D.history.image drive.old.disk) (name_of file) number l n f
+    ensures moments { (l : Layout) (n : ℕ) (f : File)
+        → IsPlaced (D.history.image drive.old.disk) (name_of file) number l n f
         → Changes D.history drive.old.disk drive.new.disk (touched (record_length f.slot) number 1)
         (IsWriting (D.history.image drive.old.disk) l n f 0 number 1 text.now) }
     // a record that lies in one block: at an error no write was counted
-    ensures uncounted { (l : Layout) (n : ℕ) (f : File) → IsPlaced (D.history.image drive.old.disk) (name_of file) number l n f
+    ensures uncounted { (l : Layout) (n : ℕ) (f : File)
+        → IsPlaced (D.history.image drive.old.disk) (name_of file) number l n f
         → IsInOneBlock (record_length f.slot) number
         → OnErr result (D.history.writes drive.new.disk ≡ D.history.writes drive.old.disk) }
     ensures failures { TellsFailure D.history drive.old.disk drive.new.disk result }
