@@ -92,6 +92,9 @@ def contracts(text, names):
             kept += clauses if is_public and is_open else []
         elif re.match(r"\s+ghost \w+\s*[:=]", line) and (names is None or owner and owner & names):
             kept.append(line)
+            while "= {" in kept[-1] and not line.endswith(";"):
+                line = next(lines)
+                kept[-1] += "\n" + line
     return "\n".join(kept)
 
 

@@ -21,8 +21,8 @@ pub enum OpenFault {
     /// judged.
     #[error("BAD CARD {0}")]
     BadCard(u16),
-    /// The lowest till, up to 64, whose record of REQUESTS is neither empty nor a card, or is an open intent for an item
-    /// whose record STOCK hasn't.
+    /// The lowest till, up to 64, whose record of REQUESTS is neither empty nor a card, or is an open intent for an
+    /// item whose record STOCK hasn't.
     #[error("BAD REQUEST CARD {0}")]
     BadRequestCard(u8),
     /// More than one intent is open.

@@ -24,8 +24,8 @@ use std::marker::Model;
 
 /// An open ledger: a shop on a disk.
 ///
-/// What the disk holds is kept here as well, so that a repeat, a refused request and a decision read no sector. Once the
-/// device has failed the session is dead: nothing is written any more, and the disk is to be opened again.
+/// What the disk holds is kept here as well, so that a repeat, a refused request and a decision read no sector. Once
+/// the device has failed the session is dead: nothing is written any more, and the disk is to be opened again.
 pub struct Session<D: Sectors> {
     pub(crate) drive: ShopDrive<D>,
     /// The last item that a new card may have.
@@ -47,7 +47,9 @@ impl<D: Sectors> Model for Session<D> {
 
     ghost view = { λ s. record { disk = s.drive.disk; dead = s.dead } };
 
-    ghost invariant = { λ s. IsStanding (D.history.image s.drive.disk) s.dead s.top s.tills (state_in s.cards s.requests) × (s.dead ≡ false → IsReady D.history s.drive) };
+    ghost invariant = { λ s.
+        IsStanding (D.history.image s.drive.disk) s.dead s.top s.tills (state_in s.cards s.requests)
+        × (s.dead ≡ false → IsReady D.history s.drive) };
 }
 
 impl<D: Sectors> Session<D> {
@@ -160,7 +162,8 @@ pub(crate) fn newest_of(card: &RequestCard, till: u8) -> (Request, Answer)
 impl<D: Sectors> Session<D> {
     /// The quantity on hand of an item, where it has a card. Err where the session is dead.
     pub fn card(&self, item: u16) -> Result<Option<u32>, Dead>
-        ensures ok { (s : Shop) → IsShop (D.history.image self.now.disk) s → IfOk result (λ q. q ≡ s.state.ledger.cards item) }
+        ensures ok { (s : Shop) → IsShop (D.history.image self.now.disk) s
+            → IfOk result (λ q. q ≡ s.state.ledger.cards item) }
         ensures dead { IsErr result ↔ (self.now.dead ≡ true) }
     {
         if self.dead {

@@ -54,8 +54,7 @@ module _ {D R T : Type 0} (h : History D) (i : Input R) (a : Answering T) (disk 
   as_many taken x =
       sym (length-map (messages_in taken) asked_in) ∙ ap length x.asks ∙ length-map (line_messages x.handled) asked_in
 
-  module _ (taken : List (Message × Instant)) (x : HasTaken i asked asks taken) (s : Shop)
-      (left : D) where
+  module _ (taken : List (Message × Instant)) (x : HasTaken i asked asks taken) (s : Shop) (left : D) where
     abbrev Lines : List Message
     Lines = line_messages x.handled
 
@@ -64,7 +63,8 @@ module _ {D R T : Type 0} (h : History D) (i : Input R) (a : Answering T) (disk 
         → AreAskedFor h i x.handled first turns asked.input.now asks.input.now
     asked_for first turns e = subst (i.asked asked.input.now asks.input.now)
         (ap instants_in e
-        ∙ same_instants (messages_in taken) Lines (instant_of h first ∷ map (λ t. instant_of h t.1) turns) (as_many taken x))
+        ∙ same_instants (messages_in taken) Lines (instant_of h first ∷ map (λ t. instant_of h t.1) turns)
+        (as_many taken x))
         x.asked
 
     -- every moment of the lines, and what they wrote where they ask nothing new
@@ -77,19 +77,16 @@ module _ {D R T : Type 0} (h : History D) (i : Input R) (a : Answering T) (disk 
     served : IsRunWhole h (lent (answered a)) s taken disk left old new
         → AreServed h i a s x.handled disk left asked.input.now asks.input.now old.out.now new.out.now × Held
     served k =
-        let run = same_run h s (messages_in taken) Lines k.0.turns disk left x.asks k.0.run in (
+        let turns = k.0.turns in
+        let run = same_run h s (messages_in taken) Lines turns disk left x.asks k.0.run in (
           record {
-            turns = k.0.turns;
-            handled = handled_run h s x.handled k.0.turns disk left run;
-            within = λ _. same_within h (messages_in taken) Lines k.0.turns k.0.run.first x.asks k.2;
-            asked = asked_for k.0.run.first k.0.turns k.1;
+            turns = turns;
+            handled = handled_run h s x.handled turns disk left run;
+            within = λ _. same_within h (messages_in taken) Lines turns k.0.run.first x.asks k.2;
+            asked = asked_for k.0.run.first turns k.1;
             told = k.0.told.1;
           },
-          (
-            (whole h s Lines k.0.turns disk left run).1,
-            λ asks. unwritten
-                (quiet_run h s Lines k.0.turns disk left asks run),
-          ),
+          ((whole h s Lines turns disk left run).1, λ asks. unwritten (quiet_run h s Lines turns disk left asks run)),
         )
 
     served_to_output : IsRunToOutput h (lent (answered a)) s taken disk left old new
@@ -228,10 +225,11 @@ module _ {D R T : Type 0} (h : History D) (i : Input R) (a : Answering T) (disk 
     failed = λ is. let s = k.after (inl is) in blamed fresh all k.taken k.takes (k.input s.0 s.1 is).0;
     passed = λ other. unblamed fresh (Err e) k other;
     well = λ shop never sound whole few. ⊎_elim
-        (λ is. ⊎_elim (λ failed. absurd (let x = sym sound ∙ failed in cc)) (λ spent. absurd (omega (arith, spent, few)))
+        (λ is. ⊎_elim (λ failed. absurd (let x = sym sound ∙ failed in cc))
+        (λ spent. absurd (omega (arith, spent, few)))
         (blamed fresh all k.taken k.takes (k.input shop.0 shop.1 is).0))
-        (λ is. absurd (let x = sym whole ∙ (served_to_output k.taken k.takes shop.0 e.1 (k.output shop.0 shop.1 is)).0.told.1
-        in cc))
+        (λ is. let so = served_to_output k.taken k.takes shop.0 e.1 (k.output shop.0 shop.1 is) in
+        absurd (let x = sym whole ∙ so.0.told.1 in cc))
         (k.plays shop never);
   }
 

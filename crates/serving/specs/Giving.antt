@@ -46,8 +46,8 @@ IsLineTaken old new kept next.End =
     (rest : List ℕ) × LacksLf rest × Consumes old new rest × OnSome old (IsAtEnd new)
 IsLineTaken old new kept next.Failed = (rest : List ℕ) × LacksLf rest × Consumes old new rest
 
--- what an input says of a line that was asked for over a disk at this instant: it failed where that is told, and nowhere
--- else
+-- what an input says of a line that was asked for over a disk at this instant: it failed where that is told, and
+-- nowhere else
 abbrev pub IsAsked : {R : Type 0} → Input R → R → R → Instant → Next → Type 0
 IsAsked i old new at next.Event = AsksOne i old new at × (i.has_failed new ≡ i.has_failed old)
 IsAsked i old new at next.End = AsksNone i old new × (i.has_failed new ≡ i.has_failed old)

@@ -12,8 +12,8 @@ pub trait Answers<D: Sectors> {
     /// What this output says of itself: what it was told, and whether it may have failed.
     ghost answering: { Answering Self };
 
-    /// Tells this reply, and hands it on. Where that wasn't done, a part of it may have been told, or all of it. The disk is lent
-    /// as it is then.
+    /// Tells this reply, and hands it on. Where that wasn't done, a part of it may have been told, or all of it. The
+    /// disk is lent as it is then.
     fn answer(&mut self, reply: &Reply, disk: &D) -> Result<(), NotTaken>
         ensures { IsTold (answered answering) self.old self.new reply.now (instant_of D.history disk.now) result };
 }

@@ -12,13 +12,13 @@ use std::io::BufRead;
 
 /// An input of lines. Each reader is one, and says no more than which bytes it has left, where it knows them.
 pub trait GivesLines<D: Sectors> {
-    /// What this input says of itself: the bytes that it has left, over which disk each line was asked for, and whether it
-    /// may have failed.
+    /// What this input says of itself: the bytes that it has left, over which disk each line was asked for, and whether
+    /// it may have failed.
     ghost input: { Input Self };
 
-    /// Takes the next line, without its LF and one CR before that; 40 bytes of it are kept, and what was there before is gone.
-    /// `End` where the input ended first: what came behind its last LF is no line. `Failed` where it couldn't be read. The
-    /// disk is lent as it is then.
+    /// Takes the next line, without its LF and one CR before that; 40 bytes of it are kept, and what was there before
+    /// is gone. `End` where the input ended first: what came behind its last LF is no line. `Failed` where it couldn't
+    /// be read. The disk is lent as it is then.
     fn give(&mut self, line: &mut ArrayVec<u8, 40>, disk: &D) -> Next
         ensures { IsGiven input self.old self.new line.new.items (instant_of D.history disk.now) result };
 }

@@ -29,7 +29,8 @@ fn cut_message<D: Sectors>(session: Session<D>, message: &[u8], after: u32) -> D
 /// Begins an opening whose power goes after so many writes, and takes the disk back.
 fn cut_opening<D: Sectors>(disk: D, writes: u32) -> D
     ensures moments { (s : Shop) → IsShop (D.history.image disk) s → HeldOnly D.history disk result (λ c. IsShop c s) }
-    ensures writes { (s : Shop) → IsShop (D.history.image disk) s → D.history.writes result ≤ D.history.writes disk + writes }
+    ensures writes { (s : Shop) → IsShop (D.history.image disk) s
+        → D.history.writes result ≤ D.history.writes disk + writes }
     ensures later { (s : Shop) → IsShop (D.history.image disk) s → D.history.failures disk ≤ D.history.failures result }
     ensures quiet { (s : Shop) → IsSettled (D.history.image disk) s → Untouched D.history disk result }
 {
@@ -94,7 +95,8 @@ pub(crate) fn is_media(reply: Reply) -> bool
 /// A message without a reset, handled in place: MEDIA where the device failed.
 pub(crate) fn whole_message<D: Sectors>(session: &mut Session<D>, message: &[u8]) -> Reply
     ensures done { (s : Shop) → IsSettled (D.history.image session.old.disk) s → session.old.dead ≡ false
-        → ¬ (IsMedia result) → (session.new.dead ≡ false) × IsEvent D.history s (uncut message.now) session.old.disk session.new.disk
+        → ¬ (IsMedia result)
+        → (session.new.dead ≡ false) × IsEvent D.history s (uncut message.now) session.old.disk session.new.disk
         (GoesOn D.history s (uncut message.now) result session.new.disk) }
     ensures stopped { (s : Shop) → IsSettled (D.history.image session.old.disk) s → session.old.dead ≡ false
         → IsMedia result → IsEvent D.history s (uncut message.now) session.old.disk session.new.disk

@@ -15,8 +15,8 @@ pub trait Tells<D: Sectors> {
     /// What this output says of what it was told.
     ghost output: { Output Self };
 
-    /// Tells this reply. The disk is lent as it is then. Where the reply isn't taken, a part of it may have been told, or all
-    /// of it.
+    /// Tells this reply. The disk is lent as it is then. Where the reply isn't taken, a part of it may have been told,
+    /// or all of it.
     fn tell(&mut self, reply: &Reply, disk: &D) -> Result<(), NotTaken>
         ensures { IsTold output self.old self.new reply.now (instant_of D.history disk.now) result };
 

@@ -106,8 +106,8 @@ fn run_on<D: Sectors, A: Asks<D>, T: Tells<D>>(
     }
 }
 
-/// Runs the events one after another on a disk that is opened first, and tells each reply before the next event is taken.
-/// What comes of it are the clauses of `IsRun`. It takes up to 430 kB of stack, with resets 940 kB, as measured.
+/// Runs the events one after another on a disk that is opened first, and tells each reply before the next event is
+/// taken. What comes of it are the clauses of `IsRun`. It takes up to 430 kB of stack, with resets 940 kB, as measured.
 pub fn run<D: Sectors, A: Asks<D>, T: Tells<D>>(
     disk: D,
     asks: &mut A,

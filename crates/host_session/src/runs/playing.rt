@@ -51,16 +51,18 @@ fn fault_of(fault: LoopFault) -> PlayFault
 
 /// Plays the events one after another, on a disk that is opened first.
 ///
-/// A message without a reset is handled, and its reply is the session's. In a message with one, power goes after so many
-/// of its sector writes; then each listed recovery is stopped after its writes, a whole one follows, and the reply is
-/// `Cut`. The replies go behind those that the list has. It stops after a message that was told MEDIA, and where a whole
-/// recovery failed; both have their replies in the list. It takes up to 430 kB of stack, with resets 940 kB, as measured.
+/// A message without a reset is handled, and its reply is the session's. In a message with one, power goes after so
+/// many of its sector writes; then each listed recovery is stopped after its writes, a whole one follows, and the reply
+/// is `Cut`. The replies go behind those that the list has. It stops after a message that was told MEDIA, and where a
+/// whole recovery failed; both have their replies in the list. It takes up to 430 kB of stack, with resets 940 kB, as
+/// measured.
 pub fn play<D: Sectors>(
     disk: D,
     events: &[Event<'_>],
     replies: &mut Vec<Reply>,
 ) -> Result<D, (PlayFault, D)>
-    ensures { PlaysEvents D.history (map message_of events.now) disk (vec_capacity replies.old) replies.old.items replies.new.items result }
+    ensures { PlaysEvents D.history (map message_of events.now) disk
+        (vec_capacity replies.old) replies.old.items replies.new.items result }
 {
     match replies.try_reserve(events.len()) {
         Ok(()) => {}

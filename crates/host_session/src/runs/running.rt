@@ -56,9 +56,9 @@ fn fault_of(fault: LoopFault) -> ScriptFault
 /// Plays the lines of a script one after another, as `play` plays events, and tells each reply before the next line is
 /// played. What comes of it are the clauses of `IsScriptRun`.
 ///
-/// All lines are judged before anything else is done. It takes no memory. After `Output` the lines played stand, the one
-/// whose reply wasn't taken whole among them. Where the device failed, the last reply is told before `Device` is, and whether
-/// the output took it isn't. It takes up to 430 kB of stack, with resets 940 kB, as measured.
+/// All lines are judged before anything else is done. It takes no memory. After `Output` the lines played stand, the
+/// one whose reply wasn't taken whole among them. Where the device failed, the last reply is told before `Device` is,
+/// and whether the output took it isn't. It takes up to 430 kB of stack, with resets 940 kB, as measured.
 pub fn run_script<D: Sectors, T: Tells<D>>(
     disk: D,
     script: &[u8],

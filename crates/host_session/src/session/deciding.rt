@@ -33,7 +33,8 @@ pub(crate) fn standing_by(
     }
 }
 
-/// What the trade rule makes of a request by a table of quantities, where `top` is the last item that a new card may have.
+/// What the trade rule makes of a request by a table of quantities, where `top` is the last item that a new card may
+/// have.
 pub(crate) fn decided(cards: &[Option<u32>; 10160], top: u16, request: &Request) -> Outcome
     requires top { top ≤ 10160 }
     ensures rule { result ≡ traded (nth cards.now) top request.now.body }

@@ -85,8 +85,8 @@ fn put_first_set<D: Sectors>(
     put_intent(drive, request, card)
 }
 
-/// Keeps a till's next request with its answer: the card alone where it changes no quantity; else, after the growth of STOCK
-/// for an item that has no card, its intent, the item's card or both cards, and its answer.
+/// Keeps a till's next request with its answer: the card alone where it changes no quantity; else, after the growth of
+/// STOCK for an item that has no card, its intent, the item's card or both cards, and its answer.
 pub(crate) fn keep<D: Sectors>(
     drive: &mut ShopDrive<D>,
     request: &Request,
@@ -102,7 +102,8 @@ pub(crate) fn keep<D: Sectors>(
         (λ f. IsEither (shop_of f) request.now)
         (λ f i. IsSettled i (shop_after (shop_of f) request.now)) }
     // but for a set of an item without a card, the shop is the one after once a write was counted
-    ensures counted { has_no_card ≡ false → (f : Files) → HasFiles (D.history.image drive.old.disk) f → IsKeeping f request.now card.now
+    ensures counted { has_no_card ≡ false → (f : Files) → HasFiles (D.history.image drive.old.disk) f
+        → IsKeeping f request.now card.now
         → IfCounted D.history drive.old.disk drive.new.disk (λ i. IsShop i (shop_after (shop_of f) request.now)) }
     ensures refused { card.now.pending ≡ false → (f : Files) → HasFiles (D.history.image drive.old.disk) f
         → IsKeeping f request.now card.now

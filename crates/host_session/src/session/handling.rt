@@ -15,12 +15,12 @@ use request_cards::{Reply, Request, Standing, Word};
 impl<D: Sectors> Session<D> {
     /// Answers a message of a till.
     ///
-    /// What is no request is told `Syntax`. A request that isn't its till's next one is told what is kept of it, or why it
-    /// isn't taken; neither writes anything. The next request of a till is decided by the trade rule, and its answer is kept
-    /// on the disk before it is told: one write for an answer that changes no card; else, after the growth of STOCK that a
-    /// new card may take, the request's intent, its card or both cards, and its answer. Where the device fails, now or in an
-    /// earlier message, the reply is `MEDIA`, and the session is dead; the shop is then the one before the message or the
-    /// one after it.
+    /// What is no request is told `Syntax`. A request that isn't its till's next one is told what is kept of it, or why
+    /// it isn't taken; neither writes anything. The next request of a till is decided by the trade rule, and its answer
+    /// is kept on the disk before it is told: one write for an answer that changes no card; else, after the growth of
+    /// STOCK that a new card may take, the request's intent, its card or both cards, and its answer. Where the device
+    /// fails, now or in an earlier message, the reply is `MEDIA`, and the session is dead; the shop is then the one
+    /// before the message or the one after it.
     pub fn handle(&mut self, message: &[u8]) -> Reply
         ensures { IsHandled D.history self.old self.new message.now result }
     {
@@ -43,7 +43,8 @@ impl<D: Sectors> Session<D> {
     fn word_on(&mut self, request: &Request) -> Word
         requires ask { IsAsk request.now }
         requires alive { self.old.dead ≡ false }
-        ensures quiet { (s : Shop) → IsShop (D.history.image self.old.disk) s → next_in (start_of s) s.state request.now ≡ false
+        ensures quiet { (s : Shop) → IsShop (D.history.image self.old.disk) s
+            → next_in (start_of s) s.state request.now ≡ false
             → (result ≡ word_in (start_of s) s.state request.now) × (self.new ≡ self.old) }
         ensures answered { IsAnswered D.history self.old self.new request.now result }
     {
@@ -57,7 +58,8 @@ impl<D: Sectors> Session<D> {
     fn answer(&mut self, request: &Request) -> Word
         requires ask { IsAsk request.now }
         requires alive { self.old.dead ≡ false }
-        requires next { (s : Shop) → IsShop (D.history.image self.old.disk) s → next_in (start_of s) s.state request.now ≡ true }
+        requires next { (s : Shop) → IsShop (D.history.image self.old.disk) s
+            → next_in (start_of s) s.state request.now ≡ true }
         ensures { IsAnswered D.history self.old self.new request.now result }
     {
         let outcome = decided(&self.cards, self.top, request);

@@ -13,10 +13,11 @@ use d64_image::Sectors;
 impl<D: Sectors> Session<D> {
     /// Opens a disk.
     ///
-    /// The disk is read and judged first, and nothing is written where it is no shop's: then the first fault in the order
-    /// of `OpenFault` is told, and the disk is handed back. A shop's disk is repaired; an open intent is completed, its
-    /// cards first and then its answer; and each card of version 1 of a till up to 64 is written again as version 2. Where
-    /// power fails on the way, the disk is the same shop's, and opening it again goes on from there.
+    /// The disk is read and judged first, and nothing is written where it is no shop's: then the first fault in the
+    /// order of `OpenFault` is told, and the disk is handed back. A shop's disk is repaired; an open intent is
+    /// completed, its cards first and then its answer; and each card of version 1 of a till up to 64 is written again
+    /// as version 2. Where power fails on the way, the disk is the same shop's, and opening it again goes on from
+    /// there.
     ///
     /// `Device` is told where the device failed, also after writes.
     ///
@@ -31,7 +32,8 @@ impl<D: Sectors> Session<D> {
         // where the device doesn't fail, Ok comes exactly on a shop
         ensures opens { NeverFailed D.history disk (disk_of (λ x. x.disk) result)
             → (IsOk result ↔ IsAShop (D.history.image disk)) }
-        // each image held is the same shop's; at most 883 sectors are written by the repair, 5 for the intent, 64 for old cards
+        // each image held is the same shop's; at most 883 sectors are written by the repair, 5 for the intent, 64 for
+        // old cards
         ensures moments { (s : Shop) → IsShop (D.history.image disk) s
             → Changes D.history disk (disk_of (λ x. x.disk) result) 952 (λ c. IsShop c s) }
         // what is no shop's isn't written, and neither is a disk at rest

@@ -20,7 +20,8 @@ pub(crate) fn recover<D: Sectors>(
     requests: &mut [Option<RequestCard>; 64],
 ) -> Result<(), Dead>
     requires ready { IsReady D.history drive.old }
-    requires table { (s : Shop) × HasTable (D.history.image drive.old.disk) s requests.old × IsIntentOf requests.old intent.now }
+    requires table { (s : Shop) × HasTable (D.history.image drive.old.disk) s requests.old
+        × IsIntentOf requests.old intent.now }
     // two cards in two parts each at most, and the answer
     ensures puts { Puts D.history drive.old drive.new result
         (λ s. HasTable (D.history.image drive.old.disk) s requests.old × IsIntentOf requests.old intent.now)

@@ -29,7 +29,8 @@ fn bring_to_rest<D: Sectors>(
     requests: &mut [Option<RequestCard>; 64],
 ) -> Result<(), Dead>
     requires ready { IsReady D.history drive.old }
-    requires table { (s : Shop) × HasTable (D.history.image drive.old.disk) s requests.old × IsIntentOf requests.old intent.now }
+    requires table { (s : Shop) × HasTable (D.history.image drive.old.disk) s requests.old
+        × IsIntentOf requests.old intent.now }
     ensures puts { Puts D.history drive.old drive.new result
         (λ s. HasTable (D.history.image drive.old.disk) s requests.old × IsIntentOf requests.old intent.now)
         (λ s p. 69) (λ s c. IsShop c s) (λ s i. HasNewTable i s requests.new 64) }
@@ -55,7 +56,8 @@ pub(crate) fn settle<D: Sectors>(
     ensures err { IfErr result (λ e. e.0 ≡ Device) }
     ensures moments { (s : Shop) → IsShop (D.history.image disk) s
         → Changes D.history disk (disk_of (λ x. x.disk) result) 952 (λ c. IsShop c s) }
-    ensures quiet { (s : Shop) → IsSettled (D.history.image disk) s → Untouched D.history disk (disk_of (λ x. x.disk) result) }
+    ensures quiet { (s : Shop) → IsSettled (D.history.image disk) s
+        → Untouched D.history disk (disk_of (λ x. x.disk) result) }
     ensures failures { TellsOpening (λ x. x.disk) D.history disk result }
 {
     let mut drive = start(disk)?;

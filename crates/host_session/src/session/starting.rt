@@ -19,7 +19,8 @@ pub(crate) fn start<D: Sectors>(disk: D) -> Result<ShopDrive<D>, (OpenFault, D)>
     requires sound { IsSound (D.history.image disk) }
     ensures ready { IfOk result (λ x. IsReady D.history x) }
     // what both files hold is as it was
-    ensures files { (f : Files) → HasFiles (D.history.image disk) f → IfOk result (λ x. HasFiles (D.history.image x.disk) f) }
+    ensures files { (f : Files) → HasFiles (D.history.image disk) f
+        → IfOk result (λ x. HasFiles (D.history.image x.disk) f) }
     ensures err { IfErr result (λ e. e.0 ≡ Device) }
     ensures moments { (s : Shop) → IsShop (D.history.image disk) s
         → Changes D.history disk (disk_of (λ x. x.disk) result) 883 (λ c. IsShop c s) }

@@ -92,7 +92,8 @@ pub(crate) fn complete_with<D: Sectors>(
     // every image held is the same shop's
     ensures { Puts D.history drive.old drive.new result
         (λ f. HasFiles (D.history.image drive.old.disk) f × HasIntent f till card.now)
-        (λ f p. card_writes (results_of card.now.newest) + 1) (λ f i. IsShop i (shop_of f)) (λ f. IsCompleted f till card.now) }
+        (λ f p. card_writes (results_of card.now.newest) + 1) (λ f i. IsShop i (shop_of f))
+        (λ f. IsCompleted f till card.now) }
 {
     put_results(drive, till, card)?;
     put_answer(drive, till, text)
@@ -109,7 +110,8 @@ pub(crate) fn complete<D: Sectors>(
     // every image held is the same shop's
     ensures { Puts D.history drive.old drive.new result
         (λ f. HasFiles (D.history.image drive.old.disk) f × HasIntent f till card.now)
-        (λ f p. card_writes (results_of card.now.newest) + 1) (λ f i. IsShop i (shop_of f)) (λ f. IsCompleted f till card.now) }
+        (λ f p. card_writes (results_of card.now.newest) + 1) (λ f i. IsShop i (shop_of f))
+        (λ f. IsCompleted f till card.now) }
 {
     complete_with(drive, till, card, &answered(card).print())
 }

@@ -45,7 +45,8 @@ fn find_shop_file<D: Sectors>(disk: &mut D, file: ShopFile) -> Result<Option<Rel
     requires sound { IsSound (D.history.image disk.old) }
     ensures found { (l : Layout) → IsLayout (D.history.image disk.old) l
         → IfOk result (λ o. IfSome o (IsFileNamed (D.history.image disk.old) l (name_of file) (length_of file))) }
-    ensures lacks { IfOk result (λ o. IfNone o (LacksFileOf (D.history.image disk.old) (name_of file) (length_of file))) }
+    ensures lacks { IfOk result (λ o. IfNone o
+        (LacksFileOf (D.history.image disk.old) (name_of file) (length_of file))) }
     ensures err { IfErr result (λ fault. fault ≡ Device) }
     ensures reads { OnlyReads D.history disk.old disk.new 702 }
     ensures failures { TellsFailure D.history disk.old disk.new result }
@@ -63,8 +64,8 @@ fn find_shop_file<D: Sectors>(disk: &mut D, file: ShopFile) -> Result<Option<Rel
     }
 }
 
-/// The last item that a new card in this file may have: the last one whose record lies in as many blocks as fit, with their
-/// side sectors, into the sectors outside track 18 that no other file owns. 120 blocks take one side sector.
+/// The last item that a new card in this file may have: the last one whose record lies in as many blocks as fit, with
+/// their side sectors, into the sectors outside track 18 that no other file owns. 120 blocks take one side sector.
 fn top_of(found: &Survey, entry: usize) -> u16
     requires told { (l : Layout) × IsSurveyOf l found.now }
     requires entry { entry < entries_of found.now }

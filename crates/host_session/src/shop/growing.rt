@@ -10,8 +10,8 @@ use crate::shop::shop_drive::{ShopDrive, ShopFile};
 use d64_image::Sectors;
 use drive_channels::Dead;
 
-/// Makes the record of an item up to the top be there: where STOCK doesn't reach to it yet, empty records follow its last
-/// one. No card, and nothing else on the disk, changes.
+/// Makes the record of an item up to the top be there: where STOCK doesn't reach to it yet, empty records follow its
+/// last one. No card, and nothing else on the disk, changes.
 pub(crate) fn grow_stock<D: Sectors>(drive: &mut ShopDrive<D>, item: u16) -> Result<(), Dead>
     requires ready { IsReady D.history drive.old }
     requires fits { (f : Files) × HasFiles (D.history.image drive.old.disk) f × (1 ≤ item) × (item ≤ f.top) }

@@ -5,7 +5,8 @@ ghost use Rattle.host_session.specs.declared.faults.OpenFault.TheVariants.{BadCa
 ghost use Rattle.host_session.specs.session.Opening.{IsBadCard, IsBadTill, Refuses, TellsJudging};
 ghost use Rattle.host_session.specs.shop.Files.{Files, HasFiles};
 ghost use Rattle.host_session.specs.shop.Found.{AreFilesOf};
-ghost use Rattle.host_session.specs.shop.Judged.{AreCards, AreTills, HasJudgedTills, IsIntentOf, IsJudged, IsJudgedItem, IsJudgedTill, IsNothing};
+ghost use Rattle.host_session.specs.shop.Judged.{AreCards, AreTills, HasJudgedTills, IsIntentOf, IsJudged};
+ghost use Rattle.host_session.specs.shop.Judged.{IsJudgedItem, IsJudgedTill, IsNothing};
 ghost use Rattle.rel_records.specs.reading.Kept.{IsKept};
 
 use crate::faults::OpenFault;
@@ -193,8 +194,8 @@ fn judge_tills<D: Sectors>(
 }
 
 /// Reads a disk and judges it, in the order of `OpenFault`. Nothing is written.
-// Out of line, as `settle` is: an opening is then so short that the compiler makes the tables once, where the session is
-// kept, and not a second time for a fault.
+// Out of line, as `settle` is: an opening is then so short that the compiler makes the tables once, where the session
+// is kept, and not a second time for a fault.
 #[inline(never)]
 pub(crate) fn judge<D: Sectors>(disk: &mut D, found: &mut Judged) -> Result<(), OpenFault>
     requires nothing { IsNothing found.old }

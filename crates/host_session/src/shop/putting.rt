@@ -25,16 +25,19 @@ fn put_record<D: Sectors>(
     text: &[u8],
 ) -> Result<(), Dead>
     requires ready { IsReady D.history drive.old }
-    requires placed { (l : Layout) × (n : ℕ) × (f : File) × IsPlaced (D.history.image drive.old.disk) (name_of file) number l n f }
+    requires placed { (l : Layout) × (n : ℕ) × (f : File)
+        × IsPlaced (D.history.image drive.old.disk) (name_of file) number l n f }
     requires some { 1 ≤ length text.now }
     ensures puts { Puts D.history drive.old drive.new result
         (λ (p : Layout × ℕ × File). IsPlaced (D.history.image drive.old.disk) (name_of file) number p.0 p.1 p.2)
         (λ p is. touched (record_length p.2.slot) number 1)
         (λ p. IsWriting (D.history.image drive.old.disk) p.0 p.1 p.2 0 number 1 text.now)
-        (λ p i. HasRecords (D.history.image drive.old.disk) i p.0 p.1 (with_written (record_length p.2.slot) number 1 text.now
+        (λ p i. HasRecords (D.history.image drive.old.disk) i p.0 p.1
+        (with_written (record_length p.2.slot) number 1 text.now
         (records_of.records (D.history.image drive.old.disk) p.2))) }
     // a record that lies in one block: at an error no write was counted
-    ensures uncounted { (l : Layout) (n : ℕ) (f : File) → IsPlaced (D.history.image drive.old.disk) (name_of file) number l n f
+    ensures uncounted { (l : Layout) (n : ℕ) (f : File)
+        → IsPlaced (D.history.image drive.old.disk) (name_of file) number l n f
         → IsInOneBlock (record_length f.slot) number
         → OnErr result (D.history.writes drive.new.disk ≡ D.history.writes drive.old.disk) }
 {

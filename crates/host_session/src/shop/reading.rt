@@ -39,7 +39,8 @@ fn is_empty(bytes: &[u8]) -> bool
 /// What bytes hold that were read as this card, or as none.
 fn what_is_held<C>(card: Option<C>, bytes: &[u8]) -> Held<C>
     requires some { 1 ≤ length bytes.now }
-    ensures { (card_of : List ℕ → Option C) → card_of bytes.now ≡ card → Tells card_of (length bytes.now) bytes.now result }
+    ensures { (card_of : List ℕ → Option C) → card_of bytes.now ≡ card
+        → Tells card_of (length bytes.now) bytes.now result }
 {
     match card {
         Some(card) => Held::Card(card),
@@ -48,8 +49,8 @@ fn what_is_held<C>(card: Option<C>, bytes: &[u8]) -> Held<C>
     }
 }
 
-/// What a till's record holds; None past the last record. Nothing is written. `last` is the block of REQUESTS that was read
-/// last, `text` is room for the record.
+/// What a till's record holds; None past the last record. Nothing is written. `last` is the block of REQUESTS that was
+/// read last, `text` is room for the record.
 pub(crate) fn read_till<D: Sectors>(
     disk: &mut D,
     files: &LedgerFiles,
@@ -77,8 +78,8 @@ pub(crate) fn read_till<D: Sectors>(
     }
 }
 
-/// What an item's record holds; None past the last record. Nothing is written. `last` is the block of STOCK that was read
-/// last, `text` is room for the record.
+/// What an item's record holds; None past the last record. Nothing is written. `last` is the block of STOCK that was
+/// read last, `text` is room for the record.
 pub(crate) fn read_item<D: Sectors>(
     disk: &mut D,
     files: &LedgerFiles,

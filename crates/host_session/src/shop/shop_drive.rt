@@ -50,8 +50,8 @@ impl ShopFile {
     }
 }
 
-/// The drive over a shop's disk, and the file that its channel 2 is open on, where one is known: a record of the same file
-/// is then reached by `P` alone.
+/// The drive over a shop's disk, and the file that its channel 2 is open on, where one is known: a record of the same
+/// file is then reached by `P` alone.
 pub(crate) struct ShopDrive<D: Sectors> {
     drive: Drive<D>,
     known: Option<ShopFile>,
@@ -113,8 +113,10 @@ impl<D: Sectors> ShopDrive<D> {
     #[inline(never)]
     fn open(&mut self, file: ShopFile) -> Result<(), Dead>
         requires ready { IsReady D.history self.old }
-        requires there { (l : Layout) × (n : ℕ) × (f : File) × IsLayout (D.history.image self.old.disk) l × IsFirst l (name_of file) n f }
-        ensures on { (l : Layout) (n : ℕ) (f : File) → IsLayout (D.history.image self.old.disk) l → IsFirst l (name_of file) n f
+        requires there { (l : Layout) × (n : ℕ) × (f : File)
+            × IsLayout (D.history.image self.old.disk) l × IsFirst l (name_of file) n f }
+        ensures on { (l : Layout) (n : ℕ) (f : File)
+            → IsLayout (D.history.image self.old.disk) l → IsFirst l (name_of file) n f
             → OnOk result (IsInFile self.new n) }
         ensures reads { OnlyReads D.history self.old.disk self.new.disk 2817 }
         ensures failures { TellsFailure D.history self.old.disk self.new.disk result }
@@ -129,8 +131,10 @@ impl<D: Sectors> ShopDrive<D> {
     /// Opens channel 2 on a file, where it isn't open on it.
     fn turn_to(&mut self, file: ShopFile) -> Result<(), Dead>
         requires ready { IsReady D.history self.old }
-        requires there { (l : Layout) × (n : ℕ) × (f : File) × IsLayout (D.history.image self.old.disk) l × IsFirst l (name_of file) n f }
-        ensures on { (l : Layout) (n : ℕ) (f : File) → IsLayout (D.history.image self.old.disk) l → IsFirst l (name_of file) n f
+        requires there { (l : Layout) × (n : ℕ) × (f : File)
+            × IsLayout (D.history.image self.old.disk) l × IsFirst l (name_of file) n f }
+        ensures on { (l : Layout) (n : ℕ) (f : File)
+            → IsLayout (D.history.image self.old.disk) l → IsFirst l (name_of file) n f
             → OnOk result (IsInFile self.new n) }
         // a channel that is on the file stays as it is
         ensures stays { IsOn D.history self.old file → (result ≡ Ok tt) × (self.new ≡ self.old) }
@@ -147,8 +151,10 @@ impl<D: Sectors> ShopDrive<D> {
     /// Places channel 2 at the start of a record of a file, which is there or which the file can grow to.
     pub(crate) fn select(&mut self, file: ShopFile, number: u16) -> Result<(), Dead>
         requires ready { IsReady D.history self.old }
-        requires reach { (l : Layout) × (n : ℕ) × (f : File) × IsInReach (D.history.image self.old.disk) (name_of file) number l n f }
-        ensures at { (l : Layout) (n : ℕ) (f : File) → IsInReach (D.history.image self.old.disk) (name_of file) number l n f
+        requires reach { (l : Layout) × (n : ℕ) × (f : File)
+            × IsInReach (D.history.image self.old.disk) (name_of file) number l n f }
+        ensures at { (l : Layout) (n : ℕ) (f : File)
+            → IsInReach (D.history.image self.old.disk) (name_of file) number l n f
             → OnOk result (IsAt self.new n number) }
         // where the channel is on the file no sector is read
         ensures quiet { IsOn D.history self.old file → self.new.disk ≡ self.old.disk }

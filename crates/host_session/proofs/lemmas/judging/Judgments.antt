@@ -31,7 +31,8 @@ pub judged-error : {D B : Type 0} (A : Type 0) (S : History D) (a b c : D) (faul
     (result : Result B OpenFault) → result ≡ Err fault → S.failures b ≡ S.failures a
     → TellsJudging {T = A} S b c (Err fault) → TellsJudging S a c result
 judged-error {B = B} A S a b c fault result e same told =
-    subst (λ (r : Result B OpenFault). TellsJudging S a c r) (sym e) (judged-later {T = B} S a b c (Err fault) same told)
+    subst (λ (r : Result B OpenFault). TellsJudging S a c r) (sym e)
+    (judged-later {T = B} S a b c (Err fault) same told)
 
 -- what is refused after calls that only read is refused of the disk that they read
 pub refused-error : {D B : Type 0} (S : History D) (a b c : D) (fault : OpenFault) (result : Result B OpenFault)

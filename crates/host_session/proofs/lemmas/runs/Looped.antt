@@ -50,7 +50,8 @@ module _ {D A T : Type 0} (h : History D) (a : Source A) (o : Output T) (from : 
 
   -- the next event was taken, or there was none
   module _ (disk : D) (asks now : A) (out : T) (w : HasCome h a o from disk asks out) where
-    pub takes_one : TakesOne a asks now (instant_of h disk) → FailsNoMore a asks now → HasComeBut h a o from disk now out
+    pub takes_one : TakesOne a asks now (instant_of h disk) → FailsNoMore a asks now
+        → HasComeBut h a o from disk now out
     takes_one takes sound = record {
       taken = w.taken;
       is = (takes from.asks w.taken w.is.0, λ failed. w.is.1 (sound failed));

@@ -62,7 +62,8 @@ pub plain_played : {D : Type 0} (h : History D) (s : Shop) (ls : List (List ℕ)
 plain_played h s ls old new told none p =
     let all = messages_plain ls none in
     let is = subst (λ ms. IsCounted (start_of s) [] ms p.fails p.counted) all p.is in
-    let q = answers_plain (start_of s) [] ls p.fails p.counted is (subst (λ ms. NoneGotMedia ms p.fails) all p.whole) in (
+    let whole = subst (λ ms. NoneGotMedia ms p.fails) all p.whole in
+    let q = answers_plain (start_of s) [] ls p.fails p.counted is whole in (
       p.told_is ∙ ap (λ ms. answers (start_of s) [] ms p.fails p.counted) all ∙ q.0,
       subst (λ xs. IsSettled (h.image new) (with_state s (plain (start_of s) xs))) q.1 p.ends,
     )

@@ -4,7 +4,6 @@ use Rattle.std.specs.Prelude.{OnErr, OnOk}
 use Rattle.d64_image.specs.History.{Changes, History, IfCounted}
 use Rattle.d64_image.specs.Images.{Image}
 use Rattle.d64_image.proofs.Moments.{at_end, changes_then, changes_weaker, none_counted}
-use Rattle.disk_layout.specs.Clean.{IsClean}
 use Rattle.request_cards.specs.CardTexts.{Card, card_text}
 use Rattle.request_cards.specs.Requests.{Ask}
 use Rattle.host_session.specs.shop.Completing.{HasIntent, IsCompleted}
@@ -47,7 +46,8 @@ module _ (f : Files) (a : Ask) (c : Card) (t : ℕ) (text : List ℕ) (at : t �
     pub put-settled : {T E : Type 0} → c.pending ≡ false → (y : Seen D) (res : Result T E)
         → OnOk res (HasAnswer f t text (S.image y.disk)) → OnOk res (IsReady S y)
         → OnOk res (IsSettled (S.image y.disk) (shop_after (shop_of f) a))
-    put-settled e y (Ok _) h ready = refused-settled f a c k e (S.image y.disk) ready.clean (answer-named (S.image y.disk) h)
+    put-settled e y (Ok _) h ready = refused-settled f a c k e (S.image y.disk) ready.clean
+        (answer-named (S.image y.disk) h)
     put-settled e y (Err _) h ready = tt
 
     -- the intent, and its completion

@@ -70,8 +70,8 @@ returns-in_err-migrate_till g c =
             let (table, changes) = c.loop-place.invariant.so_far s h in
             let same : c.loop-place.place ≡ (c.loop-place.place + 1) - 1 = omega arith in
             let now = subst (HasNewTable (S.image c.loop-place.drive.disk) s c.loop-place.requests) same table in
-            changes_then S c.args.drive.now.disk c.loop-place.drive.disk c.migrate_till.new.drive.disk c.loop-place.place
-            1 64 (λ i. IsShop i s) (omega (arith, c.loop-place-test.true)) changes
+            changes_then S c.args.drive.now.disk c.loop-place.drive.disk c.migrate_till.new.drive.disk
+            c.loop-place.place 1 64 (λ i. IsShop i s) (omega (arith, c.loop-place-test.true)) changes
             (c.migrate_till.ensures.puts.moments s now);
         failures = let S = g.D.Sectors.history in
             let p = err_from_is_err_and c.from_residual.result c.from_residual.ensures.1 in
