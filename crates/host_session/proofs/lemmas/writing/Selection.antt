@@ -148,10 +148,6 @@ pub ok-ready : {T E : Type 0} (r : Result T E) (P Q R : Type 0) → OnOk r (P ×
 ok-ready (Ok x) P Q R h = h.0
 ok-ready (Err e) P Q R h = tt
 
-pub ok-clean : {T E : Type 0} (r : Result T E) (P Q R : Type 0) → OnOk r (P × Q × R) → OnOk r Q
-ok-clean (Ok x) P Q R h = h.1
-ok-clean (Err e) P Q R h = tt
-
 pub ok-records : {T E : Type 0} (r : Result T E) (P Q R : Type 0) → OnOk r (P × Q × R) → OnOk r R
 ok-records (Ok x) P Q R h = h.2
 ok-records (Err e) P Q R h = tt
