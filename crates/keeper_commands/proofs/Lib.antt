@@ -19,4 +19,5 @@ pub mod Printing
 pub mod Reached
 pub mod Repairs
 pub mod Returned
+pub mod TextGrown
 pub mod TextStored

@@ -2,7 +2,8 @@
 ghost use Rattle.std.specs.Prelude.{◌≡◌, ◌↔◌, ◌≤◌, length, [], ℕ, List, IfErr, IfOk, IfSome, IsNone, IsTrue};
 ghost use Rattle.byte_text.specs.Lines.{IsLineOf};
 ghost use Rattle.byte_text.specs.Texts.{AreBytes};
-ghost use Rattle.keeper_commands.specs.Stores.{AreLinesOf, CanHave, CanStore, IsFirstBad, NewRecord, TellsLast, greatest, new_record};
+ghost use Rattle.keeper_commands.specs.Stores.{AreLinesOf, CanHave, CanStore, IsFirstBad, NewRecord, TellsLast};
+ghost use Rattle.keeper_commands.specs.Stores.{greatest, new_record};
 ghost use Rattle.keeper_commands.specs.declared.faults.KeepFault.TheVariants as faults;
 ghost use Rattle.rel_records.specs.File.{length_of, records_in};
 ghost use Rattle.script_lines.specs.Lines.{lines};
@@ -29,8 +30,8 @@ fn has_room(file: &RelFile, bytes: &[u8]) -> bool
     bytes.len() <= file.length() as usize
 }
 
-/// The number of the record that the line is of, where the file has this record or can have it, and its bytes fit. `bytes` is
-/// room for them.
+/// The number of the record that the line is of, where the file has this record or can have it, and its bytes fit.
+/// `bytes` is room for them.
 fn number_of(line: &[u8], file: &RelFile, bytes: &mut ArrayVec<u8, 254>) -> Option<u32>
     ensures found { IfSome result (λ number. (bs : List ℕ) × IsLineOf line.now number bs
         × CanStore (length_of file.now) (records_in file.now) (new_record number bs)) }
@@ -48,8 +49,8 @@ fn number_of(line: &[u8], file: &RelFile, bytes: &mut ArrayVec<u8, 254>) -> Opti
 }
 
 /// Judges the lines of the text, and tells the greatest of their numbers, 0 where there is no line; of each record the
-/// last line is counted in `last`, where none was before. `BadLine` for the first that is of no record that the file has
-/// or can have.
+/// last line is counted in `last`, where none was before. `BadLine` for the first that is of no record that the file
+/// has or can have.
 pub(crate) fn judge(text: &[u8], file: &RelFile, last: &mut LastLines) -> Result<u32, KeepFault>
     requires { TellsLast last.old.places.items [] }
     ensures ok { IfOk result (λ most. (xs : List NewRecord)

@@ -1,5 +1,6 @@
 //! Which line of each record is its last one.
-ghost use Rattle.std.specs.Prelude.{◌≡◌, ◌≢◌, ◌↔◌, ◌<◌, ◌≤◌, ℕ, [], IfErr, IfOk, IsTrue, length, slice_index, vec_capacity};
+ghost use Rattle.std.specs.Prelude.{◌≡◌, ◌≢◌, ◌↔◌, ◌<◌, ◌≤◌, ℕ, [], IfErr, IfOk, IsTrue, length, slice_index};
+ghost use Rattle.std.specs.Prelude.{vec_capacity};
 ghost use Rattle.keeper_commands.specs.Stores.{TellsLast};
 ghost use Rattle.keeper_commands.specs.declared.faults.KeepFault.TheVariants as faults;
 
@@ -44,7 +45,8 @@ impl LastLines {
     pub(crate) fn count(&mut self, number: u32, place: usize)
         requires { number ≤ 182880 }
         ensures here { slice_index self.new.places.items number ≡ place }
-        ensures others { (n : ℕ) → n ≢ number → slice_index self.new.places.items n ≡ slice_index self.old.places.items n }
+        ensures others { (n : ℕ) → n ≢ number
+            → slice_index self.new.places.items n ≡ slice_index self.old.places.items n }
     {
         self.reach(number);
         self.places[number as usize] = place;

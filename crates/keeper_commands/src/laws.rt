@@ -39,7 +39,8 @@ pub fn last_lines_count()
 
 /// Records that were stored are so: of each the last line that it has. Of records that are so nothing is printed.
 pub fn stored_records_are_so()
-    ensures so { (L had : ℕ) (lines : List (List ℕ)) (xs : List NewRecord) (rs : List (List ℕ)) → AreLinesOf L had lines xs
+    ensures so { (L had : ℕ) (lines : List (List ℕ)) (xs : List NewRecord) (rs : List (List ℕ))
+        → AreLinesOf L had lines xs
         → greatest xs ≤ length rs → AreSo L (stored L xs rs) (last_ones xs) }
     ensures unprinted { (L : ℕ) (xs : List NewRecord) (rs : List (List ℕ)) → AreSo L rs xs → changed_text L xs rs ≡ [] }
 {}

@@ -4,7 +4,8 @@ ghost use Rattle.std.specs.Io.KnownBytes.{Appends};
 ghost use Rattle.d64_image.specs.History.{WritesNothing};
 ghost use Rattle.d64_image.specs.Memory.{disk_image, sectors_in};
 ghost use Rattle.d64_image.specs.Places.{place_at};
-ghost use Rattle.keeper_commands.specs.Repairs.{IsRepairDone, IsRepairFault, TellsKeep, mended_at, mended_on, mended_text, repair_fault, up_to};
+ghost use Rattle.keeper_commands.specs.Repairs.{IsRepairDone, IsRepairFault, TellsKeep, mended_at, mended_on};
+ghost use Rattle.keeper_commands.specs.Repairs.{mended_text, repair_fault, up_to};
 
 use crate::faults::KeepFault;
 use crate::loading::load;

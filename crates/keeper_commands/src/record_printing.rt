@@ -1,5 +1,6 @@
 //! The records of a relative file, as they are printed.
-ghost use Rattle.std.specs.Prelude.{◌≡◌, ◌≢◌, ◌≤◌, ◌+◌, ◌-◌, ◌++◌, ℕ, List, [], IfErr, IfOk, OnOk, get_or, length, take};
+ghost use Rattle.std.specs.Prelude.{◌≡◌, ◌≢◌, ◌≤◌, ◌+◌, ◌-◌, ◌++◌, ℕ, List, [], IfErr, IfOk, OnOk, get_or, length};
+ghost use Rattle.std.specs.Prelude.{take};
 ghost use Rattle.std.specs.Io.KnownBytes.{Appends};
 ghost use Rattle.d64_image.specs.Memory.{disk_image};
 ghost use Rattle.disk_layout.specs.Records as records_of;
@@ -22,8 +23,8 @@ use std::io::Write;
 /// The room where lines are gathered, so that many are handed on at once.
 const ROOM: usize = 4096;
 
-/// Puts the line of a record that is there behind the first `start` bytes of the room, and tells where it ends. `last` is
-/// the block that was read last, and `bytes` is room for the record.
+/// Puts the line of a record that is there behind the first `start` bytes of the room, and tells where it ends. `last`
+/// is the block that was read last, and `bytes` is room for the record.
 #[inline(always)]
 fn gather_line(
     disk: &mut MemDisk,
@@ -40,7 +41,8 @@ fn gather_line(
         (1 ≤ number) × (number ≤ length (records_of.records (disk_image disk.old) f))) }
     requires room { start + 776 ≤ 4096 }
     ensures ok { OfItsFile (disk_image disk.old) file.now (λ l n f. IfOk result (λ end. take end room.new
-        ≡ take start room.old ++ record_line number (get_or (records_of.records (disk_image disk.old) f) (number - 1) []))) }
+        ≡ take start room.old
+        ++ record_line number (get_or (records_of.records (disk_image disk.old) f) (number - 1) []))) }
     ensures end { IfOk result (λ end. end ≤ start + 776) }
     ensures same { disk_image disk.new ≡ disk_image disk.old }
     ensures kept { IsKept (disk_image disk.old) file.now last.new }

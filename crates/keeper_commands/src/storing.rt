@@ -54,8 +54,8 @@ fn store_record<D: Sectors>(
     Ok(true)
 }
 
-/// The number of the record that the line at this place is of, and in `bytes` its bytes, where it is the last line of that
-/// record.
+/// The number of the record that the line at this place is of, and in `bytes` its bytes, where it is the last line of
+/// that record.
 fn read_last(
     line: &[u8],
     place: usize,
@@ -64,7 +64,8 @@ fn read_last(
 ) -> Option<u32>
     ensures found { IfSome result (λ n. (1 ≤ n) × (n ≤ 182880) × IsLineOf line.now n bytes.new.items
         × (slice_index last.now.places.items n ≡ place)) }
-    ensures none { IsNone result → (h L : ℕ) (x : NewRecord) → L ≤ 254 → IsLineOf line.now x.number x.bytes → CanStore L h x
+    ensures none { IsNone result → (h L : ℕ) (x : NewRecord) → L ≤ 254 → IsLineOf line.now x.number x.bytes
+        → CanStore L h x
         → slice_index last.now.places.items x.number ≢ place }
 {
     let number = read_line(line, bytes)?;

@@ -4,8 +4,9 @@ use Rattle.std.proofs.lemmas.Result.{IfErr-weaker, err_from_is_err_and}
 use Rattle.disk_layout.specs.Clean.{IsClean}
 use Rattle.keeper_commands.proofs.Printing.{at-ok}
 use Rattle.keeper_commands.proofs.Reached.{store-unclean}
-use Rattle.keeper_commands.proofs.TextStored.{bad-line, find-refused, found-file, grow-refused, grown-clean, grown-file}
-use Rattle.keeper_commands.proofs.TextStored.{grown-lines, store-done, store-refused, store-unprinted}
+use Rattle.keeper_commands.proofs.TextGrown.{bad-line, find-refused, found-file, grow-refused, grown-clean, grown-file}
+use Rattle.keeper_commands.proofs.TextGrown.{grown-lines}
+use Rattle.keeper_commands.proofs.TextStored.{store-done, store-refused, store-unprinted}
 use Rattle.keeper_commands.specs.Storing.{IsStoreFault}
 use Rattle.keeper_commands.specs.declared.faults.KeepFault.TheVariants as keep
 use Rattle.rel_records.specs.Calls.{Grows}
