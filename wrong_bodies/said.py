@@ -86,9 +86,10 @@ def without(text, names):
     kept, leaves = [], None in names
     for line in text.split("\n"):
         head = re.match(r"(?:abbrev |unfoldable )?(?:pub )?([^\s:]+) ", line)
-        if head and not line.startswith(("use ", "--")):
+        stays = line.startswith(("use ", "mod ", "--"))
+        if head and not stays:
             leaves = None in names or head[1] in names
-        if not leaves or line.startswith(("use ", "--")):
+        if not leaves or stays:
             kept.append(line)
     return "\n".join(kept)
 
@@ -112,6 +113,19 @@ def difference(why):
     return f"the goal has {found[1]} where the kept answer has {found[2]}"
 
 
+def is_settled(edit, kept, aside):
+    """Whether values were found, or the clause of the edit's own line is open though no answer of it fails to fit."""
+    if kept.false_goal() or aside.false_goal():
+        return True
+    stale = {name for _, name, _ in aside.answers}
+    return any(is_said_false(edit, it.clause) for it in aside.goals if it.name not in stale)
+
+
+def is_said_false(edit, clause):
+    """Whether the edit's own line tells values at which the clause is false."""
+    return edit.values is not None and edit.values.startswith(clause + ":")
+
+
 def verdict(edit, kept, aside):
     """The word for an edit, and what it rests on. `kept` is what was told with the answers as they are, `aside` what was told
     with those set aside that don't fit."""
@@ -122,7 +136,7 @@ def verdict(edit, kept, aside):
     # where an answer that was set aside isn't needed, its clause holds
     names = {it.clause for it in aside.goals} | {goal_clause(name) for _, name, _ in aside.answers if name}
     of_loop = any(it.of_loop for it in aside.goals)
-    if edit.values and (of_loop or any(edit.values.startswith(name + ":") for name in names)):
+    if edit.values and (of_loop or any(is_said_false(edit, name) for name in names)):
         return "refused           ", f"{edit.values} (by its reader; the check leaves it open)"
     where = "no clause, only what the proof says of a loop or of names"
     if open_clause:

@@ -1,7 +1,7 @@
 #!/usr/bin/env python3
 """Tries the wrong bodies of crates on a copy of the repository, a line for each:
 
-    wrong_bodies/try.py [CRATE ..]     without a word all of them
+    wrong_bodies/try.py [CRATE[/NAME] ..]     without a word all of them
 
 A wrong body is a must-fail edit: lines `file:`, `old:` and `new:`, as `rt must-fail` reads them. Those that tell most stand in
 crates/CRATE/must-fail and are tried by the gate too; the others stand here, in wrong_bodies/CRATE, and the gate leaves them out.
@@ -23,8 +23,8 @@ The status is 1 where one isn't refused. Crates are taken as they were built (ou
 RT_JOBS processors, one where that isn't set.
 
 A function is proved by the contracts of those that it calls, not by their bodies. So one check judges many wrong bodies, one in
-each function; what can't be told apart so (an edit of more than one function, of a definition, whose function shows no open goal,
-or waits for another's) is checked by itself."""
+each function; what isn't refused so (an edit of more than one function, of a definition, whose function shows no open goal, or
+waits for another's) is checked by itself."""
 
 import os
 import shutil
@@ -35,11 +35,11 @@ from pathlib import Path
 
 sys.dont_write_bytecode = True
 from edits import Edit, edited, in_rounds
-from said import Told, is_unread, verdict, without
+from said import Told, is_settled, is_unread, verdict, without
 
 TOP = Path(__file__).resolve().parent.parent
-# how often answers are set aside: those that don't fit, then those that cited them
-TIMES = 3
+# how often answers are set aside at most: those that don't fit, then those that cited them
+TIMES = 6
 
 
 def stop(why):
@@ -71,13 +71,13 @@ def set_aside(crate, edits, removed):
 
 def tried(crate, edits, places):
     """What is told of each of these edits: with the answers as they are, with those set aside that don't fit; what the first check
-    said, and the last status. An edit of which values were found isn't checked again."""
+    said, and the last status. An edit that is settled isn't checked again."""
     first, status = checked(crate, edited(crate, edits))
     kept = [Told(first, place) for place in places]
     aside = list(kept)
     removed = {edit.name: set() for edit in edits}
     for _ in range(TIMES):
-        left = [n for n in range(len(edits)) if not kept[n].false_goal() and not aside[n].false_goal() and aside[n].answers]
+        left = [n for n in range(len(edits)) if not is_settled(edits[n], kept[n], aside[n]) and aside[n].answers]
         if not left:
             break
         for n in left:
@@ -117,8 +117,9 @@ def try_crate(crate, edits):
     for together in rounds:
         kept, aside, _, _ = tried(crate, [edit for edit, _ in together], [place for _, place in together])
         for (edit, _), before, after in zip(together, kept, aside):
-            if (after.goals or before.goals) and not after.waits:
-                tell(*verdict(edit, before, after), edit)
+            word, why = verdict(edit, before, after)
+            if word.startswith("refused") and not after.waits:
+                tell(word, why, edit)
             else:
                 by_themselves.append(edit)
     for edit in by_themselves:
@@ -126,10 +127,13 @@ def try_crate(crate, edits):
     return well
 
 
-def edits_of(name):
-    """All wrong bodies of a crate, also those that the gate tries."""
+def edits_of(name, chosen):
+    """The wrong bodies of a crate, also those that the gate tries: those of these names, all where none is named."""
     folders = [TOP / "crates" / name / "must-fail", TOP / "wrong_bodies" / name]
-    return [Edit(path) for folder in folders for path in sorted(folder.glob("*.edit"))]
+    paths = [path for folder in folders for path in sorted(folder.glob("*.edit"))]
+    for it in chosen - {path.stem for path in paths}:
+        stop(f"there is no wrong body {name}/{it}")
+    return [Edit(path) for path in paths if not chosen or path.stem in chosen]
 
 
 def copy_to(room, names):
@@ -144,12 +148,15 @@ def copy_to(room, names):
     shutil.copytree(TOP / "crates", room / "crates", ignore=left_out, symlinks=True)
 
 
-def main(names):
+def main(words):
     if not shutil.which("rt"):
         stop("there is no command rt")
-    names = names or sorted(path.name for path in (TOP / "wrong_bodies").iterdir() if any(path.glob("*.edit")))
-    for name in names:
-        if not (TOP / "crates" / name).is_dir() or not edits_of(name):
+    words = words or sorted(path.name for path in (TOP / "wrong_bodies").iterdir() if any(path.glob("*.edit")))
+    names = {}
+    for name, _, edit in (word.partition("/") for word in words):
+        names.setdefault(name, set()).update({edit} - {""})
+    for name, chosen in names.items():
+        if not (TOP / "crates" / name).is_dir() or not edits_of(name, chosen):
             stop(f"there is no wrong body of {name}")
     well = True
     with tempfile.TemporaryDirectory() as room:
@@ -159,7 +166,7 @@ def main(names):
             said, status = checked(crate, {})
             if status:
                 stop(f"{name} isn't proved as it stands: {said[-2:]}")
-            edits = edits_of(name)
+            edits = edits_of(name, names[name])
             print(f"try: {name}, {len(edits)} wrong bodies", file=sys.stderr)
             well = try_crate(crate, edits) and well
     return 0 if well else 1
