@@ -24,10 +24,10 @@ class Edit:
             elif line.startswith("false: "):
                 self.values = line[len("false: "):].strip()
 
-    def place(self, crate):
-        """The one function that it edits: file, name, first and last line. None where it edits something else."""
+    def places(self, crate):
+        """The functions that it edits: file, name, first and last line. None where it edits something else."""
         places = {function_around(crate, file, old) for file, old, _ in self.pairs}
-        return places.pop() if len(places) == 1 else None
+        return None if None in places else sorted(places)
 
     def fits(self, crate):
         """Whether each old text stands in its file once."""
@@ -70,10 +70,11 @@ def in_rounds(crate, edits):
     """Edits in rounds, of which none has two edits of one function; and those that are to be checked alone."""
     rounds, by_themselves = [], []
     for edit in edits:
-        place = edit.place(crate)
-        if not place:
+        places = edit.places(crate) or []
+        if len(places) != 1:
             by_themselves.append(edit)
             continue
+        place = places[0]
         free = next((it for it in rounds if all(place[:2] != other[:2] for _, other in it)), None)
         if free is None:
             rounds.append(free := [])

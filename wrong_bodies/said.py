@@ -34,18 +34,19 @@ class Goal:
 
 
 class Told:
-    """What is told of one function: its open goals, the answers that don't fit as (file, name, why), and whether it waits for
-    another to be proved, so that nothing is told."""
+    """What is told of some functions, of all where `places` is None: their open goals, the answers that don't fit as (file, name,
+    why), no name where more of the file may not have been read, and whether they wait for another to be proved, so that nothing is
+    told."""
 
-    def __init__(self, said, place):
+    def __init__(self, said, places):
         self.goals = []
         self.answers = []
-        self.waits = any(waits(place, line) for line in said)
+        self.waits = any(waits(places, line) for line in said)
         for number, line in enumerate(said):
             goal, answer = GOAL.match(line), ANSWER.match(line)
-            if goal and is_in(place, goal[1], int(goal[2])):
+            if goal and is_in(places, goal[1], int(goal[2])):
                 self.goals.append(Goal(goal[3], goal[4], goal[5]))
-            elif answer and is_of(place, answer[1]):
+            elif answer and is_of(places, answer[1]):
                 self.answers.append((answer[1], answer[2], "\n".join(said[number:number + 6])))
 
     def false_goal(self):
@@ -56,40 +57,51 @@ class Told:
         """A clause that is open."""
         return next((it for it in self.goals if not it.of_loop), None)
 
-
-def is_in(place, file, line):
-    """Whether the line is one of the function; of anything, where no place is asked for."""
-    return place is None or (file == place[0] and place[2] <= line <= place[3])
-
-
-def is_of(place, file):
-    """Whether the proof file is the function's."""
-    if place is None:
-        return True
-    module = re.sub(r"^src/|\.rt$", "", place[0])
-    return bool(re.fullmatch(rf"proofs/{module}/(?:.*/)?{place[1]}/\w+\.antt", file))
+    def searched(self):
+        """The open goals that were searched for, and not only lack an answer that was rejected."""
+        rejected = {name for _, name, _ in self.answers}
+        return [] if None in rejected else [it for it in self.goals if it.name not in rejected]
 
 
-def waits(place, line):
-    """Whether the line says that the function waits for one that it calls."""
+def is_in(places, file, line):
+    """Whether the line is one of the functions; of anything, where no place is asked for."""
+    return places is None or any(file == place[0] and place[2] <= line <= place[3] for place in places)
+
+
+def module_of(place):
+    """The module of the function's file, as a path."""
+    return re.sub(r"^src/|\.rt$", "", place[0])
+
+
+def is_of(places, file):
+    """Whether the proof file is one of the functions'."""
+    return places is None or any(
+        re.fullmatch(rf"proofs/{module_of(place)}/(?:.*/)?{place[1]}/(?:.*/)?\w+\.antt", file) for place in places)
+
+
+def waits(places, line):
+    """Whether the line says that one of the functions waits for one that it calls."""
     unread, untried = UNREAD.match(line), UNTRIED.match(line)
     if unread:
-        return is_of(place, unread[1])
-    if not untried or place is None:
+        return is_of(places, unread[1])
+    if not untried or places is None:
         return bool(untried)
-    module = re.sub(r"^src/|\.rt$", "", place[0]).replace("/", "::")
-    return f"::{module}::" in untried[1] and untried[1].endswith(f"::{place[1]}")
+    return any(f"::{module_of(place).replace('/', '::')}::" in untried[1] and untried[1].endswith(f"::{place[1]}") for place in places)
 
 
 def without(text, names):
-    """An answers file without the declarations of these names; without any where a name is None."""
-    kept, leaves = [], None in names
+    """An answers file without the declarations of these names; without any, and what they import, where a name is None."""
+    kept, leaves = [], False
     for line in text.split("\n"):
-        head = re.match(r"(?:abbrev |unfoldable )?(?:pub )?([^\s:]+) ", line)
-        stays = line.startswith(("use ", "mod ", "--"))
-        if head and not stays:
-            leaves = None in names or head[1] in names
-        if not leaves or stays:
+        if line and line[0] not in " }":
+            head = re.match(r"(?:abbrev |unfoldable )?(?:pub )?([^\s:]+) ", line)
+            if line.startswith(("mod ", "--")):
+                leaves = False
+            elif line.startswith("use "):
+                leaves = None in names
+            elif head:
+                leaves = None in names or head[1] in names
+        if not leaves:
             kept.append(line)
     return "\n".join(kept)
 
@@ -113,31 +125,26 @@ def difference(why):
     return f"the goal has {found[1]} where the kept answer has {found[2]}"
 
 
-def is_settled(edit, kept, aside):
-    """Whether values were found, or the clause of the edit's own line is open though no answer of it fails to fit."""
-    if kept.false_goal() or aside.false_goal():
-        return True
-    stale = {name for _, name, _ in aside.answers}
-    return any(is_said_false(edit, it.clause) for it in aside.goals if it.name not in stale)
-
-
-def is_said_false(edit, clause):
-    """Whether the edit's own line tells values at which the clause is false."""
-    return edit.values is not None and edit.values.startswith(clause + ":")
+def refusal(edit, kept, aside):
+    """What shows that the edit is refused; None where nothing does yet."""
+    false = kept.false_goal() or aside.false_goal()
+    if false:
+        return f"{false.clause} ({false.name}) is false at values that the facts there allow"
+    searched = aside.searched() if edit.values else []
+    if any(edit.values.startswith(it.clause + ":") for it in searched):
+        return f"{edit.values} (by its reader; the check leaves it open)"
+    if any(it.of_loop for it in searched):
+        return f"{edit.values} (by its reader; the check leaves a loop's invariant open)"
+    return None
 
 
 def verdict(edit, kept, aside):
     """The word for an edit, and what it rests on. `kept` is what was told with the answers as they are, `aside` what was told
     with those set aside that don't fit."""
-    false = kept.false_goal() or aside.false_goal()
-    if false:
-        return "refused           ", f"{false.clause} ({false.name}) is false at values that the facts there allow"
+    why = refusal(edit, kept, aside)
+    if why:
+        return "refused           ", why
     open_clause = aside.clause() or kept.clause()
-    # where an answer that was set aside isn't needed, its clause holds
-    names = {it.clause for it in aside.goals} | {goal_clause(name) for _, name, _ in aside.answers if name}
-    of_loop = any(it.of_loop for it in aside.goals)
-    if edit.values and (of_loop or any(is_said_false(edit, name) for name in names)):
-        return "refused           ", f"{edit.values} (by its reader; the check leaves it open)"
     where = "no clause, only what the proof says of a loop or of names"
     if open_clause:
         where = f"{open_clause.clause} ({open_clause.name})"
@@ -148,8 +155,3 @@ def verdict(edit, kept, aside):
     other = next(why for _, _, why in kept.answers if not LOST_NAME.search(why.split("\n")[0]))
     return "by a stale answer ", f"open with the answers set aside: {where}; {difference(other)}"
 
-
-def goal_clause(name):
-    """The clause that an answer of this name is of."""
-    label = re.search(r"-clause-([\w-]+)$", name)
-    return f"ensures {label[1]}" if label else "ensures"

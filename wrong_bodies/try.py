@@ -23,8 +23,7 @@ The status is 1 where one isn't refused. Crates are taken as they were built (ou
 RT_JOBS processors, one where that isn't set.
 
 A function is proved by the contracts of those that it calls, not by their bodies. So one check judges many wrong bodies, one in
-each function; what isn't refused so (an edit of more than one function, of a definition, whose function shows no open goal, or
-waits for another's) is checked by itself."""
+each function; what isn't refused so, and an edit of more than one function or of a definition, is checked by itself."""
 
 import os
 import shutil
@@ -35,7 +34,7 @@ from pathlib import Path
 
 sys.dont_write_bytecode = True
 from edits import Edit, edited, in_rounds
-from said import Told, is_settled, is_unread, verdict, without
+from said import Told, is_unread, refusal, verdict, without
 
 TOP = Path(__file__).resolve().parent.parent
 # how often answers are set aside at most: those that don't fit, then those that cited them
@@ -71,13 +70,13 @@ def set_aside(crate, edits, removed):
 
 def tried(crate, edits, places):
     """What is told of each of these edits: with the answers as they are, with those set aside that don't fit; what the first check
-    said, and the last status. An edit that is settled isn't checked again."""
+    said, and the last status. `places` has the functions of each. An edit that is refused already isn't checked again."""
     first, status = checked(crate, edited(crate, edits))
     kept = [Told(first, place) for place in places]
     aside = list(kept)
     removed = {edit.name: set() for edit in edits}
     for _ in range(TIMES):
-        left = [n for n in range(len(edits)) if not is_settled(edits[n], kept[n], aside[n]) and aside[n].answers]
+        left = [n for n in range(len(edits)) if aside[n].answers and not refusal(edits[n], kept[n], aside[n])]
         if not left:
             break
         for n in left:
@@ -89,8 +88,8 @@ def tried(crate, edits, places):
 
 
 def alone(crate, edit):
-    """What becomes of an edit that is checked by itself. All that is open is its own."""
-    kept, aside, first, status = tried(crate, [edit], [None])
+    """What becomes of an edit that is checked by itself. Where it edits a definition, all that is open is its own."""
+    kept, aside, first, status = tried(crate, [edit], [edit.places(crate)])
     unread = is_unread(first)
     if unread:
         return unread
@@ -115,7 +114,7 @@ def try_crate(crate, edits):
             tell("no longer applies ", "its old text doesn't stand in the file once", edit)
     rounds, by_themselves = in_rounds(crate, fitting)
     for together in rounds:
-        kept, aside, _, _ = tried(crate, [edit for edit, _ in together], [place for _, place in together])
+        kept, aside, _, _ = tried(crate, [edit for edit, _ in together], [[place] for _, place in together])
         for (edit, _), before, after in zip(together, kept, aside):
             word, why = verdict(edit, before, after)
             if word.startswith("refused") and not after.waits:
@@ -128,12 +127,12 @@ def try_crate(crate, edits):
 
 
 def edits_of(name, chosen):
-    """The wrong bodies of a crate, also those that the gate tries: those of these names, all where none is named."""
+    """The wrong bodies of a crate that have these names, all where one is empty; also those that the gate tries."""
     folders = [TOP / "crates" / name / "must-fail", TOP / "wrong_bodies" / name]
     paths = [path for folder in folders for path in sorted(folder.glob("*.edit"))]
-    for it in chosen - {path.stem for path in paths}:
+    for it in chosen - {path.stem for path in paths} - {""}:
         stop(f"there is no wrong body {name}/{it}")
-    return [Edit(path) for path in paths if not chosen or path.stem in chosen]
+    return [Edit(path) for path in paths if "" in chosen or path.stem in chosen]
 
 
 def copy_to(room, names):
@@ -154,9 +153,9 @@ def main(words):
     words = words or sorted(path.name for path in (TOP / "wrong_bodies").iterdir() if any(path.glob("*.edit")))
     names = {}
     for name, _, edit in (word.partition("/") for word in words):
-        names.setdefault(name, set()).update({edit} - {""})
-    for name, chosen in names.items():
-        if not (TOP / "crates" / name).is_dir() or not edits_of(name, chosen):
+        names.setdefault(name, set()).add(edit)
+    for name in names:
+        if not (TOP / "crates" / name).is_dir() or not edits_of(name, names[name]):
             stop(f"there is no wrong body of {name}")
     well = True
     with tempfile.TemporaryDirectory() as room:
