@@ -90,8 +90,8 @@ pub(crate) fn read_behind<D: Sectors>(
     read(disk, Place::known(bytes[0], bytes[1]), to)
 }
 
-/// Fills `text` with the record of this length that begins at data byte `start` of a data block, which has these bytes, and
-/// goes on in the block that they name.
+/// Fills `text` with the record of this length that begins at data byte `start` of a data block, which has these bytes,
+/// and goes on in the block that they name.
 // Out of line: few records lie in two blocks, and a function clears the room of all that is in line in it.
 #[inline(never)]
 fn read_across<D: Sectors>(
@@ -138,8 +138,8 @@ fn read_there<D: Sectors>(
     read_across(disk, &first, start % DATA, size, text)
 }
 
-/// Reads a record into `text`, all of its bytes; `NotPresent` where the file has none of this number, counted from 1. What
-/// the text held before is gone; after a fault what it holds is open.
+/// Reads a record into `text`, all of its bytes; `NotPresent` where the file has none of this number, counted from 1.
+/// What the text held before is gone; after a fault what it holds is open.
 pub fn read_record<D: Sectors>(
     disk: &mut D,
     file: &RelFile,
