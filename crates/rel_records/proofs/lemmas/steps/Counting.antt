@@ -53,8 +53,8 @@ exact-stay a b fs same all = all-map _ _ fs (λ f c h t. record {
   count = (h t).count;
 }) all
 
--- all is ready for the link on c and for the count behind it: what the link needs, the directory sector's bytes with the
--- count, and the map of the new owners
+-- all is ready for the link on c and for the count behind it: what the link needs, the directory sector's bytes with
+-- the count, and the map of the new owners
 pub record IsReadyToCount (a c : Image) (l : Layout) (before after : List File) (f : File) (fresh : Place) (u : ℕ)
     (ss : List Place) (map' block last_bytes entry_bytes : Sector) (front : List Place) (last : Place) : Type 0 where
   pub to_link : IsReadyToLink a c l before after f fresh u ss map' block last_bytes front last
