@@ -1,26 +1,29 @@
 //! Doing a job: its files are opened and read, and what is printed goes to an output.
-ghost use Rattle.std.specs.Prelude.{◌≡◌, ◌≤◌, IfErr, IfOk, IfSome, Err, vec_items};
+ghost use Rattle.std.specs.Prelude.{◌≡◌, ◌≤◌, IfErr, IfOk, IfSome, Err, take, vec_items};
 ghost use Rattle.std.specs.IoError.{error_kind};
 ghost use Rattle.ledger_commands.specs.Faults.{io_fault};
+ghost use Rattle.ledger_commands.specs.Durable.{IsSynced};
 ghost use Rattle.ledger_program.specs.Ends.{as_drawn, as_job, as_kept, told_of};
 ghost use Rattle.ledger_program.specs.Jobs.{IsFit, needed};
 ghost use Rattle.ledger_program.specs.Runs.{IsReadingEnd, IsReadingOf};
 
 use crate::drawing::drawing_run;
 use crate::durable_runs::{play_durably, serve_durably};
-use crate::files::{AtPath, STANDARD_INPUT, opened, room_for, script_at};
+use crate::files::{AtPath, STANDARD_INPUT, room_for, script_at};
 use crate::jobs::{Drawing, Job, Reading, Taking};
 use crate::keeping::taking_run;
 use crate::keeping_files::{do_make, do_repair, do_store};
 use crate::names::Name;
-use crate::owning::{own_image, read_shared, share};
+use crate::owning::{image_to_write, read_shared, share};
 use crate::refusals::Refusal;
 use crate::running::{format_run, reading_run};
 use disk_layout::Fault;
 use disk_pictures::PictureFault;
 use host_session::Printer;
 use keeper_commands::KeepFault;
-use ledger_commands::{Durability, EndedFile, Locks, Replaced, RunFault, read_image, read_script};
+use ledger_commands::{
+    Durability, EndedFile, Locks, Replaced, RunFault, WritesAt, read_image, read_script,
+};
 use std::alloc::Global;
 use std::fs::{File, OpenFile};
 use std::io::{self, BufReader, Read, Write};
@@ -66,8 +69,8 @@ fn drawn_end(ended: Result<Option<Fault>, PictureFault>) -> Result<Option<Fault>
     }
 }
 
-/// What is needed of the bytes that a reader has: of an image 174,849 at most, and a script whole. `room` is how many bytes memory
-/// is taken for at once for a script.
+/// What is needed of the bytes that a reader has: of an image 174,849 at most, and a script whole. `room` is how many
+/// bytes memory is taken for at once for a script.
 fn bytes_of<R: Read + Drop>(
     alloc: Global,
     what: Reading,
@@ -99,8 +102,8 @@ fn over_read<W: Write>(
     }
 }
 
-/// Does what is asked of the bytes that a reader has, where it could be opened; else tells why it couldn't. `File` where the
-/// file couldn't be opened or read, or the output failed; `NoMemory`; and what is wrong with the bytes.
+/// Does what is asked of the bytes that a reader has, where it could be opened; else tells why it couldn't. `File`
+/// where the file couldn't be opened or read, or the output failed; `NoMemory`; and what is wrong with the bytes.
 pub fn do_over<R: Read + Drop, W: Write>(
     alloc: Global,
     what: Reading,
@@ -164,6 +167,23 @@ where
     }
 }
 
+/// Plays a script on the shop of an image, over its file.
+fn play_over<F: WritesAt + Drop, W: Write>(
+    alloc: Global,
+    image: &[u8],
+    script: &[u8],
+    file: F,
+    durability: Durability,
+    out: &mut W,
+) -> Result<Option<Fault>, Refusal>
+    requires synced { IsSynced F.held F.lasting durability file }
+    requires image { IfSome (F.held file) (λ all. image.now ≡ take 174849 all) }
+{
+    let mut printer = Printer::new(out);
+    let (_, ended) = play_durably(alloc, image, script, file, durability, &mut printer);
+    job_end(ended)
+}
+
 /// Plays the script at a path on the image at another, over its file.
 fn do_playing<F, R, W>(
     rt: &R,
@@ -177,18 +197,32 @@ where
     R: Files<File = F> + Input + AllocGlobal,
     W: Write,
 {
-    let mut file = told(opened(rt, path))?;
-    let image = own_image(rt.alloc(), &mut file, durability)?;
+    let (image, file) = image_to_write(rt, path, durability)?;
     let script = told(script_at(rt, script))?;
-    let mut printer = Printer::new(out);
-    let (_, ended) = play_durably(
+    play_over(
         rt.alloc(),
         image.as_slice(),
         script.as_slice(),
         file,
         durability,
-        &mut printer,
-    );
+        out,
+    )
+}
+
+/// Serves the shop of an image, over its file, to what a reader has.
+fn serve_over<F: WritesAt + Drop, R: Read, W: Write>(
+    alloc: Global,
+    image: &[u8],
+    file: F,
+    durability: Durability,
+    input: &mut BufReader<R>,
+    out: &mut W,
+) -> Result<Option<Fault>, Refusal>
+    requires synced { IsSynced F.held F.lasting durability file }
+    requires image { IfSome (F.held file) (λ all. image.now ≡ take 174849 all) }
+{
+    let mut printer = Printer::new(out);
+    let (_, ended) = serve_durably(alloc, image, file, durability, input, &mut printer);
     job_end(ended)
 }
 
@@ -204,20 +238,17 @@ where
     R: Files<File = F> + Input + AllocGlobal,
     W: Write,
 {
-    let mut file = told(opened(rt, path))?;
-    let image = own_image(rt.alloc(), &mut file, durability)?;
+    let (image, file) = image_to_write(rt, path, durability)?;
     // A bare reader of standard input reads a byte a call.
     let mut input = told(BufReader::new(rt.alloc(), rt.reader()))?;
-    let mut printer = Printer::new(out);
-    let (_, ended) = serve_durably(
+    serve_over(
         rt.alloc(),
         image.as_slice(),
         file,
         durability,
         &mut input,
-        &mut printer,
-    );
-    job_end(ended)
+        out,
+    )
 }
 
 /// The bytes of the image at a path, which nobody writes while it is read, or of standard input.
@@ -267,10 +298,10 @@ where
     drawn_end(drawing_run(rt.alloc(), what, image.as_slice(), out))
 }
 
-/// Opens or reads the job's files and does it; what is printed goes to `out`, which is flushed at the end. An image is locked
-/// before anything of it is read or changed: alone where it is written. `InUse` where another program has it; `File` where a
-/// file couldn't be opened or read, and the faults of `reading_run`, `format_run`, `play_durably`, `serve_durably`,
-/// `repair_run`, `make_run`, `store_run`, `taking_run` and `drawing_run`.
+/// Opens or reads the job's files and does it; what is printed goes to `out`, which is flushed at the end. An image is
+/// locked before anything of it is read or changed: alone where it is written. `InUse` where another program has it;
+/// `File` where a file couldn't be opened or read, and the faults of `reading_run`, `format_run`, `play_durably`,
+/// `serve_durably`, `repair_run`, `make_run`, `store_run`, `taking_run` and `drawing_run`.
 pub fn do_job<F, R, W>(rt: &R, job: &Job<'_>, out: &mut W) -> Result<Option<Fault>, Refusal>
 where
     F: EndedFile + Read + Locks + OpenFile + Drop,
@@ -278,27 +309,31 @@ where
     W: Write,
     requires { IsFit job.now }
 {
-    match job {
-        Job::Format { image, tills } => do_format(rt, image, *tills, out),
-        Job::Read { what, path } => do_reading(rt, *what, path, out),
+    match *job {
+        Job::Format { image, tills } => do_format(rt, image, tills, out),
+        Job::Read { what, path } => do_reading(rt, what, path, out),
         Job::Play {
             image,
             script,
             durability,
-        } => do_playing(rt, image, script, *durability, out),
-        Job::Serve { image, durability } => do_serving(rt, image, *durability, out),
+        } => do_playing(rt, image, script, durability, out),
+        Job::Serve { image, durability } => do_serving(rt, image, durability, out),
         Job::Repair { image } => do_repair(rt, image, out),
         Job::Make {
             image,
-            name,
+            ref name,
             length,
-        } => do_make(rt, image, name, *length, out),
+        } => do_make(rt, image, name, length, out),
         Job::Store {
             image,
-            name,
+            ref name,
             records,
         } => do_store(rt, image, name, records, out),
-        Job::Take { what, image, name } => do_taking(rt, *what, image, name, out),
-        Job::Draw { what, image } => do_drawing(rt, *what, image, out),
+        Job::Take {
+            what,
+            image,
+            ref name,
+        } => do_taking(rt, what, image, name, out),
+        Job::Draw { what, image } => do_drawing(rt, what, image, out),
     }
 }

@@ -1,4 +1,5 @@
-//! What a person at a terminal is told: what is going to be replaced, and below a refusal which file it is about, what the system says of it, and what to do.
+//! What a person at a terminal is told: what is going to be replaced, and below a refusal which file it is about, what
+//! the system says of it, and what to do.
 use crate::files::{STANDARD_INPUT, opened};
 use crate::jobs::{Job, Reading};
 use crate::refusals::Refusal;
@@ -114,6 +115,30 @@ fn told_unopened<T: Drop, E: Write>(err: &mut E, path: &str, tried: io::Result<T
     }
 }
 
+/// Opens the file that a job reads or writes first, as the job does; but it isn't made.
+fn first_opened<F, R: Files<File = F>>(rt: &R, job: &Job<'_>) -> io::Result<F> {
+    let image = image_of(job);
+    match job {
+        Job::Format { .. } => OpenOptions::new().write(true).open(rt, image),
+        _ if writes(job) => opened(rt, image),
+        _ => File::open(rt, image),
+    }
+}
+
+/// Tells what the system says of the script, or the records, where they can't be opened. False where they can, are
+/// standard input, or there are none.
+fn told_text<F, R, E>(rt: &R, job: &Job<'_>, err: &mut E) -> bool
+where
+    F: Drop,
+    R: Files<File = F>,
+    E: Write,
+{
+    match text_of(job) {
+        Some(text) if text != STANDARD_INPUT => told_unopened(err, text, File::open(rt, text)),
+        _ => false,
+    }
+}
+
 /// Tells which of a job's files can't be opened.
 fn tell_files<F, R, E>(rt: &R, job: &Job<'_>, err: &mut E)
 where
@@ -121,24 +146,17 @@ where
     R: Files<File = F>,
     E: Write,
 {
+    let tried = first_opened(rt, job);
     let image = image_of(job);
-    let tried = match job {
-        Job::Format { .. } => OpenOptions::new().write(true).open(rt, image),
-        _ if writes(job) => opened(rt, image),
-        _ => File::open(rt, image),
-    };
     if image != STANDARD_INPUT && told_unopened(err, image, tried) {
         return;
     }
-    if let Some(text) = text_of(job) {
-        if text != STANDARD_INPUT && told_unopened(err, text, File::open(rt, text)) {
-            return;
-        }
+    if !told_text(rt, job, err) {
+        let _ = writeln!(
+            err,
+            "ledger: a file couldn't be read to its end, or the output not be written"
+        );
     }
-    let _ = writeln!(
-        err,
-        "ledger: a file couldn't be read to its end, or the output not be written"
-    );
 }
 
 /// Tells how many bytes an image has.
@@ -159,7 +177,8 @@ where
     };
 }
 
-/// Tells a person which file a job is going to replace, where there is one. Where it can't be told there is nobody to tell.
+/// Tells a person which file a job is going to replace, where there is one. Where it can't be told there is nobody to
+/// tell.
 pub fn announce<F, R, E>(rt: &R, job: &Job<'_>, err: &mut E)
 where
     F: OpenFile + Drop,
@@ -182,9 +201,9 @@ where
     }
 }
 
-/// Tells a person, in a line below the refusal's own, which file it is about, what the system says of it then, or what to do. The
-/// job's files are opened once more for it, and neither made, read nor changed. Where it can't be told there is nobody left to
-/// tell.
+/// Tells a person, in a line below the refusal's own, which file it is about, what the system says of it then, or what
+/// to do. The job's files are opened once more for it, and neither made, read nor changed. Where it can't be told there
+/// is nobody left to tell.
 pub fn explain<F, R, E>(rt: &R, job: &Job<'_>, refusal: Refusal, err: &mut E)
 where
     F: OpenFile + Drop,

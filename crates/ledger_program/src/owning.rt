@@ -4,14 +4,18 @@ ghost use Rattle.ledger_commands.specs.Durable.{AllStays, IsSynced};
 ghost use Rattle.ledger_commands.specs.Placed.{KeepsOn, is_synced, placed, placed_file};
 ghost use Rattle.ledger_commands.specs.declared.faults.RunFault.TheVariants as faults;
 
+use crate::doing::told;
+use crate::files::opened;
 use crate::refusals::Refusal;
 use disk_layout::Fault;
 use ledger_commands::{Durability, Locks, Placed, RunFault, WritesAt, read_image};
 use std::alloc::Global;
 use std::io::{self, Read};
+use std::rt::Files;
 
-/// Locks an image's file for this program alone. Where each sector is brought to the disk, so is first what the file holds:
-/// an earlier program's writes may still be on their way. `InUse`; `Device` where that failed. Nothing was read or changed.
+/// Locks an image's file for this program alone. Where each sector is brought to the disk, so is first what the file
+/// holds: an earlier program's writes may still be on their way. `InUse`; `Device` where that failed. Nothing was read
+/// or changed.
 pub(crate) fn own<F: Locks>(file: &mut F, durability: Durability) -> Result<(), Refusal>
     ensures owned { OnOk result (F.IsOwned file.new) }
     ensures shared { OnOk result (F.IsShared file.new) }
@@ -56,8 +60,8 @@ fn read_own<F: Locks>(alloc: Global, file: &mut F, durability: Durability) -> io
     file.image(alloc)
 }
 
-/// The bytes of an image that is to be written: its file is this program's alone first, and where each sector is brought to
-/// the disk, what it holds is there. `InUse`; `Device` where that failed; and then what `read_image` tells.
+/// The bytes of an image that is to be written: its file is this program's alone first, and where each sector is
+/// brought to the disk, what it holds is there. `InUse`; `Device` where that failed; and then what `read_image` tells.
 pub(crate) fn own_image<F: Locks>(
     alloc: Global,
     file: &mut F,
@@ -74,9 +78,26 @@ pub(crate) fn own_image<F: Locks>(
     }
 }
 
+/// The bytes of the image at a path that is to be written, and its file, both as `own_image` has them.
+pub(crate) fn image_to_write<F, R>(
+    rt: &R,
+    path: &str,
+    durability: Durability,
+) -> Result<(Vec<u8>, F), Refusal>
+where
+    F: Locks + Drop,
+    R: Files<File = F> + AllocGlobal,
+    ensures bytes { IfOk result (λ taken. IfSome (F.held taken.1) (λ all. vec_items taken.0 ≡ take 174849 all)) }
+    ensures synced { IfOk result (λ taken. IsSynced F.held F.lasting durability taken.1) }
+{
+    let mut file = told(opened(rt, path))?;
+    let image = own_image(rt.alloc(), &mut file, durability)?;
+    Ok((image, file))
+}
+
 /// How a run over a file ends once the rest of what it wrote is brought to the disk. `Device` where it was done, or its
-/// output alone failed, and that fails; a fault of the image or the script leaves nothing to bring there, and a file that
-/// failed isn't asked again.
+/// output alone failed, and that fails; a fault of the image or the script leaves nothing to bring there, and a file
+/// that failed isn't asked again.
 pub(crate) fn finished<F: WritesAt>(
     file: &mut Placed<F>,
     ended: Result<Option<Fault>, RunFault>,
