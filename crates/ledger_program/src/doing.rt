@@ -1,29 +1,26 @@
 //! Doing a job: its files are opened and read, and what is printed goes to an output.
-ghost use Rattle.std.specs.Prelude.{◌≡◌, ◌≤◌, IfErr, IfOk, IfSome, Err, take, vec_items};
+ghost use Rattle.std.specs.Prelude.{◌≡◌, ◌≤◌, IfErr, IfOk, IfSome, Err, vec_items};
 ghost use Rattle.std.specs.IoError.{error_kind};
 ghost use Rattle.ledger_commands.specs.Faults.{io_fault};
-ghost use Rattle.ledger_commands.specs.Durable.{IsSynced};
 ghost use Rattle.ledger_program.specs.Ends.{as_drawn, as_job, as_kept, told_of};
 ghost use Rattle.ledger_program.specs.Jobs.{IsFit, needed};
 ghost use Rattle.ledger_program.specs.Runs.{IsReadingEnd, IsReadingOf};
 
 use crate::drawing::drawing_run;
 use crate::durable_runs::{play_durably, serve_durably};
-use crate::files::{AtPath, STANDARD_INPUT, room_for, script_at};
+use crate::files::{AtPath, STANDARD_INPUT, opened, room_for, script_at};
 use crate::jobs::{Drawing, Job, Reading, Taking};
 use crate::keeping::taking_run;
 use crate::keeping_files::{do_make, do_repair, do_store};
 use crate::names::Name;
-use crate::owning::{image_to_write, read_shared, share};
+use crate::owning::{own_image, read_shared, share};
 use crate::refusals::Refusal;
 use crate::running::{format_run, reading_run};
 use disk_layout::Fault;
 use disk_pictures::PictureFault;
 use host_session::Printer;
 use keeper_commands::KeepFault;
-use ledger_commands::{
-    Durability, EndedFile, Locks, Replaced, RunFault, WritesAt, read_image, read_script,
-};
+use ledger_commands::{Durability, EndedFile, Locks, Replaced, RunFault, read_image, read_script};
 use std::alloc::Global;
 use std::fs::{File, OpenFile};
 use std::io::{self, BufReader, Read, Write};
@@ -167,23 +164,6 @@ where
     }
 }
 
-/// Plays a script on the shop of an image, over its file.
-fn play_over<F: WritesAt + Drop, W: Write>(
-    alloc: Global,
-    image: &[u8],
-    script: &[u8],
-    file: F,
-    durability: Durability,
-    out: &mut W,
-) -> Result<Option<Fault>, Refusal>
-    requires synced { IsSynced F.held F.lasting durability file }
-    requires image { IfSome (F.held file) (λ all. image.now ≡ take 174849 all) }
-{
-    let mut printer = Printer::new(out);
-    let (_, ended) = play_durably(alloc, image, script, file, durability, &mut printer);
-    job_end(ended)
-}
-
 /// Plays the script at a path on the image at another, over its file.
 fn do_playing<F, R, W>(
     rt: &R,
@@ -197,32 +177,18 @@ where
     R: Files<File = F> + Input + AllocGlobal,
     W: Write,
 {
-    let (image, file) = image_to_write(rt, path, durability)?;
+    let mut file = told(opened(rt, path))?;
+    let image = own_image(rt.alloc(), &mut file, durability)?;
     let script = told(script_at(rt, script))?;
-    play_over(
+    let mut printer = Printer::new(out);
+    let (_, ended) = play_durably(
         rt.alloc(),
         image.as_slice(),
         script.as_slice(),
         file,
         durability,
-        out,
-    )
-}
-
-/// Serves the shop of an image, over its file, to what a reader has.
-fn serve_over<F: WritesAt + Drop, R: Read, W: Write>(
-    alloc: Global,
-    image: &[u8],
-    file: F,
-    durability: Durability,
-    input: &mut BufReader<R>,
-    out: &mut W,
-) -> Result<Option<Fault>, Refusal>
-    requires synced { IsSynced F.held F.lasting durability file }
-    requires image { IfSome (F.held file) (λ all. image.now ≡ take 174849 all) }
-{
-    let mut printer = Printer::new(out);
-    let (_, ended) = serve_durably(alloc, image, file, durability, input, &mut printer);
+        &mut printer,
+    );
     job_end(ended)
 }
 
@@ -238,17 +204,20 @@ where
     R: Files<File = F> + Input + AllocGlobal,
     W: Write,
 {
-    let (image, file) = image_to_write(rt, path, durability)?;
+    let mut file = told(opened(rt, path))?;
+    let image = own_image(rt.alloc(), &mut file, durability)?;
     // A bare reader of standard input reads a byte a call.
     let mut input = told(BufReader::new(rt.alloc(), rt.reader()))?;
-    serve_over(
+    let mut printer = Printer::new(out);
+    let (_, ended) = serve_durably(
         rt.alloc(),
         image.as_slice(),
         file,
         durability,
         &mut input,
-        out,
-    )
+        &mut printer,
+    );
+    job_end(ended)
 }
 
 /// The bytes of the image at a path, which nobody writes while it is read, or of standard input.

@@ -115,30 +115,6 @@ fn told_unopened<T: Drop, E: Write>(err: &mut E, path: &str, tried: io::Result<T
     }
 }
 
-/// Opens the file that a job reads or writes first, as the job does; but it isn't made.
-fn first_opened<F, R: Files<File = F>>(rt: &R, job: &Job<'_>) -> io::Result<F> {
-    let image = image_of(job);
-    match job {
-        Job::Format { .. } => OpenOptions::new().write(true).open(rt, image),
-        _ if writes(job) => opened(rt, image),
-        _ => File::open(rt, image),
-    }
-}
-
-/// Tells what the system says of the script, or the records, where they can't be opened. False where they can, are
-/// standard input, or there are none.
-fn told_text<F, R, E>(rt: &R, job: &Job<'_>, err: &mut E) -> bool
-where
-    F: Drop,
-    R: Files<File = F>,
-    E: Write,
-{
-    match text_of(job) {
-        Some(text) if text != STANDARD_INPUT => told_unopened(err, text, File::open(rt, text)),
-        _ => false,
-    }
-}
-
 /// Tells which of a job's files can't be opened.
 fn tell_files<F, R, E>(rt: &R, job: &Job<'_>, err: &mut E)
 where
@@ -146,17 +122,24 @@ where
     R: Files<File = F>,
     E: Write,
 {
-    let tried = first_opened(rt, job);
     let image = image_of(job);
+    let tried = match job {
+        Job::Format { .. } => OpenOptions::new().write(true).open(rt, image),
+        _ if writes(job) => opened(rt, image),
+        _ => File::open(rt, image),
+    };
     if image != STANDARD_INPUT && told_unopened(err, image, tried) {
         return;
     }
-    if !told_text(rt, job, err) {
-        let _ = writeln!(
-            err,
-            "ledger: a file couldn't be read to its end, or the output not be written"
-        );
+    if let Some(text) = text_of(job) {
+        if text != STANDARD_INPUT && told_unopened(err, text, File::open(rt, text)) {
+            return;
+        }
     }
+    let _ = writeln!(
+        err,
+        "ledger: a file couldn't be read to its end, or the output not be written"
+    );
 }
 
 /// Tells how many bytes an image has.

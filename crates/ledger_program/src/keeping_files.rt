@@ -8,10 +8,10 @@ ghost use Rattle.ledger_program.specs.Names.{name_bytes};
 ghost use Rattle.rel_records.specs.File.{IsLength};
 
 use crate::doing::{kept_end, told};
-use crate::files::script_at;
+use crate::files::{opened, script_at};
 use crate::keeping::{make_run, repair_run, store_run};
 use crate::names::Name;
-use crate::owning::image_to_write;
+use crate::owning::own_image;
 use crate::refusals::Refusal;
 use disk_layout::Fault;
 use ledger_commands::{Durability, Locks, Placed};
@@ -28,7 +28,8 @@ where
     ensures agrees { IfOk result (λ taken. Agrees (placed.kept taken.1) (sectors_in (vec_items taken.0))) }
 {
     let durability = Durability::EachSector;
-    let (image, file) = image_to_write(rt, path, durability)?;
+    let mut file = told(opened(rt, path))?;
+    let image = own_image(rt.alloc(), &mut file, durability)?;
     let placed = Placed::of_image(file, durability, image.as_slice());
     Ok((image, placed))
 }

@@ -4,14 +4,11 @@ ghost use Rattle.ledger_commands.specs.Durable.{AllStays, IsSynced};
 ghost use Rattle.ledger_commands.specs.Placed.{KeepsOn, is_synced, placed, placed_file};
 ghost use Rattle.ledger_commands.specs.declared.faults.RunFault.TheVariants as faults;
 
-use crate::doing::told;
-use crate::files::opened;
 use crate::refusals::Refusal;
 use disk_layout::Fault;
 use ledger_commands::{Durability, Locks, Placed, RunFault, WritesAt, read_image};
 use std::alloc::Global;
 use std::io::{self, Read};
-use std::rt::Files;
 
 /// Locks an image's file for this program alone. Where each sector is brought to the disk, so is first what the file
 /// holds: an earlier program's writes may still be on their way. `InUse`; `Device` where that failed. Nothing was read
@@ -76,23 +73,6 @@ pub(crate) fn own_image<F: Locks>(
         Ok(bytes) => Ok(bytes),
         Err(error) => Err(Refusal::Run(RunFault::of_io(&error))),
     }
-}
-
-/// The bytes of the image at a path that is to be written, and its file, both as `own_image` has them.
-pub(crate) fn image_to_write<F, R>(
-    rt: &R,
-    path: &str,
-    durability: Durability,
-) -> Result<(Vec<u8>, F), Refusal>
-where
-    F: Locks + Drop,
-    R: Files<File = F> + AllocGlobal,
-    ensures bytes { IfOk result (λ taken. IfSome (F.held taken.1) (λ all. vec_items taken.0 ≡ take 174849 all)) }
-    ensures synced { IfOk result (λ taken. IsSynced F.held F.lasting durability taken.1) }
-{
-    let mut file = told(opened(rt, path))?;
-    let image = own_image(rt.alloc(), &mut file, durability)?;
-    Ok((image, file))
 }
 
 /// How a run over a file ends once the rest of what it wrote is brought to the disk. `Device` where it was done, or its
