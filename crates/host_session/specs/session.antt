@@ -7,3 +7,4 @@ pub mod Keeping
 pub mod Answering
 pub mod Handled
 pub mod Settling
+pub mod Mends

@@ -1,5 +1,6 @@
 -- What is kept of a disk in the bytes of a file, where a sector of it was written there.
-use Rattle.std.proofs.Common.{◌≡◌, ◌≤◌, ◌⊎◌, ◌∙◌, ℕ, List, Option, Some, None, ap, arith, inl, inr, length, refl, sym, ⊎_elim}
+use Rattle.std.proofs.Common.{◌≡◌, ◌≤◌, ◌⊎◌, ◌∙◌, ℕ, List, Option, Some, None}
+use Rattle.std.proofs.Common.{ap, arith, inl, inr, length, refl, sym, ⊎_elim}
 use Rattle.std.specs.Prelude.{◌+◌, ◌<◌, ◌++◌, drop, slice_index, take}
 use Rattle.std.proofs.lemmas.List.{length-append, length-drop, length-take}
 use Rattle.std.proofs.lemmas.Option.{none-some}

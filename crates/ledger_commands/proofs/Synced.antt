@@ -1,5 +1,6 @@
 -- Sectors that are written and then brought to the disk.
-use Rattle.std.proofs.Common.{◌≡◌, ◌⊎◌, ◌∙◌, ℕ, List, Option, Some, Result, Ok, Err, ap, arith, inl, inr, length, subst, sym, ⊎_elim, refl}
+use Rattle.std.proofs.Common.{◌≡◌, ◌⊎◌, ◌∙◌, ℕ, List, Option, Some, Result, Ok, Err}
+use Rattle.std.proofs.Common.{ap, arith, inl, inr, length, subst, sym, ⊎_elim, refl}
 use Rattle.std.specs.Prelude.{None, OnOk}
 use Rattle.std.proofs.Math.Seq.{take-length}
 use Rattle.std.proofs.lemmas.Result.{on_ok_weaker}

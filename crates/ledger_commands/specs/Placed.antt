@@ -53,7 +53,13 @@ module _ {F : Type 0} {G : Ghosts F} where
     only_now = λ p c h. only_now_image (seen_of p) p.file c h;
     up_to_last = λ p. p.fits;
     reached = GrowsOn;
-    reached_same = λ p. record { taken = le_refl p.taken; failed = le_refl p.failed; durability = refl; synced = refl; sized = refl };
+    reached_same = λ p. record {
+      taken = le_refl p.taken;
+      failed = le_refl p.failed;
+      durability = refl;
+      synced = refl;
+      sized = refl;
+    };
     reached_then = λ a b c x y. record {
       taken = omega (arith, x.taken, y.taken);
       failed = omega (arith, x.failed, y.failed);

@@ -30,8 +30,8 @@ pub trait WritesAt {
     // whether one of its calls may have failed
     ghost has_failed: { Self → Bool } = { λ _. true };
 
-    /// Writes all these bytes over those from that place on, in bytes from the file's start. At an error a beginning of them
-    /// was written. Of a sector all comes to the disk or nothing, where all else is there already.
+    /// Writes all these bytes over those from that place on, in bytes from the file's start. At an error a beginning of
+    /// them was written. Of a sector all comes to the disk or nothing, where all else is there already.
     fn write_all_at(&mut self, bytes: &[u8], at: u64) -> io::Result<()>
         ensures written { WritesOver (held self.old) (held self.new) at bytes.now result }
         ensures stays { AllStays held lasting self.old → IsSectorIn (lasting.bytes self.old) at bytes.now
@@ -41,14 +41,15 @@ pub trait WritesAt {
         ensures failed { OnErr result (has_failed self.new ≡ true) }
         ensures passed { OnOk result (has_failed self.new ≡ has_failed self.old) };
 
-    /// Brings what it holds to the disk, whoever wrote it. At an error any of what wasn't there may be, or not, and asking
-    /// again tells nothing: who asks doesn't go on.
+    /// Brings what it holds to the disk, whoever wrote it. At an error any of what wasn't there may be, or not, and
+    /// asking again tells nothing: who asks doesn't go on.
     fn sync(&mut self) -> io::Result<()>
         ensures same { held self.new ≡ held self.old }
         ensures lasting { OnOk result (AllStays held lasting self.new) }
         ensures failed { OnErr result (has_failed self.new ≡ true) }
         ensures passed { OnOk result (has_failed self.new ≡ has_failed self.old) }
-        ensures stays { LacksASector (lasting.bytes self.old) (held self.old) → StaysOr lasting self.old self.new (held self.old) }
+        ensures stays { LacksASector (lasting.bytes self.old) (held self.old)
+            → StaysOr lasting self.old self.new (held self.old) }
         ensures whole { StaysOr whole.lasting self.old self.new (whole.lasting.bytes self.old) }
         ensures owned { IsOwned self.old → IsOwned self.new }
         ensures shared { IsShared self.old → IsShared self.new };

@@ -5,8 +5,8 @@ use std::alloc::Global;
 use std::fs::{File, TryLockError};
 use std::io;
 
-/// A file that programs lock before they read or write it. The lock isn't waited for, and it falls with the open file, also
-/// where the program dies. It binds programs that ask for it, and no others.
+/// A file that programs lock before they read or write it. The lock isn't waited for, and it falls with the open file,
+/// also where the program dies. It binds programs that ask for it, and no others.
 pub trait Locks: WritesAt {
     ghost use Rattle.std.specs.Prelude.{◌≡◌, IfOk, IfSome, OnOk, take, vec_items};
 
@@ -19,8 +19,8 @@ pub trait Locks: WritesAt {
     fn lock_shared(&mut self) -> Result<(), TryLockError>
         ensures shared { OnOk result (Self.IsShared self.new) };
 
-    /// The bytes of the image that it is: the first 174,849, or all of them where there are fewer. Nothing was read of it
-    /// before. Its error where it failed, or where there was no memory for them.
+    /// The bytes of the image that it is: the first 174,849, or all of them where there are fewer. Nothing was read of
+    /// it before. Its error where it failed, or where there was no memory for them.
     fn image(&mut self, alloc: Global) -> io::Result<Vec<u8>>
         // it is locked first, alone or with others that read it
         requires shared { Self.IsShared self.old }

@@ -8,8 +8,8 @@ use crate::durable::{Durability, WritesAt, write_sector};
 use d64_image::{Place, SectorFile};
 use std::io;
 
-/// A file that has a sector at 256 times its index. Being written to a place needs no seek, so a sector is handed over by one
-/// call of the system, where that takes it at once.
+/// A file that has a sector at 256 times its index. Being written to a place needs no seek, so a sector is handed over
+/// by one call of the system, where that takes it at once.
 #[derive(Drop)]
 pub struct Placed<F: WritesAt> {
     file: F,
@@ -69,9 +69,9 @@ impl<F: WritesAt> Placed<F> {
         }
     }
 
-    /// The file of an image with these bytes, which were read of it, whose sectors are brought to the disk so. It took no
-    /// sector, and hasn't failed. Where each sector is, and what it holds is there, it keeps what stays there; else what it
-    /// holds, where that is known whole.
+    /// The file of an image with these bytes, which were read of it, whose sectors are brought to the disk so. It took
+    /// no sector, and hasn't failed. Where each sector is, and what it holds is there, it keeps what stays there; else
+    /// what it holds, where that is known whole.
     pub fn of_image(file: F, durability: Durability, image: &[u8]) -> Placed<F>
         requires there { IsSynced F.held F.lasting durability file }
         requires image { IfSome (F.held file) (λ all. image.now ≡ take 174849 all) }
@@ -116,8 +116,8 @@ impl<F: WritesAt> Placed<F> {
         file
     }
 
-    /// Brings all that was written to the disk, where that wasn't done behind each sector. A file that failed to bring a
-    /// sector there isn't asked again. Where each is there, and none failed, there is nothing to bring, and no error.
+    /// Brings all that was written to the disk, where that wasn't done behind each sector. A file that failed to bring
+    /// a sector there isn't asked again. Where each is there, and none failed, there is nothing to bring, and no error.
     pub fn finish(&mut self) -> io::Result<()>
         ensures lasting { OnOk result (AllStays F.held F.lasting (placed_file self.new)) }
         ensures whole { is_synced self.old → placed.failures self.old ≡ 0 → IsOk result }

@@ -30,12 +30,12 @@ fn told<D: Sectors, T: Tells<D>>(fault: ScriptFault, out: &mut T) -> RunFault
     RunFault::of_script(fault)
 }
 
-/// Plays the lines of a script on the shop of a disk, and tells the reply to each before the next is played. What was told is
-/// handed on at the end, also after a fault. The disk is handed back.
+/// Plays the lines of a script on the shop of a disk, and tells the reply to each before the next is played. What was
+/// told is handed on at the end, also after a fault. The disk is handed back.
 ///
-/// `BadLine`, the first bad line, and the faults of an opening, in its order: nothing was done then. After `File` the output
-/// failed; the lines that were played stand. `Device` where the device failed: the last reply is `MEDIA`, or `CUT` where it
-/// failed in the recovery.
+/// `BadLine`, the first bad line, and the faults of an opening, in its order: nothing was done then. After `File` the
+/// output failed; the lines that were played stand. `Device` where the device failed: the last reply is `MEDIA`, or
+/// `CUT` where it failed in the recovery.
 pub fn play_image<D: Sectors, T: Tells<D>>(
     disk: D,
     script: &[u8],
@@ -72,12 +72,13 @@ pub fn file_of<F: SectorFile>(
     }
 }
 
-/// Plays the lines of a script on the shop of an image, as `play_image` does, over the file that keeps the image. Each sector
-/// is handed to the file before memory takes it, and so before the reply to its line is told. The file is handed back.
+/// Plays the lines of a script on the shop of an image, as `play_image` does, over the file that keeps the image. Each
+/// sector is handed to the file before memory takes it, and so before the reply to its line is told. The file is handed
+/// back.
 ///
-/// `ImageSize`; `NoMemory` where there was none for the disk; `BadLine`, the first bad line; and the faults of an opening, in
-/// its order. Nothing was done then. After `File` the output failed; the lines that were played stand. `Device` where the
-/// file failed.
+/// `ImageSize`; `NoMemory` where there was none for the disk; `BadLine`, the first bad line; and the faults of an
+/// opening, in its order. Nothing was done then. After `File` the output failed; the lines that were played stand.
+/// `Device` where the file failed.
 // Out of line: a session is large, and a frame that has its room touches each page of it.
 #[inline(never)]
 pub fn play_file<F: SectorFile, T: Tells<Mirror<F>>>(

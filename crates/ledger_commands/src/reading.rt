@@ -9,8 +9,8 @@ use std::io::{self, Read};
 const IMAGE_BYTES: u64 = 174_849;
 
 /// The bytes of a script: all that the reader has left. Its error where it failed, or where there was no
-/// memory for them. `room` is how many bytes memory is taken for at once: with one more than a file has it need not grow,
-/// and any number will do.
+/// memory for them. `room` is how many bytes memory is taken for at once: with one more than a file has it need not
+/// grow, and any number will do.
 pub fn read_script<R: Read + Drop>(alloc: Global, reader: R, room: usize) -> io::Result<Vec<u8>>
     ensures { IfOk result (λ bytes. IfSome (R.remaining reader) (λ all. vec_items bytes ≡ all)) }
 {

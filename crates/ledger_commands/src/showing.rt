@@ -14,8 +14,8 @@ use host_session::Session;
 use std::alloc::Global;
 use std::io::Write;
 
-/// How many items' lines are printed at once. The last record that a file can have, and so the last item that can have a
-/// card, is 10160, the 127th time.
+/// How many items' lines are printed at once. The last record that a file can have, and so the last item that can have
+/// a card, is 10160, the 127th time.
 const AT_ONCE: u16 = 80;
 
 /// How often that is done.
@@ -101,10 +101,10 @@ pub(crate) fn put_shop<D: Sectors, W: Write>(
 }
 
 /// Prints what an image holds of a shop: how far new cards may go, the cards in the order of the items, and by till the
-/// last request and the one before it with their answers. The image is opened as a copy in memory, where an intent that is
-/// open is completed, and isn't written. `ImageSize` where it hasn't the size of a disk; `Layout`, `NoStock`, `NoRequests`,
-/// `BadRequestCard`, `TwoIntents` or `BadCard` where it is no shop's, the first that is so in this order; `NoMemory` where
-/// there was none for the copy; `File` where the output failed, which may then have a part.
+/// last request and the one before it with their answers. The image is opened as a copy in memory, where an intent that
+/// is open is completed, and isn't written. `ImageSize` where it hasn't the size of a disk; `Layout`, `NoStock`,
+/// `NoRequests`, `BadRequestCard`, `TwoIntents` or `BadCard` where it is no shop's, the first that is so in this order;
+/// `NoMemory` where there was none for the copy; `File` where the output failed, which may then have a part.
 // Out of line: a session is large, and a frame that has its room touches each page of it.
 #[inline(never)]
 pub fn show_image<W: Write>(alloc: Global, image: &[u8], out: &mut W) -> Result<(), RunFault>

@@ -64,8 +64,8 @@ fn write_behind(text: &[u8], n: u32, room: &mut [u8], end: usize) -> usize
     write_before(text, room, number)
 }
 
-/// Writes an item's line, 24 bytes at most, so that it ends at `end`, and returns where it starts. A disk has thousands of
-/// them, so they are made by hand, from the last to the first, and printed many at a time.
+/// Writes an item's line, 24 bytes at most, so that it ends at `end`, and returns where it starts. A disk has thousands
+/// of them, so they are made by hand, from the last to the first, and printed many at a time.
 #[tactic(auto, using(request_cards::proofs::Texts::number_length))]
 fn write_card(item: u16, quantity: u32, room: &mut [u8], end: usize) -> usize
     requires { (24 ≤ end) × (end ≤ length room.old) }

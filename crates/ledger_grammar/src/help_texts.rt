@@ -15,7 +15,8 @@ Example: ledger format shop.d64 --tills 4";
 
 /// What `list` prints, its statuses, and an example.
 pub(crate) const LIST: &str =
-    "Prints the disk's name, a line for each entry, and how many blocks are free. `*` stands before the type of a file\n\
+    "Prints the disk's name, a line for each entry, and how many blocks are free. \
+`*` stands before the type of a file\n\
 that no drive closed, `<` behind that of a locked one.\n\
 Status 0: printed. 1: the image is refused (IMAGE SIZE, LAYOUT). 3: a file, the output or memory failed, or IN USE.\n\
 Example: ledger list old.d64";
@@ -81,7 +82,8 @@ Example: ledger store new.d64 ADDRESS address.csv";
 
 /// What `map` prints, its statuses, and an example.
 pub(crate) const MAP: &str =
-    "Draws a hurt disk too, as far as its links go: `*` the map, `=` the directory, a letter a block of a file, the capital\n\
+    "Draws a hurt disk too, as far as its links go: `*` the map, `=` the directory, \
+a letter a block of a file, the capital\n\
 one of its side sectors, `.` free, `?` taken and of no file, `!` the place of the fault.\n\
 Status 0: the disk is clean. 1: a fault, or the image is refused. 3: a file, the output or memory failed, or IN USE.\n\
 Example: ledger map old.d64";

@@ -71,10 +71,12 @@ module _ {F : Type 0} {G : Ghosts F} (durability : Durability) (image : List ℕ
             ∙ ap (λ b. image_of ((seen G.lasting G.whole.lasting false b).bytes now.file)) (r.sized ∙ is.1);
         brought = brought;
         remains = subst
-            (λ f. AllStays G.held G.lasting f → (c : Image) → placed.kept left ≡ Some c → image_of (G.lasting.bytes f) ≡ Some c)
+            (λ f. AllStays G.held G.lasting f → (c : Image) → placed.kept left ≡ Some c
+            → image_of (G.lasting.bytes f) ≡ Some c)
             (sym is_last)
             (image_left G.held G.lasting G.whole left.synced left.sized left.file last.file
             (λ is. ap placed_file (untouched is)) same);
         there = subst (λ f. OnOk ended (AllStays G.held G.lasting f)) (sym is_last) there;
-        stands = subst (λ f. IfErr ended (λ fault. fault ≡ faults.File → AllStays G.held G.lasting f)) (sym is_last) stands;
+        stands = subst (λ f. IfErr ended (λ fault. fault ≡ faults.File → AllStays G.held G.lasting f)) (sym is_last)
+            stands;
       }

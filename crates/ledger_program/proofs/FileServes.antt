@@ -52,7 +52,8 @@ module _ {F R T : Type 0} {G : Ghosts F} (i : Input R) (a : Answering T) (start 
       handled_run file_run s bytes (over_files turns) (file_disk start) (file_disk b)
       (run_of_file start whole untaken s (line_messages bytes) turns b x.run)
 
-  served_of_file : (s : Shop) (bytes : List ℕ) (b : Mirror F G) → AreServed mirror i a s bytes start b old_in new_in old new
+  served_of_file : (s : Shop) (bytes : List ℕ) (b : Mirror F G)
+      → AreServed mirror i a s bytes start b old_in new_in old new
       → AreServed file_run i a s bytes (file_disk start) (file_disk b) old_in new_in old new
   unfolding handled_of_file
   served_of_file s bytes b x = record {
@@ -64,7 +65,8 @@ module _ {F R T : Type 0} {G : Ghosts F} (i : Input R) (a : Answering T) (start 
     told = subst ((answered a).told old new) (same_instants start whole x.turns) x.told;
   }
 
-  output_of_file : (s : Shop) (bytes : List ℕ) (b : Mirror F G) → AreServedToOutput mirror i a s bytes start b old_in new_in old new
+  output_of_file : (s : Shop) (bytes : List ℕ) (b : Mirror F G)
+      → AreServedToOutput mirror i a s bytes start b old_in new_in old new
       → AreServedToOutput file_run i a s bytes (file_disk start) (file_disk b) old_in new_in old new
   unfolding handled_of_file
   output_of_file s bytes b x =
@@ -88,7 +90,8 @@ module _ {F R T : Type 0} {G : Ghosts F} (i : Input R) (a : Answering T) (start 
             (same_instants start whole x.turns) x.told;
       }
 
-  device_of_file : (s : Shop) (bytes : List ℕ) (b : Mirror F G) → AreServedToDevice mirror i a s bytes start b old_in new_in old new
+  device_of_file : (s : Shop) (bytes : List ℕ) (b : Mirror F G)
+      → AreServedToDevice mirror i a s bytes start b old_in new_in old new
       → AreServedToDevice file_run i a s bytes (file_disk start) (file_disk b) old_in new_in old new
   device_of_file s bytes b x =
       let ms : List Message = line_messages bytes in
@@ -139,7 +142,8 @@ module _ {F R T : Type 0} {G : Ghosts F} (i : Input R) (a : Answering T) (start 
     input = λ _ _. tt;
     output = λ _ _. tt;
     device = λ _ _. tt;
-    moments = λ s is. moments_of_file a.output start whole untaken old new s (line_messages x.handled) b (x.moments s is);
+    moments = λ s is. moments_of_file a.output start whole untaken old new s (line_messages x.handled) b
+        (x.moments s is);
     quiet = λ s is asks. unwritten_of_file s b (x.quiet s is asks);
     writes = λ s is few. bounded_of_file start whole untaken (line_messages x.handled) b
         (x.moments s is).reached few (x.writes s is few);
@@ -163,12 +167,15 @@ module _ {F R T : Type 0} {G : Ghosts F} (i : Input R) (a : Answering T) (start 
     input = λ s is told. served_of_file s x.handled e.1 (x.input s is told);
     output = λ s is told. output_of_file s x.handled e.1 (x.output s is told);
     device = λ s is told. device_of_file s x.handled e.1 (x.device s is told);
-    moments = λ s is. moments_of_file a.output start whole untaken old new s (line_messages x.handled) e.1 (x.moments s is);
+    moments = λ s is. moments_of_file a.output start whole untaken old new s (line_messages x.handled) e.1
+        (x.moments s is);
     quiet = λ s is asks. unwritten_of_file s e.1 (x.quiet s is asks);
     writes = λ s is few. bounded_of_file start whole untaken (line_messages x.handled) e.1
         (x.moments s is).reached few (x.writes s is few);
     plays = λ shop never. x.plays shop (never_failed start whole e.1 (x.moments shop.0 shop.1).reached never);
-    «open» = λ f is. let y = x.«open» f is in (refused_of_file a.output start whole untaken old new e.1 f y.0, y.1, y.2);
+    «open» = λ f is.
+        let y = x.«open» f is in
+        (refused_of_file a.output start whole untaken old new e.1 f y.0, y.1, y.2);
     cause = λ is.
         let c = x.cause is in
         let y = (x.moments c.0.0 c.0.1).reached in

@@ -104,11 +104,11 @@ module _ {F : Type 0} {G : Ghosts F} (start : Mirror F G) (sound : is_broken sta
         × ¬ (IsTakenName l name))
         (λ l w. (subst (λ img. HasNoRoom img l) holds w.0, w.1)) whole err in
         is-refused image start.file b.file old new Made Fault keep.DiskFull refl x x.untouched
-    whole-ended whole (Err keep.File) ok err = is-stopped image start.file b.file old new Made Fault keep.File refl size (
-      whole_file start sound untaken b err.run.moments.held whole,
-      taken_up start sound untaken b image size holds
-          (made_of_file whole err),
-    )
+    whole-ended whole (Err keep.File) ok err =
+        is-stopped image start.file b.file old new Made Fault keep.File refl size (
+          whole_file start sound untaken b err.run.moments.held whole,
+          taken_up start sound untaken b image size holds (made_of_file whole err),
+        )
     whole-ended whole (Err keep.Device) ok err = absurd (not_failed start sound untaken b whole err.1)
     whole-ended whole (Err keep.NoFile) ok err = absurd err
     whole-ended whole (Err (keep.BadLine line)) ok err = absurd err

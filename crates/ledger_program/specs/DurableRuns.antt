@@ -41,11 +41,12 @@ pub record IsDurableRun {F : Type 0} {G : Ghosts F} (durability : Durability) (i
   -- there where the machine loses power.
   pub lasts : durability ≡ durabilities.EachSector → length image ≡ 174848 → (now : Placed F G)
       → placed.reached first now → placed.kept now ≡ image_of (G.lasting.bytes (placed_file now))
-  -- Where they are brought there at the end, it is the image of the bytes that the file holds, where that is known whole.
+  -- Where they are brought there at the end, it is the image of the bytes that the file holds, where that is known
+  -- whole.
   pub holds : durability ≡ durabilities.AtEnd → length image ≡ 174848 → (now : Placed F G)
       → placed.reached first now → placed.kept now ≡ image_of (G.whole.lasting.bytes (placed_file now))
-  -- Bringing it to the disk changes nothing of what it keeps, at no moment; and what then stays is the image that the run
-  -- left, where that is known.
+  -- Bringing it to the disk changes nothing of what it keeps, at no moment; and what then stays is the image that the
+  -- run left, where that is known.
   pub brought : KeepsOn left last
   pub remains : AllStays G.held G.lasting after → (c : Image) → placed.kept left ≡ Some c
       → image_of (G.lasting.bytes after) ≡ Some c

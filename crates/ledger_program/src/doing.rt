@@ -66,8 +66,8 @@ fn drawn_end(ended: Result<Option<Fault>, PictureFault>) -> Result<Option<Fault>
     }
 }
 
-/// What is needed of the bytes that a reader has: of an image 174,849 at most, and a script whole. `room` is how many bytes memory
-/// is taken for at once for a script.
+/// What is needed of the bytes that a reader has: of an image 174,849 at most, and a script whole. `room` is how many
+/// bytes memory is taken for at once for a script.
 fn bytes_of<R: Read + Drop>(
     alloc: Global,
     what: Reading,
@@ -99,8 +99,8 @@ fn over_read<W: Write>(
     }
 }
 
-/// Does what is asked of the bytes that a reader has, where it could be opened; else tells why it couldn't. `File` where the
-/// file couldn't be opened or read, or the output failed; `NoMemory`; and what is wrong with the bytes.
+/// Does what is asked of the bytes that a reader has, where it could be opened; else tells why it couldn't. `File`
+/// where the file couldn't be opened or read, or the output failed; `NoMemory`; and what is wrong with the bytes.
 pub fn do_over<R: Read + Drop, W: Write>(
     alloc: Global,
     what: Reading,
@@ -267,10 +267,10 @@ where
     drawn_end(drawing_run(rt.alloc(), what, image.as_slice(), out))
 }
 
-/// Opens or reads the job's files and does it; what is printed goes to `out`, which is flushed at the end. An image is locked
-/// before anything of it is read or changed: alone where it is written. `InUse` where another program has it; `File` where a
-/// file couldn't be opened or read, and the faults of `reading_run`, `format_run`, `play_durably`, `serve_durably`,
-/// `repair_run`, `make_run`, `store_run`, `taking_run` and `drawing_run`.
+/// Opens or reads the job's files and does it; what is printed goes to `out`, which is flushed at the end. An image is
+/// locked before anything of it is read or changed: alone where it is written. `InUse` where another program has it;
+/// `File` where a file couldn't be opened or read, and the faults of `reading_run`, `format_run`, `play_durably`,
+/// `serve_durably`, `repair_run`, `make_run`, `store_run`, `taking_run` and `drawing_run`.
 pub fn do_job<F, R, W>(rt: &R, job: &Job<'_>, out: &mut W) -> Result<Option<Fault>, Refusal>
 where
     F: EndedFile + Read + Locks + OpenFile + Drop,
@@ -278,27 +278,31 @@ where
     W: Write,
     requires { IsFit job.now }
 {
-    match job {
-        Job::Format { image, tills } => do_format(rt, image, *tills, out),
-        Job::Read { what, path } => do_reading(rt, *what, path, out),
+    match *job {
+        Job::Format { image, tills } => do_format(rt, image, tills, out),
+        Job::Read { what, path } => do_reading(rt, what, path, out),
         Job::Play {
             image,
             script,
             durability,
-        } => do_playing(rt, image, script, *durability, out),
-        Job::Serve { image, durability } => do_serving(rt, image, *durability, out),
+        } => do_playing(rt, image, script, durability, out),
+        Job::Serve { image, durability } => do_serving(rt, image, durability, out),
         Job::Repair { image } => do_repair(rt, image, out),
         Job::Make {
             image,
-            name,
+            ref name,
             length,
-        } => do_make(rt, image, name, *length, out),
+        } => do_make(rt, image, name, length, out),
         Job::Store {
             image,
-            name,
+            ref name,
             records,
         } => do_store(rt, image, name, records, out),
-        Job::Take { what, image, name } => do_taking(rt, *what, image, name, out),
-        Job::Draw { what, image } => do_drawing(rt, *what, image, out),
+        Job::Take {
+            what,
+            image,
+            ref name,
+        } => do_taking(rt, what, image, name, out),
+        Job::Draw { what, image } => do_drawing(rt, what, image, out),
     }
 }

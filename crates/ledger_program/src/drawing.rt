@@ -8,7 +8,8 @@ use std::alloc::Global;
 use std::io::Write;
 
 /// Draws an image, and answers the fault that a check of it tells, which is drawn too. `ImageSize`; `Layout` where the
-/// directory's sectors aren't a chain on track 18; `NoMemory`: nothing was printed then. `File` where the output failed.
+/// directory's sectors aren't a chain on track 18; `NoMemory`: nothing was printed then. `File` where the output
+/// failed.
 pub fn drawing_run<W: Write>(
     alloc: Global,
     what: Drawing,

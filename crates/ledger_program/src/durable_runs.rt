@@ -16,8 +16,9 @@ use ledger_commands::{Durability, Placed, RunFault, WritesAt};
 use serving::{Answers, GivesLines};
 use std::alloc::Global;
 
-/// Plays the script on the shop of the image that the file has, as `play_run` does, and hands the file back. Its sectors are
-/// brought to the disk so: each before its reply is told, or all at the end. `Device` also where that failed.
+/// Plays the script on the shop of the image that the file has, as `play_run` does, and hands the file back. Its
+/// sectors are brought to the disk so: each before its reply is told, or all at the end. `Device` also where that
+/// failed.
 pub fn play_durably<F: WritesAt, T: Tells<Mirror<Placed<F>>>>(
     alloc: Global,
     image: &[u8],
@@ -38,8 +39,8 @@ pub fn play_durably<F: WritesAt, T: Tells<Mirror<Placed<F>>>>(
     (left.into_inner(), end)
 }
 
-/// Serves the shop of the image that the file has, as `serve_run` does, and hands the file back. Its sectors are brought to
-/// the disk so: each before its reply is told, or all at the end. `Device` also where that failed.
+/// Serves the shop of the image that the file has, as `serve_run` does, and hands the file back. Its sectors are
+/// brought to the disk so: each before its reply is told, or all at the end. `Device` also where that failed.
 pub fn serve_durably<F, R, T>(
     alloc: Global,
     image: &[u8],

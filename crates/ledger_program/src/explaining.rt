@@ -1,4 +1,5 @@
-//! What a person at a terminal is told: what is going to be replaced, and below a refusal which file it is about, what the system says of it, and what to do.
+//! What a person at a terminal is told: what is going to be replaced, and below a refusal which file it is about, what
+//! the system says of it, and what to do.
 use crate::files::{STANDARD_INPUT, opened};
 use crate::jobs::{Job, Reading};
 use crate::refusals::Refusal;
@@ -159,7 +160,8 @@ where
     };
 }
 
-/// Tells a person which file a job is going to replace, where there is one. Where it can't be told there is nobody to tell.
+/// Tells a person which file a job is going to replace, where there is one. Where it can't be told there is nobody to
+/// tell.
 pub fn announce<F, R, E>(rt: &R, job: &Job<'_>, err: &mut E)
 where
     F: OpenFile + Drop,
@@ -182,9 +184,9 @@ where
     }
 }
 
-/// Tells a person, in a line below the refusal's own, which file it is about, what the system says of it then, or what to do. The
-/// job's files are opened once more for it, and neither made, read nor changed. Where it can't be told there is nobody left to
-/// tell.
+/// Tells a person, in a line below the refusal's own, which file it is about, what the system says of it then, or what
+/// to do. The job's files are opened once more for it, and neither made, read nor changed. Where it can't be told there
+/// is nobody left to tell.
 pub fn explain<F, R, E>(rt: &R, job: &Job<'_>, refusal: Refusal, err: &mut E)
 where
     F: OpenFile + Drop,

@@ -5,7 +5,8 @@ use std::fs::{File, OpenFile, OpenOptions};
 use std::io;
 use std::rt::Files;
 
-/// The name under which standard input is read. It is read as it is, since the program may not be allowed to open it again.
+/// The name under which standard input is read. It is read as it is, since the program may not be allowed to open it
+/// again.
 pub(crate) const STANDARD_INPUT: &str = "/dev/stdin";
 
 /// How many bytes the file has, and one more; 0 where it isn't opened, or the system doesn't tell.

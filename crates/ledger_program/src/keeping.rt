@@ -49,8 +49,8 @@ fn file_of<F: SectorFile>(
     (file, ended)
 }
 
-/// Repairs the disk of the image that the file keeps, prints what was mended, and hands the file back. Each sector is handed
-/// to the file before memory takes it. `Device` where the file failed, `File` where the output did.
+/// Repairs the disk of the image that the file keeps, prints what was mended, and hands the file back. Each sector is
+/// handed to the file before memory takes it. `Device` where the file failed, `File` where the output did.
 pub fn repair_run<F: SectorFile, W: Write>(
     alloc: Global,
     image: &[u8],
@@ -99,9 +99,9 @@ pub fn make_run<F: SectorFile, W: Write>(
 
 /// Stores records, from the lines of a text, in the first closed relative file of this name of the clean disk of the
 /// image that the file keeps, prints the lines of those that were otherwise, and hands the file back. Each sector is
-/// handed to the file before memory takes it. `NoFile`, `BadLine`, `DiskFull` and what is wrong with the image leave file
-/// and output as they were. `Device` where the file failed, `File` where the output did: what was stored until then
-/// stays.
+/// handed to the file before memory takes it. `NoFile`, `BadLine`, `DiskFull` and what is wrong with the image leave
+/// file and output as they were. `Device` where the file failed, `File` where the output did: what was stored until
+/// then stays.
 pub fn store_run<F: SectorFile, W: Write>(
     alloc: Global,
     image: &[u8],

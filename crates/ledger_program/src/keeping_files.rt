@@ -18,8 +18,8 @@ use ledger_commands::{Durability, Locks, Placed};
 use std::io::{Read, Write};
 use std::rt::Files;
 
-/// The file at a path that a keeper's job writes, and its bytes: it is this program's alone, and what it holds is on the
-/// disk. Each sector is brought to the disk before the next is written.
+/// The file at a path that a keeper's job writes, and its bytes: it is this program's alone, and what it holds is on
+/// the disk. Each sector is brought to the disk before the next is written.
 fn image_to_keep<F, R>(rt: &R, path: &str) -> Result<(Vec<u8>, Placed<F>), Refusal>
 where
     F: Read + Locks + Drop,

@@ -10,8 +10,9 @@ use ledger_commands::{Durability, Locks, Placed, RunFault, WritesAt, read_image}
 use std::alloc::Global;
 use std::io::{self, Read};
 
-/// Locks an image's file for this program alone. Where each sector is brought to the disk, so is first what the file holds:
-/// an earlier program's writes may still be on their way. `InUse`; `Device` where that failed. Nothing was read or changed.
+/// Locks an image's file for this program alone. Where each sector is brought to the disk, so is first what the file
+/// holds: an earlier program's writes may still be on their way. `InUse`; `Device` where that failed. Nothing was read
+/// or changed.
 pub(crate) fn own<F: Locks>(file: &mut F, durability: Durability) -> Result<(), Refusal>
     ensures owned { OnOk result (F.IsOwned file.new) }
     ensures shared { OnOk result (F.IsShared file.new) }
@@ -56,8 +57,8 @@ fn read_own<F: Locks>(alloc: Global, file: &mut F, durability: Durability) -> io
     file.image(alloc)
 }
 
-/// The bytes of an image that is to be written: its file is this program's alone first, and where each sector is brought to
-/// the disk, what it holds is there. `InUse`; `Device` where that failed; and then what `read_image` tells.
+/// The bytes of an image that is to be written: its file is this program's alone first, and where each sector is
+/// brought to the disk, what it holds is there. `InUse`; `Device` where that failed; and then what `read_image` tells.
 pub(crate) fn own_image<F: Locks>(
     alloc: Global,
     file: &mut F,
@@ -75,8 +76,8 @@ pub(crate) fn own_image<F: Locks>(
 }
 
 /// How a run over a file ends once the rest of what it wrote is brought to the disk. `Device` where it was done, or its
-/// output alone failed, and that fails; a fault of the image or the script leaves nothing to bring there, and a file that
-/// failed isn't asked again.
+/// output alone failed, and that fails; a fault of the image or the script leaves nothing to bring there, and a file
+/// that failed isn't asked again.
 pub(crate) fn finished<F: WritesAt>(
     file: &mut Placed<F>,
     ended: Result<Option<Fault>, RunFault>,

@@ -35,8 +35,8 @@ impl Refusal {
         }
     }
 
-    /// What is told where a file isn't locked for this reason: `InUse` where another program has it, else that it can't be
-    /// used.
+    /// What is told where a file isn't locked for this reason: `InUse` where another program has it, else that it can't
+    /// be used.
     pub(crate) fn of_lock(error: &TryLockError) -> Refusal
         ensures { result ≡ lock_refusal error.now }
     {

@@ -36,8 +36,8 @@ fn dry_ended(end: Result<(), DryFault>) -> Result<Option<Fault>, RunFault>
     }
 }
 
-/// Does what is asked of these bytes, those of an image or, for a dry run, of a script. What is printed goes to `out`, which is
-/// flushed at the end. A check answers the fault that it printed, where it printed one.
+/// Does what is asked of these bytes, those of an image or, for a dry run, of a script. What is printed goes to `out`,
+/// which is flushed at the end. A check answers the fault that it printed, where it printed one.
 pub fn reading_run<W: Write>(
     alloc: Global,
     what: Reading,
@@ -58,8 +58,8 @@ pub fn reading_run<W: Write>(
     }
 }
 
-/// Makes the file the image of an empty shop with so many tills, and says so on `out`. `File` where the file or the output
-/// failed, `NoMemory` before anything is written.
+/// Makes the file the image of an empty shop with so many tills, and says so on `out`. `File` where the file or the
+/// output failed, `NoMemory` before anything is written.
 pub fn format_run<F: Write, W: Write>(
     alloc: Global,
     tills: u8,
@@ -73,8 +73,8 @@ pub fn format_run<F: Write, W: Write>(
     ended(format_image(alloc, tills, file, out))
 }
 
-/// Plays the script on the shop of the image that the file keeps, and hands the file back. `Device` where the file failed,
-/// `File` where the output did.
+/// Plays the script on the shop of the image that the file keeps, and hands the file back. `Device` where the file
+/// failed, `File` where the output did.
 // Out of line: a session is large, and a frame that has its room touches each page of it.
 #[inline(never)]
 pub fn play_run<F: SectorFile, T: Tells<Mirror<F>>>(

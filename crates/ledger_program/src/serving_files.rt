@@ -21,12 +21,12 @@ fn told(fault: LoopFault) -> RunFault
     }
 }
 
-/// Serves the shop of an image line by line, as `serve` does, over the file that keeps the image. Each sector is handed to
-/// the file before memory takes it, and so before the reply to its line is told. The file is handed back.
+/// Serves the shop of an image line by line, as `serve` does, over the file that keeps the image. Each sector is handed
+/// to the file before memory takes it, and so before the reply to its line is told. The file is handed back.
 ///
-/// `ImageSize`; `NoMemory` where there was none for the disk; and the faults of an opening, in its order: nothing was done
-/// or read then. `File`: the input couldn't be read, or the output failed; the lines before stand. `Device`: the file
-/// failed; the message of the last line counts or it doesn't.
+/// `ImageSize`; `NoMemory` where there was none for the disk; and the faults of an opening, in its order: nothing was
+/// done or read then. `File`: the input couldn't be read, or the output failed; the lines before stand. `Device`: the
+/// file failed; the message of the last line counts or it doesn't.
 // Out of line: a session is large, and a frame that has its room touches each page of it.
 #[inline(never)]
 pub fn serve_file<F: SectorFile, R: GivesLines<Mirror<F>>, T: Answers<Mirror<F>>>(

@@ -10,8 +10,8 @@ use disk_layout::Fault;
 use host_session::{NotTaken, write_whole};
 use std::io::Write;
 
-/// Tells a refusal in one line. Its error where standard error failed, which then has a beginning of the line: there is nobody
-/// left to tell.
+/// Tells a refusal in one line. Its error where standard error failed, which then has a beginning of the line: there is
+/// nobody left to tell.
 pub fn tell<E: Write>(err: &mut E, refusal: Refusal) -> Result<(), NotTaken>
     ensures told { OnOk result (Appends (E.contents err.old) (E.contents err.new) (refusal_line refusal)) }
     ensures part { OnErr result (AppendsPart (E.contents err.old) (E.contents err.new) (refusal_line refusal)) }
@@ -33,11 +33,11 @@ pub struct Ending {
     pub told: Result<(), NotTaken>,
 }
 
-/// The end of a job that ended so. Its status is 1 also where a check told a fault, on the output. Tells why the job isn't
-/// done, where it isn't, in one line: with status 1 what the image or the script has wrong, as `IMAGE SIZE`,
-/// `LAYOUT LOOP 17/0`, `BAD CARD 3` or `SCRIPT LINE 2`; with status 3 `FILE` where a file couldn't be opened or read, the
-/// image not made, or the output failed, `DEVICE` where the file of `play` failed, `IN USE` where another program has the
-/// image, or `NO MEMORY`. Where standard error failed it has a beginning of the line, and `told` is an error.
+/// The end of a job that ended so. Its status is 1 also where a check told a fault, on the output. Tells why the job
+/// isn't done, where it isn't, in one line: with status 1 what the image or the script has wrong, as `IMAGE SIZE`,
+/// `LAYOUT LOOP 17/0`, `BAD CARD 3` or `SCRIPT LINE 2`; with status 3 `FILE` where a file couldn't be opened or read,
+/// the image not made, or the output failed, `DEVICE` where the file of `play` failed, `IN USE` where another program
+/// has the image, or `NO MEMORY`. Where standard error failed it has a beginning of the line, and `told` is an error.
 pub fn end<E: Write>(ended: Result<Option<Fault>, Refusal>, err: &mut E) -> Ending
     ensures status { result.status ≡ end_status ended }
     ensures quiet { IsOk ended → (err.new ≡ err.old) × IsOk result.told }

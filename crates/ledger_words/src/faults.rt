@@ -14,8 +14,8 @@ pub enum JobFault {
     /// The number of tills isn't one of 1 to 64, in decimal digits without leading zeros.
     #[error("TILLS")]
     Tills,
-    /// The name of a file isn't the text of at most sixteen bytes, of which the last isn't a shifted space; or is of none,
-    /// where a file is made.
+    /// The name of a file isn't the text of at most sixteen bytes, of which the last isn't a shifted space; or is of
+    /// none, where a file is made.
     #[error("NAME")]
     Name,
     /// The length of a record isn't one of 1 to 254, in decimal digits without leading zeros.

@@ -133,7 +133,8 @@ where
     status
 }
 
-/// The words as texts, all at one lifetime. The first is the name by which people call the program, whatever its file is called.
+/// The words as texts, all at one lifetime. The first is the name by which people call the program, whatever its file
+/// is called.
 fn texts_of<'a>(alloc: Global, words: &'a [String]) -> Result<Vec<&'a str>, AllocError> {
     let mut texts = Vec::new(alloc);
     texts.push("ledger")?;
@@ -179,9 +180,9 @@ fn words_of<R: Env + AllocGlobal, E: Write>(rt: &R, err: &mut E) -> Result<Vec<S
     }
 }
 
-/// The whole program: does what the words of its command line ask for, and answers its exit status. What it prints goes to the
-/// runtime's output; what it tells goes to `err`, which is the runtime's standard error, where what refused words are told goes
-/// at any rate, and which `told` reads.
+/// The whole program: does what the words of its command line ask for, and answers its exit status. What it prints goes
+/// to the runtime's output; what it tells goes to `err`, which is the runtime's standard error, where what refused
+/// words are told goes at any rate, and which `told` reads.
 pub fn program<F, R, E>(rt: &R, told: Told, err: &mut E) -> u8
 where
     F: EndedFile + Read + Locks + OpenFile + Drop,

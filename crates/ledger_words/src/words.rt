@@ -202,7 +202,8 @@ fn chosen<'a>(matches: &ArgMatches<'a>) -> Result<Job<'a>, JobFault>
 /// What the command line finds in the words.
 fn parsed<'a>(alloc: Global, words: &'a [&'a str]) -> Result<ArgMatches<'a>, Error>
     ensures { let texts = map (λ word. word.now) words.entry.now in
-        MatchResult result (IsParse (fault_of ledger texts) (subcommand_of ledger texts)) (HasKind (fault_of ledger texts)) }
+        MatchResult result (IsParse (fault_of ledger texts) (subcommand_of ledger texts))
+        (HasKind (fault_of ledger texts)) }
 {
     ledger_command(alloc)?.try_get_matches_from(words)
 }

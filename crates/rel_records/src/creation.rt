@@ -31,7 +31,8 @@ use disk_layout::{Bam, directory_start, padded_name, walk_chain};
 /// Where the directory of a sound disk has room for an entry.
 fn read_room<D: Sectors>(disk: &mut D) -> Result<Room, RelFault>
     requires sound { IsSound (D.history.image disk.old) }
-    ensures ok { (l : Layout) → IsLayout (D.history.image disk.old) l → IfOk result (IsRoomOf (D.history.image disk.old) l) }
+    ensures ok { (l : Layout) → IsLayout (D.history.image disk.old) l
+        → IfOk result (IsRoomOf (D.history.image disk.old) l) }
     ensures err { IfErr result (λ fault. fault ≡ Device) }
     // twice the eighteen sectors of the directory
     ensures reads { OnOk result (OnlyReads D.history disk.old disk.new 36) }

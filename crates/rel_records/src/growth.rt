@@ -106,11 +106,12 @@ fn grow<D: Sectors>(
     Ok(())
 }
 
-/// Grows the file so that record `number` is there, by empty records; where it is there, or for 0, nothing is read or written.
+/// Grows the file so that record `number` is there, by empty records; where it is there, or for 0, nothing is read or
+/// written.
 ///
-/// All whole records that fit into the file's blocks are made then. `TooLarge` where the record isn't there and would need
-/// more than 720 data blocks, or its number is past 65535; `Full` where the free blocks don't suffice. Both write nothing.
-/// All reads come before the first write.
+/// All whole records that fit into the file's blocks are made then. `TooLarge` where the record isn't there and would
+/// need more than 720 data blocks, or its number is past 65535; `Full` where the free blocks don't suffice. Both write
+/// nothing. All reads come before the first write.
 pub fn grow_to<D: Sectors>(disk: &mut D, file: &mut RelFile, number: u32) -> Result<(), RelFault>
     requires clean { IsClean (D.history.image disk.old) }
     requires of { IsOf (D.history.image disk.old) file.old }

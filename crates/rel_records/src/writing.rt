@@ -17,8 +17,8 @@ use crate::rel_file::RelFile;
 use d64_image::{Place, Sectors};
 use disk_layout::DATA;
 
-/// Writes the text over the data bytes from `start` to below `end` of the block at `place`, and zeros where it is shorter.
-/// The answer is the block that it links to, where it does.
+/// Writes the text over the data bytes from `start` to below `end` of the block at `place`, and zeros where it is
+/// shorter. The answer is the block that it links to, where it does.
 // In line: a record that lies in one block has no use for the link, and then nobody asks where it leads.
 #[inline(always)]
 fn write_block<D: Sectors>(
@@ -41,8 +41,8 @@ fn write_block<D: Sectors>(
     Ok(Place::new(block[0], block[1]))
 }
 
-/// Writes the text into a record that is there, where its bytes from the position on lie in the block at `place`, the one
-/// with this number, from 0.
+/// Writes the text into a record that is there, where its bytes from the position on lie in the block at `place`, the
+/// one with this number, from 0.
 fn write_in_block<D: Sectors>(
     disk: &mut D,
     file: &RelFile,
@@ -63,8 +63,8 @@ fn write_in_block<D: Sectors>(
     Ok(())
 }
 
-/// Writes the text into a record that is there, where it goes on behind the block at `place`, the one with this number, from
-/// 0, in which the position lies: first the part in that block, then the rest.
+/// Writes the text into a record that is there, where it goes on behind the block at `place`, the one with this number,
+/// from 0, in which the position lies: first the part in that block, then the rest.
 // Out of line, since few records lie in two blocks.
 #[inline(never)]
 fn write_across<D: Sectors>(
@@ -91,7 +91,8 @@ fn write_across<D: Sectors>(
     Ok(())
 }
 
-/// Writes the text into a record that is there, from the position on, as far as it fits; the rest of the record is zeros.
+/// Writes the text into a record that is there, from the position on, as far as it fits; the rest of the record is
+/// zeros.
 fn write_there<D: Sectors>(
     disk: &mut D,
     file: &RelFile,
@@ -114,7 +115,8 @@ fn write_there<D: Sectors>(
     write_across(disk, file, number, position, text, block, place)
 }
 
-/// What is told of a text that was written from the position on into a record of this size: `Overflow` where it was cut.
+/// What is told of a text that was written from the position on into a record of this size: `Overflow` where it was
+/// cut.
 fn told_of_text(text: &[u8], position: u8, size: u8) -> Result<(), RelFault>
     ensures ok { OnOk result (length text.now + position ≤ size + 1) }
     ensures err { IfErr result (λ fault. (fault ≡ Overflow) × (size + 1 < length text.now + position)) }
@@ -128,8 +130,8 @@ fn told_of_text(text: &[u8], position: u8, size: u8) -> Result<(), RelFault>
 /// Writes the text into a record, from the position on, counted from 1: the record's bytes before it stay, and those
 /// behind the text become zeros. No other record changes. Where the file has no such record, it grows first.
 ///
-/// `Overflow` is told where the text is longer than what is left of the record: it is written as far as it fits. `TooLarge`
-/// and `Full` are those of `grow_to`; then nothing is written.
+/// `Overflow` is told where the text is longer than what is left of the record: it is written as far as it fits.
+/// `TooLarge` and `Full` are those of `grow_to`; then nothing is written.
 pub fn write_record<D: Sectors>(
     disk: &mut D,
     file: &mut RelFile,

@@ -91,8 +91,8 @@ fn a_full_directory_is_listed(rt: HostRuntime) {
     is_printed(&rt, &out, listing.as_slice());
 }
 
-/// What is shown of a fresh shop for so many tills. Two tills have a block. STOCK may take the 663 sectors outside track 18
-/// that are left but for the side sector of REQUESTS, six of them as side sectors; a record has 18 bytes.
+/// What is shown of a fresh shop for so many tills. Two tills have a block. STOCK may take the 663 sectors outside
+/// track 18 that are left but for the side sector of REQUESTS, six of them as side sectors; a record has 18 bytes.
 fn fresh_shop(rt: &impl AllocGlobal, tills: u8) -> Vec<u8> {
     let blocks = 663 - 6 - (u32::from(tills.min(64)) + 1) / 2;
     let top = blocks * 254 / 18;

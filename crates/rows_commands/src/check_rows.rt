@@ -1,5 +1,5 @@
 //! What `check` prints of a fresh disk, and of the same disk with one change.
-use crate::comparing::{same, same_at};
+use crate::comparing::same;
 use crate::files::Full;
 use crate::images::{Bytes, S17_0, S17_1, S18_0, S18_1, changed, formatted, patch};
 use ledger_commands::{RunFault, check_image};

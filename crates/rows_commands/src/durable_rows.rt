@@ -66,8 +66,8 @@ fn is_shop(shown: &[u8], shops: &[&[u8]]) -> bool {
     shops.iter().any(|shop| *shop == shown)
 }
 
-/// Sees that power that goes in this call leaves the shop after the lines that were told, or with the next one. Whether it went
-/// before the script's end.
+/// Sees that power that goes in this call leaves the shop after the lines that were told, or with the next one. Whether
+/// it went before the script's end.
 fn is_durable(rt: &(impl AllocGlobal + Abort), image: &[u8], call: usize, done: bool) -> bool {
     let machine = Machine::new(rt.alloc(), image, call, done);
     let (_, told) = played(rt, &machine, SCRIPT, Durability::EachSector);

@@ -1,4 +1,5 @@
-//! When a shop is served, each line is taken, and each reply handed on, while the disk has the shop after the line before.
+//! When a shop is served, each line is taken, and each reply handed on, while the disk
+//! has the shop after the line before.
 use crate::comparing::{holds, same, same_at};
 use crate::images::formatted;
 use crate::machine::{Lines, Machine, OnMachine, Replies, Seen};
@@ -25,7 +26,8 @@ const SHOPS: [&[u8]; 6] = [
     b"TOP 9256\nCARD 42,100\nTILL 1,2,I,42,20,DONE,100\nPRIOR 1,1,S,42,120,DONE,120\n",
     b"TOP 9256\nCARD 42,100\nTILL 1,2,I,42,20,DONE,100\nPRIOR 1,1,S,42,120,DONE,120\n",
     b"TOP 9256\nCARD 7,5\nCARD 42,100\nTILL 1,2,I,42,20,DONE,100\nPRIOR 1,1,S,42,120,DONE,120\nTILL 2,1,S,7,5,DONE,5\n",
-    b"TOP 9256\nCARD 7,35\nCARD 42,70\nTILL 1,2,I,42,20,DONE,100\nPRIOR 1,1,S,42,120,DONE,120\nTILL 2,2,M,42,30,7,DONE,70,35\nPRIOR 2,1,S,7,5,DONE,5\n",
+    b"TOP 9256\nCARD 7,35\nCARD 42,70\nTILL 1,2,I,42,20,DONE,100\nPRIOR 1,1,S,42,120,DONE,120\n\
+    TILL 2,2,M,42,30,7,DONE,70,35\nPRIOR 2,1,S,7,5,DONE,5\n",
 ];
 
 /// Serves the lines over the machine's file: how that ends.
@@ -44,7 +46,8 @@ fn served(
     }
 }
 
-/// Sees that the disk had each of these shops when a reply was handed on, and the same when the next line was asked for.
+/// Sees that the disk had each of these shops when a reply was handed on, and the same
+/// when the next line was asked for.
 fn each_was_there(
     rt: &(impl AllocGlobal + Abort),
     handed: &[Vec<u8>],

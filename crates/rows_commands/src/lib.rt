@@ -1,6 +1,6 @@
-//! Worked rows of the commands: scripts played, also without a disk, images made, listed, judged and shown, and files and
-//! outputs that fail. Tests only: no program stands on this crate. They stand here and not in the crate that they test so
-//! that the gate proves that one once.
+//! Worked rows of the commands: scripts played, also without a disk, images made, listed, judged and shown, and files
+//! and outputs that fail. Tests only: no program stands on this crate. They stand here and not in the crate that they
+//! test so that the gate proves that one once.
 #![tactic(auto)]
 
 #[cfg(test)]

@@ -124,7 +124,8 @@ static LISTINGS: [Listing; 13] = [
             (S18_0 + 4 * 256 + 30, b"\x00\x01"),
             (S18_0 + 4 * 256 + 34, b"\x83\x00\x00J\xA0"),
         ],
-        b"0 \"STOCK LEDGER\" 01 2A\n2 \"STOCK\" REL\n2 \"REQUESTS\" REL\n0 \"C\" SEQ\n0 \"D\" SEQ\n0 \"E\" SEQ\n0 \"F\" SEQ\n0 \"G\" SEQ\n0 \"H\" SEQ\n256 \"I\" PRG\n0 \"J\" USR\n660 BLOCKS FREE\n",
+        b"0 \"STOCK LEDGER\" 01 2A\n2 \"STOCK\" REL\n2 \"REQUESTS\" REL\n0 \"C\" SEQ\n0 \"D\" SEQ\n0 \"E\" SEQ\n\
+        0 \"F\" SEQ\n0 \"G\" SEQ\n0 \"H\" SEQ\n256 \"I\" PRG\n0 \"J\" USR\n660 BLOCKS FREE\n",
     ),
 ];
 

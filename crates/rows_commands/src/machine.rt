@@ -4,8 +4,8 @@ use std::alloc::Global;
 use std::cell::{Cell, RefCell};
 use std::io::{self, BufRead, ErrorKind, Read, Write};
 
-/// A machine with one file, of which it keeps apart what was written and what was brought to the disk. Power goes in one of
-/// the file's calls.
+/// A machine with one file, of which it keeps apart what was written and what was brought to the disk. Power
+/// goes in one of the file's calls.
 #[derive(Drop)]
 pub(crate) struct Machine {
     held: RefCell<Vec<u8>>,

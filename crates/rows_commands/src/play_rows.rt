@@ -39,8 +39,10 @@ static DAYS: [(&[u8], &[u8], &[u8]); 16] = [
         b"TOP 9256\nCARD 7,0\nTILL 1,2,S,7,0,DONE,0\nPRIOR 1,1,R,7,5,NO CARD\n",
     ),
     (
-        b"1,1,S,42,120\n1,2,R,42,5\n1,3,I,42,5\n1,4,I,42,20\n1,3,I,42,5\n1,9,S,42,0\n1,4,I,42,21\n1,4,I,42,20\n1,1,S,42,120\n1,3,I,42,6\n",
-        b"1,1,DONE,120\n1,2,DONE,125\n1,3,DONE,120\n1,4,DONE,100\n1,3,DONE,120\n1,9,AHEAD\n1,4,CLASH\n1,4,DONE,100\n1,1,STALE\n1,3,CLASH\n",
+        b"1,1,S,42,120\n1,2,R,42,5\n1,3,I,42,5\n1,4,I,42,20\n1,3,I,42,5\n1,9,S,42,0\n1,4,I,42,21\n1,4,I,42,20\n\
+        1,1,S,42,120\n1,3,I,42,6\n",
+        b"1,1,DONE,120\n1,2,DONE,125\n1,3,DONE,120\n1,4,DONE,100\n1,3,DONE,120\n1,9,AHEAD\n1,4,CLASH\n1,4,DONE,100\n\
+        1,1,STALE\n1,3,CLASH\n",
         b"TOP 9256\nCARD 42,100\nTILL 1,4,I,42,20,DONE,100\nPRIOR 1,3,I,42,5,DONE,120\n",
     ),
     (
@@ -50,7 +52,8 @@ static DAYS: [(&[u8], &[u8], &[u8]); 16] = [
     ),
     (
         b"\n01,1,S,1,0\n65,1,S,1,0\n1,0,S,1,0\n1,1,s,1,0\n3,1,S,1,0\n",
-        b"30,SYNTAX ERROR,00,00\n30,SYNTAX ERROR,00,00\n30,SYNTAX ERROR,00,00\n30,SYNTAX ERROR,00,00\n30,SYNTAX ERROR,00,00\n3,1,NO TILL\n",
+        b"30,SYNTAX ERROR,00,00\n30,SYNTAX ERROR,00,00\n30,SYNTAX ERROR,00,00\n30,SYNTAX ERROR,00,00\n\
+        30,SYNTAX ERROR,00,00\n3,1,NO TILL\n",
         b"TOP 9256\n",
     ),
     (
@@ -60,9 +63,12 @@ static DAYS: [(&[u8], &[u8], &[u8]); 16] = [
     ),
     // Goods moved between two items, and what is refused of such moves.
     (
-        b"1,1,S,1,10\n1,2,S,15,3\n1,3,M,1,4,15\n1,4,M,1,7,15\n1,5,M,1,1,2\n1,6,M,1,1,1\n1,6,M,1,1\n1,6,S,1,1,2\n1,6,S,15,999999999\n1,7,M,1,1,15\n1,8,M,1,0,15\n",
-        b"1,1,DONE,10\n1,2,DONE,3\n1,3,DONE,6,7\n1,4,SHORT,6\n1,5,NO CARD\n30,SYNTAX ERROR,00,00\n30,SYNTAX ERROR,00,00\n30,SYNTAX ERROR,00,00\n1,6,DONE,999999999\n1,7,OVER,999999999\n1,8,DONE,6,999999999\n",
-        b"TOP 9256\nCARD 1,6\nCARD 15,999999999\nTILL 1,8,M,1,0,15,DONE,6,999999999\nPRIOR 1,7,M,1,1,15,OVER,999999999\n",
+        b"1,1,S,1,10\n1,2,S,15,3\n1,3,M,1,4,15\n1,4,M,1,7,15\n1,5,M,1,1,2\n1,6,M,1,1,1\n1,6,M,1,1\n1,6,S,1,1,2\n\
+        1,6,S,15,999999999\n1,7,M,1,1,15\n1,8,M,1,0,15\n",
+        b"1,1,DONE,10\n1,2,DONE,3\n1,3,DONE,6,7\n1,4,SHORT,6\n1,5,NO CARD\n30,SYNTAX ERROR,00,00\n\
+        30,SYNTAX ERROR,00,00\n30,SYNTAX ERROR,00,00\n1,6,DONE,999999999\n1,7,OVER,999999999\n1,8,DONE,6,999999999\n",
+        b"TOP 9256\nCARD 1,6\nCARD 15,999999999\nTILL 1,8,M,1,0,15,DONE,6,999999999\n\
+        PRIOR 1,7,M,1,1,15,OVER,999999999\n",
     ),
     // Power goes in a message, and in the recoveries after it.
     (

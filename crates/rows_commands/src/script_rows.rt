@@ -49,13 +49,17 @@ static SCRIPTS: [(&str, &[u8], &[u8]); 15] = [
     ),
     (
         "a move, too few, no card to go to, to itself, to none, a set to another, a sum past the most, nothing moved",
-        b"1,1,S,1,10\n1,2,S,15,3\n1,3,M,1,4,15\n1,4,M,1,7,15\n1,5,M,1,1,2\n1,6,M,1,1,1\n1,6,M,1,1\n1,6,S,1,1,2\n1,6,S,15,999999999\n1,7,M,1,1,15\n1,8,M,1,0,15\n",
-        b"1,1,DONE,10\n1,2,DONE,3\n1,3,DONE,6,7\n1,4,SHORT,6\n1,5,NO CARD\n30,SYNTAX ERROR,00,00\n30,SYNTAX ERROR,00,00\n30,SYNTAX ERROR,00,00\n1,6,DONE,999999999\n1,7,OVER,999999999\n1,8,DONE,6,999999999\n",
+        b"1,1,S,1,10\n1,2,S,15,3\n1,3,M,1,4,15\n1,4,M,1,7,15\n1,5,M,1,1,2\n1,6,M,1,1,1\n1,6,M,1,1\n1,6,S,1,1,2\n\
+        1,6,S,15,999999999\n1,7,M,1,1,15\n1,8,M,1,0,15\n",
+        b"1,1,DONE,10\n1,2,DONE,3\n1,3,DONE,6,7\n1,4,SHORT,6\n1,5,NO CARD\n30,SYNTAX ERROR,00,00\n\
+        30,SYNTAX ERROR,00,00\n30,SYNTAX ERROR,00,00\n1,6,DONE,999999999\n1,7,OVER,999999999\n1,8,DONE,6,999999999\n",
     ),
     (
         "a move again, late, and to another item; zeros and ranges of the item to go to",
-        b"1,1,S,1,10\n1,2,S,15,3\n1,3,M,1,4,15\n1,3,M,1,4,15\n1,3,M,1,4,16\n1,4,I,1,1\n1,3,M,1,4,15\n1,3,M,1,4,16\n1,5,M,1,1,015\n1,5,M,1,1,0\n1,5,M,1,1,65536\n1,5,M,15,1,1\n1,6,M,7,0,15\n",
-        b"1,1,DONE,10\n1,2,DONE,3\n1,3,DONE,6,7\n1,3,DONE,6,7\n1,3,CLASH\n1,4,DONE,5\n1,3,DONE,6,7\n1,3,CLASH\n30,SYNTAX ERROR,00,00\n30,SYNTAX ERROR,00,00\n30,SYNTAX ERROR,00,00\n1,5,DONE,6,6\n1,6,NO CARD\n",
+        b"1,1,S,1,10\n1,2,S,15,3\n1,3,M,1,4,15\n1,3,M,1,4,15\n1,3,M,1,4,16\n1,4,I,1,1\n1,3,M,1,4,15\n1,3,M,1,4,16\n\
+        1,5,M,1,1,015\n1,5,M,1,1,0\n1,5,M,1,1,65536\n1,5,M,15,1,1\n1,6,M,7,0,15\n",
+        b"1,1,DONE,10\n1,2,DONE,3\n1,3,DONE,6,7\n1,3,DONE,6,7\n1,3,CLASH\n1,4,DONE,5\n1,3,DONE,6,7\n1,3,CLASH\n\
+        30,SYNTAX ERROR,00,00\n30,SYNTAX ERROR,00,00\n30,SYNTAX ERROR,00,00\n1,5,DONE,6,6\n1,6,NO CARD\n",
     ),
     (
         "an empty line, a leading zero, till 65, number 0",
@@ -65,7 +69,8 @@ static SCRIPTS: [(&str, &[u8], &[u8]); 15] = [
     (
         "a small letter, items and a quantity out of range, a comma more",
         b"1,1,s,1,0\n1,1,S,0,5\n1,1,S,65536,0\n1,1,S,1,1000000000\n1,1,S,1,0,\n",
-        b"30,SYNTAX ERROR,00,00\n30,SYNTAX ERROR,00,00\n30,SYNTAX ERROR,00,00\n30,SYNTAX ERROR,00,00\n30,SYNTAX ERROR,00,00\n",
+        b"30,SYNTAX ERROR,00,00\n30,SYNTAX ERROR,00,00\n30,SYNTAX ERROR,00,00\n30,SYNTAX ERROR,00,00\n\
+        30,SYNTAX ERROR,00,00\n",
     ),
     (
         "a CR that no LF follows, a second CR, a NUL and a byte past 127",

@@ -46,7 +46,8 @@ static SERVICES: [Service; 7] = [
         b"1,1,DONE,120\n",
         SET,
     ),
-    // CR LF, its LF by itself; a repeat; an empty line; one that begins with @, which is no reset; and a last one without LF.
+    // CR LF, its LF by itself; a repeat; an empty line; one that begins with @, which is no
+    // reset; and a last one without LF.
     (
         &[
             Bytes(b"1,1,S,42,120\r"),

@@ -7,7 +7,8 @@ use ledger_commands::{RunFault, show_image};
 use std::io::Write;
 use std::process::Abort;
 
-/// How many bytes the file takes, a script, and the replies: the file fails in the message, or in the recovery after a cut.
+/// How many bytes the file takes, a script, and the replies: the file fails in the
+/// message, or in the recovery after a cut.
 static STOPPED: [(usize, &[u8], &[u8]); 3] = [
     (256, b"1,1,S,1,0\n1,1,S,1,0\n", b"1,1,MEDIA\n"),
     (

@@ -69,7 +69,8 @@ fn first_is_lost(
     [till.hear(&second), till.hear(&lost)]
 }
 
-/// Its second request, before and after which the first message comes once more: what the till hears, and the last reply.
+/// Its second request, before and after which the first message comes once more: what
+/// the till hears, and the last reply.
 fn first_comes_again(
     rt: &(impl AllocGlobal + Abort),
     lines: &mut Lines,

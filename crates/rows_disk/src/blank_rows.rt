@@ -81,8 +81,8 @@ fn the_image_for_two_tills(rt: HostRuntime) {
     }
 }
 
-/// How many tills; how many sectors are written, blocks free, and blocks of REQUESTS with its side sector; tracks 17 and 19 in
-/// the map; the link of 17/2, and byte 1 of 17/3.
+/// How many tills; how many sectors are written, blocks free, and blocks of REQUESTS with its side sector; tracks 17
+/// and 19 in the map; the link of 17/2, and byte 1 of 17/3.
 type Tills = (u8, (u64, u16, u16), [u8; 4], [u8; 4], [u8; 3]);
 
 const TILLS: [Tills; 4] = [

@@ -16,7 +16,8 @@ fn walk<D: Sectors>(disk: &mut D, first: Place) -> (Result<u8, Fault>, usize) {
 /// A link of 17/0, the answer of a walk from there, and how many sectors it visits.
 type Walked = ((u8, u8), Result<u8, Fault>, usize);
 
-/// Sees that 17/0 is walked so with each link; 17/1 links back to it, and 17/2, a block of another file, ends with index 9.
+/// Sees that 17/0 is walked so with each link; 17/1 links back to it, and 17/2, a block of
+/// another file, ends with index 9.
 fn each_is_walked(rt: &(impl Abort + AllocGlobal), rows: &[Walked]) {
     let mut disk = zeroed(rt);
     link(&mut disk, at(17, 1), 17, 0);

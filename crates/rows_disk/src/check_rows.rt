@@ -146,7 +146,8 @@ fn is_checked(rt: &impl Abort, disk: &mut MemDisk, fault: Fault) {
     same(rt, check(disk).err(), Some(fault));
 }
 
-// STOCK has a side sector that isn't exact, and another count; then REQUESTS isn't closed, so that the disk isn't sound.
+// STOCK has a side sector that isn't exact, and another count; then REQUESTS isn't
+// closed, so that the disk isn't sound.
 #[test]
 fn kept_back_until_the_disk_is_sound(rt: HostRuntime) {
     let mut disk = fresh(&rt);

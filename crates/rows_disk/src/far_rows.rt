@@ -1,5 +1,5 @@
-//! Places past record 65535, which no command names: they are reached by going on. In 259 blocks there are 65,786 records of
-//! one byte.
+//! Places past record 65535, which no command names: they are reached by going on. In 259 blocks
+//! there are 65,786 records of one byte.
 use crate::disks::fresh;
 use crate::drives::{Call, counted, rows};
 use std::process::Abort;

@@ -112,8 +112,8 @@ fn four_calls<D: Sectors>(disk: &mut D, one: Place, other: Place) -> [bool; 4] {
     ]
 }
 
-/// The call that fails, whether it is done, the sector of 17 where it fails, whether each call is Ok, and what the two sectors
-/// hold then.
+/// The call that fails, whether it is done, the sector of 17 where it fails, whether each call is Ok,
+/// and what the two sectors hold then.
 type Failing = (u32, bool, Option<u8>, [bool; 4], (u8, u8));
 
 const FAILING: [Failing; 7] = [

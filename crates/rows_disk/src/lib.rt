@@ -1,6 +1,6 @@
-//! Worked rows of the disk's layers: devices, what lies on a disk and where, checks and repairs; and of the drive. Tests
-//! only: no program stands on this crate. They stand here and not in the crates that they test so that the gate proves
-//! those once.
+//! Worked rows of the disk's layers: devices, what lies on a disk and where, checks and repairs; and of the drive.
+//! Tests only: no program stands on this crate. They stand here and not in the crates that they test so that the gate
+//! proves those once.
 #![tactic(auto)]
 
 #[cfg(test)]

@@ -40,7 +40,8 @@ fn wrong_sectors_are_written_once(rt: HostRuntime) {
     is_fresh(&rt, &disk.into_inner());
 }
 
-// Bits past a track's last sector aren't judged: in a map that is right they stay, in one that is written they become 0.
+// Bits past a track's last sector aren't judged: in a map that is right they stay, in
+// one that is written they become 0.
 #[test]
 fn bits_past_the_last_sector(rt: HostRuntime) {
     let mut spare = fresh(&rt);

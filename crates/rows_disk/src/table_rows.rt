@@ -1,4 +1,5 @@
-//! Each row of the drive's table by itself: what stands before the call, the call, its status, and the sectors it writes.
+//! Each row of the drive's table by itself: what stands before the call, the call, its
+//! status, and the sectors it writes.
 use crate::disks::fresh;
 use crate::drives::{Call, broken_chain, counted, full, program, rows, session, wrong_count};
 use d64_image::{MemDisk, Meter};

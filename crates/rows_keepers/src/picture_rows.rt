@@ -1,5 +1,5 @@
-//! Maps and pictures of the blank disk for two tills with bytes changed, compared by length and Adler-32 with those that
-//! a plain program printed of the same disks; and what is refused.
+//! Maps and pictures of the blank disk for two tills with bytes changed, compared by length and Adler-32 with those
+//! that a plain program printed of the same disks; and what is refused.
 use crate::comparing::same_at;
 use crate::disks::{Change, changed};
 use disk_layout::Fault;
@@ -7,9 +7,9 @@ use disk_pictures::{PictureFault, map_image, picture_image};
 use std::io::Write;
 use std::process::Abort;
 
-/// Changes; what is told; the length of the map and its Adler-32, and the same of the picture: the blank disk; a program
-/// file whose block links to itself; a name with all that HTML escapes beside a free bit of a block; an open entry; a
-/// name of the disk that would be a script, beside a sector that is taken and of no file.
+/// Changes; what is told; the length of the map and its Adler-32, and the same of the picture: the blank disk; a
+/// program file whose block links to itself; a name with all that HTML escapes beside a free bit of a block; an open
+/// entry; a name of the disk that would be a script, beside a sector that is taken and of no file.
 const DRAWN: [(&[Change], &str, (usize, u32), (usize, u32)); 5] = [
     (&[], "", (953, 1142270344), (66960, 1649146560)),
     (

@@ -6,11 +6,12 @@ use crate::scenes::{
 use crate::told_rows::{over, tells};
 use std::process::Abort;
 
-/// Words, changes of an empty shop, the records or the script, the number of the sync that fails (0: none), and what is told.
+/// Words, changes of an empty shop, the records or the script, the number of the sync that fails (0: none), and what is
+/// told.
 type Hurt = (Words, &'static [Bytes], &'static [u8], usize, &'static [u8]);
 
-/// REQUESTS has two records of 127 bytes in a block: 1,400 want 700 blocks, of 720 that a file can have, and fewer than 664 are
-/// free.
+/// REQUESTS has two records of 127 bytes in a block: 1,400 want 700 blocks, of 720 that a file can have, and fewer than
+/// 664 are free.
 const HURT: [Hurt; 6] = [
     (
         SHOW,

@@ -85,8 +85,8 @@ fn what_is_no_shop_is_told(rt: HostRuntime) {
     each_is_no_shop(&rt, shop.as_slice(), &NO_SHOPS);
 }
 
-/// Messages as they come, and the replies: a repeat, a line that begins with `@`, an empty one, one that is too long; what
-/// lacks its end of line isn't handled.
+/// Messages as they come, and the replies: a repeat, a line that begins with `@`, an empty one, one that is too long;
+/// what lacks its end of line isn't handled.
 const SERVED: &[u8] =
     b"1,1,S,42,120\n1,1,S,42,120\r\n@1 x\n\n1,2,I,42,1                              \n1,2,I,42,1";
 

@@ -1,12 +1,13 @@
-//! The words of the command line: the jobs that they ask for, and the number and status of the fault where they ask for none.
+//! The words of the command line: the jobs that they ask for, and the number and status of the fault where they ask for
+//! none.
 use crate::comparing::same_at;
 use ledger_commands::Durability;
 use ledger_program::{Drawing, Job, Reading, Taking};
 use ledger_words::job;
 use std::process::Abort;
 
-/// A job: its subcommand, its image, its script or records, and its tills, the length of its records or how many bytes its
-/// name has, where it has them.
+/// A job: its subcommand, its image, its script or records, and its tills, the length of its records or how many bytes
+/// its name has, where it has them.
 pub(crate) type Row<'a> = (&'a str, &'a str, &'a str, u8);
 
 /// A job that only reads.

@@ -8,8 +8,8 @@ use crate::scenes::{
 use crate::stored::Kind;
 use std::process::Abort;
 
-/// Changes of the image of an empty shop, the number of the sync that fails (0: none), how a repair ends, how many syncs there
-/// were, and whether the image is as it was before the changes.
+/// Changes of the image of an empty shop, the number of the sync that fails (0: none), how a repair ends, how many
+/// syncs there were, and whether the image is as it was before the changes.
 const REPAIRED: [(&[Bytes], usize, End<'static>, usize, bool); 6] = [
     (&[], 0, (0, b"OK\n", b""), 1, true),
     (&[WRONG_MAP], 0, (0, b"MENDED 18/0\nOK\n", b""), 2, true),

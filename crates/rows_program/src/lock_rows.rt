@@ -85,8 +85,8 @@ fn images_in_use_are_told(rt: HostRuntime) {
     each_is_locked(&rt, &LOCKED, shop.as_slice());
 }
 
-/// Words, the messages that are played or served, the number of the sync that fails (0: none), how it ends, and how many syncs there were; None
-/// where there was one behind each write and one before the first.
+/// Words, the messages that are played or served, the number of the sync that fails (0: none), how it ends, and how
+/// many syncs there were; None where there was one behind each write and one before the first.
 type Synced = (Words, &'static [u8], usize, End<'static>, Option<usize>);
 
 const UNSYNCED: Words = &[b"ledger_cli", b"serve", b"a.d64", b"--unsynced"];
@@ -185,8 +185,8 @@ fn a_play_is_brought_to_the_disk(rt: HostRuntime) {
     each_is_synced(&rt, shop.as_slice(), &SYNCED);
 }
 
-/// Sees that an image is brought to the disk with its folder before that it is made is said, and that one that can't be isn't
-/// called made.
+/// Sees that an image is brought to the disk with its folder before that it is made is said, and that one that can't be
+/// isn't called made.
 #[test]
 fn a_made_image_is_on_the_disk(rt: HostRuntime) {
     let memory = Memory::new(rt.alloc(), FORMAT, b"");

@@ -34,7 +34,8 @@ fn none_is_a_name(rt: &(impl AllocGlobal + Abort), texts: &[&str]) {
     }
 }
 
-// Capital digits, a plain byte in digits, a quotation mark, a digit too few, a shifted space at the end, seventeen bytes.
+// Capital digits, a plain byte in digits, a quotation mark, a digit too few, a shifted space at the end, seventeen
+// bytes.
 #[test]
 fn names_are_texts(rt: HostRuntime) {
     none_is_a_name(

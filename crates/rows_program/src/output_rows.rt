@@ -13,8 +13,8 @@ use ledger_program::{Drawing, Job, Reading, do_job, end};
 use std::io::{self, Write};
 use std::process::Abort;
 
-/// Words, how many bytes the output takes, and what it has then. The messages are records' lines too: of two of record 1 the last
-/// counts.
+/// Words, how many bytes the output takes, and what it has then. The messages are records' lines too: of two of record
+/// 1 the last counts.
 const FULL: [(Words, usize, &[u8]); 16] = [
     (SERVE, 12, b"1,1,DONE,5\n1"),
     (REPAIR, 2, b"OK"),
@@ -130,7 +130,8 @@ fn outputs_that_hand_nothing_on_are_told(rt: HostRuntime) {
     hands_on(&rt, &PICTURE_JOB, 66960, shop.as_slice());
 }
 
-/// A script, how many bytes the image's file takes before it fails, and the status, what is printed and what is told then.
+/// A script, how many bytes the image's file takes before it fails, and the status, what is printed and what is told
+/// then.
 const BROKEN: [(&[u8], usize, (u8, &[u8], &[u8])); 4] = [
     // the third sector of growth
     (

@@ -20,7 +20,8 @@ struct Wrong {
     status: u8,
 }
 
-/// Of an image of another size, and of records of which the first line is none: each row has a fault less than the one before.
+/// Of an image of another size, and of records of which the first line is none: each row has a fault less than the one
+/// before.
 const OF_STORE: [Wrong; 5] = [
     Wrong {
         words: STORE,

@@ -181,7 +181,8 @@ fn full_disk(rt: &(impl AllocGlobal + Abort)) -> Vec<u8> {
     bytes_at(rt, &memory.image)
 }
 
-/// Words and records that a full disk is asked for, and how that is refused: a new file, one that is there, a block more.
+/// Words and records that a full disk is asked for, and how that is refused: a new file, one that is there, a block
+/// more.
 const CROWDED: [(Words, &[u8], End<'static>); 3] = [
     (OTHER, b"", (1, b"", b"DISK FULL\n")),
     (MAKE, b"", (1, b"", b"FILE EXISTS\n")),

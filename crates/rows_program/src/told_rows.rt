@@ -90,7 +90,8 @@ fn people_are_told_more(rt: HostRuntime) {
     each_is_told(&rt, &TOLD);
 }
 
-/// Words, the bytes of the script or of the records, what others do with the image, and what is told of an empty shop then.
+/// Words, the bytes of the script or of the records, what others do with the image, and what is told of an empty shop
+/// then.
 const OF_A_SHOP: [(Words, &[u8], Others, &[u8]); 5] = [
     (
         PLAY,

@@ -30,8 +30,8 @@ fn make(rt: &impl Abort, disk: MemDisk, name: &[u8], size: u8) -> (MemDisk, Made
     (disk.into_inner(), (answer, writes))
 }
 
-/// Creates a relative file on the disk of this image, where power fails after so many writes. Tells whether it came to its
-/// end, and what is on the disk then.
+/// Creates a relative file on the disk of this image, where power fails after so many writes. Tells whether it came to
+/// its end, and what is on the disk then.
 fn cut(
     rt: &(impl Abort + AllocGlobal),
     image: &[u8],

@@ -1,5 +1,5 @@
-//! Requests in which power goes after each of their sector writes: the writes of the next opening and of the repeat, and
-//! what the disk holds between them.
+//! Requests in which power goes after each of their sector writes: the writes of the next opening and of the repeat,
+//! and what the disk holds between them.
 use crate::comparing::{holds, same, same_at};
 use crate::days::Line::{Cut, Say};
 use crate::days::is_played;

@@ -179,8 +179,8 @@ fn stepped(
     disk
 }
 
-/// Plays the lines on copies of the disk: as a script, as events, and one by one, on a disk that is opened for each. Each
-/// way they have their replies and writes, and leave the same disk, which is the result.
+/// Plays the lines on copies of the disk: as a script, as events, and one by one, on a disk that is opened for each.
+/// Each way they have their replies and writes, and leave the same disk, which is the result.
 pub(crate) fn is_played(
     rt: &(impl Abort + AllocGlobal),
     disk: &MemDisk,

@@ -1,5 +1,5 @@
-//! The disks of the rows. Where one can't be made, or isn't what it is to be, the test ends there: on the way out of a `?`
-//! all that a row holds would be let go, and proved.
+//! The disks of the rows. Where one can't be made, or isn't what it is to be, the test ends there: on the way out of a
+//! `?` all that a row holds would be let go, and proved.
 ghost use Rattle.std.specs.Prelude.{◌≡◌, ◌≤◌};
 ghost use Rattle.d64_image.specs.Memory.{disk_image, sectors_in};
 ghost use Rattle.disk_layout.specs.Clean.{IsClean};
@@ -23,8 +23,8 @@ pub(crate) fn blank(rt: &(impl Abort + AllocGlobal), tills: u8) -> MemDisk
     disk
 }
 
-/// The blank disk for two tills: STOCK in 17/0 (18 bytes a record, 14 of them) with the side sector 17/1, REQUESTS in 17/2
-/// with the side sector 17/3; so 17/4 is the next free sector.
+/// The blank disk for two tills: STOCK in 17/0 (18 bytes a record, 14 of them) with the side sector 17/1, REQUESTS in
+/// 17/2 with the side sector 17/3; so 17/4 is the next free sector.
 pub(crate) fn fresh(rt: &(impl Abort + AllocGlobal)) -> MemDisk {
     blank(rt, 2)
 }

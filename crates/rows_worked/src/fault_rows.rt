@@ -15,8 +15,8 @@ fn opening<D: Sectors>(disk: D) -> (u8, D) {
     }
 }
 
-/// Opens a disk of which one call fails, and sees that the device is told, and that the next opening is whole. False where
-/// no call had this number.
+/// Opens a disk of which one call fails, and sees that the device is told, and that the next opening is whole.
+/// False where no call had this number.
 fn opening_fails(rt: &(impl Abort + AllocGlobal), disk: &MemDisk, at: u32, done: bool) -> bool {
     let (number, faulty) = opening(OneFault::new(loaded(rt, disk.bytes()), at, done));
     if faulty.place().is_none() {
@@ -74,7 +74,8 @@ fn faulty(rt: &(impl Abort + AllocGlobal), at: u32, done: bool) -> OneFault<MemD
     OneFault::new(fresh(rt), at, done)
 }
 
-/// Sends the message so many times to a session of which one call fails, and then hands over the last reply and the disk.
+/// Sends the message so many times to a session of which one call fails, and then hands
+/// over the last reply and the disk.
 fn sent(rt: &(impl Abort + AllocGlobal), at: u32, done: bool, times: u32) -> (Reply, MemDisk) {
     let mut session = open(rt, faulty(rt, at, done));
     let mut reply = Reply::Syntax;
@@ -199,7 +200,8 @@ fn cut_run_fails(rt: &(impl Abort + AllocGlobal), at: u32, done: bool, number: u
     same_at(rt, says(reply, b"1,1,DONE,5"), true, (at, done));
 }
 
-/// Has each call of the script fail: those before the message, then those in it, and behind these those of the recovery.
+/// Has each call of the script fail: those before the message, then those in it, and
+/// behind these those of the recovery.
 fn cut_runs_fail(
     rt: &(impl Abort + AllocGlobal),
     (before, behind, all): (u32, u32, u32),
@@ -216,8 +218,8 @@ fn cut_runs_fail(
     }
 }
 
-// A call of the first opening that fails is told as its fault (1), one of the whole recovery as the device's (4), which isn't
-// tried again. In the message power goes anyway, so that nothing is told.
+// A call of the first opening that fails is told as its fault (1), one of the whole recovery as the device's (4), which
+// isn't tried again. In the message power goes anyway, so that nothing is told.
 #[test]
 fn each_call_of_a_cut_run_fails(rt: HostRuntime) {
     let (all, before, recovery) = calls_of_a_cut(&rt);

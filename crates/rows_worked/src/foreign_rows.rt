@@ -1,5 +1,5 @@
-//! Disks that another program may have made: last indices that fit no record, a file on track 18, records of one byte and of
-//! 254, locked files, names that stand twice, a side sector that names a block too many.
+//! Disks that another program may have made: last indices that fit no record, a file on track 18, records of one byte
+//! and of 254, locked files, names that stand twice, a side sector that names a block too many.
 ghost use Rattle.std.specs.Prelude.{◌≤◌};
 
 use crate::comparing::same_at;
@@ -10,8 +10,8 @@ use layout_check::repair;
 use rel_records::{RelFault, RelFile, create, grow_to, read_record, records, write_record};
 use std::process::Abort;
 
-/// Writes `A` into a record of STOCK. Tells how many records there were, how many sectors were written, how many records
-/// there are, and the last index of the file's one block.
+/// Writes `A` into a record of STOCK. Tells how many records there were, how many sectors were written, how many
+/// records there are, and the last index of the file's one block.
 fn written(rt: &impl Abort, disk: MemDisk, number: u32) -> (u32, u64, u32, u8)
     requires number { 1 ≤ number }
 {
@@ -27,8 +27,9 @@ fn written(rt: &impl Abort, disk: MemDisk, number: u32) -> (u32, u64, u32, u8)
 /// A byte of the blank disk that is another one, a record that is written then, and what is told.
 type Changed = ((u8, u8, u8), u8, u32, (u32, u64, u32, u8));
 
-/// Below 2 the last index says that its block has no used byte. Where it says more than whole records have, the rest counts
-/// for nothing; the block is filled only where a whole record more fits into it. A locked file is written as any other.
+/// Below 2 the last index says that its block has no used byte. Where it says more than whole records have, the rest
+/// counts for nothing; the block is filled only where a whole record more fits into it. A locked file is written as any
+/// other.
 const CHANGED: [Changed; 6] = [
     ((17, 0, 1), 0, 1, (0, 2, 14, 0xFD)),
     ((17, 0, 1), 1, 1, (0, 2, 14, 0xFD)),
@@ -156,8 +157,8 @@ fn found_of_two(rt: &(impl Abort + AllocGlobal), kind: u8) -> RelFile {
     found(rt, &mut disk, b"STOCK")
 }
 
-/// The type of the first entry, the entry that is found, and its record length. A program is passed over, and a free slot
-/// is no entry.
+/// The type of the first entry, the entry that is found, and its record length. A program is passed
+/// over, and a free slot is no entry.
 const TWICE: [(u8, usize, u8); 4] = [(0x84, 0, 18), (0xC4, 0, 18), (0x82, 1, 127), (0, 0, 127)];
 
 /// Sees which entry is found in each row.

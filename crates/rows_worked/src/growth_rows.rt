@@ -9,8 +9,8 @@ use layout_check::{check, repair};
 use rel_records::{RelFault, grow_to, records};
 use std::process::Abort;
 
-/// Lets STOCK of this image grow to this record, where power fails after so many writes. Tells whether it came to its end,
-/// and what is on the disk then.
+/// Lets STOCK of this image grow to this record, where power fails after so many writes. Tells whether it came to its
+/// end, and what is on the disk then.
 fn cut(rt: &(impl Abort + AllocGlobal), image: &[u8], number: u32, writes: u32) -> (bool, MemDisk) {
     let mut disk = loaded(rt, image);
     let mut file = stock(rt, &mut disk);
@@ -58,8 +58,8 @@ const CUTS: [Cut; 7] = [
     (6, 1707, 0),
 ];
 
-/// STOCK with 240 blocks gets 11/4 and 11/5: behind these the older side sectors are written, 17/1 and then 14/4, which a
-/// repair writes again. After the sixth write the file is longer.
+/// STOCK with 240 blocks gets 11/4 and 11/5: behind these the older side sectors are written, 17/1 and then 14/4, which
+/// a repair writes again. After the sixth write the file is longer.
 const CUTS_OF_TWO: [Cut; 8] = [
     (0, 3386, 0),
     (1, 3386, 1),
@@ -142,7 +142,8 @@ const UNJUDGED: [Change; 2] = [
     (18, 0, 7, 1, b"\xFF"),
 ];
 
-/// Sees that they stay where growth by a block is cut after so many writes, or isn't, and so do the bytes behind the entry.
+/// Sees that they stay where growth by a block is cut after so many writes, or isn't, and
+/// so do the bytes behind the entry.
 fn unjudged_stays(rt: &(impl Abort + AllocGlobal), disk: &MemDisk, writes: u32) {
     let (done, left) = cut(rt, disk.bytes(), 15, writes);
     same(rt, done, writes == 5);

@@ -8,7 +8,8 @@ use std::process::Abort;
 /// A day on which power goes once: line 2 is cut behind its first write, and asked again.
 const DAY: &[u8] = b"1,1,S,42,120\n@1 2,1,R,42,5\n2,1,R,42,5\n1,2,I,42,200\n";
 
-/// What the copy of the disk beside a reply holds: it is at rest, and a request sent again has this answer, without a write.
+/// What the copy of the disk beside a reply holds: it is at rest, and a request sent again
+/// has this answer, without a write.
 fn holds(rt: &(impl Abort + AllocGlobal), turn: &Turn, message: &[u8], reply: &[u8], row: u32) {
     let disk = loaded(rt, turn.bytes.as_slice());
     let (told, _, recovery, writes) = asked(rt, &disk, message);

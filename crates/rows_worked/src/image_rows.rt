@@ -59,7 +59,8 @@ const REFUSED: [Refused; 16] = [
     ),
     (b"", &[INTENT, (17, 2, 129, 127, INTENT_2)], b"TWO INTENTS"),
     (b"", &[(17, 0, 38, 18, CARD_4)], b"BAD CARD 3"),
-    // A till's card is judged before two intents, these before the cards of items, and of those not the open intent's own.
+    // A till's card is judged before two intents, these before the cards of items, and of
+    // those not the open intent's own.
     (
         b"",
         &[
@@ -124,8 +125,8 @@ fn malicious_images_are_refused(rt: HostRuntime) {
     none_is_opened(&rt, &REFUSED);
 }
 
-/// An image that is opened: what is changed on a blank disk, the writes of the opening, a message, its reply and writes,
-/// and the last item that has room.
+/// An image that is opened: what is changed on a blank disk, the writes of the opening, a message, its reply and
+/// writes, and the last item that has room.
 type Opened = (
     &'static [Change],
     u64,

@@ -1,5 +1,5 @@
-//! Worked rows that need several crates at once: disks that are grown, written and cut, and then judged and mended. Tests
-//! only: no program stands on this crate.
+//! Worked rows that need several crates at once: disks that are grown, written and cut, and then judged and mended.
+//! Tests only: no program stands on this crate.
 #![tactic(auto)]
 
 #[cfg(test)]

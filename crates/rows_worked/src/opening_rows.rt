@@ -1,5 +1,5 @@
-//! Openings of disks with cards of version 1 and with open intents: the writes of each, also where power goes in it, and
-//! what is told afterwards.
+//! Openings of disks with cards of version 1 and with open intents: the writes of each, also where power goes in
+//! it, and what is told afterwards.
 use crate::comparing::same_at;
 use crate::days::Line::{self, Say};
 use crate::days::is_played;
@@ -113,7 +113,8 @@ const OPENINGS: [Opening; 7] = [
             2,
             2,
             127,
-            b"2I,000000003,M,00001,000000004,0,000000006,00015,000000007\rA,000000002,S,00015,000000003,0,000000003,00000,000000000\r",
+            b"2I,000000003,M,00001,000000004,0,000000006,00015,000000007\r\
+            A,000000002,S,00015,000000003,0,000000003,00000,000000000\r",
         )],
         openings: &[(2, 2), (WHOLE, 4), (WHOLE, 0)],
         lines: &[

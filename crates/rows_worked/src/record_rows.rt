@@ -37,7 +37,8 @@ fn read(rt: &impl Abort, disk: &mut MemDisk, number: u32, record: &mut ArrayVec<
     records(&file)
 }
 
-/// Writes a text into a record of STOCK from this position on, and sees what is told, and the record as it is read back.
+/// Writes a text into a record of STOCK from this position on, and sees what is told,
+/// and the record as it is read back.
 fn is_written(
     rt: &impl Abort,
     disk: MemDisk,

@@ -148,8 +148,8 @@ pub(crate) fn unmirrored(rt: &impl Abort, mirror: Mirror<KeptDisk<MemDisk>>) -> 
     disk
 }
 
-/// Opens a disk twice through a mirror, the second time to handle a message: the reply, the last item that has room, and
-/// the writes of both. The file has what memory has, and the disk is clean.
+/// Opens a disk twice through a mirror, the second time to handle a message: the reply, the last item that has room,
+/// and the writes of both. The file has what memory has, and the disk is clean.
 pub(crate) fn asked(
     rt: &(impl Abort + AllocGlobal),
     disk: &MemDisk,

@@ -29,8 +29,8 @@ fn add_track(rt: &impl Abort, blocks: &mut Vec<Place>, track: u8, count: usize) 
     }
 }
 
-/// So many blocks of STOCK, as it grows on the blank disk: 17/0, then from 17/4 on the tracks 17, 19, 16, 20 and so on away
-/// from track 18, but for what it passes.
+/// So many blocks of STOCK, as it grows on the blank disk: 17/0, then from 17/4 on the tracks 17, 19, 16, 20 and so on
+/// away from track 18, but for what it passes.
 fn blocks(rt: &(impl Abort + AllocGlobal), count: usize) -> Vec<Place> {
     let mut blocks = Vec::new(rt.alloc());
     for distance in 1..=17u8 {

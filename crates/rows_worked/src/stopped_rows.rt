@@ -113,8 +113,8 @@ fn are_stopped(rt: &(impl Abort + AllocGlobal), rows: &[(u32, usize, &[Line])]) 
     }
 }
 
-// The device fails in a message or in a whole recovery: the reply is told, and no line behind it is handled. As a script
-// and as events the same is told, and the same is left.
+// The device fails in a message or in a whole recovery: the reply is told, and no line behind it is handled. As a
+// script and as events the same is told, and the same is left.
 #[test]
 fn a_device_that_fails_stops_a_run(rt: HostRuntime) {
     are_stopped(&rt, &STOPPED);
@@ -149,8 +149,8 @@ fn is_judged(rt: &(impl Abort + AllocGlobal), disk: &MemDisk, refused: OpenFault
     same(rt, fault, PlayFault::Open(refused));
 }
 
-// A bad line is told before the disk is judged, and nothing is written. Without one the disk is judged, also where there
-// is no line at all.
+// A bad line is told before the disk is judged, and nothing is written. Without one the disk is judged,
+// also where there is no line at all.
 #[test]
 fn bad_lines_come_first(rt: HostRuntime) {
     let disk = changed(fresh(&rt), &[(17, 0, 0, 2, b"\x11\0")]);

@@ -1,6 +1,6 @@
-//! Does the same work so many times over, so that it can be timed: `tool_benchmarks WORD ROUNDS IMAGE`. Each word prints one
-//! number, from which no round can be left out. Where there is no word, each benchmark is run for a few rounds. One word
-//! times nothing: `tool_benchmarks records IMAGE NAME` prints the records of a relative file.
+//! Does the same work so many times over, so that it can be timed: `tool_benchmarks WORD ROUNDS IMAGE`. Each word
+//! prints one number, from which no round can be left out. Where there is no word, each benchmark is run for a few
+//! rounds. One word times nothing: `tool_benchmarks records IMAGE NAME` prints the records of a relative file.
 #![tactic(auto)]
 
 ghost use Rattle.std.specs.Prelude.{◌≤◌};
@@ -139,7 +139,8 @@ fn time_turns(disk: MemDisk, rounds: u64) -> Done {
     }
 }
 
-/// `drive`: so many times a record of each file of a full disk is written through a drive; gives a checksum of the image.
+/// `drive`: so many times a record of each file of a full disk is written through a drive; gives a checksum of the
+/// image.
 fn time_drive(rt: &HostRuntime, rounds: u64) -> Done {
     let mut disk = zeroed(rt)?;
     match records::grow_stock(&mut disk) {
@@ -160,8 +161,8 @@ fn asked_shop(rt: &HostRuntime, rounds: u64) -> Result<(u64, MemDisk), &'static 
     )
 }
 
-/// `requests`: so many messages of 64 tills are handled, half of them repeats, by a session on a disk that was blank; gives a
-/// checksum of the replies and of the image.
+/// `requests`: so many messages of 64 tills are handled, half of them repeats, by a session on a disk that was blank;
+/// gives a checksum of the replies and of the image.
 fn time_requests(rt: &HostRuntime, rounds: u64) -> Done {
     let (replies, disk) = asked_shop(rt, rounds)?;
     Ok(

@@ -1,4 +1,5 @@
-//! Tills that ask a shop on a disk in turns, and lose the first reply to each request: so every second message is a repeat.
+//! Tills that ask a shop on a disk in turns, and lose the first reply to each request: so every second message is a
+//! repeat.
 ghost use Rattle.std.specs.Prelude.{◌≡◌, IfOk, length};
 ghost use Rattle.host_session.specs.session.Opening.{IsAShop};
 ghost use Rattle.tool_benchmarks.specs.Asked.{StaysOpen};
@@ -64,8 +65,8 @@ fn ask<D: Sectors>(session: &mut Session<D>, till: &mut Till, is_heard: bool) ->
     reply_number(&reply)
 }
 
-/// So many messages of the tills, by turns, each request twice, since the first reply to it is lost. Sums up the numbers of
-/// the replies, each sum 31 times the one before and the number, without what is above 64 bits.
+/// So many messages of the tills, by turns, each request twice, since the first reply to it is lost. Sums up the
+/// numbers of the replies, each sum 31 times the one before and the number, without what is above 64 bits.
 fn ask_by_turns<D: Sectors>(session: &mut Session<D>, tills: &mut [Till], rounds: u64) -> u64
     requires shop { IsAShop (D.history.image session.old.disk) }
     requires tills { length tills.old ≡ 64 }

@@ -1,5 +1,6 @@
 -- A file that was run over durably, where what is on its disk is known, or what it holds whole.
-use Rattle.std.proofs.Common.{◌≡◌, ◌<◌, ◌≤◌, ◌∙◌, Bool, true, false, List, Err, Ok, Option, Some, ap, arith, length, refl}
+use Rattle.std.proofs.Common.{◌≡◌, ◌<◌, ◌≤◌, ◌∙◌, Bool, true, false, List, Err, Ok, Option, Some}
+use Rattle.std.proofs.Common.{ap, arith, length, refl}
 use Rattle.std.proofs.Common.{subst, suc, sym, zero, ⊎_elim, ℕ}
 use Rattle.std.proofs.lemmas.Bool.{false≢true}
 use Rattle.d64_image.specs.Images.{Image}

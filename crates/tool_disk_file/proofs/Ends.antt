@@ -1,5 +1,6 @@
 -- What stayed of a shop on the disk of a file in memory.
-use Rattle.std.proofs.Common.{◌≡◌, ◌∙◌, ◌∷◌, List, [], None, Ok, Option, Some, Err, Result, ap, drop, length, refl, suc, zero}
+use Rattle.std.proofs.Common.{◌≡◌, ◌∙◌, ◌∷◌, List, [], None, Ok, Option, Some, Err, Result}
+use Rattle.std.proofs.Common.{ap, drop, length, refl, suc, zero}
 use Rattle.std.proofs.Common.{⊎_elim, ℕ}
 use Rattle.std.specs.Prelude.{OnOk, Vec}
 use Rattle.std.specs.declared.alloc.Global.{Global}

@@ -29,7 +29,8 @@ use Rattle.ledger_program.specs.Serves.{IsServeRun}
 use Rattle.tool_disk_file.proofs.Begun.{IsSome}
 use Rattle.tool_disk_file.proofs.Durably.{at_ok, each_kept, first_kept, first_synced, left_is, left_synced}
 use Rattle.tool_disk_file.proofs.Durably.{told_failed}
-use Rattle.tool_disk_file.proofs.Served.{AreSynced, chain_synced, image_there, instant_there, now_at, same_instants, same_over}
+use Rattle.tool_disk_file.proofs.Served.{AreSynced, chain_synced, image_there, instant_there}
+use Rattle.tool_disk_file.proofs.Served.{now_at, same_instants, same_over}
 use Rattle.tool_disk_file.proofs.Served.{same_told, with_files}
 use Rattle.tool_disk_file.proofs.Services.{AreServedOver, WereServed, file_told, input_passed, were_served}
 use Rattle.tool_disk_file.specs.Services.{IsFileToldBy}
@@ -84,7 +85,8 @@ module _ {F R T : Type 0} {G : Ghosts F} (bytes : F → List ℕ) (knows : (f : 
 
   -- the device is told of where the file failed
   pub device_failed : ended ≡ Err faults.Device → G.has_failed after ≡ true
-  device_failed e = told_failed durabilities.EachSector image file after ended Ran size known run (λ is. (subst (λ (end : Ended). IfErr end
+  device_failed e = told_failed durabilities.EachSector image file after ended Ran size known run
+      (λ is. (subst (λ (end : Ended). IfErr end
       (IsServeFault placed i a image run.first run.left old_in new_in old new)) is run.run.fault).0) e
 
   -- but for the device it is told as the run alone ended
@@ -130,8 +132,8 @@ module _ {F R T : Type 0} {G : Ghosts F} (bytes : F → List ℕ) (knows : (f : 
     replies_are = same_told bytes knows sized y.turns ∙ y.handled.replies_are
 
     pub in_turn : SettledInTurn s [] (lines served.handled) (map (λ t. (t.0, now_at G.lasting bytes t.1)) turns)
-    in_turn = subst (SettledInTurn s [] (lines served.handled)) (same_over bytes knows sized run.first y.turns all_synced)
-        y.handled.in_turn
+    in_turn = subst (SettledInTurn s [] (lines served.handled))
+        (same_over bytes knows sized run.first y.turns all_synced) y.handled.in_turn
 
     pub told : (answered a).told old new (map (λ t. (t.0, now_at G.lasting bytes t.1)) turns)
     told = subst ((answered a).told old new) (same_over bytes knows sized run.first y.turns all_synced) y.told

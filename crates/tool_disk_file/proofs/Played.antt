@@ -33,9 +33,11 @@ module _ {F T : Type 0} (K : Keeps F) (o : Output T) (image script : List ℕ) (
   same : after ≡ file → KeptOnly K file after (IsSome s ms)
   same e = of_none K (sectors_in image) file after s ms is kept e
 
-  pub of_whole : IsPlayedOver K o image script file after old new (λ left. Ok left) → KeptOnly K file after (IsSome s ms)
+  pub of_whole : IsPlayedOver K o image script file after old new (λ left. Ok left)
+      → KeptOnly K file after (IsSome s ms)
   of_whole x = of_run K (sectors_in image) file after s ms is kept x.disk x.left x.is_file x.is_after x.holds
-      (moments_ok (in_run K file) o script x.disk x.left old new s (subst (λ img. IsShop img s) (sym x.holds) is) x.ends)
+      (moments_ok (in_run K file) o script x.disk x.left old new s (subst (λ img. IsShop img s) (sym x.holds) is)
+      x.ends)
 
   of_part : (fault : RunFault) → IsPlayedOver K o image script file after old new (λ left. Err (fault, left))
       → KeptOnly K file after (IsSome s ms)

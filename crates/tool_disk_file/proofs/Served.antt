@@ -31,7 +31,8 @@ module _ {F : Type 0} {G : Ghosts F} (bytes : F → List ℕ) (knows : (f : F) �
   AreSynced turns = AllByRecursion (λ x. is_synced x.1.file) turns
 
   module _ (start : Placed F G) where
-    pub image_there : (d : FileDisk (placed {G = G})) → is_synced d.file → d.image ≡ sectors_in (bytes (placed_file d.file))
+    pub image_there : (d : FileDisk (placed {G = G})) → is_synced d.file
+        → d.image ≡ sectors_in (bytes (placed_file d.file))
     image_there d synced =
         let kept : placed.kept d.file ≡ Some (sectors_in (bytes (placed_file d.file))) =
         ap (λ b. image_of ((seen G.lasting G.whole.lasting b d.file.sized).bytes (placed_file d.file))) synced
@@ -42,7 +43,8 @@ module _ {F : Type 0} {G : Ghosts F} (bytes : F → List ℕ) (knows : (f : F) �
     pub instant_there : (d : FileDisk (placed {G = G})) → is_synced d.file
         → instant_of (in_run placed start) d ≡ now_at G.lasting bytes (placed_file d.file)
     instant_there d synced = ap₂ (λ m c. record { moment = m; image = c })
-        (ap (λ b. (seen G.lasting G.whole.lasting b d.file.sized).moment (placed_file d.file)) synced) (image_there d synced)
+        (ap (λ b. (seen G.lasting G.whole.lasting b d.file.sized).moment (placed_file d.file)) synced)
+        (image_there d synced)
 
     pub chain_synced : (s : Shop) (ms : List Message) (xs : List (Reply × FileDisk (placed {G = G})))
         (old : FileDisk (placed {G = G})) (t : Shop) (new : FileDisk (placed {G = G}))

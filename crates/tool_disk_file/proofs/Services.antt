@@ -82,7 +82,8 @@ module _ {F R T : Type 0} (K : Keeps F) (i : Input R) (a : Answering T) (image :
     rest = [];
     whole = inl refl;
     lacks = tt;
-    read = subst (λ now. Consumes (i.remaining old_in) (i.remaining now) []) (sym x.1) (Consumes-nil (i.remaining old_in));
+    read = subst (λ now. Consumes (i.remaining old_in) (i.remaining now) []) (sym x.1)
+        (Consumes-nil (i.remaining old_in));
     kept = λ s is kept. of_none K (sectors_in image) file after s (line_messages []) is kept x.0.0;
     done = tt;
     well = λ sound. inr (ap (λ f. Err f) (why sound));
@@ -151,8 +152,8 @@ module _ {F R T : Type 0} (K : Keeps F) (i : Input R) (a : Answering T) (image :
         whole = x.ends.whole;
         lacks = x.ends.lacks;
         read = x.ends.read;
-        kept = λ s is kept. of_run K (sectors_in image) file after s (line_messages x.ends.handled) is kept x.disk x.left
-            x.is_file x.is_after x.holds (x.ends.moments s (shop s is));
+        kept = λ s is kept. of_run K (sectors_in image) file after s (line_messages x.ends.handled) is kept x.disk
+            x.left x.is_file x.is_after x.holds (x.ends.moments s (shop s is));
         done = record {
           disk = x.disk;
           left = x.left;

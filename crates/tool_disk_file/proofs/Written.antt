@@ -1,5 +1,6 @@
 -- Bytes that were written whole, in part or not at all.
-use Rattle.std.proofs.Common.{◌≡◌, ◌∙◌, ◌+◌, ◌++◌, ◌⊎◌, ℕ, List, [], Option, Some, Result, Ok, Err, ap, arith, drop, inl, inr}
+use Rattle.std.proofs.Common.{◌≡◌, ◌∙◌, ◌+◌, ◌++◌, ◌⊎◌, ℕ, List, [], Option, Some, Result, Ok, Err}
+use Rattle.std.proofs.Common.{ap, arith, drop, inl, inr}
 use Rattle.std.proofs.Common.{length, subst, sym, take, ⊎_elim}
 use Rattle.std.proofs.Math.Seq.{take-length}
 use Rattle.std.proofs.lemmas.List.{append-nil, take-append-drop}

@@ -69,7 +69,8 @@ impl Disk {
         self.past.len()
     }
 
-    /// Puts these bytes in the place of all that is there, which it keeps. An error where memory was refused: it is as it was.
+    /// Puts these bytes in the place of all that is there, which it keeps. An error where memory was refused: it is as
+    /// it was.
     pub(crate) fn bring(&mut self, bytes: &[u8]) -> Result<(), AllocError>
         requires size { length bytes.now ≡ 174848 }
         ensures ok { OnOk result (disk_bytes self.new ≡ bytes.now) }
@@ -85,8 +86,8 @@ impl Disk {
         Ok(())
     }
 
-    /// Puts these bytes in the place of those from there on. Whether there are so many: else it is as it was, as at an error,
-    /// where memory was refused.
+    /// Puts these bytes in the place of those from there on. Whether there are so many: else it is as it was, as at an
+    /// error, where memory was refused.
     pub(crate) fn put(&mut self, at: u64, bytes: &[u8]) -> Result<bool, AllocError>
         ensures done { IfOk result (λ fits. fits ≡ true
             → disk_bytes self.new ≡ overwritten (disk_bytes self.old) at bytes.now) }

@@ -85,8 +85,8 @@ impl DiskFile {
     ghost use Rattle.ledger_commands.specs.Lasting.{IsSectorIn, overwritten_in};
     ghost use Rattle.tool_disk_file.specs.Files.{file_disk, file_held, file_lasting, has_failed, is_whole};
 
-    /// A file of this image, all of which is on its disk. No call of it fails before the last that can be counted. An error
-    /// where memory for it was refused.
+    /// A file of this image, all of which is on its disk. No call of it fails before the last that can be counted. An
+    /// error where memory for it was refused.
     pub fn new(alloc: Global, image: &[u8], bringing: Bringing) -> Result<DiskFile, AllocError>
         requires size { length image.now ≡ 174848 }
         ensures held { IfOk result (λ file. file_held file ≡ image.now) }
@@ -106,8 +106,8 @@ impl DiskFile {
         })
     }
 
-    /// The same file, of which only so many calls pass. A write that fails has written so many bytes at most; a call that is to
-    /// bring it to the disk and fails does so, or not.
+    /// The same file, of which only so many calls pass. A write that fails has written so many bytes at most; a call
+    /// that is to bring it to the disk and fails does so, or not.
     pub fn failing(self, calls: u64, part: usize, done: bool) -> DiskFile
         ensures held { file_held result ≡ file_held self }
         ensures disk { file_disk result ≡ file_disk self }

@@ -10,8 +10,8 @@ use request_cards::Reply;
 use serving::{Answers, GivesLines};
 use std::alloc::Global;
 
-/// Lines in memory, of which only so many are given. It notes what the disk held when each was asked for; where it gives none
-/// more, or there is no memory for a copy, it has failed.
+/// Lines in memory, of which only so many are given. It notes what the disk held when each was asked for; where it
+/// gives none more, or there is no memory for a copy, it has failed.
 #[derive(Drop)]
 pub struct NotedLines<'a> {
     left: &'a [u8],
@@ -65,8 +65,8 @@ impl<'a> GivesLines<MemDisk> for NotedLines<'a> {
     }
 }
 
-/// An output that keeps what it was told: each reply, with a copy of what the disk held then. It takes so many; one more, or
-/// one for which there is no memory, and it has failed.
+/// An output that keeps what it was told: each reply, with a copy of what the disk held then. It takes so many; one
+/// more, or one for which there is no memory, and it has failed.
 #[derive(Drop)]
 pub struct NotedReplies {
     turns: Vec<Turn>,
@@ -99,7 +99,8 @@ impl NotedReplies {
     /// Keeps a reply with these bytes of the disk. False where it has as many as it takes, or there is no memory.
     fn note(&mut self, reply: &Reply, bytes: &[u8]) -> bool
         ensures same { self.new.failed ≡ self.old.failed }
-        ensures kept { IsNoted result (replies_noted self.old) (replies_noted self.new) reply.now (sectors_in bytes.now) }
+        ensures kept { IsNoted result (replies_noted self.old) (replies_noted self.new) reply.now
+            (sectors_in bytes.now) }
     {
         if self.turns.len() >= self.most {
             return false;

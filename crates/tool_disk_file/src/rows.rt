@@ -59,8 +59,8 @@ fn shop_of(rt: &(impl AllocGlobal + Abort), image: &[u8]) -> Option<usize> {
     SHOPS.iter().position(|shop| *shop == shown.as_slice())
 }
 
-/// Plays the script in a file that is synced at the end alone, of which so many calls pass: the shop that it holds then, the one
-/// on its disk, and whether that ended well.
+/// Plays the script in a file that is synced at the end alone, of which so many calls pass: the shop that it holds
+/// then, the one on its disk, and whether that ended well.
 fn shops_in_file(
     rt: &(impl AllocGlobal + Abort),
     calls: u64,

@@ -1,5 +1,5 @@
-//! Scripts that are played on the shop of a file in memory, and shops that are served over one: so that each sector is on its
-//! disk before anything else is done, or all at the end.
+//! Scripts that are played on the shop of a file in memory, and shops that are served over one: so that each sector is
+//! on its disk before anything else is done, or all at the end.
 ghost use Rattle.std.specs.Prelude.{◌≡◌, Err, OnOk, true};
 ghost use Rattle.host_session.specs.events.Events.{messages_of};
 ghost use Rattle.script_lines.specs.Lines.{lines};
@@ -20,8 +20,8 @@ use ledger_program::{play_durably, serve_durably};
 use serving::{Answers, GivesLines};
 use std::alloc::Global;
 
-/// Plays a script on the shop of the image that the file holds: the file then, and how that ended. Wherever power is lost in it,
-/// the disk has the shop after a beginning of the lines.
+/// Plays a script on the shop of the image that the file holds: the file then, and how that ended. Wherever power is
+/// lost in it, the disk has the shop after a beginning of the lines.
 pub fn play_on_disk<T: Tells<Mirror<Placed<DiskFile>>>>(
     alloc: Global,
     image: &[u8],
@@ -42,8 +42,8 @@ pub fn play_on_disk<T: Tells<Mirror<Placed<DiskFile>>>>(
     play_durably(alloc, image, script, file, Durability::EachSector, out)
 }
 
-/// Plays a script on the shop of the image that the file holds, and brings it to the disk at the end: the file then, and how
-/// that ended. Wherever the program dies in it, the file has the shop after a beginning of the lines.
+/// Plays a script on the shop of the image that the file holds, and brings it to the disk at the end: the file then,
+/// and how that ended. Wherever the program dies in it, the file has the shop after a beginning of the lines.
 pub fn play_in_file<T: Tells<Mirror<Placed<WholeFile>>>>(
     alloc: Global,
     image: &[u8],
@@ -63,8 +63,8 @@ pub fn play_in_file<T: Tells<Mirror<Placed<WholeFile>>>>(
     play_durably(alloc, image, script, file, Durability::AtEnd, out)
 }
 
-/// Serves the shop of the image that the file holds, line by line: the file then, and how that ended. Wherever power is lost in
-/// it, the disk has the shop after a beginning of the lines; and while a reply is told, the one after its line.
+/// Serves the shop of the image that the file holds, line by line: the file then, and how that ended. Wherever power is
+/// lost in it, the disk has the shop after a beginning of the lines; and while a reply is told, the one after its line.
 pub fn serve_on_disk<R, T>(
     alloc: Global,
     image: &[u8],

@@ -6,8 +6,8 @@ use crate::disk_file::DiskFile;
 use ledger_commands::WritesAt;
 use std::io;
 
-/// A file whose writes, where they fail, leave what it held: what it holds at any moment is known, and with it what is left
-/// where its program dies.
+/// A file whose writes, where they fail, leave what it held: what it holds at any moment is known, and with it what is
+/// left where its program dies.
 #[derive(Drop)]
 pub struct WholeFile {
     file: DiskFile,

@@ -133,8 +133,8 @@ fn send_again<D: Sectors>(
     Ok(())
 }
 
-/// A disk that was opened is clean, is opened again without a write, and answers what is sent again; where the message was
-/// counted, without a write too.
+/// A disk that was opened is clean, is opened again without a write, and answers what is sent again; where the message
+/// was counted, without a write too.
 fn resume(
     alloc: Global,
     disk: &mut MemDisk,

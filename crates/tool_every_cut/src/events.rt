@@ -8,8 +8,8 @@ use host_session::{Cut, Event, PlayFault, Session, play};
 use request_cards::Reply;
 use std::alloc::Global;
 
-/// Where power goes in the message with this number, counted from 0: after at most ten of its writes, and in at most two
-/// openings.
+/// Where power goes in the message with this number, counted from 0: after at most ten of its writes, and in at most
+/// two openings.
 fn cut(number: usize) -> Cut {
     let mut recoveries = ArrayVec::new();
     for recovery in 0..number % 3 {
@@ -40,7 +40,8 @@ fn events<'a>(alloc: Global, messages: &'a [String]) -> Found<Vec<Event<'a>>> {
     Ok(events)
 }
 
-/// Plays the events on a copy of the disk. Where memory for the replies is wanted, nothing is told and nothing is written.
+/// Plays the events on a copy of the disk. Where memory for the replies is wanted, nothing is told and nothing is
+/// written.
 fn run(
     alloc: Global,
     disk: &MemDisk,
@@ -71,8 +72,8 @@ fn are_right(messages: &[String], replies: &[Reply], ledger: &mut Ledger) -> boo
     told.next().is_none()
 }
 
-/// Plays a day as events on a disk that holds this ledger: each message has its reply, and the disk holds the ledger at the
-/// end.
+/// Plays a day as events on a disk that holds this ledger: each message has its reply, and the disk holds the ledger at
+/// the end.
 pub(crate) fn play_events(
     alloc: Global,
     disk: &MemDisk,

@@ -5,8 +5,8 @@ use crate::change::Change;
 use d64_image::{DeviceFault, Place, Sectors};
 use std::alloc::Global;
 
-/// A disk that keeps what each write replaced, so that each image that it held can be read again. Where memory for that is
-/// refused, it fails that call and each later one, but for a `read_at` whose bytes it has recorded.
+/// A disk that keeps what each write replaced, so that each image that it held can be read again. Where memory for that
+/// is refused, it fails that call and each later one, but for a `read_at` whose bytes it has recorded.
 #[derive(Drop)]
 pub struct Recorder<D> {
     disk: D,
@@ -97,7 +97,8 @@ impl<D: Sectors> Recorder<D> {
         ensures failures { self.new.failed ≡ self.old.failed }
         ensures failed { OnErr result (fails_at D.history self.new place) }
         ensures recorded { OnOk result (moments_of self.new ≡ moments_of self.old + 1) }
-        ensures keeps { (t : ℕ) → t ≤ moments_of self.old → image_at D.history self.new t ≡ image_at D.history self.old t }
+        ensures keeps { (t : ℕ) → t ≤ moments_of self.old
+            → image_at D.history self.new t ≡ image_at D.history self.old t }
     {
         if self.full {
             return Err(DeviceFault);
@@ -141,7 +142,8 @@ impl<D: Sectors> Sectors for Recorder<D> {
         ensures device { WritesSector (recorded D.history) self.old self.new place from.now device_fault result }
         // our own: the write is recorded, and what was held before stays known
         ensures recorded { OnOk result (moments_of self.new ≡ moments_of self.old + 1) }
-        ensures keeps { (t : ℕ) → t ≤ moments_of self.old → image_at D.history self.new t ≡ image_at D.history self.old t }
+        ensures keeps { (t : ℕ) → t ≤ moments_of self.old
+            → image_at D.history self.new t ≡ image_at D.history self.old t }
     {
         match self.change(place, from) {
             Ok(()) => Ok(()),

@@ -1,13 +1,18 @@
 -- What opening reads and judges before it writes, record by record. All of it is our own.
 use Rattle.std.specs.Prelude.{◌≡◌, ◌≤◌, ◌<◌, ◌⊎◌, ℕ, true, ◌++◌, List, [], ◌∷◌, Option, None, Some, Contains, IsSome}
-use Rattle.std.specs.Prelude.{length, replicate}
+use Rattle.std.specs.Prelude.{IfErr, IfOk, Result, length, replicate}
+use Rattle.d64_image.specs.History.{History, OnlyReads}
+use Rattle.rel_records.specs.declared.reading.in_order.LastBlock.{LastBlock}
+use Rattle.rel_records.specs.declared.rel_file.RelFile.{RelFile}
+use Rattle.rel_records.specs.reading.Kept.{IsKept}
 use Rattle.request_cards.specs.CardReading.{request_card_of}
 use Rattle.request_cards.specs.CardTexts.{Card}
 use Rattle.request_cards.specs.Trade.{Cards}
+use Rattle.host_session.specs.declared.faults.OpenFault.{OpenFault}
 use Rattle.host_session.specs.declared.shop.intents.Intent.{Intent}
 use Rattle.host_session.specs.declared.shop.intents.NewQuantities.{NewQuantities}
 use Rattle.host_session.specs.declared.shop.judgment.Judged.{Judged}
-use Rattle.host_session.specs.session.Opening.{HasNoBadTill, LacksRecord, open_intents}
+use Rattle.host_session.specs.session.Opening.{HasNoBadTill, LacksRecord, TellsJudging, open_intents}
 use Rattle.host_session.specs.session.Standing.{nth}
 use Rattle.host_session.specs.shop.Files.{Files, record_at}
 use Rattle.host_session.specs.shop.Shop.{AreLedgerRecords, IsIntended, IsRequestRecord, IsStockRecord, card_at}
@@ -28,6 +33,19 @@ no_cards item = None
 -- an item past so many records has a new quantity
 abbrev pub PassesRecords : NewQuantities → ℕ → Type 0
 PassesRecords x count = (item : ℕ) × Contains (items (listed x)) item × (count < item)
+
+-- What a call gives that reads one record of a file and judges it, of each f of which P holds: at Ok `told` holds of
+-- the answer, at an error `refused` of the fault. A block of the file is kept; three sectors were read at most, and
+-- nothing was written; the device's fault is told only where it failed, and any other answer only where no failure was
+-- counted.
+pub record JudgesRecord {D T : Type 0} (S : History D) (old new : D) (file : RelFile) (last : LastBlock)
+    (result : Result T OpenFault) (P : Files → Type 0) (told : Files → T → Type 0)
+    (refused : Files → OpenFault → Type 0) : Type 0 where
+  pub ok : (f : Files) → P f → IfOk result (told f)
+  pub err : (f : Files) → P f → IfErr result (refused f)
+  pub kept : IsKept (S.image old) file last
+  pub reads : OnlyReads S old new 3
+  pub failures : TellsJudging S old new result
 
 -- the till's record is empty or this card, and is no intent for an item without a record; None: there is no such record
 abbrev pub IsJudgedTill : Files → ℕ → Option (Option Card) → Type 0

@@ -1,8 +1,6 @@
 //! A shop's disk brought to rest: mended, without an open intent and without a card of version 1.
-ghost use Rattle.std.specs.Prelude.{◌≡◌, IfErr, IfNone, IfOk, false};
-ghost use Rattle.d64_image.specs.History.{Changes};
-ghost use Rattle.host_session.specs.declared.faults.OpenFault.TheVariants.{Device};
-ghost use Rattle.host_session.specs.session.Opening.{TellsOpening, Untouched, disk_of};
+ghost use Rattle.std.specs.Prelude.{◌≡◌, IfNone, IfOk, false};
+ghost use Rattle.host_session.specs.session.Mends.{Mends};
 ghost use Rattle.host_session.specs.session.Settling.{HasNewTable, HasTable};
 ghost use Rattle.host_session.specs.session.Standing.{IsStanding, state_in};
 ghost use Rattle.host_session.specs.shop.Files.{Files, HasFiles};
@@ -48,17 +46,10 @@ pub(crate) fn settle<D: Sectors>(
     found: &mut Judged,
 ) -> Result<ShopDrive<D>, (OpenFault, D)>
     requires judged { (f : Files) × HasFiles (D.history.image disk) f × IsJudged f found.old }
-    ensures ready { IfOk result (λ x. IsReady D.history x) }
+    ensures mends { Mends D.history disk result (IsShop (D.history.image disk)) 952 (λ i. (s : Shop) × IsSettled i s)
+        (λ s i. IsSettled i s) }
     ensures standing { IfOk result (λ x. IsStanding (D.history.image x.disk) false found.new.top found.new.tills
         (state_in found.new.cards found.new.requests)) }
-    ensures ok { (s : Shop) → IsShop (D.history.image disk) s
-        → IfOk result (λ x. IsSettled (D.history.image x.disk) s) }
-    ensures err { IfErr result (λ e. e.0 ≡ Device) }
-    ensures moments { (s : Shop) → IsShop (D.history.image disk) s
-        → Changes D.history disk (disk_of (λ x. x.disk) result) 952 (λ c. IsShop c s) }
-    ensures quiet { (s : Shop) → IsSettled (D.history.image disk) s
-        → Untouched D.history disk (disk_of (λ x. x.disk) result) }
-    ensures failures { TellsOpening (λ x. x.disk) D.history disk result }
 {
     let mut drive = start(disk)?;
     match bring_to_rest(&mut drive, &found.intent, &mut found.requests) {

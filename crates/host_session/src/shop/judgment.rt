@@ -6,7 +6,7 @@ ghost use Rattle.host_session.specs.session.Opening.{IsBadCard, IsBadTill, Refus
 ghost use Rattle.host_session.specs.shop.Files.{Files, HasFiles};
 ghost use Rattle.host_session.specs.shop.Found.{AreFilesOf};
 ghost use Rattle.host_session.specs.shop.Judged.{AreCards, AreTills, HasJudgedTills, IsIntentOf, IsJudged};
-ghost use Rattle.host_session.specs.shop.Judged.{IsJudgedItem, IsJudgedTill, IsNothing};
+ghost use Rattle.host_session.specs.shop.Judged.{IsJudgedItem, IsJudgedTill, IsNothing, JudgesRecord};
 ghost use Rattle.rel_records.specs.reading.Kept.{IsKept};
 
 use crate::faults::OpenFault;
@@ -62,12 +62,9 @@ fn judge_till<D: Sectors>(
     requires kept { IsKept (D.history.image disk.old) files.now.requests last.old }
     requires low { 1 ≤ till }
     requires high { till ≤ 64 }
-    ensures ok { (f : Files) → AreFilesOf (D.history.image disk.old) f files.now → IfOk result (IsJudgedTill f till) }
-    ensures err { (f : Files) → AreFilesOf (D.history.image disk.old) f files.now
-        → IfErr result (λ fault. (fault ≡ Device) ⊎ ((fault ≡ BadRequestCard till) × IsBadTill f till)) }
-    ensures kept { IsKept (D.history.image disk.old) files.now.requests last.new }
-    ensures reads { OnlyReads D.history disk.old disk.new 3 }
-    ensures failures { TellsJudging D.history disk.old disk.new result }
+    ensures { JudgesRecord D.history disk.old disk.new files.now.requests last.new result
+        (λ f. AreFilesOf (D.history.image disk.old) f files.now) (λ f. IsJudgedTill f till)
+        (λ f fault. (fault ≡ Device) ⊎ ((fault ≡ BadRequestCard till) × IsBadTill f till)) }
 {
     let Some(held) = read_till(disk, files, last, text, till)? else {
         return Ok(None);
@@ -121,13 +118,9 @@ fn judge_item<D: Sectors>(
     requires of { (f : Files) × AreFilesOf (D.history.image disk.old) f files.now }
     requires kept { IsKept (D.history.image disk.old) files.now.stock last.old }
     requires low { 1 ≤ item }
-    ensures ok { (f : Files) → AreFilesOf (D.history.image disk.old) f files.now → HasJudgedTills f new.now
-        → IfOk result (IsJudgedItem f item) }
-    ensures err { (f : Files) → AreFilesOf (D.history.image disk.old) f files.now → HasJudgedTills f new.now
-        → IfErr result (λ fault. (fault ≡ Device) ⊎ ((fault ≡ BadCard item) × IsBadCard f item)) }
-    ensures kept { IsKept (D.history.image disk.old) files.now.stock last.new }
-    ensures reads { OnlyReads D.history disk.old disk.new 3 }
-    ensures failures { TellsJudging D.history disk.old disk.new result }
+    ensures { JudgesRecord D.history disk.old disk.new files.now.stock last.new result
+        (λ f. AreFilesOf (D.history.image disk.old) f files.now × HasJudgedTills f new.now) (λ f. IsJudgedItem f item)
+        (λ f fault. (fault ≡ Device) ⊎ ((fault ≡ BadCard item) × IsBadCard f item)) }
 {
     let Some(held) = read_item(disk, files, last, text, item)? else {
         return Ok(None);

@@ -1,10 +1,10 @@
 //! The records of the two files, read and judged one by one.
-ghost use Rattle.std.specs.Prelude.{◌≡◌, ◌≤◌, ◌⊎◌, ◌↔◌, ℕ, IfErr, IfOk, IsTrue, List, Option, length};
-ghost use Rattle.d64_image.specs.History.{OnlyReads, TellsFailure};
+ghost use Rattle.std.specs.Prelude.{◌≡◌, ◌≤◌, ◌↔◌, ℕ, IsTrue, List, Option, length};
 ghost use Rattle.disk_layout.specs.Records.{empty_record};
 ghost use Rattle.host_session.specs.declared.faults.OpenFault.TheVariants.{Device};
 ghost use Rattle.host_session.specs.shop.Files.{Files};
 ghost use Rattle.host_session.specs.shop.Found.{AreFilesOf, Tells, TellsRecord};
+ghost use Rattle.host_session.specs.shop.Judged.{JudgesRecord};
 ghost use Rattle.rel_records.specs.reading.Kept.{IsKept};
 ghost use Rattle.request_cards.specs.CardReading.{request_card_of, stock_card_of};
 
@@ -61,12 +61,9 @@ pub(crate) fn read_till<D: Sectors>(
     requires of { (f : Files) × AreFilesOf (D.history.image disk.old) f files.now }
     requires kept { IsKept (D.history.image disk.old) files.now.requests last.old }
     requires low { 1 ≤ till }
-    ensures ok { (f : Files) → AreFilesOf (D.history.image disk.old) f files.now
-        → IfOk result (TellsRecord request_card_of 127 f.requests till) }
-    ensures kept { IsKept (D.history.image disk.old) files.now.requests last.new }
-    ensures err { IfErr result (λ fault. fault ≡ Device) }
-    ensures reads { OnlyReads D.history disk.old disk.new 3 }
-    ensures failures { TellsFailure D.history disk.old disk.new result }
+    ensures { JudgesRecord D.history disk.old disk.new files.now.requests last.new result
+        (λ f. AreFilesOf (D.history.image disk.old) f files.now)
+        (λ f. TellsRecord request_card_of 127 f.requests till) (λ f fault. fault ≡ Device) }
 {
     match read_next(disk, &files.requests, last, u32::from(till), text) {
         Ok(()) => {
@@ -90,12 +87,9 @@ pub(crate) fn read_item<D: Sectors>(
     requires of { (f : Files) × AreFilesOf (D.history.image disk.old) f files.now }
     requires kept { IsKept (D.history.image disk.old) files.now.stock last.old }
     requires low { 1 ≤ item }
-    ensures ok { (f : Files) → AreFilesOf (D.history.image disk.old) f files.now
-        → IfOk result (TellsRecord stock_card_of 18 f.stock item) }
-    ensures kept { IsKept (D.history.image disk.old) files.now.stock last.new }
-    ensures err { IfErr result (λ fault. fault ≡ Device) }
-    ensures reads { OnlyReads D.history disk.old disk.new 3 }
-    ensures failures { TellsFailure D.history disk.old disk.new result }
+    ensures { JudgesRecord D.history disk.old disk.new files.now.stock last.new result
+        (λ f. AreFilesOf (D.history.image disk.old) f files.now)
+        (λ f. TellsRecord stock_card_of 18 f.stock item) (λ f fault. fault ≡ Device) }
 {
     match read_next(disk, &files.stock, last, u32::from(item), text) {
         Ok(()) => {

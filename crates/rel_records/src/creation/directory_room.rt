@@ -1,5 +1,17 @@
 //! The directory's room for a new entry.
-ghost use Rattle.std.specs.Prelude.{◌≡◌, ◌≤◌, ◌↔◌, Contains, IfOk, IsTrue, MatchOption, Some, length, slice_get, slice_range};
+ghost use Rattle.std.specs.Prelude.{
+  ◌≡◌,
+  ◌≤◌,
+  ◌↔◌,
+  Contains,
+  IfOk,
+  IsTrue,
+  MatchOption,
+  Some,
+  length,
+  slice_get,
+  slice_range,
+};
 ghost use Rattle.d64_image.specs.History.{OnlyReads, TellsFailure};
 ghost use Rattle.d64_image.specs.Images.{sector};
 ghost use Rattle.d64_image.specs.declared.place.Place.{Place};

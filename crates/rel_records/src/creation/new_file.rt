@@ -6,7 +6,15 @@ ghost use Rattle.disk_layout.specs.Layout.{Layout};
 ghost use Rattle.rel_records.specs.Calls.{MakesFile, WritesAtMost};
 ghost use Rattle.rel_records.specs.File.{IsLength};
 ghost use Rattle.rel_records.specs.creation.Made.{creation_writes};
-ghost use Rattle.rel_records.specs.creation.NewFile.{AreApart, ChangesOnly, HasNewSectors, IsBeside, IsEntered, IsLinkedTo, IsNewDirectory};
+ghost use Rattle.rel_records.specs.creation.NewFile.{
+  AreApart,
+  ChangesOnly,
+  HasNewSectors,
+  IsBeside,
+  IsEntered,
+  IsLinkedTo,
+  IsNewDirectory,
+};
 ghost use Rattle.rel_records.specs.creation.Site.{IsSectorEntry, IsSectorSite, IsSite, IsSlotEntry, IsSlotSite};
 ghost use Rattle.rel_records.specs.creation.Site.{sector_of};
 
@@ -105,8 +113,8 @@ fn write_in_slot<D: Sectors>(
     disk.write(site.place, bytes)
 }
 
-/// Writes a new file's sectors and a new directory sector with its entry, and then the directory's last sector, which got
-/// the link to that: this last write makes the file.
+/// Writes a new file's sectors and a new directory sector with its entry, and then the directory's last sector, which
+/// got the link to that: this last write makes the file.
 fn write_behind<D: Sectors>(
     disk: &mut D,
     site: &Site,
@@ -137,7 +145,8 @@ pub(crate) fn write_file<D: Sectors>(
     requires size { IsLength size }
     requires site { (l : Layout) × IsSite (D.history.image disk.old) l site.now }
     ensures file { (l : Layout) → IsSite (D.history.image disk.old) l site.now
-        → MakesFile D.history disk.old disk.new l name.now size site.now (sector_of site.now) (creation_writes l) result }
+        → MakesFile D.history disk.old disk.new l name.now size site.now (sector_of site.now) (creation_writes l)
+        result }
     ensures failures { TellsFailure D.history disk.old disk.new result }
 {
     let entry = relative_entry(name, site.block, site.side, size, 2);

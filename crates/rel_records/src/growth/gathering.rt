@@ -40,7 +40,8 @@ fn read_places<D: Sectors>(
     requires no_sides { sides.old.items ≡ [] }
     requires no_blocks { blocks.old.items ≡ [] }
     ensures sides { OfItsFile (D.history.image disk.old) file.now (λ l n f. OnOk result (sides.new.items ≡ f.sides)) }
-    ensures blocks { OfItsFile (D.history.image disk.old) file.now (λ l n f. OnOk result (blocks.new.items ≡ f.blocks)) }
+    ensures blocks { OfItsFile (D.history.image disk.old) file.now
+        (λ l n f. OnOk result (blocks.new.items ≡ f.blocks)) }
     ensures reads { OnlyReads D.history disk.old disk.new 6 }
     ensures failures { TellsFailure D.history disk.old disk.new result }
 {
@@ -54,8 +55,8 @@ fn read_places<D: Sectors>(
     Ok(())
 }
 
-/// Reads what growth keeps in memory of a file beside the map: its side sectors, its data blocks, the bytes of the last of
-/// them, and those of its directory sector.
+/// Reads what growth keeps in memory of a file beside the map: its side sectors, its data blocks, the bytes of the last
+/// of them, and those of its directory sector.
 pub(crate) fn read_parts<D: Sectors>(
     disk: &mut D,
     file: &RelFile,
@@ -64,7 +65,8 @@ pub(crate) fn read_parts<D: Sectors>(
     requires clean { IsClean (D.history.image disk.old) }
     requires of { IsOf (D.history.image disk.old) file.now }
     requires map { map.bytes ≡ sector (D.history.image disk.old) map_place }
-    ensures ok { OfItsFile (D.history.image disk.old) file.now (λ l n f. IfOk result (IsAt (D.history.image disk.old) l n f)) }
+    ensures ok { OfItsFile (D.history.image disk.old) file.now
+        (λ l n f. IfOk result (IsAt (D.history.image disk.old) l n f)) }
     ensures reads { OnlyReads D.history disk.old disk.new 8 }
     ensures failures { TellsFailure D.history disk.old disk.new result }
 {

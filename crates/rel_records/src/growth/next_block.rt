@@ -85,9 +85,9 @@ fn link_block(bytes: &mut [u8; 256], fresh: Place, blocks: u16, length: u8)
     bytes[1] = fresh.sector();
 }
 
-/// Makes the file's next block in memory: takes its sectors, and makes its bytes, those of the old last block, which then
-/// links to it, and those of the directory sector with the new block count. Puts the block's bytes into `block`, and tells its
-/// place.
+/// Makes the file's next block in memory: takes its sectors, and makes its bytes, those of the old last block, which
+/// then links to it, and those of the directory sector with the new block count. Puts the block's bytes into `block`,
+/// and tells its place.
 pub(crate) fn lay_out(parts: &mut Parts, block: &mut [u8; 256]) -> Place
     requires room { taken_next (length parts.old.blocks.items) ≤ blocks_free parts.old.map.bytes }
     requires map { (owned : List Place) × IsMapOf parts.old.map.bytes owned }

@@ -10,7 +10,17 @@ ghost use Rattle.disk_layout.specs.Side.{side_sector};
 ghost use Rattle.disk_layout.specs.View.{blocks_free};
 ghost use Rattle.rel_records.specs.Calls.{GrowsBy, WritesAtMost};
 ghost use Rattle.rel_records.specs.growth.Growth.{full};
-ghost use Rattle.rel_records.specs.growth.Steps.{AreSidedFrom, HasBlockMore, IsAt, IsBefore, IsFilledUp, IsSided, StandsAt, step_writes, taken_next};
+ghost use Rattle.rel_records.specs.growth.Steps.{
+  AreSidedFrom,
+  HasBlockMore,
+  IsAt,
+  IsBefore,
+  IsFilledUp,
+  IsSided,
+  StandsAt,
+  step_writes,
+  taken_next,
+};
 
 use crate::growth::next_block::lay_out;
 use crate::growth::step_parts::Parts;
@@ -112,8 +122,9 @@ fn prepare<D: Sectors>(
     )
 }
 
-/// Gives the file one more data block, and a side sector where its side sectors are full. Written are the map, the fresh
-/// block, the side sectors, then the old last block with its link, which makes the file longer, and the block count.
+/// Gives the file one more data block, and a side sector where its side sectors are full. Written are the map, the
+/// fresh block, the side sectors, then the old last block with its link, which makes the file longer, and the block
+/// count.
 pub(crate) fn add_block<D: Sectors>(disk: &mut D, parts: &mut Parts) -> Result<(), DeviceFault>
     requires at { StandsAt (D.history.image disk.old) parts.old }
     requires few { length parts.old.blocks.items < 720 }

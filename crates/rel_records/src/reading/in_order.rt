@@ -13,8 +13,8 @@ use arrayvec::ArrayVec;
 use d64_image::Sectors;
 use disk_layout::DATA;
 
-/// The data block of a file that was read last: who reads the records in order finds the next one there, or in the block
-/// that it names.
+/// The data block of a file that was read last: who reads the records in order finds the next one there, or in the
+/// block that it names.
 #[derive(Drop)]
 pub struct LastBlock {
     number: Option<usize>,
@@ -122,8 +122,8 @@ fn next_there<D: Sectors>(
 }
 
 /// Reads a record as `read_record` does, for who reads one after another: where it lies in the block that was read last
-/// nothing is read, and where it goes on behind that one sector. `last` is of this file: it was `LastBlock::none`, or was
-/// given by this call, and nothing was written since.
+/// nothing is read, and where it goes on behind that one sector. `last` is of this file: it was `LastBlock::none`, or
+/// was given by this call, and nothing was written since.
 // In line, with all on the way of a record in the block that is kept.
 #[inline(always)]
 pub fn read_next<D: Sectors>(

@@ -1,10 +1,11 @@
 -- What was read of a record is that record of the two files.
 use Rattle.std.proofs.Common.{ℕ, ◌≡◌, ◌<◌, ◌≤◌, ◌+◌, ◌*◌, ◌-◌, inl, inr, zero, suc, List, [], ap, arith, subst, sym}
-use Rattle.std.proofs.Common.{◌∙◌, length}
+use Rattle.std.proofs.Common.{◌∙◌, Err, length}
 use Rattle.std.specs.Array.{IsFirstChunk}
 use Rattle.std.specs.Prelude.{MatchOption, Option, Some, slice_get}
 use Rattle.std.proofs.lemmas.List.{take_all}
 use Rattle.std.proofs.lemmas.Option.{get_or_from_slice_get, slice_get_within}
+use Rattle.d64_image.specs.History.{History}
 use Rattle.d64_image.specs.Images.{Image, IsImage}
 use Rattle.disk_layout.proofs.lemmas.records.Joined.{length-joined}
 use Rattle.disk_layout.proofs.lemmas.records.Pieces.{length-piece, length-pieces, row-le}
@@ -12,8 +13,11 @@ use Rattle.disk_layout.proofs.lemmas.records.RecordWrites.{record-at}
 use Rattle.disk_layout.specs.Layout.{File, Layout, record_length}
 use Rattle.disk_layout.specs.Records.{joined, record_count, records}
 use Rattle.rel_records.proofs.lemmas.reading.Opened.{records-fit}
+use Rattle.rel_records.specs.Faults.{TellsRelFault}
 use Rattle.rel_records.specs.File.{IsFileOf}
 use Rattle.rel_records.specs.Written.{IsAbsent, IsRecord}
+use Rattle.rel_records.specs.declared.faults.RelFault.{RelFault}
+use Rattle.rel_records.specs.declared.faults.RelFault.TheVariants.{NotPresent}
 use Rattle.rel_records.specs.declared.rel_file.RelFile.{RelFile}
 use Rattle.host_session.specs.declared.shop.finding.LedgerFiles.{LedgerFiles}
 use Rattle.host_session.specs.shop.Files.{Files, record_at}
@@ -73,3 +77,8 @@ match-some {X} A P o x e h = subst (λ (y : Option X). MatchOption y A P) e h
 -- the first bytes of a text that has no more are the text
 pub whole-chunk : (text bytes : List ℕ) (n : ℕ) → length text ≡ n → IsFirstChunk text bytes n → bytes ≡ text
 whole-chunk text bytes n long h = h.same ∙ take_all n text (omega (arith, long))
+
+-- where there is no such record, no failure was counted
+pub absent-told : {D : Type 0} (S : History D) (a b : D) (e : RelFault) → TellsRelFault {T = Unit {0}} S a b (Err e)
+    → e ≡ NotPresent → S.failures b ≡ S.failures a
+absent-told S a b e told is = subst (λ (x : RelFault). TellsRelFault {T = Unit {0}} S a b (Err x)) is told

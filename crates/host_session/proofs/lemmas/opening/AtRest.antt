@@ -1,23 +1,27 @@
 -- The table of the tills' cards once a shop's disk is brought to rest.
 use Rattle.std.proofs.Common.{ℕ, zero, suc, ◌≡◌, ◌≢◌, ◌<◌, ◌≤◌, ◌+◌, inl, inr, List, [], ◌∷◌, None, Option, Some, false}
-use Rattle.std.proofs.Common.{add-one, ap, arith, get_or, length, min, refl, take, sym, ◌∙◌}
+use Rattle.std.proofs.Common.{add-one, ap, arith, get_or, length, min, refl, take, subst, sym, ◌∙◌}
 use Rattle.std.specs.Prelude.{IfNone, option_map, ◌||◌}
 use Rattle.std.specs.Option.{option_and_then}
 use Rattle.std.proofs.lemmas.Bool.{cases_eq, cases_lt, eq-eqb, false≢true, ne_eqb}
 use Rattle.std.proofs.lemmas.List.{get_or_past, length-map, length-take}
+use Rattle.d64_image.proofs.Moments.{changes_then}
+use Rattle.d64_image.specs.History.{Changes, History}
 use Rattle.d64_image.specs.Images.{Image}
 use Rattle.disk_layout.specs.Clean.{IsClean}
+use Rattle.drive_channels.specs.State.{Seen}
 use Rattle.request_cards.specs.CardReading.{request_card_of}
 use Rattle.request_cards.specs.CardTexts.{Card}
 use Rattle.host_session.specs.shop.Files.{Files, HasFiles}
 use Rattle.host_session.specs.shop.Judged.{IsIntentOf, IsJudged}
+use Rattle.host_session.specs.session.Opening.{Untouched}
 use Rattle.host_session.specs.session.Settling.{HasClosedTable, HasNewTable, HasTable}
-use Rattle.host_session.specs.shop.Shop.{IsSettled, Shop, any_old, card_at, cards_in, intents, is_old, shop_of}
+use Rattle.host_session.specs.shop.Shop.{IsSettled, IsShop, Shop, any_old, card_at, cards_in, intents, is_old, shop_of}
 use Rattle.host_session.specs.session.Standing.{IsStanding, nth, state_in}
 use Rattle.host_session.specs.declared.shop.intents.Intent.{Intent}
 use Rattle.host_session.specs.declared.shop.judgment.Judged.{Judged}
 use Rattle.host_session.proofs.lemmas.judging.JudgedTills.{card_at-get, table-intents}
-use Rattle.host_session.proofs.lemmas.shop.Shops.{HasFiles-one}
+use Rattle.host_session.proofs.lemmas.shop.Shops.{HasFiles-one, IsShop-one}
 use Rattle.host_session.proofs.lemmas.judging.TableEntries.{in-place, nth-at}
 use Rattle.host_session.proofs.lemmas.opening.Migrated.{any-none, f}
 
@@ -158,3 +162,24 @@ module _ (img : Image) (s : Shop) (r : IsSettled img s) (f : Files) (has : HasFi
       any-same [] (y ∷ ys) h = λ i. is_old (h 0 i) || any-same [] ys (λ k. h (suc k)) i
       any-same (y ∷ xs) [] h = λ i. is_old (h 0 i) || any-same xs [] (λ k. h (suc k)) i
       any-same (x ∷ xs) (y ∷ ys) h = λ i. is_old (h 0 i) || any-same xs ys (λ k. h (suc k)) i
+
+-- a disk that was judged is of one shop
+pub judged-shop : (img : Image) (f : Files) (x : Judged) → HasFiles img f → IsJudged f x → (s : Shop) → IsShop img s
+    → shop_of f ≡ s
+judged-shop img f x has j s h =
+    IsShop-one img (shop_of f) s (record { files = f; has = has; records = j.records; is = refl }) h
+
+-- a shop's disk that is mended, and then brought to rest
+module _ {D : Type 0} (S : History D) (a : D) (b c : Seen D) (f : Files) (has : HasFiles (S.image a) f) (x : Judged)
+    (j : IsJudged f x) (s : Shop) where
+  pub rest-moments : IsShop (S.image a) s → Changes S a b.disk 883 (λ i. IsShop i s)
+      → Changes S b.disk c.disk 69 (λ i. IsShop i (shop_of f)) → Changes S a c.disk 952 (λ i. IsShop i s)
+  rest-moments h mended rests = changes_then S a b.disk c.disk 883 69 952 (λ i. IsShop i s) (omega arith) mended
+      (subst (λ (t : Shop). Changes S b.disk c.disk 69 (λ i. IsShop i t)) (judged-shop (S.image a) f x has j s h) rests)
+
+  pub rest-quiet : IsSettled (S.image a) s → IfNone x.intent (any_old x.requests ≡ false → c ≡ b)
+      → Untouched S a b.disk → Untouched S a c.disk
+  rest-quiet r quiet mended =
+      let stays = subst (λ (o : Option Intent). IfNone o (any_old x.requests ≡ false → c ≡ b))
+      (rest-intent (S.image a) s r f has x j) quiet (rest-cards (S.image a) s r f has x j) in
+      subst (λ (d : Seen D). Untouched S a d.disk) (sym stays) mended

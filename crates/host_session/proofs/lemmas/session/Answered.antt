@@ -4,7 +4,7 @@ use Rattle.std.proofs.Common.{ℕ, ◌≡◌, ◌+◌, true, false, Bool, List, 
 use Rattle.std.proofs.Common.{ap, subst}
 use Rattle.std.specs.Prelude.{OnOk, is_none, is_some, nat_le, not, ◌==◌}
 use Rattle.std.proofs.lemmas.Bool.{and_parts, eqb-true, false≢true}
-use Rattle.d64_image.specs.History.{Changes, History, IfCounted, TellsFailure}
+use Rattle.d64_image.specs.History.{History, IfCounted}
 use Rattle.d64_image.proofs.Moments.{at_end}
 use Rattle.request_cards.specs.declared.decision.Outcome.{Outcome}
 use Rattle.request_cards.specs.declared.reply.Word.TheVariants as words
@@ -12,11 +12,13 @@ use Rattle.request_cards.specs.CardTexts.{Card, IsEntry}
 use Rattle.request_cards.specs.Ledgers.{State, entry_of, next_in, number_of}
 use Rattle.request_cards.specs.Requests.{Ask, IsAsk}
 use Rattle.drive_channels.specs.State.{Seen}
+use Rattle.drive_channels.specs.declared.faults.Dead.{Dead}
 use Rattle.host_session.specs.session.Answering.{IsAnswered}
 use Rattle.host_session.specs.session.Deciding.{card_with, newest_in, renewed, traded}
 use Rattle.host_session.specs.shop.Files.{Files, HasFiles}
 use Rattle.host_session.specs.session.Handling.{kept_writes}
 use Rattle.host_session.specs.session.Keeping.{IsEither, IsKeeping, answer_of, shop_after}
+use Rattle.host_session.specs.shop.Puts.{Puts}
 use Rattle.host_session.specs.shop.Selecting.{IsReady}
 use Rattle.host_session.specs.shop.Shop.{IsSettled, IsShop, Shop, results_of, shop_of, start_of}
 use Rattle.host_session.specs.session.Standing.{IsStanding, View, nth, state_in}
@@ -34,9 +36,9 @@ asked-none o p b e = subst (λ (q : Option ℕ). is_some o ≡ not b → b ≡ i
     by (Some x) true e = absurd (false≢true (sym e))
     by (Some x) false e = refl
 
-module _ {D : Type 0} (S : History D) (d : D) (now : View D) (dead : Bool) (top tills : ℕ) (cards : List (Option ℕ))
-    (requests : List (Option Card))
-    (is : record { disk = d; dead = dead } ≡ now) (v : IsStanding (S.image d) dead top tills (state_in cards requests))
+module _ {D : Type 0} (S : History D) (x : Seen D) (now : View D) (dead : Bool) (top tills : ℕ)
+    (cards : List (Option ℕ)) (requests : List (Option Card)) (is : record { disk = x.disk; dead = dead } ≡ now)
+    (v : IsStanding (S.image x.disk) dead top tills (state_in cards requests))
     (a : Ask) (ask : IsAsk a) (alive : now.dead ≡ false)
     (next : (s : Shop) → IsShop (S.image now.disk) s → next_in (start_of s) s.state a ≡ true) where
   live : dead ≡ false
@@ -46,7 +48,7 @@ module _ {D : Type 0} (S : History D) (d : D) (now : View D) (dead : Bool) (top 
   due = next v.shop (subst (λ (u : View D). IsShop (S.image u.disk) v.shop) is v.is_shop)
 
   pub known-entry : (o : Outcome) → o ≡ traded (nth cards) top a.body → IsEntry (entry_of (a, o.answer))
-  known-entry o rule = standing-entry (S.image d) dead top tills cards requests v live a ask due o rule
+  known-entry o rule = standing-entry (S.image x.disk) dead top tills cards requests v live a ask due o rule
 
   pub known-number : a.number ≡ number_of (newest_in (nth requests a.till)) + 1
   known-number =
@@ -58,10 +60,10 @@ module _ {D : Type 0} (S : History D) (d : D) (now : View D) (dead : Bool) (top 
   module _ (o : Outcome) (rule : o ≡ traded (nth cards) top a.body) (c : Card)
       (made : c ≡ card_with (nth requests a.till) a o.answer) (fresh : Bool)
       (none : fresh ≡ is_none (nth cards a.body.item)) where
-    pub known-keeping : (f : Files) × HasFiles (S.image d) f × IsKeeping f a c
+    pub known-keeping : (f : Files) × HasFiles (S.image x.disk) f × IsKeeping f a c
         × (fresh ≡ is_none ((shop_of f).state.ledger.cards a.body.item))
     known-keeping =
-        let (f, h, same, k) = standing-keeping (S.image d) dead top tills cards requests v live a ask due o rule c
+        let (f, h, same, k) = standing-keeping (S.image x.disk) dead top tills cards requests v live a ask due o rule c
         made in (
           f,
           h,
@@ -71,33 +73,31 @@ module _ {D : Type 0} (S : History D) (d : D) (now : View D) (dead : Bool) (top 
         )
 
     -- the drive has kept it, or failed
-    module _ {E : Type 0} (y : Seen D) (res : Result (Unit {0}) E) (ready : OnOk res (IsReady S y))
-        (ok : (f : Files) → HasFiles (S.image d) f → IsKeeping f a c
-        → OnOk res (IsSettled (S.image y.disk) (shop_after (shop_of f) a)))
-        (moments : (f : Files) → (h : HasFiles (S.image d) f) → IsKeeping f a c
-        → Changes S d y.disk (kept_writes h.stock_file a.body.item (results_of c.newest)) (IsEither (shop_of f) a))
-        (counted : fresh ≡ false → (f : Files) → HasFiles (S.image d) f → IsKeeping f a c
-        → IfCounted S d y.disk (λ i. IsShop i (shop_after (shop_of f) a)))
-        (refused : c.pending ≡ false → (f : Files) → HasFiles (S.image d) f → IsKeeping f a c
-        → IfCounted S d y.disk (λ i. IsShop i (shop_after (shop_of f) a)))
-        (failures : TellsFailure S d y.disk res) where
-      kept : (f : Files) → HasFiles (S.image d) f → IsKeeping f a c → IsKept S d y.disk f a fresh c res
+    module _ (y : Seen D) (res : Result (Unit {0}) Dead) (puts : Puts S x y res
+        (λ f. HasFiles (S.image x.disk) f × IsKeeping f a c)
+        (λ f p. kept_writes p.0.stock_file a.body.item (results_of c.newest)) (λ f. IsEither (shop_of f) a)
+        (λ f i. IsSettled i (shop_after (shop_of f) a)))
+        (counted : fresh ≡ false → (f : Files) → HasFiles (S.image x.disk) f → IsKeeping f a c
+        → IfCounted S x.disk y.disk (λ i. IsShop i (shop_after (shop_of f) a)))
+        (refused : c.pending ≡ false → (f : Files) → HasFiles (S.image x.disk) f → IsKeeping f a c
+        → IfCounted S x.disk y.disk (λ i. IsShop i (shop_after (shop_of f) a))) where
+      kept : (f : Files) → HasFiles (S.image x.disk) f → IsKeeping f a c → IsKept S x.disk y.disk f a fresh c res
       kept f h k = record {
-        ok = ok f h k;
-        moments = λ h'. moments f h' k;
+        ok = puts.ok f (h, k);
+        moments = λ h'. puts.moments f (h', k);
         counted = λ e. counted e f h k;
         refused = λ e. refused e f h k;
-        failures = failures;
+        failures = puts.failures;
       }
 
       next-of : (f : Files) → shop_of f ≡ v.shop → next_in (start_of (shop_of f)) (shop_of f).state a ≡ true
       next-of f same = subst (λ (s : Shop). next_in (start_of s) s.state a ≡ true) (sym same) due
 
       abbrev Found : Type 0
-      Found = (f : Files) × HasFiles (S.image d) f × (shop_of f ≡ v.shop) × IsKeeping f a c
+      Found = (f : Files) × HasFiles (S.image x.disk) f × (shop_of f ≡ v.shop) × IsKeeping f a c
 
       found : Found
-      found = standing-keeping (S.image d) dead top tills cards requests v live a ask due o rule c made
+      found = standing-keeping (S.image x.disk) dead top tills cards requests v live a ask due o rule c made
 
       none-in : (f : Files) → shop_of f ≡ v.shop → fresh ≡ is_none ((shop_of f).state.ledger.cards a.body.item)
       none-in f same = none ∙ ap (λ (st : State). is_none (st.ledger.cards a.body.item)) (v.state_is live)
@@ -107,25 +107,25 @@ module _ {D : Type 0} (S : History D) (d : D) (now : View D) (dead : Bool) (top 
       pub stands-dead : (st : State) → IsStanding (S.image y.disk) true top tills st
       stands-dead st =
           let (f, h, same, k) = found in
-          standing-dead (S.image d) dead top tills cards requests v a (S.image y.disk) st
-          (subst (λ (s : Shop). IsEither s a (S.image y.disk)) same (at_end S d y.disk (IsEither (shop_of f) a)
-          (moments f h k).held))
+          standing-dead (S.image x.disk) dead top tills cards requests v a (S.image y.disk) st
+          (subst (λ (s : Shop). IsEither s a (S.image y.disk)) same (at_end S x.disk y.disk (IsEither (shop_of f) a)
+          (puts.moments f (h, k)).held))
 
-      pub answers-dead : (fault : E) → res ≡ Err fault
+      pub answers-dead : (fault : Dead) → res ≡ Err fault
           → IsAnswered S now (record { disk = y.disk; dead = true }) a words.Media
       answers-dead fault e =
           let (f, h, same, k) = found in
-          let w = subst (λ (r : Result (Unit {0}) E). IsKept S d y.disk f a fresh c r) e (kept f h k) in
+          let w = subst (λ (r : Result (Unit {0}) Dead). IsKept S x.disk y.disk f a fresh c r) e (kept f h k) in
           subst (λ (u : View D). IsAnswered S u (record { disk = y.disk; dead = true }) a words.Media) is
-          (told-dead S (record { disk = d; dead = dead }) (record { disk = y.disk; dead = true }) f h a fresh c k
-          (none-in f same) (next-of f same) fault w moments refl)
+          (told-dead S (record { disk = x.disk; dead = dead }) (record { disk = y.disk; dead = true }) f h a fresh c k
+          (none-in f same) (next-of f same) fault w puts.moments refl)
 
       -- where it was kept
-      settled-of : (u : Unit {0}) → res ≡ Ok u → (f : Files) → HasFiles (S.image d) f → IsKeeping f a c
+      settled-of : (u : Unit {0}) → res ≡ Ok u → (f : Files) → HasFiles (S.image x.disk) f → IsKeeping f a c
           → IsSettled (S.image y.disk) (shop_after (shop_of f) a)
       settled-of u e f h k =
-          subst (λ (r : Result (Unit {0}) E). OnOk r (IsSettled (S.image y.disk) (shop_after (shop_of f) a))) e
-          (ok f h k)
+          subst (λ (r : Result (Unit {0}) Dead). OnOk r (IsSettled (S.image y.disk) (shop_after (shop_of f) a))) e
+          (puts.ok f (h, k))
 
       pub stands-after : (u : Unit {0}) → res ≡ Ok u → (answered : Card) → answered ≡ record c { pending = false }
           → (cs : List (Option ℕ)) (rs : List (Option Card))
@@ -133,20 +133,20 @@ module _ {D : Type 0} (S : History D) (d : D) (now : View D) (dead : Bool) (top 
           → IsStanding (S.image y.disk) dead top tills (state_in cs rs)
       stands-after u e answered is_answered cs rs new =
           let (f, h, same, k) = found in
-          standing-after (S.image d) dead top tills cards requests v live a ask due (S.image y.disk) rs cs o c answered
-          rule made is_answered new
+          standing-after (S.image x.disk) dead top tills cards requests v live a ask due (S.image y.disk) rs cs o c
+          answered rule made is_answered new
           (subst (λ (s : Shop). IsSettled (S.image y.disk) (shop_after s a)) same (settled-of u e f h k))
 
       pub ready-after : (u : Unit {0}) → res ≡ Ok u → IsReady S y
-      ready-after u e = subst (λ (r : Result (Unit {0}) E). OnOk r (IsReady S y)) e ready
+      ready-after u e = subst (λ (r : Result (Unit {0}) Dead). OnOk r (IsReady S y)) e puts.ready
 
       pub answers-after : (u : Unit {0}) → res ≡ Ok u
           → IsAnswered S now (record { disk = y.disk; dead = dead }) a (words.Kept o.answer)
       answers-after u e =
           let (f, h, same, k) = found in
-          let w = subst (λ (r : Result (Unit {0}) E). IsKept S d y.disk f a fresh c r) e (kept f h k) in
+          let w = subst (λ (r : Result (Unit {0}) Dead). IsKept S x.disk y.disk f a fresh c r) e (kept f h k) in
           subst (λ (z : View D). IsAnswered S z (record { disk = y.disk; dead = dead }) a (words.Kept o.answer)) is
-          (told-ok S (record { disk = d; dead = dead }) (record { disk = y.disk; dead = dead }) f h a fresh c k
-          (none-in f same) (next-of f same) u w moments live o.answer
-          (standing-answer (S.image d) dead top tills cards requests v live a ask due o rule
+          (told-ok S (record { disk = x.disk; dead = dead }) (record { disk = y.disk; dead = dead }) f h a fresh c k
+          (none-in f same) (next-of f same) u w puts.moments live o.answer
+          (standing-answer (S.image x.disk) dead top tills cards requests v live a ask due o rule
           ∙ ap (λ (s : Shop). answer_of s a) (sym same)))

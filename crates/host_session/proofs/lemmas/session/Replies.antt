@@ -131,9 +131,12 @@ module _ {D : Type 0} (S : History D) (x y : View D) (f : Files) (h : HasFiles (
       ⊎ IsShop i (after_ask (shop_of f) a)) (kept-within f a c k (S.image x.disk) h)
       (λ i e. subst (λ (u : Shop). IsShop i (shop_of f) ⊎ IsShop i u) ends e) (w.moments h))
 
-  told-writes : ((g : Files) (h' : HasFiles (S.image x.disk) g) → IsKeeping g a c
-      → Changes S x.disk y.disk (kept_writes h'.stock_file a.body.item (results_of c.newest)) (IsEither (shop_of g) a))
-      → (g : Files) → (h' : HasFiles (S.image x.disk) g)
+  -- what the drive's keeping of the request may hold on the way
+  abbrev pub KeptMoments : Type 0
+  KeptMoments = (g : Files) → (p : HasFiles (S.image x.disk) g × IsKeeping g a c)
+      → Changes S x.disk y.disk (kept_writes p.0.stock_file a.body.item (results_of c.newest)) (IsEither (shop_of g) a)
+
+  told-writes : KeptMoments → (g : Files) → (h' : HasFiles (S.image x.disk) g)
       → S.writes y.disk ≤ S.writes x.disk + most_writes (shop_of g) h'.stock_file (Some a)
   told-writes all g h' =
       let same : f ≡ g = HasFiles-one (S.image x.disk) f g h h' in
@@ -145,7 +148,7 @@ module _ {D : Type 0} (S : History D) (x y : View D) (f : Files) (h : HasFiles (
       = ap (λ (b : Bool). if b then kept_writes h'.stock_file a.body.item (results_in a.body (answer_of (shop_of g) a))
       else 0) next'
       ∙ sym (ap (λ (e : _). kept_writes h'.stock_file a.body.item (results_of e)) k'.newest) in
-      omega (arith, (all g h' k').writes, most)
+      omega (arith, (all g (h', k')).writes, most)
 
   grows : c.pending ≡ true → fresh ≡ true → MayGrow (shop_of f) (Some a)
   grows intent new =
@@ -170,10 +173,8 @@ module _ {D : Type 0} (S : History D) (x y : View D) (f : Files) (h : HasFiles (
 
   -- the two ends of it
   pub told-ok : {E : Type 0} (u : Unit {0}) (w : IsKept {E = E} S x.disk y.disk f a fresh c (Ok u))
-      → ((g : Files) (h' : HasFiles (S.image x.disk) g) → IsKeeping g a c
-      → Changes S x.disk y.disk (kept_writes h'.stock_file a.body.item (results_of c.newest))
-      (IsEither (shop_of g) a))
-      → y.dead ≡ false → (answer : Answer) → answer ≡ answer_of (shop_of f) a → IsAnswered S x y a (words.Kept answer)
+      → KeptMoments → y.dead ≡ false → (answer : Answer) → answer ≡ answer_of (shop_of f) a
+      → IsAnswered S x y a (words.Kept answer)
   told-ok u w all alive answer is_answer = record {
     reply = λ t it other. of-shop (S.image x.disk) (shop_of f)
         (λ (u : Shop). (words.Kept answer ≡ word_in (start_of u) u.state a) × IsSettled (S.image y.disk) (after_ask u a)
@@ -191,10 +192,7 @@ module _ {D : Type 0} (S : History D) (x y : View D) (f : Files) (h : HasFiles (
   }
 
   pub told-dead : {E : Type 0} (fault : E) (w : IsKept S x.disk y.disk f a fresh c (Err fault))
-      → ((g : Files) (h' : HasFiles (S.image x.disk) g) → IsKeeping g a c
-      → Changes S x.disk y.disk (kept_writes h'.stock_file a.body.item (results_of c.newest))
-      (IsEither (shop_of g) a))
-      → y.dead ≡ true → IsAnswered S x y a words.Media
+      → KeptMoments → y.dead ≡ true → IsAnswered S x y a words.Media
   told-dead fault w all dead = record {
     reply = λ t it other. absurd (other refl);
     moments = told-moments w;

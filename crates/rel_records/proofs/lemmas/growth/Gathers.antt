@@ -1,10 +1,10 @@
 -- What is read of a file is what growth keeps of it.
-use Rattle.std.proofs.Common.{◌≡◌, ℕ, ◌+◌, length, ◌∙◌, ap, subst}
+use Rattle.std.proofs.Common.{◌≡◌, ℕ, ◌+◌, length, ◌∙◌, ap}
 use Rattle.std.specs.Prelude.{get_or}
 use Rattle.d64_image.specs.Images.{Image, sector}
 use Rattle.d64_image.specs.declared.place.Place.{Place}
-use Rattle.disk_layout.proofs.lemmas.layouts.Layouts.{IsLayout-one}
-use Rattle.disk_layout.specs.Clean.{IsClean, IsCleanLayout}
+use Rattle.disk_layout.proofs.lemmas.layouts.Unclean.{clean-of}
+use Rattle.disk_layout.specs.Clean.{IsClean}
 use Rattle.disk_layout.specs.Directory.{map_place}
 use Rattle.disk_layout.specs.Layout.{File, Layout}
 use Rattle.rel_records.proofs.lemmas.reading.Opened.{file-rel}
@@ -13,11 +13,6 @@ use Rattle.rel_records.specs.File.{IsFileOf}
 use Rattle.rel_records.specs.declared.growth.step_parts.Parts.{Parts}
 use Rattle.rel_records.specs.declared.rel_file.RelFile.{RelFile}
 use Rattle.rel_records.specs.growth.Steps.{IsAt}
-
-pub clean-of : (img : Image) (l : Layout) (n : ℕ) (f : File) (v : RelFile) → IsClean img → IsFileOf img l n f v
-    → IsCleanLayout img l
-clean-of img l n f v (m, clean) of = let P : Layout → Type 0 = IsCleanLayout img in
-    subst P (IsLayout-one img m l clean.layout of.layout) clean
 
 -- read with the map, the sector of its slot, and its last block, which stands at place k of the list
 pub is-at : (img : Image) (l : Layout) (n : ℕ) (f : File) (v : RelFile) (p : Parts) (k : ℕ) (last : Place) → IsClean img
@@ -29,7 +24,7 @@ is-at img l n f v p k last clean of map place number size sides blocks long at b
     let c = (file-rel img l n f v of).chain.2 in
     let here : last ≡ c.last = last-read p.blocks.items c.front c.last last k (blocks ∙ c.places) long at in
     record {
-      clean = clean-of img l n f v clean of;
+      clean = clean-of img l of.layout clean;
       there = of.there;
       rel = of.rel;
       place = place ∙ of.shows.sector;

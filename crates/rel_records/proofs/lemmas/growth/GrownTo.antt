@@ -5,6 +5,7 @@ use Rattle.std.specs.Prelude.{if◌then◌else◌, nat_le}
 use Rattle.std.proofs.lemmas.Bool.{leb-false, lt-leb}
 use Rattle.std.proofs.lemmas.Nat.{le-div}
 use Rattle.d64_image.specs.Images.{Image, sector}
+use Rattle.disk_layout.proofs.lemmas.layouts.Unclean.{clean-of}
 use Rattle.disk_layout.proofs.lemmas.records.Pieces.{row-le}
 use Rattle.disk_layout.specs.Directory.{map_place}
 use Rattle.disk_layout.specs.Layout.{File, Layout, record_length}
@@ -12,7 +13,6 @@ use Rattle.disk_layout.specs.Records.{records}
 use Rattle.disk_layout.specs.View.{blocks_free}
 use Rattle.disk_layout.specs.Clean.{IsClean}
 use Rattle.rel_records.proofs.lemmas.filling.ReadyToEnd.{last-index}
-use Rattle.rel_records.proofs.lemmas.growth.Gathers.{clean-of}
 use Rattle.rel_records.proofs.lemmas.growth.Grows.{had-of}
 use Rattle.d64_image.proofs.Moments.{at_end, changes_then, changes_weaker, reads_change}
 use Rattle.d64_image.specs.History.{Changes, History, OnlyReads}
@@ -51,7 +51,7 @@ module _ (a : Image) (l : Layout) (n : ℕ) (f : File) (v : RelFile) (of : IsFil
         let Q : List (List ℕ) → Type 0 = λ rs. LeavesRecords a a l n rs v in
         subst P (sym none-added) (subst Q (sym (append-nil (records a f))) (record {
           layout = l;
-          clean = clean-of a l n f v clean of;
+          clean = clean-of a l of.layout clean;
           others = keeps_same a l n;
           file = f;
           of = of;

@@ -24,9 +24,9 @@ use Rattle.rel_records.specs.growth.Preparing.{IsPrepared}
 use Rattle.rel_records.specs.growth.Steps.{HasBlockMore, IsFilledUp, taken_next}
 use Rattle.rel_records.specs.Written.{IsGrowingBy, grown_by}
 use Rattle.rel_records.specs.declared.growth.step_parts.Parts.{Parts}
-use Rattle.rel_records.proofs.lemmas.steps.Committing.{IsCommitting, committed-has, entry-unowned, g-owned, last-in}
+use Rattle.rel_records.proofs.lemmas.steps.Committing.{IsReadyToLink, committed-has, entry-unowned, g-owned, last-in}
 use Rattle.rel_records.proofs.lemmas.steps.Committing.{records-longer}
-use Rattle.rel_records.proofs.lemmas.steps.Counting.{IsCounting, after-same, before-same, clean-again, counted-has}
+use Rattle.rel_records.proofs.lemmas.steps.Counting.{IsReadyToCount, after-same, before-same, clean-again, counted-has}
 use Rattle.rel_records.proofs.lemmas.steps.Counting.{header-same, map-now, same-entry, slot-records}
 use Rattle.rel_records.proofs.lemmas.steps.LaidOut.{IsStep, blocks-are, each, few-sides, many, next, place, size-is}
 use Rattle.rel_records.proofs.lemmas.steps.LaidOut.{some, split}
@@ -63,8 +63,8 @@ module _ {a : Image} {l : Layout} {n : ℕ} {f : File} {p q : Parts} {fresh : Pl
   abbrev N : ℕ
   N = length f.blocks
 
-  committing : IsCommitting a c l before after f fresh u ss q.map.bytes block q.last at.front at.last_place
-  committing = record {
+  to_link : IsReadyToLink a c l before after f fresh u ss q.map.bytes block q.last at.front at.last_place
+  to_link = record {
     full = x.size;
     clean = at.clean;
     split = split step;
@@ -90,16 +90,16 @@ module _ {a : Image} {l : Layout} {n : ℕ} {f : File} {p q : Parts} {fresh : Pl
       let P : ℕ → Type 0 = λ k. HasRecords a b l k (grown_by L (records_more f) (records a f)) in (
         records_more f,
         omega arith,
-        subst P (place step) (committed-has committing (full L N) (records_more f) x v (some-more step)
+        subst P (place step) (committed-has to_link (full L N) (records_more f) x v (some-more step)
             (filled step up) (counts step ∙ total-is step)),
       )
 
   abbrev d : Place
   d = f.slot.sector
 
-  counting : IsCounting a c l before after f fresh u ss q.map.bytes block q.last q.directory at.front at.last_place
-  counting = record {
-    committing = committing;
+  to_count : IsReadyToCount a c l before after f fresh u ss q.map.bytes block q.last q.directory at.front at.last_place
+  to_count = record {
+    to_link = to_link;
     recount = recount;
     counted = counted;
     right = (next step).map;
@@ -126,7 +126,7 @@ module _ {a : Image} {l : Layout} {n : ℕ} {f : File} {p q : Parts} {fresh : Pl
       let P : ℕ → Type 0 = λ k. HasRecords a e l k (grown_by L (records_more f) (records a f)) in (
         records_more f,
         omega arith,
-        subst P (place step) (counted-has counting (full L N) (records_more f) x v (some-more step) (filled step up)
+        subst P (place step) (counted-has to_count (full L N) (records_more f) x v (some-more step) (filled step up)
             (counts step ∙ total-is step)),
       )
 
@@ -140,20 +140,20 @@ module _ {a : Image} {l : Layout} {n : ℕ} {f : File} {p q : Parts} {fresh : Pl
   m = exchanged l before h after
 
   same : uncounted f.slot ≡ uncounted t
-  same = same-entry counting
+  same = same-entry to_count
 
   full-b : length b ≡ 683
   full-b = length-put c at.last_place q.last ∙ x.size
 
   entry-apart : (y : Place) → Contains (file_owns g) y → d ≢ y
-  entry-apart y own = entry-unowned committing y (g-owned committing y own)
+  entry-apart y own = entry-unowned to_link y (g-owned to_link y own)
 
   fresh-in : Contains (f.blocks ++ fresh ∷ []) fresh
   fresh-in = Contains-append_right f.blocks (fresh ∷ []) fresh (Contains-here fresh [])
 
   last-fresh : at.last_place ≢ fresh
   last-fresh s = EachOnce-apart f.blocks (fresh ∷ []) (EachOnce-left (f.blocks ++ fresh ∷ []) ss (each step))
-      at.last_place (last-in committing)
+      at.last_place (last-in to_link)
       (let P : Place → Type 0 = Contains (fresh ∷ []) in subst P (sym s) (Contains-here fresh []))
 
   block-there : sector e fresh ≡ block
@@ -169,8 +169,8 @@ module _ {a : Image} {l : Layout} {n : ℕ} {f : File} {p q : Parts} {fresh : Pl
   kept : KeepsOthers a e l m n
   kept =
       let P : ℕ → Type 0 = λ k. KeepsOthers a e l m k in
-      subst P (place step) (others-kept a e l before after f h (split step) (sym same) (before-same counting)
-      (after-same counting) (header-same counting))
+      subst P (place step) (others-kept a e l before after f h (split step) (sym same) (before-same to_count)
+      (after-same to_count) (header-same to_count))
 
   -- at the end the file has a block more, and what is in memory is of the image
   pub block-more : (z : Parts) → z.map.bytes ≡ q.map.bytes → z.sector ≡ q.sector → z.number ≡ q.number
@@ -183,7 +183,7 @@ module _ {a : Image} {l : Layout} {n : ℕ} {f : File} {p q : Parts} {fresh : Pl
           layout = m;
           file = h;
           at = record {
-            clean = clean-again counting;
+            clean = clean-again to_count;
             there = there;
             rel = let P : Bool → Type 0 = IsTrue in subst P (is_rel-same f.slot t same) at.rel;
             place = sector' ∙ laid.places.sector ∙ at.place;
@@ -191,7 +191,7 @@ module _ {a : Image} {l : Layout} {n : ℕ} {f : File} {p q : Parts} {fresh : Pl
             size = size ∙ size-is step ∙ (uncounted-face f.slot t same).length;
             sides = sides;
             blocks = blocks ∙ blocks-are step;
-            map = map ∙ sym (map-now counting);
+            map = map ∙ sym (map-now to_count);
             front = f.blocks;
             last_place = fresh;
             last_is = refl;
@@ -200,8 +200,8 @@ module _ {a : Image} {l : Layout} {n : ℕ} {f : File} {p q : Parts} {fresh : Pl
           };
           others = kept;
           records_are =
-              slot-records counting
-              ∙ records-longer committing (full L N) (records_more f) x v (some-more step) (filled step up)
+              slot-records to_count
+              ∙ records-longer to_link (full L N) (records_more f) x v (some-more step) (filled step up)
               (counts step ∙ total-is step)
               ∙ ap (λ j. grown_by L j (records a f)) same-more;
           same_size = sym (uncounted-face f.slot t same).length;

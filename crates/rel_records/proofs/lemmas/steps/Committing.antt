@@ -36,8 +36,10 @@ snoc-last (w ∷ xs) [] x y e = let none : xs ++ x ∷ [] ≡ [] = cc in
     absurd (omega (arith, ap length none, length-append xs (x ∷ [])))
 snoc-last (w ∷ xs) (z ∷ ys) x y e = let rest : xs ++ x ∷ [] ≡ ys ++ y ∷ [] = cc in snoc-last xs ys x y rest
 
--- what stands when it comes: c is the image before it, a the one at the start
-pub record IsCommitting (a c : Image) (l : Layout) (before after : List File) (f : File) (fresh : Place) (u : ℕ)
+-- all is ready for that write on c, the image before it; a is the one at the start. The file f, of the layout l, gets
+-- the block `fresh`, used up to index u, and then has the side sectors ss; its last block so far, `last` behind
+-- `front`, gets the bytes with the link
+pub record IsReadyToLink (a c : Image) (l : Layout) (before after : List File) (f : File) (fresh : Place) (u : ℕ)
     (ss : List Place) (map' block last_bytes : Sector) (front : List Place) (last : Place) : Type 0 where
   pub full : length c ≡ 683
   pub clean : IsCleanLayout a l
@@ -56,10 +58,10 @@ pub record IsCommitting (a c : Image) (l : Layout) (before after : List File) (f
 
 module _ {a c : Image} {l : Layout} {before after : List File} {f : File} {fresh : Place} {u : ℕ} {ss : List Place}
     {map' block last_bytes : Sector} {front : List Place} {last : Place}
-    (committing : IsCommitting a c l before after f fresh u ss map' block last_bytes front last) where
-  open committing use {full, clean, split, rel, once, long, count, few, some, prepared, zero_there, last_there}
-  open committing use {blocks, link}
-  open committing.prepared use {preparing}
+    (to_link : IsReadyToLink a c l before after f fresh u ss map' block last_bytes front last) where
+  open to_link use {full, clean, split, rel, once, long, count, few, some, prepared, zero_there, last_there}
+  open to_link use {blocks, link}
+  open to_link.prepared use {preparing}
 
   abbrev g : File
   g = grown f fresh u ss

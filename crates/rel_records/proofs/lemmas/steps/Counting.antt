@@ -28,7 +28,7 @@ use Rattle.disk_layout.specs.declared.slot.Slot.{Slot}
 use Rattle.rel_records.proofs.lemmas.steps.Preparing.{after-stays, before-stays}
 use Rattle.rel_records.proofs.lemmas.steps.Others.{has-records, places-more}
 use Rattle.rel_records.specs.Others.{HasRecords}
-use Rattle.rel_records.proofs.lemmas.steps.Committing.{IsCommitting, committed, entry-in, entry-same, entry-unowned}
+use Rattle.rel_records.proofs.lemmas.steps.Committing.{IsReadyToLink, committed, entry-in, entry-same, entry-unowned}
 use Rattle.rel_records.proofs.lemmas.steps.Committing.{g-owned, last-in, last-mine, other-last, records-longer}
 
 pub owners-slot : (l : Layout) (before after : List File) (g : File) (t : Slot)
@@ -53,10 +53,11 @@ exact-stay a b fs same all = all-map _ _ fs (λ f c h t. record {
   count = (h t).count;
 }) all
 
--- what stands when it comes: that write, the directory sector's bytes with the count, and the map of the new owners
-pub record IsCounting (a c : Image) (l : Layout) (before after : List File) (f : File) (fresh : Place) (u : ℕ)
+-- all is ready for the link on c and for the count behind it: what the link needs, the directory sector's bytes with
+-- the count, and the map of the new owners
+pub record IsReadyToCount (a c : Image) (l : Layout) (before after : List File) (f : File) (fresh : Place) (u : ℕ)
     (ss : List Place) (map' block last_bytes entry_bytes : Sector) (front : List Place) (last : Place) : Type 0 where
-  pub committing : IsCommitting a c l before after f fresh u ss map' block last_bytes front last
+  pub to_link : IsReadyToLink a c l before after f fresh u ss map' block last_bytes front last
   pub recount : IsRecounted (sector a f.slot.sector) entry_bytes f.slot.number
   pub counted : count_field (slot_in f.slot.sector entry_bytes f.slot.number)
       ≡ length f.blocks + 1 + sides_for (length f.blocks + 1)
@@ -64,10 +65,10 @@ pub record IsCounting (a c : Image) (l : Layout) (before after : List File) (f :
 
 module _ {a c : Image} {l : Layout} {before after : List File} {f : File} {fresh : Place} {u : ℕ} {ss : List Place}
     {map' block last_bytes entry_bytes : Sector} {front : List Place} {last : Place}
-    (counting : IsCounting a c l before after f fresh u ss map' block last_bytes entry_bytes front last) where
-  open counting use {committing, recount, counted, right}
-  open counting.committing use {full, clean, split, rel, once, long, few, prepared}
-  open counting.committing.prepared use {preparing}
+    (to_count : IsReadyToCount a c l before after f fresh u ss map' block last_bytes entry_bytes front last) where
+  open to_count use {to_link, recount, counted, right}
+  open to_count.to_link use {full, clean, split, rel, once, long, few, prepared}
+  open to_count.to_link.prepared use {preparing}
 
   abbrev g : File
   g = grown f fresh u ss
@@ -85,7 +86,7 @@ module _ {a c : Image} {l : Layout} {before after : List File} {f : File} {fresh
 
   recount-b : IsRecounted (sector b d) entry_bytes f.slot.number
   recount-b = let P : Sector → Type 0 = λ s. IsRecounted s entry_bytes f.slot.number in
-      subst P (sym (entry-same committing)) recount
+      subst P (sym (entry-same to_link)) recount
 
   -- the file and the image at the end
   abbrev slot : Slot
@@ -95,11 +96,11 @@ module _ {a c : Image} {l : Layout} {before after : List File} {f : File} {fresh
   e = put b d entry_bytes
 
   pub counted-layout : IsLayout e (exchanged l before (with_slot g slot) after)
-  counted-layout = IsLayout-recount b (exchanged l before g after) before after g (committed committing) refl rel
+  counted-layout = IsLayout-recount b (exchanged l before g after) before after g (committed to_link) refl rel
       entry_bytes full-b recount-b
 
   pub same-entry : uncounted f.slot ≡ uncounted slot
-  same-entry = new-slot b (exchanged l before g after) before after g (committed committing) refl rel
+  same-entry = new-slot b (exchanged l before g after) before after g (committed to_link) refl rel
       entry_bytes full-b recount-b
 
   -- what others own is as it was
@@ -107,7 +108,7 @@ module _ {a c : Image} {l : Layout} {before after : List File} {f : File} {fresh
       → ¬ (Contains (file_owns g) q)) → ((q : Place) → Contains (flat_map file_owns fs) q → d ≢ q)
       → AgreeAt a e (flat_map file_owns fs)
   around fs same apart entry q own = same q own ∙ sym (sector-put_other b d q entry_bytes (entry q own)
-      ∙ sector-put_other c last q last_bytes (other-last committing q (apart q own)))
+      ∙ sector-put_other c last q last_bytes (other-last to_link q (apart q own)))
 
   owned-before : (q : Place) → Contains (flat_map file_owns before) q
       → Contains (flat_map file_owns (before ++ g ∷ after)) q
@@ -123,12 +124,12 @@ module _ {a c : Image} {l : Layout} {before after : List File} {f : File} {fresh
   pub before-same : AgreeAt a e (flat_map file_owns before)
   before-same = around before (before-stays a c l before after f g clean.layout split rel long few preparing)
       (λ q own mine. (alone l before after g once q mine).before own)
-      (λ q own. entry-unowned committing q (owned-before q own))
+      (λ q own. entry-unowned to_link q (owned-before q own))
 
   pub after-same : AgreeAt a e (flat_map file_owns after)
   after-same = around after (after-stays a c l before after f g clean.layout split rel long few preparing)
       (λ q own mine. (alone l before after g once q mine).after own)
-      (λ q own. entry-unowned committing q (owned-after q own))
+      (λ q own. entry-unowned to_link q (owned-after q own))
 
   exact-now : IsExactFile e (with_slot g slot)
   exact-now = record {
@@ -136,9 +137,9 @@ module _ {a c : Image} {l : Layout} {before after : List File} {f : File} {fresh
         let mine : Contains ss q = get-contains ss j q at in
         let own : Contains (file_owns g) q = Contains-append_right g.blocks ss q mine in
         let apart : last ≢ q = λ same. EachOnce-apart g.blocks ss (own-once l before after g once) last
-        (Contains-append_left f.blocks (fresh ∷ []) last (last-in committing)) (let P : Place → Type 0 = Contains ss in
+        (Contains-append_left f.blocks (fresh ∷ []) last (last-in to_link)) (let P : Place → Type 0 = Contains ss in
         subst P (sym same) mine) in
-        sector-put_other b d q entry_bytes (entry-unowned committing q (g-owned committing q own))
+        sector-put_other b d q entry_bytes (entry-unowned to_link q (g-owned to_link q own))
         ∙ sector-put_other c last q last_bytes apart
         ∙ prepared.sides j q at
         ∙ ap (side_sector j g.blocks ss) (uncounted-face f.slot slot same-entry).length;
@@ -149,9 +150,9 @@ module _ {a c : Image} {l : Layout} {before after : List File} {f : File} {fresh
   unfolding owners
   map-now =
       sector-put_other b d map_place entry_bytes (λ x. clean.layout.directory.not_map (let P : Place
-      → Type 0 = Contains l.directory in subst P x (entry-in committing)))
+      → Type 0 = Contains l.directory in subst P x (entry-in to_link)))
       ∙ sector-put_other c last map_place last_bytes
-      (λ x. once.0 (map-out last x (g-owned committing last (last-mine committing))))
+      (λ x. once.0 (map-out last x (g-owned to_link last (last-mine to_link))))
       ∙ prepared.map
     where
       map-out : (q : Place) → q ≡ map_place → Contains (flat_map file_owns (before ++ g ∷ after)) q
@@ -177,7 +178,7 @@ module _ {a c : Image} {l : Layout} {before after : List File} {f : File} {fresh
   -- the file's blocks at the end are those after the commit
   entry-blocks : AgreeAt b e g.blocks
   entry-blocks q own = sym (sector-put_other b d q entry_bytes
-      (entry-unowned committing q (g-owned committing q (Contains-append_left g.blocks ss q own))))
+      (entry-unowned to_link q (g-owned to_link q (Contains-append_left g.blocks ss q own))))
 
   pub header-same : header_of e ≡ header_of a
   header-same = ap (λ s. take 4 s ++ drop 144 s) (map-now ∙ sym prepared.map) ∙ preparing.header
@@ -197,4 +198,4 @@ module _ {a c : Image} {l : Layout} {before after : List File} {f : File} {fresh
         (records a f ++ replicate m (empty_record (record_length f.slot)))
     counted-has = has-records a e l before after f (with_slot g slot) _ split (sym same-entry) before-same after-same
         header-same counted-layout (places-more a f (with_slot g slot) m (empty_record (record_length f.slot))
-        some_more) (slot-records ∙ records-longer committing n m w v some_more filled counts)
+        some_more) (slot-records ∙ records-longer to_link n m w v some_more filled counts)

@@ -30,7 +30,8 @@ use Rattle.rel_records.specs.growth.Steps.{AreSidedFrom, IsAt, IsBefore, IsSided
 use Rattle.rel_records.specs.Written.{IsGrowingBy}
 use Rattle.rel_records.specs.declared.growth.step_parts.Parts.{Parts}
 
--- a clean disk, a relative file of it, and all that its next block needs, laid out in memory
+-- a step is laid out in memory: the file f, at place n of the clean image a, is to get one block more, `block` at
+-- `fresh`; what is kept of the file is p before the step, and q after it
 pub record IsStep (a : Image) (l : Layout) (n : ℕ) (f : File) (p q : Parts) (fresh : Place) (block : Sector) : Type 0
   where
     pub whole : IsImage a

@@ -31,10 +31,9 @@ use Rattle.d64_image.specs.History.{Changes, HeldOnly, History, OldOr, OnlyReads
 use Rattle.d64_image.specs.Images.{Image, IsImage, IsSector, Sector, put, sector}
 use Rattle.d64_image.specs.Places.{place_at}
 use Rattle.d64_image.specs.declared.place.Place.{Place}
-use Rattle.disk_layout.proofs.lemmas.layouts.Layouts.{IsLayout-one}
 use Rattle.disk_layout.proofs.lemmas.records.Pieces.{row-le}
 use Rattle.disk_layout.specs.Chain.{named_at}
-use Rattle.disk_layout.specs.Clean.{IsClean, IsCleanLayout}
+use Rattle.disk_layout.specs.Clean.{IsCleanLayout}
 use Rattle.disk_layout.specs.Layout.{File, Layout, record_length}
 use Rattle.disk_layout.specs.Records.{record_count, records}
 use Rattle.rel_records.proofs.lemmas.Kept.{growing_same, leaves_has}
@@ -124,12 +123,6 @@ module _ (img : Image) (l : Layout) (n : ℕ) (f : File) (v : RelFile) (of : IsF
       (rw (← of.shows.size) (omega (arith, from)))
       (rw (← of.shows.size) (omega (arith, more, from, pos_high)))
       (omega (arith, same-count img l n f v of, low, high)))
-
--- with the layout that a clean image has
-pub clean-of : (img : Image) (l : Layout) (n : ℕ) (f : File) (v : RelFile) → IsFileOf img l n f v → IsClean img
-    → IsCleanLayout img l
-clean-of img l n f v of (k, clean) = let P : Layout → Type 0 = IsCleanLayout img in
-    subst P (IsLayout-one img k l clean.layout of.layout) clean
 
 -- the images that are held while a text is written into a record that is there: the old one, and those with it in part
 -- or whole

@@ -6,4 +6,6 @@ use Rattle.disk_layout.specs.Clean.{IsClean}
 use Rattle.rows_worked.proofs.creation_rows.cut.Goals as goal
 
 pub create-requires-clause-clean : goal.create-requires-clause-clean
-create-requires-clause-clean g c = subst (λ (d : MemDisk). IsClean (disk_image d)) (sym c.new-fuse.ensures.disk) c.clean.ensures
+create-requires-clause-clean g c =
+    let disk = sym c.new-fuse.ensures.disk in
+    subst (λ (d : MemDisk). IsClean (disk_image d)) disk c.clean.ensures

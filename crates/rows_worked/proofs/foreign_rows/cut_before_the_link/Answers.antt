@@ -6,4 +6,6 @@ use Rattle.rel_records.specs.File.{IsOf}
 use Rattle.rows_worked.proofs.foreign_rows.cut_before_the_link.Goals as goal
 
 pub grow_to-requires-clause-of : goal.grow_to-requires-clause-of
-grow_to-requires-clause-of g c = subst (λ (d : MemDisk). IsOf (disk_image d) c.stock-file.result) (sym c.new-fuse.ensures.disk) c.stock-file.ensures.of
+grow_to-requires-clause-of g c =
+    let disk = sym c.new-fuse.ensures.disk in
+    subst (λ (d : MemDisk). IsOf (disk_image d) c.stock-file.result) disk c.stock-file.ensures.of

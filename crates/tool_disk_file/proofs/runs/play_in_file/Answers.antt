@@ -49,14 +49,14 @@ returns g c =
           let there : Some after.file.disk.bytes.items ≡ Some (whole_held after) = subst
           (λ (end : Ended). OnOk end (Some after.file.disk.bytes.items ≡ Some (whole_held after))) e run.there in
           record {
-            told = λ s is none. (lasts_done durabilities.AtEnd o image script file after ended out new_out size known run
-                s (shop s is) v e (whole_held after) refl after.file.held.size none).0;
+            told = λ s is none. (lasts_done durabilities.AtEnd o image script file after ended out new_out size known
+                run s (shop s is) v e (whole_held after) refl after.file.held.size none).0;
             there = λ s is none. subst
                 (λ (bytes : List ℕ). IsSettled (sectors_in bytes)
                 (with_state s (plain (start_of s) (requests_of (lines script)))))
                 (ap known_in (sym there))
-                (lasts_done durabilities.AtEnd o image script file after ended out new_out size known run s (shop s is) v
-                e (whole_held after) refl after.file.held.size none).1;
+                (lasts_done durabilities.AtEnd o image script file after ended out new_out size known run s (shop s is)
+                v e (whole_held after) refl after.file.held.size none).1;
           });
       held = on_ok_weaker ended (λ same. ap known_in same) run.there;
       stays = record { each = each; now = λ s is. each s is (whole_held after) (inl refl) };

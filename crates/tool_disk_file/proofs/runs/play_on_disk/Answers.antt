@@ -25,12 +25,12 @@ returns-clause-done g c =
     let shop : (s : Shop) → IsShop (sectors_in (bytes_there c.args.file)) s → IsShop (sectors_in image) s =
     λ s is. subst (λ (bytes : List ℕ). IsShop (sectors_in bytes) s) known is in
     on_ok_by c.play_durably.result.1 _ (λ v e. record {
-      told = λ s is none. (lasts_done durabilities.EachSector g.T.Tells.output image c.args.script.now c.args.file after c.play_durably.result.1
-          c.args.out.now c.play_durably.new.out size (ap Some known) c.play_durably.ensures.run s (shop s is) v e
-          (bytes_there after) refl after.disk.size none).0;
-      there = λ s is none. (lasts_done durabilities.EachSector g.T.Tells.output image c.args.script.now c.args.file after
+      told = λ s is none. (lasts_done durabilities.EachSector g.T.Tells.output image c.args.script.now c.args.file after
           c.play_durably.result.1 c.args.out.now c.play_durably.new.out size (ap Some known) c.play_durably.ensures.run
-          s (shop s is) v e (bytes_there after) refl after.disk.size none).1;
+          s (shop s is) v e (bytes_there after) refl after.disk.size none).0;
+      there = λ s is none. (lasts_done durabilities.EachSector g.T.Tells.output image c.args.script.now c.args.file
+          after c.play_durably.result.1 c.args.out.now c.play_durably.new.out size (ap Some known)
+          c.play_durably.ensures.run s (shop s is) v e (bytes_there after) refl after.disk.size none).1;
     })
 
 pub returns-clause-stays : goal.returns-clause-stays
@@ -44,9 +44,9 @@ returns-clause-stays g c =
     λ s is all were.
     let sized : length all ≡ 174848 = stayed_sized after _ all were in (
       sized,
-      lasts_each durabilities.EachSector g.T.Tells.output image c.args.script.now c.args.file after c.play_durably.result.1 c.args.out.now
-          c.play_durably.new.out size (ap Some known) c.play_durably.ensures.run s
-          (subst (λ (bytes : List ℕ). IsShop (sectors_in bytes) s) known is) all sized were,
+      lasts_each durabilities.EachSector g.T.Tells.output image c.args.script.now c.args.file after
+          c.play_durably.result.1 c.args.out.now c.play_durably.new.out size (ap Some known) c.play_durably.ensures.run
+          s (subst (λ (bytes : List ℕ). IsShop (sectors_in bytes) s) known is) all sized were,
     ) in
     record { each = each; now = λ s is. each s is (bytes_there after) (inl refl) }
 
@@ -55,5 +55,5 @@ returns-clause-device g c =
     let image = c.args.image.now in
     let known : bytes_there c.args.file ≡ image = c.requires.there ∙ sym c.requires.image in
     let size : length image ≡ 174848 = ap length c.requires.image ∙ c.args.file.held.size in
-    play_failed durabilities.EachSector g.T.Tells.output image c.args.script.now c.args.file c.play_durably.result.0 c.play_durably.result.1
-    c.args.out.now c.play_durably.new.out size (ap Some known) c.play_durably.ensures.run
+    play_failed durabilities.EachSector g.T.Tells.output image c.args.script.now c.args.file c.play_durably.result.0
+    c.play_durably.result.1 c.args.out.now c.play_durably.new.out size (ap Some known) c.play_durably.ensures.run

@@ -10,20 +10,20 @@ use Rattle.host_session.proofs.session.Session.answer.Goals as goal
 
 pub next_card-card-requires-clause-entry : goal.next_card-card-requires-clause-entry
 next_card-card-requires-clause-entry g c =
-    known-entry g.D.Sectors.history c.self.inside.drive.disk c.args.self.now c.self.inside.dead c.self.inside.top
+    known-entry g.D.Sectors.history c.self.inside.drive c.args.self.now c.self.inside.dead c.self.inside.top
     c.self.inside.tills c.self.inside.cards c.self.inside.requests
     c.self.view_is c.self.invariant.0 c.args.request.now c.requires.ask c.requires.alive c.requires.next
     c.decided-outcome.result c.decided-outcome.ensures.rule
 
 pub next_card-card-requires-clause-next : goal.next_card-card-requires-clause-next
 next_card-card-requires-clause-next g c =
-    known-number g.D.Sectors.history c.self.inside.drive.disk c.args.self.now c.self.inside.dead c.self.inside.top
+    known-number g.D.Sectors.history c.self.inside.drive c.args.self.now c.self.inside.dead c.self.inside.top
     c.self.inside.tills c.self.inside.cards c.self.inside.requests
     c.self.view_is c.self.invariant.0 c.args.request.now c.requires.ask c.requires.alive c.requires.next
 
 pub keep-requires-clause-keeping : goal.keep-requires-clause-keeping
 keep-requires-clause-keeping g c =
-    known-keeping g.D.Sectors.history c.self.inside.drive.disk c.args.self.now c.self.inside.dead c.self.inside.top
+    known-keeping g.D.Sectors.history c.self.inside.drive c.args.self.now c.self.inside.dead c.self.inside.top
     c.self.inside.tills c.self.inside.cards c.self.inside.requests
     c.self.view_is c.self.invariant.0 c.args.request.now c.requires.ask c.requires.alive c.requires.next
     c.decided-outcome.result c.decided-outcome.ensures.rule
@@ -33,69 +33,59 @@ keep-requires-clause-keeping g c =
 
 pub invariant_of-self : goal.invariant_of-self
 invariant_of-self g c = (
-  stands-dead g.D.Sectors.history c.self.inside.drive.disk c.args.self.now c.self.inside.dead c.self.inside.top
+  stands-dead g.D.Sectors.history c.self.inside.drive c.args.self.now c.self.inside.dead c.self.inside.top
       c.self.inside.tills c.self.inside.cards c.self.inside.requests
       c.self.view_is c.self.invariant.0 c.args.request.now c.requires.ask c.requires.alive c.requires.next
       c.decided-outcome.result c.decided-outcome.ensures.rule
       c.next_card-card.result c.next_card-card.ensures c.is_none-has_no_card.result
       (asked-none c.on_hand.result _ c.is_none-has_no_card.result (c.on_hand.ensures.value
       ∙ ap (nth c.self.inside.cards) c.item.ensures.value) c.is_none-has_no_card.ensures)
-      c.keep.new.drive c.keep.result c.keep.ensures.puts.ready (λ f h k. c.keep.ensures.puts.ok f (h, k))
-      (λ f h k. c.keep.ensures.puts.moments f (h, k))
-      c.keep.ensures.counted c.keep.ensures.refused c.keep.ensures.puts.failures _,
+      c.keep.new.drive c.keep.result c.keep.ensures.puts c.keep.ensures.counted c.keep.ensures.refused _,
   λ e. absurd (false≢true (sym e)),
 )
 
 pub returns-in_default : goal.returns-in_default
 returns-in_default g c =
-    answers-dead g.D.Sectors.history c.self.inside.drive.disk c.args.self.now c.self.inside.dead c.self.inside.top
+    answers-dead g.D.Sectors.history c.self.inside.drive c.args.self.now c.self.inside.dead c.self.inside.top
     c.self.inside.tills c.self.inside.cards c.self.inside.requests
     c.self.view_is c.self.invariant.0 c.args.request.now c.requires.ask c.requires.alive c.requires.next
     c.decided-outcome.result c.decided-outcome.ensures.rule
     c.next_card-card.result c.next_card-card.ensures c.is_none-has_no_card.result
     (asked-none c.on_hand.result _ c.is_none-has_no_card.result (c.on_hand.ensures.value
     ∙ ap (nth c.self.inside.cards) c.item.ensures.value) c.is_none-has_no_card.ensures)
-    c.keep.new.drive c.keep.result c.keep.ensures.puts.ready (λ f h k. c.keep.ensures.puts.ok f (h, k))
-    (λ f h k. c.keep.ensures.puts.moments f (h, k)) c.keep.ensures.counted
-    c.keep.ensures.refused c.keep.ensures.puts.failures
+    c.keep.new.drive c.keep.result c.keep.ensures.puts c.keep.ensures.counted c.keep.ensures.refused
     c.in_default.field-0 c.in_default.is
 
 pub invariant_of-self-2 : goal.invariant_of-self-2
 invariant_of-self-2 g c = (
-  stands-after g.D.Sectors.history c.self.inside.drive.disk c.args.self.now c.self.inside.dead c.self.inside.top
+  stands-after g.D.Sectors.history c.self.inside.drive c.args.self.now c.self.inside.dead c.self.inside.top
       c.self.inside.tills c.self.inside.cards c.self.inside.requests
       c.self.view_is c.self.invariant.0 c.args.request.now c.requires.ask c.requires.alive c.requires.next
       c.decided-outcome.result c.decided-outcome.ensures.rule
       c.next_card-card.result c.next_card-card.ensures c.is_none-has_no_card.result
       (asked-none c.on_hand.result _ c.is_none-has_no_card.result (c.on_hand.ensures.value
       ∙ ap (nth c.self.inside.cards) c.item.ensures.value) c.is_none-has_no_card.ensures)
-      c.keep.new.drive c.keep.result c.keep.ensures.puts.ready (λ f h k. c.keep.ensures.puts.ok f (h, k))
-      (λ f h k. c.keep.ensures.puts.moments f (h, k))
-      c.keep.ensures.counted c.keep.ensures.refused c.keep.ensures.puts.failures
+      c.keep.new.drive c.keep.result c.keep.ensures.puts c.keep.ensures.counted c.keep.ensures.refused
       c.in-Ok.field-0 c.in-Ok.is c.answered.result c.answered.ensures _ _ c.renew.ensures,
-  λ _. ready-after g.D.Sectors.history c.self.inside.drive.disk c.args.self.now c.self.inside.dead c.self.inside.top
+  λ _. ready-after g.D.Sectors.history c.self.inside.drive c.args.self.now c.self.inside.dead c.self.inside.top
       c.self.inside.tills c.self.inside.cards c.self.inside.requests
       c.self.view_is c.self.invariant.0 c.args.request.now c.requires.ask c.requires.alive c.requires.next
       c.decided-outcome.result c.decided-outcome.ensures.rule
       c.next_card-card.result c.next_card-card.ensures c.is_none-has_no_card.result
       (asked-none c.on_hand.result _ c.is_none-has_no_card.result (c.on_hand.ensures.value
       ∙ ap (nth c.self.inside.cards) c.item.ensures.value) c.is_none-has_no_card.ensures)
-      c.keep.new.drive c.keep.result c.keep.ensures.puts.ready (λ f h k. c.keep.ensures.puts.ok f (h, k))
-      (λ f h k. c.keep.ensures.puts.moments f (h, k))
-      c.keep.ensures.counted c.keep.ensures.refused c.keep.ensures.puts.failures
+      c.keep.new.drive c.keep.result c.keep.ensures.puts c.keep.ensures.counted c.keep.ensures.refused
       c.in-Ok.field-0 c.in-Ok.is,
 )
 
 pub returns : goal.returns
 returns g c =
-    answers-after g.D.Sectors.history c.self.inside.drive.disk c.args.self.now c.self.inside.dead c.self.inside.top
+    answers-after g.D.Sectors.history c.self.inside.drive c.args.self.now c.self.inside.dead c.self.inside.top
     c.self.inside.tills c.self.inside.cards c.self.inside.requests
     c.self.view_is c.self.invariant.0 c.args.request.now c.requires.ask c.requires.alive c.requires.next
     c.decided-outcome.result c.decided-outcome.ensures.rule
     c.next_card-card.result c.next_card-card.ensures c.is_none-has_no_card.result
     (asked-none c.on_hand.result _ c.is_none-has_no_card.result (c.on_hand.ensures.value
     ∙ ap (nth c.self.inside.cards) c.item.ensures.value) c.is_none-has_no_card.ensures)
-    c.keep.new.drive c.keep.result c.keep.ensures.puts.ready (λ f h k. c.keep.ensures.puts.ok f (h, k))
-    (λ f h k. c.keep.ensures.puts.moments f (h, k)) c.keep.ensures.counted
-    c.keep.ensures.refused c.keep.ensures.puts.failures
+    c.keep.new.drive c.keep.result c.keep.ensures.puts c.keep.ensures.counted c.keep.ensures.refused
     c.in-Ok.field-0 c.in-Ok.is

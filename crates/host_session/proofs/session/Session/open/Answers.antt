@@ -25,9 +25,9 @@ returns-in_err-drive-clause-err g c =
     let is = p.1 ∙ ap Err p.2 in
     device-refused S (λ (x : View g.row.D.Denot). x.disk) c.args.disk c.judge.new.disk same c.from_residual.result
     (error-told S (λ (x : View g.row.D.Denot). x.disk) c.judge.new.disk c.from_residual.result c.in_err-drive.field-0.0
-    is c.in_err-drive.ensures.failures) (S.image c.args.disk)
+    is c.in_err-drive.ensures.mends.failures) (S.image c.args.disk)
     (error-device S (λ (x : View g.row.D.Denot). x.disk) c.judge.new.disk c.from_residual.result
-    c.in_err-drive.field-0.0 is c.in_err-drive.ensures.err)
+    c.in_err-drive.field-0.0 is c.in_err-drive.ensures.mends.err)
 
 pub returns-in_err-drive-clause-opens : goal.returns-in_err-drive-clause-opens
 returns-in_err-drive-clause-opens g c = λ never.
@@ -47,9 +47,9 @@ returns-in_err-drive-clause-opens g c = λ never.
       λ ok. (shop_of f, shop),
       λ some. device-ok S (λ (x : View g.row.D.Denot). x.disk) c.args.disk c.judge.new.disk same c.from_residual.result
           (error-told S (λ (x : View g.row.D.Denot). x.disk) c.judge.new.disk c.from_residual.result
-          c.in_err-drive.field-0.0 is c.in_err-drive.ensures.failures)
+          c.in_err-drive.field-0.0 is c.in_err-drive.ensures.mends.failures)
           (error-device S (λ (x : View g.row.D.Denot). x.disk) c.judge.new.disk c.from_residual.result
-          c.in_err-drive.field-0.0 is c.in_err-drive.ensures.err) never,
+          c.in_err-drive.field-0.0 is c.in_err-drive.ensures.mends.err) never,
     )
 
 pub returns-in_err-drive-clause-moments : goal.returns-in_err-drive-clause-moments
@@ -61,7 +61,7 @@ returns-in_err-drive-clause-moments g c = λ s h.
     (reads_change S c.args.disk c.judge.new.disk 34190 (λ i. IsShop i s) c.judge.ensures.reads h)
     (error-changes S c.judge.new.disk 952 952 (λ i. IsShop i s) (λ (x : View g.row.D.Denot). x.disk)
     c.from_residual.result c.in_err-drive.field-0.0 (omega arith) (p.1 ∙ ap Err p.2)
-    (c.in_err-drive.ensures.moments s now))
+    (c.in_err-drive.ensures.mends.moments s now))
 
 pub returns-in_err-drive-clause-unfit : goal.returns-in_err-drive-clause-unfit
 returns-in_err-drive-clause-unfit g c = λ none.
@@ -88,7 +88,7 @@ returns-in_err-drive-clause-quiet g c = λ s r.
     (omega arith) (λ i e. e ∙ same)
     (error-changes S c.judge.new.disk 0 0 (λ i. i ≡ S.image c.judge.new.disk) (λ (x : View g.row.D.Denot). x.disk)
     c.from_residual.result c.in_err-drive.field-0.0 (omega arith) (p.1 ∙ ap Err p.2)
-    (c.in_err-drive.ensures.quiet s now)))
+    (c.in_err-drive.ensures.mends.quiet (s, now))))
 
 pub returns-in_err-drive-clause-failures : goal.returns-in_err-drive-clause-failures
 returns-in_err-drive-clause-failures g c =
@@ -98,10 +98,10 @@ returns-in_err-drive-clause-failures g c =
     let p = err_from_is_err_and c.from_residual.result c.from_residual.ensures.1 in
     opening-later S (λ (x : View g.row.D.Denot). x.disk) c.args.disk c.judge.new.disk same c.from_residual.result
     (error-told S (λ (x : View g.row.D.Denot). x.disk) c.judge.new.disk c.from_residual.result c.in_err-drive.field-0.0
-    (p.1 ∙ ap Err p.2) c.in_err-drive.ensures.failures)
+    (p.1 ∙ ap Err p.2) c.in_err-drive.ensures.mends.failures)
 
 pub invariant_of-result : goal.invariant_of-result
-invariant_of-result g c = (c.in_ok-drive.ensures.standing, λ _. c.in_ok-drive.ensures.ready)
+invariant_of-result g c = (c.in_ok-drive.ensures.standing, λ _. c.in_ok-drive.ensures.mends.ready)
 
 pub returns-clause-ok : goal.returns-clause-ok
 returns-clause-ok g c =
@@ -116,7 +116,7 @@ returns-clause-ok g c =
     } in
     let now : IsShop (S.image c.judge.new.disk) (shop_of f) =
     subst (λ i. IsShop i (shop_of f)) (sym c.judge.ensures.reads.image) shop in
-    (shop_of f, shop, c.in_ok-drive.ensures.ok (shop_of f) now, refl)
+    (shop_of f, shop, c.in_ok-drive.ensures.mends.ok (shop_of f) now, refl)
 
 pub returns-clause-opens : goal.returns-clause-opens
 returns-clause-opens g c = λ never.
@@ -137,7 +137,7 @@ returns-clause-moments g c = λ s h.
     let now : IsShop (S.image c.judge.new.disk) s = subst (λ i. IsShop i s) (sym c.judge.ensures.reads.image) h in
     changes_then S c.args.disk c.judge.new.disk c.in_ok-drive.drive.disk 0 952 952 (λ i. IsShop i s) (omega arith)
     (reads_change S c.args.disk c.judge.new.disk 34190 (λ i. IsShop i s) c.judge.ensures.reads h)
-    (c.in_ok-drive.ensures.moments s now)
+    (c.in_ok-drive.ensures.mends.moments s now)
 
 pub returns-clause-unfit : goal.returns-clause-unfit
 returns-clause-unfit g c = λ none.
@@ -161,11 +161,11 @@ returns-clause-quiet g c = λ s r.
     (omega arith) (reads_change S c.args.disk c.judge.new.disk 34190 (λ i. i ≡ S.image c.args.disk)
     c.judge.ensures.reads refl)
     (changes_weaker S c.judge.new.disk c.in_ok-drive.drive.disk 0 0 (λ i. i ≡ S.image c.judge.new.disk)
-    (λ i. i ≡ S.image c.args.disk) (omega arith) (λ i e. e ∙ same) (c.in_ok-drive.ensures.quiet s now))
+    (λ i. i ≡ S.image c.args.disk) (omega arith) (λ i e. e ∙ same) (c.in_ok-drive.ensures.mends.quiet (s, now)))
 
 pub returns-clause-failures : goal.returns-clause-failures
 returns-clause-failures g c =
-    c.in_ok-drive.ensures.failures ∙ judged-same g.D.Sectors.history c.args.disk c.judge.new.disk c.judge.result
+    c.in_ok-drive.ensures.mends.failures ∙ judged-same g.D.Sectors.history c.args.disk c.judge.new.disk c.judge.result
     c.in_default.not-Err c.judge.ensures.failures
 
 pub returns-in-Err-clause-opens : goal.returns-in-Err-clause-opens

@@ -1,6 +1,7 @@
 -- A till's record that is empty, a card, or other bytes; an open intent asks for the records of its items.
-use Rattle.std.proofs.Common.{ap, inr, length, refl, subst, sym, ◌∙◌}
+use Rattle.std.proofs.Common.{ap, inl, inr, length, refl, subst, sym, ◌∙◌}
 use Rattle.std.proofs.lemmas.Bool.{false≢true}
+use Rattle.std.proofs.lemmas.Result.{err_from_is_err_and}
 use Rattle.request_cards.proofs.CardReading.{card_is}
 use Rattle.request_cards.specs.CardReading.{request_card_of}
 use Rattle.host_session.specs.shop.Found.{Tells}
@@ -17,6 +18,18 @@ new_quantities-requires-clause-fits g c =
     c.in-Some.is (c.in_ok-held.ensures.ok f a) in
     let reads = subst (Tells request_card_of 127 bytes) c.in-Card.is told in
     ((card_is bytes c.in-Card.card).0 reads).0
+
+pub returns-in_err-held : goal.returns-in_err-held
+returns-in_err-held g c =
+    let e = err_from_is_err_and c.from_residual.result c.from_residual.ensures.1 in
+    let held = c.in_err-held.ensures in
+    record {
+      ok = rw e.1 (λ f a. tt);
+      err = rw e.1 (λ f a. inl (e.2 ∙ held.err f a));
+      kept = held.kept;
+      reads = held.reads;
+      failures = rw (e.1, e.2) held.failures;
+    }
 
 pub returns-in_default : goal.returns-in_default
 returns-in_default g c = record {

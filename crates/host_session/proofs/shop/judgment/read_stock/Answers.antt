@@ -52,7 +52,7 @@ returns-in_err-quantity-clause-err g c =
     (λ e. failed_later S c.args.disk.now c.loop-place.disk c.judge_item.new.disk inv.failures
     (judged-device (Option (Option ℕ)) S c.loop-place.disk c.judge_item.new.disk c.in_err-quantity.field-0.0
     c.in_err-quantity.ensures.failures e))
-    (c.in_err-quantity.ensures.err f now h) in
+    (c.in_err-quantity.ensures.err f (now, h)) in
     subst (λ (r : Result Unit OpenFault). IfErr r (Refuses (Failed S c.args.disk.now c.judge_item.new.disk) old))
     (sym (p.1 ∙ ap Err p.2)) refused
 
@@ -77,7 +77,7 @@ returns-in-None-clause-ok g c = λ f a h.
     let now = files-still (S.image c.args.disk.now) (S.image c.loop-place.disk) f c.args.files.now inv.reads.image a in
     cards-done f c.args.new.now h c.loop-place.place c.loop-place.cards inv.few (inv.so_far f a h)
     (stock-few (S.image c.args.disk.now) (S.whole c.args.disk.now) f c.args.files.now a)
-    (inr (subst (IsJudgedItem f (c.loop-place.place + 1)) c.in-None.is (c.in_ok-quantity.ensures.ok f now h)))
+    (inr (subst (IsJudgedItem f (c.loop-place.place + 1)) c.in-None.is (c.in_ok-quantity.ensures.ok f (now, h))))
 
 pub returns-in-None-clause-reads : goal.returns-in-None-clause-reads
 returns-in-None-clause-reads g c =
@@ -100,7 +100,7 @@ loop-place-preserved g c =
           a in
           let more = card-more f c.args.new.now h c.loop-place.place c.loop-place.cards inv.few (inv.so_far f a h)
           c.in-Some.quantity (omega (arith, c.loop-place-test.true))
-          (subst (IsJudgedItem f (c.loop-place.place + 1)) c.in-Some.is (c.in_ok-quantity.ensures.ok f now h)) in
+          (subst (IsJudgedItem f (c.loop-place.place + 1)) c.in-Some.is (c.in_ok-quantity.ensures.ok f (now, h))) in
           subst (λ k. IsCountedTo f (c.loop-place.place + 1) (set c.loop-place.cards k c.in-Some.quantity))
           (sym c.from.ensures) more;
     }

@@ -4,7 +4,7 @@ use Rattle.std.specs.Prelude.{Some}
 use Rattle.host_session.specs.shop.Files.{record_at}
 use Rattle.request_cards.specs.CardReading.{stock_card_of}
 use Rattle.host_session.specs.shop.Found.{Tells}
-use Rattle.host_session.proofs.lemmas.judging.Readings.{match-some, past-last, item-read, whole-chunk}
+use Rattle.host_session.proofs.lemmas.judging.Readings.{absent-told, item-read, match-some, past-last, whole-chunk}
 use Rattle.host_session.proofs.shop.reading.read_item.Goals as goal
 
 pub unwrap-bytes-requires : goal.unwrap-bytes-requires
@@ -16,27 +16,45 @@ unwrap-bytes-requires g c =
     c.read_next.new.text.items is in
     c.first_chunk.ensures.variant.1 (omega (arith, read.1, ap length c.as_slice.ensures.value))
 
-pub returns-in-Ok-clause-ok : goal.returns-in-Ok-clause-ok
-returns-in-Ok-clause-ok g c = λ f a.
+pub returns-in-Ok : goal.returns-in-Ok
+returns-in-Ok g c =
     let S = g.D.Sectors.history in
-    let is = c.in-Ok.ensures.text.ok a.has.layout a.has.stock_place a.has.stock_file a.stock_of in
-    let read = item-read (S.image c.args.disk.now) (S.whole c.args.disk.now) f c.args.files.now a c.from.result
-    c.read_next.new.text.items is in
-    let chunk = match-some _ _ c.first_chunk.result c.unwrap-bytes.result c.unwrap-bytes.ensures
-    c.first_chunk.ensures.cases in
-    let same = whole-chunk _ _ 18 (ap length c.as_slice.ensures.value ∙ read.1) chunk ∙ c.as_slice.ensures.value in (
-      c.unwrap-bytes.result.now,
-      ap (λ r. record_at f.stock r) (sym c.from.ensures) ∙ read.0 ∙ ap Some (sym same),
-      subst (λ n. Tells stock_card_of n c.unwrap-bytes.result.now c.what_is_held.result) (ap length same ∙ read.1)
-          (c.what_is_held.ensures stock_card_of (sym c.parse.ensures.exact)),
-    )
+    let text = c.in-Ok.ensures.text in
+    record {
+      ok = λ f a.
+          let is = text.ok a.has.layout a.has.stock_place a.has.stock_file a.stock_of in
+          let read = item-read (S.image c.args.disk.now) (S.whole c.args.disk.now) f c.args.files.now a c.from.result
+          c.read_next.new.text.items is in
+          let chunk = match-some _ _ c.first_chunk.result c.unwrap-bytes.result c.unwrap-bytes.ensures
+          c.first_chunk.ensures.cases in
+          let long = ap length c.as_slice.ensures.value ∙ read.1 in
+          let same = whole-chunk _ _ 18 long chunk ∙ c.as_slice.ensures.value in (
+            c.unwrap-bytes.result.now,
+            ap (λ r. record_at f.stock r) (sym c.from.ensures) ∙ read.0 ∙ ap Some (sym same),
+            subst (λ n. Tells stock_card_of n c.unwrap-bytes.result.now c.what_is_held.result)
+                (ap length same ∙ read.1) (c.what_is_held.ensures stock_card_of (sym c.parse.ensures.exact)),
+          );
+      err = λ f a. tt;
+      kept = c.in-Ok.ensures.kept;
+      reads = text.reads;
+      failures = text.failures;
+    }
 
-pub returns-in-Err-NotPresent-clause-ok : goal.returns-in-Err-NotPresent-clause-ok
-returns-in-Err-NotPresent-clause-ok g c = λ f a.
-    let absent = c.in-Err-NotPresent.ensures.text.not_present a.has.layout a.has.stock_place a.has.stock_file a.stock_of
-    c.in-Err-NotPresent.field-0-is in
-    omega (
-      arith,
-      past-last _ f.stock c.from.result a.has.stock (omega (arith, c.requires.low, c.from.ensures)) absent,
-      c.from.ensures,
-    )
+pub returns-in-Err-NotPresent : goal.returns-in-Err-NotPresent
+returns-in-Err-NotPresent g c =
+    let text = c.in-Err-NotPresent.ensures.text in
+    let is = c.in-Err-NotPresent.field-0-is in
+    record {
+      ok = λ f a.
+          let absent = text.not_present a.has.layout a.has.stock_place a.has.stock_file a.stock_of is in
+          omega (
+            arith,
+            past-last _ f.stock c.from.result a.has.stock (omega (arith, c.requires.low, c.from.ensures)) absent,
+            c.from.ensures,
+          );
+      err = λ f a. tt;
+      kept = c.in-Err-NotPresent.ensures.kept;
+      reads = text.reads;
+      failures = absent-told g.D.Sectors.history c.args.disk.now c.read_next.new.disk c.in-Err-NotPresent.field-0
+          text.failures is;
+    }

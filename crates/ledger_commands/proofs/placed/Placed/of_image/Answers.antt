@@ -10,8 +10,10 @@ invariant_of-result g c =
       fits = omega arith;
       each = λ b. (c.is_brought.ensures.0 b).0;
       whole = sized _ (g.F.WritesAt.held c.args.file) c.args.image.now c.requires.image
-          (seen_held g.F.WritesAt.held g.F.WritesAt.lasting g.F.WritesAt.whole c.is_brought.result _ c.args.file (length c.args.image.now ≡ 174848)
-          (λ b. ((c.is_brought.ensures.0 b).1, c.requires.there (c.is_brought.ensures.0 b).0)) (eqb-true (length c.args.image.now) 174848));
+          (seen_held g.F.WritesAt.held g.F.WritesAt.lasting g.F.WritesAt.whole c.is_brought.result _ c.args.file
+          (length c.args.image.now ≡ 174848)
+          (λ b. ((c.is_brought.ensures.0 b).1, c.requires.there (c.is_brought.ensures.0 b).0))
+          (eqb-true (length c.args.image.now) 174848));
       blamed = λ some. absurd (omega (arith, some));
       there = λ b none. c.requires.there (c.is_brought.ensures.0 b).0;
     }
@@ -19,5 +21,7 @@ invariant_of-result g c =
 pub returns-clause-agrees : goal.returns-clause-agrees
 returns-clause-agrees g c =
     agrees_at _ (g.F.WritesAt.held c.args.file) c.args.image.now c.requires.image
-    (seen_held g.F.WritesAt.held g.F.WritesAt.lasting g.F.WritesAt.whole c.is_brought.result _ c.args.file (length c.args.image.now ≡ 174848)
-    (λ b. ((c.is_brought.ensures.0 b).1, c.requires.there (c.is_brought.ensures.0 b).0)) (eqb-true (length c.args.image.now) 174848))
+    (seen_held g.F.WritesAt.held g.F.WritesAt.lasting g.F.WritesAt.whole c.is_brought.result _ c.args.file
+    (length c.args.image.now ≡ 174848)
+    (λ b. ((c.is_brought.ensures.0 b).1, c.requires.there (c.is_brought.ensures.0 b).0))
+    (eqb-true (length c.args.image.now) 174848))

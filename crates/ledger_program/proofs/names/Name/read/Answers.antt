@@ -3,7 +3,9 @@ use Rattle.std.proofs.Common.{◌≡◌, ◌<◌, ◌∙◌, ◌-◌, Some, arit
 use Rattle.byte_text.specs.Texts.{text_of}
 use Rattle.ledger_program.proofs.Named.{ends-in-space, too-long}
 use Rattle.ledger_program.proofs.names.Name.read.Goals.{then-len-gt-NAME_BYTES-via-then-len-gt-NAME_BYTES}
-use Rattle.ledger_program.proofs.names.Name.read.Goals.{then-len-gt-NAME_BYTES-via-else-len-gt-NAME_BYTES+then-ends_in_space}
+use Rattle.ledger_program.proofs.names.Name.read.Goals.{
+  then-len-gt-NAME_BYTES-via-else-len-gt-NAME_BYTES+then-ends_in_space,
+}
 use Rattle.ledger_program.proofs.names.Name.read.Goals as goal
 
 pub returns-then-len-gt-NAME_BYTES-clause-none : goal.returns-then-len-gt-NAME_BYTES-clause-none

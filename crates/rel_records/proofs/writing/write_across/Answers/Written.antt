@@ -1,10 +1,11 @@
 -- Both blocks are written.
 use Rattle.std.proofs.Common.{arith, length, refl, slice_index, subst, sym, ℕ, ◌+◌, ◌<◌, ◌∙◌}
 use Rattle.d64_image.specs.Images.{Image}
+use Rattle.disk_layout.proofs.lemmas.layouts.Unclean.{clean-of}
 use Rattle.disk_layout.specs.Layout.{record_length}
 use Rattle.disk_layout.specs.Records.{records}
 use Rattle.rel_records.proofs.lemmas.writing.Across.{both-moments, leaves-both, leaves-half}
-use Rattle.rel_records.proofs.lemmas.writing.OneBlock.{clean-of, one-more}
+use Rattle.rel_records.proofs.lemmas.writing.OneBlock.{one-more}
 use Rattle.rel_records.proofs.lemmas.reading.Readings.{inside-of, next-is}
 use Rattle.rel_records.specs.File.{length_of}
 use Rattle.rel_records.specs.Others.{LeavesRecords}
@@ -36,7 +37,7 @@ returns g c =
           record {
             ok =
                 subst P (sym c.in_ok-write_block.ensures.put.ok)
-                (leaves-both a l n f v (S.whole c.args.disk.now) of (clean-of a l n f v of r.begins.there.clean)
+                (leaves-both a l n f v (S.whole c.args.disk.now) of (clean-of a l of.layout r.begins.there.clean)
                 c.args.block c.args.number c.args.position c.args.place c.unwrap.result c.args.text.now small
                 (r.begins.at l n f of) to r.begins.there.low r.begins.there.high r.begins.there.position_low
                 r.begins.there.position_high r.begins.from r.inside r.over
@@ -44,13 +45,13 @@ returns g c =
             moments =
                 both-moments S c.args.disk.now c.write_block.new.disk l n f v c.args.number c.args.position
                 c.args.text.now _ of c.in_ok-next.ensures.put.held c.in_ok-next.ensures.put.writes
-                (leaves-half a l n f v (S.whole c.args.disk.now) of (clean-of a l n f v of r.begins.there.clean)
+                (leaves-half a l n f v (S.whole c.args.disk.now) of (clean-of a l of.layout r.begins.there.clean)
                 c.args.block c.args.number c.args.position c.args.place c.unwrap.result c.args.text.now small
                 (r.begins.at l n f of) to r.begins.there.low r.begins.there.high r.begins.there.position_low
                 r.begins.there.position_high r.begins.from r.inside r.over)
                 c.write_block-2.new.disk _ c.in_ok-next.ensures.put.ok c.write_block-2.ensures.put.held
                 c.write_block-2.ensures.put.writes
-                (leaves-both a l n f v (S.whole c.args.disk.now) of (clean-of a l n f v of r.begins.there.clean)
+                (leaves-both a l n f v (S.whole c.args.disk.now) of (clean-of a l of.layout r.begins.there.clean)
                 c.args.block c.args.number c.args.position c.args.place c.unwrap.result c.args.text.now small
                 (r.begins.at l n f of) to r.begins.there.low r.begins.there.high r.begins.there.position_low
                 r.begins.there.position_high r.begins.from r.inside r.over

@@ -9,7 +9,8 @@ use Rattle.tool_disk_file.proofs.noting.NotedRepliesAnswersMemDisk.answer.Goals 
 
 pub returns-then-note : goal.returns-then-note
 returns-then-note c = (
-  reply_noted c.args.self.now c.note.new.self c.args.reply.now (instant_of memory c.args.disk.now) c.if-note.ensures.same
+  reply_noted c.args.self.now c.note.new.self c.args.reply.now (instant_of memory c.args.disk.now)
+      c.if-note.ensures.same
       (c.if-note.ensures.kept
       ∙ ap (λ held. replies_noted c.args.self.now ++ (c.args.reply.now, held) ∷ []) c.bytes.ensures.image),
   omega arith,
@@ -22,5 +23,7 @@ returns c =
       most = c.note.new.self.most;
       failed = true;
       alloc = c.note.new.self.alloc;
-    } in
-    (reply_lost c.args.self.now now c.args.reply.now (instant_of memory c.args.disk.now) refl c.if-note.ensures.kept, refl)
+    } in (
+      reply_lost c.args.self.now now c.args.reply.now (instant_of memory c.args.disk.now) refl c.if-note.ensures.kept,
+      refl,
+    )
