@@ -1,5 +1,5 @@
 -- A run as a chain of events. All of it is our own.
-use Rattle.std.specs.Prelude.{◌≡◌, ◌≤◌, List, [], ◌∷◌, ◌++◌, map, zip}
+use Rattle.std.specs.Prelude.{◌≡◌, List, [], ◌∷◌, ◌++◌, map, zip}
 use Rattle.d64_image.specs.History.{Changes, History}
 use Rattle.request_cards.specs.declared.reply.Reply.{Reply}
 use Rattle.host_session.specs.events.Counted.{after_all}
@@ -28,7 +28,8 @@ pub record HasRun {D : Type 0} (h : History D) (s : Shop) (ms : List Message) (t
   pub opening : Changes h old first 952 (λ i. IsShop i s)
   -- a shop at rest was read alone
   pub quiet : IsSettled (h.image old) s → Untouched h old first
-  pub later : h.failures old ≤ h.failures first
+  -- and no call failed in it
+  pub unfailed : h.failures first ≡ h.failures old
   pub rests : IsSettled (h.image first) s
   -- the shop as it is now
   pub now : Shop

@@ -34,6 +34,7 @@ module _ {D : Type 0} (h : History D) where
     is = none_counts s.top s.state (request_of bytes) false;
     blame = λ e. cc;
     later = omega arith;
+    unfailed = λ e. cc;
     moments = start h d (IsInEvent s (cut_at bytes 0)) (inl shop);
     quiet = λ _. start h d (λ i. i ≡ h.image d) refl;
     ends = shop;
@@ -50,6 +51,7 @@ module _ {D : Type 0} (h : History D) where
     is = whole_counts s.top s.state (request_of bytes) (Some n) false (positive n low);
     blame = λ e. cc;
     later = later;
+    unfailed = λ e. cc;
     moments = held;
     quiet = quiet;
     ends = subst (λ state. IsShop (h.image b) (with_state s state))
@@ -68,6 +70,7 @@ module _ {D : Type 0} (h : History D) where
     is = is;
     blame = blame;
     later = later;
+    unfailed = λ e. cc;
     moments = held;
     quiet = quiet;
     ends = shop;
@@ -209,17 +212,18 @@ module _ {D : Type 0} (h : History D) where
       (λ i x. counted_way s m failed counted i is x) second)
 
   -- openings after an event that left a shop
-  pub event_then : (s : Shop) (m : Message) (a b c : D) (Before After : Bool → State → Type 0)
+  pub event_then : (s : Shop) (m : Message) (a b c : D) (Before After : Bool → State → Type 0) → m.cut_after ≢ None
       → (x : IsEvent h s m a b Before)
       → HeldOnly h b c (λ i. IsShop i (with_state s (after_all (start_of s) s.state x.counted)))
       → h.failures b ≤ h.failures c → LeavesAlone h s m a c → After x.failed (after_all (start_of s) s.state x.counted)
       → IsEvent h s m a c After
-  event_then s m a b c Before After x held later quiet ends = record {
+  event_then s m a b c Before After is x held later quiet ends = record {
     failed = x.failed;
     counted = x.counted;
     is = x.is;
     blame = λ e. failed_before h a b c (x.blame e) later;
     later = omega (arith, x.later, later);
+    unfailed = λ none. absurd (is none);
     moments = way_then s m x.failed x.counted a b c x.is x.moments held;
     quiet = quiet;
     ends = ends;
@@ -242,6 +246,7 @@ module _ {D : Type 0} (h : History D) where
           λ lt. omega (arith, x.later, later, failed.rose lt);
     };
     later = omega (arith, x.later, later, failed.later);
+    unfailed = λ _ e. cc;
     moments = way_then s m x.failed x.counted a b d x.is x.moments held;
     quiet = quiet;
     ends = ends;

@@ -45,6 +45,7 @@ module _ {D : Type 0} (h : History D) where
     is = whole_counts s.top s.state (request_of m.bytes) m.cut_after false (uncut m none);
     blame = λ e. cc;
     later = omega (arith, same);
+    unfailed = λ _ _. same;
     moments = on_the_way s m a b none held;
     quiet = left s m a b none alone;
     ends = record {
@@ -72,6 +73,7 @@ module _ {D : Type 0} (h : History D) where
         is = failed_out s.top s.state (request_of m.bytes) m.cut_after;
         blame = λ e. failed;
         later = failed.later;
+        unfailed = λ _ e. cc;
         moments = on_the_way s m a b none held;
         quiet = left s m a b none alone;
         ends = record { told = is; asked = some; is_failed = refl; shop = before };
@@ -82,6 +84,7 @@ module _ {D : Type 0} (h : History D) where
         is = whole_counts s.top s.state (request_of m.bytes) m.cut_after true (uncut m none);
         blame = λ e. failed;
         later = failed.later;
+        unfailed = λ _ e. cc;
         moments = on_the_way s m a b none held;
         quiet = left s m a b none alone;
         ends = record {

@@ -1,6 +1,6 @@
 -- What a chain of events says of its run.
 use Rattle.std.proofs.Common.{◌≡◌, ◌≢◌, ◌≤◌, List, [], ◌∷◌, ◌++◌, refl, sym, subst, ◌∙◌, ap, arith, append_assoc}
-use Rattle.std.proofs.Common.{append-nil, le_refl, le_trans, length}
+use Rattle.std.proofs.Common.{append-nil, le_of_eq, le_refl, le_trans, length}
 use Rattle.d64_image.specs.History.{Changes, Failed, History}
 use Rattle.d64_image.proofs.Moments.{start}
 use Rattle.request_cards.specs.declared.reply.Reply.{Reply}
@@ -88,9 +88,10 @@ module _ {D : Type 0} (h : History D) where
   pub run_played : (s : Shop) (ms : List Message) (xs : List (Reply × D)) (old new : D) → (r : HasRun h s ms xs old new)
       → PlayedTo s ms old new (told_in xs) r.now
   run_played s ms xs old new r =
-      let p : HasPlayed h s [] old r.first [] = none_played h s old r.first r.opening.held r.later r.rests in
+      let later = le_of_eq (sym r.unfailed) in
+      let p : HasPlayed h s [] old r.first [] = none_played h s old r.first r.opening.held later r.rests in
       chain_played s [] old r.first [] p ms xs new r.now
-      (subst (λ u. IsChain h u ms xs r.first r.now new) (sym (now_none h s old r.first r.opening.held r.later r.rests))
+      (subst (λ u. IsChain h u ms xs r.first r.now new) (sym (now_none h s old r.first r.opening.held later r.rests))
       r.chain)
 
   -- nothing of today's is lost: a whole run
@@ -149,7 +150,7 @@ module _ {D : Type 0} (h : History D) where
           first = q.mid;
           opening = record { held = start h q.mid (λ i. IsShop i q.now) settled.shop; writes = omega arith };
           quiet = λ _. record { held = start h q.mid (λ i. i ≡ h.image q.mid) refl; writes = omega arith };
-          later = le_refl (h.failures q.mid);
+          unfailed = refl;
           rests = settled;
           now = t;
           chain = q.behind;
@@ -166,7 +167,7 @@ module _ {D : Type 0} (h : History D) where
           first = r.first;
           opening = r.opening;
           quiet = r.quiet;
-          later = r.later;
+          unfailed = r.unfailed;
           rests = r.rests;
           now = q.0.now;
           chain = q.0.before;
@@ -183,7 +184,7 @@ module _ {D : Type 0} (h : History D) where
     first = r.first;
     opening = r.opening;
     quiet = r.quiet;
-    later = r.later;
+    unfailed = r.unfailed;
     rests = r.rests;
     now = with_state r.now (after_all (start_of r.now) r.now.state e.counted);
     chain = chain_more s ms xs r.first mid new r.now m reply r.chain e;
@@ -198,13 +199,13 @@ module _ {D : Type 0} (h : History D) where
 
   -- before the first one
   pub run_none : (s : Shop) (old first : D) → Changes h old first 952 (λ i. IsShop i s)
-      → (IsSettled (h.image old) s → Untouched h old first) → h.failures old ≤ h.failures first
+      → (IsSettled (h.image old) s → Untouched h old first) → h.failures first ≡ h.failures old
       → IsSettled (h.image first) s → HasRun h s [] [] old first
-  run_none s old first opening quiet later settled = record {
+  run_none s old first opening quiet unfailed settled = record {
     first = first;
     opening = opening;
     quiet = quiet;
-    later = later;
+    unfailed = unfailed;
     rests = settled;
     now = s;
     chain = (refl, refl);
@@ -228,7 +229,7 @@ module _ {D : Type 0} (h : History D) where
 
   pub run_later : (s : Shop) (ms : List Message) (xs : List (Reply × D)) (old new : D) → HasRun h s ms xs old new
       → h.failures old ≤ h.failures new
-  run_later s ms xs old new r = le_trans r.later (chain_later s ms xs r.first new r.now r.chain)
+  run_later s ms xs old new r = le_trans (le_of_eq (sym r.unfailed)) (chain_later s ms xs r.first new r.now r.chain)
 
   -- where the last message met the failure, it came in the run
   pub run_failed : (s : Shop) (ms : List Message) (xs : List (Reply × D)) (last : Reply) (old new : D)

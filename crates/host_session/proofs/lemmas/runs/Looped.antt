@@ -30,15 +30,15 @@ module _ {D A T : Type 0} (h : History D) (a : Source A) (o : Output T) (from : 
   -- before the first event
   pub has_none : (first : D) → Changes h from.disk first 952 (λ i. IsShop i from.shop)
       → (IsSettled (h.image from.disk) from.shop → Untouched h from.disk first)
-      → h.failures from.disk ≤ h.failures first
+      → h.failures first ≡ h.failures from.disk
       → IsSettled (h.image first) from.shop → HasCome h a o from first from.asks from.out
-  has_none first opening quiet later rests = record {
+  has_none first opening quiet unfailed rests = record {
     taken = [];
     is = (a.none from.asks, λ failed. failed);
     whole = (
       record {
         turns = [];
-        run = run_none h from.shop from.disk first opening quiet later rests;
+        run = run_none h from.shop from.disk first opening quiet unfailed rests;
         told = o.none from.out;
       },
       refl,

@@ -31,8 +31,8 @@ returns-in-Ok-clause-done g c = λ s settled alive.
     ((c.cut_message-cut_disk.ensures.event u rests alive).quiet asks) rests (c.cut_openings-disk.ensures.quiet u)
     (c.in-Ok.ensures.quiet u) in (
       ok.3,
-      event_then h s m _ _ _ (Leaves h s c.cut_message-cut_disk.result) (GoesOn h s m Cut c.in-Ok.session.disk) x
-          (then h _ _ _ (λ i. IsShop i t) listed last.held)
+      event_then h s m _ _ _ (Leaves h s c.cut_message-cut_disk.result) (GoesOn h s m Cut c.in-Ok.session.disk)
+          (λ (e : m.cut_after ≡ None). cc) x (then h _ _ _ (λ i. IsShop i t) listed last.held)
           (omega (arith, c.cut_openings-disk.ensures.later t x.ends, c.in-Ok.ensures.failures))
           (λ asks. (spared s settled asks).0)
           (record {

@@ -1,5 +1,5 @@
 -- A run that is refused, and one that is opened.
-use Rattle.std.proofs.Common.{◌≤◌, ◌∙◌, [], arith, ap, subst, sym}
+use Rattle.std.proofs.Common.{◌∙◌, [], ap, subst, sym}
 use Rattle.host_session.proofs.lemmas.runs.Looped.{has_none}
 use Rattle.host_session.proofs.lemmas.runs.RunEnds.{run_ended, run_refused}
 use Rattle.host_session.proofs.lemmas.runs.RunOpenings.{opening_failed, opening_later, opening_refused}
@@ -26,9 +26,8 @@ returns-in-Cut g c =
     let ok = c.in-Ok.ensures.ok in
     let from : Origin g.row.D.Denot g.row.A.Denot g.row.T.Denot =
     record { shop = ok.0; disk = c.args.disk; asks = c.args.asks.now; out = c.args.out.now } in
-    let later : h.failures c.args.disk ≤ h.failures c.in-Ok.session.disk = omega (arith, c.in-Ok.ensures.failures) in
     let come = has_none h a o from c.in-Ok.session.disk (c.in-Ok.ensures.moments ok.0 ok.1) (c.in-Ok.ensures.quiet ok.0)
-    later ok.2 in
+    c.in-Ok.ensures.failures ok.2 in
     let stretch =
     subst (IsStretch h a o from c.whole_messages.new.session c.whole_messages.new.asks c.whole_messages.new.out)
     c.in-Cut.is
@@ -44,9 +43,8 @@ returns-in-Ended g c =
     let ok = c.in-Ok.ensures.ok in
     let from : Origin g.row.D.Denot g.row.A.Denot g.row.T.Denot =
     record { shop = ok.0; disk = c.args.disk; asks = c.args.asks.now; out = c.args.out.now } in
-    let later : h.failures c.args.disk ≤ h.failures c.in-Ok.session.disk = omega (arith, c.in-Ok.ensures.failures) in
     let come = has_none h a o from c.in-Ok.session.disk (c.in-Ok.ensures.moments ok.0 ok.1) (c.in-Ok.ensures.quiet ok.0)
-    later ok.2 in
+    c.in-Ok.ensures.failures ok.2 in
     let stretch =
     subst (IsStretch h a o from c.whole_messages.new.session c.whole_messages.new.asks c.whole_messages.new.out)
     c.in-Ended.is
