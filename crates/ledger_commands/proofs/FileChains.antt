@@ -1,10 +1,10 @@
 -- A run over a mirror, as one of its file: event by event.
-use Rattle.std.proofs.Common.{◌≡◌, ◌<◌, ◌≤◌, ◌+◌, ℕ, Bool, List, [], ◌∷◌, ◌++◌, None, Option, Some, ap}
-use Rattle.std.proofs.Common.{arith, length, refl, subst, sym}
-use Rattle.std.specs.Prelude.{◌*◌, map}
+use Rattle.std.proofs.Common.{◌≡◌, ◌<◌, ◌≤◌, ◌+◌, ◌⊎◌, ℕ, Bool, List, [], ◌∷◌, ◌++◌, None, Option, Some, ap, ⊎_elim}
+use Rattle.std.proofs.Common.{arith, false, inl, inr, length, refl, subst, sym, true}
+use Rattle.std.specs.Prelude.{◌*◌, if◌then◌else◌, map, nat_lt}
 use Rattle.d64_image.specs.declared.mirror.Mirror.{Mirror}
 use Rattle.d64_image.specs.declared.sector_file.SectorFile.{Ghosts}
-use Rattle.d64_image.specs.FileDisks.{FileDisk, in_run}
+use Rattle.d64_image.specs.FileDisks.{FileDisk, fails_since, in_run}
 use Rattle.d64_image.specs.History.{Changes, History}
 use Rattle.d64_image.specs.Images.{Image}
 use Rattle.d64_image.specs.Mirrors.{IsMirrored, is_broken, mirror, mirrored_then, one_if}
@@ -28,6 +28,16 @@ use Rattle.request_cards.specs.declared.reply.Reply.{Reply}
 abbrev pub over_files : {F : Type 0} {G : Ghosts F} → List (Reply × Mirror F G) → List (Reply × FileDisk G.keeps)
 over_files xs = map (λ x. (x.0, file_disk x.1)) xs
 
+-- two that count alike are alike
+same_broken : (p q : Bool) → one_if q ≡ one_if p → q ≡ true → p ≡ true
+same_broken true q same broken = refl
+same_broken false true same broken = absurd (omega (arith, same))
+same_broken false false same broken = broken
+
+broken_or : (b : Bool) → (b ≡ true) ⊎ (b ≡ true → ⊥)
+broken_or true = inl refl
+broken_or false = inr (λ e. cc)
+
 module _ {F : Type 0} {G : Ghosts F} where
   pub same_told : (xs : List (Reply × Mirror F G)) → told_in xs ≡ told_in (over_files xs)
   same_told [] = refl
@@ -36,6 +46,17 @@ module _ {F : Type 0} {G : Ghosts F} where
   pub over_files-more : (xs ys : List (Reply × Mirror F G)) → over_files xs ++ over_files ys ≡ over_files (xs ++ ys)
   over_files-more [] ys = refl
   over_files-more (x ∷ xs) ys = ap (λ rest. (x.0, file_disk x.1) ∷ rest) (over_files-more xs ys)
+
+  -- where no failure of the mirror was counted, none of its file's was
+  pub unfailed_file : (first : F) (a b : Mirror F G) → IsMirrored a b → one_if b.broken ≡ one_if a.broken
+      → fails_since G.keeps first b.file ≡ fails_since G.keeps first a.file
+  unfailed_file first a b x same = ⊎_elim
+      (λ (broken : is_broken b). ap (λ file. fails_since G.keeps first file)
+      (x.broken (same_broken a.broken b.broken same broken)).1)
+      (λ (sound : is_broken b → ⊥). ap
+      (λ n. if nat_lt n G.keeps.last then (if nat_lt (G.keeps.failures first) n then 1 else 0) else 1)
+      (x.unfailed sound))
+      (broken_or b.broken)
 
   module _ (start : Mirror F G) (whole : is_broken start → ⊥) where
     -- the file as a disk, in the run that begins with this mirror
@@ -72,6 +93,7 @@ module _ {F : Type 0} {G : Ghosts F} where
       blame = λ so. failed_by_file start whole a b (mirrored_then start a b x e.moments.reached) e.moments.reached
           (e.blame so);
       later = since_grows G.keeps start.file a.file b.file e.moments.reached.failures;
+      unfailed = λ none passed. unfailed_file start.file a b e.moments.reached (e.unfailed none passed);
       moments = held_by_file start.file a b _ e.moments;
       quiet = λ asks. alone_of_file m.cut_after a b (e.quiet asks);
       ends = ends e.failed _ e.ends;
@@ -204,7 +226,7 @@ module _ {F : Type 0} {G : Ghosts F} where
         first = file_disk run.first;
         opening = changes_of_file run.first 952 _ (omega arith) run.opening;
         quiet = λ rests. changes_of_file run.first 0 _ (omega arith) (run.quiet rests);
-        later = since_grows G.keeps start.file start.file run.first.file run.opening.held.reached.failures;
+        unfailed = unfailed_file start.file start run.first run.opening.held.reached run.unfailed;
         rests = run.rests;
         now = run.now;
         chain = chain_of_file s ms xs run.first run.now b run.opening.held.reached run.chain;

@@ -96,6 +96,7 @@ module _ {D : Type 0} (h : History D) where
       is = subst (λ (a : Asked). MayCount s.top s.state a.0 a.1 e.failed e.counted) same e.is;
       blame = e.blame;
       later = e.later;
+      unfailed = subst (λ (a : Asked). a.1 ≡ None → e.failed ≡ false → h.failures new ≡ h.failures old) same e.unfailed;
       moments = subst (λ (a : Asked). HeldOnly h old new (λ i. IsShop i s
           ⊎ ((a.1 ≢ Some 0) × IsShop i (with_state s (after_message (start_of s) s.state a.0))))) same e.moments;
       quiet = subst (λ (a : Asked). is_next_request s a.0 ≡ false → IsLeftAlone h a.1 old new) same e.quiet;
@@ -116,6 +117,7 @@ module _ {D : Type 0} (h : History D) where
       is = subst (λ (a : Asked). MayCount s.top s.state a.0 a.1 e.failed e.counted) same e.is;
       blame = e.blame;
       later = e.later;
+      unfailed = subst (λ (a : Asked). a.1 ≡ None → e.failed ≡ false → h.failures new ≡ h.failures old) same e.unfailed;
       moments = subst (λ (a : Asked). HeldOnly h old new (λ i. IsShop i s
           ⊎ ((a.1 ≢ Some 0) × IsShop i (with_state s (after_message (start_of s) s.state a.0))))) same e.moments;
       quiet = subst (λ (a : Asked). is_next_request s a.0 ≡ false → IsLeftAlone h a.1 old new) same e.quiet;
@@ -149,7 +151,7 @@ module _ {D : Type 0} (h : History D) where
     first = r.first;
     opening = r.opening;
     quiet = r.quiet;
-    later = r.later;
+    unfailed = r.unfailed;
     rests = r.rests;
     now = r.now;
     chain = same_chain s ms ns xs r.first r.now new same r.chain;
