@@ -32,6 +32,8 @@ pub record PlaysEvents {D : Type 0} (h : History D) (ms : List Message) (disk : 
   pub spared : (s : Shop) → IsShop (h.image disk) s → AskNothing s ms → IsSpared h s disk (disk_of (λ d. d) result)
   -- Where power goes in none of them, 952 sectors were written at most, and 3618 for each, however it ends.
   pub writes : (s : Shop) → IsShop (h.image disk) s → AreUncut ms → IsBounded h ms disk (disk_of (λ d. d) result)
+  -- No call of the device failed in a run that ended well, where power goes in none of them.
+  pub unfailed : AreUncut ms → IfOk result (λ left. h.failures left ≡ h.failures disk)
   -- On a shop whose device doesn't fail it answers Ok, unless memory ran out.
   pub plays : IsAShop (h.image disk) → NeverFailed h disk (disk_of (λ d. d) result)
       → IfErr result (λ e. e.0 ≡ faults.NoMemory)

@@ -10,6 +10,7 @@ use Rattle.host_session.specs.events.Counted.{after_all}
 use Rattle.host_session.specs.events.Events.{Message}
 use Rattle.host_session.specs.events.Instants.{instant_of}
 use Rattle.host_session.specs.events.OneEvent.{EndsFailed, GoesOn, IsEvent}
+use Rattle.host_session.specs.events.Quiet.{AreUncut}
 use Rattle.host_session.specs.session.Opening.{Untouched}
 use Rattle.host_session.specs.runs.Runs.{HeldBeginnings, IsPlayedWhole, StoppedByDevice, StoppedByOutput}
 use Rattle.host_session.specs.shop.Shop.{IsSettled, IsShop, Shop, start_of, with_state}
@@ -47,6 +48,22 @@ module _ {D : Type 0} (h : History D) where
       chain_rests (with_state s (after_all (start_of s) s.state c.0.counted)) ms xs x.1 new t c.0.ends.settled c.1
   chain_rests s [] (x ∷ xs) old new t rests c = absurd c
   chain_rests s (m ∷ ms) [] old new t rests c = absurd c
+
+  -- in a chain in which power stays no call failed
+  pub chain_unfailed : (s : Shop) (ms : List Message) (xs : List (Reply × D)) (old new : D) (t : Shop) → AreUncut ms
+      → IsChain h s ms xs old t new → h.failures new ≡ h.failures old
+  chain_unfailed s [] [] old new t uncut c = ap h.failures c.1
+  chain_unfailed s (m ∷ ms) (x ∷ xs) old new t uncut c =
+      chain_unfailed (with_state s (after_all (start_of s) s.state c.0.counted)) ms xs x.1 new t uncut.1 c.1
+      ∙ c.0.unfailed uncut.0 (c.0.ends.answered uncut.0)
+  chain_unfailed s [] (x ∷ xs) old new t uncut c = absurd c
+  chain_unfailed s (m ∷ ms) [] old new t uncut c = absurd c
+
+  -- nor in a run
+  pub run_unfailed : (s : Shop) (ms : List Message) (xs : List (Reply × D)) (old new : D) → AreUncut ms
+      → HasRun h s ms xs old new → h.failures new ≡ h.failures old
+  run_unfailed s ms xs old new uncut r =
+      chain_unfailed s ms xs r.first new r.now uncut r.chain ∙ r.unfailed
 
   -- the next message is asked for over the disk on which a chain ended, whatever turns come after
   pub asked_more : (s : Shop) (ms : List Message) (xs ys : List (Reply × D)) (old mid : D) (t : Shop) (m : Message)

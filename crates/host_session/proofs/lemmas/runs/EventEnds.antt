@@ -9,7 +9,7 @@ use Rattle.d64_image.specs.History.{Failed, History, NeverFailed}
 use Rattle.request_cards.specs.declared.reply.Reply.{Reply}
 use Rattle.script_lines.specs.declared.events.Event.{Event}
 use Rattle.host_session.proofs.lemmas.events.Printed.{told_more}
-use Rattle.host_session.proofs.lemmas.runs.Chained.{at_device, told_over, whole}
+use Rattle.host_session.proofs.lemmas.runs.Chained.{at_device, run_unfailed, told_over, whole}
 use Rattle.host_session.proofs.lemmas.runs.QuietRuns.{quiet_of_more}
 use Rattle.host_session.proofs.lemmas.runs.QuietWrites.{spared_of_more}
 use Rattle.host_session.proofs.lemmas.runs.Runs.{held_of_more}
@@ -113,6 +113,7 @@ module _ {D : Type 0} (h : History D) (disk : D) (events : List Event) (asked as
       → IsQuiet h s (map message_of events) disk left)
       × ((s : Shop) → IsShop (h.image disk) s → AreUncut (map message_of events)
       → IsBounded h (map message_of events) disk left)
+      × (AreUncut (map message_of events) → h.failures left ≡ h.failures disk)
   whole_run left k =
       let none : drop asks.taken asked.events.now ≡ [] =
       drop_all asks.taken asked.events.now (omega (arith, k.shop.1, ap length k.takes.0)) in
@@ -129,6 +130,11 @@ module _ {D : Type 0} (h : History D) (disk : D) (events : List Event) (asked as
         λ s is. subst (λ ms. HeldBeginnings h s ms disk left) all (k.moments s is),
         λ s is. subst (λ ms. AskNothing s ms → IsQuiet h s ms disk left) all (k.quiet s is),
         λ s is. sparing (Ok left) k s is,
+        λ uncut.
+            let shop = k.shop.0 in
+            let run : IsToldWhole h listed shop.0 (map message_of events) disk left old new =
+            subst (λ ms. IsToldWhole h listed shop.0 ms disk left old new) all (k.ok shop.0 shop.1).0 in
+            run_unfailed h shop.0 (map message_of events) run.turns disk left uncut run.run,
       )
 
   -- events that ask nothing new were taken up to one of them

@@ -29,6 +29,7 @@ returns-in-Err g c =
       quiet = λ s shop _. quiet_same h s ms disk shop;
       spared = λ s shop _. spared_same h s disk;
       writes = λ s shop _. same_bound h ms disk;
+      unfailed = λ uncut. tt;
       plays = λ shop never. refl;
       «open» = λ f is. absurd (let e = is in cc);
       cause = λ is. absurd (let e = is in cc);
@@ -57,6 +58,7 @@ returns-in-Ok-run g c =
       spared = spared h c.args.disk c.args.events.now c.new-asks.result c.run.new.asks old new c.new-asks.ensures.events
           c.new-asks.ensures.none (omega (arith, c.in-Ok.ensures.ok)) (Ok c.in-Ok-run.disk) k;
       writes = w.3;
+      unfailed = w.4;
       plays = λ shop never. tt;
       «open» = tt;
       cause = tt;
@@ -86,6 +88,7 @@ returns-in-Err-run g c =
       quiet = e.quiet;
       spared = e.spared;
       writes = e.writes;
+      unfailed = λ uncut. tt;
       plays = e.plays;
       «open» = e.«open»;
       cause = e.cause;
