@@ -10,14 +10,14 @@ use Rattle.host_session.specs.shop.Selecting.{IsReady}
 use Rattle.host_session.specs.shop.Shop.{IsShop, Shop}
 
 -- of each x of which P holds: at Ok the disk is as `done` says, and the drive ready; the one fault is the device's,
--- told only where it failed; on the way, of at most so many writes, the disk was the same shop's; what is at rest isn't
--- written
+-- told only where it failed; on the way, of at most so many writes, the disk was the same shop's; a disk that is as
+-- `untouched_if` says isn't written
 pub record Mends {D A : Type 0} (S : History D) (old : D) (result : Result (Seen D) (OpenFault × D)) (P : A → Type 0)
-    (most : ℕ) (at_rest : Image → Type 0) (done : A → Image → Type 0) : Type 0 where
+    (most : ℕ) (untouched_if : Image → Type 0) (done : A → Image → Type 0) : Type 0 where
   pub ready : IfOk result (IsReady S)
   pub ok : (x : A) → P x → IfOk result (λ d. done x (S.image d.disk))
   pub err : IfErr result (λ e. e.0 ≡ Device)
   pub moments : (s : Shop) → IsShop (S.image old) s
       → Changes S old (disk_of (λ d. d.disk) result) most (λ i. IsShop i s)
-  pub quiet : at_rest (S.image old) → Untouched S old (disk_of (λ d. d.disk) result)
+  pub quiet : untouched_if (S.image old) → Untouched S old (disk_of (λ d. d.disk) result)
   pub failures : TellsOpening (λ d. d.disk) S old result

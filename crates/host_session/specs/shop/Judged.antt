@@ -35,9 +35,9 @@ abbrev pub PassesRecords : NewQuantities → ℕ → Type 0
 PassesRecords x count = (item : ℕ) × Contains (items (listed x)) item × (count < item)
 
 -- What a call gives that reads one record of a file and judges it, of each f of which P holds: at Ok `told` holds of
--- the answer, at an error `refused` of the fault. A block of the file is kept; three sectors were read at most, and
--- nothing was written; the device's fault is told only where it failed, and any other answer only where no failure was
--- counted.
+-- the answer, at an error `refused` of the fault. A block of the file is kept, or nothing; three sectors were read at
+-- most, and nothing was written; the device's fault is told only where it failed, and any other answer only where no
+-- failure was counted.
 pub record JudgesRecord {D T : Type 0} (S : History D) (old new : D) (file : RelFile) (last : LastBlock)
     (result : Result T OpenFault) (P : Files → Type 0) (told : Files → T → Type 0)
     (refused : Files → OpenFault → Type 0) : Type 0 where

@@ -12,7 +12,7 @@ use layout_check::repair;
 /// Mends a sound disk, and switches a drive on over it.
 pub(crate) fn start<D: Sectors>(disk: D) -> Result<ShopDrive<D>, (OpenFault, D)>
     requires sound { IsSound (D.history.image disk) }
-    // what both files hold is as it was
+    // at Ok what both files hold is as it was; a clean disk isn't written
     ensures { Mends D.history disk result (HasFiles (D.history.image disk)) 883 IsClean (λ f i. HasFiles i f) }
 {
     let mut disk = disk;
