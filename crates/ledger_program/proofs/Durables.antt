@@ -37,13 +37,14 @@ module _ {F : Type 0} {G : Ghosts F} (durability : Durability) (image : List ℕ
       → (G.has_failed (placed_file left) ≡ true → G.has_failed (placed_file last) ≡ true)
       → G.held (placed_file last) ≡ G.held (placed_file left)
       → placed.reached left last → (is_synced left → last ≡ left)
+      → IfErr end (λ fault. fault ≢ faults.File → last ≡ left)
       → KeepsOn left last
       → (durability ≡ durabilities.EachSector → length image ≡ 174848 → is_synced first)
       → (durability ≡ durabilities.AtEnd → length image ≡ 174848 → is_unsynced first)
       → OnOk ended (AllStays G.held G.lasting (placed_file last))
       → IfErr ended (λ fault. fault ≡ faults.File → AllStays G.held G.lasting (placed_file last))
       → IsDurableRun durability image file after ended IsRun
-  durable_run is_file unfailed is_last run told refused unblamed blamed failed same reached untouched brought synced
+  durable_run is_file unfailed is_last run told refused unblamed blamed failed same reached untouched alone brought synced
       unsynced there stands = record {
         first = first;
         left = left;
@@ -63,6 +64,7 @@ module _ {F : Type 0} {G : Ghosts F} (durability : Durability) (image : List ℕ
         same = ap G.held is_last ∙ same;
         reached = reached;
         untouched = untouched;
+        alone = alone;
         lasts = λ each size now r. ap (λ b. image_of ((seen G.lasting G.whole.lasting b now.sized).bytes now.file))
             (r.synced ∙ synced each size);
         holds = λ end size now r.

@@ -37,6 +37,8 @@ pub record IsDurableRun {F : Type 0} {G : Ghosts F} (durability : Durability) (i
   pub same : G.held after ≡ G.held (placed_file left)
   pub reached : placed.reached left last
   pub untouched : is_synced left → last ≡ left
+  -- Behind a refusal, or where the file failed in the run, nothing more was done to it.
+  pub alone : IfErr end (λ fault. fault ≢ faults.File → last ≡ left)
   -- Where each sector is brought to the disk, what such a file keeps at any time of the run is the image that stays
   -- there where the machine loses power.
   pub lasts : durability ≡ durabilities.EachSector → length image ≡ 174848 → (now : Placed F G)

@@ -95,6 +95,8 @@ pub(crate) fn finished<F: WritesAt>(
     ensures reached { placed.reached file.old file.new }
     ensures kept { KeepsOn file.old file.new }
     ensures untouched { is_synced file.old → file.new ≡ file.old }
+    // nothing is asked of the file behind a refusal, nor of one that failed
+    ensures alone { IfErr ended (λ fault. fault ≢ faults.File → file.new ≡ file.old) }
 {
     match &ended {
         Ok(_) | Err(RunFault::File) => match file.finish() {

@@ -11,6 +11,7 @@ returns g c =
       run = durable_run c.args.durability c.args.image.now c.args.file c.into_inner.result taken.result run.result.0
           done.new.file run.result.1 done.result _ taken.ensures.file taken.ensures.unfailed c.into_inner.ensures
           run.ensures.run done.ensures.told done.ensures.refused done.ensures.unblamed done.ensures.blamed
-          done.ensures.failed done.ensures.same done.ensures.reached done.ensures.untouched done.ensures.kept
-          taken.ensures.synced taken.ensures.unsynced done.ensures.lasting done.ensures.stands;
+          done.ensures.failed done.ensures.same done.ensures.reached done.ensures.untouched done.ensures.alone
+          done.ensures.kept taken.ensures.synced taken.ensures.unsynced done.ensures.lasting
+          done.ensures.stands;
     }
