@@ -1,20 +1,26 @@
 -- Runs over a file that is brought to the disk, once its sectors stand at their places.
-use Rattle.std.proofs.Common.{◌≡◌, ◌≢◌, ◌∙◌, ◌⊎◌, ℕ, Bool, Err, List, Option, Some, ap}
+use Rattle.std.proofs.Common.{◌≡◌, ◌≢◌, ◌∙◌, ◌⊎◌, ⊎_elim, ℕ, Bool, Err, List, Ok, Option, Some, ap}
 use Rattle.std.proofs.Common.{false, length, refl, subst, sym, true}
 use Rattle.std.specs.Prelude.{IfErr, OnOk}
 use Rattle.d64_image.specs.Images.{Image}
-use Rattle.d64_image.specs.Keeps.{none_kept}
+use Rattle.d64_image.specs.Keeps.{Keeps, none_kept}
+use Rattle.host_session.specs.events.Telling.{Output}
+use Rattle.serving.specs.Answering.{Answering}
+use Rattle.serving.specs.Giving.{Input}
 use Rattle.ledger_commands.specs.Durable.{AllStays}
 use Rattle.ledger_commands.specs.Lasting.{Lasting, Whole, seen}
 use Rattle.ledger_commands.specs.LastingImages.{are_image, image_of}
 use Rattle.ledger_commands.specs.Placed.{KeepsOn, is_synced, is_unsynced, placed, placed_file}
+use Rattle.ledger_commands.specs.Plays.{IsFileFault, IsUntouched}
 use Rattle.ledger_commands.specs.declared.durable.Durability.{Durability}
 use Rattle.ledger_commands.specs.declared.durable.Durability.TheVariants as durabilities
 use Rattle.ledger_commands.specs.declared.durable.WritesAt.{Ghosts}
+use Rattle.ledger_commands.specs.declared.faults.RunFault.{RunFault}
 use Rattle.ledger_commands.specs.declared.faults.RunFault.TheVariants as faults
 use Rattle.ledger_commands.specs.declared.placed.Placed.{Placed}
 use Rattle.ledger_program.specs.DurableRuns.{IsDurableRun}
 use Rattle.ledger_program.specs.Ends.{Ended}
+use Rattle.ledger_program.specs.FileServes.{IsServeFault, IsUnserved}
 
 -- what stays at the end is what was looked at
 image_left : {F : Type 0} (held : F → Option (List ℕ)) (L : Lasting F) (W : Whole held) (synced sized : Bool) (f g : F)
@@ -82,3 +88,85 @@ module _ {F : Type 0} {G : Ghosts F} (durability : Durability) (image : List ℕ
         stands = subst (λ f. IfErr ended (λ fault. fault ≡ faults.File → AllStays G.held G.lasting f)) (sym is_last)
             stands;
       }
+
+-- a fault that blames neither the file nor the output tells that nothing was done
+module _ {F T : Type 0} (K : Keeps F) (o : Output T) (image script : List ℕ) (file after : F) (old new : T) where
+  nothing_done : (fault : RunFault) → IsFileFault K o image script file after old new fault → fault ≢ faults.File
+      → fault ≢ faults.Device → IsUntouched file after old new
+  nothing_done faults.ImageSize is _ _ = is.1
+  nothing_done (faults.Layout f) is _ _ = is.2
+  nothing_done faults.NoStock is _ _ = is.2
+  nothing_done faults.NoRequests is _ _ = is.2
+  nothing_done (faults.BadCard item) is _ _ = is.2
+  nothing_done (faults.BadRequestCard till) is _ _ = is.2
+  nothing_done faults.TwoIntents is _ _ = is.2
+  nothing_done (faults.BadLine line) is _ _ = is.2
+  nothing_done faults.File is other _ = absurd (other refl)
+  nothing_done faults.NoMemory is _ _ = is.1
+  nothing_done faults.Device is _ other = absurd (other refl)
+
+  pub undone : (end : Ended) → IfErr end (IsFileFault K o image script file after old new)
+      → IfErr end (λ fault. fault ≢ faults.File → fault ≢ faults.Device → IsUntouched file after old new)
+  undone (Ok x) is = tt
+  undone (Err fault) is = nothing_done fault is
+
+-- nor one of a service
+module _ {F R T : Type 0} (K : Keeps F) (i : Input R) (a : Answering T) (image : List ℕ) (file after : F)
+    (old_in new_in : R) (old new : T) where
+  nothing_served : (fault : RunFault) → IsServeFault K i a image file after old_in new_in old new fault
+      → fault ≢ faults.File → fault ≢ faults.Device → IsUnserved file after old_in new_in old new
+  nothing_served faults.ImageSize is _ _ = is.1
+  nothing_served (faults.Layout f) is _ _ = is.1
+  nothing_served faults.NoStock is _ _ = is.1
+  nothing_served faults.NoRequests is _ _ = is.1
+  nothing_served (faults.BadCard item) is _ _ = is.1
+  nothing_served (faults.BadRequestCard till) is _ _ = is.1
+  nothing_served faults.TwoIntents is _ _ = is.1
+  nothing_served (faults.BadLine line) is _ _ = absurd is
+  nothing_served faults.File is other _ = absurd (other refl)
+  nothing_served faults.NoMemory is _ _ = is.1
+  nothing_served faults.Device is _ other = absurd (other refl)
+
+  pub unserved : (end : Ended) → IfErr end (IsServeFault K i a image file after old_in new_in old new)
+      → IfErr end (λ fault. fault ≢ faults.File → fault ≢ faults.Device → IsUnserved file after old_in new_in old new)
+  unserved (Ok x) is = tt
+  unserved (Err fault) is = nothing_served fault is
+
+-- what a run that did nothing left is what was handed in
+module _ {F : Type 0} {G : Ghosts F} (file after : F) (first left last : Placed F G) (end ended : Ended)
+    (is_file : placed_file first ≡ file) (is_last : after ≡ placed_file last)
+    (told : (ended ≡ end) ⊎ (ended ≡ Err faults.Device))
+    (alone : IfErr end (λ fault. fault ≢ faults.File → last ≡ left)) where
+  handed_back : left ≡ first → last ≡ left → after ≡ file
+  handed_back same left_alone = is_last ∙ ap placed_file (left_alone ∙ same) ∙ is_file
+
+  module _ (Was Is : Type 0) (carry : last ≡ left → Was → Is) where
+    at_end : (e : Ended) → IfErr e (λ fault. fault ≢ faults.File → last ≡ left)
+        → IfErr e (λ fault. fault ≢ faults.File → fault ≢ faults.Device → Was)
+        → IfErr e (λ fault. fault ≢ faults.File → fault ≢ faults.Device → Is)
+    at_end (Ok x) left_alone was = tt
+    at_end (Err fault) left_alone was = λ other another. carry (left_alone other) (was other another)
+
+    pub left_so : IfErr end (λ fault. fault ≢ faults.File → fault ≢ faults.Device → Was)
+        → IfErr ended (λ fault. fault ≢ faults.File → fault ≢ faults.Device → Is)
+    left_so was = ⊎_elim
+        (λ same. subst (λ e. IfErr e (λ fault. fault ≢ faults.File → fault ≢ faults.Device → Is)) (sym same)
+        (at_end end alone was))
+        (λ device. subst (λ e. IfErr e (λ fault. fault ≢ faults.File → fault ≢ faults.Device → Is)) (sym device)
+        (λ other another. absurd (another refl)))
+        told
+
+  pub played_alone : {T : Type 0} (old new : T)
+      → IfErr end (λ fault. fault ≢ faults.File → fault ≢ faults.Device → IsUntouched first left old new)
+      → IfErr ended (λ fault. fault ≢ faults.File → fault ≢ faults.Device → IsUntouched file after old new)
+  played_alone old new = left_so (IsUntouched first left old new) (IsUntouched file after old new)
+      (λ left_alone x. (handed_back x.0 left_alone, x.1))
+
+  pub served_alone : {R T : Type 0} (old_in new_in : R) (old new : T)
+      → IfErr end (λ fault. fault ≢ faults.File → fault ≢ faults.Device
+      → IsUnserved first left old_in new_in old new)
+      → IfErr ended (λ fault. fault ≢ faults.File → fault ≢ faults.Device
+      → IsUnserved file after old_in new_in old new)
+  served_alone old_in new_in old new = left_so (IsUnserved first left old_in new_in old new)
+      (IsUnserved file after old_in new_in old new)
+      (λ left_alone x. ((handed_back x.0.0 left_alone, x.0.1), x.1))

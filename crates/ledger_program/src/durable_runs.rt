@@ -1,8 +1,11 @@
 //! Runs over a file, and what of it stays where the machine loses power.
-ghost use Rattle.std.specs.Prelude.{◌≡◌, IfSome, take};
+ghost use Rattle.std.specs.Prelude.{◌≡◌, ◌≢◌, IfErr, IfSome, take};
 ghost use Rattle.ledger_commands.specs.Durable.{IsSynced};
 ghost use Rattle.ledger_commands.specs.Placed.{placed};
+ghost use Rattle.ledger_commands.specs.Plays.{IsUntouched};
+ghost use Rattle.ledger_commands.specs.declared.faults.RunFault.TheVariants.{Device, File};
 ghost use Rattle.ledger_program.specs.DurableRuns.{IsDurableRun};
+ghost use Rattle.ledger_program.specs.FileServes.{IsUnserved};
 ghost use Rattle.ledger_program.specs.Runs.{IsPlayRun};
 ghost use Rattle.ledger_program.specs.Serves.{IsServeRun};
 
@@ -32,6 +35,9 @@ pub fn play_durably<F: WritesAt, T: Tells<Mirror<Placed<F>>>>(
     requires image { IfSome (F.held file) (λ all. image.now ≡ take 174849 all) }
     ensures run { IsDurableRun {G = F.WritesAt.own} durability image.now file result.0 result.1
         (λ first left end. IsPlayRun placed T.output image.now script.now first left out.old out.new end) }
+    // where neither the file nor the output is blamed, nothing was done
+    ensures untouched { IfErr result.1 (λ fault. fault ≢ File → fault ≢ Device
+        → IsUntouched file result.0 out.old out.new) }
 {
     let placed = Placed::of_image(file, durability, image);
     let (mut left, ended) = play_run(alloc, image, script, placed, out);
@@ -59,6 +65,9 @@ where
     ensures run { IsDurableRun {G = F.WritesAt.own} durability image.now file result.0 result.1
         (λ first left end. IsServeRun placed R.input T.answering image.now first left
         input.old input.new out.old out.new end) }
+    // where neither the file nor the input or the output is blamed, nothing was done or read
+    ensures untouched { IfErr result.1 (λ fault. fault ≢ File → fault ≢ Device
+        → IsUnserved file result.0 input.old input.new out.old out.new) }
 {
     let placed = Placed::of_image(file, durability, image);
     let (mut left, ended) = serve_run(alloc, image, placed, input, out);

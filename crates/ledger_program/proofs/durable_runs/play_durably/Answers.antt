@@ -1,5 +1,6 @@
 -- The run's own word, and what bringing its file to the disk adds.
-use Rattle.ledger_program.proofs.Durables.{durable_run}
+use Rattle.ledger_commands.specs.Placed.{placed}
+use Rattle.ledger_program.proofs.Durables.{durable_run, played_alone, undone}
 use Rattle.ledger_program.proofs.durable_runs.play_durably.Goals as goal
 
 pub returns : goal.returns
@@ -14,4 +15,9 @@ returns g c =
           done.ensures.failed done.ensures.same done.ensures.reached done.ensures.untouched done.ensures.alone
           done.ensures.kept taken.ensures.synced taken.ensures.unsynced done.ensures.lasting
           done.ensures.stands;
+      untouched = played_alone c.args.file c.into_inner.result taken.result run.result.0 done.new.file run.result.1
+          done.result taken.ensures.file c.into_inner.ensures done.ensures.told done.ensures.alone c.args.out.now
+          run.new.out
+          (undone placed g.T.Tells.output c.args.image.now c.args.script.now taken.result run.result.0 c.args.out.now
+          run.new.out run.result.1 run.ensures.run.fault);
     }
