@@ -1,6 +1,7 @@
 //! The whole program, over a runtime.
-ghost use Rattle.std.specs.Prelude.{◌≡◌};
+ghost use Rattle.std.specs.Prelude.{◌≡◌, if◌then◌else◌};
 ghost use Rattle.ledger_program.specs.Jobs.{IsFit};
+ghost use Rattle.ledger_words.specs.declared.obeying.Told.TheVariants.{Person, Program, Waiting};
 
 use crate::faults::JobFault;
 use crate::watching::{Watched, is_long};
@@ -33,7 +34,9 @@ pub enum Told {
 
 impl Told {
     /// Who reads standard error: a person where it is a terminal, who sees the output where that is one too.
-    pub fn of(err_is_terminal: bool, out_is_terminal: bool) -> Told {
+    pub fn of(err_is_terminal: bool, out_is_terminal: bool) -> Told
+        ensures { result ≡ (if err_is_terminal then (if out_is_terminal then Person else Waiting) else Program) }
+    {
         match (err_is_terminal, out_is_terminal) {
             (false, _) => Told::Program,
             (true, true) => Told::Person,
