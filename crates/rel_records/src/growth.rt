@@ -83,7 +83,7 @@ fn renew(file: &mut RelFile, parts: Parts)
 
 /// Fills the room in a file's last blocks, and gives it blocks until it has `wanted`. All reads come before the first
 /// write.
-// Out of line, since a call pays for all locals at its start, and `grow_to` mostly finds the record there.
+// Out of line: `grow_to` mostly finds the record there.
 #[inline(never)]
 fn grow<D: Sectors>(
     disk: &mut D,

@@ -115,7 +115,7 @@ fn read_across<D: Sectors>(
 }
 
 /// Reads a record that is there.
-// In line, as `read_record` is. A record begins below byte 183,134, and a division of 32 bits is cheaper.
+// In line, as `read_record` is. The file ends below byte 183,134, so 32 bits hold where a record begins.
 #[inline(always)]
 fn read_there<D: Sectors>(
     disk: &mut D,
@@ -142,7 +142,7 @@ fn read_there<D: Sectors>(
 
 /// Reads a record into `text`, all of its bytes; `NotPresent` where the file has none of this number, counted from 1.
 /// What the text held before is gone; after a fault what it holds is open.
-// In line: on a disk in memory the call alone would be a sixth of a read.
+// In line, with all on the way of a record that lies in one block.
 #[inline(always)]
 pub fn read_record<D: Sectors>(
     disk: &mut D,

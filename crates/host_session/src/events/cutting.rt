@@ -54,7 +54,7 @@ fn cut_openings<D: Sectors>(disk: D, recoveries: &[u32]) -> D
 }
 
 /// A message in which power goes, the listed recoveries, and a whole one. Err has the disk where the whole one failed.
-// Out of line, since a call pays for all locals at its start, and a run without a reset has no use for these sessions.
+// Out of line: a run without a reset has no use for these sessions.
 #[inline(never)]
 pub(crate) fn cut_event<D: Sectors>(
     session: Session<D>,

@@ -74,7 +74,7 @@ fn ended<D>(disk: D, end: Result<(), LoopFault>) -> Result<D, (LoopFault, D)>
 }
 
 /// The run from an event with a reset on, which was taken and isn't handled yet.
-// Out of line: a call takes the room of all its sessions at once, and a run without a reset has use for one alone.
+// Out of line: a run without a reset has no use for these sessions.
 #[inline(never)]
 fn run_on<D: Sectors, A: Asks<D>, T: Tells<D>>(
     session: Session<D>,

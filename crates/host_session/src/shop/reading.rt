@@ -75,8 +75,17 @@ pub(crate) fn read_till<D: Sectors>(
     }
 }
 
+/// What these bytes of a record of STOCK hold.
+fn item_held(bytes: &[u8]) -> Held<StockCard>
+    requires { length bytes.now ≡ 18 }
+    ensures { Tells stock_card_of 18 bytes.now result }
+{
+    let bytes = bytes.first_chunk::<18>().unwrap();
+    what_is_held(StockCard::parse(bytes), bytes)
+}
+
 /// What an item's record holds; None past the last record. Nothing is written. `last` is the block of STOCK that was
-/// read last, `text` is room for the record.
+/// read last, where most records lie; `text` is room for one that doesn't lie whole in it.
 pub(crate) fn read_item<D: Sectors>(
     disk: &mut D,
     files: &LedgerFiles,
@@ -91,11 +100,12 @@ pub(crate) fn read_item<D: Sectors>(
         (λ f. AreFilesOf (D.history.image disk.old) f files.now)
         (λ f. TellsRecord stock_card_of 18 f.stock item) (λ f fault. fault ≡ Device) }
 {
-    match read_next(disk, &files.stock, last, u32::from(item), text) {
-        Ok(()) => {
-            let bytes = text.as_slice().first_chunk::<18>().unwrap();
-            Ok(Some(what_is_held(StockCard::parse(bytes), bytes)))
-        }
+    let number = u32::from(item);
+    if let Some(bytes) = last.record(&files.stock, number) {
+        return Ok(Some(item_held(bytes)));
+    }
+    match read_next(disk, &files.stock, last, number, text) {
+        Ok(()) => Ok(Some(item_held(text.as_slice()))),
         Err(RelFault::NotPresent) => Ok(None),
         Err(_) => Err(OpenFault::Device),
     }

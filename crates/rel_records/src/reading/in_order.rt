@@ -1,9 +1,10 @@
 //! Records read in order: the block that was read last is kept, and its link names the next one.
-ghost use Rattle.std.specs.Prelude.{◌≡◌, ◌+◌, ◌<◌, ◌≤◌, None, Some};
+ghost use Rattle.std.specs.Prelude.{◌≡◌, ◌↔◌, ◌+◌, ◌<◌, ◌≤◌, IfSome, IsSome, IsTrue, None, Some};
 ghost use Rattle.d64_image.specs.History.{OnlyReads};
+ghost use Rattle.d64_image.specs.Images.{Image, IsImage};
 ghost use Rattle.rel_records.specs.Calls.{HasRead, ReadsAtMost, ReadsRecord};
 ghost use Rattle.rel_records.specs.File.{IsOf, blocks_of, records_in};
-ghost use Rattle.rel_records.specs.reading.Kept.{IsKept, ReadsNear, number_kept};
+ghost use Rattle.rel_records.specs.reading.Kept.{IsKept, LiesWhole, ReadsNear, number_kept};
 
 use crate::faults::RelFault;
 use crate::reading::counting::has_records;
@@ -30,6 +31,38 @@ impl LastBlock {
             number: None,
             bytes: [0; 256],
         }
+    }
+
+    /// Whether the data block of this number, from 0, is kept.
+    #[inline(always)]
+    fn keeps(&self, block: usize) -> bool
+        ensures { IsTrue result ↔ (number_kept self.now ≡ Some block) }
+    {
+        match self.number {
+            Some(here) => here == block,
+            None => false,
+        }
+    }
+
+    /// The bytes of a record where it lies whole in the block that is kept; None where it doesn't, and where the file
+    /// has none of this number, counted from 1. Nothing is read or copied. `self` is of this file, as `read_next` has
+    /// it.
+    #[inline(always)]
+    pub fn record(&self, file: &RelFile, number: u32) -> Option<&[u8]>
+        ensures whole { IsSome result ↔ LiesWhole self.now file.now number }
+        ensures bytes { (img : Image) → IsImage img → IsOf img file.now → IsKept img file.now self.now
+            → IfSome result (λ bytes. HasRead img file.now number bytes.now) }
+    {
+        if number == 0 || !has_records(file, number) {
+            return None;
+        }
+        let size = file.size as usize;
+        let start = (number as usize - 1) * size;
+        let from = start % DATA;
+        if !self.keeps(start / DATA) || from + size > DATA {
+            return None;
+        }
+        Some(&self.bytes[2 + from..2 + from + size])
     }
 }
 

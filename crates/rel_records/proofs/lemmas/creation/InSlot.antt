@@ -41,7 +41,7 @@ same-entry s t e = record {
   entry = ap (λ x. slice_range x.bytes 2 30) e;
 }
 
--- that write puts an entry into slot n, which was free, and changes no other slot: c is the image before it, a the one
+-- one write puts an entry into slot n, which was free, and changes no other slot: c is the image before it, a the one
 -- at the start, p the directory sector, and `bytes` what it gets. The file of the entry has the one block `block`, used
 -- up to index u, and the side sector `side`
 pub record TakesSlot (a c : Image) (l : Layout) (front back : List Place) (p : Place) (n : ℕ) (bytes : Sector)

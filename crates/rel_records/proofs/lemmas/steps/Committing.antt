@@ -36,9 +36,9 @@ snoc-last (w ∷ xs) [] x y e = let none : xs ++ x ∷ [] ≡ [] = cc in
     absurd (omega (arith, ap length none, length-append xs (x ∷ [])))
 snoc-last (w ∷ xs) (z ∷ ys) x y e = let rest : xs ++ x ∷ [] ≡ ys ++ y ∷ [] = cc in snoc-last xs ys x y rest
 
--- all is ready for that write on c, the image before it; a is the one at the start. The file f, of the layout l, gets
--- the block `fresh`, used up to index u, and then has the side sectors ss; its last block so far, `last` behind
--- `front`, gets the bytes with the link
+-- all is ready for the write of the link on c, the image before it; a is the one at the start. The file f, of the
+-- layout l, gets the block `fresh`, used up to index u, and then has the side sectors ss; its last block so far, `last`
+-- behind `front`, gets the bytes with the link
 pub record IsReadyToLink (a c : Image) (l : Layout) (before after : List File) (f : File) (fresh : Place) (u : ℕ)
     (ss : List Place) (map' block last_bytes : Sector) (front : List Place) (last : Place) : Type 0 where
   pub full : length c ≡ 683
