@@ -23,10 +23,10 @@ returns-clause-bytes c = λ img w of kept.
     let x = c.args.self.now in
     let s : ℕ = (c.args.number - 1) * length_of v % 254 in
     has-read img v c.args.number _ of w (λ l n f is.
-        let here = kept-is img v x _ (c.keeps.ensures.0 c.if-not-keeps.false) kept l n f is in
-        let long : length x.bytes ≡ 256 = ap length here.read ∙ sector-long img here.place w in
-        record-read img l n f v is w c.args.number x.bytes x.bytes _ (omega (arith, c.if-number-eq0.false))
-        (c.has_records.ensures.0 c.if-not-has_records.false) here
-        (λ over. absurd (omega (arith, over, c.if-from-size-gt-DATA.false))) long
-        (part-lent s (length_of v) _ x.bytes x.bytes (omega arith)
-        (omega (arith, length-drop 2 x.bytes, long, c.if-from-size-gt-DATA.false))))
+    let here = kept-is img v x _ (c.keeps.ensures.0 c.if-not-keeps.false) kept l n f is in
+    let long : length x.bytes ≡ 256 = ap length here.read ∙ sector-long img here.place w in
+    record-read img l n f v is w c.args.number x.bytes x.bytes _ (omega (arith, c.if-number-eq0.false))
+    (c.has_records.ensures.0 c.if-not-has_records.false) here
+    (λ over. absurd (omega (arith, over, c.if-from-size-gt-DATA.false))) long
+    (part-lent s (length_of v) _ x.bytes x.bytes (omega arith)
+    (omega (arith, length-drop 2 x.bytes, long, c.if-from-size-gt-DATA.false))))
