@@ -23,30 +23,9 @@ use Rattle.host_session.specs.events.Within.{AreFew, AreWithin, IsBounded, IsSpa
 use Rattle.request_cards.specs.Ledgers.{State}
 use Rattle.request_cards.specs.Reading.{request_of}
 use Rattle.request_cards.specs.declared.reply.Reply.{Reply}
-
--- the turns of a run, each over the file of its mirror
-abbrev pub over_files : {F : Type 0} {G : Ghosts F} → List (Reply × Mirror F G) → List (Reply × FileDisk G.keeps)
-over_files xs = map (λ x. (x.0, file_disk x.1)) xs
-
--- two that count alike are alike
-same_broken : (p q : Bool) → one_if q ≡ one_if p → q ≡ true → p ≡ true
-same_broken true q same broken = refl
-same_broken false true same broken = absurd (omega (arith, same))
-same_broken false false same broken = broken
-
-broken_or : (b : Bool) → (b ≡ true) ⊎ (b ≡ true → ⊥)
-broken_or true = inl refl
-broken_or false = inr (λ e. cc)
+use Rattle.ledger_commands.proofs.FileTurns.{broken_or, over_files, over_files-more, same_broken, same_told}
 
 module _ {F : Type 0} {G : Ghosts F} where
-  pub same_told : (xs : List (Reply × Mirror F G)) → told_in xs ≡ told_in (over_files xs)
-  same_told [] = refl
-  same_told (x ∷ xs) = ap (λ rest. x.0 ∷ rest) (same_told xs)
-
-  pub over_files-more : (xs ys : List (Reply × Mirror F G)) → over_files xs ++ over_files ys ≡ over_files (xs ++ ys)
-  over_files-more [] ys = refl
-  over_files-more (x ∷ xs) ys = ap (λ rest. (x.0, file_disk x.1) ∷ rest) (over_files-more xs ys)
-
   -- where no failure of the mirror was counted, none of its file's was
   pub unfailed_file : (first : F) (a b : Mirror F G) → IsMirrored a b → one_if b.broken ≡ one_if a.broken
       → fails_since G.keeps first b.file ≡ fails_since G.keeps first a.file
@@ -69,8 +48,7 @@ module _ {F : Type 0} {G : Ghosts F} where
     same_instants (x ∷ xs) = ap (λ rest. (x.0, instant_of mirror x.1) ∷ rest) (same_instants xs)
 
     pub blamed_file : (a b : Mirror F G) → IsMirrored start b → IsMirrored a b → (fails : List Bool)
-        → IsBlamed mirror a b fails
-        → IsBlamed of_file (file_disk a) (file_disk b) fails
+        → IsBlamed mirror a b fails → IsBlamed of_file (file_disk a) (file_disk b) fails
     blamed_file a b x y fails blame few =
         let sound : one_if b.broken ≡ 0 = one_if-false b.broken (since_whole start whole b x few) in
         let none : one_if a.broken + blamed fails ≤ one_if b.broken = blame (omega (arith, sound)) in
@@ -100,13 +78,11 @@ module _ {F : Type 0} {G : Ghosts F} where
     }
 
     goes_on : (s : Shop) (m : Message) (reply : Reply) (b : Mirror F G) (f : Bool) (t : State)
-        → GoesOn mirror s m reply b f t
-        → GoesOn of_file s m reply (file_disk b) f t
+        → GoesOn mirror s m reply b f t → GoesOn of_file s m reply (file_disk b) f t
     goes_on s m reply b f t x = record { told = x.told; answered = x.answered; settled = x.settled }
 
     pub ends_failed : (s : Shop) (m : Message) (reply : Reply) (b : Mirror F G) (f : Bool) (t : State)
-        → EndsFailed mirror s m reply b f t
-        → EndsFailed of_file s m reply (file_disk b) f t
+        → EndsFailed mirror s m reply b f t → EndsFailed of_file s m reply (file_disk b) f t
     ends_failed s m reply b f t x = record { told = x.told; asked = x.asked; is_failed = x.is_failed; shop = x.shop }
 
     pub chain_of_file : (s : Shop) (ms : List Message) (xs : List (Reply × Mirror F G)) (a : Mirror F G) (t : Shop)
@@ -162,8 +138,7 @@ module _ {F : Type 0} {G : Ghosts F} where
     -- and one message behind it
     within_last : (s : Shop) (ms : List Message) (xs : List (Reply × Mirror F G)) (a : Mirror F G) (t : Shop)
         (at : Mirror F G) (m : Message) (reply : Reply) (b : Mirror F G) → IsChain mirror s ms xs a t at
-        → IsMirrored at b → AreUncut (ms ++ m ∷ [])
-        → a.taken.n + 3618 * length (ms ++ m ∷ []) < 18446744073709551615
+        → IsMirrored at b → AreUncut (ms ++ m ∷ []) → a.taken.n + 3618 * length (ms ++ m ∷ []) < 18446744073709551615
         → AreWithin mirror (ms ++ m ∷ []) (xs ++ (reply, b) ∷ []) a
         → AreWithin of_file (ms ++ m ∷ []) (over_files xs ++ (reply, file_disk b) ∷ []) (file_disk a)
     within_last s [] [] a t at m reply b chain x uncut few each =
@@ -220,8 +195,7 @@ module _ {F : Type 0} {G : Ghosts F} where
       }
 
       abbrev pub run_of_file : (s : Shop) (ms : List Message) (xs : List (Reply × Mirror F G)) (b : Mirror F G)
-          → HasRun mirror s ms xs start b
-          → HasRun of_file s ms (over_files xs) (file_disk start) (file_disk b)
+          → HasRun mirror s ms xs start b → HasRun of_file s ms (over_files xs) (file_disk start) (file_disk b)
       run_of_file s ms xs b run = record {
         first = file_disk run.first;
         opening = changes_of_file run.first 952 _ (omega arith) run.opening;

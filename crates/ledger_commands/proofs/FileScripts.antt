@@ -27,9 +27,10 @@ use Rattle.request_cards.specs.Ledgers.{State}
 use Rattle.request_cards.specs.declared.reply.Reply.{Reply}
 use Rattle.script_lines.specs.Lines.{lines}
 use Rattle.ledger_commands.proofs.FileChains.{blamed_file, bounded_of_file, changes_of_file, failing_of_file}
-use Rattle.ledger_commands.proofs.FileChains.{over_files-more, quiet_of_file, run_of_file, same_instants, same_told}
+use Rattle.ledger_commands.proofs.FileChains.{quiet_of_file, run_of_file, same_instants, within_failing}
 use Rattle.ledger_commands.proofs.FileChains.{spared_of_file}
-use Rattle.ledger_commands.proofs.FileChains.{over_files, within_failing, within_run}
+use Rattle.ledger_commands.proofs.FileChains.{within_run}
+use Rattle.ledger_commands.proofs.FileTurns.{over_files, over_files-more, same_told}
 
 -- how a run over a mirror ended, as one over its file
 abbrev pub end_of_file : {E F : Type 0} {G : Ghosts F} → Result (Mirror F G) (E × Mirror F G)

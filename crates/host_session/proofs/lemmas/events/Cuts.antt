@@ -43,8 +43,7 @@ module _ {D : Type 0} (h : History D) where
   -- the message counts whole
   counted_whole : (s : Shop) (bytes : List ℕ) (n : ℕ) (a b : D) → 0 < n → h.failures a ≤ h.failures b
       → HeldOnly h a b (IsInEvent s (cut_at bytes n)) → LeavesAlone h s (cut_at bytes n) a b
-      → IsShop (h.image b) (after_of s bytes)
-      → IsEvent h s (cut_at bytes n) a b (Leaves h s b)
+      → IsShop (h.image b) (after_of s bytes) → IsEvent h s (cut_at bytes n) a b (Leaves h s b)
   counted_whole s bytes n a b low later held quiet shop = record {
     failed = false;
     counted = option_to_list (request_of bytes);
@@ -60,8 +59,7 @@ module _ {D : Type 0} (h : History D) where
 
   -- the message doesn't count, for a reason
   counted_not : (s : Shop) (bytes : List ℕ) (n : ℕ) (failed : Bool) (a b : D) → h.failures a ≤ h.failures b
-      → (failed ≡ true → Failed h a b)
-      → MayCount s.top s.state (request_of bytes) (Some n) failed []
+      → (failed ≡ true → Failed h a b) → MayCount s.top s.state (request_of bytes) (Some n) failed []
       → HeldOnly h a b (IsInEvent s (cut_at bytes n)) → LeavesAlone h s (cut_at bytes n) a b → IsShop (h.image b) s
       → IsEvent h s (cut_at bytes n) a b (Leaves h s b)
   counted_not s bytes n failed a b later blame is held quiet shop = record {
@@ -79,8 +77,7 @@ module _ {D : Type 0} (h : History D) where
   -- the device failed in the message: it counts or not, as the disk has it
   failed_within : (s : Shop) (bytes : List ℕ) (n : ℕ) (a b : D) → 0 < n → Failed h a b
       → HeldOnly h a b (IsInEvent s (cut_at bytes n)) → LeavesAlone h s (cut_at bytes n) a b
-      → IsBeforeOrAfter s bytes (h.image b)
-      → IsEvent h s (cut_at bytes n) a b (Leaves h s b)
+      → IsBeforeOrAfter s bytes (h.image b) → IsEvent h s (cut_at bytes n) a b (Leaves h s b)
   failed_within s bytes n a b low failed held quiet = ⊎_elim
       (λ before. counted_not s bytes n true a b failed.later (λ _. failed)
       (failed_out s.top s.state (request_of bytes) (Some n)) held quiet before)
@@ -94,8 +91,7 @@ module _ {D : Type 0} (h : History D) where
   grown_within : (s : Shop) (bytes : List ℕ) (n : ℕ) (a b : D) → 0 < n → n < 3619 → h.failures a ≤ h.failures b
       → MayGrow s (request_of bytes)
       → HeldOnly h a b (IsInEvent s (cut_at bytes n)) → LeavesAlone h s (cut_at bytes n) a b
-      → IsBeforeOrAfter s bytes (h.image b)
-      → IsEvent h s (cut_at bytes n) a b (Leaves h s b)
+      → IsBeforeOrAfter s bytes (h.image b) → IsEvent h s (cut_at bytes n) a b (Leaves h s b)
   grown_within s bytes n a b low high later grow held quiet = ⊎_elim
       (λ before. counted_not s bytes n false a b later (λ e. cc)
       (first_out s (request_of bytes) n grow high) held quiet before)
@@ -107,8 +103,7 @@ module _ {D : Type 0} (h : History D) where
 
   -- a message handed to a session over a fuse that isn't blown yet
   over_fuse : (s : Shop) (bytes : List ℕ) (n : ℕ) (a b : Fuse D) → 0 < n
-      → fuse_left a ≡ n → fuse_limit a ≡ n → fuse_failures a ≡ 0
-      → Changes (fuse h) a b 3618 (IsBeforeOrAfter s bytes)
+      → fuse_left a ≡ n → fuse_limit a ≡ n → fuse_failures a ≡ 0 → Changes (fuse h) a b 3618 (IsBeforeOrAfter s bytes)
       → (fuse_passed a < fuse_passed b → MayGrow s (request_of bytes)
       ⊎ IsShop (h.image (fuse_disk b)) (after_of s bytes))
       → (AsksNothing s (cut_at bytes n) → b ≡ a)
@@ -142,8 +137,7 @@ module _ {D : Type 0} (h : History D) where
   -- the same for any number of writes; with none nothing passes
   pub message_cut : (s : Shop) (bytes : List ℕ) (n : ℕ) (d r : D) (a b : Fuse D)
       → fuse_disk a ≡ d → r ≡ fuse_disk b → fuse_left a ≡ n → fuse_limit a ≡ n → fuse_failures a ≡ 0
-      → IsShop (h.image d) s
-      → (IsShop (h.image (fuse_disk a)) s → Changes (fuse h) a b 3618 (IsBeforeOrAfter s bytes))
+      → IsShop (h.image d) s → (IsShop (h.image (fuse_disk a)) s → Changes (fuse h) a b 3618 (IsBeforeOrAfter s bytes))
       → (IsShop (h.image (fuse_disk a)) s → fuse_passed a < fuse_passed b → MayGrow s (request_of bytes)
       ⊎ IsShop (h.image (fuse_disk b)) (after_of s bytes))
       → (IsShop (h.image (fuse_disk a)) s → AsksNothing s (cut_at bytes n) → b ≡ a)
@@ -164,8 +158,7 @@ module _ {D : Type 0} (h : History D) where
 
   -- no more is counted than the fuse lets pass
   pub cut_writes : (n k : ℕ) (d r : D) (a b : Fuse D) (P : Image → Type 0) → fuse_disk a ≡ d → r ≡ fuse_disk b
-      → fuse_limit a ≡ n
-      → Changes (fuse h) a b k P → h.writes r ≤ h.writes d + n
+      → fuse_limit a ≡ n → Changes (fuse h) a b k P → h.writes r ≤ h.writes d + n
   cut_writes n k d r a b P is ends limit changes =
       let x = changes.held.reached in
       subst (λ (y : D). h.writes y ≤ h.writes d + n) (sym ends)
@@ -203,8 +196,7 @@ module _ {D : Type 0} (h : History D) where
 
   -- the moments of an event, and of openings after it
   pub way_then : (s : Shop) (m : Message) (failed : Bool) (counted : List Ask) (a b c : D)
-      → MayCount s.top s.state (request_of m.bytes) m.cut_after failed counted
-      → HeldOnly h a b (IsInEvent s m)
+      → MayCount s.top s.state (request_of m.bytes) m.cut_after failed counted → HeldOnly h a b (IsInEvent s m)
       → HeldOnly h b c (λ i. IsShop i (with_state s (after_all (start_of s) s.state counted)))
       → HeldOnly h a c (IsInEvent s m)
   way_then s m failed counted a b c is first second = then h a b c (IsInEvent s m) first
@@ -234,8 +226,7 @@ module _ {D : Type 0} (h : History D) where
       → (x : IsEvent h s m a b Before)
       → HeldOnly h b d (λ i. IsShop i (with_state s (after_all (start_of s) s.state x.counted)))
       → h.failures b ≤ h.failures c → Failed h c d → LeavesAlone h s m a d
-      → After true (after_all (start_of s) s.state x.counted)
-      → IsEvent h s m a d After
+      → After true (after_all (start_of s) s.state x.counted) → IsEvent h s m a d After
   event_failed s m a b c d Before After x held later failed quiet ends = record {
     failed = true;
     counted = x.counted;

@@ -26,8 +26,7 @@ told_over h (x ∷ xs) = ap (λ rs. x.0 ∷ rs) (told_over h xs)
 module _ {D : Type 0} (h : History D) where
   -- one event more at the end
   pub chain_more : (s : Shop) (ms : List Message) (xs : List (Reply × D)) (old mid new : D) (t : Shop) (m : Message)
-      (reply : Reply)
-      → IsChain h s ms xs old t mid → (e : IsEvent h t m mid new (GoesOn h t m reply new))
+      (reply : Reply) → IsChain h s ms xs old t mid → (e : IsEvent h t m mid new (GoesOn h t m reply new))
       → IsChain h s (ms ++ m ∷ []) (xs ++ (reply, new) ∷ []) old
       (with_state t (after_all (start_of t) t.state e.counted)) new
   chain_more s [] [] old mid new t m reply c e =
@@ -62,8 +61,7 @@ module _ {D : Type 0} (h : History D) where
   -- nor in a run
   pub run_unfailed : (s : Shop) (ms : List Message) (xs : List (Reply × D)) (old new : D) → AreUncut ms
       → HasRun h s ms xs old new → h.failures new ≡ h.failures old
-  run_unfailed s ms xs old new uncut r =
-      chain_unfailed s ms xs r.first new r.now uncut r.chain ∙ r.unfailed
+  run_unfailed s ms xs old new uncut r = chain_unfailed s ms xs r.first new r.now uncut r.chain ∙ r.unfailed
 
   -- the next message is asked for over the disk on which a chain ended, whatever turns come after
   pub asked_more : (s : Shop) (ms : List Message) (xs ys : List (Reply × D)) (old mid : D) (t : Shop) (m : Message)
@@ -82,8 +80,7 @@ module _ {D : Type 0} (h : History D) where
 
   -- a chain behind what was played is played
   pub chain_played : (s : Shop) (before : List Message) (old at : D) (told : List Reply)
-      (p : HasPlayed h s before old at told)
-      → (ms : List Message) (xs : List (Reply × D)) (new : D) (t : Shop)
+      (p : HasPlayed h s before old at told) → (ms : List Message) (xs : List (Reply × D)) (new : D) (t : Shop)
       → IsChain h (now_of h s before old at told p) ms xs at t new
       → PlayedTo s (before ++ ms) old new (told ++ told_in xs) t
   chain_played s before old at told p [] [] new t c =
@@ -125,8 +122,7 @@ module _ {D : Type 0} (h : History D) where
 
   -- one that the device ended
   pub at_device : (s : Shop) (ms rest all : List Message) (xs : List (Reply × D)) (last : Reply) (old new : D)
-      → ms ++ rest ≡ all
-      → HasRunToFailure h s ms xs last old new
+      → ms ++ rest ≡ all → HasRunToFailure h s ms xs last old new
       → StoppedByDevice h s all old new (told_in xs ++ last ∷ []) × HeldBeginnings h s all old new
   at_device s ms rest all xs last old new parts f =
       let p = run_played s f.before xs old f.at f.run in
@@ -143,8 +139,7 @@ module _ {D : Type 0} (h : History D) where
     pub behind : IsChain h now ns ys mid t new
 
   pub cut_chain : (s : Shop) (ms ns : List Message) (xs ys : List (Reply × D)) (old : D) (t : Shop) (new : D)
-      → length ms ≡ length xs
-      → IsChain h s (ms ++ ns) (xs ++ ys) old t new → IsCutBehind s ms ns xs ys old t new
+      → length ms ≡ length xs → IsChain h s (ms ++ ns) (xs ++ ys) old t new → IsCutBehind s ms ns xs ys old t new
   cut_chain s [] ns [] ys old t new same c = record { mid = old; now = s; before = (refl, refl); behind = c }
   cut_chain s (m ∷ ms) ns (x ∷ xs) ys old t new same c =
       let q = cut_chain (with_state s (after_all (start_of s) s.state c.0.counted)) ms ns xs ys x.1 t new
@@ -154,8 +149,7 @@ module _ {D : Type 0} (h : History D) where
   cut_chain s (m ∷ ms) ns [] ys old t new same c = cc
 
   pub only_grows : (s : Shop) (ms ns : List Message) (xs ys : List (Reply × D)) (old : D) (t : Shop) (new : D)
-      → length ms ≡ length xs
-      → IsSettled (h.image old) s → IsChain h s (ms ++ ns) (xs ++ ys) old t new
+      → length ms ≡ length xs → IsSettled (h.image old) s → IsChain h s (ms ++ ns) (xs ++ ys) old t new
       → (q : IsCutBehind s ms ns xs ys old t new) × IsSettled (h.image q.mid) q.now
       × HeldBeginnings h q.now ns q.mid new
   only_grows s ms ns xs ys old t new same rests c =
@@ -235,8 +229,7 @@ module _ {D : Type 0} (h : History D) where
 
   -- failures are counted on
   chain_later : (s : Shop) (ms : List Message) (xs : List (Reply × D)) (old new : D) (t : Shop)
-      → IsChain h s ms xs old t new
-      → h.failures old ≤ h.failures new
+      → IsChain h s ms xs old t new → h.failures old ≤ h.failures new
   chain_later s [] [] old new t c = subst (λ d. h.failures old ≤ h.failures d) (sym c.1) (le_refl (h.failures old))
   chain_later s (m ∷ ms) (x ∷ xs) old new t c =
       let rest = chain_later (with_state s (after_all (start_of s) s.state c.0.counted)) ms xs x.1 new t c.1 in
@@ -250,8 +243,7 @@ module _ {D : Type 0} (h : History D) where
 
   -- where the last message met the failure, it came in the run
   pub run_failed : (s : Shop) (ms : List Message) (xs : List (Reply × D)) (last : Reply) (old new : D)
-      → HasRunToFailure h s ms xs last old new
-      → Failed h old new
+      → HasRunToFailure h s ms xs last old new → Failed h old new
   run_failed s ms xs last old new f =
       let before = run_later s f.before xs old f.at f.run in
       let x : Failed h f.at new = f.failed.blame f.failed.ends.is_failed in

@@ -1,4 +1,6 @@
 -- What was judged is a shop's, and stays the same shop's; what was refused is no shop's, and was only read.
+mod Refused
+mod Unsettled
 use Rattle.std.proofs.Common.{Err, ap, arith, refl, subst, sym, ◌≡◌, ◌∙◌}
 use Rattle.std.proofs.lemmas.Result.{err_from_is_err_and}
 use Rattle.std.proofs.lemmas.Bool.{false≢true}
@@ -9,6 +11,8 @@ use Rattle.host_session.specs.session.Standing.{View}
 use Rattle.host_session.proofs.lemmas.opening.Opens.{device-ok, device-refused, error-changes, error-device, error-told}
 use Rattle.host_session.proofs.lemmas.opening.Opens.{judged-opening, judged-same, ok-of, opening-later, refused-no}
 use Rattle.host_session.proofs.session.Session.open.Goals as goal
+use Rattle.host_session.proofs.session.Session.open.Answers.Unsettled as unsettled
+use Rattle.host_session.proofs.session.Session.open.Answers.Refused as refused
 
 pub settle-requires : goal.settle-requires
 settle-requires g c =
@@ -17,88 +21,22 @@ settle-requires g c =
     record { judged = (f, subst (λ i. HasFiles i f) (sym c.judge.ensures.reads.image) has, j) }
 
 pub returns-in_err-drive-clause-err : goal.returns-in_err-drive-clause-err
-returns-in_err-drive-clause-err g c =
-    let S = g.D.Sectors.history in
-    let same = judged-same S c.args.disk c.judge.new.disk c.judge.result c.in_default.not-Err c.judge.ensures.failures
-    in
-    let p = err_from_is_err_and c.from_residual.result c.from_residual.ensures.1 in
-    let is = p.1 ∙ ap Err p.2 in
-    device-refused S (λ (x : View g.row.D.Denot). x.disk) c.args.disk c.judge.new.disk same c.from_residual.result
-    (error-told S (λ (x : View g.row.D.Denot). x.disk) c.judge.new.disk c.from_residual.result c.in_err-drive.field-0.0
-    is c.in_err-drive.ensures.mends.failures) (S.image c.args.disk)
-    (error-device S (λ (x : View g.row.D.Denot). x.disk) c.judge.new.disk c.from_residual.result
-    c.in_err-drive.field-0.0 is c.in_err-drive.ensures.mends.err)
+returns-in_err-drive-clause-err = unsettled.returns-in_err-drive-clause-err
 
 pub returns-in_err-drive-clause-opens : goal.returns-in_err-drive-clause-opens
-returns-in_err-drive-clause-opens g c = λ never.
-    let S = g.D.Sectors.history in
-    let (f, has, j) = ok-of c.judge.result c.in_default.not-Err _ c.judge.ensures.ok in
-    let shop : IsShop (S.image c.args.disk) (shop_of f) = record {
-      files = f;
-      has = has;
-      records = j.records;
-      is =
-          refl;
-    } in
-    let same = judged-same S c.args.disk c.judge.new.disk c.judge.result c.in_default.not-Err c.judge.ensures.failures
-    in
-    let p = err_from_is_err_and c.from_residual.result c.from_residual.ensures.1 in
-    let is = p.1 ∙ ap Err p.2 in (
-      λ ok. (shop_of f, shop),
-      λ some. device-ok S (λ (x : View g.row.D.Denot). x.disk) c.args.disk c.judge.new.disk same c.from_residual.result
-          (error-told S (λ (x : View g.row.D.Denot). x.disk) c.judge.new.disk c.from_residual.result
-          c.in_err-drive.field-0.0 is c.in_err-drive.ensures.mends.failures)
-          (error-device S (λ (x : View g.row.D.Denot). x.disk) c.judge.new.disk c.from_residual.result
-          c.in_err-drive.field-0.0 is c.in_err-drive.ensures.mends.err) never,
-    )
+returns-in_err-drive-clause-opens = unsettled.returns-in_err-drive-clause-opens
 
 pub returns-in_err-drive-clause-moments : goal.returns-in_err-drive-clause-moments
-returns-in_err-drive-clause-moments g c = λ s h.
-    let S = g.D.Sectors.history in
-    let now : IsShop (S.image c.judge.new.disk) s = subst (λ i. IsShop i s) (sym c.judge.ensures.reads.image) h in
-    let p = err_from_is_err_and c.from_residual.result c.from_residual.ensures.1 in
-    changes_then S c.args.disk c.judge.new.disk _ 0 952 952 (λ i. IsShop i s) (omega arith)
-    (reads_change S c.args.disk c.judge.new.disk 34190 (λ i. IsShop i s) c.judge.ensures.reads h)
-    (error-changes S c.judge.new.disk 952 952 (λ i. IsShop i s) (λ (x : View g.row.D.Denot). x.disk)
-    c.from_residual.result c.in_err-drive.field-0.0 (omega arith) (p.1 ∙ ap Err p.2)
-    (c.in_err-drive.ensures.mends.moments s now))
+returns-in_err-drive-clause-moments = unsettled.returns-in_err-drive-clause-moments
 
 pub returns-in_err-drive-clause-unfit : goal.returns-in_err-drive-clause-unfit
-returns-in_err-drive-clause-unfit g c = λ none.
-    let S = g.D.Sectors.history in
-    let (f, has, j) = ok-of c.judge.result c.in_default.not-Err _ c.judge.ensures.ok in
-    let shop : IsShop (S.image c.args.disk) (shop_of f) = record {
-      files = f;
-      has = has;
-      records = j.records;
-      is =
-          refl;
-    } in
-    absurd (none (shop_of f, shop))
+returns-in_err-drive-clause-unfit = unsettled.returns-in_err-drive-clause-unfit
 
 pub returns-in_err-drive-clause-quiet : goal.returns-in_err-drive-clause-quiet
-returns-in_err-drive-clause-quiet g c = λ s r.
-    let S = g.D.Sectors.history in
-    let same = c.judge.ensures.reads.image in
-    let now : IsSettled (S.image c.judge.new.disk) s = subst (λ i. IsSettled i s) (sym same) r in
-    let p = err_from_is_err_and c.from_residual.result c.from_residual.ensures.1 in
-    changes_then S c.args.disk c.judge.new.disk _ 0 0 0 (λ i. i ≡ S.image c.args.disk) (omega arith)
-    (reads_change S c.args.disk c.judge.new.disk 34190 (λ i. i ≡ S.image c.args.disk) c.judge.ensures.reads refl)
-    (changes_weaker S c.judge.new.disk _ 0 0 (λ i. i ≡ S.image c.judge.new.disk) (λ i. i ≡ S.image c.args.disk)
-    (omega arith) (λ i e. e ∙ same)
-    (error-changes S c.judge.new.disk 0 0 (λ i. i ≡ S.image c.judge.new.disk) (λ (x : View g.row.D.Denot). x.disk)
-    c.from_residual.result c.in_err-drive.field-0.0 (omega arith) (p.1 ∙ ap Err p.2)
-    (c.in_err-drive.ensures.mends.quiet (s, now))))
+returns-in_err-drive-clause-quiet = unsettled.returns-in_err-drive-clause-quiet
 
 pub returns-in_err-drive-clause-failures : goal.returns-in_err-drive-clause-failures
-returns-in_err-drive-clause-failures g c =
-    let S = g.D.Sectors.history in
-    let same = judged-same S c.args.disk c.judge.new.disk c.judge.result c.in_default.not-Err c.judge.ensures.failures
-    in
-    let p = err_from_is_err_and c.from_residual.result c.from_residual.ensures.1 in
-    opening-later S (λ (x : View g.row.D.Denot). x.disk) c.args.disk c.judge.new.disk same c.from_residual.result
-    (error-told S (λ (x : View g.row.D.Denot). x.disk) c.judge.new.disk c.from_residual.result c.in_err-drive.field-0.0
-    (p.1 ∙ ap Err p.2) c.in_err-drive.ensures.mends.failures)
+returns-in_err-drive-clause-failures = unsettled.returns-in_err-drive-clause-failures
 
 pub invariant_of-result : goal.invariant_of-result
 invariant_of-result g c = (c.in_ok-drive.ensures.standing, λ _. c.in_ok-drive.ensures.mends.ready)
@@ -107,13 +45,8 @@ pub returns-clause-ok : goal.returns-clause-ok
 returns-clause-ok g c =
     let S = g.D.Sectors.history in
     let (f, has, j) = ok-of c.judge.result c.in_default.not-Err _ c.judge.ensures.ok in
-    let shop : IsShop (S.image c.args.disk) (shop_of f) = record {
-      files = f;
-      has = has;
-      records = j.records;
-      is =
-          refl;
-    } in
+    let shop : IsShop (S.image c.args.disk) (shop_of f) =
+    record { files = f; has = has; records = j.records; is = refl } in
     let now : IsShop (S.image c.judge.new.disk) (shop_of f) =
     subst (λ i. IsShop i (shop_of f)) (sym c.judge.ensures.reads.image) shop in
     (shop_of f, shop, c.in_ok-drive.ensures.mends.ok (shop_of f) now, refl)
@@ -122,13 +55,8 @@ pub returns-clause-opens : goal.returns-clause-opens
 returns-clause-opens g c = λ never.
     let S = g.D.Sectors.history in
     let (f, has, j) = ok-of c.judge.result c.in_default.not-Err _ c.judge.ensures.ok in
-    let shop : IsShop (S.image c.args.disk) (shop_of f) = record {
-      files = f;
-      has = has;
-      records = j.records;
-      is =
-          refl;
-    } in
+    let shop : IsShop (S.image c.args.disk) (shop_of f) =
+    record { files = f; has = has; records = j.records; is = refl } in
     (λ ok. (shop_of f, shop), λ some. refl)
 
 pub returns-clause-moments : goal.returns-clause-moments
@@ -143,13 +71,8 @@ pub returns-clause-unfit : goal.returns-clause-unfit
 returns-clause-unfit g c = λ none.
     let S = g.D.Sectors.history in
     let (f, has, j) = ok-of c.judge.result c.in_default.not-Err _ c.judge.ensures.ok in
-    let shop : IsShop (S.image c.args.disk) (shop_of f) = record {
-      files = f;
-      has = has;
-      records = j.records;
-      is =
-          refl;
-    } in
+    let shop : IsShop (S.image c.args.disk) (shop_of f) =
+    record { files = f; has = has; records = j.records; is = refl } in
     absurd (none (shop_of f, shop))
 
 pub returns-clause-quiet : goal.returns-clause-quiet
@@ -169,29 +92,16 @@ returns-clause-failures g c =
     c.in_default.not-Err c.judge.ensures.failures
 
 pub returns-in-Err-clause-opens : goal.returns-in-Err-clause-opens
-returns-in-Err-clause-opens g c = λ never.
-    let S = g.D.Sectors.history in (
-      λ ok. absurd (false≢true ok),
-      λ some. absurd (refused-no S c.args.disk c.judge.new.disk c.in-Err.fault never
-          c.in-Err.ensures.err some),
-    )
+returns-in-Err-clause-opens = refused.returns-in-Err-clause-opens
 
 pub returns-in-Err-clause-moments : goal.returns-in-Err-clause-moments
-returns-in-Err-clause-moments g c = λ s h.
-    let S = g.D.Sectors.history in
-    changes_weaker S c.args.disk c.judge.new.disk 0 952 (λ i. IsShop i s) (λ i. IsShop i s) (omega arith) (λ i x. x)
-    (reads_change S c.args.disk c.judge.new.disk 34190 (λ i. IsShop i s) c.judge.ensures.reads h)
+returns-in-Err-clause-moments = refused.returns-in-Err-clause-moments
 
 pub returns-in-Err-clause-unfit : goal.returns-in-Err-clause-unfit
-returns-in-Err-clause-unfit g c = λ none.
-    let S = g.D.Sectors.history in
-    reads_change S c.args.disk c.judge.new.disk 34190 (λ i. i ≡ S.image c.args.disk) c.judge.ensures.reads refl
+returns-in-Err-clause-unfit = refused.returns-in-Err-clause-unfit
 
 pub returns-in-Err-clause-quiet : goal.returns-in-Err-clause-quiet
-returns-in-Err-clause-quiet g c = λ s r.
-    let S = g.D.Sectors.history in
-    reads_change S c.args.disk c.judge.new.disk 34190 (λ i. i ≡ S.image c.args.disk) c.judge.ensures.reads refl
+returns-in-Err-clause-quiet = refused.returns-in-Err-clause-quiet
 
 pub returns-in-Err-clause-failures : goal.returns-in-Err-clause-failures
-returns-in-Err-clause-failures g c = judged-opening (Unit {0}) g.D.Sectors.history c.args.disk c.judge.new.disk
-    c.in-Err.fault c.in-Err.ensures.failures
+returns-in-Err-clause-failures = refused.returns-in-Err-clause-failures

@@ -1,4 +1,6 @@
 -- A card of version 1 holds one request; as version 2 it holds the same.
+mod Failed
+mod Left
 use Rattle.std.proofs.Common.{ap, arith, sym, subst, ◌+◌, ◌-◌, ◌<◌, ◌≡◌, ◌∙◌, refl}
 use Rattle.d64_image.proofs.Moments.{changes_weaker, no_change}
 use Rattle.request_cards.specs.CardTexts.{card_text}
@@ -9,6 +11,8 @@ use Rattle.host_session.proofs.lemmas.opening.AtRest.{card-at, new-young, none-y
 use Rattle.host_session.proofs.lemmas.opening.Migrated.{renewed-moments, renewed-ok, renewed-there}
 use Rattle.std.proofs.lemmas.Result.{err_from_is_err_and}
 use Rattle.host_session.proofs.session.migrating.migrate_till.Goals as goal
+use Rattle.host_session.proofs.session.migrating.migrate_till.Answers.Failed as failed
+use Rattle.host_session.proofs.session.migrating.migrate_till.Answers.Left as left
 
 pub put_answer-requires-clause-there : goal.put_answer-requires-clause-there
 put_answer-requires-clause-there g c =
@@ -26,86 +30,13 @@ put_answer-requires-clause-there g c =
     (h2.closed.has.shop.files, h2.closed.has.shop.has, c.requires.low, c.requires.high, omega (arith, up, there))
 
 pub returns-in_default : goal.returns-in_default
-returns-in_default g c = record {
-  puts = record {
-    ready = c.requires.ready;
-    ok = λ s h.
-        let k = c.from-place.result - 1 in
-        let up : k + 1 ≡ c.args.till = omega (arith, c.from-place.ensures, c.requires.low) in
-        let down : c.args.till - 1 ≡ k = omega (arith, c.from-place.ensures) in
-        let table = c.args.requests.now in
-        let img = g.D.Sectors.history.image c.args.drive.now.disk in
-        table-more img s table k c.args.till up (subst (HasNewTable img s table) down h)
-        (young-at table k c.args.till _ up (omega (arith, up, c.requires.high)) c.told-requests
-        (none-young _ c.in_default.not-Some));
-    moments = λ s h.
-        let S = g.D.Sectors.history in
-        let d = c.args.drive.now.disk in
-        changes_weaker S d d 0 1 (λ i. IsShop i s) (λ i. IsShop i s) (omega arith) (λ i x. x)
-        (no_change S d (λ i. IsShop i s) h.closed.has.shop);
-    failures = refl;
-    dies = λ is. absurd cc;
-  };
-  quiet = λ young. (refl, refl);
-}
+returns-in_default = left.returns-in_default
 
 pub returns-then-version-ne1 : goal.returns-then-version-ne1
-returns-then-version-ne1 g c = record {
-  puts = record {
-    ready = c.requires.ready;
-    ok = λ s h.
-        let k = c.from-place.result - 1 in
-        let up : k + 1 ≡ c.args.till = omega (arith, c.from-place.ensures, c.requires.low) in
-        let down : c.args.till - 1 ≡ k = omega (arith, c.from-place.ensures) in
-        let table = c.args.requests.now in
-        let img = g.D.Sectors.history.image c.args.drive.now.disk in
-        table-more img s table k c.args.till up (subst (HasNewTable img s table) down h)
-        (young-at table k c.args.till _ up (omega (arith, up, c.requires.high)) c.told-requests
-        (new-young _ c.in-Some.card c.in-Some.is (λ e. c.if-version-ne1.true (c.version.ensures ∙ e))));
-    moments = λ s h.
-        let S = g.D.Sectors.history in
-        let d = c.args.drive.now.disk in
-        changes_weaker S d d 0 1 (λ i. IsShop i s) (λ i. IsShop i s) (omega arith) (λ i x. x)
-        (no_change S d (λ i. IsShop i s) h.closed.has.shop);
-    failures = refl;
-    dies = λ is. absurd cc;
-  };
-  quiet = λ young. (refl, refl);
-}
+returns-then-version-ne1 = left.returns-then-version-ne1
 
 pub returns-in_err-put_answer : goal.returns-in_err-put_answer
-returns-in_err-put_answer g c =
-    let p = err_from_is_err_and c.from_residual.result c.from_residual.ensures.1 in
-    record {
-      puts = record {
-        ready = rw p.1 tt;
-        ok = rw p.1 (λ s h. tt);
-        moments = λ s h.
-            let k = c.from-place.result - 1 in
-            let up : k + 1 ≡ c.args.till = omega (arith, c.from-place.ensures, c.requires.low) in
-            let down : c.args.till - 1 ≡ k = omega (arith, c.from-place.ensures) in
-            let lt : k < 64 = omega (arith, up, c.requires.high) in
-            let table = c.args.requests.now in
-            let S = g.D.Sectors.history in
-            let img = S.image c.args.drive.now.disk in
-            let one = sym c.version.ensures ∙ c.if-version-ne1.false in
-            let h2 = subst (HasNewTable img s table) down h in
-            renewed-moments img s table k lt c.told-requests h2 c.in-Some.card (ap (nth table) up
-            ∙ card-at table k c.args.till _ up lt c.told-requests c.in-Some.card c.in-Some.is) one
-            c.args.till up c.print.result (c.print.ensures ∙ ap card_text c.to_v2-new.ensures) S c.args.drive.now.disk
-            c.put_answer.new.drive.disk (c.put_answer.ensures.puts.moments h2.closed.has.shop.files
-            h2.closed.has.shop.has);
-        failures = rw p.1 c.in_err-put_answer.ensures.puts.failures;
-        dies = rw p.1 (λ is. c.in_err-put_answer.ensures.puts.dies refl);
-      };
-      quiet = λ young.
-          let k = c.from-place.result - 1 in
-          let up : k + 1 ≡ c.args.till = omega (arith, c.from-place.ensures, c.requires.low) in
-          let lt : k < 64 = omega (arith, up, c.requires.high) in
-          absurd (old-is (nth c.args.requests.now c.args.till) c.in-Some.card
-          (card-at c.args.requests.now k c.args.till _ up lt c.told-requests c.in-Some.card c.in-Some.is)
-          (sym c.version.ensures ∙ c.if-version-ne1.false) young);
-    }
+returns-in_err-put_answer = failed.returns-in_err-put_answer
 
 pub returns : goal.returns
 returns g c = record {

@@ -1,4 +1,5 @@
 -- One card or two; whatever their records held, the open intent has their quantities already.
+mod Asked
 use Rattle.std.proofs.Common.{refl}
 use Rattle.std.proofs.lemmas.Result.{err_from_is_err_and}
 use Rattle.host_session.proofs.lemmas.writing.Completions.{done-fits, done-moments, done-ok, done-there, moved-fits}
@@ -7,6 +8,7 @@ use Rattle.host_session.proofs.lemmas.writing.Completions.{moved-there, moved-th
 use Rattle.host_session.proofs.lemmas.writing.IntentAnswers.{done-of, intent-fits, moved-of, none-in, one-in, two-in}
 use Rattle.host_session.proofs.lemmas.writing.Selection.{told-after}
 use Rattle.host_session.proofs.shop.completing.put_results.Goals as goal
+use Rattle.host_session.proofs.shop.completing.put_results.Answers.Asked as asked
 
 pub new_quantities-new-requires-clause-fits : goal.new_quantities-new-requires-clause-fits
 new_quantities-new-requires-clause-fits g c = let (f, h, x) = c.requires.intent in
@@ -49,25 +51,10 @@ returns-in_default-second g c =
     }
 
 pub put_quantity-requires-2-clause-there : goal.put_quantity-requires-2-clause-there
-put_quantity-requires-2-clause-there g c =
-    let (f, h, x) = c.requires.intent in
-    let (at, to, is) = moved-of c.args.card.now.newest.body c.in-Some.item c.in-Some.quantity c.in-Some-second.to
-    c.in-Some-second.to_quantity c.args.card.now.newest.answer
-    (two-in c.new_quantities-new.result _ c.new_quantities-new.ensures.value _ _ c.in-Some.is c.in-Some-second.is) in (
-      f,
-      h,
-      moved-there f c.args.till c.args.card.now x c.in-Some.item c.in-Some.quantity c.in-Some-second.to
-          c.in-Some-second.to_quantity at to is,
-    )
+put_quantity-requires-2-clause-there = asked.put_quantity-requires-2-clause-there
 
 pub put_quantity-requires-2-clause-fits : goal.put_quantity-requires-2-clause-fits
-put_quantity-requires-2-clause-fits g c =
-    let (f, h, x) = c.requires.intent in
-    let (at, to, is) = moved-of c.args.card.now.newest.body c.in-Some.item c.in-Some.quantity c.in-Some-second.to
-    c.in-Some-second.to_quantity c.args.card.now.newest.answer
-    (two-in c.new_quantities-new.result _ c.new_quantities-new.ensures.value _ _ c.in-Some.is c.in-Some-second.is) in
-    moved-fits f c.args.till c.args.card.now x c.in-Some.item c.in-Some.quantity c.in-Some-second.to
-    c.in-Some-second.to_quantity at to is
+put_quantity-requires-2-clause-fits = asked.put_quantity-requires-2-clause-fits
 
 pub returns-in_err-put_quantity : goal.returns-in_err-put_quantity
 returns-in_err-put_quantity g c =
@@ -87,26 +74,10 @@ returns-in_err-put_quantity g c =
     }
 
 pub put_quantity-requires-3-clause-there : goal.put_quantity-requires-3-clause-there
-put_quantity-requires-3-clause-there g c =
-    let (f, h, x) = c.requires.intent in
-    let (at, to, is) = moved-of c.args.card.now.newest.body c.in-Some.item c.in-Some.quantity c.in-Some-second.to
-    c.in-Some-second.to_quantity c.args.card.now.newest.answer
-    (two-in c.new_quantities-new.result _ c.new_quantities-new.ensures.value _ _ c.in-Some.is c.in-Some-second.is) in
-    let (b, has) = c.in_ok-put_quantity.ensures.ok f h in (
-      _,
-      has,
-      moved-there' f c.args.till c.args.card.now x c.in-Some.item c.in-Some.quantity c.in-Some-second.to
-          c.in-Some-second.to_quantity at to is,
-    )
+put_quantity-requires-3-clause-there = asked.put_quantity-requires-3-clause-there
 
 pub put_quantity-requires-3-clause-fits : goal.put_quantity-requires-3-clause-fits
-put_quantity-requires-3-clause-fits g c =
-    let (f, h, x) = c.requires.intent in
-    let (at, to, is) = moved-of c.args.card.now.newest.body c.in-Some.item c.in-Some.quantity c.in-Some-second.to
-    c.in-Some-second.to_quantity c.args.card.now.newest.answer
-    (two-in c.new_quantities-new.result _ c.new_quantities-new.ensures.value _ _ c.in-Some.is c.in-Some-second.is) in
-    moved-fits' f c.args.till c.args.card.now x c.in-Some.item c.in-Some.quantity c.in-Some-second.to
-    c.in-Some-second.to_quantity at to is
+put_quantity-requires-3-clause-fits = asked.put_quantity-requires-3-clause-fits
 
 pub returns : goal.returns
 returns g c =

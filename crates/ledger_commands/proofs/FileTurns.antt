@@ -1,0 +1,48 @@
+-- The turns of a run over a mirror, each over its file.
+use Rattle.std.proofs.Common.{◌≡◌, ◌<◌, ◌≤◌, ◌+◌, ◌⊎◌, ℕ, Bool, List, [], ◌∷◌, ◌++◌, None, Option, Some, ap, ⊎_elim}
+use Rattle.std.proofs.Common.{arith, false, inl, inr, length, refl, subst, sym, true}
+use Rattle.std.specs.Prelude.{◌*◌, if◌then◌else◌, map, nat_lt}
+use Rattle.d64_image.specs.declared.mirror.Mirror.{Mirror}
+use Rattle.d64_image.specs.declared.sector_file.SectorFile.{Ghosts}
+use Rattle.d64_image.specs.FileDisks.{FileDisk, fails_since, in_run}
+use Rattle.d64_image.specs.History.{Changes, History}
+use Rattle.d64_image.specs.Images.{Image}
+use Rattle.d64_image.specs.Mirrors.{IsMirrored, is_broken, mirror, mirrored_then, one_if}
+use Rattle.d64_image.proofs.FileRuns.{failed_by_file, file_disk, held_by_file, one_if-false, since_grows, since_whole}
+use Rattle.host_session.specs.runs.Chains.{HasRun, HasRunToFailure, IsChain, over_instants, told_in}
+use Rattle.host_session.specs.events.Counted.{after_all}
+use Rattle.host_session.specs.events.Events.{Message}
+use Rattle.host_session.specs.events.Instants.{instant_of}
+use Rattle.host_session.specs.events.OneEvent.{EndsFailed, GoesOn, IsEvent}
+use Rattle.host_session.specs.shop.Files.{Files, HasFiles}
+use Rattle.host_session.specs.session.Handling.{most_writes}
+use Rattle.host_session.specs.events.Quiet.{AreUncut, IsLeftAlone, IsQuiet}
+use Rattle.host_session.specs.runs.Runs.{IsBlamed, blamed}
+use Rattle.host_session.specs.shop.Shop.{Shop, shop_of, start_of, with_state}
+use Rattle.host_session.specs.events.Within.{AreFew, AreWithin, IsBounded, IsSpared, IsWithin, most_of_run}
+use Rattle.request_cards.specs.Ledgers.{State}
+use Rattle.request_cards.specs.Reading.{request_of}
+use Rattle.request_cards.specs.declared.reply.Reply.{Reply}
+
+-- the turns of a run, each over the file of its mirror
+abbrev pub over_files : {F : Type 0} {G : Ghosts F} → List (Reply × Mirror F G) → List (Reply × FileDisk G.keeps)
+over_files xs = map (λ x. (x.0, file_disk x.1)) xs
+
+-- two that count alike are alike
+pub same_broken : (p q : Bool) → one_if q ≡ one_if p → q ≡ true → p ≡ true
+same_broken true q same broken = refl
+same_broken false true same broken = absurd (omega (arith, same))
+same_broken false false same broken = broken
+
+pub broken_or : (b : Bool) → (b ≡ true) ⊎ (b ≡ true → ⊥)
+broken_or true = inl refl
+broken_or false = inr (λ e. cc)
+
+module _ {F : Type 0} {G : Ghosts F} where
+  pub same_told : (xs : List (Reply × Mirror F G)) → told_in xs ≡ told_in (over_files xs)
+  same_told [] = refl
+  same_told (x ∷ xs) = ap (λ rest. x.0 ∷ rest) (same_told xs)
+
+  pub over_files-more : (xs ys : List (Reply × Mirror F G)) → over_files xs ++ over_files ys ≡ over_files (xs ++ ys)
+  over_files-more [] ys = refl
+  over_files-more (x ∷ xs) ys = ap (λ rest. (x.0, file_disk x.1) ∷ rest) (over_files-more xs ys)
