@@ -15,7 +15,6 @@ use Rattle.rel_records.specs.Calls.{FindsFile, Grows, GrowsFile}
 use Rattle.rel_records.specs.File.{IsFileOf, entry_of, length_of, records_in}
 use Rattle.rel_records.specs.Others.{HasRecords, LeavesRecords}
 use Rattle.rel_records.specs.Written.{grown_to}
-use Rattle.rel_records.specs.declared.faults.RelFault.TheVariants as rel
 use Rattle.rel_records.specs.declared.rel_file.RelFile.{RelFile}
 use Rattle.rel_records.specs.growth.Growth.{IsFull, growth_writes, records_had}
 use Rattle.script_lines.specs.Lines.{lines}

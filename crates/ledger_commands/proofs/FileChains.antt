@@ -1,7 +1,7 @@
 -- A run over a mirror, as one of its file: event by event.
-use Rattle.std.proofs.Common.{◌≡◌, ◌<◌, ◌≤◌, ◌+◌, ◌⊎◌, ℕ, Bool, List, [], ◌∷◌, ◌++◌, None, Option, Some, ap, ⊎_elim}
-use Rattle.std.proofs.Common.{arith, false, inl, inr, length, refl, subst, sym, true}
-use Rattle.std.specs.Prelude.{◌*◌, if◌then◌else◌, map, nat_lt}
+use Rattle.std.proofs.Common.{◌≡◌, ◌<◌, ◌≤◌, ◌+◌, ℕ, Bool, List, [], ◌∷◌, ◌++◌, None, Option, Some, ap, ⊎_elim}
+use Rattle.std.proofs.Common.{arith, length, refl, subst, sym}
+use Rattle.std.specs.Prelude.{◌*◌, if◌then◌else◌, nat_lt}
 use Rattle.d64_image.specs.declared.mirror.Mirror.{Mirror}
 use Rattle.d64_image.specs.declared.sector_file.SectorFile.{Ghosts}
 use Rattle.d64_image.specs.FileDisks.{FileDisk, fails_since, in_run}
@@ -9,7 +9,7 @@ use Rattle.d64_image.specs.History.{Changes, History}
 use Rattle.d64_image.specs.Images.{Image}
 use Rattle.d64_image.specs.Mirrors.{IsMirrored, is_broken, mirror, mirrored_then, one_if}
 use Rattle.d64_image.proofs.FileRuns.{failed_by_file, file_disk, held_by_file, one_if-false, since_grows, since_whole}
-use Rattle.host_session.specs.runs.Chains.{HasRun, HasRunToFailure, IsChain, over_instants, told_in}
+use Rattle.host_session.specs.runs.Chains.{HasRun, HasRunToFailure, IsChain, over_instants}
 use Rattle.host_session.specs.events.Counted.{after_all}
 use Rattle.host_session.specs.events.Events.{Message}
 use Rattle.host_session.specs.events.Instants.{instant_of}
@@ -23,7 +23,7 @@ use Rattle.host_session.specs.events.Within.{AreFew, AreWithin, IsBounded, IsSpa
 use Rattle.request_cards.specs.Ledgers.{State}
 use Rattle.request_cards.specs.Reading.{request_of}
 use Rattle.request_cards.specs.declared.reply.Reply.{Reply}
-use Rattle.ledger_commands.proofs.FileTurns.{broken_or, over_files, over_files-more, same_broken, same_told}
+use Rattle.ledger_commands.proofs.FileTurns.{broken_or, over_files, same_broken}
 
 module _ {F : Type 0} {G : Ghosts F} where
   -- where no failure of the mirror was counted, none of its file's was

@@ -1,27 +1,13 @@
 -- The turns of a run over a mirror, each over its file.
-use Rattle.std.proofs.Common.{◌≡◌, ◌<◌, ◌≤◌, ◌+◌, ◌⊎◌, ℕ, Bool, List, [], ◌∷◌, ◌++◌, None, Option, Some, ap, ⊎_elim}
-use Rattle.std.proofs.Common.{arith, false, inl, inr, length, refl, subst, sym, true}
-use Rattle.std.specs.Prelude.{◌*◌, if◌then◌else◌, map, nat_lt}
+use Rattle.std.proofs.Common.{◌≡◌, ◌⊎◌, Bool, List, [], ◌∷◌, ◌++◌, ap}
+use Rattle.std.proofs.Common.{arith, false, inl, inr, refl, true}
+use Rattle.std.specs.Prelude.{map}
 use Rattle.d64_image.specs.declared.mirror.Mirror.{Mirror}
 use Rattle.d64_image.specs.declared.sector_file.SectorFile.{Ghosts}
-use Rattle.d64_image.specs.FileDisks.{FileDisk, fails_since, in_run}
-use Rattle.d64_image.specs.History.{Changes, History}
-use Rattle.d64_image.specs.Images.{Image}
-use Rattle.d64_image.specs.Mirrors.{IsMirrored, is_broken, mirror, mirrored_then, one_if}
-use Rattle.d64_image.proofs.FileRuns.{failed_by_file, file_disk, held_by_file, one_if-false, since_grows, since_whole}
-use Rattle.host_session.specs.runs.Chains.{HasRun, HasRunToFailure, IsChain, over_instants, told_in}
-use Rattle.host_session.specs.events.Counted.{after_all}
-use Rattle.host_session.specs.events.Events.{Message}
-use Rattle.host_session.specs.events.Instants.{instant_of}
-use Rattle.host_session.specs.events.OneEvent.{EndsFailed, GoesOn, IsEvent}
-use Rattle.host_session.specs.shop.Files.{Files, HasFiles}
-use Rattle.host_session.specs.session.Handling.{most_writes}
-use Rattle.host_session.specs.events.Quiet.{AreUncut, IsLeftAlone, IsQuiet}
-use Rattle.host_session.specs.runs.Runs.{IsBlamed, blamed}
-use Rattle.host_session.specs.shop.Shop.{Shop, shop_of, start_of, with_state}
-use Rattle.host_session.specs.events.Within.{AreFew, AreWithin, IsBounded, IsSpared, IsWithin, most_of_run}
-use Rattle.request_cards.specs.Ledgers.{State}
-use Rattle.request_cards.specs.Reading.{request_of}
+use Rattle.d64_image.specs.FileDisks.{FileDisk}
+use Rattle.d64_image.specs.Mirrors.{one_if}
+use Rattle.d64_image.proofs.FileRuns.{file_disk}
+use Rattle.host_session.specs.runs.Chains.{told_in}
 use Rattle.request_cards.specs.declared.reply.Reply.{Reply}
 
 -- the turns of a run, each over the file of its mirror

@@ -1,4 +1,6 @@
 -- The file was found, grew, and has the records of the lines; or why not.
+mod Asked
+mod Refused
 use Rattle.std.proofs.Common.{◌≡◌, Ok, Err, ℕ, ap, refl, subst, sym, ◌∙◌}
 use Rattle.std.proofs.lemmas.Result.{IfErr-weaker, err_from_is_err_and}
 use Rattle.disk_layout.specs.Clean.{IsClean}
@@ -11,6 +13,8 @@ use Rattle.keeper_commands.specs.Storing.{IsStoreFault}
 use Rattle.keeper_commands.specs.declared.faults.KeepFault.TheVariants as keep
 use Rattle.rel_records.specs.Calls.{Grows}
 use Rattle.keeper_commands.proofs.record_storing.store_image.Goals as goal
+use Rattle.keeper_commands.proofs.record_storing.store_image.Answers.Asked as asked
+use Rattle.keeper_commands.proofs.record_storing.store_image.Answers.Refused as refused
 
 pub returns-in_err-check_image-clause-err : goal.returns-in_err-check_image-clause-err
 returns-in_err-check_image-clause-err g c =
@@ -26,9 +30,7 @@ returns-in_err-last-clause-err g c =
     (c.in_ok-check_image.ensures.ok.0, refl, refl)
 
 pub find-requires : goal.find-requires
-find-requires g c =
-    let clean = subst IsClean (sym c.requires.holds) c.in_ok-check_image.ensures.ok.1 in
-    record { sound = (clean.0, clean.1.layout) }
+find-requires = asked.find-requires
 
 pub returns-in-Err-clause-err : goal.returns-in-Err-clause-err
 returns-in-Err-clause-err g c =
@@ -51,82 +53,25 @@ returns-in_err-most-clause-err g c =
     c.args.out.now c.in-Ok.file c.in-Ok.ensures k bad)
 
 pub grow_to-requires-clause-clean : goal.grow_to-requires-clause-clean
-grow_to-requires-clause-clean g c =
-    subst IsClean (sym (c.find.ensures.reads.image ∙ c.requires.holds)) c.in_ok-check_image.ensures.ok.1
+grow_to-requires-clause-clean = asked.grow_to-requires-clause-clean
 
 pub grow_to-requires-clause-of : goal.grow_to-requires-clause-of
-grow_to-requires-clause-of g c =
-    let S = g.D.Sectors.history in
-    let clean = c.in_ok-check_image.ensures.ok in
-    found-file S c.args.image.now c.args.name.now c.args.text.now c.args.disk.now c.find.new.disk clean.0
-    (subst IsClean (sym c.requires.holds) clean.1)
-    c.args.out.now c.in-Ok.file c.in-Ok.ensures
+grow_to-requires-clause-of = asked.grow_to-requires-clause-of
 
 pub returns-in-Err-grow_to-clause-err : goal.returns-in-Err-grow_to-clause-err
-returns-in-Err-grow_to-clause-err g c =
-    let S = g.D.Sectors.history in
-    let clean = c.in_ok-check_image.ensures.ok in
-    let (xs, are, is, tells) = c.in_ok-most.ensures.ok in
-    rw c.refusal-in-Err-grow_to.ensures
-    (grow-refused S c.args.image.now c.args.name.now c.args.text.now c.args.disk.now c.find.new.disk clean.0
-    (subst IsClean (sym c.requires.holds) clean.1)
-    c.args.out.now c.in-Ok.file c.in-Ok.ensures xs are c.judge.new.last.places.items tells c.grow_to.new.disk
-    c.grow_to.new.file c.in-Err-grow_to.fault
-    (subst (λ (m : ℕ). Grows S c.find.new.disk c.grow_to.new.disk c.in-Ok.file c.grow_to.new.file m
-    (Err c.in-Err-grow_to.fault)) is c.in-Err-grow_to.ensures))
+returns-in-Err-grow_to-clause-err = refused.returns-in-Err-grow_to-clause-err
 
 pub store_lines-requires-clause-clean : goal.store_lines-requires-clause-clean
-store_lines-requires-clause-clean g c =
-    let S = g.D.Sectors.history in
-    let clean = c.in_ok-check_image.ensures.ok in
-    let (xs, are, is, tells) = c.in_ok-most.ensures.ok in
-    grown-clean S c.args.image.now c.args.name.now c.args.text.now c.args.disk.now c.find.new.disk clean.0
-    (subst IsClean (sym c.requires.holds) clean.1)
-    c.args.out.now c.in-Ok.file c.in-Ok.ensures xs are c.judge.new.last.places.items tells c.grow_to.new.disk
-    c.grow_to.new.file
-    (subst (λ (m : ℕ). Grows S c.find.new.disk c.grow_to.new.disk c.in-Ok.file c.grow_to.new.file m
-    (Ok c.in_default.field-0)) is c.in_default.ensures)
+store_lines-requires-clause-clean = asked.store_lines-requires-clause-clean
 
 pub store_lines-requires-clause-of : goal.store_lines-requires-clause-of
-store_lines-requires-clause-of g c =
-    let S = g.D.Sectors.history in
-    let clean = c.in_ok-check_image.ensures.ok in
-    let (xs, are, is, tells) = c.in_ok-most.ensures.ok in
-    grown-file S c.args.image.now c.args.name.now c.args.text.now c.args.disk.now c.find.new.disk clean.0
-    (subst IsClean (sym c.requires.holds) clean.1)
-    c.args.out.now c.in-Ok.file c.in-Ok.ensures xs are c.judge.new.last.places.items tells c.grow_to.new.disk
-    c.grow_to.new.file
-    (subst (λ (m : ℕ). Grows S c.find.new.disk c.grow_to.new.disk c.in-Ok.file c.grow_to.new.file m
-    (Ok c.in_default.field-0)) is c.in_default.ensures)
+store_lines-requires-clause-of = asked.store_lines-requires-clause-of
 
 pub store_lines-requires-clause-lines : goal.store_lines-requires-clause-lines
-store_lines-requires-clause-lines g c =
-    let S = g.D.Sectors.history in
-    let clean = c.in_ok-check_image.ensures.ok in
-    let (xs, are, is, tells) = c.in_ok-most.ensures.ok in
-    grown-lines S c.args.image.now c.args.name.now c.args.text.now c.args.disk.now c.find.new.disk clean.0
-    (subst IsClean (sym c.requires.holds) clean.1)
-    c.args.out.now c.in-Ok.file c.in-Ok.ensures xs are c.judge.new.last.places.items tells c.grow_to.new.disk
-    c.grow_to.new.file
-    (subst (λ (m : ℕ). Grows S c.find.new.disk c.grow_to.new.disk c.in-Ok.file c.grow_to.new.file m
-    (Ok c.in_default.field-0)) is c.in_default.ensures)
+store_lines-requires-clause-lines = asked.store_lines-requires-clause-lines
 
 pub returns-in_err-store_lines-clause-err : goal.returns-in_err-store_lines-clause-err
-returns-in_err-store_lines-clause-err g c =
-    let S = g.D.Sectors.history in
-    let clean = c.in_ok-check_image.ensures.ok in
-    let (xs, are, is, tells) = c.in_ok-most.ensures.ok in
-    let p = err_from_is_err_and c.from_residual-in_err-store_lines.result c.from_residual-in_err-store_lines.ensures.1
-    in
-    rw (p.1 ∙ ap Err p.2)
-    (store-refused S c.args.image.now c.args.name.now c.args.text.now c.args.disk.now c.find.new.disk clean.0
-    (subst IsClean (sym c.requires.holds) clean.1)
-    c.args.out.now c.in-Ok.file c.in-Ok.ensures xs are c.judge.new.last.places.items tells c.grow_to.new.disk
-    c.grow_to.new.file
-    (subst (λ (m : ℕ). Grows S c.find.new.disk c.grow_to.new.disk c.in-Ok.file c.grow_to.new.file m
-    (Ok c.in_default.field-0)) is c.in_default.ensures)
-    g.W.Write.contents c.store_lines.new.disk c.store_lines.new.out c.store_lines.new.file
-    c.in_err-store_lines.field-0.0 c.in_err-store_lines.ensures)
+returns-in_err-store_lines-clause-err = refused.returns-in_err-store_lines-clause-err
 
 pub returns-clause-ok : goal.returns-clause-ok
 returns-clause-ok g c =
