@@ -23,8 +23,9 @@ use Rattle.serving.specs.Giving.{Input}
 use Rattle.serving.specs.Inputs.{instants_in, line_messages}
 use Rattle.serving.specs.Serves.{AreAskedFor, AreHandled, AreServed, AreServedToDevice, AreServedToOutput, IsServed}
 use Rattle.serving.specs.Serves.{IsUnwritten}
-use Rattle.ledger_commands.proofs.FileChains.{bounded_of_file, changes_of_file, failing_of_file, over_files}
-use Rattle.ledger_commands.proofs.FileChains.{over_files-more, run_of_file, same_instants, within_failing, within_run}
+use Rattle.ledger_commands.proofs.FileChains.{bounded_of_file, changes_of_file, failing_of_file, run_of_file}
+use Rattle.ledger_commands.proofs.FileChains.{same_instants, within_failing, within_run}
+use Rattle.ledger_commands.proofs.FileTurns.{over_files, over_files-more}
 use Rattle.ledger_commands.proofs.FileScripts.{end_of_file, moments_of_file, refused_of_file}
 
 module _ {F R T : Type 0} {G : Ghosts F} (i : Input R) (a : Answering T) (start : Mirror F G)
