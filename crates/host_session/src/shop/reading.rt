@@ -1,5 +1,5 @@
 //! The records of the two files, read and judged one by one.
-ghost use Rattle.std.specs.Prelude.{◌≡◌, ◌≤◌, ◌↔◌, ℕ, IsTrue, List, Option, length};
+ghost use Rattle.std.specs.Prelude.{◌≡◌, ◌≤◌, ◌↔◌, ℕ, IsTrue, List, Option, length, replicate};
 ghost use Rattle.disk_layout.specs.Records.{empty_record};
 ghost use Rattle.host_session.specs.declared.faults.OpenFault.TheVariants.{Device};
 ghost use Rattle.host_session.specs.shop.Files.{Files};
@@ -26,12 +26,23 @@ pub enum Held<C> {
     Other,
 }
 
+/// Whether each byte is 0. All are looked at: of so few that is cheaper than a branch at each.
+fn are_zeros(bytes: &[u8]) -> bool
+    ensures { IsTrue result ↔ (bytes.now ≡ replicate (length bytes.now) 0) }
+{
+    let mut all = true;
+    for byte in bytes {
+        all &= *byte == 0;
+    }
+    all
+}
+
 /// Whether the bytes are an empty record: FF, then zeros.
 fn is_empty(bytes: &[u8]) -> bool
     ensures { IsTrue result ↔ ((1 ≤ length bytes.now) × (bytes.now ≡ empty_record (length bytes.now))) }
 {
     match bytes.split_first() {
-        Some((&first, rest)) => first == 0xFF && rest.iter().all(|&byte| byte == 0),
+        Some((&first, rest)) => first == 0xFF && are_zeros(rest),
         None => false,
     }
 }
@@ -76,6 +87,8 @@ pub(crate) fn read_till<D: Sectors>(
 }
 
 /// What these bytes of a record of STOCK hold.
+// In line: an opening asks it of each item.
+#[inline(always)]
 fn item_held(bytes: &[u8]) -> Held<StockCard>
     requires { length bytes.now ≡ 18 }
     ensures { Tells stock_card_of 18 bytes.now result }
@@ -84,8 +97,33 @@ fn item_held(bytes: &[u8]) -> Held<StockCard>
     what_is_held(StockCard::parse(bytes), bytes)
 }
 
+/// What an item's record holds, once it is read into `text`; None past the last record.
+// Out of line: most records lie whole in the block that was read last.
+#[inline(never)]
+fn read_item_next<D: Sectors>(
+    disk: &mut D,
+    files: &LedgerFiles,
+    last: &mut LastBlock,
+    text: &mut ArrayVec<u8, 254>,
+    item: u16,
+) -> Result<Option<Held<StockCard>>, OpenFault>
+    requires of { (f : Files) × AreFilesOf (D.history.image disk.old) f files.now }
+    requires kept { IsKept (D.history.image disk.old) files.now.stock last.old }
+    requires low { 1 ≤ item }
+    ensures { JudgesRecord D.history disk.old disk.new files.now.stock last.new result
+        (λ f. AreFilesOf (D.history.image disk.old) f files.now)
+        (λ f. TellsRecord stock_card_of 18 f.stock item) (λ f fault. fault ≡ Device) }
+{
+    match read_next(disk, &files.stock, last, u32::from(item), text) {
+        Ok(()) => Ok(Some(item_held(text.as_slice()))),
+        Err(RelFault::NotPresent) => Ok(None),
+        Err(_) => Err(OpenFault::Device),
+    }
+}
+
 /// What an item's record holds; None past the last record. Nothing is written. `last` is the block of STOCK that was
 /// read last, where most records lie; `text` is room for one that doesn't lie whole in it.
+#[inline(always)]
 pub(crate) fn read_item<D: Sectors>(
     disk: &mut D,
     files: &LedgerFiles,
@@ -100,13 +138,8 @@ pub(crate) fn read_item<D: Sectors>(
         (λ f. AreFilesOf (D.history.image disk.old) f files.now)
         (λ f. TellsRecord stock_card_of 18 f.stock item) (λ f fault. fault ≡ Device) }
 {
-    let number = u32::from(item);
-    if let Some(bytes) = last.record(&files.stock, number) {
-        return Ok(Some(item_held(bytes)));
-    }
-    match read_next(disk, &files.stock, last, number, text) {
-        Ok(()) => Ok(Some(item_held(text.as_slice()))),
-        Err(RelFault::NotPresent) => Ok(None),
-        Err(_) => Err(OpenFault::Device),
+    match last.record(&files.stock, u32::from(item)) {
+        Some(bytes) => Ok(Some(item_held(bytes))),
+        None => read_item_next(disk, files, last, text, item),
     }
 }

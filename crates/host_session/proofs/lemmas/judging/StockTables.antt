@@ -11,6 +11,7 @@ use Rattle.disk_layout.proofs.lemmas.lists.Count.{places-few}
 use Rattle.disk_layout.specs.Layout.{record_length}
 use Rattle.disk_layout.specs.Records.{empty_record, record_count}
 use Rattle.rel_records.proofs.lemmas.reading.Opened.{blocks-once, records-fit}
+use Rattle.rel_records.proofs.lemmas.reading.Readings.{length-records}
 use Rattle.request_cards.specs.CardReading.{stock_card_of}
 use Rattle.request_cards.specs.CardTexts.{Stock}
 use Rattle.host_session.specs.shop.Files.{Files, record_at}
@@ -24,7 +25,6 @@ use Rattle.host_session.specs.declared.shop.finding.LedgerFiles.{LedgerFiles}
 use Rattle.host_session.specs.declared.shop.intents.NewQuantities.{NewQuantities}
 use Rattle.host_session.proofs.lemmas.shop.Lists.{record-within}
 use Rattle.host_session.proofs.lemmas.judging.NewResults.{given-none, given-some, overlays}
-use Rattle.host_session.proofs.lemmas.judging.Readings.{length-records}
 use Rattle.host_session.proofs.lemmas.shop.Steps.{blank-record}
 use Rattle.host_session.proofs.lemmas.judging.TableEntries.{nth-none, nth-set_other, nth-set_same, record_at-past}
 
