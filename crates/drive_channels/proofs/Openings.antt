@@ -1,5 +1,6 @@
 -- An opening as a whole: the check, the look for the file, its creation.
 use Rattle.std.proofs.Common.{ℕ, ◌≡◌, ◌≢◌, ◌≤◌, ◌<◌, ◌⊎◌, inl, inr, Bool, true, false, MatchOption, List, Option, None}
+use Rattle.std.specs.Prelude.{OnErr}
 use Rattle.std.proofs.Common.{Some, IfOk, IsSome, Result, Ok, Err, OnOk, sym, ◌∙◌, ap, ap₂, subst, refl, arith}
 use Rattle.std.proofs.lemmas.Option.{none-some}
 use Rattle.d64_image.proofs.Moments.{changes_then, changes_weaker, reads_change, reads_then, reads_weaker}
@@ -144,6 +145,10 @@ none-done (Err e) Q h P = tt
 pub not-done : {T E : Type 0} (r : Result T E) (Q : E → Type 0) → IsErrAnd r Q → (P : Type 0) → OnOk r P
 not-done (Ok x) Q h P = absurd h
 not-done (Err e) Q h P = tt
+
+pub on-err : {T E : Type 0} (r : Result T E) {P : Type 0} → P → OnErr r P
+on-err (Ok x) p = tt
+on-err (Err e) p = p
 
 pub tells-failed : {D T E : Type 0} (S : History D) (a b : D) (r : Result T E) (Q : E → Type 0) → IsErrAnd r Q
     → Failed S a b → TellsFailure S a b r

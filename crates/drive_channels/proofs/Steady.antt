@@ -1,5 +1,7 @@
 -- What the fields of a drive say of what it shows.
+use Rattle.std.specs.Result.{IsErrAnd}
 use Rattle.std.proofs.Common.{
+  Result,
   ℕ,
   ◌≡◌,
   ◌≤◌,
@@ -89,9 +91,10 @@ served S old new x alive after same right = record {
     apart f t = cc
 
 -- the device failed in the call
-pub died : {D T E : Type 0} (S : History D) (old new : Seen D) (x : E) → old.dead ≡ false → new.dead ≡ true
-    → Failed S old.disk new.disk → Serves {T = T} S old new (Err x)
-died S old new x alive after failed = record {
+pub died : {D T E : Type 0} (S : History D) (old new : Seen D) (r : Result T E) (Q : E → Type 0) → IsErrAnd r Q
+    → old.dead ≡ false → new.dead ≡ true → Failed S old.disk new.disk → Serves S old new r
+died S old new (Ok x) Q h _ _ _ = absurd h
+died S old new (Err x) Q h alive after failed = record {
   dead = λ e. absurd (apart alive e);
   failures = λ _. failed;
   dies = (λ _. refl, λ _. after);

@@ -162,13 +162,9 @@ impl<D: Sectors> Drive<D> {
             return Err(Dead);
         }
         if is_validate(text) {
-            match validate(&mut self.disk) {
-                Ok(status) => self.status = status,
-                Err(fault) => {
-                    self.dead = true;
-                    return Err(fault);
-                }
-            }
+            self.dead = true;
+            self.status = validate(&mut self.disk)?;
+            self.dead = false;
             return Ok(());
         }
         self.status = self.known.command(text);

@@ -17,6 +17,7 @@ pub struct Drive<D: Sectors> {
     pub(crate) disk: D,
     pub(crate) known: Known,
     pub(crate) status: Status,
+    /// Whether the device has failed. Each call that asks the device counts it as failed until it has answered.
     pub(crate) dead: bool,
 }
 

@@ -294,15 +294,9 @@ impl<D: Sectors> Drive<D> {
         if self.dead {
             return Err(Dead);
         }
-        match self.known.open(&mut self.disk, channel, text) {
-            Ok(status) => {
-                self.status = status;
-                Ok(())
-            }
-            Err(fault) => {
-                self.dead = true;
-                Err(fault)
-            }
-        }
+        self.dead = true;
+        self.status = self.known.open(&mut self.disk, channel, text)?;
+        self.dead = false;
+        Ok(())
     }
 }

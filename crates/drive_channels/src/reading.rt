@@ -134,15 +134,9 @@ impl<D: Sectors> Drive<D> {
             to.clear();
             return Err(Dead);
         }
-        match self.known.read(&mut self.disk, channel, to) {
-            Ok(status) => {
-                self.status = status;
-                Ok(())
-            }
-            Err(fault) => {
-                self.dead = true;
-                Err(fault)
-            }
-        }
+        self.dead = true;
+        self.status = self.known.read(&mut self.disk, channel, to)?;
+        self.dead = false;
+        Ok(())
     }
 }

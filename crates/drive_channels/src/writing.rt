@@ -131,15 +131,9 @@ impl<D: Sectors> Drive<D> {
         if self.dead {
             return Err(Dead);
         }
-        match self.known.write(&mut self.disk, channel, text) {
-            Ok(status) => {
-                self.status = status;
-                Ok(())
-            }
-            Err(fault) => {
-                self.dead = true;
-                Err(fault)
-            }
-        }
+        self.dead = true;
+        self.status = self.known.write(&mut self.disk, channel, text)?;
+        self.dead = false;
+        Ok(())
     }
 }

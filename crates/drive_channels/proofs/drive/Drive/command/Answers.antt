@@ -1,7 +1,8 @@
-use Rattle.std.proofs.Common.{ap, arith, refl, sym, ◌∙◌}
+use Rattle.std.proofs.Common.{false, ap, arith, refl, sym, ◌∙◌}
 use Rattle.std.proofs.lemmas.Bool.{false≢true}
 use Rattle.d64_image.proofs.Moments.{no_reads, no_write, reads_weaker}
 use Rattle.drive_channels.proofs.Orders.{known-after, meets-v, mended-same, truth}
+use Rattle.drive_channels.proofs.Openings.{not-done}
 use Rattle.drive_channels.proofs.Steady.{died, orderly, served, still-dead}
 use Rattle.drive_channels.proofs.Written.{idle}
 use Rattle.drive_channels.proofs.drive.Drive.command.Goals as goal
@@ -19,14 +20,11 @@ returns-then-self g c = record {
   quiet = λ _. no_write g.D.Sectors.history _;
 }
 
-pub invariant_of-self-in-Err : goal.invariant_of-self-in-Err
-invariant_of-self-in-Err g c = λ alive. absurd (false≢true (sym alive))
-
-pub returns-in-Err : goal.returns-in-Err
-returns-in-Err g c = record {
-  serves = rw (← c.self.view_is) (died g.D.Sectors.history (seen_of c.self.inside) _ c.in-Err.fault c.if-self.false refl
-      c.in-Err.ensures.failures);
-  row = tt;
+pub returns-in_err-self-inside : goal.returns-in_err-self-inside
+returns-in_err-self-inside g c = record {
+  serves = rw (← c.self.view_is) (died g.D.Sectors.history (seen_of c.self.inside) _ c.from_residual.result _ c.from_residual.ensures.1 c.if-self.false refl
+      c.in_err-self-inside.ensures.failures);
+  row = not-done c.from_residual.result _ c.from_residual.ensures.1 _;
   silent = λ other. absurd (other (c.is_validate.ensures.0 (truth _ c.if-is_validate.true)));
   moments = rw (← c.self.view_is) c.validate.ensures.moments;
   unsound = rw (← c.self.view_is) c.validate.ensures.unsound;
@@ -34,24 +32,27 @@ returns-in-Err g c = record {
 }
 
 pub invariant_of-self : goal.invariant_of-self
-invariant_of-self g c = λ alive. known-after _ _ c.self.inside.known (c.self.invariant alive)
-    (λ clean. (c.validate.ensures.quiet clean).image)
+invariant_of-self g c = λ alive. absurd (false≢true (sym alive))
+
+pub invariant_of-self-then-is_validate : goal.invariant_of-self-then-is_validate
+invariant_of-self-then-is_validate g c = λ alive. known-after _ _ c.self.inside.known
+    (c.self.invariant c.if-self.false) (λ clean. (c.validate.ensures.quiet clean).image)
 
 pub returns-then-is_validate : goal.returns-then-is_validate
 returns-then-is_validate g c = record {
   serves = let S = g.D.Sectors.history in
-      rw (← c.self.view_is) (served S (seen_of c.self.inside) _ _ c.if-self.false c.if-self.false
-      c.in-Ok.ensures.failures
+      rw (← c.self.view_is) (served S (seen_of c.self.inside) _ _ c.if-self.false refl
+      c.in_ok-self-inside.ensures.failures
       (orderly S (record {
         disk = c.validate.new.disk;
         known = c.self.inside.known;
-        status = c.in-Ok.status;
-        dead = c.self.inside.dead;
+        status = c.in_ok-self-inside.field-0;
+        dead = false;
       })
       (known-after _ _ c.self.inside.known (c.self.invariant c.if-self.false)
       (λ clean. (c.validate.ensures.quiet clean).image))));
   row = rw (← c.self.view_is) (meets-v (view_of g.D.Sectors.history (seen_of c.self.inside)) c.args.text.now _
-      (c.is_validate.ensures.0 (truth _ c.if-is_validate.true)) c.in-Ok.ensures.row refl);
+      (c.is_validate.ensures.0 (truth _ c.if-is_validate.true)) c.in_ok-self-inside.ensures.row refl);
   silent = λ other. absurd (other (c.is_validate.ensures.0 (truth _ c.if-is_validate.true)));
   moments = rw (← c.self.view_is) c.validate.ensures.moments;
   unsound = rw (← c.self.view_is) c.validate.ensures.unsound;

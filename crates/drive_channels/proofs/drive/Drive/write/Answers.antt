@@ -1,7 +1,8 @@
+use Rattle.drive_channels.proofs.Openings.{not-done, on-err}
 use Rattle.drive_channels.proofs.Steady.{orderly, served, died, still-dead}
 use Rattle.drive_channels.proofs.Written.{begins, idle}
 use Rattle.drive_channels.specs.Inside.{seen_of}
-use Rattle.std.proofs.Common.{ap, refl, sym, ◌∙◌}
+use Rattle.std.proofs.Common.{false, ap, refl, sym, ◌∙◌}
 use Rattle.drive_channels.proofs.drive.Drive.write.Goals as goal
 
 pub returns-then-self : goal.returns-then-self
@@ -14,32 +15,33 @@ returns-then-self g c = record {
   uncounted = λ ch l f on rel there one. refl;
 }
 
-pub returns-in-Ok : goal.returns-in-Ok
-returns-in-Ok g c = record {
+pub returns : goal.returns
+returns g c = record {
   serves = let S = g.D.Sectors.history in
-      rw (← c.self.view_is) (served S (seen_of c.self.inside) _ _ c.if-self.false c.if-self.false
-      c.in-Ok.ensures.failures
+      rw (← c.self.view_is) (served S (seen_of c.self.inside) _ _ c.if-self.false refl
+      c.in_ok-self-inside.ensures.failures
       (orderly S (record {
         disk = c.write.new.disk;
         known = c.write.new.self;
-        status = c.in-Ok.status;
-        dead = c.self.inside.dead;
-      }) c.in-Ok.ensures.known));
-  row = rw (← c.self.view_is) (c.in-Ok.ensures.row c.self.inside.status);
-  silent = rw (← c.self.view_is) c.in-Ok.ensures.writes.silent;
-  refused = rw (← c.self.view_is) c.in-Ok.ensures.refused;
+        status = c.in_ok-self-inside.field-0;
+        dead = false;
+      }) c.in_ok-self-inside.ensures.known));
+  row = rw (← c.self.view_is) (c.in_ok-self-inside.ensures.row c.self.inside.status);
+  silent = rw (← c.self.view_is) c.in_ok-self-inside.ensures.writes.silent;
+  refused = rw (← c.self.view_is) c.in_ok-self-inside.ensures.refused;
   -- each is that of the call below, in the drive's fields
-  moments = rw (← c.self.view_is) (λ ch l f on rel. (c.in-Ok.ensures.writes.at ch l f on rel).moments);
+  moments = rw (← c.self.view_is) (λ ch l f on rel. (c.in_ok-self-inside.ensures.writes.at ch l f on rel).moments);
   uncounted = λ ch l f on rel there one. tt;
 }
 
-pub returns-in-Err : goal.returns-in-Err
-returns-in-Err g c = record {
-  serves = rw (← c.self.view_is) (died g.D.Sectors.history (seen_of c.self.inside) _ c.in-Err.fault c.if-self.false refl
-      c.in-Err.ensures.failures);
-  row = tt;
-  silent = rw (← c.self.view_is) c.in-Err.ensures.writes.silent;
-  refused = tt;
-  moments = rw (← c.self.view_is) (λ ch l f on rel. (c.in-Err.ensures.writes.at ch l f on rel).moments);
-  uncounted = rw (← c.self.view_is) (λ ch l f on rel. (c.in-Err.ensures.writes.at ch l f on rel).uncounted);
+pub returns-in_err-self-inside : goal.returns-in_err-self-inside
+returns-in_err-self-inside g c = record {
+  serves = rw (← c.self.view_is) (died g.D.Sectors.history (seen_of c.self.inside) _ c.from_residual.result _ c.from_residual.ensures.1 c.if-self.false refl
+      c.in_err-self-inside.ensures.failures);
+  row = not-done c.from_residual.result _ c.from_residual.ensures.1 _;
+  silent = rw (← c.self.view_is) c.in_err-self-inside.ensures.writes.silent;
+  refused = not-done c.from_residual.result _ c.from_residual.ensures.1 _;
+  moments = rw (← c.self.view_is) (λ ch l f on rel. (c.in_err-self-inside.ensures.writes.at ch l f on rel).moments);
+  uncounted = rw (← c.self.view_is) (λ ch l f on rel there one. on-err c.from_residual.result
+      ((c.in_err-self-inside.ensures.writes.at ch l f on rel).uncounted there one));
 }

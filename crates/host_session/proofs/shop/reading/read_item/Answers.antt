@@ -34,4 +34,3 @@ returns-in-Some g c =
       reads = reads_weaker S c.args.disk.now c.args.disk.now 0 3 (omega arith) (no_reads S c.args.disk.now);
       failures = refl;
     }
-
