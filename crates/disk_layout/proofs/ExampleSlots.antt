@@ -3,7 +3,6 @@ use Rattle.std.proofs.Common.{List, [], arith, drop, false, inl, inr, length, re
 use Rattle.std.proofs.Common.{true, ℕ, ◌++◌, ◌∷◌, ◌≡◌}
 use Rattle.std.specs.Prelude.{slice_range}
 use Rattle.d64_image.specs.declared.place.Place.{Place}
-use Rattle.disk_layout.specs.BlankLayout.{blank_top}
 use Rattle.disk_layout.specs.Chain.{Names}
 use Rattle.disk_layout.specs.Directory.{directory_start, is_used, slot_in, slots_in}
 use Rattle.disk_layout.specs.Entries.{uncounted}
@@ -140,10 +139,6 @@ top-alone ps f = record {
   fits = record { number = omega arith; blocks = omega arith; room = omega arith };
   greatest = λ s h. omega (arith, h.room);
 }
-
--- a blank image leaves STOCK 9256 records with 1 or 2 tills, 9242 with 3, 8819 with 64
-pub blank-tops : blank_top 1 ∷ blank_top 2 ∷ blank_top 3 ∷ blank_top 64 ∷ [] ≡ 9256 ∷ 9256 ∷ 9242 ∷ 8819 ∷ []
-blank-tops = refl
 
 -- 84 and C4 are relative, 82 (a program) and 04 (an open relative file) are not
 pub rel-types : is_rel_type 132 ∷ is_rel_type 196 ∷ is_rel_type 130 ∷ is_rel_type 4 ∷ [] ≡ true ∷ true ∷ false ∷ false ∷

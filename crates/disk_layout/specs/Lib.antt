@@ -1,6 +1,4 @@
 pub mod AsFar
-pub mod Blank
-pub mod BlankLayout
 pub mod Chain
 pub mod Clean
 pub mod Directory
@@ -20,4 +18,3 @@ pub mod Side
 pub mod Texts
 pub mod View
 pub mod Visited
-pub mod Written

@@ -3,7 +3,6 @@ pub mod Bits
 pub mod OverTracks
 pub mod FreeAndOwned
 pub mod FreeBlocks
-pub mod Freeing
 pub mod Maps
 pub mod Picking
 pub mod Tops

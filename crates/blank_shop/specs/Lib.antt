@@ -1,0 +1,4 @@
+pub mod Blank
+pub mod BlankLayout
+pub mod Free
+pub mod Written
