@@ -31,10 +31,11 @@ use Rattle.d64_image.specs.declared.place.Place.{Place}
 use Rattle.blank_shop.proofs.BlankClean.{blank-clean}
 use Rattle.disk_layout.proofs.lemmas.lists.Lists.{contains-get}
 use Rattle.disk_layout.proofs.lemmas.lists.Once.{Contains-cases, Contains-here, Contains-nil, Contains-there}
-use Rattle.disk_layout.proofs.lemmas.map.Tops.{IsTop-last}
+use Rattle.blank_shop.proofs.Tops.{IsTop-last}
 use Rattle.blank_shop.specs.Blank.{AreRequestPlaces, request_blocks, request_track, requests_side}
 use Rattle.blank_shop.specs.BlankLayout.{BlankHasTop, blank_layout, stock_file}
-use Rattle.disk_layout.specs.Rest.{IsTop, taken_by_others}
+use Rattle.blank_shop.specs.Room.{IsTop}
+use Rattle.disk_layout.specs.Rest.{taken_by_others}
 
 -- where all are outside track 18, none is left out
 all-outside : (ps : List Place) → ((p : Place) → Contains ps p → p.track ≢ 18)

@@ -1,5 +1,6 @@
 -- The sectors of a track freed one by one.
-use Rattle.std.proofs.Common.{List, [], Some, ap, ap₂, arith, inl, inr, min, refl, sym, ℕ, ◌+◌, ◌-◌, ◌<◌, ◌∙◌, ◌≡◌, ◌≢◌, ◌≤◌, drop, get_or, length, replicate, take, ◌*◌, ◌++◌, ◌∷◌}
+use Rattle.std.proofs.Common.{List, [], Some, ap, ap₂, arith, inl, inr, min, refl, sym, ℕ, ◌+◌, ◌-◌, ◌<◌, ◌∙◌, ◌≡◌}
+use Rattle.std.proofs.Common.{◌≢◌, ◌≤◌, drop, get_or, length, replicate, take, ◌*◌, ◌++◌, ◌∷◌}
 use Rattle.std.proofs.lemmas.Bool.{cases_eq}
 use Rattle.std.proofs.lemmas.Bool.Decides.{nat_tests}
 use Rattle.std.proofs.Math.ListN.{get_or-append}

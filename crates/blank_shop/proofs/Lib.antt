@@ -4,4 +4,6 @@ pub mod BlankPlaces
 pub mod BlankTop
 pub mod Blanks
 pub mod Examples
+pub mod FreeAndOwned
 pub mod Freeing
+pub mod Tops

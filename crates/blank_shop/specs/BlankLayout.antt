@@ -8,7 +8,7 @@ use Rattle.disk_layout.specs.Directory.{directory_start, slot_in}
 use Rattle.disk_layout.specs.Layout.{File, Layout}
 use Rattle.disk_layout.specs.Records.{empty_record, records}
 use Rattle.disk_layout.specs.Rest.{IsFirst}
-use Rattle.disk_layout.specs.Room.{IsTopOf}
+use Rattle.blank_shop.specs.Room.{IsTopOf}
 
 -- STOCK: its block ends with index 253, behind 14 records of 18 bytes
 abbrev pub stock_file : ℕ → File

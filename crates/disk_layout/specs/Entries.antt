@@ -1,5 +1,6 @@
 -- Entries: a new one, and, in our own words for what growth leaves, some with their block counts left out.
-use Rattle.std.specs.Prelude.{ℕ, ◌⊎◌, ◌<◌, ◌≤◌, ◌+◌, ◌*◌, length, slice_index, ◌≡◌, List, take, map, ◌++◌, ◌∷◌, replicate}
+use Rattle.std.specs.Prelude.{ℕ, ◌⊎◌, ◌<◌, ◌≤◌, ◌+◌, ◌*◌, length, slice_index, ◌≡◌, List, take, map, ◌++◌, ◌∷◌}
+use Rattle.std.specs.Prelude.{replicate}
 use Rattle.byteorder.specs.Endian.{little_bytes}
 use Rattle.d64_image.specs.Images.{Sector}
 use Rattle.d64_image.specs.declared.place.Place.{Place}

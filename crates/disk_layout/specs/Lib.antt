@@ -12,7 +12,6 @@ pub mod Map
 pub mod Number
 pub mod Records
 pub mod Rest
-pub mod Room
 pub mod Same
 pub mod Side
 pub mod Texts

@@ -18,8 +18,9 @@ use Rattle.blank_shop.specs.BlankLayout.{IsCleanBlank, blank_layout, blank_top, 
 use Rattle.disk_layout.specs.Directory.{map_place}
 use Rattle.disk_layout.specs.Layout.{File, IsLayout, Layout}
 use Rattle.disk_layout.specs.Records.{empty_record}
-use Rattle.disk_layout.specs.Rest.{IsFirst, IsTop, rest_of}
-use Rattle.disk_layout.specs.Room.{IsTopOf}
+use Rattle.blank_shop.specs.Room.{IsTop}
+use Rattle.disk_layout.specs.Rest.{IsFirst, rest_of}
+use Rattle.blank_shop.specs.Room.{IsTopOf}
 use Rattle.request_cards.specs.CardReading.{request_card_of}
 use Rattle.request_cards.specs.CardTexts.{Card}
 use Rattle.request_cards.specs.Ledgers.{nothing}

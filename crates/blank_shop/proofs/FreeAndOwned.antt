@@ -23,7 +23,8 @@ use Rattle.disk_layout.specs.Clean.{IsCleanLayout}
 use Rattle.disk_layout.specs.Directory.{map_place}
 use Rattle.disk_layout.specs.Layout.{File, Layout, file_owns, owners, sides_for}
 use Rattle.disk_layout.specs.Map.{IsMapOf, map_bit}
-use Rattle.disk_layout.specs.Rest.{Fits, others, taken_by_others}
+use Rattle.blank_shop.specs.Room.{Fits}
+use Rattle.disk_layout.specs.Rest.{others, taken_by_others}
 use Rattle.disk_layout.specs.View.{blocks_free}
 use Rattle.disk_layout.proofs.lemmas.map.OverTracks.{at, at-here, at-other, at-track, off-18}
 use Rattle.disk_layout.proofs.lemmas.map.OverTracks.{over, over-all, over-at, over-none, over-plus, over-same}
