@@ -6,20 +6,18 @@ use Rattle.std.proofs.lemmas.List.{get_or-set_other}
 use Rattle.std.specs.Prelude.{nat_eq, nat_lt, slice_index}
 use Rattle.d64_image.proofs.Places.{same_or_other}
 use Rattle.d64_image.specs.Images.{Image, Sector, sector}
-use Rattle.disk_layout.proofs.ExampleDisk.{IsStockSide, at_block, at_entry, at_map, at_other, disk, entry_bytes}
-use Rattle.disk_layout.proofs.ExampleDisk.{entry_slot, exact_side, lower_sector, lower_track, not-in, stock-is_layout}
+use Rattle.disk_layout.proofs.ExampleDisk.{at_block, at_entry, at_map, at_other, disk, entry_bytes}
+use Rattle.disk_layout.proofs.ExampleDisk.{entry_slot, exact_side, lower_sector, lower_track, not-in}
 use Rattle.disk_layout.proofs.ExampleDisk.{stock_disk, stock_file, stock_layout}
 use Rattle.disk_layout.proofs.ExampleDisk.{two_records}
 use Rattle.disk_layout.proofs.ExampleFaults.{changed_side}
 use Rattle.disk_layout.proofs.ExampleMap.{map_bytes}
 use Rattle.disk_layout.proofs.Examples.{block_0, block_1, zero_sector}
-use Rattle.disk_layout.proofs.ExampleSlots.{top-alone}
 use Rattle.disk_layout.proofs.lemmas.lists.Once.{Contains-cases, Contains-here, Contains-nil}
 use Rattle.disk_layout.specs.Directory.{directory_start, map_place}
 use Rattle.disk_layout.specs.Entries.{IsRecounted, IsRecountedAll, SameEntries}
 use Rattle.disk_layout.specs.Records.{IsFilled, empty_record, filler, joined, record_count, records}
-use Rattle.disk_layout.specs.Rest.{IsFirst, header_of, rest_of}
-use Rattle.disk_layout.specs.Room.{IsTopOf}
+use Rattle.disk_layout.specs.Rest.{header_of, rest_of}
 use Rattle.disk_layout.specs.Same.{AddsFile, IsCountByte, SameButCounts, SameFiles}
 
 -- block counts: another count leaves the entry, and changes byte 30 of its sector alone
@@ -136,13 +134,6 @@ created s m = record {
 }
 
 -- a request that names STOCK: a record with another letter, in the same block, is not of the rest
-abbrev stock_name : List ℕ
-stock_name = 83 ∷ 84 ∷ 79 ∷ 67 ∷ 75 ∷ []
-
-first-stock : (n : ℕ) → IsFirst (stock_layout 37 n) stock_name 0 (stock_file 37 n)
-unfolding entry_bytes
-first-stock n = record { file = refl; named = (refl, refl); first = λ k g h. absurd (omega (arith, h)) }
-
 pub rest-same : (n : ℕ) (s m : Sector)
     → rest_of (stock_disk 37 n two_records s m) (stock_layout 37 n) 0 0 (stock_file 37 n)
     ≡ rest_of (stock_disk 37 n two_letters s m) (stock_layout 37 n) 0 0 (stock_file 37 n)
@@ -151,17 +142,6 @@ rest-same n s m = rw (
   at_map (entry_bytes 132 1 18 n) (0 ∷ 37 ∷ two_records) s m,
   at_map (entry_bytes 132 1 18 n) (0 ∷ 37 ∷ two_letters) s m,
 ) refl
-
--- alone on its disk STOCK can grow to 9285 records
-pub stock-top : (n : ℕ) (s m : Sector) → IsStockSide s → IsTopOf (stock_disk 37 n two_records s m) stock_name 9285
-stock-top n s m side = record {
-  layout = stock_layout 37 n;
-  is_layout = stock-is_layout 37 n two_records s m side;
-  place = 0;
-  file = stock_file 37 n;
-  first = first-stock n;
-  top = top-alone (directory_start ∷ []) (stock_file 37 n);
-}
 
 -- but the disk's name, byte 144 of 18/0 and on, is of the rest
 pub other-name : header_of (disk zero_sector [] [] (map_bytes 19 252)) ≢ header_of

@@ -2,15 +2,13 @@
 use Rattle.std.proofs.Common.{List, [], arith, drop, false, inl, inr, length, refl, replicate, take}
 use Rattle.std.proofs.Common.{true, ℕ, ◌++◌, ◌∷◌, ◌≡◌}
 use Rattle.std.specs.Prelude.{slice_range}
-use Rattle.d64_image.specs.declared.place.Place.{Place}
-use Rattle.disk_layout.specs.BlankLayout.{blank_top}
 use Rattle.disk_layout.specs.Chain.{Names}
 use Rattle.disk_layout.specs.Directory.{directory_start, is_used, slot_in, slots_in}
 use Rattle.disk_layout.specs.Entries.{uncounted}
 use Rattle.disk_layout.specs.Layout.{File, IsClosedType, count_field, is_rel, is_rel_type}
 use Rattle.disk_layout.specs.Layout.{record_length, sides_for}
 use Rattle.disk_layout.specs.Records.{empty_record, filler, pieces, record_count}
-use Rattle.disk_layout.specs.Rest.{IsTop, others, slot_name, taken_by_others}
+use Rattle.disk_layout.specs.Rest.{others, slot_name}
 use Rattle.disk_layout.specs.Side.{padded, side_sector}
 use Rattle.disk_layout.specs.declared.slot.Slot.{Slot}
 use Rattle.disk_layout.proofs.Examples.{block_0, block_1, block_2}
@@ -132,18 +130,6 @@ stock-uncounted = refl
 -- the files but those at places 0 and 2
 pub others-0_2 : (f g h i : File) → others 0 2 0 (f ∷ g ∷ h ∷ i ∷ []) ≡ g ∷ i ∷ []
 others-0_2 f g h i = refl
-
--- alone on a disk, a file of 18 bytes a record can grow to 658 blocks with six side sectors: 9285 records
-pub top-alone : (ps : List Place) (f : File) → IsTop (record { directory = ps; files = f ∷ [] }) 0 9285
-unfolding taken_by_others
-top-alone ps f = record {
-  fits = record { number = omega arith; blocks = omega arith; room = omega arith };
-  greatest = λ s h. omega (arith, h.room);
-}
-
--- a blank image leaves STOCK 9256 records with 1 or 2 tills, 9242 with 3, 8819 with 64
-pub blank-tops : blank_top 1 ∷ blank_top 2 ∷ blank_top 3 ∷ blank_top 64 ∷ [] ≡ 9256 ∷ 9256 ∷ 9242 ∷ 8819 ∷ []
-blank-tops = refl
 
 -- 84 and C4 are relative, 82 (a program) and 04 (an open relative file) are not
 pub rel-types : is_rel_type 132 ∷ is_rel_type 196 ∷ is_rel_type 130 ∷ is_rel_type 4 ∷ [] ≡ true ∷ true ∷ false ∷ false ∷

@@ -1,7 +1,6 @@
--- Examples of the definitions on the map and on the blank image, each computed.
+-- Examples of the definitions on the map, each computed.
 use Rattle.std.proofs.Common.{List, [], inl, inr, lit<, refl, ℕ, ◌∷◌, ◌≡◌}
 use Rattle.d64_image.specs.declared.place.Place.{Place}
-use Rattle.disk_layout.specs.Blank.{request_blocks, request_sector, request_track, taken_on}
 use Rattle.disk_layout.specs.Map.{IsBefore, distance, map_bit, map_count, numbers_below}
 
 -- track 1 of a fresh map, 15 FF FF 1F: 21 free sectors, the last of them sector 20; bit 21 is a spare one
@@ -47,14 +46,3 @@ before-19 = inr (refl, inl (lit< tt))
 before-16 : IsBefore last_of_19 first_of_16
 unfolding last_of_19 first_of_16
 before-16 = inl (lit< tt)
-
--- for 64 tills 32 blocks: 17/2, 17/4, .. 17/20, 19/0, .. 19/13; all of track 17 and fourteen sectors of track 19 are
--- taken
-blocks-64 : (request_blocks 1 ≡ 1) × (request_blocks 3 ≡ 2) × (request_blocks 64 ≡ 32)
-blocks-64 = (refl, refl, refl)
-
-places-64 : (request_track 17 ≡ 17) × (request_sector 17 ≡ 20) × (request_track 18 ≡ 19) × (request_sector 31 ≡ 13)
-places-64 = (refl, refl, refl, refl)
-
-taken-64 : (taken_on 32 17 ≡ 21) × (taken_on 32 19 ≡ 14) × (taken_on 1 17 ≡ 4) × (taken_on 1 19 ≡ 0)
-taken-64 = (refl, refl, refl, refl)

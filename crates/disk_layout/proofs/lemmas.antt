@@ -3,7 +3,6 @@ pub mod lists
 pub mod chains
 pub mod layouts
 pub mod map
-pub mod blank
 pub mod records
 pub mod growth
 pub mod counts

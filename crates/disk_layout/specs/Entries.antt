@@ -1,7 +1,19 @@
--- Entries with their block counts left out. Our own words for what growth leaves.
-use Rattle.std.specs.Prelude.{ℕ, ◌⊎◌, ◌<◌, ◌≤◌, ◌+◌, ◌*◌, length, slice_index, ◌≡◌, List, take, map}
+-- Entries: a new one, and, in our own words for what growth leaves, some with their block counts left out.
+use Rattle.std.specs.Prelude.{ℕ, ◌⊎◌, ◌<◌, ◌≤◌, ◌+◌, ◌*◌, length, slice_index, ◌≡◌, List, take, map, ◌++◌, ◌∷◌}
+use Rattle.std.specs.Prelude.{replicate}
+use Rattle.byteorder.specs.Endian.{little_bytes}
 use Rattle.d64_image.specs.Images.{Sector}
+use Rattle.d64_image.specs.declared.place.Place.{Place}
+use Rattle.disk_layout.specs.Rest.{slot_name}
+use Rattle.disk_layout.specs.Side.{place_bytes}
 use Rattle.disk_layout.specs.declared.slot.Slot.{Slot}
+
+-- bytes 2 to 31 of the slot of a relative file (1541 User's Guide, directory format): type, first data block, name,
+-- first side sector, record length, six bytes 0, block count. 84 11 00, `STOCK` and eleven A0, 11 01 12, six 00, 02 00
+unfoldable pub rel_entry : List ℕ → Place → Place → ℕ → ℕ → List ℕ
+rel_entry name first side length' blocks =
+    (132 ∷ place_bytes first)
+    ++ (slot_name name ++ (place_bytes side ++ ((length' ∷ replicate 6 0) ++ little_bytes 2 blocks)))
 
 -- the slot without its block count, bytes 30-31
 abbrev pub uncounted : Slot → Slot

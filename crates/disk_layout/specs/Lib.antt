@@ -1,6 +1,4 @@
 pub mod AsFar
-pub mod Blank
-pub mod BlankLayout
 pub mod Chain
 pub mod Clean
 pub mod Directory
@@ -14,10 +12,8 @@ pub mod Map
 pub mod Number
 pub mod Records
 pub mod Rest
-pub mod Room
 pub mod Same
 pub mod Side
 pub mod Texts
 pub mod View
 pub mod Visited
-pub mod Written

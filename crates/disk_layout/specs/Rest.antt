@@ -1,33 +1,6 @@
--- What an operation on two named files leaves alone, and how far a file can grow.
-use Rattle.std.specs.Prelude.{
-  ◌≡◌,
-  ◌-◌,
-  ◌<◌,
-  replicate,
-  slice_get,
-  Some,
-  IsTrue,
-  ℕ,
-  suc,
-  ◌+◌,
-  ◌*◌,
-  ◌/◌,
-  ◌≤◌,
-  not,
-  ◌&&◌,
-  List,
-  [],
-  ◌∷◌,
-  ◌++◌,
-  map,
-  length,
-  take,
-  drop,
-  filter,
-  flat_map,
-  slice_range,
-  nat_eq,
-}
+-- What an operation on two named files leaves alone.
+use Rattle.std.specs.Prelude.{◌≡◌, ◌-◌, ◌<◌, replicate, slice_get, Some, IsTrue, ℕ, suc, not, ◌&&◌, List, [], ◌∷◌}
+use Rattle.std.specs.Prelude.{◌++◌, map, length, take, drop, filter, flat_map, slice_range, nat_eq}
 use Rattle.d64_image.specs.Images.{Image, Sector, sector}
 use Rattle.d64_image.specs.declared.place.Place.{Place}
 use Rattle.disk_layout.specs.Directory.{map_place, type_byte}
@@ -96,14 +69,3 @@ rest_of img l a b requests = record {
 -- the sectors outside track 18 that are owned by files other than the one at place n of the list
 unfoldable pub taken_by_others : Layout → ℕ → ℕ
 taken_by_others l n = length (filter (λ p. not (nat_eq p.track 18)) (flat_map file_owns (others n n 0 l.files)))
-
--- records of 18 bytes up to r fit
-pub record Fits (l : Layout) (n r : ℕ) : Type 0 where
-  pub number : r ≤ 65535
-  pub blocks : (18 * r + 253) / 254 ≤ 720
-  pub room : (18 * r + 253) / 254 + ((18 * r + 253) / 254 + 119) / 120 + taken_by_others l n ≤ 664
-
--- r is the greatest record number to which the file at place n can grow
-pub record IsTop (l : Layout) (n r : ℕ) : Type 0 where
-  pub fits : Fits l n r
-  pub greatest : (s : ℕ) → Fits l n s → s ≤ r

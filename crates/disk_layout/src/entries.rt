@@ -1,9 +1,8 @@
 //! What is written into a slot of the directory: a new relative file, and a block count.
 ghost use Rattle.std.specs.Prelude.{◌≡◌, ◌≤◌, ◌<◌, length};
 ghost use Rattle.d64_image.specs.declared.place.Place.{Place};
-ghost use Rattle.disk_layout.specs.Blank.{rel_entry};
 ghost use Rattle.disk_layout.specs.Directory.{slot_in};
-ghost use Rattle.disk_layout.specs.Entries.{IsRecounted};
+ghost use Rattle.disk_layout.specs.Entries.{IsRecounted, rel_entry};
 ghost use Rattle.disk_layout.specs.Layout.{count_field};
 ghost use Rattle.disk_layout.specs.Rest.{slot_name};
 

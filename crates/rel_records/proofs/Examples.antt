@@ -12,6 +12,7 @@ use Rattle.std.proofs.Common.{
   suc,
   ap,
   arith,
+  lit<,
   map,
   replicate,
   subst,
@@ -23,7 +24,6 @@ use Rattle.std.specs.Prelude.{Some, slice_get}
 use Rattle.d64_image.proofs.Images.{sector-put_other}
 use Rattle.d64_image.specs.Images.{Image, Sector, put, sector}
 use Rattle.d64_image.specs.declared.place.Place.{Place}
-use Rattle.disk_layout.specs.Blank.{requests_block, requests_side, stock_block, stock_side}
 use Rattle.disk_layout.specs.Directory.{directory_start, is_used, map_place, slot_in}
 use Rattle.disk_layout.specs.Layout.{File, Layout}
 use Rattle.rel_records.specs.Others.{KeepsOthers}
@@ -93,6 +93,19 @@ full_sector p (suc (suc (suc (suc (suc zero))))) lt = refl
 full_sector p (suc (suc (suc (suc (suc (suc zero)))))) lt = refl
 full_sector p (suc (suc (suc (suc (suc (suc (suc zero))))))) lt = refl
 full_sector p (suc (suc (suc (suc (suc (suc (suc (suc k)))))))) lt = absurd (omega (arith, lt))
+
+-- where the two files lie
+abbrev stock_block : Place
+stock_block = record { track = 17; sector = 0; on_disk = lit< tt }
+
+abbrev stock_side : Place
+stock_side = record { track = 17; sector = 1; on_disk = lit< tt }
+
+abbrev requests_block : Place
+requests_block = record { track = 17; sector = 2; on_disk = lit< tt }
+
+abbrev requests_side : Place
+requests_side = record { track = 17; sector = 3; on_disk = lit< tt }
 
 -- STOCK with this last index, and REQUESTS beside it
 abbrev stock : ℕ → File

@@ -5,9 +5,7 @@ use crate::comparing::{same, same_at};
 use crate::disks::{at, empty_map, fresh, put_four, sector, zeroed};
 use arrayvec::ArrayVec;
 use d64_image::{MemDisk, Meter, Place};
-use disk_layout::{
-    Bam, BamView, DirView, EntryView, Slot, blank_image, read_directory, walk_chain,
-};
+use disk_layout::{Bam, BamView, DirView, EntryView, Slot, read_directory, walk_chain};
 use std::process::Abort;
 
 /// What 18/0 holds for one block of requests.

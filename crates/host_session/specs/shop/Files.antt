@@ -4,7 +4,8 @@ use Rattle.std.specs.Prelude.{◌≡◌, ℕ, zero, suc, List, Option, None, cod
 use Rattle.d64_image.specs.Images.{Image}
 use Rattle.disk_layout.specs.Layout.{File, IsLayout, Layout, record_length}
 use Rattle.disk_layout.specs.Records.{records}
-use Rattle.disk_layout.specs.Rest.{IsFirst, IsTop, Rest, rest_of}
+use Rattle.blank_shop.specs.Room.{IsTop}
+use Rattle.disk_layout.specs.Rest.{IsFirst, Rest, rest_of}
 
 -- the records of STOCK and of REQUESTS, how many data blocks STOCK has, the rest of the disk, and how far STOCK can
 -- grow

@@ -2,7 +2,7 @@
 use Rattle.std.specs.Prelude.{ℕ, ◌≡◌, ◌≤◌, ◌+◌, ◌*◌, ◌∷◌, [], List, MatchOption, None, Option, Some, length, slice_get}
 use Rattle.d64_image.specs.Images.{Image, Sector, sector}
 use Rattle.d64_image.specs.declared.place.Place.{Place}
-use Rattle.disk_layout.specs.Blank.{rel_entry}
+use Rattle.disk_layout.specs.Entries.{rel_entry}
 use Rattle.disk_layout.specs.Directory.{map_place}
 use Rattle.disk_layout.specs.Layout.{Layout}
 use Rattle.disk_layout.specs.Map.{IsFirstOn}

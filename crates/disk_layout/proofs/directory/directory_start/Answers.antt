@@ -1,5 +1,5 @@
 -- The disk has that sector.
-use Rattle.disk_layout.proofs.lemmas.blank.Blanks.{found-is, on-disk}
+use Rattle.disk_layout.proofs.lemmas.chains.Names.{found-is, on-disk}
 use Rattle.disk_layout.specs.Directory.{directory_start}
 use Rattle.disk_layout.proofs.directory.directory_start.Goals as goal
 

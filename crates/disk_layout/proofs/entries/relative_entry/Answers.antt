@@ -1,6 +1,6 @@
 -- The parts of the entry, one after another.
 use Rattle.std.proofs.Common.{append-nil}
-use Rattle.disk_layout.specs.Blank.{rel_entry}
+use Rattle.disk_layout.specs.Entries.{rel_entry}
 use Rattle.disk_layout.proofs.entries.relative_entry.Goals as goal
 
 pub returns : goal.returns

@@ -1,11 +1,31 @@
--- Two bytes that name a place, as a fact and as a value.
-use Rattle.std.proofs.Common.{◌≡◌, ℕ, ◌+◌, ap, ap₂, sym, slice_index, ◌∙◌}
+-- Places by track and sector: those that the disk has, and those that two bytes name, as a fact and as a value.
+use Rattle.std.proofs.Common.{◌≡◌, ℕ, ◌+◌, ◌≤◌, IsSome, ap, ap₂, inl, inr, refl, subst, sym, slice_index, ◌∙◌}
+use Rattle.std.proofs.lemmas.Bool.{cases_lt}
 use Rattle.std.specs.Prelude.{MatchOption, Option, Some, None}
-use Rattle.d64_image.proofs.Places.{place_at-self, place_at-some}
+use Rattle.d64_image.proofs.Places.{place_at-found, place_at-self, place_at-some}
+use Rattle.d64_image.specs.Geometry.{sectors_on}
 use Rattle.d64_image.specs.Images.{Sector}
 use Rattle.d64_image.specs.Places.{place_at}
 use Rattle.d64_image.specs.declared.place.Place.{Place}
 use Rattle.disk_layout.specs.Chain.{Names, NamesNone, named_at}
+
+-- the place that was asked for is the one meant
+pub found-is : (p q : Place) → place_at p.track p.sector ≡ Some q → q ≡ p
+found-is p q at = let known = place_at-self p in let same : Some q ≡ Some p = sym at ∙ known in cc
+
+-- the disk has each place
+pub on-disk : (p : Place) → IsSome (place_at p.track p.sector)
+on-disk p = subst IsSome (sym (place_at-self p)) refl
+
+-- where the disk has no such sector
+pub past-track : (t s : ℕ) → None ≡ place_at t s → sectors_on t ≤ s
+past-track t s none = elim (cases_lt s (sectors_on t)) [
+  | inl lt ↦ let (p, at) = place_at-found t s lt in absurd (clash p (none ∙ at))
+  | inr le ↦ le
+]
+  where
+    clash : (p : Place) → None ≡ Some p → ⊥
+    clash p e = let same : Unit {0} ≡ ⊥ = cc in subst (λ (X : Type 0). X) same tt
 
 -- the place that the bytes name is the value
 pub named-is : (bytes : Sector) (i : ℕ) (p : Place) → Names bytes i p → named_at bytes i ≡ Some p

@@ -1,8 +1,8 @@
--- What a layout determines: its first file of a name, and how far that can grow.
+-- What a layout determines: its first file of a name.
 use Rattle.std.proofs.Common.{◌≡◌, ℕ, ◌<◌, List, sym, ◌∙◌, ap, arith}
 use Rattle.std.specs.Prelude.{slice_get, Some}
 use Rattle.disk_layout.specs.Layout.{File, Layout}
-use Rattle.disk_layout.specs.Rest.{IsFirst, IsTop}
+use Rattle.disk_layout.specs.Rest.{IsFirst}
 
 -- the first file of a name is one file, at one place of the list
 pub IsFirst-one : (l : Layout) (name : List ℕ) (m n : ℕ) (f g : File) → IsFirst l name m f → IsFirst l name n g
@@ -13,7 +13,3 @@ IsFirst-one l name m n f g x y =
     let same : m ≡ n = omega (arith, low, high) in
     let both : Some f ≡ Some g = sym x.file ∙ ap (slice_get l.files) same ∙ y.file in
     (same, cc)
-
--- a layout has one greatest record number
-pub IsTop-one : (l : Layout) (n r s : ℕ) → IsTop l n r → IsTop l n s → r ≡ s
-IsTop-one l n r s x y = omega (arith, x.greatest s y.fits, y.greatest r x.fits)

@@ -54,6 +54,12 @@ take-get (y ∷ ys) zero x e = let one : y ≡ x = cc in ap (λ z. z ∷ []) one
 take-get (y ∷ ys) (suc n) x e = let next : suc n + 1 ≡ suc (n + 1) = omega arith in
     rw next (ap (λ zs. y ∷ zs) (take-get ys n x e))
 
+-- each index below the length has an element
+pub get-some : {X : Type 0} (xs : List X) (k : ℕ) → k < length xs → (x : X) × (slice_get xs k ≡ Some x)
+get-some [] k h = absurd (omega arith)
+get-some (x ∷ xs) zero h = (x, refl)
+get-some (x ∷ xs) (suc k) h = get-some xs k (omega arith)
+
 -- an element of a part
 pub get-drop : {X : Type 0} (xs : List X) (a k : ℕ) → slice_get (drop a xs) k ≡ slice_get xs (a + k)
 get-drop [] zero k = refl

@@ -12,10 +12,11 @@ use Rattle.d64_image.specs.declared.place.Place.{Place}
 use Rattle.disk_layout.specs.Fault.{Holds, nowhere}
 use Rattle.disk_layout.specs.declared.faults.Fault.{Fault}
 use Rattle.disk_layout.specs.declared.faults.Fault.TheVariants as faults
-use Rattle.disk_layout.proofs.lemmas.map.Tops.{IsTop-last}
+use Rattle.blank_shop.proofs.Tops.{IsTop-last}
 use Rattle.disk_layout.proofs.lemmas.layouts.Uniques.{IsFirst-one}
 use Rattle.disk_layout.specs.Layout.{File, IsLayout, Layout, record_length}
-use Rattle.disk_layout.specs.Rest.{IsFirst, IsTop, rest_of, taken_by_others}
+use Rattle.blank_shop.specs.Room.{IsTop}
+use Rattle.disk_layout.specs.Rest.{IsFirst, rest_of, taken_by_others}
 use Rattle.rel_records.specs.File.{IsFileOf, entry_of, length_of}
 use Rattle.rel_records.specs.declared.rel_file.RelFile.{RelFile}
 use Rattle.request_cards.specs.Trade.{last_card}

@@ -11,7 +11,8 @@ use Rattle.disk_layout.specs.Directory.{type_byte}
 use Rattle.disk_layout.specs.Entries.{SameEntries, uncounted}
 use Rattle.disk_layout.specs.Layout.{File, Layout, file_owns, record_length}
 use Rattle.disk_layout.specs.Records.{joined, pieces, record_count, records}
-use Rattle.disk_layout.specs.Rest.{Fits, IsFirst, IsNamed, IsTop, kept_of, others, slot_name, taken_by_others}
+use Rattle.blank_shop.specs.Room.{Fits, IsTop}
+use Rattle.disk_layout.specs.Rest.{IsFirst, IsNamed, kept_of, others, slot_name, taken_by_others}
 use Rattle.disk_layout.specs.declared.slot.Slot.{Slot}
 
 -- the entry at a place, where entries stay but for their counts

@@ -40,7 +40,7 @@ use Rattle.d64_image.specs.Places.{place_at}
 use Rattle.d64_image.specs.declared.place.Place.{Place}
 use Rattle.disk_layout.proofs.lemmas.lists.Sums.{sum-same, sum_more}
 use Rattle.disk_layout.proofs.lemmas.map.Bits.{few_sectors}
-use Rattle.disk_layout.proofs.lemmas.map.Freeing.{past-track}
+use Rattle.disk_layout.proofs.lemmas.chains.Names.{past-track}
 use Rattle.disk_layout.specs.Map.{IsFree, map_bit, numbers_below}
 use Rattle.layout_check.specs.Marked.{IsMarked, ones_on}
 use Rattle.layout_check.specs.Owners.{owner_of}

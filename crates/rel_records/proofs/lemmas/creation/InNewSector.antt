@@ -16,7 +16,7 @@ use Rattle.disk_layout.proofs.lemmas.growth.GrowthRecords.{get-seam}
 use Rattle.disk_layout.proofs.lemmas.growth.LongerDirectory.{IsRelinked}
 use Rattle.disk_layout.proofs.lemmas.lists.Once.{Contains-cases, Contains-here, Contains-nil, Contains-there, insert-in}
 use Rattle.disk_layout.proofs.lemmas.lists.Once.{insert-out}
-use Rattle.disk_layout.specs.Blank.{rel_entry}
+use Rattle.disk_layout.specs.Entries.{rel_entry}
 use Rattle.disk_layout.specs.Chain.{EachOnce}
 use Rattle.disk_layout.specs.Directory.{is_used, map_place, slot_in}
 use Rattle.disk_layout.specs.Layout.{File, Layout, file_owns, owners}

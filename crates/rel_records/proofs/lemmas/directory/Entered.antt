@@ -12,7 +12,7 @@ use Rattle.d64_image.specs.declared.place.Place.{Place}
 use Rattle.disk_layout.proofs.lemmas.counts.Counts.{range-piece}
 use Rattle.disk_layout.proofs.lemmas.counts.CountWrites.{slot-byte}
 use Rattle.disk_layout.proofs.lemmas.records.Pieces.{length-piece, piece-same}
-use Rattle.disk_layout.specs.Blank.{rel_entry}
+use Rattle.disk_layout.specs.Entries.{rel_entry}
 use Rattle.disk_layout.specs.Chain.{Names}
 use Rattle.disk_layout.specs.Directory.{is_used, slot_in, type_byte}
 use Rattle.disk_layout.specs.Layout.{count_field, record_length}

@@ -1,0 +1,5 @@
+pub mod Blank
+pub mod BlankLayout
+pub mod Free
+pub mod Room
+pub mod Written
