@@ -3,7 +3,7 @@ use crate::comparing::{same, same_at};
 use crate::disks::{at, sector, zeroed};
 use d64_image::{DeviceFault, KeptDisk, MemDisk, Mirror, OneFault, Place, Sectors};
 use std::process::Abort;
-use tool_recorder::Recorder;
+use tool_devices::Recorder;
 
 /// A disk that is mirrored in a device that records each image, and of which one call fails.
 type Mirrored = Mirror<KeptDisk<OneFault<Recorder<MemDisk>>>>;

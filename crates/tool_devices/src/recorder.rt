@@ -19,7 +19,7 @@ pub struct Recorder<D> {
 impl<D: Sectors> Recorder<D> {
     ghost use Rattle.d64_image.specs.History.{HeldOnly, OldOr, OnlyReads, TellsFailure};
     ghost use Rattle.d64_image.specs.Images.{put, sector};
-    ghost use Rattle.tool_recorder.specs.Recorder.{fails_at, image_at, moments_of, recorded, recorder_disk};
+    ghost use Rattle.tool_devices.specs.Recorder.{fails_at, image_at, moments_of, recorded, recorder_disk};
 
     /// A recorder round a disk. It has recorded nothing yet.
     pub fn new(alloc: Global, disk: D) -> Self
@@ -118,7 +118,7 @@ impl<D: Sectors> Recorder<D> {
 impl<D: Sectors> Sectors for Recorder<D> {
     ghost use Rattle.d64_image.specs.Calls.{WritesSector};
     ghost use Rattle.d64_image.specs.Faults.{device_fault};
-    ghost use Rattle.tool_recorder.specs.Recorder.{image_at, moments_of, recorded};
+    ghost use Rattle.tool_devices.specs.Recorder.{image_at, moments_of, recorded};
 
     ghost history = { recorded D.history };
 

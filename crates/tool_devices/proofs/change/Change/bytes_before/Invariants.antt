@@ -1,7 +1,7 @@
 use Rattle.std.proofs.Common.{◌≡◌, drop}
 use Rattle.d64_image.specs.Images.{Image, sector}
-use Rattle.tool_recorder.specs.Recorder.{undone}
-use Rattle.tool_recorder.proofs.change.Change.bytes_before.Given as goal
+use Rattle.tool_devices.specs.Recorder.{undone}
+use Rattle.tool_devices.proofs.change.Change.bytes_before.Given as goal
 
 -- no change of the place was passed
 abbrev pub invariant-loop-change : goal.invariant-loop-change

@@ -1,6 +1,6 @@
 use Rattle.std.proofs.Common.{◌∙◌}
-use Rattle.tool_recorder.proofs.Recorded.{places_other, places_same, undone_here, undone_other}
-use Rattle.tool_recorder.proofs.change.Change.bytes_before.Goals as goal
+use Rattle.tool_devices.proofs.Recorded.{places_other, places_same, undone_here, undone_other}
+use Rattle.tool_devices.proofs.change.Change.bytes_before.Goals as goal
 
 pub returns-then-eq-clause-some : goal.returns-then-eq-clause-some
 returns-then-eq-clause-some c =

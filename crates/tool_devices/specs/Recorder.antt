@@ -4,8 +4,8 @@ use Rattle.std.proofs.Common.{inl, inr, ⊎_elim}
 use Rattle.d64_image.specs.declared.place.Place.{Place}
 use Rattle.d64_image.specs.Images.{Image, put}
 use Rattle.d64_image.specs.History.{History}
-use Rattle.tool_recorder.specs.declared.change.Change.{Change}
-use Rattle.tool_recorder.specs.declared.recorder.Recorder.{Recorder}
+use Rattle.tool_devices.specs.declared.change.Change.{Change}
+use Rattle.tool_devices.specs.declared.recorder.Recorder.{Recorder}
 
 -- the image before these changes, the latest of which comes last, from the image after them
 abbrev pub undone : List Change → Image → Image

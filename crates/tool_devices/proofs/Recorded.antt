@@ -8,9 +8,9 @@ use Rattle.d64_image.specs.Images.{Image, Sector, put, sector}
 use Rattle.d64_image.specs.History.{History, HeldOnly, OldOr}
 use Rattle.d64_image.proofs.Images.{length-put, put-put, put-sector, sector-put_other, sector-put_same}
 use Rattle.d64_image.proofs.Places.{same_place}
-use Rattle.tool_recorder.specs.declared.change.Change.{Change}
-use Rattle.tool_recorder.specs.declared.recorder.Recorder.{Recorder}
-use Rattle.tool_recorder.specs.Recorder.{HeldSince, IsRecorded, recorded, undone}
+use Rattle.tool_devices.specs.declared.change.Change.{Change}
+use Rattle.tool_devices.specs.declared.recorder.Recorder.{Recorder}
+use Rattle.tool_devices.specs.Recorder.{HeldSince, IsRecorded, recorded, undone}
 
 undone-push : (es : List Change) (e : Change) (old new : Image) → put new e.place e.bytes ≡ old
     → undone (es ++ e ∷ []) new ≡ undone es old

@@ -2,8 +2,8 @@ use Rattle.std.proofs.Common.{subst}
 use Rattle.d64_image.specs.Images.{Image, put}
 use Rattle.d64_image.specs.History.{OldOr}
 use Rattle.d64_image.proofs.Moments.{at_end}
-use Rattle.tool_recorder.proofs.Recorded.{keeps_images, put_back, recorded_write}
-use Rattle.tool_recorder.proofs.recorder.Recorder.change.Goals as goal
+use Rattle.tool_devices.proofs.Recorded.{keeps_images, put_back, recorded_write}
+use Rattle.tool_devices.proofs.recorder.Recorder.change.Goals as goal
 
 pub returns-in-Ok-clause-held : goal.returns-in-Ok-clause-held
 returns-in-Ok-clause-held g c =

@@ -12,7 +12,7 @@ pub(crate) struct Change {
 
 impl Change {
     ghost use Rattle.d64_image.specs.Images.{Image, sector};
-    ghost use Rattle.tool_recorder.specs.Recorder.{undone};
+    ghost use Rattle.tool_devices.specs.Recorder.{undone};
 
     /// What stood at a place before the first of the changes there.
     pub(crate) fn bytes_before(changes: &[Change], place: Place) -> Option<[u8; 256]>
