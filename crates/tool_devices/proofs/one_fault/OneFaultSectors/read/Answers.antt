@@ -1,7 +1,7 @@
 -- The read that fails, or one that the disk beneath answers.
 use Rattle.std.proofs.Common.{refl}
-use Rattle.d64_image.proofs.OneCalls.{one_more, passes_read, read_beneath, refuses_read}
-use Rattle.d64_image.proofs.one_fault.OneFaultSectors.read.Goals as goal
+use Rattle.tool_devices.proofs.OneCalls.{one_more, passes_read, read_beneath, refuses_read}
+use Rattle.tool_devices.proofs.one_fault.OneFaultSectors.read.Goals as goal
 
 pub returns-then-is_hit : goal.returns-then-is_hit
 returns-then-is_hit g c =

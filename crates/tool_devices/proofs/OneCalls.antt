@@ -6,10 +6,10 @@ use Rattle.std.specs.Prelude.{IsErrOf, OnErr, OnOk, min}
 use Rattle.d64_image.specs.Calls.{ReadsSector}
 use Rattle.d64_image.specs.History.{Failed, HeldOnly, History}
 use Rattle.d64_image.specs.Images.{Image, Sector}
-use Rattle.d64_image.specs.OneFaults.{IsOnce, fault_place, faulty_disk, is_due, one_fault}
 use Rattle.d64_image.specs.declared.count.Count.{Count}
-use Rattle.d64_image.specs.declared.one_fault.OneFault.{OneFault}
 use Rattle.d64_image.specs.declared.place.Place.{Place}
+use Rattle.tool_devices.specs.OneFaults.{IsOnce, fault_place, faulty_disk, is_due, one_fault}
+use Rattle.tool_devices.specs.declared.one_fault.OneFault.{OneFault}
 
 -- one failure more than before
 abbrev pub IsOneMore : Count → Count → Type 0

@@ -1,7 +1,7 @@
 -- The write that fails, and is done, is the one that the disk beneath was handed.
 use Rattle.std.proofs.Common.{subst}
-use Rattle.d64_image.specs.OneFaults.{Reaches}
-use Rattle.d64_image.proofs.one_fault.OneFaultSectors.write.Goals as goal
+use Rattle.tool_devices.specs.OneFaults.{Reaches}
+use Rattle.tool_devices.proofs.one_fault.OneFaultSectors.write.Goals as goal
 
 pub returns-then-hit-2-clause-reaches : goal.returns-then-hit-2-clause-reaches
 returns-then-hit-2-clause-reaches g c = λ due done. subst

@@ -1,8 +1,5 @@
 //! A disk of which one call of a run fails.
-use crate::count::Count;
-use crate::faults::DeviceFault;
-use crate::place::Place;
-use crate::sectors::Sectors;
+use d64_image::{Count, DeviceFault, Place, Sectors};
 
 /// Fails one call, by its number among the reads and writes from 0 on, and passes each other call to the disk beneath.
 /// Where that call is a write, the disk may have taken it nevertheless.
@@ -18,7 +15,7 @@ pub struct OneFault<D> {
 
 impl<D: Sectors> OneFault<D> {
     ghost use Rattle.std.specs.Prelude.{◌≡◌, ◌+◌, None, Some, IsTrue, false};
-    ghost use Rattle.d64_image.specs.OneFaults.{calls_left, fault_place, faulty_disk, is_done, is_due, one_fault};
+    ghost use Rattle.tool_devices.specs.OneFaults.{calls_left, fault_place, faulty_disk, is_done, is_due, one_fault};
 
     /// A disk whose call with this number fails; where it is a write, `done` says whether the disk takes it.
     pub fn new(disk: D, at: u32, done: bool) -> OneFault<D>
@@ -85,8 +82,8 @@ impl<D: Sectors> Sectors for OneFault<D> {
     ghost use Rattle.std.specs.Prelude.{◌≡◌, ◌+◌, None, Some, IsErr, false, true};
     ghost use Rattle.d64_image.specs.Calls.{ReadsSector, WritesSector};
     ghost use Rattle.d64_image.specs.Faults.{device_fault};
-    ghost use Rattle.d64_image.specs.OneFaults.{Reaches, calls_left, fault_place, faulty_disk};
-    ghost use Rattle.d64_image.specs.OneFaults.{is_done, is_due, one_fault};
+    ghost use Rattle.tool_devices.specs.OneFaults.{Reaches, calls_left, fault_place, faulty_disk};
+    ghost use Rattle.tool_devices.specs.OneFaults.{is_done, is_due, one_fault};
 
     ghost history = { one_fault D.history };
 

@@ -1,8 +1,5 @@
 //! A disk whose reads and writes are counted.
-use crate::count::Count;
-use crate::faults::DeviceFault;
-use crate::place::Place;
-use crate::sectors::Sectors;
+use d64_image::{Count, DeviceFault, Place, Sectors};
 
 /// Counts the reads and the writes that pass to the disk beneath it. Each count stays at 2^64 - 1 once there.
 #[derive(Drop)]
@@ -14,7 +11,7 @@ pub struct Meter<D> {
 
 impl<D: Sectors> Meter<D> {
     ghost use Rattle.std.specs.Prelude.{◌≡◌};
-    ghost use Rattle.d64_image.specs.Meters.{meter_disk, meter_reads, meter_writes};
+    ghost use Rattle.tool_devices.specs.Meters.{meter_disk, meter_reads, meter_writes};
 
     /// A meter on a disk, with both counts at 0.
     pub fn new(disk: D) -> Meter<D>
@@ -60,7 +57,7 @@ impl<D: Sectors> Sectors for Meter<D> {
     ghost use Rattle.std.specs.Prelude.{◌≡◌, ◌+◌, min, OnErr, OnOk};
     ghost use Rattle.d64_image.specs.Calls.{ReadsSector, WritesSector};
     ghost use Rattle.d64_image.specs.Faults.{device_fault};
-    ghost use Rattle.d64_image.specs.Meters.{meter, meter_disk, meter_reads, meter_writes};
+    ghost use Rattle.tool_devices.specs.Meters.{meter, meter_disk, meter_reads, meter_writes};
 
     ghost history = { meter D.history };
 

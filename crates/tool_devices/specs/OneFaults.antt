@@ -2,12 +2,13 @@
 use Rattle.std.specs.Prelude.{ℕ, ◌≡◌, ◌≢◌, ◌≤◌, ◌⊎◌, Bool, Option, None, Some, Result, refl}
 use Rattle.std.proofs.Common.{◌∙◌, inl, inr, ⊎_elim, sym, le_refl, arith}
 use Rattle.d64_image.specs.declared.faults.DeviceFault.{DeviceFault}
-use Rattle.d64_image.specs.declared.one_fault.OneFault.{OneFault}
 use Rattle.d64_image.specs.declared.place.Place.{Place}
 use Rattle.d64_image.specs.Calls.{WritesSector}
+use Rattle.d64_image.specs.Counts.{calls_of}
 use Rattle.d64_image.specs.Faults.{device_fault}
 use Rattle.d64_image.specs.History.{History, Failed, through}
 use Rattle.d64_image.specs.Images.{Sector}
+use Rattle.tool_devices.specs.declared.one_fault.OneFault.{OneFault}
 
 -- the disk beneath
 abbrev pub faulty_disk : {D : Type 0} → OneFault D → D
@@ -31,7 +32,7 @@ is_done f = f.done
 
 -- how many of its calls failed
 abbrev pub faulty_failures : {D : Type 0} → OneFault D → ℕ
-faulty_failures f = f.failed.n
+faulty_failures f = calls_of f.failed
 
 -- a write reached the disk, whatever that answered
 pub record Reaches {D : Type 0} (h : History D) (old new : D) (p : Place) (bytes : Sector) : Type 0 where
@@ -75,7 +76,7 @@ once_then h a b c x y = record {
   failures = omega (arith, x.failures, y.failures);
   past = λ p e. y.past p (x.past p e);
   cause = ⊎_elim
-      (λ (same : c.failed.n ≡ b.failed.n). ⊎_elim
+      (λ (same : faulty_failures c ≡ faulty_failures b). ⊎_elim
       (λ e. inl (same ∙ e))
       (λ w. ⊎_elim
       (λ came. inr (inl (came.0, λ e. came.1 (was_to_come b.place c.place y.past e))))
@@ -103,7 +104,7 @@ failed_still h a b p x failed = ⊎_elim
 -- It counts its own failures, and the writes that it answered with Ok.
 abbrev pub one_fault : {D : Type 0} → History D → History (OneFault D)
 one_fault h = record (through faulty_disk h) {
-  writes = λ f. f.written.n;
+  writes = λ f. calls_of f.written;
   failures = faulty_failures;
   last = 18446744073709551615;
   up_to_last = λ f. f.failed.fits;

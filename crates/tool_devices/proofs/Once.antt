@@ -1,11 +1,11 @@
 -- What a run over a disk with one fault says of the disk beneath it.
 use Rattle.std.proofs.Common.{◌≡◌, ◌<◌, ⊎_elim, Some, sym, ◌∙◌, arith}
 use Rattle.std.proofs.lemmas.Option.{none-some}
-use Rattle.d64_image.specs.declared.one_fault.OneFault.{OneFault}
 use Rattle.d64_image.specs.declared.place.Place.{Place}
 use Rattle.d64_image.specs.Images.{Image}
 use Rattle.d64_image.specs.History.{History, HeldOnly, Failed}
-use Rattle.d64_image.specs.OneFaults.{one_fault, faulty_disk, faulty_failures, fault_place}
+use Rattle.tool_devices.specs.declared.one_fault.OneFault.{OneFault}
+use Rattle.tool_devices.specs.OneFaults.{one_fault, faulty_disk, faulty_failures, fault_place}
 
 module _ {D : Type 0} (h : History D) (a b : OneFault D) (P : Image → Type 0) (x : HeldOnly (one_fault h) a b P) where
   pub held_beneath : HeldOnly h (faulty_disk a) (faulty_disk b) P
