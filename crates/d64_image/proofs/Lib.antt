@@ -5,8 +5,6 @@ pub mod Fused
 pub mod Images
 pub mod Moments
 pub mod Offsets
-pub mod Once
-pub mod OneCalls
 pub mod Places
 pub mod Rows
 pub mod Told

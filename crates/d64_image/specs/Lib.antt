@@ -1,4 +1,5 @@
 pub mod Calls
+pub mod Counts
 pub mod Faults
 pub mod FileDisks
 pub mod Fuses
@@ -8,8 +9,6 @@ pub mod Images
 pub mod Keeps
 pub mod KeptDisks
 pub mod Memory
-pub mod Meters
 pub mod Mirrors
 pub mod Offsets
-pub mod OneFaults
 pub mod Places

@@ -1,31 +1,34 @@
 //! A count that stays at its greatest value once there.
-ghost use Rattle.std.specs.Prelude.{◌≡◌, ◌+◌, ◌≤◌, min};
+ghost use Rattle.std.specs.Prelude.{◌≤◌};
 
-/// A count up to 2^64 - 1.
+/// A device's count of calls, up to 2^64 - 1.
 #[derive(Clone, Copy, Debug, PartialEq, Eq)]
-pub(crate) struct Count {
+pub struct Count {
     n: u64,
     ghost fits: { n ≤ 18446744073709551615 },
 }
 
 impl Count {
+    ghost use Rattle.std.specs.Prelude.{◌≡◌, ◌+◌, min};
+    ghost use Rattle.d64_image.specs.Counts.{calls_of};
+
     /// No call so far.
-    pub(crate) fn zero() -> Count
-        ensures { result.n ≡ 0 }
+    pub fn zero() -> Count
+        ensures { calls_of result ≡ 0 }
     {
         Count { n: 0 }
     }
 
-    /// Counts one call more.
-    pub(crate) fn add_one(&mut self)
-        ensures { self.new.n ≡ min (self.old.n + 1) 18446744073709551615 }
+    /// Counts one call more; at 2^64 - 1 it stays.
+    pub fn add_one(&mut self)
+        ensures { calls_of self.new ≡ min (calls_of self.old + 1) 18446744073709551615 }
     {
         self.n = self.n.saturating_add(1);
     }
 
     /// How many calls.
-    pub(crate) fn get(&self) -> u64
-        ensures { result ≡ self.now.n }
+    pub fn get(&self) -> u64
+        ensures { result ≡ calls_of self.now }
     {
         self.n
     }

@@ -3,7 +3,7 @@ use crate::comparing::{same, same_at};
 use crate::disks::{at, sector, zeroed};
 use d64_image::{DeviceFault, Fuse, Place, Sectors};
 use std::process::Abort;
-use tool_recorder::Recorder;
+use tool_devices::Recorder;
 
 /// Fills the first sector, then the last one, as any layer above writes them.
 fn fill_both<D: Sectors>(disk: &mut D, a: Place, b: Place, byte: u8) -> Result<(), DeviceFault> {

@@ -5,11 +5,12 @@ use crate::comparing::{same, same_at};
 use crate::disks::{clean, fresh, loaded, put, sector, stands};
 use crate::growth_rows::mended;
 use arrayvec::ArrayVec;
-use d64_image::{Fuse, MemDisk, Meter};
+use d64_image::{Fuse, MemDisk};
 use disk_layout::{BamView, read_directory};
 use layout_check::repair;
 use rel_records::{RelFault, create};
 use std::process::Abort;
+use tool_devices::Meter;
 
 /// What creating a file told, and how many sectors were written.
 type Made = (Result<(), RelFault>, u64);

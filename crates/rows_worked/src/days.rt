@@ -3,11 +3,12 @@ use crate::comparing::{holds, same_at};
 use crate::disks::{clean, loaded};
 use crate::sessions::{told, told_of_events};
 use arrayvec::ArrayVec;
-use d64_image::{MemDisk, Meter};
+use d64_image::MemDisk;
 use host_session::{Cut, Event};
 use request_cards::Reply;
 use std::io::Write;
 use std::process::Abort;
+use tool_devices::Meter;
 
 /// A line of a day.
 #[derive(Clone, Copy)]

@@ -2,10 +2,11 @@
 use crate::comparing::{holds, same_at};
 use crate::disks::{INTENT, changed, fresh, loaded};
 use crate::sessions::{handed, open, says, sent_to, stopped, stopped_events, told};
-use d64_image::{Fuse, MemDisk, Meter, OneFault, Sectors};
+use d64_image::{Fuse, MemDisk, Sectors};
 use host_session::{Event, PlayFault, Printer, ScriptFault, Session, run_script};
 use request_cards::{Reply, Word};
 use std::process::Abort;
+use tool_devices::{Meter, OneFault};
 
 /// Opens a disk; the fault's number, 0 for none, and the disk then.
 fn opening<D: Sectors>(disk: D) -> (u8, D) {

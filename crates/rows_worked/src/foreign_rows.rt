@@ -5,10 +5,11 @@ ghost use Rattle.std.specs.Prelude.{◌≤◌};
 use crate::comparing::same_at;
 use crate::disks::{clean, found, fresh, put, sector, sound_stock, stands, stock};
 use arrayvec::ArrayVec;
-use d64_image::{Fuse, MemDisk, Meter, Sectors};
+use d64_image::{Fuse, MemDisk, Sectors};
 use layout_check::repair;
 use rel_records::{RelFault, RelFile, create, grow_to, read_record, records, write_record};
 use std::process::Abort;
+use tool_devices::Meter;
 
 /// Writes `A` into a record of STOCK. Tells how many records there were, how many sectors were written, how many
 /// records there are, and the last index of the file's one block.

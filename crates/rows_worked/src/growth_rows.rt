@@ -3,11 +3,12 @@ use crate::comparing::{same, same_at};
 use crate::disks::{
     Change, bytes_from, changed, clean, fresh, loaded, sector, sound_stock, stands, stock,
 };
-use d64_image::{Fuse, MemDisk, Meter, Place};
+use d64_image::{Fuse, MemDisk, Place};
 use disk_layout::SideView;
 use layout_check::{check, repair};
 use rel_records::{RelFault, grow_to, records};
 use std::process::Abort;
+use tool_devices::Meter;
 
 /// Lets STOCK of this image grow to this record, where power fails after so many writes. Tells whether it came to its
 /// end, and what is on the disk then.

@@ -2,8 +2,9 @@
 use crate::comparing::{holds, same, same_at};
 use crate::disks::{fresh, loaded};
 use crate::sessions::{handed, handled, mirrored, says, told, unmirrored};
-use d64_image::{KeptDisk, MemDisk, Mirror, OneFault};
+use d64_image::{KeptDisk, MemDisk, Mirror};
 use std::process::Abort;
+use tool_devices::OneFault;
 
 /// Lines of days, and their replies.
 const LINES: [(&[u8], &[u8]); 4] = [

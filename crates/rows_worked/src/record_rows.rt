@@ -4,9 +4,10 @@ ghost use Rattle.std.specs.Prelude.{◌≤◌};
 use crate::comparing::{same, same_at};
 use crate::disks::{fresh, put, stands, stock};
 use arrayvec::ArrayVec;
-use d64_image::{MemDisk, Meter};
+use d64_image::MemDisk;
 use rel_records::{RelFault, grow_to, read_record, records, write_record};
 use std::process::Abort;
+use tool_devices::Meter;
 
 /// What a write of a record did: its answer, how many sectors it wrote, and how many records the file has then.
 type Written = (Result<(), RelFault>, u64, u32);

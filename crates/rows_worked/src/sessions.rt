@@ -1,10 +1,11 @@
 //! Sessions on copies of a disk, also where power goes in them.
 use crate::comparing::holds;
 use crate::disks::{clean, fresh, loaded};
-use d64_image::{Fuse, KeptDisk, MemDisk, Meter, Mirror, Sectors};
+use d64_image::{Fuse, KeptDisk, MemDisk, Mirror, Sectors};
 use host_session::{Event, PlayFault, Printer, ScriptFault, Session, play, run_script};
 use request_cards::Reply;
 use std::process::Abort;
+use tool_devices::Meter;
 
 /// Power that doesn't go: more writes than any disk takes in a row.
 pub(crate) const WHOLE: u32 = u32::MAX;

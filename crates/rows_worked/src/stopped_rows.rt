@@ -4,11 +4,12 @@ use crate::days::Line::{Cut, Say};
 use crate::days::{Line, events_of, is_played, script_of, text_of, wanted};
 use crate::disks::{at, changed, fresh, loaded};
 use crate::sessions::{WHOLE, open, opened, stopped, stopped_events};
-use d64_image::{Fuse, MemDisk, Meter, Sectors};
+use d64_image::{Fuse, MemDisk, Sectors};
 use disk_layout::Fault;
 use host_session::{OpenFault, PlayFault, ScriptFault, Session};
 use request_cards::{Reply, Word};
 use std::process::Abort;
+use tool_devices::Meter;
 
 /// MEDIA, told to till 1.
 fn media(number: u32) -> Reply {

@@ -1,0 +1,4 @@
+pub mod Examples
+pub mod Once
+pub mod OneCalls
+pub mod Recorded

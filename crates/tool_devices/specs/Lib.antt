@@ -1,0 +1,3 @@
+pub mod Meters
+pub mod OneFaults
+pub mod Recorder

@@ -1,0 +1,156 @@
+//! A device that keeps each image that it held.
+ghost use Rattle.std.specs.Prelude.{◌≡◌, ◌≤◌, ◌+◌, ℕ, OnErr, OnOk, min};
+
+use crate::change::Change;
+use d64_image::{DeviceFault, Place, Sectors};
+use std::alloc::Global;
+
+/// A disk that keeps what each write replaced, so that each image that it held can be read again. Where memory for that
+/// is refused, it fails that call and each later one, but for a `read_at` whose bytes it has recorded.
+#[derive(Drop)]
+pub struct Recorder<D> {
+    disk: D,
+    changes: Vec<Change>,
+    full: bool,
+    failed: u64,
+    ghost fits: { failed ≤ 18446744073709551615 },
+}
+
+impl<D: Sectors> Recorder<D> {
+    ghost use Rattle.d64_image.specs.History.{HeldOnly, OldOr, OnlyReads, TellsFailure};
+    ghost use Rattle.d64_image.specs.Images.{put, sector};
+    ghost use Rattle.tool_devices.specs.Recorder.{fails_at, image_at, moments_of, recorded, recorder_disk};
+
+    /// A recorder round a disk. It has recorded nothing yet.
+    pub fn new(alloc: Global, disk: D) -> Self
+        ensures disk { recorder_disk result ≡ disk }
+        ensures moments { moments_of result ≡ 0 }
+        ensures unfailed { (recorded D.history).failures result ≡ 0 }
+    {
+        Recorder {
+            disk,
+            changes: Vec::new(alloc),
+            full: false,
+            failed: 0,
+        }
+    }
+
+    /// The disk, as it is now.
+    pub fn into_inner(self) -> D
+        ensures { result ≡ recorder_disk self }
+    {
+        let Recorder { disk, changes, .. } = self;
+        drop(changes);
+        disk
+    }
+
+    /// How many changes it has recorded: the writes that passed, and those that the disk refused once it had read what
+    /// stood there.
+    pub fn moments(&self) -> usize
+        ensures { result ≡ moments_of self.now }
+    {
+        self.changes.len()
+    }
+
+    /// Reads a sector as it was when so many changes were recorded. A later moment is now.
+    pub fn read_at(
+        &mut self,
+        moment: usize,
+        place: Place,
+        to: &mut [u8; 256],
+    ) -> Result<(), DeviceFault>
+        ensures sector { OnOk result (to.new ≡ sector (image_at D.history self.old moment) place) }
+        ensures reads { OnlyReads (recorded D.history) self.old self.new 1 }
+        ensures failures { TellsFailure (recorded D.history) self.old self.new result }
+        ensures failed { OnErr result ((recorded D.history).failed_at self.new place) }
+    {
+        let from = moment.min(self.changes.len());
+        match Change::bytes_before(&self.changes[from..], place) {
+            Some(bytes) => {
+                *to = bytes;
+                Ok(())
+            }
+            None => self.read(place, to),
+        }
+    }
+
+    /// Counts a failed call.
+    fn fail(&mut self)
+        ensures disk { self.new.disk ≡ self.old.disk }
+        ensures changes { self.new.changes ≡ self.old.changes }
+        ensures full { self.new.full ≡ self.old.full }
+        ensures failed { self.new.failed ≡ min (self.old.failed + 1) 18446744073709551615 }
+    {
+        self.failed = self.failed.saturating_add(1);
+    }
+
+    /// Writes a sector, once it has recorded what stood there.
+    fn change(&mut self, place: Place, from: &[u8; 256]) -> Result<(), DeviceFault>
+        ensures ok { OnOk result (D.history.image self.new.disk ≡ put (D.history.image self.old.disk) place from.now) }
+        ensures err { OnErr result
+            (OldOr (D.history.image self.old.disk) (put (D.history.image self.old.disk) place from.now)
+            (D.history.image self.new.disk)) }
+        ensures held { HeldOnly (recorded D.history) self.old self.new
+            (OldOr (D.history.image self.old.disk) (put (D.history.image self.old.disk) place from.now)) }
+        ensures counted { OnOk result (D.history.writes self.new.disk ≤ D.history.writes self.old.disk + 1) }
+        ensures uncounted { OnErr result (D.history.writes self.new.disk ≡ D.history.writes self.old.disk) }
+        ensures failures { self.new.failed ≡ self.old.failed }
+        ensures failed { OnErr result (fails_at D.history self.new place) }
+        ensures recorded { OnOk result (moments_of self.new ≡ moments_of self.old + 1) }
+        ensures keeps { (t : ℕ) → t ≤ moments_of self.old
+            → image_at D.history self.new t ≡ image_at D.history self.old t }
+    {
+        if self.full {
+            return Err(DeviceFault);
+        }
+        let mut bytes = [0; 256];
+        self.disk.read(place, &mut bytes)?;
+        match self.changes.push(Change { place, bytes }) {
+            Ok(()) => self.disk.write(place, from),
+            Err(_) => {
+                self.full = true;
+                Err(DeviceFault)
+            }
+        }
+    }
+}
+
+impl<D: Sectors> Sectors for Recorder<D> {
+    ghost use Rattle.d64_image.specs.Calls.{WritesSector};
+    ghost use Rattle.d64_image.specs.Faults.{device_fault};
+    ghost use Rattle.tool_devices.specs.Recorder.{image_at, moments_of, recorded};
+
+    ghost history = { recorded D.history };
+
+    /// Passes a read on.
+    fn read(&mut self, place: Place, to: &mut [u8; 256]) -> Result<(), DeviceFault> {
+        if self.full {
+            self.fail();
+            return Err(DeviceFault);
+        }
+        match self.disk.read(place, to) {
+            Ok(()) => Ok(()),
+            Err(fault) => {
+                self.fail();
+                Err(fault)
+            }
+        }
+    }
+
+    /// Passes a write on, once what stands there is recorded.
+    fn write(&mut self, place: Place, from: &[u8; 256]) -> Result<(), DeviceFault>
+        ensures device { WritesSector (recorded D.history) self.old self.new place from.now device_fault result }
+        // our own: the write is recorded, and what was held before stays known
+        ensures recorded { OnOk result (moments_of self.new ≡ moments_of self.old + 1) }
+        ensures keeps { (t : ℕ) → t ≤ moments_of self.old
+            → image_at D.history self.new t ≡ image_at D.history self.old t }
+    {
+        match self.change(place, from) {
+            Ok(()) => Ok(()),
+            Err(_) => {
+                self.fail();
+                Err(DeviceFault)
+            }
+        }
+    }
+}
