@@ -13,7 +13,7 @@ mod writing;
 pub use laws::{lines_give_records, texts_differ};
 pub use line_reading::read_line;
 pub use line_writing::{LINE_ROOM, put_line, write_line};
-pub use reading::read_text;
+pub use reading::{MOST_BYTES, read_text};
 pub use text::Text;
 pub use trimming::trim;
 pub use writing::write_text;

@@ -3,7 +3,7 @@ ghost use Rattle.std.specs.Prelude.{◌≡◌, ◌⊎◌, ◌≤◌, ℕ, List, 
 ghost use Rattle.byte_text.specs.Lines.{IsLineOf, IsQuoted};
 ghost use Rattle.byte_text.specs.Texts.{AreBytes};
 
-use crate::reading::fill_from;
+use crate::reading::{MOST_BYTES, fill_from};
 use arrayvec::ArrayVec;
 use request_cards::number_before_comma;
 
@@ -26,7 +26,7 @@ fn unquoted(text: &[u8]) -> &[u8]
 /// may be left out, as spreadsheets leave them out, and the bytes may end in zeros. None where the line is of no
 /// record, and `bytes` may have anything then: where it doesn't begin with a number of 1 to 182,880, without leading
 /// zeros, and a comma, and where what is behind that is no text of bytes, or of more than 254.
-pub fn read_line(line: &[u8], bytes: &mut ArrayVec<u8, 254>) -> Option<u32>
+pub fn read_line(line: &[u8], bytes: &mut ArrayVec<u8, MOST_BYTES>) -> Option<u32>
     ensures found { IfSome result (λ n. (1 ≤ n) × (n ≤ 182880) × IsLineOf line.now n bytes.new.items) }
     ensures none { IsNone result → (n : ℕ) → (bs : List ℕ) → 1 ≤ n → n ≤ 182880 → AreBytes bs → length bs ≤ 254
         → ¬ (IsLineOf line.now n bs) }

@@ -4,6 +4,7 @@ ghost use Rattle.std.specs.Io.KnownBytes.{Appends};
 ghost use Rattle.byte_text.specs.Texts.{record_line};
 
 use crate::putting::{put_behind, put_number, put_text};
+use crate::reading::MOST_BYTES;
 use crate::trimming::trim;
 use arrayvec::ArrayVec;
 use std::io::{self, Write};
@@ -15,7 +16,12 @@ pub const LINE_ROOM: usize = 776;
 /// number, counted from 1, and its bytes up to the last one that isn't 0. It is a line of a file of comma-separated
 /// values, and no quotation mark of it is ever doubled.
 #[inline(always)]
-pub fn put_line(number: u32, bytes: &ArrayVec<u8, 254>, room: &mut [u8], start: usize) -> usize
+pub fn put_line(
+    number: u32,
+    bytes: &ArrayVec<u8, MOST_BYTES>,
+    room: &mut [u8],
+    start: usize,
+) -> usize
     requires { start + 776 ≤ length room.old }
     ensures end { (start ≤ result) × (result ≤ start + 776) }
     ensures written { take result room.new ≡ take start room.old ++ record_line number bytes.now.items }
@@ -28,7 +34,11 @@ pub fn put_line(number: u32, bytes: &ArrayVec<u8, 254>, room: &mut [u8], start: 
 
 /// Writes the line of a record, as `put_line` puts it. The writer is handed it at once; an error is the writer's, which
 /// may then have a part of the line.
-pub fn write_line<W: Write>(out: &mut W, number: u32, bytes: &ArrayVec<u8, 254>) -> io::Result<()>
+pub fn write_line<W: Write>(
+    out: &mut W,
+    number: u32,
+    bytes: &ArrayVec<u8, MOST_BYTES>,
+) -> io::Result<()>
     ensures { OnOk result (Appends (W.contents out.old) (W.contents out.new) (record_line number bytes.now.items)) }
 {
     let mut room = [0; LINE_ROOM];

@@ -6,6 +6,7 @@ ghost use Rattle.disk_layout.specs.Fault.{TellsFault};
 
 use crate::access::read_sector;
 use crate::faults::Fault;
+use crate::side::MOST_BLOCKS;
 use crate::visited::Visited;
 use arrayvec::ArrayVec;
 use d64_image::{Place, Sectors};
@@ -20,7 +21,7 @@ use d64_image::{Place, Sectors};
 pub fn walk_as_far<D: Sectors>(
     disk: &mut D,
     first: Place,
-    places: &mut ArrayVec<Place, 720>,
+    places: &mut ArrayVec<Place, MOST_BLOCKS>,
 ) -> Result<u8, Fault>
     ensures walk { IfOk result (λ u. IsWalk (D.history.image disk.old) first places.new.items u) }
     ensures fault { IfErr result (IsDeviceFault (D.history.failed_at disk.new)) }

@@ -22,6 +22,6 @@ pub use directory::{directory_start, map_place, read_directory};
 pub use entries::{padded_name, put_count, relative_entry};
 pub use faults::Fault;
 pub use filling::{DATA, fill};
-pub use side::{POINTERS, POINTERS_AT, SideView, side_bytes};
+pub use side::{MOST_BLOCKS, POINTERS, POINTERS_AT, SideView, side_bytes};
 pub use slot::Slot;
 pub use views::{BamView, DirView, EntryView};

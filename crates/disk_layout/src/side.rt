@@ -9,6 +9,9 @@ use d64_image::Place;
 /// How many data blocks a side sector points to at most.
 pub const POINTERS: usize = 120;
 
+/// How many data blocks a relative file has at most: as many as the pointers of six side sectors.
+pub const MOST_BLOCKS: usize = 720;
+
 /// Where in a side sector its pointers to data blocks stand, two bytes each.
 pub const POINTERS_AT: usize = 16;
 

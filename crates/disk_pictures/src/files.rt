@@ -10,11 +10,11 @@ use crate::drawn_file::DrawnFile;
 use crate::faults::PictureFault;
 use arrayvec::ArrayVec;
 use d64_image::{MemDisk, Place};
-use disk_layout::{EntryView, POINTERS, Slot, walk_as_far};
+use disk_layout::{EntryView, MOST_BLOCKS, POINTERS, Slot, walk_as_far};
 use std::alloc::Global;
 
 /// Room for the sectors of a walk.
-pub(crate) type Places = ArrayVec<Place, 720>;
+pub(crate) type Places = ArrayVec<Place, MOST_BLOCKS>;
 
 /// A list of these places.
 pub(crate) fn list_of(alloc: Global, places: &[Place]) -> Result<Vec<Place>, PictureFault>

@@ -6,7 +6,7 @@ ghost use Rattle.disk_pictures.specs.Texts.{is_fault_at as fault_at, place_of, t
 
 use crate::drawn_file::DrawnFile;
 use d64_image::Place;
-use disk_layout::{EntryView, Fault};
+use disk_layout::{DATA, EntryView, Fault};
 use std::fmt::{self, Display, Formatter};
 
 /// Where a fault is.
@@ -104,7 +104,7 @@ impl DrawnFile {
         requires { IsTrue (has_records (file_in self.now)) }
         ensures { result ≡ records_in (file_in self.now) }
     {
-        let bytes = 254 * self.blocks.len().saturating_sub(1) + (self.last as usize).max(1) - 1;
+        let bytes = DATA * self.blocks.len().saturating_sub(1) + (self.last as usize).max(1) - 1;
         bytes / EntryView::new(&self.slot.bytes).record_length() as usize
     }
 }

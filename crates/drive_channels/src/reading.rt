@@ -15,6 +15,7 @@ use crate::known::Known;
 use crate::status::Status;
 use arrayvec::ArrayVec;
 use d64_image::Sectors;
+use disk_layout::DATA;
 use rel_records::{RelFault, read_record};
 
 /// How many of the bytes there are up to the last one that isn't 00, and 1 where there is none.
@@ -35,7 +36,7 @@ fn end_of(bytes: &[u8]) -> usize
 }
 
 /// Fills a list with these bytes.
-fn copy(from: &[u8], to: &mut ArrayVec<u8, 254>)
+fn copy(from: &[u8], to: &mut ArrayVec<u8, DATA>)
     requires fits { length from.now ≤ 254 }
     ensures { to.new.items ≡ from.now }
 {
@@ -55,7 +56,7 @@ fn rest_of(bytes: &[u8], from: usize) -> &[u8]
 
 /// Gives the bytes from this position on, counted from 1, up to the last one that isn't 00, or one 00 where there is
 /// none.
-fn give(bytes: &[u8], position: u8, to: &mut ArrayVec<u8, 254>)
+fn give(bytes: &[u8], position: u8, to: &mut ArrayVec<u8, DATA>)
     requires low { 0 < position }
     requires within { position ≤ length bytes.now }
     requires fits { length bytes.now ≤ 254 }
@@ -71,7 +72,7 @@ fn read_at<D: Sectors>(
     disk: &mut D,
     found: &Found,
     spot: &mut Spot,
-    to: &mut ArrayVec<u8, 254>,
+    to: &mut ArrayVec<u8, DATA>,
 ) -> Result<Status, Dead>
     requires found { IsFound (D.history.image disk.old) found.now }
     requires spot { IsSpot found.now spot.old }
@@ -100,7 +101,7 @@ impl Known {
         &mut self,
         disk: &mut D,
         channel: u8,
-        to: &mut ArrayVec<u8, 254>,
+        to: &mut ArrayVec<u8, DATA>,
     ) -> Result<Status, Dead>
         requires known { IsKnown (D.history.image disk.old) self.old }
         ensures { ReadsOn D.history disk.old disk.new self.old self.new channel to.new.items result }
@@ -123,7 +124,7 @@ impl<D: Sectors> Drive<D> {
     /// that isn't open: 61. Then nothing is given. At most three sectors are read.
     ///
     /// A drive that is dead gives nothing; where the device fails in this call, what is given is any bytes.
-    pub fn read(&mut self, channel: u8, to: &mut ArrayVec<u8, 254>) -> Result<(), Dead>
+    pub fn read(&mut self, channel: u8, to: &mut ArrayVec<u8, DATA>) -> Result<(), Dead>
         ensures serves { Serves D.history self.old self.new result }
         ensures row { OnOk result
             (Reads (view_of D.history self.old) channel to.new.items (view_of D.history self.new)) }

@@ -22,6 +22,9 @@ use drive_channels::Dead;
 use request_cards::{Answer, Request, RequestCard};
 use std::marker::Model;
 
+/// How many items a shop has at most: as many as the largest file has records.
+pub(crate) const ITEMS: usize = 10160;
+
 /// An open ledger: a shop on a disk.
 ///
 /// What the disk holds is kept here as well, so that a repeat, a refused request and a decision read no sector. Once
@@ -34,8 +37,8 @@ pub struct Session<D: Sectors> {
     pub(crate) tills: u8,
     /// Whether the device failed.
     pub(crate) dead: bool,
-    /// The quantity on hand of each item, from item 1 on; as many as the largest file has records.
-    pub(crate) cards: [Option<u32>; 10160],
+    /// The quantity on hand of each item, from item 1 on.
+    pub(crate) cards: [Option<u32>; ITEMS],
     /// The card of each till, from till 1 on.
     pub(crate) requests: [Option<RequestCard>; 64],
 }
@@ -127,7 +130,7 @@ impl<D: Sectors> Session<D> {
 }
 
 /// The quantity that a table of cards holds for an item.
-pub(crate) fn on_hand(cards: &[Option<u32>; 10160], item: u16) -> Option<u32>
+pub(crate) fn on_hand(cards: &[Option<u32>; ITEMS], item: u16) -> Option<u32>
     ensures value { result ≡ nth cards.now item }
     ensures within { IfSome result (λ _. IsInTable item) }
 {
@@ -135,7 +138,7 @@ pub(crate) fn on_hand(cards: &[Option<u32>; 10160], item: u16) -> Option<u32>
         return None;
     }
     let place = usize::from(item) - 1;
-    if place < 10160 { cards[place] } else { None }
+    if place < ITEMS { cards[place] } else { None }
 }
 
 /// The card that a table of request cards holds for a till.

@@ -11,7 +11,7 @@ use crate::faults::KeepFault;
 use crate::output::put;
 use arrayvec::ArrayVec;
 use d64_image::{MemDisk, Place, Sectors};
-use disk_layout::{EntryView, Fault, Slot, walk_chain};
+use disk_layout::{EntryView, Fault, MOST_BLOCKS, Slot, walk_chain};
 use std::io::Write;
 
 /// Whether the entry names no block and may do so: its file has no bytes then.
@@ -27,7 +27,7 @@ fn names_no_block(slot: &Slot) -> bool
 pub(crate) fn walk_file(
     disk: &mut MemDisk,
     slot: &Slot,
-    blocks: &mut ArrayVec<Place, 720>,
+    blocks: &mut ArrayVec<Place, MOST_BLOCKS>,
 ) -> Result<u8, Fault>
     ensures ok { IfOk result (HasFileBlocks (disk_image disk.old) slot.now blocks.new.items) }
     ensures err { IfErr result (HoldsOfFile (disk_image disk.old) slot.now) }

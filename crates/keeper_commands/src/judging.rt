@@ -12,6 +12,7 @@ use crate::faults::KeepFault;
 use crate::last_lines::LastLines;
 use arrayvec::ArrayVec;
 use byte_text::read_line;
+use disk_layout::DATA;
 use rel_records::{RelFile, blocks_for, has_records};
 use script_lines::next_line;
 
@@ -32,7 +33,7 @@ fn has_room(file: &RelFile, bytes: &[u8]) -> bool
 
 /// The number of the record that the line is of, where the file has this record or can have it, and its bytes fit.
 /// `bytes` is room for them.
-fn number_of(line: &[u8], file: &RelFile, bytes: &mut ArrayVec<u8, 254>) -> Option<u32>
+fn number_of(line: &[u8], file: &RelFile, bytes: &mut ArrayVec<u8, DATA>) -> Option<u32>
     ensures found { IfSome result (λ number. (bs : List ℕ) × IsLineOf line.now number bs
         × CanStore (length_of file.now) (records_in file.now) (new_record number bs)) }
     ensures none { IsNone result → (x : NewRecord) → CanStore (length_of file.now) (records_in file.now) x

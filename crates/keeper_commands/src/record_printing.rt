@@ -16,6 +16,7 @@ use crate::output::{flush, put};
 use arrayvec::ArrayVec;
 use byte_text::{LINE_ROOM, put_line};
 use d64_image::MemDisk;
+use disk_layout::DATA;
 use rel_records::{LastBlock, RelFault, RelFile, find, read_next, records};
 use std::alloc::Global;
 use std::io::Write;
@@ -30,7 +31,7 @@ fn gather_line(
     disk: &mut MemDisk,
     file: &RelFile,
     last: &mut LastBlock,
-    bytes: &mut ArrayVec<u8, 254>,
+    bytes: &mut ArrayVec<u8, DATA>,
     number: u32,
     room: &mut [u8; ROOM],
     start: usize,

@@ -21,6 +21,7 @@ use crate::last_lines::LastLines;
 use arrayvec::ArrayVec;
 use byte_text::{read_line, trim, write_line};
 use d64_image::Sectors;
+use disk_layout::DATA;
 use rel_records::{RelFile, read_record, write_record};
 use script_lines::next_line;
 use std::io::Write;
@@ -60,7 +61,7 @@ fn read_last(
     line: &[u8],
     place: usize,
     last: &LastLines,
-    bytes: &mut ArrayVec<u8, 254>,
+    bytes: &mut ArrayVec<u8, DATA>,
 ) -> Option<u32>
     ensures found { IfSome result (λ n. (1 ≤ n) × (n ≤ 182880) × IsLineOf line.now n bytes.new.items
         × (slice_index last.now.places.items n ≡ place)) }
@@ -83,7 +84,7 @@ fn store_line<D: Sectors, W: Write>(
     line: &[u8],
     place: usize,
     last: &LastLines,
-    bytes: &mut ArrayVec<u8, 254>,
+    bytes: &mut ArrayVec<u8, DATA>,
     out: &mut W,
 ) -> Result<(), KeepFault>
     requires clean { IsClean (D.history.image disk.old) }

@@ -9,14 +9,14 @@ ghost use Rattle.layout_check.specs.SurveyedEntry.{ClaimsBlocks};
 use crate::owners::{NOBODY, Owners};
 use arrayvec::ArrayVec;
 use d64_image::{Place, Sectors};
-use disk_layout::{EntryView, Fault, Slot, read_sector, walk_chain};
+use disk_layout::{EntryView, Fault, MOST_BLOCKS, Slot, read_sector, walk_chain};
 
 /// Follows the chain of a closed entry that names a first block, and fills `blocks` with its sectors in order. The
 /// answer is the index of the last used byte in the last one.
 pub(crate) fn survey_blocks<D: Sectors>(
     disk: &mut D,
     slot: &Slot,
-    blocks: &mut ArrayVec<Place, 720>,
+    blocks: &mut ArrayVec<Place, MOST_BLOCKS>,
 ) -> Result<u8, Fault>
     requires closed { IsClosed (D.history.image disk.old) slot.now.sector slot.now }
     requires names { IsTrue (is_rel slot.now) ⊎ (slice_index slot.now.bytes 3 ≢ 0) }
@@ -61,7 +61,7 @@ pub(crate) fn claim_blocks<D: Sectors>(
     slot: &Slot,
     number: u8,
     owners: &mut Owners,
-    places: &mut ArrayVec<Place, 720>,
+    places: &mut ArrayVec<Place, MOST_BLOCKS>,
 ) -> Result<u8, Fault>
     requires closed { IsClosed (D.history.image disk.old) slot.now.sector slot.now }
     requires names { IsTrue (is_rel slot.now) ⊎ (slice_index slot.now.bytes 3 ≢ 0) }

@@ -13,7 +13,7 @@ use crate::parts::Parts;
 use crate::sides::survey_sides;
 use arrayvec::ArrayVec;
 use d64_image::{Place, Sectors};
-use disk_layout::{EntryView, Fault, Slot};
+use disk_layout::{EntryView, Fault, MOST_BLOCKS, Slot};
 
 /// The file of an entry that isn't relative and names a first block: its chain.
 fn survey_plain<D: Sectors>(
@@ -21,7 +21,7 @@ fn survey_plain<D: Sectors>(
     slot: &Slot,
     number: u8,
     owners: &mut Owners,
-    blocks: &mut ArrayVec<Place, 720>,
+    blocks: &mut ArrayVec<Place, MOST_BLOCKS>,
 ) -> Result<(), Fault>
     requires closed { IsClosed (D.history.image disk.old) slot.now.sector slot.now }
     requires proper { IsProper slot.now }

@@ -2,12 +2,13 @@
 
 use arrayvec::ArrayVec;
 use d64_image::Place;
+use disk_layout::MOST_BLOCKS;
 
 /// The data blocks and the side sectors of a relative entry, each in order. The room is used again from entry to entry.
 #[derive(Drop)]
 pub(crate) struct Parts {
     /// Its data blocks.
-    pub(crate) blocks: ArrayVec<Place, 720>,
+    pub(crate) blocks: ArrayVec<Place, MOST_BLOCKS>,
     /// Its side sectors.
     pub(crate) sides: ArrayVec<Place, 6>,
 }

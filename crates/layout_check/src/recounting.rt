@@ -16,7 +16,8 @@ use crate::sides::find_parts;
 use arrayvec::ArrayVec;
 use d64_image::{Place, Sectors};
 use disk_layout::{
-    EntryView, Fault, Slot, directory_start, put_count, read_sector, walk_chain, write_other,
+    EntryView, Fault, MOST_BLOCKS, Slot, directory_start, put_count, read_sector, walk_chain,
+    write_other,
 };
 
 /// How many sectors a relative entry of a sound disk owns: its data blocks and its side sectors. `parts` is filled
@@ -90,7 +91,10 @@ fn mend_sector<D: Sectors>(disk: &mut D, place: Place, parts: &mut Parts) -> Res
 }
 
 /// Finds the sectors of a directory that is right, in order.
-fn find_directory<D: Sectors>(disk: &mut D, places: &mut ArrayVec<Place, 720>) -> Result<(), Fault>
+fn find_directory<D: Sectors>(
+    disk: &mut D,
+    places: &mut ArrayVec<Place, MOST_BLOCKS>,
+) -> Result<(), Fault>
     requires { (ps : List Place) × (slots : List Slot) × IsDirectory (D.history.image disk.old) ps slots }
     ensures directory { OnOk result
         ((ps : List Place) (slots : List Slot) → IsDirectory (D.history.image disk.old) ps slots

@@ -13,13 +13,13 @@ use crate::owners::Owners;
 use crate::parts::Parts;
 use arrayvec::ArrayVec;
 use d64_image::{Place, Sectors};
-use disk_layout::{Fault, Slot, directory_start, read_directory, walk_chain};
+use disk_layout::{Fault, MOST_BLOCKS, Slot, directory_start, read_directory, walk_chain};
 
 /// Lists the entries of the directory, and its sectors.
 fn survey_directory<D: Sectors>(
     disk: &mut D,
     slots: &mut ArrayVec<Slot, 144>,
-    places: &mut ArrayVec<Place, 720>,
+    places: &mut ArrayVec<Place, MOST_BLOCKS>,
 ) -> Result<(), Fault>
     ensures directory { OnOk result (IsDirectory (D.history.image disk.old) places.new.items slots.new.items) }
     ensures ok { OnOk result (Passes D.history disk.old disk.new (18 + length places.new.items)) }

@@ -39,7 +39,7 @@ fn overwrite(bytes: &mut [u8], here: &[u8], there: &[u8])
 // In line: where a record lies in one block, the compiler knows there that the second part is empty.
 #[inline(always)]
 pub(crate) fn fill_record(
-    text: &mut ArrayVec<u8, 254>,
+    text: &mut ArrayVec<u8, DATA>,
     first: &[u8; 256],
     second: &[u8; 256],
     start: usize,
@@ -99,7 +99,7 @@ fn read_across<D: Sectors>(
     first: &[u8; 256],
     start: usize,
     size: usize,
-    text: &mut ArrayVec<u8, 254>,
+    text: &mut ArrayVec<u8, DATA>,
 ) -> Result<(), RelFault>
     requires named { IsSome (named_at first.now 0) }
     requires start { start < 254 }
@@ -121,7 +121,7 @@ fn read_there<D: Sectors>(
     disk: &mut D,
     file: &RelFile,
     number: u32,
-    text: &mut ArrayVec<u8, 254>,
+    text: &mut ArrayVec<u8, DATA>,
 ) -> Result<(), RelFault>
     requires of { IsOf (D.history.image disk.old) file.now }
     requires low { 1 ≤ number }
@@ -148,7 +148,7 @@ pub fn read_record<D: Sectors>(
     disk: &mut D,
     file: &RelFile,
     number: u32,
-    text: &mut ArrayVec<u8, 254>,
+    text: &mut ArrayVec<u8, DATA>,
 ) -> Result<(), RelFault>
     requires of { IsOf (D.history.image disk.old) file.now }
     // its side sector, and the one or two blocks where it lies

@@ -4,7 +4,7 @@ ghost use Rattle.disk_layout.specs.Layout.{sides_for};
 ghost use Rattle.rel_records.specs.File.{IsLength};
 ghost use Rattle.rel_records.specs.growth.Growth as growth;
 
-use disk_layout::{DATA, POINTERS};
+use disk_layout::{DATA, MOST_BLOCKS, POINTERS};
 
 /// The bytes of data of a block, as bytes of a file are counted.
 pub(crate) const BLOCK: u32 = DATA as u32;
@@ -44,7 +44,7 @@ pub fn blocks_for(number: u32, length: u8) -> Option<u16>
         return None;
     }
     let needed = (number * length as u32 + BLOCK - 1) / BLOCK;
-    if needed > 720 {
+    if needed > MOST_BLOCKS as u32 {
         return None;
     }
     Some(needed as u16)

@@ -6,7 +6,7 @@ ghost use Rattle.request_cards.specs.CardTexts.{IsEntry};
 ghost use Rattle.request_cards.specs.Ledgers.{entry_of, number_of, standing};
 ghost use Rattle.request_cards.specs.Trade.{cards_after, put};
 
-use crate::session::{card_of, newest_of, on_hand};
+use crate::session::{ITEMS, card_of, newest_of, on_hand};
 use request_cards::{
     Answer, Outcome, Request, RequestCard, Standing, decide, room_for, standing_of,
 };
@@ -35,7 +35,7 @@ pub(crate) fn standing_by(
 
 /// What the trade rule makes of a request by a table of quantities, where `top` is the last item that a new card may
 /// have.
-pub(crate) fn decided(cards: &[Option<u32>; 10160], top: u16, request: &Request) -> Outcome
+pub(crate) fn decided(cards: &[Option<u32>; ITEMS], top: u16, request: &Request) -> Outcome
     requires top { top ≤ 10160 }
     ensures rule { result ≡ traded (nth cards.now) top request.now.body }
     // the table has places for the new quantities
@@ -66,7 +66,7 @@ pub(crate) fn next_card(
 }
 
 /// Puts an item's new quantity into the table, where there is one.
-fn renew_quantity(cards: &mut [Option<u32>; 10160], item: u16, quantity: Option<u32>)
+fn renew_quantity(cards: &mut [Option<u32>; ITEMS], item: u16, quantity: Option<u32>)
     requires item { IfSome quantity (λ _. IsInTable item) }
     ensures { nth cards.new ≡ cards_after (nth cards.old) item quantity }
 {
@@ -86,7 +86,7 @@ fn renew_till(requests: &mut [Option<RequestCard>; 64], till: u8, card: RequestC
 
 /// Puts what a request changed into the tables: the new quantities, and its till's card.
 pub(crate) fn renew(
-    cards: &mut [Option<u32>; 10160],
+    cards: &mut [Option<u32>; ITEMS],
     requests: &mut [Option<RequestCard>; 64],
     request: &Request,
     outcome: &Outcome,

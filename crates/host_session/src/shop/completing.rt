@@ -15,7 +15,7 @@ use crate::shop::putting::{put_answer, put_card};
 use crate::shop::shop_drive::ShopDrive;
 use d64_image::Sectors;
 use drive_channels::Dead;
-use request_cards::{RequestCard, StockCard};
+use request_cards::{REQUEST_CARD_LENGTH, RequestCard, StockCard};
 
 /// The card of an intent once it is answered, in version 2.
 pub(crate) fn answered(card: &RequestCard) -> RequestCard
@@ -30,7 +30,7 @@ pub(crate) fn answered(card: &RequestCard) -> RequestCard
 }
 
 /// Makes the text of a card of version 2 that of the same card with its intent answered.
-pub(crate) fn mark_answered(text: &mut [u8; 127])
+pub(crate) fn mark_answered(text: &mut [u8; REQUEST_CARD_LENGTH])
     ensures { (c : Card) → c.version ≡ 2 → text.old ≡ card_text c → text.new ≡ card_text (answered_card c) }
 {
     text[1] = b'A';
@@ -84,7 +84,7 @@ pub(crate) fn complete_with<D: Sectors>(
     drive: &mut ShopDrive<D>,
     till: u8,
     card: &RequestCard,
-    text: &[u8; 127],
+    text: &[u8; REQUEST_CARD_LENGTH],
 ) -> Result<(), Dead>
     requires ready { IsReady D.history drive.old }
     requires intent { (f : Files) × HasFiles (D.history.image drive.old.disk) f × HasIntent f till card.now }

@@ -10,6 +10,7 @@ ghost use Rattle.host_session.specs.shop.Judged.{IsJudgedItem, IsJudgedTill, IsN
 ghost use Rattle.rel_records.specs.reading.Kept.{IsKept};
 
 use crate::faults::OpenFault;
+use crate::session::ITEMS;
 use crate::shop::finding::{LedgerFiles, find_files};
 use crate::shop::intents::{
     Intent, NewQuantities, given_by, new_quantities, new_quantity, open_intent, passes,
@@ -17,6 +18,7 @@ use crate::shop::intents::{
 use crate::shop::reading::{Held, read_item, read_till};
 use arrayvec::ArrayVec;
 use d64_image::Sectors;
+use disk_layout::DATA;
 use rel_records::{LastBlock, records};
 use request_cards::RequestCard;
 
@@ -28,7 +30,7 @@ pub struct Judged {
     /// How many tills there are.
     pub(crate) tills: u8,
     /// The quantity on hand of each item, from item 1 on, as it is once the open intent is completed.
-    pub(crate) cards: [Option<u32>; 10160],
+    pub(crate) cards: [Option<u32>; ITEMS],
     /// The card of each till, from till 1 on.
     pub(crate) requests: [Option<RequestCard>; 64],
     /// The open intent, which is one of these cards.
@@ -43,7 +45,7 @@ impl Judged {
         Judged {
             top: 0,
             tills: 0,
-            cards: [None; 10160],
+            cards: [None; ITEMS],
             requests: [None; 64],
             intent: None,
         }
@@ -55,7 +57,7 @@ fn judge_till<D: Sectors>(
     disk: &mut D,
     files: &LedgerFiles,
     last: &mut LastBlock,
-    text: &mut ArrayVec<u8, 254>,
+    text: &mut ArrayVec<u8, DATA>,
     till: u8,
 ) -> Result<Option<Option<RequestCard>>, OpenFault>
     requires of { (f : Files) × AreFilesOf (D.history.image disk.old) f files.now }
@@ -111,7 +113,7 @@ fn judge_item<D: Sectors>(
     disk: &mut D,
     files: &LedgerFiles,
     last: &mut LastBlock,
-    text: &mut ArrayVec<u8, 254>,
+    text: &mut ArrayVec<u8, DATA>,
     new: &NewQuantities,
     item: u16,
 ) -> Result<Option<Option<u32>>, OpenFault>
@@ -146,7 +148,7 @@ fn read_stock<D: Sectors>(
     disk: &mut D,
     files: &LedgerFiles,
     new: &NewQuantities,
-    cards: &mut [Option<u32>; 10160],
+    cards: &mut [Option<u32>; ITEMS],
 ) -> Result<(), OpenFault>
     requires of { (f : Files) × AreFilesOf (D.history.image disk.old) f files.now × HasJudgedTills f new.now }
     requires none { cards.old ≡ replicate 10160 None }
@@ -158,7 +160,7 @@ fn read_stock<D: Sectors>(
 {
     let mut last = LastBlock::none();
     let mut text = ArrayVec::new();
-    for place in 0..10160u16 {
+    for place in 0..ITEMS as u16 {
         match judge_item(disk, files, &mut last, &mut text, new, place + 1)? {
             Some(quantity) => cards[usize::from(place)] = quantity,
             None => return Ok(()),

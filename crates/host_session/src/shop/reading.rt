@@ -12,8 +12,9 @@ use crate::faults::OpenFault;
 use crate::shop::finding::LedgerFiles;
 use arrayvec::ArrayVec;
 use d64_image::Sectors;
+use disk_layout::DATA;
 use rel_records::{LastBlock, RelFault, read_next};
-use request_cards::{RequestCard, StockCard};
+use request_cards::{REQUEST_CARD_LENGTH, RequestCard, STOCK_CARD_LENGTH, StockCard};
 
 /// What a record holds.
 #[derive(Clone, Copy)]
@@ -66,7 +67,7 @@ pub(crate) fn read_till<D: Sectors>(
     disk: &mut D,
     files: &LedgerFiles,
     last: &mut LastBlock,
-    text: &mut ArrayVec<u8, 254>,
+    text: &mut ArrayVec<u8, DATA>,
     till: u8,
 ) -> Result<Option<Held<RequestCard>>, OpenFault>
     requires of { (f : Files) × AreFilesOf (D.history.image disk.old) f files.now }
@@ -78,7 +79,10 @@ pub(crate) fn read_till<D: Sectors>(
 {
     match read_next(disk, &files.requests, last, u32::from(till), text) {
         Ok(()) => {
-            let bytes = text.as_slice().first_chunk::<127>().unwrap();
+            let bytes = text
+                .as_slice()
+                .first_chunk::<REQUEST_CARD_LENGTH>()
+                .unwrap();
             Ok(Some(what_is_held(RequestCard::parse(bytes), bytes)))
         }
         Err(RelFault::NotPresent) => Ok(None),
@@ -93,7 +97,7 @@ fn item_held(bytes: &[u8]) -> Held<StockCard>
     requires { length bytes.now ≡ 18 }
     ensures { Tells stock_card_of 18 bytes.now result }
 {
-    let bytes = bytes.first_chunk::<18>().unwrap();
+    let bytes = bytes.first_chunk::<STOCK_CARD_LENGTH>().unwrap();
     what_is_held(StockCard::parse(bytes), bytes)
 }
 
@@ -104,7 +108,7 @@ fn read_item_next<D: Sectors>(
     disk: &mut D,
     files: &LedgerFiles,
     last: &mut LastBlock,
-    text: &mut ArrayVec<u8, 254>,
+    text: &mut ArrayVec<u8, DATA>,
     item: u16,
 ) -> Result<Option<Held<StockCard>>, OpenFault>
     requires of { (f : Files) × AreFilesOf (D.history.image disk.old) f files.now }
@@ -128,7 +132,7 @@ pub(crate) fn read_item<D: Sectors>(
     disk: &mut D,
     files: &LedgerFiles,
     last: &mut LastBlock,
-    text: &mut ArrayVec<u8, 254>,
+    text: &mut ArrayVec<u8, DATA>,
     item: u16,
 ) -> Result<Option<Held<StockCard>>, OpenFault>
     requires of { (f : Files) × AreFilesOf (D.history.image disk.old) f files.now }

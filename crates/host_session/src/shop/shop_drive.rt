@@ -18,6 +18,7 @@ ghost use Rattle.rel_records.specs.growth.Growth.{records_had};
 
 use d64_image::Sectors;
 use drive_channels::{Dead, Drive};
+use request_cards::{REQUEST_CARD_LENGTH, STOCK_CARD_LENGTH};
 use std::marker::Model;
 
 /// One of the two files of a shop.
@@ -44,8 +45,8 @@ impl ShopFile {
         ensures { result ≡ length_of self }
     {
         match self {
-            ShopFile::Stock => 18,
-            ShopFile::Requests => 127,
+            ShopFile::Stock => STOCK_CARD_LENGTH as u8,
+            ShopFile::Requests => REQUEST_CARD_LENGTH as u8,
         }
     }
 }

@@ -13,10 +13,10 @@ use crate::growth::step_parts::Parts;
 use crate::rel_file::RelFile;
 use arrayvec::ArrayVec;
 use d64_image::{DeviceFault, Place, Sectors};
-use disk_layout::{Bam, POINTERS, SideView};
+use disk_layout::{Bam, MOST_BLOCKS, POINTERS, SideView};
 
 /// Lists behind the others the first `count` data blocks that a side sector points to.
-fn list_blocks(bytes: &[u8; 256], count: usize, blocks: &mut ArrayVec<Place, 720>)
+fn list_blocks(bytes: &[u8; 256], count: usize, blocks: &mut ArrayVec<Place, MOST_BLOCKS>)
     requires few { count ≤ 120 }
     requires room { length blocks.old.items + count ≤ 720 }
     requires named { (qs : List Place) × (length qs ≡ count) × NamesEach bytes.now 16 qs }
@@ -34,7 +34,7 @@ fn read_places<D: Sectors>(
     disk: &mut D,
     file: &RelFile,
     sides: &mut ArrayVec<Place, 6>,
-    blocks: &mut ArrayVec<Place, 720>,
+    blocks: &mut ArrayVec<Place, MOST_BLOCKS>,
 ) -> Result<(), DeviceFault>
     requires of { IsOf (D.history.image disk.old) file.now }
     requires no_sides { sides.old.items ≡ [] }

@@ -3,7 +3,7 @@ ghost use Rattle.std.specs.Prelude.{◌<◌, ◌≤◌};
 
 use arrayvec::ArrayVec;
 use d64_image::Place;
-use disk_layout::Bam;
+use disk_layout::{Bam, MOST_BLOCKS};
 
 /// What growth keeps in memory between two blocks, so that a block more needs no read: the map, and of the file its
 /// slot's place, its record length, its side sectors, its data blocks, the bytes of the last of them, and those of the
@@ -15,7 +15,7 @@ pub(crate) struct Parts {
     pub(crate) number: u8,
     pub(crate) size: u8,
     pub(crate) sides: ArrayVec<Place, 6>,
-    pub(crate) blocks: ArrayVec<Place, 720>,
+    pub(crate) blocks: ArrayVec<Place, MOST_BLOCKS>,
     pub(crate) last: [u8; 256],
     pub(crate) directory: [u8; 256],
     ghost eight: { number < 8 },

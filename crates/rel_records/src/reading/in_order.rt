@@ -130,7 +130,7 @@ fn next_there<D: Sectors>(
     file: &RelFile,
     last: &mut LastBlock,
     number: u32,
-    text: &mut ArrayVec<u8, 254>,
+    text: &mut ArrayVec<u8, DATA>,
 ) -> Result<(), RelFault>
     requires of { IsOf (D.history.image disk.old) file.now }
     requires kept { IsKept (D.history.image disk.old) file.now last.old }
@@ -164,7 +164,7 @@ pub fn read_next<D: Sectors>(
     file: &RelFile,
     last: &mut LastBlock,
     number: u32,
-    text: &mut ArrayVec<u8, 254>,
+    text: &mut ArrayVec<u8, DATA>,
 ) -> Result<(), RelFault>
     requires of { IsOf (D.history.image disk.old) file.now }
     requires kept { IsKept (D.history.image disk.old) file.now last.old }
