@@ -8,7 +8,7 @@ ghost use Rattle.request_cards.specs.Texts.{answer_text};
 use crate::bytes::{put, put_line};
 use crate::faults::RunFault;
 use itoa::write_digits;
-use request_cards::{Answer, Request};
+use request_cards::{Answer, Request, write_before};
 use std::fmt::{self, Display, Formatter};
 use std::io::Write;
 
@@ -41,17 +41,6 @@ pub(crate) fn put_top<W: Write>(out: &mut W, top: u16) -> Result<(), RunFault>
         return Err(RunFault::File);
     }
     Ok(())
-}
-
-/// Writes the text so that it ends at `end`, and returns where it starts.
-fn write_before(text: &[u8], room: &mut [u8], end: usize) -> usize
-    requires { (length text.now ≤ end) × (end ≤ length room.old) }
-    ensures start { result + length text.now ≡ end }
-    ensures written { drop result room.new ≡ text.now ++ drop end room.old }
-{
-    let start = end - text.len();
-    room[start..end].copy_from_slice(text);
-    start
 }
 
 /// Writes the number behind this text, so that it ends at `end`, and returns where the text starts.
