@@ -1,5 +1,5 @@
 //! Names without their padding.
-ghost use Rattle.std.specs.Prelude.{◌≡◌, ◌≢◌, ◌⊎◌, ◌≤◌, ◌-◌, ◌<◌, ℕ, length, slice_index, slice_range};
+ghost use Rattle.std.specs.Prelude.{◌≡◌, ◌≢◌, ◌⊎◌, ◌≤◌, ◌-◌, ◌<◌, ℕ, length, slice_index};
 ghost use Rattle.disk_pictures.specs.Names.{disk_name, name_of, unpadded};
 
 use disk_layout::Slot;

@@ -1,5 +1,5 @@
 //! An image taken into memory, drawn and judged.
-ghost use Rattle.std.specs.Prelude.{◌≡◌, ◌≢◌, IfErr, IfOk};
+ghost use Rattle.std.specs.Prelude.{◌≢◌, IfErr, IfOk};
 ghost use Rattle.d64_image.specs.Memory.{disk_image};
 ghost use Rattle.disk_pictures.specs.Outcomes.{IsJudged, IsPictureFault, IsVerdict};
 ghost use Rattle.disk_pictures.specs.declared.faults.PictureFault.TheVariants as faults;

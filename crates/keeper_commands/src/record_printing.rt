@@ -1,5 +1,5 @@
 //! The records of a relative file, as they are printed.
-ghost use Rattle.std.specs.Prelude.{◌≡◌, ◌≢◌, ◌≤◌, ◌+◌, ◌-◌, ◌++◌, ℕ, List, [], IfErr, IfOk, OnOk, get_or, length};
+ghost use Rattle.std.specs.Prelude.{◌≡◌, ◌≢◌, ◌≤◌, ◌+◌, ◌-◌, ◌++◌, [], IfErr, IfOk, OnOk, get_or, length};
 ghost use Rattle.std.specs.Prelude.{take};
 ghost use Rattle.std.specs.Io.KnownBytes.{Appends};
 ghost use Rattle.d64_image.specs.Memory.{disk_image};

@@ -1,5 +1,5 @@
 //! Records stored from their lines in a relative file.
-ghost use Rattle.std.specs.Prelude.{◌≡◌, ◌≢◌, ◌≤◌, ◌∷◌, [], ℕ, List, IfSome, IsNone, length, slice_index};
+ghost use Rattle.std.specs.Prelude.{◌≡◌, ◌≢◌, ◌≤◌, ℕ, List, IfSome, IsNone, length, slice_index};
 ghost use Rattle.byte_text.specs.Lines.{IsLineOf};
 ghost use Rattle.disk_layout.specs.Clean.{IsClean};
 ghost use Rattle.keeper_commands.specs.Stores.{

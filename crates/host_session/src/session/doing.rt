@@ -1,5 +1,5 @@
 //! A till's next request, kept on the disk.
-ghost use Rattle.std.specs.Prelude.{ℕ, ◌≡◌, ◌≤◌, ◌<◌, ◌+◌, false, is_none, true};
+ghost use Rattle.std.specs.Prelude.{◌≡◌, ◌<◌, ◌+◌, false, is_none, true};
 ghost use Rattle.d64_image.specs.History.{IfCounted};
 ghost use Rattle.host_session.specs.session.Handling.{card_writes, kept_writes};
 ghost use Rattle.host_session.specs.session.Keeping.{HasItems, IsEither, IsKeeping, shop_after};

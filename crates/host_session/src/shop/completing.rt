@@ -1,5 +1,5 @@
 //! An open intent completed: its cards whole, and then its answer.
-ghost use Rattle.std.specs.Prelude.{ℕ, ◌≡◌, ◌≤◌, ◌+◌, length};
+ghost use Rattle.std.specs.Prelude.{◌≡◌, ◌≤◌, ◌+◌, length};
 ghost use Rattle.host_session.specs.session.Handling.{card_writes};
 ghost use Rattle.host_session.specs.shop.Completing.{HasIntent, HasResults, IsCompleted, answered_card};
 ghost use Rattle.host_session.specs.shop.Files.{Files, HasFiles};
