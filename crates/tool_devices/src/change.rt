@@ -5,9 +5,11 @@ use d64_image::Place;
 
 /// A sector that was written, and what stood there before.
 #[derive(Clone, Copy)]
-pub(crate) struct Change {
-    pub(crate) place: Place,
-    pub(crate) bytes: [u8; 256],
+pub struct Change {
+    /// Where it was written.
+    pub place: Place,
+    /// What stood there before.
+    pub bytes: [u8; 256],
 }
 
 impl Change {

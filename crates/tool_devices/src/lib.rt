@@ -6,6 +6,7 @@ mod meter;
 mod one_fault;
 mod recorder;
 
+pub use change::Change;
 pub use meter::Meter;
 pub use one_fault::OneFault;
 pub use recorder::Recorder;

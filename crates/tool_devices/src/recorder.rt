@@ -19,7 +19,8 @@ pub struct Recorder<D> {
 impl<D: Sectors> Recorder<D> {
     ghost use Rattle.d64_image.specs.History.{HeldOnly, OldOr, OnlyReads, TellsFailure};
     ghost use Rattle.d64_image.specs.Images.{put, sector};
-    ghost use Rattle.tool_devices.specs.Recorder.{fails_at, image_at, moments_of, recorded, recorder_disk};
+    ghost use Rattle.std.specs.Prelude.{drop, length};
+    ghost use Rattle.tool_devices.specs.Recorder.{fails_at, image_at, moments_of, recorded, recorder_disk, undone};
 
     /// A recorder round a disk. It has recorded nothing yet.
     pub fn new(alloc: Global, disk: D) -> Self
@@ -39,9 +40,21 @@ impl<D: Sectors> Recorder<D> {
     pub fn into_inner(self) -> D
         ensures { result ≡ recorder_disk self }
     {
-        let Recorder { disk, changes, .. } = self;
+        let (disk, changes) = self.into_parts();
         drop(changes);
         disk
+    }
+
+    /// The disk, as it is now, and the changes that it has recorded, the latest one last: undone one by one from there,
+    /// they give each image that it held.
+    pub fn into_parts(self) -> (D, Vec<Change>)
+        ensures disk { result.0 ≡ recorder_disk self }
+        ensures moments { length result.1.items ≡ moments_of self }
+        ensures images { (t : ℕ) → undone (drop t result.1.items) (D.history.image result.0)
+            ≡ image_at D.history self t }
+    {
+        let Recorder { disk, changes, .. } = self;
+        (disk, changes)
     }
 
     /// How many changes it has recorded: the writes that passed, and those that the disk refused once it had read what

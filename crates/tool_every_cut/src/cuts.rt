@@ -2,13 +2,13 @@
 use crate::found::{Found, or_say};
 use crate::ledger::{Kept, Ledger};
 use crate::others::Others;
-use crate::tape::{Tape, Written};
 use crate::tried::{Tried, count};
 use d64_image::{MemDisk, Sectors};
 use host_session::Session;
 use layout_check::check;
 use request_cards::{Reply, Word};
 use std::alloc::Global;
+use tool_devices::{Change, Recorder};
 
 /// The message in which power goes, and its reply where it doesn't.
 #[derive(Clone, Copy)]
@@ -27,9 +27,9 @@ pub(crate) fn copy(alloc: Global, image: &MemDisk) -> Found<MemDisk> {
     )
 }
 
-/// Puts onto a disk what was written.
-pub(crate) fn put(disk: &mut MemDisk, written: &Written) -> Found<()> {
-    or_say(disk.write(written.place, &written.bytes), "memory failed")
+/// Puts back onto a disk what stood there before a change.
+pub(crate) fn undo(disk: &mut MemDisk, change: &Change) -> Found<()> {
+    or_say(disk.write(change.place, &change.bytes), "memory failed")
 }
 
 /// Sees that a disk is clean; where it isn't, this text.
@@ -40,35 +40,32 @@ pub(crate) fn is_clean(disk: &mut MemDisk, what: &'static str) -> Found<()> {
     }
 }
 
-/// Opens a copy of an image, whose writes are kept.
+/// Opens a copy of an image, whose changes are recorded.
 pub(crate) fn open(
     alloc: Global,
     image: &MemDisk,
     tried: &mut Tried,
-) -> Found<Session<Tape<MemDisk>>> {
+) -> Found<Session<Recorder<MemDisk>>> {
     count(&mut tried.openings);
     let disk = copy(alloc, image)?;
-    match Session::open(Tape::new(alloc, disk)) {
+    match Session::open(Recorder::new(alloc, disk)) {
         Ok(session) => Ok(session),
         Err(_) => Err("an image isn't opened"),
     }
 }
 
-/// Takes the disk back and what was written, which is to keep off other files.
+/// Takes the disk back and its changes, which are to keep off other files.
 pub(crate) fn close(
-    session: Session<Tape<MemDisk>>,
+    session: Session<Recorder<MemDisk>>,
     others: &Others,
-) -> Found<(MemDisk, Vec<Written>)> {
-    let (disk, writes) = session.close().into_parts();
-    let Some(writes) = writes else {
-        return Err("no memory for the writes");
-    };
-    for written in &writes {
-        if others.owns(written.place) {
+) -> Found<(MemDisk, Vec<Change>)> {
+    let (disk, changes) = session.close().into_parts();
+    for change in &changes {
+        if others.owns(change.place) {
             return Err("a sector of another file is written");
         }
     }
-    Ok((disk, writes))
+    Ok((disk, changes))
 }
 
 /// Sends a request again that was answered: it is told its kept answer.
@@ -146,15 +143,15 @@ fn resume(
     is_clean(disk, "a disk isn't clean after its opening")?;
     let mut session = open(alloc, disk, tried)?;
     let sent = send_again(&mut session, asked, ledger, tried);
-    let (mut disk, writes) = close(session, others)?;
+    let (mut disk, changes) = close(session, others)?;
     sent?;
-    if !writes.is_empty() && !ledger.is_new(asked.message) {
+    if !changes.is_empty() && !ledger.is_new(asked.message) {
         return Err("a repeat is written");
     }
     is_clean(&mut disk, "a disk isn't clean after the repeat")
 }
 
-/// Opens an image that stands for this ledger, and goes on from there: what the opening wrote.
+/// Opens an image that stands for this ledger, and goes on from there: the disk behind the opening, and its changes.
 fn settle(
     alloc: Global,
     image: &MemDisk,
@@ -162,15 +159,15 @@ fn settle(
     ledger: &Ledger,
     others: &Others,
     tried: &mut Tried,
-) -> Found<Vec<Written>> {
+) -> Found<(MemDisk, Vec<Change>)> {
     let session = open(alloc, image, tried)?;
     let stands = ledger.is_in(&session);
-    let (mut disk, writes) = close(session, others)?;
+    let (mut disk, changes) = close(session, others)?;
     if !stands {
         return Err("an opening has changed the ledger");
     }
     resume(alloc, &mut disk, asked, ledger, others, tried)?;
-    Ok(writes)
+    Ok((disk, changes))
 }
 
 /// Opens an image that stands for this ledger, and each image that this opening held, so many openings deep.
@@ -183,15 +180,14 @@ pub(crate) fn reopen(
     deep: u32,
     tried: &mut Tried,
 ) -> Found<()> {
-    let writes = settle(alloc, image, asked, ledger, others, tried)?;
+    let (mut held, changes) = settle(alloc, image, asked, ledger, others, tried)?;
     if deep == 0 {
         return Ok(());
     }
-    let mut held = copy(alloc, image)?;
-    for written in &writes {
-        put(&mut held, written)?;
+    for change in changes.iter().rev() {
         count(&mut tried.images);
         reopen(alloc, &held, asked, ledger, others, deep - 1, tried)?;
+        undo(&mut held, change)?;
     }
     Ok(())
 }

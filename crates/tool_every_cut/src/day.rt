@@ -1,15 +1,15 @@
 //! A day of messages, played on a disk, and each image that the disk held on the way.
-use crate::cuts::{Asked, close, copy, open, put, reopen};
+use crate::cuts::{Asked, close, copy, open, reopen, undo};
 use crate::draw::Draw;
 use crate::events::play_events;
 use crate::found::{Found, or_say};
 use crate::ledger::Ledger;
 use crate::others::Others;
-use crate::tape::{Tape, Written};
 use crate::tried::{Tried, count};
 use d64_image::MemDisk;
 use host_session::Session;
 use std::alloc::Global;
+use tool_devices::{Change, Recorder};
 
 /// How many openings are cut behind a message that was cut, one after another, before one that isn't.
 pub(crate) const DEEP: u32 = 2;
@@ -25,29 +25,30 @@ pub(crate) struct Shop {
     pub others: Others,
 }
 
-/// Each image that the disk held while a message was answered: it is the ledger before the message or the one after it,
-/// and from the first write on the one after it where the message makes no card. What it is once it stays.
+/// Each image that the disk held while a message was answered, from the last one back to the one after the first write:
+/// it is the ledger after the message. Where the message makes a card, those before some write may be the ledger before
+/// it, but never the last one. The disk is left as it was before the message.
 fn try_images(
     alloc: Global,
-    shop: &mut Shop,
+    shop: &Shop,
+    disk: &mut MemDisk,
     asked: &Asked<'_>,
     after: &Ledger,
-    writes: &[Written],
+    changes: &[Change],
     tried: &mut Tried,
 ) -> Found<()> {
-    let mut counted = !shop.ledger.is_first_set(asked.message);
-    for written in writes {
-        put(&mut shop.disk, written)?;
+    let makes_card = shop.ledger.is_first_set(asked.message);
+    let mut ledger = after;
+    for (earlier, change) in changes.iter().rev().enumerate() {
         count(&mut tried.images);
-        let session = open(alloc, &shop.disk, tried)?;
+        let session = open(alloc, disk, tried)?;
         let is_after = after.is_in(&session);
         close(session, &shop.others)?;
-        counted = counted || is_after;
-        let ledger = if counted { *after } else { shop.ledger };
-        reopen(alloc, &shop.disk, asked, &ledger, &shop.others, DEEP, tried)?;
-    }
-    if !writes.is_empty() && !counted {
-        return Err("a message isn't counted at its end");
+        if makes_card && earlier > 0 && !is_after {
+            ledger = &shop.ledger;
+        }
+        reopen(alloc, disk, asked, ledger, &shop.others, DEEP, tried)?;
+        undo(disk, change)?;
     }
     Ok(())
 }
@@ -63,18 +64,28 @@ fn play_message(
     let mut session = open(alloc, &shop.disk, tried)?;
     let reply = session.handle(asked.message);
     let stands = after.is_in(&session);
-    let (disk, writes) = close(session, &shop.others)?;
+    let (disk, changes) = close(session, &shop.others)?;
     if reply != asked.reply {
         return Err("a message has another reply");
     }
     if !stands {
         return Err("the ledger is another one after a message");
     }
-    tried.writes = tried.writes.saturating_add(writes.len() as u64);
-    try_images(alloc, shop, asked, after, writes.as_slice(), tried)?;
-    if shop.disk.bytes() != disk.bytes() {
-        return Err("the disk isn't what was written to it");
+    tried.writes = tried.writes.saturating_add(changes.len() as u64);
+    let mut undone = copy(alloc, &disk)?;
+    try_images(
+        alloc,
+        shop,
+        &mut undone,
+        asked,
+        after,
+        changes.as_slice(),
+        tried,
+    )?;
+    if undone.bytes() != shop.disk.bytes() {
+        return Err("the changes of a message, undone, leave another disk");
     }
+    shop.disk = disk;
     shop.ledger = *after;
     Ok(())
 }
@@ -82,7 +93,7 @@ fn play_message(
 /// Plays the messages: each in a session of its own, with each image on the way, and all of them in one session.
 fn play_messages(
     alloc: Global,
-    whole: &mut Session<Tape<MemDisk>>,
+    whole: &mut Session<Recorder<MemDisk>>,
     shop: &mut Shop,
     messages: &[String],
     tried: &mut Tried,
@@ -132,13 +143,13 @@ pub(crate) fn play_day(
     let messages = messages.as_slice();
     play_events(alloc, &shop.disk, &shop.ledger, messages)?;
     let disk = copy(alloc, &shop.disk)?;
-    let Ok(mut whole) = Session::open(Tape::new(alloc, disk)) else {
+    let Ok(mut whole) = Session::open(Recorder::new(alloc, disk)) else {
         return Err("the disk isn't opened");
     };
     let played = play_messages(alloc, &mut whole, shop, messages, tried);
-    let (disk, writes) = close(whole, &shop.others)?;
+    let (disk, changes) = close(whole, &shop.others)?;
     played?;
-    if writes.len() as u64 != tried.writes || disk.bytes() != shop.disk.bytes() {
+    if changes.len() as u64 != tried.writes || disk.bytes() != shop.disk.bytes() {
         return Err("a session that stays open writes other sectors");
     }
     Ok(())

@@ -10,7 +10,6 @@ mod found;
 mod ledger;
 mod old_disk;
 mod others;
-mod tape;
 mod tried;
 
 use bits::turn_each_bit;
