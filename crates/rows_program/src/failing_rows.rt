@@ -1,89 +1,134 @@
 //! Files and outputs that fail while a file is made, stored in or repaired.
-use crate::comparing::{holds, same_at};
-use crate::memory::Memory;
-use crate::scenes::{
-    Bytes, COUNT, End, REPAIR, STORE, WRONG_MAP, Words, bytes_at, changed, ends, put, ran,
-};
-use crate::stored::Kind;
-use crate::stored_rows::{OTHER, PRINTED, TWO, with_cards};
-use std::process::Abort;
+use crate::scenes::each;
 
-const DEVICE: End<'static> = (3, b"", b"DEVICE\n");
+/// Stores where a sync fails.
+const UNSYNCED: &[u8] = b"
+# The shop has the file CARDS, of records of 30 bytes.
+$ ledger_cli make a.d64 CARDS --length 30
+prints MADE|
+written
+keep
 
-/// A runtime with these words, an image and two lines of records.
-fn over(rt: &(impl AllocGlobal + Abort), words: Words, image: &[u8]) -> Memory<'static> {
-    let memory = Memory::new(rt.alloc(), words, b"");
-    put(rt, &memory.image, Kind::Plain, image);
-    put(rt, &memory.script, Kind::Plain, TWO);
-    memory
-}
+script 8,EGGS\r|2,\"MILK\\0d\"|
+sync 1 fails
+$ ledger_cli store a.d64 CARDS s.txt
+tells DEVICE|
+ends 3
+syncs 1
 
-/// Sees that a store ends there where the sync of this number fails.
-fn is_told(rt: &(impl AllocGlobal + Abort), made: &[u8], bad: usize) {
-    let memory = over(rt, STORE, made);
-    memory.image.bad_sync.set(bad);
-    ends(rt, &memory, DEVICE, "a sync that fails");
-    same_at(rt, memory.image.syncs.get(), bad, bad);
-}
+script 8,EGGS\r|2,\"MILK\\0d\"|
+sync 2 fails
+$ ledger_cli store a.d64 CARDS s.txt
+tells DEVICE|
+ends 3
+syncs 2
+";
 
 #[test]
 fn stores_that_fail_are_told(rt: HostRuntime) {
-    let made = with_cards(&rt);
-    is_told(&rt, made.as_slice(), 1);
-    is_told(&rt, made.as_slice(), 2);
+    each(&rt, UNSYNCED);
 }
 
-/// Words, changes of an image with CARDS, and how many bytes its file takes until it fails.
-const BROKEN: [(Words, &[Bytes], usize); 4] = [
-    (REPAIR, &[WRONG_MAP], 0),
-    (REPAIR, &[COUNT, WRONG_MAP], 300),
-    (OTHER, &[], 100),
-    (STORE, &[], 0),
-];
+/// Files that take no more than some bytes.
+const BROKEN: &[u8] = b"
+# The shop has the file CARDS, of records of 30 bytes.
+$ ledger_cli make a.d64 CARDS --length 30
+prints MADE|
+written
+keep
 
-/// Sees that each of these tells of a file that fails.
-fn each_is_broken(rt: &(impl AllocGlobal + Abort), made: &[u8], rows: &[(Words, &[Bytes], usize)]) {
-    for (words, changes, room) in rows {
-        let image = changed(rt, made, *changes);
-        let memory = over(rt, *words, image.as_slice());
-        memory.image.room.set(*room);
-        ends(rt, &memory, DEVICE, "a file that fails");
-        same_at(rt, memory.image.size(), 174848, *room);
-    }
-}
+hurt WRONG MAP
+script 8,EGGS\r|2,\"MILK\\0d\"|
+disk-takes 0 bytes
+$ ledger_cli repair a.d64
+tells DEVICE|
+ends 3
+rewritten
+size 174848
+
+hurt COUNT
+hurt WRONG MAP
+script 8,EGGS\r|2,\"MILK\\0d\"|
+disk-takes 300 bytes
+$ ledger_cli repair a.d64
+tells DEVICE|
+ends 3
+written
+size 174848
+
+script 8,EGGS\r|2,\"MILK\\0d\"|
+disk-takes 100 bytes
+$ ledger_cli make a.d64 OTHER --length 30
+tells DEVICE|
+ends 3
+written
+size 174848
+
+script 8,EGGS\r|2,\"MILK\\0d\"|
+disk-takes 0 bytes
+$ ledger_cli store a.d64 CARDS s.txt
+tells DEVICE|
+ends 3
+rewritten
+size 174848
+";
 
 #[test]
 fn files_that_fail_are_told(rt: HostRuntime) {
-    let made = with_cards(&rt);
-    each_is_broken(&rt, made.as_slice(), &BROKEN);
+    each(&rt, BROKEN);
 }
 
-/// Words, changes of an image with CARDS, and what is printed.
-const UNTOLD: [(Words, &[Bytes], &[u8]); 3] = [
-    (REPAIR, &[WRONG_MAP], b"MENDED 18/0\nOK\n"),
-    (OTHER, &[], b"MADE\n"),
-    (STORE, &[], PRINTED),
-];
+/// Each image is left the same where the output takes nothing.
+const UNTOLD: &[u8] = b"
+# The shop has the file CARDS, of records of 30 bytes.
+$ ledger_cli make a.d64 CARDS --length 30
+prints MADE|
+written
+keep
 
-/// Sees that an image is left the same where the output takes nothing.
-fn each_stays_done(
-    rt: &(impl AllocGlobal + Abort),
-    made: &[u8],
-    rows: &[(Words, &[Bytes], &[u8])],
-) {
-    for (words, changes, printed) in rows {
-        let image = changed(rt, made, *changes);
-        let memory = ran(rt, *words, image.as_slice(), TWO, (0, *printed, b""));
-        let left = bytes_at(rt, &memory.image);
-        let memory = over(rt, *words, image.as_slice());
-        memory.room.set(0);
-        ends(rt, &memory, (3, b"", b"FILE\n"), "a full output");
-        holds(rt, memory.image.holds(left.as_slice()), *printed);
-    }
-}
+hurt WRONG MAP
+script 8,EGGS\r|2,\"MILK\\0d\"|
+$ ledger_cli repair a.d64
+prints MENDED 18/0|OK|
+written
+aside
+
+hurt WRONG MAP
+script 8,EGGS\r|2,\"MILK\\0d\"|
+output-takes 0 bytes
+$ ledger_cli repair a.d64
+tells FILE|
+ends 3
+leaves the one aside
+
+script 8,EGGS\r|2,\"MILK\\0d\"|
+$ ledger_cli make a.d64 OTHER --length 30
+prints MADE|
+written
+aside
+
+script 8,EGGS\r|2,\"MILK\\0d\"|
+output-takes 0 bytes
+$ ledger_cli make a.d64 OTHER --length 30
+tells FILE|
+ends 3
+leaves the one aside
+
+script 8,EGGS\r|2,\"MILK\\0d\"|
+$ ledger_cli store a.d64 CARDS s.txt
+prints 8,\"EGGS\"|2,\"MILK\\0d\"|
+written
+aside
+
+script 8,EGGS\r|2,\"MILK\\0d\"|
+output-takes 0 bytes
+$ ledger_cli store a.d64 CARDS s.txt
+tells FILE|
+ends 3
+leaves the one aside
+";
 
 #[test]
 fn what_was_written_stays(rt: HostRuntime) {
-    let made = with_cards(&rt);
-    each_stays_done(&rt, made.as_slice(), &UNTOLD);
+    each(&rt, UNTOLD);
 }

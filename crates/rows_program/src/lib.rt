@@ -6,8 +6,6 @@
 #[cfg(test)]
 mod advice_rows;
 #[cfg(test)]
-mod comparing;
-#[cfg(test)]
 mod day_rows;
 #[cfg(test)]
 mod failing_rows;
@@ -20,13 +18,13 @@ mod input_rows;
 #[cfg(test)]
 mod job_rows;
 #[cfg(test)]
+mod jobs;
+#[cfg(test)]
 mod keeper_rows;
 #[cfg(test)]
 mod lock_rows;
 #[cfg(test)]
 mod memory;
-#[cfg(test)]
-mod number_rows;
 #[cfg(test)]
 mod opened;
 #[cfg(test)]
@@ -45,7 +43,5 @@ mod told_rows;
 mod value_rows;
 #[cfg(test)]
 mod word_rows;
-#[cfg(test)]
-mod wrong_keeper_rows;
 #[cfg(test)]
 mod wrong_rows;

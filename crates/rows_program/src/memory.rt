@@ -1,4 +1,4 @@
-//! A runtime in memory: the words of a command line, two files, standard input, an output and standard error.
+//! A runtime in memory: two files, standard input, an output and standard error.
 use crate::given::Given;
 use crate::opened::{Opened, open_stored};
 use crate::stored::{Kind, Stored, failed};
@@ -12,18 +12,16 @@ use std::rt::{Env, Files};
 
 /// What a program finds, and what it leaves.
 #[derive(Drop)]
-pub(crate) struct Memory<'a> {
+pub(crate) struct Memory {
     pub(crate) alloc: Global,
-    /// The words of the command line, of which the first is the program's name.
-    pub(crate) words: &'static [&'static [u8]],
     /// What stands at `a.d64`.
     pub(crate) image: Stored,
     /// What stands at `s.txt`.
     pub(crate) script: Stored,
     /// The folder of both.
     pub(crate) folder: Stored,
-    /// Standard input, whether it fails behind these bytes, and whether it was taken: it can be once.
-    pub(crate) input: &'a [u8],
+    /// Standard input, whether it fails behind its bytes, and whether it was taken: it can be once.
+    pub(crate) input: Stored,
     pub(crate) fails: Cell<bool>,
     pub(crate) taken: Cell<bool>,
     pub(crate) out: RefCell<Vec<u8>>,
@@ -31,29 +29,46 @@ pub(crate) struct Memory<'a> {
     pub(crate) room: Cell<usize>,
     pub(crate) prints: Cell<usize>,
     pub(crate) err: RefCell<Vec<u8>>,
+    /// The status that the program ended with.
+    pub(crate) status: Cell<u8>,
 }
 
-impl<'a> Memory<'a> {
-    /// A runtime with these words and this input, no files, and an output without end.
-    pub(crate) fn new(
-        alloc: Global,
-        words: &'static [&'static [u8]],
-        input: &'a [u8],
-    ) -> Memory<'a> {
+impl Memory {
+    /// One where nothing stands, and nothing fails.
+    pub(crate) fn new(alloc: Global) -> Memory {
+        let folder = Stored::new(alloc);
+        folder.kind.set(Kind::Folder);
         Memory {
             alloc,
-            words,
             image: Stored::new(alloc),
             script: Stored::new(alloc),
-            folder: Stored::folder(alloc),
-            input,
+            folder,
+            input: Stored::new(alloc),
             fails: Cell::new(false),
             taken: Cell::new(false),
             out: RefCell::new(Vec::new(alloc)),
             room: Cell::new(usize::MAX),
             prints: Cell::new(0),
             err: RefCell::new(Vec::new(alloc)),
+            status: Cell::new(0),
         }
+    }
+
+    /// Forgets what was done with it.
+    pub(crate) fn forget(&self) {
+        self.image.forget();
+        self.script.forget();
+        self.folder.forget();
+        self.taken.set(false);
+        self.prints.set(0);
+    }
+
+    /// Lets nothing fail any more.
+    pub(crate) fn mend(&self) {
+        self.image.mend();
+        self.folder.mend();
+        self.fails.set(false);
+        self.room.set(usize::MAX);
     }
 }
 
@@ -83,21 +98,29 @@ impl Write for Errors<'_> {
     }
 }
 
-/// The runtime over it.
+/// The runtime over it, with the words of a command line, each but the last ended by a zero, of which the first is the
+/// program's name, and with standard input.
 #[derive(Clone, Copy)]
-pub(crate) struct Runtime<'a>(pub(crate) &'a Memory<'a>);
+pub(crate) struct Runtime<'a> {
+    pub(crate) memory: &'a Memory,
+    pub(crate) words: &'a [u8],
+    pub(crate) input: &'a [u8],
+}
 
 impl Alloc for Runtime<'_> {
     type A = Global;
 
     fn alloc(&self) -> Global {
-        self.0.alloc
+        self.memory.alloc
     }
 }
 
 impl Env for Runtime<'_> {
     fn arg(&self, i: usize, buf: &mut [u8]) -> Result<usize, FillError> {
-        let Some(word) = self.0.words.get(i) else {
+        if self.words.is_empty() {
+            return Err(FillError::NotPresent);
+        }
+        let Some(word) = self.words.split(|byte| *byte == 0).nth(i) else {
             return Err(FillError::NotPresent);
         };
         if word.len() > buf.len() {
@@ -123,9 +146,9 @@ impl<'a> Files for Runtime<'a> {
 
     fn open_file(&self, how: &OpenOptions, path: &str) -> io::Result<Opened<'a>> {
         match path {
-            "a.d64" => open_stored(&self.0.image, how),
-            "s.txt" => open_stored(&self.0.script, how),
-            "." => open_stored(&self.0.folder, how),
+            "a.d64" => open_stored(&self.memory.image, how),
+            "s.txt" => open_stored(&self.memory.script, how),
+            "." => open_stored(&self.memory.folder, how),
             _ => failed(ErrorKind::NotFound),
         }
     }
@@ -179,17 +202,17 @@ impl<'a> Input for Runtime<'a> {
     }
 
     fn reader(&self) -> Given<'a> {
-        if self.0.taken.replace(true) {
+        if self.memory.taken.replace(true) {
             Given::new(&[], false)
         } else {
-            Given::new(self.0.input, self.0.fails.get())
+            Given::new(self.input, self.memory.fails.get())
         }
     }
 }
 
 impl Print for Runtime<'_> {
     fn print<D: Display + Drop>(&self, value: D) -> io::Result<()> {
-        let mut text = String::new(self.0.alloc);
+        let mut text = String::new(self.memory.alloc);
         if write!(text, "{value}").is_err() {
             return failed(ErrorKind::OutOfMemory);
         }
@@ -210,25 +233,29 @@ impl Print for Runtime<'_> {
     }
 
     fn write_some(&self, bytes: &[u8]) -> io::Result<usize> {
-        let taken = bytes.len().min(self.0.room.get());
+        let taken = bytes.len().min(self.memory.room.get());
         if taken == 0 && bytes.len() > 0 {
             return failed(ErrorKind::StorageFull);
         }
-        self.0.room.set(self.0.room.get().saturating_sub(taken));
+        self.memory
+            .room
+            .set(self.memory.room.get().saturating_sub(taken));
         if taken > 0 {
-            self.0.prints.set(self.0.prints.get().saturating_add(1));
+            self.memory
+                .prints
+                .set(self.memory.prints.get().saturating_add(1));
         }
-        add(&self.0.out, &bytes[..taken])?;
+        add(&self.memory.out, &bytes[..taken])?;
         Ok(taken)
     }
 }
 
 impl Eprint for Runtime<'_> {
     fn eprint<D: Display + Drop>(&self, value: D) -> io::Result<()> {
-        write!(Errors(&self.0.err), "{value}")
+        write!(Errors(&self.memory.err), "{value}")
     }
 
     fn eprintln<D: Display + Drop>(&self, value: D) -> io::Result<()> {
-        writeln!(Errors(&self.0.err), "{value}")
+        writeln!(Errors(&self.memory.err), "{value}")
     }
 }

@@ -1,168 +1,403 @@
-//! The whole program over a runtime in memory, and what it leaves there.
-use crate::comparing::{holds, same_at};
+//! Rows as texts: what stands where the program is run, its command line, and what it leaves.
+//!
+//! A row ends at an empty line. At its beginning the image of a shop stands at `a.d64` and the script `1,1,S,1,5` at
+//! `s.txt`, nothing is on standard input, and nothing fails. A line begins with a word; its text is what stands behind
+//! the space, with `|` for the end of a line and `3*` for what stands there three times.
+//!
+//! What the program finds:
+//! - `image`, `script`, `input`: a file at `a.d64` or `s.txt`, or standard input, with this text; `feed`: the image
+//!   at `a.d64` is on standard input, too
+//! - `no`, `folder`, `read-only`, `pipe` with `image` or `script`: what stands at its path
+//! - `shop`: the shop; `keep`: the image at `a.d64` is the shop from here on, also for the rows below; `aside`: it is put
+//!   aside
+//! - `hurt`: a change of the image (`HURTS`); `resize`: its bytes, by cutting it or by zeros
+//!
+//! What fails, in the next run alone:
+//! - `sync`, `folder-sync`: the call of this number that brings the image, or the folder, to the disk
+//! - `disk-takes`, `output-takes`: so many bytes are taken; `input-fails`: behind its bytes
+//! - `others`: another program has the image `alone`, or is `reading` it
+//!
+//! The run, by a command line as a shell splits it: `$` with standard error that no person reads, `person` with one who
+//! does, `waiting` with one who doesn't see the output. `job` only prints which job the command line asks for.
+//!
+//! What it leaves; of what isn't named nothing is printed or told, the status is 0, and nothing is written:
+//! - `prints`, `tells`, `ends`: the output, standard error, the status; a text that ends with `..` is its beginning, one
+//!   that begins with `..` too a part of it
+//! - `written`: the image is another; `rewritten`: it was written, and is the same; `leaves` with `the shop`, `another`
+//!   or `the one aside`
+//! - `size`, `at-most`: its bytes; `writes`, `syncs`, `folder-syncs`: how many there were; `reads-behind`: how many syncs
+//!   before it was read; `pieces`: in how many writes the output was taken
+//! - `synced`: one sync before the first write, and one behind each
+use crate::jobs::asked;
 use crate::memory::{Errors, Memory, Runtime};
-use crate::stored::{Kind, Stored};
+use crate::stored::{Kind, Others, Stored};
 use ledger_words::{Told, program};
-use std::cell::RefCell;
+use std::alloc::Global;
+use std::cell::{Cell, RefCell};
 use std::process::Abort;
 
-/// The words of a command line.
-pub(crate) type Words = &'static [&'static [u8]];
+/// A row as it is gone through.
+#[derive(Drop)]
+pub(crate) struct Scene {
+    pub(crate) memory: Memory,
+    /// The image of the shop, and what stood at `a.d64` and at `s.txt` before the run.
+    shop: Stored,
+    image: Stored,
+    script: Stored,
+    /// An image that was put aside.
+    aside: Stored,
+    /// Whether a line spoke of an image that was written, and whether all that the last run left is known to be told.
+    written: Cell<bool>,
+    told: Cell<bool>,
+}
 
-pub(crate) const FORMAT: Words = &[b"ledger_cli", b"format", b"a.d64", b"--tills", b"2"];
-
-pub(crate) const LIST: Words = &[b"ledger_cli", b"list", b"a.d64"];
-
-pub(crate) const CHECK: Words = &[b"ledger_cli", b"check", b"a.d64"];
-
-pub(crate) const SHOW: Words = &[b"ledger_cli", b"show", b"a.d64"];
-
-pub(crate) const PLAY: Words = &[b"ledger_cli", b"play", b"a.d64", b"s.txt"];
-
-pub(crate) const PLAY_SYNC: Words = &[b"ledger_cli", b"play", b"--sync", b"a.d64", b"s.txt"];
-
-pub(crate) const SERVE: Words = &[b"ledger_cli", b"serve", b"a.d64"];
-
-pub(crate) const REPAIR: Words = &[b"ledger_cli", b"repair", b"a.d64"];
-
-pub(crate) const RECORDS: Words = &[b"ledger_cli", b"records", b"a.d64", b"REQUESTS"];
-
-pub(crate) const BYTES: Words = &[b"ledger_cli", b"bytes", b"a.d64", b"REQUESTS"];
-
-pub(crate) const MAKE: Words = &[
-    b"ledger_cli",
-    b"make",
-    b"a.d64",
-    b"CARDS",
-    b"--length",
-    b"30",
+/// Changes of an image: a name, where bytes stand, and these bytes.
+const HURTS: [(&[u8], u64, &[u8]); 13] = [
+    // 17/0 links to itself.
+    (b"LOOP", 86016, b"\x11\x00"),
+    // Track 1 has a free sector too few in the map at 18/0.
+    (b"WRONG MAP", 91396, b"\x14"),
+    // The entry of STOCK in 18/1 has a block too many.
+    (b"COUNT", 91678, b"\x03"),
+    // 18/1 links to a sector outside track 18, so that the directory's sectors are no chain on it.
+    (b"NO DIRECTORY", 91648, b"\x13\x00"),
+    // 18/1 links to itself.
+    (b"DIRECTORY LOOP", 91648, b"\x12\x01"),
+    // A third entry, over the block of REQUESTS.
+    (b"OWNED TWICE", 91714, b"\x82\x11\x02X"),
+    (b"STICK FOR STOCK", 91653, b"STICK"),
+    (b"RESTS FOR REQUESTS", 91685, b"RESTS"),
+    (b"CARD 1", 86018, b"K,00002,000000001\r"),
+    (b"CARD 3", 86054, b"K,00004,000000001\r"),
+    (b"REQUEST CARD 2", 86657, b"hello"),
+    (
+        b"INTENT 1",
+        86530,
+        b"I,000000001,S,00001,000000005,0,000000005\r",
+    ),
+    (
+        b"INTENT 2",
+        86657,
+        b"I,000000001,S,00002,000000005,0,000000005\r",
+    ),
 ];
 
-pub(crate) const STORE: Words = &[b"ledger_cli", b"store", b"a.d64", b"CARDS", b"s.txt"];
-
-pub(crate) const INTO_REQUESTS: Words = &[b"ledger_cli", b"store", b"a.d64", b"REQUESTS", b"s.txt"];
-
-pub(crate) const MAP: Words = &[b"ledger_cli", b"map", b"a.d64"];
-
-pub(crate) const PICTURE: Words = &[b"ledger_cli", b"picture", b"a.d64"];
-
-pub(crate) const DRY: Words = &[b"ledger_cli", b"dry", b"s.txt"];
-
-/// A status, what is printed, and what is told on standard error.
-pub(crate) type End<'a> = (u8, &'a [u8], &'a [u8]);
-
-/// The program couldn't open or read a file, or write one or its output.
-pub(crate) const FILE: End<'static> = (3, b"", b"FILE\n");
-
-/// Puts such a thing with these bytes there.
-pub(crate) fn put(rt: &impl Abort, at: &Stored, kind: Kind, bytes: &[u8]) {
-    holds(rt, at.hold(kind, bytes), "there is memory");
+/// What stands before such a byte, and what behind it.
+fn cut(text: &[u8], at: u8) -> Option<(&[u8], &[u8])> {
+    let place = text.iter().position(|byte| *byte == at)?;
+    Some((text.get(..place)?, text.get(place.checked_add(1)?..)?))
 }
 
-/// Sees that both are the same bytes, which are shown where they are few.
-fn are_same(rt: &impl Abort, got: &[u8], wanted: &[u8], row: &str) {
-    if wanted.len() < 4096 && got.len() < 4096 {
-        same_at(rt, got, wanted, row);
-    } else {
-        holds(rt, got == wanted, row);
-    }
-}
-
-/// Sees that what was written are these bytes.
-pub(crate) fn wrote(rt: &impl Abort, to: &RefCell<Vec<u8>>, wanted: &[u8], row: &str) {
-    match to.try_borrow() {
-        Ok(held) => are_same(rt, held.as_slice(), wanted, row),
-        Err(_) => holds(rt, false, "it is free"),
-    }
-}
-
-/// Runs the program there, and answers its exit status.
-pub(crate) fn status_of(memory: &Memory<'_>) -> u8 {
-    status_told(memory, Told::Program)
-}
-
-/// Runs the program there, with standard error read by a person or not, and answers its exit status.
-pub(crate) fn status_told(memory: &Memory<'_>, told: Told) -> u8 {
-    program(&Runtime(memory), told, &mut Errors(&memory.err))
-}
-
-/// Runs the program there, and sees that it ends so.
-pub(crate) fn ends(rt: &impl Abort, memory: &Memory<'_>, wanted: End<'_>, row: &str) {
-    let status = status_of(memory);
-    let (want, printed, told) = wanted;
-    wrote(rt, &memory.err, told, row);
-    same_at(rt, status, want, row);
-    wrote(rt, &memory.out, printed, row);
-    same_at(rt, memory.image.unlocked.get(), false, row);
-}
-
-/// Runs the program with these words over an image and a script, and sees that it ends so. Answers what it left.
-pub(crate) fn ran(
-    rt: &(impl AllocGlobal + Abort),
-    words: Words,
-    image: &[u8],
-    script: &[u8],
-    wanted: End<'_>,
-) -> Memory<'static> {
-    let memory = Memory::new(rt.alloc(), words, b"");
-    put(rt, &memory.image, Kind::Plain, image);
-    put(rt, &memory.script, Kind::Plain, script);
-    ends(rt, &memory, wanted, "");
-    memory
-}
-
-/// Bytes, and where in an image they stand.
-pub(crate) type Bytes = (usize, &'static [u8]);
-
-/// 17/0 links to itself.
-pub(crate) const LOOP: Bytes = (86016, b"\x11\x00");
-
-/// Track 1 has a free sector too few in the map at 18/0.
-pub(crate) const WRONG_MAP: Bytes = (91396, b"\x14");
-
-/// The entry of STOCK in 18/1 has a block too many.
-pub(crate) const COUNT: Bytes = (91678, b"\x03");
-
-/// 18/1 links to a sector outside track 18, so that the directory's sectors are no chain on it.
-pub(crate) const NO_DIRECTORY: Bytes = (91648, b"\x13\x00");
-
-/// The image with these bytes over its own.
-pub(crate) fn changed(rt: &(impl AllocGlobal + Abort), shop: &[u8], changes: &[Bytes]) -> Vec<u8> {
-    let mut image = Vec::new(rt.alloc());
-    holds(rt, image.extend_from_slice(shop).is_ok(), "there is memory");
-    for (at, bytes) in changes {
-        for (place, byte) in image.iter_mut().skip(*at).zip(bytes.iter()) {
-            *place = *byte;
+/// The number whose digits stand in a text.
+fn number_of(text: &[u8]) -> usize {
+    let mut number: usize = 0;
+    for byte in text {
+        if byte.is_ascii_digit() {
+            let digit = byte.saturating_sub(b'0') as usize;
+            number = number.saturating_mul(10).saturating_add(digit);
         }
     }
-    image
+    number
 }
 
-/// The bytes that stand there.
-pub(crate) fn bytes_at(rt: &(impl AllocGlobal + Abort), at: &Stored) -> Vec<u8> {
-    let mut bytes = Vec::new(rt.alloc());
-    match at.bytes.try_borrow() {
-        Ok(held) => {
-            let copied = bytes.extend_from_slice(held.get_ref().as_slice());
-            holds(rt, copied.is_ok(), "there is memory");
-        }
-        Err(_) => holds(rt, false, "it is free"),
-    }
-    bytes
-}
-
-/// The image of an empty shop with two tills.
-pub(crate) fn empty_shop(rt: &(impl AllocGlobal + Abort)) -> Vec<u8> {
-    let memory = Memory::new(rt.alloc(), FORMAT, b"");
-    ends(rt, &memory, (0, b"FORMATTED\n", b""), "an empty shop");
-    bytes_at(rt, &memory.image)
-}
-
-/// So many times these bytes.
-pub(crate) fn repeated(rt: &(impl AllocGlobal + Abort), bytes: &[u8], count: usize) -> Vec<u8> {
-    let mut all = Vec::new(rt.alloc());
+/// The text that a line means.
+fn text_of(alloc: Global, line: &[u8]) -> Vec<u8> {
+    let (count, part) = match cut(line, b'*') {
+        Some((count, part)) => (number_of(count), part),
+        None => (1, line),
+    };
+    let mut text = Vec::new(alloc);
     for _ in 0..count {
-        holds(rt, all.extend_from_slice(bytes).is_ok(), "there is memory");
+        for byte in part {
+            let _ = text.push(if *byte == b'|' { b'\n' } else { *byte });
+        }
     }
-    all
+    text
+}
+
+/// The words of a command line, with a zero between each two.
+fn words_of(alloc: Global, line: &[u8]) -> Vec<u8> {
+    let mut words = Vec::new(alloc);
+    let mut quoted = false;
+    for byte in line {
+        match *byte {
+            b'\'' => quoted = !quoted,
+            b' ' if !quoted => {
+                let _ = words.push(0);
+            }
+            other => {
+                let _ = words.push(other);
+            }
+        }
+    }
+    words
+}
+
+/// Changes an image. Whether there is such a change.
+fn hurt(image: &Stored, name: &[u8]) -> bool {
+    for (known, at, bytes) in &HURTS {
+        if name == *known {
+            return image.put_over(*bytes, *at);
+        }
+    }
+    false
+}
+
+/// Puts such a thing in the place of the image or the script. Whether the words say so.
+fn stands(memory: &Memory, kind: &[u8], place: &[u8]) -> bool {
+    let place = if place == b"script".as_slice() {
+        &memory.script
+    } else {
+        &memory.image
+    };
+    match kind {
+        b"no" => place.hold(Kind::Missing, b""),
+        b"folder" => place.turn(Kind::Folder),
+        b"read-only" => place.turn(Kind::ReadOnly),
+        b"pipe" => place.turn(Kind::Stream),
+        _ => false,
+    }
+}
+
+/// Puts there what the program finds. Whether the line says so.
+fn finds(scene: &Scene, word: &[u8], text: &[u8]) -> bool {
+    let memory = &scene.memory;
+    match word {
+        b"image" => memory.image.hold(Kind::Plain, text),
+        b"script" => memory.script.hold(Kind::Plain, text),
+        b"input" => memory.input.hold(Kind::Plain, text),
+        b"feed" => memory.input.copy(&memory.image),
+        b"shop" => memory.image.copy(&scene.shop),
+        b"keep" => scene.shop.copy(&memory.image),
+        b"aside" => scene.aside.copy(&memory.image),
+        b"hurt" => hurt(&memory.image, text),
+        b"resize" => memory.image.resize(number_of(text) as u64).is_ok(),
+        _ => stands(memory, word, text),
+    }
+}
+
+/// Lets something fail in the next run. Whether the line says so.
+fn fails(memory: &Memory, word: &[u8], text: &[u8]) -> bool {
+    let number = number_of(text);
+    match word {
+        b"sync" => memory.image.bad_sync.set(number),
+        b"folder-sync" => memory.folder.bad_sync.set(number),
+        b"disk-takes" => memory.image.room.set(number),
+        b"output-takes" => memory.room.set(number),
+        b"input-fails" => memory.fails.set(true),
+        b"others" if text == b"alone".as_slice() => memory.image.others.set(Others::Alone),
+        b"others" => memory.image.others.set(Others::Reading),
+        _ => return false,
+    }
+    true
+}
+
+/// Whether these bytes are a text, begin so or have it in them.
+fn fits(bytes: &[u8], text: &[u8]) -> bool {
+    let Some(part) = text.strip_suffix(b"..") else {
+        return bytes == text;
+    };
+    match (
+        text.starts_with(b".."),
+        std::str::from_utf8(bytes),
+        std::str::from_utf8(part),
+    ) {
+        (true, Ok(bytes), Ok(part)) => bytes.contains(part.trim_start_matches('.')),
+        _ => bytes.starts_with(part),
+    }
+}
+
+/// Takes what was written where it is this text. Whether it is.
+fn took(written: &RefCell<Vec<u8>>, text: &[u8]) -> bool {
+    match written.try_borrow_mut() {
+        Ok(mut held) if fits(held.as_slice(), text) => {
+            held.clear();
+            true
+        }
+        _ => false,
+    }
+}
+
+/// How often something was done with the image, its folder or the output, or how many bytes stand there.
+fn counted(memory: &Memory, word: &[u8]) -> Option<usize> {
+    match word {
+        b"size" => Some(memory.image.size()),
+        b"writes" => Some(memory.image.writes.get()),
+        b"syncs" => Some(memory.image.syncs.get()),
+        b"folder-syncs" => Some(memory.folder.syncs.get()),
+        b"reads-behind" => Some(memory.image.syncs_before.get()),
+        b"pieces" => Some(memory.prints.get()),
+        _ => None,
+    }
+}
+
+/// Whether each sector was brought to the disk before the next was written.
+fn is_synced(image: &Stored) -> bool {
+    let counted = image.writes.get().saturating_add(1);
+    image.syncs.get() == counted && image.most_waiting.get() <= 1
+}
+
+/// Whether the line says what the program left of the image, which no line needs to say if it wasn't written.
+fn leaves(scene: &Scene, word: &[u8], text: &[u8]) -> bool {
+    let image = &scene.memory.image;
+    let holds = match word {
+        b"written" => !image.is_as(&scene.image),
+        b"rewritten" => image.is_as(&scene.image),
+        b"leaves" if text == b"the one aside".as_slice() => image.is_as(&scene.aside),
+        b"leaves" => image.is_as(&scene.shop) == (text == b"the shop".as_slice()),
+        b"at-most" => image.size() <= number_of(text),
+        _ => false,
+    };
+    if holds {
+        scene.written.set(true);
+    }
+    holds
+}
+
+/// Whether the line says what the program left.
+fn sees(scene: &Scene, word: &[u8], text: &[u8]) -> bool {
+    let memory = &scene.memory;
+    match word {
+        b"prints" => took(&memory.out, text),
+        b"tells" => took(&memory.err, text),
+        b"ends" => memory.status.replace(0) as usize == number_of(text),
+        b"synced" => is_synced(&memory.image),
+        _ => match counted(memory, word) {
+            Some(number) => number == number_of(text),
+            None => leaves(scene, word, text),
+        },
+    }
+}
+
+/// Whether nothing is left of the last run that no line spoke of.
+fn is_told(scene: &Scene) -> bool {
+    if scene.told.replace(true) {
+        return true;
+    }
+    let memory = &scene.memory;
+    took(&memory.out, b"")
+        && took(&memory.err, b"")
+        && memory.status.get() == 0
+        && memory.script.is_as(&scene.script)
+        && (scene.written.get()
+            || memory.image.writes.get() == 0 && memory.image.is_as(&scene.image))
+}
+
+/// Notes what stands there before a run. Whether there was memory for it.
+fn noted(scene: &Scene) -> bool {
+    scene.memory.forget();
+    scene.written.set(false);
+    scene.image.copy(&scene.memory.image) && scene.script.copy(&scene.memory.script)
+}
+
+/// Runs the program. Whether nothing was left of the run before, and the image was read and written under its lock.
+fn runs(scene: &Scene, told: Told, line: &[u8]) -> bool {
+    let memory = &scene.memory;
+    let begins = is_told(scene) && noted(scene);
+    let words = words_of(memory.alloc, line);
+    let Ok(input) = memory.input.bytes.try_borrow() else {
+        return false;
+    };
+    let runtime = Runtime {
+        memory,
+        words: words.as_slice(),
+        input: input.get_ref().as_slice(),
+    };
+    memory
+        .status
+        .set(program(&runtime, told, &mut Errors(&memory.err)));
+    memory.mend();
+    scene.told.set(false);
+    begins && !memory.image.unlocked.get()
+}
+
+/// Writes to the output which job a command line asks for. Whether nothing was left of the run before.
+fn asks(scene: &Scene, line: &[u8]) -> bool {
+    let alloc = scene.memory.alloc;
+    let words = words_of(alloc, line);
+    let begins = is_told(scene) && noted(scene);
+    scene.told.set(false);
+    begins && asked(alloc, words.as_slice(), &scene.memory.out)
+}
+
+/// Begins a row. Whether nothing was left of the row before.
+fn begins(scene: &Scene) -> bool {
+    let memory = &scene.memory;
+    is_told(scene)
+        && memory.image.copy(&scene.shop)
+        && memory.script.hold(Kind::Plain, b"1,1,S,1,5\n")
+        && memory.input.hold(Kind::Plain, b"")
+}
+
+/// Does what a line says, or sees that it is so. Whether it is.
+fn holds(scene: &Scene, line: &[u8]) -> bool {
+    let (word, rest) = cut(line, b' ').unwrap_or((line, b""));
+    match word {
+        b"" => return begins(scene),
+        b"$" => return runs(scene, Told::Program, rest),
+        b"person" => return runs(scene, Told::Person, rest),
+        b"waiting" => return runs(scene, Told::Waiting, rest),
+        b"job" => return asks(scene, rest),
+        _ => {}
+    }
+    let text = text_of(scene.memory.alloc, rest);
+    let text = text.as_slice();
+    fails(&scene.memory, word, text)
+        || sees(scene, word, text)
+        || is_told(scene) && finds(scene, word, text)
+}
+
+/// The text of what was written, as far as it is one.
+fn text_in(written: &[u8]) -> &str {
+    std::str::from_utf8(written).unwrap_or_default()
+}
+
+/// Sees that each line of these rows holds.
+fn each_line(rt: &impl Abort, scene: &Scene, rows: &[u8]) {
+    for line in rows.split(|byte| *byte == b'\n') {
+        let holds = line.starts_with(b"#") || holds(scene, line);
+        match (scene.memory.out.try_borrow(), scene.memory.err.try_borrow()) {
+            (Ok(out), Ok(err)) => {
+                let left = (text_in(out.as_slice()), text_in(err.as_slice()));
+                assert!(rt;
+                    holds,
+                    "{:?}: printed, told, ended {:?} {}",
+                    text_in(line),
+                    left,
+                    scene.memory.status.get()
+                );
+            }
+            _ => assert!(rt; false, "what was written is free"),
+        }
+    }
+}
+
+/// The shop of most rows: empty, with two tills.
+const SHOP: &[u8] = b"no image
+no script
+$ ledger_cli format a.d64 --tills 2
+prints FORMATTED|
+written
+keep
+";
+
+/// A row at its beginning.
+pub(crate) fn first_scene(rt: &(impl AllocGlobal + Abort)) -> Scene {
+    let alloc = rt.alloc();
+    let scene = Scene {
+        memory: Memory::new(alloc),
+        shop: Stored::new(alloc),
+        image: Stored::new(alloc),
+        script: Stored::new(alloc),
+        aside: Stored::new(alloc),
+        written: Cell::new(false),
+        told: Cell::new(true),
+    };
+    each_line(rt, &scene, SHOP);
+    scene
+}
+
+/// Sees that these rows hold.
+pub(crate) fn each(rt: &(impl AllocGlobal + Abort), rows: &[u8]) {
+    each_line(rt, &first_scene(rt), rows);
 }

@@ -7,7 +7,7 @@ use std::cell::{Cell, RefCell};
 use std::io::{self, Cursor, ErrorKind, Read, Write};
 
 /// What stands at a path.
-#[derive(Clone, Copy, Debug, PartialEq, Eq)]
+#[derive(Clone, Copy, PartialEq, Eq)]
 pub(crate) enum Kind {
     /// Nothing: who opens it may make a file.
     Missing,
@@ -47,7 +47,7 @@ pub(crate) struct Stored {
 }
 
 /// What other programs do with it.
-#[derive(Clone, Copy, Debug, PartialEq, Eq)]
+#[derive(Clone, Copy, PartialEq, Eq)]
 pub(crate) enum Others {
     /// Nothing.
     Away,
@@ -58,7 +58,7 @@ pub(crate) enum Others {
 }
 
 /// How it is locked.
-#[derive(Clone, Copy, Debug, PartialEq, Eq)]
+#[derive(Clone, Copy, PartialEq, Eq)]
 pub(crate) enum Lock {
     None,
     Shared,
@@ -92,11 +92,23 @@ impl Stored {
         }
     }
 
-    /// A place where a folder stands.
-    pub(crate) fn folder(alloc: Global) -> Stored {
-        let at = Stored::new(alloc);
-        at.kind.set(Kind::Folder);
-        at
+    /// Forgets who opened it, and what was done with it.
+    pub(crate) fn forget(&self) {
+        self.taken.set(0);
+        self.lock.set(Lock::None);
+        self.unlocked.set(false);
+        self.syncs.set(0);
+        self.syncs_before.set(0);
+        self.writes.set(0);
+        self.waiting.set(0);
+        self.most_waiting.set(0);
+    }
+
+    /// Lets nothing fail any more.
+    pub(crate) fn mend(&self) {
+        self.room.set(usize::MAX);
+        self.others.set(Others::Away);
+        self.bad_sync.set(0);
     }
 
     /// Notes that it is read.
@@ -129,7 +141,6 @@ impl Stored {
     /// Puts such a thing with these bytes there. Whether there was memory for them.
     pub(crate) fn hold(&self, kind: Kind, bytes: &[u8]) -> bool {
         self.kind.set(kind);
-        self.taken.set(0);
         match self.bytes.try_borrow_mut() {
             Ok(mut held) => {
                 let held = held.get_mut();
@@ -140,10 +151,44 @@ impl Stored {
         }
     }
 
+    /// Puts such a thing in the place of what stands there, with the same bytes. Whether it could be.
+    pub(crate) fn turn(&self, kind: Kind) -> bool {
+        self.kind.set(kind);
+        true
+    }
+
+    /// Puts bytes over those that stand there from a place on. Whether there was memory for them.
+    pub(crate) fn put_over(&self, bytes: &[u8], at: u64) -> bool {
+        match self.bytes.try_borrow_mut() {
+            Ok(mut held) => {
+                held.set_position(at);
+                held.write_all(bytes).is_ok()
+            }
+            Err(_) => false,
+        }
+    }
+
     /// Whether these bytes stand there, and no others.
     pub(crate) fn holds(&self, bytes: &[u8]) -> bool {
         match self.bytes.try_borrow() {
             Ok(held) => held.get_ref().as_slice() == bytes,
+            Err(_) => false,
+        }
+    }
+
+    /// Puts there what stands at another place. Whether there was memory for it.
+    pub(crate) fn copy(&self, other: &Stored) -> bool {
+        match other.bytes.try_borrow() {
+            Ok(held) => self.hold(other.kind.get(), held.get_ref().as_slice()),
+            Err(_) => false,
+        }
+    }
+
+    /// Whether the same stands at another place.
+    pub(crate) fn is_as(&self, other: &Stored) -> bool {
+        match other.bytes.try_borrow() {
+            Ok(held) => self.kind.get() == other.kind.get()
+                && self.holds(held.get_ref().as_slice()),
             Err(_) => false,
         }
     }

@@ -1,212 +1,266 @@
-//! Wrong command lines: what is told of each, with which status, and that nothing is printed or changed.
-use crate::comparing::{holds, same_at};
-use crate::memory::Memory;
-use crate::scenes::{Words, empty_shop, put, status_of, wrote};
-use crate::stored::Kind;
-use std::cell::RefCell;
-use std::process::Abort;
-
-/// Words that the command line doesn't take, and what is told of them first.
-pub(crate) type Row = (Words, &'static [u8]);
-
-pub(crate) const NO_WORD: &[u8] =
-    b"error: 'ledger' requires a subcommand but one was not provided\n";
-
-pub(crate) const NO_IMAGE: &[u8] =
-    b"error: the following required arguments were not provided:\n  <IMAGE>\n";
-
-pub(crate) const NO_NAME: &[u8] =
-    b"error: the following required arguments were not provided:\n  <NAME>\n";
-
-pub(crate) const NO_SCRIPT: &[u8] =
-    b"error: the following required arguments were not provided:\n  <SCRIPT>\n";
-
-pub(crate) const NO_RECORDS: &[u8] =
-    b"error: the following required arguments were not provided:\n  <RECORDS>\n";
-
-pub(crate) const NO_TILLS: &[u8] =
-    b"error: the following required arguments were not provided:\n  --tills <T>\n";
-
-pub(crate) const NO_LENGTH: &[u8] =
-    b"error: the following required arguments were not provided:\n  --length <L>\n";
-
-pub(crate) const B: &[u8] = b"error: unexpected argument 'b.d64' found\n";
-
-pub(crate) const SYNC: &[u8] = b"error: unexpected argument '--sync' found\n";
+//! Wrong command lines: what is told of each first, with which status, and that nothing is printed or changed.
+use crate::scenes::each;
 
 /// Of the program, and of the commands over a shop.
-const OF_SHOPS: [Row; 35] = [
-    (&[], NO_WORD),
-    (&[b"ledger_cli"], NO_WORD),
-    (
-        &[b"ledger_cli", b"wet"],
-        b"error: unrecognized subcommand 'wet'\n",
-    ),
-    (
-        &[b"ledger_cli", b""],
-        b"error: unrecognized subcommand ''\n",
-    ),
-    (
-        &[b"ledger_cli", b"a.d64"],
-        b"error: unrecognized subcommand 'a.d64'\n",
-    ),
-    (
-        &[b"ledger_cli", b"SHOW", b"a.d64"],
-        b"error: unrecognized subcommand 'SHOW'\n",
-    ),
-    (
-        &[b"ledger_cli", b"-v"],
-        b"error: unexpected argument '-v' found\n",
-    ),
-    (
-        &[b"ledger_cli", b"--sync", b"play", b"a.d64", b"s.txt"],
-        SYNC,
-    ),
-    (&[b"ledger_cli", b"format", b"--tills", b"2"], NO_IMAGE),
-    (&[b"ledger_cli", b"format", b"a.d64"], NO_TILLS),
-    (
-        &[b"ledger_cli", b"format", b"a.d64", b"--tills"],
-        b"error: a value is required for '--tills <T>' but none was supplied\n",
-    ),
-    (
-        &[b"ledger_cli", b"format", b"a.d64", b"2"],
-        b"error: unexpected argument '2' found\n",
-    ),
-    (
-        &[
-            b"ledger_cli",
-            b"format",
-            b"a.d64",
-            b"b.d64",
-            b"--tills",
-            b"2",
-        ],
-        B,
-    ),
-    (
-        &[
-            b"ledger_cli",
-            b"format",
-            b"a.d64",
-            b"--tills",
-            b"2",
-            b"--tills",
-            b"3",
-        ],
-        b"error: the argument '--tills <T>' cannot be used multiple times\n",
-    ),
-    (
-        &[b"ledger_cli", b"format", b"a.d64", b"--till", b"2"],
-        b"error: unexpected argument '--till' found\n",
-    ),
-    (
-        &[b"ledger_cli", b"format", b"a.d64", b"--tills", b"-1"],
-        b"error: unexpected argument '-1' found\n",
-    ),
-    (&[b"ledger_cli", b"serve"], NO_IMAGE),
-    (
-        &[b"ledger_cli", b"serve", b"a.d64", b"s.txt"],
-        b"error: unexpected argument 's.txt' found\n",
-    ),
-    (&[b"ledger_cli", b"serve", b"a.d64", b"--sync"], SYNC),
-    (
-        &[
-            b"ledger_cli",
-            b"serve",
-            b"a.d64",
-            b"--unsynced",
-            b"--unsynced",
-        ],
-        b"error: the argument '--unsynced' cannot be used multiple times\n",
-    ),
-    (&[b"ledger_cli", b"play", b"a.d64"], NO_SCRIPT),
-    (
-        &[b"ledger_cli", b"play"],
-        b"error: the following required arguments were not provided:\n  <IMAGE>\n  <SCRIPT>\n",
-    ),
-    (&[b"ledger_cli", b"play", b"a.d64", b"s.txt", b"b.d64"], B),
-    (
-        &[b"ledger_cli", b"play", b"a.d64", b"s.txt", b"--unsynced"],
-        b"error: unexpected argument '--unsynced' found\n",
-    ),
-    (
-        &[b"ledger_cli", b"play", b"a.d64", b"s.txt", b"--sync=1"],
-        b"error: unexpected value '1' for '--sync' found; no more were expected\n",
-    ),
-    (
-        &[
-            b"ledger_cli",
-            b"play",
-            b"--sync",
-            b"a.d64",
-            b"s.txt",
-            b"--sync",
-        ],
-        b"error: the argument '--sync' cannot be used multiple times\n",
-    ),
-    (&[b"ledger_cli", b"show"], NO_IMAGE),
-    (&[b"ledger_cli", b"show", b"a.d64", b"b.d64"], B),
-    (&[b"ledger_cli", b"show", b"a.d64", b"--sync"], SYNC),
-    (&[b"ledger_cli", b"dry"], NO_SCRIPT),
-    (
-        &[b"ledger_cli", b"dry", b"a.d64", b"s.txt"],
-        b"error: unexpected argument 's.txt' found\n",
-    ),
-    (&[b"ledger_cli", b"dry", b"s.txt", b"--sync"], SYNC),
-    (
-        &[b"ledger_cli", b"dry", b"\xff"],
-        b"error: invalid UTF-8 was detected in one or more arguments\n",
-    ),
-    (
-        &[b"ledger_cli", b"help", b"wet"],
-        b"error: unrecognized subcommand 'wet'\n",
-    ),
-    (&[b"ledger_cli", b"show", b"--", b"a.d64", b"b.d64"], B),
-];
+const OF_SHOPS: &[u8] = b"
+$
+tells error: 'ledger' requires a subcommand but one was not provided|..
+ends 2
 
-/// The script, which is no image.
-const SCRIPT: &[u8] = b"1,1,S,1,5\n";
+$ ledger_cli
+tells error: 'ledger' requires a subcommand but one was not provided|..
+ends 2
 
-/// A runtime with these words, a shop and a script.
-pub(crate) fn memory_of(
-    rt: &(impl AllocGlobal + Abort),
-    words: Words,
-    shop: &[u8],
-) -> Memory<'static> {
-    let memory = Memory::new(rt.alloc(), words, b"");
-    put(rt, &memory.image, Kind::Plain, shop);
-    put(rt, &memory.script, Kind::Plain, SCRIPT);
-    memory
-}
+$ ledger_cli wet
+tells error: unrecognized subcommand 'wet'|..
+ends 2
 
-/// Sees that the shop and the script are what they were.
-pub(crate) fn stays(rt: &impl Abort, memory: &Memory<'_>, shop: &[u8], row: Words) {
-    holds(rt, memory.image.holds(shop), row);
-    holds(rt, memory.script.holds(SCRIPT), row);
-    same_at(rt, memory.image.writes.get(), 0, row);
-}
+$ ledger_cli ''
+tells error: unrecognized subcommand ''|..
+ends 2
 
-/// Sees that what was told begins so.
-fn begins(rt: &impl Abort, told: &RefCell<Vec<u8>>, wanted: &[u8], row: Words) {
-    match told.try_borrow() {
-        Ok(held) => holds(rt, held.as_slice().starts_with(wanted), row),
-        Err(_) => holds(rt, false, row),
-    }
-}
+$ ledger_cli a.d64
+tells error: unrecognized subcommand 'a.d64'|..
+ends 2
 
-/// Sees that each of these is refused with status 2 and such a text, and does nothing.
-pub(crate) fn each_is_refused(rt: &(impl AllocGlobal + Abort), shop: &[u8], rows: &[Row]) {
-    for (words, wanted) in rows {
-        let memory = memory_of(rt, *words, shop);
-        same_at(rt, status_of(&memory), 2, *words);
-        begins(rt, &memory.err, *wanted, *words);
-        wrote(rt, &memory.out, b"", "nothing is printed");
-        stays(rt, &memory, shop, *words);
-    }
-}
+$ ledger_cli SHOW a.d64
+tells error: unrecognized subcommand 'SHOW'|..
+ends 2
+
+$ ledger_cli -v
+tells error: unexpected argument '-v' found|..
+ends 2
+
+$ ledger_cli --sync play a.d64 s.txt
+tells error: unexpected argument '--sync' found|..
+ends 2
+
+$ ledger_cli format --tills 2
+tells error: the following required arguments were not provided:|  <IMAGE>|..
+ends 2
+
+$ ledger_cli format a.d64
+tells error: the following required arguments were not provided:|  --tills <T>|..
+ends 2
+
+$ ledger_cli format a.d64 --tills
+tells error: a value is required for '--tills <T>' but none was supplied|..
+ends 2
+
+$ ledger_cli format a.d64 2
+tells error: unexpected argument '2' found|..
+ends 2
+
+$ ledger_cli format a.d64 b.d64 --tills 2
+tells error: unexpected argument 'b.d64' found|..
+ends 2
+
+$ ledger_cli format a.d64 --tills 2 --tills 3
+tells error: the argument '--tills <T>' cannot be used multiple times|..
+ends 2
+
+$ ledger_cli format a.d64 --till 2
+tells error: unexpected argument '--till' found|..
+ends 2
+
+$ ledger_cli format a.d64 --tills -1
+tells error: unexpected argument '-1' found|..
+ends 2
+
+$ ledger_cli serve
+tells error: the following required arguments were not provided:|  <IMAGE>|..
+ends 2
+
+$ ledger_cli serve a.d64 s.txt
+tells error: unexpected argument 's.txt' found|..
+ends 2
+
+$ ledger_cli serve a.d64 --sync
+tells error: unexpected argument '--sync' found|..
+ends 2
+
+$ ledger_cli serve a.d64 --unsynced --unsynced
+tells error: the argument '--unsynced' cannot be used multiple times|..
+ends 2
+
+$ ledger_cli play a.d64
+tells error: the following required arguments were not provided:|  <SCRIPT>|..
+ends 2
+
+$ ledger_cli play
+tells error: the following required arguments were not provided:|  <IMAGE>|  <SCRIPT>|..
+ends 2
+
+$ ledger_cli play a.d64 s.txt b.d64
+tells error: unexpected argument 'b.d64' found|..
+ends 2
+
+$ ledger_cli play a.d64 s.txt --unsynced
+tells error: unexpected argument '--unsynced' found|..
+ends 2
+
+$ ledger_cli play a.d64 s.txt --sync=1
+tells error: unexpected value '1' for '--sync' found; no more were expected|..
+ends 2
+
+$ ledger_cli play --sync a.d64 s.txt --sync
+tells error: the argument '--sync' cannot be used multiple times|..
+ends 2
+
+$ ledger_cli show
+tells error: the following required arguments were not provided:|  <IMAGE>|..
+ends 2
+
+$ ledger_cli show a.d64 b.d64
+tells error: unexpected argument 'b.d64' found|..
+ends 2
+
+$ ledger_cli show a.d64 --sync
+tells error: unexpected argument '--sync' found|..
+ends 2
+
+$ ledger_cli dry
+tells error: the following required arguments were not provided:|  <SCRIPT>|..
+ends 2
+
+$ ledger_cli dry a.d64 s.txt
+tells error: unexpected argument 's.txt' found|..
+ends 2
+
+$ ledger_cli dry s.txt --sync
+tells error: unexpected argument '--sync' found|..
+ends 2
+
+$ ledger_cli dry \xff
+tells error: invalid UTF-8 was detected in one or more arguments|..
+ends 2
+
+$ ledger_cli help wet
+tells error: unrecognized subcommand 'wet'|..
+ends 2
+
+$ ledger_cli show -- a.d64 b.d64
+tells error: unexpected argument 'b.d64' found|..
+ends 2
+";
 
 #[test]
 fn wrong_words_are_refused(rt: HostRuntime) {
-    let shop = empty_shop(&rt);
-    each_is_refused(&rt, shop.as_slice(), &OF_SHOPS);
+    each(&rt, OF_SHOPS);
+}
+
+/// Of the commands for keepers of disks.
+const OF_KEEPERS: &[u8] = b"
+$ ledger_cli list
+tells error: the following required arguments were not provided:|  <IMAGE>|..
+ends 2
+
+$ ledger_cli list a.d64 b.d64
+tells error: unexpected argument 'b.d64' found|..
+ends 2
+
+$ ledger_cli list a.d64 --tills 2
+tells error: unexpected argument '--tills' found|..
+ends 2
+
+$ ledger_cli check
+tells error: the following required arguments were not provided:|  <IMAGE>|..
+ends 2
+
+$ ledger_cli check a.d64 b.d64
+tells error: unexpected argument 'b.d64' found|..
+ends 2
+
+$ ledger_cli repair
+tells error: the following required arguments were not provided:|  <IMAGE>|..
+ends 2
+
+$ ledger_cli repair a.d64 b.d64
+tells error: unexpected argument 'b.d64' found|..
+ends 2
+
+$ ledger_cli repair a.d64 --sync
+tells error: unexpected argument '--sync' found|..
+ends 2
+
+$ ledger_cli records
+tells error: the following required arguments were not provided:|  <IMAGE>|  <NAME>|..
+ends 2
+
+$ ledger_cli records a.d64
+tells error: the following required arguments were not provided:|  <NAME>|..
+ends 2
+
+$ ledger_cli records a.d64 STOCK b.d64
+tells error: unexpected argument 'b.d64' found|..
+ends 2
+
+$ ledger_cli bytes a.d64
+tells error: the following required arguments were not provided:|  <NAME>|..
+ends 2
+
+$ ledger_cli bytes a.d64 STOCK b.d64
+tells error: unexpected argument 'b.d64' found|..
+ends 2
+
+$ ledger_cli bytes a.d64 -X
+tells error: unexpected argument '-X' found||  tip: to pass '-X' as a value, use '-- -X'|..
+ends 2
+
+$ ledger_cli make a.d64 CARDS
+tells error: the following required arguments were not provided:|  --length <L>|..
+ends 2
+
+$ ledger_cli make a.d64 --length 30
+tells error: the following required arguments were not provided:|  <NAME>|..
+ends 2
+
+$ ledger_cli make a.d64 CARDS --length
+tells error: a value is required for '--length <L>' but none was supplied|..
+ends 2
+
+$ ledger_cli make a.d64 CARDS 30
+tells error: unexpected argument '30' found|..
+ends 2
+
+$ ledger_cli store a.d64 STOCK
+tells error: the following required arguments were not provided:|  <RECORDS>|..
+ends 2
+
+$ ledger_cli store a.d64
+tells error: the following required arguments were not provided:|  <NAME>|  <RECORDS>|..
+ends 2
+
+$ ledger_cli store a.d64 STOCK s.txt b.d64
+tells error: unexpected argument 'b.d64' found|..
+ends 2
+
+$ ledger_cli store a.d64 STOCK s.txt --sync
+tells error: unexpected argument '--sync' found|..
+ends 2
+
+$ ledger_cli map
+tells error: the following required arguments were not provided:|  <IMAGE>|..
+ends 2
+
+$ ledger_cli map a.d64 b.d64
+tells error: unexpected argument 'b.d64' found|..
+ends 2
+
+$ ledger_cli picture
+tells error: the following required arguments were not provided:|  <IMAGE>|..
+ends 2
+
+$ ledger_cli picture a.d64 b.d64
+tells error: unexpected argument 'b.d64' found|..
+ends 2
+
+$ ledger_cli picture a.d64 --sync
+tells error: unexpected argument '--sync' found|..
+ends 2
+";
+
+#[test]
+fn keepers_wrong_words_are_refused(rt: HostRuntime) {
+    each(&rt, OF_KEEPERS);
 }
