@@ -1,21 +1,19 @@
 //! Long scripts, a full directory, and each number of tills: nothing is blamed where nothing failed.
 use crate::comparing::{holds, same};
-use crate::files::{blank_paper, filled};
+use crate::files::{add, add_numbered, blank_paper, filled};
 use crate::images::{S18_1, formatted, put};
-use crate::runs::{is_printed, is_shown, played};
-use ledger_commands::{dry, list_image};
-use std::io::Write;
+use crate::runs::{dried, is_printed, is_shown, listed, played};
 use std::process::Abort;
 
 /// A script of 5,000 requests, which set an item to none and then receive one of it each; and their replies.
 fn received(rt: &impl AllocGlobal) -> (Vec<u8>, Vec<u8>) {
     let (mut script, mut replies) = (Vec::new(rt.alloc()), Vec::new(rt.alloc()));
-    let _ = script.extend_from_slice(b"1,1,S,7,0\n");
-    let _ = replies.extend_from_slice(b"1,1,DONE,0\n");
+    add(&mut script, b"1,1,S,7,0\n");
+    add(&mut replies, b"1,1,DONE,0\n");
     for on_hand in 1..5000u32 {
-        let number = on_hand + 1;
-        let _ = writeln!(script, "1,{number},R,7,1");
-        let _ = writeln!(replies, "1,{number},DONE,{on_hand}");
+        add_numbered(&mut script, b"1,#,R,7,1\n", on_hand + 1);
+        add_numbered(&mut replies, b"1,#,DONE,", on_hand + 1);
+        add_numbered(&mut replies, b"#\n", on_hand);
     }
     (script, replies)
 }
@@ -25,19 +23,19 @@ fn lettered(rt: &(impl AllocGlobal + Abort)) -> (Vec<u8>, Vec<u8>) {
     let letters = filled(rt, b'x', 99);
     let (mut script, mut replies) = (Vec::new(rt.alloc()), Vec::new(rt.alloc()));
     for _ in 0..21_000usize {
-        let _ = script.extend_from_slice(letters.as_slice());
-        let _ = script.extend_from_slice(b"\n");
-        let _ = replies.extend_from_slice(b"30,SYNTAX ERROR,00,00\n");
+        add(&mut script, letters.as_slice());
+        add(&mut script, b"\n");
+        add(&mut replies, b"30,SYNTAX ERROR,00,00\n");
     }
-    let _ = script.extend_from_slice(b"1,1,S,42,120\n");
-    let _ = replies.extend_from_slice(b"1,1,DONE,120\n");
+    add(&mut script, b"1,1,S,42,120\n");
+    add(&mut replies, b"1,1,DONE,120\n");
     (script, replies)
 }
 
 /// Sees that the script has these replies, without a disk and on a fresh one for 64 tills.
 fn is_answered(rt: &(impl AllocGlobal + Abort), script: &[u8], replies: &[u8]) {
     let mut out = blank_paper(rt);
-    same(rt, dry(script, &mut out), Ok(()));
+    same(rt, dried(script, &mut out), Ok(()));
     holds(rt, out.bytes.as_slice() == replies, "the dry run");
     let mut out = blank_paper(rt);
     let (ended, _) = played(rt, formatted(rt, 64).as_slice(), script, &mut out);
@@ -70,15 +68,15 @@ fn put_entry(image: &mut Vec<u8>, number: u8, name: [u8; 2]) {
 fn full_directory(rt: &(impl AllocGlobal + Abort)) -> (Vec<u8>, Vec<u8>) {
     let mut image = formatted(rt, 2);
     let mut listing = Vec::new(rt.alloc());
-    let _ = listing.extend_from_slice(b"0 \"STOCK LEDGER\" 01 2A\n");
+    add(&mut listing, b"0 \"STOCK LEDGER\" 01 2A\n");
     for number in 0..144u8 {
         let name = [b'A' + number / 12, b'A' + number % 12];
         put_entry(&mut image, number, name);
-        let _ = write!(listing, "{number} \"");
-        let _ = listing.extend_from_slice(&name);
-        let _ = listing.extend_from_slice(b"\" PRG\n");
+        add_numbered(&mut listing, b"# \"", u32::from(number));
+        add(&mut listing, &name);
+        add(&mut listing, b"\" PRG\n");
     }
-    let _ = listing.extend_from_slice(b"660 BLOCKS FREE\n");
+    add(&mut listing, b"660 BLOCKS FREE\n");
     (image, listing)
 }
 
@@ -86,7 +84,7 @@ fn full_directory(rt: &(impl AllocGlobal + Abort)) -> (Vec<u8>, Vec<u8>) {
 fn a_full_directory_is_listed(rt: HostRuntime) {
     let (image, listing) = full_directory(&rt);
     let mut out = blank_paper(&rt);
-    let ended = list_image(rt.alloc(), image.as_slice(), &mut out);
+    let ended = listed(&rt, image.as_slice(), &mut out);
     same(&rt, ended, Ok(()));
     is_printed(&rt, &out, listing.as_slice());
 }
@@ -97,7 +95,7 @@ fn fresh_shop(rt: &impl AllocGlobal, tills: u8) -> Vec<u8> {
     let blocks = 663 - 6 - (u32::from(tills.min(64)) + 1) / 2;
     let top = blocks * 254 / 18;
     let mut shown = Vec::new(rt.alloc());
-    let _ = writeln!(shown, "TOP {top}");
+    add_numbered(&mut shown, b"TOP #\n", top);
     shown
 }
 
@@ -112,13 +110,13 @@ fn the_shop_of_each_number_of_tills_is_shown(rt: HostRuntime) {
 /// A request of each of 64 tills, which sets the item of its number to that many; and what is shown of the shop then.
 fn day_of_64(rt: &impl AllocGlobal) -> (Vec<u8>, Vec<u8>) {
     let (mut script, mut shown) = (Vec::new(rt.alloc()), Vec::new(rt.alloc()));
-    let _ = shown.extend_from_slice(b"TOP 8819\n");
-    for till in 1..65u8 {
-        let _ = writeln!(script, "{till},1,S,{till},{till}");
-        let _ = writeln!(shown, "CARD {till},{till}");
+    add(&mut shown, b"TOP 8819\n");
+    for till in 1..65u32 {
+        add_numbered(&mut script, b"#,1,S,#,#\n", till);
+        add_numbered(&mut shown, b"CARD #,#\n", till);
     }
-    for till in 1..65u8 {
-        let _ = writeln!(shown, "TILL {till},1,S,{till},{till},DONE,{till}");
+    for till in 1..65u32 {
+        add_numbered(&mut shown, b"TILL #,1,S,#,#,DONE,#\n", till);
     }
     (script, shown)
 }

@@ -2,7 +2,8 @@
 use crate::comparing::same;
 use crate::files::Full;
 use crate::images::{Bytes, S17_0, S17_1, S18_0, S18_1, changed, formatted, patch};
-use ledger_commands::{RunFault, check_image};
+use crate::runs::judged;
+use ledger_commands::RunFault;
 use std::process::Abort;
 
 /// Changes of a disk for two tills, what is printed of it then, and how many faults are told.
@@ -63,9 +64,8 @@ static VERDICTS: [Verdict; 16] = [
 fn is_judged(rt: &(impl AllocGlobal + Abort), changes: &[Bytes], verdict: &[u8], faults: u8) {
     let image = changed(rt, 2, changes);
     let mut out = Vec::new(rt.alloc());
-    let found = check_image(rt.alloc(), image.as_slice(), &mut out);
-    let told = matches!(found, Ok(Some(_)));
-    same(rt, (out.as_slice(), told), (verdict, faults == 1));
+    let found = judged(rt, image.as_slice(), &mut out);
+    same(rt, (found, out.as_slice()), (Ok(faults == 1), verdict));
 }
 
 /// Sees that each disk is judged so.
@@ -82,7 +82,7 @@ fn images_are_judged(rt: HostRuntime) {
 
 /// Sees that an output that takes so many bytes, or doesn't flush, is told.
 fn is_full(rt: &(impl AllocGlobal + Abort), image: &[u8], room: usize, flushes: bool) {
-    let ended = check_image(rt.alloc(), image, &mut Full { room, flushes });
+    let ended = judged(rt, image, &mut Full { room, flushes });
     same(rt, ended, Err(RunFault::File));
 }
 
@@ -99,7 +99,7 @@ fn an_output_that_fails_is_told(rt: HostRuntime) {
 /// Sees that the size of the image is told, and nothing printed.
 fn is_no_disk(rt: &(impl AllocGlobal + Abort), image: &[u8]) {
     let mut out = Vec::new(rt.alloc());
-    let ended = check_image(rt.alloc(), image, &mut out);
+    let ended = judged(rt, image, &mut out);
     same(
         rt,
         (ended, out.is_empty()),

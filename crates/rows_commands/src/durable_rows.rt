@@ -3,8 +3,9 @@ use crate::comparing::{holds, same_at};
 use crate::files::blank_paper;
 use crate::images::formatted;
 use crate::machine::{Machine, OnMachine};
+use crate::runs::shown;
 use host_session::Printer;
-use ledger_commands::{Durability, Placed, RunFault, play_file, show_image};
+use ledger_commands::{Durability, Placed, RunFault, play_file};
 use std::process::Abort;
 
 /// What was played before, and then a script and its replies.
@@ -57,7 +58,7 @@ fn told_lines(told: &[u8]) -> usize {
 /// What is shown of the shop of an image; nothing of what is none.
 fn shown_of(rt: &(impl AllocGlobal + Abort), image: &[u8]) -> Vec<u8> {
     let mut out = Vec::new(rt.alloc());
-    let _ = show_image(rt.alloc(), image, &mut out);
+    let _ = shown(rt, image, &mut out);
     out
 }
 
@@ -72,10 +73,10 @@ fn is_durable(rt: &(impl AllocGlobal + Abort), image: &[u8], call: usize, done: 
     let machine = Machine::new(rt.alloc(), image, call, done);
     let (_, told) = played(rt, &machine, SCRIPT, Durability::EachSector);
     let lines = told_lines(told.as_slice());
-    let shown = shown_of(rt, machine.disk(rt.alloc()).as_slice());
+    let shop = shown_of(rt, machine.disk(rt.alloc()).as_slice());
     let shops = SHOPS.get(lines..).unwrap_or_default();
     let shops = shops.get(..shops.len().min(2)).unwrap_or_default();
-    holds(rt, is_shop(shown.as_slice(), shops), (call, done));
+    holds(rt, is_shop(shop.as_slice(), shops), (call, done));
     machine.is_dark()
 }
 
@@ -114,6 +115,6 @@ fn what_was_told_unsynced_is_lost(rt: HostRuntime) {
     let machine = Machine::new(rt.alloc(), image.as_slice(), usize::MAX, false);
     let (_, told) = played(&rt, &machine, SCRIPT, Durability::AtEnd);
     same_at(&rt, told.as_slice(), REPLIES, "told");
-    let shown = shown_of(&rt, machine.disk(rt.alloc()).as_slice());
-    same_at(&rt, shown.as_slice(), SHOPS[0], "lost");
+    let shop = shown_of(&rt, machine.disk(rt.alloc()).as_slice());
+    same_at(&rt, shop.as_slice(), SHOPS[0], "lost");
 }

@@ -8,6 +8,22 @@ pub(crate) fn filled(rt: &(impl AllocGlobal + Abort), byte: u8, size: usize) -> 
     vec![in rt.alloc(); byte; size].expect(rt, "there is memory")
 }
 
+/// Adds these bytes, as far as there is memory.
+pub(crate) fn add(out: &mut Vec<u8>, bytes: &[u8]) {
+    let _ = out.extend_from_slice(bytes);
+}
+
+/// Adds this text with the number in the place of each `#`, as far as there is memory.
+pub(crate) fn add_numbered(out: &mut Vec<u8>, text: &[u8], number: u32) {
+    for byte in text {
+        if *byte == b'#' {
+            let _ = write!(out, "{number}");
+        } else {
+            let _ = out.push(*byte);
+        }
+    }
+}
+
 /// A writer that takes this many bytes and then fails, or fails to hand them on.
 #[derive(Drop)]
 pub(crate) struct Full {

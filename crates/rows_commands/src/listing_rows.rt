@@ -1,10 +1,9 @@
 //! What `list` prints of images, also of damaged ones.
 use crate::comparing::{holds, same, same_at};
-use crate::files::{Full, filled};
+use crate::files::{Full, add, add_numbered, filled};
 use crate::images::{Bytes, S18_0, S18_1, changed, formatted};
-use crate::runs::is_told;
-use ledger_commands::{RunFault, check_image, list_image};
-use std::io::Write;
+use crate::runs::{is_told, judged, listed};
+use ledger_commands::RunFault;
 use std::process::Abort;
 
 /// Where the third slot of the first directory sector begins.
@@ -137,7 +136,7 @@ fn is_listed(
     printed: &[u8],
 ) {
     let mut out = Vec::new(rt.alloc());
-    let got = list_image(rt.alloc(), image, &mut out);
+    let got = listed(rt, image, &mut out);
     same(rt, (got, out.as_slice()), (ended, printed));
 }
 
@@ -157,13 +156,13 @@ fn images_are_listed(rt: HostRuntime) {
 /// What `list` prints of a disk for so many tills.
 fn listing_for(rt: &impl AllocGlobal, tills: u8) -> Vec<u8> {
     // Two tills have a block, and all blocks together one side sector.
-    let blocks = (tills.min(64) + 1) / 2;
-    let (all, free) = (blocks + 1, 661 - u16::from(blocks));
+    let blocks = (u32::from(tills.min(64)) + 1) / 2;
+    let (all, free) = (blocks + 1, 661 - blocks);
     let mut text = Vec::new(rt.alloc());
-    let _ = write!(
-        text,
-        "0 \"STOCK LEDGER\" 01 2A\n2 \"STOCK\" REL\n{all} \"REQUESTS\" REL\n{free} BLOCKS FREE\n"
-    );
+    let head = b"0 \"STOCK LEDGER\" 01 2A\n2 \"STOCK\" REL\n";
+    add(&mut text, head);
+    add_numbered(&mut text, b"# \"REQUESTS\" REL\n", all);
+    add_numbered(&mut text, b"# BLOCKS FREE\n", free);
     text
 }
 
@@ -173,8 +172,8 @@ fn has_its_disk(rt: &(impl AllocGlobal + Abort), tills: u8) {
     let image = formatted(rt, tills);
     is_listed(rt, image.as_slice(), Ok(()), listing.as_slice());
     let mut out = Vec::new(rt.alloc());
-    let found = check_image(rt.alloc(), image.as_slice(), &mut out);
-    same_at(rt, found, Ok(None), tills);
+    let found = judged(rt, image.as_slice(), &mut out);
+    same_at(rt, found, Ok(false), tills);
 }
 
 #[test]
@@ -197,7 +196,7 @@ static BAD_LINKS: [(&[u8], &str); 5] = [
 fn is_bad(rt: &(impl AllocGlobal + Abort), link: &'static [u8], text: &str) {
     let image = changed(rt, 2, &[(S18_1, link)]);
     let mut out = Vec::new(rt.alloc());
-    let ended = list_image(rt.alloc(), image.as_slice(), &mut out);
+    let ended = listed(rt, image.as_slice(), &mut out);
     is_told(rt, ended, text);
     holds(rt, out.is_empty(), text);
 }
@@ -231,7 +230,7 @@ fn other_sizes_are_told(rt: HostRuntime) {
 
 /// Sees that an output that takes so many bytes, or doesn't flush, is told.
 fn is_full(rt: &(impl AllocGlobal + Abort), image: &[u8], room: usize, flushes: bool) {
-    let ended = list_image(rt.alloc(), image, &mut Full { room, flushes });
+    let ended = listed(rt, image, &mut Full { room, flushes });
     same(rt, ended, Err(RunFault::File));
 }
 

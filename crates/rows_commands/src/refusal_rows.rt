@@ -2,8 +2,8 @@
 use crate::comparing::{holds, same_at};
 use crate::files::filled;
 use crate::images::{Bytes, S17_0, S17_2, S18_1, changed, formatted};
-use crate::runs::{is_told, played};
-use ledger_commands::{RunFault, show_image};
+use crate::runs::{is_told, played, shown};
+use ledger_commands::RunFault;
 use std::process::Abort;
 
 /// Scripts with a line that can't be played, and what is told of each.
@@ -69,7 +69,7 @@ fn bad_lines_are_refused(rt: HostRuntime) {
 /// Sees that the image is neither shown nor played on for this reason, and that of a bad line `first` is told.
 fn is_refused(rt: &(impl AllocGlobal + Abort), image: &[u8], text: &str, first: &str) {
     let mut out = Vec::new(rt.alloc());
-    is_told(rt, show_image(rt.alloc(), image, &mut out), text);
+    is_told(rt, shown(rt, image, &mut out), text);
     holds(rt, out.is_empty(), text);
     not_played(rt, image, b"1,1,S,1,5\n", text);
     not_played(rt, image, b"@x 1,1,S,1,0\n", first);

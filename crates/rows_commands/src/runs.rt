@@ -2,7 +2,9 @@
 use crate::comparing::{holds, same};
 use crate::files::{Paper, Tape, new_tape};
 use host_session::Printer;
-use ledger_commands::{Placed, RunFault, check_image, play_file, show_image};
+use ledger_commands::{
+    DryFault, Placed, RunFault, check_image, dry, list_image, play_file, show_image,
+};
 use std::fmt::Display;
 use std::io::Write;
 use std::process::Abort;
@@ -40,6 +42,41 @@ pub(crate) fn played<W: Write>(
     played_within(rt, image, script, usize::MAX, out)
 }
 
+/// Plays a script without a disk: how it ends.
+pub(crate) fn dried<W: Write>(script: &[u8], out: &mut W) -> Result<(), DryFault> {
+    dry(script, out)
+}
+
+/// Judges an image: whether a fault is told.
+pub(crate) fn judged<W: Write>(
+    rt: &impl AllocGlobal,
+    image: &[u8],
+    out: &mut W,
+) -> Result<bool, RunFault> {
+    match check_image(rt.alloc(), image, out) {
+        Ok(found) => Ok(found.is_some()),
+        Err(fault) => Err(fault),
+    }
+}
+
+/// Lists an image: how that ends.
+pub(crate) fn listed<W: Write>(
+    rt: &impl AllocGlobal,
+    image: &[u8],
+    out: &mut W,
+) -> Result<(), RunFault> {
+    list_image(rt.alloc(), image, out)
+}
+
+/// Shows the shop of an image: how that ends.
+pub(crate) fn shown<W: Write>(
+    rt: &impl AllocGlobal,
+    image: &[u8],
+    out: &mut W,
+) -> Result<(), RunFault> {
+    show_image(rt.alloc(), image, out)
+}
+
 /// Sees that this was printed, and handed on by a flush.
 pub(crate) fn is_printed(rt: &impl Abort, out: &Paper, wanted: &[u8]) {
     same(rt, out.bytes.as_slice(), wanted);
@@ -47,18 +84,18 @@ pub(crate) fn is_printed(rt: &impl Abort, out: &Paper, wanted: &[u8]) {
 }
 
 /// Sees that the image is clean and that this is shown of it.
-pub(crate) fn is_shown(rt: &(impl AllocGlobal + Abort), image: &[u8], shown: &[u8]) {
+pub(crate) fn is_shown(rt: &(impl AllocGlobal + Abort), image: &[u8], text: &[u8]) {
     let mut out = Vec::new(rt.alloc());
-    let found = check_image(rt.alloc(), image, &mut out);
-    same(rt, (found, out.as_slice()), (Ok(None), b"OK\n"));
-    shows(rt, image, shown);
+    let found = judged(rt, image, &mut out);
+    same(rt, (found, out.as_slice()), (Ok(false), b"OK\n"));
+    shows(rt, image, text);
 }
 
 /// Sees that this is shown of the image.
-pub(crate) fn shows(rt: &(impl AllocGlobal + Abort), image: &[u8], shown: &[u8]) {
+pub(crate) fn shows(rt: &(impl AllocGlobal + Abort), image: &[u8], text: &[u8]) {
     let mut out = Vec::new(rt.alloc());
-    let ended = show_image(rt.alloc(), image, &mut out);
-    same(rt, (ended, out.as_slice()), (Ok(()), shown));
+    let ended = shown(rt, image, &mut out);
+    same(rt, (ended, out.as_slice()), (Ok(()), text));
 }
 
 /// Sees that a command isn't done, and that this is told.

@@ -1,8 +1,8 @@
 //! Worked scripts of the dry run, each with the replies that it must have, and scripts that have none.
 use crate::comparing::{same, same_at};
 use crate::files::Full;
-use crate::runs::has_text;
-use ledger_commands::{DryFault, dry};
+use crate::runs::{dried, has_text};
+use ledger_commands::DryFault;
 use std::process::Abort;
 
 /// What a script shows, the script, and its replies.
@@ -88,7 +88,7 @@ static SCRIPTS: [(&str, &[u8], &[u8]); 15] = [
 /// Sees that a script has these replies.
 fn is_answered(rt: &(impl AllocGlobal + Abort), shows: &str, script: &[u8], replies: &[u8]) {
     let mut out = Vec::new(rt.alloc());
-    let ended = dry(script, &mut out);
+    let ended = dried(script, &mut out);
     same_at(rt, (ended, out.as_slice()), (Ok(()), replies), shows);
 }
 
@@ -116,7 +116,7 @@ fn is_refused(
         room: 0,
         flushes: false,
     };
-    same(rt, dry(script, &mut out), Err(fault));
+    same(rt, dried(script, &mut out), Err(fault));
     same(rt, fault.number(), number);
     has_text(rt, fault, text);
 }

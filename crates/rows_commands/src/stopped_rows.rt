@@ -2,8 +2,8 @@
 use crate::comparing::{same, same_at};
 use crate::files::{Full, blank_paper};
 use crate::images::formatted;
-use crate::runs::{is_printed, is_shown, played, played_within};
-use ledger_commands::{RunFault, show_image};
+use crate::runs::{is_printed, is_shown, played, played_within, shown};
+use ledger_commands::RunFault;
 use std::io::Write;
 use std::process::Abort;
 
@@ -52,24 +52,24 @@ fn a_file_that_fails_ends_the_run(rt: HostRuntime) {
 }
 
 /// Sees that an output that takes so many bytes, or doesn't flush, ends the run in `File`, and that this is then shown.
-fn stands(rt: &(impl AllocGlobal + Abort), image: &[u8], room: usize, flushes: bool, shown: &[u8]) {
+fn stands(rt: &(impl AllocGlobal + Abort), image: &[u8], room: usize, flushes: bool, text: &[u8]) {
     let mut full = Full { room, flushes };
     let (ended, file) = played(rt, image, b"1,1,S,42,120\n", &mut full);
     same(rt, ended, Err(RunFault::File));
-    is_shown(rt, file.bytes(), shown);
+    is_shown(rt, file.bytes(), text);
 }
 
 #[test]
 fn after_an_output_that_fails_the_lines_stand(rt: HostRuntime) {
     let image = formatted(&rt, 2);
-    let shown = b"TOP 9256\nCARD 42,120\nTILL 1,1,S,42,120,DONE,120\n";
-    stands(&rt, image.as_slice(), 12, true, shown);
-    stands(&rt, image.as_slice(), 1000, false, shown);
+    let text = b"TOP 9256\nCARD 42,120\nTILL 1,1,S,42,120,DONE,120\n";
+    stands(&rt, image.as_slice(), 12, true, text);
+    stands(&rt, image.as_slice(), 1000, false, text);
 }
 
 /// Sees that an output that takes so many bytes, or doesn't flush, is told where a disk is shown.
 fn is_not_shown(rt: &(impl AllocGlobal + Abort), image: &[u8], room: usize, flushes: bool) {
-    let ended = show_image(rt.alloc(), image, &mut Full { room, flushes });
+    let ended = shown(rt, image, &mut Full { room, flushes });
     same(rt, ended, Err(RunFault::File));
 }
 

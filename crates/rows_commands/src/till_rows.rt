@@ -1,6 +1,6 @@
 //! A till and the dry run: messages that are lost, repeated and late.
 use crate::comparing::same;
-use ledger_commands::dry;
+use crate::runs::dried;
 use request_cards::{Answer, Kind, Reply, Till, Wish, Word};
 use std::process::Abort;
 
@@ -40,7 +40,7 @@ fn reply_to(rt: &impl AllocGlobal, lines: &mut Lines, message: &[u8]) -> Reply {
     let _ = lines.script.extend_from_slice(message);
     let _ = lines.script.push(b'\n');
     let mut out = Vec::new(rt.alloc());
-    let _ = dry(lines.script.as_slice(), &mut out);
+    let _ = dried(lines.script.as_slice(), &mut out);
     let told = out.as_slice().get(lines.read..).unwrap_or(&[]);
     lines.read = out.len();
     reply_in(told)

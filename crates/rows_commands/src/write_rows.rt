@@ -1,8 +1,7 @@
 //! How replies are handed to the output: each at once with its end of line.
 use crate::comparing::same_at;
 use crate::images::formatted;
-use crate::runs::played;
-use ledger_commands::dry;
+use crate::runs::{dried, played};
 use std::io::{self, Write};
 use std::process::Abort;
 
@@ -61,6 +60,6 @@ fn a_reply_and_its_end_of_line_are_one_write(rt: HostRuntime) {
         writes: 0,
         lines: 0,
     };
-    let _ = dry(SCRIPTS[0], &mut out);
+    let _ = dried(SCRIPTS[0], &mut out);
     are_four(&rt, &out, SCRIPTS[0]);
 }
