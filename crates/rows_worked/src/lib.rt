@@ -35,8 +35,6 @@ mod output_rows;
 #[cfg(test)]
 mod record_rows;
 #[cfg(test)]
-mod records;
-#[cfg(test)]
 mod session_rows;
 #[cfg(test)]
 mod sessions;

@@ -1,25 +1,20 @@
 //! Sessions on copies of a disk, also where power goes in them.
-use crate::comparing::{holds, same_at};
-use crate::disks::{clean, fresh, fused, loaded, passed};
-use d64_image::{KeptDisk, MemDisk, Mirror, Sectors};
-use host_session::{Event, OpenFault, PlayFault, Printer, ScriptFault, Session, play, run_script};
+use crate::comparing::holds;
+use crate::disks::{clean, fresh, loaded};
+use d64_image::{Fuse, KeptDisk, MemDisk, Mirror, Sectors};
+use host_session::{Event, PlayFault, Printer, ScriptFault, Session, play, run_script};
 use request_cards::Reply;
 use std::process::Abort;
 use tool_devices::Meter;
+
+/// Power that doesn't go: more writes than any disk takes in a row.
+pub(crate) const WHOLE: u32 = u32::MAX;
 
 /// The session on a disk that is opened.
 pub(crate) fn open<D: Sectors>(rt: &impl Abort, disk: D) -> Session<D> {
     match Session::open(disk) {
         Ok(session) => session,
         Err((fault, _)) => panic!(rt; "the disk isn't opened: {fault:?}"),
-    }
-}
-
-/// Opens a disk: the fault of one that isn't opened, and the disk then.
-pub(crate) fn opening<D: Sectors>(disk: D) -> (Option<OpenFault>, D) {
-    match Session::open(disk) {
-        Ok(session) => (None, session.close()),
-        Err((fault, disk)) => (Some(fault), disk),
     }
 }
 
@@ -30,42 +25,92 @@ pub(crate) fn handed<D: Sectors>(rt: &impl Abort, disk: D, message: &[u8]) -> (R
     (reply, session.close())
 }
 
-/// Plays a script: how that ends, what is told, and the disk then.
-pub(crate) fn ran<D: Sectors>(
-    rt: &impl AllocGlobal,
+/// Plays a script to its end: what is told, and the disk then.
+pub(crate) fn told<D: Sectors>(
+    rt: &(impl Abort + AllocGlobal),
     disk: D,
     script: &[u8],
-) -> (Result<(), ScriptFault>, Vec<u8>, D) {
+) -> (Vec<u8>, D) {
     let mut out = Printer::new(Vec::new(rt.alloc()));
     match run_script(disk, script, &mut out) {
-        Ok(disk) => (Ok(()), out.into_inner(), disk),
-        Err((fault, disk)) => (Err(fault), out.into_inner(), disk),
+        Ok(disk) => (out.into_inner(), disk),
+        Err((fault, _)) => panic!(rt; "the script isn't played: {fault:?}"),
     }
 }
 
-/// A list that has a reply.
-pub(crate) fn one_reply(rt: &(impl Abort + AllocGlobal)) -> Vec<Reply> {
-    vec![in rt.alloc(); Reply::Syntax; 1].expect(rt, "a list")
+/// Plays a script that is stopped: the fault, what is told, and the disk then.
+pub(crate) fn stopped<D: Sectors>(
+    rt: &(impl Abort + AllocGlobal),
+    disk: D,
+    script: &[u8],
+) -> (ScriptFault, Vec<u8>, D) {
+    let mut out = Printer::new(Vec::new(rt.alloc()));
+    match run_script(disk, script, &mut out) {
+        Ok(_) => panic!(rt; "the script is played"),
+        Err((fault, disk)) => (fault, out.into_inner(), disk),
+    }
 }
 
-/// Plays events, behind the replies that the list has: how that ends, the list, and the disk then.
-pub(crate) fn ran_of_events<D: Sectors>(
+/// Plays events to their end: what is told, and the disk then.
+pub(crate) fn told_of_events<D: Sectors>(
+    rt: &(impl Abort + AllocGlobal),
     disk: D,
-    events: &[Event<'_>],
-    told: Vec<Reply>,
-) -> (Result<(), PlayFault>, Vec<Reply>, D) {
-    let mut told = told;
+    events: &[Event<'static>],
+) -> (Vec<Reply>, D) {
+    let mut told = Vec::new(rt.alloc());
     match play(disk, events, &mut told) {
-        Ok(disk) => (Ok(()), told, disk),
-        Err((fault, disk)) => (Err(fault), told, disk),
+        Ok(disk) => (told, disk),
+        Err((fault, _)) => panic!(rt; "the events aren't played: {fault:?}"),
+    }
+}
+
+/// Plays events that are stopped, behind a reply that the list has: the fault, the list, and the disk then.
+pub(crate) fn stopped_events<D: Sectors>(
+    rt: &(impl Abort + AllocGlobal),
+    disk: D,
+    events: &[Event<'static>],
+) -> (PlayFault, Vec<Reply>, D) {
+    let mut told = vec![in rt.alloc(); Reply::Syntax; 1].expect(rt, "a list");
+    match play(disk, events, &mut told) {
+        Ok(_) => panic!(rt; "the events are played"),
+        Err((fault, disk)) => (fault, told, disk),
     }
 }
 
 /// The fresh disk on which this script was played.
 pub(crate) fn after(rt: &(impl Abort + AllocGlobal), script: &[u8]) -> MemDisk {
-    let (ended, _, disk) = ran(rt, fresh(rt), script);
-    same_at(rt, ended, Ok(()), script);
+    let (_, disk) = told(rt, fresh(rt), script);
     disk
+}
+
+/// A copy of the disk whose writes are counted, and whose power goes after so many.
+fn fused(rt: &(impl Abort + AllocGlobal), disk: &MemDisk, power: u32) -> Fuse<Meter<MemDisk>> {
+    Fuse::new(Meter::new(loaded(rt, disk.bytes())), power)
+}
+
+/// How many writes passed, and the disk then.
+fn passed(fuse: Fuse<Meter<MemDisk>>) -> (u64, MemDisk) {
+    let meter = fuse.into_inner();
+    (meter.writes(), meter.into_inner())
+}
+
+/// What an opening leaves of the disk.
+fn left<D: Sectors>(disk: D) -> D {
+    match Session::open(disk) {
+        Ok(session) => session.close(),
+        Err((_, disk)) => disk,
+    }
+}
+
+/// What an opening leaves of the disk, and the message behind it where the session stands.
+fn left_by<D: Sectors>(disk: D, message: &[u8]) -> D {
+    match Session::open(disk) {
+        Ok(mut session) => {
+            session.handle(message);
+            session.close()
+        }
+        Err((_, disk)) => disk,
+    }
 }
 
 /// Opens a copy of the disk, whose power goes after so many writes; tells how many passed, and the disk then.
@@ -74,20 +119,18 @@ pub(crate) fn opened(
     disk: &MemDisk,
     power: u32,
 ) -> (u64, MemDisk) {
-    let (_, fuse) = opening(fused(rt, disk, power));
-    passed(fuse)
+    passed(left(fused(rt, disk, power)))
 }
 
-/// Hands the message to a session on a copy of the disk, whose power goes after so many writes; tells how many passed,
-/// and the disk then.
+/// Hands the message to a session on a copy of the disk, whose power goes after so many writes, also before the session
+/// stands; tells how many passed, and the disk then.
 pub(crate) fn handled(
     rt: &(impl Abort + AllocGlobal),
     disk: &MemDisk,
     message: &[u8],
     power: u32,
 ) -> (u64, MemDisk) {
-    let (_, fuse) = handed(rt, fused(rt, disk, power), message);
-    passed(fuse)
+    passed(left_by(fused(rt, disk, power), message))
 }
 
 /// The same disk in memory, and in the place of a file.
