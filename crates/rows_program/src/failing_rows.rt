@@ -21,6 +21,7 @@ sync 2 fails
 $ ledger_cli store a.d64 CARDS s.txt
 tells DEVICE|
 ends 3
+written
 syncs 2
 ";
 

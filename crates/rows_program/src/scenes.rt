@@ -28,6 +28,7 @@
 //! - `size`, `at-most`: its bytes; `writes`, `syncs`, `folder-syncs`: how many there were; `reads-behind`: how many syncs
 //!   before it was read; `pieces`: in how many writes the output was taken
 //! - `synced`: one sync before the first write, and one behind each
+//! - `unlocked`: the image was read without a lock, as a script
 use crate::jobs::asked;
 use crate::memory::{Errors, Memory, Runtime};
 use crate::stored::{Kind, Others, Stored};
@@ -262,6 +263,7 @@ fn sees(scene: &Scene, word: &[u8], text: &[u8]) -> bool {
         b"tells" => took(&memory.err, text),
         b"ends" => memory.status.replace(0) as usize == number_of(text),
         b"synced" => is_synced(&memory.image),
+        b"unlocked" => memory.image.unlocked.replace(false),
         _ => match counted(memory, word) {
             Some(number) => number == number_of(text),
             None => leaves(scene, word, text),
@@ -278,6 +280,7 @@ fn is_told(scene: &Scene) -> bool {
     took(&memory.out, b"")
         && took(&memory.err, b"")
         && memory.status.get() == 0
+        && !memory.image.unlocked.get()
         && memory.script.is_as(&scene.script)
         && (scene.written.get()
             || memory.image.writes.get() == 0 && memory.image.is_as(&scene.image))
@@ -290,7 +293,7 @@ fn noted(scene: &Scene) -> bool {
     scene.image.copy(&scene.memory.image) && scene.script.copy(&scene.memory.script)
 }
 
-/// Runs the program. Whether nothing was left of the run before, and the image was read and written under its lock.
+/// Runs the program. Whether nothing was left of the run before.
 fn runs(scene: &Scene, told: Told, line: &[u8]) -> bool {
     let memory = &scene.memory;
     let begins = is_told(scene) && noted(scene);
@@ -308,7 +311,7 @@ fn runs(scene: &Scene, told: Told, line: &[u8]) -> bool {
         .set(program(&runtime, told, &mut Errors(&memory.err)));
     memory.mend();
     scene.told.set(false);
-    begins && !memory.image.unlocked.get()
+    begins
 }
 
 /// Writes to the output which job a command line asks for. Whether nothing was left of the run before.

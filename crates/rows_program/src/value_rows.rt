@@ -38,6 +38,7 @@ ends 3
 $ ledger_cli play s.txt a.d64
 tells IMAGE SIZE|
 ends 1
+unlocked
 
 $ ledger_cli serve s.txt
 tells IMAGE SIZE|
