@@ -1,11 +1,11 @@
 //! The blank image made a second way: its two files created on a disk without files, and the second one grown.
-ghost use Rattle.std.specs.Prelude.{◌≤◌, length};
+ghost use Rattle.std.specs.Prelude.{◌≤◌};
 
-use crate::comparing::holds;
-use crate::disks::{blank, clean, found, sector};
+use crate::comparing::{holds, same_at};
+use crate::disks::{WHOLE, blank, sector};
+use crate::records::{grow, make};
 use d64_image::{MemDisk, Place, Sectors};
 use disk_layout::{Bam, directory_start, map_place};
-use rel_records::{create, grow_to};
 use std::process::Abort;
 
 /// The same bytes of 18/0, with a map of a disk without files: all is free but 18/0 and 18/1.
@@ -37,22 +37,13 @@ fn empty_disk(rt: &(impl Abort + AllocGlobal), map: &[u8; 256]) -> MemDisk {
     disk
 }
 
-/// Creates a file on a clean disk.
-fn create_file(rt: &impl Abort, disk: &mut MemDisk, name: &[u8], size: u8)
-    requires name { length name.now ≤ 16 }
-    requires low { 1 ≤ size }
-    requires high { size ≤ 254 }
-{
-    clean(rt, disk);
-    create(disk, name, size).expect(rt, "a new file");
-}
-
 /// Creates the two files on a disk without files, and lets the second one grow by a record for each till.
-fn create_files(rt: &impl Abort, disk: &mut MemDisk, tills: u8) {
-    create_file(rt, disk, b"STOCK", 18);
-    create_file(rt, disk, b"REQUESTS", 127);
-    let mut requests = found(rt, disk, b"REQUESTS");
-    grow_to(disk, &mut requests, u32::from(tills)).expect(rt, "a record for each till");
+fn with_files(rt: &(impl Abort + AllocGlobal), disk: &MemDisk, tills: u8) -> MemDisk {
+    let (disk, (stock, _)) = make(rt, disk, b"STOCK", 18, WHOLE);
+    let (disk, (requests, _)) = make(rt, &disk, b"REQUESTS", 127, WHOLE);
+    let (disk, (grown, _, _)) = grow(rt, &disk, b"REQUESTS", u32::from(tills), WHOLE);
+    same_at(rt, [stock, requests, grown], [Ok(()); 3], tills);
+    disk
 }
 
 /// Sees that a disk made so, with the name and the number of the blank one for so many tills, has its bytes.
@@ -62,8 +53,7 @@ fn is_blank(rt: &(impl Abort + AllocGlobal), tills: u8)
 {
     let mut wanted = blank(rt, tills);
     let map = without_files(sector(&mut wanted, 18, 0));
-    let mut disk = empty_disk(rt, &map);
-    create_files(rt, &mut disk, tills);
+    let disk = with_files(rt, &empty_disk(rt, &map), tills);
     holds(rt, disk.bytes() == wanted.bytes(), (tills, "tills"));
 }
 

@@ -2,12 +2,7 @@
 use std::fmt::Debug;
 use std::process::Abort;
 
-/// Sees that both are the same.
-pub(crate) fn same<T: PartialEq + Debug + Drop>(rt: &impl Abort, got: T, want: T) {
-    assert_eq!(rt; got, want);
-}
-
-/// The same in a row of a table, which it names where they differ.
+/// Sees that both are the same in a row, which it names where they differ.
 pub(crate) fn same_at<T: PartialEq + Debug + Drop, L: Debug + Drop>(
     rt: &impl Abort,
     got: T,
@@ -17,7 +12,12 @@ pub(crate) fn same_at<T: PartialEq + Debug + Drop, L: Debug + Drop>(
     assert_eq!(rt; got, want, "{row:?}");
 }
 
+/// Sees that both are the same.
+pub(crate) fn same<T: PartialEq + Debug + Drop>(rt: &impl Abort, got: T, want: T) {
+    same_at(rt, got, want, "");
+}
+
 /// Sees that it holds.
 pub(crate) fn holds<L: Debug + Drop>(rt: &impl Abort, it: bool, row: L) {
-    assert!(rt; it, "{row:?}");
+    same_at(rt, it, true, row);
 }

@@ -2,63 +2,23 @@
 ghost use Rattle.std.specs.Prelude.{◌≤◌, length};
 
 use crate::comparing::{same, same_at};
-use crate::disks::{clean, fresh, loaded, put, sector, stands};
+use crate::disks::{WHOLE, fresh, put, sector, stands};
 use crate::growth_rows::mended;
+use crate::records::{make, mend};
 use arrayvec::ArrayVec;
-use d64_image::{Fuse, MemDisk};
+use d64_image::MemDisk;
 use disk_layout::{BamView, read_directory};
-use layout_check::repair;
-use rel_records::{RelFault, create};
+use rel_records::RelFault;
 use std::process::Abort;
-use tool_devices::Meter;
-
-/// What creating a file told, and how many sectors were written.
-type Made = (Result<(), RelFault>, u64);
-
-/// Creates a relative file on a clean disk.
-fn make(rt: &impl Abort, disk: MemDisk, name: &[u8], size: u8) -> (MemDisk, Made)
-    requires name { length name.now ≤ 16 }
-    requires low { 1 ≤ size }
-    requires high { size ≤ 254 }
-{
-    let mut disk = Meter::new(disk);
-    clean(rt, &mut disk);
-    let answer = match create(&mut disk, name, size) {
-        Ok(_) => Ok(()),
-        Err(fault) => Err(fault),
-    };
-    let writes = disk.writes();
-    (disk.into_inner(), (answer, writes))
-}
-
-/// Creates a relative file on the disk of this image, where power fails after so many writes. Tells whether it came to
-/// its end, and what is on the disk then.
-fn cut(
-    rt: &(impl Abort + AllocGlobal),
-    image: &[u8],
-    name: &[u8],
-    size: u8,
-    writes: u32,
-) -> (bool, MemDisk)
-    requires name { length name.now ≤ 16 }
-    requires low { 1 ≤ size }
-    requires high { size ≤ 254 }
-{
-    let mut disk = loaded(rt, image);
-    clean(rt, &mut disk);
-    let mut fuse = Fuse::new(disk, writes);
-    let done = create(&mut fuse, name, size).is_ok();
-    (done, fuse.into_inner())
-}
 
 /// Files whose entries fill 18/1.
 const FILLING: [&[u8; 2]; 6] = [b"F3", b"F4", b"F5", b"F6", b"F7", b"F8"];
 
 /// The disk with a file more of each of these names, whose entries 18/1 takes: four writes each.
-fn with_files(rt: &impl Abort, disk: MemDisk, names: &[&[u8; 2]]) -> MemDisk {
+fn with_files(rt: &(impl Abort + AllocGlobal), disk: MemDisk, names: &[&[u8; 2]]) -> MemDisk {
     let mut disk = disk;
     for name in names {
-        let (after, made) = make(rt, disk, *name, 254);
+        let (after, made) = make(rt, &disk, *name, 254, WHOLE);
         same(rt, made, (Ok(()), 4));
         disk = after;
     }
@@ -78,7 +38,7 @@ fn blocks_free(disk: &mut MemDisk) -> u16 {
 // Six files fill 18/1 with four writes each; the seventh takes 18/2, and five.
 #[test]
 fn a_directory_sector_is_added(rt: HostRuntime) {
-    let (mut disk, made) = make(&rt, filled(&rt), b"F9", 254);
+    let (mut disk, made) = make(&rt, &filled(&rt), b"F9", 254, WHOLE);
     same(&rt, made, (Ok(()), 5));
     same(&rt, blocks_free(&mut disk), 646);
     stands(&rt, &disk, (18, 0, 72), b"\x10\xF8\xFF\x07");
@@ -88,21 +48,25 @@ fn a_directory_sector_is_added(rt: HostRuntime) {
 }
 
 /// Makes a file named after this number.
-fn make_numbered(rt: &impl Abort, disk: MemDisk, number: u8) -> (MemDisk, Made) {
+fn make_numbered(
+    rt: &(impl Abort + AllocGlobal),
+    disk: &MemDisk,
+    number: u8,
+) -> (MemDisk, (Result<(), RelFault>, u64)) {
     let name = [
         b'F',
         b'0' + number / 100,
         b'0' + number / 10 % 10,
         b'0' + number % 10,
     ];
-    make(rt, disk, &name, 254)
+    make(rt, disk, &name, 254, WHOLE)
 }
 
 /// The disk with so many files more.
-fn with_numbered(rt: &impl Abort, disk: MemDisk, count: u8) -> MemDisk {
+fn with_numbered(rt: &(impl Abort + AllocGlobal), disk: MemDisk, count: u8) -> MemDisk {
     let mut disk = disk;
     for number in 0..count {
-        let (after, (answer, _)) = make_numbered(rt, disk, number);
+        let (after, (answer, _)) = make_numbered(rt, &disk, number);
         same_at(rt, answer, Ok(()), ("file", number));
         disk = after;
     }
@@ -122,7 +86,7 @@ fn entries(rt: &impl Abort, disk: &mut MemDisk) -> usize {
 #[test]
 fn the_directory_fills(rt: HostRuntime) {
     let disk = with_numbered(&rt, fresh(&rt), 142);
-    let (mut disk, refused) = make_numbered(&rt, disk, 142);
+    let (mut disk, refused) = make_numbered(&rt, &disk, 142);
     same(&rt, refused, (Err(RelFault::Full), 0));
     same(&rt, blocks_free(&mut disk), 376);
     stands(&rt, &disk, (18, 0, 72), b"\0\0\0\0");
@@ -132,11 +96,10 @@ fn the_directory_fills(rt: HostRuntime) {
 // A name is taken, whatever its entry's record length or type.
 #[test]
 fn a_name_is_taken(rt: HostRuntime) {
-    let (mut disk, made) = make(&rt, fresh(&rt), b"STOCK", 17);
+    let (mut disk, made) = make(&rt, &fresh(&rt), b"STOCK", 17, WHOLE);
     same(&rt, made, (Err(RelFault::Exists), 0));
     put(&mut disk, (18, 1, 2), b"\x82");
-    repair(&mut disk).expect(&rt, "a disk that is mended");
-    let (_, made) = make(&rt, disk, b"STOCK", 18);
+    let (_, made) = make(&rt, &mend(&rt, &disk), b"STOCK", 18, WHOLE);
     same(&rt, made, (Err(RelFault::Exists), 0));
 }
 
@@ -160,14 +123,9 @@ fn are_mended(
     requires high { size ≤ 254 }
 {
     for &(writes, mends) in rows {
-        let (done, left) = cut(rt, disk.bytes(), name, size, writes);
-        same(rt, done, writes == all);
-        same_at(
-            rt,
-            mended(rt, left.bytes(), 0),
-            (mends, 14),
-            ("writes", writes),
-        );
+        let (left, (answer, _)) = make(rt, disk, name, size, writes);
+        let told = (answer.is_ok(), mended(rt, &left, 0));
+        same_at(rt, told, (writes == all, (mends, 14)), ("writes", writes));
     }
 }
 

@@ -1,12 +1,14 @@
 //! Requests in which power goes after each of their sector writes: the writes of the next opening and of the repeat,
 //! and what the disk holds between them.
-use crate::comparing::{holds, same, same_at};
-use crate::days::Line::{Cut, Say};
+use crate::comparing::{holds, same_at};
 use crate::days::is_played;
-use crate::disks::clean;
-use crate::sessions::{WHOLE, after, handled, opened};
+use crate::disks::{WHOLE, clean};
+use crate::sessions::{after, handled, opened};
 use d64_image::MemDisk;
 use std::process::Abort;
+
+/// A message in which power goes, as a script has it, the writes of the next opening, and those of the repeat.
+type Cut = (&'static [u8], u64, u64);
 
 /// A message in which power goes.
 #[derive(Clone, Copy)]
@@ -15,8 +17,8 @@ struct Asked {
     before: &'static [u8],
     message: &'static [u8],
     reply: &'static [u8],
-    /// The writes of the next opening and of the repeat, where power went after 0, 1, 2 .. writes.
-    writes: &'static [(u64, u64)],
+    /// The message where power goes after 0, 1, 2 .. of its writes, those of the next opening, and those of the repeat.
+    cuts: &'static [Cut],
 }
 
 /// A first set that takes a block, and whose card lies in two.
@@ -24,17 +26,17 @@ const SET: Asked = Asked {
     before: b"",
     message: b"1,1,S,15,7",
     reply: b"1,1,DONE,7",
-    writes: &[
-        (0, 9),
-        (1, 9),
-        (1, 9),
-        (2, 9),
-        (1, 4),
-        (0, 4),
-        (3, 0),
-        (3, 0),
-        (3, 0),
-        (0, 0),
+    cuts: &[
+        (b"@0 1,1,S,15,7", 0, 9),
+        (b"@1 1,1,S,15,7", 1, 9),
+        (b"@2 1,1,S,15,7", 1, 9),
+        (b"@3 1,1,S,15,7", 2, 9),
+        (b"@4 1,1,S,15,7", 1, 4),
+        (b"@5 1,1,S,15,7", 0, 4),
+        (b"@6 1,1,S,15,7", 3, 0),
+        (b"@7 1,1,S,15,7", 3, 0),
+        (b"@8 1,1,S,15,7", 3, 0),
+        (b"@9 1,1,S,15,7", 0, 0),
     ],
 };
 
@@ -43,18 +45,18 @@ const SIDE: Asked = Asked {
     before: b"1,1,S,1693,1\n",
     message: b"1,2,S,1694,2",
     reply: b"1,2,DONE,2",
-    writes: &[
-        (0, 10),
-        (1, 10),
-        (1, 10),
-        (1, 10),
-        (2, 10),
-        (1, 4),
-        (0, 4),
-        (3, 0),
-        (3, 0),
-        (3, 0),
-        (0, 0),
+    cuts: &[
+        (b"@0 1,2,S,1694,2", 0, 10),
+        (b"@1 1,2,S,1694,2", 1, 10),
+        (b"@2 1,2,S,1694,2", 1, 10),
+        (b"@3 1,2,S,1694,2", 1, 10),
+        (b"@4 1,2,S,1694,2", 2, 10),
+        (b"@5 1,2,S,1694,2", 1, 4),
+        (b"@6 1,2,S,1694,2", 0, 4),
+        (b"@7 1,2,S,1694,2", 3, 0),
+        (b"@8 1,2,S,1694,2", 3, 0),
+        (b"@9 1,2,S,1694,2", 3, 0),
+        (b"@10 1,2,S,1694,2", 0, 0),
     ],
 };
 
@@ -63,7 +65,14 @@ const MOVE: Asked = Asked {
     before: b"1,1,S,1,10\n1,2,S,15,3\n",
     message: b"1,3,M,1,4,15",
     reply: b"1,3,DONE,6,7",
-    writes: &[(0, 5), (4, 0), (4, 0), (4, 0), (4, 0), (0, 0)],
+    cuts: &[
+        (b"@0 1,3,M,1,4,15", 0, 5),
+        (b"@1 1,3,M,1,4,15", 4, 0),
+        (b"@2 1,3,M,1,4,15", 4, 0),
+        (b"@3 1,3,M,1,4,15", 4, 0),
+        (b"@4 1,3,M,1,4,15", 4, 0),
+        (b"@5 1,3,M,1,4,15", 0, 0),
+    ],
 };
 
 /// A refusal.
@@ -71,27 +80,43 @@ const REFUSED: Asked = Asked {
     before: b"",
     message: b"1,1,R,7,5",
     reply: b"1,1,NO CARD",
-    writes: &[(0, 1), (0, 0)],
+    cuts: &[(b"@0 1,1,R,7,5", 0, 1), (b"@1 1,1,R,7,5", 0, 0)],
 };
 
-/// Hands the message to a session whose power goes after so many writes. What the next opening writes, and then the
-/// repeat, which has the reply, stands in the row; the same is told of a script and of events.
-fn is_cut(
+/// Hands the message to a session whose power goes after so many writes, opens the disk again, and repeats the message:
+/// the disk then, which the next opening has left clean.
+fn repeated(
     rt: &(impl Abort + AllocGlobal),
     disk: &MemDisk,
-    asked: &Asked,
+    message: &[u8],
     power: u32,
     writes: (u64, u64),
-) {
-    let (passed, cut) = handled(rt, disk, asked.message, power);
-    same(rt, passed, u64::from(power));
+) -> MemDisk {
+    let (passed, cut) = handled(rt, disk, message, power);
     let (recovery, mut mended) = opened(rt, &cut, WHOLE);
     clean(rt, &mut mended);
-    let (repeat, last) = handled(rt, &mended, asked.message, WHOLE);
-    same_at(rt, (recovery, repeat), writes, power);
+    let (repeat, last) = handled(rt, &mended, message, WHOLE);
+    same_at(
+        rt,
+        (passed, recovery, repeat),
+        (u64::from(power), writes.0, writes.1),
+        power,
+    );
+    last
+}
+
+/// Cuts the message after so many writes. What the next opening writes, and then the repeat, which has the reply, stands
+/// in the row; the same is told of a script and of events.
+fn is_cut(rt: &(impl Abort + AllocGlobal), disk: &MemDisk, asked: &Asked, power: u32, cut: Cut) {
+    let (line, recovery, repeat) = cut;
+    let last = repeated(rt, disk, asked.message, power, (recovery, repeat));
     let lines = [
-        Cut(power, &[], asked.message, passed.saturating_add(recovery)),
-        Say(asked.message, asked.reply, repeat),
+        (
+            line,
+            b"CUT".as_slice(),
+            u64::from(power).saturating_add(recovery),
+        ),
+        (asked.message, asked.reply, repeat),
     ];
     let played = is_played(rt, disk, &lines, "a request that is cut");
     holds(rt, played.bytes() == last.bytes(), power);
@@ -100,8 +125,10 @@ fn is_cut(
 /// Cuts the request after each of its writes.
 fn is_cut_everywhere(rt: &(impl Abort + AllocGlobal), asked: &Asked) {
     let disk = after(rt, asked.before);
-    for (power, writes) in (0u32..).zip(asked.writes) {
-        is_cut(rt, &disk, asked, power, *writes);
+    let mut power = 0u32;
+    for cut in asked.cuts {
+        is_cut(rt, &disk, asked, power, *cut);
+        power = power.saturating_add(1);
     }
 }
 

@@ -4,14 +4,15 @@ ghost use Rattle.std.specs.Prelude.{◌≡◌, ◌≤◌};
 ghost use Rattle.d64_image.specs.Memory.{disk_image, sectors_in};
 ghost use Rattle.disk_layout.specs.Clean.{IsClean};
 ghost use Rattle.disk_layout.specs.Layout.{IsSound};
-ghost use Rattle.rel_records.specs.File.{IsOf, length_of};
+ghost use Rattle.rel_records.specs.File.{IsOf};
 
 use crate::comparing::same_at;
 use blank_shop::blank_image;
-use d64_image::{MemDisk, Place, Sectors};
+use d64_image::{Fuse, MemDisk, Place, Sectors};
 use layout_check::{check, survey};
 use rel_records::{RelFile, find};
 use std::process::Abort;
+use tool_devices::Meter;
 
 /// The blank disk for so many tills.
 pub(crate) fn blank(rt: &(impl Abort + AllocGlobal), tills: u8) -> MemDisk
@@ -35,6 +36,23 @@ pub(crate) fn loaded(rt: &(impl Abort + AllocGlobal), image: &[u8]) -> MemDisk
 {
     MemDisk::load(rt.alloc(), image).expect(rt, "a disk of these bytes")
 }
+
+/// A copy of the disk whose writes are counted, and whose power goes after so many.
+pub(crate) fn fused(
+    rt: &(impl Abort + AllocGlobal),
+    disk: &MemDisk,
+    power: u32,
+) -> Meter<Fuse<MemDisk>> {
+    Meter::new(Fuse::new(loaded(rt, disk.bytes()), power))
+}
+
+/// How many writes passed, and the disk then.
+pub(crate) fn passed(meter: Meter<Fuse<MemDisk>>) -> (u64, MemDisk) {
+    (meter.writes(), meter.into_inner().into_inner())
+}
+
+/// Power that doesn't go: more writes than any disk takes in a row.
+pub(crate) const WHOLE: u32 = u32::MAX;
 
 /// Sees that the disk is clean.
 pub(crate) fn clean<D: Sectors>(rt: &impl Abort, disk: &mut D)
@@ -79,20 +97,6 @@ pub(crate) fn sound_stock<D: Sectors>(rt: &impl Abort, disk: &mut D) -> RelFile
     }
 }
 
-/// STOCK of a clean disk, whose records have 18 bytes.
-pub(crate) fn stock<D: Sectors>(rt: &impl Abort, disk: &mut D) -> RelFile
-    ensures clean { IsClean (D.history.image disk.new) }
-    ensures of { IsOf (D.history.image disk.new) result }
-    ensures length { length_of result ≡ 18 }
-{
-    let file = found(rt, disk, b"STOCK");
-    assert!(rt;
-        file.length() == 18,
-        "the records of STOCK have another length"
-    );
-    file
-}
-
 /// The place. One that the disk lacks is 1/0.
 pub(crate) fn at(track: u8, number: u8) -> Place {
     Place::new(track, number).unwrap_or_default()
@@ -129,6 +133,9 @@ pub(crate) fn stands(
 /// Bytes of a sector: its place, the first of them, how many they are, and a text, behind which zeros stand.
 pub(crate) type Change = (u8, u8, u8, usize, &'static [u8]);
 
+/// As many as a sector has.
+const ZEROS: [u8; 256] = [0; 256];
+
 /// An open intent of version 1, as it stands for till 1.
 pub(crate) const INTENT: Change = (
     17,
@@ -138,26 +145,29 @@ pub(crate) const INTENT: Change = (
     b"I,000000001,S,00001,000000005,0,000000005\r",
 );
 
-/// Gives so many bytes of a sector, from this one of its own on, the text, and zeros behind it.
-fn fill(disk: &mut MemDisk, (track, number, from): (u8, u8, u8), length: usize, text: &[u8]) {
-    let mut bytes = sector(disk, track, number);
-    let all = bytes.iter_mut().skip(usize::from(from)).take(length);
-    for (i, byte) in all.enumerate() {
-        *byte = text.get(i).copied().unwrap_or(0);
-    }
-    let _ = disk.write(at(track, number), &bytes);
-}
-
 /// Puts these bytes onto a sector, from this one of its own on.
-pub(crate) fn put(disk: &mut MemDisk, place: (u8, u8, u8), bytes: &[u8]) {
-    fill(disk, place, bytes.len(), bytes);
+pub(crate) fn put(disk: &mut MemDisk, (track, number, from): (u8, u8, u8), bytes: &[u8]) {
+    let mut all = sector(disk, track, number);
+    let mut i = usize::from(from);
+    for byte in bytes {
+        if let Some(place) = all.get_mut(i) {
+            *place = *byte;
+        }
+        i = i.saturating_add(1);
+    }
+    let _ = disk.write(at(track, number), &all);
 }
 
 /// The disk with these changes.
 pub(crate) fn changed(disk: MemDisk, changes: &[Change]) -> MemDisk {
     let mut disk = disk;
     for &(track, number, from, length, text) in changes {
-        fill(&mut disk, (track, number, from), length, text);
+        put(
+            &mut disk,
+            (track, number, from),
+            ZEROS.get(..length).unwrap_or(&ZEROS),
+        );
+        put(&mut disk, (track, number, from), text);
     }
     disk
 }

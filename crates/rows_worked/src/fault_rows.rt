@@ -1,32 +1,30 @@
 //! Each call on a device failing in turn: in an opening, in a request, in a run, and in a run in which power goes.
 use crate::comparing::{holds, same_at};
 use crate::disks::{INTENT, changed, fresh, loaded};
-use crate::sessions::{handed, open, says, sent_to, stopped, stopped_events, told};
+use crate::sessions::{handed, one_reply, open, opening, ran, ran_of_events, says, sent_to};
 use d64_image::{Fuse, MemDisk, Sectors};
-use host_session::{Event, PlayFault, Printer, ScriptFault, Session, run_script};
+use host_session::{Event, OpenFault, PlayFault, ScriptFault};
 use request_cards::{Reply, Word};
 use std::process::Abort;
 use tool_devices::{Meter, OneFault};
 
-/// Opens a disk; the fault's number, 0 for none, and the disk then.
-fn opening<D: Sectors>(disk: D) -> (u8, D) {
-    match Session::open(disk) {
-        Ok(session) => (0, session.close()),
-        Err((fault, disk)) => (fault.number(), disk),
+/// The number of the fault, 0 for none.
+fn number_of(fault: Option<OpenFault>) -> u8 {
+    match fault {
+        Some(fault) => fault.number(),
+        None => 0,
     }
 }
 
 /// Opens a disk of which one call fails, and sees that the device is told, and that the next opening is whole.
 /// False where no call had this number.
 fn opening_fails(rt: &(impl Abort + AllocGlobal), disk: &MemDisk, at: u32, done: bool) -> bool {
-    let (number, faulty) = opening(OneFault::new(loaded(rt, disk.bytes()), at, done));
-    if faulty.place().is_none() {
-        return false;
-    }
+    let (fault, faulty) = opening(OneFault::new(loaded(rt, disk.bytes()), at, done));
+    let was_hit = faulty.place().is_some();
     let reply = sent_to(rt, faulty.into_inner(), b"1,1,S,1,5");
-    let told = (number, says(reply, b"1,1,DONE,5"));
-    same_at(rt, told, (7, true), (at, done));
-    true
+    let told = (number_of(fault), says(reply, b"1,1,DONE,5"));
+    same_at(rt, told, (if was_hit { 7 } else { 0 }, true), (at, done));
+    was_hit
 }
 
 /// Has each call of the disk's opening fail; how many there are.
@@ -75,30 +73,34 @@ fn faulty(rt: &(impl Abort + AllocGlobal), at: u32, done: bool) -> OneFault<MemD
     OneFault::new(fresh(rt), at, done)
 }
 
-/// Sends the message so many times to a session of which one call fails, and then hands
-/// over the last reply and the disk.
-fn sent(rt: &(impl Abort + AllocGlobal), at: u32, done: bool, times: u32) -> (Reply, MemDisk) {
-    let mut session = open(rt, faulty(rt, at, done));
-    let mut reply = Reply::Syntax;
-    for _time in 0..times {
-        reply = session.handle(MESSAGE);
-    }
-    (reply, session.close().into_inner())
-}
-
 /// Opens what is left and sends the message again: it has its answer, and the disk is clean.
 fn goes_on(rt: &impl Abort, left: MemDisk, at: u32, done: bool) {
     let reply = sent_to(rt, left, MESSAGE);
-    same_at(rt, says(reply, b"1,1,DONE,7"), true, (at, done));
+    holds(rt, says(reply, b"1,1,DONE,7"), (at, done));
 }
+
+/// Sends the message twice to a session of which one call fails: the replies, and the disk.
+fn sent_twice(rt: &(impl Abort + AllocGlobal), at: u32, done: bool) -> (Reply, Reply, MemDisk) {
+    let mut session = open(rt, faulty(rt, at, done));
+    let first = session.handle(MESSAGE);
+    let second = session.handle(MESSAGE);
+    (first, second, session.close().into_inner())
+}
+
+/// MEDIA, told to the message.
+const MEDIA: Reply = Reply::Told {
+    till: 1,
+    number: 1,
+    word: Word::Media,
+};
 
 /// The message is told MEDIA, sent again MEDIA with nothing written, and after the next opening it has its answer.
 fn request_fails(rt: &(impl Abort + AllocGlobal), at: u32, done: bool) {
-    let (once, left) = sent(rt, at, done, 1);
-    let (twice, again) = sent(rt, at, done, 2);
-    let told = (says(once, b"1,1,MEDIA"), says(twice, b"1,1,MEDIA"));
-    let same = left.bytes() == again.bytes();
-    same_at(rt, (told, same), ((true, true), true), (at, done));
+    let (once, left) = handed(rt, faulty(rt, at, done), MESSAGE);
+    let left = left.into_inner();
+    let (first, second, again) = sent_twice(rt, at, done);
+    same_at(rt, [once, first, second], [MEDIA, MEDIA, MEDIA], (at, done));
+    holds(rt, left.bytes() == again.bytes(), (at, done));
     goes_on(rt, left, at, done);
 }
 
@@ -120,33 +122,27 @@ fn each_call_of_a_request_fails(rt: HostRuntime) {
 /// A script of the message and a second line: it tells the device after one reply, MEDIA.
 fn script_fails(rt: &(impl Abort + AllocGlobal), at: u32, done: bool) {
     let script = b"1,1,S,15,7\n2,1,S,1,1\n";
-    let (fault, out, left) = stopped(rt, faulty(rt, at, done), script);
-    let told = (fault, fault.number());
-    same_at(rt, told, (ScriptFault::Device, 4), (at, done));
-    let wanted = b"1,1,MEDIA\n".as_slice();
-    same_at(rt, out.as_slice(), wanted, (at, done));
+    let (ended, out, left) = ran(rt, faulty(rt, at, done), script);
+    same_at(rt, ended, Err(ScriptFault::Device), (at, done));
+    same_at(rt, out.as_slice(), b"1,1,MEDIA\n".as_slice(), (at, done));
     goes_on(rt, left.into_inner(), at, done);
 }
 
 /// The message without a reset.
-fn event() -> Event<'static> {
-    Event {
-        message: MESSAGE,
-        cut: None,
-    }
-}
+const EVENT: Event<'static> = Event {
+    message: MESSAGE,
+    cut: None,
+};
 
 /// The same of events, behind a reply that the list has.
 fn events_fail(rt: &(impl Abort + AllocGlobal), at: u32, done: bool) {
-    let (fault, replies, left) = stopped_events(rt, faulty(rt, at, done), &[event(), event()]);
-    let told = (fault, fault.number());
-    same_at(rt, told, (PlayFault::Device, 3), (at, done));
-    let media = Reply::Told {
-        till: 1,
-        number: 1,
-        word: Word::Media,
-    };
-    let wanted = [Reply::Syntax, media];
+    let (ended, replies, left) = ran_of_events(
+        faulty(rt, at, done),
+        &[EVENT, EVENT],
+        one_reply(rt),
+    );
+    same_at(rt, ended, Err(PlayFault::Device), (at, done));
+    let wanted = [Reply::Syntax, MEDIA];
     same_at(rt, replies.as_slice(), wanted.as_slice(), (at, done));
     goes_on(rt, left.into_inner(), at, done);
 }
@@ -164,6 +160,8 @@ fn each_call_of_a_run_fails(rt: HostRuntime) {
     let (before, all) = calls(&rt);
     runs_fail(&rt, before, all, false);
     runs_fail(&rt, before, all, true);
+    let numbers = (ScriptFault::Device.number(), PlayFault::Device.number());
+    same_at(&rt, numbers, (4, 3), "the device");
 }
 
 /// A script whose message makes a card: power goes after its intent.
@@ -179,26 +177,26 @@ fn cut_at_the_intent(rt: &(impl Abort + AllocGlobal)) -> MemDisk {
 fn calls_of_a_cut(rt: &(impl Abort + AllocGlobal)) -> (u32, u32, u32) {
     let (before, _) = opened(rt, fresh(rt));
     let (recovery, _) = opened(rt, cut_at_the_intent(rt));
-    let (_, meter) = told(rt, Meter::new(fresh(rt)), CUT);
+    let (_, _, meter) = ran(rt, Meter::new(fresh(rt)), CUT);
     (passed(&meter), before, recovery)
 }
 
-/// Plays a script: the fault's number, 0 for none, what is told, and the disk then.
-fn run<D: Sectors>(rt: &(impl Abort + AllocGlobal), disk: D, script: &[u8]) -> (u8, Vec<u8>, D) {
-    let mut out = Printer::new(Vec::new(rt.alloc()));
-    match run_script(disk, script, &mut out) {
-        Ok(disk) => (0, out.into_inner(), disk),
-        Err((fault, disk)) => (fault.number(), out.into_inner(), disk),
+/// The number of the fault in which a script ended, 0 for none.
+fn number_of_end(ended: Result<(), ScriptFault>) -> u8 {
+    match ended {
+        Ok(()) => 0,
+        Err(fault) => fault.number(),
     }
 }
 
 /// Sees what is told of the script where one call fails, by the fault's number and by what was written. What is left is
 /// opened, and the message has its answer.
 fn cut_run_fails(rt: &(impl Abort + AllocGlobal), at: u32, done: bool, number: u8, wanted: &[u8]) {
-    let (fault, out, left) = run(rt, faulty(rt, at, done), CUT);
-    same_at(rt, (fault, out.as_slice()), (number, wanted), (at, done));
+    let (ended, out, left) = ran(rt, faulty(rt, at, done), CUT);
+    same_at(rt, number_of_end(ended), number, (at, done));
+    same_at(rt, out.as_slice(), wanted, (at, done));
     let reply = sent_to(rt, left.into_inner(), b"1,1,S,1,5");
-    same_at(rt, says(reply, b"1,1,DONE,5"), true, (at, done));
+    holds(rt, says(reply, b"1,1,DONE,5"), (at, done));
 }
 
 /// Has each call of the script fail: those before the message, then those in it, and

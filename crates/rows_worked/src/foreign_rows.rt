@@ -3,26 +3,30 @@
 ghost use Rattle.std.specs.Prelude.{◌≤◌};
 
 use crate::comparing::same_at;
-use crate::disks::{clean, found, fresh, put, sector, sound_stock, stands, stock};
+use crate::disks::{WHOLE, found, fresh, put, sector, sound_stock, stands};
+use crate::records::{grow, make, mend, read, write};
 use arrayvec::ArrayVec;
-use d64_image::{Fuse, MemDisk, Sectors};
-use layout_check::repair;
-use rel_records::{RelFault, RelFile, create, grow_to, read_record, records, write_record};
+use d64_image::MemDisk;
+use rel_records::{RelFault, RelFile, read_record, records};
 use std::process::Abort;
-use tool_devices::Meter;
+
+/// How many records STOCK has.
+fn count(rt: &impl Abort, disk: &mut MemDisk) -> u32 {
+    records(&found(rt, disk, b"STOCK"))
+}
 
 /// Writes `A` into a record of STOCK. Tells how many records there were, how many sectors were written, how many
 /// records there are, and the last index of the file's one block.
-fn written(rt: &impl Abort, disk: MemDisk, number: u32) -> (u32, u64, u32, u8)
-    requires number { 1 ≤ number }
-{
-    let mut disk = Meter::new(disk);
-    let mut file = stock(rt, &mut disk);
-    let before = records(&file);
-    write_record(&mut disk, &mut file, number, 1, b"A").expect(rt, "room for the record");
-    let writes = disk.writes();
-    let after = records(&stock(rt, &mut disk));
-    (before, writes, after, sector(&mut disk, 17, 0)[1])
+fn written(rt: &(impl Abort + AllocGlobal), mut disk: MemDisk, number: u32) -> (u32, u64, u32, u8) {
+    let before = count(rt, &mut disk);
+    let (mut disk, (answer, writes)) = write(rt, &disk, b"STOCK", (number, 1), b"A");
+    same_at(rt, answer, Ok(()), number);
+    (
+        before,
+        writes,
+        count(rt, &mut disk),
+        sector(&mut disk, 17, 0)[1],
+    )
 }
 
 /// A byte of the blank disk that is another one, a record that is written then, and what is told.
@@ -43,7 +47,6 @@ const CHANGED: [Changed; 6] = [
 /// Writes a record on each of the changed disks.
 fn are_written(rt: &(impl Abort + AllocGlobal), rows: &[Changed]) {
     for &(place, byte, record, wanted) in rows {
-        assert!(rt; record > 0, "there is no record 0");
         let mut disk = fresh(rt);
         put(&mut disk, place, &[byte]);
         same_at(rt, written(rt, disk, record), wanted, (byte, record));
@@ -55,11 +58,6 @@ fn last_indices_and_a_locked_file(rt: HostRuntime) {
     are_written(&rt, &CHANGED);
 }
 
-/// Mends the disk.
-fn mend(rt: &impl Abort, disk: &mut MemDisk) {
-    repair(disk).expect(rt, "a disk that is mended");
-}
-
 /// The blank disk with the block of STOCK in 18/5.
 fn with_block_on_track_18(rt: &(impl Abort + AllocGlobal)) -> MemDisk {
     let mut disk = fresh(rt);
@@ -67,35 +65,20 @@ fn with_block_on_track_18(rt: &(impl Abort + AllocGlobal)) -> MemDisk {
     put(&mut disk, (18, 5, 0), &block);
     put(&mut disk, (18, 1, 3), &[18, 5]);
     put(&mut disk, (17, 1, 16), &[18, 5]);
-    mend(rt, &mut disk);
-    disk
+    mend(rt, &disk)
 }
 
 /// The text of record 15.
 const CARD: &[u8] = b"K,00015,000000007\r";
 
-/// Writes record 15 of STOCK: how many sectors that takes, and the disk.
-fn written_15(rt: &impl Abort, disk: MemDisk) -> (u64, MemDisk) {
-    let mut disk = Meter::new(disk);
-    let mut file = stock(rt, &mut disk);
-    write_record(&mut disk, &mut file, 15, 1, CARD).expect(rt, "room for the record");
-    (disk.writes(), disk.into_inner())
-}
-
-/// Reads record 15 of STOCK; how many records there are.
-fn read_15(rt: &impl Abort, disk: &mut MemDisk, text: &mut ArrayVec<u8, 254>) -> u32 {
-    let file = stock(rt, disk);
-    read_record(disk, &file, 15, text).expect(rt, "the record");
-    records(&file)
-}
-
 // The next block is taken outside track 18, and record 15 lies in both.
 #[test]
 fn a_block_on_track_18(rt: HostRuntime) {
-    let (writes, mut disk) = written_15(&rt, with_block_on_track_18(&rt));
-    same_at(&rt, writes, 7, "writes");
+    let (mut disk, told) = write(&rt, &with_block_on_track_18(&rt), b"STOCK", (15, 1), CARD);
+    same_at(&rt, told, (Ok(()), 7), "writes");
     let mut text = ArrayVec::new();
-    same_at(&rt, read_15(&rt, &mut disk, &mut text), 28, "records");
+    let told = read(&rt, &mut disk, b"STOCK", 15, &mut text);
+    same_at(&rt, told, (28, Ok(())), "records");
     same_at(&rt, text.as_slice(), CARD, "record 15");
     stands(&rt, &disk, (18, 5, 0), &[17, 0]);
 }
@@ -105,37 +88,34 @@ fn with_new(rt: &(impl Abort + AllocGlobal), size: u8) -> MemDisk
     requires low { 1 ≤ size }
     requires high { size ≤ 254 }
 {
-    let mut disk = fresh(rt);
-    clean(rt, &mut disk);
-    create(&mut disk, b"NEW", size).expect(rt, "a new file");
+    let (disk, (answer, _)) = make(rt, &fresh(rt), b"NEW", size, WHOLE);
+    same_at(rt, answer, Ok(()), size);
     disk
 }
 
-/// Writes a record of `NEW`, so many times this byte. Tells the records before and after, how many sectors growth and
+/// Writes this text into a record of `NEW`. Tells the records before and after, how many sectors growth and
 /// writing took, and whether the record is read so.
-fn made(rt: &impl Abort, disk: MemDisk, number: u32, byte: u8) -> (u32, u32, u64, bool)
-    requires number { 1 ≤ number }
-{
-    let mut disk = Meter::new(disk);
-    let mut file = found(rt, &mut disk, b"NEW");
-    let before = records(&file);
-    let text = [byte; 254];
-    let text = &text[..usize::from(file.length())];
-    write_record(&mut disk, &mut file, number, 1, text).expect(rt, "room for the record");
-    let writes = disk.writes();
-    let again = found(rt, &mut disk, b"NEW");
-    let mut read = ArrayVec::new();
-    read_record(&mut disk, &again, number, &mut read).expect(rt, "the record");
-    (before, records(&again), writes, read.as_slice() == text)
+fn made(
+    rt: &(impl Abort + AllocGlobal),
+    disk: &mut MemDisk,
+    number: u32,
+    text: &[u8],
+) -> (u32, u32, u64, bool) {
+    let before = records(&found(rt, disk, b"NEW"));
+    let (mut disk, (answer, writes)) = write(rt, disk, b"NEW", (number, 1), text);
+    let mut read_back = ArrayVec::new();
+    let (after, there) = read(rt, &mut disk, b"NEW", number, &mut read_back);
+    same_at(rt, (answer, there), (Ok(()), Ok(())), number);
+    (before, after, writes, read_back.as_slice() == text)
 }
 
 /// Sees what is told of a file of this record length and of a record of it.
 fn is_made(rt: &(impl Abort + AllocGlobal), size: u8, number: u32, wanted: (u32, u32, u64, bool))
     requires low { 1 ≤ size }
     requires high { size ≤ 254 }
-    requires number { 1 ≤ number }
 {
-    let told = made(rt, with_new(rt, size), number, 0x5A);
+    let text = &[0x5A; 254][..usize::from(size)];
+    let told = made(rt, &mut with_new(rt, size), number, text);
     same_at(rt, told, wanted, (size, number));
 }
 
@@ -154,8 +134,7 @@ fn found_of_two(rt: &(impl Abort + AllocGlobal), kind: u8) -> RelFile {
     let mut disk = fresh(rt);
     put(&mut disk, (18, 1, 37), b"STOCK\xA0\xA0\xA0");
     put(&mut disk, (18, 1, 2), &[kind]);
-    mend(rt, &mut disk);
-    found(rt, &mut disk, b"STOCK")
+    found(rt, &mut mend(rt, &disk), b"STOCK")
 }
 
 /// The type of the first entry, the entry that is found, and its record length. A program is passed
@@ -176,19 +155,10 @@ fn names_that_stand_twice(rt: HostRuntime) {
     are_found(&rt, &TWICE);
 }
 
-/// A disk where growth of STOCK was cut before the link: the side sector names a block that the chain doesn't come to.
-fn cut_before_the_link(rt: &(impl Abort + AllocGlobal)) -> MemDisk {
-    let mut disk = fresh(rt);
-    let mut file = stock(rt, &mut disk);
-    let mut fuse = Fuse::new(disk, 3);
-    let _ = grow_to(&mut fuse, &mut file, 15);
-    fuse.into_inner()
-}
-
 /// How many records STOCK of a sound disk has, and what reading one of them tells.
-fn read<D: Sectors>(
+fn read_of_sound(
     rt: &impl Abort,
-    disk: &mut D,
+    disk: &mut MemDisk,
     number: u32,
     text: &mut ArrayVec<u8, 254>,
 ) -> (u32, Result<(), RelFault>) {
@@ -196,28 +166,21 @@ fn read<D: Sectors>(
     (records(&file), read_record(disk, &file, number, text))
 }
 
-/// Mends the disk, and lets STOCK grow to record 15: how many sectors are written, and how many records there are.
-fn grown_again(rt: &impl Abort, mut disk: MemDisk) -> (u64, u32) {
-    mend(rt, &mut disk);
-    let mut disk = Meter::new(disk);
-    let mut file = stock(rt, &mut disk);
-    grow_to(&mut disk, &mut file, 15).expect(rt, "room for the record");
-    (disk.writes(), records(&file))
-}
-
 /// Record 14 of a blank disk.
 const UNUSED: &[u8] = b"\xFF\0\0\0\0\0\0\0\0\0\0\0\0\0\0\0\0\0";
 
-// The chain decides: the file has fourteen records still, and is found, read and grown so.
+// Growth was cut before the link: the side sector names a block that the chain doesn't come to. The chain decides: the
+// file has fourteen records still, and is found, read and grown so.
 #[test]
 fn a_side_sector_names_a_block_too_many(rt: HostRuntime) {
-    let mut disk = cut_before_the_link(&rt);
+    let (mut disk, _) = grow(&rt, &fresh(&rt), b"STOCK", 15, 3);
     stands(&rt, &disk, (17, 1, 16), &[17, 0, 17, 4]);
     let mut text = ArrayVec::new();
-    let missing = read(&rt, &mut disk, 15, &mut text);
+    let missing = read_of_sound(&rt, &mut disk, 15, &mut text);
     same_at(&rt, missing, (14, Err(RelFault::NotPresent)), "record 15");
-    let there = read(&rt, &mut disk, 14, &mut text);
+    let there = read_of_sound(&rt, &mut disk, 14, &mut text);
     same_at(&rt, there, (14, Ok(())), "record 14");
     same_at(&rt, text.as_slice(), UNUSED, "its bytes");
-    same_at(&rt, grown_again(&rt, disk), (5, 28), "growth");
+    let (_, grown) = grow(&rt, &mend(&rt, &disk), b"STOCK", 15, WHOLE);
+    same_at(&rt, grown, (Ok(()), 5, 28), "growth");
 }

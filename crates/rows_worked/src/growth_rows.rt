@@ -1,48 +1,47 @@
 //! Growth that is cut after each write, judged and mended; side sectors past 120 and 240 blocks.
-use crate::comparing::{same, same_at};
-use crate::disks::{
-    Change, bytes_from, changed, clean, fresh, loaded, sector, sound_stock, stands, stock,
-};
-use d64_image::{Fuse, MemDisk, Place};
+use crate::comparing::{holds, same_at};
+use crate::disks::{Change, WHOLE, bytes_from, changed, clean, fresh, sector, sound_stock, stands};
+use crate::records::{grow, repaired};
+use d64_image::{MemDisk, Place};
 use disk_layout::SideView;
-use layout_check::{check, repair};
-use rel_records::{RelFault, grow_to, records};
+use rel_records::{RelFault, records};
 use std::process::Abort;
-use tool_devices::Meter;
 
-/// Lets STOCK of this image grow to this record, where power fails after so many writes. Tells whether it came to its
-/// end, and what is on the disk then.
-fn cut(rt: &(impl Abort + AllocGlobal), image: &[u8], number: u32, writes: u32) -> (bool, MemDisk) {
-    let mut disk = loaded(rt, image);
-    let mut file = stock(rt, &mut disk);
-    let mut fuse = Fuse::new(disk, writes);
-    let done = grow_to(&mut fuse, &mut file, number).is_ok();
-    (done, fuse.into_inner())
-}
-
-/// The disk of this image, of which a repair was cut after so many writes.
-fn half_mended(rt: &(impl Abort + AllocGlobal), image: &[u8], writes: u32) -> MemDisk {
-    let mut fuse = Fuse::new(loaded(rt, image), writes);
-    let _ = repair(&mut fuse);
-    fuse.into_inner()
-}
-
-/// Repairs a copy of the image, in which power fails after so many writes, then repairs that. Tells how many writes the
+/// Repairs a copy of the disk, in which power fails after so many writes, then repairs that. Tells how many writes the
 /// second repair made, and how many records STOCK has. The disk between is sound, and the last one clean.
-pub(crate) fn mended(rt: &(impl Abort + AllocGlobal), image: &[u8], cut: u32) -> (u64, u32) {
-    let mut disk = Meter::new(half_mended(rt, image, cut));
-    let count = records(&sound_stock(rt, &mut disk));
-    repair(&mut disk).expect(rt, "a disk that is mended");
-    clean(rt, &mut disk);
-    (disk.writes(), count)
+pub(crate) fn mended(rt: &(impl Abort + AllocGlobal), disk: &MemDisk, power: u32) -> (u64, u32) {
+    let (_, _, mut half) = repaired(rt, disk, power);
+    let count = records(&sound_stock(rt, &mut half));
+    let (done, writes, mut whole) = repaired(rt, &half, WHOLE);
+    holds(rt, done, "it is mended");
+    clean(rt, &mut whole);
+    (writes, count)
 }
 
 /// The blank disk with STOCK grown to this record.
 pub(crate) fn grown(rt: &(impl Abort + AllocGlobal), number: u32) -> MemDisk {
-    let mut disk = fresh(rt);
-    let mut file = stock(rt, &mut disk);
-    grow_to(&mut disk, &mut file, number).expect(rt, "room for the record");
+    let (disk, (answer, _, _)) = grow(rt, &fresh(rt), b"STOCK", number, WHOLE);
+    same_at(rt, answer, Ok(()), ("record", number));
     disk
+}
+
+/// The disk whose STOCK grows to this record, where power fails after so many writes. It comes to its end where these
+/// are all that it takes.
+fn cut(
+    rt: &(impl Abort + AllocGlobal),
+    disk: &MemDisk,
+    number: u32,
+    writes: u32,
+    all: u32,
+) -> MemDisk {
+    let (left, (answer, _, _)) = grow(rt, disk, b"STOCK", number, writes);
+    same_at(
+        rt,
+        answer.is_ok(),
+        writes == all,
+        ("writes of the growth", writes),
+    );
+    left
 }
 
 /// Where a growth is cut: after so many writes; the records then, and the writes of the repair.
@@ -75,7 +74,7 @@ const CUTS_OF_TWO: [Cut; 8] = [
 /// Repairs what a growth left that was cut after so many writes, and cuts the repair after each of its own.
 fn is_mended(rt: &(impl Abort + AllocGlobal), left: &MemDisk, (writes, count, mends): Cut) {
     for passed in 0..=mends {
-        let told = mended(rt, left.bytes(), passed);
+        let told = mended(rt, left, passed);
         let row = ("writes of the growth and of the repair", writes, passed);
         same_at(rt, told, (u64::from(mends - passed), count), row);
     }
@@ -85,8 +84,7 @@ fn is_mended(rt: &(impl Abort + AllocGlobal), left: &MemDisk, (writes, count, me
 fn are_mended(rt: &(impl Abort + AllocGlobal), before: u32, whole: u32, rows: &[Cut]) {
     let disk = grown(rt, before);
     for &(writes, count, mends) in rows {
-        let (done, left) = cut(rt, disk.bytes(), before.saturating_add(1), writes);
-        same(rt, done, writes == whole);
+        let left = cut(rt, &disk, before.saturating_add(1), writes, whole);
         is_mended(rt, &left, (writes, count, mends));
     }
 }
@@ -126,7 +124,7 @@ const OLDER: [Older; 3] = [
 fn each_begins(rt: &(impl Abort + AllocGlobal), rows: &[Older]) {
     let disk = grown(rt, 3386);
     for (writes, lower, other) in rows {
-        let (_, left) = cut(rt, disk.bytes(), 3387, *writes);
+        let left = cut(rt, &disk, 3387, *writes, 7);
         stands(rt, &left, (17, 1, 0), lower);
         stands(rt, &left, (14, 4, 0), other);
     }
@@ -146,8 +144,7 @@ const UNJUDGED: [Change; 2] = [
 /// Sees that they stay where growth by a block is cut after so many writes, or isn't, and
 /// so do the bytes behind the entry.
 fn unjudged_stays(rt: &(impl Abort + AllocGlobal), disk: &MemDisk, writes: u32) {
-    let (done, left) = cut(rt, disk.bytes(), 15, writes);
-    same(rt, done, writes == 5);
+    let left = cut(rt, disk, 15, writes, 5);
     stands(rt, &left, (18, 0, 7), b"\xFF");
     let behind = bytes_from(disk, 18, 1, 64).get(..192);
     same_at(rt, bytes_from(&left, 18, 1, 64).get(..192), behind, writes);
@@ -214,7 +211,7 @@ fn are_exact(rt: &(impl Abort + AllocGlobal), rows: &[Side]) {
         let ends = (view.block(0), view.block(119));
         let want = (Place::new(first.0, first.1), Place::new(last.0, last.1));
         same_at(rt, ends, want, (track, side, number));
-        same_at(rt, check(&mut disk).is_ok(), true, ("with record", number));
+        clean(rt, &mut disk);
     }
 }
 
@@ -234,11 +231,8 @@ const TOO_MUCH: [(u32, RelFault); 4] = [
 /// Sees that growth to each record is refused, with nothing written.
 fn are_refused(rt: &(impl Abort + AllocGlobal), rows: &[(u32, RelFault)]) {
     for &(number, fault) in rows {
-        let mut disk = Meter::new(fresh(rt));
-        let mut file = stock(rt, &mut disk);
-        let told = grow_to(&mut disk, &mut file, number);
-        same_at(rt, told, Err(fault), ("record", number));
-        same(rt, disk.writes(), 0);
+        let (_, told) = grow(rt, &fresh(rt), b"STOCK", number, WHOLE);
+        same_at(rt, told, (Err(fault), 0, 14), ("record", number));
     }
 }
 

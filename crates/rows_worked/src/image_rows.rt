@@ -1,9 +1,9 @@
 //! Images that no shop left: those that an opening refuses, and those that it takes all the same.
 use crate::comparing::{holds, same_at};
 use crate::disks::{Change, INTENT, changed, fresh, loaded};
-use crate::sessions::{after, asked, mirrored, says, unmirrored};
-use d64_image::{MemDisk, Sectors};
-use host_session::{OpenFault, Session};
+use crate::sessions::{after, asked, mirrored, opening, says, unmirrored};
+use d64_image::MemDisk;
+use host_session::OpenFault;
 use std::process::Abort;
 
 /// Cards of version 1 as power may have left them: open intents of a set of item 2 and 15, two cards that are none, and
@@ -82,26 +82,18 @@ const REFUSED: [Refused; 16] = [
     ),
 ];
 
-/// What is told of a disk that isn't opened, and the disk then.
-fn refused<D: Sectors>(rt: &impl Abort, disk: D) -> (OpenFault, D) {
-    match Session::open(disk) {
-        Ok(_) => panic!(rt; "it is opened"),
-        Err(refused) => refused,
-    }
-}
-
 /// What is told of an image that isn't opened, which stays as it was.
 fn refused_image(rt: &(impl Abort + AllocGlobal), disk: &MemDisk, row: &[u8]) -> OpenFault {
-    let (fault, left) = refused(rt, loaded(rt, disk.bytes()));
+    let (fault, left) = opening(loaded(rt, disk.bytes()));
     holds(rt, left.bytes() == disk.bytes(), row);
-    fault
+    fault.expect(rt, "it is opened")
 }
 
-/// The same through a mirror, whose file stays as well.
-fn refused_mirror(rt: &(impl Abort + AllocGlobal), disk: &MemDisk, row: &[u8]) -> OpenFault {
-    let (fault, mirror) = refused(rt, mirrored(rt, disk));
-    holds(rt, unmirrored(rt, mirror).bytes() == disk.bytes(), row);
-    fault
+/// Sees that this is told of it through a mirror too, whose file stays as well.
+fn is_refused_mirror(rt: &(impl Abort + AllocGlobal), disk: &MemDisk, fault: OpenFault) {
+    let (told, mirror) = opening(mirrored(rt, disk));
+    same_at(rt, told, Some(fault), fault);
+    holds(rt, unmirrored(rt, mirror).bytes() == disk.bytes(), fault);
 }
 
 /// Sees that a fault has this text.
@@ -116,7 +108,7 @@ fn none_is_opened(rt: &(impl Abort + AllocGlobal), rows: &[Refused]) {
         let disk = changed(after(rt, script), changes);
         let fault = refused_image(rt, &disk, told);
         is_told(rt, fault, told);
-        same_at(rt, refused_mirror(rt, &disk, told), fault, told);
+        is_refused_mirror(rt, &disk, fault);
     }
 }
 

@@ -35,6 +35,8 @@ mod output_rows;
 #[cfg(test)]
 mod record_rows;
 #[cfg(test)]
+mod records;
+#[cfg(test)]
 mod session_rows;
 #[cfg(test)]
 mod sessions;

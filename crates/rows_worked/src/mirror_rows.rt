@@ -1,7 +1,7 @@
 //! A shop on a disk whose sectors also go to a file in memory, line by line; and a file that fails.
 use crate::comparing::{holds, same, same_at};
 use crate::disks::{fresh, loaded};
-use crate::sessions::{handed, handled, mirrored, says, told, unmirrored};
+use crate::sessions::{handed, handled, mirrored, ran, says, unmirrored};
 use d64_image::{KeptDisk, MemDisk, Mirror};
 use std::process::Abort;
 use tool_devices::OneFault;
@@ -22,8 +22,8 @@ fn is_mirrored(
     line: &[u8],
     reply: &[u8],
 ) -> MemDisk {
-    let (out, mirror) = told(rt, mirrored(rt, disk), line);
-    same(rt, out.as_slice(), reply);
+    let (ended, out, mirror) = ran(rt, mirrored(rt, disk), line);
+    same(rt, (ended, out.as_slice()), (Ok(()), reply));
     unmirrored(rt, mirror)
 }
 

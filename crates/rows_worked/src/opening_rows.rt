@@ -1,10 +1,9 @@
 //! Openings of disks with cards of version 1 and with open intents: the writes of each, also where power goes in
 //! it, and what is told afterwards.
 use crate::comparing::same_at;
-use crate::days::Line::{self, Say};
-use crate::days::is_played;
-use crate::disks::{Change, INTENT, changed, clean};
-use crate::sessions::{WHOLE, after, opened};
+use crate::days::{Line, is_played};
+use crate::disks::{Change, INTENT, WHOLE, changed, clean};
+use crate::sessions::{after, opened};
 use d64_image::MemDisk;
 use std::process::Abort;
 
@@ -18,7 +17,7 @@ struct Opening {
     /// Openings one after another: the writes after which power goes in each, and how many passed.
     openings: &'static [(u32, u64)],
     /// What is told then.
-    lines: &'static [Line],
+    lines: &'static [Line<'static>],
 }
 
 /// An answered refusal of till 1, and an answered receipt of till 2, as cards of version 1.
@@ -45,12 +44,12 @@ const OLD_RECEIPT: Change = (
 const OLD_DAY: &[u8] = b"1,1,S,42,120\n1,2,I,42,121\n2,1,R,42,30\n";
 
 /// What is told on it.
-const OLD_LINES: &[Line] = &[
-    Say(b"1,2,I,42,121", b"1,2,SHORT,120", 0),
-    Say(b"1,1,S,42,120", b"1,1,STALE", 0),
-    Say(b"1,3,I,42,1", b"1,3,DONE,149", 3),
-    Say(b"1,2,I,42,121", b"1,2,SHORT,120", 0),
-    Say(b"2,1,R,42,30", b"2,1,DONE,150", 0),
+const OLD_LINES: &[Line<'static>] = &[
+    (b"1,2,I,42,121", b"1,2,SHORT,120", 0),
+    (b"1,1,S,42,120", b"1,1,STALE", 0),
+    (b"1,3,I,42,1", b"1,3,DONE,149", 3),
+    (b"1,2,I,42,121", b"1,2,SHORT,120", 0),
+    (b"2,1,R,42,30", b"2,1,DONE,150", 0),
 ];
 
 const OPENINGS: [Opening; 7] = [
@@ -73,14 +72,14 @@ const OPENINGS: [Opening; 7] = [
         before: b"",
         changes: &[INTENT],
         openings: &[(WHOLE, 2), (WHOLE, 0)],
-        lines: &[Say(b"1,1,S,1,5", b"1,1,DONE,5", 0)],
+        lines: &[(b"1,1,S,1,5", b"1,1,DONE,5", 0)],
     },
     Opening {
         shows: "its card alone, and then both again",
         before: b"",
         changes: &[INTENT],
         openings: &[(0, 0), (1, 1), (WHOLE, 2), (WHOLE, 0)],
-        lines: &[Say(b"1,1,S,1,5", b"1,1,DONE,5", 0)],
+        lines: &[(b"1,1,S,1,5", b"1,1,DONE,5", 0)],
     },
     Opening {
         shows: "the second of two intents alone",
@@ -93,7 +92,7 @@ const OPENINGS: [Opening; 7] = [
             b"I,000000001,S,00002,000000005,0,000000005\r",
         )],
         openings: &[(WHOLE, 2), (WHOLE, 0)],
-        lines: &[Say(b"2,1,S,2,5", b"2,1,DONE,5", 0)],
+        lines: &[(b"2,1,S,2,5", b"2,1,DONE,5", 0)],
     },
     Opening {
         shows: "an open intent before another till's card of version 1",
@@ -101,8 +100,8 @@ const OPENINGS: [Opening; 7] = [
         changes: &[INTENT, OLD_RECEIPT],
         openings: &[(2, 2), (WHOLE, 1), (WHOLE, 0)],
         lines: &[
-            Say(b"1,1,S,1,5", b"1,1,DONE,5", 0),
-            Say(b"2,1,R,42,30", b"2,1,DONE,150", 0),
+            (b"1,1,S,1,5", b"1,1,DONE,5", 0),
+            (b"2,1,R,42,30", b"2,1,DONE,150", 0),
         ],
     },
     Opening {
@@ -118,8 +117,8 @@ const OPENINGS: [Opening; 7] = [
         )],
         openings: &[(2, 2), (WHOLE, 4), (WHOLE, 0)],
         lines: &[
-            Say(b"1,3,M,1,4,15", b"1,3,DONE,6,7", 0),
-            Say(b"1,2,S,15,3", b"1,2,DONE,3", 0),
+            (b"1,3,M,1,4,15", b"1,3,DONE,6,7", 0),
+            (b"1,2,S,15,3", b"1,2,DONE,3", 0),
         ],
     },
 ];

@@ -1,14 +1,11 @@
 //! Sessions on copies of a disk, also where power goes in them.
-use crate::comparing::holds;
-use crate::disks::{clean, fresh, loaded};
-use d64_image::{Fuse, KeptDisk, MemDisk, Mirror, Sectors};
-use host_session::{Event, PlayFault, Printer, ScriptFault, Session, play, run_script};
+use crate::comparing::{holds, same_at};
+use crate::disks::{clean, fresh, fused, loaded, passed};
+use d64_image::{KeptDisk, MemDisk, Mirror, Sectors};
+use host_session::{Event, OpenFault, PlayFault, Printer, ScriptFault, Session, play, run_script};
 use request_cards::Reply;
 use std::process::Abort;
 use tool_devices::Meter;
-
-/// Power that doesn't go: more writes than any disk takes in a row.
-pub(crate) const WHOLE: u32 = u32::MAX;
 
 /// The session on a disk that is opened.
 pub(crate) fn open<D: Sectors>(rt: &impl Abort, disk: D) -> Session<D> {
@@ -18,6 +15,24 @@ pub(crate) fn open<D: Sectors>(rt: &impl Abort, disk: D) -> Session<D> {
     }
 }
 
+/// Opens a disk, and hands it a message where there is one: the fault of a disk that isn't opened, and the disk then.
+fn tried<D: Sectors>(disk: D, message: Option<&[u8]>) -> (Option<OpenFault>, D) {
+    match Session::open(disk) {
+        Ok(mut session) => {
+            if let Some(message) = message {
+                session.handle(message);
+            }
+            (None, session.close())
+        }
+        Err((fault, disk)) => (Some(fault), disk),
+    }
+}
+
+/// Opens a disk: the fault of one that isn't opened, and the disk then.
+pub(crate) fn opening<D: Sectors>(disk: D) -> (Option<OpenFault>, D) {
+    tried(disk, None)
+}
+
 /// Opens a disk and hands it the message: the reply, and the disk then.
 pub(crate) fn handed<D: Sectors>(rt: &impl Abort, disk: D, message: &[u8]) -> (Reply, D) {
     let mut session = open(rt, disk);
@@ -25,92 +40,42 @@ pub(crate) fn handed<D: Sectors>(rt: &impl Abort, disk: D, message: &[u8]) -> (R
     (reply, session.close())
 }
 
-/// Plays a script to its end: what is told, and the disk then.
-pub(crate) fn told<D: Sectors>(
-    rt: &(impl Abort + AllocGlobal),
+/// Plays a script: how that ends, what is told, and the disk then.
+pub(crate) fn ran<D: Sectors>(
+    rt: &impl AllocGlobal,
     disk: D,
     script: &[u8],
-) -> (Vec<u8>, D) {
+) -> (Result<(), ScriptFault>, Vec<u8>, D) {
     let mut out = Printer::new(Vec::new(rt.alloc()));
     match run_script(disk, script, &mut out) {
-        Ok(disk) => (out.into_inner(), disk),
-        Err((fault, _)) => panic!(rt; "the script isn't played: {fault:?}"),
+        Ok(disk) => (Ok(()), out.into_inner(), disk),
+        Err((fault, disk)) => (Err(fault), out.into_inner(), disk),
     }
 }
 
-/// Plays a script that is stopped: the fault, what is told, and the disk then.
-pub(crate) fn stopped<D: Sectors>(
-    rt: &(impl Abort + AllocGlobal),
-    disk: D,
-    script: &[u8],
-) -> (ScriptFault, Vec<u8>, D) {
-    let mut out = Printer::new(Vec::new(rt.alloc()));
-    match run_script(disk, script, &mut out) {
-        Ok(_) => panic!(rt; "the script is played"),
-        Err((fault, disk)) => (fault, out.into_inner(), disk),
-    }
+/// A list that has a reply.
+pub(crate) fn one_reply(rt: &(impl Abort + AllocGlobal)) -> Vec<Reply> {
+    vec![in rt.alloc(); Reply::Syntax; 1].expect(rt, "a list")
 }
 
-/// Plays events to their end: what is told, and the disk then.
-pub(crate) fn told_of_events<D: Sectors>(
-    rt: &(impl Abort + AllocGlobal),
+/// Plays events, behind the replies that the list has: how that ends, the list, and the disk then.
+pub(crate) fn ran_of_events<D: Sectors>(
     disk: D,
-    events: &[Event<'static>],
-) -> (Vec<Reply>, D) {
-    let mut told = Vec::new(rt.alloc());
+    events: &[Event<'_>],
+    told: Vec<Reply>,
+) -> (Result<(), PlayFault>, Vec<Reply>, D) {
+    let mut told = told;
     match play(disk, events, &mut told) {
-        Ok(disk) => (told, disk),
-        Err((fault, _)) => panic!(rt; "the events aren't played: {fault:?}"),
-    }
-}
-
-/// Plays events that are stopped, behind a reply that the list has: the fault, the list, and the disk then.
-pub(crate) fn stopped_events<D: Sectors>(
-    rt: &(impl Abort + AllocGlobal),
-    disk: D,
-    events: &[Event<'static>],
-) -> (PlayFault, Vec<Reply>, D) {
-    let mut told = vec![in rt.alloc(); Reply::Syntax; 1].expect(rt, "a list");
-    match play(disk, events, &mut told) {
-        Ok(_) => panic!(rt; "the events are played"),
-        Err((fault, disk)) => (fault, told, disk),
+        Ok(disk) => (Ok(()), told, disk),
+        Err((fault, disk)) => (Err(fault), told, disk),
     }
 }
 
 /// The fresh disk on which this script was played.
 pub(crate) fn after(rt: &(impl Abort + AllocGlobal), script: &[u8]) -> MemDisk {
-    let (_, disk) = told(rt, fresh(rt), script);
+    let (ended, _, disk) = ran(rt, fresh(rt), script);
+    same_at(rt, ended, Ok(()), script);
     disk
-}
-
-/// A copy of the disk whose writes are counted, and whose power goes after so many.
-fn fused(rt: &(impl Abort + AllocGlobal), disk: &MemDisk, power: u32) -> Fuse<Meter<MemDisk>> {
-    Fuse::new(Meter::new(loaded(rt, disk.bytes())), power)
-}
-
-/// How many writes passed, and the disk then.
-fn passed(fuse: Fuse<Meter<MemDisk>>) -> (u64, MemDisk) {
-    let meter = fuse.into_inner();
-    (meter.writes(), meter.into_inner())
-}
-
-/// What an opening leaves of the disk.
-fn left<D: Sectors>(disk: D) -> D {
-    match Session::open(disk) {
-        Ok(session) => session.close(),
-        Err((_, disk)) => disk,
-    }
-}
-
-/// What an opening leaves of the disk, and the message behind it where the session stands.
-fn left_by<D: Sectors>(disk: D, message: &[u8]) -> D {
-    match Session::open(disk) {
-        Ok(mut session) => {
-            session.handle(message);
-            session.close()
-        }
-        Err((_, disk)) => disk,
-    }
 }
 
 /// Opens a copy of the disk, whose power goes after so many writes; tells how many passed, and the disk then.
@@ -119,7 +84,8 @@ pub(crate) fn opened(
     disk: &MemDisk,
     power: u32,
 ) -> (u64, MemDisk) {
-    passed(left(fused(rt, disk, power)))
+    let (_, fuse) = opening(fused(rt, disk, power));
+    passed(fuse)
 }
 
 /// Hands the message to a session on a copy of the disk, whose power goes after so many writes, also before the session
@@ -130,7 +96,8 @@ pub(crate) fn handled(
     message: &[u8],
     power: u32,
 ) -> (u64, MemDisk) {
-    passed(left_by(fused(rt, disk, power), message))
+    let (_, fuse) = tried(fused(rt, disk, power), Some(message));
+    passed(fuse)
 }
 
 /// The same disk in memory, and in the place of a file.

@@ -1,9 +1,8 @@
 //! Runs that are stopped: by a device that fails, and by a bad line.
 use crate::comparing::{holds, same, same_at};
-use crate::days::Line::{Cut, Say};
-use crate::days::{Line, events_of, is_played, script_of, text_of, wanted};
-use crate::disks::{at, changed, fresh, loaded};
-use crate::sessions::{WHOLE, open, opened, stopped, stopped_events};
+use crate::days::{Line, events_of, is_played, replies_of, script_of, text_of};
+use crate::disks::{WHOLE, at, changed, fresh, loaded};
+use crate::sessions::{one_reply, open, opened, ran, ran_of_events};
 use d64_image::{Fuse, MemDisk, Sectors};
 use disk_layout::Fault;
 use host_session::{OpenFault, PlayFault, ScriptFault, Session};
@@ -46,58 +45,55 @@ fn a_dead_session_writes_nothing(rt: HostRuntime) {
     same(&rt, meter.writes(), 1);
     let (writes, disk) = opened(&rt, &meter.into_inner(), WHOLE);
     same(&rt, writes, 2);
-    let repeat = Say(b"1,1,S,1,0", b"1,1,DONE,0", 0);
+    let repeat: Line<'_> = (b"1,1,S,1,0", b"1,1,DONE,0", 0);
     is_played(&rt, &disk, &[repeat], "the repeat");
 }
 
 /// Lines of which the last one told has the device fail in it: after how many writes, and how many lines are told.
-const STOPPED: [(u32, usize, &[Line]); 4] = [
-    (
-        1,
-        1,
-        &[Say(b"1,1,S,1,0", b"1,1,MEDIA", 0), Say(b"x", b"", 0)],
-    ),
+type Stopped = (u32, usize, &'static [Line<'static>]);
+
+const STOPPED: [Stopped; 4] = [
+    (1, 1, &[(b"1,1,S,1,0", b"1,1,MEDIA", 0), (b"x", b"", 0)]),
     (
         14,
         3,
         &[
-            Say(b"1,1,S,42,120", b"1,1,DONE,120", 0),
-            Say(b"1,2,I,42,121", b"1,2,SHORT,120", 0),
-            Say(b"2,1,R,42,30", b"2,1,MEDIA", 0),
-            Say(b"1,2,I,42,121", b"", 0),
+            (b"1,1,S,42,120", b"1,1,DONE,120", 0),
+            (b"1,2,I,42,121", b"1,2,SHORT,120", 0),
+            (b"2,1,R,42,30", b"2,1,MEDIA", 0),
+            (b"1,2,I,42,121", b"", 0),
         ],
     ),
     // In the whole recovery: nothing passes in it, or the card alone.
-    (1, 1, &[Cut(1, &[], b"1,1,S,1,5", 0), Say(b"x", b"", 0)]),
-    (2, 1, &[Cut(1, &[0], b"1,1,S,1,5", 0), Say(b"x", b"", 0)]),
+    (1, 1, &[(b"@1 1,1,S,1,5", b"CUT", 0), (b"x", b"", 0)]),
+    (2, 1, &[(b"@1/0 1,1,S,1,5", b"CUT", 0), (b"x", b"", 0)]),
 ];
 
 /// Sees that the lines are stopped so as a script; the disk then.
 fn script_stops(
     rt: &(impl Abort + AllocGlobal),
     power: u32,
-    lines: &[Line],
+    lines: &[Line<'_>],
     wanted: &[u8],
 ) -> MemDisk {
     let script = script_of(rt, lines);
-    let fuse = Fuse::new(fresh(rt), power);
-    let (fault, told, fuse) = stopped(rt, fuse, script.as_slice());
-    same_at(rt, fault, ScriptFault::Device, power);
+    let (ended, told, fuse) = ran(rt, Fuse::new(fresh(rt), power), script.as_slice());
+    same_at(rt, ended, Err(ScriptFault::Device), power);
     same_at(rt, told.as_slice(), wanted, power);
     fuse.into_inner()
 }
 
-/// The same as events.
+/// The same as events, behind a reply that the list has.
 fn events_stop(
     rt: &(impl Abort + AllocGlobal),
     power: u32,
-    lines: &[Line],
+    lines: &[Line<'_>],
     wanted: &[u8],
 ) -> MemDisk {
     let events = events_of(rt, lines);
     let fuse = Fuse::new(fresh(rt), power);
-    let (fault, told, fuse) = stopped_events(rt, fuse, events.as_slice());
-    same_at(rt, fault, PlayFault::Device, power);
+    let (ended, told, fuse) = ran_of_events(fuse, events.as_slice(), one_reply(rt));
+    same_at(rt, ended, Err(PlayFault::Device), power);
     let text = text_of(rt, told.as_slice());
     let behind = text.as_slice().strip_prefix(b"30,SYNTAX ERROR,00,00\n");
     same_at(rt, behind, Some(wanted), power);
@@ -105,9 +101,9 @@ fn events_stop(
 }
 
 /// Sees that each row's lines are stopped so on a blank disk, and leave the same as a script and as events.
-fn are_stopped(rt: &(impl Abort + AllocGlobal), rows: &[(u32, usize, &[Line])]) {
+fn are_stopped(rt: &(impl Abort + AllocGlobal), rows: &[Stopped]) {
     for &(power, count, lines) in rows {
-        let (wanted, _) = wanted(rt, lines.get(..count).unwrap_or(lines));
+        let wanted = replies_of(rt, lines.get(..count).unwrap_or(lines));
         let left = script_stops(rt, power, lines, wanted.as_slice());
         let again = events_stop(rt, power, lines, wanted.as_slice());
         holds(rt, again.bytes() == left.bytes(), power);
@@ -135,19 +131,23 @@ const BAD: [(&[u8], usize); 7] = [
 /// Sees that the first bad line of each script is told, and that nothing is written.
 fn are_bad(rt: &(impl Abort + AllocGlobal), disk: &MemDisk, rows: &[(&[u8], usize)]) {
     for &(script, line) in rows {
-        let (fault, told, left) = stopped(rt, loaded(rt, disk.bytes()), script);
-        let wanted = (ScriptFault::BadLine(line), 0);
-        same_at(rt, (fault, told.len()), wanted, script);
+        let (ended, told, left) = ran(rt, loaded(rt, disk.bytes()), script);
+        let wanted = (Err(ScriptFault::BadLine(line)), 0);
+        same_at(rt, (ended, told.len()), wanted, script);
         holds(rt, left.bytes() == disk.bytes(), script);
     }
 }
 
 /// Sees that the disk is judged where there is no line at all, and what is told of it.
 fn is_judged(rt: &(impl Abort + AllocGlobal), disk: &MemDisk, refused: OpenFault) {
-    let (fault, told, _) = stopped(rt, loaded(rt, disk.bytes()), b"");
-    same(rt, (fault, told.len()), (ScriptFault::Open(refused), 0));
-    let (fault, _, _) = stopped_events(rt, loaded(rt, disk.bytes()), &[]);
-    same(rt, fault, PlayFault::Open(refused));
+    let (ended, told, _) = ran(rt, loaded(rt, disk.bytes()), b"");
+    same(
+        rt,
+        (ended, told.len()),
+        (Err(ScriptFault::Open(refused)), 0),
+    );
+    let (ended, _, _) = ran_of_events(loaded(rt, disk.bytes()), &[], one_reply(rt));
+    same(rt, ended, Err(PlayFault::Open(refused)));
 }
 
 // A bad line is told before the disk is judged, and nothing is written. Without one the disk is judged,
