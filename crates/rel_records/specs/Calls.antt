@@ -33,11 +33,13 @@ pub record ReadsAtMost {D T : Type 0} (S : History D) (old new : D) (most : ℕ)
   pub reads : OnlyReads S old new most
   pub failures : TellsRelFault S old new result
 
--- At most so many sectors are written. At Ok this holds of the image; each image on the way is one of these.
-pub record WritesAtMost {D T E : Type 0} (S : History D) (old new : D) (most : ℕ) (held done : Image → Type 0)
+-- At most so many sectors are written, and at most so many seen. At Ok this holds of the image; each image on the way is
+-- one of these.
+pub record WritesAtMost {D T E : Type 0} (S : History D) (old new : D) (most seen : ℕ) (held done : Image → Type 0)
     (result : Result T E) : Type 0 where
   pub ok : OnOk result (done (S.image new))
   pub moments : Changes S old new most held
+  pub reads : S.reads new ≤ S.reads old + seen
   pub failures : TellsFailure S old new result
 
 -- The first closed relative file of this name was found, or the directory has none.
@@ -69,15 +71,16 @@ pub record ReadsRecord {D : Type 0} (S : History D) (old new : D) (v : RelFile) 
   pub reads : OnlyReads S old new most
   pub failures : TellsRelFault S old new result
 
--- The sector at a place was written with these bytes, by one write: at an error, which is the device's, they may stand
--- or not.
-pub record PutsSector {D T : Type 0} (S : History D) (old new : D) (p : Place) (bytes : Sector)
+-- The sector at a place was written with these bytes, by one write, and at most so many were seen: at an error, which is
+-- the device's, they may stand or not.
+pub record PutsSector {D T : Type 0} (S : History D) (old new : D) (p : Place) (bytes : Sector) (seen : ℕ)
     (result : Result T RelFault) : Type 0 where
   pub ok : OnOk result (S.image new ≡ put (S.image old) p bytes)
   pub err : IfErr result (λ e. e ≡ Device)
   pub held : HeldOnly S old new (OldOr (S.image old) (put (S.image old) p bytes))
   pub writes : S.writes new ≤ S.writes old + 1
   pub uncounted : OnErr result (S.writes new ≡ S.writes old)
+  pub reads : S.reads new ≤ S.reads old + seen
   pub failures : TellsRelFault S old new result
 
 -- Record `number` of the file that v is of is there, and this is a position in it, counted from 1.
@@ -105,14 +108,15 @@ pub record WritesOver {D : Type 0} (S : History D) (old new : D) (l : Layout) (n
       (with_written (record_length f.slot) number position text (records (S.image old) f)) v)
   pub moments : Changes S old new most (IsWriting (S.image old) l n f 0 number position text)
 
--- A text was written from a position on into a record that is there, by at most so many writes.
+-- A text was written from a position on into a record that is there, by at most so many writes, and reads.
 pub record WritesThere {D : Type 0} (S : History D) (old new : D) (v : RelFile) (number position : ℕ) (text : List ℕ)
-    (most : ℕ)
+    (most seen : ℕ)
     (result : Result (Unit {0}) RelFault) : Type 0 where
   pub file : OfItsFile (S.image old) v (λ l n f. WritesOver S old new l n f v number position text most result)
   pub err : IfErr result (λ e. e ≡ Device)
   -- a record in one block is written at once
   pub uncounted : IsInOneBlock (length_of v) number → OnErr result (S.writes new ≡ S.writes old)
+  pub reads : S.reads new ≤ S.reads old + seen
   pub failures : TellsRelFault S old new result
 
 -- A text was written into a record of f, the file at place n of the layout l, which grew where it had to; w is kept of
@@ -146,6 +150,9 @@ pub record WritesRecord {D : Type 0} (S : History D) (old new : D) (v w : RelFil
   -- a record that is there and lies in one block is written at once: a write that was counted is the whole one
   pub uncounted : number ≤ records_in v → IsInOneBlock (length_of v) number
       → IfErr result (λ e. e ≢ Overflow → S.writes new ≡ S.writes old)
+  -- those of a growth, the side sector that names the block, and the blocks, one or two
+  pub reads : S.reads new ≤ S.reads old + 13
+  pub few : number ≤ records_in v → S.reads new ≤ S.reads old + 3
   pub entry : entry_of w ≡ entry_of v
   pub failures : TellsRelFault S old new result
 
@@ -172,6 +179,8 @@ pub record Grows {D : Type 0} (S : History D) (old new : D) (v w : RelFile) (num
   pub quiet : number ≤ records_in v → IsOk result × (w ≡ v) × OnlyReads S old new 0
   pub told : IfErr result (λ e. (e ≡ TooLarge) ⊎ ((e ≡ Full) ⊎ (e ≡ Device)))
   pub refused : IfErr result (λ e. e ≢ Device → (w ≡ v) × OnlyReads S old new 1)
+  -- the map, the side sectors, the directory sector, the last two blocks
+  pub reads : S.reads new ≤ S.reads old + 10
   pub entry : entry_of w ≡ entry_of v
   pub failures : TellsRelFault S old new result
 
@@ -219,6 +228,7 @@ pub record Chooses {D T : Type 0} (S : History D) (old new : D) (name : List ℕ
   pub ok : (l : Layout) → IsLayout (S.image old) l → IfOk result (Is l)
   pub refuses : Refuses S old new name result
   pub quiet : WritesNothing S old new
+  pub reads : OnOk result (S.reads new ≤ S.reads old + 55)
 
 -- A file was created, or not, where l is the layout.
 pub record CreatesFile {D : Type 0} (S : History D) (old new : D) (l : Layout) (name : List ℕ) (size : ℕ)
@@ -232,5 +242,7 @@ pub record Creates {D : Type 0} (S : History D) (old new : D) (name : List ℕ) 
     (result : Result RelFile RelFault) : Type 0 where
   pub layout : (l : Layout) → IsLayout (S.image old) l → CreatesFile S old new l name size result
   pub refuses : Refuses S old new name result
+  -- as many as a refusal reads: none behind the first write
+  pub reads : OnOk result (S.reads new ≤ S.reads old + 55)
   -- what is kept of any file stays of it
   pub others : (v : RelFile) → OfItsFile (S.image old) v (λ l n f. StaysOf (S.image old) (S.image new) f v)

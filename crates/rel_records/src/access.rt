@@ -27,7 +27,7 @@ pub(crate) fn write<D: Sectors>(
     place: Place,
     from: &[u8; 256],
 ) -> Result<(), RelFault>
-    ensures { PutsSector D.history disk.old disk.new place from.now result }
+    ensures { PutsSector D.history disk.old disk.new place from.now 0 result }
 {
     write_sector(disk, place, from).map_err(|_| RelFault::Device)
 }

@@ -45,6 +45,7 @@ fn add_blocks<D: Sectors>(disk: &mut D, parts: &mut Parts, wanted: u16) -> Resul
         → GrowsBy D.history disk.old disk.new l n f (run_writes (length f.blocks) wanted)
         (full (record_length f.slot) wanted - records_had f)
         (IsRunTo (D.history.image disk.old) (D.history.image disk.new) l n f wanted parts.new) result }
+    ensures reads { D.history.reads disk.new ≤ D.history.reads disk.old }
     ensures failures { TellsFailure D.history disk.old disk.new result }
 {
     for _count in parts.blocks.len()..wanted as usize {
@@ -96,6 +97,7 @@ fn grow<D: Sectors>(
         GrowsBy D.history disk.old disk.new l n f (fill_writes f + run_writes (length f.blocks) wanted)
         (full (record_length f.slot) wanted - records_had f)
         (HasRun (D.history.image disk.old) (D.history.image disk.new) l n f wanted file.new) result) }
+    ensures reads { D.history.reads disk.new ≤ D.history.reads disk.old + 9 }
     ensures entry { entry_of file.new ≡ entry_of file.old }
     ensures failures { TellsFailure D.history disk.old disk.new result }
 {
@@ -111,7 +113,7 @@ fn grow<D: Sectors>(
 ///
 /// All whole records that fit into the file's blocks are made then. `TooLarge` where the record isn't there and would
 /// need more than 720 data blocks, or its number is past 65535; `Full` where the free blocks don't suffice. Both write
-/// nothing. All reads come before the first write.
+/// nothing. Ten sectors at most are read, all of them before the first write.
 pub fn grow_to<D: Sectors>(disk: &mut D, file: &mut RelFile, number: u32) -> Result<(), RelFault>
     requires clean { IsClean (D.history.image disk.old) }
     requires of { IsOf (D.history.image disk.old) file.old }

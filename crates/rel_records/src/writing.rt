@@ -31,7 +31,7 @@ fn write_block<D: Sectors>(
     requires order { start ≤ end }
     requires inside { end ≤ 254 }
     ensures put { PutsSector D.history disk.old disk.new place
-        (patched start end text.now (sector (D.history.image disk.old) place)) result }
+        (patched start end text.now (sector (D.history.image disk.old) place)) 1 result }
     ensures next { IfOk result (λ next. next ≡ named_at (sector (D.history.image disk.old) place) 0) }
 {
     let mut block = [0; 256];
@@ -54,7 +54,7 @@ fn write_in_block<D: Sectors>(
 ) -> Result<(), RelFault>
     requires begins { BeginsIn (D.history.image disk.old) file.now number position block place }
     requires to { number * length_of file.now ≤ 254 * block + 254 }
-    ensures { WritesThere D.history disk.old disk.new file.now number position text.now 1 result }
+    ensures { WritesThere D.history disk.old disk.new file.now number position text.now 1 1 result }
 {
     let size = file.size as usize;
     let start = (number as usize - 1) * size + (position as usize - 1);
@@ -79,7 +79,7 @@ fn write_across<D: Sectors>(
     requires begins { BeginsIn (D.history.image disk.old) file.now number position block place }
     requires inside { (number - 1) * length_of file.now + (position - 1) < 254 * block + 254 }
     requires over { 254 * block + 254 < number * length_of file.now }
-    ensures { WritesThere D.history disk.old disk.new file.now number position text.now 2 result }
+    ensures { WritesThere D.history disk.old disk.new file.now number position text.now 2 2 result }
 {
     let size = file.size as usize;
     let start = (number as usize - 1) * size + (position as usize - 1);
@@ -102,7 +102,7 @@ fn write_there<D: Sectors>(
 ) -> Result<(), RelFault>
     requires { IsPosition (D.history.image disk.old) file.now number position }
     ensures { WritesThere D.history disk.old disk.new file.now number position text.now
-        (touched (length_of file.now) number position) result }
+        (touched (length_of file.now) number position) 3 result }
 {
     let size = file.size as usize;
     let start = (number as usize - 1) * size + (position as usize - 1);
@@ -132,6 +132,8 @@ fn told_of_text(text: &[u8], position: u8, size: u8) -> Result<(), RelFault>
 ///
 /// `Overflow` is told where the text is longer than what is left of the record: it is written as far as it fits.
 /// `TooLarge` and `Full` are those of `grow_to`; then nothing is written.
+///
+/// Three sectors at most are read where the record is there, else ten more.
 pub fn write_record<D: Sectors>(
     disk: &mut D,
     file: &mut RelFile,

@@ -33,7 +33,7 @@ fn write_sectors<D: Sectors>(
 ) -> Result<(), DeviceFault>
     requires size { IsLength size }
     requires apart { AreApart block side }
-    ensures { WritesAtMost D.history disk.old disk.new 3
+    ensures { WritesAtMost D.history disk.old disk.new 3 0
         (ChangesOnly (D.history.image disk.old) map.now.bytes (block ∷ side ∷ []))
         (HasNewSectors map.now.bytes block side size) result }
 {
@@ -55,7 +55,7 @@ fn write_with_directory<D: Sectors>(
     requires size { IsLength size }
     requires apart { AreApart block side }
     requires fresh { IsBeside fresh block side }
-    ensures { WritesAtMost D.history disk.old disk.new 4
+    ensures { WritesAtMost D.history disk.old disk.new 4 0
         (ChangesOnly (D.history.image disk.old) map.now.bytes (fresh ∷ block ∷ side ∷ []))
         (λ c. HasNewSectors map.now.bytes block side size c × (sector c fresh ≡ bytes.now)) result }
 {
@@ -107,6 +107,7 @@ fn write_in_slot<D: Sectors>(
     ensures file { (l : Layout) → (name : List ℕ) → IsSlotSite (D.history.image disk.old) l site.now
         → IsSlotEntry name size site.now bytes.now
         → MakesFile D.history disk.old disk.new l name size site.now site.now.place 4 result }
+    ensures reads { D.history.reads disk.new ≤ D.history.reads disk.old }
     ensures failures { TellsFailure D.history disk.old disk.new result }
 {
     write_sectors(disk, &site.map, site.block, site.side, size)?;
@@ -128,6 +129,7 @@ fn write_behind<D: Sectors>(
     ensures file { (l : Layout) → (name : List ℕ) → IsSectorSite (D.history.image disk.old) l site.now fresh
         → IsSectorEntry name size site.now fresh first.now last.now
         → MakesFile D.history disk.old disk.new l name size site.now fresh 5 result }
+    ensures reads { D.history.reads disk.new ≤ D.history.reads disk.old }
     ensures failures { TellsFailure D.history disk.old disk.new result }
 {
     write_with_directory(disk, &site.map, site.block, site.side, size, fresh, first)?;
@@ -147,6 +149,7 @@ pub(crate) fn write_file<D: Sectors>(
     ensures file { (l : Layout) → IsSite (D.history.image disk.old) l site.now
         → MakesFile D.history disk.old disk.new l name.now size site.now (sector_of site.now) (creation_writes l)
         result }
+    ensures reads { D.history.reads disk.new ≤ D.history.reads disk.old }
     ensures failures { TellsFailure D.history disk.old disk.new result }
 {
     let entry = relative_entry(name, site.block, site.side, size, 2);

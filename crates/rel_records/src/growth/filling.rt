@@ -38,7 +38,7 @@ fn fill_before<D: Sectors>(
     requires total { total ≤ 1000000 }
     requires from { 254 * (length parts.now.blocks.items - 2) ≤ from }
     ensures { WritesAtMost D.history disk.old disk.new
-        (if nat_lt from (254 * (length parts.now.blocks.items - 1)) then 1 else 0)
+        (if nat_lt from (254 * (length parts.now.blocks.items - 1)) then 1 else 0) 1
         (λ c. (c ≡ D.history.image disk.old) ⊎ FillsBefore (D.history.image disk.old) parts.now from total c)
         (FillsBefore (D.history.image disk.old) parts.now from total) result }
 {
@@ -86,6 +86,7 @@ pub(crate) fn fill_up<D: Sectors>(
         → GrowsBy D.history disk.old disk.new l n f (fill_writes f)
         (full (record_length f.slot) (length f.blocks) - records_had f)
         (HasFilled (D.history.image disk.old) (D.history.image disk.new) l n f parts.old parts.new) result }
+    ensures reads { D.history.reads disk.new ≤ D.history.reads disk.old + 1 }
     ensures failures { TellsFailure D.history disk.old disk.new result }
 {
     let count = parts.blocks.len() as u16;

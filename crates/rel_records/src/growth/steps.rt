@@ -36,7 +36,7 @@ fn write_side<D: Sectors>(
     size: u8,
 ) -> Result<(), DeviceFault>
     requires { number < length sides.now }
-    ensures { WritesAtMost D.history disk.old disk.new 1 (IsSided (D.history.image disk.old) blocks.now sides.now size)
+    ensures { WritesAtMost D.history disk.old disk.new 1 0 (IsSided (D.history.image disk.old) blocks.now sides.now size)
         (λ c. (q : Place) → slice_get sides.now number ≡ Some q
         → c ≡ put (D.history.image disk.old) q (side_sector number blocks.now sides.now size))
         result }
@@ -55,7 +55,7 @@ fn write_older<D: Sectors>(
 ) -> Result<(), DeviceFault>
     requires below { below < length sides.now }
     requires once { EachOnce sides.now }
-    ensures { WritesAtMost D.history disk.old disk.new below
+    ensures { WritesAtMost D.history disk.old disk.new below 0
         (IsSided (D.history.image disk.old) blocks.now sides.now size)
         (λ c. AreSidedFrom below (D.history.image disk.old) blocks.now sides.now size
         → AreSidedFrom 0 c blocks.now sides.now size) result }
@@ -77,7 +77,7 @@ fn write_sides<D: Sectors>(
     requires some { 1 ≤ length sides.now }
     requires few { length sides.now ≤ 6 }
     requires once { EachOnce sides.now }
-    ensures { WritesAtMost D.history disk.old disk.new (if new then (length sides.now) else 1)
+    ensures { WritesAtMost D.history disk.old disk.new (if new then (length sides.now) else 1) 0
         (IsSided (D.history.image disk.old) blocks.now sides.now size)
         (λ c. AreSidedFrom (if new then 0 else (length sides.now - 1)) c blocks.now sides.now size) result }
 {
@@ -101,7 +101,7 @@ fn prepare<D: Sectors>(
     requires some { 1 ≤ length parts.now.sides.items }
     requires few { length parts.now.sides.items ≤ 6 }
     requires once { EachOnce parts.now.sides.items }
-    ensures { WritesAtMost D.history disk.old disk.new (2 + (if new then (length parts.now.sides.items) else 1))
+    ensures { WritesAtMost D.history disk.old disk.new (2 + (if new then (length parts.now.sides.items) else 1)) 0
         (IsBefore (D.history.image disk.old) parts.now fresh block.now)
         (λ c. AreSidedFrom (if new then 0 else (length parts.now.sides.items - 1)) c parts.now.blocks.items
         parts.now.sides.items
@@ -133,6 +133,7 @@ pub(crate) fn add_block<D: Sectors>(disk: &mut D, parts: &mut Parts) -> Result<(
         → GrowsBy D.history disk.old disk.new l n f (step_writes (length f.blocks))
         (full (record_length f.slot) (length f.blocks + 1) - full (record_length f.slot) (length f.blocks))
         (HasBlockMore (D.history.image disk.old) (D.history.image disk.new) l n f parts.old parts.new) result }
+    ensures reads { D.history.reads disk.new ≤ D.history.reads disk.old }
     ensures failures { TellsFailure D.history disk.old disk.new result }
 {
     let count = parts.blocks.len();

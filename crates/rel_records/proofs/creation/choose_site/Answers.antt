@@ -1,7 +1,7 @@
 -- The names, the directory's room, the map.
 mod Refused
 mod Failed
-use Rattle.std.proofs.Common.{ap, subst, sym, ◌∙◌}
+use Rattle.std.proofs.Common.{arith, ap, subst, sym, ◌∙◌}
 use Rattle.std.proofs.lemmas.Bool.{false≢true}
 use Rattle.d64_image.proofs.Moments.{no_write_then, reads_no_write}
 use Rattle.d64_image.specs.Images.{Image, sector}
@@ -69,6 +69,7 @@ returns g c =
       };
       quiet = no_write_then S _ _ _ (reads_no_write S _ _ 18 c.list_slots.ensures.reads)
           (no_write_then S _ _ _ c.read_room.ensures.quiet (reads_no_write S _ _ 1 c.read.ensures.reads));
+      reads = omega (arith, c.in-Ok.ensures.reads.reads, c.in_ok-room.ensures.reads.reads, c.in_ok-list_slots.ensures.reads.reads);
     }
 
 pub returns-then-has_name : goal.returns-then-has_name

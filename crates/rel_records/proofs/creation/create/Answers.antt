@@ -1,6 +1,6 @@
 -- What is refused, and the file that is written.
 mod Failed
-use Rattle.std.proofs.Common.{subst, sym, ◌∙◌}
+use Rattle.std.proofs.Common.{arith, subst, sym, ◌∙◌}
 use Rattle.d64_image.specs.Images.{Image}
 use Rattle.rel_records.proofs.lemmas.creation.Made.{changed-others, made-file, then-moments}
 use Rattle.rel_records.specs.creation.Site.{HasFileAt, IsSite, sector_of}
@@ -48,6 +48,7 @@ returns g c =
         refused = tt;
         failures = c.in-Ok.ensures.failures ∙ c.in_ok-site.ensures.refuses.failures;
       };
+      reads = omega (arith, c.in-Ok.ensures.reads, c.in_ok-site.ensures.reads);
       others = λ v l n f of.
           let S = g.D.Sectors.history in
           let P : Image → Type 0 = λ i. IsSite i l c.in_ok-site.site in

@@ -22,6 +22,7 @@ loop-count-init g c =
           (no_change S d _ (old-grows (S.image d) l n f c.args.parts.now (S.whole d) at _));
       room = rw c.len-count.ensures.value c.requires.room;
       long = sym c.len-count.ensures.value;
+      reads = omega arith;
       failures = refl;
     }
 
@@ -91,6 +92,7 @@ loop-count-preserved g c =
       room = room-step k c.args.wanted _ _ (omega (arith, lt)) c.loop-count.invariant.room
           (ap (λ j. blocks_free c.add_block.new.parts.map.bytes + taken_next j) (sym run0.count) ∙ more0.free);
       long = ap length more0.run.at.blocks ∙ more0.run.count ∙ ap (λ j. j + 1) run0.count;
+      reads = omega (arith, c.in_ok-add_block.ensures.reads, c.loop-count.invariant.reads);
       failures = c.in_ok-add_block.ensures.failures ∙ c.loop-count.invariant.failures;
     }
 
@@ -106,3 +108,10 @@ returns-clause-file g c l n f at up =
       moments = changes_weaker S _ _ _ _ _ _ (omega (arith, ap (run_writes (length f.blocks)) e)) (λ i h. h)
           (c.loop-count.invariant.changes l n f at up);
     }
+
+pub returns-in_err-add_block-clause-reads : goal.returns-in_err-add_block-clause-reads
+returns-in_err-add_block-clause-reads g c = omega
+    (arith, c.in_err-add_block.ensures.reads, c.loop-count.invariant.reads)
+
+pub returns-clause-reads : goal.returns-clause-reads
+returns-clause-reads g c = c.loop-count.invariant.reads

@@ -16,5 +16,6 @@ invariant-loop-count g l = record {
       (IsGrowingBy (g.D.Sectors.history.image l.fn.disk) m n f (full (record_length f.slot) l.wanted - records_had f));
   room : needed l._count l.wanted ≤ blocks_free l.parts.map.bytes;
   long : length l.parts.blocks.items ≡ l._count;
+  reads : g.D.Sectors.history.reads l.disk ≤ g.D.Sectors.history.reads l.fn.disk;
   failures : g.D.Sectors.history.failures l.disk ≡ g.D.Sectors.history.failures l.fn.disk;
 }

@@ -31,6 +31,7 @@ returns g c =
                 c.renew.new.file blocks.ok c.renew.ensures.kept;
             moments = run-moments S d b l n f p w reads at more x fill.moments q fill.ok y blocks.moments;
           };
+      reads = omega (arith, c.in_ok-add_blocks.ensures.reads, c.in_ok-fill_up.ensures.reads, reads.reads);
       entry = c.renew.ensures.entry;
       failures = c.in_ok-add_blocks.ensures.failures ∙ c.in_ok-fill_up.ensures.failures
           ∙ c.in_ok-parts.ensures.failures;

@@ -48,6 +48,7 @@ returns-then-has_records g c =
       quiet = λ le. (refl, refl, no_reads g.D.Sectors.history c.args.disk.now);
       told = tt;
       refused = tt;
+      reads = omega arith;
       entry = refl;
       failures = refl;
     }

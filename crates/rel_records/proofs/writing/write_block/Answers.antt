@@ -15,6 +15,7 @@ returns-in_err-read-clause-put g c =
       held = weaker g.D.Sectors.history _ _ _ _ (λ i h. inl h) c.read.ensures.reads.held;
       writes = omega (arith, c.read.ensures.reads.writes);
       uncounted = at-error c.from_residual.result _ c.read.ensures.reads.writes;
+      reads = c.read.ensures.reads.reads;
       failures = passed-on g.D.Sectors.history _ _ _ refl c.from_residual.result _ c.from_residual.ensures.1
           c.in_err-read.ensures.failures;
     }
@@ -34,6 +35,7 @@ returns-in_err-write-clause-put g c =
       writes = omega (arith, c.write.ensures.writes, c.in_ok-read.ensures.reads.writes);
       uncounted = at-error c.from_residual-in_err-write.result _
           (c.in_err-write.ensures.uncounted ∙ c.in_ok-read.ensures.reads.writes);
+      reads = omega (arith, c.in_err-write.ensures.reads, c.in_ok-read.ensures.reads.reads);
       failures = passed-on g.D.Sectors.history _ _ _ c.in_ok-read.ensures.failures c.from_residual-in_err-write.result _
           c.from_residual-in_err-write.ensures.1 c.in_err-write.ensures.failures;
     }
@@ -56,6 +58,7 @@ returns-clause-put g c =
           c.in_ok-read.ensures.ok) c.write.ensures.held;
       writes = omega (arith, c.in_ok-write.ensures.writes, c.in_ok-read.ensures.reads.writes);
       uncounted = tt;
+      reads = omega (arith, c.in_ok-write.ensures.reads, c.in_ok-read.ensures.reads.reads);
       failures = c.in_ok-write.ensures.failures ∙ c.in_ok-read.ensures.failures;
     }
 

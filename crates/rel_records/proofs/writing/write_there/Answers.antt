@@ -43,6 +43,7 @@ returns-in_err-place g c =
           };
       err = fault-is c.from_residual.result _ c.from_residual.ensures.1 _ (λ e is. is ∙ c.in_err-place.ensures.err);
       uncounted = λ one. at-error c.from_residual.result _ c.block_at.ensures.reads.writes;
+      reads = omega (arith, c.block_at.ensures.reads.reads);
       failures = passed-on g.D.Sectors.history _ _ _ refl c.from_residual.result _ c.from_residual.ensures.1
           c.in_err-place.ensures.failures;
     }

@@ -24,6 +24,7 @@ returns-in_default g c =
       };
       quiet = no_write_then S _ _ _ (reads_no_write S _ _ 18 c.list_slots.ensures.reads)
           (no_write_then S _ _ _ c.read_room.ensures.quiet (reads_no_write S _ _ 1 c.read.ensures.reads));
+      reads = tt;
     }
 
 pub returns-in_err-list_slots : goal.returns-in_err-list_slots
@@ -47,6 +48,7 @@ returns-in_err-list_slots g c =
             c.in_err-list_slots.ensures.failures;
       };
       quiet = reads_no_write g.D.Sectors.history _ _ 18 c.list_slots.ensures.reads;
+      reads = not-done c.from_residual.result _ c.from_residual.ensures.1 _;
     }
 
 pub returns-in_err-room : goal.returns-in_err-room
@@ -71,4 +73,5 @@ returns-in_err-room g c =
       };
       quiet = no_write_then g.D.Sectors.history _ _ _
           (reads_no_write g.D.Sectors.history _ _ 18 c.list_slots.ensures.reads) c.read_room.ensures.quiet;
+      reads = not-done c.from_residual-in_err-room.result _ c.from_residual-in_err-room.ensures.1 _;
     }

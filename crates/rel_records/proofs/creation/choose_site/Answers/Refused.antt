@@ -29,6 +29,7 @@ returns-then-has_name g c =
         failures = c.in_ok-list_slots.ensures.failures;
       };
       quiet = reads_no_write g.D.Sectors.history _ _ 18 c.list_slots.ensures.reads;
+      reads = tt;
     }
 
 pub returns-in_default-take_site : goal.returns-in_default-take_site
@@ -67,4 +68,5 @@ returns-in_default-take_site g c =
       };
       quiet = no_write_then S _ _ _ (reads_no_write S _ _ 18 c.list_slots.ensures.reads)
           (no_write_then S _ _ _ c.read_room.ensures.quiet (reads_no_write S _ _ 1 c.read.ensures.reads));
+      reads = tt;
     }

@@ -31,6 +31,7 @@ returns-in_err-site g c =
         failures = passed-on g.D.Sectors.history _ _ _ refl c.from_residual.result _ c.from_residual.ensures.1
             c.in_err-site.ensures.refuses.failures;
       };
+      reads = not-done c.from_residual.result _ c.from_residual.ensures.1 _;
       others = λ v l n f of.
           let S = g.D.Sectors.history in
           changed-others S c.args.disk.now c.choose_site.new.disk _ l c.args.name.now c.args.size
@@ -64,6 +65,7 @@ returns-in_default g c =
         failures = failed_later g.D.Sectors.history _ _ _ c.in_ok-site.ensures.refuses.failures
             c.in_default.ensures.failures;
       };
+      reads = tt;
       others = λ v l n f of.
           let S = g.D.Sectors.history in
           let P : Image → Type 0 = λ i. IsSite i l c.in_ok-site.site in

@@ -1,5 +1,5 @@
 -- The sectors and the directory's new one, then the link to it.
-use Rattle.std.proofs.Common.{sym, subst, ◌∷◌}
+use Rattle.std.proofs.Common.{arith, sym, subst, ◌∷◌}
 use Rattle.std.specs.Prelude.{Contains}
 use Rattle.d64_image.specs.Images.{Image}
 use Rattle.d64_image.specs.declared.place.Place.{Place}
@@ -68,3 +68,9 @@ returns-clause-file g c l name site is_for =
           c.write.new.self c.write.ensures.held
           (counted_once S _ _ c.write.result c.write.ensures.counted c.write.ensures.uncounted);
     }
+
+pub returns-in_err-write_with_directory-clause-reads : goal.returns-in_err-write_with_directory-clause-reads
+returns-in_err-write_with_directory-clause-reads g c = omega (arith, c.in_err-write_with_directory.ensures.reads)
+
+pub returns-clause-reads : goal.returns-clause-reads
+returns-clause-reads g c = omega (arith, c.write.ensures.reads, c.in_ok-write_with_directory.ensures.reads)

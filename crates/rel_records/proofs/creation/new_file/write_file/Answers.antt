@@ -104,3 +104,9 @@ put_entry-requires g c =
     let O : Option Place → Type 0 = λ o. MatchOption o (IsSlotSite a l st) (IsSectorSite a l st) in
     let at : IsSlotSite a l st = subst O c.in-None.is site in
     at.room.slot.number
+
+pub returns-in-Some-clause-reads : goal.returns-in-Some-clause-reads
+returns-in-Some-clause-reads g c = c.write_behind.ensures.reads
+
+pub returns-in-None-clause-reads : goal.returns-in-None-clause-reads
+returns-in-None-clause-reads g c = c.write_in_slot.ensures.reads

@@ -1,5 +1,5 @@
 -- The sectors, then the entry.
-use Rattle.std.proofs.Common.{sym, subst, ◌∷◌}
+use Rattle.std.proofs.Common.{arith, sym, subst, ◌∷◌}
 use Rattle.std.specs.Prelude.{Contains}
 use Rattle.d64_image.specs.Images.{Image}
 use Rattle.d64_image.specs.declared.place.Place.{Place}
@@ -53,3 +53,9 @@ returns-clause-file g c l name site is_for =
           c.write.new.self c.write.ensures.held
           (counted_once S _ _ c.write.result c.write.ensures.counted c.write.ensures.uncounted);
     }
+
+pub returns-in_err-write_sectors-clause-reads : goal.returns-in_err-write_sectors-clause-reads
+returns-in_err-write_sectors-clause-reads g c = omega (arith, c.in_err-write_sectors.ensures.reads)
+
+pub returns-clause-reads : goal.returns-clause-reads
+returns-clause-reads g c = omega (arith, c.write.ensures.reads, c.in_ok-write_sectors.ensures.reads)

@@ -18,6 +18,7 @@ returns-in_err-write g c =
           changes_weaker S _ _ 1 3 _ _ (omega arith) (λ x h. h)
           (map-first S c.args.disk.now c.args.map.now.bytes ps c.write.new.self c.map_place.result c.map_place.ensures
           c.write.ensures.held (omega (arith, c.in_err-write.ensures.uncounted)));
+      reads = omega (arith, c.in_err-write.ensures.reads);
       failures = tells-failed g.D.Sectors.history _ _ _ refl c.from_residual.result _ c.from_residual.ensures.1
           c.in_err-write.ensures.failures;
     }
@@ -35,6 +36,7 @@ returns-in_err-write-2 g c =
           (one-more S c.args.disk.now c.args.map.now.bytes ps c.write.new.self c.write-2.new.self 1 c.args.block
           c.fresh_block.result (Contains-here c.args.block (c.args.side ∷ [])) c.requires.apart.block first
           c.write-2.ensures.held (omega (arith, c.in_err-write-2.ensures.uncounted)));
+      reads = omega (arith, c.in_err-write-2.ensures.reads, c.in_ok-write.ensures.reads);
       failures = tells-failed g.D.Sectors.history _ _ _ c.in_ok-write.ensures.failures
           c.from_residual-in_err-write-2.result _ c.from_residual-in_err-write-2.ensures.1
           c.in_err-write-2.ensures.failures;
@@ -64,6 +66,7 @@ returns g c =
           (Contains-there c.args.side c.args.block (c.args.side ∷ []) (Contains-here c.args.side []))
           c.requires.apart.side second c.write-3.ensures.held
           (counted_once S _ _ c.write-3.result c.write-3.ensures.counted c.write-3.ensures.uncounted);
+      reads = omega (arith, c.write-3.ensures.reads, c.in_ok-write-2.ensures.reads, c.in_ok-write.ensures.reads);
       failures = tells-after g.D.Sectors.history _ _ _
           (c.in_ok-write-2.ensures.failures ∙ c.in_ok-write.ensures.failures) c.write-3.result
           c.write-3.ensures.failures;

@@ -16,6 +16,7 @@ returns-in_err-write_sectors g c =
       moments = changes_weaker S _ _ 3 4 _ _ (omega arith)
           (changes-more (S.image c.args.disk.now) c.args.map.now.bytes (c.args.block ∷ c.args.side ∷ []) c.args.fresh)
           c.in_err-write_sectors.ensures.moments;
+      reads = omega (arith, c.in_err-write_sectors.ensures.reads);
       failures = tells-failed g.D.Sectors.history _ _ _ refl c.from_residual.result _ c.from_residual.ensures.1
           c.in_err-write_sectors.ensures.failures;
     }
@@ -40,6 +41,7 @@ returns g c =
           c.args.bytes.now (Contains-here c.args.fresh (c.args.block ∷ c.args.side ∷ [])) c.requires.fresh.fresh
           first c.write.ensures.held
           (counted_once S _ _ c.write.result c.write.ensures.counted c.write.ensures.uncounted);
+      reads = omega (arith, c.write.ensures.reads, c.in_ok-write_sectors.ensures.reads);
       failures = tells-after g.D.Sectors.history _ _ _ c.in_ok-write_sectors.ensures.failures c.write.result
           c.write.ensures.failures;
     }

@@ -57,6 +57,7 @@ returns g c =
               ap (λ i. put i place c.fill_tail.new.bytes) c.in_ok-read.ensures.reads.image,
             ),
           ))));
+      reads = omega (arith, c.write.ensures.reads, c.in_ok-read.ensures.reads.reads);
       failures = tells-after g.D.Sectors.history _ _ _ c.in_ok-read.ensures.failures c.write.result
           c.write.ensures.failures;
     }
@@ -76,6 +77,7 @@ returns-then-from-count g c =
     record {
       ok = inl (omega (arith, c.if-from-count.true, c.len-count.ensures.value), refl);
       moments = changes_weaker S _ _ 0 _ _ _ (omega arith) (λ x h. h) (no_change S c.args.disk.now _ (inl refl));
+      reads = omega arith;
       failures = refl;
     }
 
@@ -95,6 +97,7 @@ returns-in_err-read g c =
       ok = not-done c.from_residual.result _ c.from_residual.ensures.1 _;
       moments = changes_weaker S _ _ 0 _ _ _ (omega arith) (λ x h. h)
           (reads_change S c.args.disk.now c.read.new.self 1 _ c.read.ensures.reads (inl refl));
+      reads = c.read.ensures.reads.reads;
       failures = tells-failed g.D.Sectors.history _ _ _ refl c.from_residual.result _ c.from_residual.ensures.1
           c.in_err-read.ensures.failures;
     }

@@ -85,3 +85,12 @@ returns-in_err-fill_before-clause-file = filled.returns-in_err-fill_before-claus
 
 pub returns-clause-file : goal.returns-clause-file
 returns-clause-file = filled.returns-clause-file
+
+pub returns-then-had-total-clause-reads : goal.returns-then-had-total-clause-reads
+returns-then-had-total-clause-reads g c = omega arith
+
+pub returns-in_err-fill_before-clause-reads : goal.returns-in_err-fill_before-clause-reads
+returns-in_err-fill_before-clause-reads g c = c.in_err-fill_before.ensures.reads
+
+pub returns-clause-reads : goal.returns-clause-reads
+returns-clause-reads g c = omega (arith, c.write.ensures.reads, c.in_ok-fill_before.ensures.reads)

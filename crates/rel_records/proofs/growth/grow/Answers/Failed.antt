@@ -17,6 +17,7 @@ returns-in_err-parts g c =
             (reads_change S _ _ 8 _ c.in_err-parts.ensures.reads
             (growing_same (S.image c.args.disk.now) l n f c.args.file.now _ of));
       };
+      reads = omega (arith, c.in_err-parts.ensures.reads.reads);
       entry = refl;
       failures = tells-failed S _ _ _ refl c.from_residual.result _ c.from_residual.ensures.1
           c.in_err-parts.ensures.failures;
@@ -39,6 +40,7 @@ returns-in_err-fill_up g c =
             ok = not-done c.from_residual-in_err-fill_up.result _ c.from_residual-in_err-fill_up.ensures.1 _;
             moments = fill-moments S d b l n f p w reads at more c.fill_up.new.disk fill.moments;
           };
+      reads = omega (arith, c.in_err-fill_up.ensures.reads, reads.reads);
       entry = refl;
       failures = tells-failed S _ _ _ c.in_ok-parts.ensures.failures c.from_residual-in_err-fill_up.result _
           c.from_residual-in_err-fill_up.ensures.1 c.in_err-fill_up.ensures.failures;
@@ -66,6 +68,7 @@ returns-in_err-add_blocks g c =
             moments = run-moments S d b l n f p w reads at more x fill.moments q fill.ok c.add_blocks.new.disk
                 blocks.moments;
           };
+      reads = omega (arith, c.in_err-add_blocks.ensures.reads, c.in_ok-fill_up.ensures.reads, reads.reads);
       entry = refl;
       failures = tells-failed S _ _ _ (c.in_ok-fill_up.ensures.failures ∙ c.in_ok-parts.ensures.failures)
           c.from_residual-in_err-add_blocks.result _ c.from_residual-in_err-add_blocks.ensures.1

@@ -39,6 +39,7 @@ returns-in_default-read g c =
           absurd (omega (arith, lt, le));
       told = inr (inr refl);
       refused = λ ne. absurd (ne refl);
+      reads = omega (arith, c.in_default-read.ensures.reads.reads);
       entry = refl;
       failures = c.in_default-read.ensures.failures;
     }
@@ -76,6 +77,7 @@ returns-in_default-grow g c =
           absurd (omega (arith, lt, le));
       told = inr (inr refl);
       refused = λ ne. absurd (ne refl);
+      reads = omega (arith, c.in_default-grow.ensures.reads, c.in-Ok.ensures.reads.reads);
       entry = c.grow.ensures.entry;
       failures = failed_later S _ _ _ c.in-Ok.ensures.failures c.in_default-grow.ensures.failures;
     }

@@ -61,6 +61,7 @@ returns g c =
           absurd (omega (arith, lt, le));
       told = tt;
       refused = tt;
+      reads = omega (arith, c.in-Ok-grow.ensures.reads, c.in-Ok.ensures.reads.reads);
       entry = c.grow.ensures.entry;
       failures = c.in-Ok-grow.ensures.failures ∙ c.in-Ok.ensures.failures;
     }

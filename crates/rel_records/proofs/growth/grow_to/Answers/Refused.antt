@@ -45,6 +45,7 @@ returns-in_default g c =
       told = inl refl;
       refused = λ ne.
           (refl, reads_weaker S _ _ 0 1 (omega arith) (no_reads S c.args.disk.now));
+      reads = omega arith;
       entry = refl;
       failures = refl;
     }
@@ -89,6 +90,7 @@ returns-then-blocks_free-sectors_needed g c =
           absurd (omega (arith, lt, le));
       told = inr (inl refl);
       refused = λ ne. (refl, c.in-Ok.ensures.reads);
+      reads = omega (arith, c.in-Ok.ensures.reads.reads);
       entry = refl;
       failures = c.in-Ok.ensures.failures;
     }

@@ -99,3 +99,16 @@ returns-in_err-write-clause-failures = failed.returns-in_err-write-clause-failur
 
 pub returns-in_err-write-2-clause-failures : goal.returns-in_err-write-2-clause-failures
 returns-in_err-write-2-clause-failures = failed.returns-in_err-write-2-clause-failures
+
+pub returns-clause-reads : goal.returns-clause-reads
+returns-clause-reads g c = omega
+    (arith, c.in_ok-write-2.ensures.reads, c.in_ok-write.ensures.reads, c.in_ok-prepare.ensures.reads)
+
+pub returns-in_err-prepare-clause-reads : goal.returns-in_err-prepare-clause-reads
+returns-in_err-prepare-clause-reads = failed.returns-in_err-prepare-clause-reads
+
+pub returns-in_err-write-clause-reads : goal.returns-in_err-write-clause-reads
+returns-in_err-write-clause-reads = failed.returns-in_err-write-clause-reads
+
+pub returns-in_err-write-2-clause-reads : goal.returns-in_err-write-2-clause-reads
+returns-in_err-write-2-clause-reads = failed.returns-in_err-write-2-clause-reads

@@ -22,6 +22,7 @@ returns-in_err-write-2 g c =
           c.write-2.new.self c.map_place.result c.map_place.ensures c.in_ok-write.ensures.ok
           c.in_ok-write.ensures.held c.in_ok-write.ensures.counted c.write-2.ensures.held
           (omega (arith, c.in_err-write-2.ensures.uncounted)));
+      reads = omega (arith, c.in_err-write-2.ensures.reads, c.in_ok-write.ensures.reads);
       failures = tells-failed g.D.Sectors.history _ _ _ c.in_ok-write.ensures.failures
           c.from_residual-in_err-write-2.result _ c.from_residual-in_err-write-2.ensures.1
           c.in_err-write-2.ensures.failures;
@@ -50,6 +51,7 @@ returns g c =
           c.in_ok-write.ensures.held c.in_ok-write.ensures.counted c.in_ok-write-2.ensures.held
           c.in_ok-write-2.ensures.counted)
           moments;
+      reads = omega (arith, c.write_sides.ensures.reads, c.in_ok-write-2.ensures.reads, c.in_ok-write.ensures.reads);
       failures = tells-after g.D.Sectors.history _ _ _
           (c.in_ok-write-2.ensures.failures ∙ c.in_ok-write.ensures.failures) c.write_sides.result
           c.write_sides.ensures.failures;
@@ -67,6 +69,7 @@ returns-in_err-write g c =
           (put (S.image c.args.disk.now) c.map_place.result p.map.bytes) _ c.write.ensures.held
           (omega (arith, c.in_err-write.ensures.uncounted))
           (inl refl) (inr (inl (ap (λ x. put (S.image c.args.disk.now) x p.map.bytes) c.map_place.ensures))));
+      reads = omega (arith, c.in_err-write.ensures.reads);
       failures = tells-failed g.D.Sectors.history _ _ _ refl c.from_residual.result _ c.from_residual.ensures.1
           c.in_err-write.ensures.failures;
     }

@@ -16,6 +16,7 @@ loop-number-init g c =
       written = below-none (S.image c.args.disk.now) c.args.blocks.now c.args.sides.now c.args.size;
       changes = no_change S c.args.disk.now _
           (sided-none (S.image c.args.disk.now) c.args.blocks.now c.args.sides.now c.args.size);
+      reads = omega arith;
       failures = refl;
     }
 
@@ -30,6 +31,7 @@ returns-in_err-write_side g c =
           c.args.size c.loop-number.number 1 c.args.below
           (omega (arith, c.loop-number-test.true)) old.changes (at_end S _ _ _ old.changes.held)
           c.in_err-write_side.ensures.moments;
+      reads = omega (arith, c.in_err-write_side.ensures.reads, c.loop-number.invariant.reads);
       failures = tells-failed g.D.Sectors.history _ _ _ c.loop-number.invariant.failures c.from_residual.result _
           c.from_residual.ensures.1 c.in_err-write_side.ensures.failures;
     }
@@ -50,6 +52,7 @@ loop-number-preserved g c =
       changes = sides_then S c.args.disk.now c.loop-number.disk c.write_side.new.disk c.args.blocks.now c.args.sides.now
           c.args.size n 1 (n + 1)
           (omega arith) old.changes (at_end S _ _ _ old.changes.held) c.in_ok-write_side.ensures.moments;
+      reads = omega (arith, c.in_ok-write_side.ensures.reads, old.reads);
       failures = c.in_ok-write_side.ensures.failures ∙ old.failures;
     }
 
@@ -68,5 +71,6 @@ returns g c =
           (λ (k : ℕ). Changes S c.args.disk.now c.loop-number.disk k
           (IsSided (S.image c.args.disk.now) c.args.blocks.now c.args.sides.now c.args.size)) n
           c.loop-number.invariant.changes;
+      reads = omega (arith, c.loop-number.invariant.reads);
       failures = c.loop-number.invariant.failures;
     }

@@ -1,5 +1,5 @@
 -- One side sector is written.
-use Rattle.std.proofs.Common.{sym, subst, ◌≡◌, ◌∙◌, ap, Some}
+use Rattle.std.proofs.Common.{arith, sym, subst, ◌≡◌, ◌∙◌, ap, Some}
 use Rattle.d64_image.proofs.Moments.{write_change}
 use Rattle.d64_image.specs.Images.{Sector, put}
 use Rattle.rel_records.proofs.lemmas.steps.Sided.{read-there, ok-then}
@@ -32,5 +32,6 @@ returns g c =
           (subst P (sym c.side_bytes-bytes.ensures)
           (sided-put a a c.args.blocks.now c.args.sides.now c.args.size c.args.number p
           (S.whole c.args.disk.now).size at (sided-none a c.args.blocks.now c.args.sides.now c.args.size)));
+      reads = omega (arith, c.write.ensures.reads);
       failures = c.write.ensures.failures;
     }

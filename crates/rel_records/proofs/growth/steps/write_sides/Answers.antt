@@ -28,6 +28,7 @@ returns-then-new g c =
           c.args.size 1 (length c.args.sides.now - 1) _ le
           c.in_ok-write_side.ensures.moments (at_end S _ _ _ c.in_ok-write_side.ensures.moments.held)
           c.write_older.ensures.moments;
+      reads = omega (arith, c.write_older.ensures.reads, c.in_ok-write_side.ensures.reads);
       failures = tells-after g.D.Sectors.history _ _ _ c.in_ok-write_side.ensures.failures c.write_older.result
           c.write_older.ensures.failures;
     }
@@ -47,5 +48,6 @@ returns-else-new g c =
           (λ b. Changes S c.args.disk.now c.write_side.new.disk (if b then (length c.args.sides.now) else 1)
           (IsSided (S.image c.args.disk.now) c.args.blocks.now c.args.sides.now c.args.size)) (sym c.if-new.false)
           c.in_ok-write_side.ensures.moments;
+      reads = c.in_ok-write_side.ensures.reads;
       failures = c.in_ok-write_side.ensures.failures;
     }

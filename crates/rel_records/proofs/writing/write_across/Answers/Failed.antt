@@ -46,6 +46,7 @@ returns-in_err-next g c =
             one-more c.args.number c.args.file.now.size
                 c.requires.begins.there.low,
           ));
+      reads = omega (arith, c.in_err-next.ensures.put.reads);
       failures = passed-on g.D.Sectors.history _ _ _ refl c.from_residual.result _ c.from_residual.ensures.1
           c.in_err-next.ensures.put.failures;
     }
@@ -97,6 +98,7 @@ returns-in_err-write_block g c =
             one-more c.args.number c.args.file.now.size
                 c.requires.begins.there.low,
           ));
+      reads = omega (arith, c.in_err-write_block.ensures.put.reads, c.in_ok-next.ensures.put.reads);
       failures = passed-on g.D.Sectors.history _ _ _ c.in_ok-next.ensures.put.failures
           c.from_residual-in_err-write_block.result _ c.from_residual-in_err-write_block.ensures.1
           c.in_err-write_block.ensures.put.failures;

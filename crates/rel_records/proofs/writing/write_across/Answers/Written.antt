@@ -67,5 +67,6 @@ returns g c =
             one-more c.args.number c.args.file.now.size
                 c.requires.begins.there.low,
           ));
+      reads = omega (arith, c.in_ok-write_block.ensures.put.reads, c.in_ok-next.ensures.put.reads);
       failures = c.in_ok-write_block.ensures.put.failures ∙ c.in_ok-next.ensures.put.failures;
     }

@@ -1,5 +1,5 @@
 -- Growth is refused, or the device fails.
-use Rattle.std.proofs.Common.{subst, sym, ℕ, ◌∙◌, inr}
+use Rattle.std.proofs.Common.{arith, subst, sym, ℕ, ◌∙◌, inr}
 use Rattle.std.proofs.lemmas.Result.{err_from_is_err_and}
 use Rattle.d64_image.proofs.Moments.{at_end}
 use Rattle.d64_image.specs.History.{Changes}
@@ -76,6 +76,8 @@ returns-in_err-write_there g c =
           fault-is c.from_residual-in_err-write_there.result _ c.from_residual-in_err-write_there.ensures.1 _
           (λ e is over. c.in_err-write_there.ensures.uncounted (subst P (sym c.in_ok-grow_to.ensures.same) one)
           ∙ (c.grow_to.ensures.quiet le).2.writes);
+      reads = omega (arith, c.in_err-write_there.ensures.reads, c.grow_to.ensures.reads);
+      few = λ le. omega (arith, c.in_err-write_there.ensures.reads, (c.grow_to.ensures.quiet le).2.reads);
       entry = c.grow_to.ensures.entry;
       failures = passed-on g.D.Sectors.history _ _ _ c.in_ok-grow_to.ensures.failures
           c.from_residual-in_err-write_there.result _ c.from_residual-in_err-write_there.ensures.1

@@ -1,5 +1,5 @@
 -- Growth is refused.
-use Rattle.std.proofs.Common.{Err, IfErr, Result, ap, subst, sym, ◌∙◌, ◌≡◌, ◌↔◌, inr}
+use Rattle.std.proofs.Common.{arith, Err, IfErr, Result, ap, subst, sym, ◌∙◌, ◌≡◌, ◌↔◌, inr}
 use Rattle.std.proofs.Common.{refl, ◌⊎◌}
 use Rattle.std.proofs.lemmas.Result.{err_from_is_err_and}
 use Rattle.disk_layout.specs.Layout.{record_length}
@@ -53,6 +53,8 @@ returns-in_err-grow_to g c =
           (λ e is ne over. c.in_err-grow_to.ensures.refused (λ d. ne (is ∙ d)));
       uncounted = λ le one. fault-is c.from_residual.result _ c.from_residual.ensures.1 _
           (λ e is over. (c.grow_to.ensures.quiet le).2.writes);
+      reads = omega (arith, c.grow_to.ensures.reads);
+      few = λ le. omega (arith, (c.grow_to.ensures.quiet le).2.reads);
       entry = c.grow_to.ensures.entry;
       failures = passed-on g.D.Sectors.history _ _ _ refl c.from_residual.result _ c.from_residual.ensures.1
           c.in_err-grow_to.ensures.failures;

@@ -89,6 +89,8 @@ returns g c =
       refused = weaker-fault c.told_of_text.result _ _ (λ e h ne over. absurd (over h.0)) c.told_of_text.ensures.err;
       uncounted = λ le one. weaker-fault c.told_of_text.result _ _ (λ e h over. absurd (over h.0))
           c.told_of_text.ensures.err;
+      reads = omega (arith, c.in_ok-write_there.ensures.reads, c.grow_to.ensures.reads);
+      few = λ le. omega (arith, c.in_ok-write_there.ensures.reads, (c.grow_to.ensures.quiet le).2.reads);
       entry = c.grow_to.ensures.entry;
       failures = cut-tells g.D.Sectors.history _ _ c.told_of_text.result _ c.told_of_text.ensures.err
           (c.in_ok-write_there.ensures.failures ∙ c.in_ok-grow_to.ensures.failures);

@@ -70,6 +70,7 @@ returns-then-end-block g c =
       err = c.write_in_block.ensures.err;
       uncounted = λ one. error-then c.write_in_block.result _ _ (λ e. e ∙ c.block_at.ensures.reads.writes)
           (c.write_in_block.ensures.uncounted one);
+      reads = omega (arith, c.write_in_block.ensures.reads, c.block_at.ensures.reads.reads);
       failures = tells-rel-after g.D.Sectors.history _ _ _ c.in_ok-place.ensures.failures c.write_in_block.result
           c.write_in_block.ensures.failures;
     }

@@ -70,6 +70,7 @@ returns g c =
       err = c.write_across.ensures.err;
       uncounted = λ one. absurd
           (omega (arith, one, c.if-end-block.false, one-more c.args.number c.args.file.now.size c.requires.low));
+      reads = omega (arith, c.write_across.ensures.reads, c.block_at.ensures.reads.reads);
       failures = tells-rel-after g.D.Sectors.history _ _ _ c.in_ok-place.ensures.failures c.write_across.result
           c.write_across.ensures.failures;
     }

@@ -62,3 +62,14 @@ pub returns-in_err-write-2-clause-failures : goal.returns-in_err-write-2-clause-
 returns-in_err-write-2-clause-failures g c = tells-failed g.D.Sectors.history _ _ _
     (c.in_ok-write.ensures.failures ∙ c.in_ok-prepare.ensures.failures) c.from_residual-in_err-write-2.result _
     c.from_residual-in_err-write-2.ensures.1 c.in_err-write-2.ensures.failures
+
+pub returns-in_err-prepare-clause-reads : goal.returns-in_err-prepare-clause-reads
+returns-in_err-prepare-clause-reads g c = omega (arith, c.in_err-prepare.ensures.reads)
+
+pub returns-in_err-write-clause-reads : goal.returns-in_err-write-clause-reads
+returns-in_err-write-clause-reads g c = omega
+    (arith, c.in_err-write.ensures.reads, c.in_ok-prepare.ensures.reads)
+
+pub returns-in_err-write-2-clause-reads : goal.returns-in_err-write-2-clause-reads
+returns-in_err-write-2-clause-reads g c = omega
+    (arith, c.in_err-write-2.ensures.reads, c.in_ok-write.ensures.reads, c.in_ok-prepare.ensures.reads)
