@@ -1,6 +1,5 @@
 -- An opening as a whole: the check, the look for the file, its creation.
-use Rattle.std.proofs.Common.{ℕ, ◌≡◌, ◌≢◌, ◌≤◌, ◌<◌, ◌⊎◌, inl, inr, Bool, true, false, MatchOption, List, Option, None}
-use Rattle.std.specs.Prelude.{OnErr}
+use Rattle.std.proofs.Common.{ℕ, ◌≡◌, ◌≢◌, ◌≤◌, ◌<◌, ◌+◌, ◌⊎◌, inl, inr, Bool, true, false, MatchOption, List, Option, None}
 use Rattle.std.proofs.Common.{Some, IfOk, IsSome, Result, Ok, Err, OnOk, sym, ◌∙◌, ap, ap₂, subst, refl, arith}
 use Rattle.std.proofs.lemmas.Option.{none-some}
 use Rattle.d64_image.proofs.Moments.{changes_then, changes_weaker, reads_change, reads_then, reads_weaker}
@@ -39,16 +38,24 @@ if-ok P Q (Ok x) f h = f x h
 if-ok P Q (Err e) f h = tt
 
 module _ {D E : Type 0} (S : History D) (a b c : D) where
+  -- a call that reads some, and then one that reads some where it is done
+  sum : (r : Result Status E) (n k m : ℕ) → k + n ≤ m → S.reads b ≤ S.reads a + k
+      → OnOk r (S.reads c ≤ S.reads b + n) → OnOk r (S.reads c ≤ S.reads a + m)
+  sum (Ok st) n k m le first more = omega (arith, le, first, more)
+  sum (Err e) n k m le first more = tt
+
   -- the file is made after it was looked for
   pub opened-made : (name : List ℕ) (length : Option ℕ) (l : ℕ) (after : Option Channel) (result : Result Status E)
       → OnlyReads S a b 702 → length ≡ Some l → ¬ (HasFile (S.image a) name)
       → IfOk result (λ st. st ≢ statuses.Ok → OnlyReads S b c 55) → IfOk result (λ st. st ≡ statuses.Ok → IsSome after)
+      → OnOk result (S.reads c ≤ S.reads b + 55)
       → ((m : Layout) → IsLayout (S.image b) m → Changes S b c (creation_writes m) (IsCreating (S.image b) m name l))
       → IsOpenedFor S a c 702 (record { name = name; length = length }) after result
-  opened-made name length l after result reads given missing refused opened moments = record {
+  opened-made name length l after result reads given missing refused opened few moments = record {
     plain = λ none. absurd (none-some l (sym none ∙ given));
     there = λ has. absurd (missing has);
     refused = by result refused opened;
+    reads = sum result 55 702 757 (omega arith) reads.reads few;
     moments = λ m is. changes_then S a b c 0 (creation_writes m) (creation_writes m) (Held m) (omega arith)
         (reads_change S a b 702 (Held m) reads (inl refl))
         (changes_weaker S b c (creation_writes m) (creation_writes m) _ (Held m) (omega arith)
@@ -84,6 +91,7 @@ module _ {D E : Type 0} (S : History D) (a b c : D) where
         (subst (λ (x : Wish). HasFile (S.image b) x.name) (one v asked)
         (subst (λ (i : Image). HasFile i v.name) (sym reads.image) has)));
     refused = by result opened.refused;
+    reads = sum result 757 2115 2872 (omega arith) reads.reads opened.reads;
     unclean = λ other. absurd (other clean);
     moments = λ m l. changes_then S a b c 0 (creation_writes m) (creation_writes m) (IsCreatingFrom (S.image a) m text)
         (omega arith)
@@ -105,6 +113,12 @@ module _ {D E : Type 0} (S : History D) (a b c : D) where
       by (Ok st) h = λ same. reads_then S a b c 2115 757 2872 (omega arith) reads (h (same ∙ closed))
       by (Err e) h = tt
 
+-- what was only read
+done-reads : {D E : Type 0} (S : History D) (a b : D) (n m : ℕ) (r : Result Status E) → n ≤ m → OnlyReads S a b n
+    → OnOk r (S.reads b ≤ S.reads a + m)
+done-reads S a b n m (Ok st) le reads = omega (arith, le, reads.reads)
+done-reads S a b n m (Err e) le reads = tt
+
 -- nothing but reads
 pub read-by : {D E : Type 0} (S : History D) (a b : D) (n : ℕ) (text : List ℕ) (before after : Option Channel)
     (result : Result Status E) → n ≤ 2115 → OnlyReads S a b n
@@ -113,6 +127,7 @@ read-by {D} {E} S a b n text before after result few reads = record {
   plain = λ _. reads_weaker S a b n 2817 (omega (arith, few)) reads;
   there = λ _ _ _. reads_weaker S a b n 2817 (omega (arith, few)) reads;
   refused = by result;
+  reads = done-reads S a b n 2872 result (omega (arith, few)) reads;
   unclean = λ _. reads_weaker S a b n 2115 few reads;
   moments = λ m _. changes_weaker S a b 0 (creation_writes m) _ _ (omega arith) (λ i h. h)
       (reads_change S a b n (IsCreatingFrom (S.image a) m text) reads (inl refl));
@@ -129,6 +144,7 @@ read-for {D} {E} S a b w after result reads = record {
   plain = λ _. reads;
   there = λ _. reads;
   refused = by result;
+  reads = done-reads S a b 702 757 result (omega arith) reads;
   moments = λ m _. changes_weaker S a b 0 (creation_writes m) _ _ (omega arith) (λ i h. h)
       (reads_change S a b 702 (λ i. (i ≡ S.image a) ⊎ IsCreatingFor (S.image a) m w i) reads (inl refl));
 }
@@ -145,10 +161,6 @@ none-done (Err e) Q h P = tt
 pub not-done : {T E : Type 0} (r : Result T E) (Q : E → Type 0) → IsErrAnd r Q → (P : Type 0) → OnOk r P
 not-done (Ok x) Q h P = absurd h
 not-done (Err e) Q h P = tt
-
-pub on-err : {T E : Type 0} (r : Result T E) {P : Type 0} → P → OnErr r P
-on-err (Ok x) p = tt
-on-err (Err e) p = p
 
 pub tells-failed : {D T E : Type 0} (S : History D) (a b : D) (r : Result T E) (Q : E → Type 0) → IsErrAnd r Q
     → Failed S a b → TellsFailure S a b r

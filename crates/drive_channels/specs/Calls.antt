@@ -1,5 +1,5 @@
 -- What the calls inside a drive promise, at Ok and at an error. All of it is our own.
-use Rattle.std.specs.Prelude.{ℕ, ◌≡◌, ◌≢◌, ◌≤◌, Bool, false, true, IfOk, IsSome, List, None, OnOk, Result, Some}
+use Rattle.std.specs.Prelude.{ℕ, ◌≡◌, ◌≢◌, ◌≤◌, ◌+◌, Bool, false, true, IfOk, IsSome, List, None, OnOk, Result, Some}
 use Rattle.d64_image.specs.History.{Changes, History, OnlyReads, TellsFailure, WritesNothing}
 use Rattle.d64_image.specs.Images.{Image}
 use Rattle.disk_layout.specs.Clean.{IsClean}
@@ -55,6 +55,7 @@ pub record WritesAt {D : Type 0} (S : History D) (old new : D) (e e' : Found) (s
   pub writes : (l : Layout) → (f : File) → IsRelAt (S.image old) l (entry_of e.file) f
       → IsWrittenAt S old new (channel_at (entry_of e.file) s) l f text result
   pub refused : IfOk result (λ status. status ≡ statuses.FileTooLarge → OnlyReads S old new 1)
+  pub reads : S.reads new ≤ S.reads old + 13
   pub failures : TellsFailure S old new result
 
 -- A text was written to the channel of this number, where it is the open one.
@@ -65,6 +66,7 @@ pub record WritesOn {D : Type 0} (S : History D) (old new : D) (k k' : Known) (c
   pub known : OnOk result (IsKnown (S.image new) k')
   pub writes : IsWrittenOn S old new (channel_of k.last) channel text result
   pub refused : IfOk result (λ status. status ≡ statuses.FileTooLarge → OnlyReads S old new 1)
+  pub reads : S.reads new ≤ S.reads old + 13
   pub failures : TellsFailure S old new result
 
 -- A file that wasn't there was made and opened, or couldn't be.
@@ -76,6 +78,7 @@ pub record MakesFile {D : Type 0} (S : History D) (old new : D) (k k' : Known) (
   pub known : OnOk result (IsKnown (S.image new) k')
   pub refused : IfOk result (λ status. status ≢ statuses.Ok → OnlyReads S old new 55)
   pub opened : IfOk result (λ status. status ≡ statuses.Ok → IsSome (channel_of k'.last))
+  pub reads : OnOk result (S.reads new ≤ S.reads old + 55)
   pub moments : (l : Layout) → IsLayout (S.image old) l
       → Changes S old new (creation_writes l) (IsCreating (S.image old) l name size)
   pub failures : TellsFailure S old new result

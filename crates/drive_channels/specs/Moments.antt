@@ -82,6 +82,7 @@ pub record IsOpenedFor {D T E : Type 0} (S : History D) (old new : D) (n : ℕ) 
   pub plain : w.length ≡ None → OnlyReads S old new n
   pub there : HasFile (S.image old) w.name → OnlyReads S old new n
   pub refused : OnOk result (after ≡ None → OnlyReads S old new (n + 55))
+  pub reads : OnOk result (S.reads new ≤ S.reads old + (n + 55))
   pub moments : (l : Layout) → IsLayout (S.image old) l
       → Changes S old new (creation_writes l) (λ img. (img ≡ S.image old) ⊎ IsCreatingFor (S.image old) l w img)
 
@@ -91,6 +92,7 @@ pub record IsOpenedBy {D T E : Type 0} (S : History D) (old new : D) (text : Lis
   pub plain : ((w : Wish) → IsWish text w → w.length ≡ None) → OnlyReads S old new 2817
   pub there : (w : Wish) → IsWish text w → HasFile (S.image old) w.name → OnlyReads S old new 2817
   pub refused : OnOk result (after ≡ before → OnlyReads S old new 2872)
+  pub reads : OnOk result (S.reads new ≤ S.reads old + 2872)
   pub unclean : ¬ (IsClean (S.image old)) → OnlyReads S old new 2115
   pub moments : (l : Layout) → IsLayout (S.image old) l
       → Changes S old new (creation_writes l) (IsCreatingFrom (S.image old) l text)

@@ -1,7 +1,7 @@
 //! Opening a channel.
 ghost use Rattle.rel_records.specs.File.{IsLength, length_of};
 ghost use Rattle.std.specs.Prelude.{◌≡◌, ◌≢◌, ◌↔◌, true, false, IfSome, IsTrue, List, MatchOption, None, OnOk, Some, ℕ};
-ghost use Rattle.std.specs.Prelude.{length};
+ghost use Rattle.std.specs.Prelude.{◌≤◌, ◌+◌, ◌⊎◌, length};
 ghost use Rattle.d64_image.specs.History.{Changes, OnlyReads};
 ghost use Rattle.d64_image.specs.Images.{Image};
 ghost use Rattle.disk_layout.specs.Clean.{IsClean};
@@ -278,12 +278,12 @@ impl<D: Sectors> Drive<D> {
         ensures serves { Serves D.history self.old self.new result }
         ensures row { OnOk result (Opens (view_of D.history self.old) channel text.now (view_of D.history self.new)) }
         // without a length, or where the file is there, nothing is written; nor where the channel isn't opened
-        ensures plain { ((w : Wish) → IsWish text.now w → w.length ≡ None)
-            → OnlyReads D.history self.old.disk self.new.disk 2817 }
-        ensures there { (w : Wish) → IsWish text.now w → HasFile (D.history.image self.old.disk) w.name
+        ensures quiet { ((w : Wish) → IsWish text.now w → w.length ≡ None)
+            ⊎ ((w : Wish) × IsWish text.now w × HasFile (D.history.image self.old.disk) w.name)
             → OnlyReads D.history self.old.disk self.new.disk 2817 }
         ensures refused { OnOk result (self.new.channel ≡ self.old.channel
             → OnlyReads D.history self.old.disk self.new.disk 2872) }
+        ensures reads { OnOk result (D.history.reads self.new.disk ≤ D.history.reads self.old.disk + 2872) }
         // nor on a disk that isn't clean; else every image held is one of the creation, and so is the count of writes
         ensures unclean { ¬ (IsClean (D.history.image self.old.disk))
             → OnlyReads D.history self.old.disk self.new.disk 2115 }

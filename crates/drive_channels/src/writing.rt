@@ -1,5 +1,5 @@
 //! Writing to a channel.
-ghost use Rattle.std.specs.Prelude.{◌≡◌, ◌≤◌, [], OnErr, OnOk, length};
+ghost use Rattle.std.specs.Prelude.{◌≡◌, ◌≤◌, ◌+◌, [], OnErr, OnOk, length};
 ghost use Rattle.d64_image.specs.History.{Changes, OnlyReads};
 ghost use Rattle.disk_layout.specs.Layout.{File, Layout, record_length};
 ghost use Rattle.drive_channels.specs.Calls.{IsPlace, WritesAt, WritesOn};
@@ -106,7 +106,7 @@ impl<D: Sectors> Drive<D> {
     /// the text reached past the record's end and was cut. The rest of the record becomes 00; a record that isn't there
     /// is made first, as are all before it. Where it can't be, or the disk is too full for it, nothing is written and
     /// the place stays: 52. An empty text makes the record and writes nothing into it; the place stays. A channel that
-    /// isn't open: 61.
+    /// isn't open: 61. Thirteen sectors at most are read.
     ///
     /// At `Dead` the disk holds what it held at one of the moments of the growth or of the writing.
     pub fn write(&mut self, channel: u8, text: &[u8]) -> Result<(), Dead>
@@ -116,6 +116,7 @@ impl<D: Sectors> Drive<D> {
         ensures silent { ¬ (HasOn self.old.channel channel) → self.new.disk ≡ self.old.disk }
         ensures refused { OnOk result (self.new.status ≡ FileTooLarge
             → OnlyReads D.history self.old.disk self.new.disk 1) }
+        ensures reads { D.history.reads self.new.disk ≤ D.history.reads self.old.disk + 13 }
         // else every image held is one of the record call, and so is the count of writes
         ensures moments { (c : Channel) (l : Layout) (f : File) → IsOn self.old.channel channel c
             → IsRelAt (D.history.image self.old.disk) l c.entry f

@@ -1,4 +1,4 @@
-use Rattle.std.proofs.Common.{ℕ, ◌≡◌, ◌≤◌, [], inl, inr, Err, ap, refl, sym, subst}
+use Rattle.std.proofs.Common.{ℕ, arith, ◌≡◌, ◌≤◌, [], inl, inr, Err, ap, refl, sym, subst}
 use Rattle.drive_channels.proofs.Refusals.{calm, device-failed, not-err, not-ok}
 use Rattle.drive_channels.proofs.Rows.{at-file}
 use Rattle.drive_channels.proofs.Writes.{grown-at, grown-row, had-is, keeps-left, keeps-same, leaves-has, ok-done}
@@ -27,6 +27,7 @@ returns-in-Ok g c =
           let of = at-file _ _ l f c.requires.found rel in
           grown-at g.D.Sectors.history _ _ _ l f _ ((c.in-Ok.ensures.file l _ f of).moments) (λ _ _. tt);
       refused = λ is. absurd (ok-done is);
+      reads = omega (arith, c.in-Ok.ensures.reads);
       failures = c.in-Ok.ensures.failures;
     }
 
@@ -44,6 +45,7 @@ returns-in-Device g c =
           (subst (λ (k : ℕ). c.args.spot.record_number ≤ k) (sym (had-is f c.args.found.now.file of.shows))
           le)).0));
       refused = tt;
+      reads = omega (arith, c.in-Err.ensures.reads);
       failures = device-failed (Unit {0}) g.D.Sectors.history _ _ _ c.in-Device.is c.in-Err.ensures.failures;
     }
 
@@ -68,5 +70,6 @@ returns-in_default g c =
       writes = λ l f rel. let of = at-file _ _ l f c.requires.found rel in
           grown-at S _ _ _ l f _ ((c.in-Err.ensures.file l _ f of).moments) (λ _ _. tt);
       refused = λ _. left.1;
+      reads = omega (arith, c.in-Err.ensures.reads);
       failures = calm (Unit {0}) S _ _ _ c.in_default.not-Device c.in-Err.ensures.failures;
     }

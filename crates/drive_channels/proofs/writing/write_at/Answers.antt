@@ -23,6 +23,7 @@ returns-then-is_empty g c = record {
       (no-text c.args.text.now c.is_empty.result c.is_empty.ensures c.if-is_empty.true)
       (c.grow_at.ensures.writes l f rel);
   refused = c.grow_at.ensures.refused;
+  reads = c.grow_at.ensures.reads;
   failures = c.grow_at.ensures.failures;
 }
 
@@ -33,5 +34,6 @@ returns g c = record {
   spot = c.write_text.ensures.spot;
   writes = c.write_text.ensures.writes;
   refused = c.write_text.ensures.refused;
+  reads = c.write_text.ensures.reads;
   failures = c.write_text.ensures.failures;
 }

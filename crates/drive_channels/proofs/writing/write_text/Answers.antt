@@ -32,6 +32,7 @@ returns-in-Ok g c =
           written-at S _ _ _ l f _ c.args.text.now c.requires.some ((c.in-Ok.ensures.file l _ f of).moments)
           (λ _ _. tt);
       refused = λ is. absurd (ok-done is);
+      reads = c.in-Ok.ensures.reads;
       failures = c.in-Ok.ensures.failures;
     }
 
@@ -60,6 +61,7 @@ returns-in-Overflow g c =
           written-at S _ _ _ l f _ c.args.text.now c.requires.some ((c.in-Err.ensures.file l _ f of).moments)
           (λ _ _. tt);
       refused = λ is. absurd (overflow-done is);
+      reads = c.in-Err.ensures.reads;
       failures = calm (Unit {0}) S _ _ _ (over-device _ c.in-Overflow.is) c.in-Err.ensures.failures;
     }
 
@@ -78,6 +80,7 @@ returns-in-Device g c =
           (subst (λ (L : ℕ). IsInOneBlock L c.args.spot.now.record_number) (sym of.shows.size) one)
           (device-other _ c.in-Device.is));
       refused = tt;
+      reads = c.in-Err.ensures.reads;
       failures = device-failed (Unit {0}) g.D.Sectors.history _ _ _ c.in-Device.is c.in-Err.ensures.failures;
     }
 
@@ -103,5 +106,6 @@ returns-in_default g c =
           written-at S _ _ _ l f _ c.args.text.now c.requires.some ((c.in-Err.ensures.file l _ f of).moments)
           (λ _ _. tt);
       refused = λ _. left.1;
+      reads = c.in-Err.ensures.reads;
       failures = calm (Unit {0}) S _ _ _ c.in_default.not-Device c.in-Err.ensures.failures;
     }

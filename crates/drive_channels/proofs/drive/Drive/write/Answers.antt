@@ -1,9 +1,14 @@
-use Rattle.drive_channels.proofs.Openings.{not-done, on-err}
+use Rattle.drive_channels.proofs.Openings.{not-done}
 use Rattle.drive_channels.proofs.Steady.{orderly, served, died, still-dead}
 use Rattle.drive_channels.proofs.Written.{begins, idle}
 use Rattle.drive_channels.specs.Inside.{seen_of}
-use Rattle.std.proofs.Common.{false, ap, refl, sym, ◌∙◌}
+use Rattle.std.proofs.Common.{arith, false, ap, refl, sym, ◌∙◌, Err, Ok, Result}
+use Rattle.std.specs.Prelude.{OnErr}
 use Rattle.drive_channels.proofs.drive.Drive.write.Goals as goal
+
+on-err : {T E : Type 0} (r : Result T E) {P : Type 0} → P → OnErr r P
+on-err (Ok x) p = tt
+on-err (Err e) p = p
 
 pub returns-then-self : goal.returns-then-self
 returns-then-self g c = record {
@@ -11,6 +16,7 @@ returns-then-self g c = record {
   row = tt;
   silent = λ _. refl;
   refused = tt;
+  reads = omega arith;
   moments = λ ch l f on rel. idle g.D.Sectors.history _ _ _ (begins _ _ ch l f rel);
   uncounted = λ ch l f on rel there one. refl;
 }
@@ -28,6 +34,7 @@ returns g c = record {
       }) c.in_ok-self-inside.ensures.known));
   row = rw (← c.self.view_is) (c.in_ok-self-inside.ensures.row c.self.inside.status);
   silent = rw (← c.self.view_is) c.in_ok-self-inside.ensures.writes.silent;
+  reads = rw (← c.self.view_is) c.in_ok-self-inside.ensures.reads;
   refused = rw (← c.self.view_is) c.in_ok-self-inside.ensures.refused;
   -- each is that of the call below, in the drive's fields
   moments = rw (← c.self.view_is) (λ ch l f on rel. (c.in_ok-self-inside.ensures.writes.at ch l f on rel).moments);
@@ -41,6 +48,7 @@ returns-in_err-self-inside g c = record {
   row = not-done c.from_residual.result _ c.from_residual.ensures.1 _;
   silent = rw (← c.self.view_is) c.in_err-self-inside.ensures.writes.silent;
   refused = not-done c.from_residual.result _ c.from_residual.ensures.1 _;
+  reads = rw (← c.self.view_is) c.in_err-self-inside.ensures.reads;
   moments = rw (← c.self.view_is) (λ ch l f on rel. (c.in_err-self-inside.ensures.writes.at ch l f on rel).moments);
   uncounted = rw (← c.self.view_is) (λ ch l f on rel there one. on-err c.from_residual.result
       ((c.in_err-self-inside.ensures.writes.at ch l f on rel).uncounted there one));

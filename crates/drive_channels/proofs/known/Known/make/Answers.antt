@@ -46,6 +46,7 @@ returns-in-Ok g c =
           c.requires.channel.low c.requires.channel.high c.args.self.now.checked c.requires.checked;
       refused = λ other. absurd (ok-ok other);
       opened = λ _. refl;
+      reads = c.in-Ok.ensures.reads;
       moments = λ l h. (c.in-Ok.ensures.layout l h).moments;
       failures = c.in-Ok.ensures.refuses.failures;
     }
@@ -63,6 +64,7 @@ returns-in-Exists g c =
       known = known-still _ _ c.args.self.now reads.image c.requires.known;
       refused = λ _. reads;
       opened = λ is. absurd (taken-ok is);
+      reads = reads.reads;
       moments = λ l h. (c.in-Err.ensures.layout l h).moments;
       failures = calm RelFile S _ _ c.in-Err.fault other c.in-Err.ensures.refuses.failures;
     }
@@ -81,6 +83,7 @@ returns-in_default g c =
       known = known-still _ _ c.args.self.now reads.image c.requires.known;
       refused = λ _. reads;
       opened = λ is. absurd (full-ok is);
+      reads = reads.reads;
       moments = λ l h. (c.in-Err.ensures.layout l h).moments;
       failures = calm RelFile S _ _ c.in-Err.fault c.in_default.not-Device c.in-Err.ensures.refuses.failures;
     }

@@ -56,7 +56,7 @@ returns-in-Some g c =
           opened-made g.D.Sectors.history _ _ _ c.args.wish.name.now c.args.wish.length c.in-Some.length _ c.make.result
           c.look_up.ensures.reads c.in-Some.is
           (c.in_ok-look_up.ensures.found.missing c.if-branch.false) c.make.ensures.refused c.make.ensures.opened
-          c.make.ensures.moments;
+          c.make.ensures.reads c.make.ensures.moments;
       failures = tells-after g.D.Sectors.history _ _ _ c.in_ok-look_up.ensures.failures c.make.result
           c.make.ensures.failures;
     }

@@ -1,4 +1,4 @@
-use Rattle.std.proofs.Common.{refl, None, ◌≡◌}
+use Rattle.std.proofs.Common.{arith, refl, None, ◌≡◌}
 use Rattle.drive_channels.proofs.Openings.{if-ok}
 use Rattle.drive_channels.proofs.Written.{
   known-written,
@@ -45,6 +45,7 @@ returns-then-spot-channel g c =
       writes = written-on S c.args.channel c.args.text.now _ _ _ c.in-Some.opened.found c.in-Some-spot.spot
           c.args.self.now.last is on c.write_at.ensures.writes;
       refused = c.write_at.ensures.refused;
+      reads = c.write_at.ensures.reads;
       failures = c.write_at.ensures.failures;
     }
 
@@ -60,6 +61,7 @@ returns-else-spot-channel g c =
       known = still-known (S.image c.args.disk.now) k _ is c.requires.known;
       writes = not-written S c.args.channel c.args.text.now _ c.args.disk.now (channel_of k.last) closed;
       refused = λ e. absurd (other-status e);
+      reads = omega arith;
       failures = refl;
     }
 
@@ -75,6 +77,7 @@ returns-in_default-spot g c =
       known = still-known (S.image c.args.disk.now) k _ is c.requires.known;
       writes = not-written S c.args.channel c.args.text.now _ c.args.disk.now (channel_of k.last) closed;
       refused = λ e. absurd (other-status e);
+      reads = omega arith;
       failures = refl;
     }
 
@@ -88,5 +91,6 @@ returns-in_default g c =
       known = c.requires.known;
       writes = not-written S c.args.channel c.args.text.now _ c.args.disk.now (channel_of k.last) closed;
       refused = λ e. absurd (other-status e);
+      reads = omega arith;
       failures = refl;
     }

@@ -1,4 +1,4 @@
-use Rattle.std.proofs.Common.{◌∙◌, ap, refl, subst, sym}
+use Rattle.std.proofs.Common.{◌∙◌, ap, inl, refl, subst, sym}
 use Rattle.std.proofs.lemmas.Bool.{false≢true}
 use Rattle.std.proofs.lemmas.Result.{err_from_is_err_and}
 use Rattle.d64_image.proofs.Moments.{failed_later}
@@ -21,7 +21,7 @@ pub returns-in_err-open-clause-reads : goal.returns-in_err-open-clause-reads
 returns-in_err-open-clause-reads g c = rw (← c.self.view_is)
     (reads-between g.D.Sectors.history c.self.inside.drive.disk c.close.new.self.disk c.open.new.self.disk
     c.open.new.self.disk 2817
-    c.close.ensures.disk (c.open.ensures.plain (name-plain c.name.result.now c.name.ensures.name)) refl)
+    c.close.ensures.disk (c.open.ensures.quiet (inl (name-plain c.name.result.now c.name.ensures.name))) refl)
 
 pub returns-in_err-open-clause-failures : goal.returns-in_err-open-clause-failures
 returns-in_err-open-clause-failures g c =
@@ -53,7 +53,7 @@ pub returns-clause-reads : goal.returns-clause-reads
 returns-clause-reads g c = rw (← c.self.view_is)
     (reads-between g.D.Sectors.history c.self.inside.drive.disk c.close.new.self.disk c.open.new.self.disk
     c.open.new.self.disk 2817
-    c.close.ensures.disk (c.open.ensures.plain (name-plain c.name.result.now c.name.ensures.name)) refl)
+    c.close.ensures.disk (c.open.ensures.quiet (inl (name-plain c.name.result.now c.name.ensures.name))) refl)
 
 pub returns-clause-failures : goal.returns-clause-failures
 returns-clause-failures g c =
