@@ -3,6 +3,8 @@
 import re
 
 FUNCTION = re.compile(r"( *)(?:pub(?:\([a-z]+\))? )?(?:const )?fn (\w+)")
+# `impl<T> Trait for Type<T> {`: the type, of which the proofs of a method are
+IMPL = re.compile(r"impl(?:<.*?>)? (?:.* for )?(\w+)")
 
 
 class Edit:
@@ -25,7 +27,8 @@ class Edit:
                 self.values = line[len("false: "):].strip()
 
     def places(self, crate):
-        """The functions that it edits: file, name, first and last line. None where it edits something else."""
+        """The functions that it edits: file, name, first and last line, the type of a method or nothing. None where it edits
+        something else."""
         places = {function_around(crate, file, old) for file, old, _ in self.pairs}
         return None if None in places else sorted(places)
 
@@ -51,9 +54,11 @@ def function_around(crate, file, old):
     end = next((n for n in range(first, len(lines)) if lines[n] in (indent + "}", indent + "{}")), -1)
     if last > end:
         return None
+    kinds = [IMPL.match(line) for line in lines[:first]] if indent else []
+    kind = next((it[1] for it in reversed(kinds) if it), "")
     while first and lines[first - 1].strip().startswith(("#[", "//")):
         first -= 1
-    return file, name, first + 1, end + 1
+    return file, name, first + 1, end + 1, kind
 
 
 def edited(crate, edits):

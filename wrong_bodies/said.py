@@ -68,15 +68,16 @@ def is_in(places, file, line):
     return places is None or any(file == place[0] and place[2] <= line <= place[3] for place in places)
 
 
-def module_of(place):
-    """The module of the function's file, as a path."""
-    return re.sub(r"^src/|\.rt$", "", place[0])
+def paths_of(place):
+    """Where the function stands in the crate, as patterns of a path: below its file's module, or below its type's, wherever that is."""
+    module = re.sub(r"^src/|\.rt$", "", place[0])
+    return [rf"{module}/(?:.*/)?{place[1]}", *([rf"(?:.*/)?{place[4]}/{place[1]}"] if place[4] else [])]
 
 
 def is_of(places, file):
     """Whether the proof file is one of the functions'."""
     return places is None or any(
-        re.fullmatch(rf"proofs/{module_of(place)}/(?:.*/)?{place[1]}/(?:.*/)?\w+\.antt", file) for place in places)
+        re.fullmatch(rf"proofs/{path}/(?:.*/)?\w+\.antt", file) for place in places for path in paths_of(place))
 
 
 def waits(places, line):
@@ -86,7 +87,8 @@ def waits(places, line):
         return is_of(places, unread[1])
     if not untried or places is None:
         return bool(untried)
-    return any(f"::{module_of(place).replace('/', '::')}::" in untried[1] and untried[1].endswith(f"::{place[1]}") for place in places)
+    name = untried[1].partition("::")[2].replace("::", "/")
+    return any(re.fullmatch(path, name) for place in places for path in paths_of(place))
 
 
 def without(text, names):
