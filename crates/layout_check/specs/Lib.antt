@@ -8,6 +8,7 @@ pub mod Mending
 pub mod Open
 pub mod Owners
 pub mod Recounted
+pub mod Reads
 pub mod RepairOrder
 pub mod Repaired
 pub mod Sides

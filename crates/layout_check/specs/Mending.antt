@@ -1,16 +1,17 @@
 -- What each call promises that mends a sound disk. Our own.
-use Rattle.std.specs.Prelude.{ℕ, ◌≡◌, [], ◌∷◌, Contains, List, OnOk, Result}
+use Rattle.std.specs.Prelude.{ℕ, ◌≡◌, ◌≤◌, ◌+◌, ◌*◌, [], ◌∷◌, Contains, List, OnOk, Result, length}
 use Rattle.d64_image.specs.History.{Changes, History, WritesNothing}
 use Rattle.d64_image.specs.Images.{sector}
 use Rattle.d64_image.specs.declared.place.Place.{Place}
 use Rattle.disk_layout.specs.Directory.{map_place}
 use Rattle.disk_layout.specs.InOrder.{AreMade, GoesOver, WritesOther}
-use Rattle.disk_layout.specs.Layout.{File, IsLayout, Layout}
+use Rattle.disk_layout.specs.Layout.{File, IsLayout, Layout, file_owns, owners}
 use Rattle.disk_layout.specs.declared.faults.Fault.{Fault}
 use Rattle.disk_layout.specs.declared.slot.Slot.{Slot}
 use Rattle.layout_check.specs.Exact.{AreExactSides, HasMap}
 use Rattle.layout_check.specs.Mended.{AreExactFor, IsExactFor, KeepsBeside, KeepsLayouts, Mends, SameMap, TellsDevice}
 use Rattle.layout_check.specs.Recounted.{AreCounted, AreRightIn, KeepsButCounts, OldOrMended}
+use Rattle.layout_check.specs.Reads.{ReadsFew, is_in, owned_by, owned_if}
 use Rattle.layout_check.specs.RepairOrder.{ClearsSpare, IsRight, sides_of}
 
 -- at most n sectors are written, and each image held is mended from the old one; at Ok the layout is the same
@@ -37,6 +38,7 @@ pub record MendsMap {D T : Type 0} (S : History D) (old new : D) (result : Resul
   pub spare : ClearsSpare (S.image old) (S.image new)
   -- a map that is right is not written
   pub quiet : HasMap (S.image old) → WritesNothing S old new
+  pub reads : S.reads new ≤ S.reads old + 1
 
 -- the side sectors of a relative entry with these parts were made exact
 pub record MendsSides {D T : Type 0} (S : History D) (old new : D) (s : Slot) (blocks sides : List Place)
@@ -48,6 +50,7 @@ pub record MendsSides {D T : Type 0} (S : History D) (old new : D) (s : Slot) (b
   pub right : (l : Layout) → IsLayout (S.image old) l → PutsRight S old new l sides result
   -- side sectors that are right are not written
   pub quiet : AreExactSides (S.image old) s blocks sides → WritesNothing S old new
+  pub reads : S.reads new ≤ S.reads old + length sides
 
 -- those of a relative entry, whatever its parts are
 pub record MendsEntry {D T : Type 0} (S : History D) (old new : D) (s : Slot) (result : Result T Fault) : Type 0 where
@@ -58,6 +61,9 @@ pub record MendsEntry {D T : Type 0} (S : History D) (old new : D) (s : Slot) (r
   pub right : (l : Layout) (f : File) → IsLayout (S.image old) l → Contains l.files f → f.slot ≡ s
       → PutsRight S old new l f.sides result
   pub quiet : IsExactFor (S.image old) (S.image old) s → WritesNothing S old new
+  -- a side sector is read three times, a data block once
+  pub reads : (l : Layout) (f : File) → IsLayout (S.image old) l → Contains l.files f → f.slot ≡ s
+      → ReadsFew S old new (3 * length (file_owns f)) result
 
 -- those of all relative entries
 pub record MendsEntries {D T : Type 0} (S : History D) (old new : D) (result : Result T Fault) : Type 0 where
@@ -67,6 +73,8 @@ pub record MendsEntries {D T : Type 0} (S : History D) (old new : D) (result : R
   -- side sector by side sector in the order of the directory
   pub right : (l : Layout) → IsLayout (S.image old) l → PutsRight S old new l (sides_of l.files) result
   pub quiet : AreExactFor (S.image old) (S.image old) → WritesNothing S old new
+  -- the directory, and each entry
+  pub reads : (l : Layout) → IsLayout (S.image old) l → ReadsFew S old new (18 + 3 * owned_by l.files) result
 
 -- the block counts in the directory sector at p were made right
 pub record MendsSector {D T : Type 0} (S : History D) (old new : D) (p : Place) (result : Result T Fault) : Type 0
@@ -78,6 +86,8 @@ pub record MendsSector {D T : Type 0} (S : History D) (old new : D) (p : Place) 
     -- a sector whose counts are right is not written
     pub quiet : AreRightIn (S.image old) p (sector (S.image old) p) → WritesNothing S old new
     pub failures : TellsDevice S old new result
+    -- the sector, and what its relative entries own
+    pub reads : (l : Layout) → IsLayout (S.image old) l → ReadsFew S old new (1 + 2 * owned_if (is_in p) l.files) result
 
 -- all block counts were made right
 pub record MendsCounts {D T : Type 0} (S : History D) (old new : D) (result : Result T Fault) : Type 0 where
@@ -88,3 +98,4 @@ pub record MendsCounts {D T : Type 0} (S : History D) (old new : D) (result : Re
   pub right : (l : Layout) → IsLayout (S.image old) l → PutsRight S old new l l.directory result
   pub quiet : AreCounted (S.image old) → WritesNothing S old new
   pub failures : TellsDevice S old new result
+  pub reads : (l : Layout) → IsLayout (S.image old) l → ReadsFew S old new (2 * length (owners l)) result

@@ -4,14 +4,15 @@ use Rattle.d64_image.specs.Images.{Image}
 use Rattle.disk_layout.specs.Clean.{IsClean, IsCleanLayout}
 use Rattle.disk_layout.specs.Fault.{Holds, TellsFault}
 use Rattle.disk_layout.specs.InOrder.{GoesOver}
-use Rattle.disk_layout.specs.Layout.{IsLayout, IsSound, Layout}
+use Rattle.disk_layout.specs.Layout.{IsLayout, IsSound, Layout, owners}
 use Rattle.disk_layout.specs.Same.{SameFiles}
 use Rattle.disk_layout.specs.declared.faults.Fault.{Fault}
 use Rattle.layout_check.specs.Mended.{IsMended, TellsDevice}
+use Rattle.layout_check.specs.Reads.{ReadsFew}
 use Rattle.layout_check.specs.RepairOrder.{ClearsSpare, IsRight, repair_order}
 use Rattle.layout_check.specs.Survey.{IsSurveyOf}
 use Rattle.layout_check.specs.declared.outcome.Survey.{Survey}
-use Rattle.std.specs.Prelude.{◌↔◌, ℕ, IfErr, IfOk, IsOk, OnOk, Result}
+use Rattle.std.specs.Prelude.{◌↔◌, ℕ, ◌≤◌, ◌+◌, ◌*◌, IfErr, IfOk, IsOk, OnOk, Result, length}
 
 -- the new image is clean and has the files of the old one, which the survey tells
 pub record IsRepaired (old new : Image) (s : Survey) : Type 0 where
@@ -35,6 +36,7 @@ pub record MakesClean {D T : Type 0} (S : History D) (old new : D) (s : Survey) 
   pub failures : TellsDevice S old new result
   -- a disk that is clean is not written
   pub quiet : IsClean (S.image old) → WritesNothing S old new
+  pub reads : (l : Layout) → IsLayout (S.image old) l → ReadsFew S old new (19 + 5 * length (owners l)) result
 
 -- What comes of a repair: a sound disk is made clean, and any other is left as it is.
 pub record Repairs {D : Type 0} (S : History D) (old new : D) (result : Result Survey Fault) : Type 0 where
@@ -51,3 +53,8 @@ pub record Repairs {D : Type 0} (S : History D) (old new : D) (result : Result S
   -- nor is one that is clean
   pub quiet : IsClean (S.image old) → WritesNothing S old new
   pub failures : TellsFault S old new result
+  -- of any disk, whatever is told
+  pub reads : S.reads new ≤ S.reads old + 5543
+  -- and at Ok seven an owned sector
+  pub few_reads : OnOk result ((l : Layout) → IsLayout (S.image old) l
+      → S.reads new ≤ S.reads old + (37 + 7 * length (owners l)))

@@ -1,14 +1,15 @@
 //! The block counts of the relative entries, made right.
-ghost use Rattle.std.specs.Prelude.{◌≡◌, ◌<◌, IfErr, IfOk, IsTrue, List, OnOk, length};
+ghost use Rattle.std.specs.Prelude.{◌≡◌, ◌<◌, ◌≤◌, ◌+◌, ◌*◌, IfErr, IfOk, IsTrue, List, OnOk, length};
 ghost use Rattle.d64_image.specs.Images.{sector};
 ghost use Rattle.d64_image.specs.declared.place.Place.{Place};
 ghost use Rattle.disk_layout.specs.Directory.{IsDirectory, slot_in};
 ghost use Rattle.disk_layout.specs.Entries.{IsRecounted};
-ghost use Rattle.disk_layout.specs.Layout.{IsSound, is_rel};
+ghost use Rattle.disk_layout.specs.Layout.{IsLayout, IsSound, Layout, is_rel};
 ghost use Rattle.disk_layout.specs.declared.slot.Slot.{Slot};
 ghost use Rattle.layout_check.specs.Calls.{Judges, Passes, TellsUnsound};
 ghost use Rattle.layout_check.specs.Entry.{IsEntry};
 ghost use Rattle.layout_check.specs.Mending.{MendsCounts, MendsSector};
+ghost use Rattle.layout_check.specs.Reads.{ReadsFew, is_at, is_in, owned_if};
 ghost use Rattle.layout_check.specs.Recounted.{AreRightIn, GetsCounts, IsCountOf, IsDirectorySector, IsRightAt};
 
 use crate::parts::Parts;
@@ -27,6 +28,8 @@ fn count_owned<D: Sectors>(disk: &mut D, slot: &Slot, parts: &mut Parts) -> Resu
     requires rel { IsTrue (is_rel slot.now) }
     ensures count { IfOk result (IsCountOf (D.history.image disk.old) slot.now) }
     ensures judged { Judges D.history disk.old disk.new 732 result }
+    // a data block is read once, a side sector twice
+    ensures reads { IfOk result (λ n. D.history.reads disk.new ≤ D.history.reads disk.old + 2 * n) }
 {
     find_parts(disk, slot, parts)?;
     Ok((parts.blocks.len() + parts.sides.len()) as u16)
@@ -48,6 +51,8 @@ fn recount_slot<D: Sectors>(
     ensures counted { OnOk result
         (GetsCounts (λ b. IsRightAt (D.history.image disk.old) place b number) bytes.old bytes.new) }
     ensures judged { Judges D.history disk.old disk.new 732 result }
+    ensures reads { (l : Layout) → IsLayout (D.history.image disk.old) l
+        → ReadsFew D.history disk.old disk.new (2 * owned_if (is_at place number) l.files) result }
 {
     let slot = Slot::in_sector(bytes, place, number);
     if !EntryView::new(&slot.bytes).is_relative() {
@@ -70,6 +75,8 @@ fn recount_sector<D: Sectors>(
     // counts that are right are left as they are
     ensures counted { OnOk result (GetsCounts (AreRightIn (D.history.image disk.old) place) bytes.old bytes.new) }
     ensures judged { Judges D.history disk.old disk.new 5856 result }
+    ensures reads { (l : Layout) → IsLayout (D.history.image disk.old) l
+        → ReadsFew D.history disk.old disk.new (2 * owned_if (is_in place) l.files) result }
 {
     for number in 0..8u8 {
         recount_slot(disk, place, number, bytes, parts)?;

@@ -1,5 +1,7 @@
 -- A repair, and what is right after it.
+pub mod OwnedSums
 pub mod RepairOrder
+pub mod RepairReads
 pub mod RepairRuns
 pub mod Repairs
 pub mod RightCounts

@@ -178,7 +178,7 @@ module _ {D : Type 0} (S : History D) where
     there : (k : ℕ) (p : Place) → k < length ps → p ≡ get_or ps k p → slice_get ps k ≡ Some p
     there k p lt e = read-there ps k p lt e
 
-    once_next : (k : ℕ) (p : Place) → k < length ps → p ≡ get_or ps k p → EachOnce (take k ps ++ p ∷ [])
+    pub once_next : (k : ℕ) (p : Place) → k < length ps → p ≡ get_or ps k p → EachOnce (take k ps ++ p ∷ [])
     once_next k p lt e = let P : List Place → Type 0 = EachOnce in
         once-next ps k p (there k p lt e) (subst P (sym same) (directory-once (S.image a) l is))
 
@@ -186,7 +186,7 @@ module _ {D : Type 0} (S : History D) where
     on_directory k p lt e = let P : List Place → Type 0 = λ xs. Contains xs p in
         subst P same (get-contains ps k p (there k p lt e))
 
-    recounted : (b : D) (k : ℕ) → Changes S a b k (λ i. IsRecountOf (S.image a) i ps)
+    pub recounted : (b : D) (k : ℕ) → Changes S a b k (λ i. IsRecountOf (S.image a) i ps)
         → IsRecountOf (S.image a) (S.image b) l.directory
     recounted b k h = let P : List Place → Type 0 = λ xs. IsRecountOf (S.image a) (S.image b) xs in
         subst P same (at_end S a b (λ i. IsRecountOf (S.image a) i ps) h.held)

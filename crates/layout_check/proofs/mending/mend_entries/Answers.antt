@@ -1,6 +1,6 @@
 -- Entry by entry of the directory.
 mod Returned
-use Rattle.std.proofs.Common.{List, [], ap, arith, false, refl, slice_index, subst, sym, ℕ, ◌+◌, ◌∙◌, ◌≡◌}
+use Rattle.std.proofs.Common.{List, Ok, [], ap, arith, false, refl, slice_index, subst, sym, ℕ, ◌+◌, ◌∙◌, ◌≡◌}
 use Rattle.std.proofs.lemmas.Bool.{false≢true}
 use borrow.Author.Count.{below_more}
 use Rattle.d64_image.proofs.Moments.{no_write_then, reads_no_write}
@@ -14,6 +14,8 @@ use Rattle.disk_layout.specs.Layout.{IsLayout, Layout, is_rel, is_rel_type}
 use Rattle.layout_check.proofs.lemmas.mending.EntryMends.{exact-kept, exact-made, exact-read, exact-same, filed-kept}
 use Rattle.layout_check.proofs.lemmas.mending.MapMends.{mends_read, mends_then, mends_weaker}
 use Rattle.layout_check.proofs.lemmas.finding.Progress.{listed-as}
+use Rattle.layout_check.proofs.lemmas.repairing.OwnedSums.{owned-more}
+use Rattle.layout_check.proofs.lemmas.repairing.RepairReads.{entry_reads}
 use Rattle.layout_check.proofs.lemmas.repairing.RightSides.{file-at, file_made, file_over, plain-sides}
 use Rattle.layout_check.proofs.lemmas.repairing.RightSides.{sides-past}
 use Rattle.layout_check.proofs.lemmas.judging.Verdict.{filed-at}
@@ -31,10 +33,10 @@ loop-slot-init g c =
       exact = λ k low. absurd (omega arith);
       mends = mends_read g.D.Sectors.history c.args.disk.now c.read_directory.new.disk 18 _ reads;
       over = λ l h. over_none g.D.Sectors.history (IsRight l) [] c.args.disk.now c.read_directory.new.disk 18 reads;
-      made = λ l h. made_none (IsRight l) (g.D.Sectors.history.image c.args.disk.now)
-          (g.D.Sectors.history.image c.read_directory.new.disk) reads.image;
+      made = λ l h. made_none (IsRight l) _ _ reads.image;
       failures = c.in_ok-read_directory.ensures.failures;
       quiet = λ exact. reads_no_write g.D.Sectors.history c.args.disk.now c.read_directory.new.disk 18 reads;
+      reads = λ l h. omega (arith, reads.reads);
     }
 
 pub mend_relative-requires-clause-filed : goal.mend_relative-requires-clause-filed
@@ -81,6 +83,9 @@ loop-slot-preserved g c =
             failures = rw w.disk-is (done.mending.failures ∙ old.failures);
             quiet = rw w.disk-is (λ exact. let so_far = old.quiet exact in
                 no_write_then S a b d so_far (done.quiet (exact-same _ _ c.slot-item.result so_far.image exact)));
+            reads = rw w.disk-is (λ l h. let (f, there, slot) = file l h in
+                (entry_reads S a b d l n f (Ok tt) there (old.reads l h)
+                (done.reads l f (old.layouts l h) (get-contains l.files n f there) slot)).ok);
           }
       | else-is_relative w ↦ record {
         layouts = rw w.disk-is old.layouts;
@@ -98,6 +103,7 @@ loop-slot-preserved g c =
             subst P (plain l h w.if-is_relative.false) (old.made l h));
         failures = rw w.disk-is old.failures;
         quiet = rw w.disk-is old.quiet;
+        reads = rw w.disk-is (λ l h. omega (arith, old.reads l h, owned-more l.files n));
       }
     ]
 

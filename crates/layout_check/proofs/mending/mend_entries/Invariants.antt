@@ -1,9 +1,10 @@
-use Rattle.std.proofs.Common.{ℕ, ◌≡◌, ◌<◌, ◌*◌, IsTrue}
+use Rattle.std.proofs.Common.{ℕ, ◌≡◌, ◌<◌, ◌≤◌, ◌+◌, ◌*◌, IsTrue}
 use Rattle.std.specs.Prelude.{Some, slice_get, take}
 use Rattle.d64_image.specs.History.{WritesNothing}
 use Rattle.disk_layout.specs.InOrder.{AreMade, GoesOver}
 use Rattle.disk_layout.specs.Layout.{IsLayout, Layout, is_rel}
 use Rattle.disk_layout.specs.declared.slot.Slot.{Slot}
+use Rattle.layout_check.specs.Reads.{owned_by}
 use Rattle.layout_check.specs.RepairOrder.{IsRight, sides_of}
 use Rattle.layout_check.specs.Mended.{AreExactFor, IsExactFor, KeepsLayouts, Mends, SameMap}
 use Rattle.layout_check.proofs.mending.mend_entries.Given as goal
@@ -23,4 +24,7 @@ invariant-loop-slot g l = record {
   failures : g.D.Sectors.history.failures l.disk ≡ g.D.Sectors.history.failures l.fn.disk;
   quiet : AreExactFor (g.D.Sectors.history.image l.fn.disk) (g.D.Sectors.history.image l.fn.disk)
       → WritesNothing g.D.Sectors.history l.fn.disk l.disk;
+  reads : (m : Layout) → IsLayout (g.D.Sectors.history.image l.fn.disk) m
+      → g.D.Sectors.history.reads l.disk ≤ g.D.Sectors.history.reads l.fn.disk
+      + (18 + 3 * owned_by (take l.slot-index m.files));
 }

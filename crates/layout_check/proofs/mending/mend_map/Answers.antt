@@ -1,6 +1,6 @@
 -- The map is right already, or it is written.
 mod Unwritten
-use Rattle.std.proofs.Common.{[], ap, sym, ◌∙◌, ◌∷◌}
+use Rattle.std.proofs.Common.{[], ap, arith, sym, ◌∙◌, ◌∷◌}
 use Rattle.d64_image.specs.Images.{Image, sector}
 use Rattle.d64_image.specs.declared.place.Place.{Place}
 use Rattle.disk_layout.proofs.lemmas.kept.OtherWrites.{write_changes}
@@ -92,6 +92,7 @@ returns g c =
           c.check_bits.ensures.err in
           absurd (right-map _ c.args.found.now c.read_sector.new.to wrong.0 c.requires has e
           (rw (← c.owners.ensures) wrong.1));
+      reads = omega (arith, c.in_ok-read_sector.ensures.reads.reads, c.write_other.ensures.write.reads);
     }
 
 pub returns-in_err-read_sector : goal.returns-in_err-read_sector

@@ -1,6 +1,6 @@
 -- The parts, and then the side sectors.
 mod Written
-use Rattle.std.proofs.Common.{List, refl, subst, sym, ap}
+use Rattle.std.proofs.Common.{List, Ok, arith, refl, subst, sym, ap}
 use Rattle.std.specs.Prelude.{Option}
 use Rattle.std.proofs.lemmas.Result.{err_from_is_err_and}
 use Rattle.d64_image.proofs.Moments.{reads_no_write}
@@ -12,6 +12,7 @@ use Rattle.disk_layout.specs.Layout.{IsLayout}
 use Rattle.layout_check.proofs.lemmas.finding.Entries.{rel-closed}
 use Rattle.layout_check.proofs.lemmas.mending.EntryMends.{entry-filed}
 use Rattle.layout_check.proofs.lemmas.mending.MapMends.{mends_read}
+use Rattle.layout_check.proofs.lemmas.repairing.RepairReads.{few_all, found-owned}
 use Rattle.layout_check.proofs.lemmas.repairing.RightSides.{made_exact, sides-found}
 use Rattle.layout_check.proofs.lemmas.mending.SideMends.{parts-at, parts-exact, parts-here, sound-device}
 use Rattle.layout_check.specs.Exact.{AreExactSides, ToldOfSides}
@@ -56,6 +57,10 @@ returns-in_err-find_parts g c =
       };
       quiet = λ exact. reads_no_write g.D.Sectors.history c.args.disk.now c.find_parts.new.disk 732
           c.in_err-find_parts.ensures.err.reads;
+      reads = λ l f is own slot. record {
+        ok = rw p.1 tt;
+        any = omega (arith, c.in_err-find_parts.ensures.err.reads.reads);
+      };
     }
 
 pub returns-in-None : goal.returns-in-None
@@ -98,6 +103,13 @@ returns-in-None g c =
             found.ok.reads.image (subst P c.in-None.is found.exact));
       };
       quiet = λ exact. reads_no_write S c.args.disk.now c.find_parts.new.disk _ c.in_ok-find_parts.ensures.ok.reads;
+      reads = λ l f is own slot.
+          let found = c.in_ok-find_parts.ensures in
+          few_all S c.args.disk.now c.find_parts.new.disk _ (Ok tt) (omega (
+            arith,
+            found.ok.reads.reads,
+            found-owned _ l f c.args.slot.now _ _ is own slot c.requires.rel found.parts,
+          ));
     }
 
 pub returns-in-Some : goal.returns-in-Some

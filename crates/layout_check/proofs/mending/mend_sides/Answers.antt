@@ -31,6 +31,7 @@ loop-number-init g c = record {
       (g.D.Sectors.history.image c.args.disk.now) refl;
   failures = refl;
   quiet = λ exact. no_write g.D.Sectors.history c.args.disk.now;
+  reads = omega arith;
 }
 
 pub write_other-requires : goal.write_other-requires
@@ -86,6 +87,8 @@ loop-number-preserved g c =
           (reads_no_write S _ _ 1 c.in_ok-read_sector.ensures.reads) in
           no_write_then S c.args.disk.now c.read_sector.new.disk c.write_other.new.disk read
           (c.in_ok-write_other.ensures.quiet right);
+      reads = let read = c.in_ok-read_sector.ensures.reads in
+          omega (arith, old.reads, read.reads, c.in_ok-write_other.ensures.write.reads);
     }
 
 pub returns-in_err-read_sector : goal.returns-in_err-read_sector

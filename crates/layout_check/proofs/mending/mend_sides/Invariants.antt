@@ -1,4 +1,4 @@
-use Rattle.std.proofs.Common.{ℕ, ◌≡◌, ◌<◌}
+use Rattle.std.proofs.Common.{ℕ, ◌≡◌, ◌<◌, ◌≤◌, ◌+◌}
 use Rattle.std.specs.Prelude.{Some, slice_get, take}
 use Rattle.d64_image.specs.History.{WritesNothing}
 use Rattle.d64_image.specs.declared.place.Place.{Place}
@@ -25,4 +25,5 @@ invariant-loop-number g l = record {
   failures : g.D.Sectors.history.failures l.disk ≡ g.D.Sectors.history.failures l.fn.disk;
   quiet : AreExactSides (g.D.Sectors.history.image l.fn.disk) l.slot l.blocks l.sides
       → WritesNothing g.D.Sectors.history l.fn.disk l.disk;
+  reads : g.D.Sectors.history.reads l.disk ≤ g.D.Sectors.history.reads l.fn.disk + l.number;
 }

@@ -11,6 +11,7 @@ returns-in_err-find_parts g c =
     record {
       count = rw p.1 tt;
       judged = record { ok = rw p.1 tt; err = rw (p.1, p.2) c.in_err-find_parts.ensures.err };
+      reads = rw p.1 tt;
     }
 
 pub returns : goal.returns
@@ -22,4 +23,10 @@ returns g c = record {
         c.in_ok-find_parts.ensures.ok;
     err = tt;
   };
+  reads = omega (
+    arith,
+    c.in_ok-find_parts.ensures.ok.reads.reads,
+    c.len.ensures.value,
+    c.len-2.ensures.value,
+  );
 }

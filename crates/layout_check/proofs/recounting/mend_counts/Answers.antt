@@ -1,15 +1,18 @@
 -- Sector by sector of the directory.
+mod Failed
 mod Returned
-use Rattle.std.proofs.Common.{◌∙◌}
+use Rattle.std.proofs.Common.{Ok, ap, arith, length, ◌∙◌}
 use Rattle.d64_image.proofs.Moments.{at_end, reads_no_write}
 use Rattle.disk_layout.proofs.lemmas.layouts.Layouts.{get-contains}
 use Rattle.disk_layout.specs.Layout.{IsLayout, Layout}
 use Rattle.layout_check.proofs.lemmas.finding.Pointers.{read-there}
+use Rattle.layout_check.proofs.lemmas.repairing.RepairReads.{sector_reads}
 use Rattle.layout_check.proofs.lemmas.repairing.RightWrites.{first_moments, in-of}
 use Rattle.layout_check.proofs.lemmas.repairing.RightWrites.{made_start, made_step, over_start, over_step, sound-of}
 use Rattle.layout_check.proofs.lemmas.repairing.RightWrites.{step_moments, step_quiet}
 use Rattle.layout_check.specs.Recounted.{IsRecountOf}
 use Rattle.layout_check.proofs.recounting.mend_counts.Goals as goal
+use Rattle.layout_check.proofs.recounting.mend_counts.Answers.Failed as failed
 use Rattle.layout_check.proofs.recounting.mend_counts.Answers.Returned as returned
 
 pub find_directory-requires : goal.find_directory-requires
@@ -30,6 +33,11 @@ loop-place-init g c =
           c.find_directory.new.disk found.reads.image;
       quiet = λ all. reads_no_write S c.args.disk.now c.find_directory.new.disk _ found.reads;
       failures = found.failures;
+      reads = λ l h. omega (
+        arith,
+        found.reads.reads,
+        ap length (c.in_ok-find_directory.ensures.directory l.directory _ h.directory),
+      );
     }
 
 pub mend_sector-requires : goal.mend_sector-requires
@@ -72,13 +80,17 @@ loop-place-preserved g c =
       quiet = step_quiet S c.args.disk.now c.loop-place.disk c.mend_sector.new.disk c.place-item.result old.quiet
           now.quiet;
       failures = now.failures ∙ old.failures;
+      reads = λ l h. (sector_reads S c.args.disk.now l h items (c.as_slice-place-items.ensures.value
+          ∙ c.in_ok-find_directory.ensures.directory l.directory _ h.directory) c.loop-place.disk c.mend_sector.new.disk
+          k c.place-item.result (Ok tt) c.loop-place-test.true c.place-item.is old.moments (old.reads l h)
+          now.reads).ok;
     }
 
 pub returns-in_err-find_directory : goal.returns-in_err-find_directory
-returns-in_err-find_directory = returned.returns-in_err-find_directory
+returns-in_err-find_directory = failed.returns-in_err-find_directory
 
 pub returns-in_err-mend_sector : goal.returns-in_err-mend_sector
-returns-in_err-mend_sector = returned.returns-in_err-mend_sector
+returns-in_err-mend_sector = failed.returns-in_err-mend_sector
 
 pub returns : goal.returns
 returns = returned.returns

@@ -1,12 +1,13 @@
 -- The sector is read, its counts are made right, and it is written where other bytes came out.
+mod Failed
 use Rattle.std.proofs.Common.{Err, ap, arith, subst, sym, ◌∙◌, inl}
-use Rattle.std.proofs.lemmas.Result.{err_from_is_err_and}
 use Rattle.d64_image.proofs.Moments.{no_write_then, reads_no_write, reads_then}
 use Rattle.d64_image.specs.Images.{Image, sector}
 use Rattle.disk_layout.proofs.lemmas.kept.OtherWrites.{write_changes}
-use Rattle.disk_layout.specs.Layout.{IsSound}
+use Rattle.disk_layout.specs.Layout.{IsLayout, IsSound}
 use Rattle.layout_check.proofs.lemmas.finding.Finding.{on_ok}
 use Rattle.layout_check.proofs.lemmas.mending.MapMends.{device_later, device_told, write_device}
+use Rattle.layout_check.proofs.lemmas.repairing.RepairReads.{few_all}
 use Rattle.layout_check.proofs.lemmas.repairing.RightWrites.{
   mended-read,
   other_later,
@@ -18,6 +19,7 @@ use Rattle.layout_check.proofs.lemmas.repairing.RightWrites.{
 use Rattle.layout_check.proofs.lemmas.mending.SideMends.{sound-device}
 use Rattle.layout_check.specs.Recounted.{AreRightIn, IsDirectorySector}
 use Rattle.layout_check.proofs.recounting.mend_sector.Goals as goal
+use Rattle.layout_check.proofs.recounting.mend_sector.Answers.Failed as failed
 
 pub recount_sector-requires-clause-here : goal.recount_sector-requires-clause-here
 recount_sector-requires-clause-here g c =
@@ -69,44 +71,17 @@ returns g c =
           ∙ c.in_ok-read_sector.ensures.failures) (write_device S (Unit {0}) c.recount_sector.new.disk
           c.write_other.new.disk c.args.place c.recount_sector.new.bytes c.write_other.result
           c.write_other.ensures.write);
+      reads = λ l is. let P : Image → Type 0 = λ i. IsLayout i l in
+          few_all S c.args.disk.now c.write_other.new.disk _ c.write_other.result (omega (
+            arith,
+            c.read_sector.ensures.reads.reads,
+            (c.in_ok-recount_sector.ensures.reads l (subst P (sym c.read_sector.ensures.reads.image) is)).ok,
+            c.write_other.ensures.write.reads,
+          ));
     }
 
 pub returns-in_err-read_sector : goal.returns-in_err-read_sector
-returns-in_err-read_sector g c =
-    let p = err_from_is_err_and c.from_residual.result c.from_residual.ensures.1 in
-    record {
-      right = rw p.1 tt;
-      moments = reads_moment g.D.Sectors.history c.args.disk.now c.read_sector.new.disk 1 c.args.place
-          c.read_sector.ensures.reads;
-      once = inl c.read_sector.ensures.reads.writes;
-      quiet = λ right. reads_no_write g.D.Sectors.history c.args.disk.now c.read_sector.new.disk 1
-          c.read_sector.ensures.reads;
-      failures = let read = c.in_err-read_sector.ensures in
-          rw (p.1, p.2) (device_told g.D.Sectors.history (Unit {0}) c.args.disk.now c.read_sector.new.disk c.args.place
-          _ read.told read.failures read.failed);
-    }
+returns-in_err-read_sector = failed.returns-in_err-read_sector
 
 pub returns-in_err-recount_sector : goal.returns-in_err-recount_sector
-returns-in_err-recount_sector g c =
-    let S = g.D.Sectors.history in
-    record {
-      right = let p = err_from_is_err_and c.from_residual-in_err-recount_sector.result
-          c.from_residual-in_err-recount_sector.ensures.1 in
-          rw p.1 tt;
-      moments = reads_moment S c.args.disk.now c.recount_sector.new.disk 5857 c.args.place
-          (reads_then S c.args.disk.now c.read_sector.new.disk c.recount_sector.new.disk 1 5856 5857 (omega arith)
-          c.read_sector.ensures.reads c.in_err-recount_sector.ensures.judged.err.reads);
-      once = inl (c.in_err-recount_sector.ensures.judged.err.reads.writes ∙ c.read_sector.ensures.reads.writes);
-      quiet = λ right.
-          reads_no_write S c.args.disk.now c.recount_sector.new.disk 5857
-          (reads_then S c.args.disk.now c.read_sector.new.disk c.recount_sector.new.disk 1 5856 5857 (omega arith)
-          c.read_sector.ensures.reads c.in_err-recount_sector.ensures.judged.err.reads);
-      failures = let p = err_from_is_err_and c.from_residual-in_err-recount_sector.result
-          c.from_residual-in_err-recount_sector.ensures.1 in
-          let P : Image → Type 0 = IsSound in
-          rw (p.1, p.2) (device_later S (Unit {0}) c.args.disk.now c.read_sector.new.disk c.recount_sector.new.disk
-          (Err _) c.in_ok-read_sector.ensures.failures
-          (sound-device S (Unit {0}) c.read_sector.new.disk c.recount_sector.new.disk 5856 _
-          (subst P (sym c.read_sector.ensures.reads.image) c.requires.sound)
-          c.in_err-recount_sector.ensures.judged.err));
-    }
+returns-in_err-recount_sector = failed.returns-in_err-recount_sector

@@ -1,9 +1,12 @@
 -- Slot by slot: the one that was made right, and those before and behind it.
-use Rattle.std.proofs.Common.{ap, arith, subst, sym, ◌∙◌, ◌*◌, ◌+◌, ◌≡◌, refl, rules}
+use Rattle.std.proofs.Common.{Ok, ap, arith, subst, sym, ◌∙◌, ◌*◌, ◌+◌, ◌≡◌, refl, rules}
 use Rattle.std.proofs.lemmas.Result.{err_from_is_err_and}
 use Rattle.d64_image.specs.Images.{Image, Sector, sector}
 use Rattle.disk_layout.specs.Directory.{slot_in}
+use Rattle.disk_layout.specs.Layout.{IsLayout}
 use Rattle.layout_check.proofs.lemmas.judging.Calls.{passes_then, passes_weaker, tells_then, passes_none}
+use Rattle.layout_check.proofs.lemmas.repairing.OwnedSums.{under-all, under-next}
+use Rattle.layout_check.proofs.lemmas.repairing.RepairReads.{few_all}
 use Rattle.layout_check.proofs.lemmas.repairing.RightCounts.{counted-then, counted-none}
 use Rattle.layout_check.proofs.lemmas.repairing.RightSlots.{other-slot, right-next, right-there}
 use Rattle.layout_check.specs.Recounted.{IsDirectorySector}
@@ -35,6 +38,20 @@ returns-in_err-recount_slot g c =
             (732 * c.loop-number.number) 732 5856 _ (omega (arith, c.loop-number-test.true))
             c.loop-number.invariant.passes c.in_err-recount_slot.ensures.judged.err);
       };
+      reads = λ l is.
+          let n = c.loop-number.number in
+          let P : Image → Type 0 = λ i. IsLayout i l in
+          record {
+            ok = rw p.1 tt;
+            any = omega (
+              arith,
+              c.loop-number.invariant.reads l is,
+              (c.in_err-recount_slot.ensures.reads l
+                  (subst P (sym c.loop-number.invariant.passes.reads.image) is)).any,
+              under-next c.args.place n l.files,
+              under-all c.args.place (n + 1) l.files,
+            );
+          };
     }
 
 pub loop-number-preserved : goal.loop-number-preserved
@@ -56,6 +73,13 @@ loop-number-preserved g c =
       kept = λ all. let e = old.kept all in
           now.counted.kept (right-there _ _ c.args.place c.args.bytes.now c.loop-number.bytes n old.passes.reads.image
           eight e all) ∙ e;
+      reads = λ l is. let P : Image → Type 0 = λ i. IsLayout i l in
+          omega (
+            arith,
+            old.reads l is,
+            (now.reads l (subst P (sym old.passes.reads.image) is)).ok,
+            under-next c.args.place n l.files,
+          );
     }
 
 pub loop-number-init : goal.loop-number-init
@@ -66,6 +90,7 @@ loop-number-init g c = record {
   later = λ k above low. refl;
   right = λ k low. absurd (omega (arith, low));
   kept = λ all. refl;
+  reads = λ l is. omega arith;
 }
 
 pub returns : goal.returns
@@ -80,4 +105,9 @@ returns g c = record {
         (omega (arith, c.loop-number.invariant.few)) c.loop-number.invariant.passes;
     err = tt;
   };
+  reads = λ l is. few_all g.D.Sectors.history c.args.disk.now c.loop-number.disk _ (Ok tt) (omega (
+    arith,
+    c.loop-number.invariant.reads l is,
+    under-all c.args.place c.loop-number.number l.files,
+  ));
 }

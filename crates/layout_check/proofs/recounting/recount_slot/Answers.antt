@@ -1,8 +1,9 @@
 -- The slot of these bytes is that of the image.
-use Rattle.std.proofs.Common.{List, ap, slice_index, sym, ℕ, ◌∙◌, refl, rules, arith}
+use Rattle.std.proofs.Common.{List, Ok, ap, slice_index, sym, ℕ, ◌∙◌, refl, rules, arith}
 use Rattle.std.proofs.lemmas.Bool.{false≢true}
 use Rattle.std.proofs.lemmas.Result.{err_from_is_err_and}
 use Rattle.disk_layout.specs.Layout.{is_rel, is_rel_type}
+use Rattle.layout_check.proofs.lemmas.repairing.RepairReads.{few_all, slot-owned}
 use Rattle.layout_check.proofs.lemmas.repairing.RightSlots.{counted-one, counted-right_at, rel-entry-at, right-counted}
 use Rattle.layout_check.proofs.lemmas.repairing.RightSlots.{right-plain}
 use Rattle.layout_check.proofs.lemmas.judging.Calls.{passes_none, passes_weaker}
@@ -25,6 +26,7 @@ returns-in_err-count g c =
         ok = rw p.1 tt;
         err = rw (p.1, p.2) c.in_err-count.ensures.judged.err;
       };
+      reads = λ l is. record { ok = rw p.1 tt; any = omega (arith, c.in_err-count.ensures.judged.err.reads.reads) };
     }
 
 pub count_owned-requires-clause-rel : goal.count_owned-requires-clause-rel
@@ -46,6 +48,7 @@ returns-then-not-is_relative g c = record {
         (passes_none g.D.Sectors.history c.args.disk.now);
     err = tt;
   };
+  reads = λ l is. few_all g.D.Sectors.history c.args.disk.now c.args.disk.now _ (Ok tt) (omega arith);
 }
 
 pub returns : goal.returns
@@ -73,4 +76,16 @@ returns g c = record {
     ok = c.in_ok-count.ensures.judged.ok;
     err = tt;
   };
+  reads = λ l is.
+      let there = c.in_sector-slot.ensures ∙ c.requires.there in
+      let rel = sym (c.is_relative.ensures ∙ ap (λ (bs : List ℕ). is_rel_type (slice_index bs 2)) c.new.ensures)
+      ∙ c.if-not-is_relative.false in
+      let entry = rel-entry-at _ c.args.place c.args.number c.in_sector-slot.result c.requires.here.sound
+      c.requires.here.own c.requires.eight there rel in
+      few_all g.D.Sectors.history c.args.disk.now c.count_owned.new.disk _ (Ok tt) (omega (
+        arith,
+        c.in_ok-count.ensures.reads,
+        slot-owned _ l c.args.place c.args.number c.in_ok-count.count c.in_sector-slot.result is there entry rel
+            c.in_ok-count.ensures.count,
+      ));
 }

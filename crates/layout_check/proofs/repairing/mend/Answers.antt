@@ -1,8 +1,12 @@
 -- The map, then the side sectors, then the block counts.
-use Rattle.std.proofs.Common.{Err, ◌∙◌, arith}
+use Rattle.std.proofs.Common.{Err, ◌∙◌, ◌+◌, ◌*◌, arith, length}
 use Rattle.std.proofs.lemmas.Result.{err_from_is_err_and}
 use Rattle.d64_image.proofs.Moments.{at_end, no_write_then}
 use Rattle.layout_check.proofs.lemmas.mending.MapMends.{device_later, mends_then}
+use Rattle.disk_layout.specs.Layout.{owners}
+use Rattle.layout_check.specs.Reads.{owned_by}
+use Rattle.layout_check.proofs.lemmas.repairing.OwnedSums.{length-owners}
+use Rattle.layout_check.proofs.lemmas.repairing.RepairReads.{few_after}
 use Rattle.layout_check.proofs.lemmas.repairing.RepairOrder.{order_all, order_map, order_sides, spare_counts}
 use Rattle.layout_check.proofs.lemmas.repairing.RepairOrder.{spare_sides}
 use Rattle.layout_check.proofs.lemmas.repairing.RepairRuns.{counts-at, counts_mend, mends_from, ok-then, repaired}
@@ -28,6 +32,7 @@ returns-in_err-mend_map g c =
       spare = c.mend_map.ensures.spare;
       failures = rw (p.1, p.2) c.in_err-mend_map.ensures.mending.failures;
       quiet = λ clean. c.mend_map.ensures.quiet (clean-map _ clean);
+      reads = λ l is. record { ok = rw p.1 tt; any = omega (arith, c.mend_map.ensures.reads) };
     }
 
 pub returns-in_err-mend_entries : goal.returns-in_err-mend_entries
@@ -50,6 +55,15 @@ returns-in_err-mend_entries g c =
       quiet = λ clean.
           let first = c.mend_map.ensures.quiet (clean-map _ clean) in
           no_write_then S _ _ _ first (c.mend_entries.ensures.quiet (sides-at _ _ first.image clean));
+      reads = λ l is. record {
+        ok = rw p.1 tt;
+        any = omega (
+          arith,
+          c.mend_map.ensures.reads,
+          (c.in_err-mend_entries.ensures.reads l (c.in_ok-mend_map.ensures.mending.layouts l is)).any,
+          length-owners l,
+        );
+      };
     }
 
 pub returns : goal.returns
@@ -94,4 +108,10 @@ returns g c =
           let second = c.mend_entries.ensures.quiet (sides-at _ _ first.image clean) in
           no_write_then S _ _ _ (no_write_then S _ _ _ first second)
           (c.mend_counts.ensures.quiet (counts-at _ _ (second.image ∙ first.image) clean));
+      reads = λ l is.
+          let after_map = c.in_ok-mend_map.ensures.mending.layouts l is in
+          few_after S first c.mend_entries.new.disk last (19 + 3 * owned_by l.files) (2 * length (owners l)) _
+          c.mend_counts.result (omega (arith, length-owners l))
+          (omega (arith, c.mend_map.ensures.reads, (c.in_ok-mend_entries.ensures.reads l after_map).ok))
+          (c.mend_counts.ensures.reads l (c.in_ok-mend_entries.ensures.mending.layouts l after_map));
     }

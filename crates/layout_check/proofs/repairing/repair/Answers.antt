@@ -1,5 +1,5 @@
 -- The survey, then what is to be mended.
-use Rattle.std.proofs.Common.{ap, refl, ◌∙◌}
+use Rattle.std.proofs.Common.{Err, Ok, ap, arith, refl, ◌∙◌}
 use Rattle.std.proofs.lemmas.Result.{err_from_is_err_and}
 use Rattle.d64_image.proofs.Moments.{no_write_then, reads_no_write}
 use Rattle.d64_image.specs.Images.{sector}
@@ -7,6 +7,7 @@ use Rattle.disk_layout.proofs.lemmas.kept.Orders.{over_none}
 use Rattle.disk_layout.specs.Directory.{map_place}
 use Rattle.layout_check.specs.RepairOrder.{IsRight, repair_order}
 use Rattle.layout_check.proofs.lemmas.repairing.RepairOrder.{order_after, spare_after}
+use Rattle.layout_check.proofs.lemmas.repairing.RepairReads.{repair_few, repair_reads}
 use Rattle.layout_check.proofs.lemmas.repairing.RepairRuns.{
   clean_after,
   device_holds,
@@ -39,6 +40,8 @@ returns-in_err-found g c =
       unsound = λ not_sound. reads;
       quiet = λ clean. reads_no_write S _ _ 2114 reads;
       failures = rw (p.1, p.2) c.in_err-found.ensures.failures;
+      reads = omega (arith, reads.reads);
+      few_reads = rw p.1 tt;
     }
 
 pub returns : goal.returns
@@ -58,6 +61,8 @@ returns g c =
           no_write_then S _ _ _ (reads_no_write S _ _ 2114 reads)
           (c.mend.ensures.quiet (clean_after S _ _ 2114 reads clean));
       failures = c.in_ok-mend.ensures.failures ∙ c.in_ok-found.ensures.failures;
+      reads = repair_reads S _ _ _ (Ok tt) _ c.in_ok-found.ensures.ok c.in_ok-mend.ensures.reads;
+      few_reads = λ l is. (repair_few S _ _ _ (Ok tt) l is _ c.in_ok-found.ensures.ok c.in_ok-mend.ensures.reads).ok;
     }
 
 pub returns-in_err-mend : goal.returns-in_err-mend
@@ -80,4 +85,6 @@ returns-in_err-mend g c =
           (c.mend.ensures.quiet (clean_after S _ _ 2114 reads clean));
       failures = rw (p.1, p.2) (device_tells S Survey _ _ _ _ c.in_ok-found.ensures.failures
           c.in_err-mend.ensures.failures);
+      reads = repair_reads S _ _ _ (Err _) _ c.in_ok-found.ensures.ok c.in_err-mend.ensures.reads;
+      few_reads = rw p.1 tt;
     }

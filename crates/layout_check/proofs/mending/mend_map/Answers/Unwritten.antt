@@ -34,6 +34,7 @@ returns-in_err-read_sector g c =
       };
       spare = λ changed track low high. absurd (changed (ap (λ (i : Image). sector i map_place) read.reads.image));
       quiet = λ has. reads_no_write S c.args.disk.now c.read_sector.new.disk 1 read.reads;
+      reads = read.reads.reads;
     }
 
 pub returns-then-is_ok : goal.returns-then-is_ok
@@ -59,4 +60,5 @@ returns-then-is_ok g c =
       };
       spare = λ changed track low high. absurd (changed (ap (λ (i : Image). sector i map_place) same));
       quiet = λ h. reads_no_write S c.args.disk.now c.read_sector.new.disk 1 read.reads;
+      reads = read.reads.reads;
     }

@@ -1,5 +1,5 @@
 -- The side sectors are gone over.
-use Rattle.std.proofs.Common.{List, arith, subst, sym}
+use Rattle.std.proofs.Common.{List, ap, arith, length, subst, sym}
 use Rattle.d64_image.proofs.Moments.{no_write_then, reads_no_write}
 use Rattle.d64_image.specs.Images.{Image}
 use Rattle.d64_image.specs.declared.place.Place.{Place}
@@ -8,6 +8,7 @@ use Rattle.disk_layout.specs.InOrder.{AreMade, GoesOver}
 use Rattle.disk_layout.specs.Layout.{IsLayout}
 use Rattle.layout_check.proofs.lemmas.finding.Finding.{on_ok}
 use Rattle.layout_check.proofs.lemmas.mending.MapMends.{device_later, mends_read, mends_then}
+use Rattle.layout_check.proofs.lemmas.repairing.RepairReads.{few_all, found-owned}
 use Rattle.layout_check.proofs.lemmas.repairing.RightSides.{file-sides_once, sides-found}
 use Rattle.layout_check.proofs.lemmas.mending.SideMends.{parts-exact, parts-here, right-there}
 use Rattle.layout_check.specs.RepairOrder.{IsRight}
@@ -70,4 +71,13 @@ returns-in-Some g c =
           (c.mend_sides.ensures.quiet (right-there _ _ c.args.slot.now c.find_parts.new.parts.blocks.items
           c.find_parts.new.parts.sides.items c.as_slice.result.now c.as_slice-in-Some.result.now
           found.ok.reads.image c.as_slice.ensures.value c.as_slice-in-Some.ensures.value right));
+      reads = λ l f is own slot.
+          let found = c.in_ok-find_parts.ensures in
+          few_all S c.args.disk.now c.mend_sides.new.disk _ c.mend_sides.result (omega (
+            arith,
+            found.ok.reads.reads,
+            c.mend_sides.ensures.reads,
+            ap length c.as_slice-in-Some.ensures.value,
+            found-owned _ l f c.args.slot.now _ _ is own slot c.requires.rel found.parts,
+          ));
     }

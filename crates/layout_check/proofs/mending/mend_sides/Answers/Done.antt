@@ -34,4 +34,5 @@ returns g c =
             (c.loop-number.invariant.made l h);
       };
       quiet = c.loop-number.invariant.quiet;
+      reads = omega (arith, c.loop-number.invariant.reads, c.loop-number.auto);
     }

@@ -40,6 +40,12 @@ returns-in_err-read_sector g c =
       quiet = λ exact.
           no_write_then S c.args.disk.now c.loop-number.disk c.read_sector.new.disk
           (c.loop-number.invariant.quiet exact) (reads_no_write S _ _ 1 c.in_err-read_sector.ensures.reads);
+      reads = omega (
+        arith,
+        c.loop-number.invariant.reads,
+        c.loop-number-test.true,
+        c.in_err-read_sector.ensures.reads.reads,
+      );
     }
 
 pub returns-in_err-write_other : goal.returns-in_err-write_other
@@ -96,4 +102,11 @@ returns-in_err-write_other g c =
           (reads_no_write S _ _ 1 c.in_ok-read_sector.ensures.reads) in
           no_write_then S c.args.disk.now c.read_sector.new.disk c.write_other.new.disk read
           (c.in_err-write_other.ensures.quiet right);
+      reads = omega (
+        arith,
+        c.loop-number.invariant.reads,
+        c.loop-number-test.true,
+        c.in_ok-read_sector.ensures.reads.reads,
+        c.in_err-write_other.ensures.write.reads,
+      );
     }
