@@ -1,5 +1,5 @@
 //! Commands.
-ghost use Rattle.std.specs.Prelude.{◌≡◌, ◌≤◌, ◌⊎◌, ◌↔◌, Bool, IsTrue, MatchOption, OnOk, length};
+ghost use Rattle.std.specs.Prelude.{◌≡◌, ◌≤◌, ◌+◌, ◌⊎◌, ◌↔◌, Bool, IsTrue, MatchOption, OnOk, length};
 ghost use Rattle.d64_image.specs.History.{OnlyReads, WritesNothing};
 ghost use Rattle.d64_image.specs.Images.{Image};
 ghost use Rattle.disk_layout.specs.Clean.{IsClean};
@@ -157,6 +157,7 @@ impl<D: Sectors> Drive<D> {
         ensures unsound { (IsSound (D.history.image self.old.disk) → ⊥)
             → OnlyReads D.history self.old.disk self.new.disk 2114 }
         ensures quiet { IsClean (D.history.image self.old.disk) → WritesNothing D.history self.old.disk self.new.disk }
+        ensures reads { D.history.reads self.new.disk ≤ D.history.reads self.old.disk + 5543 }
     {
         if self.dead {
             return Err(Dead);

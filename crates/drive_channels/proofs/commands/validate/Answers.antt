@@ -11,6 +11,7 @@ returns-in-Ok g c =
       moments = c.repair.ensures.moments;
       unsound = c.repair.ensures.unsound;
       quiet = c.repair.ensures.quiet;
+      reads = c.repair.ensures.reads;
       failures = c.in-Ok.ensures.failures;
     }
 
@@ -24,5 +25,6 @@ returns-in_default g c =
       moments = c.repair.ensures.moments;
       unsound = c.repair.ensures.unsound;
       quiet = c.repair.ensures.quiet;
+      reads = c.repair.ensures.reads;
       failures = quiet Survey S _ _ c.in-Err.fault c.in_default.not-Device c.in-Err.ensures.failures;
     }

@@ -17,6 +17,7 @@ returns-then-self g c = record {
   silent = λ _. refl;
   moments = λ l h. idle g.D.Sectors.history _ _ _ (mended-same _ l h);
   unsound = λ _. reads_weaker g.D.Sectors.history _ _ 0 2114 (omega arith) (no_reads g.D.Sectors.history _);
+  reads = omega arith;
   quiet = λ _. no_write g.D.Sectors.history _;
 }
 
@@ -28,6 +29,7 @@ returns-in_err-self-inside g c = record {
   silent = λ other. absurd (other (c.is_validate.ensures.0 (truth _ c.if-is_validate.true)));
   moments = rw (← c.self.view_is) c.validate.ensures.moments;
   unsound = rw (← c.self.view_is) c.validate.ensures.unsound;
+  reads = rw (← c.self.view_is) c.validate.ensures.reads;
   quiet = rw (← c.self.view_is) c.validate.ensures.quiet;
 }
 
@@ -56,6 +58,7 @@ returns-then-is_validate g c = record {
   silent = λ other. absurd (other (c.is_validate.ensures.0 (truth _ c.if-is_validate.true)));
   moments = rw (← c.self.view_is) c.validate.ensures.moments;
   unsound = rw (← c.self.view_is) c.validate.ensures.unsound;
+  reads = rw (← c.self.view_is) c.validate.ensures.reads;
   quiet = rw (← c.self.view_is) c.validate.ensures.quiet;
 }
 
@@ -86,5 +89,6 @@ returns g c = record {
   moments = rw (← c.self.view_is) (λ l h. idle g.D.Sectors.history _ _ _ (mended-same _ l h));
   unsound = rw (← c.self.view_is) (λ _. reads_weaker g.D.Sectors.history _ _ 0 2114 (omega arith)
       (no_reads g.D.Sectors.history _));
+  reads = rw (← c.self.view_is) (omega arith);
   quiet = rw (← c.self.view_is) (λ _. no_write g.D.Sectors.history _);
 }
