@@ -59,8 +59,7 @@ writes_for f c text = growth_writes f c.record_number + (if is_nil text then 0 e
     c.record_number c.position)
 
 -- a write at this place of the file f: every image held and the count of writes; and a record that is there and lies in
--- one
--- block is written at once
+-- one block is written at once
 pub record IsWrittenAt {D T E : Type 0} (S : History D) (old new : D) (c : Channel) (l : Layout) (f : File)
     (text : List ℕ) (result : Result T E) : Type 0 where
   pub moments : Changes S old new (writes_for f c text) (IsOnTheWay (S.image old) text c l f)
@@ -74,9 +73,9 @@ pub record IsWrittenOn {D T E : Type 0} (S : History D) (old new : D) (open_one 
   pub at : (c : Channel) (l : Layout) (f : File) → IsOn open_one number c → IsRelAt (S.image old) l c.entry f
       → IsWrittenAt S old new c l f text result
 
--- the opening of what is asked for, after at most n reads: without a length, where the file is there, and where no
--- channel is
--- open afterwards, nothing is written; else every image held is one of the creation, and so is the count of writes
+-- the opening of what is asked for, after at most n reads, and 55 more where the file is to be made: without a length,
+-- where the file is there, and where no channel is open afterwards, nothing is written; else every image held is one of
+-- the creation, and so is the count of writes
 pub record IsOpenedFor {D T E : Type 0} (S : History D) (old new : D) (n : ℕ) (w : Wish) (after : Option Channel)
     (result : Result T E) : Type 0 where
   pub plain : w.length ≡ None → OnlyReads S old new n

@@ -146,7 +146,7 @@ impl<D: Sectors> Drive<D> {
     /// than 720 blocks, 70 where the channel isn't the open one; at 51, 52 and 70 the place stays. A command that is
     /// empty, or a `P` of another length: 30. Any other: 31.
     ///
-    /// At `Dead` the disk holds what it held at one of the moments of the repair.
+    /// At `Dead` the disk holds what it held at one of the moments of the repair. 5543 sectors at most are read.
     pub fn command(&mut self, text: &[u8]) -> Result<(), Dead>
         ensures serves { Serves D.history self.old self.new result }
         ensures row { OnOk result (Commands (view_of D.history self.old) text.now (view_of D.history self.new)) }

@@ -273,7 +273,7 @@ impl<D: Sectors> Drive<D> {
     /// another length than the file's: 50. With a length, where the name belongs to a file of another type alone: 64.
     /// Where there is no room for the new file: 72. In all these cases nothing is opened and nothing is written.
     ///
-    /// At `Dead` the disk holds what it held at one of the moments of the creation.
+    /// At `Dead` the disk holds what it held at one of the moments of the creation; else 2872 sectors at most were read.
     pub fn open(&mut self, channel: u8, text: &[u8]) -> Result<(), Dead>
         ensures serves { Serves D.history self.old self.new result }
         ensures row { OnOk result (Opens (view_of D.history self.old) channel text.now (view_of D.history self.new)) }

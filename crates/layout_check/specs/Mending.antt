@@ -22,8 +22,7 @@ pub record MendsDisk {D T : Type 0} (S : History D) (old new : D) (n : ℕ)
   pub failures : TellsDevice S old new result
 
 -- these sectors of an image of this layout are gone over in order, each written once and only where it isn't right,
--- also
--- where the device fails; at Ok all of them are right, and nothing else changed
+-- also where the device fails; at Ok all of them are right, and nothing else changed
 pub record PutsRight {D T : Type 0} (S : History D) (old new : D) (l : Layout) (ps : List Place)
     (result : Result T Fault) : Type 0 where
   pub over : GoesOver S old new (IsRight l) ps
@@ -86,7 +85,7 @@ pub record MendsSector {D T : Type 0} (S : History D) (old new : D) (p : Place) 
     -- a sector whose counts are right is not written
     pub quiet : AreRightIn (S.image old) p (sector (S.image old) p) → WritesNothing S old new
     pub failures : TellsDevice S old new result
-    -- the sector, and what its relative entries own
+    -- the sector, and twice what its entries own
     pub reads : (l : Layout) → IsLayout (S.image old) l → ReadsFew S old new (1 + 2 * owned_if (is_in p) l.files) result
 
 -- all block counts were made right

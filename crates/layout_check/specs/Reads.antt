@@ -32,7 +32,7 @@ owned_if test fs = sum_by (λ f. cond (test f) (length (file_owns f)) 0) fs
 abbrev pub is_in : Place → File → Bool
 is_in p f = nat_eq (index_of f.slot.sector) (index_of p)
 
--- as its slot number n
+-- and is its slot number n
 abbrev pub is_at : Place → ℕ → File → Bool
 is_at p n f = is_in p f && nat_eq f.slot.number n
 

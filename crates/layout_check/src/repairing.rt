@@ -26,7 +26,8 @@ fn mend<D: Sectors>(disk: &mut D, found: &Survey) -> Result<(), Fault>
 /// Written are the map where a bit or a count in it is wrong (then the bits past the tracks' last sectors become 0),
 /// the side sectors that haven't exactly their bytes, in the order of the directory, and the directory sectors in which
 /// a block count is wrong, each once: so none of a clean disk. Every image that the disk holds on the way is sound and
-/// has the same files. At most 5543 reads are made, at `Ok` 37 and seven an owned sector.
+/// has the same files. At most 5543 reads are made, at `Ok` 37 and seven a sector
+/// of the directory or a file.
 ///
 /// `Device` is told where the device failed; what was mended until then stays mended.
 pub fn repair<D: Sectors>(disk: &mut D) -> Result<Survey, Fault>

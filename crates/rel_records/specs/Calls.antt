@@ -33,8 +33,8 @@ pub record ReadsAtMost {D T : Type 0} (S : History D) (old new : D) (most : ℕ)
   pub reads : OnlyReads S old new most
   pub failures : TellsRelFault S old new result
 
--- At most so many sectors are written, and at most so many seen. At Ok this holds of the image; each image on the way is
--- one of these.
+-- At most so many sectors are written, and so many read. At Ok this holds of the image; each image on the way is one of
+-- these.
 pub record WritesAtMost {D T E : Type 0} (S : History D) (old new : D) (most seen : ℕ) (held done : Image → Type 0)
     (result : Result T E) : Type 0 where
   pub ok : OnOk result (done (S.image new))
@@ -71,8 +71,8 @@ pub record ReadsRecord {D : Type 0} (S : History D) (old new : D) (v : RelFile) 
   pub reads : OnlyReads S old new most
   pub failures : TellsRelFault S old new result
 
--- The sector at a place was written with these bytes, by one write, and at most so many were seen: at an error, which is
--- the device's, they may stand or not.
+-- The sector at a place was written with these bytes, by one write, and at most so many were read: at an error, which
+-- is the device's, they may stand or not.
 pub record PutsSector {D T : Type 0} (S : History D) (old new : D) (p : Place) (bytes : Sector) (seen : ℕ)
     (result : Result T RelFault) : Type 0 where
   pub ok : OnOk result (S.image new ≡ put (S.image old) p bytes)
@@ -242,7 +242,7 @@ pub record Creates {D : Type 0} (S : History D) (old new : D) (name : List ℕ) 
     (result : Result RelFile RelFault) : Type 0 where
   pub layout : (l : Layout) → IsLayout (S.image old) l → CreatesFile S old new l name size result
   pub refuses : Refuses S old new name result
-  -- as many as a refusal reads: none behind the first write
+  -- as many as a refusal reads
   pub reads : OnOk result (S.reads new ≤ S.reads old + 55)
   -- what is kept of any file stays of it
   pub others : (v : RelFile) → OfItsFile (S.image old) v (λ l n f. StaysOf (S.image old) (S.image new) f v)

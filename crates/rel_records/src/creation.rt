@@ -25,7 +25,7 @@ use crate::reading::finding::list_slots;
 use crate::rel_file::RelFile;
 use crate::sizes::last_index;
 use arrayvec::ArrayVec;
-use d64_image::{Place, Sectors};
+use d64_image::Sectors;
 use disk_layout::{Bam, directory_start, padded_name, walk_chain};
 
 /// Where the directory of a sound disk has room for an entry.
@@ -144,7 +144,7 @@ fn file_at(site: &Site, size: u8) -> RelFile
 /// directory has neither a free slot nor a free sector. Both write nothing. The name isn't judged: whoever asks sees to
 /// it that it has no shifted space, and that the first closed relative file of it, if any, has another record length.
 ///
-/// Fifty-five sectors at most are read where it is made, all of them before the first write; the last write makes it.
+/// Fifty-five sectors at most are read, unless the device fails; the last write makes the file.
 pub fn create<D: Sectors>(disk: &mut D, name: &[u8], size: u8) -> Result<RelFile, RelFault>
     requires clean { IsClean (D.history.image disk.old) }
     requires name { length name.now ≤ 16 }

@@ -82,8 +82,7 @@ fn renew(file: &mut RelFile, parts: Parts)
     };
 }
 
-/// Fills the room in a file's last blocks, and gives it blocks until it has `wanted`. All reads come before the first
-/// write.
+/// Fills the room in a file's last blocks, and gives it blocks until it has `wanted`.
 // Out of line: `grow_to` mostly finds the record there.
 #[inline(never)]
 fn grow<D: Sectors>(
@@ -113,7 +112,7 @@ fn grow<D: Sectors>(
 ///
 /// All whole records that fit into the file's blocks are made then. `TooLarge` where the record isn't there and would
 /// need more than 720 data blocks, or its number is past 65535; `Full` where the free blocks don't suffice. Both write
-/// nothing. Ten sectors at most are read, all of them before the first write.
+/// nothing. Ten sectors at most are read.
 pub fn grow_to<D: Sectors>(disk: &mut D, file: &mut RelFile, number: u32) -> Result<(), RelFault>
     requires clean { IsClean (D.history.image disk.old) }
     requires of { IsOf (D.history.image disk.old) file.old }

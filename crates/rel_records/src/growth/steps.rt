@@ -36,7 +36,8 @@ fn write_side<D: Sectors>(
     size: u8,
 ) -> Result<(), DeviceFault>
     requires { number < length sides.now }
-    ensures { WritesAtMost D.history disk.old disk.new 1 0 (IsSided (D.history.image disk.old) blocks.now sides.now size)
+    ensures { WritesAtMost D.history disk.old disk.new 1 0
+        (IsSided (D.history.image disk.old) blocks.now sides.now size)
         (λ c. (q : Place) → slice_get sides.now number ≡ Some q
         → c ≡ put (D.history.image disk.old) q (side_sector number blocks.now sides.now size))
         result }

@@ -1,6 +1,6 @@
 -- Entry by entry of the directory.
 mod Returned
-use Rattle.std.proofs.Common.{List, Ok, [], ap, arith, false, refl, slice_index, subst, sym, ℕ, ◌+◌, ◌∙◌, ◌≡◌}
+use Rattle.std.proofs.Common.{List, Ok, [], ap, arith, false, refl, slice_index, subst, sym, ℕ, ◌∙◌, ◌≡◌}
 use Rattle.std.proofs.lemmas.Bool.{false≢true}
 use borrow.Author.Count.{below_more}
 use Rattle.d64_image.proofs.Moments.{no_write_then, reads_no_write}

@@ -1,22 +1,20 @@
 -- The sector is read, its counts are made right, and it is written where other bytes came out.
 mod Failed
-use Rattle.std.proofs.Common.{Err, ap, arith, subst, sym, ◌∙◌, inl}
+use Rattle.std.proofs.Common.{ap, arith, subst, sym, ◌∙◌}
 use Rattle.d64_image.proofs.Moments.{no_write_then, reads_no_write, reads_then}
 use Rattle.d64_image.specs.Images.{Image, sector}
 use Rattle.disk_layout.proofs.lemmas.kept.OtherWrites.{write_changes}
-use Rattle.disk_layout.specs.Layout.{IsLayout, IsSound}
+use Rattle.disk_layout.specs.Layout.{IsLayout}
 use Rattle.layout_check.proofs.lemmas.finding.Finding.{on_ok}
-use Rattle.layout_check.proofs.lemmas.mending.MapMends.{device_later, device_told, write_device}
+use Rattle.layout_check.proofs.lemmas.mending.MapMends.{device_later, write_device}
 use Rattle.layout_check.proofs.lemmas.repairing.RepairReads.{few_all}
 use Rattle.layout_check.proofs.lemmas.repairing.RightWrites.{
   mended-read,
   other_later,
-  reads_moment,
   right_read,
   right_written,
   write_moment,
 }
-use Rattle.layout_check.proofs.lemmas.mending.SideMends.{sound-device}
 use Rattle.layout_check.specs.Recounted.{AreRightIn, IsDirectorySector}
 use Rattle.layout_check.proofs.recounting.mend_sector.Goals as goal
 use Rattle.layout_check.proofs.recounting.mend_sector.Answers.Failed as failed

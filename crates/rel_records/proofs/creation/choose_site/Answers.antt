@@ -6,9 +6,8 @@ use Rattle.std.proofs.lemmas.Bool.{false≢true}
 use Rattle.d64_image.proofs.Moments.{no_write_then, reads_no_write}
 use Rattle.d64_image.specs.Images.{Image, sector}
 use Rattle.disk_layout.proofs.lemmas.layouts.Unclean.{clean-of}
-use Rattle.disk_layout.specs.Clean.{IsClean, IsCleanLayout}
 use Rattle.disk_layout.specs.Directory.{map_place}
-use Rattle.disk_layout.specs.Layout.{IsLayout, Layout}
+use Rattle.disk_layout.specs.Layout.{IsLayout}
 use Rattle.rel_records.proofs.creation.choose_site.Goals as goal
 use Rattle.rel_records.proofs.lemmas.creation.TakenNames.{room-still, slot-taken}
 use Rattle.rel_records.proofs.creation.choose_site.Answers.Refused as refused
@@ -69,7 +68,12 @@ returns g c =
       };
       quiet = no_write_then S _ _ _ (reads_no_write S _ _ 18 c.list_slots.ensures.reads)
           (no_write_then S _ _ _ c.read_room.ensures.quiet (reads_no_write S _ _ 1 c.read.ensures.reads));
-      reads = omega (arith, c.in-Ok.ensures.reads.reads, c.in_ok-room.ensures.reads.reads, c.in_ok-list_slots.ensures.reads.reads);
+      reads = omega (
+        arith,
+        c.in-Ok.ensures.reads.reads,
+        c.in_ok-room.ensures.reads.reads,
+        c.in_ok-list_slots.ensures.reads.reads,
+      );
     }
 
 pub returns-then-has_name : goal.returns-then-has_name

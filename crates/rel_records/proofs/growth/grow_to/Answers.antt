@@ -2,7 +2,7 @@
 mod Refused
 mod Failed
 mod Grown
-use Rattle.std.proofs.Common.{arith, refl, ap, ◌<◌, inl, inr, ◌∙◌, ◌⊎◌, subst, sym}
+use Rattle.std.proofs.Common.{arith, refl, ap, ◌<◌, ◌∙◌, subst, sym}
 use Rattle.d64_image.proofs.Moments.{changes_weaker, no_change, no_reads}
 use Rattle.rel_records.proofs.lemmas.reading.Counts.{fewer}
 use Rattle.rel_records.proofs.lemmas.growth.GrownTo.{blocks-more, leaves-here}
