@@ -10,7 +10,8 @@ use Rattle.rows_worked.proofs.records.grow.Goals as goal
 
 pub grow_to-answer-requires-clause-clean : goal.grow_to-answer-requires-clause-clean
 grow_to-answer-requires-clause-clean g c =
-    let fused = subst (λ (d : MemDisk). IsClean (disk_image d)) (sym c.new-fuse.ensures.disk) c.found-file.ensures.clean in
+    let fused = subst (λ (d : MemDisk). IsClean (disk_image d)) (sym c.new-fuse.ensures.disk)
+    c.found-file.ensures.clean in
     subst (λ (f : Fuse MemDisk). IsClean (disk_image (fuse_disk f))) (sym c.new-metered.ensures.disk) fused
 
 pub grow_to-answer-requires-clause-of : goal.grow_to-answer-requires-clause-of

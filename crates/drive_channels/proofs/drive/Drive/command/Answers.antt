@@ -23,8 +23,8 @@ returns-then-self g c = record {
 
 pub returns-in_err-self-inside : goal.returns-in_err-self-inside
 returns-in_err-self-inside g c = record {
-  serves = rw (← c.self.view_is) (died g.D.Sectors.history (seen_of c.self.inside) _ c.from_residual.result _ c.from_residual.ensures.1 c.if-self.false refl
-      c.in_err-self-inside.ensures.failures);
+  serves = rw (← c.self.view_is) (died g.D.Sectors.history (seen_of c.self.inside) _ c.from_residual.result _
+      c.from_residual.ensures.1 c.if-self.false refl c.in_err-self-inside.ensures.failures);
   row = not-done c.from_residual.result _ c.from_residual.ensures.1 _;
   silent = λ other. absurd (other (c.is_validate.ensures.0 (truth _ c.if-is_validate.true)));
   moments = rw (← c.self.view_is) c.validate.ensures.moments;

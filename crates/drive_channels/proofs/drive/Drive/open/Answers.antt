@@ -55,8 +55,8 @@ returns-then-self g c = record {
 
 pub returns-in_err-self-inside : goal.returns-in_err-self-inside
 returns-in_err-self-inside g c = record {
-  serves = rw (← c.self.view_is) (died g.D.Sectors.history (seen_of c.self.inside) _ c.from_residual.result _ c.from_residual.ensures.1 c.if-self.false refl
-      c.in_err-self-inside.ensures.failures);
+  serves = rw (← c.self.view_is) (died g.D.Sectors.history (seen_of c.self.inside) _ c.from_residual.result _
+      c.from_residual.ensures.1 c.if-self.false refl c.in_err-self-inside.ensures.failures);
   row = not-done c.from_residual.result _ c.from_residual.ensures.1 _;
   quiet = rw (← c.self.view_is) (quiet-of c.in_err-self-inside.ensures.opened);
   refused = not-done c.from_residual.result _ c.from_residual.ensures.1 _;

@@ -27,7 +27,8 @@ returns g c = record {
         status = c.in_ok-self-inside.field-0;
         dead = false;
       })
-      (subst (λ (i : Image). IsKnown i c.read.new.self) (sym c.read.ensures.reads.image) c.in_ok-self-inside.ensures.known)));
+      (subst (λ (i : Image). IsKnown i c.read.new.self) (sym c.read.ensures.reads.image)
+      c.in_ok-self-inside.ensures.known)));
   row = rw (← c.self.view_is, c.read.ensures.reads.image) (c.in_ok-self-inside.ensures.row c.self.inside.status);
   reads = rw (← c.self.view_is) c.read.ensures.reads;
   silent = λ dead. absurd (false≢true (sym c.if-self.false ∙ ap (λ d. d.dead) c.self.view_is ∙ dead));
@@ -36,8 +37,8 @@ returns g c = record {
 pub returns-in_err-self-inside : goal.returns-in_err-self-inside
 returns-in_err-self-inside g c = record {
   serves = rw (← c.self.view_is)
-      (died g.D.Sectors.history (seen_of c.self.inside) _ c.from_residual.result _ c.from_residual.ensures.1 c.if-self.false refl
-      c.in_err-self-inside.ensures.failures);
+      (died g.D.Sectors.history (seen_of c.self.inside) _ c.from_residual.result _ c.from_residual.ensures.1
+      c.if-self.false refl c.in_err-self-inside.ensures.failures);
   row = not-done c.from_residual.result _ c.from_residual.ensures.1 _;
   reads = rw (← c.self.view_is) c.read.ensures.reads;
   silent = λ dead. absurd (false≢true (sym c.if-self.false ∙ ap (λ d. d.dead) c.self.view_is ∙ dead));

@@ -43,8 +43,8 @@ returns g c = record {
 
 pub returns-in_err-self-inside : goal.returns-in_err-self-inside
 returns-in_err-self-inside g c = record {
-  serves = rw (← c.self.view_is) (died g.D.Sectors.history (seen_of c.self.inside) _ c.from_residual.result _ c.from_residual.ensures.1 c.if-self.false refl
-      c.in_err-self-inside.ensures.failures);
+  serves = rw (← c.self.view_is) (died g.D.Sectors.history (seen_of c.self.inside) _ c.from_residual.result _
+      c.from_residual.ensures.1 c.if-self.false refl c.in_err-self-inside.ensures.failures);
   row = not-done c.from_residual.result _ c.from_residual.ensures.1 _;
   silent = rw (← c.self.view_is) c.in_err-self-inside.ensures.writes.silent;
   refused = not-done c.from_residual.result _ c.from_residual.ensures.1 _;

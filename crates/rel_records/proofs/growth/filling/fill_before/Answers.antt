@@ -34,8 +34,7 @@ returns g c =
               ap (λ k. slice_get p.blocks.items (k - 2))
                   (sym c.len-count.ensures.value) ∙ at,
               tail,
-              e
-                  ∙ ap (λ i. put i place c.fill_tail.new.bytes) c.in_ok-read.ensures.reads.image,
+              e ∙ ap (λ i. put i place c.fill_tail.new.bytes) c.in_ok-read.ensures.reads.image,
             ),
           )) c.write.ensures.ok;
       moments =
