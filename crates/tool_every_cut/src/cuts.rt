@@ -4,6 +4,7 @@ use crate::ledger::{Kept, Ledger};
 use crate::others::Others;
 use crate::tried::{Tried, count};
 use d64_image::{MemDisk, Sectors};
+use disk_layout::map_place;
 use host_session::Session;
 use layout_check::check;
 use request_cards::{Reply, Word};
@@ -40,6 +41,28 @@ pub(crate) fn is_clean(disk: &mut MemDisk, what: &'static str) -> Found<()> {
     }
 }
 
+/// Whether the recorder still records. A disk in memory never fails: only one that lacks memory for a change does, and
+/// from then on each call.
+fn records(recorder: &mut Recorder<MemDisk>) -> bool {
+    recorder.read(map_place(), &mut [0; 256]).is_ok()
+}
+
+/// Opens a disk, whose changes are recorded; where it isn't opened, this text.
+pub(crate) fn opened(
+    alloc: Global,
+    disk: MemDisk,
+    what: &'static str,
+) -> Found<Session<Recorder<MemDisk>>> {
+    match Session::open(Recorder::new(alloc, disk)) {
+        Ok(session) => Ok(session),
+        Err((_, mut recorder)) => Err(if records(&mut recorder) {
+            what
+        } else {
+            "no memory for a change"
+        }),
+    }
+}
+
 /// Opens a copy of an image, whose changes are recorded.
 pub(crate) fn open(
     alloc: Global,
@@ -47,11 +70,7 @@ pub(crate) fn open(
     tried: &mut Tried,
 ) -> Found<Session<Recorder<MemDisk>>> {
     count(&mut tried.openings);
-    let disk = copy(alloc, image)?;
-    match Session::open(Recorder::new(alloc, disk)) {
-        Ok(session) => Ok(session),
-        Err(_) => Err("an image isn't opened"),
-    }
+    opened(alloc, copy(alloc, image)?, "an image isn't opened")
 }
 
 /// Takes the disk back and its changes, which are to keep off other files.
@@ -59,7 +78,11 @@ pub(crate) fn close(
     session: Session<Recorder<MemDisk>>,
     others: &Others,
 ) -> Found<(MemDisk, Vec<Change>)> {
-    let (disk, changes) = session.close().into_parts();
+    let mut recorder = session.close();
+    if !records(&mut recorder) {
+        return Err("no memory for a change");
+    }
+    let (disk, changes) = recorder.into_parts();
     for change in &changes {
         if others.owns(change.place) {
             return Err("a sector of another file is written");

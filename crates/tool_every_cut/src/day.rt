@@ -1,5 +1,5 @@
 //! A day of messages, played on a disk, and each image that the disk held on the way.
-use crate::cuts::{Asked, close, copy, open, reopen, undo};
+use crate::cuts::{Asked, close, copy, open, opened, reopen, undo};
 use crate::draw::Draw;
 use crate::events::play_events;
 use crate::found::{Found, or_say};
@@ -142,10 +142,7 @@ pub(crate) fn play_day(
     let messages = draw_messages(alloc, draw, &shop.ledger, messages)?;
     let messages = messages.as_slice();
     play_events(alloc, &shop.disk, &shop.ledger, messages)?;
-    let disk = copy(alloc, &shop.disk)?;
-    let Ok(mut whole) = Session::open(Recorder::new(alloc, disk)) else {
-        return Err("the disk isn't opened");
-    };
+    let mut whole = opened(alloc, copy(alloc, &shop.disk)?, "the disk isn't opened")?;
     let played = play_messages(alloc, &mut whole, shop, messages, tried);
     let (disk, changes) = close(whole, &shop.others)?;
     played?;
