@@ -6,6 +6,7 @@ use Rattle.std.proofs.Common.{
   ◌≡◌,
   ◌<◌,
   ◌≤◌,
+  ◌+◌,
   None,
   Option,
   Some,
@@ -22,7 +23,7 @@ use Rattle.d64_image.specs.declared.mirror.Mirror.{Mirror}
 use Rattle.d64_image.specs.declared.sector_file.SectorFile.{Ghosts}
 use Rattle.d64_image.specs.FileDisks.{FileDisk, fails_since, in_run}
 use Rattle.d64_image.specs.Mirrors.{IsMirrored, is_broken, mirror, mirror_image, one_if}
-use Rattle.d64_image.specs.History.{Failed, HeldOnly, NeverFailed}
+use Rattle.d64_image.specs.History.{Changes, Failed, HeldOnly, NeverFailed}
 use Rattle.d64_image.specs.Images.{Image}
 use Rattle.d64_image.specs.Keeps.{Agrees, FileFailed, Keeps, KeptOnly, kept_or}
 
@@ -51,6 +52,22 @@ module _ {F : Type 0} {G : Ghosts F} where
     whole = mirror.whole m;
     agrees = agrees_with_itself (G.keeps.kept m.file) _;
   }
+
+  -- a mirror that isn't broken never failed
+  pub not_failed : (a b : Mirror F G) → (is_broken b → ⊥) → Failed mirror a b → ⊥
+  not_failed a b whole failed =
+      let none : one_if b.broken ≡ 0 = one_if-false b.broken whole in
+      let rose : one_if a.broken < one_if b.broken = failed.rose (omega (arith, none)) in
+      omega (arith, none, rose)
+
+  -- and its file is as it was, where it was handed nothing
+  pub same_file : (a b : Mirror F G) (P : Image → Type 0) → a.taken.n ≡ 0 → Changes mirror a b 0 P → (is_broken b → ⊥)
+      → b.file ≡ a.file
+  same_file a b P untaken kept whole =
+      let taken : b.taken.n ≤ a.taken.n + 0 = kept.writes in
+      let x : IsMirrored a b = kept.held.reached in
+      ⊎_elim (λ broken. absurd (whole broken)) (λ e. e)
+      (x.quiet (omega (arith, taken, x.taken)) (omega (arith, taken, untaken)))
 
   -- the file kept only what the mirror held
   pub kept_only : (a b : Mirror F G) (P : Image → Type 0) → P (mirror_image a) → HeldOnly mirror a b P

@@ -1,7 +1,17 @@
--- What is told of the device behind calls that met no failure.
-use Rattle.std.proofs.Common.{◌≡◌, ◌∙◌, Bool, Err, MatchBool, Ok, Result, false, true}
+-- What is told of the device behind calls that met no failure; and that a disk in memory meets none.
+use Rattle.std.proofs.Common.{◌≡◌, ◌∙◌, Bool, Err, MatchBool, Ok, OnOk, Result, arith, false, true}
 use Rattle.d64_image.specs.History.{Failed, History, TellsOf}
+use Rattle.d64_image.specs.Memory.{memory}
+use Rattle.d64_image.specs.declared.mem_disk.MemDisk.{MemDisk}
 use Rattle.d64_image.proofs.Moments.{failed_later}
+
+-- what holds in each case holds at Ok
+pub at-ok : {T E P : Type 0} (r : Result T E) → P → OnOk r P
+at-ok (Ok x) p = p
+at-ok (Err e) p = tt
+
+pub memory-never : (a b : MemDisk) → Failed memory a b → ⊥
+memory-never a b failed = omega (arith, failed.rose (omega arith))
 
 pub told_after : {D T E : Type 0} (S : History D) (of_device : E → Bool) (a b c : D) (r : Result T E)
     → S.failures b ≡ S.failures a → TellsOf of_device S b c r → TellsOf of_device S a c r

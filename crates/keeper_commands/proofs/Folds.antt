@@ -28,10 +28,6 @@ pub part-none : (L : ℕ) (xs : List NewRecord) (rs : List (List ℕ)) → IsPar
 part-none L [] rs = refl
 part-none L (x ∷ xs) rs = inl refl
 
-pub part-all : (L : ℕ) (xs : List NewRecord) (rs : List (List ℕ)) → IsPartStored L xs rs (stored L xs rs)
-part-all L [] rs = refl
-part-all L (x ∷ xs) rs = inr (inr (part-all L xs (with_stored L x rs)))
-
 pub part-front : (L : ℕ) (xs ys : List NewRecord) (rs ts : List (List ℕ)) → IsPartStored L xs rs ts
     → IsPartStored L (xs ++ ys) rs ts
 part-front L [] ys rs ts same = subst (IsPartStored L ys rs) (sym same) (part-none L ys rs)

@@ -1,11 +1,11 @@
 -- Of two records of one number the last counts: what is stored of them, and how they are told.
 use Rattle.std.proofs.Common.{◌≡◌, ◌≢◌, ◌≤◌, ◌<◌, ◌+◌, ◌-◌, ℕ, zero, suc, List, [], ◌∷◌, ◌++◌, Bool, true, false}
-use Rattle.std.proofs.Common.{length, set, refl, subst, sym, ap, ap₂, ◌∙◌, arith, eq-eqb, ne_eqb, inl, inr, replicate}
+use Rattle.std.proofs.Common.{length, set, refl, subst, sym, ap, ap₂, ◌∙◌, arith, eq-eqb, ne_eqb, inl, inr}
 use Rattle.std.specs.List.{AllByRecursion}
-use Rattle.std.specs.Prelude.{◌||◌, if◌then◌else◌, max, nat_eq, slice_index}
+use Rattle.std.specs.Prelude.{◌||◌, if◌then◌else◌, max, nat_eq}
 use Rattle.std.proofs.lemmas.Bool.{cases_Bool, cases_eq}
 use Rattle.byte_text.specs.Lines.{padded}
-use Rattle.keeper_commands.specs.Stores.{AreApart, AreLinesOf, NewRecord, TellsLast, greatest, is_among, last_ones}
+use Rattle.keeper_commands.specs.Stores.{AreApart, AreLinesOf, NewRecord, greatest, is_among, last_ones}
 use Rattle.keeper_commands.specs.Stores.{last_place, stored, with_stored}
 
 -- all of them have a number of a record
@@ -193,12 +193,3 @@ pub place-behind : (f : List NewRecord) (x : NewRecord) (b : List NewRecord) →
 place-behind [] x b among = omega (arith, place-more x.number x b among, place-some x.number b among)
 place-behind (y ∷ f) x b among =
     omega (arith, place-more x.number y (f ++ x ∷ b) (among-here x.number f x b refl), place-behind f x b among)
-
--- zeros tell of no record
-pub none-told : (table : List ℕ) (n : ℕ) → table ≡ replicate n 0 → TellsLast table []
-none-told table n zeros m le = ap (λ (t : List ℕ). slice_index t m) zeros ∙ zero-at n m
-  where
-    zero-at : (n m : ℕ) → slice_index (replicate n 0) m ≡ 0
-    zero-at zero m = refl
-    zero-at (suc n) zero = refl
-    zero-at (suc n) (suc m) = zero-at n m

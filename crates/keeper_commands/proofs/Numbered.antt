@@ -8,6 +8,7 @@ use Rattle.std.proofs.Math.Seq.{set-append_seam}
 use Rattle.std.proofs.Math.Nat.{mul-le-mul_left}
 use Rattle.std.proofs.lemmas.List.{append_assoc}
 use Rattle.byte_text.proofs.Stored.{line-of, one-line, stored-back}
+use Rattle.byte_text.proofs.Trims.{trimmed-short}
 use Rattle.byte_text.specs.Lines.{padded}
 use Rattle.byte_text.specs.Texts.{AreBytes, kept_before, trimmed}
 use Rattle.script_lines.specs.Lines.{lines}
@@ -16,18 +17,7 @@ use Rattle.keeper_commands.specs.Stores.{AreApart, AreLinesOf, AreRecords, CanHa
 use Rattle.keeper_commands.specs.Stores.{new_record, numbered, stored, with_stored}
 use Rattle.keeper_commands.proofs.Lined.{first-line, line-ended, line_at, text-is, text_from}
 
--- what is trimmed has no other bytes, and no more
-kept-short : (b : ℕ) (xs : List ℕ) → length (kept_before b xs) ≤ suc (length xs)
-kept-short zero [] = omega arith
-kept-short (suc b) [] = omega arith
-kept-short zero (x ∷ xs) = omega arith
-kept-short (suc b) (x ∷ xs) = omega arith
-
-trimmed-short : (r : List ℕ) → length (trimmed r) ≤ length r
-unfolding trimmed
-trimmed-short [] = omega arith
-trimmed-short (b ∷ bs) = omega (arith, kept-short b (trimmed bs), trimmed-short bs)
-
+-- what is trimmed has no other bytes
 abbrev Small : List ℕ → Type 0
 Small bs = AllByRecursion (λ b. b < 256) bs
 

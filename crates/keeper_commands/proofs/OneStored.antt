@@ -3,7 +3,6 @@ use Rattle.std.proofs.Common.{◌≡◌, ◌≢◌, ◌≤◌, ◌⊎◌, ⊎_el
 use Rattle.std.proofs.Common.{Result, Ok, Err, true, false, length, refl, subst, sym, ap, ◌∙◌, arith}
 use Rattle.std.specs.Prelude.{is_err}
 use Rattle.std.proofs.Math.Nat.{suc-mul}
-use Rattle.std.proofs.lemmas.Bool.{le-leb}
 use Rattle.std.proofs.lemmas.List.{append-nil}
 use Rattle.d64_image.proofs.Moments.{changes_weaker, failed_later, reads_change, reads_no_write}
 use Rattle.d64_image.specs.History.{Changes, Failed, History}
@@ -12,6 +11,7 @@ use Rattle.disk_layout.specs.Clean.{IsClean}
 use Rattle.disk_layout.specs.Layout.{File, Layout, record_length}
 use Rattle.disk_layout.specs.Records.{records}
 use Rattle.rel_records.proofs.lemmas.Kept.{has_same}
+use Rattle.rel_records.proofs.lemmas.growth.RunCosts.{added-none, growth-none}
 use Rattle.rel_records.proofs.lemmas.writing.Composed.{reads_first}
 use Rattle.rel_records.specs.Calls.{ReadsRecord, WritesRecord}
 use Rattle.rel_records.specs.Faults.{TellsRelFault}
@@ -31,15 +31,9 @@ use Rattle.keeper_commands.specs.Storing.{IsStoringOver, StoresOne}
 use Rattle.keeper_commands.specs.declared.faults.KeepFault.TheVariants as keep
 
 -- a record that is there asks for no growth
-none-added : (L c r : ℕ) → r ≤ c → added L c r ≡ 0
-none-added L c r le = rw (le-leb r c le) refl
-
-none-written : (f : File) (r : ℕ) → r ≤ records_had f → growth_writes f r ≡ 0
-none-written f r le = rw (le-leb r (records_had f) le) refl
-
 pub grown-none : (img : Image) (f : File) (r : ℕ) → r ≤ records_had f → grown_to img f r ≡ records img f
 grown-none img f r le =
-    ap (λ (m : ℕ). grown_by (record_length f.slot) m (records img f)) (none-added (record_length f.slot) (records_had f)
+    ap (λ (m : ℕ). grown_by (record_length f.slot) m (records img f)) (added-none (record_length f.slot) (records_had f)
     r le)
     ∙ append-nil (records img f)
 
@@ -67,7 +61,7 @@ writing-over : (i c : Image) (l : Layout) (n : ℕ) (f : File) (x : NewRecord) �
     → IsWriting i l n f (added (record_length f.slot) (records_had f) x.number) x.number 1 x.bytes c
     → IsStoringOver i l n (record_length f.slot) (x ∷ []) (records i f) c
 writing-over i c l n f x le (inl (k, few, has)) =
-    let none : k ≡ 0 = omega (arith, few, none-added (record_length f.slot) (records_had f) x.number le) in (
+    let none : k ≡ 0 = omega (arith, few, added-none (record_length f.slot) (records_had f) x.number le) in (
       records i f,
       inl refl,
       subst (HasRecords i c l n) (ap (λ (m : ℕ). grown_by (record_length f.slot) m (records i f))
@@ -179,7 +173,7 @@ module _ {D : Type 0} (S : History D) (a b : D) (l : Layout) (n : ℕ) (f : File
           (changes_weaker S b d (growth_writes f x.number + touched (record_length f.slot) x.number 1) 2 _ _
           (omega (
             arith,
-            none-written f x.number reached,
+            growth-none f x.number reached,
             few-touched (record_length f.slot) x.number
                 (subst (λ (m : ℕ). 1 ≤ m) of.shows.size v.size_low)
                 (subst (λ (m : ℕ). m ≤ 254) of.shows.size v.size_high)

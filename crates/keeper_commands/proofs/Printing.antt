@@ -3,9 +3,10 @@ use Rattle.std.proofs.Common.{◌≡◌, ◌≤◌, ◌+◌, ◌-◌, ◌++◌, 
 use Rattle.std.proofs.Common.{Err, true, false, length, get_or, refl, subst, sym, ap, ◌∙◌, arith}
 use Rattle.std.specs.Prelude.{IfErr, OnOk, is_err, slice_get}
 use Rattle.std.specs.Io.KnownBytes.{Appends}
-use Rattle.std.proofs.KnownBytes.{Appends-nil, Appends-trans}
-use Rattle.std.proofs.lemmas.List.{append-nil, append_assoc}
+use Rattle.std.proofs.KnownBytes.{Appends-trans}
+use Rattle.std.proofs.lemmas.List.{append_assoc}
 use Rattle.std.proofs.lemmas.Option.{get_or_from_slice_get}
+use Rattle.d64_image.proofs.Told.{memory-never}
 use Rattle.d64_image.specs.History.{Failed, History}
 use Rattle.d64_image.specs.Images.{Image}
 use Rattle.d64_image.specs.Memory.{memory}
@@ -19,9 +20,6 @@ use Rattle.rel_records.specs.declared.reading.in_order.LastBlock.{LastBlock}
 use Rattle.rel_records.specs.declared.rel_file.RelFile.{RelFile}
 use Rattle.rel_records.specs.reading.Kept.{IsKept, number_kept}
 use Rattle.keeper_commands.specs.Records.{HandsOn, lines_to, records_text}
-
-pub memory-never : (a b : MemDisk) → Failed memory a b → ⊥
-memory-never a b failed = omega (arith, failed.rose (omega arith))
 
 absent-no : (rs : List (List ℕ)) (number : ℕ) → 1 ≤ number → number ≤ length rs → IsAbsent rs number → ⊥
 absent-no rs number low high absent = elim absent [
@@ -70,23 +68,11 @@ pub not-err : {T E P : Type 0} (r : Result T E) → is_err r ≡ false → OnOk 
 not-err (Ok x) e p = p
 not-err (Err x) e p = absurd (cc)
 
--- what holds in any case holds at Ok
-pub at-ok : {T E P : Type 0} (r : Result T E) → P → OnOk r P
-at-ok (Ok x) p = p
-at-ok (Err e) p = tt
-
 pub got : (rs : List (List ℕ)) (i : ℕ) (x : List ℕ) → slice_get rs i ≡ Some x → get_or rs i [] ≡ x
 got rs i x e = get_or_from_slice_get rs i x [] e
 
 pub kept-none : (img : Image) (v : RelFile) (x : LastBlock) → number_kept x ≡ None → IsKept img v x
 kept-none img v x none = λ l n f is. rw none tt
-
--- nothing was handed on, or all of it
-pub hands-none : (a : Option (List ℕ)) (xs : List ℕ) → HandsOn a a xs xs
-hands-none a xs = ([], Appends-nil a, refl)
-
-pub hands-all : (a b : Option (List ℕ)) (xs : List ℕ) → Appends a b xs → HandsOn a b xs []
-hands-all a b xs put = (xs, put, sym (append-nil xs))
 
 -- what is kept of that which was kept, with something behind it
 hands-more : (a b c : Option (List ℕ)) (all held kept line : List ℕ) → HandsOn a b all held → HandsOn b c held kept

@@ -1,7 +1,7 @@
 -- Records of one image's file, stored into another's and printed again; and a text that is stored once more.
 use Rattle.std.proofs.Common.{◌≡◌, ◌≤◌, ◌<◌, ◌⊎◌, ⊎_elim, ℕ, ◌+◌, ◌-◌, ◌*◌, List, [], ◌++◌, Some, length, replicate}
 use Rattle.std.proofs.Common.{length-append, refl, subst, sym, ap, ◌∙◌, arith}
-use Rattle.std.proofs.lemmas.Bool.{cases_lt, le-leb, lt-leb}
+use Rattle.std.proofs.lemmas.Bool.{cases_lt, lt-leb}
 use Rattle.std.proofs.lemmas.List.{append-nil, drop_all, length-replicate}
 use Rattle.std.proofs.lemmas.Nat.{le-div}
 use Rattle.d64_image.specs.History.{History, WritesNothing}
@@ -13,6 +13,7 @@ use Rattle.disk_layout.proofs.lemmas.layouts.Uniques.{IsFirst-one}
 use Rattle.disk_layout.specs.Layout.{File, IsLayout, Layout, record_length}
 use Rattle.disk_layout.specs.Records.{empty_record, records}
 use Rattle.disk_layout.specs.Rest.{IsFirst}
+use Rattle.rel_records.proofs.lemmas.growth.RunCosts.{added-none}
 use Rattle.rel_records.specs.Others.{HasRecords}
 use Rattle.rel_records.specs.Written.{grown_to}
 use Rattle.rel_records.specs.growth.Growth.{added, blocks_for, full, records_had}
@@ -41,9 +42,6 @@ grown-count img f r =
       empty,
       count-is img f,
     )
-
-added-none : (L had r : ℕ) → r ≤ had → added L had r ≡ 0
-added-none L had r le = rw (le-leb r had le) refl
 
 added-some : (L had r : ℕ) → had < r → added L had r ≡ full L (blocks_for L r) - had
 added-some L had r lt = rw (lt-leb r had lt) refl

@@ -37,20 +37,11 @@ use Rattle.std.specs.Str.Parse.{AllDigits}
 use Rattle.std.proofs.lemmas.Fmt.{decimal_is_IsNumeral}
 use Rattle.std.proofs.lemmas.Str.Parse.{digit_from_value}
 use Rattle.request_cards.specs.Reading.{cut_at, number_in, ◌>>=◌}
-use Rattle.request_cards.proofs.Fields.{Lacks, cut_at_field, cut_at_joins, number_in_found, number_in_spells}
+use Rattle.request_cards.proofs.Fields.{Lacks, bind_ok, cut_at_field, cut_at_joins, if_some}
+use Rattle.request_cards.proofs.Fields.{number_in_found, number_in_spells}
 use Rattle.script_lines.specs.Lines.{onto_first, split}
 use Rattle.script_lines.specs.Resets.{Line, IsReset, IsLine, slashed, counts_of, reset_with, reset_of, line_of}
 use Rattle.script_lines.proofs.Lines.{split_piece, split_whole}
-
--- what was found by a step and the next
-bound : {A B : Type 0} (o : Option A) (f : A → Option B) (y : B) → (o >>= f) ≡ Some y → (x : A) × (o ≡ Some x)
-    × (f x ≡ Some y)
-bound None f y e = cc
-bound (Some x) f y e = (x, refl, e)
-
-if_some : {A : Type 0} (b : Bool) (x y : A) → (if b then Some x else None) ≡ Some y → (b ≡ true) × (x ≡ y)
-if_some true x y e = (refl, cc)
-if_some false x y e = cc
 
 -- pieces joined by a byte
 abbrev joined : ℕ → List (List ℕ) → List ℕ
@@ -88,8 +79,8 @@ counts_spell : (fs : List (List ℕ)) (ns : List ℕ) → counts_of fs ≡ Some 
 counts_spell [] [] e = (refl, tt)
 counts_spell [] (n ∷ ns) e = cc
 counts_spell (f ∷ fs) ms e =
-    let a = bound (number_in 0 99999 f) (λ n. counts_of fs >>= (λ ns. Some (n ∷ ns))) ms e in
-    let b = bound (counts_of fs) (λ ns. Some (a.0 ∷ ns)) ms a.2 in
+    let a = bind_ok (number_in 0 99999 f) (λ n. counts_of fs >>= (λ ns. Some (n ∷ ns))) ms e in
+    let b = bind_ok (counts_of fs) (λ ns. Some (a.0 ∷ ns)) ms a.2 in
     let s = number_in_spells 0 99999 a.0 f a.1 in
     let rest = counts_spell fs b.0 b.1 in
     let same : a.0 ∷ b.0 ≡ ms = cc (b.2) in
@@ -114,8 +105,8 @@ reset_spells : (bytes : List ℕ) (l : Line) → reset_of bytes ≡ Some l
     × (l ≡ record { message = message; reset = Some (k, rs) })
 unfolding reset_of
 reset_spells bytes l e =
-    let a = bound (cut_at 32 bytes) (λ c. counts_of (split 47 c.0) >>= (λ ns. reset_with c.1 ns)) l e in
-    let b = bound (counts_of (split 47 a.0.0)) (λ ns. reset_with a.0.1 ns) l a.2 in
+    let a = bind_ok (cut_at 32 bytes) (λ c. counts_of (split 47 c.0) >>= (λ ns. reset_with c.1 ns)) l e in
+    let b = bind_ok (counts_of (split 47 a.0.0)) (λ ns. reset_with a.0.1 ns) l a.2 in
     let w = reset_with_spells a.0.1 b.0 l b.2 in
     let s = counts_spell (split 47 a.0.0) b.0 b.1 in
     let all : AllByRecursion (λ m. m ≤ 99999) (w.0 ∷ w.1) = subst (AllByRecursion (λ m. m ≤ 99999)) {y = w.0 ∷ w.1} w.2

@@ -1,11 +1,8 @@
 -- Lines with a reset, number by number.
 use Rattle.std.proofs.Common.{
   ◌≡◌,
-  ◌≤◌,
   ◌+◌,
   ℕ,
-  Bool,
-  true,
   false,
   List,
   [],
@@ -19,17 +16,14 @@ use Rattle.std.proofs.Common.{
   ◌∙◌,
   ap,
   append_assoc,
-  append-nil,
   length,
-  length-append,
-  arith,
   Result,
   Ok,
   Err,
   IsOk,
   OnOk,
 }
-use Rattle.std.specs.Prelude.{is_err, nat_le, if◌then◌else◌}
+use Rattle.std.specs.Prelude.{is_err}
 use Rattle.request_cards.specs.Reading.{cut_at, number_in, ◌>>=◌}
 use Rattle.script_lines.specs.Lines.{split}
 use Rattle.script_lines.specs.Resets.{Line, counts_of, reset_with, reset_of, line_of}
@@ -64,32 +58,6 @@ pub none_read : (message : List ℕ) (k : ℕ) (read field : List ℕ) (fields :
 none_read message k read field fields is =
     ap (λ (o : Option ℕ). (o >>= (λ m. counts_of fields >>= (λ ns. Some (m ∷ ns)))) >>=
     (λ ns. reset_with message (k ∷ (read ++ ns)))) is
-
-too_many : (b : Bool) (l : Line) → b ≡ false → (if b then Some l else None) ≡ None
-too_many true l e = cc
-too_many false l e = refl
-
-few_enough : (b : Bool) (l : Line) → b ≡ true → (if b then Some l else None) ≡ Some l
-few_enough true l e = refl
-few_enough false l e = cc
-
--- nine numbers behind slashes are too many
-pub ninth_read : (message : List ℕ) (k : ℕ) (read field : List ℕ) (fields : List (List ℕ)) (n : ℕ)
-    → number_in 0 99999 field ≡ Some n → 8 ≤ length read
-    → with_left message k read (field ∷ fields) ≡ None
-ninth_read message k read field fields n is full = one_read message k read field fields n is ∙ pick (counts_of fields)
-  where
-    pick : (o : Option (List ℕ)) → (o >>= (λ ns. reset_with message (k ∷ ((read ++ n ∷ []) ++ ns)))) ≡ None
-    pick None = refl
-    pick (Some ns) = too_many (nat_le (length ((read ++ n ∷ []) ++ ns)) 8) _
-        (grind (arith, length-append (read ++ n ∷ []) ns, length-append read (n ∷ [])))
-
--- all is read
-pub all_read : (message : List ℕ) (k : ℕ) (read : List ℕ) → length read ≤ 8
-    → with_left message k read [] ≡ Some (record { message = message; reset = Some (k, read) })
-all_read message k read few =
-    ap (λ xs. reset_with message (k ∷ xs)) (append-nil read)
-    ∙ few_enough (nat_le (length read) 8) _ (grind (arith))
 
 -- the first number
 pub first_read : (bytes counts message first : List ℕ) (fields : List (List ℕ)) (k : ℕ)

@@ -29,6 +29,10 @@ lacks img name long x l h n f first e =
     let same : l ≡ x.layout = IsLayout-one img l x.layout h x.is_layout in
     x.other n f (subst (λ (k : Layout). IsFirst k name n f) same first) e
 
+split : (xs ys : List Card) → items (results (xs ++ ys)) ≡ items (results xs) ++ items (results ys)
+split xs ys = ap items (flat_map-append (λ (x : Card). results_of x.newest) xs ys)
+    ∙ map-append (λ (p : ℕ × ℕ). p.0) (results xs) (results ys)
+
 -- the results of one till's card are among those of all
 card-in : (cs : List (Option Card)) (t : ℕ) (o : Option Card) (r : ℕ) → record_at cs t ≡ Some o
     → Contains (items (results (open_in o))) r → Contains (items (results (intents cs))) r
@@ -39,18 +43,10 @@ card-in (x ∷ cs) (suc zero) o r e c =
     subst (λ (is : List ℕ). Contains is r) (sym (split (open_in x) (intents cs)))
     (Contains-append_left (items (results (open_in x))) (items (results (intents cs))) r
     (subst (λ (y : Option Card). Contains (items (results (open_in y))) r) (sym same) c))
-  where
-    split : (xs ys : List Card) → items (results (xs ++ ys)) ≡ items (results xs) ++ items (results ys)
-    split xs ys = ap items (flat_map-append (λ (x : Card). results_of x.newest) xs ys)
-        ∙ map-append (λ (p : ℕ × ℕ). p.0) (results xs) (results ys)
 card-in (x ∷ cs) (suc (suc k)) o r e c =
     subst (λ (is : List ℕ). Contains is r) (sym (split (open_in x) (intents cs)))
     (Contains-append_right (items (results (open_in x))) (items (results (intents cs))) r
     (card-in cs (suc k) o r e c))
-  where
-    split : (xs ys : List Card) → items (results (xs ++ ys)) ≡ items (results xs) ++ items (results ys)
-    split xs ys = ap items (flat_map-append (λ (x : Card). results_of x.newest) xs ys)
-        ∙ map-append (λ (p : ℕ × ℕ). p.0) (results xs) (results ys)
 
 -- a shop has no bad till and no bad card
 no_bad_till : (f : Files) (t : ℕ) → AreLedgerRecords f.stock f.requests → ¬ (IsBadTill f t)

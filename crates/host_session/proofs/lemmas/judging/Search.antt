@@ -8,10 +8,6 @@ use Rattle.host_session.specs.declared.shop.finding.LedgerFiles.{LedgerFiles}
 use Rattle.host_session.specs.shop.Files.{Files}
 use Rattle.std.proofs.Common.{ℕ, ◌≡◌, ◌≢◌, ◌<◌, ◌+◌, ◌-◌, ◌/◌, List, arith, refl, subst, sym, ◌∙◌, ap}
 use Rattle.d64_image.specs.Images.{Image}
-use Rattle.d64_image.specs.declared.place.Place.{Place}
-use Rattle.disk_layout.specs.Fault.{Holds, nowhere}
-use Rattle.disk_layout.specs.declared.faults.Fault.{Fault}
-use Rattle.disk_layout.specs.declared.faults.Fault.TheVariants as faults
 use Rattle.blank_shop.proofs.Tops.{IsTop-last}
 use Rattle.disk_layout.proofs.lemmas.layouts.Uniques.{IsFirst-one}
 use Rattle.disk_layout.specs.Layout.{File, IsLayout, Layout, record_length}
@@ -43,20 +39,6 @@ pub top-of : (l : Layout) (n outside : ℕ) → outside + taken_by_others l n �
 top-of l n outside e = IsTop-last l n (last_card (outside - (outside + 120) / 121))
     (record { number = omega (arith, e); blocks = omega (arith, e); room = omega (arith, e) })
     (λ fits. omega (arith, e, fits.room))
-
--- a fault that the device isn't told for holds wherever the device failed
-pub told-nowhere : (failed_at : Place → Type 0) (img : Image) (fault : Fault) → ((p : Place) → fault ≢ faults.Device p)
-    → Holds failed_at img fault → Holds nowhere img fault
-told-nowhere failed_at img (faults.BadLink p) ne h = h
-told-nowhere failed_at img (faults.Loop p) ne h = h
-told-nowhere failed_at img (faults.OwnedTwice p) ne h = h
-told-nowhere failed_at img (faults.BadType p) ne h = h
-told-nowhere failed_at img (faults.Unclosed p) ne h = h
-told-nowhere failed_at img (faults.BadSide p) ne h = h
-told-nowhere failed_at img (faults.BadLength p) ne h = h
-told-nowhere failed_at img (faults.CountWrong p) ne h = h
-told-nowhere failed_at img (faults.MapWrong p) ne h = h
-told-nowhere failed_at img (faults.Device p) ne h = absurd (ne p refl)
 
 -- a file that was found, as the judging of opening says it
 pub has-file : (img : Image) (l : Layout) (name : List ℕ) (long : ℕ) (v : RelFile) → IsLayout img l

@@ -1,6 +1,6 @@
 -- One entry of a table, and the open intents of records up to one more.
 use Rattle.std.proofs.Common.{ℕ, zero, suc, ◌≡◌, ◌≢◌, ◌<◌, ◌≤◌, ◌+◌, ◌-◌, List, [], ◌∷◌, ◌++◌, None, Option, Some, true}
-use Rattle.std.proofs.Common.{add-one, ap, arith, append_assoc, length, length-append, refl, replicate, set, subst, sym}
+use Rattle.std.proofs.Common.{add-one, ap, arith, append_assoc, length, length-append, refl, replicate, set, sym}
 use Rattle.std.proofs.Common.{take, drop, ◌∙◌, get_or}
 use Rattle.std.specs.Prelude.{is_some, slice_get}
 use Rattle.std.proofs.lemmas.Bool.{false≢true, ne_eqb}
@@ -11,7 +11,7 @@ use Rattle.disk_layout.specs.Records.{empty_record}
 use Rattle.request_cards.specs.CardReading.{request_card_of}
 use Rattle.request_cards.specs.CardTexts.{Card}
 use Rattle.host_session.specs.shop.Files.{record_at}
-use Rattle.host_session.specs.shop.Judged.{IsIntentAmong, IsOnlyIntent}
+use Rattle.host_session.specs.shop.Judged.{IsIntentAmong}
 use Rattle.host_session.specs.shop.Shop.{intents, open_in}
 use Rattle.host_session.specs.session.Standing.{nth}
 use Rattle.host_session.specs.declared.shop.intents.Intent.{Intent}
@@ -82,27 +82,6 @@ module _ (table : List (Option Card)) (k : ℕ) (d : Option Card) (lt : k < 64) 
 
   pub in-place : (o : Option Card) → get_or table k d ≡ o → nth table (k + 1) ≡ o
   in-place o e = nth-at table k ∙ get_or_from_slice_get table k o None (at-place o e)
-
-  -- a card that isn't an open intent
-  pub among-closed : (o : Option Intent) (c : Option Card) → get_or table k d ≡ c → open_in c ≡ []
-      → IsIntentAmong table (intents (take k table)) o → IsIntentAmong table (intents (take (k + 1) table)) o
-  among-closed o c e closed h =
-      let same : intents (take (k + 1) table) ≡ intents (take k table) = ap (λ n. intents (take n table)) (add-one k)
-      ∙ intents-next table k c (at-place c e) ∙ ap (λ cs. intents (take k table) ++ cs) closed
-      ∙ append-nil (intents (take k table)) in
-      subst (λ cs. IsIntentAmong table cs o) (sym same) h
-
-  -- the first open intent
-  pub among-open : (c : Card) → get_or table k d ≡ Some c → c.pending ≡ true → intents (take k table) ≡ []
-      → (x : Intent) → x.till ≡ k + 1 → x.card ≡ c → IsOnlyIntent table (intents (take (k + 1) table)) x
-  among-open c e pending none x till card = record {
-    low = omega (arith, till);
-    high = omega (arith, till, lt);
-    at = ap (nth table) till ∙ in-place (Some c) e ∙ ap Some (sym card);
-    pending = ap (λ (d : Card). d.pending) card ∙ pending;
-    only = ap (λ n. intents (take n table)) (add-one k) ∙ intents-next table k (Some c) (at-place (Some c) e)
-        ∙ (λ i. none i ++ open_in-pending c pending i) ∙ ap (λ (d : Card). d ∷ []) (sym card);
-  }
 
   -- a second one
   pub among-two : (c : Card) → get_or table k d ≡ Some c → c.pending ≡ true → (o : Option Intent) → is_some o ≡ true

@@ -9,7 +9,6 @@ use Rattle.d64_image.specs.Images.{Image}
 use Rattle.request_cards.proofs.CardReading.{card_is}
 use Rattle.request_cards.specs.CardReading.{request_card_of}
 use Rattle.request_cards.specs.CardTexts.{Card, IsCard, card_text}
-use Rattle.rel_records.specs.Written.{touched}
 use Rattle.request_cards.specs.declared.answer.Answer.{Answer}
 use Rattle.request_cards.specs.declared.answer.Answer.TheVariants as answers
 use Rattle.request_cards.specs.Requests.{Body}
@@ -45,13 +44,9 @@ pub table-none_old : (table : List (Option Card)) → any_old table ≡ false �
 table-none_old table h k = ap is_old (nth-at table k) ∙ none-old table h k
 
 -- the sector writes of a completed intent
-touched-few : (r : ℕ) → touched 18 r 1 ≤ 2
-touched-few zero = omega arith
-touched-few (suc n) = card-touched n
-
 few-writes : (b : Body) (a : Answer) → card_writes (results_in b a) ≤ 4
-few-writes b (answers.Done h) = omega (arith, touched-few b.item)
-few-writes b (answers.Moved h g) = omega (arith, touched-few b.item, touched-few b.to)
+few-writes b (answers.Done h) = omega (arith, card-touched b.item)
+few-writes b (answers.Moved h g) = omega (arith, card-touched b.item, card-touched b.to)
 few-writes b (answers.Short h) = omega arith
 few-writes b (answers.Over h) = omega arith
 few-writes b answers.NoCard = omega arith

@@ -1,7 +1,7 @@
 -- The open intent of a table, completed: none is open then, and it is the same shop's.
-use Rattle.std.proofs.Common.{ℕ, ◌≡◌, ◌<◌, ◌+◌, inl, inr, List, Option, Some, ap, arith, length, refl, set, sym, ◌∙◌}
+use Rattle.std.proofs.Common.{ℕ, ◌≡◌, ◌<◌, ◌+◌, inl, inr, List, Option, Some, ap, arith, length, set, sym, ◌∙◌}
 use Rattle.std.specs.Option.{option_and_then}
-use Rattle.std.proofs.lemmas.Bool.{cases_eq, false≢true}
+use Rattle.std.proofs.lemmas.Bool.{cases_eq}
 use Rattle.d64_image.specs.Images.{Image}
 use Rattle.request_cards.proofs.CardReading.{card_is}
 use Rattle.request_cards.specs.CardReading.{request_card_of}
@@ -18,6 +18,7 @@ use Rattle.host_session.proofs.lemmas.shop.Lists.{record_at-map_take, record_at-
 use Rattle.host_session.proofs.lemmas.shop.Moments.{cards-with}
 use Rattle.host_session.proofs.lemmas.shop.Steps.{tills-same}
 use Rattle.host_session.proofs.lemmas.judging.TableEntries.{nth-set_other, nth-set_same}
+use Rattle.host_session.proofs.lemmas.writing.IntentAnswers.{answered-read}
 
 -- a till's card written, in its record and in the table
 pub table-with : (requests : List (List ℕ)) (table : List (Option Card)) (k : ℕ) (was bytes : List ℕ) (o : Option Card)
@@ -62,18 +63,6 @@ pub intent-card : (img : Image) (s : Shop) (table : List (Option Card)) (h : Has
 intent-card img s table h x only =
     let (bytes, here, reads) = card-record_at h.shop.files.requests x.till x.card (sym (h.tills x.till) ∙ only.at) in
     ((card_is bytes x.card).0 reads).0
-
-answered-read : (c : Card) → IsCard c → request_card_of (card_text (answered_card c)) ≡ Some (answered_card c)
-answered-read c h = (card_is (card_text (answered_card c)) (answered_card c)).1 (
-  record {
-    version = inr refl;
-    old = λ e. absurd (omega (arith, e));
-    newest = h.newest;
-    intent = λ e. absurd (false≢true e);
-    second = h.second;
-  },
-  refl,
-)
 
 -- once it is completed none is open, and it is the same shop's
 pub completed-table : (img : Image) (s : Shop) (table : List (Option Card)) (h : HasTable img s table) (x : Intent)

@@ -15,7 +15,7 @@ use Rattle.request_cards.specs.Requests.{Ask}
 use Rattle.request_cards.specs.Trade.{Cards, cards_after, put}
 use Rattle.host_session.specs.session.Deciding.{newest_in, renewed, second_in, traded}
 use Rattle.host_session.specs.session.Standing.{nth, state_in}
-use Rattle.host_session.specs.shop.Files.{Files, HasFiles, record_at}
+use Rattle.host_session.specs.shop.Files.{record_at}
 use Rattle.host_session.specs.shop.Shop.{IsSettled, Shop, overlaid, quantities, quantity_if, quantity_in, results}
 
 -- A table with one place changed.
@@ -71,10 +71,6 @@ renewed-applied top state a o c is newest second = λ i. record {
   };
   prior = put state.prior a.till (second i);
 }
-
--- the top of a disk has a place in the table
-pub top-in_table : (img : Image) (f : Files) → HasFiles img f → f.top ≤ 10160
-top-in_table img f h = omega (arith, h.top.fits.blocks)
 
 -- Each quantity on a disk at rest is one that a card can hold.
 few-on_card : (stock : List (List ℕ)) (k : ℕ) → IfSome (quantities stock k) (λ q. q ≤ 999999999)

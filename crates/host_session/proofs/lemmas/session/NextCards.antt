@@ -1,12 +1,11 @@
 -- The card of a till's next request on a disk at rest, and what else is known of a message.
 use Rattle.std.proofs.Common.{◌≡◌, ℕ, zero, suc, ◌≤◌, ◌+◌, true, List, [], ◌∷◌, length, map, take, Option, Some, None}
 use Rattle.std.proofs.Common.{inr, refl, sym, ◌∙◌, ap, arith, subst}
-use Rattle.std.specs.Prelude.{IfSome, IsSome, codes, nat_le, option_map, option_to_list, ◌==◌}
+use Rattle.std.specs.Prelude.{IfSome, nat_le, option_map, option_to_list, ◌==◌}
 use Rattle.std.proofs.lemmas.Bool.{and_parts, eqb-true, leb-true}
 use Rattle.std.proofs.lemmas.List.{length-map, length-take}
 use Rattle.std.proofs.lemmas.List.Elements.{All-nil, All-push}
-use Rattle.d64_image.specs.Images.{Image, IsImage}
-use Rattle.rel_records.specs.growth.Growth.{blocks_for}
+use Rattle.d64_image.specs.Images.{Image}
 use Rattle.request_cards.proofs.CardReading.{card_is}
 use Rattle.request_cards.proofs.Kept.{answer_is_kept}
 use Rattle.request_cards.proofs.Messages.{request_is}
@@ -17,16 +16,11 @@ use Rattle.request_cards.specs.Ledgers.{Entry, Start, entry_of, next_in, number_
 use Rattle.request_cards.specs.Reading.{request_of}
 use Rattle.request_cards.specs.Requests.{Ask, IsAsk}
 use Rattle.request_cards.specs.Sums.{SumsAgree}
-use Rattle.request_cards.specs.Trade.{Cards, room_for}
-use Rattle.host_session.specs.session.Deciding.{IsInTable}
+use Rattle.request_cards.specs.Trade.{room_for}
 use Rattle.host_session.specs.shop.Files.{Files, HasFiles}
 use Rattle.host_session.specs.session.Keeping.{IsKeeping, answer_of}
 use Rattle.host_session.specs.shop.Shop.{IsSettled, Shop, card_at, cards_in, shop_of, start_of}
-use Rattle.host_session.proofs.lemmas.shop.Lists.{record-within}
-use Rattle.host_session.proofs.lemmas.writing.PlacedRecords.{card-placed}
-use Rattle.host_session.proofs.lemmas.session.Decisions.{settled-cards, settled-few}
-use Rattle.host_session.proofs.lemmas.writing.Positions.{placed-fits}
-use Rattle.host_session.proofs.lemmas.shop.Steps.{card-record}
+use Rattle.host_session.proofs.lemmas.session.Decisions.{settled-few}
 
 -- a message that is a request is one within the ranges of the grammar
 pub message-ask : (message : List ℕ) (a : Ask) → request_of message ≡ Some a → IsAsk a
@@ -123,16 +117,3 @@ module _ (img : Image) (s : Shop) (x : IsSettled img s) (a : Ask) (is : IsAsk a)
         subst (λ (d : Card). IsKeeping g a d) (sym (e ∙ ap (λ (t : Shop). next_of t a) same))
             kept,
       )
-
--- an item that has a card on a disk at rest has a place in a session's table
-pub table-within : (img : Image) (s : Shop) → IsImage img → IsSettled img s → (k : ℕ) → IsSome (s.state.ledger.cards k)
-    → IsInTable k
-table-within img s whole x k some =
-    let g = x.shop.files in
-    let h = x.shop.has in
-    let there = card-record g.stock k (subst (λ (cards : Cards). IsSome (cards k)) (settled-cards img s x) some) in
-    let (low, high) = record-within g.stock k there in
-    let fits = (placed-fits img (codes "STOCK") k h.layout h.stock_place h.stock_file whole
-    (card-placed img g h k low high)).1 in
-    let few : blocks_for 18 k ≤ 720 = subst (λ (L : ℕ). blocks_for L k ≤ 720) h.stock_length fits in
-    (low, omega (arith, few))

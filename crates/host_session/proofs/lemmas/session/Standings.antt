@@ -1,5 +1,5 @@
 -- What a session knows of its till's next request, and what it stands on once that is answered.
-use Rattle.std.proofs.Common.{ℕ, ◌≡◌, ◌≤◌, inl, inr, true, false, Bool, List, Option, sym, ◌∙◌, ap, subst, arith}
+use Rattle.std.proofs.Common.{ℕ, ◌≡◌, inl, inr, true, false, Bool, List, Option, sym, ◌∙◌, ap, subst}
 use Rattle.std.proofs.lemmas.Bool.{false≢true}
 use Rattle.d64_image.specs.Images.{Image}
 use Rattle.request_cards.specs.declared.answer.Answer.{Answer}
@@ -10,23 +10,13 @@ use Rattle.request_cards.specs.Requests.{Ask, IsAsk}
 use Rattle.host_session.specs.session.Deciding.{card_with, renewed, traded}
 use Rattle.host_session.specs.shop.Files.{Files, HasFiles}
 use Rattle.host_session.specs.session.Keeping.{IsEither, IsKeeping, answer_of, shop_after}
-use Rattle.host_session.specs.shop.Shop.{IsSettled, Shop, shop_of, start_of}
+use Rattle.host_session.specs.shop.Shop.{IsSettled, shop_of, start_of}
 use Rattle.host_session.specs.session.Standing.{IsStanding, nth, state_in}
-use Rattle.host_session.proofs.lemmas.session.Decisions.{renewed-applied, top-in_table}
+use Rattle.host_session.proofs.lemmas.session.Decisions.{renewed-applied}
 use Rattle.host_session.proofs.lemmas.session.NextCards.{keeping-next, next-entry}
 
 module _ (img : Image) (dead : Bool) (top tills : ℕ) (cards : List (Option ℕ)) (requests : List (Option Card))
     (v : IsStanding img dead top tills (state_in cards requests)) where
-  -- the top is within the table
-  pub standing-room : top ≤ 10160
-  standing-room = omega (
-    arith,
-    v.top_is,
-    ap (λ (s : Shop). s.top) (sym v.is_shop.is),
-    top-in_table img v.is_shop.files
-        v.is_shop.has,
-  )
-
   module _ (alive : dead ≡ false) (a : Ask) (ask : IsAsk a) (next : next_in (start_of v.shop) v.shop.state a ≡ true)
     where
       state : state_in cards requests ≡ v.shop.state

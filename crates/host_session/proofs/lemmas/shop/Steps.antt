@@ -1,8 +1,7 @@
 -- One write of a request, of recovery or of migration, from image to image: the shop before, and the shop after.
-use Rattle.std.proofs.Common.{◌≡◌, ◌≢◌, ℕ, zero, suc, ◌≤◌, true, false, List, [], ◌∷◌, ◌++◌, length, replicate, refl}
+use Rattle.std.proofs.Common.{◌≡◌, ◌≢◌, ℕ, zero, suc, ◌≤◌, false, List, [], ◌∷◌, ◌++◌, length, replicate, refl}
 use Rattle.std.proofs.Common.{sym, ◌∙◌, ap, subst, arith}
 use Rattle.std.specs.Prelude.{Contains, IsSome, Option, Some, None, option_map, set, ◌==◌}
-use Rattle.std.specs.List.{AllByRecursion}
 use Rattle.std.specs.Option.{option_and_then}
 use Rattle.std.proofs.lemmas.Bool.{or_parts, or_from, eq-eqb}
 use Rattle.d64_image.specs.Images.{Image}
@@ -16,11 +15,11 @@ use Rattle.request_cards.specs.Trade.{outcome, put}
 use Rattle.host_session.specs.shop.Files.{Files, HasFiles, record_at, with_record}
 use Rattle.host_session.specs.shop.Shop.{AreLedgerRecords, IsIntended, IsSettled, IsShop, any_old, card_at, cards_in}
 use Rattle.host_session.specs.shop.Shop.{intents, is_old, items, open_in, overlaid, quantities, quantity_if}
-use Rattle.host_session.specs.shop.Shop.{quantity_in, results, results_of, shop_of, with_state}
+use Rattle.host_session.specs.shop.Shop.{quantity_in, results, shop_of, with_state}
 use Rattle.host_session.proofs.lemmas.shop.Lists.{length-with, map-take-with, record_at-map_take, record_at-with_other}
 use Rattle.host_session.proofs.lemmas.shop.Lists.{record_at-with_same}
 use Rattle.host_session.proofs.lemmas.shop.Overlays.{open_in-answered, put-same}
-use Rattle.host_session.proofs.lemmas.shop.Moments.{answered-cards, answered-intents, answered-state, card-cards}
+use Rattle.host_session.proofs.lemmas.shop.Moments.{card-cards}
 use Rattle.host_session.proofs.lemmas.shop.Moments.{card-intents_now, card-list, card-state, excused-cards}
 use Rattle.host_session.proofs.lemmas.shop.Moments.{excused-state, grown-cards, grown-state, with_card}
 use Rattle.host_session.proofs.lemmas.shop.Outcomes.{card-applied}
@@ -129,30 +128,6 @@ module _ (new : Image) (f : Files) (all : AreLedgerRecords f.stock f.requests) (
       } in
       subst (λ state. IsShop new (with_state (shop_of f) state)) same
       (step-card t old bytes c low here reads closed there h)
-
-  -- the answer to the open intent, once STOCK has its cards
-  module _ (t : ℕ) (old bytes : List ℕ) (o c : Card) (low : t ≤ 64) (here : record_at f.requests t ≡ Some old)
-      (is_open : request_card_of old ≡ Some o) (reads : request_card_of bytes ≡ Some c) (pending : o.pending ≡ true)
-      (answered : c.pending ≡ false)
-      (newest : c.newest ≡ o.newest) (second : c.second ≡ o.second)
-      (done : AllByRecursion (λ r. quantities f.stock r.0 ≡ Some r.1) (results_of o.newest)) where
-    pub step-answered : HasFiles new (record f { requests = with_record f.requests t bytes; blocks = b })
-        → IsShop new (shop_of f)
-    step-answered h = record {
-      files = record f { requests = with_record f.requests t bytes; blocks = b };
-      has = h;
-      records = answered-cards f.stock f.requests t old bytes o c low here is_open reads pending answered newest second
-          all done;
-      is = λ i. record (shop_of f) {
-        state = answered-state f.stock f.requests t old bytes o c low here is_open reads pending answered newest second
-            all done i;
-        tills = tills-same f.requests t bytes i;
-      };
-    }
-
-    pub step-answered_closed : intents (cards_in (with_record f.requests t bytes)) ≡ []
-    step-answered_closed = answered-intents f.stock f.requests t old bytes o c low here is_open reads pending answered
-        newest second all done
 
 -- A request's card: its answer, or its intent, leaves the shop after the request.
 pub step-request : (new : Image) (f : Files) (all : AreLedgerRecords f.stock f.requests) (b : ℕ) (a : Ask)

@@ -1,6 +1,6 @@
 -- A record that is written, in the words of the two files, and how many blocks it touches.
-use Rattle.std.proofs.Common.{◌≡◌, ℕ, suc, ◌≤◌, ◌-◌, inl, inr, List, [], length, replicate, set, get_or, sym, ◌∙◌, ap}
-use Rattle.std.proofs.Common.{subst, arith}
+use Rattle.std.proofs.Common.{◌≡◌, ℕ, zero, suc, ◌≤◌, ◌-◌, inl, inr, List, [], length, replicate, set, get_or, sym, ◌∙◌}
+use Rattle.std.proofs.Common.{ap, subst, arith}
 use Rattle.std.specs.Prelude.{codes}
 use Rattle.std.proofs.lemmas.List.{append-nil, take_at}
 use Rattle.d64_image.specs.Images.{Image}
@@ -85,8 +85,9 @@ module _ (old new : Image) (f : Files) (h : HasFiles old f) (n : ℕ) (low : suc
       changed old new f h n low text long (subst (λ rs. HasRecords old new h.layout h.requests_place rs) e x)
 
 -- How many blocks a card's bytes touch, and that a till's card lies in one.
-pub card-touched : (n : ℕ) → touched 18 (suc n) 1 ≤ 2
-card-touched n = omega arith
+pub card-touched : (r : ℕ) → touched 18 r 1 ≤ 2
+card-touched zero = omega arith
+card-touched (suc n) = omega arith
 
 pub answer-one : (n : ℕ) → IsInOneBlock 127 (suc n)
 answer-one n = let one : suc n - 1 ≡ n = omega arith in rw one (omega (arith, half-room n))

@@ -2,7 +2,7 @@
 use Rattle.std.proofs.Common.{◌≡◌, ◌≤◌, ◌+◌, ◌-◌, ℕ, inl, inr, Bool, true, false, None, Some, Result, Ok, Err, List, []}
 use Rattle.std.proofs.Common.{◌∷◌, length, refl, sym, ◌∙◌, ap, subst, arith}
 use Rattle.std.specs.Prelude.{OnOk, OnErr, if◌then◌else◌}
-use Rattle.std.proofs.lemmas.Bool.{false≢true, le-leb}
+use Rattle.std.proofs.lemmas.Bool.{false≢true}
 use Rattle.std.proofs.lemmas.List.{append-nil}
 use Rattle.std.proofs.lemmas.Option.{same_Some}
 use Rattle.d64_image.specs.History.{Changes, History, OnlyReads, TellsFailure}
@@ -19,10 +19,10 @@ use Rattle.drive_channels.specs.Serving.{Serves}
 use Rattle.drive_channels.specs.Spelling.{IsName}
 use Rattle.drive_channels.specs.State.{Channel, Seen, View, view_of}
 use Rattle.drive_channels.specs.Tables.{Closes, Commands, IsOn, Opens, Writes, WritesIn}
+use Rattle.rel_records.proofs.lemmas.growth.RunCosts.{added-none, growth-none}
 use Rattle.rel_records.specs.Others.{HasRecords}
 use Rattle.rel_records.specs.Written.{IsWriting, grown_by, touched, with_written}
-use Rattle.rel_records.specs.growth.Growth.{added, blocks_for, fill_writes, full, growth_writes, records_had}
-use Rattle.rel_records.specs.growth.Growth.{run_writes}
+use Rattle.rel_records.specs.growth.Growth.{records_had}
 use Rattle.host_session.specs.shop.Putting.{IsInReach, IsPlaced}
 use Rattle.host_session.specs.shop.Selecting.{IsAt, IsInFile, IsReady, channel_at, place_text}
 use Rattle.host_session.proofs.lemmas.writing.Positions.{moved, opened, placed-count, placed-rel, reach-rel}
@@ -72,19 +72,10 @@ pub told-after : {D T E : Type 0} (S : History D) (a b c : D) (r : Result T E) �
     → TellsFailure S b c r → TellsFailure S a c r
 told-after {E = E} S a b c r same t = told_after S (λ (_ : E). true) a b c r same t
 
--- a record that is there isn't grown for
-none-added : (L c r : ℕ) → r ≤ c → added L c r ≡ 0
-none-added L c r le = ap (λ (b : Bool). if b then 0 else (full L (blocks_for L r) - c)) (le-leb r c le)
-
 none-grown : (img : Image) (f : File) (r m : ℕ) → m ≡ 0
     → grown_by (record_length f.slot) m (records img f) ≡ records img f
 none-grown img f r m e = ap (λ (k : ℕ). grown_by (record_length f.slot) k (records img f)) e
     ∙ append-nil (records img f)
-
-no-writes : (f : File) (r : ℕ) → r ≤ records_had f → growth_writes f r ≡ 0
-no-writes f r le =
-    ap (λ (b : Bool). if b then 0 else (fill_writes f + run_writes (length f.blocks)
-    (blocks_for (record_length f.slot) r))) (le-leb r (records_had f) le)
 
 some-text : (text : List ℕ) → 1 ≤ length text → is_nil text ≡ false
 some-text [] h = absurd (omega (arith, h))
@@ -106,7 +97,7 @@ written-row x y text l n r f on rel le some row = past row
     wide (inr (_, inl (nil, _))) = absurd (omega (arith, some, ap length nil))
     wide (inr (_, inr (_, (h, e)))) = (
       subst (λ (rs : List (List ℕ)). HasRecords x.image y.image l n (with_written (record_length f.slot) r 1 text rs))
-          (none-grown x.image f r _ (none-added (record_length f.slot) (records_had f) r le)) h,
+          (none-grown x.image f r _ (added-none (record_length f.slot) (records_had f) r le)) h,
       ap (λ (v : View). v.channel) e,
       ap (λ (v : View). v.checked) e,
     )
@@ -185,7 +176,7 @@ on-the-way : (old : Image) (text : List ℕ) (l : Layout) (n r : ℕ) (f : File)
     → (i : Image) → IsOnTheWay old text (channel_at n r) l f i → IsWriting old l n f 0 r 1 text i
 on-the-way old [] l n r f le some i h = absurd (omega (arith, some))
 on-the-way old (t ∷ ts) l n r f le some i h = subst (λ (m : ℕ). IsWriting old l n f m r 1 (t ∷ ts) i)
-    (none-added (record_length f.slot) (records_had f) r le) h
+    (added-none (record_length f.slot) (records_had f) r le) h
 
 pub written-moments : {D : Type 0} (S : History D) (d0 d1 d2 : Seen D) (name text : List ℕ) (number k : ℕ) (l : Layout)
     (n : ℕ) (f : File)
@@ -201,7 +192,7 @@ written-moments {D} S d0 d1 d2 name text number k l n f reads at some p change =
     (sym reads.image) p in
     let le = placed-count (S.image d1.disk) name number l n f q in
     let count : writes_for f (channel_at n number) text ≤ t =
-    omega (arith, no-writes f number le, ap (λ (b : Bool). if b then 0 else t) (some-text text some)) in
+    omega (arith, growth-none f number le, ap (λ (b : Bool). if b then 0 else t) (some-text text some)) in
     let w = change (channel_at n number) l f (at.on, refl) (placed-rel (S.image d1.disk) name number l n f q) in
     changes_then S d0.disk d1.disk d2.disk 0 t t P (omega arith)
     (reads_change S d0.disk d1.disk k P reads (writing-same (S.image d0.disk) name number l n f text p))

@@ -7,7 +7,7 @@ use Rattle.d64_image.specs.Images.{Image}
 use Rattle.d64_image.specs.Memory.{disk_image}
 use Rattle.d64_image.specs.declared.place.Place.{Place}
 use Rattle.keeper_commands.proofs.Files.{fault-there, file-there, has-entries}
-use Rattle.keeper_commands.proofs.Printing.{at-ok}
+use Rattle.d64_image.proofs.Told.{at-ok}
 use Rattle.keeper_commands.specs.Bytes.{IsBytesFault, file_bytes}
 use Rattle.keeper_commands.specs.Faults.{IsLoadFault}
 use Rattle.keeper_commands.specs.declared.faults.KeepFault.{KeepFault}

@@ -4,7 +4,7 @@ use Rattle.std.proofs.KnownBytes.{Appends-kept}
 use Rattle.std.proofs.lemmas.Result.{IfErr-weaker, err_from_is_err_and}
 use Rattle.disk_layout.specs.Clean.{IsClean}
 use Rattle.keeper_commands.proofs.Made.{make-done, make-refused, make-unclean}
-use Rattle.keeper_commands.proofs.Printing.{at-ok}
+use Rattle.d64_image.proofs.Told.{at-ok}
 use Rattle.keeper_commands.specs.Makes.{IsMakeFault}
 use Rattle.keeper_commands.specs.declared.faults.KeepFault.TheVariants as keep
 use Rattle.keeper_commands.proofs.making.make_image.Goals as goal

@@ -1,6 +1,6 @@
 -- The lines of the tracks and OK are all that is printed of a repair.
 use Rattle.keeper_commands.proofs.Mendings.{all-printed}
-use Rattle.keeper_commands.proofs.Printing.{at-ok}
+use Rattle.d64_image.proofs.Told.{at-ok}
 use Rattle.keeper_commands.proofs.mending.put_mended.Goals as goal
 
 pub returns-clause-ok : goal.returns-clause-ok

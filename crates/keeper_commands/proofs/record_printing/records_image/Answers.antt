@@ -8,7 +8,7 @@ use Rattle.d64_image.specs.Memory.{sectors_in}
 use Rattle.disk_layout.specs.Layout.{File, IsLayout, Layout}
 use Rattle.disk_layout.specs.Rest.{IsFirst}
 use Rattle.disk_layout.specs.Records as records_of
-use Rattle.keeper_commands.proofs.Printing.{at-ok}
+use Rattle.d64_image.proofs.Told.{at-ok}
 use Rattle.keeper_commands.specs.Records.{IsRecordFile, records_text}
 use Rattle.rel_records.specs.File.{IsFileOf, entry_of}
 use Rattle.keeper_commands.proofs.record_printing.records_image.Goals as goal

@@ -4,7 +4,7 @@ mod Refused
 use Rattle.std.proofs.Common.{◌≡◌, Ok, Err, ℕ, ap, refl, subst, sym, ◌∙◌}
 use Rattle.std.proofs.lemmas.Result.{IfErr-weaker, err_from_is_err_and}
 use Rattle.disk_layout.specs.Clean.{IsClean}
-use Rattle.keeper_commands.proofs.Printing.{at-ok}
+use Rattle.d64_image.proofs.Told.{at-ok}
 use Rattle.keeper_commands.proofs.Reached.{store-unclean}
 use Rattle.keeper_commands.proofs.TextGrown.{bad-line, find-refused, found-file, grow-refused, grown-clean, grown-file}
 use Rattle.keeper_commands.proofs.TextGrown.{grown-lines}

@@ -1,8 +1,8 @@
 -- Growth to a record: what its refusals and its result mean for that record.
-use Rattle.std.proofs.Common.{◌≡◌, ℕ, ◌+◌, ◌-◌, ◌*◌, ◌<◌, ◌≤◌, ◌⊎◌, inl, inr, Bool, true, false, List, Some, length}
+use Rattle.std.proofs.Common.{◌≡◌, ℕ, ◌+◌, ◌-◌, ◌*◌, ◌<◌, ◌≤◌, ◌⊎◌, inl, inr, false, List, Some, length}
 use Rattle.std.proofs.Common.{refl, sym, ◌∙◌, ap, arith, subst, append-nil}
 use Rattle.std.specs.Prelude.{if◌then◌else◌, nat_le}
-use Rattle.std.proofs.lemmas.Bool.{leb-false, lt-leb}
+use Rattle.std.proofs.lemmas.Bool.{lt-leb}
 use Rattle.std.proofs.lemmas.Nat.{le-div}
 use Rattle.d64_image.specs.Images.{Image, sector}
 use Rattle.disk_layout.proofs.lemmas.layouts.Unclean.{clean-of}
@@ -14,6 +14,7 @@ use Rattle.disk_layout.specs.View.{blocks_free}
 use Rattle.disk_layout.specs.Clean.{IsClean}
 use Rattle.rel_records.proofs.lemmas.filling.ReadyToEnd.{last-index}
 use Rattle.rel_records.proofs.lemmas.growth.Grows.{had-of}
+use Rattle.rel_records.proofs.lemmas.growth.RunCosts.{added-none}
 use Rattle.d64_image.proofs.Moments.{at_end, changes_then, changes_weaker, reads_change}
 use Rattle.d64_image.specs.History.{Changes, History, OnlyReads}
 use Rattle.rel_records.proofs.lemmas.Kept.{growing_same, has-others, has_same, keeps_same, places-stay}
@@ -38,12 +39,7 @@ module _ (a : Image) (l : Layout) (n : ℕ) (f : File) (v : RelFile) (of : IsFil
   -- a record that is there
   module _ (le : r ≤ records_in v) where
     pub none-added : added L (records_had f) r ≡ 0
-    none-added = by (nat_le r (records_had f)) refl
-      where
-        by : (b : Bool) → nat_le r (records_had f) ≡ b → (if b then 0 else (full L (blocks_for L r) - records_had f))
-            ≡ 0
-        by true e = refl
-        by false e = absurd (omega (arith, leb-false r (records_had f) e, had, le))
+    none-added = added-none L (records_had f) r (omega (arith, had, le))
 
     pub leaves-here : IsClean a → LeavesRecords a a l n (grown_to a f r) v
     leaves-here clean =

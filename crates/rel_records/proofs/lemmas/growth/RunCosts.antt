@@ -2,16 +2,23 @@
 use Rattle.std.proofs.Common.{◌≡◌, ◌≢◌, ℕ, zero, suc, ◌+◌, ◌-◌, ◌*◌, ◌/◌, ◌%◌, ◌<◌, ◌≤◌, Bool, true, false, List, ◌++◌}
 use Rattle.std.proofs.Common.{refl, sym, ◌∙◌, ap, arith, append_assoc, ap₂}
 use Rattle.std.specs.Prelude.{if◌then◌else◌, nat_eq, replicate}
-use Rattle.std.proofs.lemmas.Bool.{eqb-false, eqb-true}
+use Rattle.std.proofs.lemmas.Bool.{eqb-false, eqb-true, le-leb}
 use Rattle.std.proofs.lemmas.List.{replicate-append-replicate}
 use Rattle.std.proofs.lemmas.Nat.{le-div}
 use Rattle.std.proofs.Math.Nat.{add-mul-div_left}
-use Rattle.disk_layout.specs.Layout.{sides_for}
+use Rattle.disk_layout.specs.Layout.{File, sides_for}
 use Rattle.disk_layout.specs.Records.{empty_record}
 use Rattle.rel_records.proofs.lemmas.filling.Fulls.{full-inside}
 use Rattle.rel_records.specs.Written.{grown_by}
-use Rattle.rel_records.specs.growth.Growth.{full, run_writes, side_writes}
+use Rattle.rel_records.specs.growth.Growth.{added, full, growth_writes, records_had, run_writes, side_writes}
 use Rattle.rel_records.specs.growth.Steps.{step_writes}
+
+-- a record that is there asks for no growth
+pub added-none : (L c r : ℕ) → r ≤ c → added L c r ≡ 0
+added-none L c r le = rw (le-leb r c le) refl
+
+pub growth-none : (f : File) (r : ℕ) → r ≤ records_had f → growth_writes f r ≡ 0
+growth-none f r le = rw (le-leb r (records_had f) le) refl
 
 -- more blocks hold no fewer records
 pub full-mono : (L m n : ℕ) → 0 < L → m ≤ n → full L m ≤ full L n
