@@ -1,5 +1,5 @@
 -- What is told of the device behind calls that met no failure.
-use Rattle.std.proofs.Common.{◌≡◌, ◌∙◌, Bool, Err, MatchBool, Ok, Result, false, true}
+use Rattle.std.proofs.Common.{◌≡◌, ◌∙◌, Bool, Err, MatchBool, Ok, Result, false, true, OnOk}
 use Rattle.d64_image.specs.History.{Failed, History, TellsOf}
 use Rattle.d64_image.proofs.Moments.{failed_later}
 
@@ -12,3 +12,8 @@ told_after S of_device a b c (Err e) same told = pick (of_device e) told
         → MatchBool is (Failed S a c) (S.failures c ≡ S.failures a)
     pick true failed = failed_later S a b c same failed
     pick false told = told ∙ same
+
+-- what holds, holds where the answer is done
+pub at-ok : {T E P : Type 0} (r : Result T E) → P → OnOk r P
+at-ok (Ok x) h = h
+at-ok (Err e) h = tt
